@@ -1,0 +1,18 @@
+// The plain types that every other crate shares: numbers, attributes, lines of a script, acts, answers
+// and the script itself. Contracts see the small lists as lists, the flags as a number, and a script as
+// the record of what it says. It serves every crate of the repository.
+#![tactic(auto)]
+
+mod acts;
+mod attr;
+mod flags;
+mod lines;
+mod numbers;
+mod standing;
+
+pub use acts::{Act, Actor};
+pub use attr::{Attr, CpuSel, Kind, TaskSel};
+pub use flags::AttrFlags;
+pub use lines::{CpuLine, Mode, ReaderLine, ToolLine, Work};
+pub use numbers::{CpuNo, CpuSet, EventNo, Key, NoMemory, RingNo, TaskNo, ToolNo};
+pub use standing::{Context, Rule};
