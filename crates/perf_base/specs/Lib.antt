@@ -1,0 +1,5 @@
+pub mod Kept
+pub mod Padded
+pub mod Reasons
+pub mod Said
+pub mod Scripts

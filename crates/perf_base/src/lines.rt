@@ -1,7 +1,23 @@
-//! The lines that a script gives its processors, tools and readers.
+//! What a script declares, and the lines that it gives its processors, tools and readers.
 
 use crate::attr::Attr;
-use crate::numbers::{CpuNo, EventNo, RingNo, TaskNo};
+use crate::lists::Name;
+use crate::numbers::{CpuNo, CpuSet, EventNo, RingNo, TaskNo};
+
+/// A PMU: how many counters each of its processors has, and which processors those are.
+#[derive(Clone, Copy, PartialEq, Eq, Debug)]
+pub struct PmuLine {
+    pub counters: u8,
+    pub cpus: CpuSet,
+}
+
+/// A hardware kind: its name, its PMU by number, and the counters that can count it, bit C for counter C.
+#[derive(Clone, Copy, PartialEq, Eq, Debug)]
+pub struct KindLine {
+    pub name: Name,
+    pub pmu: u8,
+    pub mask: u32,
+}
 
 /// The mode that a processor works in.
 #[derive(Clone, Copy, PartialEq, Eq, Debug)]

@@ -1,5 +1,6 @@
 //! Where an event stands, and why it is not on.
 
+use crate::lists::Tight;
 use crate::numbers::{CpuNo, EventNo, TaskNo};
 
 /// Where groups stand: what a processor counts, or what a task counts.
@@ -16,4 +17,37 @@ pub enum Rule {
     Exclusive(EventNo),
     ExclusiveSelf(EventNo),
     Earlier(EventNo),
+}
+
+/// Why a group is refused: by a rule, or by a set of events that no assignment to counters can serve.
+#[derive(Clone, Copy, PartialEq, Eq, Debug)]
+pub enum Cause {
+    Rule(Rule),
+    Hall(Tight),
+}
+
+/// An instance's own state, as PERF_EVENT_STATE_ in kernel/events/core.c. An error keeps its cause.
+#[derive(Clone, Copy, PartialEq, Eq, Debug)]
+pub enum Own {
+    Off,
+    Ready,
+    Error(Cause),
+}
+
+/// Where a group stands on its processor.
+#[derive(Clone, Copy, PartialEq, Eq, Debug)]
+pub enum Standing {
+    Out,
+    On,
+    Refused(Cause),
+}
+
+/// Why an event counts or does not.
+#[derive(Clone, Copy, PartialEq, Eq, Debug)]
+pub enum Why {
+    Off,
+    Failed(Cause),
+    Away,
+    On,
+    Refused(Cause),
 }

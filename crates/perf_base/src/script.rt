@@ -1,0 +1,267 @@
+//! A script: what it declares, the lines of its processors, tools and readers, and its order.
+
+ghost use Rattle.std.specs.Prelude.{◌≡◌, ◌≢◌, ℕ, ◌+◌, ◌^◌, ◌<◌, ◌≤◌, List, length, All, bit_and, slice_get, IfSome, OnErr, OnOk, Some};
+ghost use Rattle.perf_base.specs.Scripts.{Scripted, IsScript, empty_script, lines_of_cpu, lines_of_tool, line_count, with_pmu, with_kind, with_task, with_ring, with_cpu_line, with_tool_line, with_reader, with_act, IsPmuLine, AreApart, IsKindLine, IsRingLine, IsCpuLine, IsToolLine, IsReaderLine, IsAct};
+
+use crate::acts::Act;
+use crate::lines::{CpuLine, KindLine, PmuLine, ReaderLine, ToolLine};
+use crate::lists::Name;
+use crate::numbers::{CpuNo, CpuSet, NoMemory, RingNo, TaskNo, ToolNo};
+use std::alloc::Global;
+use std::marker::Model;
+
+/// A script. It keeps its ranges, its names, its rising numbers and its limits, but for the weight and
+/// the length of its text.
+#[derive(Drop)]
+pub struct Script {
+    cpus: u8,
+    pmus: Vec<PmuLine>,
+    kinds: Vec<KindLine>,
+    tasks: Vec<TaskNo>,
+    rings: Vec<(RingNo, u32)>,
+    cpu_lines: [Vec<CpuLine>; 8],
+    tool_lines: [Vec<ToolLine>; 4],
+    readers: Vec<ReaderLine>,
+    order: Vec<Act>,
+}
+
+impl Model for Script {
+    ghost use Rattle.perf_base.specs.Scripts.{Scripted};
+
+    ghost Value = { Scripted };
+
+    ghost use Rattle.perf_base.specs.Said.{said, SaysScript};
+
+    ghost view = { said };
+
+    ghost invariant = { SaysScript };
+}
+
+impl Script {
+    /// A script of so many processors, 1 to 8, that says nothing else. It takes no memory.
+    pub fn new(alloc: Global, cpus: u8) -> Script
+        requires { (1 ≤ cpus) × (cpus ≤ 8) }
+        ensures { result ≡ empty_script cpus }
+    {
+        Script {
+            cpus,
+            pmus: Vec::new(alloc),
+            kinds: Vec::new(alloc),
+            tasks: Vec::new(alloc),
+            rings: Vec::new(alloc),
+            cpu_lines: [
+                Vec::new(alloc),
+                Vec::new(alloc),
+                Vec::new(alloc),
+                Vec::new(alloc),
+                Vec::new(alloc),
+                Vec::new(alloc),
+                Vec::new(alloc),
+                Vec::new(alloc),
+            ],
+            tool_lines: [
+                Vec::new(alloc),
+                Vec::new(alloc),
+                Vec::new(alloc),
+                Vec::new(alloc),
+            ],
+            readers: Vec::new(alloc),
+            order: Vec::new(alloc),
+        }
+    }
+
+    /// Declares the next PMU: how many counters each of its processors has, and which those are. A script
+    /// has at most 4, and no processor is of two.
+    pub fn add_pmu(&mut self, counters: u8, cpus: u8) -> Result<(), NoMemory>
+        requires line { IsPmuLine self.old.cpus (record { counters = counters; cpus = record { 0 = cpus } }) }
+        requires apart { All (λ q. AreApart q (record { counters = counters; cpus = record { 0 = cpus } })) self.old.pmus }
+        requires few { length self.old.pmus < 4 }
+        ensures ok { OnOk result (self.new ≡ with_pmu self.old (record { counters = counters; cpus = record { 0 = cpus } })) }
+        ensures err { OnErr result (self.new ≡ self.old) }
+    {
+        self.pmus.push(PmuLine {
+            counters,
+            cpus: CpuSet(cpus),
+        })?;
+        Ok(())
+    }
+
+    /// Declares the next hardware kind, of a declared PMU. A script has at most 16, each name once.
+    pub fn add_kind(&mut self, name: Name, pmu: u8, mask: u32) -> Result<(), NoMemory>
+        requires line { IsKindLine self.old.pmus (record { name = name; pmu = pmu; mask = mask }) }
+        requires once { All (λ k. k.name ≢ name) self.old.kinds }
+        requires few { length self.old.kinds < 16 }
+        ensures ok { OnOk result (self.new ≡ with_kind self.old (record { name = name; pmu = pmu; mask = mask })) }
+        ensures err { OnErr result (self.new ≡ self.old) }
+    {
+        self.kinds.push(KindLine { name, pmu, mask })?;
+        Ok(())
+    }
+
+    /// Declares a task, with a number above those declared before.
+    pub fn add_task(&mut self, task: TaskNo) -> Result<(), NoMemory>
+        requires range { task.0 < 64 }
+        requires rises { All (λ t. t.0 < task.0) self.old.tasks }
+        ensures ok { OnOk result (self.new ≡ with_task self.old task) }
+        ensures err { OnErr result (self.new ≡ self.old) }
+    {
+        self.tasks.push(task)?;
+        Ok(())
+    }
+
+    /// Declares a ring of so many bytes, with a number above those declared before.
+    pub fn add_ring(&mut self, ring: RingNo, bytes: u32) -> Result<(), NoMemory>
+        requires line { IsRingLine (ring, bytes) }
+        requires rises { All (λ r. r.0.0 < ring.0) self.old.rings }
+        ensures ok { OnOk result (self.new ≡ with_ring self.old (ring, bytes)) }
+        ensures err { OnErr result (self.new ≡ self.old) }
+    {
+        self.rings.push((ring, bytes))?;
+        Ok(())
+    }
+
+    /// Gives a processor one line more.
+    pub fn add_cpu_line(&mut self, cpu: CpuNo, line: CpuLine) -> Result<(), NoMemory>
+        requires cpu { cpu.0 < self.old.cpus }
+        requires line { IsCpuLine (length self.old.kinds) line }
+        requires few { line_count self.old < 16384 }
+        ensures ok { OnOk result (self.new ≡ with_cpu_line self.old cpu line) }
+        ensures err { OnErr result (self.new ≡ self.old) }
+    {
+        let lines = &mut self.cpu_lines[cpu.0 as usize];
+        lines.push(line)?;
+        Ok(())
+    }
+
+    /// Gives a tool one line more.
+    pub fn add_tool_line(&mut self, tool: ToolNo, line: ToolLine) -> Result<(), NoMemory>
+        requires tool { tool.0 < 4 }
+        requires line { IsToolLine self.old.cpus (length self.old.kinds) self.old.rings line }
+        requires few { line_count self.old < 16384 }
+        ensures ok { OnOk result (self.new ≡ with_tool_line self.old tool line) }
+        ensures err { OnErr result (self.new ≡ self.old) }
+    {
+        let lines = &mut self.tool_lines[tool.0 as usize];
+        lines.push(line)?;
+        Ok(())
+    }
+
+    /// Declares the reader of a declared ring, with a ring's number above those of the readers before.
+    pub fn add_reader(&mut self, line: ReaderLine) -> Result<(), NoMemory>
+        requires line { IsReaderLine self.old.rings line }
+        requires rises { All (λ r. r.ring.0 < line.ring.0) self.old.readers }
+        ensures ok { OnOk result (self.new ≡ with_reader self.old line) }
+        ensures err { OnErr result (self.new ≡ self.old) }
+    {
+        self.readers.push(line)?;
+        Ok(())
+    }
+
+    /// Adds an act at the end of the order.
+    pub fn add_act(&mut self, act: Act) -> Result<(), NoMemory>
+        requires { IsAct self.old act }
+        ensures ok { OnOk result (self.new ≡ with_act self.old act) }
+        ensures err { OnErr result (self.new ≡ self.old) }
+    {
+        self.order.push(act)?;
+        Ok(())
+    }
+
+    /// How many processors, 1 to 8.
+    pub fn cpus(&self) -> u8
+        ensures number { result ≡ self.now.cpus }
+        ensures sound { IsScript self.now }
+    {
+        self.cpus
+    }
+
+    /// How many PMUs, at most 4.
+    pub fn pmus(&self) -> u8
+        ensures { result ≡ length self.now.pmus }
+    {
+        self.pmus.len() as u8
+    }
+
+    /// How many counters each processor of a PMU has, 1 to 16.
+    pub fn counters(&self, pmu: u8) -> u8
+        requires { pmu < length self.now.pmus }
+        ensures { IfSome (slice_get self.now.pmus pmu) (λ p. result ≡ p.counters) }
+    {
+        self.pmus[pmu as usize].counters
+    }
+
+    /// How many hardware kinds, at most 16.
+    pub fn kinds(&self) -> usize
+        ensures { result ≡ length self.now.kinds }
+    {
+        self.kinds.len()
+    }
+
+    /// The counters that can count a hardware kind, bit C for counter C.
+    pub fn mask(&self, kind: usize) -> u32
+        requires { kind < length self.now.kinds }
+        ensures { IfSome (slice_get self.now.kinds kind) (λ k. result ≡ k.mask) }
+    {
+        self.kinds[kind].mask
+    }
+
+    /// The name of a hardware kind.
+    pub fn name(&self, kind: usize) -> Name
+        requires { kind < length self.now.kinds }
+        ensures { IfSome (slice_get self.now.kinds kind) (λ k. result ≡ k.name) }
+    {
+        self.kinds[kind].name
+    }
+
+    /// The number of a hardware kind's PMU.
+    pub fn pmu_of_kind(&self, kind: usize) -> u8
+        requires { kind < length self.now.kinds }
+        ensures { IfSome (slice_get self.now.kinds kind) (λ k. result ≡ k.pmu) }
+    {
+        self.kinds[kind].pmu
+    }
+
+    /// The tasks that exist from the start, rising.
+    pub fn tasks(&self) -> &[TaskNo]
+        ensures { result.now ≡ self.now.tasks }
+    {
+        self.tasks.as_slice()
+    }
+
+    /// The rings with their bytes, by rising number.
+    pub fn rings(&self) -> &[(RingNo, u32)]
+        ensures { result.now ≡ self.now.rings }
+    {
+        self.rings.as_slice()
+    }
+
+    /// The lines of a processor.
+    pub fn cpu_lines(&self, cpu: CpuNo) -> &[CpuLine]
+        requires { cpu.0 < 8 }
+        ensures { result.now ≡ lines_of_cpu self.now cpu }
+    {
+        self.cpu_lines[cpu.0 as usize].as_slice()
+    }
+
+    /// The lines of a tool.
+    pub fn tool_lines(&self, tool: ToolNo) -> &[ToolLine]
+        requires { tool.0 < 4 }
+        ensures { result.now ≡ lines_of_tool self.now tool }
+    {
+        self.tool_lines[tool.0 as usize].as_slice()
+    }
+
+    /// The readers, by rising number of their rings.
+    pub fn readers(&self) -> &[ReaderLine]
+        ensures { result.now ≡ self.now.readers }
+    {
+        self.readers.as_slice()
+    }
+
+    /// The order.
+    pub fn order(&self) -> &[Act]
+        ensures { result.now ≡ self.now.order }
+    {
+        self.order.as_slice()
+    }
+}
