@@ -238,7 +238,8 @@ impl Script {
     /// The lines of a processor.
     pub fn cpu_lines(&self, cpu: CpuNo) -> &[CpuLine]
         requires { cpu.0 < 8 }
-        ensures { result.now ≡ lines_of_cpu self.now cpu }
+        ensures lines { result.now ≡ lines_of_cpu self.now cpu }
+        ensures sound { IsScript self.now }
     {
         self.cpu_lines[cpu.0 as usize].as_slice()
     }
@@ -246,7 +247,8 @@ impl Script {
     /// The lines of a tool.
     pub fn tool_lines(&self, tool: ToolNo) -> &[ToolLine]
         requires { tool.0 < 4 }
-        ensures { result.now ≡ lines_of_tool self.now tool }
+        ensures lines { result.now ≡ lines_of_tool self.now tool }
+        ensures sound { IsScript self.now }
     {
         self.tool_lines[tool.0 as usize].as_slice()
     }

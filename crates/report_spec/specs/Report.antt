@@ -1,0 +1,106 @@
+-- The text of a report, but for rings. This project's own profile.
+use Rattle.std.specs.Prelude.{◌≡◌, ℕ, List, [], ◌∷◌, ◌++◌, codes, decimal, Option, Some, None}
+use Rattle.std.specs.List.{flat_map}
+use Rattle.perf_base.specs.declared.numbers.EventNo.{EventNo}
+use Rattle.perf_base.specs.declared.lines.CpuLine.{CpuLine}
+use Rattle.perf_base.specs.declared.lines.CpuLine.TheVariants as cpu_line
+use Rattle.perf_base.specs.declared.lines.ToolLine.{ToolLine}
+use Rattle.perf_base.specs.declared.lines.ToolLine.TheVariants as tool_line
+use Rattle.perf_base.specs.declared.acts.Act.{Act}
+use Rattle.perf_base.specs.declared.acts.Act.TheVariants as act
+use Rattle.perf_base.specs.declared.standing.Rule.{Rule}
+use Rattle.perf_base.specs.declared.standing.Rule.TheVariants as rule
+use Rattle.perf_base.specs.declared.standing.Cause.{Cause}
+use Rattle.perf_base.specs.declared.standing.Cause.TheVariants as cause
+use Rattle.perf_base.specs.declared.standing.Why.{Why}
+use Rattle.perf_base.specs.declared.standing.Why.TheVariants as why
+use Rattle.perf_base.specs.declared.reasons.Reason.{Reason}
+use Rattle.perf_base.specs.declared.reasons.Reason.TheVariants as reason
+use Rattle.perf_base.specs.declared.reply.Reply.{Reply}
+use Rattle.perf_base.specs.declared.reply.Reply.TheVariants as reply
+use Rattle.perf_base.specs.Reasons.{printed_of}
+use Rattle.perf_base.specs.Scripts.{Scripted}
+use Rattle.stage_spec.specs.Order.{done_by_cpu, done_by_tool, next_of_cpu, next_of_tool}
+use Rattle.script_spec.specs.Acts.{act_text, acts_text}
+
+-- numbers in decimal, a space before each
+abbrev pub numbers_text : List ℕ → List ℕ
+numbers_text words = flat_map (λ n. 32 ∷ decimal n) words
+
+-- slots, a space before each
+abbrev pub slots_text : List EventNo → List ℕ
+slots_text slots = flat_map (λ e. 32 ∷ decimal e.0) slots
+
+abbrev pub cause_text : Cause → List ℕ
+cause_text (cause.Rule (rule.Exclusive e)) = codes "exclusive " ++ decimal e.0
+cause_text (cause.Rule (rule.ExclusiveSelf e)) = codes "exclusive-self " ++ decimal e.0
+cause_text (cause.Rule (rule.Earlier e)) = codes "earlier " ++ decimal e.0
+cause_text (cause.Hall set) = codes "hall" ++ slots_text set
+
+abbrev pub why_text : Why → List ℕ
+why_text why.Off = codes "off"
+why_text (why.Failed c) = codes "error " ++ cause_text c
+why_text why.Away = codes "away"
+why_text why.On = codes "on"
+why_text (why.Refused c) = cause_text c
+
+abbrev pub reason_text : Reason → List ℕ
+reason_text (reason.NoAssignment set) = printed_of (reason.NoAssignment set) ++ slots_text set
+reason_text r = printed_of r
+
+-- an answer, a space before each of its words; a plain Ok has no text
+abbrev pub answer_text : Reply → Option (List ℕ)
+answer_text reply.Ok = None
+answer_text (reply.Refused r) = Some (32 ∷ reason_text r)
+answer_text (reply.Read words) = Some (numbers_text words)
+answer_text (reply.Why w) = Some (32 ∷ why_text w)
+answer_text (reply.Seats seats) = Some (flat_map (λ s. 32 ∷ decimal s.0.0 ++ codes "=" ++ decimal s.1) seats)
+
+-- the first word of a line
+abbrev pub cpu_word : Option CpuLine → List ℕ
+cpu_word None = []
+cpu_word (Some (cpu_line.Switch to)) = codes "switch"
+cpu_word (Some (cpu_line.Work w)) = codes "work"
+cpu_word (Some cpu_line.Tick) = codes "tick"
+cpu_word (Some (cpu_line.Fork task)) = codes "fork"
+cpu_word (Some cpu_line.Exit) = codes "exit"
+
+abbrev pub tool_word : Option ToolLine → List ℕ
+tool_word None = []
+tool_word (Some (tool_line.Open slot attr leader)) = codes "open"
+tool_word (Some (tool_line.Enable event group)) = codes "enable"
+tool_word (Some (tool_line.Disable event group)) = codes "disable"
+tool_word (Some (tool_line.Reset event group)) = codes "reset"
+tool_word (Some (tool_line.Period event period)) = codes "period"
+tool_word (Some (tool_line.Read event size)) = codes "read"
+tool_word (Some (tool_line.Map event ring)) = codes "map"
+tool_word (Some (tool_line.Output event target)) = codes "output"
+tool_word (Some (tool_line.Close event)) = codes "close"
+tool_word (Some (tool_line.Why event)) = codes "why"
+tool_word (Some (tool_line.Seats cpu)) = codes "seats"
+
+-- the number of the line that an act does among its actor's lines, and that line's first word
+abbrev pub line_number : List Act → Act → ℕ
+line_number before (act.Processor cpu) = done_by_cpu cpu before
+line_number before (act.Tool tool) = done_by_tool tool before
+line_number before (act.Seen ring place) = 0
+
+abbrev pub line_word : Scripted → List Act → Act → List ℕ
+line_word s before (act.Processor cpu) = cpu_word (next_of_cpu s before cpu)
+line_word s before (act.Tool tool) = tool_word (next_of_tool s before tool)
+line_word s before (act.Seen ring place) = []
+
+-- the line of an answer: the actor, a dot, the number of its line, that line's first word, the answer
+abbrev pub answer_line : Scripted → List Act → Act → Option (List ℕ) → List ℕ
+answer_line s before a None = []
+answer_line s before a (Some text) = act_text a ++ codes "." ++ decimal (line_number before a) ++ codes " " ++ line_word s before a ++ text ++ 10 ∷ []
+
+-- the lines of the answers to acts, the first of them after some acts
+abbrev pub answer_lines : Scripted → List Act → List Act → List Reply → List ℕ
+answer_lines s before [] replies = []
+answer_lines s before (a ∷ acts) [] = []
+answer_lines s before (a ∷ acts) (r ∷ replies) = answer_line s before a (answer_text r) ++ answer_lines s (before ++ a ∷ []) acts replies
+
+-- the whole report of an order without rings: the order, the answers, the end
+abbrev pub report : Scripted → List Act → List Reply → List ℕ
+report s order replies = codes "order" ++ acts_text order ++ 10 ∷ [] ++ answer_lines s [] order replies ++ codes "end" ++ 10 ∷ []

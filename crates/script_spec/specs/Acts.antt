@@ -1,0 +1,15 @@
+-- How acts are written. This project's own profile.
+use Rattle.std.specs.Prelude.{ℕ, List, [], ◌∷◌, ◌++◌, codes, decimal}
+use Rattle.std.specs.List.{flat_map}
+use Rattle.perf_base.specs.declared.acts.Act.{Act}
+use Rattle.perf_base.specs.declared.acts.Act.TheVariants as act
+
+-- the next line of a processor or of a tool by its number, or that a ring's tail was seen at a place
+abbrev pub act_text : Act → List ℕ
+act_text (act.Processor cpu) = codes "p" ++ decimal cpu.0
+act_text (act.Tool tool) = codes "t" ++ decimal tool.0
+act_text (act.Seen ring place) = codes "s" ++ decimal ring.0 ++ codes "=" ++ decimal place
+
+-- acts in a row, a space before each
+abbrev pub acts_text : List Act → List ℕ
+acts_text acts = flat_map (λ a. 32 ∷ act_text a) acts

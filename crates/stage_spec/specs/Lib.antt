@@ -1,0 +1,6 @@
+pub mod Counting
+pub mod Order
+pub mod Progress
+pub mod Replies
+pub mod Recurrence
+pub mod Steps

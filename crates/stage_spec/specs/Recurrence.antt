@@ -1,0 +1,28 @@
+-- What one more act adds.
+use Rattle.std.specs.Prelude.{◌≡◌, ◌≢◌, ℕ, ◌+◌, ◌<◌, Bool, true, false, nat_lt, List, [], ◌∷◌, ◌++◌, length, count_by, slice_get, slice_index, slice_set, if◌then◌else◌}
+use Rattle.std.proofs.Common.{arith, refl, sym, ap, ◌∙◌, cond, append_assoc, add_assoc, append-nil, subst, nat_eq}
+use Rattle.perf_base.specs.declared.numbers.CpuNo.{CpuNo}
+use Rattle.perf_base.specs.declared.numbers.ToolNo.{ToolNo}
+use Rattle.perf_base.specs.declared.acts.Act.{Act}
+use Rattle.perf_base.specs.declared.acts.Act.TheVariants as act
+use Rattle.perf_base.specs.Scripts.{Scripted, lines_of_cpu, lines_of_tool}
+use Rattle.stage_spec.specs.Order.{done_by_cpu, done_by_tool, is_of_cpu, is_of_tool, next_of_cpu, next_of_tool}
+use Rattle.stage_spec.specs.Counting.{total, hits, time, hits_of, length_of, tool_zero, count_after, time_after}
+use Rattle.stage_spec.specs.Replies.{replies_from, reply_of}
+use Rattle.stage_spec.specs.Progress.{Progress, IsAfter}
+
+-- the sum over acts and one more
+pub total-push : (share : List Act → Act → ℕ) (before acts : List Act) (a : Act) → total share before (acts ++ a ∷ []) ≡ total share before acts + share (before ++ acts) a
+total-push share before [] a = rw append-nil (omega arith)
+total-push share before (b ∷ acts) a =
+    let regrouped : (before ++ b ∷ []) ++ acts ≡ before ++ b ∷ acts = append_assoc before (b ∷ []) acts in
+    let rest : total share (before ++ b ∷ []) (acts ++ a ∷ []) ≡ total share (before ++ b ∷ []) acts + share (before ++ b ∷ acts) a =
+    total-push share (before ++ b ∷ []) acts a ∙ ap (λ bs. total share (before ++ b ∷ []) acts + share bs a) regrouped in
+    omega (arith, rest)
+
+-- the answers to acts and to one more
+pub replies_from-push : (s : Scripted) (before acts : List Act) (a : Act) → replies_from s before (acts ++ a ∷ []) ≡ replies_from s before acts ++ reply_of s (before ++ acts) a ∷ []
+replies_from-push s before [] a = rw append-nil refl
+replies_from-push s before (b ∷ acts) a =
+    let regrouped : (before ++ b ∷ []) ++ acts ≡ before ++ b ∷ acts = append_assoc before (b ∷ []) acts in
+    ap (λ rs. reply_of s before b ∷ rs) (replies_from-push s (before ++ b ∷ []) acts a ∙ ap (λ bs. replies_from s (before ++ b ∷ []) acts ++ reply_of s bs a ∷ []) regrouped)
