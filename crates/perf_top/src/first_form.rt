@@ -1,0 +1,3 @@
+//! The private reader of texts of the first form.
+
+pub mod reading;
