@@ -1,7 +1,7 @@
 //! A source and a sink that never fail.
 
-ghost use Rattle.std.specs.Prelude.{◌≡◌, ◌<◌, ◌≤◌, ◌++◌, Some, None, Ok, IfOk, IfSome, OnOk, OnErr, length, take, drop, min};
-ghost use Rattle.perf_io.specs.Outside.{Takes, Adds, IsAtEnd, Rose};
+ghost use Rattle.std.specs.Prelude.{◌≡◌, ◌<◌, ◌≤◌, ◌++◌, Some, None, Ok, IfOk, IsOk, length, take, drop, min};
+ghost use Rattle.perf_io.specs.Outside.{Takes, IsAtEnd};
 ghost use Rattle.perf_io.specs.Counts.{count_after};
 
 use crate::copying::copy_front;
@@ -43,12 +43,8 @@ impl Source for CalmSource {
     ghost last_fault = { None };
 
     fn read(&mut self, buf: &mut [u8]) -> Result<usize, Failed>
-        ensures count { 0 ≤ 0 }
-        ensures cause { OnErr result (Rose None 0 0) }
-        ensures within { IfOk result (λ n. n ≤ length buf.old) }
         ensures taken { IfOk result (λ n. Takes (Some self.old) (Some self.new) (take n buf.new)) }
         ensures end { IfOk result (λ n. n ≡ 0 → 0 < length buf.old → IsAtEnd (Some self.new)) }
-        ensures failed { OnErr result (Some self.new ≡ Some self.old) }
 
         // It never fails, and gives all that buffer and rest allow.
         ensures amount { result ≡ Ok (min (length buf.old) (length self.old)) }
@@ -102,14 +98,6 @@ impl Sink for CalmSink {
     ghost last_fault = { None };
 
     fn write(&mut self, piece: &[u8]) -> Result<usize, Failed>
-        ensures count { 0 ≤ 0 }
-        ensures cause { OnErr result (Rose None 0 0) }
-        ensures within { IfOk result (λ n. n ≤ length piece.now) }
-        ensures some { IfOk result (λ n. 0 < length piece.now → 0 < n) }
-        ensures added { IfOk result (λ n. Adds None None (take n piece.now)) }
-        ensures failed { OnErr result (self.new ≡ self.old) }
-        ensures flushed { 0 ≡ 0 }
-
         // It never fails, and takes the whole piece.
         ensures amount { result ≡ Ok (length piece.now) }
         ensures state { self.new ≡ count_after self.old (length piece.now) }
@@ -119,8 +107,7 @@ impl Sink for CalmSink {
     }
 
     fn flush(&mut self) -> Result<(), Failed>
-        ensures count { 0 ≤ 0 }
-        ensures cause { OnErr result (Rose None 0 0) }
+        ensures ok { IsOk result }
         ensures state { self.new ≡ self.old }
     {
         Ok(())

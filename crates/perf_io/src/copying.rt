@@ -5,6 +5,7 @@ ghost use Rattle.std.specs.Prelude.{◌≡◌, ◌++◌, ◌↔◌, IsTrue, Cont
 /// Copies bytes into the front of the buffer, as many as fit, and answers how many.
 pub(crate) fn copy_front(bytes: &[u8], buf: &mut [u8]) -> usize
     ensures count { result ≡ min (length buf.old) (length bytes.now) }
+    ensures front { take result buf.new ≡ take result bytes.now }
     ensures copied { buf.new ≡ take result bytes.now ++ drop result buf.old }
 {
     let n = buf.len().min(bytes.len());

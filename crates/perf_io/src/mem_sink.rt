@@ -1,6 +1,6 @@
 //! A place for bytes in memory that takes them in pieces, has so much room and fails at the calls of a list.
 
-ghost use Rattle.std.specs.Prelude.{◌≡◌, ◌<◌, ◌≤◌, ◌↔◌, [], Some, IfOk, IfSome, OnOk, OnErr, IsErr, Contains, length, take};
+ghost use Rattle.std.specs.Prelude.{◌≡◌, ◌<◌, ◌≤◌, ◌+◌, ◌↔◌, [], ◌++◌, Some, IfOk, IfSome, OnOk, OnErr, IsErr, Contains, length, take, vec_len, vec_capacity};
 ghost use Rattle.perf_io.specs.Outside.{Adds, Rose};
 ghost use Rattle.perf_io.specs.Counts.{last_count};
 ghost use Rattle.perf_io.specs.MemSink.{FailsToWrite, write_count, after_write, after_flush, after_failed_call};
