@@ -1,7 +1,6 @@
 //! A source and a sink that never fail.
 
-ghost use Rattle.std.specs.Prelude.{◌≡◌, ◌<◌, ◌≤◌, ◌++◌, Some, None, Ok, IfOk, IsOk, length, take, drop, min};
-ghost use Rattle.perf_io.specs.Outside.{Takes, IsAtEnd};
+ghost use Rattle.std.specs.Prelude.{◌≡◌, ◌<◌, ◌≤◌, ◌++◌, [], Some, None, Ok, IfOk, IsOk, length, take, drop, min};
 ghost use Rattle.perf_io.specs.Counts.{count_after};
 
 use crate::copying::copy_front;
@@ -43,8 +42,8 @@ impl Source for CalmSource {
     ghost last_fault = { None };
 
     fn read(&mut self, buf: &mut [u8]) -> Result<usize, Failed>
-        ensures taken { IfOk result (λ n. Takes (Some self.old) (Some self.new) (take n buf.new)) }
-        ensures end { IfOk result (λ n. n ≡ 0 → 0 < length buf.old → IsAtEnd (Some self.new)) }
+        ensures taken { IfOk result (λ n. self.old ≡ take n buf.new ++ self.new) }
+        ensures end { IfOk result (λ n. n ≡ 0 → 0 < length buf.old → self.new ≡ []) }
 
         // It never fails, and gives all that buffer and rest allow.
         ensures amount { result ≡ Ok (min (length buf.old) (length self.old)) }

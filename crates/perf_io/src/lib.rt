@@ -9,6 +9,8 @@ mod mem_sink;
 mod mem_source;
 mod outside;
 mod standard;
+#[cfg(test)]
+mod tests;
 mod writing;
 
 pub use calm::{CalmSink, CalmSource};

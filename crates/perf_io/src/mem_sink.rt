@@ -1,7 +1,7 @@
 //! A place for bytes in memory that takes them in pieces, has so much room and fails at the calls of a list.
 
-ghost use Rattle.std.specs.Prelude.{◌≡◌, ◌<◌, ◌≤◌, ◌+◌, ◌↔◌, [], ◌++◌, Some, IfOk, IfSome, OnOk, OnErr, IsErr, Contains, length, take, vec_len, vec_capacity};
-ghost use Rattle.perf_io.specs.Outside.{Adds, Rose};
+ghost use Rattle.std.specs.Prelude.{◌≡◌, ◌<◌, ◌≤◌, ◌+◌, ◌↔◌, [], ◌++◌, Some, IfOk, OnOk, OnErr, IsErr, Contains, length, take, vec_len, vec_capacity};
+ghost use Rattle.perf_io.specs.Outside.{Rose};
 ghost use Rattle.perf_io.specs.Counts.{last_count};
 ghost use Rattle.perf_io.specs.MemSink.{FailsToWrite, write_count, after_write, after_flush, after_failed_call};
 
@@ -86,8 +86,8 @@ impl Sink for MemSink {
         ensures cause { OnErr result (Rose (Some last_count) self.old.faults self.new.faults) }
         ensures within { IfOk result (λ n. n ≤ length piece.now) }
         ensures some { IfOk result (λ n. 0 < length piece.now → 0 < n) }
-        ensures added { IfOk result (λ n. Adds (Some self.old.held) (Some self.new.held) (take n piece.now)) }
-        ensures failed { OnErr result (Some self.new.held ≡ Some self.old.held) }
+        ensures added { IfOk result (λ n. self.new.held ≡ self.old.held ++ take n piece.now) }
+        ensures failed { OnErr result (self.new.held ≡ self.old.held) }
         ensures flushed { self.new.flushed ≡ self.old.flushed }
 
         // It fails exactly where its call is listed or room is wanted, and adds all that is allowed.
@@ -111,8 +111,8 @@ impl Sink for MemSink {
     fn flush(&mut self) -> Result<(), Failed>
         ensures count { self.old.faults ≤ self.new.faults }
         ensures cause { OnErr result (Rose (Some last_count) self.old.faults self.new.faults) }
-        ensures held { Some self.new.held ≡ Some self.old.held }
-        ensures ok { OnOk result (IfSome (Some self.new.held) (λ bytes. self.new.flushed ≡ length bytes)) }
+        ensures held { self.new.held ≡ self.old.held }
+        ensures ok { OnOk result (self.new.flushed ≡ length self.new.held) }
         ensures failed { OnErr result (self.new.flushed ≡ self.old.flushed) }
 
         // It fails exactly at the calls of the list.

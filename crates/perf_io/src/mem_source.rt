@@ -1,7 +1,7 @@
 //! A source of bytes in memory that gives them in pieces and fails at the calls of a list.
 
-ghost use Rattle.std.specs.Prelude.{◌≡◌, ◌<◌, ◌≤◌, ◌++◌, ◌↔◌, Some, IfOk, OnErr, IsErr, Contains, length, take, drop};
-ghost use Rattle.perf_io.specs.Outside.{Takes, IsAtEnd, Rose};
+ghost use Rattle.std.specs.Prelude.{◌≡◌, ◌<◌, ◌≤◌, ◌++◌, ◌↔◌, [], Some, IfOk, OnErr, IsErr, Contains, length, take, drop};
+ghost use Rattle.perf_io.specs.Outside.{Rose};
 ghost use Rattle.perf_io.specs.Counts.{last_count};
 ghost use Rattle.perf_io.specs.MemSource.{read_count, after_read, after_failed_read};
 
@@ -60,9 +60,9 @@ impl Source for MemSource {
         ensures count { self.old.faults ≤ self.new.faults }
         ensures cause { OnErr result (Rose (Some last_count) self.old.faults self.new.faults) }
         ensures within { IfOk result (λ n. n ≤ length buf.old) }
-        ensures taken { IfOk result (λ n. Takes (Some self.old.left) (Some self.new.left) (take n buf.new)) }
-        ensures end { IfOk result (λ n. n ≡ 0 → 0 < length buf.old → IsAtEnd (Some self.new.left)) }
-        ensures failed { OnErr result (Some self.new.left ≡ Some self.old.left) }
+        ensures taken { IfOk result (λ n. self.old.left ≡ take n buf.new ++ self.new.left) }
+        ensures end { IfOk result (λ n. n ≡ 0 → 0 < length buf.old → self.new.left ≡ []) }
+        ensures failed { OnErr result (self.new.left ≡ self.old.left) }
 
         // It fails exactly at the calls of the list, and gives all that buffer, piece and rest allow.
         ensures fails { IsErr result ↔ Contains self.old.fail self.old.calls }

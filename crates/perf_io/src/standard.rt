@@ -2,7 +2,7 @@
 //! no contract looks behind. A contract sees each object as its count of faults.
 
 ghost use Rattle.std.specs.Prelude.{◌≡◌, ◌<◌, ◌≤◌, Some, None, IfOk, OnOk, OnErr, length, take};
-ghost use Rattle.perf_io.specs.Outside.{Takes, Adds, IsAtEnd, Rose};
+ghost use Rattle.perf_io.specs.Outside.{Rose};
 ghost use Rattle.perf_io.specs.Counts.{last_count, count_after};
 
 use crate::outside::{Failed, Sink, Source};
