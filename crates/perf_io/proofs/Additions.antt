@@ -1,5 +1,5 @@
 -- Bytes that are added by one write after another.
-use Rattle.std.proofs.Common.{◌≡◌, ℕ, ◌+◌, ◌≤◌, ◌<◌, List, ◌++◌, take, drop, sym, ◌∙◌, Option, Some, None, append_assoc, arith, inl, inr, ◌⊎◌}
+use Rattle.std.proofs.Common.{ℕ, ◌+◌, List, take, drop, ◌∙◌, Option, Some, None, append_assoc}
 use Rattle.std.proofs.Math.Seq.{take-add}
 use Rattle.perf_io.specs.Outside.{Adds}
 

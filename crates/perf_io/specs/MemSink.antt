@@ -14,9 +14,9 @@ pub record SinkState : Type 0 where
   pub fail : List ℕ
   -- The most bytes that it ever holds.
   pub room : ℕ
-  -- The number of the next call: how many there were, counted from 0.
+  -- The number of the next call, counted from 0. It stays at `last_count`.
   pub calls : ℕ
-  -- How many of them failed.
+  -- How many calls failed, a count that stays at `last_count`.
   pub faults : ℕ
 
 -- A write of these bytes fails: its call is listed, or there is something to add and no room left.

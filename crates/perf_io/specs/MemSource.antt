@@ -10,9 +10,9 @@ pub record SourceState : Type 0 where
   pub piece : ℕ
   -- The numbers of the calls that fail.
   pub fail : List ℕ
-  -- The number of the next call: how many there were, counted from 0.
+  -- The number of the next call, counted from 0. It stays at `last_count`.
   pub calls : ℕ
-  -- How many of them failed.
+  -- How many calls failed, a count that stays at `last_count`.
   pub faults : ℕ
 
 -- How many bytes a read into so much room gives, where it does not fail.

@@ -37,9 +37,14 @@ impl Model for MemSink {
 }
 
 impl MemSink {
-    /// Holds up to `room` bytes, whose memory it takes now, and adds at most `piece` of them a write. The
-    /// writes and flushes whose numbers are in `fail` fail.
-    pub fn new(alloc: Global, piece: usize, fail: Vec<u64>, room: usize) -> Result<MemSink, NoMemory>
+    /// Holds up to `room` bytes, whose memory it takes now, and adds at most `piece` of them a write, at
+    /// least 1. The writes and flushes whose numbers are in `fail` fail.
+    pub fn new(
+        alloc: Global,
+        piece: usize,
+        fail: Vec<u64>,
+        room: usize,
+    ) -> Result<MemSink, NoMemory>
         requires { 0 < piece }
         ensures { IfOk result (λ s. s ≡ record { held = []; flushed = 0; piece = piece; fail = fail.items; room = room; calls = 0; faults = 0 }) }
     {

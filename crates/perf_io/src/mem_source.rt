@@ -33,7 +33,7 @@ impl Model for MemSource {
 }
 
 impl MemSource {
-    /// Gives `bytes`, at most `piece` of them a read. The reads whose numbers are in `fail` fail.
+    /// Gives `bytes`, at most `piece` of them a read, at least 1. The reads whose numbers are in `fail` fail.
     pub fn new(bytes: Vec<u8>, piece: usize, fail: Vec<u64>) -> MemSource
         requires { 0 < piece }
         ensures { result ≡ record { left = bytes.items; piece = piece; fail = fail.items; calls = 0; faults = 0 } }

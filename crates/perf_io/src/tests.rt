@@ -1,6 +1,8 @@
 //! What no clause says: that the calls succeed, and what the system does at its edge.
 
-use crate::{CalmSink, CalmSource, MemSink, MemSource, Sink, Source, StdNotes, StdSink, StdSource, write_all};
+use crate::{
+    CalmSink, CalmSource, MemSink, MemSource, Sink, Source, StdNotes, StdSink, StdSource, write_all,
+};
 use std::test::Fail;
 
 #[test]
@@ -16,7 +18,11 @@ fn memory_sources_give_in_pieces(rt: HostRuntime) -> Result<(), Fail> {
         let bytes = vec![in rt.alloc(); 5u8, 6, 7, 8, 9]?;
         let mut source = MemSource::new(bytes, piece, vec![in rt.alloc(); fails]?);
         for answer in answers {
-            assert_eq!(rt; source.read(&mut [0; 3]).ok(), answer, "in pieces of {piece}");
+            assert_eq!(rt;
+                source.read(&mut [0; 3]).ok(),
+                answer,
+                "in pieces of {piece}"
+            );
         }
     }
     let mut source = CalmSource::new(vec![in rt.alloc(); 5u8, 6, 7]?);
@@ -45,7 +51,11 @@ fn memory_sinks_take_in_pieces(rt: HostRuntime) -> Result<(), Fail> {
         let second = sink.write(b"def").ok();
         let flushed = sink.flush().ok().map(|()| 0);
         let third = sink.write(b"ghi").ok();
-        assert_eq!(rt; [first, second, flushed, third], answers, "in pieces of {piece}");
+        assert_eq!(rt;
+            [first, second, flushed, third],
+            answers,
+            "in pieces of {piece}"
+        );
         assert!(rt; sink.bytes().len() <= room);
     }
     let mut sink = MemSink::new(rt.alloc(), 2, vec![in rt.alloc(); 9u64]?, 5)?;

@@ -6,7 +6,7 @@ use Rattle.perf_io.proofs.writing.write_all.Goals as goal
 pub loop-done-preserved : goal.loop-done-preserved
 loop-done-preserved g c =
     let rest : take (length c.args.piece.now - c.loop-done.done) (drop c.loop-done.done c.args.piece.now) ≡ drop c.loop-done.done c.args.piece.now =
-        grind (arith, common_steps) in
+    grind (arith, common_steps) in
     record {
       within = omega (arith, length-drop c.loop-done.done c.args.piece.now, c.in_ok-done.ensures.within);
       count = omega (arith, c.loop-done.invariant.count, c.in_ok-done.ensures.count);
