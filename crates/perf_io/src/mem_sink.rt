@@ -31,14 +31,22 @@ impl Model for MemSink {
 
     ghost Value = { SinkState };
 
-    ghost view = { λ s. record { held = s.bytes.items; flushed = s.flushed; piece = s.piece; fail = s.fail.items; room = s.room; calls = s.calls; faults = s.faults } };
+    ghost view = { λ s. record {
+      held = s.bytes.items;
+      flushed = s.flushed;
+      piece = s.piece;
+      fail = s.fail.items;
+      room = s.room;
+      calls = s.calls;
+      faults = s.faults;
+    } };
 
     ghost invariant = { λ s. (0 < s.piece) × (vec_len s.bytes ≤ s.room) × (s.room ≤ vec_capacity s.bytes) };
 }
 
 impl MemSink {
-    /// Holds up to `room` bytes, whose memory it takes now, and adds at most `piece` of them a write, at
-    /// least 1. The writes and flushes whose numbers are in `fail` fail.
+    /// Holds up to `room` bytes, whose memory it takes now, and adds at most `piece` of them a write,
+    /// which is at least 1. The writes and flushes whose numbers are in `fail` fail.
     pub fn new(
         alloc: Global,
         piece: usize,
@@ -46,7 +54,15 @@ impl MemSink {
         room: usize,
     ) -> Result<MemSink, NoMemory>
         requires { 0 < piece }
-        ensures { IfOk result (λ s. s ≡ record { held = []; flushed = 0; piece = piece; fail = fail.items; room = room; calls = 0; faults = 0 }) }
+        ensures { IfOk result (λ sink. sink ≡ record {
+          held = [];
+          flushed = 0;
+          piece = piece;
+          fail = fail.items;
+          room = room;
+          calls = 0;
+          faults = 0;
+        }) }
     {
         Ok(MemSink {
             bytes: Vec::with_capacity(alloc, room)?,

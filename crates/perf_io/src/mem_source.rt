@@ -27,16 +27,29 @@ impl Model for MemSource {
 
     ghost Value = { SourceState };
 
-    ghost view = { λ s. record { left = drop s.given s.bytes.items; piece = s.piece; fail = s.fail.items; calls = s.calls; faults = s.faults } };
+    ghost view = { λ s. record {
+      left = drop s.given s.bytes.items;
+      piece = s.piece;
+      fail = s.fail.items;
+      calls = s.calls;
+      faults = s.faults;
+    } };
 
     ghost invariant = { λ s. (0 < s.piece) × (s.given ≤ length s.bytes.items) };
 }
 
 impl MemSource {
-    /// Gives `bytes`, at most `piece` of them a read, at least 1. The reads whose numbers are in `fail` fail.
+    /// Gives `bytes`, at most `piece` of them a read, which is at least 1. The reads whose numbers
+    /// are in `fail` fail.
     pub fn new(bytes: Vec<u8>, piece: usize, fail: Vec<u64>) -> MemSource
         requires { 0 < piece }
-        ensures { result ≡ record { left = bytes.items; piece = piece; fail = fail.items; calls = 0; faults = 0 } }
+        ensures { result ≡ record {
+          left = bytes.items;
+          piece = piece;
+          fail = fail.items;
+          calls = 0;
+          faults = 0;
+        } }
     {
         MemSource {
             bytes,

@@ -11,7 +11,8 @@ pub fn write_all<K: Sink>(sink: &mut K, piece: &[u8]) -> Result<(), Failed>
     ensures count { K.faults sink.old ≤ K.faults sink.new }
     ensures cause { OnErr result (Rose K.last_fault (K.faults sink.old) (K.faults sink.new)) }
     ensures added { OnOk result (Adds (K.held sink.old) (K.held sink.new) piece.now) }
-    ensures front { OnErr result ((n : ℕ) × (n ≤ length piece.now) × Adds (K.held sink.old) (K.held sink.new) (take n piece.now)) }
+    ensures front { OnErr result ((n : ℕ) × (n ≤ length piece.now)
+        × Adds (K.held sink.old) (K.held sink.new) (take n piece.now)) }
     ensures flushed { K.flushed sink.new ≡ K.flushed sink.old }
     ensures nothing { length piece.now ≡ 0 → IsOk result × (sink.new ≡ sink.old) }
 {
