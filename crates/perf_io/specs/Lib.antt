@@ -1,1 +1,4 @@
 pub mod Outside
+pub mod Counts
+pub mod MemSource
+pub mod MemSink

@@ -3,6 +3,19 @@
 // was flushed, each where it is told. It serves every crate that reads or writes.
 #![tactic(auto)]
 
+mod calm;
+mod copying;
+mod mem_sink;
+mod mem_source;
 mod outside;
+mod standard;
+#[cfg(test)]
+mod tests;
+mod writing;
 
+pub use calm::{CalmSink, CalmSource};
+pub use mem_sink::MemSink;
+pub use mem_source::MemSource;
 pub use outside::{Failed, Sink, Source};
+pub use standard::{StdNotes, StdSink, StdSource};
+pub use writing::write_all;

@@ -1,0 +1,205 @@
+//! Standard input, output and error. What the system gives and takes is not told: this is the edge that
+//! no contract looks behind. A contract sees each object as its count of faults.
+
+ghost use Rattle.std.specs.Prelude.{◌≡◌, ◌<◌, ◌≤◌, Some, None, IfOk, OnOk, OnErr, length, take};
+ghost use Rattle.perf_io.specs.Outside.{Rose};
+ghost use Rattle.perf_io.specs.Counts.{last_count, count_after};
+
+use crate::outside::{Failed, Sink, Source};
+use std::io::{Read, Stderr, Stdin, Stdout, Write};
+use std::marker::Model;
+
+/// Standard input, with the count of the errors that the system gave.
+#[derive(Drop)]
+pub struct StdSource {
+    input: Stdin,
+    faults: u64,
+}
+
+impl Model for StdSource {
+    ghost use Rattle.std.specs.Prelude.{ℕ};
+
+    ghost Value = { ℕ };
+
+    ghost view = { λ s. s.faults };
+}
+
+impl StdSource {
+    /// Reads this input.
+    pub fn new(input: Stdin) -> StdSource
+        ensures { result ≡ 0 }
+    {
+        StdSource { input, faults: 0 }
+    }
+}
+
+impl Source for StdSource {
+    ghost left = { λ _. None };
+
+    ghost faults = { λ s. s };
+
+    ghost last_fault = { Some last_count };
+
+    fn read(&mut self, buf: &mut [u8]) -> Result<usize, Failed>
+        ensures count { self.old ≤ self.new }
+        ensures cause { OnErr result (Rose (Some last_count) self.old self.new) }
+        ensures within { IfOk result (λ n. n ≤ length buf.old) }
+
+        // Each error of the system is counted, and nothing else is.
+        ensures ok { OnOk result (self.new ≡ self.old) }
+        ensures fault { OnErr result (self.new ≡ count_after self.old 1) }
+    {
+        match self.input.read(buf) {
+            Ok(n) => Ok(n),
+            Err(_) => {
+                self.faults = self.faults.saturating_add(1);
+                Err(Failed)
+            }
+        }
+    }
+}
+
+/// Standard output, with the count of the errors that the system gave.
+#[derive(Drop)]
+pub struct StdSink {
+    output: Stdout,
+    faults: u64,
+}
+
+impl Model for StdSink {
+    ghost use Rattle.std.specs.Prelude.{ℕ};
+
+    ghost Value = { ℕ };
+
+    ghost view = { λ s. s.faults };
+}
+
+impl StdSink {
+    /// Writes to this output.
+    pub fn new(output: Stdout) -> StdSink
+        ensures { result ≡ 0 }
+    {
+        StdSink { output, faults: 0 }
+    }
+}
+
+impl Sink for StdSink {
+    ghost held = { λ _. None };
+
+    ghost flushed = { λ _. 0 };
+
+    ghost faults = { λ s. s };
+
+    ghost last_fault = { Some last_count };
+
+    fn write(&mut self, piece: &[u8]) -> Result<usize, Failed>
+        ensures count { self.old ≤ self.new }
+        ensures cause { OnErr result (Rose (Some last_count) self.old self.new) }
+        ensures within { IfOk result (λ n. n ≤ length piece.now) }
+        ensures some { IfOk result (λ n. 0 < length piece.now → 0 < n) }
+
+        // A write that took nothing of something is counted too.
+        ensures ok { OnOk result (self.new ≡ self.old) }
+        ensures fault { OnErr result (self.new ≡ count_after self.old 1) }
+    {
+        write_counted(&mut self.output, &mut self.faults, piece)
+    }
+
+    fn flush(&mut self) -> Result<(), Failed>
+        ensures count { self.old ≤ self.new }
+        ensures cause { OnErr result (Rose (Some last_count) self.old self.new) }
+        ensures ok { OnOk result (self.new ≡ self.old) }
+        ensures fault { OnErr result (self.new ≡ count_after self.old 1) }
+    {
+        flush_counted(&mut self.output, &mut self.faults)
+    }
+}
+
+/// Standard error, with the count of the errors that the system gave.
+#[derive(Drop)]
+pub struct StdNotes {
+    error: Stderr,
+    faults: u64,
+}
+
+impl Model for StdNotes {
+    ghost use Rattle.std.specs.Prelude.{ℕ};
+
+    ghost Value = { ℕ };
+
+    ghost view = { λ s. s.faults };
+}
+
+impl StdNotes {
+    /// Writes to this standard error.
+    pub fn new(error: Stderr) -> StdNotes
+        ensures { result ≡ 0 }
+    {
+        StdNotes { error, faults: 0 }
+    }
+}
+
+impl Sink for StdNotes {
+    ghost held = { λ _. None };
+
+    ghost flushed = { λ _. 0 };
+
+    ghost faults = { λ s. s };
+
+    ghost last_fault = { Some last_count };
+
+    fn write(&mut self, piece: &[u8]) -> Result<usize, Failed>
+        ensures count { self.old ≤ self.new }
+        ensures cause { OnErr result (Rose (Some last_count) self.old self.new) }
+        ensures within { IfOk result (λ n. n ≤ length piece.now) }
+        ensures some { IfOk result (λ n. 0 < length piece.now → 0 < n) }
+
+        // A write that took nothing of something is counted too.
+        ensures ok { OnOk result (self.new ≡ self.old) }
+        ensures fault { OnErr result (self.new ≡ count_after self.old 1) }
+    {
+        write_counted(&mut self.error, &mut self.faults, piece)
+    }
+
+    fn flush(&mut self) -> Result<(), Failed>
+        ensures count { self.old ≤ self.new }
+        ensures cause { OnErr result (Rose (Some last_count) self.old self.new) }
+        ensures ok { OnOk result (self.new ≡ self.old) }
+        ensures fault { OnErr result (self.new ≡ count_after self.old 1) }
+    {
+        flush_counted(&mut self.error, &mut self.faults)
+    }
+}
+
+/// Writes the front of the piece, and counts a fault where the system gave an error or took nothing of
+/// something.
+fn write_counted<W: Write>(output: &mut W, faults: &mut u64, piece: &[u8]) -> Result<usize, Failed>
+    ensures within { IfOk result (λ n. n ≤ length piece.now) }
+    ensures some { IfOk result (λ n. 0 < length piece.now → 0 < n) }
+    ensures count { faults.old ≤ faults.new }
+    ensures ok { OnOk result (faults.new ≡ faults.old) }
+    ensures fault { OnErr result (faults.new ≡ count_after faults.old 1) }
+{
+    match output.write(piece) {
+        Ok(n) if n > 0 || piece.is_empty() => Ok(n),
+        _ => {
+            *faults = faults.saturating_add(1);
+            Err(Failed)
+        }
+    }
+}
+
+/// Sends on what was written, and counts a fault where the system gave an error.
+fn flush_counted<W: Write>(output: &mut W, faults: &mut u64) -> Result<(), Failed>
+    ensures count { faults.old ≤ faults.new }
+    ensures ok { OnOk result (faults.new ≡ faults.old) }
+    ensures fault { OnErr result (faults.new ≡ count_after faults.old 1) }
+{
+    match output.flush() {
+        Ok(()) => Ok(()),
+        Err(_) => {
+            *faults = faults.saturating_add(1);
+            Err(Failed)
+        }
+    }
+}
