@@ -1,5 +1,5 @@
 -- Bytes stand for an attribute exactly where they have no fault, and for one at most.
-use Rattle.std.proofs.Common.{◌≡◌, ◌<◌, ◌≤◌, ◌^◌, ℕ, ◌+◌, ◌-◌, ◌⊎◌, inl, inr, ◌↔◌, Bool, true, false, not, cond, nat_eq, ◌||◌, List, ◌++◌, length, take, drop, get_or, Option, Some, None, refl, sym, ap, subst, ◌∙◌, arith, lit≤, ≤_trans, length-take, length-drop, length-append}
+use Rattle.std.proofs.Common.{◌≡◌, ◌<◌, ◌≤◌, ◌^◌, ℕ, ◌+◌, ◌-◌, ◌/◌, bit_and, bit_or, ◌⊎◌, inl, inr, ◌↔◌, Bool, true, false, not, cond, nat_eq, ◌||◌, List, ◌++◌, length, take, drop, get_or, Option, Some, None, refl, sym, ap, subst, ◌∙◌, arith, length-take, length-drop, length-append}
 use Rattle.std.specs.Option.{option_or}
 use Rattle.std.specs.List.{list_any, slice_range, slice_index}
 use Rattle.std.proofs.lemmas.Bool.{ltb-false, le-ltb, eqb-true, eq-eqb, ne_eqb, not-false, not_from_true, or_parts, or_from, or_left, or_right, or_cases, and_parts, and_from, cases_eq, cond-false, both_ways, not_from_false}
@@ -59,11 +59,13 @@ no_fault : (test : Bool) (fault : AttrFault) (others : Option AttrFault) → con
 no_fault true fault others h = absurd (cc)
 no_fault false fault others h = (refl, h)
 
+-- the size field lies within the bytes
+size_field_fits : (size length : ℕ) → 64 ≤ size → size ≤ length → 8 ≤ length
+size_field_fits size length least whole = omega arith
+
 pub IsFramed-none : (bytes : List ℕ) → IsFramed bytes → frame_fault bytes ≡ None
 IsFramed-none bytes h =
-    let size : ℕ = attr_size bytes in
-    let long : 8 ≤ length bytes = ≤_trans (≤_trans (lit≤ tt) h.least) h.whole in
-    cond-false _ _ _ (le-ltb (length bytes) 8 long)
+    cond-false _ _ _ (le-ltb (length bytes) 8 (size_field_fits (attr_size bytes) (length bytes) h.least h.whole))
     ∙ cond-false _ _ _ (or_from _ _ (le-ltb (attr_size bytes) 64 h.least) (le-ltb 4096 (attr_size bytes) h.most))
     ∙ cond-false _ _ _ (le-ltb (length bytes) (attr_size bytes) h.whole)
     ∙ cond-false _ _ _ h.unknown
@@ -170,7 +172,20 @@ none_of_both a b p q = rw (p, q) refl
 
 -- bytes stand for some attribute exactly where they have no fault
 pub StandsFor-iff-no_fault : (bytes : List ℕ) → ((raw : RawAttr) × StandsFor bytes raw) ↔ (fault_of bytes ≡ None)
-StandsFor-iff-no_fault bytes = ?
+StandsFor-iff-no_fault bytes =
+    let word : ℕ = flag_word_in bytes in
+    let raw : RawAttr = record {
+      class = type_in bytes;
+      config = config_in bytes;
+      period = sample_period_in bytes;
+      sample = sample_type_in bytes;
+      format = read_format_in bytes;
+      flags = record { 0 = bit_or (bit_and word 63) (bit_and (word / 4096) 64) };
+    } in
+    ((λ standing. none_of_both _ _ (IsFramed-none bytes (StandsFor-IsFramed bytes standing.0 standing.1)) (AreFieldsRead-none bytes (StandsFor-AreFieldsRead bytes standing.0 standing.1))),
+    (λ none.
+        let parts = both_none _ _ none in
+        (raw, stands_from_fields bytes raw (none-IsFramed bytes parts.0) (none-AreFieldsRead bytes parts.1) refl refl refl refl refl (AreFlagsOf-word word))))
 
 -- the fields of the bytes that are written
 pub record IsWritten (words : List ℕ) (raw : RawAttr) : Type 0 where

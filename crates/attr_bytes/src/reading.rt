@@ -1,10 +1,10 @@
 //! From bytes to an attribute.
 
-ghost use Rattle.std.specs.Prelude.{◌≡◌, ℕ, ◌≤◌, length, IfOk, MatchResult, IsTrue, ◌↔◌};
+ghost use Rattle.std.specs.Prelude.{◌≡◌, ℕ, ◌≤◌, length, IfOk, MatchResult};
 ghost use Rattle.attr_bytes.specs.declared.raw.RawAttr.{RawAttr};
 ghost use Rattle.attr_bytes.specs.Layout.{attr_size};
 ghost use Rattle.attr_bytes.specs.Standing.{StandsFor};
-ghost use Rattle.attr_bytes.specs.Faults.{fault_of, frame_fault, field_fault};
+ghost use Rattle.attr_bytes.specs.Faults.{fault_of, frame_fault, field_fault, has_unknown};
 
 use crate::fault::AttrFault;
 use crate::fields::{u32_at, u64_at};
@@ -52,6 +52,16 @@ fn stated_size(bytes: &[u8]) -> usize
     }
 }
 
+// Whether a byte is set that this profile has no field for, below the size.
+fn has_unknown_part(bytes: &[u8], size: usize) -> bool
+    requires stated { size ≡ attr_size bytes.now }
+    requires least { 64 ≤ size }
+    requires whole { size ≤ length bytes.now }
+    ensures { result ≡ has_unknown bytes.now }
+{
+    bytes[FIRST_SIZE..size].iter().any(|byte| *byte != 0)
+}
+
 // Looks for a fault of the size, of the bytes that it takes, or of those that this profile has no field for.
 fn check_frame(bytes: &[u8]) -> Result<(), AttrFault>
     ensures ok { IfOk result (λ _. 64 ≤ length bytes.now) }
@@ -69,7 +79,7 @@ fn check_frame(bytes: &[u8]) -> Result<(), AttrFault>
     if bytes.len() < size {
         return Err(AttrFault::Short);
     }
-    if bytes[FIRST_SIZE..size].iter().any(|byte| *byte != 0) {
+    if has_unknown_part(bytes, size) {
         return Err(AttrFault::TooBig);
     }
     Ok(())
