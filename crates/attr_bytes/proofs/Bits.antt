@@ -1,5 +1,5 @@
 -- The bits of a flag word.
-use Rattle.std.proofs.Common.{◌≡◌, ◌<◌, ◌≤◌, ◌^◌, ℕ, zero, suc, ◌+◌, ◌*◌, ◌/◌, ◌%◌, min, max, refl, sym, ap, ◌∙◌, arith, bit_and, bit_or}
+use Rattle.std.proofs.Common.{◌≡◌, ◌<◌, ◌^◌, ℕ, zero, suc, ◌*◌, ◌/◌, ◌%◌, min, max, refl, sym, ap, ◌∙◌, arith, bit_and, bit_or}
 use Rattle.std.specs.Int.{bit_at}
 use Rattle.std.proofs.lemmas.Nat.{shr-shr, or_lt, and_le_r}
 use Rattle.std.proofs.lemmas.Nat.Bits.{bit_at_and, bit_at_or, bit_at-lt, same_from_bits, same_from_bits_below}
@@ -81,11 +81,11 @@ seven_bits f g (suc (suc (suc (suc (suc (suc (suc n))))))) below b0 b1 b2 b3 b4 
 pub AreFlagsOf-one : (word f g : ℕ) → AreFlagsOf word f → AreFlagsOf word g → f ≡ g
 AreFlagsOf-one word f g p q =
     same_from_bits_below 7 f g p.no_other q.no_other (λ i below.
-        seven_bits f g i below
-        (p.disabled ∙ sym q.disabled)
-        (p.inherit ∙ sym q.inherit)
-        (p.pinned ∙ sym q.pinned)
-        (p.exclusive ∙ sym q.exclusive)
-        (p.exclude_user ∙ sym q.exclude_user)
-        (p.exclude_kernel ∙ sym q.exclude_kernel)
-        (p.sample_id_all ∙ sym q.sample_id_all))
+    seven_bits f g i below
+    (p.disabled ∙ sym q.disabled)
+    (p.inherit ∙ sym q.inherit)
+    (p.pinned ∙ sym q.pinned)
+    (p.exclusive ∙ sym q.exclusive)
+    (p.exclude_user ∙ sym q.exclude_user)
+    (p.exclude_kernel ∙ sym q.exclude_kernel)
+    (p.sample_id_all ∙ sym q.sample_id_all))

@@ -1,5 +1,5 @@
 -- Bytes stand for an attribute exactly where they have no fault, and for one at most.
-use Rattle.std.proofs.Common.{◌≡◌, ◌<◌, ◌≤◌, ◌^◌, ℕ, ◌+◌, ◌-◌, ◌/◌, bit_and, bit_or, ◌⊎◌, inl, inr, ◌↔◌, Bool, true, false, not, cond, nat_eq, ◌||◌, List, ◌++◌, length, take, drop, get_or, Option, Some, None, refl, sym, ap, subst, ◌∙◌, arith, length-take, length-drop, length-append}
+use Rattle.std.proofs.Common.{◌≡◌, ◌<◌, ◌≤◌, ℕ, ◌+◌, ◌-◌, ◌/◌, bit_and, bit_or, inl, inr, ◌↔◌, Bool, true, false, not, cond, nat_eq, ◌||◌, List, ◌++◌, length, drop, get_or, Option, Some, None, refl, sym, ap, subst, ◌∙◌, arith, length-take, length-drop, length-append}
 use Rattle.std.specs.Option.{option_or}
 use Rattle.std.specs.List.{list_any, slice_range, slice_index}
 use Rattle.std.proofs.lemmas.Bool.{ltb-false, le-ltb, eqb-true, eq-eqb, ne_eqb, not-false, not_from_true, or_parts, or_from, or_left, or_right, or_cases, and_parts, and_from, cases_eq, cond-false, both_ways, not_from_false}
@@ -27,7 +27,7 @@ zero_from_test bytes from to fits none k low high =
     let within : k - from < length part = omega (arith, length-take (to - from) (drop from bytes), length-drop from bytes) in
     let same : get_or part (k - from) 0 ≡ get_or bytes k 0 = get_or-part bytes from to (k - from) (omega arith) ∙ ap (λ (x : ℕ). get_or bytes x 0) (omega arith) in
     elim (cases_eq (get_or bytes k 0) 0) [
-      inl zero ↦ zero
+      | inl zero ↦ zero
       | inr above ↦ absurd (both_ways _ none (list_any_at (λ byte. not (nat_eq byte 0)) part (k - from) 0 within (not_from_false _ (ne_eqb _ _ (λ zero. above (sym same ∙ zero))))))
     ]
 
@@ -36,9 +36,9 @@ test_from_zero : (bytes : List ℕ) (from to : ℕ) → ((k : ℕ) → from ≤ 
 test_from_zero bytes from to zeros =
     let part : List ℕ = slice_range bytes from to in
     list_any_none (λ byte. not (nat_eq byte 0)) part (λ k d within.
-        let high : from + k < to = omega (arith, length-take (to - from) (drop from bytes)) in
-        let zero : get_or part k d ≡ 0 = get_or_default_zero part k d within ∙ get_or-part bytes from to k high ∙ zeros (from + k) (omega arith) high in
-        not_from_true _ (eq-eqb _ _ zero))
+    let high : from + k < to = omega (arith, length-take (to - from) (drop from bytes)) in
+    let zero : get_or part k d ≡ 0 = get_or_default_zero part k d within ∙ get_or-part bytes from to k high ∙ zeros (from + k) (omega arith) high in
+    not_from_true _ (eq-eqb _ _ zero))
 
 -- what the frame has where it has no fault
 pub record IsFramed (bytes : List ℕ) : Type 0 where
@@ -91,7 +91,7 @@ test-IsClass n (inr (inr e)) = or_right _ _ (eq-eqb _ _ e)
 IsClass-test : (n : ℕ) → (nat_eq n 0 || nat_eq n 1 || nat_eq n 4) ≡ true → IsClass n
 IsClass-test n h =
     elim (or_cases _ _ h) [
-      inl low ↦ elim (or_cases _ _ low) [ inl e ↦ inl (eqb-true _ _ e) | inr e ↦ inr (inl (eqb-true _ _ e)) ]
+      | inl low ↦ elim (or_cases _ _ low) [ inl e ↦ inl (eqb-true _ _ e) | inr e ↦ inr (inl (eqb-true _ _ e)) ]
       | inr e ↦ inr (inr (eqb-true _ _ e))
     ]
 
@@ -181,11 +181,12 @@ StandsFor-iff-no_fault bytes =
       sample = sample_type_in bytes;
       format = read_format_in bytes;
       flags = record { 0 = bit_or (bit_and word 63) (bit_and (word / 4096) 64) };
-    } in
-    ((λ standing. none_of_both _ _ (IsFramed-none bytes (StandsFor-IsFramed bytes standing.0 standing.1)) (AreFieldsRead-none bytes (StandsFor-AreFieldsRead bytes standing.0 standing.1))),
-    (λ none.
-        let parts = both_none _ _ none in
-        (raw, stands_from_fields bytes raw (none-IsFramed bytes parts.0) (none-AreFieldsRead bytes parts.1) refl refl refl refl refl (AreFlagsOf-word word))))
+    } in (
+      (λ standing. none_of_both _ _ (IsFramed-none bytes (StandsFor-IsFramed bytes standing.0 standing.1)) (AreFieldsRead-none bytes (StandsFor-AreFieldsRead bytes standing.0 standing.1))),
+      (λ none.
+          let parts = both_none _ _ none in
+          (raw, stands_from_fields bytes raw (none-IsFramed bytes parts.0) (none-AreFieldsRead bytes parts.1) refl refl refl refl refl (AreFlagsOf-word word))),
+    )
 
 -- the fields of the bytes that are written
 pub record IsWritten (words : List ℕ) (raw : RawAttr) : Type 0 where
@@ -205,7 +206,7 @@ pub record IsWritten (words : List ℕ) (raw : RawAttr) : Type 0 where
 pub IsWritten-StandsFor : (words : List ℕ) (raw : RawAttr) → IsWritten words raw → IsClass raw.class → (more : List ℕ) → StandsFor (words ++ more) raw
 IsWritten-StandsFor words raw h class more =
     let same : (offset width : ℕ) → offset + width ≤ 64 → number_at offset width (words ++ more) ≡ number_at offset width words =
-      λ offset width fits. number_at-append offset width words more (omega (arith, h.length)) in
+    λ offset width fits. number_at-append offset width words more (omega (arith, h.length)) in
     let size : attr_size (words ++ more) ≡ 64 = rw (same 4 4 (omega arith), h.size) refl in
     let word : flag_word_in (words ++ more) ≡ flag_word_in words = same 40 8 (omega arith) in
     record {

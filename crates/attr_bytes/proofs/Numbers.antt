@@ -1,5 +1,5 @@
 -- Numbers at an offset.
-use Rattle.std.proofs.Common.{◌≡◌, ◌<◌, ◌≤◌, ◌^◌, ℕ, ◌+◌, ◌-◌, List, [], ◌∷◌, ◌++◌, length, take, drop, replicate, refl, sym, ap, subst, ◌∙◌, arith, length-append, length-drop, length-take}
+use Rattle.std.proofs.Common.{◌≡◌, ◌<◌, ◌≤◌, ◌^◌, ℕ, ◌+◌, ◌-◌, List, [], ◌++◌, length, take, drop, replicate, refl, sym, ap, ◌∙◌, arith, length-append, length-drop, length-take}
 use Rattle.std.proofs.lemmas.List.{take-append-drop, drop-append-le, drop-drop, drop_at, drop_all, take_rest, append-nil}
 use borrow.Rule.Slice.PartMut.{put_mid}
 use Rattle.byteorder.specs.Endian.{little_number, little_bytes}
@@ -47,18 +47,18 @@ puts_number offset width number old new fits small e =
     record {
       length = ap length e ∙ omega (arith, length-append front (little_bytes width number ++ rest), length-append (little_bytes width number) rest, length-drop width (drop offset old), length-drop offset old);
       put = ap (λ (x : List ℕ). little_number width (drop offset x)) e
-        ∙ ap (λ (x : List ℕ). little_number width x) (drop_at front (little_bytes width number ++ rest) offset taken)
-        ∙ little_number-reads_back width number rest small;
+          ∙ ap (λ (x : List ℕ). little_number width x) (drop_at front (little_bytes width number ++ rest) offset taken)
+          ∙ little_number-reads_back width number rest small;
       before = λ from many h.
-        ap (number_at from many) e
-        ∙ number_at-append from many front (little_bytes width number ++ rest) (omega arith)
-        ∙ sym (number_at-append from many front (drop offset old) (omega arith))
-        ∙ ap (number_at from many) (take-append-drop offset old);
+          ap (number_at from many) e
+          ∙ number_at-append from many front (little_bytes width number ++ rest) (omega arith)
+          ∙ sym (number_at-append from many front (drop offset old) (omega arith))
+          ∙ ap (number_at from many) (take-append-drop offset old);
       after = λ from many h.
-        ap (λ (x : List ℕ). little_number many x)
-        (ap (λ (x : List ℕ). drop from x) e
-        ∙ past_put front (little_bytes width number) rest offset width from taken put h
-        ∙ drop_thrice old offset width from h);
+          ap (λ (x : List ℕ). little_number many x)
+          (ap (λ (x : List ℕ). drop from x) e
+          ∙ past_put front (little_bytes width number) rest offset width from taken put h
+          ∙ drop_thrice old offset width from h);
     }
 
 -- what `&mut bytes[offset..]` leaves of the bytes, once so many bytes of it were written

@@ -1,10 +1,10 @@
 -- The faults of bytes that are no attribute: their order, and their words.
-use Rattle.std.specs.Prelude.{ℕ, ◌+◌, ◌^◌, nat_lt, ◌==◌, ◌||◌, ◌&&◌, not, Bool, true, false, cond, if◌then◌else◌, List, length, slice_range, drop, take, Option, Some, None, codes, bit_and}
+use Rattle.std.specs.Prelude.{ℕ, nat_lt, ◌==◌, ◌||◌, ◌&&◌, not, Bool, if◌then◌else◌, List, length, slice_range, Option, Some, None, codes, bit_and}
 use Rattle.std.specs.List.{list_any}
 use Rattle.std.specs.Option.{option_or}
 use Rattle.attr_bytes.specs.declared.fault.AttrFault.{AttrFault}
 use Rattle.attr_bytes.specs.declared.fault.AttrFault.TheVariants.{Short, TooBig, BadClass, BadFlags, BadField}
-use Rattle.attr_bytes.specs.Layout.{number_at, type_in, flag_word_in, bp_type_in, config1_in, attr_size, size_in}
+use Rattle.attr_bytes.specs.Layout.{type_in, flag_word_in, bp_type_in, config1_in, attr_size}
 use Rattle.attr_bytes.specs.Flags.{read_bits}
 
 -- the word of a fault

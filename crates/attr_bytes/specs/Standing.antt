@@ -1,8 +1,8 @@
 -- Which bytes stand for which attribute.
 use Rattle.std.specs.Prelude.{◌≡◌, ℕ, ◌<◌, ◌≤◌, ◌⊎◌, List, length, slice_index}
 use Rattle.attr_bytes.specs.declared.raw.RawAttr.{RawAttr}
-use Rattle.attr_bytes.specs.Layout.{number_at, type_in, config_in, sample_period_in, sample_type_in, read_format_in, flag_word_in, bp_type_in, config1_in, attr_size, size_in}
-use Rattle.attr_bytes.specs.Flags.{AreFlagsOf, HasOnlyReadBits, read_bits}
+use Rattle.attr_bytes.specs.Layout.{type_in, config_in, sample_period_in, sample_type_in, read_format_in, flag_word_in, bp_type_in, config1_in, attr_size}
+use Rattle.attr_bytes.specs.Flags.{AreFlagsOf, HasOnlyReadBits}
 
 -- the types of this project's own profile: HARDWARE, SOFTWARE and RAW
 abbrev pub IsClass : ℕ → Type 0

@@ -15,6 +15,7 @@ const SAME_PLACE: u64 = 0x3f;
 
 // sample_id_all in the flag word, and how far below that place `AttrFlags` has it.
 const SAMPLE_ID_ALL: u64 = 1 << 18;
+
 const SAMPLE_ID_ALL_SHIFT: u32 = 12;
 
 /// The flags that a flag word has.

@@ -16,6 +16,7 @@ const SIZE_END: usize = 8;
 
 // The first published size of an attribute, and the largest that is taken, in bytes.
 const FIRST_SIZE: usize = 64;
+
 const LARGEST_SIZE: usize = 4096;
 
 /// The attribute that the bytes stand for, or their first fault. Bytes past the size are not read.

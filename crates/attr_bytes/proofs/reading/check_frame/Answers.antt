@@ -1,5 +1,5 @@
-use Rattle.std.proofs.Common.{◌≡◌, ◌≤◌, ℕ, length, subst, sym, ◌∙◌}
-use Rattle.attr_bytes.proofs.Laws.{IsFramed, IsFramed-none}
+use Rattle.std.proofs.Common.{◌≤◌, ℕ, length, subst, sym, ◌∙◌}
+use Rattle.attr_bytes.proofs.Laws.{IsFramed-none}
 use Rattle.attr_bytes.proofs.reading.check_frame.Goals as goal
 
 pub returns-clause-fault : goal.returns-clause-fault

@@ -1,7 +1,7 @@
 use Rattle.std.proofs.Common.{ℕ, ◌∙◌, subst, sym}
 use Rattle.std.proofs.lemmas.Option.{none-some}
 use Rattle.attr_bytes.specs.Flags.{AreFlagsOf}
-use Rattle.attr_bytes.proofs.Laws.{IsFramed-none, none-IsFramed, none-AreFieldsRead, StandsFor-IsFramed, stands_from_fields, StandsFor-one}
+use Rattle.attr_bytes.proofs.Laws.{IsFramed-none, none-IsFramed, none-AreFieldsRead, StandsFor-IsFramed, stands_from_fields}
 use Rattle.attr_bytes.proofs.reading.read_attr.Goals as goal
 
 pub returns-in_err-check_frame-clause-every : goal.returns-in_err-check_frame-clause-every

@@ -1,7 +1,5 @@
-use Rattle.std.proofs.Common.{rules, arith, ◌≡◌, ◌∙◌, refl}
-use Rattle.std.proofs.lemmas.Grind.{common_steps}
-use Rattle.attr_bytes.specs.Layout.{number_at, PutsNumber}
-use Rattle.attr_bytes.proofs.Laws.{IsWritten, IsWritten-StandsFor}
+use Rattle.std.proofs.Common.{rules}
+use Rattle.attr_bytes.proofs.Laws.{IsWritten-StandsFor}
 use Rattle.attr_bytes.proofs.Numbers.{zero_end}
 use Rattle.attr_bytes.proofs.writing.attr_words.Goals as goal
 
