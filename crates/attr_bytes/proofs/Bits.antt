@@ -7,7 +7,7 @@ use Rattle.attr_bytes.specs.Flags.{AreFlagsOf, HasOnlyReadBits, read_bits}
 
 -- a bit of two masked numbers put together
 two_masks : (a m b n i : ℕ) → bit_at (bit_or (bit_and a m) (bit_and b n)) i ≡ max (min (bit_at a i) (bit_at m i)) (min (bit_at b i) (bit_at n i))
-two_masks a m b n i = rw (bit_at_or, bit_at_and, bit_at_and) refl
+two_masks a m b n i = rw (bit_at_or (bit_and a m) (bit_and b n) i, bit_at_and a m i, bit_at_and b n i) refl
 
 -- the bit is the first's where the first mask alone has it, the second's where the second alone has it,
 -- and 0 where none has it
