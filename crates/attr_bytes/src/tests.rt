@@ -43,7 +43,7 @@ fn reads_bytes_of_tools(rt: HostRuntime) {
     let counts = raw_attr(0, 0, 0, 0x10000, 3, 3);
     let samples = raw_attr(0, 0, 1000, 0xc7, 0x14, 67);
     // The front of the bytes, how many there are, and what they stand for.
-    let rows: [(&str, usize, Result<RawAttr, AttrFault>); 15] = [
+    let rows: [(&str, usize, Result<RawAttr, AttrFault>); 16] = [
         // `perf stat -a -e cycles` of Linux 6.1
         (
             "00000000 80000000 0000000000000000 0000000000000000 0000010000000000 0300000000000000 0300100000000000",
@@ -94,6 +94,12 @@ fn reads_bytes_of_tools(rt: HostRuntime) {
         ("04000000", 4, Err(AttrFault::Short)),
         ("04000000 40000000", 63, Err(AttrFault::Short)),
         ("02000000 40000000", 64, Err(AttrFault::BadClass)),
+        // all the bits that are read
+        (
+            "00000000 40000000 0000000000000000 0000000000000000 0000000000000000 0000000000000000 7f00140000000000",
+            64,
+            Ok(raw_attr(0, 0, 0, 0, 0, 127)),
+        ),
         // enable_on_exec
         (
             "00000000 40000000 0000000000000000 0000000000000000 0000000000000000 0000000000000000 0010000000000000",
