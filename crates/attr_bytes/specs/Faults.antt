@@ -20,8 +20,9 @@ word_of BadField = codes "EFIELD"
 abbrev pub has_unknown : List ℕ → Bool
 has_unknown bytes = list_any (λ byte. not (byte == 0)) (slice_range bytes 64 (attr_size bytes))
 
--- the first fault of the frame, in the order of perf_copy_attr (kernel/events/core.c): the size field is
--- cut off, the size is out of range, the bytes that it takes are cut off, an unknown byte is set
+-- the first fault of the frame, after perf_copy_attr (kernel/events/core.c) and in this project's own
+-- order: the size field is cut off, the size is out of range, the bytes that it takes are cut off, an
+-- unknown byte is set
 abbrev pub frame_fault : List ℕ → Option AttrFault
 frame_fault bytes =
     if nat_lt (length bytes) 8 then Some Short else
