@@ -1,0 +1,7 @@
+use Rattle.std.proofs.Common.{◌∙◌}
+use Rattle.std.proofs.lemmas.List.{take_rest}
+use Rattle.attr_bytes.proofs.Numbers.{number_at-drop}
+use Rattle.attr_bytes.proofs.fields.u32_at.Goals as goal
+
+pub returns : goal.returns
+returns c = c.read_u32.ensures ∙ number_at-drop c.args.offset 4 c.args.bytes.now _ (take_rest c.args.bytes.now c.args.offset)
