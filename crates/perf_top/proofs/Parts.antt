@@ -11,7 +11,7 @@ use Rattle.std.proofs.lemmas.Cmp.{nat_list_eq_equiv}
 use Rattle.std.proofs.lemmas.Bool.{cases_Bool, cases_lt, false_from_ne_true, lt-ltb, le-leb, eqb-true, ltb-true, leb-true}
 use Rattle.std.proofs.lemmas.Bool.Decides.{nat_tests}
 use Rattle.std.proofs.lemmas.List.{take_at, drop_at, take-append-drop, length-take-le}
-use Rattle.std.proofs.lemmas.List.Elements.{All-cons, All-head, All-tail}
+use Rattle.std.proofs.lemmas.List.Elements.{All-cons, All-head, All-tail, All-weaker}
 use Rattle.std.proofs.lemmas.List.Sums.{prefix_len-le-length}
 use Rattle.std.proofs.lemmas.Fmt.{digits_decimal, digits_value-decimal, decimal-digits_value, length-decimal-le, decimal_nonempty, first_decimal, decimal_digit}
 use Rattle.std.proofs.lemmas.Str.Parse.{IsNumeralModel, numerals_by_fold}
@@ -25,6 +25,9 @@ bind_some None f y e = absurd cc
 
 pub some_is : {A : Type 0} (x y : A) → Some x ≡ Some y → x ≡ y
 some_is x y e = cc
+
+pub none_some : {A : Type 0} (x : A) → None ≡ Some x → ⊥
+none_some x e = cc
 
 pub both_true : (a b : Bool) → (a && b) ≡ true → (a ≡ true) × (b ≡ true)
 both_true true b e = (refl, e)
@@ -204,8 +207,81 @@ letter_true b e = let p = both_true (leb 97 b) (leb b 122) e in (leb-true _ _ p.
 letter_from : (b : ℕ) → IsLetter b → is_letter b ≡ true
 letter_from b h = let p : leb 97 b ≡ true = le-leb _ _ h.0 in let q : leb b 122 ≡ true = le-leb _ _ h.1 in rw (p, q) refl
 
+or_true : (a b : Bool) → (a || b) ≡ true → (a ≡ true) ⊎ (b ≡ true)
+or_true true b e = inl refl
+or_true false b e = inr e
+
+digit_true : (b : ℕ) → is_ascii_digit b ≡ true → (48 ≤ b) × (b ≤ 57)
+digit_true b e = let p = both_true (leb 48 b) (leb b 57) e in (leb-true _ _ p.0, leb-true _ _ p.1)
+
+digit_from : (b : ℕ) → 48 ≤ b → b ≤ 57 → is_ascii_digit b ≡ true
+digit_from b l h = let p : leb 48 b ≡ true = le-leb _ _ l in let q : leb b 57 ≡ true = le-leb _ _ h in rw (p, q) refl
+
 name_byte_true : (b : ℕ) → is_name_byte b ≡ true → IsNameByte b
-name_byte_true b e = ?
+name_byte_true b e = elim (or_true (is_letter b) (is_ascii_digit b || eqb b 45) e) [
+    | inl l ↦ inl (letter_true b l)
+    | inr r ↦ elim (or_true (is_ascii_digit b) (eqb b 45) r) [
+      | inl d ↦ inr (inl (digit_true b d))
+      | inr m ↦ inr (inr (eqb-true b 45 m))
+    ]
+  ]
+
+or_left : (a b : Bool) → a ≡ true → (a || b) ≡ true
+or_left a b e = rw e refl
+
+or_right : (a b : Bool) → b ≡ true → (a || b) ≡ true
+or_right true b e = refl
+or_right false b e = e
 
 name_byte_from : (b : ℕ) → IsNameByte b → is_name_byte b ≡ true
-name_byte_from b h = ?
+name_byte_from b (inl l) = or_left (is_letter b) (is_ascii_digit b || eqb b 45) (letter_from b l)
+name_byte_from b (inr (inl d)) = or_right (is_letter b) (is_ascii_digit b || eqb b 45) (or_left (is_ascii_digit b) (eqb b 45) (digit_from b d.0 d.1))
+name_byte_from b (inr (inr m)) = or_right (is_letter b) (is_ascii_digit b || eqb b 45) (or_right (is_ascii_digit b) (eqb b 45) (eq-eqb b 45 m))
+
+-- what a kind may be called
+pub record IsKindName (name : List ℕ) : Type 0 where
+  pub name_is : IsName name
+  pub short : length name ≤ 31
+  pub free : IsFreeName name
+
+kind_name_true : (name : List ℕ) → All (λ b. is_name_byte b ≡ true) name → is_kind_name name ≡ true → IsKindName name
+kind_name_true [] h e = absurd cc
+kind_name_true (b ∷ bs) h e =
+    let p = both_true (is_letter b) (leb (length bs) 30 && not (is_reserved (b ∷ bs))) e in
+    let q = both_true (leb (length bs) 30) (not (is_reserved (b ∷ bs))) p.1 in
+    let few : length bs ≤ 30 = leb-true _ _ q.0 in
+    record {
+      name_is = (letter_true b p.0, All-weaker (λ c. is_name_byte c ≡ true) IsNameByte name_byte_true bs (All-tail (λ c. is_name_byte c ≡ true) b bs h));
+      short = omega arith;
+      free = is_free (b ∷ bs) (not_true (is_reserved (b ∷ bs)) q.1)
+    }
+
+letter_name_byte : (b : ℕ) → is_letter b ≡ true → is_name_byte b ≡ true
+letter_name_byte b e = or_left (is_letter b) (is_ascii_digit b || eqb b 45) e
+
+kind_name_from : (name : List ℕ) → IsKindName name → (is_kind_name name ≡ true) × All (λ b. is_name_byte b ≡ true) name
+kind_name_from [] h = absurd h.name_is
+kind_name_from (b ∷ bs) h =
+    let l : is_letter b ≡ true = letter_from b h.name_is.0 in
+    let few : leb (length bs) 30 ≡ true = le-leb _ _ (omega (arith, h.short)) in
+    let free : is_reserved (b ∷ bs) ≡ false = free_is (b ∷ bs) h.free in
+    (rw (l, few, free) refl, All-cons (λ c. is_name_byte c ≡ true) b bs (letter_name_byte b l) (All-weaker IsNameByte (λ c. is_name_byte c ≡ true) name_byte_from bs h.name_is.1))
+
+pub name_takes : (bytes name rest : List ℕ) → name_at bytes ≡ Some (name, rest) → (bytes ≡ name ++ rest) × IsKindName name
+unfolding name_at
+name_takes bytes name rest e =
+    let k = prefix_len is_name_byte bytes in
+    let g = guard_some (is_kind_name (take k bytes)) (take k bytes, drop k bytes) (name, rest) e in
+    let is = kind_name_true (take k bytes) (prefix_passes is_name_byte bytes) g.0 in
+    let front : take k bytes ≡ name = ap (λ (p : List ℕ × List ℕ). p.0) g.1 in
+    let behind : drop k bytes ≡ rest = ap (λ (p : List ℕ × List ℕ). p.1) g.1 in
+    (sym (take-append-drop k bytes) ∙ rw (front, behind) refl, subst IsKindName front is)
+
+pub name_again : (name rest : List ℕ) → IsKindName name → prefix_len is_name_byte rest ≡ 0 → name_at (name ++ rest) ≡ Some (name, rest)
+unfolding name_at
+name_again name rest is ends =
+    let all = kind_name_from name is in
+    let k : prefix_len is_name_byte (name ++ rest) ≡ length name = prefix_at is_name_byte name rest all.1 ends in
+    let front : take (length name) (name ++ rest) ≡ name = take_at name rest (length name) refl in
+    let behind : drop (length name) (name ++ rest) ≡ rest = drop_at name rest (length name) refl in
+    rw (k, front, behind, all.0) refl

@@ -1,3 +1,4 @@
 //! The private reader of texts of the first form.
 
+pub mod building;
 pub mod reading;
