@@ -21,6 +21,6 @@ pub use lines::{CpuLine, KindLine, Mode, PmuLine, ReaderLine, ToolLine, Work};
 pub use lists::{Name, SeatList, Tight, Words};
 pub use numbers::{CpuNo, CpuSet, EventNo, Key, NoMemory, RingNo, TaskNo, ToolNo};
 pub use reasons::{Reason, SReason};
-pub use reply::{Reply, Sums};
+pub use reply::{Reply, StoredReply, Sums};
 pub use script::Script;
 pub use standing::{Cause, Context, Own, Rule, Standing, Why};

@@ -1,8 +1,11 @@
 //! The answers to lines.
 
+ghost use Rattle.std.specs.Prelude.{◌≡◌};
+
 use crate::lists::{SeatList, Words};
 use crate::reasons::Reason;
 use crate::standing::Why;
+use std::marker::Model;
 
 /// The answer to a line: done, refused, the words of a read, why an event counts or does not, or the
 /// counters of a processor.
@@ -13,6 +16,38 @@ pub enum Reply {
     Read(Words),
     Why(Why),
     Seats(SeatList),
+}
+
+/// An answer as a list keeps it. A contract sees the answer itself.
+#[derive(Clone, Copy, PartialEq, Eq, Debug)]
+pub struct StoredReply {
+    reply: Reply,
+}
+
+impl Model for StoredReply {
+    ghost use Rattle.perf_base.specs.declared.reply.Reply.{Reply};
+
+    ghost Value = { Reply };
+
+    ghost view = { λ s. s.reply };
+
+    ghost inverse = { λ r. record { reply = r } };
+}
+
+impl StoredReply {
+    /// Keeps an answer.
+    pub fn new(reply: Reply) -> StoredReply
+        ensures { result ≡ reply }
+    {
+        StoredReply { reply }
+    }
+
+    /// The answer.
+    pub fn reply(&self) -> Reply
+        ensures { result ≡ self.now }
+    {
+        self.reply
+    }
 }
 
 /// What an instance or a family has counted: occurrences, and the lengths of work for which it was

@@ -6,9 +6,12 @@ use Rattle.std.proofs.lemmas.Bool.{eqb-true, ltb-true, lt-ltb}
 use Rattle.std.proofs.lemmas.List.{append-nil, nil_from_length}
 use Rattle.perf_base.specs.declared.acts.Act.{Act}
 use Rattle.script_spec.specs.Acts.{acts_text}
-use Rattle.script_spec.specs.FirstForm.{FirstForm, IsFirstText, IsWorkPair, IsFormAct, line, work_text, first_text}
-use Rattle.perf_top.specs.Reading.{◌>>=◌, strip, name_at, works_at, reads_at, act_at, acts_at, head_at, open_at, tail_at, is_whole, form_at}
-use Rattle.perf_top.proofs.Parts.{bind_some, some_is, both_true, guard_some, strip_takes, strip_again, IsKindName, name_takes, name_again}
+use Rattle.perf_base.specs.Scripts.{Scripted}
+use Rattle.perf_top.specs.declared.first_form.reading.ReadStop.{ReadStop}
+use Rattle.perf_top.specs.declared.first_form.reading.ReadStop.TheVariants as stop
+use Rattle.script_spec.specs.FirstForm.{StandsFor, FirstForm, IsFirstText, IsWorkPair, IsFormAct, line, work_text, first_text}
+use Rattle.perf_top.specs.Reading.{◌>>=◌, Stops, strip, name_at, works_at, reads_at, act_at, acts_at, head_at, open_at, tail_at, is_whole, form_at}
+use Rattle.perf_top.proofs.Parts.{none_some, bind_some, some_is, both_true, guard_some, strip_takes, strip_again, IsKindName, name_takes, name_again}
 use Rattle.perf_top.proofs.Rows.{works_take, works_again, reads_text, reads_take, reads_again, acts_take, acts_again, length-acts_text}
 
 abbrev head_text : List ℕ → List (ℕ × ℕ) → List ℕ → List ℕ
@@ -26,6 +29,7 @@ regrouped : (a b k n m l p w t o q r e c z : List ℕ)
 regrouped a b k n m l p w t o q r e c z = simp append_assoc
 
 first_parts : (f : FirstForm) → first_text f ≡ head_text f.name f.works (open_text f.name (tail_text f.reads f.order []))
+unfolding first_text
 first_parts f =
     regrouped (line (codes "perf 1")) (line (codes "machine cpus=1 counters=1")) (codes "kind ") f.name (codes " mask=1") (10 ∷ []) (line (codes "processor 0")) (flat_map (work_text f.name) f.works)
         (line (codes "tool 0")) (codes "open 0 kind=") (codes " task=all cpu=0 format=3") (reads_text f.reads) (codes "order") (acts_text f.order) (line (codes "end"))
@@ -164,3 +168,10 @@ form_again f h =
           open_again f.name (tail_text f.reads f.order []),
           tail_again f.reads f.order [] few_reads h.order,
           whole_from f h) refl
+
+-- so a text that was not read stands for no script
+pub no_form : (e : ReadStop) (text : List ℕ) → Stops e (form_at text) → e ≡ stop.Form → (s : Scripted) → StandsFor text s → ⊥
+no_form stop.Memory text h e s t = absurd cc
+no_form stop.Form text h e s t =
+    let again : form_at text ≡ Some t.0 = ap form_at t.2 ∙ form_again t.0 t.1 in
+    none_some t.0 (sym h ∙ again)

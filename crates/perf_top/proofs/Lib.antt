@@ -1,4 +1,6 @@
+pub mod Completing
 pub mod Forms
+pub mod Lines
 pub mod Loops
 pub mod Parts
 pub mod Rows

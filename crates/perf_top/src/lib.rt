@@ -3,3 +3,4 @@
 #![tactic(auto)]
 
 mod first_form;
+mod replay;

@@ -102,5 +102,5 @@ answer_lines s before (a ∷ acts) [] = []
 answer_lines s before (a ∷ acts) (r ∷ replies) = answer_line s before a (answer_text r) ++ answer_lines s (before ++ a ∷ []) acts replies
 
 -- the whole report of an order without rings: the order, the answers, the end
-abbrev pub report : Scripted → List Act → List Reply → List ℕ
+unfoldable pub report : Scripted → List Act → List Reply → List ℕ
 report s order replies = codes "order" ++ acts_text order ++ 10 ∷ [] ++ answer_lines s [] order replies ++ codes "end" ++ 10 ∷ []

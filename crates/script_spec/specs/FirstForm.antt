@@ -48,7 +48,7 @@ abbrev pub work_text : List ℕ → ℕ × ℕ → List ℕ
 work_text name w = line (codes "work " ++ decimal w.0 ++ codes " user " ++ name ++ codes "=" ++ decimal w.1)
 
 -- the text, line by line
-abbrev pub first_text : FirstForm → List ℕ
+unfoldable pub first_text : FirstForm → List ℕ
 first_text f =
     line (codes "perf 1")
     ++ line (codes "machine cpus=1 counters=1")
@@ -77,6 +77,10 @@ first_script f = record {
   readers = [];
   order = f.order;
 }
+
+-- a script that some text of the first form stands for
+abbrev pub IsFormScript : Scripted → Type 0
+IsFormScript s = (f : FirstForm) × IsFirstText f × (s ≡ first_script f)
 
 -- This text stands for this script.
 abbrev pub StandsFor : List ℕ → Scripted → Type 0
