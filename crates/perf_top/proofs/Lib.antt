@@ -5,3 +5,4 @@ pub mod Loops
 pub mod Parts
 pub mod Rows
 pub mod Works
+pub mod Writing

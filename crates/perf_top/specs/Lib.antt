@@ -1,3 +1,4 @@
 pub mod Building
 pub mod Completing
+pub mod Lines
 pub mod Reading

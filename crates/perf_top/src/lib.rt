@@ -4,3 +4,4 @@
 
 mod first_form;
 mod replay;
+mod report;

@@ -22,7 +22,7 @@ fn is_of_cpu(cpu: CpuNo, act: &Act) -> bool
     }
 }
 
-fn is_of_tool(tool: ToolNo, act: &Act) -> bool
+pub fn is_of_tool(tool: ToolNo, act: &Act) -> bool
     ensures { result ≡ order.is_of_tool tool act.now }
 {
     match act {
