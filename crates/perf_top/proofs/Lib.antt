@@ -1,4 +1,5 @@
 pub mod Completing
+pub mod Filling
 pub mod Forms
 pub mod Lines
 pub mod Loops

@@ -5,3 +5,4 @@
 mod first_form;
 mod replay;
 mod report;
+mod text;
