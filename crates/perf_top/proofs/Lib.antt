@@ -7,3 +7,4 @@ pub mod Parts
 pub mod Rows
 pub mod Works
 pub mod Writing
+pub mod Wrote

@@ -3,6 +3,10 @@
 #![tactic(auto)]
 
 mod first_form;
+mod notes;
 mod replay;
 mod report;
+mod status;
 mod text;
+
+pub use status::Status;
