@@ -1,5 +1,6 @@
 -- One text behind another.
-use Rattle.std.proofs.Common.{◌≡◌, ℕ, ◌+◌, ◌<◌, ◌≤◌, ◌⊎◌, inl, inr, List, [], ◌++◌, length, take, Option, Some, None, Result, Ok, Err, arith, refl, sym, ap, ◌∙◌, append_assoc, length-append}
+use Rattle.std.proofs.Common.{◌≡◌, ℕ, ◌+◌, ◌<◌, ◌≤◌, ◌⊎◌, inl, inr, List, [], ◌++◌, length, take, Option, Some, None, Result, Ok, Err, arith, refl, sym, ap, subst, ◌∙◌, append_assoc, length-append}
+use Rattle.std.specs.Result.{IsErrAnd}
 use Rattle.std.proofs.lemmas.List.{take-append-le}
 use Rattle.std.proofs.Math.Seq.{take-append-add}
 use Rattle.perf_io.specs.Outside.{Adds, Rose}
@@ -34,3 +35,13 @@ pub wrote_stop : (a b : Option (List ℕ)) (last : Option ℕ) (f g : ℕ) (e : 
 wrote_stop a b last f g e x y p =
     let l = p.written.1.1 in
     record { count = p.count; written = (p.written.0, (p.written.1.0, omega (arith, length-append x y, l), rw (take-append-le p.written.1.0 x y l) p.written.1.2)) }
+
+-- the exit of a `?` behind the front of a text
+pub wrote_exit : (Q : Failed → Type 0) (a b : Option (List ℕ)) (last : Option ℕ) (f g : ℕ) (e : Failed) (r : Result (Unit {0}) Failed) (x y : List ℕ)
+    → IsErrAnd r Q → Wrote a b last f g (Err e) x → Wrote a b last f g r (x ++ y)
+wrote_exit Q a b last f g e (Ok u) x y q p = absurd q
+wrote_exit Q a b last f g e (Err d) x y q p = wrote_stop a b last f g d x y record { count = p.count; written = p.written }
+
+-- the same text
+pub wrote_text : (a b : Option (List ℕ)) (last : Option ℕ) (f g : ℕ) (r : Result (Unit {0}) Failed) (x y : List ℕ) → x ≡ y → Wrote a b last f g r x → Wrote a b last f g r y
+wrote_text a b last f g r x y e p = subst (Wrote a b last f g r) e p

@@ -17,8 +17,8 @@ number_of status.NoMemory = 4
 number_of status.Usage = 5
 
 -- the two halves of the note of an order that can't be
-abbrev pub act_note : ℕ → RingNo → ℕ → List ℕ
-act_note index ring last = codes "perf_run: act " ++ decimal index ++ (codes ": ring " ++ decimal ring.0) ++ (codes " last " ++ decimal last)
+abbrev pub act_note : ℕ → ℕ → ℕ → List ℕ
+act_note index ring last = codes "perf_run: act " ++ decimal index ++ (codes ": ring " ++ decimal ring) ++ (codes " last " ++ decimal last)
 
 abbrev pub places_note : ℕ → ℕ → List ℕ
 places_note head given = codes " head " ++ decimal head ++ (codes " given " ++ decimal given) ++ codes "\n"
@@ -27,7 +27,7 @@ places_note head given = codes " head " ++ decimal head ++ (codes " given " ++ d
 abbrev pub note_of : Status → List ℕ
 note_of status.Done = []
 note_of (status.BadScript line reason) = codes "perf_run: line " ++ decimal line ++ codes ": " ++ script_word reason ++ codes "\n"
-note_of (status.BadOrder index ring last head given) = act_note index ring last ++ places_note head given
+note_of (status.BadOrder index ring last head given) = act_note index ring.0 last ++ places_note head given
 note_of status.TooLong = codes "perf_run: script longer than 4194304 bytes\n"
 note_of status.ReadFault = codes "perf_run: read fault\n"
 note_of status.WriteFault = codes "perf_run: write fault\n"

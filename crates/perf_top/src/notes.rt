@@ -7,7 +7,7 @@ ghost use Rattle.perf_top.specs.Writing.{Wrote};
 
 use crate::status::Status;
 use itoa::Buffer;
-use perf_base::{RingNo, SReason};
+use perf_base::SReason;
 use perf_io::{Failed, Sink, write_all};
 
 /// Writes a text.
@@ -34,21 +34,21 @@ fn put_both<N: Sink>(notes: &mut N, text: &[u8], n: u64) -> Result<(), Failed>
 }
 
 /// Writes the note of a text that is no script.
-fn put_line<N: Sink>(notes: &mut N, line: u32, reason: SReason) -> Result<(), Failed>
+fn put_line<N: Sink>(notes: &mut N, line: u64, reason: SReason) -> Result<(), Failed>
     ensures { Wrote (N.held notes.old) (N.held notes.new) N.last_fault (N.faults notes.old) (N.faults notes.new) result (note_of (Status.BadScript line reason)) }
 {
-    put_both(notes, b"perf_run: line ", u64::from(line))?;
+    put_both(notes, b"perf_run: line ", line)?;
     put(notes, b": ")?;
     put(notes, reason.printed().as_bytes())?;
     put(notes, b"\n")
 }
 
 /// Writes the first half of the note of an order that can't be.
-fn put_act<N: Sink>(notes: &mut N, index: u32, ring: RingNo, last: u64) -> Result<(), Failed>
+fn put_act<N: Sink>(notes: &mut N, index: u64, ring: u64, last: u64) -> Result<(), Failed>
     ensures { Wrote (N.held notes.old) (N.held notes.new) N.last_fault (N.faults notes.old) (N.faults notes.new) result (act_note index ring last) }
 {
-    put_both(notes, b"perf_run: act ", u64::from(index))?;
-    put_both(notes, b": ring ", u64::from(ring.0))?;
+    put_both(notes, b"perf_run: act ", index)?;
+    put_both(notes, b": ring ", ring)?;
     put_both(notes, b" last ", last)
 }
 
@@ -64,13 +64,13 @@ fn put_places<N: Sink>(notes: &mut N, head: u64, given: u64) -> Result<(), Faile
 /// Writes the note of an order that can't be.
 fn put_order<N: Sink>(
     notes: &mut N,
-    index: u32,
-    ring: RingNo,
+    index: u64,
+    ring: u64,
     last: u64,
     head: u64,
     given: u64,
 ) -> Result<(), Failed>
-    ensures { Wrote (N.held notes.old) (N.held notes.new) N.last_fault (N.faults notes.old) (N.faults notes.new) result (note_of (Status.BadOrder index ring last head given)) }
+    ensures { Wrote (N.held notes.old) (N.held notes.new) N.last_fault (N.faults notes.old) (N.faults notes.new) result (act_note index ring last ++ places_note head given) }
 {
     put_act(notes, index, ring, last)?;
     put_places(notes, head, given)
@@ -82,14 +82,14 @@ pub fn put_note<N: Sink>(notes: &mut N, status: &Status) -> Result<(), Failed>
 {
     match status {
         Status::Done => put(notes, b""),
-        Status::BadScript { line, reason } => put_line(notes, *line, *reason),
+        Status::BadScript { line, reason } => put_line(notes, u64::from(*line), *reason),
         Status::BadOrder {
             index,
             ring,
             last,
             head,
             given,
-        } => put_order(notes, *index, *ring, *last, *head, *given),
+        } => put_order(notes, u64::from(*index), u64::from(ring.0), *last, *head, *given),
         Status::TooLong => put(notes, b"perf_run: script longer than 4194304 bytes\n"),
         Status::ReadFault => put(notes, b"perf_run: read fault\n"),
         Status::WriteFault => put(notes, b"perf_run: write fault\n"),
