@@ -9,7 +9,7 @@ use Rattle.script_spec.specs.Acts.{acts_text}
 use Rattle.perf_base.specs.Scripts.{Scripted}
 use Rattle.perf_top.specs.declared.first_form.reading.ReadStop.{ReadStop}
 use Rattle.perf_top.specs.declared.first_form.reading.ReadStop.TheVariants as stop
-use Rattle.script_spec.specs.FirstForm.{StandsFor, FirstForm, IsFirstText, IsWorkPair, IsFormAct, line, work_text, first_text}
+use Rattle.script_spec.specs.FirstForm.{StandsFor, FirstForm, IsFirstText, IsWorkPair, IsFormAct, line, work_text, first_text, first_script}
 use Rattle.perf_top.specs.Reading.{◌>>=◌, Stops, strip, name_at, works_at, reads_at, act_at, acts_at, head_at, open_at, tail_at, is_whole, form_at}
 use Rattle.perf_top.proofs.Parts.{none_some, bind_some, some_is, both_true, guard_some, strip_takes, strip_again, IsKindName, name_takes, name_again}
 use Rattle.perf_top.proofs.Rows.{works_take, works_again, reads_text, reads_take, reads_again, acts_take, acts_again, length-acts_text}
@@ -175,3 +175,10 @@ no_form stop.Memory text h e s t = absurd cc
 no_form stop.Form text h e s t =
     let again : form_at text ≡ Some t.0 = ap form_at t.2 ∙ form_again t.0 t.1 in
     none_some t.0 (sym h ∙ again)
+
+-- a text stands for at most one script
+pub one_script : (text : List ℕ) (s t : Scripted) → StandsFor text s → StandsFor text t → s ≡ t
+one_script text s t a b =
+    let first : form_at text ≡ Some a.0 = ap form_at a.2 ∙ form_again a.0 a.1 in
+    let second : form_at text ≡ Some b.0 = ap form_at b.2 ∙ form_again b.0 b.1 in
+    a.3 ∙ (ap first_script (some_is a.0 b.0 (sym first ∙ second)) ∙ sym b.3)

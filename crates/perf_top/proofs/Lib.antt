@@ -8,3 +8,4 @@ pub mod Rows
 pub mod Works
 pub mod Writing
 pub mod Wrote
+mod Words

@@ -4,3 +4,5 @@ pub mod Lines
 pub mod Notes
 pub mod Reading
 pub mod Writing
+mod Outcome
+mod Stops
