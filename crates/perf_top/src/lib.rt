@@ -15,6 +15,7 @@ mod run;
 mod status;
 mod text;
 
+pub use notes::put_note;
 pub use status::Status;
 
 use perf_base::{RingNo, SReason};

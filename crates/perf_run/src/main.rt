@@ -1,0 +1,43 @@
+//! Replays a script of tasks, processor work and counter commands. It collects the words, makes the standard
+//! streams, calls `perf_main`, and ends with the answer's number.
+#![tactic(auto)]
+
+use perf_io::{StdNotes, StdSink, StdSource};
+use perf_top::{Status, perf_main, put_note};
+use std::env;
+use std::io;
+use std::process::ExitCode;
+
+/// Why there are no words: memory ran out, or one is not UTF-8.
+fn without_words(error: &io::Error) -> Status {
+    match error.kind() {
+        io::ErrorKind::OutOfMemory => Status::NoMemory,
+        _ => Status::Usage,
+    }
+}
+
+/// The words behind the program's name.
+fn collect_words(rt: &HostRuntime) -> Result<Vec<String>, Status> {
+    match env::args(rt) {
+        Err(error) => Err(without_words(&error)),
+        Ok(args) => match args.skip(1).collect(rt.alloc()) {
+            Err(_) => Err(Status::NoMemory),
+            Ok(words) => Ok(words),
+        },
+    }
+}
+
+fn main(rt: HostRuntime) -> ExitCode {
+    let mut notes = StdNotes::new(rt.stderr());
+    let status = match collect_words(&rt) {
+        Ok(words) => {
+            let mut source = StdSource::new(rt.stdin());
+            let mut sink = StdSink::new(rt.stdout());
+            perf_main(rt.alloc(), &words, &mut source, &mut sink, &mut notes)
+        }
+        Err(status) => match put_note(&mut notes, &status) {
+            Ok(()) | Err(_) => status,
+        },
+    };
+    ExitCode::from(status.number())
+}
