@@ -1,15 +1,12 @@
 -- No line adds more than a thousand million, and no actor has more than 16,384 lines.
-use Rattle.std.proofs.Common.{ltb, refl, slice_get, ◌≡◌, ℕ, ◌+◌, ◌*◌, ◌<◌, ◌≤◌, Bool, true, false, List, [], ◌∷◌, length, All, sum, sum_by, Some, slice_index, get_or, set, arith, cond, ap, sym, ◌∙◌, length-set}
-use Rattle.std.proofs.lemmas.List.{length-map}
-use Rattle.std.proofs.lemmas.List.Elements.{All-get_or, All-set}
+use Rattle.std.proofs.Common.{ltb, refl, slice_get, ◌≡◌, ℕ, ◌+◌, ◌<◌, ◌≤◌, Bool, true, false, List, [], ◌∷◌, length, All, sum, Some, get_or, set, arith, cond, ◌∙◌, length-set}
+use Rattle.std.proofs.lemmas.List.Elements.{All-set}
 use Rattle.std.proofs.lemmas.List.Sums.{sum_by-le, sum_by-set, get_or-le-sum_by}
 use Rattle.perf_base.specs.declared.numbers.CpuNo.{CpuNo}
 use Rattle.perf_base.specs.declared.numbers.ToolNo.{ToolNo}
-use Rattle.perf_base.specs.declared.lines.Work.{Work}
 use Rattle.perf_base.specs.declared.lines.CpuLine.{CpuLine}
 use Rattle.perf_base.specs.declared.lines.CpuLine.TheVariants as cpu_line
-use Rattle.perf_base.specs.declared.lines.ToolLine.{ToolLine}
-use Rattle.perf_base.specs.Scripts.{Scripted, IsScript, IsCpuLine, lines_of_cpu, lines_of_tool, line_count}
+use Rattle.perf_base.specs.Scripts.{Scripted, IsScript, IsCpuLine, lines_of_cpu, lines_of_tool}
 use Rattle.stage_spec.specs.Counting.{hits_of, length_of}
 use Rattle.machine.specs.declared.machine.Machine.TheInside.{Inside}
 use Rattle.std.proofs.lemmas.Option.{slice_get-get_or}

@@ -4,9 +4,8 @@
 
 use perf_io::{StdNotes, StdSink, StdSource};
 use perf_top::{Status, perf_main, put_note};
-use std::env;
-use std::io;
 use std::process::ExitCode;
+use std::{env, io};
 
 /// Why there are no words: memory ran out, or one is not UTF-8.
 fn without_words(error: &io::Error) -> Status {

@@ -1,5 +1,5 @@
 -- No act is of an actor without lines.
-use Rattle.std.proofs.Common.{◌≡◌, ℕ, ◌<◌, ◌≤◌, ◌+◌, Bool, true, false, cond, eqb, List, [], ◌∷◌, length, All, get_or, sum_by, arith, refl, sym, ap, subst, ◌∙◌, inl, inr}
+use Rattle.std.proofs.Common.{◌≡◌, ◌<◌, Bool, false, eqb, List, [], ◌∷◌, length, All, get_or, arith, refl, sym, ap, subst, ◌∙◌, inl, inr}
 use Rattle.std.specs.Prelude.{count_by}
 use Rattle.std.proofs.lemmas.Bool.{eqb-true, false_from_ne_true, cases_lt}
 use Rattle.std.proofs.lemmas.List.{get_or_past}
@@ -9,7 +9,7 @@ use Rattle.perf_base.specs.declared.numbers.ToolNo.{ToolNo}
 use Rattle.perf_base.specs.declared.acts.Act.{Act}
 use Rattle.perf_base.specs.declared.acts.Act.TheVariants as act
 use Rattle.perf_base.specs.Scripts.{Scripted, IsScript, IsAct, lines_of_cpu, lines_of_tool}
-use Rattle.stage_spec.specs.Order.{is_of_cpu, is_of_tool, done_by_cpu, done_by_tool, IsComplete}
+use Rattle.stage_spec.specs.Order.{is_of_cpu, is_of_tool, IsComplete}
 use Rattle.perf_top.specs.Completing.{CpusComplete, ToolsComplete}
 
 count_none : {X : Type 0} (p : X → Bool) (xs : List X) → All (λ x. p x ≡ false) xs → count_by p xs ≡ 0
@@ -39,16 +39,16 @@ not_of_tool s tool none (act.Seen ring place) h = refl
 
 pub complete : (s : Scripted) → IsScript s → CpusComplete s → ToolsComplete s → IsComplete s s.order
 complete s h c t = record {
-    cpus = λ cpu. elim (cases_lt cpu.0 8) [
-      | inl low ↦ c cpu low
-      | inr high ↦
+  cpus = λ cpu. elim (cases_lt cpu.0 8) [
+    | inl low ↦ c cpu low
+    | inr high ↦
         let none : lines_of_cpu s cpu ≡ [] = get_or_past s.cpu_lines cpu.0 [] (omega (arith, h.processors)) in
         count_none (is_of_cpu cpu) s.order (All-weaker (IsAct s) (λ a. is_of_cpu cpu a ≡ false) (not_of_cpu s cpu none) s.order h.order) ∙ sym (ap length none)
-    ];
-    tools = λ tool. elim (cases_lt tool.0 4) [
-      | inl low ↦ t tool low
-      | inr high ↦
+  ];
+  tools = λ tool. elim (cases_lt tool.0 4) [
+    | inl low ↦ t tool low
+    | inr high ↦
         let none : lines_of_tool s tool ≡ [] = get_or_past s.tool_lines tool.0 [] (omega (arith, h.tools)) in
         count_none (is_of_tool tool) s.order (All-weaker (IsAct s) (λ a. is_of_tool tool a ≡ false) (not_of_tool s tool none) s.order h.order) ∙ sym (ap length none)
-    ]
-  }
+  ];
+}

@@ -1,9 +1,9 @@
 -- The whole text: what is read is of the first form, and what is of the first form is read.
-use Rattle.std.proofs.Common.{◌≡◌, ◌≢◌, ℕ, zero, suc, ◌+◌, ◌-◌, ◌*◌, ◌<◌, ◌≤◌, Bool, true, false, ◌&&◌, cond, eqb, leb, ltb, List, [], ◌∷◌, ◌++◌, length, replicate, All, Option, Some, None, refl, sym, ap, subst, ◌∙◌, append_assoc, arith, length-append, eq-eqb}
-use Rattle.std.specs.Prelude.{codes, decimal}
+use Rattle.std.proofs.Common.{◌≡◌, ℕ, ◌+◌, ◌<◌, ◌≤◌, true, ◌&&◌, cond, eqb, ltb, List, [], ◌∷◌, ◌++◌, length, All, Some, None, refl, sym, ap, subst, ◌∙◌, append_assoc, arith, length-append}
+use Rattle.std.specs.Prelude.{codes}
 use Rattle.std.specs.List.{flat_map}
 use Rattle.std.proofs.lemmas.Bool.{eqb-true, ltb-true, lt-ltb}
-use Rattle.std.proofs.lemmas.List.{append-nil, nil_from_length}
+use Rattle.std.proofs.lemmas.List.{nil_from_length}
 use Rattle.perf_base.specs.declared.acts.Act.{Act}
 use Rattle.script_spec.specs.Acts.{acts_text}
 use Rattle.perf_base.specs.Scripts.{Scripted}
@@ -25,14 +25,14 @@ tail_text reads acts rest = reads_text reads ++ (codes "order" ++ (acts_text act
 
 regrouped : (a b k n m l p w t o q r e c z : List ℕ)
     → (((((((((a ++ b) ++ (((k ++ n) ++ m) ++ l)) ++ p) ++ w) ++ t) ++ (((o ++ n) ++ q) ++ l)) ++ r) ++ ((e ++ c) ++ l)) ++ z)
-      ≡ a ++ (b ++ (k ++ (n ++ (m ++ (l ++ (p ++ (w ++ (t ++ (o ++ (n ++ (q ++ (l ++ (r ++ (e ++ (c ++ (l ++ z))))))))))))))))
+    ≡ a ++ (b ++ (k ++ (n ++ (m ++ (l ++ (p ++ (w ++ (t ++ (o ++ (n ++ (q ++ (l ++ (r ++ (e ++ (c ++ (l ++ z))))))))))))))))
 regrouped a b k n m l p w t o q r e c z = simp append_assoc
 
 first_parts : (f : FirstForm) → first_text f ≡ head_text f.name f.works (open_text f.name (tail_text f.reads f.order []))
 unfolding first_text
 first_parts f =
     regrouped (line (codes "perf 1")) (line (codes "machine cpus=1 counters=1")) (codes "kind ") f.name (codes " mask=1") (10 ∷ []) (line (codes "processor 0")) (flat_map (work_text f.name) f.works)
-        (line (codes "tool 0")) (codes "open 0 kind=") (codes " task=all cpu=0 format=3") (reads_text f.reads) (codes "order") (acts_text f.order) (line (codes "end"))
+    (line (codes "tool 0")) (codes "open 0 kind=") (codes " task=all cpu=0 format=3") (reads_text f.reads) (codes "order") (acts_text f.order) (line (codes "end"))
 
 head_takes : (bytes : List ℕ) (x : (List ℕ × List (ℕ × ℕ)) × List ℕ) → head_at bytes ≡ Some x
     → (bytes ≡ head_text x.0.0 x.0.1 x.1) × IsKindName x.0.0 × All IsWorkPair x.0.1
@@ -48,17 +48,19 @@ head_takes bytes x e =
     let t3 = strip_takes (codes " mask=1\nprocessor 0\n") n.0.1 b.0 b.1 in
     let t4 = works_take 16384 n.0.0 b.0 w.0 w.1 in
     let whole : bytes ≡ head_text made.0.0 made.0.1 made.1 =
-      t1 ∙ ap (λ (r : List ℕ). codes "perf 1\nmachine cpus=1 counters=1\nkind " ++ r) (t2.0 ∙ ap (λ (r : List ℕ). n.0.0 ++ r) (t3 ∙ ap (λ (r : List ℕ). codes " mask=1\nprocessor 0\n" ++ r) t4.0)) in
+    t1 ∙ ap (λ (r : List ℕ). codes "perf 1\nmachine cpus=1 counters=1\nkind " ++ r) (t2.0 ∙ ap (λ (r : List ℕ). n.0.0 ++ r) (t3 ∙ ap (λ (r : List ℕ). codes " mask=1\nprocessor 0\n" ++ r) t4.0)) in
     subst (λ (y : (List ℕ × List (ℕ × ℕ)) × List ℕ). (bytes ≡ head_text y.0.0 y.0.1 y.1) × IsKindName y.0.0 × All IsWorkPair y.0.1) {x = made} (some_is made x w.2) (whole, t2.1, t4.1)
 
 head_again : (name : List ℕ) (works : List (ℕ × ℕ)) (rest : List ℕ) → IsKindName name → All IsWorkPair works → length works ≤ 16384 → strip (codes "work ") rest ≡ None
     → head_at (head_text name works rest) ≡ Some ((name, works), rest)
 unfolding head_at
 head_again name works rest named fits few ends =
-    rw (strip_again (codes "perf 1\nmachine cpus=1 counters=1\nkind ") (name ++ (codes " mask=1\nprocessor 0\n" ++ (flat_map (work_text name) works ++ rest))),
-        name_again name (codes " mask=1\nprocessor 0\n" ++ (flat_map (work_text name) works ++ rest)) named refl,
-        strip_again (codes " mask=1\nprocessor 0\n") (flat_map (work_text name) works ++ rest),
-        works_again works 16384 name rest fits few ends) refl
+    rw (
+      strip_again (codes "perf 1\nmachine cpus=1 counters=1\nkind ") (name ++ (codes " mask=1\nprocessor 0\n" ++ (flat_map (work_text name) works ++ rest))),
+      name_again name (codes " mask=1\nprocessor 0\n" ++ (flat_map (work_text name) works ++ rest)) named refl,
+      strip_again (codes " mask=1\nprocessor 0\n") (flat_map (work_text name) works ++ rest),
+      works_again works 16384 name rest fits few ends,
+    ) refl
 
 open_takes : (name bytes rest : List ℕ) → open_at name bytes ≡ Some rest → bytes ≡ open_text name rest
 unfolding open_at
@@ -75,9 +77,11 @@ open_takes name bytes rest e =
 open_again : (name rest : List ℕ) → open_at name (open_text name rest) ≡ Some rest
 unfolding open_at
 open_again name rest =
-    rw (strip_again (codes "tool 0\nopen 0 kind=") (name ++ (codes " task=all cpu=0 format=3\n" ++ rest)),
-        strip_again name (codes " task=all cpu=0 format=3\n" ++ rest),
-        strip_again (codes " task=all cpu=0 format=3\n") rest) refl
+    rw (
+      strip_again (codes "tool 0\nopen 0 kind=") (name ++ (codes " task=all cpu=0 format=3\n" ++ rest)),
+      strip_again name (codes " task=all cpu=0 format=3\n" ++ rest),
+      strip_again (codes " task=all cpu=0 format=3\n") rest,
+    ) refl
 
 tail_takes : (bytes : List ℕ) (x : (ℕ × List Act) × List ℕ) → tail_at bytes ≡ Some x → (bytes ≡ tail_text x.0.0 x.0.1 x.1) × All IsFormAct x.0.1
 unfolding tail_at
@@ -90,7 +94,7 @@ tail_takes bytes x e =
     let t3 = acts_take (length a.0) a.0 in
     let t4 = strip_takes (codes "\nend\n") (acts_at (length a.0) a.0).1 b.0 b.1 in
     let whole : bytes ≡ tail_text made.0.0 made.0.1 made.1 =
-      t1 ∙ ap (λ (r : List ℕ). reads_text (reads_at 16384 bytes).0 ++ r) (t2 ∙ ap (λ (r : List ℕ). codes "order" ++ r) (t3.0 ∙ ap (λ (r : List ℕ). acts_text (acts_at (length a.0) a.0).0 ++ r) t4)) in
+    t1 ∙ ap (λ (r : List ℕ). reads_text (reads_at 16384 bytes).0 ++ r) (t2 ∙ ap (λ (r : List ℕ). codes "order" ++ r) (t3.0 ∙ ap (λ (r : List ℕ). acts_text (acts_at (length a.0) a.0).0 ++ r) t4)) in
     subst (λ (y : (ℕ × List Act) × List ℕ). (bytes ≡ tail_text y.0.0 y.0.1 y.1) × All IsFormAct y.0.1) {x = made} (some_is made x b.2) (whole, t3.1)
 
 order_is_no_read : (rest : List ℕ) → strip (codes "read 0\n") (codes "order" ++ rest) ≡ None
@@ -110,10 +114,12 @@ unfolding tail_at
 tail_again reads acts rest few fits =
     let t = acts_text acts ++ (codes "\nend\n" ++ rest) in
     let long : length acts ≤ length (acts_text acts ++ (codes "\nend\n" ++ rest)) = omega (arith, length-acts_text acts, length-append (acts_text acts) (codes "\nend\n" ++ rest)) in
-    rw (reads_again reads 16384 (codes "order" ++ (acts_text acts ++ (codes "\nend\n" ++ rest))) few (order_is_no_read (acts_text acts ++ (codes "\nend\n" ++ rest))),
-        strip_again (codes "order") (acts_text acts ++ (codes "\nend\n" ++ rest)),
-        acts_again acts (length (acts_text acts ++ (codes "\nend\n" ++ rest))) (codes "\nend\n" ++ rest) fits long (end_is_no_act rest),
-        strip_again (codes "\nend\n") rest) refl
+    rw (
+      reads_again reads 16384 (codes "order" ++ (acts_text acts ++ (codes "\nend\n" ++ rest))) few (order_is_no_read (acts_text acts ++ (codes "\nend\n" ++ rest))),
+      strip_again (codes "order") (acts_text acts ++ (codes "\nend\n" ++ rest)),
+      acts_again acts (length (acts_text acts ++ (codes "\nend\n" ++ rest))) (codes "\nend\n" ++ rest) fits long (end_is_no_act rest),
+      strip_again (codes "\nend\n") rest,
+    ) refl
 
 -- ---- the whole
 
@@ -151,10 +157,17 @@ form_takes text f e =
     let ts = tail_takes o.0 t.0 t.1 in
     let last : t.0.1 ≡ [] = w.nothing in
     let parts : text ≡ head_text h.0.0.0 h.0.0.1 (open_text h.0.0.0 (tail_text t.0.0.0 t.0.0.1 [])) =
-      hs.0 ∙ ap (λ (r : List ℕ). head_text h.0.0.0 h.0.0.1 r) (os ∙ ap (λ (r : List ℕ). open_text h.0.0.0 r) (ts.0 ∙ ap (λ (r : List ℕ). tail_text t.0.0.0 t.0.0.1 r) last)) in
+    hs.0 ∙ ap (λ (r : List ℕ). head_text h.0.0.0 h.0.0.1 r) (os ∙ ap (λ (r : List ℕ). open_text h.0.0.0 r) (ts.0 ∙ ap (λ (r : List ℕ). tail_text t.0.0.0 t.0.0.1 r) last)) in
     let is : IsFirstText (form h.0 t.0) = record {
-        name = hs.1.name_is; short = hs.1.short; free = hs.1.free; some_work = w.work; works = hs.2; some_read = w.read; few = omega (arith, w.few); order = ts.1
-      } in
+      name = hs.1.name_is;
+      short = hs.1.short;
+      free = hs.1.free;
+      some_work = w.work;
+      works = hs.2;
+      some_read = w.read;
+      few = omega (arith, w.few);
+      order = ts.1;
+    } in
     subst (λ (x : FirstForm). IsFirstText x × (text ≡ first_text x)) {x = form h.0 t.0} g.1 (is, parts ∙ sym (first_parts (form h.0 t.0)))
 
 pub form_again : (f : FirstForm) → IsFirstText f → form_at (first_text f) ≡ Some f
@@ -164,10 +177,12 @@ form_again f h =
     let few_works : length f.works ≤ 16384 = omega (arith, h.few) in
     let few_reads : f.reads ≤ 16384 = omega (arith, h.few) in
     ap form_at (first_parts f)
-    ∙ rw (head_again f.name f.works (open_text f.name (tail_text f.reads f.order [])) named h.works few_works (tool_is_no_work (f.name ++ (codes " task=all cpu=0 format=3\n" ++ tail_text f.reads f.order []))),
-          open_again f.name (tail_text f.reads f.order []),
-          tail_again f.reads f.order [] few_reads h.order,
-          whole_from f h) refl
+    ∙ rw (
+      head_again f.name f.works (open_text f.name (tail_text f.reads f.order [])) named h.works few_works (tool_is_no_work (f.name ++ (codes " task=all cpu=0 format=3\n" ++ tail_text f.reads f.order []))),
+      open_again f.name (tail_text f.reads f.order []),
+      tail_again f.reads f.order [] few_reads h.order,
+      whole_from f h,
+    ) refl
 
 -- so a text that was not read stands for no script
 pub no_form : (e : ReadStop) (text : List ℕ) → Stops e (form_at text) → e ≡ stop.Form → (s : Scripted) → StandsFor text s → ⊥

@@ -1,27 +1,24 @@
 -- A complete order of a script of the first form has a line for each of its acts.
-use Rattle.std.proofs.Common.{◌≡◌, ℕ, zero, suc, ◌<◌, ◌≤◌, ◌+◌, Bool, true, false, cond, eqb, List, [], ◌∷◌, ◌++◌, length, take, drop, replicate, map, All, get_or, Some, arith, refl, sym, ap, subst, ◌∙◌, inl, inr, eq-eqb}
-use Rattle.std.specs.Prelude.{count_by, slice_index}
-use Rattle.std.proofs.lemmas.List.{get_or_default, take_more, get_or_past, length-map}
-use Rattle.std.proofs.lemmas.List.Elements.{All-cons, All-head, All-tail, All-weaker, All-replicate}
+use Rattle.std.proofs.Common.{◌≡◌, ℕ, zero, suc, ◌<◌, ◌≤◌, ◌+◌, Bool, true, cond, eqb, List, [], ◌∷◌, ◌++◌, length, take, replicate, map, All, get_or, arith, refl, sym, ap, subst, ◌∙◌, eq-eqb}
+use Rattle.std.specs.Prelude.{count_by}
+use Rattle.std.proofs.lemmas.List.{get_or_default, take_more}
+use Rattle.std.proofs.lemmas.List.Elements.{All-cons, All-replicate}
 use Rattle.std.proofs.lemmas.List.Sums.{sum_by-take-le}
-use Rattle.perf_base.specs.declared.numbers.CpuNo.{CpuNo}
-use Rattle.perf_base.specs.declared.numbers.ToolNo.{ToolNo}
-use Rattle.perf_base.specs.declared.lines.CpuLine.{CpuLine}
 use Rattle.perf_base.specs.declared.lines.CpuLine.TheVariants as cpu_line
 use Rattle.perf_base.specs.declared.lines.ToolLine.{ToolLine}
 use Rattle.perf_base.specs.declared.acts.Act.{Act}
 use Rattle.perf_base.specs.declared.acts.Act.TheVariants as act
 use Rattle.perf_base.specs.declared.acts.Actor.{Actor}
 use Rattle.perf_base.specs.declared.acts.Actor.TheVariants as actor
-use Rattle.perf_base.specs.Scripts.{Scripted, lines_of_cpu, lines_of_tool}
+use Rattle.perf_base.specs.Scripts.{Scripted}
 use Rattle.stage_spec.specs.Order.{is_of_cpu, is_of_tool, done_by_cpu, done_by_tool, IsComplete}
-use Rattle.stage_spec.specs.Counting.{IsFirstForm, IsWorkLine, counting_open, counting_read, tool_zero}
+use Rattle.stage_spec.specs.Counting.{IsFirstForm, IsWorkLine, counting_open, counting_read}
 use Rattle.stage_spec.specs.Progress.{Progress, IsAfter, HasLine}
 use Rattle.perf_base.specs.declared.reply.Reply.{Reply}
 use Rattle.stage_spec.specs.Replies.{reply_of, replies_from}
 use Rattle.stage_spec.specs.Recurrence.{replies_from-push}
 use Rattle.stage_spec.specs.Steps.{act_of, count_by-push}
-use Rattle.script_spec.specs.FirstForm.{FirstForm, IsFirstText, IsFormScript, IsFormAct, first_script, work_of}
+use Rattle.script_spec.specs.FirstForm.{FirstForm, IsFormScript, IsFormAct, first_script, work_of}
 
 -- fewer are counted before an element that counts than in all
 counts_before : {X : Type 0} (p : X → Bool) (xs : List X) (i : ℕ) (x : X) → i < length xs → get_or xs i x ≡ x → p x ≡ true → count_by p (take i xs) < count_by p xs
@@ -70,11 +67,11 @@ past_first lines (suc i) some = no_tools 3 i
 
 first_is_first : (f : FirstForm) → IsFirstForm (first_script f)
 first_is_first f = record {
-    work = λ cpu. cpu_work f.works cpu.0;
-    opened = refl;
-    reads = All-replicate (λ line. line ≡ counting_read) f.reads counting_read refl;
-    others = λ tool some. past_first (counting_open ∷ replicate f.reads counting_read) tool.0 some
-  }
+  work = λ cpu. cpu_work f.works cpu.0;
+  opened = refl;
+  reads = All-replicate (λ line. line ≡ counting_read) f.reads counting_read refl;
+  others = λ tool some. past_first (counting_open ∷ replicate f.reads counting_read) tool.0 some;
+}
 
 pub is_first : (s : Scripted) → IsFormScript s → IsFirstForm s
 is_first s h = subst IsFirstForm (sym h.2) (first_is_first h.0)
@@ -94,6 +91,7 @@ pub took_step : (s : Scripted) (order : List Act) (m : Progress) (i : ℕ) (d : 
     → IsAfter s (take i order ++ act_of who ∷ []) m → r ≡ reply_of s (take i order) (act_of who) → replies ≡ replies_from s [] (take i order)
     → IsAfter s (take (i + 1) order) m × (replies ++ r ∷ [] ≡ replies_from s [] (take (i + 1) order))
 took_step s order m i d who replies r l at h e so_far =
-    let longer : take (i + 1) order ≡ take i order ++ act_of who ∷ [] = take_more order i d l ∙ ap (λ a. take i order ++ a ∷ []) (sym at) in
-    (rw longer h,
-     rw (longer, replies_from-push s [] (take i order) (act_of who), so_far, e) refl)
+    let longer : take (i + 1) order ≡ take i order ++ act_of who ∷ [] = take_more order i d l ∙ ap (λ a. take i order ++ a ∷ []) (sym at) in (
+      rw longer h,
+      rw (longer, replies_from-push s [] (take i order) (act_of who), so_far, e) refl,
+    )

@@ -1,5 +1,5 @@
 -- Literals, numbers and names: what is read is what stands there, and what stands there is read.
-use Rattle.std.proofs.Common.{eq-eqb, ◌≡◌, ◌≢◌, ℕ, zero, suc, ◌+◌, ◌-◌, ◌*◌, ◌^◌, ◌<◌, ◌≤◌, ◌⊎◌, inl, inr, Bool, true, false, not, ◌&&◌, ◌||◌, cond, eqb, leb, ltb, List, [], ◌∷◌, ◌++◌, length, get_or, take, drop, All, Option, Some, None, refl, sym, ap, subst, ◌∙◌, append_assoc, arith, rules}
+use Rattle.std.proofs.Common.{eq-eqb, ◌≡◌, ◌≢◌, ℕ, suc, ◌^◌, ◌<◌, ◌≤◌, ◌⊎◌, inl, inr, Bool, true, false, not, ◌&&◌, ◌||◌, cond, eqb, leb, ltb, List, [], ◌∷◌, ◌++◌, length, get_or, take, drop, All, Option, Some, None, refl, sym, ap, subst, ◌∙◌, arith, rules}
 use Rattle.std.specs.Prelude.{nat_eq, codes, decimal}
 use Rattle.std.specs.List.{starts_with, prefix_len}
 use Rattle.std.specs.Char.{is_ascii_digit}
@@ -9,10 +9,8 @@ use Rattle.std.proofs.Math.Numerals.{one-add}
 use lib.Pointwise.{pointwise}
 use Rattle.std.proofs.lemmas.Cmp.{nat_list_eq_equiv}
 use Rattle.std.proofs.lemmas.Bool.{cases_Bool, cases_lt, false_from_ne_true, lt-ltb, le-leb, eqb-true, ltb-true, leb-true}
-use Rattle.std.proofs.lemmas.Bool.Decides.{nat_tests}
-use Rattle.std.proofs.lemmas.List.{take_at, drop_at, take-append-drop, length-take-le}
+use Rattle.std.proofs.lemmas.List.{take_at, drop_at, take-append-drop}
 use Rattle.std.proofs.lemmas.List.Elements.{All-cons, All-head, All-tail, All-weaker}
-use Rattle.std.proofs.lemmas.List.Sums.{prefix_len-le-length}
 use Rattle.std.proofs.lemmas.Fmt.{digits_decimal, digits_value-decimal, decimal-digits_value, length-decimal-le, decimal_nonempty, first_decimal, decimal_digit}
 use Rattle.std.proofs.lemmas.Str.Parse.{IsNumeralModel, numerals_by_fold}
 use Rattle.perf_base.specs.Scripts.{IsLetter, IsNameByte, IsName, IsFreeName}
@@ -59,9 +57,9 @@ strip_again literal rest =
 pub prefix_passes : (p : ℕ → Bool) (xs : List ℕ) → All (λ x. p x ≡ true) (take (prefix_len p xs) xs)
 prefix_passes p [] = λ k d l. absurd (omega arith)
 prefix_passes p (x ∷ xs) = elim (cases_Bool (p x)) [
-    | inl t ↦ let n : prefix_len p (x ∷ xs) ≡ suc (prefix_len p xs) = rw t (one-add (prefix_len p xs)) in rw n (All-cons (λ y. p y ≡ true) x (take (prefix_len p xs) xs) t (prefix_passes p xs))
-    | inr f ↦ let n : prefix_len p (x ∷ xs) ≡ 0 = rw f refl in rw n (λ k d l. absurd (omega arith))
-  ]
+  | inl t ↦ let n : prefix_len p (x ∷ xs) ≡ suc (prefix_len p xs) = rw t (one-add (prefix_len p xs)) in rw n (All-cons (λ y. p y ≡ true) x (take (prefix_len p xs) xs) t (prefix_passes p xs))
+  | inr f ↦ let n : prefix_len p (x ∷ xs) ≡ 0 = rw f refl in rw n (λ k d l. absurd (omega arith))
+]
 
 -- what passes, and then something that does not
 pub prefix_at : (p : ℕ → Bool) (xs rest : List ℕ) → All (λ x. p x ≡ true) xs → prefix_len p rest ≡ 0 → prefix_len p (xs ++ rest) ≡ length xs
@@ -104,16 +102,16 @@ is_number-true digits h =
       some = ltb-true _ _ a.0;
       few = leb-true _ _ b.0;
       no_zero = λ z. let t : eqb (get_or digits 0 0) 48 ≡ true = eq-eqb _ _ z in
-        let e : (not true || eqb (length digits) 1) ≡ true = subst (λ b. (not b || eqb (length digits) 1) ≡ true) t c.0 in
-        eqb-true _ _ e;
-      small = leb-true _ _ c.1
+          let e : (not true || eqb (length digits) 1) ≡ true = subst (λ b. (not b || eqb (length digits) 1) ≡ true) t c.0 in
+          eqb-true _ _ e;
+      small = leb-true _ _ c.1;
     }
 
 zero_test : (x l : ℕ) → (x ≡ 48 → l ≡ 1) → (not (eqb x 48) || eqb l 1) ≡ true
 zero_test x l h = elim (cases_Bool (eqb x 48)) [
-    | inl t ↦ let e : eqb l 1 ≡ true = eq-eqb l 1 (h (eqb-true x 48 t)) in rw (t, e) refl
-    | inr f ↦ rw f refl
-  ]
+  | inl t ↦ let e : eqb l 1 ≡ true = eq-eqb l 1 (h (eqb-true x 48 t)) in rw (t, e) refl
+  | inr f ↦ rw f refl
+]
 
 is_number-from : (digits : List ℕ) → IsNumber digits → is_number digits ≡ true
 is_number-from digits h =
@@ -138,9 +136,9 @@ number_takes bytes n rest e =
 -- only 0 begins with a zero
 zero_alone : (n : ℕ) → n < 2 ^ 64 → get_or (decimal n) 0 0 ≡ 48 → length (decimal n) ≡ 1
 zero_alone n fits z = elim (cases_lt 0 n) [
-    | inl some ↦ absurd (omega (arith, first_decimal n some fits))
-    | inr none ↦ ap length (decimal_digit n (omega arith))
-  ]
+  | inl some ↦ absurd (omega (arith, first_decimal n some fits))
+  | inr none ↦ ap length (decimal_digit n (omega arith))
+]
 
 pub number_again : (n : ℕ) (rest : List ℕ) → n ≤ 1000000000 → prefix_len is_ascii_digit rest ≡ 0 → number_at (decimal n ++ rest) ≡ Some (n, rest)
 unfolding number_at
@@ -152,11 +150,11 @@ number_again n rest small ends =
     let behind : drop (length (decimal n)) (decimal n ++ rest) ≡ rest = drop_at (decimal n) rest (length (decimal n)) refl in
     let value : value_after 0 (decimal n) ≡ n = digits_value-decimal own n fits in
     let test : is_number (decimal n) ≡ true = is_number-from (decimal n) (record {
-        some = decimal_nonempty n fits;
-        few = length-decimal-le 10 n (omega arith) (omega arith) fits;
-        no_zero = λ z. zero_alone n fits z;
-        small = omega arith
-      }) in
+      some = decimal_nonempty n fits;
+      few = length-decimal-le 10 n (omega arith) (omega arith) fits;
+      no_zero = λ z. zero_alone n fits z;
+      small = omega arith;
+    }) in
     rw (k, front, behind, test, value) refl
 
 -- ---- names
@@ -219,12 +217,12 @@ digit_from b l h = let p : leb 48 b ≡ true = le-leb _ _ l in let q : leb b 57 
 
 name_byte_true : (b : ℕ) → is_name_byte b ≡ true → IsNameByte b
 name_byte_true b e = elim (or_true (is_letter b) (is_ascii_digit b || eqb b 45) e) [
-    | inl l ↦ inl (letter_true b l)
-    | inr r ↦ elim (or_true (is_ascii_digit b) (eqb b 45) r) [
-      | inl d ↦ inr (inl (digit_true b d))
-      | inr m ↦ inr (inr (eqb-true b 45 m))
-    ]
+  | inl l ↦ inl (letter_true b l)
+  | inr r ↦ elim (or_true (is_ascii_digit b) (eqb b 45) r) [
+    | inl d ↦ inr (inl (digit_true b d))
+    | inr m ↦ inr (inr (eqb-true b 45 m))
   ]
+]
 
 or_left : (a b : Bool) → a ≡ true → (a || b) ≡ true
 or_left a b e = rw e refl
@@ -253,7 +251,7 @@ kind_name_true (b ∷ bs) h e =
     record {
       name_is = (letter_true b p.0, All-weaker (λ c. is_name_byte c ≡ true) IsNameByte name_byte_true bs (All-tail (λ c. is_name_byte c ≡ true) b bs h));
       short = omega arith;
-      free = is_free (b ∷ bs) (not_true (is_reserved (b ∷ bs)) q.1)
+      free = is_free (b ∷ bs) (not_true (is_reserved (b ∷ bs)) q.1);
     }
 
 letter_name_byte : (b : ℕ) → is_letter b ≡ true → is_name_byte b ≡ true

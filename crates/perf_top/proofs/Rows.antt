@@ -1,11 +1,8 @@
 -- Work lines, reads and acts: what is read is what stands there, and what stands there is read.
-use Rattle.std.proofs.Common.{add-one, length-append, ◌≡◌, ◌≢◌, ℕ, zero, suc, ◌+◌, ◌-◌, ◌*◌, ◌<◌, ◌≤◌, ◌⊎◌, inl, inr, Bool, true, false, cond, List, [], ◌∷◌, ◌++◌, length, replicate, All, Option, Some, None, refl, sym, ap, subst, ◌∙◌, append_assoc, arith}
+use Rattle.std.proofs.Common.{add-one, length-append, ◌≡◌, ℕ, zero, suc, ◌+◌, ◌≤◌, List, [], ◌∷◌, ◌++◌, length, replicate, All, Option, Some, None, refl, sym, ap, subst, ◌∙◌, append_assoc, arith}
 use Rattle.std.specs.Prelude.{codes, decimal}
-use Rattle.std.specs.List.{flat_map, prefix_len}
-use Rattle.std.specs.Char.{is_ascii_digit}
-use Rattle.std.proofs.lemmas.List.{append-nil}
+use Rattle.std.specs.List.{flat_map}
 use Rattle.std.proofs.lemmas.Fmt.{decimal_digit}
-use Rattle.std.proofs.lemmas.List.Concat.{flat_map-cons}
 use Rattle.std.proofs.lemmas.List.Elements.{All-cons, All-head, All-tail}
 use Rattle.perf_base.specs.declared.numbers.CpuNo.{CpuNo}
 use Rattle.perf_base.specs.declared.numbers.ToolNo.{ToolNo}
@@ -44,24 +41,26 @@ work_takes name bytes w rest e =
     let t3 : b.0 ≡ name ++ c.0 = strip_takes name b.0 c.0 c.1 in
     let t2 : a.0.1 ≡ codes " user " ++ b.0 = strip_takes (codes " user ") a.0.1 b.0 b.1 in
     let whole : bytes ≡ behind_work name made.0 made.1 =
-      n1.0 ∙ ap (λ (r : List ℕ). decimal a.0.0 ++ r) (t2 ∙ ap (λ (r : List ℕ). codes " user " ++ r) (t3 ∙ ap (λ (r : List ℕ). name ++ r) (t4 ∙ ap (λ (r : List ℕ). codes "=" ++ r) (n2.0 ∙ ap (λ (r : List ℕ). decimal h.0.0 ++ r) t6)))) in
+    n1.0 ∙ ap (λ (r : List ℕ). decimal a.0.0 ++ r) (t2 ∙ ap (λ (r : List ℕ). codes " user " ++ r) (t3 ∙ ap (λ (r : List ℕ). name ++ r) (t4 ∙ ap (λ (r : List ℕ). codes "=" ++ r) (n2.0 ∙ ap (λ (r : List ℕ). decimal h.0.0 ++ r) t6)))) in
     subst (λ (x : (ℕ × ℕ) × List ℕ). (bytes ≡ behind_work name x.0 x.1) × IsWorkPair x.0) (some_is made (w, rest) f.2) (whole, (n1.1, n2.1))
 
 work_again : (name : List ℕ) (w : ℕ × ℕ) (rest : List ℕ) → IsWorkPair w → work_at name (behind_work name w rest) ≡ Some (w, rest)
 unfolding work_at
 work_again name w rest fits =
-    rw (number_again w.0 (codes " user " ++ (name ++ (codes "=" ++ (decimal w.1 ++ (codes "\n" ++ rest))))) fits.0 refl,
-        strip_again (codes " user ") (name ++ (codes "=" ++ (decimal w.1 ++ (codes "\n" ++ rest)))),
-        strip_again name (codes "=" ++ (decimal w.1 ++ (codes "\n" ++ rest))),
-        strip_again (codes "=") (decimal w.1 ++ (codes "\n" ++ rest)),
-        number_again w.1 (codes "\n" ++ rest) fits.1 refl,
-        strip_again (codes "\n") rest) refl
+    rw (
+      number_again w.0 (codes " user " ++ (name ++ (codes "=" ++ (decimal w.1 ++ (codes "\n" ++ rest))))) fits.0 refl,
+      strip_again (codes " user ") (name ++ (codes "=" ++ (decimal w.1 ++ (codes "\n" ++ rest)))),
+      strip_again name (codes "=" ++ (decimal w.1 ++ (codes "\n" ++ rest))),
+      strip_again (codes "=") (decimal w.1 ++ (codes "\n" ++ rest)),
+      number_again w.1 (codes "\n" ++ rest) fits.1 refl,
+      strip_again (codes "\n") rest,
+    ) refl
 
 works_cases : (n : ℕ) (name bytes : List ℕ) (x : List (ℕ × ℕ) × List ℕ)
     → ((rest : List ℕ) (y : List (ℕ × ℕ) × List ℕ) → works_at n name rest ≡ Some y → (rest ≡ flat_map (work_text name) y.0 ++ y.1) × All IsWorkPair y.0)
     → (s : Option (List ℕ)) → strip (codes "work ") bytes ≡ s → works_at (suc n) name bytes ≡ Some x → (bytes ≡ flat_map (work_text name) x.0 ++ x.1) × All IsWorkPair x.0
 unfolding works_at strip
-works_cases n name bytes x rec None s e = 
+works_cases n name bytes x rec None s e =
     let f : Some ([], bytes) ≡ Some x = rw s at e in
     subst (λ (y : List (ℕ × ℕ) × List ℕ). (bytes ≡ flat_map (work_text name) y.0 ++ y.1) × All IsWorkPair y.0) (some_is ([], bytes) x f) (refl, All-none IsWorkPair)
 works_cases n name bytes x rec (Some rest) s e =
@@ -73,7 +72,7 @@ works_cases n name bytes x rec (Some rest) s e =
     let ws = rec a.0.1 b.0 b.1 in
     let front : bytes ≡ work_text name a.0.0 ++ a.0.1 = strip_takes (codes "work ") bytes rest s ∙ (ap (λ (r : List ℕ). codes "work " ++ r) w.0 ∙ sym (work_parts name a.0.0 a.0.1)) in
     let whole : bytes ≡ flat_map (work_text name) made.0 ++ made.1 =
-      front ∙ (ap (λ (r : List ℕ). work_text name a.0.0 ++ r) ws.0 ∙ (sym (append_assoc (work_text name a.0.0) (flat_map (work_text name) b.0.0) b.0.1))) in
+    front ∙ (ap (λ (r : List ℕ). work_text name a.0.0 ++ r) ws.0 ∙ (sym (append_assoc (work_text name a.0.0) (flat_map (work_text name) b.0.0) b.0.1))) in
     subst (λ (y : List (ℕ × ℕ) × List ℕ). (bytes ≡ flat_map (work_text name) y.0 ++ y.1) × All IsWorkPair y.0) (some_is made x b.2) (whole, All-cons IsWorkPair a.0.0 b.0.0 w.1 ws.1)
 
 pub works_take : (n : ℕ) (name bytes : List ℕ) (x : List (ℕ × ℕ) × List ℕ) → works_at n name bytes ≡ Some x → (bytes ≡ flat_map (work_text name) x.0 ++ x.1) × All IsWorkPair x.0
@@ -88,11 +87,13 @@ works_again [] (suc n) name rest fits few ends = rw ends refl
 works_again (w ∷ works) zero name rest fits few ends = absurd (omega arith)
 works_again (w ∷ works) (suc n) name rest fits few ends =
     let parts : flat_map (work_text name) (w ∷ works) ++ rest ≡ codes "work " ++ behind_work name w (flat_map (work_text name) works ++ rest) =
-      append_assoc (work_text name w) (flat_map (work_text name) works) rest ∙ work_parts name w (flat_map (work_text name) works ++ rest) in
+    append_assoc (work_text name w) (flat_map (work_text name) works) rest ∙ work_parts name w (flat_map (work_text name) works ++ rest) in
     let first = All-head IsWorkPair w works fits in
     ap (works_at (suc n) name) parts
-    ∙ rw (work_again name w (flat_map (work_text name) works ++ rest) first,
-          works_again works n name rest (All-tail IsWorkPair w works fits) (omega arith) ends) refl
+    ∙ rw (
+      work_again name w (flat_map (work_text name) works ++ rest) first,
+      works_again works n name rest (All-tail IsWorkPair w works fits) (omega arith) ends,
+    ) refl
 
 -- ---- reads
 
@@ -111,7 +112,7 @@ reads_cases n bytes rec (Some rest) s =
     let front : bytes ≡ read_text ++ rest = strip_takes (codes "read 0\n") bytes rest s in
     let m : (reads_at n rest).0 + 1 ≡ suc (reads_at n rest).0 = add-one (reads_at n rest).0 in
     let whole : bytes ≡ reads_text (suc (reads_at n rest).0) ++ (reads_at n rest).1 =
-      front ∙ (ap (λ (r : List ℕ). read_text ++ r) (rec rest) ∙ sym (append_assoc read_text (reads_text (reads_at n rest).0) (reads_at n rest).1)) in
+    front ∙ (ap (λ (r : List ℕ). read_text ++ r) (rec rest) ∙ sym (append_assoc read_text (reads_text (reads_at n rest).0) (reads_at n rest).1)) in
     rw (s, m) whole
 
 pub reads_take : (n : ℕ) (bytes : List ℕ) → bytes ≡ reads_text (reads_at n bytes).0 ++ (reads_at n bytes).1
@@ -143,7 +144,7 @@ act_cases bytes a rest (Some after) t es et e =
 act_cases bytes a rest None (Some after) es et e =
     let f : Some (act.Tool tool_zero, after) ≡ Some (a, rest) = rw (es, et) at e in
     subst (λ (x : Act × List ℕ). (bytes ≡ (32 ∷ act_text x.0) ++ x.1) × IsFormAct x.0) (some_is (act.Tool tool_zero, after) (a, rest) f) (rw zero_text (strip_takes (codes " t0") bytes after et), refl)
-act_cases bytes a rest None None es et e = 
+act_cases bytes a rest None None es et e =
     absurd (none_some (a, rest) (rw (es, et) at e))
 
 act_takes : (bytes : List ℕ) (a : Act) (rest : List ℕ) → act_at bytes ≡ Some (a, rest) → (bytes ≡ (32 ∷ act_text a) ++ rest) × IsFormAct a
@@ -184,7 +185,7 @@ acts_cases n bytes rec (Some first) s =
     let a = act_takes bytes first.0 first.1 s in
     let more = rec first.1 in
     let whole : bytes ≡ acts_text (first.0 ∷ (acts_at n first.1).0) ++ (acts_at n first.1).1 =
-      a.0 ∙ (ap (λ (r : List ℕ). (32 ∷ act_text first.0) ++ r) more.0 ∙ sym (append_assoc (32 ∷ act_text first.0) (acts_text (acts_at n first.1).0) (acts_at n first.1).1)) in
+    a.0 ∙ (ap (λ (r : List ℕ). (32 ∷ act_text first.0) ++ r) more.0 ∙ sym (append_assoc (32 ∷ act_text first.0) (acts_text (acts_at n first.1).0) (acts_at n first.1).1)) in
     rw s (whole, All-cons IsFormAct first.0 (acts_at n first.1).0 a.1 more.1)
 
 pub acts_take : (n : ℕ) (bytes : List ℕ) → (bytes ≡ acts_text (acts_at n bytes).0 ++ (acts_at n bytes).1) × All IsFormAct (acts_at n bytes).0

@@ -1,5 +1,5 @@
 -- One word.
-use Rattle.std.proofs.Common.{◌≡◌, ◌↔◌, ℕ, List, [], ◌∷◌, length, map, get_or, refl, sym, ap, ◌∙◌}
+use Rattle.std.proofs.Common.{◌≡◌, ◌↔◌, ℕ, List, [], ◌∷◌, length, map, get_or, sym, ap, ◌∙◌}
 
 head_of : List (List ℕ) → List ℕ
 head_of [] = []

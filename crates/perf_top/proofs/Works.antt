@@ -1,5 +1,5 @@
 -- A work line of the first form is a line of a script with one kind.
-use Rattle.std.proofs.Common.{◌≡◌, ℕ, ◌<◌, ◌≤◌, List, [], ◌∷◌, length, drop, replicate, All, get_or, map, arith, refl, sym, subst}
+use Rattle.std.proofs.Common.{◌≡◌, ℕ, ◌<◌, ◌≤◌, List, length, replicate, All, get_or, arith, refl, subst}
 use Rattle.std.proofs.lemmas.List.{get_or-map, length-map}
 use Rattle.std.proofs.lemmas.List.Elements.{All-cons, All-replicate}
 use Rattle.perf_base.specs.Scripts.{IsWork}
@@ -9,10 +9,10 @@ use Rattle.perf_top.specs.Reading.{pair_of, pairs_of}
 
 work_fits : (w : ℕ × ℕ) → IsWorkPair w → IsWork 1 (work_of w)
 work_fits w h = record {
-    length = h.0;
-    hits = All-cons (λ n. n ≤ 1000000000) w.1 (replicate 15 0) h.1 (All-replicate (λ n. n ≤ 1000000000) 15 0 (omega arith));
-    declared = All-replicate (λ n. n ≡ 0) 15 0 refl
-  }
+  length = h.0;
+  hits = All-cons (λ n. n ≤ 1000000000) w.1 (replicate 15 0) h.1 (All-replicate (λ n. n ≤ 1000000000) 15 0 (omega arith));
+  declared = All-replicate (λ n. n ≡ 0) 15 0 refl;
+}
 
 pub stretch_fits : (works : List Stretch) (i : ℕ) (d : Stretch) → All IsWorkPair (pairs_of works) → i < length works → IsWork 1 (work_of (pair_of (get_or works i d)))
 stretch_fits works i d h l =

@@ -1,8 +1,7 @@
 -- The lines of the report, one after the other.
-use Rattle.std.proofs.Common.{◌≡◌, ℕ, zero, suc, ◌<◌, ◌≤◌, ◌+◌, ◌-◌, List, [], ◌∷◌, ◌++◌, length, take, drop, get_or, Option, Some, None, arith, refl, sym, ap, subst, ◌∙◌, append_assoc, cond, All}
+use Rattle.std.proofs.Common.{◌≡◌, ℕ, zero, suc, ◌<◌, ◌≤◌, ◌+◌, List, [], ◌∷◌, ◌++◌, length, take, get_or, Option, Some, None, arith, refl, sym, ap, subst, ◌∙◌, append_assoc, cond, All}
 use Rattle.std.specs.Prelude.{codes, decimal, slice_get}
-use Rattle.std.specs.List.{flat_map}
-use Rattle.std.proofs.lemmas.List.{take_more, take_all, append-nil, get_or_default, length-take-le}
+use Rattle.std.proofs.lemmas.List.{take_more, take_all, append-nil, length-take-le}
 use Rattle.std.proofs.lemmas.List.Concat.{flat_map-append}
 use Rattle.std.proofs.lemmas.Option.{get_or_from_slice_get, slice_get_within}
 use Rattle.perf_base.specs.declared.numbers.ToolNo.{ToolNo}
@@ -11,7 +10,6 @@ use Rattle.perf_base.specs.declared.lines.ToolLine.TheVariants as tool_line
 use Rattle.perf_base.specs.declared.acts.Act.{Act}
 use Rattle.perf_base.specs.declared.acts.Act.TheVariants as act
 use Rattle.perf_base.specs.declared.reply.Reply.{Reply}
-use Rattle.perf_base.specs.declared.reply.Reply.TheVariants as reply
 use Rattle.perf_base.specs.Scripts.{Scripted}
 use Rattle.stage_spec.specs.Order.{done_by_tool, is_of_tool, next_of_tool}
 use Rattle.stage_spec.specs.Counting.{tool_zero}
@@ -19,7 +17,7 @@ use Rattle.stage_spec.specs.Replies.{reply_of, replies_from, tool_reply}
 use Rattle.stage_spec.specs.Steps.{count_by-push}
 use Rattle.script_spec.specs.FirstForm.{IsFormAct, IsFormScript}
 use Rattle.script_spec.specs.Acts.{act_text, acts_text}
-use Rattle.report_spec.specs.Report.{numbers_text, answer_text, answer_line, answer_lines, line_number, line_word, tool_word, report}
+use Rattle.report_spec.specs.Report.{numbers_text, answer_text, answer_line, answer_lines, tool_word, report}
 use Rattle.perf_top.specs.Lines.{read_line}
 
 pub words_more : (words : List ℕ) (i w : ℕ) → slice_get words i ≡ Some w → numbers_text (take (i + 1) words) ≡ numbers_text (take i words) ++ (32 ∷ decimal w)
@@ -46,7 +44,7 @@ answer_lines-push s before [] a (q ∷ replies) r e = absurd (omega arith)
 answer_lines-push s before (b ∷ acts) a [] r e = absurd (omega arith)
 answer_lines-push s before (b ∷ acts) a (q ∷ replies) r e =
     let rest : answer_lines s (before ++ b ∷ []) (acts ++ a ∷ []) (replies ++ r ∷ []) ≡ answer_lines s (before ++ b ∷ []) acts replies ++ answer_line s ((before ++ b ∷ []) ++ acts) a (answer_text r) =
-      answer_lines-push s (before ++ b ∷ []) acts a replies r (omega arith) in
+    answer_lines-push s (before ++ b ∷ []) acts a replies r (omega arith) in
     ap (λ (t : List ℕ). answer_line s before b (answer_text q) ++ t) (rest ∙ ap (λ x. answer_lines s (before ++ b ∷ []) acts replies ++ answer_line s x a (answer_text r)) (append_assoc before (b ∷ []) acts))
     ∙ sym (append_assoc (answer_line s before b (answer_text q)) (answer_lines s (before ++ b ∷ []) acts replies) (answer_line s (before ++ b ∷ acts) a (answer_text r)))
 
@@ -68,7 +66,7 @@ line_is s before (act.Tool tool) n f e =
     let zero_is : tool ≡ tool_zero = ap (λ n. let t : ToolNo = record { 0 = n } in t) f in
     let count : done_by_tool tool before ≡ n = ap (λ t. done_by_tool t before) zero_is ∙ sym e in
     subst (λ m. answer_line s before (act.Tool tool) (answer_text (tool_reply s before (next_of_tool s before tool))) ≡ read_line (act.Tool tool) m (tool_reply s before (next_of_tool s before tool))) count
-        (tool_read s before tool (next_of_tool s before tool) refl)
+    (tool_read s before tool (next_of_tool s before tool) refl)
 line_is s before (act.Seen ring place) n f e = absurd f
 
 pub within : (s : Scripted) (order : List Act) (replies : List Reply) (i : ℕ) → order ≡ s.order → replies ≡ replies_from s [] s.order → i < length order → i < length replies
@@ -91,7 +89,7 @@ pub whole_report : (s : Scripted) (replies : List Reply) (a b c d e : List ℕ) 
 unfolding report
 whole_report s replies a b c d e ea eb ec ed ee =
     let d_is : d ≡ ((codes "order" ++ acts_text s.order) ++ 10 ∷ []) ++ answer_lines s [] s.order replies =
-      ed ∙ ap (λ (t : List ℕ). t ++ answer_lines s [] s.order replies) (ec ∙ ap (λ (t : List ℕ). t ++ 10 ∷ []) (eb ∙ ap (λ (t : List ℕ). t ++ acts_text s.order) ea)) in
+    ed ∙ ap (λ (t : List ℕ). t ++ answer_lines s [] s.order replies) (ec ∙ ap (λ (t : List ℕ). t ++ 10 ∷ []) (eb ∙ ap (λ (t : List ℕ). t ++ acts_text s.order) ea)) in
     ee ∙ (sym (append_assoc d (codes "end") (10 ∷ [])) ∙ ap (λ (t : List ℕ). (t ++ codes "end") ++ 10 ∷ []) d_is)
 
 -- one line more
@@ -105,13 +103,14 @@ wrote_line s order replies i n m d r out more form eo er l at en em so_far =
     let own : form.0.order ≡ order = ap (λ t. t.order) (sym form.2) ∙ sym eo in
     let all : All IsFormAct order = subst (All IsFormAct) own form.1.order in
     let answered : r ≡ reply_of s (take i order) (get_or order i d) =
-      at ∙ (ap (λ x. get_or x i r) (er ∙ ap (replies_from s []) (sym eo)) ∙ reply_at s [] order i r d l) in
+    at ∙ (ap (λ x. get_or x i r) (er ∙ ap (replies_from s []) (sym eo)) ∙ reply_at s [] order i r d l) in
     let text : answer_line s (take i order) (get_or order i d) (answer_text r) ≡ read_line (get_or order i d) n r =
-      subst (λ x. answer_line s (take i order) (get_or order i d) (answer_text x) ≡ read_line (get_or order i d) n x) (sym answered) (line_is s (take i order) (get_or order i d) n (all i d l) en) in
+    subst (λ x. answer_line s (take i order) (get_or order i d) (answer_text x) ≡ read_line (get_or order i d) n x) (sym answered) (line_is s (take i order) (get_or order i d) n (all i d l) en) in
     let same : length (take i order) ≡ length (take i replies) = length-take-le i order (omega arith) ∙ sym (length-take-le i replies (omega arith)) in
     let longer : take (i + 1) order ≡ take i order ++ get_or order i d ∷ [] = take_more order i d l in
     let longer_replies : take (i + 1) replies ≡ take i replies ++ r ∷ [] = take_more replies i r in_replies ∙ ap (λ x. take i replies ++ x ∷ []) (sym at) in
     let lines : answer_lines s [] (take (i + 1) order) (take (i + 1) replies) ≡ answer_lines s [] (take i order) (take i replies) ++ read_line (get_or order i d) n r =
-      rw (longer, longer_replies) (answer_lines-push s [] (take i order) (get_or order i d) (take i replies) r same ∙ ap (λ (t : List ℕ). answer_lines s [] (take i order) (take i replies) ++ t) text) in
-    (ap (λ (t : List ℕ). t ++ read_line (get_or order i d) n r) so_far ∙ (append_assoc more (answer_lines s [] (take i order) (take i replies)) (read_line (get_or order i d) n r) ∙ ap (λ (t : List ℕ). more ++ t) (sym lines)),
-     rw longer (omega (arith, en, em, count_by-push (is_of_tool tool_zero) (take i order) (get_or order i d))))
+    rw (longer, longer_replies) (answer_lines-push s [] (take i order) (get_or order i d) (take i replies) r same ∙ ap (λ (t : List ℕ). answer_lines s [] (take i order) (take i replies) ++ t) text) in (
+      ap (λ (t : List ℕ). t ++ read_line (get_or order i d) n r) so_far ∙ (append_assoc more (answer_lines s [] (take i order) (take i replies)) (read_line (get_or order i d) n r) ∙ ap (λ (t : List ℕ). more ++ t) (sym lines)),
+      rw longer (omega (arith, en, em, count_by-push (is_of_tool tool_zero) (take i order) (get_or order i d))),
+    )

@@ -1,5 +1,5 @@
 -- One text behind another.
-use Rattle.std.proofs.Common.{◌≡◌, ℕ, ◌+◌, ◌<◌, ◌≤◌, ◌⊎◌, inl, inr, List, [], ◌++◌, length, take, Option, Some, None, Result, Ok, Err, arith, refl, sym, ap, subst, ◌∙◌, append_assoc, length-append}
+use Rattle.std.proofs.Common.{◌≡◌, ℕ, ◌+◌, ◌≤◌, inl, inr, List, ◌++◌, length, take, Option, Some, None, Result, Ok, Err, arith, ap, subst, ◌∙◌, append_assoc, length-append}
 use Rattle.std.specs.Result.{IsErrAnd}
 use Rattle.std.proofs.lemmas.List.{take-append-le}
 use Rattle.std.proofs.Math.Seq.{take-append-add}
@@ -25,10 +25,12 @@ pub wrote_then : (a b c : Option (List ℕ)) (last : Option ℕ) (f g h : ℕ) (
     → Wrote a b last f g (Ok tt) x → Wrote b c last g h r y → Wrote a c last f h r (x ++ y)
 wrote_then a b c last f g h (Ok u) x y p q = record { count = omega (arith, p.count, q.count); written = Adds-then a b c x y p.written q.written }
 wrote_then a b c last f g h (Err e) x y p q = record {
-    count = omega (arith, p.count, q.count);
-    written = (Rose-before last f g h p.count q.written.0,
-      (length x + q.written.1.0, omega (arith, length-append x y, q.written.1.1), rw take-append-add (Adds-then a b c x (take q.written.1.0 y) p.written q.written.1.2)))
-  }
+  count = omega (arith, p.count, q.count);
+  written = (
+    Rose-before last f g h p.count q.written.0,
+    (length x + q.written.1.0, omega (arith, length-append x y, q.written.1.1), rw take-append-add (Adds-then a b c x (take q.written.1.0 y) p.written q.written.1.2)),
+  );
+}
 
 -- the front of a text is the front of a longer one
 pub wrote_stop : (a b : Option (List ℕ)) (last : Option ℕ) (f g : ℕ) (e : Failed) (x y : List ℕ) → Wrote a b last f g (Err e) x → Wrote a b last f g (Err e) (x ++ y)

@@ -1,6 +1,5 @@
 -- The number and the note of each answer of the top call. This project's own profile.
-use Rattle.std.specs.Prelude.{◌≡◌, ℕ, ◌<◌, ◌≤◌, ◌⊎◌, List, [], ◌∷◌, ◌++◌, length, take, codes, decimal, Option}
-use Rattle.perf_base.specs.declared.numbers.RingNo.{RingNo}
+use Rattle.std.specs.Prelude.{ℕ, List, [], ◌++◌, codes, decimal}
 use Rattle.perf_base.specs.Reasons.{script_word}
 use Rattle.perf_top.specs.declared.status.Status.{Status}
 use Rattle.perf_top.specs.declared.status.Status.TheVariants as status

@@ -1,9 +1,7 @@
 -- Reading a text of the first form from the left: what each part of the reader gives.
-use Rattle.std.specs.Prelude.{◌≡◌, ℕ, zero, suc, ◌+◌, ◌-◌, ◌*◌, ◌<◌, ◌≤◌, Bool, true, false, not, ◌==◌, ◌&&◌, ◌||◌, nat_lt, nat_le, nat_eq, List, [], ◌∷◌, ◌++◌, length, take, drop, slice_index, codes, Option, Some, None, Result, Ok, Err, if◌then◌else◌}
+use Rattle.std.specs.Prelude.{◌≡◌, ℕ, zero, suc, ◌+◌, ◌-◌, ◌*◌, Bool, true, false, not, ◌==◌, ◌&&◌, ◌||◌, nat_lt, nat_le, nat_eq, List, [], ◌∷◌, length, take, drop, slice_index, codes, Option, Some, None, Result, Ok, Err, if◌then◌else◌}
 use Rattle.std.specs.List.{starts_with, prefix_len}
 use Rattle.std.specs.Char.{is_ascii_digit}
-use Rattle.perf_base.specs.declared.numbers.CpuNo.{CpuNo}
-use Rattle.perf_base.specs.declared.numbers.ToolNo.{ToolNo}
 use Rattle.perf_base.specs.declared.acts.Act.{Act}
 use Rattle.perf_base.specs.declared.acts.Act.TheVariants as act
 use Rattle.stage_spec.specs.Counting.{cpu_zero, tool_zero}
@@ -87,35 +85,35 @@ work_at name bytes = do
 unfoldable pub works_at : ℕ → List ℕ → List ℕ → Option (List (ℕ × ℕ) × List ℕ)
 works_at zero name bytes = Some ([], bytes)
 works_at (suc n) name bytes = elim (strip (codes "work ") bytes) [
-    | None ↦ Some ([], bytes)
-    | Some rest ↦ work_at name rest >>= λ first. works_at n name first.1 >>= λ others. Some (first.0 ∷ others.0, others.1)
-  ]
+  | None ↦ Some ([], bytes)
+  | Some rest ↦ work_at name rest >>= λ first. works_at n name first.1 >>= λ others. Some (first.0 ∷ others.0, others.1)
+]
 
 -- lines that read, at most so many
 unfoldable pub reads_at : ℕ → List ℕ → ℕ × List ℕ
 reads_at zero bytes = (0, bytes)
 reads_at (suc n) bytes = elim (strip (codes "read 0\n") bytes) [
-    | None ↦ (0, bytes)
-    | Some rest ↦ ((reads_at n rest).0 + 1, (reads_at n rest).1)
-  ]
+  | None ↦ (0, bytes)
+  | Some rest ↦ ((reads_at n rest).0 + 1, (reads_at n rest).1)
+]
 
 -- an act of processor 0 or of tool 0, behind a space
 unfoldable pub act_at : List ℕ → Option (Act × List ℕ)
 act_at bytes = elim (strip (codes " p0") bytes) [
-    | Some rest ↦ Some (act.Processor cpu_zero, rest)
-    | None ↦ elim (strip (codes " t0") bytes) [
-      | Some rest ↦ Some (act.Tool tool_zero, rest)
-      | None ↦ None
-    ]
+  | Some rest ↦ Some (act.Processor cpu_zero, rest)
+  | None ↦ elim (strip (codes " t0") bytes) [
+    | Some rest ↦ Some (act.Tool tool_zero, rest)
+    | None ↦ None
   ]
+]
 
 -- acts, at most so many
 unfoldable pub acts_at : ℕ → List ℕ → List Act × List ℕ
 acts_at zero bytes = ([], bytes)
 acts_at (suc n) bytes = elim (act_at bytes) [
-    | None ↦ ([], bytes)
-    | Some first ↦ (first.0 ∷ (acts_at n first.1).0, (acts_at n first.1).1)
-  ]
+  | None ↦ ([], bytes)
+  | Some first ↦ (first.0 ∷ (acts_at n first.1).0, (acts_at n first.1).1)
+]
 
 -- there is work and a read, not too many of both, and nothing is left
 abbrev pub is_whole : FirstForm → List ℕ → Bool
@@ -152,8 +150,8 @@ form_at bytes = do
   opened ← open_at head.0.0 head.1
   tail ← tail_at opened
   if is_whole (record { name = head.0.0; works = head.0.1; reads = tail.0.0; order = tail.0.1 }) tail.1
-    then Some (record { name = head.0.0; works = head.0.1; reads = tail.0.0; order = tail.0.1 })
-    else None
+      then Some (record { name = head.0.0; works = head.0.1; reads = tail.0.0; order = tail.0.1 })
+      else None
 
 -- what was read, without where it lies in memory
 abbrev pub pair_of : Stretch → ℕ × ℕ

@@ -13,13 +13,14 @@ mod replay;
 mod report;
 mod run;
 mod status;
+#[cfg(test)]
+mod tests;
 mod text;
 
 pub use notes::put_note;
-pub use status::Status;
-
 use perf_base::{RingNo, SReason};
 use perf_io::{Sink, Source};
+pub use status::Status;
 use std::alloc::Global;
 
 /// Whether the words are those of a replay.

@@ -89,11 +89,21 @@ pub fn put_note<N: Sink>(notes: &mut N, status: &Status) -> Result<(), Failed>
             last,
             head,
             given,
-        } => put_order(notes, u64::from(*index), u64::from(ring.0), *last, *head, *given),
+        } => put_order(
+            notes,
+            u64::from(*index),
+            u64::from(ring.0),
+            *last,
+            *head,
+            *given,
+        ),
         Status::TooLong => put(notes, b"perf_run: script longer than 4194304 bytes\n"),
         Status::ReadFault => put(notes, b"perf_run: read fault\n"),
         Status::WriteFault => put(notes, b"perf_run: write fault\n"),
         Status::NoMemory => put(notes, b"perf_run: no memory\n"),
-        Status::Usage => put(notes, b"perf_run: usage: run, replay, make N, make N script\n"),
+        Status::Usage => put(
+            notes,
+            b"perf_run: usage: run, replay, make N, make N script\n",
+        ),
     }
 }

@@ -5,13 +5,14 @@ ghost use Rattle.perf_io.specs.Outside.{Adds, Rose};
 ghost use Rattle.perf_top.specs.Stops.{status_of};
 ghost use Rattle.perf_top.specs.Outcome.{Gave, IsRun, IsNoScript};
 
-use crate::first_form::{self, reading::ReadStop};
+use crate::first_form::reading::ReadStop;
+use crate::first_form::{self};
 use crate::status::Status;
 use crate::text::{self, TextStop};
 use crate::{replay, report};
 use perf_base::{RingNo, SReason};
-use std::alloc::Global;
 use perf_io::{Sink, Source, write_all};
+use std::alloc::Global;
 
 /// Why there is no report.
 #[derive(Clone, Copy, PartialEq, Eq, Debug)]

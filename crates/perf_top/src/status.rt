@@ -10,7 +10,10 @@ pub enum Status {
     /// All was written and flushed.
     Done,
     /// The text is no script, by its first faulty line, from 1, and the reason.
-    BadScript { line: u32, reason: SReason },
+    BadScript {
+        line: u32,
+        reason: SReason,
+    },
     /// An act of the order, from 0, says that a ring's tail was seen where it can't have been: the last
     /// place seen, the head and the place given, in bytes.
     BadOrder {

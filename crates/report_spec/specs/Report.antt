@@ -1,5 +1,5 @@
 -- The text of a report, but for rings. This project's own profile.
-use Rattle.std.specs.Prelude.{◌≡◌, ℕ, List, [], ◌∷◌, ◌++◌, codes, decimal, Option, Some, None}
+use Rattle.std.specs.Prelude.{ℕ, List, [], ◌∷◌, ◌++◌, codes, decimal, Option, Some, None}
 use Rattle.std.specs.List.{flat_map}
 use Rattle.perf_base.specs.declared.numbers.EventNo.{EventNo}
 use Rattle.perf_base.specs.declared.lines.CpuLine.{CpuLine}
@@ -8,7 +8,6 @@ use Rattle.perf_base.specs.declared.lines.ToolLine.{ToolLine}
 use Rattle.perf_base.specs.declared.lines.ToolLine.TheVariants as tool_line
 use Rattle.perf_base.specs.declared.acts.Act.{Act}
 use Rattle.perf_base.specs.declared.acts.Act.TheVariants as act
-use Rattle.perf_base.specs.declared.standing.Rule.{Rule}
 use Rattle.perf_base.specs.declared.standing.Rule.TheVariants as rule
 use Rattle.perf_base.specs.declared.standing.Cause.{Cause}
 use Rattle.perf_base.specs.declared.standing.Cause.TheVariants as cause

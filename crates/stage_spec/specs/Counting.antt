@@ -1,13 +1,12 @@
 -- What the one event of a script of the first form counts: it is opened by the first line of tool 0, on the
 -- only counter, for everything on processor 0, so it is on from then on. After perf_event_open(2).
-use Rattle.std.specs.Prelude.{◌≡◌, ℕ, ◌+◌, ◌<◌, Bool, true, false, nat_lt, List, [], ◌∷◌, ◌++◌, length, drop, All, Option, Some, None, slice_get, slice_index, if◌then◌else◌}
+use Rattle.std.specs.Prelude.{◌≡◌, ℕ, ◌+◌, ◌<◌, nat_lt, List, [], ◌∷◌, ◌++◌, drop, All, Option, Some, None, slice_get, slice_index, if◌then◌else◌}
 use Rattle.perf_base.specs.declared.numbers.CpuNo.{CpuNo}
 use Rattle.perf_base.specs.declared.numbers.ToolNo.{ToolNo}
 use Rattle.perf_base.specs.declared.attr.Attr.{Attr}
 use Rattle.perf_base.specs.declared.attr.Kind.TheVariants as kind
 use Rattle.perf_base.specs.declared.attr.TaskSel.TheVariants as tasks
 use Rattle.perf_base.specs.declared.attr.CpuSel.TheVariants as cpus
-use Rattle.perf_base.specs.declared.lines.Work.{Work}
 use Rattle.perf_base.specs.declared.lines.CpuLine.{CpuLine}
 use Rattle.perf_base.specs.declared.lines.CpuLine.TheVariants as cpu_line
 use Rattle.perf_base.specs.declared.lines.ToolLine.{ToolLine}

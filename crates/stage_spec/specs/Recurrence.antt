@@ -1,15 +1,10 @@
 -- What one more act adds.
-use Rattle.std.specs.Prelude.{◌≡◌, ◌≢◌, ℕ, ◌+◌, ◌<◌, Bool, true, false, nat_lt, List, [], ◌∷◌, ◌++◌, length, count_by, slice_get, slice_index, slice_set, if◌then◌else◌}
-use Rattle.std.proofs.Common.{arith, refl, sym, ap, ◌∙◌, cond, append_assoc, add_assoc, append-nil, subst, nat_eq}
-use Rattle.perf_base.specs.declared.numbers.CpuNo.{CpuNo}
-use Rattle.perf_base.specs.declared.numbers.ToolNo.{ToolNo}
+use Rattle.std.specs.Prelude.{◌≡◌, ℕ, ◌+◌, List, [], ◌∷◌, ◌++◌}
+use Rattle.std.proofs.Common.{arith, refl, ap, ◌∙◌, append_assoc, append-nil}
 use Rattle.perf_base.specs.declared.acts.Act.{Act}
-use Rattle.perf_base.specs.declared.acts.Act.TheVariants as act
-use Rattle.perf_base.specs.Scripts.{Scripted, lines_of_cpu, lines_of_tool}
-use Rattle.stage_spec.specs.Order.{done_by_cpu, done_by_tool, is_of_cpu, is_of_tool, next_of_cpu, next_of_tool}
-use Rattle.stage_spec.specs.Counting.{total, hits, time, hits_of, length_of, tool_zero, count_after, time_after}
+use Rattle.perf_base.specs.Scripts.{Scripted}
+use Rattle.stage_spec.specs.Counting.{total}
 use Rattle.stage_spec.specs.Replies.{replies_from, reply_of}
-use Rattle.stage_spec.specs.Progress.{Progress, IsAfter}
 
 -- the sum over acts and one more
 pub total-push : (share : List Act → Act → ℕ) (before acts : List Act) (a : Act) → total share before (acts ++ a ∷ []) ≡ total share before acts + share (before ++ acts) a

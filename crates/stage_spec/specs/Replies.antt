@@ -1,6 +1,5 @@
 -- What a line answers, in scripts of the first form. After perf_event_open(2).
-use Rattle.std.specs.Prelude.{ℕ, List, [], ◌∷◌, ◌++◌, Option, Some, None}
-use Rattle.perf_base.specs.declared.numbers.EventNo.{EventNo}
+use Rattle.std.specs.Prelude.{List, [], ◌∷◌, ◌++◌, Option, Some}
 use Rattle.perf_base.specs.declared.lines.ToolLine.{ToolLine}
 use Rattle.perf_base.specs.declared.lines.ToolLine.TheVariants as tool_line
 use Rattle.perf_base.specs.declared.acts.Act.{Act}

@@ -1,5 +1,5 @@
 -- What one more line leaves of what a machine keeps, in scripts of the first form.
-use Rattle.std.specs.Prelude.{◌≡◌, ◌≢◌, ℕ, ◌+◌, ◌<◌, Bool, true, false, nat_lt, ◌==◌, List, [], ◌∷◌, ◌++◌, length, count_by, sum_by, Option, Some, None, slice_get, slice_index, slice_set, if◌then◌else◌}
+use Rattle.std.specs.Prelude.{◌≡◌, ℕ, ◌+◌, ◌<◌, Bool, nat_lt, ◌==◌, List, [], ◌∷◌, ◌++◌, length, count_by, Option, Some, None, slice_get, slice_index, slice_set, if◌then◌else◌}
 use Rattle.std.proofs.Common.{arith, refl, sym, ap, ◌∙◌, cond, get_or, set}
 use Rattle.std.proofs.lemmas.Grind.{get_or-set_at}
 use Rattle.std.proofs.lemmas.Bool.Decides.{nat_tests}
@@ -18,7 +18,7 @@ use Rattle.perf_base.specs.declared.reply.Reply.{Reply}
 use Rattle.perf_base.specs.declared.reply.Reply.TheVariants as reply
 use Rattle.perf_base.specs.Scripts.{Scripted, lines_of_cpu, lines_of_tool}
 use Rattle.stage_spec.specs.Order.{done_by_cpu, done_by_tool, is_of_cpu, is_of_tool, next_of_cpu, next_of_tool}
-use Rattle.stage_spec.specs.Counting.{total, hits, time, hits_of, length_of, tool_zero, count_after, time_after}
+use Rattle.stage_spec.specs.Counting.{hits, time, hits_of, length_of, tool_zero}
 use Rattle.stage_spec.specs.Replies.{reply_of, tool_reply}
 use Rattle.stage_spec.specs.Progress.{Progress, IsAfter}
 use Rattle.stage_spec.specs.Recurrence.{total-push}

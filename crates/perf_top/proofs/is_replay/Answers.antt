@@ -1,4 +1,4 @@
-use Rattle.std.proofs.Common.{◌≡◌, ◌↔◌, ◌∷◌, [], codes, string_bytes, ◌∙◌, sym}
+use Rattle.std.proofs.Common.{codes, string_bytes, ◌∙◌, sym}
 use Rattle.std.proofs.lemmas.Bool.Decides.{Decides-eqb}
 use Rattle.std.proofs.lemmas.Slice.Eq.{slice_eq-Decides}
 use Rattle.perf_top.proofs.Words.{one_word}

@@ -1,4 +1,3 @@
-use Rattle.std.proofs.Common.{◌≡◌, ◌∙◌, ap, sym}
 use Rattle.std.proofs.lemmas.Result.{err_from_is_err_and}
 use Rattle.perf_top.specs.Reading.{form_of}
 use Rattle.perf_top.proofs.Forms.{form_takes, no_form}

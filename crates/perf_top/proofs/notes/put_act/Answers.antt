@@ -1,20 +1,18 @@
-use Rattle.std.specs.Prelude.{ℕ, ◌∷◌, [], ◌++◌, codes, decimal, List}
-use Rattle.perf_base.specs.Reasons.{script_word}
-use Rattle.perf_top.specs.Notes.{act_note, places_note}
+use Rattle.std.specs.Prelude.{◌++◌, codes, decimal}
 use Rattle.perf_top.proofs.Wrote.{wrote_then, wrote_stop, wrote_exit}
 use Rattle.perf_top.proofs.notes.put_act.Goals as goal
 
 pub returns-in_err-put_both : goal.returns-in_err-put_both
 returns-in_err-put_both g c =
     wrote_exit _ _ _ _ _ _ _ _ ((codes "perf_run: act " ++ decimal c.args.index) ++ (codes ": ring " ++ decimal c.args.ring)) (codes " last " ++ decimal c.args.last) c.from_residual.ensures.1
-        (wrote_stop _ _ _ _ _ _ (codes "perf_run: act " ++ decimal c.args.index) (codes ": ring " ++ decimal c.args.ring) c.in_err-put_both.ensures)
+    (wrote_stop _ _ _ _ _ _ (codes "perf_run: act " ++ decimal c.args.index) (codes ": ring " ++ decimal c.args.ring) c.in_err-put_both.ensures)
 
 pub returns-in_err-put_both-2 : goal.returns-in_err-put_both-2
 returns-in_err-put_both-2 g c =
     wrote_exit _ _ _ _ _ _ _ _ ((codes "perf_run: act " ++ decimal c.args.index) ++ (codes ": ring " ++ decimal c.args.ring)) (codes " last " ++ decimal c.args.last) c.from_residual-in_err-put_both-2.ensures.1
-        (wrote_then _ _ _ _ _ _ _ _ (codes "perf_run: act " ++ decimal c.args.index) (codes ": ring " ++ decimal c.args.ring) c.in_ok-put_both.ensures c.in_err-put_both-2.ensures)
+    (wrote_then _ _ _ _ _ _ _ _ (codes "perf_run: act " ++ decimal c.args.index) (codes ": ring " ++ decimal c.args.ring) c.in_ok-put_both.ensures c.in_err-put_both-2.ensures)
 
 pub returns : goal.returns
 returns g c =
     wrote_then _ _ _ _ _ _ _ _ ((codes "perf_run: act " ++ decimal c.args.index) ++ (codes ": ring " ++ decimal c.args.ring)) (codes " last " ++ decimal c.args.last)
-        (wrote_then _ _ _ _ _ _ _ _ (codes "perf_run: act " ++ decimal c.args.index) (codes ": ring " ++ decimal c.args.ring) c.in_ok-put_both.ensures c.in_ok-put_both-2.ensures) c.put_both-3.ensures
+    (wrote_then _ _ _ _ _ _ _ _ (codes "perf_run: act " ++ decimal c.args.index) (codes ": ring " ++ decimal c.args.ring) c.in_ok-put_both.ensures c.in_ok-put_both-2.ensures) c.put_both-3.ensures

@@ -1,5 +1,3 @@
-use Rattle.std.specs.Prelude.{ℕ, ◌∷◌, [], ◌++◌, codes, decimal, List}
-use Rattle.perf_base.specs.Reasons.{script_word}
 use Rattle.perf_top.specs.Notes.{act_note, places_note}
 use Rattle.perf_top.proofs.Wrote.{wrote_then, wrote_exit}
 use Rattle.perf_top.proofs.notes.put_order.Goals as goal

@@ -1,4 +1,4 @@
-use Rattle.std.proofs.Common.{◌≡◌, ◌∙◌, ap, sym, append_assoc, ◌++◌}
+use Rattle.std.proofs.Common.{append_assoc}
 use Rattle.perf_top.proofs.Writing.{words_more}
 use Rattle.perf_top.proofs.report.push_words.Goals as goal
 

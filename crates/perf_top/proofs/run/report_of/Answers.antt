@@ -1,4 +1,4 @@
-use Rattle.std.proofs.Common.{◌≡◌, Err, IsTrue, false, refl, sym, ap, subst}
+use Rattle.std.proofs.Common.{Err, IsTrue, false, ap, subst}
 use Rattle.std.proofs.lemmas.Bool.{false≢true}
 use Rattle.stage_spec.specs.Order.{IsComplete}
 use Rattle.perf_top.proofs.Forms.{one_script}

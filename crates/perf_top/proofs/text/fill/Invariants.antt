@@ -1,4 +1,4 @@
-use Rattle.std.proofs.Common.{◌≡◌, ◌<◌, ◌≤◌, length, take}
+use Rattle.std.proofs.Common.{◌<◌, ◌≤◌, length, take}
 use Rattle.perf_io.specs.Outside.{Takes}
 use Rattle.perf_top.proofs.text.fill.Given as goal
 

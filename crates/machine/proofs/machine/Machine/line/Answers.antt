@@ -1,4 +1,4 @@
-use Rattle.std.proofs.Common.{subst, sym, ap, ◌∙◌}
+use Rattle.std.proofs.Common.{subst}
 use Rattle.stage_spec.specs.Progress.{HasLine}
 use Rattle.stage_spec.specs.Steps.{IsAfter-work, IsAfter-tool}
 use Rattle.machine.proofs.machine.Machine.line.Goals as goal

@@ -1,4 +1,4 @@
-use Rattle.std.proofs.Common.{◌≡◌, [], ◌∷◌, replicate, take}
+use Rattle.std.proofs.Common.{◌≡◌, ◌∷◌, replicate, take}
 use Rattle.stage_spec.specs.Counting.{counting_open, counting_read}
 use Rattle.perf_top.specs.Building.{made}
 use Rattle.perf_top.specs.Reading.{pairs_of}

@@ -1,4 +1,3 @@
-use Rattle.std.proofs.Common.{◌≡◌, ◌<◌, length, arith, sym, subst, ap}
 use Rattle.perf_top.proofs.Works.{stretch_fits}
 use Rattle.perf_top.proofs.first_form.building.add_works.Goals as goal
 

@@ -1,4 +1,4 @@
-use Rattle.std.proofs.Common.{sym, ◌∙◌, ap, arith, Some}
+use Rattle.std.proofs.Common.{sym, ap, Some}
 use Rattle.perf_top.proofs.Loops.{acts_go_on, acts_stop, acts_end}
 use Rattle.perf_top.proofs.first_form.reading.acts_of.Goals as goal
 

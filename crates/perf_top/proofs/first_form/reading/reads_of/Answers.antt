@@ -1,4 +1,4 @@
-use Rattle.std.proofs.Common.{sym, ◌∙◌, ap, arith}
+use Rattle.std.proofs.Common.{sym, arith}
 use Rattle.perf_top.proofs.Loops.{reads_go_on, reads_stop, reads_end}
 use Rattle.perf_top.proofs.first_form.reading.reads_of.Goals as goal
 

@@ -1,4 +1,4 @@
-use Rattle.std.proofs.Common.{◌≡◌, ◌-◌, length}
+use Rattle.std.proofs.Common.{◌≡◌, ◌-◌}
 use Rattle.perf_top.specs.Reading.{reads_at}
 use Rattle.perf_top.proofs.Loops.{with_reads}
 use Rattle.perf_top.proofs.first_form.reading.reads_of.Given as goal

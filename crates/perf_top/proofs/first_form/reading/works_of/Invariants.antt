@@ -1,4 +1,4 @@
-use Rattle.std.proofs.Common.{◌≡◌, ◌-◌, length}
+use Rattle.std.proofs.Common.{◌≡◌, ◌-◌}
 use Rattle.perf_top.specs.Reading.{works_at, pairs_of}
 use Rattle.perf_top.proofs.Loops.{with_works}
 use Rattle.perf_top.proofs.first_form.reading.works_of.Given as goal

@@ -1,0 +1,168 @@
+//! What no clause says: that each call answers with ample memory, and which answer comes at a fault.
+
+use crate::{Status, perf_main};
+use perf_base::SReason;
+use perf_io::{MemSink, MemSource, Source};
+use std::test::Fail;
+
+const SCRIPT: &str = "perf 1\nmachine cpus=1 counters=1\nkind cycles mask=1\nprocessor 0\n\
+    work 100 user cycles=500\ntool 0\nopen 0 kind=cycles task=all cpu=0 format=3\nread 0\n\
+    order t0 p0 t0\nend\n";
+
+const REPORT: &str = "order t0 p0 t0\nt0.1 read 500 100 100\nend\n";
+
+const NO_SCRIPT: Status = Status::BadScript {
+    line: 0,
+    reason: SReason::Form,
+};
+
+const CALM: u64 = 1000000;
+
+/// A call: the words, the text, how much a read or a write takes, the calls of the source and of the sink
+/// that fail; and then the answer, the bytes written and the note.
+type Row = (
+    &'static str,
+    &'static str,
+    usize,
+    [u64; 2],
+    Status,
+    &'static str,
+    &'static str,
+);
+
+const ROWS: [Row; 11] = [
+    ("replay", SCRIPT, 9, [CALM, CALM], Status::Done, REPORT, ""),
+    ("replay", SCRIPT, 1, [CALM, CALM], Status::Done, REPORT, ""),
+    (
+        "replay",
+        SCRIPT,
+        9,
+        [0, CALM],
+        Status::ReadFault,
+        "",
+        "perf_run: read fault\n",
+    ),
+    (
+        "replay",
+        SCRIPT,
+        1,
+        [40, CALM],
+        Status::ReadFault,
+        "",
+        "perf_run: read fault\n",
+    ),
+    (
+        "replay",
+        SCRIPT,
+        9,
+        [CALM, 0],
+        Status::WriteFault,
+        "",
+        "perf_run: write fault\n",
+    ),
+    (
+        "replay",
+        SCRIPT,
+        1,
+        [CALM, 4],
+        Status::WriteFault,
+        "orde",
+        "perf_run: write fault\n",
+    ),
+    (
+        "replay",
+        SCRIPT,
+        1000,
+        [CALM, 1],
+        Status::WriteFault,
+        REPORT,
+        "perf_run: write fault\n",
+    ),
+    (
+        "replay",
+        "perf 2\nend\n",
+        9,
+        [CALM, CALM],
+        NO_SCRIPT,
+        "",
+        "perf_run: line 0: FORM\n",
+    ),
+    (
+        "replay",
+        "",
+        9,
+        [CALM, CALM],
+        NO_SCRIPT,
+        "",
+        "perf_run: line 0: FORM\n",
+    ),
+    (
+        "replay now",
+        SCRIPT,
+        9,
+        [CALM, CALM],
+        Status::Usage,
+        "",
+        "perf_run: usage: run, replay, make N, make N script\n",
+    ),
+    (
+        "",
+        SCRIPT,
+        9,
+        [CALM, CALM],
+        Status::Usage,
+        "",
+        "perf_run: usage: run, replay, make N, make N script\n",
+    ),
+];
+
+#[test]
+fn each_answer_comes_with_its_bytes_and_its_note(rt: HostRuntime) -> Result<(), Fail> {
+    for (said, text, piece, fails, answer, report, note) in ROWS {
+        let mut words = Vec::new(rt.alloc());
+        for word in said.split_whitespace() {
+            words.push(String::from_str(rt.alloc(), word)?)?;
+        }
+        let bytes = Vec::from_slice(rt.alloc(), text.as_bytes())?;
+        let mut source = MemSource::new(bytes, piece.max(1), vec![in rt.alloc(); fails[0]]?);
+        let mut sink = MemSink::new(
+            rt.alloc(),
+            piece.max(1),
+            vec![in rt.alloc(); fails[1]]?,
+            1000,
+        )?;
+        let mut notes = MemSink::new(rt.alloc(), 7, Vec::new(rt.alloc()), 1000)?;
+        let status = perf_main(rt.alloc(), &words, &mut source, &mut sink, &mut notes);
+        assert_eq!(rt; status, answer);
+        assert_eq!(rt; sink.bytes(), report.as_bytes());
+        assert_eq!(rt; notes.bytes(), note.as_bytes());
+        if status == Status::Usage {
+            assert_eq!(rt; source.read(&mut [0; 9]).ok(), Some(9));
+        }
+    }
+    Ok(())
+}
+
+#[test]
+fn a_text_may_be_too_long(rt: HostRuntime) -> Result<(), Fail> {
+    let table = [
+        (4194304, NO_SCRIPT, "perf_run: line 0: FORM\n"),
+        (
+            4194305,
+            Status::TooLong,
+            "perf_run: script longer than 4194304 bytes\n",
+        ),
+    ];
+    for (length, answer, note) in table {
+        let words = vec![in rt.alloc(); String::from_str(rt.alloc(), "replay")?]?;
+        let bytes = vec![in rt.alloc(); b'a'; length]?;
+        let mut source = MemSource::new(bytes, 1000000, Vec::new(rt.alloc()));
+        let mut sink = MemSink::new(rt.alloc(), 9, Vec::new(rt.alloc()), 9)?;
+        let mut notes = MemSink::new(rt.alloc(), 9, Vec::new(rt.alloc()), 1000)?;
+        let status = perf_main(rt.alloc(), &words, &mut source, &mut sink, &mut notes);
+        assert_eq!(rt; status, answer);
+        assert_eq!(rt; sink.bytes(), b"".as_slice());
+        assert_eq!(rt; notes.bytes(), note.as_bytes());
+    }
+    Ok(())
+}
