@@ -1,0 +1,67 @@
+-- What contracts see of a ring and of its two ends. Places, heads and tails are in bytes from the start of the stream, and never wrap.
+use Rattle.std.specs.Prelude.{◌≡◌, ℕ, ◌+◌, ◌-◌, ◌*◌, ◌/◌, ◌%◌, ◌<◌, ◌≤◌, List, ◌++◌, length, take}
+use Rattle.std.specs.Int.{IsPowerOfTwo}
+use Rattle.atomic_table.specs.Seated.{TableId}
+use Rattle.ring_words.specs.Whole.{IsWhole}
+
+-- which ring it is, and how many bytes of data it has (this project's own profile)
+pub record Ring : Type 0 where
+  pub table : TableId
+  pub bytes : ℕ
+
+-- a ring's size: a power of two from 64 to 65,536 bytes (this project's own profile, after perf_event_open(2))
+pub record IsRingSize (bytes : ℕ) : Type 0 where
+  pub power : IsPowerOfTwo bytes
+  pub least : 64 ≤ bytes
+  pub most : bytes ≤ 65536
+
+-- the end that writes: the words that it has published, those that it has put since, the last tail that it has seen, and how often it has
+-- loaded the tail (kernel/events/ring_buffer.c)
+pub record ProducerEnd : Type 0 where
+  pub ring : Ring
+  pub published : List ℕ
+  pub put : List ℕ
+  pub last_tail : ℕ
+  pub loads : ℕ
+
+-- the end that reads: the words that it has taken, how many of them it has released, the last head that it has seen, and how often it has
+-- loaded the head (perf_event_open(2), the reader of the mmap buffer)
+pub record ConsumerEnd : Type 0 where
+  pub ring : Ring
+  pub taken : List ℕ
+  pub released : ℕ
+  pub last_head : ℕ
+  pub loads : ℕ
+
+-- the place behind the last word put
+abbrev pub place_of : ProducerEnd → ℕ
+place_of p = 8 * (length p.published + length p.put)
+
+-- the bytes that can still be put: one less than the size, so that a full ring does not look empty (kernel/events/ring_buffer.c)
+abbrev pub room_of : ProducerEnd → ℕ
+room_of p = p.ring.bytes - 1 - (place_of p - p.last_tail)
+
+-- a place at which a reader may stop: the words published up to it are whole (this project's own profile)
+pub record IsStop (published : List ℕ) (place : ℕ) : Type 0 where
+  pub of_words : place % 8 ≡ 0
+  pub within : place ≤ 8 * length published
+  pub whole : IsWhole (take (place / 8) published)
+
+-- the words taken begin a whole list of words that ends at the place (this project's own profile)
+pub record LeadsTo (taken : List ℕ) (place : ℕ) : Type 0 where
+  pub others : List ℕ
+  pub whole : IsWhole (taken ++ others)
+  pub ends : 8 * length (taken ++ others) ≡ place
+
+-- what is true of a producer between any two calls: the words published are whole, the last tail is a stop in them, and fewer bytes than the
+-- ring's size stand behind it (this project's own profile)
+pub record IsSoundProducer (p : ProducerEnd) : Type 0 where
+  pub whole : IsWhole p.published
+  pub stop : IsStop p.published p.last_tail
+  pub fits : place_of p - p.last_tail < p.ring.bytes
+
+-- what is true of a consumer between any two calls: the words taken lead to the last head, and those released are whole (this project's own profile)
+pub record IsSoundConsumer (c : ConsumerEnd) : Type 0 where
+  pub leads : LeadsTo c.taken c.last_head
+  pub released : c.released ≤ length c.taken
+  pub whole : IsWhole (take c.released c.taken)

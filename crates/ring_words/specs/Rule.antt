@@ -1,0 +1,55 @@
+-- The rule of a ring, which holds between any two steps. Word 0 of the table is the tail, word 1 the head, and the others are the data words
+-- (kernel/events/ring_buffer.c; the views are this project's own profile).
+use Rattle.std.specs.Prelude.{◌≡◌, ℕ, ◌+◌, ◌-◌, ◌*◌, ◌/◌, ◌%◌, ◌<◌, ◌≤◌, List, [], ◌∷◌, ◌++◌, length, take, filter, slice_index}
+use mathlib.Core.Option.{some}
+use mathlib.Core.List.{IsPrefix}
+use lib.ListN.{get_elem?}
+use Rattle.atomic_table.specs.Table.{State}
+use Rattle.ring_words.specs.Whole.{IsWhole}
+use Rattle.ring_words.specs.Ends.{IsRingSize}
+use Rattle.ring_words.specs.declared.view.View.{View}
+
+-- the data words of a ring of this size
+abbrev pub cells_of : ℕ → ℕ
+cells_of bytes = bytes / 8
+
+-- the table's word in which word number j of the stream stands
+abbrev pub cell_of : ℕ → ℕ → ℕ
+cell_of bytes j = 2 + j % cells_of bytes
+
+-- what ties the table's words to what the producer p and the consumer c know
+pub record Tied (bytes : ℕ) (words : List ℕ) (p c : View) : Type 0 where
+  pub size : IsRingSize bytes
+  pub sized : length words ≡ 2 + cells_of bytes
+
+  pub head : slice_index words 1 ≡ 8 * length p.published
+  pub tail : slice_index words 0 ≡ 8 * c.released
+
+  pub last_tail : p.last_tail ≤ 8 * c.released
+
+  pub taken : IsPrefix c.taken p.published
+  pub released : c.released ≤ length c.taken
+  pub looked : 8 * length c.taken ≤ c.last_head
+  pub last_head : c.last_head ≤ 8 * length p.published
+
+  pub stored : (j : ℕ) → c.released ≤ j → j < length (p.published ++ p.put) → slice_index words (cell_of bytes j) ≡ slice_index (p.published ++ p.put) j
+
+  pub room : 8 * (length p.published + length p.put) - p.last_tail < bytes
+
+  pub whole : IsWhole p.published
+  pub whole_released : IsWhole (take c.released p.published)
+  pub whole_tail : IsWhole (take (p.last_tail / 8) p.published)
+  pub whole_head : IsWhole (take (c.last_head / 8) p.published)
+
+-- a note has a beginning of the words published, and a place that the tail has reached
+abbrev pub NoteHolds : View → View → View → Type 0
+NoteHolds p c v = IsPrefix v.note p.published × (v.note_place ≤ 8 * c.released)
+
+-- one view is the producer's, one is the consumer's, and the words are tied to them. Each note holds
+pub record Kept (bytes : ℕ) (s : State (Unit {0}) View) : Type 0 where
+  pub producer : View
+  pub consumer : View
+  pub one_writes : filter (λ v. v.writes) s.views ≡ producer ∷ []
+  pub one_reads : filter (λ v. v.reads) s.views ≡ consumer ∷ []
+  pub tied : Tied bytes s.words producer consumer
+  pub notes : (seat : ℕ) (v : View) → get_elem? s.views seat ≡ some v → NoteHolds producer consumer v
