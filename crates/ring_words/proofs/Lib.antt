@@ -5,3 +5,4 @@ pub mod Sizes
 pub mod Writing
 pub mod Reading
 pub mod Parting
+pub mod Sound

@@ -9,24 +9,12 @@ use Rattle.atomic_table.specs.Table.{keeps, Allows, step}
 use Rattle.ring_words.specs.declared.view.View.{View}
 use Rattle.ring_words.specs.Whole.{IsWhole}
 use Rattle.ring_words.specs.Ends.{LeadsTo}
-use Rattle.ring_words.specs.Views.{IsConsumer}
+use Rattle.ring_words.specs.Views.{IsConsumer, Holder, saw_head, with_taken, all_released}
 use Rattle.ring_words.specs.Rule.{cells_of, cell_of, Tied, Kept}
-use Rattle.ring_words.specs.Steps.{Holder, LearnsHead, LoadsHead, LoadsWord, StoresTail, ChecksTail}
+use Rattle.ring_words.specs.Steps.{LearnsHead, LoadsHead, LoadsWord, StoresTail, ChecksTail}
 use Rattle.ring_words.proofs.Prefixes.{prefix_next, take-prefix, length-prefix, leads_by}
 use Rattle.ring_words.proofs.Sizes.{bytes_of_cells}
 use Rattle.ring_words.proofs.Keeping.{is_consumer, tied_consumer, consumer_keeps}
-
--- the consumer has seen the head
-abbrev pub saw_head : View → ℕ → View
-saw_head v head = record v { last_head = head; head_loads = v.head_loads + 1 }
-
--- the consumer has taken the word
-abbrev pub with_taken : View → ℕ → View
-with_taken v word = record v { taken = v.taken ++ word ∷ [] }
-
--- the consumer has released what it has taken
-abbrev pub all_released : View → View
-all_released v = record v { released = length v.taken }
 
 module _ (bytes : ℕ) (words : List ℕ) (p v : View) (t : Tied bytes words p v) where
   whole_at_head : IsWhole (take (8 * length p.published / 8) p.published)

@@ -10,24 +10,12 @@ use Rattle.atomic_table.proofs.Lists.{one_turn}
 use Rattle.ring_words.specs.declared.view.View.{View}
 use Rattle.ring_words.specs.Whole.{IsWhole}
 use Rattle.ring_words.specs.Ends.{IsStop}
-use Rattle.ring_words.specs.Views.{IsProducer}
+use Rattle.ring_words.specs.Views.{IsProducer, Holder, saw_tail, with_put, all_published}
 use Rattle.ring_words.specs.Rule.{cells_of, cell_of, Tied, Kept}
-use Rattle.ring_words.specs.Steps.{Holder, LearnsTail, LoadsTail, StoresWord, StoresHead}
+use Rattle.ring_words.specs.Steps.{LearnsTail, LoadsTail, StoresWord, StoresHead}
 use Rattle.ring_words.proofs.Prefixes.{prefix_more, prefix_self, length-prefix, whole_both, whole_more}
 use Rattle.ring_words.proofs.Sizes.{bytes_of_cells}
 use Rattle.ring_words.proofs.Keeping.{is_producer, tied_producer, producer_keeps}
-
--- the producer has seen the tail
-abbrev pub saw_tail : View → ℕ → View
-saw_tail v tail = record v { last_tail = tail; tail_loads = v.tail_loads + 1 }
-
--- the producer has put the word
-abbrev pub with_word : View → ℕ → View
-with_word v word = record v { put = v.put ++ word ∷ [] }
-
--- the producer has published what it has put
-abbrev pub all_published : View → View
-all_published v = record v { published = v.published ++ v.put; put = [] }
 
 module _ (bytes : ℕ) (words : List ℕ) (v c : View) (t : Tied bytes words v c) where
   released_within : c.released ≤ length v.published
@@ -121,7 +109,7 @@ module _ (bytes : ℕ) (words : List ℕ) (v c : View) (t : Tied bytes words v c
                 ∙ read)
             (eq-or-lt_of_le at_most)
 
-    stores_word : Tied bytes (set words (cell_of bytes end_of) word) (with_word v word) c
+    stores_word : Tied bytes (set words (cell_of bytes end_of) word) (with_put v word) c
     stores_word =
         let long : length (v.put ++ word ∷ []) ≡ length v.put + 1 = length-append v.put (word ∷ []) in record {
           size = t.size;
@@ -175,12 +163,12 @@ module _ (bytes slots id : ℕ) (m : Holder) (role : IsProducer m.0) where
       let t : Tied bytes s.words v k.consumer = tied_producer bytes s k id v at role.0 in
       let note = k.notes id v at in
       let here : IsPrefix v.note v.published = let P : View → Type 0 = λ u. IsPrefix v.note u.published in subst P (sym (is_producer bytes s k id v at role.0)) note.0 in
-      let tied : Tied bytes (set s.words place word) (with_word v word) k.consumer =
-          let P : ℕ → Type 0 = λ i. Tied bytes (set s.words i word) (with_word v word) k.consumer in subst P (sym is) (stores_word bytes s.words v k.consumer t word room) in (
-        with_word v word,
+      let tied : Tied bytes (set s.words place word) (with_put v word) k.consumer =
+          let P : ℕ → Type 0 = λ i. Tied bytes (set s.words i word) (with_put v word) k.consumer in subst P (sym is) (stores_word bytes s.words v k.consumer t word room) in (
+        with_put v word,
         keeps,
         tt,
-        producer_keeps bytes s k id v at (set s.words place word) (with_word v word) role.0 role.1 role.0 role.1 tied (prefix_self v.published) (here, note.1),
+        producer_keeps bytes s k id v at (set s.words place word) (with_put v word) role.0 role.1 role.0 role.1 tied (prefix_self v.published) (here, note.1),
         refl,
       )
 

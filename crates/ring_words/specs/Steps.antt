@@ -1,13 +1,10 @@
 -- What each kind of step tells its end: how the end's view changes, and what it learns.
 use Rattle.std.specs.Prelude.{◌≡◌, ℕ, ◌+◌, ◌*◌, ◌≤◌, true, false, List, [], ◌∷◌, ◌++◌, length}
 use mathlib.Core.List.{IsPrefix}
-use Rattle.atomic_table.specs.Table.{Me, Step}
+use Rattle.atomic_table.specs.Table.{Step}
 use Rattle.ring_words.specs.Ends.{IsStop, LeadsTo}
 use Rattle.ring_words.specs.declared.view.View.{View}
-
--- a view, and the slots that its seat holds, of which there are none
-abbrev pub Holder : Type 0
-Holder = Me (Unit {0}) View
+use Rattle.ring_words.specs.Views.{Holder, saw_tail, with_put, all_published, saw_head, with_taken, all_released}
 
 -- what the producer learns by a tail: it does not fall, it is a stop in the words published, and the note was true
 pub record LearnsTail (v : View) (tail : ℕ) : Type 0 where
@@ -18,16 +15,16 @@ pub record LearnsTail (v : View) (tail : ℕ) : Type 0 where
 
 -- the producer loads the tail
 pub record LoadsTail (m : Holder) (tail : ℕ) (n : Holder) : Type 0 where
-  pub view : n ≡ (record m.0 { last_tail = tail; tail_loads = m.0.tail_loads + 1 }, m.1)
+  pub view : n ≡ (saw_tail m.0 tail, m.1)
   pub learns : LearnsTail m.0 tail
 
 -- the producer stores a data word
 abbrev pub StoresWord : Step (Unit {0}) → Holder → ℕ → Holder → Type 0
-StoresWord s m word n = n ≡ (record m.0 { put = m.0.put ++ word ∷ [] }, m.1)
+StoresWord s m word n = n ≡ (with_put m.0 word, m.1)
 
 -- the producer stores the head
 abbrev pub StoresHead : Step (Unit {0}) → Holder → ℕ → Holder → Type 0
-StoresHead s m head n = n ≡ (record m.0 { published = m.0.published ++ m.0.put; put = [] }, m.1)
+StoresHead s m head n = n ≡ (all_published m.0, m.1)
 
 -- what the consumer learns by a head: it does not fall, the words taken lead to it, and it is not before what the note tells of
 pub record LearnsHead (v : View) (head : ℕ) : Type 0 where
@@ -37,17 +34,17 @@ pub record LearnsHead (v : View) (head : ℕ) : Type 0 where
 
 -- the consumer loads the head
 pub record LoadsHead (m : Holder) (head : ℕ) (n : Holder) : Type 0 where
-  pub view : n ≡ (record m.0 { last_head = head; head_loads = m.0.head_loads + 1 }, m.1)
+  pub view : n ≡ (saw_head m.0 head, m.1)
   pub learns : LearnsHead m.0 head
 
 -- the consumer loads a data word, and still leads to its last head
 pub record LoadsWord (m : Holder) (word : ℕ) (n : Holder) : Type 0 where
-  pub view : n ≡ (record m.0 { taken = m.0.taken ++ word ∷ [] }, m.1)
+  pub view : n ≡ (with_taken m.0 word, m.1)
   pub leads : LeadsTo (m.0.taken ++ word ∷ []) m.0.last_head
 
 -- the consumer stores the tail
 abbrev pub StoresTail : Step (Unit {0}) → Holder → ℕ → Holder → Type 0
-StoresTail s m tail n = n ≡ (record m.0 { released = length m.0.taken }, m.1)
+StoresTail s m tail n = n ≡ (all_released m.0, m.1)
 
 -- the consumer loads the tail while it meets the producer: it is the consumer's own, and not before what the note tells of
 pub record ChecksTail (m : Holder) (tail : ℕ) (n : Holder) : Type 0 where

@@ -1,5 +1,8 @@
 -- The views of a ring's seats: how they begin, part, travel and join.
-use Rattle.std.specs.Prelude.{◌≡◌, ℕ, ◌*◌, true, false, List, []}
+use Rattle.std.specs.Prelude.{◌≡◌, ℕ, ◌+◌, ◌-◌, ◌*◌, ◌<◌, ◌^◌, true, false, List, [], ◌∷◌, ◌++◌, length}
+use Rattle.atomic_table.specs.Seated.{TableId}
+use Rattle.atomic_table.specs.Table.{Me}
+use Rattle.ring_words.specs.Ends.{Ring, ProducerEnd, ConsumerEnd, IsSoundProducer, IsSoundConsumer}
 use Rattle.ring_words.specs.declared.view.View.{View}
 
 -- the one view of a new ring holds both ends (this project's own profile)
@@ -49,3 +52,59 @@ IsConsumer v = (v.reads ≡ true) × (v.writes ≡ false)
 -- the view is no end's (this project's own profile)
 abbrev pub IsNote : View → Type 0
 IsNote v = (v.writes ≡ false) × (v.reads ≡ false)
+
+-- a view, and the slots that its seat holds, of which there are none
+abbrev pub Holder : Type 0
+Holder = Me (Unit {0}) View
+
+-- the producer has seen the tail: a load of word 0
+abbrev pub saw_tail : View → ℕ → View
+saw_tail v tail = record v { last_tail = tail; tail_loads = v.tail_loads + 1 }
+
+-- the producer has put the word: a store of a data word
+abbrev pub with_put : View → ℕ → View
+with_put v word = record v { put = v.put ++ word ∷ [] }
+
+-- the producer has published what it has put: a store of word 1
+abbrev pub all_published : View → View
+all_published v = record v { published = v.published ++ v.put; put = [] }
+
+-- the consumer has seen the head: a load of word 1
+abbrev pub saw_head : View → ℕ → View
+saw_head v head = record v { last_head = head; head_loads = v.head_loads + 1 }
+
+-- the consumer has taken the word: a load of a data word
+abbrev pub with_taken : View → ℕ → View
+with_taken v word = record v { taken = v.taken ++ word ∷ [] }
+
+-- the consumer has released what it has taken: a store of word 0
+abbrev pub all_released : View → View
+all_released v = record v { released = length v.taken }
+
+-- the ring of a table: two of its words are the tail and the head
+abbrev pub ring_of : TableId → Ring
+ring_of id = record { table = id; bytes = 8 * (id.words - 2) }
+
+-- what contracts see of a producer's view
+abbrev pub producer_end : TableId → View → ProducerEnd
+producer_end id v = record { ring = ring_of id; published = v.published; put = v.put; last_tail = v.last_tail; loads = v.tail_loads }
+
+-- what contracts see of a consumer's view
+abbrev pub consumer_end : TableId → View → ConsumerEnd
+consumer_end id v = record { ring = ring_of id; taken = v.taken; released = v.released; last_head = v.last_head; loads = v.head_loads }
+
+-- what a producer keeps: its seat is the producer's, and it knows the place behind the last word put
+pub record HoldsProducer (id : TableId) (m : Holder) (place : ℕ) : Type 0 where
+  pub role : IsProducer m.0
+  pub bare : m.1 ≡ []
+  pub place_is : place ≡ 8 * (length m.0.published + length m.0.put)
+  pub below : place < 2 ^ 63
+  pub sound : IsSoundProducer (producer_end id m.0)
+
+-- what a consumer keeps: its seat is the consumer's, and it knows the place behind the last word taken
+pub record HoldsConsumer (id : TableId) (m : Holder) (place : ℕ) : Type 0 where
+  pub role : IsConsumer m.0
+  pub bare : m.1 ≡ []
+  pub place_is : place ≡ 8 * length m.0.taken
+  pub below : m.0.last_head < 2 ^ 64
+  pub sound : IsSoundConsumer (consumer_end id m.0)

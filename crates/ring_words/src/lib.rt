@@ -3,4 +3,11 @@
 // It serves the crate that sends and takes records.
 #![tactic(auto)]
 
+mod plays;
+mod producer;
+mod steps;
+mod table;
 mod view;
+
+pub use producer::Producer;
+pub use table::RingTable;
