@@ -8,9 +8,9 @@ use lib.ListN.{get_elem?}
 use Rattle.atomic_table.specs.Table.{State, Splits, Joins, Final, Seen, opening}
 use Rattle.atomic_table.proofs.Lists.{at_set, at_snoc, set_again, set_else}
 use Rattle.ring_words.specs.declared.view.View.{View}
-use Rattle.ring_words.specs.Ends.{IsRingSize}
+use Rattle.ring_words.specs.Ends.{cells_of, cell_of, IsRingSize}
 use Rattle.ring_words.specs.Views.{both_ends, noted, spent, producer_of, consumer_of, note_of_producer, note_of_consumer, informed, rejoined, IsProducer, IsConsumer, IsNote}
-use Rattle.ring_words.specs.Rule.{cells_of, cell_of, Tied, NoteHolds, Kept}
+use Rattle.ring_words.specs.Rule.{Tied, NoteHolds, Kept}
 use Rattle.ring_words.proofs.Alone.{it_stays, it_goes, it_comes, others_stay}
 use Rattle.ring_words.proofs.Prefixes.{prefix_self, whole_nothing}
 use Rattle.ring_words.proofs.Keeping.{after, is_producer, is_consumer, tied_producer, tied_consumer, producer_keeps, consumer_keeps}
@@ -191,22 +191,18 @@ starts bytes size words are = record {
   notes = first_note;
 }
 
-at_word : (l : List ℕ) (i n : ℕ) → get_elem? l i ≡ some n → slice_index l i ≡ n
+pub at_word : (l : List ℕ) (i n : ℕ) → get_elem? l i ≡ some n → n ≡ slice_index l i
 at_word [] i n at = absurd (some-ne-none n (sym at))
-at_word (x ∷ xs) zero n at = some-injective x n at
+at_word (x ∷ xs) zero n at = sym (some-injective x n at)
 at_word (x ∷ xs) (suc i) n at = at_word xs i n at
 
--- the last words of a ring whose two ends are one view
-module _ (bytes id : ℕ) (v : View) (words : List ℕ) (slots : List (Unit {0})) (end : Final (Seen (Kept bytes) id v) words slots) (writes : v.writes ≡ true) (reads : v.reads ≡ true) where
-  pub tied_at_end : Tied bytes words v v
-  tied_at_end =
-      let s = end.0 in
-      let k : Kept bytes s = end.1.0 in
-      let t : Tied bytes s.words v k.consumer = tied_producer bytes s k id v end.1.1 writes in
-      let u : Tied bytes s.words v v = subst (λ (d : View). Tied bytes s.words v d) (sym (is_consumer bytes s k id v end.1.1 reads)) t in subst (λ (l : List ℕ). Tied bytes l v v) end.2 u
-
-  pub head_at_end : (n : ℕ) → get_elem? words 1 ≡ some n → n ≡ 8 * length v.published
-  head_at_end n at = sym (at_word words 1 n at) ∙ tied_at_end.head
-
-  pub tail_at_end : (n : ℕ) → get_elem? words 0 ≡ some n → n ≡ 8 * v.released
-  tail_at_end n at = sym (at_word words 0 n at) ∙ tied_at_end.tail
+-- the last words of a ring whose two ends are one view again
+pub closes : (bytes id : ℕ) (p c v : View) (words : List ℕ) (slots : List (Unit {0})) → IsProducer p → IsConsumer c → v ≡ rejoined p c
+    → Final (Seen (Kept bytes) id v) words slots → Tied bytes words (rejoined p c) (rejoined p c)
+closes bytes id p c v words slots writer reader same end =
+    let s = end.0 in
+    let k : Kept bytes s = end.1.0 in
+    let at : get_elem? s.views id ≡ some (rejoined p c) = end.1.1 ∙ ap (λ (u : View). some u) same in
+    let t : Tied bytes s.words (rejoined p c) k.consumer = tied_producer bytes s k id (rejoined p c) at writer.0 in
+    let u : Tied bytes s.words (rejoined p c) (rejoined p c) = subst (λ (d : View). Tied bytes s.words (rejoined p c) d) (sym (is_consumer bytes s k id (rejoined p c) at reader.0)) t in
+    subst (λ (l : List ℕ). Tied bytes l (rejoined p c) (rejoined p c)) end.2 u

@@ -8,9 +8,9 @@ use mathlib.Core.List.{IsPrefix}
 use Rattle.atomic_table.specs.Table.{keeps, Allows, step}
 use Rattle.ring_words.specs.declared.view.View.{View}
 use Rattle.ring_words.specs.Whole.{IsWhole}
-use Rattle.ring_words.specs.Ends.{LeadsTo}
+use Rattle.ring_words.specs.Ends.{cells_of, cell_of, LeadsTo}
 use Rattle.ring_words.specs.Views.{IsConsumer, Holder, saw_head, with_taken, all_released}
-use Rattle.ring_words.specs.Rule.{cells_of, cell_of, Tied, Kept}
+use Rattle.ring_words.specs.Rule.{Tied, Kept}
 use Rattle.ring_words.specs.Steps.{LearnsHead, LoadsHead, LoadsWord, StoresTail, ChecksTail}
 use Rattle.ring_words.proofs.Prefixes.{prefix_next, take-prefix, length-prefix, leads_by}
 use Rattle.ring_words.proofs.Sizes.{bytes_of_cells}

@@ -1,7 +1,6 @@
 -- A ring's size in words.
 use Rattle.std.proofs.Common.{◌≡◌, ℕ, zero, suc, ◌*◌, ◌/◌, ◌^◌, ◌≤◌, pow-suc, arith}
-use Rattle.ring_words.specs.Ends.{IsRingSize}
-use Rattle.ring_words.specs.Rule.{cells_of}
+use Rattle.ring_words.specs.Ends.{cells_of, IsRingSize}
 
 eighths : (bytes k : ℕ) → bytes ≡ 2 ^ k → 64 ≤ bytes → 8 * (bytes / 8) ≡ bytes
 eighths bytes zero e h = absurd (omega arith)

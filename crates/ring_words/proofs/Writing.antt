@@ -9,9 +9,9 @@ use Rattle.atomic_table.specs.Table.{keeps, Allows, step}
 use Rattle.atomic_table.proofs.Lists.{one_turn}
 use Rattle.ring_words.specs.declared.view.View.{View}
 use Rattle.ring_words.specs.Whole.{IsWhole}
-use Rattle.ring_words.specs.Ends.{IsStop}
+use Rattle.ring_words.specs.Ends.{cells_of, cell_of, IsStop}
 use Rattle.ring_words.specs.Views.{IsProducer, Holder, saw_tail, with_put, all_published}
-use Rattle.ring_words.specs.Rule.{cells_of, cell_of, Tied, Kept}
+use Rattle.ring_words.specs.Rule.{Tied, Kept}
 use Rattle.ring_words.specs.Steps.{LearnsTail, LoadsTail, StoresWord, StoresHead}
 use Rattle.ring_words.proofs.Prefixes.{prefix_more, prefix_self, length-prefix, whole_both, whole_more}
 use Rattle.ring_words.proofs.Sizes.{bytes_of_cells}

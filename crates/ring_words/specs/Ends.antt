@@ -1,5 +1,5 @@
 -- What contracts see of a ring and of its two ends. Places, heads and tails are in bytes from the start of the stream, and never wrap.
-use Rattle.std.specs.Prelude.{◌≡◌, ℕ, ◌+◌, ◌-◌, ◌*◌, ◌/◌, ◌%◌, ◌<◌, ◌≤◌, List, ◌++◌, length, take}
+use Rattle.std.specs.Prelude.{◌≡◌, ℕ, ◌+◌, ◌-◌, ◌*◌, ◌/◌, ◌%◌, ◌<◌, ◌≤◌, List, [], ◌++◌, length, take}
 use Rattle.std.specs.Int.{IsPowerOfTwo}
 use Rattle.atomic_table.specs.Seated.{TableId}
 use Rattle.ring_words.specs.Whole.{IsWhole}
@@ -14,6 +14,14 @@ pub record IsRingSize (bytes : ℕ) : Type 0 where
   pub power : IsPowerOfTwo bytes
   pub least : 64 ≤ bytes
   pub most : bytes ≤ 65536
+
+-- the data words of a ring of this size (kernel/events/ring_buffer.c)
+abbrev pub cells_of : ℕ → ℕ
+cells_of bytes = bytes / 8
+
+-- the table's word in which word number j of the stream stands (kernel/events/ring_buffer.c)
+abbrev pub cell_of : ℕ → ℕ → ℕ
+cell_of bytes j = 2 + j % cells_of bytes
 
 -- the end that writes: the words that it has published, those that it has put since, the last tail that it has seen, and how often it has
 -- loaded the tail (kernel/events/ring_buffer.c)
@@ -65,3 +73,11 @@ pub record IsSoundConsumer (c : ConsumerEnd) : Type 0 where
   pub leads : LeadsTo c.taken c.last_head
   pub released : c.released ≤ length c.taken
   pub whole : IsWhole (take c.released c.taken)
+
+-- the producer of a new ring (this project's own profile)
+abbrev pub new_producer : Ring → ProducerEnd
+new_producer ring = record { ring = ring; published = []; put = []; last_tail = 0; loads = 0 }
+
+-- the consumer of a new ring (this project's own profile)
+abbrev pub new_consumer : Ring → ConsumerEnd
+new_consumer ring = record { ring = ring; taken = []; released = 0; last_head = 0; loads = 0 }

@@ -6,16 +6,8 @@ use mathlib.Core.List.{IsPrefix}
 use lib.ListN.{get_elem?}
 use Rattle.atomic_table.specs.Table.{State}
 use Rattle.ring_words.specs.Whole.{IsWhole}
-use Rattle.ring_words.specs.Ends.{IsRingSize}
+use Rattle.ring_words.specs.Ends.{cells_of, cell_of, IsRingSize}
 use Rattle.ring_words.specs.declared.view.View.{View}
-
--- the data words of a ring of this size
-abbrev pub cells_of : ℕ → ℕ
-cells_of bytes = bytes / 8
-
--- the table's word in which word number j of the stream stands
-abbrev pub cell_of : ℕ → ℕ → ℕ
-cell_of bytes j = 2 + j % cells_of bytes
 
 -- what ties the table's words to what the producer p and the consumer c know
 pub record Tied (bytes : ℕ) (words : List ℕ) (p c : View) : Type 0 where

@@ -4,7 +4,7 @@ use mathlib.Core.List.{IsPrefix}
 use Rattle.atomic_table.specs.Table.{Step}
 use Rattle.ring_words.specs.Ends.{IsStop, LeadsTo}
 use Rattle.ring_words.specs.declared.view.View.{View}
-use Rattle.ring_words.specs.Views.{Holder, saw_tail, with_put, all_published, saw_head, with_taken, all_released}
+use Rattle.ring_words.specs.Views.{Holder, without_note, saw_tail, with_put, all_published, saw_head, with_taken, all_released}
 
 -- what the producer learns by a tail: it does not fall, it is a stop in the words published, and the note was true
 pub record LearnsTail (v : View) (tail : ℕ) : Type 0 where
@@ -51,3 +51,15 @@ pub record ChecksTail (m : Holder) (tail : ℕ) (n : Holder) : Type 0 where
   pub view : n ≡ m
   pub own : tail ≡ 8 * m.0.released
   pub note : m.0.note_place ≤ tail
+
+-- what two ends know after they met: the last tail seen is the place released, the last head seen is not before the place published, and the
+-- words taken are a beginning of those published. The rest is as it was
+pub record Meets (p c p' c' : View) : Type 0 where
+  pub producer : without_note p' ≡ without_note (saw_tail p (8 * c.released))
+  pub consumer : without_note c' ≡ without_note (saw_head c c'.last_head)
+  pub rises : p.last_tail ≤ 8 * c.released
+  pub stop : IsStop p.published (8 * c.released)
+  pub head_rises : c.last_head ≤ c'.last_head
+  pub head : 8 * length p.published ≤ c'.last_head
+  pub leads : LeadsTo c.taken c'.last_head
+  pub prefix : IsPrefix c.taken p.published

@@ -2,7 +2,7 @@
 use Rattle.std.specs.Prelude.{◌≡◌, ℕ, ◌+◌, ◌-◌, ◌*◌, ◌<◌, ◌^◌, true, false, List, [], ◌∷◌, ◌++◌, length}
 use Rattle.atomic_table.specs.Seated.{TableId}
 use Rattle.atomic_table.specs.Table.{Me}
-use Rattle.ring_words.specs.Ends.{Ring, ProducerEnd, ConsumerEnd, IsSoundProducer, IsSoundConsumer}
+use Rattle.ring_words.specs.Ends.{cells_of, IsRingSize, Ring, ProducerEnd, ConsumerEnd, IsSoundProducer, IsSoundConsumer}
 use Rattle.ring_words.specs.declared.view.View.{View}
 
 -- the one view of a new ring holds both ends (this project's own profile)
@@ -81,6 +81,10 @@ with_taken v word = record v { taken = v.taken ++ word ∷ [] }
 abbrev pub all_released : View → View
 all_released v = record v { released = length v.taken }
 
+-- an end's view without its note
+abbrev pub without_note : View → View
+without_note v = record v { note = []; note_place = 0 }
+
 -- the ring of a table: two of its words are the tail and the head
 abbrev pub ring_of : TableId → Ring
 ring_of id = record { table = id; bytes = 8 * (id.words - 2) }
@@ -92,6 +96,13 @@ producer_end id v = record { ring = ring_of id; published = v.published; put = v
 -- what contracts see of a consumer's view
 abbrev pub consumer_end : TableId → View → ConsumerEnd
 consumer_end id v = record { ring = ring_of id; taken = v.taken; released = v.released; last_head = v.last_head; loads = v.head_loads }
+
+-- what a ring's table keeps: it has a word for the tail, one for the head, and its data words, and no slots. Its rule is that of its size
+pub record HoldsTable (id : TableId) (key bytes : ℕ) : Type 0 where
+  pub key_is : key ≡ bytes
+  pub words : id.words ≡ 2 + cells_of bytes
+  pub slots : id.slots ≡ 0
+  pub size : IsRingSize bytes
 
 -- what a producer keeps: its seat is the producer's, and it knows the place behind the last word put
 pub record HoldsProducer (id : TableId) (m : Holder) (place : ℕ) : Type 0 where

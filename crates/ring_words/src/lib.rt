@@ -3,11 +3,15 @@
 // It serves the crate that sends and takes records.
 #![tactic(auto)]
 
+mod consumer;
 mod plays;
 mod producer;
+mod ring;
 mod steps;
 mod table;
 mod view;
 
+pub use consumer::Consumer;
 pub use producer::Producer;
+pub use ring::{close, make_ring, meet};
 pub use table::RingTable;

@@ -1,6 +1,6 @@
 //! The words that the two ends of a ring share.
 ghost use Rattle.std.specs.Prelude.{◌≡◌, ◌+◌, ◌*◌, ◌/◌, ◌%◌, ◌<◌};
-ghost use Rattle.ring_words.specs.Rule.{cells_of, cell_of};
+ghost use Rattle.ring_words.specs.Ends.{cells_of, cell_of};
 
 use crate::view::{RingRule, View};
 use atomic_table::Table;
@@ -15,16 +15,15 @@ pub struct RingTable {
 }
 
 impl Model for RingTable {
-    ghost use Rattle.std.specs.Prelude.{◌≡◌, ◌+◌};
-    ghost use Rattle.ring_words.specs.Ends.{Ring, IsRingSize};
+    ghost use Rattle.ring_words.specs.Ends.{Ring};
 
     ghost Value = { Ring };
 
-    ghost use Rattle.ring_words.specs.Rule.{cells_of};
+    ghost use Rattle.ring_words.specs.Views.{HoldsTable};
 
     ghost view = { λ t. record { table = t.table.shared.table_id; bytes = t.bytes } };
 
-    ghost invariant = { λ t. (t.table.shared.key ≡ t.bytes) × (t.table.shared.table_id.words ≡ 2 + cells_of t.bytes) × IsRingSize t.bytes };
+    ghost invariant = { λ t. HoldsTable t.table.shared.table_id t.table.shared.key t.bytes };
 }
 
 impl RingTable {
