@@ -1,12 +1,12 @@
 -- Beginnings of lists, whole lists, and stops.
-use Rattle.std.proofs.Common.{◌≡◌, ℕ, ◌+◌, ◌-◌, ◌*◌, ◌/◌, ◌%◌, ◌<◌, ◌≤◌, List, [], ◌∷◌, ◌++◌, length, take, get_or, slice_index, refl, sym, ap, ◌∙◌, subst, append_assoc, append-nil, length-append, length-take-le, arith}
+use Rattle.std.proofs.Common.{◌≡◌, ℕ, zero, suc, All, ◌+◌, ◌-◌, ◌*◌, ◌/◌, ◌%◌, ◌<◌, ◌≤◌, List, [], ◌∷◌, ◌++◌, length, take, get_or, slice_index, refl, sym, ap, ◌∙◌, subst, append_assoc, append-nil, length-append, length-take-le, arith}
 use Rattle.std.proofs.lemmas.List.{take-append-le}
 use Rattle.std.proofs.lemmas.List.Elements.{All-append, All-nil}
 use Rattle.std.proofs.lemmas.List.Folds.{concat-append}
 use Rattle.std.proofs.Math.Seq.{take-append_seam, take-append-add, get_or-append_seam}
 use Rattle.std.specs.List.{concat}
 use mathlib.Core.List.{IsPrefix}
-use Rattle.ring_words.specs.Whole.{IsBlock, IsWhole}
+use Rattle.ring_words.specs.Whole.{size_field, IsBlock, IsWhole}
 use Rattle.ring_words.specs.Ends.{IsStop, LeadsTo}
 
 pub prefix_more : (xs ys zs : List ℕ) → IsPrefix xs ys → IsPrefix xs (ys ++ zs)
@@ -38,6 +38,19 @@ whole_nothing = ([], All-nil IsBlock, refl)
 
 pub whole_both : (xs ys : List ℕ) → IsWhole xs → IsWhole ys → IsWhole (xs ++ ys)
 whole_both xs ys a b = (a.0 ++ b.0, All-append IsBlock a.0 b.0 a.1 b.1, concat-append a.0 b.0 ∙ ap (λ (l : List ℕ). l ++ concat b.0) a.2 ∙ ap (λ (l : List ℕ). xs ++ l) b.2)
+
+all_one : (block : List ℕ) → IsBlock block → All IsBlock (block ∷ [])
+all_one block is zero other h = is
+all_one block is (suc k) other h = absurd (omega arith)
+
+-- a block is whole
+pub whole_one : (block : List ℕ) → IsBlock block → IsWhole block
+whole_one block is = (block ∷ [], all_one block is, append-nil block)
+
+-- a whole list and a block of two words, one after the other
+pub whole_pair : (xs : List ℕ) (first second : ℕ) → size_field first ≡ 16 → IsWhole xs → IsWhole (xs ++ first ∷ [] ++ second ∷ [])
+whole_pair xs first second size whole =
+    subst IsWhole (sym (append_assoc xs (first ∷ []) (second ∷ []))) (whole_both xs (first ∷ second ∷ []) whole (whole_one (first ∷ second ∷ []) size))
 
 -- a whole beginning is one of a longer list
 pub whole_more : (xs ys : List ℕ) (n : ℕ) → n ≤ length xs → IsWhole (take n xs) → IsWhole (take n (xs ++ ys))

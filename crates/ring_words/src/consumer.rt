@@ -1,7 +1,7 @@
 //! The end of a ring that reads.
 ghost use Rattle.std.specs.Prelude.{◌≡◌, ◌+◌, ◌*◌, ◌<◌, ◌≤◌, [], ◌∷◌, ◌++◌, length};
 ghost use Rattle.ring_words.specs.Whole.{IsWhole};
-ghost use Rattle.ring_words.specs.Ends.{IsSoundConsumer};
+ghost use Rattle.ring_words.specs.Ends.{LeadsTo, IsSoundConsumer};
 
 use crate::steps::{load_head, load_word, store_tail};
 use crate::table::RingTable;
@@ -35,6 +35,7 @@ impl Consumer {
         requires { self.old.ring ≡ table.now }
         ensures end { self.new ≡ record self.old { last_head = result; loads = self.old.loads + 1 } }
         ensures rises { self.old.last_head ≤ result }
+        ensures leads { LeadsTo self.old.taken result }
         ensures sound { IsSoundConsumer self.new }
     {
         load_head(&table.table.shared, &mut self.seat)

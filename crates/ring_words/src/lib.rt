@@ -11,6 +11,9 @@ mod steps;
 mod table;
 mod view;
 
+#[cfg(test)]
+mod tests;
+
 pub use consumer::Consumer;
 pub use producer::Producer;
 pub use ring::{close, make_ring, meet};
