@@ -41,11 +41,11 @@ module _ (bytes : ℕ) (s : Table) (k : Kept bytes s) (id : ℕ) (v : View) (at 
     tied = tied;
     notes = λ seat u there.
         ⊎_elim (λ (t : (seat ≡ id) × (w ≡ u)). subst (λ (z : View). NoteHolds w k.consumer z) t.1 note)
-            (λ (t : (seat ≢ id) × (get_elem? s.views seat ≡ some u)).
-                let n : NoteHolds k.producer k.consumer u = k.notes seat u t.1 in
-                let old : IsPrefix u.note v.published = subst (λ (z : View). IsPrefix u.note z.published) (sym (is_producer writes)) n.0 in
-                (prefix_through u.note v.published w.published old grows, n.1))
-            (at_set s.views id seat w u there);
+        (λ (t : (seat ≢ id) × (get_elem? s.views seat ≡ some u)).
+        let n : NoteHolds k.producer k.consumer u = k.notes seat u t.1 in
+        let old : IsPrefix u.note v.published = subst (λ (z : View). IsPrefix u.note z.published) (sym (is_producer writes)) n.0 in
+        (prefix_through u.note v.published w.published old grows, n.1))
+        (at_set s.views id seat w u there);
   }
 
   -- each note holds still where the number released does not fall
@@ -59,9 +59,9 @@ module _ (bytes : ℕ) (s : Table) (k : Kept bytes s) (id : ℕ) (v : View) (at 
     tied = tied;
     notes = λ seat u there.
         ⊎_elim (λ (t : (seat ≡ id) × (w ≡ u)). subst (λ (z : View). NoteHolds k.producer w z) t.1 note)
-            (λ (t : (seat ≢ id) × (get_elem? s.views seat ≡ some u)).
-                let n : NoteHolds k.producer k.consumer u = k.notes seat u t.1 in
-                let same : k.consumer.released ≡ v.released = ap (λ (z : View). z.released) (sym (is_consumer reads)) in
-                (n.0, omega (arith, n.1, same, rises)))
-            (at_set s.views id seat w u there);
+        (λ (t : (seat ≢ id) × (get_elem? s.views seat ≡ some u)).
+        let n : NoteHolds k.producer k.consumer u = k.notes seat u t.1 in
+        let same : k.consumer.released ≡ v.released = ap (λ (z : View). z.released) (sym (is_consumer reads)) in
+        (n.0, omega (arith, n.1, same, rises)))
+        (at_set s.views id seat w u there);
   }

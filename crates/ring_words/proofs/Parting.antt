@@ -56,7 +56,7 @@ adds_note bytes s k id v n at none note =
       tied = k.tied;
       notes = λ seat u there.
           ⊎_elim (λ (was : get_elem? (set s.views id v) seat ≡ some u). k.notes seat u (ap (λ (l : List View). get_elem? l seat) (sym same) ∙ was))
-              (λ (e : n ≡ u). subst (λ (z : View). NoteHolds k.producer k.consumer z) e note) (at_snoc (set s.views id v) n u seat there);
+          (λ (e : n ≡ u). subst (λ (z : View). NoteHolds k.producer k.consumer z) e note) (at_snoc (set s.views id v) n u seat there);
     }
 
 -- a note is replaced by another
@@ -69,7 +69,7 @@ replaces_note bytes s k id v n at was none note = record {
   tied = k.tied;
   notes = λ seat u there.
       ⊎_elim (λ (t : (seat ≡ id) × (n ≡ u)). subst (λ (z : View). NoteHolds k.producer k.consumer z) t.1 note)
-          (λ (t : (seat ≢ id) × (get_elem? s.views seat ≡ some u)). k.notes seat u t.1) (at_set s.views id seat n u there);
+      (λ (t : (seat ≢ id) × (get_elem? s.views seat ≡ some u)). k.notes seat u t.1) (at_set s.views id seat n u there);
 }
 
 spent_holds : (p c : View) → NoteHolds p c spent
@@ -83,7 +83,7 @@ module _ (bytes id : ℕ) (v : View) where
       let views : List View = set s.views id (producer_of v) in
       let tied : Tied bytes s.words v v = subst (λ (u : View). Tied bytes s.words v u) (sym c) (tied_producer bytes s k id v at writes) in
       let note : (u : View) → NoteHolds k.producer k.consumer u → NoteHolds (producer_of v) (consumer_of v) u =
-          λ u n. let P : View → View → Type 0 = λ q d. NoteHolds q d u in subst (λ (q : View). P q v) (sym p) (subst (λ (d : View). P k.producer d) (sym c) n) in record {
+      λ u n. let P : View → View → Type 0 = λ q d. NoteHolds q d u in subst (λ (q : View). P q v) (sym p) (subst (λ (d : View). P k.producer d) (sym c) n) in record {
         producer = producer_of v;
         consumer = consumer_of v;
         one_writes = filter-append (λ u. u.writes) views (consumer_of v ∷ []) ∙ append-nil (filter (λ u. u.writes) views) ∙ it_stays (λ u. u.writes) s.views id v at k.producer (producer_of v) writes writes k.one_writes;
@@ -93,17 +93,17 @@ module _ (bytes id : ℕ) (v : View) where
         tied = tied_so bytes s.words v v (producer_of v) (consumer_of v) refl refl refl refl refl refl tied;
         notes = λ seat u there.
             ⊎_elim
-                (λ (was : get_elem? views seat ≡ some u).
-                    ⊎_elim (λ (t : (seat ≡ id) × (producer_of v ≡ u)). subst (λ (z : View). NoteHolds (producer_of v) (consumer_of v) z) t.1 (note v (k.notes id v at)))
-                        (λ (t : (seat ≢ id) × (get_elem? s.views seat ≡ some u)). note u (k.notes seat u t.1)) (at_set s.views id seat (producer_of v) u was))
-                (λ (e : consumer_of v ≡ u). subst (λ (z : View). NoteHolds (producer_of v) (consumer_of v) z) e (note v (k.notes id v at))) (at_snoc views (consumer_of v) u seat there);
+            (λ (was : get_elem? views seat ≡ some u).
+            ⊎_elim (λ (t : (seat ≡ id) × (producer_of v ≡ u)). subst (λ (z : View). NoteHolds (producer_of v) (consumer_of v) z) t.1 (note v (k.notes id v at)))
+            (λ (t : (seat ≢ id) × (get_elem? s.views seat ≡ some u)). note u (k.notes seat u t.1)) (at_set s.views id seat (producer_of v) u was))
+            (λ (e : consumer_of v ≡ u). subst (λ (z : View). NoteHolds (producer_of v) (consumer_of v) z) e (note v (k.notes id v at))) (at_snoc views (consumer_of v) u seat there);
       }
 
   pub may_note_producer : IsProducer v → Splits (Kept bytes) id v v (note_of_producer v)
   may_note_producer role s k at =
       let p : v ≡ k.producer = is_producer bytes s k id v at role.0 in
       adds_note bytes s k id v (note_of_producer v) at (refl, refl)
-          (let P : View → Type 0 = λ q. IsPrefix v.published q.published in subst P p (prefix_self v.published), (tied_producer bytes s k id v at role.0).last_tail)
+      (let P : View → Type 0 = λ q. IsPrefix v.published q.published in subst P p (prefix_self v.published), (tied_producer bytes s k id v at role.0).last_tail)
 
   pub may_note_consumer : IsConsumer v → Splits (Kept bytes) id v v (note_of_consumer v)
   may_note_consumer role s k at =
@@ -119,7 +119,7 @@ module _ (bytes id : ℕ) (v : View) where
         let n : NoteHolds v k.consumer w = subst (λ (q : View). NoteHolds q k.consumer w) (sym p) (k.notes other w was) in
         let tied : Tied bytes s.words (informed v w) k.consumer = tied_so bytes s.words v k.consumer (informed v w) k.consumer refl refl refl refl refl refl t in
         let first : Kept bytes (after s s.words id (informed v w)) =
-            producer_keeps bytes s k id v at s.words (informed v w) role.0 role.1 role.0 role.1 tied (prefix_self v.published) n in
+        producer_keeps bytes s k id v at s.words (informed v w) role.0 role.1 role.0 role.1 tied (prefix_self v.published) n in
         replaces_note bytes (after s s.words id (informed v w)) first other w spent there none (refl, refl) (spent_holds first.producer first.consumer)
 
     pub may_inform_consumer : IsConsumer v → IsNote w → Joins (Kept bytes) id v other w (informed v w) spent
@@ -130,7 +130,7 @@ module _ (bytes id : ℕ) (v : View) where
         let n : NoteHolds k.producer v w = subst (λ (d : View). NoteHolds k.producer d w) (sym c) (k.notes other w was) in
         let tied : Tied bytes s.words k.producer (informed v w) = tied_so bytes s.words k.producer v k.producer (informed v w) refl refl refl refl refl refl t in
         let first : Kept bytes (after s s.words id (informed v w)) =
-            consumer_keeps bytes s k id v at s.words (informed v w) role.0 role.1 role.0 role.1 tied (omega arith) n in
+        consumer_keeps bytes s k id v at s.words (informed v w) role.0 role.1 role.0 role.1 tied (omega arith) n in
         replaces_note bytes (after s s.words id (informed v w)) first other w spent there none (refl, refl) (spent_holds first.producer first.consumer)
 
     pub may_rejoin : IsProducer v → IsConsumer w → Joins (Kept bytes) id v other w (rejoined v w) spent
@@ -144,7 +144,7 @@ module _ (bytes id : ℕ) (v : View) where
         let turned : set (set s.views id both) other spent ≡ set left id both = set_comm s.views id other both spent (λ e. apart (sym e)) in
         let here : get_elem? left id ≡ some v = set_else s.views other id spent (λ e. apart (sym e)) ∙ at in
         let note : (u : View) → NoteHolds k.producer k.consumer u → NoteHolds both both u =
-            λ u n. let P : View → View → Type 0 = λ q d. NoteHolds q d u in subst (λ (q : View). P q w) (sym p) (subst (λ (d : View). P k.producer d) (sym c) n) in record {
+        λ u n. let P : View → View → Type 0 = λ q d. NoteHolds q d u in subst (λ (q : View). P q w) (sym p) (subst (λ (d : View). P k.producer d) (sym c) n) in record {
           producer = both;
           consumer = both;
           one_writes = ap (filter (λ (u : View). u.writes)) turned
@@ -154,10 +154,10 @@ module _ (bytes id : ℕ) (v : View) where
           tied = tied_so bytes s.words v w both both refl refl refl refl refl refl tied;
           notes = λ seat u at'.
               ⊎_elim (λ (t : (seat ≡ other) × (spent ≡ u)). subst (λ (z : View). NoteHolds both both z) t.1 (spent_holds both both))
-                  (λ (t : (seat ≢ other) × (get_elem? (set s.views id both) seat ≡ some u)).
-                      ⊎_elim (λ (x : (seat ≡ id) × (both ≡ u)). subst (λ (z : View). NoteHolds both both z) x.1 (note v (k.notes id v at)))
-                          (λ (x : (seat ≢ id) × (get_elem? s.views seat ≡ some u)). note u (k.notes seat u x.1)) (at_set s.views id seat both u t.1))
-                  (at_set (set s.views id both) other seat spent u at');
+              (λ (t : (seat ≢ other) × (get_elem? (set s.views id both) seat ≡ some u)).
+              ⊎_elim (λ (x : (seat ≡ id) × (both ≡ u)). subst (λ (z : View). NoteHolds both both z) x.1 (note v (k.notes id v at)))
+              (λ (x : (seat ≢ id) × (get_elem? s.views seat ≡ some u)). note u (k.notes seat u x.1)) (at_set s.views id seat both u t.1))
+              (at_set (set s.views id both) other seat spent u at');
         }
 
 first_note : (seat : ℕ) (v : View) → get_elem? (both_ends ∷ []) seat ≡ some v → NoteHolds both_ends both_ends v

@@ -110,8 +110,8 @@ module _ (bytes slots id : ℕ) (m : Holder) (role : IsConsumer m.0) where
       let found : slice_index s.words 1 ≡ 8 * length k.producer.published = t.head in
       let same : set s.words 1 (slice_index s.words 1) ≡ s.words = set-get_or s.words 1 0 in
       let tied : Tied bytes (set s.words 1 (slice_index s.words 1)) k.producer (saw_head v (slice_index s.words 1)) =
-          let P : List ℕ → ℕ → Type 0 = λ l n. Tied bytes l k.producer (saw_head v n) in
-          subst (λ (n : ℕ). P (set s.words 1 (slice_index s.words 1)) n) (sym found) (subst (λ (l : List ℕ). P l (8 * length k.producer.published)) (sym same) (sees_head bytes s.words k.producer v t)) in (
+      let P : List ℕ → ℕ → Type 0 = λ l n. Tied bytes l k.producer (saw_head v n) in
+      subst (λ (n : ℕ). P (set s.words 1 (slice_index s.words 1)) n) (sym found) (subst (λ (l : List ℕ). P l (8 * length k.producer.published)) (sym same) (sees_head bytes s.words k.producer v t)) in (
         saw_head v (slice_index s.words 1),
         keeps,
         tt,
@@ -137,7 +137,7 @@ module _ (bytes slots id : ℕ) (m : Holder) (role : IsConsumer m.0) where
       let found : slice_index k.producer.published (length v.taken) ≡ word = sym (ap (slice_index s.words) is ∙ found_there bytes s.words k.producer v t more even) in
       let same : set s.words place word ≡ s.words = set-get_or s.words place 0 in
       let tied : Tied bytes (set s.words place word) k.producer (with_taken v word) =
-          let P : List ℕ → Type 0 = λ l. Tied bytes l k.producer (with_taken v word) in subst P (sym same) (takes_word bytes s.words k.producer v t more even word found) in (
+      let P : List ℕ → Type 0 = λ l. Tied bytes l k.producer (with_taken v word) in subst P (sym same) (takes_word bytes s.words k.producer v t more even word found) in (
         with_taken v word,
         keeps,
         tt,
@@ -152,7 +152,7 @@ module _ (bytes slots id : ℕ) (m : Holder) (role : IsConsumer m.0) where
       let note = k.notes id v at in
       let rises : k.consumer.released ≡ v.released = ap (λ (u : View). u.released) (sym (is_consumer bytes s k id v at role.0)) in
       let tied : Tied bytes (set s.words 0 tail) k.producer (all_released v) =
-          let P : ℕ → Type 0 = λ n. Tied bytes (set s.words 0 n) k.producer (all_released v) in subst P (sym is) (releases bytes s.words k.producer v t whole) in (
+      let P : ℕ → Type 0 = λ n. Tied bytes (set s.words 0 n) k.producer (all_released v) in subst P (sym is) (releases bytes s.words k.producer v t whole) in (
         all_released v,
         keeps,
         tt,
@@ -168,7 +168,7 @@ module _ (bytes slots id : ℕ) (m : Holder) (role : IsConsumer m.0) where
       let rises : k.consumer.released ≡ v.released = ap (λ (u : View). u.released) (sym (is_consumer bytes s k id v at role.0)) in
       let same : set s.words 0 (slice_index s.words 0) ≡ s.words = set-get_or s.words 0 0 in
       let tied : Tied bytes (set s.words 0 (slice_index s.words 0)) k.producer v =
-          let P : List ℕ → Type 0 = λ l. Tied bytes l k.producer v in subst P (sym same) t in (
+      let P : List ℕ → Type 0 = λ l. Tied bytes l k.producer v in subst P (sym same) t in (
         v,
         keeps,
         tt,

@@ -97,17 +97,17 @@ module _ (bytes : ℕ) (words : List ℕ) (v c : View) (t : Tied bytes words v c
         let whole : 8 * cells_of bytes ≡ bytes = bytes_of_cells bytes t.size in
         let cells : cell_of bytes end_of < length words = let n : ℕ = cells_of bytes in let least : 64 ≤ bytes = t.size.least in omega (arith, t.sized, whole, least) in
         ⊎_elim
-            (λ (same : j ≡ end_of).
-                ap (λ (k : ℕ). slice_index (set words (cell_of bytes end_of) word) (cell_of bytes k)) same
-                ∙ get_or-set_same words (cell_of bytes end_of) word 0 cells
-                ∙ sym (ap (slice_index (stream ++ word ∷ [])) (same ∙ sym long) ∙ get_or-append_seam stream word [] 0)
-                ∙ read)
-            (λ (before : j < end_of).
-                get_or-set_other words (cell_of bytes end_of) (cell_of bytes j) word 0 (free_cell j low before)
-                ∙ t.stored j low (omega (arith, long, before))
-                ∙ sym (get_or-append stream (word ∷ []) 0 j (omega (arith, long, before)))
-                ∙ read)
-            (eq-or-lt_of_le at_most)
+        (λ (same : j ≡ end_of).
+        ap (λ (k : ℕ). slice_index (set words (cell_of bytes end_of) word) (cell_of bytes k)) same
+        ∙ get_or-set_same words (cell_of bytes end_of) word 0 cells
+        ∙ sym (ap (slice_index (stream ++ word ∷ [])) (same ∙ sym long) ∙ get_or-append_seam stream word [] 0)
+        ∙ read)
+        (λ (before : j < end_of).
+        get_or-set_other words (cell_of bytes end_of) (cell_of bytes j) word 0 (free_cell j low before)
+        ∙ t.stored j low (omega (arith, long, before))
+        ∙ sym (get_or-append stream (word ∷ []) 0 j (omega (arith, long, before)))
+        ∙ read)
+        (eq-or-lt_of_le at_most)
 
     stores_word : Tied bytes (set words (cell_of bytes end_of) word) (with_put v word) c
     stores_word =
@@ -140,7 +140,7 @@ module _ (bytes slots id : ℕ) (m : Holder) (role : IsProducer m.0) where
       let here : IsPrefix v.note v.published = let P : View → Type 0 = λ u. IsPrefix v.note u.published in subst P (sym (is_producer bytes s k id v at role.0)) note.0 in
       let seen : Tied bytes s.words (saw_tail v (8 * k.consumer.released)) k.consumer = sees_tail bytes s.words v k.consumer t in
       let tied : Tied bytes (set s.words 0 (slice_index s.words 0)) (saw_tail v (slice_index s.words 0)) k.consumer =
-          let P : List ℕ → ℕ → Type 0 = λ l n. Tied bytes l (saw_tail v n) k.consumer in subst (λ (n : ℕ). P (set s.words 0 (slice_index s.words 0)) n) (sym found) (subst (λ (l : List ℕ). P l (8 * k.consumer.released)) (sym same) seen) in (
+      let P : List ℕ → ℕ → Type 0 = λ l n. Tied bytes l (saw_tail v n) k.consumer in subst (λ (n : ℕ). P (set s.words 0 (slice_index s.words 0)) n) (sym found) (subst (λ (l : List ℕ). P l (8 * k.consumer.released)) (sym same) seen) in (
         saw_tail v (slice_index s.words 0),
         keeps,
         tt,
@@ -164,7 +164,7 @@ module _ (bytes slots id : ℕ) (m : Holder) (role : IsProducer m.0) where
       let note = k.notes id v at in
       let here : IsPrefix v.note v.published = let P : View → Type 0 = λ u. IsPrefix v.note u.published in subst P (sym (is_producer bytes s k id v at role.0)) note.0 in
       let tied : Tied bytes (set s.words place word) (with_put v word) k.consumer =
-          let P : ℕ → Type 0 = λ i. Tied bytes (set s.words i word) (with_put v word) k.consumer in subst P (sym is) (stores_word bytes s.words v k.consumer t word room) in (
+      let P : ℕ → Type 0 = λ i. Tied bytes (set s.words i word) (with_put v word) k.consumer in subst P (sym is) (stores_word bytes s.words v k.consumer t word room) in (
         with_put v word,
         keeps,
         tt,
@@ -180,7 +180,7 @@ module _ (bytes slots id : ℕ) (m : Holder) (role : IsProducer m.0) where
       let note = k.notes id v at in
       let here : IsPrefix v.note v.published = let P : View → Type 0 = λ u. IsPrefix v.note u.published in subst P (sym (is_producer bytes s k id v at role.0)) note.0 in
       let tied : Tied bytes (set s.words 1 head) (all_published v) k.consumer =
-          let P : ℕ → Type 0 = λ n. Tied bytes (set s.words 1 n) (all_published v) k.consumer in subst P (sym is) (publishes bytes s.words v k.consumer t whole) in (
+      let P : ℕ → Type 0 = λ n. Tied bytes (set s.words 1 n) (all_published v) k.consumer in subst P (sym is) (publishes bytes s.words v k.consumer t whole) in (
         all_published v,
         keeps,
         tt,

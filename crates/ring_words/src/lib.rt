@@ -9,10 +9,9 @@ mod producer;
 mod ring;
 mod steps;
 mod table;
-mod view;
-
 #[cfg(test)]
 mod tests;
+mod view;
 
 pub use consumer::Consumer;
 pub use producer::Producer;

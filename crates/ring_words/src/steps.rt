@@ -5,7 +5,10 @@ ghost use Rattle.ring_words.specs.Views.{IsProducer, IsConsumer, with_put, all_p
 ghost use Rattle.ring_words.specs.Ends.{cell_of};
 ghost use Rattle.ring_words.specs.Steps.{LoadsTail, LoadsHead, LoadsWord, ChecksTail, Meets};
 
-use crate::plays::{CheckTail, ConsumerNote, KeepNote, LoadHead, LoadTail, LoadWord, ProducerNote, StoreHead, StoreTail, StoreWord};
+use crate::plays::{
+    CheckTail, ConsumerNote, KeepNote, LoadHead, LoadTail, LoadWord, ProducerNote, StoreHead,
+    StoreTail, StoreWord,
+};
 use crate::view::{RingSeat, RingShared};
 
 const TAIL: usize = 0;

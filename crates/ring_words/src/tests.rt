@@ -72,9 +72,23 @@ fn take_three(rt: &impl Abort, table: &RingTable, producer: &mut Producer, consu
     meet(table, producer, consumer);
 }
 
+// A value of this type may go to another thread.
+fn crosses<T: Send>(value: T) -> T
+    ensures { result ≡ value }
+{
+    value
+}
+
+// A value of this type may be seen by several threads.
+fn is_shared<T: Sync>(_value: &T) {}
+
 #[test]
 fn three_blocks_fill_a_small_ring(rt: HostRuntime) -> Result<(), Fail> {
-    let (table, mut producer, mut consumer) = make_ring(rt.alloc(), 64).ok().ok_or("memory")?;
+    let (table, producer, consumer) = make_ring(rt.alloc(), 64).ok().ok_or("memory")?;
+    let table = crosses(table);
+    is_shared(&table);
+    let mut producer = crosses(producer);
+    let mut consumer = crosses(consumer);
     publish_three(&table, &mut producer);
     take_three(&rt, &table, &mut producer, &mut consumer);
     let ends = close(table, producer, consumer);
