@@ -23,8 +23,7 @@ cells_of bytes = bytes / 8
 abbrev pub cell_of : ℕ → ℕ → ℕ
 cell_of bytes j = 2 + j % cells_of bytes
 
--- the end that writes: the words that it has published, those that it has put since, the last tail that it has seen, and how often it has
--- loaded the tail (kernel/events/ring_buffer.c)
+-- the end that writes: the words published, those put since, the last tail seen, and how often it was loaded (kernel/events/ring_buffer.c)
 pub record ProducerEnd : Type 0 where
   pub ring : Ring
   pub published : List ℕ
@@ -32,8 +31,7 @@ pub record ProducerEnd : Type 0 where
   pub last_tail : ℕ
   pub loads : ℕ
 
--- the end that reads: the words that it has taken, how many of them it has released, the last head that it has seen, and how often it has
--- loaded the head (perf_event_open(2), the reader of the mmap buffer)
+-- the end that reads: the words taken, how many of them are released, the last head seen, and how often it was loaded (perf_event_open(2))
 pub record ConsumerEnd : Type 0 where
   pub ring : Ring
   pub taken : List ℕ
@@ -41,7 +39,7 @@ pub record ConsumerEnd : Type 0 where
   pub last_head : ℕ
   pub loads : ℕ
 
--- the place behind the last word put
+-- the place behind the last word put (kernel/events/ring_buffer.c)
 abbrev pub place_of : ProducerEnd → ℕ
 place_of p = 8 * (length p.published + length p.put)
 
@@ -61,14 +59,13 @@ pub record LeadsTo (taken : List ℕ) (place : ℕ) : Type 0 where
   pub whole : IsWhole (taken ++ others)
   pub ends : 8 * length (taken ++ others) ≡ place
 
--- what is true of a producer between any two calls: the words published are whole, the last tail is a stop in them, and fewer bytes than the
--- ring's size stand behind it (this project's own profile)
+-- a producer between two calls: what is published is whole, and less than the ring's size stands behind the last tail (this project's own profile)
 pub record IsSoundProducer (p : ProducerEnd) : Type 0 where
   pub whole : IsWhole p.published
   pub stop : IsStop p.published p.last_tail
   pub fits : place_of p - p.last_tail < p.ring.bytes
 
--- what is true of a consumer between any two calls: the words taken lead to the last head, and those released are whole (this project's own profile)
+-- a consumer between two calls: the words taken lead to the last head, and those released are whole (this project's own profile)
 pub record IsSoundConsumer (c : ConsumerEnd) : Type 0 where
   pub leads : LeadsTo c.taken c.last_head
   pub released : c.released ≤ length c.taken

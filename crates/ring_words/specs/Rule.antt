@@ -1,5 +1,4 @@
--- The rule of a ring, which holds between any two steps. Word 0 of the table is the tail, word 1 the head, and the others are the data words
--- (kernel/events/ring_buffer.c; the views are this project's own profile).
+-- The rule of a ring, which holds between any two steps. Word 0 of the table is the tail, word 1 the head, and the others are the data words.
 use Rattle.std.specs.Prelude.{◌≡◌, ℕ, ◌+◌, ◌-◌, ◌*◌, ◌/◌, ◌%◌, ◌<◌, ◌≤◌, List, [], ◌∷◌, ◌++◌, length, take, filter, slice_index}
 use mathlib.Core.Option.{some}
 use mathlib.Core.List.{IsPrefix}
@@ -9,7 +8,7 @@ use Rattle.ring_words.specs.Whole.{IsWhole}
 use Rattle.ring_words.specs.Ends.{cells_of, cell_of, IsRingSize}
 use Rattle.ring_words.specs.declared.view.View.{View}
 
--- what ties the table's words to what the producer p and the consumer c know
+-- what ties the table's words to what the producer p and the consumer c know (kernel/events/ring_buffer.c; whole words are this project's own profile)
 pub record Tied (bytes : ℕ) (words : List ℕ) (p c : View) : Type 0 where
   pub size : IsRingSize bytes
   pub sized : length words ≡ 2 + cells_of bytes
@@ -27,11 +26,11 @@ pub record Tied (bytes : ℕ) (words : List ℕ) (p c : View) : Type 0 where
   pub whole_tail : IsWhole (take (p.last_tail / 8) p.published)
   pub whole_head : IsWhole (take (c.last_head / 8) p.published)
 
--- a note has a beginning of the words published, and a place that the tail has reached
+-- a note has a beginning of the words published, and a place that the tail has reached (this project's own profile)
 abbrev pub NoteHolds : View → View → View → Type 0
 NoteHolds p c v = IsPrefix v.note p.published × (v.note_place ≤ 8 * c.released)
 
--- one view is the producer's, one is the consumer's, and the words are tied to them. Each note holds
+-- one view is the producer's, one is the consumer's, the words are tied to both, and each view's note holds (this project's own profile)
 pub record Kept (bytes : ℕ) (s : State (Unit {0}) View) : Type 0 where
   pub producer : View
   pub consumer : View

@@ -21,7 +21,7 @@ spent = noted [] 0
 abbrev pub producer_of : View → View
 producer_of v = record v { reads = false; taken = []; released = 0; last_head = 0; head_loads = 0 }
 
--- the consumer's part of it (this project's own profile)
+-- the consumer's part of such a view (this project's own profile)
 abbrev pub consumer_of : View → View
 consumer_of v = record v { writes = false; published = []; put = []; last_tail = 0; tail_loads = 0 }
 
@@ -53,58 +53,58 @@ IsConsumer v = (v.reads ≡ true) × (v.writes ≡ false)
 abbrev pub IsNote : View → Type 0
 IsNote v = (v.writes ≡ false) × (v.reads ≡ false)
 
--- a view, and the slots that its seat holds, of which there are none
+-- a view, and the slots that its seat holds, of which there are none (this project's own profile)
 abbrev pub Holder : Type 0
 Holder = Me (Unit {0}) View
 
--- the producer has seen the tail: a load of word 0
+-- the producer has seen the tail, and loaded it once more (kernel/events/ring_buffer.c)
 abbrev pub saw_tail : View → ℕ → View
 saw_tail v tail = record v { last_tail = tail; tail_loads = v.tail_loads + 1 }
 
--- the producer has put the word: a store of a data word
+-- the producer has put the word behind the others (kernel/events/ring_buffer.c)
 abbrev pub with_put : View → ℕ → View
 with_put v word = record v { put = v.put ++ word ∷ [] }
 
--- the producer has published what it has put: a store of word 1
+-- the producer has published what it had put (kernel/events/ring_buffer.c)
 abbrev pub all_published : View → View
 all_published v = record v { published = v.published ++ v.put; put = [] }
 
--- the consumer has seen the head: a load of word 1
+-- the consumer has seen the head, and loaded it once more (perf_event_open(2))
 abbrev pub saw_head : View → ℕ → View
 saw_head v head = record v { last_head = head; head_loads = v.head_loads + 1 }
 
--- the consumer has taken the word: a load of a data word
+-- the consumer has taken the word behind the others (perf_event_open(2))
 abbrev pub with_taken : View → ℕ → View
 with_taken v word = record v { taken = v.taken ++ word ∷ [] }
 
--- the consumer has released what it has taken: a store of word 0
+-- the consumer has released all that it has taken (perf_event_open(2))
 abbrev pub all_released : View → View
 all_released v = record v { released = length v.taken }
 
--- an end's view without its note
+-- an end's view without its note (this project's own profile)
 abbrev pub without_note : View → View
 without_note v = record v { note = []; note_place = 0 }
 
--- the ring of a table: two of its words are the tail and the head
+-- the ring of a table, two of whose words are the tail and the head (this project's own profile)
 abbrev pub ring_of : TableId → Ring
 ring_of id = record { table = id; bytes = 8 * (id.words - 2) }
 
--- what contracts see of a producer's view
+-- what contracts see of a producer's view (this project's own profile)
 abbrev pub producer_end : TableId → View → ProducerEnd
 producer_end id v = record { ring = ring_of id; published = v.published; put = v.put; last_tail = v.last_tail; loads = v.tail_loads }
 
--- what contracts see of a consumer's view
+-- what contracts see of a consumer's view (this project's own profile)
 abbrev pub consumer_end : TableId → View → ConsumerEnd
 consumer_end id v = record { ring = ring_of id; taken = v.taken; released = v.released; last_head = v.last_head; loads = v.head_loads }
 
--- what a ring's table keeps: it has a word for the tail, one for the head, and its data words, and no slots. Its rule is that of its size
+-- what a ring's table keeps: its words are the tail, the head and the data words, and its rule is that of its size (this project's own profile)
 pub record HoldsTable (id : TableId) (key bytes : ℕ) : Type 0 where
   pub key_is : key ≡ bytes
   pub words : id.words ≡ 2 + cells_of bytes
   pub slots : id.slots ≡ 0
   pub size : IsRingSize bytes
 
--- what a producer keeps: its seat is the producer's, and it knows the place behind the last word put
+-- what a producer keeps: its seat is the producer's, and `place` is behind the last word put (this project's own profile)
 pub record HoldsProducer (id : TableId) (m : Holder) (place : ℕ) : Type 0 where
   pub role : IsProducer m.0
   pub bare : m.1 ≡ []
@@ -112,7 +112,7 @@ pub record HoldsProducer (id : TableId) (m : Holder) (place : ℕ) : Type 0 wher
   pub below : place < 2 ^ 63
   pub sound : IsSoundProducer (producer_end id m.0)
 
--- what a consumer keeps: its seat is the consumer's, and it knows the place behind the last word taken
+-- what a consumer keeps: its seat is the consumer's, and `place` is behind the last word taken (this project's own profile)
 pub record HoldsConsumer (id : TableId) (m : Holder) (place : ℕ) : Type 0 where
   pub role : IsConsumer m.0
   pub bare : m.1 ≡ []

@@ -30,7 +30,7 @@ impl Model for Consumer {
 }
 
 impl Consumer {
-    /// Loads the head and answers it: a place that the producer has published, in bytes, and no less than the last one.
+    /// Loads the head once and answers it: a place that the producer has published, in bytes, not before the last one seen.
     pub fn look_head(&mut self, table: &RingTable) -> u64
         requires { self.old.ring ≡ table.now }
         ensures end { self.new ≡ record self.old { last_head = result; loads = self.old.loads + 1 } }
@@ -41,7 +41,7 @@ impl Consumer {
         load_head(&table.table.shared, &mut self.seat)
     }
 
-    /// Takes the next word that was published.
+    /// Loads the next word that was published. Its place is not free before `publish_tail`.
     pub fn take_word(&mut self, table: &RingTable) -> u64
         requires ring { self.old.ring ≡ table.now }
         requires more { 8 * length self.old.taken < self.old.last_head }
@@ -54,7 +54,7 @@ impl Consumer {
         word
     }
 
-    /// Releases all words taken: their places may be written again.
+    /// Releases all words taken, by one store of the tail: their places may be written again.
     pub fn publish_tail(&mut self, table: &RingTable)
         requires ring { self.old.ring ≡ table.now }
         requires whole { IsWhole self.old.taken }

@@ -30,7 +30,7 @@ impl Model for Producer {
 }
 
 impl Producer {
-    /// Loads the tail and answers it: a place that the consumer has released, in bytes, and no less than the last one.
+    /// Loads the tail once and answers it: a place that the consumer has released, in bytes, not before the last one seen.
     pub fn look_tail(&mut self, table: &RingTable) -> u64
         requires { self.old.ring ≡ table.now }
         ensures end { self.new ≡ record self.old { last_tail = result; loads = self.old.loads + 1 } }
@@ -41,7 +41,7 @@ impl Producer {
         load_tail(&table.table.shared, &mut self.seat)
     }
 
-    /// Stores one word behind the last one. It is not published yet.
+    /// Stores one word behind the last one. The consumer does not see it before `publish_head`.
     pub fn put_word(&mut self, table: &RingTable, word: u64)
         requires ring { self.old.ring ≡ table.now }
         requires room { 8 ≤ room_of self.old }
@@ -54,7 +54,7 @@ impl Producer {
         self.place += 8;
     }
 
-    /// Publishes all words put.
+    /// Publishes all words put, by one store of the head.
     pub fn publish_head(&mut self, table: &RingTable)
         requires ring { self.old.ring ≡ table.now }
         requires whole { IsWhole self.old.put }

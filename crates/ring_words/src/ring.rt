@@ -12,7 +12,7 @@ use atomic_table::Table;
 use perf_base::NoMemory;
 use std::alloc::Global;
 
-/// Makes a ring with so many bytes of data, and its two ends.
+/// Makes a ring of `bytes` bytes of data, and its two ends. No word is put, and no tail or head was loaded.
 pub fn make_ring(alloc: Global, bytes: u32) -> Result<(RingTable, Producer, Consumer), NoMemory>
     requires { IsRingSize bytes }
     ensures size { IfOk result (λ r. r.0.bytes ≡ bytes) }
@@ -33,21 +33,23 @@ pub fn make_ring(alloc: Global, bytes: u32) -> Result<(RingTable, Producer, Cons
     ))
 }
 
-/// Each end learns how far the other is. It takes a few atomic steps.
+/// Each end learns how far the other is, in a few atomic steps. One caller has both ends, so both stand still meanwhile.
 pub fn meet(table: &RingTable, producer: &mut Producer, consumer: &mut Consumer)
     requires producer { producer.old.ring ≡ table.now }
     requires consumer { consumer.old.ring ≡ table.now }
+
+    // The last tail seen is the place released. Of each end only what it has seen and its number of loads change.
     ensures producer { producer.new ≡ record producer.old { last_tail = 8 * consumer.old.released; loads = producer.old.loads + 1 } }
     ensures consumer { consumer.new ≡ record consumer.old { last_head = consumer.new.last_head; loads = consumer.old.loads + 1 } }
-    ensures tail { producer.old.last_tail ≤ 8 * consumer.old.released }
-    ensures head { (8 * length producer.old.published ≤ consumer.new.last_head) × (consumer.old.last_head ≤ consumer.new.last_head) }
+    ensures head { 8 * length producer.old.published ≤ consumer.new.last_head }
     ensures prefix { IsPrefix consumer.old.taken producer.old.published }
+    ensures rises { (producer.old.last_tail ≤ producer.new.last_tail) × (consumer.old.last_head ≤ consumer.new.last_head) }
     ensures sound { IsSoundProducer producer.new × IsSoundConsumer consumer.new }
 {
     meet_ends(&table.table.shared, &mut producer.seat, &mut consumer.seat);
 }
 
-/// Ends a ring. Answers its head and its tail, in bytes.
+/// Ends a ring. Answers its head and its tail, in bytes from the start of the stream.
 pub fn close(table: RingTable, producer: Producer, consumer: Consumer) -> (u64, u64)
     requires producer { producer.ring ≡ table }
     requires consumer { consumer.ring ≡ table }

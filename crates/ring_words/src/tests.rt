@@ -38,18 +38,29 @@ fn take_block(rt: &impl Abort, table: &RingTable, consumer: &mut Consumer) -> u6
     second
 }
 
-// Three blocks are published, and one word more fits behind them.
+// Three blocks are published, and 15 bytes are left.
 fn publish_three(table: &RingTable, producer: &mut Producer)
-    requires ring { producer.old.ring ≡ table.now }
+    requires ring { producer.old ≡ new_producer table.now }
     requires size { table.now.bytes ≡ 64 }
-    requires empty { (producer.old.published ≡ []) × (producer.old.put ≡ []) }
     ensures ring { producer.new.ring ≡ table.now }
-    ensures place { 8 * length producer.new.published ≡ 48 }
+    ensures place { (8 * length producer.new.published ≡ 48) × (producer.new.put ≡ []) }
+    ensures room { room_of producer.new ≡ 15 }
 {
     for second in 0..3u64 {
         put_block(table, producer, second);
     }
     producer.publish_head(table);
+}
+
+// One word more fits behind them, and 7 bytes are left: too few for another.
+fn put_one_more(table: &RingTable, producer: &mut Producer)
+    requires ring { producer.old.ring ≡ table.now }
+    requires place { (8 * length producer.old.published ≡ 48) × (producer.old.put ≡ []) }
+    requires room { room_of producer.old ≡ 15 }
+    ensures ring { producer.new.ring ≡ table.now }
+    ensures place { 8 * length producer.new.published ≡ 48 }
+    ensures room { room_of producer.new ≡ 7 }
+{
     producer.put_word(table, FIRST);
 }
 
@@ -90,6 +101,7 @@ fn three_blocks_fill_a_small_ring(rt: HostRuntime) -> Result<(), Fail> {
     let mut producer = crosses(producer);
     let mut consumer = crosses(consumer);
     publish_three(&table, &mut producer);
+    put_one_more(&table, &mut producer);
     take_three(&rt, &table, &mut producer, &mut consumer);
     let ends = close(table, producer, consumer);
     assert_eq!(rt; ends, (48, 48));
