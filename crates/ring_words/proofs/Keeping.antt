@@ -1,5 +1,5 @@
 -- How the rule goes from one state to the next, where one end's view changes.
-use Rattle.std.proofs.Common.{◌≡◌, ◌≢◌, ℕ, ◌+◌, ◌*◌, ◌<◌, ◌≤◌, true, false, List, [], ◌∷◌, ◌++◌, length, filter, set, refl, sym, ap, ◌∙◌, subst, ⊎_elim, le_trans, arith}
+use Rattle.std.proofs.Common.{◌≡◌, ◌≢◌, ℕ, ◌≤◌, true, false, List, set, sym, ap, ◌∙◌, subst, ⊎_elim, arith}
 use mathlib.Core.Option.{some}
 use mathlib.Core.List.{IsPrefix}
 use lib.ListN.{get_elem?}

@@ -6,3 +6,4 @@ pub mod Writing
 pub mod Reading
 pub mod Parting
 pub mod Sound
+pub mod Cuts

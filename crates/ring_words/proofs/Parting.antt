@@ -9,7 +9,7 @@ use Rattle.atomic_table.specs.Table.{State, Splits, Joins, Final, Seen, opening}
 use Rattle.atomic_table.proofs.Lists.{at_set, at_snoc, set_again, set_else}
 use Rattle.ring_words.specs.declared.view.View.{View}
 use Rattle.ring_words.specs.Ends.{cells_of, cell_of, IsRingSize}
-use Rattle.ring_words.specs.Views.{both_ends, noted, spent, producer_of, consumer_of, note_of_producer, note_of_consumer, informed, rejoined, IsProducer, IsConsumer, IsNote}
+use Rattle.ring_words.specs.Views.{both_ends, spent, producer_of, consumer_of, note_of_producer, note_of_consumer, informed, rejoined, IsProducer, IsConsumer, IsNote}
 use Rattle.ring_words.specs.Rule.{Tied, NoteHolds, Kept}
 use Rattle.ring_words.proofs.Alone.{it_stays, it_goes, it_comes, others_stay}
 use Rattle.ring_words.proofs.Prefixes.{prefix_self, whole_nothing}

@@ -1,19 +1,18 @@
 -- The consumer's steps keep the rule.
-use Rattle.std.proofs.Common.{◌≡◌, ◌≢◌, ℕ, suc, ◌+◌, ◌-◌, ◌*◌, ◌/◌, ◌%◌, ◌<◌, ◌≤◌, true, false, List, [], ◌∷◌, ◌++◌, length, take, set, get_or, slice_index, refl, sym, ap, ◌∙◌, subst, append_assoc, append-nil, length-append, length-set, get_or-set_same, get_or-set_other, arith}
+use Rattle.std.proofs.Common.{◌≡◌, ℕ, ◌+◌, ◌*◌, ◌/◌, ◌%◌, ◌<◌, List, [], ◌∷◌, ◌++◌, length, take, set, slice_index, refl, sym, ap, ◌∙◌, subst, length-append, length-set, get_or-set_same, get_or-set_other, arith}
 use Rattle.std.proofs.lemmas.List.{set-get_or}
 use Rattle.std.proofs.Math.ListN.{get_or-append}
 use Rattle.std.proofs.Math.Seq.{take-length}
-use mathlib.Core.Option.{none, some}
+use mathlib.Core.Option.{none}
 use mathlib.Core.List.{IsPrefix}
 use Rattle.atomic_table.specs.Table.{keeps, Allows, step}
 use Rattle.ring_words.specs.declared.view.View.{View}
 use Rattle.ring_words.specs.Whole.{IsWhole}
-use Rattle.ring_words.specs.Ends.{cells_of, cell_of, LeadsTo}
+use Rattle.ring_words.specs.Ends.{cell_of, LeadsTo}
 use Rattle.ring_words.specs.Views.{IsConsumer, Holder, saw_head, with_taken, all_released}
 use Rattle.ring_words.specs.Rule.{Tied, Kept}
-use Rattle.ring_words.specs.Steps.{LearnsHead, LoadsHead, LoadsWord, StoresTail, ChecksTail}
+use Rattle.ring_words.specs.Steps.{LoadsHead, LoadsWord, StoresTail, ChecksTail}
 use Rattle.ring_words.proofs.Prefixes.{prefix_next, take-prefix, length-prefix, leads_by}
-use Rattle.ring_words.proofs.Sizes.{bytes_of_cells}
 use Rattle.ring_words.proofs.Keeping.{is_consumer, tied_consumer, consumer_keeps}
 
 module _ (bytes : ℕ) (words : List ℕ) (p v : View) (t : Tied bytes words p v) where

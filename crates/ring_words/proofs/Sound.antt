@@ -1,11 +1,11 @@
 -- What is true of an end between any two calls stays true.
-use Rattle.std.proofs.Common.{◌≡◌, ℕ, ◌+◌, ◌-◌, ◌*◌, ◌<◌, ◌≤◌, ◌^◌, List, [], ◌∷◌, ◌++◌, length, take, length-append, subst, sym, ap, ◌∙◌, refl, arith}
+use Rattle.std.proofs.Common.{◌≡◌, ℕ, ◌+◌, ◌-◌, ◌*◌, ◌<◌, ◌≤◌, ◌^◌, [], ◌∷◌, ◌++◌, length-append, subst, sym, ap, ◌∙◌, refl, arith}
 use Rattle.std.proofs.Math.Seq.{take-length}
 use Rattle.atomic_table.specs.Seated.{TableId}
 use Rattle.ring_words.specs.declared.view.View.{View}
 use Rattle.ring_words.specs.Whole.{IsWhole}
 use Rattle.ring_words.specs.Ends.{cells_of, IsRingSize, Ring, LeadsTo, IsSoundProducer, IsSoundConsumer, new_producer, new_consumer}
-use Rattle.ring_words.specs.Steps.{LearnsHead, Meets}
+use Rattle.ring_words.specs.Steps.{LearnsHead}
 use Rattle.ring_words.specs.Views.{Holder, ring_of, both_ends, producer_of, consumer_of, producer_end, consumer_end, all_published, saw_head, with_taken, all_released, HoldsProducer, HoldsConsumer}
 use Rattle.ring_words.proofs.Prefixes.{whole_nothing, whole_both, whole_more, stop_at_start, stop_more}
 use Rattle.ring_words.proofs.Sizes.{bytes_of_cells}

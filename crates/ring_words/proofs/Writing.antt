@@ -1,9 +1,9 @@
 -- The producer's steps keep the rule.
-use Rattle.std.proofs.Common.{◌≡◌, ◌≢◌, ℕ, suc, ◌+◌, ◌-◌, ◌*◌, ◌/◌, ◌%◌, ◌<◌, ◌≤◌, ◌⊎◌, true, false, List, [], ◌∷◌, ◌++◌, length, take, set, get_or, slice_index, refl, sym, ap, ◌∙◌, subst, ⊎_elim, append_assoc, append-nil, length-append, length-set, get_or-set_same, get_or-set_other, eq-or-lt_of_le, arith}
+use Rattle.std.proofs.Common.{◌≡◌, ◌≢◌, ℕ, ◌+◌, ◌-◌, ◌*◌, ◌/◌, ◌<◌, ◌≤◌, List, [], ◌∷◌, ◌++◌, length, take, set, slice_index, refl, sym, ap, ◌∙◌, subst, ⊎_elim, append_assoc, append-nil, length-append, length-set, get_or-set_same, get_or-set_other, eq-or-lt_of_le, arith}
 use Rattle.std.proofs.lemmas.List.{set-get_or}
 use Rattle.std.proofs.Math.ListN.{get_or-append}
 use Rattle.std.proofs.Math.Seq.{get_or-append_seam}
-use mathlib.Core.Option.{none, some}
+use mathlib.Core.Option.{none}
 use mathlib.Core.List.{IsPrefix}
 use Rattle.atomic_table.specs.Table.{keeps, Allows, step}
 use Rattle.atomic_table.proofs.Lists.{one_turn}
@@ -12,7 +12,7 @@ use Rattle.ring_words.specs.Whole.{IsWhole}
 use Rattle.ring_words.specs.Ends.{cells_of, cell_of, IsStop}
 use Rattle.ring_words.specs.Views.{IsProducer, Holder, saw_tail, with_put, all_published}
 use Rattle.ring_words.specs.Rule.{Tied, Kept}
-use Rattle.ring_words.specs.Steps.{LearnsTail, LoadsTail, StoresWord, StoresHead}
+use Rattle.ring_words.specs.Steps.{LoadsTail, StoresWord, StoresHead}
 use Rattle.ring_words.proofs.Prefixes.{prefix_more, prefix_self, length-prefix, whole_both, whole_more}
 use Rattle.ring_words.proofs.Sizes.{bytes_of_cells}
 use Rattle.ring_words.proofs.Keeping.{is_producer, tied_producer, producer_keeps}

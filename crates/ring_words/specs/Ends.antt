@@ -2,7 +2,7 @@
 use Rattle.std.specs.Prelude.{◌≡◌, ℕ, ◌+◌, ◌-◌, ◌*◌, ◌/◌, ◌%◌, ◌<◌, ◌≤◌, List, [], ◌++◌, length, take}
 use Rattle.std.specs.Int.{IsPowerOfTwo}
 use Rattle.atomic_table.specs.Seated.{TableId}
-use Rattle.ring_words.specs.Whole.{IsWhole}
+use Rattle.ring_words.specs.Whole.{size_field, IsWhole}
 
 -- which ring it is, and how many bytes of data it has (this project's own profile)
 pub record Ring : Type 0 where
@@ -78,3 +78,9 @@ new_producer ring = record { ring = ring; published = []; put = []; last_tail = 
 -- the consumer of a new ring (this project's own profile)
 abbrev pub new_consumer : Ring → ConsumerEnd
 new_consumer ring = record { ring = ring; taken = []; released = 0; last_head = 0; loads = 0 }
+
+-- the word at place `start` is the first of a block that ends at place `end` or before (this project's own profile)
+pub record BeginsBlock (word start end : ℕ) : Type 0 where
+  pub some : 8 ≤ size_field word
+  pub of_words : size_field word % 8 ≡ 0
+  pub within : start + size_field word ≤ end

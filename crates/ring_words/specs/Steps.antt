@@ -1,5 +1,5 @@
 -- What each kind of step tells its end: how its view changes, and what it learns. The steps are those of kernel/events/ring_buffer.c.
-use Rattle.std.specs.Prelude.{◌≡◌, ℕ, ◌+◌, ◌*◌, ◌≤◌, true, false, List, [], ◌∷◌, ◌++◌, length}
+use Rattle.std.specs.Prelude.{◌≡◌, ℕ, ◌*◌, ◌≤◌, [], ◌∷◌, ◌++◌, length}
 use mathlib.Core.List.{IsPrefix}
 use Rattle.atomic_table.specs.Table.{Step}
 use Rattle.ring_words.specs.Ends.{IsStop, LeadsTo}

@@ -1,7 +1,7 @@
 //! The end of a ring that reads.
 ghost use Rattle.std.specs.Prelude.{◌≡◌, ◌+◌, ◌*◌, ◌<◌, ◌≤◌, [], ◌∷◌, ◌++◌, length};
 ghost use Rattle.ring_words.specs.Whole.{IsWhole};
-ghost use Rattle.ring_words.specs.Ends.{LeadsTo, IsSoundConsumer};
+ghost use Rattle.ring_words.specs.Ends.{BeginsBlock, LeadsTo, IsSoundConsumer};
 
 use crate::steps::{load_head, load_word, store_tail};
 use crate::table::RingTable;
@@ -41,11 +41,13 @@ impl Consumer {
         load_head(&table.table.shared, &mut self.seat)
     }
 
-    /// Loads the next word that was published. Its place is not free before `publish_tail`.
+    /// Loads the next word that was published. Its place is not free before `publish_tail`. Where the words taken were
+    /// whole, it is the first of a block that stands before the last head seen.
     pub fn take_word(&mut self, table: &RingTable) -> u64
         requires ring { self.old.ring ≡ table.now }
         requires more { 8 * length self.old.taken < self.old.last_head }
         ensures end { self.new ≡ record self.old { taken = self.old.taken ++ result ∷ [] } }
+        ensures block { IsWhole self.old.taken → BeginsBlock result (8 * length self.old.taken) self.old.last_head }
         ensures sound { IsSoundConsumer self.new }
     {
         let cell = table.cell_at(self.place);

@@ -1,8 +1,7 @@
-use Rattle.std.proofs.Common.{rules, ℕ, ap, ◌∙◌}
+use Rattle.std.proofs.Common.{rules, ap, ◌∙◌}
 use Rattle.std.specs.Slots.{slots_items}
 use Rattle.ring_words.specs.declared.view.View.{View}
-use Rattle.ring_words.specs.Views.{Holder, rejoined}
-use Rattle.ring_words.specs.Rule.{Tied}
+use Rattle.ring_words.specs.Views.{Holder}
 use Rattle.ring_words.proofs.Parting.{may_rejoin, closes, at_word}
 use Rattle.ring_words.proofs.ring.close.Goals as goal
 

@@ -1,4 +1,4 @@
-use Rattle.std.proofs.Common.{rules, ◌≡◌, ap, ◌∙◌, sym, true, refl}
+use Rattle.std.proofs.Common.{rules, ◌≡◌, ap, ◌∙◌}
 use Rattle.ring_words.specs.declared.view.View.{View}
 use Rattle.ring_words.specs.Views.{Holder, both_ends, producer_of, consumer_of}
 use Rattle.ring_words.proofs.Parting.{may_part, starts}

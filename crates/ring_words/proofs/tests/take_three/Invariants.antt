@@ -1,4 +1,4 @@
-use Rattle.std.proofs.Common.{◌≡◌, ◌+◌, ◌*◌, ◌≤◌, [], length}
+use Rattle.std.proofs.Common.{◌≡◌, ◌*◌, ◌≤◌, length}
 use Rattle.ring_words.specs.Whole.{IsWhole}
 use Rattle.ring_words.proofs.tests.take_three.Given as goal
 

@@ -1,4 +1,4 @@
-use Rattle.std.proofs.Common.{◌≡◌, ◌+◌, ◌*◌, ◌≤◌, [], length}
+use Rattle.std.proofs.Common.{◌≡◌, ◌*◌, ◌≤◌, [], length}
 use Rattle.ring_words.specs.Ends.{IsSoundProducer}
 use Rattle.ring_words.proofs.tests.write_blocks.Given as goal
 

@@ -1,4 +1,3 @@
-use Rattle.std.proofs.Common.{rules}
 use Rattle.ring_words.proofs.Sound.{holds_published}
 use Rattle.ring_words.proofs.producer.Producer.publish_head.Goals as goal
 
