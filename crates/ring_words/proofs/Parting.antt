@@ -119,7 +119,7 @@ module _ (bytes id : ℕ) (v : View) where
         let n : NoteHolds v k.consumer w = subst (λ (q : View). NoteHolds q k.consumer w) (sym p) (k.notes other w was) in
         let tied : Tied bytes s.words (informed v w) k.consumer = tied_so bytes s.words v k.consumer (informed v w) k.consumer refl refl refl refl refl refl t in
         let first : Kept bytes (after s s.words id (informed v w)) =
-        producer_keeps bytes s k id v at s.words (informed v w) role.0 role.1 role.0 role.1 tied (prefix_self v.published) n in
+        producer_keeps bytes s k id v at s.words (informed v w) role role tied (prefix_self v.published) n in
         replaces_note bytes (after s s.words id (informed v w)) first other w spent there none (refl, refl) (spent_holds first.producer first.consumer)
 
     pub may_inform_consumer : IsConsumer v → IsNote w → Joins (Kept bytes) id v other w (informed v w) spent
@@ -130,7 +130,7 @@ module _ (bytes id : ℕ) (v : View) where
         let n : NoteHolds k.producer v w = subst (λ (d : View). NoteHolds k.producer d w) (sym c) (k.notes other w was) in
         let tied : Tied bytes s.words k.producer (informed v w) = tied_so bytes s.words k.producer v k.producer (informed v w) refl refl refl refl refl refl t in
         let first : Kept bytes (after s s.words id (informed v w)) =
-        consumer_keeps bytes s k id v at s.words (informed v w) role.0 role.1 role.0 role.1 tied (omega arith) n in
+        consumer_keeps bytes s k id v at s.words (informed v w) role role tied (omega arith) n in
         replaces_note bytes (after s s.words id (informed v w)) first other w spent there none (refl, refl) (spent_holds first.producer first.consumer)
 
     pub may_rejoin : IsProducer v → IsConsumer w → Joins (Kept bytes) id v other w (rejoined v w) spent

@@ -25,7 +25,7 @@ pub take-prefix : (xs ys : List ℕ) → IsPrefix xs ys → take (length xs) ys 
 take-prefix xs ys p = ap (take (length xs)) (sym p.1) ∙ take-append_seam xs p.0
 
 next_there : (xs rest ys : List ℕ) → xs ++ rest ≡ ys → length xs < length ys → IsPrefix (xs ++ slice_index ys (length xs) ∷ []) ys
-next_there xs [] ys e h = absurd (omega (arith, append-nil xs, ap length e, ap length (append-nil xs)))
+next_there xs [] ys e h = absurd (omega (arith, ap length e, ap length (append-nil xs)))
 next_there xs (r ∷ rest) ys e h =
     let here : slice_index ys (length xs) ≡ r = ap (λ (l : List ℕ). slice_index l (length xs)) (sym e) ∙ get_or-append_seam xs r rest 0 in
     (rest, append_assoc xs (slice_index ys (length xs) ∷ []) rest ∙ ap (λ (n : ℕ). xs ++ n ∷ rest) here ∙ e)

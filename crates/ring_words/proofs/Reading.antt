@@ -10,10 +10,10 @@ use Rattle.ring_words.specs.declared.view.View.{View}
 use Rattle.ring_words.specs.Whole.{IsWhole}
 use Rattle.ring_words.specs.Ends.{cell_of, LeadsTo}
 use Rattle.ring_words.specs.Views.{IsConsumer, Holder, saw_head, with_taken, all_released}
-use Rattle.ring_words.specs.Rule.{Tied, Kept}
+use Rattle.ring_words.specs.Rule.{Tied, NoteHolds, Kept}
 use Rattle.ring_words.specs.Steps.{LoadsHead, LoadsWord, StoresTail, ChecksTail}
 use Rattle.ring_words.proofs.Prefixes.{prefix_next, take-prefix, length-prefix, leads_by}
-use Rattle.ring_words.proofs.Keeping.{is_consumer, tied_consumer, consumer_keeps}
+use Rattle.ring_words.proofs.Keeping.{tied_consumer, consumer_note, consumer_keeps}
 
 module _ (bytes : ℕ) (words : List ℕ) (p v : View) (t : Tied bytes words p v) where
   whole_at_head : IsWhole (take (8 * length p.published / 8) p.published)
@@ -104,8 +104,7 @@ module _ (bytes slots id : ℕ) (m : Holder) (role : IsConsumer m.0) where
   may_load_head s k _ at _ =
       let v : View = m.0 in
       let t : Tied bytes s.words k.producer v = tied_consumer bytes s k id v at role.0 in
-      let note = k.notes id v at in
-      let rises : k.consumer.released ≡ v.released = ap (λ (u : View). u.released) (sym (is_consumer bytes s k id v at role.0)) in
+      let note : NoteHolds k.producer v v = consumer_note bytes s k id v at role.0 in
       let found : slice_index s.words 1 ≡ 8 * length k.producer.published = t.head in
       let same : set s.words 1 (slice_index s.words 1) ≡ s.words = set-get_or s.words 1 0 in
       let tied : Tied bytes (set s.words 1 (slice_index s.words 1)) k.producer (saw_head v (slice_index s.words 1)) =
@@ -114,7 +113,7 @@ module _ (bytes slots id : ℕ) (m : Holder) (role : IsConsumer m.0) where
         saw_head v (slice_index s.words 1),
         keeps,
         tt,
-        consumer_keeps bytes s k id v at (set s.words 1 (slice_index s.words 1)) (saw_head v (slice_index s.words 1)) role.0 role.1 role.0 role.1 tied (omega arith) (note.0, omega (arith, note.1, rises)),
+        consumer_keeps bytes s k id v at (set s.words 1 (slice_index s.words 1)) (saw_head v (slice_index s.words 1)) role role tied (omega arith) note,
         record {
           view = refl;
           learns = record {
@@ -130,8 +129,7 @@ module _ (bytes slots id : ℕ) (m : Holder) (role : IsConsumer m.0) where
   may_load_word place is more even s k _ at _ =
       let v : View = m.0 in
       let t : Tied bytes s.words k.producer v = tied_consumer bytes s k id v at role.0 in
-      let note = k.notes id v at in
-      let rises : k.consumer.released ≡ v.released = ap (λ (u : View). u.released) (sym (is_consumer bytes s k id v at role.0)) in
+      let note : NoteHolds k.producer v v = consumer_note bytes s k id v at role.0 in
       let word : ℕ = slice_index s.words place in
       let found : slice_index k.producer.published (length v.taken) ≡ word = sym (ap (slice_index s.words) is ∙ found_there bytes s.words k.producer v t more even) in
       let same : set s.words place word ≡ s.words = set-get_or s.words place 0 in
@@ -140,7 +138,7 @@ module _ (bytes slots id : ℕ) (m : Holder) (role : IsConsumer m.0) where
         with_taken v word,
         keeps,
         tt,
-        consumer_keeps bytes s k id v at (set s.words place word) (with_taken v word) role.0 role.1 role.0 role.1 tied (omega arith) (note.0, omega (arith, note.1, rises)),
+        consumer_keeps bytes s k id v at (set s.words place word) (with_taken v word) role role tied (omega arith) note,
         record { view = refl; leads = leads_still bytes s.words k.producer v t more even word found },
       )
 
@@ -148,14 +146,13 @@ module _ (bytes slots id : ℕ) (m : Holder) (role : IsConsumer m.0) where
   may_store_tail tail is whole s k _ at _ =
       let v : View = m.0 in
       let t : Tied bytes s.words k.producer v = tied_consumer bytes s k id v at role.0 in
-      let note = k.notes id v at in
-      let rises : k.consumer.released ≡ v.released = ap (λ (u : View). u.released) (sym (is_consumer bytes s k id v at role.0)) in
+      let note : NoteHolds k.producer v v = consumer_note bytes s k id v at role.0 in
       let tied : Tied bytes (set s.words 0 tail) k.producer (all_released v) =
       let P : ℕ → Type 0 = λ n. Tied bytes (set s.words 0 n) k.producer (all_released v) in subst P (sym is) (releases bytes s.words k.producer v t whole) in (
         all_released v,
         keeps,
         tt,
-        consumer_keeps bytes s k id v at (set s.words 0 tail) (all_released v) role.0 role.1 role.0 role.1 tied t.released (note.0, omega (arith, note.1, rises, t.released)),
+        consumer_keeps bytes s k id v at (set s.words 0 tail) (all_released v) role role tied t.released (note.0, omega (arith, note.1, t.released)),
         refl,
       )
 
@@ -163,14 +160,13 @@ module _ (bytes slots id : ℕ) (m : Holder) (role : IsConsumer m.0) where
   may_check_tail s k _ at _ =
       let v : View = m.0 in
       let t : Tied bytes s.words k.producer v = tied_consumer bytes s k id v at role.0 in
-      let note = k.notes id v at in
-      let rises : k.consumer.released ≡ v.released = ap (λ (u : View). u.released) (sym (is_consumer bytes s k id v at role.0)) in
+      let note : NoteHolds k.producer v v = consumer_note bytes s k id v at role.0 in
       let same : set s.words 0 (slice_index s.words 0) ≡ s.words = set-get_or s.words 0 0 in
       let tied : Tied bytes (set s.words 0 (slice_index s.words 0)) k.producer v =
       let P : List ℕ → Type 0 = λ l. Tied bytes l k.producer v in subst P (sym same) t in (
         v,
         keeps,
         tt,
-        consumer_keeps bytes s k id v at (set s.words 0 (slice_index s.words 0)) v role.0 role.1 role.0 role.1 tied (omega arith) (note.0, omega (arith, note.1, rises)),
-        record { view = refl; own = t.tail; note = omega (arith, t.tail, note.1, rises) },
+        consumer_keeps bytes s k id v at (set s.words 0 (slice_index s.words 0)) v role role tied (omega arith) note,
+        record { view = refl; own = t.tail; note = omega (arith, t.tail, note.1) },
       )

@@ -4,18 +4,17 @@ use Rattle.std.proofs.lemmas.List.{set-get_or}
 use Rattle.std.proofs.Math.ListN.{get_or-append}
 use Rattle.std.proofs.Math.Seq.{get_or-append_seam}
 use mathlib.Core.Option.{none}
-use mathlib.Core.List.{IsPrefix}
 use Rattle.atomic_table.specs.Table.{keeps, Allows, step}
 use Rattle.atomic_table.proofs.Lists.{one_turn}
 use Rattle.ring_words.specs.declared.view.View.{View}
 use Rattle.ring_words.specs.Whole.{IsWhole}
 use Rattle.ring_words.specs.Ends.{cells_of, cell_of, IsStop}
 use Rattle.ring_words.specs.Views.{IsProducer, Holder, saw_tail, with_put, all_published}
-use Rattle.ring_words.specs.Rule.{Tied, Kept}
+use Rattle.ring_words.specs.Rule.{Tied, NoteHolds, Kept}
 use Rattle.ring_words.specs.Steps.{LoadsTail, StoresWord, StoresHead}
 use Rattle.ring_words.proofs.Prefixes.{prefix_more, prefix_self, length-prefix, whole_both, whole_more}
 use Rattle.ring_words.proofs.Sizes.{bytes_of_cells}
-use Rattle.ring_words.proofs.Keeping.{is_producer, tied_producer, producer_keeps}
+use Rattle.ring_words.proofs.Keeping.{tied_producer, producer_note, producer_keeps}
 
 module _ (bytes : ℕ) (words : List ℕ) (v c : View) (t : Tied bytes words v c) where
   released_within : c.released ≤ length v.published
@@ -134,23 +133,22 @@ module _ (bytes slots id : ℕ) (m : Holder) (role : IsProducer m.0) where
   may_load_tail s k _ at _ =
       let v : View = m.0 in
       let t : Tied bytes s.words v k.consumer = tied_producer bytes s k id v at role.0 in
-      let note = k.notes id v at in
+      let note : NoteHolds v k.consumer v = producer_note bytes s k id v at role.0 in
       let found : slice_index s.words 0 ≡ 8 * k.consumer.released = t.tail in
       let same : set s.words 0 (slice_index s.words 0) ≡ s.words = set-get_or s.words 0 0 in
-      let here : IsPrefix v.note v.published = let P : View → Type 0 = λ u. IsPrefix v.note u.published in subst P (sym (is_producer bytes s k id v at role.0)) note.0 in
       let seen : Tied bytes s.words (saw_tail v (8 * k.consumer.released)) k.consumer = sees_tail bytes s.words v k.consumer t in
       let tied : Tied bytes (set s.words 0 (slice_index s.words 0)) (saw_tail v (slice_index s.words 0)) k.consumer =
       let P : List ℕ → ℕ → Type 0 = λ l n. Tied bytes l (saw_tail v n) k.consumer in subst (λ (n : ℕ). P (set s.words 0 (slice_index s.words 0)) n) (sym found) (subst (λ (l : List ℕ). P l (8 * k.consumer.released)) (sym same) seen) in (
         saw_tail v (slice_index s.words 0),
         keeps,
         tt,
-        producer_keeps bytes s k id v at (set s.words 0 (slice_index s.words 0)) (saw_tail v (slice_index s.words 0)) role.0 role.1 role.0 role.1 tied (prefix_self v.published) (here, note.1),
+        producer_keeps bytes s k id v at (set s.words 0 (slice_index s.words 0)) (saw_tail v (slice_index s.words 0)) role role tied (prefix_self v.published) note,
         record {
           view = refl;
           learns = record {
             rises = omega (arith, found, t.last_tail);
             stop = subst (IsStop v.published) (sym found) (stop_at_tail bytes s.words v k.consumer t);
-            note = here;
+            note = note.0;
             reached = omega (arith, found, note.1);
           };
         },
@@ -161,14 +159,13 @@ module _ (bytes slots id : ℕ) (m : Holder) (role : IsProducer m.0) where
   may_store_word word place is room s k _ at _ =
       let v : View = m.0 in
       let t : Tied bytes s.words v k.consumer = tied_producer bytes s k id v at role.0 in
-      let note = k.notes id v at in
-      let here : IsPrefix v.note v.published = let P : View → Type 0 = λ u. IsPrefix v.note u.published in subst P (sym (is_producer bytes s k id v at role.0)) note.0 in
+      let note : NoteHolds v k.consumer v = producer_note bytes s k id v at role.0 in
       let tied : Tied bytes (set s.words place word) (with_put v word) k.consumer =
       let P : ℕ → Type 0 = λ i. Tied bytes (set s.words i word) (with_put v word) k.consumer in subst P (sym is) (stores_word bytes s.words v k.consumer t word room) in (
         with_put v word,
         keeps,
         tt,
-        producer_keeps bytes s k id v at (set s.words place word) (with_put v word) role.0 role.1 role.0 role.1 tied (prefix_self v.published) (here, note.1),
+        producer_keeps bytes s k id v at (set s.words place word) (with_put v word) role role tied (prefix_self v.published) note,
         refl,
       )
 
@@ -177,13 +174,12 @@ module _ (bytes slots id : ℕ) (m : Holder) (role : IsProducer m.0) where
   may_store_head head is whole s k _ at _ =
       let v : View = m.0 in
       let t : Tied bytes s.words v k.consumer = tied_producer bytes s k id v at role.0 in
-      let note = k.notes id v at in
-      let here : IsPrefix v.note v.published = let P : View → Type 0 = λ u. IsPrefix v.note u.published in subst P (sym (is_producer bytes s k id v at role.0)) note.0 in
+      let note : NoteHolds v k.consumer v = producer_note bytes s k id v at role.0 in
       let tied : Tied bytes (set s.words 1 head) (all_published v) k.consumer =
       let P : ℕ → Type 0 = λ n. Tied bytes (set s.words 1 n) (all_published v) k.consumer in subst P (sym is) (publishes bytes s.words v k.consumer t whole) in (
         all_published v,
         keeps,
         tt,
-        producer_keeps bytes s k id v at (set s.words 1 head) (all_published v) role.0 role.1 role.0 role.1 tied (v.put, refl) (prefix_more v.note v.published v.put here, note.1),
+        producer_keeps bytes s k id v at (set s.words 1 head) (all_published v) role role tied (v.put, refl) (prefix_more v.note v.published v.put note.0, note.1),
         refl,
       )
