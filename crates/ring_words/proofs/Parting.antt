@@ -27,7 +27,7 @@ tied_so : (bytes : ℕ) (words : List ℕ) (p c q d : View) → p.published ≡ 
     → c.taken ≡ d.taken → c.released ≡ d.released → c.last_head ≡ d.last_head → Tied bytes words p c → Tied bytes words q d
 tied_so bytes words p c q d e1 e2 e3 e4 e5 e6 t = record {
   size = t.size;
-  sized = t.sized;
+  count = t.count;
   head = subst (λ (l : List ℕ). slice_index words 1 ≡ 8 * length l) e1 t.head;
   tail = subst (λ (n : ℕ). slice_index words 0 ≡ 8 * n) e5 t.tail;
   last_tail = omega (arith, t.last_tail, e3, e5);
@@ -173,7 +173,7 @@ starts bytes size words are = record {
   one_reads = refl;
   tied = record {
     size = size;
-    sized = ap length are ∙ length-replicate (2 + cells_of bytes) 0;
+    count = ap length are ∙ length-replicate (2 + cells_of bytes) 0;
     head = ap (λ (l : List ℕ). slice_index l 1) are ∙ get_or-replicate (2 + cells_of bytes) 1 0 0 (omega arith);
     tail = ap (λ (l : List ℕ). slice_index l 0) are ∙ get_or-replicate (2 + cells_of bytes) 0 0 0 (omega arith);
     last_tail = omega arith;

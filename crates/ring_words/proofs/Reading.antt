@@ -24,7 +24,7 @@ module _ (bytes : ℕ) (words : List ℕ) (p v : View) (t : Tied bytes words p v
   sees_head : Tied bytes words p (saw_head v (8 * length p.published))
   sees_head = record {
     size = t.size;
-    sized = t.sized;
+    count = t.count;
     head = t.head;
     tail = t.tail;
     last_tail = t.last_tail;
@@ -59,7 +59,7 @@ module _ (bytes : ℕ) (words : List ℕ) (p v : View) (t : Tied bytes words p v
     takes_word word is =
         let long : length (v.taken ++ word ∷ []) ≡ length v.taken + 1 = length-append v.taken (word ∷ []) in record {
           size = t.size;
-          sized = t.sized;
+          count = t.count;
           head = t.head;
           tail = t.tail;
           last_tail = t.last_tail;
@@ -83,9 +83,9 @@ module _ (bytes : ℕ) (words : List ℕ) (p v : View) (t : Tied bytes words p v
   releases : IsWhole v.taken → Tied bytes (set words 0 (8 * length v.taken)) p (all_released v)
   releases whole = record {
     size = t.size;
-    sized = length-set words 0 (8 * length v.taken) ∙ t.sized;
+    count = length-set words 0 (8 * length v.taken) ∙ t.count;
     head = get_or-set_other words 0 1 (8 * length v.taken) 0 (λ e. omega arith) ∙ t.head;
-    tail = get_or-set_same words 0 (8 * length v.taken) 0 (omega (arith, t.sized));
+    tail = get_or-set_same words 0 (8 * length v.taken) 0 (omega (arith, t.count));
     last_tail = omega (arith, t.last_tail, t.released);
     taken = t.taken;
     released = omega arith;

@@ -26,7 +26,7 @@ module _ (bytes : ℕ) (words : List ℕ) (v c : View) (t : Tied bytes words v c
   sees_tail : Tied bytes words (saw_tail v (8 * c.released)) c
   sees_tail = record {
     size = t.size;
-    sized = t.sized;
+    count = t.count;
     head = t.head;
     tail = t.tail;
     last_tail = omega arith;
@@ -52,8 +52,8 @@ module _ (bytes : ℕ) (words : List ℕ) (v c : View) (t : Tied bytes words v c
   publishes : IsWhole v.put → Tied bytes (set words 1 (8 * (length v.published + length v.put))) (all_published v) c
   publishes put_whole = record {
     size = t.size;
-    sized = length-set words 1 (8 * (length v.published + length v.put)) ∙ t.sized;
-    head = get_or-set_same words 1 (8 * (length v.published + length v.put)) 0 (omega (arith, t.sized)) ∙ ap (λ (n : ℕ). 8 * n) (sym (length-append v.published v.put));
+    count = length-set words 1 (8 * (length v.published + length v.put)) ∙ t.count;
+    head = get_or-set_same words 1 (8 * (length v.published + length v.put)) 0 (omega (arith, t.count)) ∙ ap (λ (n : ℕ). 8 * n) (sym (length-append v.published v.put));
     tail = get_or-set_other words 1 0 (8 * (length v.published + length v.put)) 0 (λ e. omega arith) ∙ t.tail;
     last_tail = t.last_tail;
     taken = prefix_more c.taken v.published v.put t.taken;
@@ -94,7 +94,7 @@ module _ (bytes : ℕ) (words : List ℕ) (v c : View) (t : Tied bytes words v c
         let at_most : j ≤ end_of = omega (arith, long, below, ap length joined, length-append stream (word ∷ [])) in
         let read : slice_index (stream ++ word ∷ []) j ≡ slice_index (v.published ++ (v.put ++ word ∷ [])) j = ap (λ (l : List ℕ). slice_index l j) joined in
         let whole : 8 * cells_of bytes ≡ bytes = bytes_of_cells bytes t.size in
-        let cells : cell_of bytes end_of < length words = let n : ℕ = cells_of bytes in let least : 64 ≤ bytes = t.size.least in omega (arith, t.sized, whole, least) in
+        let cells : cell_of bytes end_of < length words = let n : ℕ = cells_of bytes in let least : 64 ≤ bytes = t.size.least in omega (arith, t.count, whole, least) in
         ⊎_elim
         (λ (same : j ≡ end_of).
         ap (λ (k : ℕ). slice_index (set words (cell_of bytes end_of) word) (cell_of bytes k)) same
@@ -112,7 +112,7 @@ module _ (bytes : ℕ) (words : List ℕ) (v c : View) (t : Tied bytes words v c
     stores_word =
         let long : length (v.put ++ word ∷ []) ≡ length v.put + 1 = length-append v.put (word ∷ []) in record {
           size = t.size;
-          sized = length-set words (cell_of bytes end_of) word ∙ t.sized;
+          count = length-set words (cell_of bytes end_of) word ∙ t.count;
           head = get_or-set_other words (cell_of bytes end_of) 1 word 0 (λ e. omega arith) ∙ t.head;
           tail = get_or-set_other words (cell_of bytes end_of) 0 word 0 (λ e. omega arith) ∙ t.tail;
           last_tail = t.last_tail;

@@ -11,16 +11,21 @@ use Rattle.ring_words.specs.declared.view.View.{View}
 -- what ties the table's words to what the producer p and the consumer c know (kernel/events/ring_buffer.c; whole words are this project's own profile)
 pub record Tied (bytes : ℕ) (words : List ℕ) (p c : View) : Type 0 where
   pub size : IsRingSize bytes
-  pub sized : length words ≡ 2 + cells_of bytes
+  pub count : length words ≡ 2 + cells_of bytes
+  -- the head and the tail
   pub head : slice_index words 1 ≡ 8 * length p.published
   pub tail : slice_index words 0 ≡ 8 * c.released
+  -- the producer has seen no more than was released
   pub last_tail : p.last_tail ≤ 8 * c.released
+  -- what was released was taken, and what was taken was published before the last head seen
   pub taken : IsPrefix c.taken p.published
   pub released : c.released ≤ length c.taken
   pub looked : 8 * length c.taken ≤ c.last_head
   pub last_head : c.last_head ≤ 8 * length p.published
+  -- each word that is not released stands in its place, and not all places are in use
   pub stored : (j : ℕ) → c.released ≤ j → j < length (p.published ++ p.put) → slice_index words (cell_of bytes j) ≡ slice_index (p.published ++ p.put) j
   pub room : 8 * (length p.published + length p.put) - p.last_tail < bytes
+  -- no end is within a block
   pub whole : IsWhole p.published
   pub whole_released : IsWhole (take c.released p.published)
   pub whole_tail : IsWhole (take (p.last_tail / 8) p.published)
