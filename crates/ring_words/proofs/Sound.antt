@@ -1,0 +1,85 @@
+-- What is true of an end between any two calls stays true.
+use Rattle.std.proofs.Common.{◌≡◌, ℕ, ◌+◌, ◌-◌, ◌*◌, ◌<◌, ◌≤◌, ◌^◌, [], ◌∷◌, ◌++◌, length-append, subst, sym, ap, ◌∙◌, refl, arith}
+use Rattle.std.proofs.Math.Seq.{take-length}
+use Rattle.atomic_table.specs.Seated.{TableId}
+use Rattle.ring_words.specs.declared.view.View.{View}
+use Rattle.ring_words.specs.Whole.{IsWhole}
+use Rattle.ring_words.specs.Ends.{cells_of, IsRingSize, Ring, LeadsTo, IsSoundProducer, IsSoundConsumer, new_producer, new_consumer}
+use Rattle.ring_words.specs.Steps.{LearnsHead}
+use Rattle.ring_words.specs.Views.{Holder, ring_of, both_ends, producer_of, consumer_of, producer_end, consumer_end, all_published, saw_head, with_taken, all_released, HoldsProducer, HoldsConsumer}
+use Rattle.ring_words.proofs.Prefixes.{whole_nothing, whole_both, whole_more, stop_at_start, stop_more}
+use Rattle.ring_words.proofs.Sizes.{bytes_of_cells}
+
+pub sound_published : (id : TableId) (v : View) → IsSoundProducer (producer_end id v) → IsWhole v.put → IsSoundProducer (producer_end id (all_published v))
+sound_published id v s put = record {
+  whole = whole_both v.published v.put s.whole put;
+  stop = stop_more v.published v.put v.last_tail s.stop;
+  fits = omega (arith, s.fits, length-append v.published v.put);
+}
+
+pub holds_published : (id : TableId) (m : Holder) (place : ℕ) → HoldsProducer id m place → IsWhole m.0.put → HoldsProducer id (all_published m.0, m.1) place
+holds_published id m place h put = record {
+  role = h.role;
+  bare = h.bare;
+  place_is = omega (arith, h.place_is, length-append m.0.published m.0.put);
+  below = h.below;
+  sound = sound_published id m.0 h.sound put;
+}
+
+pub holds_looked : (id : TableId) (m : Holder) (place head : ℕ) → HoldsConsumer id m place → LearnsHead m.0 head → head < 2 ^ 64 → HoldsConsumer id (saw_head m.0 head, m.1) place
+holds_looked id m place head h l fits = record {
+  role = h.role;
+  bare = h.bare;
+  place_is = h.place_is;
+  below = fits;
+  sound = record { leads = l.leads; released = h.sound.released; whole = h.sound.whole };
+}
+
+pub holds_taken : (id : TableId) (m : Holder) (place word : ℕ) → HoldsConsumer id m place → LeadsTo (m.0.taken ++ word ∷ []) m.0.last_head → HoldsConsumer id (with_taken m.0 word, m.1) (place + 8)
+holds_taken id m place word h l = record {
+  role = h.role;
+  bare = h.bare;
+  place_is = omega (arith, h.place_is, length-append m.0.taken (word ∷ []));
+  below = h.below;
+  sound = record {
+    leads = l;
+    released = omega (arith, h.sound.released, length-append m.0.taken (word ∷ []));
+    whole = whole_more m.0.taken (word ∷ []) m.0.released h.sound.released h.sound.whole;
+  };
+}
+
+pub holds_released : (id : TableId) (m : Holder) (place : ℕ) → HoldsConsumer id m place → IsWhole m.0.taken → HoldsConsumer id (all_released m.0, m.1) place
+holds_released id m place h whole = record {
+  role = h.role;
+  bare = h.bare;
+  place_is = h.place_is;
+  below = h.below;
+  sound = record { leads = h.sound.leads; released = omega arith; whole = subst IsWhole (sym (take-length m.0.taken)) whole };
+}
+
+-- the ring of a table that has a word for the tail, one for the head, and these data words
+ring_is : (id : TableId) (bytes : ℕ) → id.words ≡ 2 + cells_of bytes → IsRingSize bytes → ring_of id ≡ record { table = id; bytes = bytes }
+ring_is id bytes words size =
+    let whole : 8 * cells_of bytes ≡ bytes = bytes_of_cells bytes size in
+    let same : 8 * (id.words - 2) ≡ bytes = omega (arith, words, whole) in λ i. record { table = id; bytes = same i }
+
+sound_start : (ring : Ring) → 64 ≤ ring.bytes → IsSoundProducer (new_producer ring)
+sound_start ring least = record { whole = whole_nothing; stop = stop_at_start; fits = omega (arith, least) }
+
+sound_first : (ring : Ring) → IsSoundConsumer (new_consumer ring)
+sound_first ring = record { leads = record { others = []; whole = whole_nothing; ends = refl }; released = omega arith; whole = whole_nothing }
+
+module _ (id : TableId) (bytes : ℕ) (words : id.words ≡ 2 + cells_of bytes) (size : IsRingSize bytes) where
+  pub producer_starts : (id' : TableId) (v : View) → id' ≡ id → v ≡ producer_of both_ends
+      → (producer_end id' v ≡ new_producer (record { table = id; bytes = bytes })) × IsSoundProducer (producer_end id' v)
+  producer_starts id' v same start =
+      let ring : Ring = record { table = id; bytes = bytes } in
+      let e : producer_end id' v ≡ new_producer ring = (λ i. producer_end (same i) (start i)) ∙ ap new_producer (ring_is id bytes words size) in
+      (e, subst IsSoundProducer (sym e) (sound_start ring size.least))
+
+  pub consumer_starts : (id' : TableId) (v : View) → id' ≡ id → v ≡ consumer_of both_ends
+      → (consumer_end id' v ≡ new_consumer (record { table = id; bytes = bytes })) × IsSoundConsumer (consumer_end id' v)
+  consumer_starts id' v same start =
+      let ring : Ring = record { table = id; bytes = bytes } in
+      let e : consumer_end id' v ≡ new_consumer ring = (λ i. consumer_end (same i) (start i)) ∙ ap new_consumer (ring_is id bytes words size) in
+      (e, subst IsSoundConsumer (sym e) (sound_first ring))

@@ -1,0 +1,19 @@
+// A ring of words that one thread writes and another reads, with no lock: the buffer that a profiled
+// program's records go through. Its words are atomic. Contracts see each end as what it has put or taken.
+// It serves the crate that sends and takes records.
+#![tactic(auto)]
+
+mod consumer;
+mod plays;
+mod producer;
+mod ring;
+mod steps;
+mod table;
+#[cfg(test)]
+mod tests;
+mod view;
+
+pub use consumer::Consumer;
+pub use producer::Producer;
+pub use ring::{close, make_ring, meet};
+pub use table::RingTable;
