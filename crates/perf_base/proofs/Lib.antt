@@ -1,1 +1,3 @@
 pub mod ListsOfLists
+pub mod Places
+pub mod Weights

@@ -22,6 +22,7 @@ use Rattle.perf_base.specs.declared.lines.ToolLine.TheVariants as tool_line
 use Rattle.perf_base.specs.declared.lines.ReaderLine.{ReaderLine}
 use Rattle.perf_base.specs.declared.acts.Act.{Act}
 use Rattle.perf_base.specs.declared.acts.Act.TheVariants as act
+use Rattle.perf_base.specs.Cpus.{HasCpu}
 
 -- what a script says: its machine, its names, the lines of each processor and tool, its readers and its order
 pub record Scripted : Type 0 where
@@ -209,3 +210,7 @@ pub record IsScript (s : Scripted) : Type 0 where
   pub readers : All (IsReaderLine s.rings) s.readers
   pub readers_rise : AllPairs (λ q r. q.ring.0 < r.ring.0) s.readers
   pub order : All (IsAct s) s.order
+
+-- each processor is of some PMU
+abbrev pub IsCovered : Scripted → Type 0
+IsCovered s = (cpu : CpuNo) → cpu.0 < s.cpus → Any (λ p. HasCpu p.cpus cpu) s.pmus

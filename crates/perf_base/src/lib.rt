@@ -13,6 +13,7 @@ mod reasons;
 mod reply;
 mod script;
 mod standing;
+mod weight;
 
 pub use acts::{Act, Actor};
 pub use attr::{Attr, CpuSel, Kind, TaskSel};

@@ -69,8 +69,8 @@ impl Tight {
         requires { i < length self.now }
         ensures { slice_get self.now i ≡ Some result }
     {
-        let places = &self.places;
-        places[i]
+        let slots = &self.places;
+        slots[i]
     }
 }
 

@@ -1,5 +1,8 @@
 //! Numbers with names, and the one error that nobody can foresee.
 
+ghost use Rattle.std.specs.Prelude.{◌≡◌, ◌^◌, ◌<◌, ◌↔◌, IsTrue, bit_or};
+ghost use Rattle.perf_base.specs.Cpus.{HasCpu};
+
 use std::alloc::{AllocError, AllocFailed};
 
 /// A processor, 0 to 7.
@@ -29,6 +32,38 @@ pub struct Key(pub usize);
 /// A set of processors: bit P stands for processor P.
 #[derive(Clone, Copy, PartialEq, Eq, Debug)]
 pub struct CpuSet(pub u8);
+
+impl CpuSet {
+    /// The set of none.
+    pub fn new() -> CpuSet
+        ensures { result.0 ≡ 0 }
+    {
+        CpuSet(0)
+    }
+
+    /// Adds a processor, 0 to 7, if it is not there.
+    pub fn insert(&mut self, cpu: CpuNo)
+        requires { cpu.0 < 8 }
+        ensures { self.new.0 ≡ bit_or self.old.0 (2 ^ cpu.0) }
+    {
+        self.0 |= 1 << cpu.0;
+    }
+
+    /// Whether a processor, 0 to 7, is in the set.
+    pub fn contains(&self, cpu: CpuNo) -> bool
+        requires { cpu.0 < 8 }
+        ensures { IsTrue result ↔ HasCpu self.now cpu }
+    {
+        (self.0 >> cpu.0) & 1 == 1
+    }
+
+    /// The processors that are in one of two sets.
+    pub fn union(&self, other: CpuSet) -> CpuSet
+        ensures { result.0 ≡ bit_or self.now.0 other.0 }
+    {
+        CpuSet(self.0 | other.0)
+    }
+}
 
 /// Memory ran out. Nothing says when: it is the one answer that is free.
 #[derive(Clone, Copy, PartialEq, Eq, Debug)]

@@ -1,7 +1,8 @@
 //! A script: what it declares, the lines of its processors, tools and readers, and its order.
 
-ghost use Rattle.std.specs.Prelude.{◌≡◌, ◌≢◌, ℕ, ◌+◌, ◌^◌, ◌<◌, ◌≤◌, List, length, All, bit_and, slice_get, IfSome, OnErr, OnOk, Some};
-ghost use Rattle.perf_base.specs.Scripts.{Scripted, IsScript, empty_script, lines_of_cpu, lines_of_tool, line_count, with_pmu, with_kind, with_task, with_ring, with_cpu_line, with_tool_line, with_reader, with_act, IsPmuLine, AreApart, IsKindLine, IsRingLine, IsCpuLine, IsToolLine, IsReaderLine, IsAct};
+ghost use Rattle.std.specs.Prelude.{◌≡◌, ◌≢◌, ℕ, ◌+◌, ◌^◌, ◌<◌, ◌≤◌, List, length, map, All, bit_and, slice_get, IfSome, OnErr, OnOk, Some};
+ghost use Rattle.perf_base.specs.Scripts.{Scripted, IsScript, empty_script, lines_of_cpu, lines_of_tool, line_count, with_pmu, with_kind, with_task, with_ring, with_cpu_line, with_tool_line, with_reader, with_act, IsPmuLine, AreApart, IsKindLine, IsRingLine, IsCpuLine, IsToolLine, IsReaderLine, IsAct, IsCovered};
+ghost use Rattle.perf_base.specs.Cpus.{HasCpu};
 
 use crate::acts::Act;
 use crate::lines::{CpuLine, KindLine, PmuLine, ReaderLine, ToolLine};
@@ -219,6 +220,30 @@ impl Script {
         ensures { IfSome (slice_get self.now.kinds kind) (λ k. result ≡ k.pmu) }
     {
         self.kinds[kind].pmu
+    }
+
+    /// The number of a processor's PMU. Each processor of the machine has to be of one.
+    pub fn pmu_of_cpu(&self, cpu: CpuNo) -> u8
+        requires cpu { cpu.0 < self.now.cpus }
+        requires covered { IsCovered self.now }
+        ensures within { result < length self.now.pmus }
+        ensures has { IfSome (slice_get self.now.pmus result) (λ p. HasCpu p.cpus cpu) }
+    {
+        for pmu in 0..self.pmus() {
+            if self.cpus_of(pmu).contains(cpu) {
+                return pmu;
+            }
+        }
+        unreachable!()
+    }
+
+    /// The processors of a PMU.
+    fn cpus_of(&self, pmu: u8) -> CpuSet
+        requires { pmu < length self.now.pmus }
+        ensures set { slice_get (map (λ p. p.cpus) self.now.pmus) pmu ≡ Some result }
+        ensures sound { IsScript self.now }
+    {
+        self.pmus[pmu as usize].cpus
     }
 
     /// The tasks that exist from the start, rising.

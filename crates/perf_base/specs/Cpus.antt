@@ -1,0 +1,9 @@
+-- Sets of processors, by bits. This project's own profile.
+use Rattle.std.specs.Prelude.{◌≡◌, ℕ, ◌<◌}
+use Rattle.std.specs.Int.{bit_at}
+use Rattle.perf_base.specs.declared.numbers.CpuNo.{CpuNo}
+use Rattle.perf_base.specs.declared.numbers.CpuSet.{CpuSet}
+
+-- the processor is in the set
+abbrev pub HasCpu : CpuSet → CpuNo → Type 0
+HasCpu set cpu = bit_at set.0 cpu.0 ≡ 1

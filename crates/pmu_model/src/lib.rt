@@ -1,0 +1,9 @@
+// The PMUs of a machine: how many counters each processor has, and which of them can count which kind.
+// Contracts see a record of lists. It serves the crates that place events on counters.
+#![tactic(auto)]
+
+mod pmus;
+#[cfg(test)]
+mod tests;
+
+pub use pmus::{Pmus, is_software};
