@@ -4,3 +4,4 @@ pub mod Progress
 pub mod Replies
 pub mod Recurrence
 pub mod Steps
+pub mod Checks
