@@ -5,3 +5,4 @@ pub mod Replies
 pub mod Recurrence
 pub mod Steps
 pub mod Checks
+pub mod Rules
