@@ -17,7 +17,7 @@ pub record IsWithinPeriod (period left : ℕ) : Type 0 where
 abbrev pub fresh_counts : ℕ → Counts
 fresh_counts period = record { count = 0; period = period; left = period }
 
--- what one occurrence leaves of the remainder: it falls by one, and at 0 it becomes the period
+-- what one occurrence leaves of the remainder: it falls by one, and at 0 it becomes the period; without a period it stays 0
 abbrev pub left_after_one : ℕ → ℕ → ℕ
 left_after_one period left = if left - 1 == 0 then period else left - 1
 

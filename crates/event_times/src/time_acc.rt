@@ -38,11 +38,10 @@ impl TimeAcc {
     }
 
     /// A stretch of time passes: it counts as enabled where the instance is ready, and as running where it
-    /// is on.
+    /// is on. The running time is never the greater one, so both sums stay below 2^63.
     pub fn pass(&mut self, length: u64, ready: bool, on: bool)
         requires on_is_ready { IsTrue on → IsTrue ready }
-        requires enabled_fits { (times_after self.old length ready on).enabled < 2 ^ 63 }
-        requires running_fits { (times_after self.old length ready on).running < 2 ^ 63 }
+        requires fits { (times_after self.old length ready on).enabled < 2 ^ 63 }
         ensures { self.new ≡ times_after self.old length ready on }
     {
         if ready {

@@ -26,7 +26,7 @@ impl Model for GroupList {
 }
 
 impl GroupList {
-    /// The empty list, with room for at least `room` groups.
+    /// The empty list, with room for at least `room` groups. It fails only where memory runs out.
     pub fn new(alloc: Global, room: usize) -> Result<GroupList, NoMemory>
         ensures empty { IfOk result (λ g. g.leaders ≡ []) }
         ensures room { IfOk result (λ g. room ≤ g.spare) }

@@ -25,10 +25,10 @@ pub struct Facts {
 /// `ExclusiveSelf`, for an exclusive group, which names the first hardware group that is on; `Earlier`,
 /// which names the first group of this pass that was refused.
 pub fn may_go(facts: &Facts) -> Result<(), Rule>
-    ensures ok { let f = facts.now in
-        OnOk result (refusal_of f.software f.exclusive f.exclusive_on f.first_on f.refused ≡ None) }
-    ensures err { let f = facts.now in
-        IfErr result (λ r. refusal_of f.software f.exclusive f.exclusive_on f.first_on f.refused ≡ Some r) }
+    ensures ok { let f = facts.now in OnOk result
+        (refusal_of f.software f.exclusive f.exclusive_on f.first_on f.refused ≡ None) }
+    ensures err { let f = facts.now in IfErr result (λ r.
+        refusal_of f.software f.exclusive f.exclusive_on f.first_on f.refused ≡ Some r) }
 {
     if facts.software {
         return Ok(());
