@@ -1,0 +1,5 @@
+use Rattle.group_lists.proofs.Leaders.{without-lacks}
+use Rattle.group_lists.proofs.group_list.GroupList.move_last.Goals as goal
+
+pub push-requires-clause-new : goal.push-requires-clause-new
+push-requires-clause-new c = rw c.remove.ensures.leaders (without-lacks _ _)

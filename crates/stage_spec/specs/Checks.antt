@@ -1,0 +1,72 @@
+-- For what an attribute is refused by itself, whatever is open. The first four conditions are those of
+-- perf_copy_attr in kernel/events/core.c and of perf_event_open(2), with the bits that this project's own
+-- profile knows; the fifth is this project's own.
+use Rattle.std.specs.Prelude.{ℕ, ◌^◌, ◌==◌, Bool, true, false, not, ◌&&◌, bit_and, List, [], ◌∷◌, find, Option, option_map}
+use Rattle.perf_base.specs.declared.attr.Attr.{Attr}
+use Rattle.perf_base.specs.declared.attr.Kind.{Kind}
+use Rattle.perf_base.specs.declared.attr.Kind.TheVariants as kind
+use Rattle.perf_base.specs.declared.attr.TaskSel.{TaskSel}
+use Rattle.perf_base.specs.declared.attr.TaskSel.TheVariants as tasks
+use Rattle.perf_base.specs.declared.attr.CpuSel.{CpuSel}
+use Rattle.perf_base.specs.declared.attr.CpuSel.TheVariants as cpus
+use Rattle.perf_base.specs.declared.reasons.Reason.{Reason}
+use Rattle.perf_base.specs.declared.reasons.Reason.TheVariants as reason
+
+-- the bits of PERF_SAMPLE_ that are known: IP, TID, TIME, ID, CPU, PERIOD, STREAM_ID and IDENTIFIER
+abbrev pub sample_bits : ℕ
+sample_bits = 0x103c7
+
+-- the bits of PERF_FORMAT_ that are known: both times, ID, GROUP and LOST
+abbrev pub format_bits : ℕ
+format_bits = 0x1f
+
+-- whether some bit of a number is not among these
+abbrev pub has_other_bits : ℕ → ℕ → Bool
+has_other_bits known bits = not (bit_and bits known == bits)
+
+-- whether a kind is counted in software
+abbrev pub is_software : Kind → Bool
+is_software (kind.Hard number) = false
+is_software kind.ContextSwitches = true
+is_software kind.CpuMigrations = true
+is_software kind.TaskClock = true
+is_software kind.Dummy = true
+
+-- whether an event counts all tasks, as pid -1 does
+abbrev pub is_all_tasks : TaskSel → Bool
+is_all_tasks tasks.All = true
+is_all_tasks (tasks.One task) = false
+
+-- whether it counts on any processor, as cpu -1 does
+abbrev pub is_any_cpu : CpuSel → Bool
+is_any_cpu cpus.Any = true
+is_any_cpu (cpus.One cpu) = false
+
+-- the period has its highest bit set
+abbrev pub has_high_period : Attr → Bool
+has_high_period a = not (bit_and a.period (2 ^ 63) == 0)
+
+-- it asks for a field of a sample that is unknown
+abbrev pub has_unknown_sample : Attr → Bool
+has_unknown_sample a = has_other_bits sample_bits a.sample
+
+-- it asks for a word of a read that is unknown
+abbrev pub has_unknown_format : Attr → Bool
+has_unknown_format a = has_other_bits format_bits a.format
+
+-- it names neither a task nor a processor
+abbrev pub has_no_place : Attr → Bool
+has_no_place a = is_all_tasks a.task && is_any_cpu a.cpu
+
+-- a kind that is counted in software does not sample
+abbrev pub has_soft_period : Attr → Bool
+has_soft_period a = is_software a.kind && not (a.period == 0)
+
+-- the five reasons in their order, each with whether it holds
+abbrev pub faults_of : Attr → List (Reason × Bool)
+faults_of a = (reason.BadPeriod, has_high_period a) ∷ (reason.BadSampleBits, has_unknown_sample a) ∷ (reason.BadFormatBits, has_unknown_format a)
+    ∷ (reason.NoPlace, has_no_place a) ∷ (reason.SoftPeriod, has_soft_period a) ∷ []
+
+-- the first of them that holds, if one does
+abbrev pub first_fault : Attr → Option Reason
+first_fault a = option_map (λ f. f.0) (find (λ f. f.1) (faults_of a))
