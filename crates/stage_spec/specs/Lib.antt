@@ -4,3 +4,5 @@ pub mod Progress
 pub mod Replies
 pub mod Recurrence
 pub mod Steps
+pub mod Fits
+pub mod Tight
