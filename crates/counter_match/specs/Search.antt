@@ -1,0 +1,33 @@
+-- The search for a free counter: events are named by their places in the list. After Berge: an event that is reached
+-- could have the counter of the event that it is reached from, if that one were seated elsewhere.
+use Rattle.std.specs.Prelude.{◌≡◌, ◌≢◌, ℕ, ◌+◌, ◌<◌, List, length, slice_index, IsTrue}
+use Rattle.stage_spec.specs.Fits.{can_count}
+
+-- a counter of its mask for each event but the one at a place, and no counter for two
+pub record SeatsAllBut (gap : ℕ) (masks counters : List ℕ) : Type 0 where
+  pub one_each : length counters ≡ length masks
+  pub allowed : (i : ℕ) → i < length masks → i ≢ gap → IsTrue (can_count (slice_index masks i) (slice_index counters i))
+  pub different : (i j : ℕ) → i < j → j < length counters → i ≢ gap → j ≢ gap → slice_index counters i ≢ slice_index counters j
+
+-- The queue has the places reached, in order, the last of the list first. Each other one was reached from an earlier
+-- place of the queue, whose event can count on its counter.
+pub record IsSearch (masks counters queue parents : List ℕ) : Type 0 where
+  pub some : 0 < length queue
+  pub first : slice_index queue 0 + 1 ≡ length masks
+  pub parent_each : length parents ≡ length queue
+  pub inside : (q : ℕ) → q < length queue → slice_index queue q < length masks
+  pub different : (p q : ℕ) → p < q → q < length queue → slice_index queue p ≢ slice_index queue q
+  pub earlier : (q : ℕ) → 0 < q → q < length queue → slice_index parents q < q
+  pub wanted : (q : ℕ) → 0 < q → q < length queue
+      → IsTrue (can_count (slice_index masks (slice_index queue (slice_index parents q))) (slice_index counters (slice_index queue q)))
+
+-- a reached event, not the last of the list, has the counter
+pub record IsHeld (counters queue : List ℕ) (counter : ℕ) : Type 0 where
+  pub position : ℕ
+  pub later : 0 < position
+  pub reached : position < length queue
+  pub is : slice_index counters (slice_index queue position) ≡ counter
+
+-- each counter of the first reached events is held by a reached event
+pub record IsClosedBelow (n : ℕ) (masks counters queue : List ℕ) : Type 0 where
+  pub held : (q counter : ℕ) → q < n → IsTrue (can_count (slice_index masks (slice_index queue q)) counter) → IsHeld counters queue counter
