@@ -2,3 +2,5 @@ pub mod Fitting
 pub mod Lists
 pub mod Hall
 pub mod Without
+pub mod Growth
+pub mod Tightness

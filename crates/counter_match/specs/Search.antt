@@ -1,6 +1,6 @@
 -- The search for a free counter: events are named by their places in the list. After Berge: an event that is reached
 -- could have the counter of the event that it is reached from, if that one were seated elsewhere.
-use Rattle.std.specs.Prelude.{◌≡◌, ◌≢◌, ℕ, ◌+◌, ◌<◌, List, length, slice_index, IsTrue}
+use Rattle.std.specs.Prelude.{◌≡◌, ◌≢◌, ℕ, ◌+◌, ◌<◌, ◌≤◌, suc, Bool, List, [], ◌∷◌, ◌++◌, length, slice_index, IsTrue, if◌then◌else◌}
 use Rattle.stage_spec.specs.Fits.{can_count}
 
 -- a counter of its mask for each event but the one at a place, and no counter for two
@@ -31,3 +31,17 @@ pub record IsHeld (counters queue : List ℕ) (counter : ℕ) : Type 0 where
 -- each counter of the first reached events is held by a reached event
 pub record IsClosedBelow (n : ℕ) (masks counters queue : List ℕ) : Type 0 where
   pub held : (q counter : ℕ) → q < n → IsTrue (can_count (slice_index masks (slice_index queue q)) counter) → IsHeld counters queue counter
+
+-- so are the first counters of one reached event
+pub record IsClosedAt (position n : ℕ) (masks counters queue : List ℕ) : Type 0 where
+  pub held : (counter : ℕ) → counter < n → IsTrue (can_count (slice_index masks (slice_index queue position)) counter) → IsHeld counters queue counter
+
+-- the queue before is the beginning of the queue after
+pub record IsExtended (before after : List ℕ) : Type 0 where
+  pub longer : length before ≤ length after
+  pub same : (q : ℕ) → q < length before → slice_index after q ≡ slice_index before q
+
+-- of a list, what stands at the places that pass the test; the first of the list stands at a given place
+abbrev pub picked : {X : Type 0} → (ℕ → Bool) → ℕ → List X → List X
+picked test place [] = []
+picked test place (x ∷ xs) = (if test place then x ∷ [] else []) ++ picked test (suc place) xs

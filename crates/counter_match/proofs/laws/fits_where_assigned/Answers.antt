@@ -1,3 +1,5 @@
+use Rattle.counter_match.proofs.Growth.{length-search}
+use Rattle.counter_match.proofs.Tightness.{unfit}
 use Rattle.counter_match.proofs.Without.{seats_without}
 use Rattle.counter_match.proofs.Hall.{unfit_from_closed}
 use Rattle.counter_match.proofs.Fitting.{assignment_of, fits-IsAssignment}
