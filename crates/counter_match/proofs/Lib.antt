@@ -4,3 +4,5 @@ pub mod Hall
 pub mod Without
 pub mod Growth
 pub mod Tightness
+pub mod Shift
+pub mod Closing

@@ -45,3 +45,12 @@ pub record IsExtended (before after : List ℕ) : Type 0 where
 abbrev pub picked : {X : Type 0} → (ℕ → Bool) → ℕ → List X → List X
 picked test place [] = []
 picked test place (x ∷ xs) = (if test place then x ∷ [] else []) ++ picked test (suc place) xs
+
+-- While a free counter is handed back: all but the last event have counters, the event at the position can take the free
+-- one, and the events of the queue up to it have the counters that they had when the search began.
+pub record IsShift (masks counters queue seats : List ℕ) (position counter : ℕ) : Type 0 where
+  pub reached : position < length queue
+  pub seated : SeatsAllBut (slice_index queue 0) masks seats
+  pub free : (i : ℕ) → i < length seats → i ≢ slice_index queue 0 → slice_index seats i ≢ counter
+  pub wanted : IsTrue (can_count (slice_index masks (slice_index queue position)) counter)
+  pub same : (q : ℕ) → 0 < q → q ≤ position → slice_index seats (slice_index queue q) ≡ slice_index counters (slice_index queue q)

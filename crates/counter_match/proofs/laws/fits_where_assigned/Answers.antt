@@ -1,3 +1,4 @@
+use Rattle.counter_match.proofs.Closing.{closed_search}
 use Rattle.counter_match.proofs.Growth.{length-search}
 use Rattle.counter_match.proofs.Tightness.{unfit}
 use Rattle.counter_match.proofs.Without.{seats_without}
