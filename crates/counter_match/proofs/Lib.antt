@@ -6,3 +6,5 @@ pub mod Growth
 pub mod Tightness
 pub mod Shift
 pub mod Closing
+pub mod Appended
+pub mod Counting

@@ -5,4 +5,4 @@
 
 mod laws;
 
-pub use laws::fits_where_assigned;
+pub use laws::{fits_where_assigned, tight_sets_lack_one};
