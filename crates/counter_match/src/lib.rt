@@ -4,5 +4,8 @@
 #![tactic(auto)]
 
 mod laws;
+mod places;
+mod steps;
 
 pub use laws::{fits_where_assigned, tight_sets_lack_one};
+pub use steps::Steps;
