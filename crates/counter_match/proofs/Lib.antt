@@ -8,3 +8,4 @@ pub mod Shift
 pub mod Closing
 pub mod Appended
 pub mod Counting
+pub mod Looking

@@ -54,3 +54,11 @@ pub record IsShift (masks counters queue seats : List ℕ) (position counter : �
   pub free : (i : ℕ) → i < length seats → i ≢ slice_index queue 0 → slice_index seats i ≢ counter
   pub wanted : IsTrue (can_count (slice_index masks (slice_index queue position)) counter)
   pub same : (q : ℕ) → 0 < q → q ≤ position → slice_index seats (slice_index queue q) ≡ slice_index counters (slice_index queue q)
+
+-- no event but the one at the gap has the counter
+pub record IsFree (gap : ℕ) (seats : List ℕ) (counter : ℕ) : Type 0 where
+  pub free : (i : ℕ) → i < length seats → i ≢ gap → slice_index seats i ≢ counter
+
+-- the event at a position of the queue can count on the counter
+abbrev pub CanTake : List ℕ → List ℕ → ℕ → ℕ → Type 0
+CanTake masks queue position counter = IsTrue (can_count (slice_index masks (slice_index queue position)) counter)

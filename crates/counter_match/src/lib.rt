@@ -5,6 +5,7 @@
 
 mod laws;
 mod places;
+mod search;
 mod steps;
 
 pub use laws::{fits_where_assigned, tight_sets_lack_one};

@@ -1,0 +1,113 @@
+//! The search for a free counter, breadth first: the last event of the list may take the counter of another event where
+//! that one can be moved, and so on.
+
+ghost use Rattle.std.specs.Prelude.{◌≡◌, ◌≢◌, ◌↔◌, ℕ, ◌+◌, ◌-◌, ◌*◌, ◌<◌, ◌≤◌, ◌^◌, true, false, Some, IsTrue, IfSome, IfNone, if◌then◌else◌, List, [], ◌∷◌, ◌++◌, length, nat_eq, slice_index};
+ghost use Rattle.std.specs.List.{list_any};
+ghost use Rattle.perf_base.specs.declared.numbers.EventNo.{EventNo};
+ghost use Rattle.stage_spec.specs.Fits.{can_count, IsAssignment};
+ghost use Rattle.stage_spec.specs.Tight.{masks_of};
+ghost use Rattle.counter_match.specs.Search.{SeatsAllBut, IsSearch, IsHeld, IsClosedAt, IsClosedBelow, IsExtended, IsFree, IsShift, CanTake};
+
+use crate::places::Places;
+use crate::steps::Steps;
+use perf_base::EventNo;
+use std::sync::ledger::Ledger;
+
+/// Whether the event at a place can count on a counter: one step.
+fn can_take<L: Ledger>(
+    events: &[(EventNo, u32)],
+    place: usize,
+    counter: u8,
+    steps: &mut Steps<L>,
+) -> bool
+    requires place { place < length events.now }
+    requires counter { counter < 16 }
+    ensures answer { result ≡ can_count (slice_index (masks_of events.now) place) counter }
+    ensures step { steps.new ≡ steps.old + 1 }
+{
+    steps.tick();
+    let (_, mask) = events[place];
+    mask >> counter & 1 == 1
+}
+
+/// The first place below `last` whose event has the counter.
+fn holder(seats: &[u8], last: usize, counter: u8) -> Option<usize>
+    requires { last ≤ length seats.now }
+    ensures some { IfSome result (λ place. (place < last) × (slice_index seats.now place ≡ counter)) }
+    ensures none { IfNone result ((place : ℕ) → place < last → slice_index seats.now place ≢ counter) }
+{
+    for place in 0..last {
+        if seats[place] == counter {
+            return Some(place);
+        }
+    }
+    None
+}
+
+/// The places that a search has reached, in order, and for each the position of the place that it was reached from. The
+/// first is the last of the list, which has no counter.
+#[derive(Drop)]
+pub struct Search {
+    pub queue: Places,
+    pub parents: Places,
+}
+
+impl Search {
+    /// A search that has reached one place.
+    pub fn from(last: usize) -> Self
+        ensures queue { result.queue ≡ last ∷ [] }
+        ensures parents { result.parents ≡ 0 ∷ [] }
+    {
+        Search {
+            queue: Places::one(last),
+            parents: Places::one(0),
+        }
+    }
+
+    /// Reaches a place from a position of the queue, if it was not reached before.
+    fn reach(&mut self, place: usize, position: usize)
+        requires queue { list_any (nat_eq place) self.old.queue ≡ false → length self.old.queue < 17 }
+        requires parents { length self.old.parents ≡ length self.old.queue }
+        ensures queue { self.new.queue ≡ (if list_any (nat_eq place) self.old.queue then self.old.queue else self.old.queue ++ place ∷ []) }
+        ensures parents { self.new.parents ≡ (if list_any (nat_eq place) self.old.queue then self.old.parents else self.old.parents ++ position ∷ []) }
+    {
+        if !self.queue.contains(place) {
+            self.queue.push(place);
+            self.parents.push(position);
+        }
+    }
+
+    /// Looks at a counter for the event at a position of the queue: whether it can count there and no other event has
+    /// that counter. Where another event has it, that event is reached.
+    fn look<L: Ledger>(
+        &mut self,
+        events: &[(EventNo, u32)],
+        seats: &[u8],
+        position: usize,
+        counter: u8,
+        steps: &mut Steps<L>,
+    ) -> bool
+        requires search { IsSearch (masks_of events.now) seats.now self.old.queue self.old.parents }
+        requires seats { length seats.now ≡ length events.now }
+        requires few { length events.now ≤ 17 }
+        requires position { position < length self.old.queue }
+        requires counter { counter < 16 }
+        ensures search { IsSearch (masks_of events.now) seats.now self.new.queue self.new.parents }
+        ensures extended { IsExtended self.old.queue self.new.queue }
+        ensures free { IsTrue result → CanTake (masks_of events.now) self.new.queue position counter × IsFree (slice_index self.new.queue 0) seats.now counter }
+        ensures held { result ≡ false → CanTake (masks_of events.now) self.new.queue position counter → IsHeld seats.now self.new.queue counter }
+        ensures step { steps.new ≡ steps.old + 1 }
+    {
+        let place = self.queue.get(position);
+        if !can_take(events, place, counter, steps) {
+            return false;
+        }
+        match holder(seats, events.len() - 1, counter) {
+            None => true,
+            Some(taken) => {
+                self.reach(taken, position);
+                false
+            }
+        }
+    }
+}
