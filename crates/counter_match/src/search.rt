@@ -6,7 +6,7 @@ ghost use Rattle.std.specs.List.{list_any};
 ghost use Rattle.perf_base.specs.declared.numbers.EventNo.{EventNo};
 ghost use Rattle.stage_spec.specs.Fits.{can_count, IsAssignment};
 ghost use Rattle.stage_spec.specs.Tight.{masks_of};
-ghost use Rattle.counter_match.specs.Search.{SeatsAllBut, IsSearch, IsHeld, IsClosedAt, IsClosedBelow, IsExtended, IsFree, IsShift, CanTake};
+ghost use Rattle.counter_match.specs.Search.{SeatsAllBut, IsSearch, IsHeld, IsClosedAt, IsClosedBelow, IsExtended, IsFree, IsShift, CanTake, IsBelow};
 
 use crate::places::Places;
 use crate::steps::Steps;
@@ -109,5 +109,88 @@ impl Search {
                 false
             }
         }
+    }
+
+    /// Looks at the counters for the event at a position of the queue: the first that it can take and that no other
+    /// event has. Events that have another one of its counters are reached.
+    fn look_at<L: Ledger>(
+        &mut self,
+        events: &[(EventNo, u32)],
+        seats: &[u8],
+        counters: u8,
+        position: usize,
+        steps: &mut Steps<L>,
+    ) -> Option<u8>
+        requires search { IsSearch (masks_of events.now) seats.now self.old.queue self.old.parents }
+        requires seats { length seats.now ≡ length events.now }
+        requires few { length events.now ≤ 17 }
+        requires position { position < length self.old.queue }
+        requires some { 0 < counters }
+        requires most { counters ≤ 16 }
+        ensures search { IsSearch (masks_of events.now) seats.now self.new.queue self.new.parents }
+        ensures extended { IsExtended self.old.queue self.new.queue }
+        ensures free { IfSome result (λ counter. CanTake (masks_of events.now) self.new.queue position counter × IsFree (slice_index self.new.queue 0) seats.now counter) }
+        ensures held { IfNone result (IsClosedAt position counters (masks_of events.now) seats.now self.new.queue) }
+        ensures least { steps.old + 1 ≤ steps.new }
+        ensures most { steps.new ≤ steps.old + 16 }
+    {
+        for counter in 0..counters {
+            if self.look(events, seats, position, counter, steps) {
+                return Some(counter);
+            }
+        }
+        None
+    }
+
+    /// Looks at the reached events in turn until one of them can take a free counter: its position, and the counter.
+    fn run<L: Ledger>(
+        &mut self,
+        events: &[(EventNo, u32)],
+        seats: &[u8],
+        counters: u8,
+        steps: &mut Steps<L>,
+    ) -> Option<(usize, u8)>
+        requires search { IsSearch (masks_of events.now) seats.now self.old.queue self.old.parents }
+        requires seats { SeatsAllBut (slice_index self.old.queue 0) (masks_of events.now) seats.now }
+        requires few { length events.now ≤ 17 }
+        requires some { 0 < counters }
+        requires most { counters ≤ 16 }
+        requires masks { IsBelow (2 ^ counters) (masks_of events.now) }
+        ensures search { IsSearch (masks_of events.now) seats.now self.new.queue self.new.parents }
+        ensures free { IfSome result (λ found. IsShift (masks_of events.now) seats.now self.new.queue seats.now found.0 found.1) }
+        ensures closed { IfNone result (IsClosedBelow (length self.new.queue) (masks_of events.now) seats.now self.new.queue) }
+        ensures least { steps.old + 1 ≤ steps.new }
+        ensures most { steps.new ≤ steps.old + 272 }
+    {
+        let mut position = 0;
+        while position < self.queue.len() {
+            if let Some(counter) = self.look_at(events, seats, counters, position, steps) {
+                return Some((position, counter));
+            }
+            position += 1;
+        }
+        None
+    }
+
+    /// Hands a free counter back from the event at a position of the queue, which can take it, to the last of the list.
+    fn hand_back(
+        &self,
+        events: &[(EventNo, u32)],
+        seats: &mut [u8],
+        mut position: usize,
+        mut counter: u8,
+    )
+        requires search { IsSearch (masks_of events.now) seats.old self.now.queue self.now.parents }
+        requires free { IsShift (masks_of events.now) seats.old self.now.queue seats.old position counter }
+        ensures { IsAssignment (masks_of events.now) seats.new }
+    {
+        while position > 0 {
+            let place = self.queue.get(position);
+            let given = seats[place];
+            seats[place] = counter;
+            counter = given;
+            position = self.parents.get(position);
+        }
+        seats[events.len() - 1] = counter;
     }
 }
