@@ -9,3 +9,4 @@ pub mod Closing
 pub mod Appended
 pub mod Counting
 pub mod Looking
+pub mod Picking

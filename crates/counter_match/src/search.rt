@@ -1,16 +1,16 @@
 //! The search for a free counter, breadth first: the last event of the list may take the counter of another event where
 //! that one can be moved, and so on.
 
-ghost use Rattle.std.specs.Prelude.{◌≡◌, ◌≢◌, ◌↔◌, ℕ, ◌+◌, ◌-◌, ◌*◌, ◌<◌, ◌≤◌, ◌^◌, true, false, Some, IsTrue, IfSome, IfNone, if◌then◌else◌, List, [], ◌∷◌, ◌++◌, length, nat_eq, slice_index};
+ghost use Rattle.std.specs.Prelude.{◌≡◌, ◌≢◌, ◌↔◌, ℕ, ◌+◌, ◌-◌, ◌*◌, ◌<◌, ◌≤◌, ◌^◌, true, false, Some, IsTrue, IfSome, IfNone, OnOk, OnErr, IfErr, map, if◌then◌else◌, List, [], ◌∷◌, ◌++◌, length, nat_eq, slice_index};
 ghost use Rattle.std.specs.List.{list_any};
 ghost use Rattle.perf_base.specs.declared.numbers.EventNo.{EventNo};
-ghost use Rattle.stage_spec.specs.Fits.{can_count, IsAssignment};
-ghost use Rattle.stage_spec.specs.Tight.{masks_of};
-ghost use Rattle.counter_match.specs.Search.{SeatsAllBut, IsSearch, IsHeld, IsClosedAt, IsClosedBelow, IsExtended, IsFree, IsShift, CanTake, IsBelow};
+ghost use Rattle.stage_spec.specs.Fits.{can_count, fits, IsAssignment};
+ghost use Rattle.stage_spec.specs.Tight.{masks_of, tight_set};
+ghost use Rattle.counter_match.specs.Search.{SeatsAllBut, IsSearch, IsHeld, IsClosedAt, IsClosedBelow, IsExtended, IsFree, IsShift, CanTake, IsBelow, picked};
 
 use crate::places::Places;
 use crate::steps::Steps;
-use perf_base::EventNo;
+use perf_base::{EventNo, Tight};
 use std::sync::ledger::Ledger;
 
 /// Whether the event at a place can count on a counter: one step.
@@ -192,5 +192,51 @@ impl Search {
             position = self.parents.get(position);
         }
         seats[events.len() - 1] = counter;
+    }
+
+    /// The slots of the reached events, in list order.
+    fn reached(&self, events: &[(EventNo, u32)]) -> Tight
+        requires { length events.now ≤ 17 }
+        ensures { result ≡ map (λ event. event.0) (picked (λ place. list_any (nat_eq place) self.now.queue) 0 events.now) }
+    {
+        let mut tight = Tight::new();
+        for place in 0..events.len() {
+            if self.queue.contains(place) {
+                let (event, _) = events[place];
+                tight.push(event);
+            }
+        }
+        tight
+    }
+}
+
+/// Gives the last event of a list a counter. The others have counters, and may get others in their place. Where the list
+/// does not fit, nothing changes, and the answer is its tight set.
+pub fn seat_last<L: Ledger>(
+    events: &[(EventNo, u32)],
+    seats: &mut [u8],
+    counters: u8,
+    steps: &mut Steps<L>,
+) -> Result<(), Tight>
+    requires last { 0 < length events.now }
+    requires seats { SeatsAllBut (length events.now - 1) (masks_of events.now) seats.old }
+    requires few { length events.now ≤ 17 }
+    requires some { 0 < counters }
+    requires most { counters ≤ 16 }
+    requires masks { IsBelow (2 ^ counters) (masks_of events.now) }
+    ensures seated { OnOk result (IsAssignment (masks_of events.now) seats.new) }
+    ensures same { OnErr result (seats.new ≡ seats.old) }
+    ensures unfit { OnErr result (fits (masks_of events.now) ≡ false) }
+    ensures tight { IfErr result (λ slots. slots ≡ map (λ event. event.0) (tight_set events.now)) }
+    ensures least { steps.old + 1 ≤ steps.new }
+    ensures most { steps.new ≤ steps.old + 272 }
+{
+    let mut search = Search::from(events.len() - 1);
+    match search.run(events, seats, counters, steps) {
+        Some((position, counter)) => {
+            search.hand_back(events, seats, position, counter);
+            Ok(())
+        }
+        None => Err(search.reached(events)),
     }
 }
