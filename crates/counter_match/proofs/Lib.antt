@@ -10,3 +10,4 @@ pub mod Appended
 pub mod Counting
 pub mod Looking
 pub mod Picking
+pub mod Assigned

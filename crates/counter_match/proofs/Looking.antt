@@ -1,5 +1,5 @@
 -- A search when one more counter is looked at.
-use Rattle.std.specs.Prelude.{◌≢◌, ◌^◌, ◌==◌, nat_lt, nat_eq, IsTrue, if◌then◌else◌}
+use Rattle.std.specs.Prelude.{◌≢◌, ◌^◌, ◌==◌, nat_lt, nat_eq, IsTrue, All, if◌then◌else◌}
 use Rattle.std.proofs.Common.{◌≡◌, ℕ, zero, suc, ◌+◌, ◌<◌, ◌≤◌, Bool, true, false, List, [], ◌∷◌, ◌++◌, length, get_or, cond, refl, sym, ap, ◌∙◌, arith, inl, inr, ◌⊎◌, subst}
 use Rattle.std.specs.List.{list_any}
 use Rattle.std.proofs.lemmas.Bool.{cases_Bool, cases_eq, cases_lt, both_ways, and_parts, eqb-true}
@@ -7,7 +7,8 @@ use Rattle.std.proofs.lemmas.Nat.Bits.{bit_at_above}
 use Rattle.std.specs.Int.{bit_at}
 use Rattle.std.proofs.lemmas.List.{get_or_push, length_push, get_or_append_left}
 use Rattle.stage_spec.specs.Fits.{can_count}
-use Rattle.counter_match.specs.Search.{IsSearch, IsHeld, IsExtended, IsClosedAt, IsBelow, CanTake}
+use Rattle.counter_match.specs.Search.{IsSearch, IsHeld, IsExtended, IsClosedAt, CanTake}
+use Rattle.counter_match.specs.Seating.{IsMask}
 use Rattle.counter_match.proofs.Lists.{any-from_In}
 use Rattle.counter_match.proofs.Growth.{IsExtended-same, IsExtended-push, IsHeld-reached, IsSearch-push, length-le_below}
 
@@ -64,12 +65,12 @@ length-search_new masks counters queue parents place s lp new =
     left i l = get_or_append_left queue (place ∷ []) 0 i l
 
 -- all counters of an event are looked at once those of the processor are
-pub IsClosedAt-all : (at n : ℕ) (masks counters queue parents : List ℕ) → IsSearch masks counters queue parents → at < length queue → IsBelow (2 ^ n) masks
+pub IsClosedAt-all : (at n : ℕ) (masks counters queue parents : List ℕ) → IsSearch masks counters queue parents → at < length queue → All (IsMask n) masks
     → IsClosedAt at n masks counters queue → IsClosedAt at 16 masks counters queue
 IsClosedAt-all at n masks counters queue parents s l b c =
     record { held = λ counter low can. elim (cases_lt counter n) [
         inl lt ↦ c.held counter lt can
-      | inr ge ↦ absurd (beyond (get_or masks (get_or queue at 0) 0) n counter (b.below (get_or queue at 0) (s.inside at l)) ge can)
+      | inr ge ↦ absurd (beyond (get_or masks (get_or queue at 0) 0) n counter (b (get_or queue at 0) 0 (s.inside at l)).1 ge can)
       ] }
   where
     beyond : (mask n counter : ℕ) → mask < 2 ^ n → n ≤ counter → can_count mask counter ≡ true → ⊥

@@ -1,1 +1,3 @@
 pub mod Search
+pub mod Seating
+pub mod Stored

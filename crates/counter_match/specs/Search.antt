@@ -62,7 +62,3 @@ pub record IsFree (gap : ℕ) (seats : List ℕ) (counter : ℕ) : Type 0 where
 -- the event at a position of the queue can count on the counter
 abbrev pub CanTake : List ℕ → List ℕ → ℕ → ℕ → Type 0
 CanTake masks queue position counter = IsTrue (can_count (slice_index masks (slice_index queue position)) counter)
-
--- each of the numbers is below the bound
-pub record IsBelow (bound : ℕ) (numbers : List ℕ) : Type 0 where
-  pub below : (i : ℕ) → i < length numbers → slice_index numbers i < bound

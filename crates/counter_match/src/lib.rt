@@ -6,6 +6,7 @@
 mod laws;
 mod places;
 mod search;
+mod seating;
 mod steps;
 
 pub use laws::{fits_where_assigned, tight_sets_lack_one};

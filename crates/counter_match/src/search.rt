@@ -1,12 +1,13 @@
 //! The search for a free counter, breadth first: the last event of the list may take the counter of another event where
 //! that one can be moved, and so on.
 
-ghost use Rattle.std.specs.Prelude.{◌≡◌, ◌≢◌, ◌↔◌, ℕ, ◌+◌, ◌-◌, ◌*◌, ◌<◌, ◌≤◌, ◌^◌, true, false, Some, IsTrue, IfSome, IfNone, OnOk, OnErr, IfErr, map, if◌then◌else◌, List, [], ◌∷◌, ◌++◌, length, nat_eq, slice_index};
+ghost use Rattle.std.specs.Prelude.{◌≡◌, ◌≢◌, ◌↔◌, ℕ, ◌+◌, ◌-◌, ◌*◌, ◌<◌, ◌≤◌, true, false, Some, IsTrue, IfSome, IfNone, OnOk, OnErr, IfErr, All, take, if◌then◌else◌, List, [], ◌∷◌, ◌++◌, length, nat_eq, slice_index};
 ghost use Rattle.std.specs.List.{list_any};
 ghost use Rattle.perf_base.specs.declared.numbers.EventNo.{EventNo};
 ghost use Rattle.stage_spec.specs.Fits.{can_count, fits, IsAssignment};
 ghost use Rattle.stage_spec.specs.Tight.{masks_of, tight_set};
-ghost use Rattle.counter_match.specs.Search.{SeatsAllBut, IsSearch, IsHeld, IsClosedAt, IsClosedBelow, IsExtended, IsFree, IsShift, CanTake, IsBelow, picked};
+ghost use Rattle.counter_match.specs.Search.{SeatsAllBut, IsSearch, IsHeld, IsClosedAt, IsClosedBelow, IsExtended, IsFree, IsShift, CanTake, picked};
+ghost use Rattle.counter_match.specs.Seating.{IsMask, slots_of};
 
 use crate::places::Places;
 use crate::steps::Steps;
@@ -155,7 +156,7 @@ impl Search {
         requires few { length events.now ≤ 17 }
         requires some { 0 < counters }
         requires most { counters ≤ 16 }
-        requires masks { IsBelow (2 ^ counters) (masks_of events.now) }
+        requires masks { All (IsMask counters) (masks_of events.now) }
         ensures search { IsSearch (masks_of events.now) seats.now self.new.queue self.new.parents }
         ensures free { IfSome result (λ found. IsShift (masks_of events.now) seats.now self.new.queue seats.now found.0 found.1) }
         ensures closed { IfNone result (IsClosedBelow (length self.new.queue) (masks_of events.now) seats.now self.new.queue) }
@@ -197,7 +198,7 @@ impl Search {
     /// The slots of the reached events, in list order.
     fn reached(&self, events: &[(EventNo, u32)]) -> Tight
         requires { length events.now ≤ 17 }
-        ensures { result ≡ map (λ event. event.0) (picked (λ place. list_any (nat_eq place) self.now.queue) 0 events.now) }
+        ensures { result ≡ slots_of (picked (λ place. list_any (nat_eq place) self.now.queue) 0 events.now) }
     {
         let mut tight = Tight::new();
         for place in 0..events.len() {
@@ -210,8 +211,8 @@ impl Search {
     }
 }
 
-/// Gives the last event of a list a counter. The others have counters, and may get others in their place. Where the list
-/// does not fit, nothing changes, and the answer is its tight set.
+/// Gives the last event of a list a counter. The first of `seats` are the counters of the events, which may get others in
+/// their place. Where the list does not fit, nothing changes, and the answer is its tight set.
 pub fn seat_last<L: Ledger>(
     events: &[(EventNo, u32)],
     seats: &mut [u8],
@@ -219,18 +220,20 @@ pub fn seat_last<L: Ledger>(
     steps: &mut Steps<L>,
 ) -> Result<(), Tight>
     requires last { 0 < length events.now }
-    requires seats { SeatsAllBut (length events.now - 1) (masks_of events.now) seats.old }
+    requires room { length events.now ≤ length seats.old }
+    requires seats { SeatsAllBut (length events.now - 1) (masks_of events.now) (take (length events.now) seats.old) }
     requires few { length events.now ≤ 17 }
     requires some { 0 < counters }
     requires most { counters ≤ 16 }
-    requires masks { IsBelow (2 ^ counters) (masks_of events.now) }
-    ensures seated { OnOk result (IsAssignment (masks_of events.now) seats.new) }
+    requires masks { All (IsMask counters) (masks_of events.now) }
+    ensures seated { OnOk result (IsAssignment (masks_of events.now) (take (length events.now) seats.new)) }
     ensures same { OnErr result (seats.new ≡ seats.old) }
     ensures unfit { OnErr result (fits (masks_of events.now) ≡ false) }
-    ensures tight { IfErr result (λ slots. slots ≡ map (λ event. event.0) (tight_set events.now)) }
+    ensures tight { IfErr result (λ slots. slots ≡ slots_of (tight_set events.now)) }
     ensures least { steps.old + 1 ≤ steps.new }
     ensures most { steps.new ≤ steps.old + 272 }
 {
+    let seats = &mut seats[..events.len()];
     let mut search = Search::from(events.len() - 1);
     match search.run(events, seats, counters, steps) {
         Some((position, counter)) => {
