@@ -11,3 +11,5 @@ pub mod Counting
 pub mod Looking
 pub mod Picking
 pub mod Assigned
+pub mod Listing
+pub mod Refusal

@@ -1,5 +1,5 @@
 -- Hardware events on the counters of one processor. This project's own profile.
-use Rattle.std.specs.Prelude.{◌≡◌, ◌≢◌, ℕ, ◌<◌, ◌≤◌, ◌^◌, List, map, All}
+use Rattle.std.specs.Prelude.{◌≡◌, ◌≢◌, ℕ, ◌<◌, ◌≤◌, ◌^◌, List, [], map, All}
 use Rattle.std.specs.List.{AllPairs, zip}
 use Rattle.perf_base.specs.declared.numbers.EventNo.{EventNo}
 use Rattle.stage_spec.specs.Fits.{IsAssignment}
@@ -35,3 +35,7 @@ pub record IsSound (s : Seated) : Type 0 where
   pub assigned : IsAssignment (masks_of s.events) s.seats
   pub masks : All (IsMask s.counters) (masks_of s.events)
   pub distinct : AreDistinct s.events
+
+-- no event on some counters
+abbrev pub empty_seating : ℕ → Seated
+empty_seating counters = record { counters = counters; events = []; seats = [] }

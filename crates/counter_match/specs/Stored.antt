@@ -3,7 +3,7 @@ use Rattle.std.specs.Prelude.{◌≡◌, ℕ, ◌<◌, ◌≤◌, List, take, Al
 use Rattle.perf_base.specs.declared.numbers.EventNo.{EventNo}
 use Rattle.stage_spec.specs.Fits.{IsAssignment}
 use Rattle.stage_spec.specs.Tight.{masks_of}
-use Rattle.counter_match.specs.Seating.{IsMask}
+use Rattle.counter_match.specs.Seating.{IsMask, AreDistinct, Seated}
 use Rattle.counter_match.specs.declared.seating.Seating.{Seating}
 
 -- the events, and their counters
@@ -18,3 +18,14 @@ pub record IsSeating (counters : ℕ) (s : Seating) : Type 0 where
   pub few : s.used ≤ 16
   pub assigned : IsAssignment (masks_of (events_of s)) (seats_of s)
   pub masks : All (IsMask counters) (masks_of (events_of s))
+
+-- what contracts see
+abbrev pub seated_of : ℕ → Seating → Seated
+seated_of counters s = record { counters = counters; events = events_of s; seats = seats_of s }
+
+-- what is always so
+pub record IsKept (counters : ℕ) (s : Seating) : Type 0 where
+  pub some : 0 < counters
+  pub most : counters ≤ 16
+  pub seating : IsSeating counters s
+  pub distinct : AreDistinct (events_of s)

@@ -7,7 +7,9 @@ mod laws;
 mod places;
 mod search;
 mod seating;
+mod seats;
 mod steps;
 
 pub use laws::{fits_where_assigned, tight_sets_lack_one};
+pub use seats::Seats;
 pub use steps::Steps;

@@ -1,14 +1,15 @@
 //! A seating in plain arrays, which can be copied and tried out.
 
 ghost use Rattle.std.specs.Prelude.{◌≡◌, ℕ, ◌+◌, ◌<◌, ◌≤◌, false, OnOk, OnErr, IfErr, [], ◌∷◌, ◌++◌};
+ghost use Rattle.std.specs.List.{zip};
 ghost use Rattle.stage_spec.specs.Fits.{fits};
 ghost use Rattle.stage_spec.specs.Tight.{masks_of, tight_set};
 ghost use Rattle.counter_match.specs.Seating.{IsMask, slots_of};
-ghost use Rattle.counter_match.specs.Stored.{IsSeating, events_of};
+ghost use Rattle.counter_match.specs.Stored.{IsSeating, events_of, seats_of};
 
 use crate::search::seat_last;
 use crate::steps::Steps;
-use perf_base::{EventNo, Tight};
+use perf_base::{EventNo, SeatList, Tight};
 use std::sync::ledger::Ledger;
 
 /// Events with their masks, and a counter for each, in order of coming. One more place than there are counters is for
@@ -21,6 +22,30 @@ pub struct Seating {
 }
 
 impl Seating {
+    /// No events.
+    pub fn new() -> Self
+        ensures { result.used ≡ 0 }
+    {
+        Seating {
+            used: 0,
+            events: [(EventNo(0), 0); 17],
+            seats: [0; 17],
+        }
+    }
+
+    /// The slots of the events with their counters.
+    pub fn list(&self) -> SeatList
+        requires { self.now.used ≤ 16 }
+        ensures { result ≡ zip (slots_of (events_of self.now)) (seats_of self.now) }
+    {
+        let mut list = SeatList::new();
+        for place in 0..self.used {
+            let (event, _) = self.events[place];
+            list.push((event, self.seats[place]));
+        }
+        list
+    }
+
     /// Adds an event with its mask. Where the events do not fit with it, the answer is their tight set, and what is left
     /// is of no use.
     pub fn add<L: Ledger>(
