@@ -13,3 +13,4 @@ pub mod Picking
 pub mod Assigned
 pub mod Listing
 pub mod Refusal
+pub mod Trials

@@ -9,6 +9,8 @@ mod search;
 mod seating;
 mod seats;
 mod steps;
+#[cfg(test)]
+mod tests;
 
 pub use laws::{fits_where_assigned, tight_sets_lack_one};
 pub use seats::Seats;
