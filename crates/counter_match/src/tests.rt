@@ -182,3 +182,141 @@ fn tell_list(text: &mut String, list: &SeatList) -> Result<(), AllocError> {
     }
     Ok(())
 }
+
+/// The same, where nobody counts the steps.
+fn told_plainly(alloc: Global, counters: u8, masks: &[u32]) -> Result<String, AllocError>
+    requires some { 0 < counters }
+    requires most { counters ≤ 16 }
+    requires few { length masks.now ≤ 17 }
+{
+    told::<Brand>(alloc, Blank::new(1), counters, masks)
+}
+
+#[test]
+fn cases(rt: HostRuntime) -> Result<(), Fail> {
+    let table = [
+        (3, [1, 6, 1].as_slice(), "ok ok 0 2 no 0:0 1:1 "),
+        (2, [3, 1].as_slice(), "ok ok 0:1 1:0 "),
+        (2, [3, 1, 2, 3].as_slice(), "ok ok 0 1 2 no 0 1 3 no 0:1 1:0 "),
+        (4, [12, 3, 1, 3].as_slice(), "ok ok ok 1 2 3 no 0:2 1:1 2:0 "),
+        (
+            16,
+            [0xffff; 17].as_slice(),
+            "ok ok ok ok ok ok ok ok ok ok ok ok ok ok ok ok 0 1 2 3 4 5 6 7 8 9 10 11 12 13 14 15 16 no 0:0 1:1 2:2 3:3 4:4 5:5 6:6 7:7 8:8 9:9 10:10 11:11 12:12 13:13 14:14 15:15 ",
+        ),
+    ];
+    for (counters, masks, want) in table {
+        assert!(rt; counters > 0 && counters <= 16 && masks.len() <= 17);
+        let text = told_plainly(rt.alloc(), counters, masks)?;
+        assert_eq!(rt; text.as_str(), want);
+    }
+    Ok(())
+}
+
+/// Masks of few counters, of 16.
+static SPARSE: [u32; 12] = [
+    0x0001, 0x0003, 0x0006, 0x8001, 0x0011, 0x4002, 0x0007, 0x8000, 0xc000, 0x0030, 0x0021, 0xffff,
+];
+
+/// A mask by a number: each of 3 counters' from 0 on, and some of 16 counters'.
+fn mask_by(counters: u8, number: usize) -> u32
+    requires some { 0 < counters }
+    requires most { counters ≤ 16 }
+    ensures { IsMask counters result }
+{
+    let mask = if counters == 3 {
+        (1 + number % 7) as u32
+    } else {
+        SPARSE[number % 12]
+    };
+    if mask == 0 || mask >> counters != 0 {
+        1
+    } else {
+        mask
+    }
+}
+
+/// The list of so many masks whose numbers are the digits of a number.
+fn masks_by(
+    alloc: Global,
+    counters: u8,
+    count: usize,
+    number: usize,
+    base: usize,
+) -> Result<Vec<u32>, AllocError>
+    requires some { 0 < counters }
+    requires most { counters ≤ 16 }
+    requires base { (0 < base) × (base < 100) }
+    ensures masks { IfOk result (λ masks. All (IsMask counters) masks.items) }
+    ensures count { IfOk result (λ masks. length masks.items ≡ count) }
+{
+    let mut masks = Vec::new(alloc);
+    let mut rest = number;
+    for _ in 0..count {
+        masks.push(mask_by(counters, rest % base))?;
+        rest /= base;
+    }
+    Ok(masks)
+}
+
+/// Whether seats and the plain search agree on lists of `count` masks, the numbers of which begin at `from` and go up in
+/// steps, however such a list is split into two groups.
+fn all_agree<L: Ledger>(
+    alloc: Global,
+    blank: Blank,
+    counters: u8,
+    count: usize,
+    base: usize,
+    lists: usize,
+    step: usize,
+) -> Result<bool, AllocError>
+    requires name { blank.name ≡ L.name }
+    requires parts { blank.parts ≡ L.parts }
+    requires some_parts { 0 < blank.parts }
+    requires some { 0 < counters }
+    requires most { counters ≤ 16 }
+    requires count { count ≤ 9 }
+    requires base { (0 < base) × (base < 100) }
+{
+    let mut steps = Steps::<L>::new(blank);
+    for list in 0..lists {
+        let masks = masks_by(alloc, counters, count, list.wrapping_mul(step), base)?;
+        let events = events_with(alloc, masks.as_slice())?;
+        for split in count.saturating_sub(8)..count.min(8) + 1 {
+            if !agrees(counters, events.as_slice(), masks.as_slice(), split, &mut steps) {
+                return Ok(false);
+            }
+        }
+    }
+    Ok(true)
+}
+
+/// The same, where nobody counts the steps.
+fn all_agree_plainly(
+    alloc: Global,
+    counters: u8,
+    count: usize,
+    base: usize,
+    lists: usize,
+    step: usize,
+) -> Result<bool, AllocError>
+    requires some { 0 < counters }
+    requires most { counters ≤ 16 }
+    requires count { count ≤ 9 }
+    requires base { (0 < base) × (base < 100) }
+{
+    all_agree::<Brand>(alloc, Blank::new(1), counters, count, base, lists, step)
+}
+
+#[test]
+fn agrees_with_the_plain_search(rt: HostRuntime) -> Result<(), Fail> {
+    let alloc = rt.alloc();
+    assert!(rt; all_agree_plainly(alloc, 3, 0, 7, 1, 1)?);
+    assert!(rt; all_agree_plainly(alloc, 3, 1, 7, 7, 1)?);
+    assert!(rt; all_agree_plainly(alloc, 3, 2, 7, 49, 1)?);
+    assert!(rt; all_agree_plainly(alloc, 3, 3, 7, 343, 1)?);
+    assert!(rt; all_agree_plainly(alloc, 3, 4, 7, 2401, 1)?);
+    assert!(rt; all_agree_plainly(alloc, 16, 6, 12, 100, 7919)?);
+    assert!(rt; all_agree_plainly(alloc, 16, 9, 12, 100, 1_299_709_421)?);
+    Ok(())
+}
