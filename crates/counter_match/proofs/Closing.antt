@@ -1,15 +1,23 @@
--- Where a list does not fit though it does without its last event, some search is closed.
+-- Where no reached event can take a free counter, some search is closed.
 use Rattle.std.specs.Prelude.{◌≢◌, nat_eq, IsTrue}
 use Rattle.std.proofs.Common.{◌≡◌, ℕ, zero, suc, ◌+◌, ◌<◌, ◌≤◌, Bool, true, false, List, [], ◌∷◌, ◌++◌, length, get_or, take, refl, sym, ap, ◌∙◌, arith, inl, inr, ◌⊎◌, subst, add-one, length-take}
 use Rattle.std.specs.List.{list_any}
 use Rattle.std.proofs.lemmas.Bool.{cases_Bool, cases_lt, both_ways}
 use Rattle.std.proofs.lemmas.List.{get_or-take, length_push, get_or_push}
 use Rattle.stage_spec.specs.Fits.{can_count, fits}
-use Rattle.counter_match.specs.Search.{SeatsAllBut, IsSearch, IsHeld, IsClosedBelow, IsClosedAt, IsExtended}
+use Rattle.counter_match.specs.Search.{SeatsAllBut, IsSearch, IsHeld, IsClosedBelow, IsClosedAt, IsExtended, IsShift}
 use Rattle.counter_match.proofs.Fitting.{can_count-below}
 use Rattle.counter_match.proofs.Lists.{In, In-from_any, any-from_In}
 use Rattle.counter_match.proofs.Growth.{IsExtended-same, IsExtended-push, IsExtended-trans, IsHeld-reached, IsClosedBelow-extended, IsClosedAt-extended, IsClosedAt-more, IsClosedBelow-more, IsSearch-push, IsSearch-start, length-search}
 use Rattle.counter_match.proofs.Shift.{IsShift-start, fits_from_shift}
+
+-- no event that is reached can take a counter that is free
+pub record IsStuck (masks counters : List ℕ) : Type 0 where
+  pub stuck : (queue parents : List ℕ) (position counter : ℕ) → IsSearch masks counters queue parents → IsShift masks counters queue counters position counter → ⊥
+
+pub IsStuck-unfit : (masks counters : List ℕ) → fits masks ≡ false → IsStuck masks counters
+IsStuck-unfit masks counters un =
+    record { stuck = λ queue parents position counter s h. both_ways _ un (fits_from_shift masks counters queue parents s (suc position) counters position counter (omega arith) h) }
 
 -- the search once the counters of one event, below some number, are looked at
 pub record Wider (masks counters queue : List ℕ) (at n : ℕ) : Type 0 where
@@ -47,7 +55,7 @@ wider_held masks counters queue at n place w la lp e can =
     la' : at < length w.wide
     la' = omega (arith, la, w.extended.longer)
 
-pub wider : (masks counters queue parents : List ℕ) (at : ℕ) → fits masks ≡ false → SeatsAllBut (get_or queue 0 0) masks counters → IsSearch masks counters queue parents → at < length queue
+pub wider : (masks counters queue parents : List ℕ) (at : ℕ) → IsStuck masks counters → SeatsAllBut (get_or queue 0 0) masks counters → IsSearch masks counters queue parents → at < length queue
     → (n : ℕ) → Wider masks counters queue at n
 wider masks counters queue parents at un a s la zero =
     record { wide = queue; parents = parents; search = s; extended = IsExtended-same queue; closed = record { held = λ c l can. absurd (omega arith) } }
@@ -67,11 +75,11 @@ wider masks counters queue parents at un a s la (suc n) =
         | inr f ↦
             let same : get_or w.wide 0 0 ≡ get_or queue 0 0 = w.extended.same 0 s.some in
             let S : ℕ → Type 0 = λ g. SeatsAllBut g masks counters in
-            absurd (both_ways _ un (fits_from_shift masks counters w.wide w.parents w.search (suc at) counters at n (omega arith)
+            absurd (un.stuck w.wide w.parents at n w.search
               (IsShift-start masks counters w.wide w.parents at n w.search (subst S (sym same) a) (omega (arith, la, w.extended.longer)) can
                 (λ j l m q.
                   let lj : j < get_or queue 0 0 = omega (arith, m, same, s.first, a.one_each) in
-                  both_ways _ f (any-from_In (take (get_or queue 0 0) counters) n (record { place = j; within = omega (arith, length-take (get_or queue 0 0) counters); is = get_or-take (get_or queue 0 0) counters j 0 lj ∙ q }))))))
+                  both_ways _ f (any-from_In (take (get_or queue 0 0) counters) n (record { place = j; within = omega (arith, length-take (get_or queue 0 0) counters); is = get_or-take (get_or queue 0 0) counters j 0 lj ∙ q })))))
         ]
     ])
 
@@ -83,7 +91,7 @@ pub record Closed (masks counters : List ℕ) (first : ℕ) : Type 0 where
   pub begins : get_or queue 0 0 ≡ first
   pub closed : IsClosedBelow (length queue) masks counters queue
 
-pub closed_from : (masks counters : List ℕ) (first : ℕ) → fits masks ≡ false → SeatsAllBut first masks counters → (fuel n : ℕ) → length masks ≤ n + fuel
+pub closed_from : (masks counters : List ℕ) (first : ℕ) → IsStuck masks counters → SeatsAllBut first masks counters → (fuel n : ℕ) → length masks ≤ n + fuel
     → (queue parents : List ℕ) → IsSearch masks counters queue parents → get_or queue 0 0 ≡ first → n ≤ length queue → IsClosedBelow n masks counters queue → Closed masks counters first
 closed_from masks counters first un a zero n enough queue parents s b l c =
     record { queue = queue; parents = parents; search = s; begins = b; closed = record { held = λ q k m can. c.held q k (omega (arith, length-search masks counters queue parents s)) can } }
@@ -97,6 +105,6 @@ closed_from masks counters first un a (suc fuel) n enough queue parents s b l c 
     | inr ge ↦ record { queue = queue; parents = parents; search = s; begins = b; closed = record { held = λ q k m can. c.held q k (omega arith) can } }
     ]
 
-pub closed_search : (masks counters : List ℕ) (last : ℕ) → fits masks ≡ false → SeatsAllBut last masks counters → last + 1 ≡ length masks → Closed masks counters last
+pub closed_search : (masks counters : List ℕ) (last : ℕ) → IsStuck masks counters → SeatsAllBut last masks counters → last + 1 ≡ length masks → Closed masks counters last
 closed_search masks counters last un a e =
     closed_from masks counters last un a (length masks) 0 (omega arith) (last ∷ []) (0 ∷ []) (IsSearch-start masks counters last e) refl (omega arith) (record { held = λ q k l can. absurd (omega arith) })

@@ -11,7 +11,7 @@ use Rattle.stage_spec.specs.Tight.{masks_of, tight_set, allowed_count, all_count
 use Rattle.counter_match.specs.Search.{SeatsAllBut, IsSearch, IsHeld, IsClosedBelow, picked}
 use Rattle.counter_match.proofs.Fitting.{can_count-below, assignment_of, different-cons}
 use Rattle.counter_match.proofs.Lists.{In, In-from_any, any-from_In, AreDifferent, length-le_from_In}
-use Rattle.counter_match.proofs.Closing.{Closed, closed_search}
+use Rattle.counter_match.proofs.Closing.{Closed, closed_search, IsStuck-unfit}
 use Rattle.counter_match.proofs.Tightness.{tight_set-picked}
 use Rattle.counter_match.proofs.Appended.{SeatsAllBut-appended}
 
@@ -226,4 +226,4 @@ tight_law events last fit unfit =
       (let P : List ℕ → Type 0 = λ ms. SeatsAllBut (length (masks_of events)) ms (a.0 ++ 0 ∷ []) in
       subst P (sym (map-append (λ (e : EventNo × ℕ). e.1) events (last ∷ []))) (SeatsAllBut-appended (masks_of events) a.0 last.1 0 a.1)) in
     one_fewer (events ++ last ∷ []) (a.0 ++ 0 ∷ []) (length (masks_of events)) s
-      (closed_search (masks_of (events ++ last ∷ [])) (a.0 ++ 0 ∷ []) (length (masks_of events)) unfit s (omega arith))
+      (closed_search (masks_of (events ++ last ∷ [])) (a.0 ++ 0 ∷ []) (length (masks_of events)) (IsStuck-unfit (masks_of (events ++ last ∷ [])) (a.0 ++ 0 ∷ []) unfit) s (omega arith))

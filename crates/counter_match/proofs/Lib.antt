@@ -14,3 +14,4 @@ pub mod Assigned
 pub mod Listing
 pub mod Refusal
 pub mod Trials
+pub mod Berge

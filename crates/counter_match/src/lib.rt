@@ -12,6 +12,6 @@ mod steps;
 #[cfg(test)]
 mod tests;
 
-pub use laws::{fits_where_assigned, tight_sets_lack_one};
+pub use laws::{fits_where_assigned, no_path_where_unfit, tight_sets_lack_one};
 pub use seats::Seats;
 pub use steps::Steps;
