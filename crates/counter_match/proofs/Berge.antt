@@ -51,7 +51,6 @@ pub fits-path : (masks seats path : List ℕ) (counter last : ℕ) → last + 1 
 fits-path masks seats path counter last e s p =
     let S : ℕ → Type 0 = λ gap. SeatsAllBut gap masks seats in
     let first : last ≡ get_or path 0 0 = omega (arith, p.first) in
-    let i : ℕ = length path - 1 in
     let l : length path - 1 < length path = omega (arith, p.some) in
     fits_from_shift masks seats path (predecessors 0 (length path)) (IsSearch-path masks seats path counter p) (length path) seats (length path - 1) counter l
       (IsShift-start masks seats path (predecessors 0 (length path)) (length path - 1) counter (IsSearch-path masks seats path counter p) (subst S first s) l
