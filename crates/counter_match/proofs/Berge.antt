@@ -53,8 +53,8 @@ fits-path masks seats path counter last e s p =
     let first : last ≡ get_or path 0 0 = omega (arith, p.first) in
     let l : length path - 1 < length path = omega (arith, p.some) in
     fits_from_shift masks seats path (predecessors 0 (length path)) (IsSearch-path masks seats path counter p) (length path) seats (length path - 1) counter l
-      (IsShift-start masks seats path (predecessors 0 (length path)) (length path - 1) counter (IsSearch-path masks seats path counter p) (subst S first s) l
-        (p.wanted (length path - 1) (omega (arith, p.some))) p.free.free)
+    (IsShift-start masks seats path (predecessors 0 (length path)) (length path - 1) counter (IsSearch-path masks seats path counter p) (subst S first s) l
+    (p.wanted (length path - 1) (omega (arith, p.some))) p.free.free)
 
 -- where a place of the path stands in the queue
 pub record IsEarlier (queue : List ℕ) (q place : ℕ) : Type 0 where
@@ -80,37 +80,40 @@ path_next masks seats queue parents q s lo hi p =
       first = left 0 p.some ∙ p.first;
       last = λ i e. end i (omega (arith, more));
       from = λ i l. elim (cases_eq i (length p.path)) [
-          inl e ↦ record { position = q; low = omega arith; is = sym (end i e) }
+        | inl e ↦ record { position = q; low = omega arith; is = sym (end i e) }
         | inr ne ↦
             let li : i < length p.path = omega (arith, l, more) in
             let f = p.from i li in
             record { position = f.position; low = omega (arith, f.low, earlier); is = f.is ∙ sym (left i li) }
-        ];
+      ];
       different = λ i j l m e. elim (cases_eq j (length p.path)) [
-          inl f ↦
+        | inl f ↦
             let li : i < length p.path = omega arith in
             let g = p.from i li in
             s.different g.position q (omega (arith, g.low, earlier)) hi (g.is ∙ (sym (left i li) ∙ (e ∙ end j f)))
         | inr ne ↦
             let lj : j < length p.path = omega (arith, m, more) in
             p.different i j l lj (sym (left i (omega arith)) ∙ (e ∙ left j lj))
-        ];
+      ];
       next = λ i l. elim (cases_eq (i + 1) (length p.path)) [
-          inl e ↦
+        | inl e ↦
             let li : i < length p.path = omega arith in
             rw (left i li, end (i + 1) e, p.last i e) (s.wanted q lo hi)
         | inr ne ↦
             let lj : i + 1 < length p.path = omega (arith, l, more) in
             rw (left i (omega arith), left (i + 1) lj) (p.next i lj)
-        ];
+      ];
     }
   where
     earlier : get_or parents q 0 < q
     earlier = s.earlier q lo hi
+
     more : length (p.path ++ get_or queue q 0 ∷ []) ≡ length p.path + 1
     more = length_push p.path (get_or queue q 0)
+
     left : (i : ℕ) → i < length p.path → get_or (p.path ++ get_or queue q 0 ∷ []) i 0 ≡ get_or p.path i 0
     left i l = get_or_append_left p.path (get_or queue q 0 ∷ []) 0 i l
+
     end : (i : ℕ) → i ≡ length p.path → get_or (p.path ++ get_or queue q 0 ∷ []) i 0 ≡ get_or queue q 0
     end i e = get_or_push p.path (get_or queue q 0) 0 i (sym e)
 
@@ -137,21 +140,26 @@ path_to masks seats queue parents s (suc n) (suc q) l h =
 pub path_from_shift : (masks seats queue parents : List ℕ) (position counter : ℕ) → IsSearch masks seats queue parents → IsShift masks seats queue seats position counter
     → (path : List ℕ) × IsAugmentingPath masks seats path counter
 path_from_shift masks seats queue parents position counter s h =
-    let p = path_to masks seats queue parents s (suc position) position (omega arith) h.reached in
-    (p.path, record {
-      some = p.some;
-      first = ap (λ k. k + 1) p.first ∙ s.first;
-      inside = λ i l. let f = p.from i l in rw (← f.is) (s.inside f.position (omega (arith, f.low, h.reached)));
-      different = p.different;
-      next = p.next;
-      wanted = λ i e. ap (λ k. can_count (get_or masks k 0) counter) (p.last i e) ∙ h.wanted;
-      free = (let F : ℕ → Type 0 = λ gap. IsFree gap seats counter in subst F (sym p.first) (record { free = h.free }));
-    })
+    let p = path_to masks seats queue parents s (suc position) position (omega arith) h.reached in (
+      p.path,
+      record {
+        some = p.some;
+        first = ap (λ k. k + 1) p.first ∙ s.first;
+        inside = λ i l. let f = p.from i l in rw (← f.is) (s.inside f.position (omega (arith, f.low, h.reached)));
+        different = p.different;
+        next = p.next;
+        wanted = λ i e. ap (λ k. can_count (get_or masks k 0) counter) (p.last i e) ∙ h.wanted;
+        free = (let F : ℕ → Type 0 = λ gap. IsFree gap seats counter in subst F (sym p.first) (record { free = h.free }));
+      },
+    )
 
 pub path_law : PathLaw
-path_law masks seats last e s =
-    (λ none.
-      let k = closed_search masks seats last (record { stuck = λ queue parents position counter t h.
-        let p = path_from_shift masks seats queue parents position counter t h in none p.0 counter p.1 }) s e in
+path_law masks seats last e s = (
+  λ none.
+      let k = closed_search masks seats last (record {
+        stuck = λ queue parents position counter t h.
+            let p = path_from_shift masks seats queue parents position counter t h in none p.0 counter p.1;
+      }) s e in
       unfit masks seats k.queue k.parents k.search k.closed,
-    λ un path counter p. both_ways _ un (fits-path masks seats path counter last e s p))
+  λ un path counter p. both_ways _ un (fits-path masks seats path counter last e s p),
+)

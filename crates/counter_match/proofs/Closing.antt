@@ -32,26 +32,34 @@ pub wider_held : (masks counters queue : List ℕ) (at n place : ℕ) → (w : W
     → can_count (get_or masks (get_or w.wide at 0) 0) n ≡ true → Wider masks counters queue at (n + 1)
 wider_held masks counters queue at n place w la lp e can =
     elim (cases_Bool (list_any (nat_eq place) w.wide)) [
-      inl t ↦ record {
-        wide = w.wide; parents = w.parents; search = w.search; extended = w.extended;
+      | inl t ↦ record {
+        wide = w.wide;
+        parents = w.parents;
+        search = w.search;
+        extended = w.extended;
         closed = IsClosedAt-more at n masks counters w.wide w.closed (λ k. subst H e (IsHeld-reached masks counters w.wide w.parents place w.search ne t));
       }
-    | inr f ↦
-        let s : IsSearch masks counters (w.wide ++ place ∷ []) (w.parents ++ at ∷ []) =
+      | inr f ↦
+          let s : IsSearch masks counters (w.wide ++ place ∷ []) (w.parents ++ at ∷ []) =
           IsSearch-push masks counters w.wide w.parents at place w.search la' (omega arith) f (ap (can_count (get_or masks (get_or w.wide at 0) 0)) e ∙ can) in
-        let g = IsExtended-push w.wide place in
-        record {
-          wide = w.wide ++ place ∷ []; parents = w.parents ++ at ∷ []; search = s; extended = IsExtended-trans queue w.wide _ w.extended g;
-          closed = IsClosedAt-more at n masks counters (w.wide ++ place ∷ []) (IsClosedAt-extended at n masks counters w.wide _ la' g w.closed)
-            (λ k. let K : ℕ → Type 0 = λ c. IsHeld counters (w.wide ++ place ∷ []) c in subst K e
-              (IsHeld-reached masks counters _ _ place s ne (any-from_In _ place (record { place = length w.wide; within = omega (arith, length_push w.wide place); is = get_or_push w.wide place 0 (length w.wide) refl }))));
-        }
+          let g = IsExtended-push w.wide place in
+          record {
+            wide = w.wide ++ place ∷ [];
+            parents = w.parents ++ at ∷ [];
+            search = s;
+            extended = IsExtended-trans queue w.wide _ w.extended g;
+            closed = IsClosedAt-more at n masks counters (w.wide ++ place ∷ []) (IsClosedAt-extended at n masks counters w.wide _ la' g w.closed)
+                (λ k. let K : ℕ → Type 0 = λ c. IsHeld counters (w.wide ++ place ∷ []) c in subst K e
+                (IsHeld-reached masks counters _ _ place s ne (any-from_In _ place (record { place = length w.wide; within = omega (arith, length_push w.wide place); is = get_or_push w.wide place 0 (length w.wide) refl }))));
+          }
     ]
   where
     H : ℕ → Type 0
     H c = IsHeld counters w.wide c
+
     ne : place + 1 ≢ length masks
     ne q = omega arith
+
     la' : at < length w.wide
     la' = omega (arith, la, w.extended.longer)
 
@@ -63,12 +71,15 @@ wider masks counters queue parents at un a s la (suc n) =
     let w = wider masks counters queue parents at un a s la n in
     let W : ℕ → Type 0 = λ m. Wider masks counters queue at m in
     subst W (add-one n) (elim (cases_Bool (can_count (get_or masks (get_or w.wide at 0) 0) n)) [
-      inr f ↦ record {
-        wide = w.wide; parents = w.parents; search = w.search; extended = w.extended;
+      | inr f ↦ record {
+        wide = w.wide;
+        parents = w.parents;
+        search = w.search;
+        extended = w.extended;
         closed = IsClosedAt-more at n masks counters w.wide w.closed (λ k. absurd (both_ways _ f k));
       }
-    | inl can ↦ elim (cases_Bool (list_any (nat_eq n) (take (get_or queue 0 0) counters))) [
-          inl t ↦
+      | inl can ↦ elim (cases_Bool (list_any (nat_eq n) (take (get_or queue 0 0) counters))) [
+        | inl t ↦
             let i = In-from_any (take (get_or queue 0 0) counters) n t in
             let li : i.place < get_or queue 0 0 = omega (arith, i.within, length-take (get_or queue 0 0) counters) in
             wider_held masks counters queue at n i.place w la (omega (arith, s.first)) (sym (get_or-take (get_or queue 0 0) counters i.place 0 li) ∙ i.is) can
@@ -76,11 +87,11 @@ wider masks counters queue parents at un a s la (suc n) =
             let same : get_or w.wide 0 0 ≡ get_or queue 0 0 = w.extended.same 0 s.some in
             let S : ℕ → Type 0 = λ g. SeatsAllBut g masks counters in
             absurd (un.stuck w.wide w.parents at n w.search
-              (IsShift-start masks counters w.wide w.parents at n w.search (subst S (sym same) a) (omega (arith, la, w.extended.longer)) can
-                (λ j l m q.
-                  let lj : j < get_or queue 0 0 = omega (arith, m, same, s.first, a.one_each) in
-                  both_ways _ f (any-from_In (take (get_or queue 0 0) counters) n (record { place = j; within = omega (arith, length-take (get_or queue 0 0) counters); is = get_or-take (get_or queue 0 0) counters j 0 lj ∙ q })))))
-        ]
+            (IsShift-start masks counters w.wide w.parents at n w.search (subst S (sym same) a) (omega (arith, la, w.extended.longer)) can
+            (λ j l m q.
+            let lj : j < get_or queue 0 0 = omega (arith, m, same, s.first, a.one_each) in
+            both_ways _ f (any-from_In (take (get_or queue 0 0) counters) n (record { place = j; within = omega (arith, length-take (get_or queue 0 0) counters); is = get_or-take (get_or queue 0 0) counters j 0 lj ∙ q })))))
+      ]
     ])
 
 -- a search in which each counter of each reached event is held
@@ -97,12 +108,12 @@ closed_from masks counters first un a zero n enough queue parents s b l c =
     record { queue = queue; parents = parents; search = s; begins = b; closed = record { held = λ q k m can. c.held q k (omega (arith, length-search masks counters queue parents s)) can } }
 closed_from masks counters first un a (suc fuel) n enough queue parents s b l c =
     elim (cases_lt n (length queue)) [
-      inl lt ↦
-        let S : ℕ → Type 0 = λ g. SeatsAllBut g masks counters in
-        let w = wider masks counters queue parents n un (subst S (sym b) a) s lt 16 in
-        closed_from masks counters first un a fuel (n + 1) (omega arith) w.wide w.parents w.search (w.extended.same 0 s.some ∙ b) (omega (arith, w.extended.longer))
+      | inl lt ↦
+          let S : ℕ → Type 0 = λ g. SeatsAllBut g masks counters in
+          let w = wider masks counters queue parents n un (subst S (sym b) a) s lt 16 in
+          closed_from masks counters first un a fuel (n + 1) (omega arith) w.wide w.parents w.search (w.extended.same 0 s.some ∙ b) (omega (arith, w.extended.longer))
           (IsClosedBelow-more n masks counters w.wide (IsClosedBelow-extended n masks counters queue w.wide (omega arith) w.extended c) w.closed can_count-below)
-    | inr ge ↦ record { queue = queue; parents = parents; search = s; begins = b; closed = record { held = λ q k m can. c.held q k (omega arith) can } }
+      | inr ge ↦ record { queue = queue; parents = parents; search = s; begins = b; closed = record { held = λ q k m can. c.held q k (omega arith) can } }
     ]
 
 pub closed_search : (masks counters : List ℕ) (last : ℕ) → IsStuck masks counters → SeatsAllBut last masks counters → last + 1 ≡ length masks → Closed masks counters last

@@ -40,11 +40,11 @@ pub IsPicked-from_In : (p : ℕ → Bool) (k n x : ℕ) → In (picked p k (numb
 IsPicked-from_In p k zero x i = absurd (omega (arith, i.within))
 IsPicked-from_In p k (suc n) x i =
     elim (cases_Bool (p k)) [
-      inl t ↦ elim (In-cons k x (picked p (suc k) (numbers_from (suc k) n)) (rw t at i)) [
-          inl e ↦ record { low = omega arith; high = omega arith; passes = ap p (sym e) ∙ t }
+      | inl t ↦ elim (In-cons k x (picked p (suc k) (numbers_from (suc k) n)) (rw t at i)) [
+        | inl e ↦ record { low = omega arith; high = omega arith; passes = ap p (sym e) ∙ t }
         | inr j ↦ later (IsPicked-from_In p (suc k) n x j)
-        ]
-    | inr f ↦ later (IsPicked-from_In p (suc k) n x (rw f at i))
+      ]
+      | inr f ↦ later (IsPicked-from_In p (suc k) n x (rw f at i))
     ]
   where
     later : IsPicked p (suc k) n x → IsPicked p k (suc n) x
@@ -54,10 +54,10 @@ pub In-from_IsPicked : (p : ℕ → Bool) (k n x : ℕ) → IsPicked p k n x →
 In-from_IsPicked p k zero x h = absurd (omega (arith, h.low, h.high))
 In-from_IsPicked p k (suc n) x h =
     elim (cases_eq k x) [
-      inl e ↦ let t : p k ≡ true = ap p e ∙ h.passes in rw t (record { place = 0; within = omega arith; is = e })
-    | inr ne ↦
-        let i = In-from_IsPicked p (suc k) n x (record { low = omega (arith, h.low); high = omega (arith, h.high); passes = h.passes }) in
-        elim (cases_Bool (p k)) [ inl t ↦ rw t (In-later k x _ i) | inr f ↦ rw f i ]
+      | inl e ↦ let t : p k ≡ true = ap p e ∙ h.passes in rw t (record { place = 0; within = omega arith; is = e })
+      | inr ne ↦
+          let i = In-from_IsPicked p (suc k) n x (record { low = omega (arith, h.low); high = omega (arith, h.high); passes = h.passes }) in
+          elim (cases_Bool (p k)) [ inl t ↦ rw t (In-later k x _ i) | inr f ↦ rw f i ]
     ]
 
 pub AreDifferent-picked : (p : ℕ → Bool) (k n : ℕ) → AreDifferent (picked p k (numbers_from k n))
@@ -65,9 +65,11 @@ AreDifferent-picked p k zero = record { different = λ i j l m. absurd (omega ar
 AreDifferent-picked p k (suc n) =
     let ih = AreDifferent-picked p (suc k) n in
     elim (cases_Bool (p k)) [
-      inl t ↦ rw t (record { different = different-cons k (picked p (suc k) (numbers_from (suc k) n))
-          (λ j l e. let h = IsPicked-from_In p (suc k) n k (record { place = j; within = l; is = sym e }) in omega (arith, h.low)) ih.different })
-    | inr f ↦ rw f ih
+      | inl t ↦ rw t (record {
+        different = different-cons k (picked p (suc k) (numbers_from (suc k) n))
+            (λ j l e. let h = IsPicked-from_In p (suc k) n k (record { place = j; within = l; is = sym e }) in omega (arith, h.low)) ih.different;
+      })
+      | inr f ↦ rw f ih
     ]
 
 pub count_by-picked : (p : ℕ → Bool) (k n : ℕ) → count_by p (numbers_from k n) ≡ length (picked p k (numbers_from k n))
@@ -103,11 +105,11 @@ pub Shows-from_any : (p q : ℕ → Bool) (k : ℕ) (xs : List ℕ) → list_any
 Shows-from_any p q k [] h = absurd (cc)
 Shows-from_any p q k (x ∷ xs) h =
     elim (cases_Bool (p k)) [
-      inl t ↦ elim (or_cases (q x) _ (rw t at h)) [
-          inl e ↦ record { place = 0; within = omega arith; chosen = ap p (omega arith) ∙ t; passes = e }
+      | inl t ↦ elim (or_cases (q x) _ (rw t at h)) [
+        | inl e ↦ record { place = 0; within = omega arith; chosen = ap p (omega arith) ∙ t; passes = e }
         | inr e ↦ Shows-later p q k x xs (Shows-from_any p q (suc k) xs e)
-        ]
-    | inr f ↦ Shows-later p q k x xs (Shows-from_any p q (suc k) xs (rw f at h))
+      ]
+      | inr f ↦ Shows-later p q k x xs (Shows-from_any p q (suc k) xs (rw f at h))
     ]
 
 pub any-from_Shows : (p q : ℕ → Bool) (k : ℕ) (xs : List ℕ) (place : ℕ) → place < length xs → p (k + place) ≡ true → q (get_or xs place 0) ≡ true → list_any q (picked p k xs) ≡ true
@@ -123,11 +125,11 @@ pub length-reached : (masks counters queue parents : List ℕ) → IsSearch mask
 length-reached masks counters queue parents s =
     let P : List ℕ = picked (λ i. list_any (nat_eq i) queue) 0 (numbers_from 0 (length masks)) in
     let a : length P ≤ length queue = length-le_from_In P queue (AreDifferent-picked (λ i. list_any (nat_eq i) queue) 0 (length masks)) (λ i l.
-      let h = IsPicked-from_In (λ i. list_any (nat_eq i) queue) 0 (length masks) (get_or P i 0) (record { place = i; within = l; is = refl }) in
-      In-from_any queue (get_or P i 0) h.passes) in
+    let h = IsPicked-from_In (λ i. list_any (nat_eq i) queue) 0 (length masks) (get_or P i 0) (record { place = i; within = l; is = refl }) in
+    In-from_any queue (get_or P i 0) h.passes) in
     let b : length queue ≤ length P = length-le_from_In queue P (record { different = s.different }) (λ i l.
-      In-from_IsPicked (λ i. list_any (nat_eq i) queue) 0 (length masks) (get_or queue i 0)
-        (record { low = omega arith; high = omega (arith, s.inside i l); passes = any-from_In queue _ (record { place = i; within = l; is = refl }) })) in
+    In-from_IsPicked (λ i. list_any (nat_eq i) queue) 0 (length masks) (get_or queue i 0)
+    (record { low = omega arith; high = omega (arith, s.inside i l); passes = any-from_In queue _ (record { place = i; within = l; is = refl }) })) in
     omega arith
 
 -- the counters held by reached events, not the last of the list
@@ -152,12 +154,14 @@ In-held counters queue counter some h = at h.position h.later h.reached h.is
 
 pub AreDifferent-held : (masks counters queue parents : List ℕ) → SeatsAllBut (get_or queue 0 0) masks counters → IsSearch masks counters queue parents → AreDifferent (held_counters counters queue)
 AreDifferent-held masks counters queue parents a s =
-    record { different = λ i j l m e.
-      let hj : suc j < length queue = omega (arith, m, length-held counters queue s.some) in
-      let hi : suc i < length queue = omega arith in
-      apart (get_or queue (suc i) 0) (get_or queue (suc j) 0) (s.inside (suc i) hi) (s.inside (suc j) hj)
-        (λ q. s.different 0 (suc i) (omega arith) hi (sym q)) (λ q. s.different 0 (suc j) (omega arith) hj (sym q)) (s.different (suc i) (suc j) (omega arith) hj)
-        (sym (get_or-held counters queue i hi) ∙ (e ∙ get_or-held counters queue j hj)) }
+    record {
+      different = λ i j l m e.
+          let hj : suc j < length queue = omega (arith, m, length-held counters queue s.some) in
+          let hi : suc i < length queue = omega arith in
+          apart (get_or queue (suc i) 0) (get_or queue (suc j) 0) (s.inside (suc i) hi) (s.inside (suc j) hj)
+          (λ q. s.different 0 (suc i) (omega arith) hi (sym q)) (λ q. s.different 0 (suc j) (omega arith) hj (sym q)) (s.different (suc i) (suc j) (omega arith) hj)
+          (sym (get_or-held counters queue i hi) ∙ (e ∙ get_or-held counters queue j hj));
+    }
   where
     apart : (x y : ℕ) → x < length masks → y < length masks → x ≢ get_or queue 0 0 → y ≢ get_or queue 0 0 → x ≢ y → get_or counters x 0 ≢ get_or counters y 0
     apart x y lx ly nx ny ne e =
@@ -171,7 +175,7 @@ pub is_wanted-at : (masks queue : List ℕ) (q counter : ℕ) → q < length que
 unfolding is_wanted
 is_wanted-at masks queue q counter l i can =
     any-from_Shows (λ i. list_any (nat_eq i) queue) (λ mask. can_count mask counter) 0 masks (get_or queue q 0) i
-      (any-from_In queue (0 + get_or queue q 0) (record { place = q; within = l; is = omega arith })) can
+    (any-from_In queue (0 + get_or queue q 0) (record { place = q; within = l; is = omega arith })) can
 
 pub IsHeld-wanted : (masks counters queue : List ℕ) (counter : ℕ) → IsClosedBelow (length queue) masks counters queue → is_wanted masks queue counter ≡ true → IsHeld counters queue counter
 unfolding is_wanted
@@ -186,8 +190,8 @@ length-wanted masks counters queue parents a s c =
     let A : List ℕ = picked (is_wanted masks queue) 0 (numbers_from 0 16) in
     let H : List ℕ = held_counters counters queue in
     let x : length A ≤ length H = length-le_from_In A H (AreDifferent-picked (is_wanted masks queue) 0 16) (λ i l.
-      let h = IsPicked-from_In (is_wanted masks queue) 0 16 (get_or A i 0) (record { place = i; within = l; is = refl }) in
-      In-held counters queue (get_or A i 0) s.some (IsHeld-wanted masks counters queue (get_or A i 0) c h.passes)) in
+    let h = IsPicked-from_In (is_wanted masks queue) 0 16 (get_or A i 0) (record { place = i; within = l; is = refl }) in
+    In-held counters queue (get_or A i 0) s.some (IsHeld-wanted masks counters queue (get_or A i 0) c h.passes)) in
     let y : length H ≤ length A = length-le_from_In H A (AreDifferent-held masks counters queue parents a s) (λ i l. held_picked i l) in
     omega arith
   where
@@ -197,9 +201,9 @@ length-wanted masks counters queue parents a s c =
         let earlier : get_or parents (suc i) 0 < suc i = s.earlier (suc i) (omega arith) hi in
         let lp : get_or parents (suc i) 0 < length queue = omega arith in
         let can : can_count (get_or masks (get_or queue (get_or parents (suc i) 0) 0) 0) (get_or (held_counters counters queue) i 0) ≡ true =
-          ap (can_count (get_or masks (get_or queue (get_or parents (suc i) 0) 0) 0)) (get_or-held counters queue i hi) ∙ s.wanted (suc i) (omega arith) hi in
+        ap (can_count (get_or masks (get_or queue (get_or parents (suc i) 0) 0) 0)) (get_or-held counters queue i hi) ∙ s.wanted (suc i) (omega arith) hi in
         In-from_IsPicked (is_wanted masks queue) 0 16 (get_or (held_counters counters queue) i 0)
-          (record { low = omega arith; high = omega (arith, can_count-below (get_or masks (get_or queue (get_or parents (suc i) 0) 0) 0) (get_or (held_counters counters queue) i 0) can); passes = is_wanted-at masks queue (get_or parents (suc i) 0) (get_or (held_counters counters queue) i 0) lp (s.inside (get_or parents (suc i) 0) lp) can })
+        (record { low = omega arith; high = omega (arith, can_count-below (get_or masks (get_or queue (get_or parents (suc i) 0) 0) 0) (get_or (held_counters counters queue) i 0) can); passes = is_wanted-at masks queue (get_or parents (suc i) 0) (get_or (held_counters counters queue) i 0) lp (s.inside (get_or parents (suc i) 0) lp) can })
 
 -- the law of tight sets, where a search is closed
 pub one_fewer : (events : List (EventNo × ℕ)) (counters : List ℕ) (last : ℕ) → SeatsAllBut last (masks_of events) counters → Closed (masks_of events) counters last
@@ -210,11 +214,11 @@ one_fewer events counters last a k =
     let b : SeatsAllBut (get_or k.queue 0 0) (masks_of events) counters = subst S (sym k.begins) a in
     let t : tight_set events ≡ picked (λ i. list_any (nat_eq i) k.queue) 0 events = tight_set-picked events counters k.queue k.parents b k.search k.closed in
     let members : length (tight_set events) ≡ length k.queue =
-      ap length t ∙ (length-picked _ 0 events ∙ (ap (λ n. length (picked (λ i. list_any (nat_eq i) k.queue) 0 (numbers_from 0 n))) (sym (length-map events (λ e. e.1)))
-      ∙ length-reached (masks_of events) counters k.queue k.parents k.search)) in
+    ap length t ∙ (length-picked _ 0 events ∙ (ap (λ n. length (picked (λ i. list_any (nat_eq i) k.queue) 0 (numbers_from 0 n))) (sym (length-map events (λ e. e.1)))
+    ∙ length-reached (masks_of events) counters k.queue k.parents k.search)) in
     let masks : masks_of (tight_set events) ≡ picked (λ i. list_any (nat_eq i) k.queue) 0 (masks_of events) = ap masks_of t ∙ map-picked (λ e. e.1) (λ i. list_any (nat_eq i) k.queue) 0 events in
     let wanted : allowed_count (masks_of (tight_set events)) ≡ length (held_counters counters k.queue) =
-      ap allowed_count masks ∙ (count_by-picked (is_wanted (masks_of events) k.queue) 0 16 ∙ length-wanted (masks_of events) counters k.queue k.parents b k.search k.closed) in
+    ap allowed_count masks ∙ (count_by-picked (is_wanted (masks_of events) k.queue) 0 16 ∙ length-wanted (masks_of events) counters k.queue k.parents b k.search k.closed) in
     omega (arith, length-held counters k.queue k.search.some)
 
 pub tight_law : TightLaw
@@ -223,7 +227,7 @@ tight_law events last fit unfit =
     let n : length (masks_of events) ≡ length events = length-map events (λ e. e.1) in
     let m : length (masks_of (events ++ last ∷ [])) ≡ length events + 1 = length-map (events ++ last ∷ []) (λ e. e.1) ∙ length_push events last in
     let s : SeatsAllBut (length (masks_of events)) (masks_of (events ++ last ∷ [])) (a.0 ++ 0 ∷ []) =
-      (let P : List ℕ → Type 0 = λ ms. SeatsAllBut (length (masks_of events)) ms (a.0 ++ 0 ∷ []) in
-      subst P (sym (map-append (λ (e : EventNo × ℕ). e.1) events (last ∷ []))) (SeatsAllBut-appended (masks_of events) a.0 last.1 0 a.1)) in
+    (let P : List ℕ → Type 0 = λ ms. SeatsAllBut (length (masks_of events)) ms (a.0 ++ 0 ∷ []) in
+    subst P (sym (map-append (λ (e : EventNo × ℕ). e.1) events (last ∷ []))) (SeatsAllBut-appended (masks_of events) a.0 last.1 0 a.1)) in
     one_fewer (events ++ last ∷ []) (a.0 ++ 0 ∷ []) (length (masks_of events)) s
-      (closed_search (masks_of (events ++ last ∷ [])) (a.0 ++ 0 ∷ []) (length (masks_of events)) (IsStuck-unfit (masks_of (events ++ last ∷ [])) (a.0 ++ 0 ∷ []) unfit) s (omega arith))
+    (closed_search (masks_of (events ++ last ∷ [])) (a.0 ++ 0 ∷ []) (length (masks_of events)) (IsStuck-unfit (masks_of (events ++ last ∷ [])) (a.0 ++ 0 ∷ []) unfit) s (omega arith))

@@ -17,11 +17,11 @@ unfolding fits_below
 fits_below-finds zero others mask taken h = absurd (cc)
 fits_below-finds (suc c) others mask taken h =
     elim (cases_Bool (can_count mask c && not (list_any (nat_eq c) taken))) [
-      inl e ↦ elim (cases_Bool (others (c ∷ taken))) [
-          inl r ↦ let p = and_parts (can_count mask c) (not (list_any (nat_eq c) taken)) e in record { counter = c; allowed = p.0; free = not-true _ p.1; fit = r }
+      | inl e ↦ elim (cases_Bool (others (c ∷ taken))) [
+        | inl r ↦ let p = and_parts (can_count mask c) (not (list_any (nat_eq c) taken)) e in record { counter = c; allowed = p.0; free = not-true _ p.1; fit = r }
         | inr r ↦ fits_below-finds c others mask taken (rw (r, fits_below) at (rw (e, fits_below) at h))
-        ]
-    | inr e ↦ fits_below-finds c others mask taken (rw (e, fits_below) at h)
+      ]
+      | inr e ↦ fits_below-finds c others mask taken (rw (e, fits_below) at h)
     ]
 
 pub fits_below-takes : (n : ℕ) (others : List ℕ → Bool) (mask : ℕ) (taken : List ℕ) (f : Found others mask taken) → f.counter < n → fits_below n others mask taken ≡ true
@@ -29,17 +29,17 @@ unfolding fits_below
 fits_below-takes zero others mask taken f l = absurd (omega arith)
 fits_below-takes (suc c) others mask taken f l =
     elim (cases_eq f.counter c) [
-      inl e ↦
-        let t : (can_count mask c && not (list_any (nat_eq c) taken)) ≡ true = and_from _ _ (ap (can_count mask) (sym e) ∙ f.allowed) (not_from_false _ (ap (λ k. list_any (nat_eq k) taken) (sym e) ∙ f.free)) in
-        let r : others (c ∷ taken) ≡ true = ap (λ k. others (k ∷ taken)) (sym e) ∙ f.fit in
-        rw (t, fits_below) (rw r refl)
-    | inr e ↦
-        let low : f.counter < c = omega arith in
-        let ih : fits_below c others mask taken ≡ true = fits_below-takes c others mask taken f low in
-        elim (cases_Bool (can_count mask c && not (list_any (nat_eq c) taken))) [
-          inl t ↦ elim (cases_Bool (others (c ∷ taken))) [ inl r ↦ rw (t, fits_below) (rw r refl) | inr r ↦ rw (t, fits_below) (rw r ih) ]
-        | inr t ↦ rw (t, fits_below) ih
-        ]
+      | inl e ↦
+          let t : (can_count mask c && not (list_any (nat_eq c) taken)) ≡ true = and_from _ _ (ap (can_count mask) (sym e) ∙ f.allowed) (not_from_false _ (ap (λ k. list_any (nat_eq k) taken) (sym e) ∙ f.free)) in
+          let r : others (c ∷ taken) ≡ true = ap (λ k. others (k ∷ taken)) (sym e) ∙ f.fit in
+          rw (t, fits_below) (rw r refl)
+      | inr e ↦
+          let low : f.counter < c = omega arith in
+          let ih : fits_below c others mask taken ≡ true = fits_below-takes c others mask taken f low in
+          elim (cases_Bool (can_count mask c && not (list_any (nat_eq c) taken))) [
+            | inl t ↦ elim (cases_Bool (others (c ∷ taken))) [ inl r ↦ rw (t, fits_below) (rw r refl) | inr r ↦ rw (t, fits_below) (rw r ih) ]
+            | inr t ↦ rw (t, fits_below) ih
+          ]
     ]
 
 -- counters for the masks in turn, none of them taken
@@ -89,12 +89,14 @@ IsAssignment-in_turn [] taken [] h =
 IsAssignment-in_turn [] taken (c ∷ cs) h = absurd h
 IsAssignment-in_turn (m ∷ ms) taken [] h = absurd h
 IsAssignment-in_turn (m ∷ ms) taken (c ∷ cs) h =
-    let ih = IsAssignment-in_turn ms (c ∷ taken) cs h.2 in
-    (record {
-      one_each = ap suc ih.0.one_each;
-      allowed = allowed-cons m c ms cs h.0 ih.0.allowed;
-      different = different-cons c cs (λ j l e. eqb-false (get_or cs j 0) c (or_parts _ _ (ih.1.free j l)).0 (sym e)) ih.0.different;
-    }, record { free = free-cons taken c cs h.1 (λ i l. (or_parts (nat_eq (get_or cs i 0) c) _ (ih.1.free i l)).1) })
+    let ih = IsAssignment-in_turn ms (c ∷ taken) cs h.2 in (
+      record {
+        one_each = ap suc ih.0.one_each;
+        allowed = allowed-cons m c ms cs h.0 ih.0.allowed;
+        different = different-cons c cs (λ j l e. eqb-false (get_or cs j 0) c (or_parts _ _ (ih.1.free j l)).0 (sym e)) ih.0.different;
+      },
+      record { free = free-cons taken c cs h.1 (λ i l. (or_parts (nat_eq (get_or cs i 0) c) _ (ih.1.free i l)).1) },
+    )
   where
     free-cons : (taken : List ℕ) (c : ℕ) (cs : List ℕ) → list_any (nat_eq c) taken ≡ false → ((i : ℕ) → i < length cs → list_any (nat_eq (get_or cs i 0)) taken ≡ false)
         → (i : ℕ) → i < length (c ∷ cs) → list_any (nat_eq (get_or (c ∷ cs) i 0)) taken ≡ false
@@ -106,14 +108,17 @@ in_turn-IsAssignment [] taken [] a p = tt
 in_turn-IsAssignment [] taken (c ∷ cs) a p = let e : suc (length cs) ≡ 0 = a.one_each in absurd (omega arith)
 in_turn-IsAssignment (m ∷ ms) taken [] a p = let e : 0 ≡ suc (length ms) = a.one_each in absurd (omega arith)
 in_turn-IsAssignment (m ∷ ms) taken (c ∷ cs) a p =
-    let e : suc (length cs) ≡ suc (length ms) = a.one_each in
-    (a.allowed 0 (omega arith), p.free 0 (omega arith), in_turn-IsAssignment ms (c ∷ taken) cs
-      (record {
-        one_each = omega arith;
-        allowed = λ i l. a.allowed (suc i) (omega arith);
-        different = λ i j l n. a.different (suc i) (suc j) (omega arith) (omega arith);
-      })
-      (record { free = λ i l. or_from _ _ (ne_eqb _ _ (λ q. a.different 0 (suc i) (omega arith) (omega arith) (sym q))) (p.free (suc i) (omega arith)) }))
+    let e : suc (length cs) ≡ suc (length ms) = a.one_each in (
+      a.allowed 0 (omega arith),
+      p.free 0 (omega arith),
+      in_turn-IsAssignment ms (c ∷ taken) cs
+          (record {
+            one_each = omega arith;
+            allowed = λ i l. a.allowed (suc i) (omega arith);
+            different = λ i j l n. a.different (suc i) (suc j) (omega arith) (omega arith);
+          })
+          (record { free = λ i l. or_from _ _ (ne_eqb _ _ (λ q. a.different 0 (suc i) (omega arith) (omega arith) (sym q))) (p.free (suc i) (omega arith)) }),
+    )
 
 -- what fits has an assignment, and what has one fits
 pub assignment_of : (masks : List ℕ) → fits masks ≡ true → (counters : List ℕ) × IsAssignment masks counters

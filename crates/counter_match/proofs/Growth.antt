@@ -32,10 +32,12 @@ IsClosedAt-extended at n masks counters old new l e c =
 pub IsClosedAt-more : (at n : ℕ) (masks counters queue : List ℕ) → IsClosedAt at n masks counters queue
     → (can_count (get_or masks (get_or queue at 0) 0) n ≡ true → IsHeld counters queue n) → IsClosedAt at (n + 1) masks counters queue
 IsClosedAt-more at n masks counters queue c h =
-    record { held = λ counter l can. elim (cases_eq counter n) [
-        inl e ↦ subst_held counter n e (h (ap (can_count (get_or masks (get_or queue at 0) 0)) (sym e) ∙ can))
-      | inr ne ↦ c.held counter (omega arith) can
-      ] }
+    record {
+      held = λ counter l can. elim (cases_eq counter n) [
+        | inl e ↦ subst_held counter n e (h (ap (can_count (get_or masks (get_or queue at 0) 0)) (sym e) ∙ can))
+        | inr ne ↦ c.held counter (omega arith) can
+      ];
+    }
   where
     subst_held : (a b : ℕ) → a ≡ b → IsHeld counters queue b → IsHeld counters queue a
     subst_held a b e k = record { position = k.position; later = k.later; reached = k.reached; is = k.is ∙ sym e }
@@ -43,11 +45,13 @@ IsClosedAt-more at n masks counters queue c h =
 pub IsClosedBelow-more : (n : ℕ) (masks counters queue : List ℕ) → IsClosedBelow n masks counters queue → IsClosedAt n 16 masks counters queue
     → ((mask counter : ℕ) → can_count mask counter ≡ true → counter < 16) → IsClosedBelow (n + 1) masks counters queue
 IsClosedBelow-more n masks counters queue c d low =
-    record { held = λ q counter l can. elim (cases_eq q n) [
-        inl e ↦ let can_n : can_count (get_or masks (get_or queue n 0) 0) counter ≡ true = ap (λ k. can_count (get_or masks (get_or queue k 0) 0) counter) (sym e) ∙ can in
-          d.held counter (low _ counter can_n) can_n
-      | inr ne ↦ c.held q counter (omega arith) can
-      ] }
+    record {
+      held = λ q counter l can. elim (cases_eq q n) [
+        | inl e ↦ let can_n : can_count (get_or masks (get_or queue n 0) 0) counter ≡ true = ap (λ k. can_count (get_or masks (get_or queue k 0) 0) counter) (sym e) ∙ can in
+            d.held counter (low _ counter can_n) can_n
+        | inr ne ↦ c.held q counter (omega arith) can
+      ];
+    }
 
 -- one more event is reached
 pub IsSearch-push : (masks counters queue parents : List ℕ) (at place : ℕ) → IsSearch masks counters queue parents → at < length queue → place < length masks
@@ -59,33 +63,36 @@ IsSearch-push masks counters queue parents at place s la lp new can =
       first = ap (λ k. k + 1) (left 0 s.some) ∙ s.first;
       parent_each = length_push parents at ∙ (ap (λ k. k + 1) s.parent_each ∙ sym (length_push queue place));
       inside = λ q l. elim (cases_eq q (length queue)) [
-          inl e ↦ rw (last q e) lp
+        | inl e ↦ rw (last q e) lp
         | inr ne ↦ let lq : q < length queue = omega (arith, l, length_push queue place) in rw (left q lq) (s.inside q lq)
-        ];
+      ];
       different = λ p q l lq e. elim (cases_eq q (length queue)) [
-          inl f ↦ let lp : p < length queue = omega arith in
+        | inl f ↦ let lp : p < length queue = omega arith in
             both_ways _ new (any-from_In queue place (record { place = p; within = lp; is = sym (left p lp) ∙ (e ∙ last q f) }))
         | inr ne ↦ let lq' : q < length queue = omega (arith, lq, length_push queue place) in
             s.different p q l lq' (sym (left p (omega arith)) ∙ (e ∙ left q lq'))
-        ];
+      ];
       earlier = λ q lo l. elim (cases_eq q (length queue)) [
-          inl e ↦ rw (last_parent q e) (omega arith)
+        | inl e ↦ rw (last_parent q e) (omega arith)
         | inr ne ↦ let lq : q < length queue = omega (arith, l, length_push queue place) in rw (left_parent q lq) (s.earlier q lo lq)
-        ];
+      ];
       wanted = λ q lo l. elim (cases_eq q (length queue)) [
-          inl e ↦ rw (last_parent q e, last q e, left at la) can
+        | inl e ↦ rw (last_parent q e, last q e, left at la) can
         | inr ne ↦ let lq : q < length queue = omega (arith, l, length_push queue place) in
             let earlier : get_or parents q 0 < length queue = omega (arith, s.earlier q lo lq) in
             rw (left_parent q lq, left q lq, left (get_or parents q 0) earlier) (s.wanted q lo lq)
-        ];
+      ];
     }
   where
     left : (q : ℕ) → q < length queue → get_or (queue ++ place ∷ []) q 0 ≡ get_or queue q 0
     left q l = get_or_append_left queue (place ∷ []) 0 q l
+
     last : (q : ℕ) → q ≡ length queue → get_or (queue ++ place ∷ []) q 0 ≡ place
     last q e = get_or_push queue place 0 q (sym e)
+
     left_parent : (q : ℕ) → q < length queue → get_or (parents ++ at ∷ []) q 0 ≡ get_or parents q 0
     left_parent q l = get_or_append_left parents (at ∷ []) 0 q (omega (arith, s.parent_each))
+
     last_parent : (q : ℕ) → q ≡ length queue → get_or (parents ++ at ∷ []) q 0 ≡ at
     last_parent q e = get_or_push parents at 0 q (s.parent_each ∙ sym e)
 
@@ -134,8 +141,8 @@ in_places_below : (n x : ℕ) → x < n → In (places_below n) x
 in_places_below zero x l = absurd (omega arith)
 in_places_below (suc n) x l =
     elim (cases_eq x n) [
-      inl e ↦ record { place = 0; within = omega arith; is = sym e }
-    | inr ne ↦ let i = in_places_below n x (omega arith) in record { place = suc i.place; within = omega (arith, i.within); is = i.is }
+      | inl e ↦ record { place = 0; within = omega arith; is = sym e }
+      | inr ne ↦ let i = in_places_below n x (omega arith) in record { place = suc i.place; within = omega (arith, i.within); is = i.is }
     ]
 
 -- different numbers below another are no more than that

@@ -14,9 +14,9 @@ SeatsAllBut-move gap place masks counters s g p ne can =
     record {
       one_each = length-set counters gap _ ∙ s.one_each;
       allowed = λ i l n. elim (cases_eq i gap) [
-          inl e ↦ rw (e, get_or-set_same counters gap (get_or counters place 0) 0 (omega (arith, s.one_each))) can
+        | inl e ↦ rw (e, get_or-set_same counters gap (get_or counters place 0) 0 (omega (arith, s.one_each))) can
         | inr e ↦ rw (get_or-set_other counters gap i (get_or counters place 0) 0 e) (s.allowed i l e)
-        ];
+      ];
       different = λ i j l m n o.
           let li : i < length counters = omega (arith, length-set counters gap (get_or counters place 0)) in
           let lj : j < length counters = omega (arith, length-set counters gap (get_or counters place 0)) in
@@ -25,20 +25,22 @@ SeatsAllBut-move gap place masks counters s g p ne can =
   where
     lg : gap < length counters
     lg = omega (arith, s.one_each)
+
     free : (i : ℕ) → i < length counters → i ≢ gap → i ≢ place → get_or counters i 0 ≢ get_or counters place 0
     free i l a b q = elim (cases_order i place) [ inl e ↦ b e | inr o ↦ elim o [ inl lt ↦ s.different i place lt (omega (arith, s.one_each)) a ne q | inr gt ↦ s.different place i gt l ne a (sym q) ] ]
+
     apart : (i j : ℕ) → i < j → i < length counters → j < length counters → i ≢ place → j ≢ place → get_or (set counters gap (get_or counters place 0)) i 0 ≢ get_or (set counters gap (get_or counters place 0)) j 0
     apart i j l li lj n o q =
         elim (cases_eq i gap) [
-          inl e ↦
-            let ne_j : j ≢ gap = omega arith in
-            free j lj ne_j o (sym (get_or-set_other counters gap j (get_or counters place 0) 0 ne_j) ∙ (sym q ∙ (ap (λ k. get_or (set counters gap (get_or counters place 0)) k 0) e ∙ get_or-set_same counters gap (get_or counters place 0) 0 lg)))
-        | inr e ↦ elim (cases_eq j gap) [
-              inl f ↦
+          | inl e ↦
+              let ne_j : j ≢ gap = omega arith in
+              free j lj ne_j o (sym (get_or-set_other counters gap j (get_or counters place 0) 0 ne_j) ∙ (sym q ∙ (ap (λ k. get_or (set counters gap (get_or counters place 0)) k 0) e ∙ get_or-set_same counters gap (get_or counters place 0) 0 lg)))
+          | inr e ↦ elim (cases_eq j gap) [
+            | inl f ↦
                 free i li e n (sym (get_or-set_other counters gap i (get_or counters place 0) 0 e) ∙ (q ∙ (ap (λ k. get_or (set counters gap (get_or counters place 0)) k 0) f ∙ get_or-set_same counters gap (get_or counters place 0) 0 lg)))
             | inr f ↦
                 s.different i j l lj e f (sym (get_or-set_other counters gap i (get_or counters place 0) 0 e) ∙ (q ∙ get_or-set_other counters gap j (get_or counters place 0) 0 f))
-            ]
+          ]
         ]
 
 -- the event without a counter takes one that no other event has
@@ -48,9 +50,9 @@ IsAssignment-from_free gap counter masks counters s g can free =
     record {
       one_each = length-set counters gap _ ∙ s.one_each;
       allowed = λ i l. elim (cases_eq i gap) [
-          inl e ↦ rw (e, get_or-set_same counters gap counter 0 lg) can
+        | inl e ↦ rw (e, get_or-set_same counters gap counter 0 lg) can
         | inr e ↦ rw (get_or-set_other counters gap i counter 0 e) (s.allowed i l e)
-        ];
+      ];
       different = λ i j l m.
           let li : i < length counters = omega (arith, length-set counters gap counter) in
           let lj : j < length counters = omega (arith, length-set counters gap counter) in
@@ -59,16 +61,17 @@ IsAssignment-from_free gap counter masks counters s g can free =
   where
     lg : gap < length counters
     lg = omega (arith, s.one_each)
+
     apart : (i j : ℕ) → i < j → i < length counters → j < length counters → get_or (set counters gap counter) i 0 ≢ get_or (set counters gap counter) j 0
     apart i j l li lj q =
         elim (cases_eq i gap) [
-          inl e ↦
-            let ne_j : j ≢ gap = omega arith in
-            free j lj ne_j (sym (get_or-set_other counters gap j counter 0 ne_j) ∙ (sym q ∙ (ap (λ k. get_or (set counters gap counter) k 0) e ∙ get_or-set_same counters gap counter 0 lg)))
-        | inr e ↦ elim (cases_eq j gap) [
-              inl f ↦ free i li e (sym (get_or-set_other counters gap i counter 0 e) ∙ (q ∙ (ap (λ k. get_or (set counters gap counter) k 0) f ∙ get_or-set_same counters gap counter 0 lg)))
+          | inl e ↦
+              let ne_j : j ≢ gap = omega arith in
+              free j lj ne_j (sym (get_or-set_other counters gap j counter 0 ne_j) ∙ (sym q ∙ (ap (λ k. get_or (set counters gap counter) k 0) e ∙ get_or-set_same counters gap counter 0 lg)))
+          | inr e ↦ elim (cases_eq j gap) [
+            | inl f ↦ free i li e (sym (get_or-set_other counters gap i counter 0 e) ∙ (q ∙ (ap (λ k. get_or (set counters gap counter) k 0) f ∙ get_or-set_same counters gap counter 0 lg)))
             | inr f ↦ s.different i j l lj e f (sym (get_or-set_other counters gap i counter 0 e) ∙ (q ∙ get_or-set_other counters gap j counter 0 f))
-            ]
+          ]
         ]
 
 -- counters for all but a reached event, the same as before for the events that are not reached up to it
@@ -83,14 +86,16 @@ vacated_next masks counters queue parents q s lo hi v =
     record {
       seats = set v.seats (get_or queue p 0) (get_or v.seats (get_or queue q 0) 0);
       all_but = SeatsAllBut-move (get_or queue p 0) (get_or queue q 0) masks v.seats v.all_but (s.inside p (omega arith)) (s.inside q hi)
-        (λ e. s.different p q earlier hi (sym e)) (rw kept (s.wanted q lo hi));
+          (λ e. s.different p q earlier hi (sym e)) (rw kept (s.wanted q lo hi));
       same = λ i n. get_or-set_other v.seats (get_or queue p 0) i _ 0 (λ e. n p (omega arith) (sym e)) ∙ v.same i (λ r l. n r (omega arith));
     }
   where
     p : ℕ
     p = get_or parents q 0
+
     earlier : get_or parents q 0 < q
     earlier = s.earlier q lo hi
+
     kept : get_or v.seats (get_or queue q 0) 0 ≡ get_or counters (get_or queue q 0) 0
     kept = v.same (get_or queue q 0) (λ r l e. s.different r q (omega (arith, earlier)) hi e)
 
@@ -101,8 +106,8 @@ vacated masks counters queue parents a s zero q l h = absurd (omega arith)
 vacated masks counters queue parents a s (suc n) zero l h = record { seats = counters; all_but = a; same = λ i f. refl }
 vacated masks counters queue parents a s (suc n) (suc q) l h =
     vacated_next masks counters queue parents (suc q) s (omega arith) h
-      (let e : get_or parents (suc q) 0 < suc q = s.earlier (suc q) (omega arith) h in
-        vacated masks counters queue parents a s n (get_or parents (suc q) 0) (omega arith) (omega arith))
+    (let e : get_or parents (suc q) 0 < suc q = s.earlier (suc q) (omega arith) h in
+    vacated masks counters queue parents a s n (get_or parents (suc q) 0) (omega arith) (omega arith))
 
 -- Hall: where the search is closed, no event that is not reached can be left out instead: the reached events have one
 -- counter fewer than there are
@@ -114,13 +119,18 @@ unfit_from_closed gap masks counters queue parents seats s c out a =
   where
     at : (q : ℕ) → q < length queue → get_or (map (λ i. get_or seats i 0) queue) q 0 ≡ get_or seats (get_or queue q 0) 0
     at q l = get_or-map (λ i. get_or seats i 0) queue q 0 0 l
+
     apart_by : (x y : ℕ) → x < length masks → y < length masks → x ≢ gap → y ≢ gap → x ≢ y → get_or seats x 0 ≢ get_or seats y 0
     apart_by x y lx ly nx ny ne e = elim (cases_order x y) [ inl q ↦ ne q | inr o ↦ elim o [ inl lt ↦ a.different x y lt (omega (arith, a.one_each)) nx ny e | inr gt ↦ a.different y x gt (omega (arith, a.one_each)) ny nx (sym e) ] ]
+
     apart : AreDifferent (map (λ i. get_or seats i 0) queue)
-    apart = record { different = λ i j l m e.
-      let lj : j < length queue = omega (arith, m, length-map queue (λ i. get_or seats i 0)) in
-      let li : i < length queue = omega arith in
-      apart_by (get_or queue i 0) (get_or queue j 0) (s.inside i li) (s.inside j lj) (out i li) (out j lj) (s.different i j l lj) (sym (at i li) ∙ (e ∙ at j lj)) }
+    apart = record {
+      different = λ i j l m e.
+          let lj : j < length queue = omega (arith, m, length-map queue (λ i. get_or seats i 0)) in
+          let li : i < length queue = omega arith in
+          apart_by (get_or queue i 0) (get_or queue j 0) (s.inside i li) (s.inside j lj) (out i li) (out j lj) (s.different i j l lj) (sym (at i li) ∙ (e ∙ at j lj));
+    }
+
     held : (i : ℕ) → i < length (map (λ i. get_or seats i 0) queue) → In (map (λ i. get_or counters i 0) (drop 1 queue)) (get_or (map (λ i. get_or seats i 0) queue) i 0)
     held i l =
         let li : i < length queue = omega (arith, l, length-map queue (λ i. get_or seats i 0)) in

@@ -19,8 +19,8 @@ pub In-from_any : (xs : List ℕ) (x : ℕ) → list_any (nat_eq x) xs ≡ true 
 In-from_any [] x h = absurd (cc)
 In-from_any (y ∷ xs) x h =
     elim (cases_Bool (nat_eq x y)) [
-      inl e ↦ record { place = 0; within = omega arith; is = sym (eqb-true x y e) }
-    | inr e ↦ let t = In-from_any xs x (rw e at h) in record { place = suc t.place; within = omega (arith, t.within); is = t.is }
+      | inl e ↦ record { place = 0; within = omega arith; is = sym (eqb-true x y e) }
+      | inr e ↦ let t = In-from_any xs x (rw e at h) in record { place = suc t.place; within = omega (arith, t.within); is = t.is }
     ]
 
 pub any-from_In : (xs : List ℕ) (x : ℕ) → In xs x → list_any (nat_eq x) xs ≡ true
@@ -33,12 +33,12 @@ pub record AreDifferent (xs : List ℕ) : Type 0 where
 pub IsDistinct-AreDifferent : (xs : List ℕ) → AreDifferent xs → IsDistinct nat_eq xs
 IsDistinct-AreDifferent xs h =
     IsDistinct-from_apart nat_eq xs (λ i j d l m. ne_eqb _ _ (λ e.
-      let li : i < length xs = omega arith in
-      h.different i j l m (get_or_default xs i 0 d li ∙ (e ∙ get_or_default xs j d 0 m))))
+    let li : i < length xs = omega arith in
+    h.different i j l m (get_or_default xs i 0 d li ∙ (e ∙ get_or_default xs j d 0 m))))
 
 -- different numbers, each of them in another list, are no more than that list has
 pub length-le_from_In : (xs ys : List ℕ) → AreDifferent xs → ((i : ℕ) → i < length xs → In ys (get_or xs i 0)) → length xs ≤ length ys
 length-le_from_In xs ys d h =
     length-le_from_is_member nat_eq_equiv xs ys (IsDistinct-AreDifferent xs d) (λ q t.
-      let p = In-from_any xs q t in
-      any-from_In ys q (let r = h p.place p.within in record { place = r.place; within = r.within; is = r.is ∙ p.is }))
+    let p = In-from_any xs q t in
+    any-from_In ys q (let r = h p.place p.within in record { place = r.place; within = r.within; is = r.is ∙ p.is }))

@@ -27,21 +27,23 @@ IsLooked-reach masks counters queue parents wide wide_parents position place cou
     let Q : List ℕ → Type 0 = λ ys. P wide ys in
     let R : List ℕ → Type 0 = λ xs. P xs (if list_any (nat_eq place) queue then parents else parents ++ position ∷ []) in
     subst Q (sym v) (subst R (sym w) (elim (cases_Bool (list_any (nat_eq place) queue)) [
-      inl t ↦ rw t (record { search = s; extended = IsExtended-same queue; held = subst H e (IsHeld-reached masks counters queue parents place s ne t) })
-    | inr f ↦
-        let t : IsSearch masks counters (queue ++ place ∷ []) (parents ++ position ∷ []) =
+      | inl t ↦ rw t (record { search = s; extended = IsExtended-same queue; held = subst H e (IsHeld-reached masks counters queue parents place s ne t) })
+      | inr f ↦
+          let t : IsSearch masks counters (queue ++ place ∷ []) (parents ++ position ∷ []) =
           IsSearch-push masks counters queue parents position place s lp (omega arith) f (ap (can_count (get_or masks (get_or queue position 0) 0)) e ∙ can) in
-        rw f (record {
-          search = t;
-          extended = IsExtended-push queue place;
-          held = subst K e (IsHeld-reached masks counters _ _ place t ne (any-from_In _ place (record { place = length queue; within = omega (arith, length_push queue place); is = get_or_push queue place 0 (length queue) refl })));
-        })
+          rw f (record {
+            search = t;
+            extended = IsExtended-push queue place;
+            held = subst K e (IsHeld-reached masks counters _ _ place t ne (any-from_In _ place (record { place = length queue; within = omega (arith, length_push queue place); is = get_or_push queue place 0 (length queue) refl })));
+          })
     ]))
   where
     H : ℕ → Type 0
     H c = IsHeld counters queue c
+
     K : ℕ → Type 0
     K c = IsHeld counters (queue ++ place ∷ []) c
+
     ne : place + 1 ≢ length masks
     ne q = omega arith
 
@@ -49,16 +51,18 @@ IsLooked-reach masks counters queue parents wide wide_parents position place cou
 pub length-search_new : (masks counters queue parents : List ℕ) (place : ℕ) → IsSearch masks counters queue parents → place < length masks → list_any (nat_eq place) queue ≡ false → length queue < length masks
 length-search_new masks counters queue parents place s lp new =
     let l : length (queue ++ place ∷ []) ≤ length masks = length-le_below (queue ++ place ∷ []) (length masks)
-      (record { different = λ i j l m e. elim (cases_eq j (length queue)) [
-          inl f ↦ let li : i < length queue = omega arith in
+    (record {
+      different = λ i j l m e. elim (cases_eq j (length queue)) [
+        | inl f ↦ let li : i < length queue = omega arith in
             both_ways _ new (any-from_In queue place (record { place = i; within = li; is = sym (left i li) ∙ (e ∙ get_or_push queue place 0 j (sym f)) }))
         | inr ne ↦ let lj : j < length queue = omega (arith, m, length_push queue place) in
             s.different i j l lj (sym (left i (omega arith)) ∙ (e ∙ left j lj))
-        ] })
-      (λ i l. elim (cases_eq i (length queue)) [
-          inl f ↦ rw (get_or_push queue place 0 i (sym f)) lp
-        | inr ne ↦ let li : i < length queue = omega (arith, l, length_push queue place) in rw (left i li) (s.inside i li)
-        ]) in
+      ];
+    })
+    (λ i l. elim (cases_eq i (length queue)) [
+      | inl f ↦ rw (get_or_push queue place 0 i (sym f)) lp
+      | inr ne ↦ let li : i < length queue = omega (arith, l, length_push queue place) in rw (left i li) (s.inside i li)
+    ]) in
     omega (arith, l, length_push queue place)
   where
     left : (i : ℕ) → i < length queue → get_or (queue ++ place ∷ []) i 0 ≡ get_or queue i 0
@@ -68,10 +72,12 @@ length-search_new masks counters queue parents place s lp new =
 pub IsClosedAt-all : (at n : ℕ) (masks counters queue parents : List ℕ) → IsSearch masks counters queue parents → at < length queue → All (IsMask n) masks
     → IsClosedAt at n masks counters queue → IsClosedAt at 16 masks counters queue
 IsClosedAt-all at n masks counters queue parents s l b c =
-    record { held = λ counter low can. elim (cases_lt counter n) [
-        inl lt ↦ c.held counter lt can
-      | inr ge ↦ absurd (beyond (get_or masks (get_or queue at 0) 0) n counter (b (get_or queue at 0) 0 (s.inside at l)).1 ge can)
-      ] }
+    record {
+      held = λ counter low can. elim (cases_lt counter n) [
+        | inl lt ↦ c.held counter lt can
+        | inr ge ↦ absurd (beyond (get_or masks (get_or queue at 0) 0) n counter (b (get_or queue at 0) 0 (s.inside at l)).1 ge can)
+      ];
+    }
   where
     beyond : (mask n counter : ℕ) → mask < 2 ^ n → n ≤ counter → can_count mask counter ≡ true → ⊥
     beyond mask n counter l ge can =

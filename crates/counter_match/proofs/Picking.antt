@@ -13,7 +13,7 @@ pub picked_yes : {X Y : Type 0} (f : X → Y) (p : ℕ → Bool) (i : ℕ) (xs :
     → more ≡ told ++ f (get_or xs i d) ∷ [] → told ++ map f (picked p i (drop i xs)) ≡ all → more ++ map f (picked p (i + 1) (drop (i + 1) xs)) ≡ all
 picked_yes f p i xs d told more all l t m h =
     let e : picked p i (drop i xs) ≡ get_or xs i d ∷ picked p (i + 1) (drop (i + 1) xs) =
-      picked-drop p i xs d l ∙ ap (λ b. (if b then get_or xs i d ∷ [] else []) ++ picked p (i + 1) (drop (i + 1) xs)) t in
+    picked-drop p i xs d l ∙ ap (λ b. (if b then get_or xs i d ∷ [] else []) ++ picked p (i + 1) (drop (i + 1) xs)) t in
     ap (λ ys. ys ++ map f (picked p (i + 1) (drop (i + 1) xs))) m
     ∙ (append_assoc told (f (get_or xs i d) ∷ []) _ ∙ (ap (λ ys. told ++ map f ys) (sym e) ∙ h))
 
@@ -21,5 +21,5 @@ pub picked_no : {X Y : Type 0} (f : X → Y) (p : ℕ → Bool) (i : ℕ) (xs : 
     → more ≡ told → told ++ map f (picked p i (drop i xs)) ≡ all → more ++ map f (picked p (i + 1) (drop (i + 1) xs)) ≡ all
 picked_no f p i xs d told more all l t m h =
     let e : picked p i (drop i xs) ≡ picked p (i + 1) (drop (i + 1) xs) =
-      picked-drop p i xs d l ∙ ap (λ b. (if b then get_or xs i d ∷ [] else []) ++ picked p (i + 1) (drop (i + 1) xs)) t in
+    picked-drop p i xs d l ∙ ap (λ b. (if b then get_or xs i d ∷ [] else []) ++ picked p (i + 1) (drop (i + 1) xs)) t in
     ap (λ ys. ys ++ map f (picked p (i + 1) (drop (i + 1) xs))) m ∙ (ap (λ ys. told ++ map f ys) (sym e) ∙ h)

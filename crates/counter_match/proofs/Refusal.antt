@@ -17,7 +17,7 @@ pub unfit_group : (old group events : List (EventNo × ℕ)) (i : ℕ) (d : Even
     → fits (masks_of (events ++ get_or group i d ∷ [])) ≡ false → fits (masks_of (old ++ group)) ≡ false
 unfit_group old group events i d l e un =
     false_from_ne_true _ (λ h. both_ways _ un (fits-front_events (events ++ get_or group i d ∷ []) (drop (i + 1) group)
-      (ap (λ es. fits (masks_of es)) (append_assoc events (get_or group i d ∷ []) (drop (i + 1) group) ∙ sym (split_at old group events i d l e)) ∙ h)))
+    (ap (λ es. fits (masks_of es)) (append_assoc events (get_or group i d ∷ []) (drop (i + 1) group) ∙ sym (split_at old group events i d l e)) ∙ h)))
 
 pub shortest_unfit_group : (old group events : List (EventNo × ℕ)) (i : ℕ) (d : EventNo × ℕ) → i < length group → events ≡ old ++ take i group
     → fits (masks_of events) ≡ true → fits (masks_of (events ++ get_or group i d ∷ [])) ≡ false → shortest_unfit (old ++ group) ≡ events ++ get_or group i d ∷ []

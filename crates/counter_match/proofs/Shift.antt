@@ -14,9 +14,9 @@ SeatsAllBut-retake gap place counter masks seats s lp ne can free =
     record {
       one_each = length-set seats place _ ∙ s.one_each;
       allowed = λ i l n. elim (cases_eq i place) [
-          inl e ↦ rw (e, get_or-set_same seats place counter 0 lg) can
+        | inl e ↦ rw (e, get_or-set_same seats place counter 0 lg) can
         | inr e ↦ rw (get_or-set_other seats place i counter 0 e) (s.allowed i l n)
-        ];
+      ];
       different = λ i j l m n o.
           let li : i < length seats = omega (arith, length-set seats place counter) in
           let lj : j < length seats = omega (arith, length-set seats place counter) in
@@ -25,16 +25,17 @@ SeatsAllBut-retake gap place counter masks seats s lp ne can free =
   where
     lg : place < length seats
     lg = omega (arith, s.one_each)
+
     apart : (i j : ℕ) → i < j → i < length seats → j < length seats → i ≢ gap → j ≢ gap → get_or (set seats place counter) i 0 ≢ get_or (set seats place counter) j 0
     apart i j l li lj n o q =
         elim (cases_eq i place) [
-          inl e ↦
-            let ne_j : j ≢ place = omega arith in
-            free j lj o (sym (get_or-set_other seats place j counter 0 ne_j) ∙ (sym q ∙ (ap (λ k. get_or (set seats place counter) k 0) e ∙ get_or-set_same seats place counter 0 lg)))
-        | inr e ↦ elim (cases_eq j place) [
-              inl f ↦ free i li n (sym (get_or-set_other seats place i counter 0 e) ∙ (q ∙ (ap (λ k. get_or (set seats place counter) k 0) f ∙ get_or-set_same seats place counter 0 lg)))
+          | inl e ↦
+              let ne_j : j ≢ place = omega arith in
+              free j lj o (sym (get_or-set_other seats place j counter 0 ne_j) ∙ (sym q ∙ (ap (λ k. get_or (set seats place counter) k 0) e ∙ get_or-set_same seats place counter 0 lg)))
+          | inr e ↦ elim (cases_eq j place) [
+            | inl f ↦ free i li n (sym (get_or-set_other seats place i counter 0 e) ∙ (q ∙ (ap (λ k. get_or (set seats place counter) k 0) f ∙ get_or-set_same seats place counter 0 lg)))
             | inr f ↦ s.different i j l lj n o (sym (get_or-set_other seats place i counter 0 e) ∙ (q ∙ get_or-set_other seats place j counter 0 f))
-            ]
+          ]
         ]
 
 -- one event further back
@@ -52,21 +53,25 @@ IsShift-next masks counters queue parents seats position counter s lo h =
   where
     place : ℕ
     place = get_or queue position 0
+
     earlier : get_or parents position 0 < position
     earlier = s.earlier position lo h.reached
+
     inside : place < length masks
     inside = s.inside position h.reached
+
     not_first : place ≢ get_or queue 0 0
     not_first e = s.different 0 position lo h.reached (sym e)
+
     free_after : (i : ℕ) → i < length seats → i ≢ get_or queue 0 0 → get_or (set seats place counter) i 0 ≢ get_or seats place 0
     free_after i l n q =
         let lp : place < length seats = omega (arith, inside, h.seated.one_each) in
         elim (cases_order i place) [
-          inl e ↦ h.free place lp not_first (sym q ∙ (ap (λ k. get_or (set seats place counter) k 0) e ∙ get_or-set_same seats place counter 0 lp))
-        | inr o ↦ elim o [
-              inl lt ↦ h.seated.different i place lt lp n not_first (sym (get_or-set_other seats place i counter 0 (omega arith)) ∙ q)
+          | inl e ↦ h.free place lp not_first (sym q ∙ (ap (λ k. get_or (set seats place counter) k 0) e ∙ get_or-set_same seats place counter 0 lp))
+          | inr o ↦ elim o [
+            | inl lt ↦ h.seated.different i place lt lp n not_first (sym (get_or-set_other seats place i counter 0 (omega arith)) ∙ q)
             | inr gt ↦ h.seated.different place i gt l not_first n (sym q ∙ get_or-set_other seats place i counter 0 (omega arith))
-            ]
+          ]
         ]
 
 -- at the first of the queue all events have counters

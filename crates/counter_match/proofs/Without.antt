@@ -55,7 +55,7 @@ pub get_or-past_split : (gap : ℕ) (xs : List ℕ) (i : ℕ) → gap < length x
 get_or-past_split gap xs i l =
     let n : length (take gap xs) ≡ gap = length-take-le gap xs (omega arith) in
     let whole : take gap xs ++ get_or xs gap 0 ∷ drop (suc gap) xs ≡ xs =
-      ap (λ ys. take gap xs ++ ys) (sym (drop_more xs gap 0 l ∙ ap (λ k. get_or xs gap 0 ∷ drop k xs) (add-one gap))) ∙ take-append-drop gap xs in
+    ap (λ ys. take gap xs ++ ys) (sym (drop_more xs gap 0 l ∙ ap (λ k. get_or xs gap 0 ∷ drop k xs) (add-one gap))) ∙ take-append-drop gap xs in
     get_or-past (take gap xs) (drop (suc gap) xs) (get_or xs gap 0) i ∙ (ap (λ k. get_or (take gap xs ++ get_or xs gap 0 ∷ drop (suc gap) xs) (past k i) 0) n ∙ ap (λ ys. get_or ys (past gap i) 0) whole)
 
 pub fits_without : (before after : List ℕ) (mask : ℕ) (seats : List ℕ) → SeatsAllBut (length before) (before ++ mask ∷ after) seats → fits (before ++ after) ≡ true
@@ -73,49 +73,62 @@ fits_without before after mask seats s =
   where
     g : ℕ
     g = length before
+
     whole : length (before ++ mask ∷ after) ≡ length before + suc (length after)
     whole = length-append before (mask ∷ after)
+
     at : (i : ℕ) → get_or (take g seats ++ drop (suc g) seats) i 0 ≡ get_or seats (past g i) 0
     at i = get_or-past_split g seats i (omega (arith, whole, s.one_each))
+
     allowed_at : (i : ℕ) → past g i < length (before ++ mask ∷ after) → can_count (get_or (before ++ after) i 0) (get_or (take g seats ++ drop (suc g) seats) i 0) ≡ true
     allowed_at i l =
         ap (λ k. can_count k (get_or (take g seats ++ drop (suc g) seats) i 0)) (get_or-past before after mask i)
         ∙ (ap (can_count (get_or (before ++ mask ∷ after) (past g i) 0)) (at i) ∙ s.allowed (past g i) l (past-ne g i))
 
 pub seats_without : (before after : List ℕ) (mask : ℕ) → fits (before ++ after) ≡ true → (seats : List ℕ) × SeatsAllBut (length before) (before ++ mask ∷ after) seats
-seats_without before after mask h =
-    (take g cs ++ 0 ∷ drop g cs, record {
-      one_each = omega (arith, length-append (take g cs) (0 ∷ drop g cs), length-take g cs, length-drop g cs, a.one_each, length-append before after, whole);
-      allowed = λ j l ne.
-          let m = met g (length (before ++ after)) j (omega (arith, length-append before after)) (omega (arith, l, length-append before after, whole)) ne in
-          allowed_at m.place j m.below m.is;
-      different = λ i j l lj ni nj e.
-          let same : length (take g cs ++ 0 ∷ drop g cs) ≡ suc (length (before ++ after)) = omega (arith, length-append (take g cs) (0 ∷ drop g cs), length-take g cs, length-drop g cs, a.one_each, length-append before after) in
-          let mi = met g (length (before ++ after)) i (omega (arith, length-append before after)) (omega (arith, lj, l, same)) ni in
-          let mj = met g (length (before ++ after)) j (omega (arith, length-append before after)) (omega (arith, lj, same)) nj in
-          apart mi.place mj.place i j mi.is mj.is l (omega (arith, mj.below, a.one_each)) e;
-    })
+seats_without before after mask h = (
+  take g cs ++ 0 ∷ drop g cs,
+  record {
+    one_each = omega (arith, length-append (take g cs) (0 ∷ drop g cs), length-take g cs, length-drop g cs, a.one_each, length-append before after, whole);
+    allowed = λ j l ne.
+        let m = met g (length (before ++ after)) j (omega (arith, length-append before after)) (omega (arith, l, length-append before after, whole)) ne in
+        allowed_at m.place j m.below m.is;
+    different = λ i j l lj ni nj e.
+        let same : length (take g cs ++ 0 ∷ drop g cs) ≡ suc (length (before ++ after)) = omega (arith, length-append (take g cs) (0 ∷ drop g cs), length-take g cs, length-drop g cs, a.one_each, length-append before after) in
+        let mi = met g (length (before ++ after)) i (omega (arith, length-append before after)) (omega (arith, lj, l, same)) ni in
+        let mj = met g (length (before ++ after)) j (omega (arith, length-append before after)) (omega (arith, lj, same)) nj in
+        apart mi.place mj.place i j mi.is mj.is l (omega (arith, mj.below, a.one_each)) e;
+  },
+)
   where
     g : ℕ
     g = length before
+
     cs : List ℕ
     cs = (assignment_of (before ++ after) h).0
+
     a : IsAssignment (before ++ after) cs
     a = (assignment_of (before ++ after) h).1
+
     whole : length (before ++ mask ∷ after) ≡ length before + suc (length after)
     whole = length-append before (mask ∷ after)
+
     short : g ≤ length cs
     short = omega (arith, a.one_each, length-append before after)
+
     at : (i : ℕ) → get_or cs i 0 ≡ get_or (take g cs ++ 0 ∷ drop g cs) (past g i) 0
     at i = ap (λ ys. get_or ys i 0) (sym (take-append-drop g cs)) ∙ (get_or-past (take g cs) (drop g cs) 0 i ∙ ap (λ k. get_or (take g cs ++ 0 ∷ drop g cs) (past k i) 0) (length-take-le g cs short))
+
     allowed_at : (i j : ℕ) → i < length (before ++ after) → past g i ≡ j → can_count (get_or (before ++ mask ∷ after) j 0) (get_or (take g cs ++ 0 ∷ drop g cs) j 0) ≡ true
     allowed_at i j l e =
         ap (λ k. can_count (get_or (before ++ mask ∷ after) k 0) (get_or (take g cs ++ 0 ∷ drop g cs) k 0)) (sym e)
         ∙ (ap (λ k. can_count k (get_or (take g cs ++ 0 ∷ drop g cs) (past g i) 0)) (sym (get_or-past before after mask i))
         ∙ (ap (can_count (get_or (before ++ after) i 0)) (sym (at i)) ∙ a.allowed i l))
+
     smaller : (i j : ℕ) → past g i < past g j → i < j
     smaller i j l = elim (cases_order i j) [ inl e ↦ let same : past g i ≡ past g j = ap (past g) e in absurd (omega arith) | inr o ↦ elim o [ inl lt ↦ lt | inr gt ↦ let back : past g j < past g i = past-increases g j i gt in absurd (omega arith) ] ]
+
     apart : (i' j' i j : ℕ) → past g i' ≡ i → past g j' ≡ j → i < j → j' < length cs → get_or (take g cs ++ 0 ∷ drop g cs) i 0 ≢ get_or (take g cs ++ 0 ∷ drop g cs) j 0
     apart i' j' i j ei ej l lj e =
         a.different i' j' (smaller i' j' (omega arith)) lj
-          (at i' ∙ (ap (λ k. get_or (take g cs ++ 0 ∷ drop g cs) k 0) ei ∙ (e ∙ (ap (λ k. get_or (take g cs ++ 0 ∷ drop g cs) k 0) (sym ej) ∙ sym (at j')))))
+        (at i' ∙ (ap (λ k. get_or (take g cs ++ 0 ∷ drop g cs) k 0) ei ∙ (e ∙ (ap (λ k. get_or (take g cs ++ 0 ∷ drop g cs) k 0) (sym ej) ∙ sym (at j')))))

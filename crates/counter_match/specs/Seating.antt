@@ -5,8 +5,8 @@ use Rattle.perf_base.specs.declared.numbers.EventNo.{EventNo}
 use Rattle.stage_spec.specs.Fits.{IsAssignment}
 use Rattle.stage_spec.specs.Tight.{masks_of}
 
--- what is known of a seating: how many counters the processor has, the events with their masks in order of coming, and
--- the counter of each
+-- what is known of a seating: how many counters the processor has, the events with their masks in order of coming,
+-- and the counter of each
 pub record Seated : Type 0 where
   pub counters : ℕ
   pub events : List (EventNo × ℕ)

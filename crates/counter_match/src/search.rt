@@ -1,5 +1,5 @@
-//! The search for a free counter, breadth first: the last event of the list may take the counter of another event where
-//! that one can be moved, and so on.
+//! The search for a free counter, breadth first: the last event of the list may take the counter of another
+//! event where that one can be moved, and so on.
 
 ghost use Rattle.std.specs.Prelude.{◌≡◌, ◌≢◌, ◌↔◌, ℕ, ◌+◌, ◌-◌, ◌*◌, ◌<◌, ◌≤◌, true, false, Some, IsTrue, IfSome, IfNone, OnOk, OnErr, IfErr, All, take, if◌then◌else◌, List, [], ◌∷◌, ◌++◌, length, nat_eq, slice_index};
 ghost use Rattle.std.specs.List.{list_any};
@@ -45,8 +45,8 @@ fn holder(seats: &[u8], last: usize, counter: u8) -> Option<usize>
     None
 }
 
-/// The places that a search has reached, in order, and for each the position of the place that it was reached from. The
-/// first is the last of the list, which has no counter.
+/// The places that a search has reached, in order, and for each the position of the place that it was reached
+/// from. The first is the last of the list, which has no counter.
 #[derive(Drop)]
 pub struct Search {
     pub queue: Places,
@@ -69,8 +69,10 @@ impl Search {
     fn reach(&mut self, place: usize, position: usize)
         requires queue { list_any (nat_eq place) self.old.queue ≡ false → length self.old.queue < 17 }
         requires parents { length self.old.parents ≡ length self.old.queue }
-        ensures queue { self.new.queue ≡ (if list_any (nat_eq place) self.old.queue then self.old.queue else self.old.queue ++ place ∷ []) }
-        ensures parents { self.new.parents ≡ (if list_any (nat_eq place) self.old.queue then self.old.parents else self.old.parents ++ position ∷ []) }
+        ensures queue { self.new.queue
+            ≡ (if list_any (nat_eq place) self.old.queue then self.old.queue else self.old.queue ++ place ∷ []) }
+        ensures parents { self.new.parents
+            ≡ (if list_any (nat_eq place) self.old.queue then self.old.parents else self.old.parents ++ position ∷ []) }
     {
         if !self.queue.contains(place) {
             self.queue.push(place);
@@ -78,8 +80,8 @@ impl Search {
         }
     }
 
-    /// Looks at a counter for the event at a position of the queue: whether it can count there and no other event has
-    /// that counter. Where another event has it, that event is reached.
+    /// Looks at a counter for the event at a position of the queue: whether it can count there and no other event
+    /// has that counter. Where another event has it, that event is reached.
     fn look<L: Ledger>(
         &mut self,
         events: &[(EventNo, u32)],
@@ -95,8 +97,10 @@ impl Search {
         requires counter { counter < 16 }
         ensures search { IsSearch (masks_of events.now) seats.now self.new.queue self.new.parents }
         ensures extended { IsExtended self.old.queue self.new.queue }
-        ensures free { IsTrue result → CanTake (masks_of events.now) self.new.queue position counter × IsFree (slice_index self.new.queue 0) seats.now counter }
-        ensures held { result ≡ false → CanTake (masks_of events.now) self.new.queue position counter → IsHeld seats.now self.new.queue counter }
+        ensures free { IsTrue result → CanTake (masks_of events.now) self.new.queue position counter
+            × IsFree (slice_index self.new.queue 0) seats.now counter }
+        ensures held { result ≡ false → CanTake (masks_of events.now) self.new.queue position counter
+            → IsHeld seats.now self.new.queue counter }
         ensures step { steps.new ≡ steps.old + 1 }
     {
         let place = self.queue.get(position);
@@ -112,8 +116,8 @@ impl Search {
         }
     }
 
-    /// Looks at the counters for the event at a position of the queue: the first that it can take and that no other
-    /// event has. Events that have another one of its counters are reached.
+    /// Looks at the counters for the event at a position of the queue: the first that it can take and that no
+    /// other event has. Events that have an earlier one of its counters are reached.
     fn look_at<L: Ledger>(
         &mut self,
         events: &[(EventNo, u32)],
@@ -130,8 +134,10 @@ impl Search {
         requires most { counters ≤ 16 }
         ensures search { IsSearch (masks_of events.now) seats.now self.new.queue self.new.parents }
         ensures extended { IsExtended self.old.queue self.new.queue }
-        ensures free { IfSome result (λ counter. CanTake (masks_of events.now) self.new.queue position counter × IsFree (slice_index self.new.queue 0) seats.now counter) }
-        ensures held { IfNone result (IsClosedAt position counters (masks_of events.now) seats.now self.new.queue) }
+        ensures free { IfSome result (λ counter. CanTake (masks_of events.now) self.new.queue position counter
+            × IsFree (slice_index self.new.queue 0) seats.now counter) }
+        ensures held { IfNone result
+            (IsClosedAt position counters (masks_of events.now) seats.now self.new.queue) }
         ensures least { steps.old + 1 ≤ steps.new }
         ensures most { steps.new ≤ steps.old + 16 }
     {
@@ -143,7 +149,8 @@ impl Search {
         None
     }
 
-    /// Looks at the reached events in turn until one of them can take a free counter: its position, and the counter.
+    /// Looks at the reached events in turn until one of them can take a free counter: its position, and the
+    /// counter.
     fn run<L: Ledger>(
         &mut self,
         events: &[(EventNo, u32)],
@@ -158,8 +165,10 @@ impl Search {
         requires most { counters ≤ 16 }
         requires masks { All (IsMask counters) (masks_of events.now) }
         ensures search { IsSearch (masks_of events.now) seats.now self.new.queue self.new.parents }
-        ensures free { IfSome result (λ found. IsShift (masks_of events.now) seats.now self.new.queue seats.now found.0 found.1) }
-        ensures closed { IfNone result (IsClosedBelow (length self.new.queue) (masks_of events.now) seats.now self.new.queue) }
+        ensures free { IfSome result
+            (λ found. IsShift (masks_of events.now) seats.now self.new.queue seats.now found.0 found.1) }
+        ensures closed { IfNone result
+            (IsClosedBelow (length self.new.queue) (masks_of events.now) seats.now self.new.queue) }
         ensures least { steps.old + 1 ≤ steps.new }
         ensures most { steps.new ≤ steps.old + 272 }
     {
@@ -173,7 +182,8 @@ impl Search {
         None
     }
 
-    /// Hands a free counter back from the event at a position of the queue, which can take it, to the last of the list.
+    /// Hands a free counter back from the event at a position of the queue, which can take it, to the last of the
+    /// list: each event gives its own counter to the one that it was reached from.
     fn hand_back(
         &self,
         events: &[(EventNo, u32)],
@@ -198,7 +208,8 @@ impl Search {
     /// The slots of the reached events, in list order.
     fn reached(&self, events: &[(EventNo, u32)]) -> Tight
         requires { length events.now ≤ 17 }
-        ensures { result ≡ slots_of (picked (λ place. list_any (nat_eq place) self.now.queue) 0 events.now) }
+        ensures { result
+            ≡ slots_of (picked (λ place. list_any (nat_eq place) self.now.queue) 0 events.now) }
     {
         let mut tight = Tight::new();
         for place in 0..events.len() {
@@ -211,8 +222,8 @@ impl Search {
     }
 }
 
-/// Gives the last event of a list a counter. The first of `seats` are the counters of the events, which may get others in
-/// their place. Where the list does not fit, nothing changes, and the answer is its tight set.
+/// Gives the last event of a list a counter. The first of `seats` are the counters of the events, which may get
+/// others in their place. Where the list does not fit, nothing changes, and the answer is its tight set.
 pub fn seat_last<L: Ledger>(
     events: &[(EventNo, u32)],
     seats: &mut [u8],
@@ -221,12 +232,14 @@ pub fn seat_last<L: Ledger>(
 ) -> Result<(), Tight>
     requires last { 0 < length events.now }
     requires room { length events.now ≤ length seats.old }
-    requires seats { SeatsAllBut (length events.now - 1) (masks_of events.now) (take (length events.now) seats.old) }
+    requires seats {
+        SeatsAllBut (length events.now - 1) (masks_of events.now) (take (length events.now) seats.old) }
     requires few { length events.now ≤ 17 }
     requires some { 0 < counters }
     requires most { counters ≤ 16 }
     requires masks { All (IsMask counters) (masks_of events.now) }
-    ensures seated { OnOk result (IsAssignment (masks_of events.now) (take (length events.now) seats.new)) }
+    ensures seated { OnOk result
+        (IsAssignment (masks_of events.now) (take (length events.now) seats.new)) }
     ensures same { OnErr result (seats.new ≡ seats.old) }
     ensures unfit { OnErr result (fits (masks_of events.now) ≡ false) }
     ensures tight { IfErr result (λ slots. slots ≡ slots_of (tight_set events.now)) }

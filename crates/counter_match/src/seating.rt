@@ -12,8 +12,8 @@ use crate::steps::Steps;
 use perf_base::{EventNo, SeatList, Tight};
 use std::sync::ledger::Ledger;
 
-/// Events with their masks, and a counter for each, in order of coming. One more place than there are counters is for
-/// the event that is tried.
+/// Events with their masks, and a counter for each, in order of coming. One more place than there are counters is
+/// for the event that is tried.
 #[derive(Clone, Copy)]
 pub struct Seating {
     pub used: usize,
@@ -46,8 +46,8 @@ impl Seating {
         list
     }
 
-    /// Adds an event with its mask. Where the events do not fit with it, the answer is their tight set, and what is left
-    /// is of no use.
+    /// Adds an event with its mask. Where the events do not fit with it, the answer is their tight set, and what is
+    /// left is of no use.
     pub fn add<L: Ledger>(
         &mut self,
         counters: u8,
@@ -61,7 +61,8 @@ impl Seating {
         ensures seating { OnOk result (IsSeating counters self.new) }
         ensures events { OnOk result (events_of self.new ≡ events_of self.old ++ event ∷ []) }
         ensures unfit { OnErr result (fits (masks_of (events_of self.old ++ event ∷ [])) ≡ false) }
-        ensures tight { IfErr result (λ slots. slots ≡ slots_of (tight_set (events_of self.old ++ event ∷ []))) }
+        ensures tight { IfErr result
+            (λ slots. slots ≡ slots_of (tight_set (events_of self.old ++ event ∷ []))) }
         ensures least { steps.old + 1 ≤ steps.new }
         ensures most { steps.new ≤ steps.old + 272 }
     {

@@ -11,9 +11,9 @@ use perf_base::{EventNo, SeatList, Tight};
 use std::marker::Model;
 use std::sync::ledger::Ledger;
 
-/// Hardware events on the counters of one processor, in order of coming: at most as many as there are counters. Contracts
-/// see the number of counters, the events with their masks, and a counter for each. A mask has bit C set where counter C
-/// can count the event.
+/// Hardware events on the counters of one processor, in order of coming: at most as many as there are counters.
+/// Contracts see the number of counters, the events with their masks, and a counter for each. A mask has bit C set
+/// where counter C can count the event.
 #[derive(Drop)]
 pub struct Seats {
     counters: u8,
@@ -52,9 +52,9 @@ impl Seats {
         self.seating = Seating::new();
     }
 
-    /// Adds a group of events with their masks; an event that is seated may get another counter. Where the events do not
-    /// fit with the group, nothing changes, and the answer is the tight set of the shortest beginning that does not fit.
-    /// A step is one test of one counter for one event.
+    /// Adds a group of at most 8 events with their masks; an event that is seated may get another counter. Where
+    /// the events do not fit with the group, nothing changes, and the answer is the tight set of the shortest
+    /// beginning of the list that does not fit. A step is one test of one counter for one event.
     pub fn try_add<L: Ledger>(
         &mut self,
         group: &[(EventNo, u32)],
@@ -68,7 +68,8 @@ impl Seats {
         ensures added { OnOk result (self.new.events ≡ self.old.events ++ group.now) }
         ensures assigned { OnOk result (IsAssignment (masks_of self.new.events) self.new.seats) }
         ensures same { OnErr result (self.new ≡ self.old) }
-        ensures tight { IfErr result (λ slots. slots ≡ slots_of (tight_set (shortest_unfit (self.old.events ++ group.now)))) }
+        ensures tight { IfErr result
+            (λ slots. slots ≡ slots_of (tight_set (shortest_unfit (self.old.events ++ group.now)))) }
         ensures least { OnOk result (steps.old + length group.now ≤ steps.new) }
         ensures tried { OnErr result (steps.old + 1 ≤ steps.new) }
         ensures most { steps.new ≤ steps.old + 272 * length group.now }

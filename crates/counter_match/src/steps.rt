@@ -5,8 +5,8 @@ ghost use Rattle.std.specs.Prelude.{◌≡◌, ℕ, ◌+◌, ◌<◌};
 use std::marker::Model;
 use std::sync::ledger::{Blank, Book, Ledger, Share};
 
-/// How many steps were taken: a step is one test of one counter for one event. It takes no bytes, and a step costs
-/// nothing. Contracts see it as a number.
+/// How many steps were taken: a step is one test of one counter for one event. It takes no bytes, and counting
+/// costs nothing. Contracts see it as a number.
 #[derive(Drop)]
 pub struct Steps<L: Ledger> {
     book: Book<L>,
@@ -22,7 +22,8 @@ impl<L: Ledger> Model for Steps<L> {
 }
 
 impl<L: Ledger> Steps<L> {
-    /// No steps, on a ledger with at least one part. A caller that counts nothing takes `Brand` and `Blank::new(1)`.
+    /// No steps, on a ledger with at least one part. A caller that counts nothing takes `Brand` and
+    /// `Blank::new(1)`.
     pub fn new(blank: Blank) -> Self
         requires name { blank.name ≡ L.name }
         requires parts { blank.parts ≡ L.parts }

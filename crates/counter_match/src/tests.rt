@@ -11,7 +11,8 @@ use std::marker::Brand;
 use std::sync::ledger::{Blank, Ledger};
 use std::test::Fail;
 
-/// Whether events with these masks, from a place on and without the one at `gap`, fit on the counters that are not taken.
+/// Whether events with these masks, from a place on and without the one at `gap`, fit on the counters that are not
+/// taken.
 fn fits_from(masks: &[u32], place: usize, gap: usize, taken: u32) -> bool {
     if place >= masks.len() {
         return true;
@@ -197,12 +198,21 @@ fn cases(rt: HostRuntime) -> Result<(), Fail> {
     let table = [
         (3, [1, 6, 1].as_slice(), "ok ok 0 2 no 0:0 1:1 "),
         (2, [3, 1].as_slice(), "ok ok 0:1 1:0 "),
-        (2, [3, 1, 2, 3].as_slice(), "ok ok 0 1 2 no 0 1 3 no 0:1 1:0 "),
-        (4, [12, 3, 1, 3].as_slice(), "ok ok ok 1 2 3 no 0:2 1:1 2:0 "),
+        (
+            2,
+            [3, 1, 2, 3].as_slice(),
+            "ok ok 0 1 2 no 0 1 3 no 0:1 1:0 ",
+        ),
+        (
+            4,
+            [12, 3, 1, 3].as_slice(),
+            "ok ok ok 1 2 3 no 0:2 1:1 2:0 ",
+        ),
         (
             16,
             [0xffff; 17].as_slice(),
-            "ok ok ok ok ok ok ok ok ok ok ok ok ok ok ok ok 0 1 2 3 4 5 6 7 8 9 10 11 12 13 14 15 16 no 0:0 1:1 2:2 3:3 4:4 5:5 6:6 7:7 8:8 9:9 10:10 11:11 12:12 13:13 14:14 15:15 ",
+            "ok ok ok ok ok ok ok ok ok ok ok ok ok ok ok ok 0 1 2 3 4 5 6 7 8 9 10 11 12 13 14 15 16 no \
+             0:0 1:1 2:2 3:3 4:4 5:5 6:6 7:7 8:8 9:9 10:10 11:11 12:12 13:13 14:14 15:15 ",
         ),
     ];
     for (counters, masks, want) in table {
@@ -259,8 +269,8 @@ fn masks_by(
     Ok(masks)
 }
 
-/// Whether seats and the plain search agree on lists of `count` masks, the numbers of which begin at `from` and go up in
-/// steps, however such a list is split into two groups.
+/// Whether seats and the plain search agree on so many lists of `count` masks, whose numbers are the multiples of
+/// `step`, however such a list is split into two groups.
 fn all_agree<L: Ledger>(
     alloc: Global,
     blank: Blank,
@@ -283,7 +293,13 @@ fn all_agree<L: Ledger>(
         let masks = masks_by(alloc, counters, count, list.wrapping_mul(step), base)?;
         let events = events_with(alloc, masks.as_slice())?;
         for split in count.saturating_sub(8)..count.min(8) + 1 {
-            if !agrees(counters, events.as_slice(), masks.as_slice(), split, &mut steps) {
+            if !agrees(
+                counters,
+                events.as_slice(),
+                masks.as_slice(),
+                split,
+                &mut steps,
+            ) {
                 return Ok(false);
             }
         }

@@ -1,6 +1,6 @@
--- When events can stand on counters together: each on a counter of its own, one that can count it. The constraint of
--- event scheduling in kernel/events/core.c and arch/x86/events/core.c. A mask is a number whose bit C says that counter C
--- can count the event; a processor has at most 16 counters, as this project's own profile has it.
+-- When events can stand on counters together: each on a counter of its own, one that can count it. The constraint
+-- of event scheduling in kernel/events/core.c and arch/x86/events/core.c. A mask is a number whose bit C says that
+-- counter C can count the event; a processor has at most 16 counters, as this project's own profile has it.
 use Rattle.std.specs.Prelude.{◌≡◌, ◌≢◌, ℕ, zero, suc, ◌<◌, Bool, true, false, not, ◌&&◌, ◌==◌, nat_eq, nat_lt, IsTrue, ◌↔◌, List, [], ◌∷◌, length, slice_index}
 use Rattle.std.specs.List.{list_any}
 use Rattle.std.specs.Int.{bit_at}
@@ -9,7 +9,7 @@ use Rattle.std.specs.Int.{bit_at}
 abbrev pub can_count : ℕ → ℕ → Bool
 can_count mask counter = nat_lt counter 16 && bit_at mask counter == 1
 
--- whether the first event can take a counter below some number, one that is not taken, so that the other events fit
+-- whether the first event can take a counter below some number, one that is not taken, so that the others fit
 unfoldable pub fits_below : ℕ → (List ℕ → Bool) → ℕ → List ℕ → Bool
 fits_below zero others mask taken = false
 fits_below (suc counter) others mask taken =

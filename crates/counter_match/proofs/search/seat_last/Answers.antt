@@ -16,4 +16,4 @@ returns-in-None-clause-tight g c =
     let n : length (masks_of c.args.events.now) ≡ length c.args.events.now = length-map c.args.events.now (λ e. e.1) in
     let first : length c.args.events.now - 1 ≡ get_or c.run.new.self.queue 0 0 = omega (arith, c.run.ensures.search.first) in
     c.reached.ensures ∙ ap (map (λ (event : EventNo × ℕ). event.0))
-      (sym (tight_set-picked c.args.events.now (take (length c.args.events.now) c.args.seats.now) c.run.new.self.queue c.run.new.self.parents (subst S first c.requires.seats) c.run.ensures.search c.in-None.ensures.closed))
+    (sym (tight_set-picked c.args.events.now (take (length c.args.events.now) c.args.seats.now) c.run.new.self.queue c.run.new.self.parents (subst S first c.requires.seats) c.run.ensures.search c.in-None.ensures.closed))

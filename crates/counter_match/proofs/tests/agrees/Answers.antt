@@ -20,4 +20,4 @@ pub try_add-answer-requires-clause-masks : goal.try_add-answer-requires-clause-m
 try_add-answer-requires-clause-masks g c =
     let M : ℕ → Type 0 = λ counters. All (IsMask counters) (masks_of (take (length c.args.events.now - c.args.split) (drop c.args.split c.args.events.now))) in
     subst M (sym (c.try_add.ensures.counters ∙ ap (λ s. s.counters) c.new-seats.ensures))
-      (masks-part c.args.counters c.args.split (length c.args.events.now - c.args.split) c.args.events.now c.args.masks.now c.requires.same c.requires.masks)
+    (masks-part c.args.counters c.args.split (length c.args.events.now - c.args.split) c.args.events.now c.args.masks.now c.requires.same c.requires.masks)

@@ -9,7 +9,7 @@ use Rattle.counter_match.proofs.search.Search.hand_back.Goals as goal
 pub loop-position-preserved : goal.loop-position-preserved
 loop-position-preserved c =
     rw (c.get-place.ensures, c.get-position.ensures)
-      (IsShift-next (masks_of c.args.events.now) c.args.seats.now c.args.self.now.queue c.args.self.now.parents c.loop-position.seats c.loop-position.position c.loop-position.counter c.requires.search (omega arith) c.loop-position.invariant)
+    (IsShift-next (masks_of c.args.events.now) c.args.seats.now c.args.self.now.queue c.args.self.now.parents c.loop-position.seats c.loop-position.position c.loop-position.counter c.requires.search (omega arith) c.loop-position.invariant)
 
 pub returns : goal.returns
 returns c =

@@ -12,16 +12,16 @@ pub reach-requires-clause-queue : goal.reach-requires-clause-queue
 reach-requires-clause-queue g c f =
     let n : length (masks_of c.args.events.now) ≡ length c.args.events.now = length-map c.args.events.now (λ e. e.1) in
     let lt : length c.args.self.now.queue < length (masks_of c.args.events.now) =
-      length-search_new (masks_of c.args.events.now) c.args.seats.now _ _ c.in-Some.taken c.requires.search (omega (arith, c.in-Some.ensures.some.0)) f in
+    length-search_new (masks_of c.args.events.now) c.args.seats.now _ _ c.in-Some.taken c.requires.search (omega (arith, c.in-Some.ensures.some.0)) f in
     omega arith
 
 looked : (g : Over) (c : After-reach g) → IsLooked (masks_of c.args.events.now) c.args.seats.now c.args.self.now.queue c.reach.new.self.queue c.reach.new.self.parents c.args.counter
 looked g c =
     let n : length (masks_of c.args.events.now) ≡ length c.args.events.now = length-map c.args.events.now (λ e. e.1) in
     IsLooked-reach (masks_of c.args.events.now) c.args.seats.now c.args.self.now.queue c.args.self.now.parents c.reach.new.self.queue c.reach.new.self.parents
-      c.args.position c.in-Some.taken c.args.counter c.requires.search c.requires.position (omega (arith, c.in-Some.ensures.some.0)) c.in-Some.ensures.some.1
-      (ap (λ p. can_count (get_or (masks_of c.args.events.now) p 0) c.args.counter) (sym c.get-place.ensures) ∙ sym c.if-not-can_take.ensures.answer)
-      c.reach.ensures.queue c.reach.ensures.parents
+    c.args.position c.in-Some.taken c.args.counter c.requires.search c.requires.position (omega (arith, c.in-Some.ensures.some.0)) c.in-Some.ensures.some.1
+    (ap (λ p. can_count (get_or (masks_of c.args.events.now) p 0) c.args.counter) (sym c.get-place.ensures) ∙ sym c.if-not-can_take.ensures.answer)
+    c.reach.ensures.queue c.reach.ensures.parents
 
 pub returns-in-Some-clause-search : goal.returns-in-Some-clause-search
 returns-in-Some-clause-search g c = (looked g c).search

@@ -12,7 +12,7 @@ loop-counter-preserved g c =
       search = c.look.ensures.search;
       extended = IsExtended-trans c.args.self.now.queue c.loop-counter.self.queue c.look.new.self.queue i.extended c.look.ensures.extended;
       closed = IsClosedAt-more c.args.position c.loop-counter.counter (masks_of c.args.events.now) c.args.seats.now c.look.new.self.queue
-        (IsClosedAt-extended c.args.position c.loop-counter.counter (masks_of c.args.events.now) c.args.seats.now c.loop-counter.self.queue c.look.new.self.queue reached c.look.ensures.extended i.closed)
-        (c.look.ensures.held c.if-look.false);
+          (IsClosedAt-extended c.args.position c.loop-counter.counter (masks_of c.args.events.now) c.args.seats.now c.loop-counter.self.queue c.look.new.self.queue reached c.look.ensures.extended i.closed)
+          (c.look.ensures.held c.if-look.false);
       counted = omega (arith, c.look.ensures.step, i.counted);
     }

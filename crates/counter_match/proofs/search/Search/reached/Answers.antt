@@ -11,14 +11,14 @@ use Rattle.counter_match.proofs.search.Search.reached.Goals.{then-contains, else
 pub loop-place-preserved : goal.loop-place-preserved
 loop-place-preserved c =
     elim c.if-contains.branch [
-      then-contains w ↦ record {
+      | then-contains w ↦ record {
         all = picked_yes (λ (event : EventNo × ℕ). event.0) (λ place. list_any (nat_eq place) c.args.self.now.queue) c.loop-place.place c.args.events.now (record { 0 = 0 }, 0)
-          c.loop-place.tight c.if-contains.tight _ c.loop-place-test.true (sym w.if-contains.ensures) (w.tight-is ∙ w.push.ensures) c.loop-place.invariant.all;
+            c.loop-place.tight c.if-contains.tight _ c.loop-place-test.true (sym w.if-contains.ensures) (w.tight-is ∙ w.push.ensures) c.loop-place.invariant.all;
         few = omega (arith, c.loop-place.invariant.few, length_push c.loop-place.tight, ap length (w.tight-is ∙ w.push.ensures));
       }
-    | else-contains w ↦ record {
+      | else-contains w ↦ record {
         all = picked_no (λ (event : EventNo × ℕ). event.0) (λ place. list_any (nat_eq place) c.args.self.now.queue) c.loop-place.place c.args.events.now (record { 0 = 0 }, 0)
-          c.loop-place.tight c.if-contains.tight _ c.loop-place-test.true (sym w.if-contains.ensures) w.tight-is c.loop-place.invariant.all;
+            c.loop-place.tight c.if-contains.tight _ c.loop-place-test.true (sym w.if-contains.ensures) w.tight-is c.loop-place.invariant.all;
         few = omega (arith, c.loop-place.invariant.few, ap length w.tight-is);
       }
     ]

@@ -30,9 +30,9 @@ loop-position-preserved g c =
       search = c.look_at.ensures.search;
       first = c.look_at.ensures.extended.same 0 (omega arith) ∙ i.first;
       closed = IsClosedBelow-more c.loop-position.position (masks_of c.args.events.now) c.args.seats.now c.look_at.new.self.queue
-        (IsClosedBelow-extended c.loop-position.position (masks_of c.args.events.now) c.args.seats.now c.loop-position.self.queue c.look_at.new.self.queue (omega arith) c.look_at.ensures.extended i.closed)
-        (IsClosedAt-all c.loop-position.position c.args.counters (masks_of c.args.events.now) c.args.seats.now c.look_at.new.self.queue c.look_at.new.self.parents c.look_at.ensures.search there c.requires.masks e.held)
-        can_count-below;
+          (IsClosedBelow-extended c.loop-position.position (masks_of c.args.events.now) c.args.seats.now c.loop-position.self.queue c.look_at.new.self.queue (omega arith) c.look_at.ensures.extended i.closed)
+          (IsClosedAt-all c.loop-position.position c.args.counters (masks_of c.args.events.now) c.args.seats.now c.look_at.new.self.queue c.look_at.new.self.parents c.look_at.ensures.search there c.requires.masks e.held)
+          can_count-below;
       within = omega arith;
       least = omega (arith, i.least, c.look_at.ensures.least);
       most = omega (arith, i.most, c.look_at.ensures.most);

@@ -23,5 +23,5 @@ returns-clause-seating g c =
       few = omega (arith, length-map (take (self.used + 1) (slice_set self.events self.used c.args.event)) (λ e. e.1));
       assigned = subst A n seated;
       masks = subst M (sym (ap masks_of events ∙ map-append (λ (e : EventNo × ℕ). e.1) (take self.used self.events) (c.args.event ∷ [])))
-        (All-push (IsMask c.args.counters) (masks_of (take self.used self.events)) c.args.event.1 c.requires.seating.masks c.requires.mask);
+          (All-push (IsMask c.args.counters) (masks_of (take self.used self.events)) c.args.event.1 c.requires.seating.masks c.requires.mask);
     }

@@ -9,4 +9,4 @@ push-requires c = omega (arith, ap length c.loop-place.invariant, length-zip_slo
 pub loop-place-preserved : goal.loop-place-preserved
 loop-place-preserved c =
     c.push.ensures ∙ (ap (λ xs. xs ++ ((get_or c.args.self.now.events c.loop-place.place (record { 0 = 0 }, 0)).0, get_or c.args.self.now.seats c.loop-place.place 0) ∷ []) c.loop-place.invariant
-      ∙ sym (zip-more c.args.self.now.events c.args.self.now.seats c.loop-place.place (record { 0 = 0 }, 0) (omega arith) (omega arith)))
+    ∙ sym (zip-more c.args.self.now.events c.args.self.now.seats c.loop-place.place (record { 0 = 0 }, 0) (omega arith) (omega arith)))

@@ -17,7 +17,7 @@ add-requires-clause-mask g c =
     let n : length (masks_of c.args.group.now) ≡ length c.args.group.now = length-map c.args.group.now (λ e. e.1) in
     let m : c.self.inside.counters ≡ c.args.self.now.counters = ap (λ s. s.counters) c.self.view_is in
     let at : get_or (masks_of c.args.group.now) c.loop-event.event-index 0 ≡ (get_or c.args.group.now c.loop-event.event-index (record { 0 = 0 }, 0)).1 =
-      get_or-map (λ (e : EventNo × ℕ). e.1) c.args.group.now c.loop-event.event-index (record { 0 = 0 }, 0) 0 c.loop-event-test.true in
+    get_or-map (λ (e : EventNo × ℕ). e.1) c.args.group.now c.loop-event.event-index (record { 0 = 0 }, 0) 0 c.loop-event-test.true in
     let P : ℕ → Type 0 = λ mask. IsMask c.self.inside.counters mask in
     let Q : ℕ → Type 0 = λ counters. IsMask counters (get_or (masks_of c.args.group.now) c.loop-event.event-index 0) in
     subst P at (subst Q (sym m) (c.requires.masks c.loop-event.event-index 0 (omega arith)))
@@ -26,7 +26,7 @@ pub returns-in_err-add-clause-answer : goal.returns-in_err-add-clause-answer
 returns-in_err-add-clause-answer g c =
     let p = err_from_is_err_and c.from_residual.result c.from_residual.ensures.1 in
     let un : fits (masks_of (c.args.self.now.events ++ c.args.group.now)) ≡ false =
-      unfit_group c.args.self.now.events c.args.group.now (events_of c.loop-event.seating) c.loop-event.event-index (record { 0 = 0 }, 0) c.loop-event-test.true c.loop-event.invariant.events c.in_err-add.ensures.unfit in
+    unfit_group c.args.self.now.events c.args.group.now (events_of c.loop-event.seating) c.loop-event.event-index (record { 0 = 0 }, 0) c.loop-event-test.true c.loop-event.invariant.events c.in_err-add.ensures.unfit in
     let bad : is_ok c.from_residual.result ≡ false = ap is_ok p.1 in
     (λ h. absurd (both_ways _ bad h), λ h. absurd (both_ways _ un h))
 
@@ -35,8 +35,8 @@ returns-in_err-add-clause-tight g c =
     let p = err_from_is_err_and c.from_residual.result c.from_residual.ensures.1 in
     let i = c.loop-event.invariant in
     let first : shortest_unfit (c.args.self.now.events ++ c.args.group.now) ≡ events_of c.loop-event.seating ++ get_or c.args.group.now c.loop-event.event-index (record { 0 = 0 }, 0) ∷ [] =
-      shortest_unfit_group c.args.self.now.events c.args.group.now (events_of c.loop-event.seating) c.loop-event.event-index (record { 0 = 0 }, 0) c.loop-event-test.true i.events
-        (fits-IsAssignment _ _ i.seating.assigned) c.in_err-add.ensures.unfit in
+    shortest_unfit_group c.args.self.now.events c.args.group.now (events_of c.loop-event.seating) c.loop-event.event-index (record { 0 = 0 }, 0) c.loop-event-test.true i.events
+    (fits-IsAssignment _ _ i.seating.assigned) c.in_err-add.ensures.unfit in
     rw (p.1, p.2) (c.in_err-add.ensures.tight ∙ ap (λ es. slots_of (tight_set es)) (sym first))
 
 pub returns-clause-answer : goal.returns-clause-answer
