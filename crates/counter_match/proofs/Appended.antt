@@ -1,8 +1,7 @@
 -- One more event at the end of a list that has counters.
-use Rattle.std.specs.Prelude.{◌≢◌, IsTrue}
-use Rattle.std.proofs.Common.{◌≡◌, ℕ, zero, suc, ◌+◌, ◌<◌, ◌≤◌, Bool, true, false, List, [], ◌∷◌, ◌++◌, length, get_or, refl, sym, ap, ◌∙◌, arith}
+use Rattle.std.proofs.Common.{ℕ, ◌+◌, ◌<◌, List, [], ◌∷◌, ◌++◌, length, sym, ap, ◌∙◌, arith}
 use Rattle.std.proofs.lemmas.List.{length_push, get_or_append_left}
-use Rattle.stage_spec.specs.Fits.{can_count, IsAssignment}
+use Rattle.stage_spec.specs.Fits.{IsAssignment}
 use Rattle.counter_match.specs.Search.{SeatsAllBut}
 
 pub SeatsAllBut-appended : (masks counters : List ℕ) (mask counter : ℕ) → IsAssignment masks counters → SeatsAllBut (length masks) (masks ++ mask ∷ []) (counters ++ counter ∷ [])

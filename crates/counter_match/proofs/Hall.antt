@@ -1,10 +1,10 @@
 -- A search that finds no free counter shows which events are to blame.
-use Rattle.std.specs.Prelude.{◌≢◌, ◌==◌, nat_eq, nat_lt, IsTrue}
-use Rattle.std.proofs.Common.{◌≡◌, ℕ, zero, suc, ◌+◌, ◌-◌, ◌<◌, ◌≤◌, Bool, true, false, List, [], ◌∷◌, ◌++◌, length, get_or, set, map, drop, refl, sym, ap, ◌∙◌, arith, inl, inr, ◌⊎◌, subst, length-set, get_or-set_same, get_or-set_other, length-drop, length-append}
-use Rattle.std.proofs.lemmas.Bool.{cases_Bool, cases_eq, cases_order}
+use Rattle.std.specs.Prelude.{◌≢◌}
+use Rattle.std.proofs.Common.{◌≡◌, ℕ, zero, suc, ◌<◌, ◌≤◌, true, List, length, get_or, set, map, drop, refl, sym, ap, ◌∙◌, arith, inl, inr, length-set, get_or-set_same, get_or-set_other, length-drop}
+use Rattle.std.proofs.lemmas.Bool.{cases_eq, cases_order}
 use Rattle.std.proofs.lemmas.List.{get_or-map, length-map, get_or-drop}
-use Rattle.stage_spec.specs.Fits.{can_count, fits, IsAssignment}
-use Rattle.counter_match.specs.Search.{SeatsAllBut, IsSearch, IsHeld, IsClosedBelow}
+use Rattle.stage_spec.specs.Fits.{can_count, IsAssignment}
+use Rattle.counter_match.specs.Search.{SeatsAllBut, IsSearch, IsClosedBelow}
 use Rattle.counter_match.proofs.Lists.{In, AreDifferent, length-le_from_In}
 
 -- the event without a counter takes that of another one, which then has none

@@ -15,3 +15,4 @@ pub mod Listing
 pub mod Refusal
 pub mod Trials
 pub mod Berge
+pub mod Rows

@@ -1,9 +1,9 @@
 -- Lists of numbers by their places.
-use Rattle.std.specs.Prelude.{◌≢◌, ◌==◌, nat_eq}
-use Rattle.std.proofs.Common.{◌≡◌, ℕ, zero, suc, ◌+◌, ◌<◌, ◌≤◌, Bool, true, false, List, [], ◌∷◌, ◌++◌, length, get_or, refl, sym, ap, ◌∙◌, arith, inl, inr, ◌⊎◌}
+use Rattle.std.specs.Prelude.{◌≢◌, nat_eq}
+use Rattle.std.proofs.Common.{◌≡◌, ℕ, suc, ◌<◌, ◌≤◌, true, List, [], ◌∷◌, length, get_or, sym, ◌∙◌, arith, inl, inr}
 use Rattle.std.specs.List.{list_any, IsDistinct}
 use Rattle.std.specs.Cmp.{nat_eq_equiv}
-use Rattle.std.proofs.lemmas.Bool.{cases_Bool, or_left, or_right, eq-eqb, eqb-true, ne_eqb}
+use Rattle.std.proofs.lemmas.Bool.{cases_Bool, eq-eqb, eqb-true, ne_eqb}
 use Rattle.std.proofs.lemmas.List.{get_or_default}
 use Rattle.std.proofs.lemmas.List.Folds.{list_any_at}
 use Rattle.std.proofs.lemmas.Map.Keys.{IsDistinct-from_apart}

@@ -1,6 +1,6 @@
 -- A search when one more counter is looked at.
-use Rattle.std.specs.Prelude.{◌≢◌, ◌^◌, ◌==◌, nat_lt, nat_eq, IsTrue, All, if◌then◌else◌}
-use Rattle.std.proofs.Common.{◌≡◌, ℕ, zero, suc, ◌+◌, ◌<◌, ◌≤◌, Bool, true, false, List, [], ◌∷◌, ◌++◌, length, get_or, cond, refl, sym, ap, ◌∙◌, arith, inl, inr, ◌⊎◌, subst}
+use Rattle.std.specs.Prelude.{◌≢◌, ◌^◌, ◌==◌, nat_lt, nat_eq, All, if◌then◌else◌}
+use Rattle.std.proofs.Common.{◌≡◌, ℕ, ◌+◌, ◌<◌, ◌≤◌, true, false, List, [], ◌∷◌, ◌++◌, length, get_or, refl, sym, ap, ◌∙◌, arith, inl, inr, subst}
 use Rattle.std.specs.List.{list_any}
 use Rattle.std.proofs.lemmas.Bool.{cases_Bool, cases_eq, cases_lt, both_ways, and_parts, eqb-true}
 use Rattle.std.proofs.lemmas.Nat.Bits.{bit_at_above}

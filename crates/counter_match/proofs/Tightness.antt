@@ -1,15 +1,15 @@
 -- The tight set is what a search without a free counter reached, in list order.
-use Rattle.std.specs.Prelude.{◌≢◌, nat_eq, IsTrue, if◌then◌else◌}
-use Rattle.std.proofs.Common.{◌≡◌, ℕ, zero, suc, ◌+◌, ◌<◌, ◌≤◌, Bool, true, false, List, [], ◌∷◌, ◌++◌, length, get_or, map, cond, refl, sym, ap, ◌∙◌, arith, inl, inr, ◌⊎◌, append_assoc, length-append, subst}
+use Rattle.std.specs.Prelude.{nat_eq}
+use Rattle.std.proofs.Common.{◌≡◌, ℕ, suc, ◌<◌, Bool, false, List, [], ◌∷◌, ◌++◌, length, get_or, cond, refl, sym, ap, ◌∙◌, arith, inl, inr, append_assoc, subst}
 use Rattle.std.specs.List.{list_any}
 use Rattle.std.proofs.lemmas.Bool.{cases_Bool, false_from_ne_true, both_ways}
 use Rattle.std.proofs.lemmas.List.{map-append, length-map, length_push}
 use Rattle.perf_base.specs.declared.numbers.EventNo.{EventNo}
-use Rattle.stage_spec.specs.Fits.{can_count, fits, IsAssignment}
+use Rattle.stage_spec.specs.Fits.{fits}
 use Rattle.stage_spec.specs.Tight.{masks_of, tight_after, tight_set}
 use Rattle.counter_match.specs.Search.{SeatsAllBut, IsSearch, IsClosedBelow, picked}
 use Rattle.counter_match.proofs.Fitting.{assignment_of}
-use Rattle.counter_match.proofs.Lists.{In, In-from_any, any-from_In}
+use Rattle.counter_match.proofs.Lists.{In-from_any, any-from_In}
 use Rattle.counter_match.proofs.Hall.{vacated, unfit_from_closed}
 use Rattle.counter_match.proofs.Without.{fits_without, seats_without}
 

@@ -1,7 +1,6 @@
 -- What the tests need of lists of events.
-use Rattle.std.specs.Prelude.{All, ◌≢◌, ◌^◌, ◌/◌}
-use Rattle.std.proofs.Common.{◌≡◌, ℕ, zero, suc, ◌+◌, ◌-◌, ◌<◌, ◌≤◌, List, [], ◌∷◌, length, get_or, map, take, drop, refl, sym, ap, ◌∙◌, arith, subst, length-take}
-use Rattle.std.specs.List.{AllPairs}
+use Rattle.std.specs.Prelude.{All}
+use Rattle.std.proofs.Common.{◌≡◌, ℕ, zero, suc, ◌<◌, List, [], ◌∷◌, take, drop, refl, sym, ap, ◌∙◌, arith, subst, length-take}
 use Rattle.std.proofs.lemmas.List.{get_or-take, take-map}
 use Rattle.std.proofs.lemmas.List.Elements.{All-take, All-drop}
 use Rattle.perf_base.specs.declared.numbers.EventNo.{EventNo}

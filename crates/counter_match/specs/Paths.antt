@@ -1,7 +1,7 @@
 -- The theorem of augmenting paths, after Berge and Hall: it says why a search for a free counter is enough. Events
 -- are named by their places in the list.
-use Rattle.std.specs.Prelude.{◌≡◌, ◌≢◌, ◌↔◌, ℕ, ◌+◌, ◌<◌, false, List, length, slice_index, IsTrue}
-use Rattle.stage_spec.specs.Fits.{can_count, fits}
+use Rattle.std.specs.Prelude.{◌≡◌, ◌≢◌, ◌↔◌, ℕ, ◌+◌, ◌<◌, false, List, length, slice_index}
+use Rattle.stage_spec.specs.Fits.{fits}
 use Rattle.counter_match.specs.Search.{SeatsAllBut, IsFree, CanTake}
 
 -- An augmenting path begins at the last of the list, which has no counter. Each of its events can count on the

@@ -1,5 +1,5 @@
 -- Hardware events on the counters of one processor. This project's own profile.
-use Rattle.std.specs.Prelude.{◌≡◌, ◌≢◌, ℕ, ◌<◌, ◌≤◌, ◌^◌, List, [], map, All}
+use Rattle.std.specs.Prelude.{◌≢◌, ℕ, ◌<◌, ◌≤◌, ◌^◌, List, [], map, All}
 use Rattle.std.specs.List.{AllPairs, zip}
 use Rattle.perf_base.specs.declared.numbers.EventNo.{EventNo}
 use Rattle.stage_spec.specs.Fits.{IsAssignment}

@@ -1,5 +1,5 @@
 -- How a seating is stored: arrays, of which the first places are in use.
-use Rattle.std.specs.Prelude.{◌≡◌, ℕ, ◌<◌, ◌≤◌, List, take, All}
+use Rattle.std.specs.Prelude.{ℕ, ◌<◌, ◌≤◌, List, take, All}
 use Rattle.perf_base.specs.declared.numbers.EventNo.{EventNo}
 use Rattle.stage_spec.specs.Fits.{IsAssignment}
 use Rattle.stage_spec.specs.Tight.{masks_of}

@@ -232,8 +232,7 @@ pub fn seat_last<L: Ledger>(
 ) -> Result<(), Tight>
     requires last { 0 < length events.now }
     requires room { length events.now ≤ length seats.old }
-    requires seats {
-        SeatsAllBut (length events.now - 1) (masks_of events.now) (take (length events.now) seats.old) }
+    requires seats { SeatsAllBut (length events.now - 1) (masks_of events.now) (take (length events.now) seats.old) }
     requires few { length events.now ≤ 17 }
     requires some { 0 < counters }
     requires most { counters ≤ 16 }

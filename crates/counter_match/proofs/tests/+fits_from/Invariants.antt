@@ -1,4 +1,4 @@
-use Rattle.std.proofs.Common.{ℕ, ◌-◌, length}
+use Rattle.std.proofs.Common.{◌-◌, length}
 use Rattle.counter_match.proofs.tests.+fits_from.Given as goal
 
 abbrev pub decreases-fits_from : goal.decreases-fits_from

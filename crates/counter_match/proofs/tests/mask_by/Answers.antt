@@ -1,5 +1,4 @@
-use Rattle.std.specs.Prelude.{◌^◌}
-use Rattle.std.proofs.Common.{arith, ◌<◌, ℕ}
+use Rattle.std.proofs.Common.{arith}
 use Rattle.std.proofs.Math.Pow.{pow-lt}
 use Rattle.counter_match.proofs.tests.mask_by.Goals as goal
 

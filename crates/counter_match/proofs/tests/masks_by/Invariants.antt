@@ -1,5 +1,5 @@
 use Rattle.std.specs.Prelude.{All}
-use Rattle.std.proofs.Common.{◌≡◌, ℕ, length}
+use Rattle.std.proofs.Common.{◌≡◌, length}
 use Rattle.counter_match.specs.Seating.{IsMask}
 use Rattle.counter_match.proofs.tests.masks_by.Given as goal
 

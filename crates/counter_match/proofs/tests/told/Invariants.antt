@@ -1,6 +1,5 @@
 use Rattle.std.specs.Prelude.{All}
-use Rattle.std.proofs.Common.{◌≡◌, ℕ, ◌<◌}
-use Rattle.perf_base.specs.declared.numbers.EventNo.{EventNo}
+use Rattle.std.proofs.Common.{◌≡◌, ◌<◌}
 use Rattle.counter_match.proofs.tests.told.Given as goal
 
 abbrev pub invariant-loop-slot : goal.invariant-loop-slot

@@ -1,4 +1,4 @@
-use Rattle.std.proofs.Common.{arith, ◌≡◌, ℕ, ◌+◌, ◌-◌, ◌<◌, ◌∙◌, ap, sym, length, get_or, set, subst}
+use Rattle.std.proofs.Common.{arith, ◌≡◌, ℕ, ◌-◌, length, get_or, set, subst}
 use Rattle.std.proofs.lemmas.List.{length-map}
 use Rattle.stage_spec.specs.Fits.{IsAssignment}
 use Rattle.stage_spec.specs.Tight.{masks_of}

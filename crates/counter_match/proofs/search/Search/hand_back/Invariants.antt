@@ -1,4 +1,3 @@
-use Rattle.std.proofs.Common.{◌≡◌, ℕ, length}
 use Rattle.stage_spec.specs.Tight.{masks_of}
 use Rattle.counter_match.specs.Search.{IsShift}
 use Rattle.counter_match.proofs.search.Search.hand_back.Given as goal

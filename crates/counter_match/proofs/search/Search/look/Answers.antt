@@ -1,8 +1,7 @@
-use Rattle.std.proofs.Common.{arith, ◌≡◌, ℕ, ◌+◌, ◌<◌, ◌∙◌, ap, sym, length, get_or, true}
+use Rattle.std.proofs.Common.{arith, ◌≡◌, ◌<◌, ◌∙◌, ap, sym, length, get_or}
 use Rattle.std.proofs.lemmas.List.{length-map}
 use Rattle.stage_spec.specs.Fits.{can_count}
 use Rattle.stage_spec.specs.Tight.{masks_of}
-use Rattle.counter_match.specs.Search.{IsSearch, CanTake}
 use Rattle.counter_match.proofs.Looking.{IsLooked, IsLooked-reach, length-search_new}
 use Rattle.counter_match.proofs.search.Search.look.Given.{Over}
 use Rattle.counter_match.proofs.search.Search.look.Goals.{After-reach}

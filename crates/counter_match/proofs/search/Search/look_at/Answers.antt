@@ -1,6 +1,5 @@
 use Rattle.std.proofs.Common.{arith, ◌<◌, length}
 use Rattle.stage_spec.specs.Tight.{masks_of}
-use Rattle.counter_match.specs.Search.{IsClosedAt}
 use Rattle.counter_match.proofs.Growth.{IsExtended-trans, IsClosedAt-extended, IsClosedAt-more}
 use Rattle.counter_match.proofs.search.Search.look_at.Goals as goal
 

@@ -1,4 +1,4 @@
-use Rattle.std.proofs.Common.{◌≡◌, ℕ, ◌+◌}
+use Rattle.std.proofs.Common.{◌≡◌, ◌+◌}
 use Rattle.stage_spec.specs.Tight.{masks_of}
 use Rattle.counter_match.specs.Search.{IsSearch, IsExtended, IsClosedAt}
 use Rattle.counter_match.proofs.search.Search.look_at.Given as goal

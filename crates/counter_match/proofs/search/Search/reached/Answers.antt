@@ -1,9 +1,8 @@
 use Rattle.std.specs.Prelude.{nat_eq}
 use Rattle.std.specs.List.{list_any}
-use Rattle.std.proofs.Common.{arith, ◌≡◌, ℕ, ◌+◌, ◌<◌, ◌∙◌, ap, sym, length, map, true}
+use Rattle.std.proofs.Common.{arith, ℕ, ◌∙◌, ap, sym, length}
 use Rattle.std.proofs.lemmas.List.{length_push}
 use Rattle.perf_base.specs.declared.numbers.EventNo.{EventNo}
-use Rattle.counter_match.specs.Search.{picked}
 use Rattle.counter_match.proofs.Picking.{picked_yes, picked_no}
 use Rattle.counter_match.proofs.search.Search.reached.Goals as goal
 use Rattle.counter_match.proofs.search.Search.reached.Goals.{then-contains, else-contains}

@@ -1,4 +1,4 @@
-use Rattle.std.proofs.Common.{◌≡◌, ℕ, ◌+◌, ◌-◌, ◌*◌, ◌≤◌, length, get_or}
+use Rattle.std.proofs.Common.{◌≡◌, ◌+◌, ◌-◌, ◌*◌, ◌≤◌, length, get_or}
 use Rattle.stage_spec.specs.Tight.{masks_of}
 use Rattle.counter_match.specs.Search.{IsSearch, IsClosedBelow}
 use Rattle.counter_match.proofs.search.Search.run.Given as goal

@@ -1,5 +1,5 @@
 use Rattle.std.specs.Prelude.{All}
-use Rattle.std.proofs.Common.{arith, ◌≡◌, ℕ, ◌+◌, ◌<◌, ◌≤◌, ◌∙◌, ap, sym, subst, [], ◌∷◌, ◌++◌, List, length, take, slice_set, slice_index_or}
+use Rattle.std.proofs.Common.{arith, ◌≡◌, ℕ, ◌+◌, ◌<◌, ◌≤◌, ◌∙◌, ap, sym, subst, [], ◌∷◌, ◌++◌, List, length, take, slice_set}
 use Rattle.std.proofs.lemmas.List.{take_more_set, length-take-le, length-map, map-append, length-set}
 use Rattle.std.proofs.lemmas.List.Elements.{All-push}
 use Rattle.perf_base.specs.declared.numbers.EventNo.{EventNo}

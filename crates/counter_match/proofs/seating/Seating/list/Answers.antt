@@ -1,5 +1,4 @@
-use Rattle.std.proofs.Common.{arith, ◌≡◌, ℕ, ◌+◌, ◌<◌, ◌∙◌, ap, sym, length, take, get_or, ◌++◌, ◌∷◌, []}
-use Rattle.perf_base.specs.declared.numbers.EventNo.{EventNo}
+use Rattle.std.proofs.Common.{arith, ◌∙◌, ap, sym, length, get_or, ◌++◌, ◌∷◌, []}
 use Rattle.counter_match.proofs.Listing.{zip-more, length-zip_slots}
 use Rattle.counter_match.proofs.seating.Seating.list.Goals as goal
 

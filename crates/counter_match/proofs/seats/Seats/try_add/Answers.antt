@@ -1,5 +1,4 @@
-use Rattle.std.specs.Prelude.{IsTrue}
-use Rattle.std.proofs.Common.{arith, ◌≡◌, ℕ, ◌+◌, ◌<◌, ◌≤◌, true, false, ◌∙◌, ap, sym, refl, subst, List, [], ◌∷◌, ◌++◌, length, take, get_or, is_ok}
+use Rattle.std.proofs.Common.{arith, ◌≡◌, ℕ, false, ◌∙◌, ap, sym, refl, subst, [], ◌∷◌, ◌++◌, length, get_or, is_ok}
 use Rattle.std.proofs.lemmas.Bool.{both_ways}
 use Rattle.std.proofs.lemmas.List.{get_or-map, length-map, take_all}
 use Rattle.std.proofs.lemmas.Result.{err_from_is_err_and}
