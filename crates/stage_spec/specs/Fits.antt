@@ -14,8 +14,8 @@ unfoldable pub fits_below : ℕ → (List ℕ → Bool) → ℕ → List ℕ →
 fits_below zero others mask taken = false
 fits_below (suc counter) others mask taken =
     elim (can_count mask counter && not (list_any (nat_eq counter) taken)) [
-      true ↦ elim (others (counter ∷ taken)) [ true ↦ true | false ↦ fits_below counter others mask taken ]
-    | false ↦ fits_below counter others mask taken
+      | true ↦ elim (others (counter ∷ taken)) [ true ↦ true | false ↦ fits_below counter others mask taken ]
+      | false ↦ fits_below counter others mask taken
     ]
 
 -- whether events with these masks fit on the counters that are not taken

@@ -25,8 +25,8 @@ unfoldable pub unfit_after : List (EventNo × ℕ) → List (EventNo × ℕ) →
 unfit_after before [] = before
 unfit_after before (event ∷ rest) =
     elim (fits (masks_of (before ++ event ∷ []))) [
-      true ↦ unfit_after (before ++ event ∷ []) rest
-    | false ↦ before ++ event ∷ []
+      | true ↦ unfit_after (before ++ event ∷ []) rest
+      | false ↦ before ++ event ∷ []
     ]
 
 -- the shortest beginning of a list that does not fit; all of it where it fits
