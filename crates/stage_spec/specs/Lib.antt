@@ -1,8 +1,10 @@
+pub mod Checks
 pub mod Counting
+pub mod Fits
 pub mod Order
 pub mod Progress
-pub mod Replies
 pub mod Recurrence
-pub mod Steps
-pub mod Checks
+pub mod Replies
 pub mod Rules
+pub mod Steps
+pub mod Tight

@@ -1,0 +1,7 @@
+use Rattle.std.specs.Prelude.{All}
+use Rattle.std.proofs.Common.{◌≡◌, length}
+use Rattle.counter_match.specs.Seating.{IsMask}
+use Rattle.counter_match.proofs.tests.masks_by.Given as goal
+
+abbrev pub invariant-loop : goal.invariant-loop
+invariant-loop l = record { masks : All (IsMask l.counters) l.masks.items; count : length l.masks.items ≡ l.counter }

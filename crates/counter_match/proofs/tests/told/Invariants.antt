@@ -1,0 +1,9 @@
+use Rattle.std.specs.Prelude.{All}
+use Rattle.std.proofs.Common.{◌≡◌, ◌<◌}
+use Rattle.counter_match.proofs.tests.told.Given as goal
+
+abbrev pub invariant-loop-slot : goal.invariant-loop-slot
+invariant-loop-slot g l = record {
+  counters : l.seats.counters ≡ l.counters;
+  later : All (λ event. event.0.0 < l.slot) l.seats.events;
+}

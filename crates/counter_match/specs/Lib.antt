@@ -1,0 +1,4 @@
+pub mod Search
+pub mod Seating
+pub mod Stored
+pub mod Paths
