@@ -1,17 +1,14 @@
 -- Acts: what is read is what stands there, and what stands there is read.
-use Rattle.std.proofs.Common.{◌≡◌, ◌≢◌, ℕ, suc, ◌+◌, ◌-◌, ◌*◌, ◌^◌, ◌<◌, ◌≤◌, Bool, true, false, ◌&&◌, All, List, [], ◌∷◌, ◌++◌, length, get_or, take, drop, Option, Some, None, refl, sym, ap, subst, ◌∙◌, append_assoc, arith}
-use Rattle.std.specs.Prelude.{codes, decimal}
+use Rattle.std.proofs.Common.{◌≡◌, ℕ, ◌^◌, ◌<◌, Bool, true, false, ◌&&◌, All, List, [], ◌∷◌, ◌++◌, length, take, drop, Some, None, refl, sym, ap, ◌∙◌, append_assoc, arith}
+use Rattle.std.specs.Prelude.{decimal}
 use Rattle.std.specs.List.{prefix_len}
-use Rattle.std.specs.Option.{option_map}
 use Rattle.std.proofs.lemmas.List.Elements.{All-cons, All-head, All-tail}
 use Rattle.std.specs.Char.{is_ascii_digit}
 use Rattle.std.specs.Str.{all_ascii_digits}
 use Rattle.std.proofs.Math.Numerals.{one-add}
 use Rattle.std.proofs.lemmas.List.{take_at, drop_at, take-append-drop}
 use Rattle.std.proofs.lemmas.Fmt.{digits_decimal}
-use Rattle.perf_base.specs.declared.numbers.CpuNo.{CpuNo}
 use Rattle.perf_base.specs.declared.numbers.RingNo.{RingNo}
-use Rattle.perf_base.specs.declared.numbers.ToolNo.{ToolNo}
 use Rattle.perf_base.specs.declared.acts.Act.{Act}
 use Rattle.perf_base.specs.declared.acts.Act.TheVariants as act
 use Rattle.script_spec.specs.Acts.{act_text, IsActInRange}
@@ -30,52 +27,6 @@ before x y xs ys e = cc
 -- the text of a seen tail behind its letter
 seen_text : (ring : RingNo) (place : ℕ) → act_text (act.Seen ring place) ≡ 115 ∷ (decimal ring.0 ++ 61 ∷ decimal place)
 seen_text ring place = ap (λ t. 115 ∷ t) (append_assoc (decimal ring.0) (61 ∷ []) (decimal place))
-
--- a text that is not empty is its first byte and the rest
-pub head_tail : (text : List ℕ) → 0 < length text → text ≡ get_or text 0 0 ∷ drop 1 text
-head_tail [] l = absurd (omega arith)
-head_tail (b ∷ bs) l = refl
-
--- ---- an act of a processor or of a tool
-
-abbrev processor_of : ℕ → Act
-processor_of n = act.Processor (record { 0 = n })
-
-abbrev tool_of : ℕ → Act
-tool_of n = act.Tool (record { 0 = n })
-
-processor_exact : (text : List ℕ) (r : Option ℕ) → Reads (λ n. n < 8) decimal text r → (a : Act) → IsActInRange a → 112 ∷ text ≡ act_text a → option_map processor_of r ≡ Some a
-processor_exact text r h (act.Processor cpu) i e = ap (option_map processor_of) (h.exact cpu.0 i (behind 112 112 text (decimal cpu.0) e))
-processor_exact text r h (act.Tool tool) i e = absurd (omega (arith, before 112 116 text (decimal tool.0) e))
-processor_exact text r h (act.Seen ring place) i e = absurd (omega (arith, before 112 115 text _ e))
-
-pub processor_some : (text : List ℕ) (n : ℕ) → Reads (λ n. n < 8) decimal text (Some n) → Reads IsActInRange act_text (112 ∷ text) (Some (act.Processor (record { 0 = n })))
-processor_some text n r = record { sound = (r.sound.0, ap (λ (t : List ℕ). 112 ∷ t) r.sound.1); exact = processor_exact text (Some n) r }
-
-pub processor_none : (text : List ℕ) → Reads (λ n. n < 8) decimal text None → Reads IsActInRange act_text (112 ∷ text) None
-processor_none text r = record { sound = tt; exact = processor_exact text None r }
-
-tool_exact : (text : List ℕ) (r : Option ℕ) → Reads (λ n. n < 4) decimal text r → (a : Act) → IsActInRange a → 116 ∷ text ≡ act_text a → option_map tool_of r ≡ Some a
-tool_exact text r h (act.Processor cpu) i e = absurd (omega (arith, before 116 112 text (decimal cpu.0) e))
-tool_exact text r h (act.Tool tool) i e = ap (option_map tool_of) (h.exact tool.0 i (behind 116 116 text (decimal tool.0) e))
-tool_exact text r h (act.Seen ring place) i e = absurd (omega (arith, before 116 115 text _ e))
-
-pub tool_some : (text : List ℕ) (n : ℕ) → Reads (λ n. n < 4) decimal text (Some n) → Reads IsActInRange act_text (116 ∷ text) (Some (act.Tool (record { 0 = n })))
-tool_some text n r = record { sound = (r.sound.0, ap (λ (t : List ℕ). 116 ∷ t) r.sound.1); exact = tool_exact text (Some n) r }
-
-pub tool_none : (text : List ℕ) → Reads (λ n. n < 4) decimal text None → Reads IsActInRange act_text (116 ∷ text) None
-tool_none text r = record { sound = tt; exact = tool_exact text None r }
-
--- ---- a place behind its sign
-
-pub place_reads : (text rest : List ℕ) (r : Option ℕ) → text ≡ 61 ∷ rest → Reads (λ n. n < 2 ^ 64) decimal rest r → Reads (λ n. n < 2 ^ 64) (λ n. 61 ∷ decimal n) text r
-place_reads text rest None e h = record { sound = tt; exact = λ n f t. h.exact n f (behind 61 61 rest (decimal n) (sym e ∙ t)) }
-place_reads text rest (Some m) e h = record { sound = (h.sound.0, e ∙ ap (λ (t : List ℕ). 61 ∷ t) h.sound.1); exact = λ n f t. h.exact n f (behind 61 61 rest (decimal n) (sym e ∙ t)) }
-
-pub place_none : (text : List ℕ) → (0 < length text → get_or text 0 0 ≡ 61 → ⊥) → Reads (λ n. n < 2 ^ 64) (λ n. 61 ∷ decimal n) text None
-place_none text h = record { sound = tt; exact = λ n f t. let some : length text ≡ suc (length (decimal n)) = ap length t in absurd (h (omega arith) (ap (λ xs. get_or xs 0 0) t)) }
-
--- ---- a tail that was seen
 
 prefix_at : (p : ℕ → Bool) (xs rest : List ℕ) → All (λ x. p x ≡ true) xs → prefix_len p rest ≡ 0 → prefix_len p (xs ++ rest) ≡ length xs
 prefix_at p [] rest h e = e
@@ -140,20 +91,3 @@ no_place_exact text k kp q (act.Seen ring place) i e = let bad = q.exact place i
 
 pub seen_no_place : (text : List ℕ) (k : ℕ) → k ≡ prefix_len is_ascii_digit text → Reads (λ n. n < 2 ^ 64) (λ n. 61 ∷ decimal n) (drop k text) None → Reads IsActInRange act_text (115 ∷ text) None
 seen_no_place text k kp q = record { sound = tt; exact = no_place_exact text k kp q }
-
--- ---- any act
-
-no_letter_exact : (text : List ℕ) → (0 < length text → (get_or text 0 0 ≢ 112) × (get_or text 0 0 ≢ 116) × (get_or text 0 0 ≢ 115)) → (a : Act) → IsActInRange a → text ≡ act_text a → None ≡ Some a
-no_letter_exact text h (act.Processor cpu) i e = let n : length text ≡ suc (length (decimal cpu.0)) = ap length e in absurd ((h (omega arith)).0 (ap (λ xs. get_or xs 0 0) e))
-no_letter_exact text h (act.Tool tool) i e = let n : length text ≡ suc (length (decimal tool.0)) = ap length e in absurd ((h (omega arith)).1 (ap (λ xs. get_or xs 0 0) e))
-no_letter_exact text h (act.Seen ring place) i e =
-    let s : text ≡ 115 ∷ (decimal ring.0 ++ 61 ∷ decimal place) = e ∙ seen_text ring place in
-    let n : length text ≡ suc (length (decimal ring.0 ++ 61 ∷ decimal place)) = ap length s in
-    absurd ((h (omega arith)).2 (ap (λ xs. get_or xs 0 0) s))
-
-pub no_letter : (text : List ℕ) → (0 < length text → (get_or text 0 0 ≢ 112) × (get_or text 0 0 ≢ 116) × (get_or text 0 0 ≢ 115)) → Reads IsActInRange act_text text None
-no_letter text h = record { sound = tt; exact = no_letter_exact text h }
-
--- what reading behind the letter gives
-pub letter : (text : List ℕ) (b : ℕ) (r : Option Act) → 0 < length text → get_or text 0 0 ≡ b → Reads IsActInRange act_text (b ∷ drop 1 text) r → Reads IsActInRange act_text text r
-letter text b r l e h = subst (λ t. Reads IsActInRange act_text t r) (sym (head_tail text l ∙ ap (λ x. x ∷ drop 1 text) e)) h

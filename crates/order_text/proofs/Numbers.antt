@@ -1,9 +1,9 @@
 -- Numbers: what is read is what stands there, and what stands there is read.
-use Rattle.std.proofs.Common.{◌≡◌, ◌≢◌, ℕ, suc, ◌+◌, ◌-◌, ◌*◌, ◌^◌, ◌<◌, ◌≤◌, min, List, [], ◌∷◌, length, get_or, drop, Option, Some, None, true, refl, sym, ap, subst, ◌∙◌, arith, rules, add-one}
+use Rattle.std.proofs.Common.{◌≡◌, ℕ, suc, ◌+◌, ◌-◌, ◌*◌, ◌^◌, ◌<◌, ◌≤◌, min, List, [], ◌∷◌, length, get_or, drop, Some, None, true, sym, ap, ◌∙◌, arith, rules, add-one}
 use Rattle.std.specs.Prelude.{decimal}
 use Rattle.std.specs.Str.{all_ascii_digits}
 use Rattle.std.proofs.Math.Seq.{drop-cons}
-use Rattle.std.proofs.lemmas.Fmt.{digits_decimal, digits_value-decimal}
+use Rattle.std.proofs.lemmas.Fmt.{digits_value-decimal}
 use Rattle.std.proofs.lemmas.Str.Parse.{IsNumeralModel, numerals_by_fold}
 use Rattle.order_text.specs.Reading.{Reads, value_after}
 
@@ -37,16 +37,3 @@ number_some text v fits h e = record { sound = (fits, e); exact = λ n f t. ap S
 
 pub number_none : (text : List ℕ) (v : ℕ) → (value_after 0 text < 2 ^ 64 → v ≡ value_after 0 text) → (text ≡ decimal v → ⊥) → Reads (λ n. n < 2 ^ 64) decimal text None
 number_none text v h differs = record { sound = tt; exact = λ n f t. absurd (differs (t ∙ ap decimal (sym (value_is text n v f t h)))) }
-
--- numbers below a limit are numbers
-pub below_some : (text : List ℕ) (limit v : ℕ) → limit < 256 → Reads (λ n. n < 2 ^ 64) decimal text (Some v) → v < limit → Reads (λ n. n < limit) decimal text (Some v)
-below_some text limit v small r l = record { sound = (l, r.sound.1); exact = λ n f t. r.exact n (omega arith) t }
-
-pub below_none : (text : List ℕ) (limit : ℕ) → limit < 256 → Reads (λ n. n < 2 ^ 64) decimal text None → Reads (λ n. n < limit) decimal text None
-below_none text limit small r = record { sound = tt; exact = λ n f t. r.exact n (omega arith) t }
-
-some_is : {A : Type 0} (x y : A) → Some x ≡ Some y → x ≡ y
-some_is x y e = cc
-
-pub below_large : (text : List ℕ) (limit v : ℕ) → limit < 256 → Reads (λ n. n < 2 ^ 64) decimal text (Some v) → limit ≤ v → Reads (λ n. n < limit) decimal text None
-below_large text limit v small r l = record { sound = tt; exact = λ n f t. let e : v ≡ n = some_is v n (r.exact n (omega arith) t) in absurd (omega arith) }

@@ -1,5 +1,5 @@
 -- What a call that writes a text leaves. This project's own profile.
-use Rattle.std.specs.Prelude.{◌≡◌, ℕ, ◌≤◌, List, length, take, Option, Result, MatchResult}
+use Rattle.std.specs.Prelude.{ℕ, ◌≤◌, List, length, take, Option, Result, MatchResult}
 use Rattle.perf_io.specs.Outside.{Adds, Rose}
 use Rattle.perf_io.specs.declared.outside.Failed.{Failed}
 

@@ -3,6 +3,8 @@
 #![tactic(auto)]
 
 mod reading;
+#[cfg(test)]
+mod tests;
 mod writing;
 
 pub use reading::read_act;

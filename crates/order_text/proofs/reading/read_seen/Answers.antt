@@ -1,4 +1,3 @@
-use Rattle.std.proofs.Common.{◌≡◌, take, drop, subst, sym, ◌∙◌}
 use Rattle.order_text.proofs.Acts.{seen_some, seen_no_ring, seen_no_place}
 use Rattle.order_text.proofs.reading.read_seen.Goals as goal
 
