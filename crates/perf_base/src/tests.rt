@@ -1,7 +1,14 @@
-//! That a script can be built, and flags by hand.
+//! That a script can be built, and weights and flags worked out by hand.
 
-use crate::{AttrFlags, CpuLine, CpuNo, EventNo, Name, NoMemory, Script, TaskNo, ToolLine, ToolNo};
+ghost use Rattle.std.specs.Prelude.{[]};
+ghost use Rattle.perf_base.specs.Scripts.{IsCpuLine, IsToolLine};
+
+use crate::{
+    Attr, AttrFlags, CpuLine, CpuNo, CpuSel, EventNo, Kind, Mode, Name, NoMemory, Script, TaskNo,
+    TaskSel, ToolLine, ToolNo, Work,
+};
 use bitflags::Flags;
+use std::alloc::Global;
 
 #[test]
 fn a_script_is_built(rt: HostRuntime) -> Result<(), NoMemory> {
@@ -14,6 +21,95 @@ fn a_script_is_built(rt: HostRuntime) -> Result<(), NoMemory> {
     script.add_cpu_line(CpuNo(0), CpuLine::Tick)?;
     script.add_tool_line(ToolNo(0), ToolLine::Close { event: EventNo(0) })?;
     assert_eq!(rt; script.weight(), 0);
+    Ok(())
+}
+
+/// A work line on which the first kind occurs so often.
+fn work(times: u64) -> CpuLine
+    ensures { IsCpuLine 1 result }
+{
+    CpuLine::Work(Work {
+        length: 1,
+        mode: Mode::User,
+        ip: 0,
+        hits: [
+            times.min(1000000000),
+            0,
+            0,
+            0,
+            0,
+            0,
+            0,
+            0,
+            0,
+            0,
+            0,
+            0,
+            0,
+            0,
+            0,
+            0,
+        ],
+    })
+}
+
+/// A line that opens an event of the first kind with a period.
+fn open(period: u64) -> ToolLine
+    ensures { IsToolLine 1 1 [] result }
+{
+    ToolLine::Open {
+        slot: EventNo(0),
+        attr: Attr {
+            kind: Kind::Hard(0),
+            task: TaskSel::All,
+            cpu: CpuSel::One(CpuNo(0)),
+            period,
+            sample: 0,
+            format: 0,
+            flags: AttrFlags(0),
+        },
+        leader: None,
+    }
+}
+
+/// The weight of a script of three work lines, two opens and a change of the period.
+fn weighed(alloc: Global, times: [u64; 3], opens: [u64; 2], period: u64) -> Result<u64, NoMemory> {
+    let mut name = Name::new();
+    name.push(b'a');
+    let mut script = Script::new(alloc, 1);
+    script.add_pmu(1, 1)?;
+    script.add_kind(name, 0, 1)?;
+    script.add_cpu_line(CpuNo(0), work(times[0]))?;
+    script.add_cpu_line(CpuNo(0), work(times[1]))?;
+    script.add_cpu_line(CpuNo(0), work(times[2]))?;
+    script.add_tool_line(ToolNo(0), open(opens[0]))?;
+    script.add_tool_line(ToolNo(1), open(opens[1]))?;
+    script.add_tool_line(
+        ToolNo(1),
+        ToolLine::Period {
+            event: EventNo(0),
+            period,
+        },
+    )?;
+    Ok(script.weight())
+}
+
+#[test]
+fn weights_are_those_worked_out_by_hand(rt: HostRuntime) -> Result<(), NoMemory> {
+    let table = [
+        ([3, 3, 0], [7, 42], 0, 4),
+        ([3, 2, 3], [3, 0], 0, 3),
+        ([1, 73, 2], [0, 1], 5, 76),
+        ([9, 4, 1], [9, 8], 4, 10),
+        ([9, 4, 1], [0, 0], 4, 0),
+    ];
+    for (times, opens, period, weight) in table {
+        assert_eq!(rt;
+            weighed(rt.alloc(), times, opens, period)?,
+            weight,
+            "{times:?}"
+        );
+    }
     Ok(())
 }
 
