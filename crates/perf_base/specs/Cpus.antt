@@ -1,5 +1,5 @@
 -- Sets of processors, by bits. This project's own profile.
-use Rattle.std.specs.Prelude.{◌≡◌, ℕ, ◌<◌}
+use Rattle.std.specs.Prelude.{◌≡◌}
 use Rattle.std.specs.Int.{bit_at}
 use Rattle.perf_base.specs.declared.numbers.CpuNo.{CpuNo}
 use Rattle.perf_base.specs.declared.numbers.CpuSet.{CpuSet}

@@ -1,5 +1,5 @@
 -- Lines whose occurrences are within their limit. This project's own profile.
-use Rattle.std.specs.Prelude.{ℕ, ◌≤◌, All}
+use Rattle.std.specs.Prelude.{◌≤◌, All}
 use Rattle.perf_base.specs.declared.lines.CpuLine.{CpuLine}
 use Rattle.perf_base.specs.declared.lines.CpuLine.TheVariants as cpu_line
 

@@ -13,6 +13,8 @@ mod reasons;
 mod reply;
 mod script;
 mod standing;
+#[cfg(test)]
+mod tests;
 mod weight;
 
 pub use acts::{Act, Actor};

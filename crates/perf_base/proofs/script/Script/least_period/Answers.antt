@@ -1,4 +1,4 @@
-use Rattle.std.proofs.Common.{◌≡◌, ◌≤◌, ◌<◌, length, take, [], ap, sym, ◌∙◌, arith}
+use Rattle.std.proofs.Common.{◌<◌, length, [], ap, ◌∙◌, arith}
 use Rattle.std.proofs.lemmas.List.{take_all}
 use Rattle.perf_base.specs.Scripts.{IsScript}
 use Rattle.perf_base.specs.Weight.{period_of, least_by}
