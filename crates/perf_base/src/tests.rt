@@ -4,8 +4,8 @@ ghost use Rattle.std.specs.Prelude.{[]};
 ghost use Rattle.perf_base.specs.Scripts.{IsCpuLine, IsToolLine};
 
 use crate::{
-    Attr, AttrFlags, CpuLine, CpuNo, CpuSel, EventNo, Kind, Mode, Name, NoMemory, Script, TaskNo,
-    TaskSel, ToolLine, ToolNo, Work,
+    Act, Attr, AttrFlags, CpuLine, CpuNo, CpuSel, EventNo, Kind, Mode, Name, NoMemory, ReaderLine,
+    RingNo, Script, TaskNo, TaskSel, ToolLine, ToolNo, Work,
 };
 use bitflags::Flags;
 use std::alloc::Global;
@@ -20,6 +20,13 @@ fn a_script_is_built(rt: HostRuntime) -> Result<(), NoMemory> {
     script.add_task(TaskNo(0))?;
     script.add_cpu_line(CpuNo(0), CpuLine::Tick)?;
     script.add_tool_line(ToolNo(0), ToolLine::Close { event: EventNo(0) })?;
+    script.add_ring(RingNo(3), 64)?;
+    script.add_reader(ReaderLine {
+        ring: RingNo(3),
+        tries: 1,
+        batch: 1,
+    })?;
+    script.add_act(Act::Processor(CpuNo(0)))?;
     assert_eq!(rt; script.weight(), 0);
     Ok(())
 }
