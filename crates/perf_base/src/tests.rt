@@ -4,8 +4,10 @@ ghost use Rattle.std.specs.Prelude.{[]};
 ghost use Rattle.perf_base.specs.Scripts.{IsCpuLine, IsToolLine};
 
 use crate::{
-    Act, Attr, AttrFlags, CpuLine, CpuNo, CpuSel, EventNo, Kind, Mode, Name, NoMemory, ReaderLine,
-    RingNo, Script, TaskNo, TaskSel, ToolLine, ToolNo, Work,
+    Act, Actor, Attr, AttrFlags, Cause, Context, CpuLine, CpuNo, CpuSel, CpuSet, EventNo, Kind,
+    KindLine, Mode, Name, NoMemory, Own, PmuLine, ReaderLine, Reason, Reply, RingNo, Rule, SReason,
+    Script, SeatList, Standing, StoredReply, Sums, TaskNo, TaskSel, Tight, ToolLine, ToolNo, Why,
+    Words, Work,
 };
 use bitflags::Flags;
 use std::alloc::Global;
@@ -79,8 +81,8 @@ fn open(period: u64) -> ToolLine
     }
 }
 
-/// The weight of a script of three work lines, two opens and a change of the period.
-fn weighed(alloc: Global, times: [u64; 3], opens: [u64; 2], period: u64) -> Result<u64, NoMemory> {
+/// The weight of a script of six work lines, five opens and a change of the period.
+fn weighed(alloc: Global, times: [u64; 6], opens: [u64; 5], period: u64) -> Result<u64, NoMemory> {
     let mut name = Name::new();
     name.push(b'a');
     let mut script = Script::new(alloc, 1);
@@ -89,8 +91,14 @@ fn weighed(alloc: Global, times: [u64; 3], opens: [u64; 2], period: u64) -> Resu
     script.add_cpu_line(CpuNo(0), work(times[0]))?;
     script.add_cpu_line(CpuNo(0), work(times[1]))?;
     script.add_cpu_line(CpuNo(0), work(times[2]))?;
+    script.add_cpu_line(CpuNo(0), work(times[3]))?;
+    script.add_cpu_line(CpuNo(0), work(times[4]))?;
+    script.add_cpu_line(CpuNo(0), work(times[5]))?;
     script.add_tool_line(ToolNo(0), open(opens[0]))?;
     script.add_tool_line(ToolNo(1), open(opens[1]))?;
+    script.add_tool_line(ToolNo(0), open(opens[2]))?;
+    script.add_tool_line(ToolNo(1), open(opens[3]))?;
+    script.add_tool_line(ToolNo(2), open(opens[4]))?;
     script.add_tool_line(
         ToolNo(1),
         ToolLine::Period {
@@ -104,11 +112,16 @@ fn weighed(alloc: Global, times: [u64; 3], opens: [u64; 2], period: u64) -> Resu
 #[test]
 fn weights_are_those_worked_out_by_hand(rt: HostRuntime) -> Result<(), NoMemory> {
     let table = [
-        ([3, 3, 0], [7, 42], 0, 4),
-        ([3, 2, 3], [3, 0], 0, 3),
-        ([1, 73, 2], [0, 1], 5, 76),
-        ([9, 4, 1], [9, 8], 4, 10),
-        ([9, 4, 1], [0, 0], 4, 0),
+        // 2 opens, and by 7: 274 + 1 + 1 + 6 + 1.
+        ([1918, 1, 6, 42, 7, 0], [35, 7, 0, 0, 0], 0, 566),
+        // 1 open, and by 2: 1 + 25 + 1 + 20.
+        ([0, 0, 1, 49, 1, 40], [0, 2, 0, 0, 0], 0, 47),
+        // 2 opens, and by 2: 1 + 32.
+        ([0, 2, 64, 0, 0, 0], [14, 0, 0, 0, 2], 0, 66),
+        // The period that a later line gives is the least.
+        ([9, 4, 1, 0, 0, 0], [9, 8, 0, 0, 0], 4, 10),
+        // No open gives a period.
+        ([9, 4, 1, 0, 0, 0], [0, 0, 0, 0, 0], 4, 0),
     ];
     for (times, opens, period, weight) in table {
         assert_eq!(rt;
@@ -118,6 +131,25 @@ fn weights_are_those_worked_out_by_hand(rt: HostRuntime) -> Result<(), NoMemory>
         );
     }
     Ok(())
+}
+
+#[test]
+fn sets_hold_what_was_put_in(rt: HostRuntime) {
+    let mut one = CpuSet::new();
+    one.insert(CpuNo(0));
+    one.insert(CpuNo(7));
+    let mut other = CpuSet::new();
+    other.insert(CpuNo(3));
+    let both = one.union(other);
+    for (cpu, in_one, in_both) in [
+        (0, true, true),
+        (3, false, true),
+        (6, false, false),
+        (7, true, true),
+    ] {
+        assert_eq!(rt; one.contains(CpuNo(cpu)), in_one, "{cpu}");
+        assert_eq!(rt; both.contains(CpuNo(cpu)), in_both, "{cpu}");
+    }
 }
 
 #[test]
@@ -142,4 +174,37 @@ fn flags_are_those_of_their_table(rt: HostRuntime) {
     assert_eq!(rt; names.next().map(|x| x.0), Some("INHERIT"));
     assert_eq!(rt; names.next().map(|x| x.0), Some("SAMPLE_ID_ALL"));
     assert!(rt; names.next().is_none());
+}
+
+fn crosses<T: Send + Sync>() {}
+
+#[test]
+fn shared_types_cross_threads(_rt: HostRuntime) {
+    crosses::<Act>();
+    crosses::<Actor>();
+    crosses::<Attr>();
+    crosses::<AttrFlags>();
+    crosses::<Cause>();
+    crosses::<Context>();
+    crosses::<CpuLine>();
+    crosses::<CpuSet>();
+    crosses::<KindLine>();
+    crosses::<Name>();
+    crosses::<Own>();
+    crosses::<PmuLine>();
+    crosses::<ReaderLine>();
+    crosses::<Reason>();
+    crosses::<Reply>();
+    crosses::<Rule>();
+    crosses::<SReason>();
+    crosses::<Script>();
+    crosses::<SeatList>();
+    crosses::<Standing>();
+    crosses::<StoredReply>();
+    crosses::<Sums>();
+    crosses::<Tight>();
+    crosses::<ToolLine>();
+    crosses::<Why>();
+    crosses::<Words>();
+    crosses::<Work>();
 }
