@@ -24,3 +24,10 @@ fn two_pmus(rt: HostRuntime) {
     assert!(rt; is_software(Kind::ContextSwitches));
     assert!(rt; !is_software(Kind::Hard(0)));
 }
+
+fn crosses<T: Send + Sync>() {}
+
+#[test]
+fn the_table_crosses_threads(_rt: HostRuntime) {
+    crosses::<Pmus>();
+}
