@@ -6,7 +6,7 @@ ghost use Rattle.perf_base.specs.declared.acts.Act.TheVariants as act;
 ghost use Rattle.perf_base.specs.Scripts.{lines_of_tool};
 ghost use Rattle.stage_spec.specs.Counting.{IsFirstForm};
 ghost use Rattle.stage_spec.specs.Progress.{IsAfter, HasLine};
-ghost use Rattle.stage_spec.specs.Replies.{reply_of};
+ghost use Rattle.stage_spec.specs.FirstReplies.{reply_of};
 ghost use Rattle.stage_spec.specs.Steps.{act_of, after_work, after_tool, answer_now};
 
 use crate::shares::added;

@@ -15,8 +15,8 @@ use Rattle.stage_spec.specs.Order.{is_of_cpu, is_of_tool, done_by_cpu, done_by_t
 use Rattle.stage_spec.specs.Counting.{IsFirstForm, IsWorkLine, counting_open, counting_read}
 use Rattle.stage_spec.specs.Progress.{Progress, IsAfter, HasLine}
 use Rattle.perf_base.specs.declared.reply.Reply.{Reply}
-use Rattle.stage_spec.specs.Replies.{reply_of, replies_from}
-use Rattle.stage_spec.specs.Recurrence.{replies_from-push}
+use Rattle.stage_spec.specs.FirstReplies.{reply_of, replies_from}
+use Rattle.stage_spec.specs.FirstRecurrence.{replies_from-push}
 use Rattle.stage_spec.specs.Steps.{act_of, count_by-push}
 use Rattle.script_spec.specs.FirstForm.{FirstForm, IsFormScript, IsFormAct, first_script, work_of}
 

@@ -13,7 +13,7 @@ use Rattle.perf_base.specs.declared.reply.Reply.{Reply}
 use Rattle.perf_base.specs.Scripts.{Scripted}
 use Rattle.stage_spec.specs.Order.{done_by_tool, is_of_tool, next_of_tool}
 use Rattle.stage_spec.specs.Counting.{tool_zero}
-use Rattle.stage_spec.specs.Replies.{reply_of, replies_from, tool_reply}
+use Rattle.stage_spec.specs.FirstReplies.{reply_of, replies_from, tool_reply}
 use Rattle.stage_spec.specs.Steps.{count_by-push}
 use Rattle.script_spec.specs.FirstForm.{IsFormAct, IsFormScript}
 use Rattle.script_spec.specs.Acts.{act_text, acts_text}

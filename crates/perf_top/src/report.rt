@@ -3,7 +3,7 @@
 ghost use Rattle.std.specs.Prelude.{◌≡◌, ◌∷◌, [], ◌++◌, ◌<◌, codes, decimal, IfOk, OnOk, if◌then◌else◌};
 ghost use Rattle.stage_spec.specs.Order.{is_of_tool};
 ghost use Rattle.stage_spec.specs.Counting.{tool_zero};
-ghost use Rattle.stage_spec.specs.Replies.{replies_from};
+ghost use Rattle.stage_spec.specs.FirstReplies.{replies_from};
 ghost use Rattle.script_spec.specs.Acts.{act_text, acts_text};
 ghost use Rattle.script_spec.specs.FirstForm.{IsFormScript};
 ghost use Rattle.report_spec.specs.Report.{numbers_text};

@@ -4,7 +4,7 @@ use Rattle.perf_base.specs.declared.acts.Act.{Act}
 use Rattle.perf_base.specs.declared.reply.Reply.{Reply}
 use Rattle.perf_base.specs.Scripts.{Scripted}
 use Rattle.stage_spec.specs.Order.{IsCounted}
-use Rattle.stage_spec.specs.Replies.{replies_from}
+use Rattle.stage_spec.specs.FirstReplies.{replies_from}
 
 -- No actor has more acts than lines, and each reply is the answer to the line at its place.
 pub record IsAnswered (s : Scripted) (order : List Act) (replies : List Reply) : Type 0 where

@@ -1,27 +1,101 @@
--- What a line answers, in scripts of the first form. After perf_event_open(2).
-use Rattle.std.specs.Prelude.{List, [], ◌∷◌, ◌++◌, Option, Some}
+-- The answer to a line. After perf_event_open(2); the order of reasons, and what WHY and SEATS answer, are this project's
+-- own profile.
+use Rattle.std.specs.Prelude.{◌≡◌, ℕ, ◌==◌, Bool, true, false, not, ◌&&◌, List, [], ◌∷◌, map, filter, Option, Some, None}
+use Rattle.std.specs.List.{list_any, list_all}
+use Rattle.perf_base.specs.declared.numbers.CpuNo.{CpuNo}
+use Rattle.perf_base.specs.declared.numbers.EventNo.{EventNo}
+use Rattle.perf_base.specs.declared.attr.Attr.{Attr}
 use Rattle.perf_base.specs.declared.lines.ToolLine.{ToolLine}
 use Rattle.perf_base.specs.declared.lines.ToolLine.TheVariants as tool_line
-use Rattle.perf_base.specs.declared.acts.Act.{Act}
-use Rattle.perf_base.specs.declared.acts.Act.TheVariants as act
+use Rattle.perf_base.specs.declared.standing.Context.{Context}
+use Rattle.perf_base.specs.declared.standing.Context.TheVariants as context
+use Rattle.perf_base.specs.declared.standing.Own.{Own}
+use Rattle.perf_base.specs.declared.standing.Own.TheVariants as own
+use Rattle.perf_base.specs.declared.standing.Standing.{Standing}
+use Rattle.perf_base.specs.declared.standing.Standing.TheVariants as standing
+use Rattle.perf_base.specs.declared.standing.Why.{Why}
+use Rattle.perf_base.specs.declared.standing.Why.TheVariants as why
+use Rattle.perf_base.specs.declared.reasons.Reason.{Reason}
 use Rattle.perf_base.specs.declared.reply.Reply.{Reply}
 use Rattle.perf_base.specs.declared.reply.Reply.TheVariants as reply
-use Rattle.perf_base.specs.Scripts.{Scripted}
-use Rattle.stage_spec.specs.Order.{next_of_tool}
-use Rattle.stage_spec.specs.Counting.{count_after, time_after}
+use Rattle.perf_base.specs.declared.reply.Sums.{Sums}
+use Rattle.stage_spec.specs.declared.instance.Instance.{Instance}
+use Rattle.stage_spec.specs.Hardware.{Hardware, mask_of}
+use Rattle.stage_spec.specs.Stage.{Stage, Group, original_of, group_of, cpu_of}
+use Rattle.stage_spec.specs.Effective.{is_hardware}
+use Rattle.stage_spec.specs.Verdict.{may_count_on, is_counted_on, on_instances, standing_of}
+use Rattle.stage_spec.specs.Fits.{IsAssignment}
+use Rattle.stage_spec.specs.Opening.{context_of}
+use Rattle.stage_spec.specs.Reading.{state_in, read_words}
+use Rattle.stage_spec.specs.History.{Step, CpuStep, ToolStep, SeenStep, cpu_refusal, tool_refusal, stage_after}
+use Rattle.stage_spec.specs.Families.{family_sums}
 
--- a read gives the count and both times; an open is done
-abbrev pub tool_reply : Scripted → List Act → Option ToolLine → Reply
-tool_reply s before (Some (tool_line.Read event size)) = reply.Read (count_after s before ∷ time_after s before ∷ time_after s before ∷ [])
-tool_reply s before _ = reply.Ok
+-- the processor that a context is on, if it is on one
+abbrev pub cpu_with : Stage → Context → Option CpuNo
+cpu_with s (context.Processor cpu) = Some cpu
+cpu_with s (context.Task task) = cpu_of s task
 
--- the answer to an act after the acts before it: work is done
-abbrev pub reply_of : Scripted → List Act → Act → Reply
-reply_of s before (act.Processor cpu) = reply.Ok
-reply_of s before (act.Tool tool) = tool_reply s before (next_of_tool s before tool)
-reply_of s before (act.Seen ring place) = reply.Ok
+-- Why a ready event counts or does not. It is away where its context is on no processor, where its place is another one, and
+-- where its group has a hardware member of another PMU.
+abbrev pub why_standing : Standing → Why
+why_standing standing.Out = why.Away
+why_standing standing.On = why.On
+why_standing (standing.Refused cause) = why.Refused cause
 
--- the answers to acts, the first of them after some acts
-abbrev pub replies_from : Scripted → List Act → List Act → List Reply
-replies_from s before [] = []
-replies_from s before (a ∷ acts) = reply_of s before a ∷ replies_from s (before ++ a ∷ []) acts
+abbrev pub why_on : Hardware → Stage → Group → Instance → Option CpuNo → Why
+why_on hw s g i None = why.Away
+why_on hw s g i (Some cpu) = elim (may_count_on cpu i.attr.cpu && list_all (λ j. is_counted_on hw cpu j.attr.kind) g) [
+  | true ↦ why_standing (standing_of hw s cpu g)
+  | false ↦ why.Away
+]
+
+-- by its effective state first
+abbrev pub why_by : Hardware → Stage → Group → Instance → Own → Why
+why_by hw s g i own.Off = why.Off
+why_by hw s g i (own.Error cause) = why.Failed cause
+why_by hw s g i own.Ready = why_on hw s g i (cpu_with s (context_of i.attr))
+
+abbrev pub why_in : Hardware → Stage → Option Group → Option Instance → Why
+why_in hw s (Some g) (Some i) = why_by hw s g i (state_in g i)
+why_in hw s (Some g) None = why.Off
+why_in hw s None i = why.Off
+
+unfoldable pub why_of : Hardware → Stage → EventNo → Why
+why_of hw s e = why_in hw s (group_of s e) (original_of s e)
+
+-- Seats of a processor: its hardware events that are on, in pass order, each with a counter of its own that can count it.
+abbrev pub seated : Hardware → Stage → CpuNo → List Instance
+seated hw s cpu = filter is_hardware (on_instances hw s cpu)
+
+pub record IsSeats (hw : Hardware) (s : Stage) (cpu : CpuNo) (seats : List (EventNo × ℕ)) : Type 0 where
+  pub events : map (λ seat. seat.0) seats ≡ map (λ i. i.event) (seated hw s cpu)
+  pub counters : IsAssignment (map (λ i. mask_of hw i.attr.kind) (seated hw s cpu)) (map (λ seat. seat.1) seats)
+
+-- The answer to a line that is not refused, given what each family has counted and lost. All but SEATS have one.
+abbrev pub IsDone : Hardware → Stage → (EventNo → Sums) → (EventNo → ℕ) → ToolLine → Reply → Type 0
+IsDone hw s sums lost (tool_line.Open slot attr leader) r = r ≡ reply.Ok
+IsDone hw s sums lost (tool_line.Enable event group) r = r ≡ reply.Ok
+IsDone hw s sums lost (tool_line.Disable event group) r = r ≡ reply.Ok
+IsDone hw s sums lost (tool_line.Reset event group) r = r ≡ reply.Ok
+IsDone hw s sums lost (tool_line.Period event period) r = r ≡ reply.Ok
+IsDone hw s sums lost (tool_line.Read event size) r = r ≡ reply.Read (read_words sums lost s event)
+IsDone hw s sums lost (tool_line.Map event ring) r = r ≡ reply.Ok
+IsDone hw s sums lost (tool_line.Output event target) r = r ≡ reply.Ok
+IsDone hw s sums lost (tool_line.Close event) r = r ≡ reply.Ok
+IsDone hw s sums lost (tool_line.Why event) r = r ≡ reply.Why (why_of hw s event)
+IsDone hw s sums lost (tool_line.Seats cpu) r = (seats : List (EventNo × ℕ)) × (r ≡ reply.Seats seats) × IsSeats hw s cpu seats
+
+-- a refused line answers its reason
+abbrev pub UnlessRefused : Option Reason → Reply → Type 0 → Type 0
+UnlessRefused (Some reason) r Done = r ≡ reply.Refused reason
+UnlessRefused None r Done = Done
+
+-- the answer to a step at a stage
+abbrev pub IsAnswerAt : Hardware → Stage → (EventNo → Sums) → (EventNo → ℕ) → Step → Reply → Type 0
+IsAnswerAt hw s sums lost (CpuStep cpu line) r = UnlessRefused (cpu_refusal s cpu line) r (r ≡ reply.Ok)
+IsAnswerAt hw s sums lost (ToolStep line) r = UnlessRefused (tool_refusal hw s line) r (IsDone hw s sums lost line r)
+IsAnswerAt hw s sums lost (SeenStep ring place) r = r ≡ reply.Ok
+
+-- the answer to a step after some steps, the first of them at a stage, given how many records of each family were lost
+unfoldable pub IsReply : Hardware → Stage → List Step → (EventNo → ℕ) → Step → Reply → Type 0
+IsReply hw s before lost x r = IsAnswerAt hw (stage_after hw s before) (family_sums hw s before) lost x r

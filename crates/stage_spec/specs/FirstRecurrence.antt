@@ -4,7 +4,7 @@ use Rattle.std.proofs.Common.{arith, refl, ap, ◌∙◌, append_assoc, append-n
 use Rattle.perf_base.specs.declared.acts.Act.{Act}
 use Rattle.perf_base.specs.Scripts.{Scripted}
 use Rattle.stage_spec.specs.Counting.{total}
-use Rattle.stage_spec.specs.Replies.{replies_from, reply_of}
+use Rattle.stage_spec.specs.FirstReplies.{replies_from, reply_of}
 
 -- the sum over acts and one more
 pub total-push : (share : List Act → Act → ℕ) (before acts : List Act) (a : Act) → total share before (acts ++ a ∷ []) ≡ total share before acts + share (before ++ acts) a

@@ -1,0 +1,28 @@
+-- What becomes of groups when events go, after perf_group_detach of kernel/events/core.c. That siblings go behind the
+-- flexible groups is this project's own profile.
+use Rattle.std.specs.Prelude.{Bool, true, false, not, List, [], ◌∷◌, ◌++◌, map, filter, flat_map}
+use Rattle.perf_base.specs.declared.numbers.EventNo.{EventNo}
+use Rattle.stage_spec.specs.declared.instance.Instance.{Instance}
+use Rattle.stage_spec.specs.Stage.{Stage, Group, Lists, is_of_family}
+
+-- the group without the members that go, and nothing where its leader goes
+abbrev pub kept_group : (Instance → Bool) → Group → List Group
+kept_group goes [] = []
+kept_group goes (leader ∷ siblings) = elim (goes leader) [ true ↦ [] | false ↦ (leader ∷ filter (λ i. not (goes i)) siblings) ∷ [] ]
+
+-- where its leader goes, each sibling that stays, as a group of its own
+abbrev pub freed_groups : (Instance → Bool) → Group → List Group
+freed_groups goes [] = []
+freed_groups goes (leader ∷ siblings) = elim (goes leader) [ true ↦ map (λ i. i ∷ []) (filter (λ i. not (goes i)) siblings) | false ↦ [] ]
+
+-- the groups of a context without the instances that go; siblings of a leader that goes come last among the flexible groups,
+-- in the order in which they joined
+abbrev pub without : (Instance → Bool) → Lists → Lists
+without goes l = record {
+  pinned = flat_map (kept_group goes) l.pinned;
+  flexible = flat_map (kept_group goes) l.flexible ++ flat_map (freed_groups goes) (l.pinned ++ l.flexible);
+}
+
+-- closing an event takes away the original and its copies
+unfoldable pub closed : EventNo → Stage → Stage
+closed e s = record s { contexts = map (without (is_of_family e)) s.contexts }

@@ -1,0 +1,69 @@
+-- What a fork does, after perf_event_init_task and inherit_group of kernel/events/core.c. Its refusals are this
+-- project's own profile.
+use Rattle.std.specs.Prelude.{ℕ, ◌+◌, nat_lt, Bool, true, false, not, List, [], ◌∷◌, ◌++◌, map, filter, length, sum_by, Option, Some, None, if◌then◌else◌}
+use Rattle.perf_base.specs.declared.numbers.CpuNo.{CpuNo}
+use Rattle.perf_base.specs.declared.numbers.TaskNo.{TaskNo}
+use Rattle.perf_base.specs.declared.attr.Attr.{Attr}
+use Rattle.perf_base.specs.declared.standing.Context.TheVariants as context
+use Rattle.perf_base.specs.declared.standing.Own.{Own}
+use Rattle.perf_base.specs.declared.standing.Own.TheVariants as own
+use Rattle.perf_base.specs.declared.reasons.Reason.{Reason}
+use Rattle.perf_base.specs.declared.reasons.Reason.TheVariants as reason
+use Rattle.stage_spec.specs.declared.instance.Instance.{Instance}
+use Rattle.stage_spec.specs.Stage.{Stage, Group, Lists, original_of, lists_of, task_on, status_of, fresh_task, was_used, live_copies, set_status, change_context}
+use Rattle.stage_spec.specs.Effective.{is_ready, leader_is_inherited}
+use Rattle.stage_spec.specs.Verdict.{task_lists}
+use Rattle.stage_spec.specs.Opening.{first_of}
+use Rattle.stage_spec.specs.Switching.{is_idle}
+
+-- the groups whose leaders are inherited
+abbrev pub inherited_groups : List Group → List Group
+inherited_groups groups = filter leader_is_inherited groups
+
+-- the present period of the original
+abbrev pub present_period : Option Instance → Attr → ℕ
+present_period None a = a.period
+present_period (Some original) a = original.attr.period
+
+abbrev pub copied_state : Own → Own
+copied_state o = if is_ready o then own.Ready else own.Off
+
+-- A copy is of the original, also where it is made from a copy. It is ready where the instance before it is, and else off.
+abbrev pub copy_of : Stage → ℕ → Instance → Instance
+copy_of s id i = record {
+  event = i.event; copy = true; id = id;
+  attr = record i.attr { period = present_period (original_of s i.event) i.attr };
+  own = copied_state i.own; ring = None; mapped = false;
+}
+
+-- the copies of a group, the first with this id, and of groups, with rising ids
+unfoldable pub copy_group : Stage → ℕ → Group → Group
+copy_group s id [] = []
+copy_group s id (i ∷ g) = copy_of s id i ∷ copy_group s (id + 1) g
+
+unfoldable pub copy_groups : Stage → ℕ → List Group → List Group
+copy_groups s id [] = []
+copy_groups s id (g ∷ groups) = copy_group s id g ∷ copy_groups s (id + length g) groups
+
+-- the groups that a child gets: the pinned ones take the first ids
+abbrev pub copied : Stage → Lists → Lists
+copied s l = record {
+  pinned = copy_groups s s.next_id (inherited_groups l.pinned);
+  flexible = copy_groups s (s.next_id + sum_by length (inherited_groups l.pinned)) (inherited_groups l.flexible);
+}
+
+-- how many copies a fork makes
+abbrev pub new_copies : Lists → ℕ
+new_copies l = sum_by length (inherited_groups l.pinned) + sum_by length (inherited_groups l.flexible)
+
+-- no task is on; the child's number was used; there would be more than 4,096 copies
+abbrev pub fork_refusal : Stage → CpuNo → TaskNo → Option Reason
+fork_refusal s cpu child = first_of ((reason.Idle, is_idle (task_on s cpu))
+    ∷ (reason.Exists, was_used (status_of s child).state)
+    ∷ (reason.CopiesFull, nat_lt 4096 (live_copies s + new_copies (task_lists s (task_on s cpu)))) ∷ [])
+
+-- the child is there, with the copies, and the ids are drawn
+unfoldable pub forked : CpuNo → TaskNo → Stage → Stage
+forked cpu child s = record (set_status child fresh_task (change_context (context.Task child) (λ l. copied s (task_lists s (task_on s cpu))) s)) {
+  next_id = s.next_id + new_copies (task_lists s (task_on s cpu));
+}

@@ -1,0 +1,128 @@
+-- Which groups of a processor are on, and why the others are not. After group_can_go_on, ctx_sched_in and
+-- merge_sched_in of kernel/events/core.c; whom a refusal names is this project's own profile.
+use Rattle.std.specs.Prelude.{ℕ, ◌==◌, Bool, true, false, not, ◌&&◌, List, [], ◌∷◌, ◌++◌, map, filter, find, flat_map, Option, Some, None, option_map}
+use Rattle.std.specs.List.{list_all, list_any}
+use Rattle.perf_base.specs.declared.numbers.CpuNo.{CpuNo}
+use Rattle.perf_base.specs.declared.numbers.EventNo.{EventNo}
+use Rattle.perf_base.specs.declared.numbers.TaskNo.{TaskNo}
+use Rattle.perf_base.specs.declared.attr.Kind.{Kind}
+use Rattle.perf_base.specs.declared.attr.CpuSel.{CpuSel}
+use Rattle.perf_base.specs.declared.attr.CpuSel.TheVariants as cpus
+use Rattle.perf_base.specs.declared.standing.Context.TheVariants as context
+use Rattle.perf_base.specs.declared.standing.Cause.TheVariants as cause
+use Rattle.perf_base.specs.declared.standing.Standing.{Standing}
+use Rattle.perf_base.specs.declared.standing.Standing.TheVariants as standing
+use Rattle.stage_spec.specs.declared.instance.Instance.{Instance}
+use Rattle.stage_spec.specs.Hardware.{Hardware, pmu_of_cpu, pmu_of_kind, mask_of}
+use Rattle.stage_spec.specs.Stage.{Stage, Group, Lists, lists_of, no_groups, task_on}
+use Rattle.stage_spec.specs.Effective.{is_ready, name_of, leader_id, is_hardware, is_wholly_software, is_exclusive_group, counted_members}
+use Rattle.stage_spec.specs.Rules.{refusal_of}
+use Rattle.stage_spec.specs.Fits.{fits}
+use Rattle.stage_spec.specs.Tight.{masks_of, tight_set, shortest_unfit}
+
+-- whether an event's place is any processor, or this one
+abbrev pub may_count_on : CpuNo → CpuSel → Bool
+may_count_on cpu cpus.Any = true
+may_count_on cpu (cpus.One other) = other.0 == cpu.0
+
+-- whether a kind is a software kind, or one of the PMU of this processor
+abbrev pub is_pmu : Option ℕ → ℕ → Bool
+is_pmu None pmu = true
+is_pmu (Some other) pmu = other == pmu
+
+abbrev pub is_counted_on : Hardware → CpuNo → Kind → Bool
+is_counted_on hw cpu k = is_pmu (pmu_of_kind hw k) (pmu_of_cpu hw cpu)
+
+-- A group of a context that is on a processor may go on there where its leader is ready, its place is any processor or
+-- that one, and its hardware members are of that processor's PMU.
+abbrev pub is_eligible : Hardware → CpuNo → Group → Bool
+is_eligible hw cpu [] = false
+is_eligible hw cpu (leader ∷ siblings) =
+    is_ready leader.own && may_count_on cpu leader.attr.cpu && list_all (λ i. is_counted_on hw cpu i.attr.kind) (leader ∷ siblings)
+
+-- the groups of the task on a processor; an idle processor has none
+abbrev pub task_lists : Stage → Option TaskNo → Lists
+task_lists s None = no_groups
+task_lists s (Some task) = lists_of s (context.Task task)
+
+-- the four passes of a processor: its own pinned groups and then its task's, its own flexible groups and then its task's
+abbrev pub passes : Stage → CpuNo → List (List Group)
+passes s cpu =
+    (lists_of s (context.Processor cpu)).pinned ∷ (task_lists s (task_on s cpu)).pinned
+        ∷ (lists_of s (context.Processor cpu)).flexible ∷ (task_lists s (task_on s cpu)).flexible ∷ []
+
+-- a group and what was said of it
+pub record Judged : Type 0 where
+  pub group : Group
+  pub standing : Standing
+
+abbrev pub stands_on : Standing → Bool
+stands_on standing.Out = false
+stands_on standing.On = true
+stands_on (standing.Refused cause) = false
+
+abbrev pub stands_refused : Standing → Bool
+stands_refused standing.Out = false
+stands_refused standing.On = false
+stands_refused (standing.Refused cause) = true
+
+-- the groups that are on, the name of the first that passes a test, and the first that was refused
+abbrev pub groups_on : List Judged → List Group
+groups_on judged = map (λ j. j.group) (filter (λ j. stands_on j.standing) judged)
+
+abbrev pub first_named : (Group → Bool) → List Group → Option EventNo
+first_named test groups = option_map name_of (find test groups)
+
+abbrev pub first_refused : List Judged → Option EventNo
+first_refused judged = option_map (λ j. name_of j.group) (find (λ j. stands_refused j.standing) judged)
+
+-- events with the counters that can count them
+abbrev pub with_masks : Hardware → List Instance → List (EventNo × ℕ)
+with_masks hw instances = map (λ i. (i.event, mask_of hw i.attr.kind)) instances
+
+-- A group goes on where its events fit together with those that are on; else the refusal has the tight set of the
+-- shortest beginning of that list that does not fit.
+abbrev pub by_counters : List (EventNo × ℕ) → Standing
+by_counters events = elim (fits (masks_of events)) [
+  | true ↦ standing.On
+  | false ↦ standing.Refused (cause.Hall (map (λ event. event.0) (tight_set (shortest_unfit events))))
+]
+
+-- What is said of a group after those of earlier passes and those within its own pass: the first rule that refuses it
+-- decides, and else the counters do. A wholly software group goes on.
+unfoldable pub judge : Hardware → (before within : List Judged) → Group → Standing
+judge hw before within g = elim (is_wholly_software g) [
+  | true ↦ standing.On
+  | false ↦
+      elim (refusal_of false (is_exclusive_group g) (first_named is_exclusive_group (groups_on (before ++ within)))
+          (first_named (λ h. not (is_wholly_software h)) (groups_on (before ++ within))) (first_refused within)) [
+        | Some rule ↦ standing.Refused (cause.Rule rule)
+        | None ↦ by_counters (with_masks hw (flat_map counted_members (groups_on (before ++ within)) ++ counted_members g))
+      ]
+]
+
+-- the groups of one pass, judged one after the other
+unfoldable pub judge_pass : Hardware → (before within : List Judged) → List Group → List Judged
+judge_pass hw before within [] = within
+judge_pass hw before within (g ∷ groups) = judge_pass hw before (within ++ record { group = g; standing = judge hw before within g } ∷ []) groups
+
+-- the groups of some passes, judged one pass after the other
+unfoldable pub judge_passes : Hardware → List Judged → List (List Group) → List Judged
+judge_passes hw before [] = before
+judge_passes hw before (pass ∷ rest) = judge_passes hw (before ++ judge_pass hw before [] pass) rest
+
+-- the eligible groups of a processor in pass order, each with its verdict
+unfoldable pub verdicts : Hardware → Stage → CpuNo → List Judged
+verdicts hw s cpu = judge_passes hw [] (map (filter (is_eligible hw cpu)) (passes s cpu))
+
+-- where a group stands on a processor: its verdict, or out where it is not eligible
+abbrev pub standing_among : List Judged → Group → Standing
+standing_among [] g = standing.Out
+standing_among (j ∷ judged) g = elim (leader_id j.group == leader_id g) [ true ↦ j.standing | false ↦ standing_among judged g ]
+
+abbrev pub standing_of : Hardware → Stage → CpuNo → Group → Standing
+standing_of hw s cpu g = standing_among (verdicts hw s cpu) g
+
+-- the instances that are on, in pass order: the ready members of the groups on
+abbrev pub on_instances : Hardware → Stage → CpuNo → List Instance
+on_instances hw s cpu = flat_map (filter (λ i. is_ready i.own)) (groups_on (verdicts hw s cpu))
