@@ -1,6 +1,6 @@
 -- The answer to a line. After perf_event_open(2); the order of reasons, and what WHY and SEATS answer, are this project's
 -- own profile.
-use Rattle.std.specs.Prelude.{◌≡◌, ℕ, ◌==◌, Bool, true, false, not, ◌&&◌, List, [], ◌∷◌, map, filter, Option, Some, None}
+use Rattle.std.specs.Prelude.{◌≡◌, ℕ, ◌==◌, Bool, true, false, not, ◌&&◌, List, [], ◌∷◌, ◌++◌, map, filter, Option, Some, None}
 use Rattle.std.specs.List.{list_any, list_all}
 use Rattle.perf_base.specs.declared.numbers.CpuNo.{CpuNo}
 use Rattle.perf_base.specs.declared.numbers.EventNo.{EventNo}
@@ -19,15 +19,17 @@ use Rattle.perf_base.specs.declared.reasons.Reason.{Reason}
 use Rattle.perf_base.specs.declared.reply.Reply.{Reply}
 use Rattle.perf_base.specs.declared.reply.Reply.TheVariants as reply
 use Rattle.perf_base.specs.declared.reply.Sums.{Sums}
+use Rattle.perf_base.specs.declared.acts.Act.{Act}
+use Rattle.perf_base.specs.Scripts.{Scripted}
 use Rattle.stage_spec.specs.declared.instance.Instance.{Instance}
-use Rattle.stage_spec.specs.Hardware.{Hardware, mask_of}
+use Rattle.stage_spec.specs.Hardware.{Hardware, hardware_of, mask_of}
 use Rattle.stage_spec.specs.Stage.{Stage, Group, original_of, group_of, cpu_of}
 use Rattle.stage_spec.specs.Effective.{is_hardware}
 use Rattle.stage_spec.specs.Verdict.{may_count_on, is_counted_on, on_instances, standing_of}
 use Rattle.stage_spec.specs.Fits.{IsAssignment}
 use Rattle.stage_spec.specs.Opening.{context_of}
 use Rattle.stage_spec.specs.Reading.{state_in, read_words}
-use Rattle.stage_spec.specs.History.{Step, CpuStep, ToolStep, SeenStep, cpu_refusal, tool_refusal, stage_after}
+use Rattle.stage_spec.specs.History.{Step, CpuStep, ToolStep, SeenStep, cpu_refusal, tool_refusal, stage_after, history, opening_stage}
 use Rattle.stage_spec.specs.Families.{family_sums}
 
 -- the processor that a context is on, if it is on one
@@ -99,3 +101,14 @@ IsAnswerAt hw s sums lost (SeenStep ring place) r = r ≡ reply.Ok
 -- the answer to a step after some steps, the first of them at a stage, given how many records of each family were lost
 unfoldable pub IsReply : Hardware → Stage → List Step → (EventNo → ℕ) → Step → Reply → Type 0
 IsReply hw s before lost x r = IsAnswerAt hw (stage_after hw s before) (family_sums hw s before) lost x r
+
+-- The answers to steps, the first of them after some steps, given what was lost after each.
+unfoldable pub AreReplies : Hardware → Stage → (List Step → EventNo → ℕ) → (before steps : List Step) → List Reply → Type 0
+AreReplies hw s lost before [] [] = Unit {0}
+AreReplies hw s lost before [] (r ∷ replies) = ⊥
+AreReplies hw s lost before (x ∷ steps) [] = ⊥
+AreReplies hw s lost before (x ∷ steps) (r ∷ replies) = IsReply hw s before (lost before) x r × AreReplies hw s lost (before ++ x ∷ []) steps replies
+
+-- The answers to the acts of an order of a script.
+abbrev pub AnswerOrder : Scripted → (List Step → EventNo → ℕ) → List Act → List Reply → Type 0
+AnswerOrder s lost order replies = AreReplies (hardware_of s) (opening_stage s) lost [] (history s order) replies
