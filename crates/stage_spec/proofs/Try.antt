@@ -23,7 +23,7 @@ use Rattle.stage_spec.specs.Stage.{Stage, first_stage}
 use Rattle.stage_spec.specs.Fits.{fits, fits_beside, fits_below}
 use Rattle.stage_spec.specs.Tight.{tight_set, tight_after, shortest_unfit, unfit_after}
 use Rattle.stage_spec.specs.Verdict.{judge, judge_pass, judge_passes, verdicts}
-use Rattle.stage_spec.specs.Settle.{pinned_verdicts, settle, settle_each, settle_all}
+use Rattle.stage_spec.specs.Settle.{settle_pass, settle, settle_each, settle_all}
 use Rattle.stage_spec.specs.Opening.{open_refusal, opened}
 use Rattle.stage_spec.specs.Commands.{command_each, with_period}
 use Rattle.stage_spec.specs.Mapping.{mapped_to, output_to}
@@ -58,5 +58,5 @@ replies : List Reply
 replies = reply.Ok ∷ reply.Ok ∷ reply.Ok ∷ reply.Ok ∷ reply.Ok ∷ reply.Read (100 ∷ 20 ∷ 10 ∷ []) ∷ reply.Read (40 ∷ 20 ∷ 10 ∷ []) ∷ []
 
 row : AnswerOrder script (λ before e. 0) script.order replies
-unfolding script replies RunReplies first_stage fits fits_beside fits_below tight_set tight_after shortest_unfit unfit_after judge judge_pass judge_passes verdicts pinned_verdicts settle settle_each settle_all open_refusal opened command_each with_period mapped_to output_to closed switched rotated copy_group copy_groups forked exited read_words stage_step steps_from share why_of
+unfolding script replies RunReplies first_stage fits fits_beside fits_below tight_set tight_after shortest_unfit unfit_after judge judge_pass judge_passes verdicts settle_pass settle settle_each settle_all open_refusal opened command_each with_period mapped_to output_to closed switched rotated copy_group copy_groups forked exited read_words stage_step steps_from share why_of
 row = answers_of (hardware_of script) (opening_stage script) (history script script.order) replies (refl, (refl, (refl, (refl, (refl, (refl, (refl, tt)))))))
