@@ -1,3 +1,4 @@
 mod Running
-mod Try
+mod Settled
 mod Settling
+mod Try
