@@ -1,3 +1,6 @@
+mod Births
+mod Each
+mod Ids
 mod Running
 mod Settled
 mod Settling

@@ -143,7 +143,7 @@ going hw before within (g ∷ groups) = elim (stands_on (judge hw before within 
 ]
 
 -- one of two lists of groups
-abbrev either : Bool → List Group → List Group → List Group
+abbrev pub either : Bool → List Group → List Group → List Group
 either b here there = elim b [ true ↦ here | false ↦ there ]
 
 going-on : (hw : Hardware) (before within : List Judged) (g : Group) (groups : List Group) → stands_on (judge hw before within g) ≡ true

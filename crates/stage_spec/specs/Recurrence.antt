@@ -1,11 +1,12 @@
 -- What one more step adds to a history: to the stage, to the sums of an instance, to the folded sums of an event.
-use Rattle.std.specs.Prelude.{◌≡◌, ℕ, ◌+◌, Bool, true, false, ◌||◌, List, [], ◌∷◌, ◌++◌, if◌then◌else◌}
+use Rattle.std.specs.Prelude.{◌≡◌, ℕ, ◌+◌, ◌≤◌, Bool, true, false, ◌||◌, List, [], ◌∷◌, ◌++◌, if◌then◌else◌}
 use Rattle.std.proofs.Common.{arith, refl, sym, ap, ◌∙◌, append_assoc, append-nil}
 use Rattle.perf_base.specs.declared.numbers.EventNo.{EventNo}
+use Rattle.perf_base.specs.declared.numbers.TaskNo.{TaskNo}
 use Rattle.perf_base.specs.declared.reply.Sums.{Sums}
 use Rattle.stage_spec.specs.declared.instance.Instance.{Instance}
 use Rattle.stage_spec.specs.Hardware.{Hardware}
-use Rattle.stage_spec.specs.Stage.{Stage}
+use Rattle.stage_spec.specs.Stage.{Stage, first_stage}
 use Rattle.stage_spec.specs.History.{Step, stage_step, stage_after}
 use Rattle.stage_spec.specs.Shares.{share, no_sums}
 use Rattle.stage_spec.specs.Sums.{resets, is_reset_by, count_of, enabled_of, running_of, sums_of}
@@ -28,6 +29,11 @@ SumsLaw = (hw : Hardware) (s : Stage) (steps : List Step) (x : Step) (id : ℕ)
 abbrev pub FoldedLaw : Type 0
 FoldedLaw = (hw : Hardware) (s : Stage) (steps : List Step) (x : Step) (e : EventNo)
     → folded_of hw s (steps ++ x ∷ []) e ≡ plus (folded_of hw s steps e) (plus_each (λ i. sums_of hw s steps i.id) (leaving (stage_after hw s steps) x e))
+
+-- An instance begins with nothing: whatever id a step or a later one draws, nothing was counted under it until then.
+abbrev pub BirthLaw : Type 0
+BirthLaw = (hw : Hardware) (cpus : ℕ) (declared : List TaskNo) (steps : List Step) (x : Step) (id : ℕ)
+    → (stage_after hw (first_stage cpus declared) steps).next_id ≤ id → sums_of hw (first_stage cpus declared) (steps ++ x ∷ []) id ≡ no_sums
 
 pub stage_after-push : StageLaw
 unfolding stage_after
@@ -90,10 +96,10 @@ unfolding stage_after running_of
 running_of-push hw s [] x id = omega arith
 running_of-push hw s (y ∷ steps) x id = omega (arith, running_of-push hw (stage_step hw s y) steps x id)
 
-abbrev sums : ℕ → ℕ → ℕ → Sums
+abbrev pub sums : ℕ → ℕ → ℕ → Sums
 sums count enabled running = record { count = count; enabled = enabled; running = running }
 
-same_sums : (a b c d e f : ℕ) → a ≡ d → b ≡ e → c ≡ f → sums a b c ≡ sums d e f
+pub same_sums : (a b c d e f : ℕ) → a ≡ d → b ≡ e → c ≡ f → sums a b c ≡ sums d e f
 same_sums a b c d e f p q r = rw (p, q, r) refl
 
 after_reset-is : (reset : Bool) (a b c : ℕ) → after_reset reset (sums a b c) ≡ sums (taken_back reset a) b c
