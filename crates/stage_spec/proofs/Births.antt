@@ -1,6 +1,6 @@
 -- An instance gets nothing before its birth.
-use Rattle.std.specs.Prelude.{◌≡◌, ℕ, ◌+◌, ◌<◌, ◌≤◌, ◌==◌, Bool, true, false, not, List, [], ◌∷◌, ◌++◌, map, filter, find, flat_map, Option, Some, None, if◌then◌else◌}
-use Rattle.std.proofs.Common.{arith, refl, ap, sym, ◌∙◌}
+use Rattle.std.specs.Prelude.{◌≡◌, ℕ, ◌+◌, ◌≤◌, ◌==◌, Bool, true, false, List, [], ◌∷◌, ◌++◌, map, filter, flat_map, Option, Some, None, if◌then◌else◌}
+use Rattle.std.proofs.Common.{arith, refl, ap, ◌∙◌}
 use Rattle.std.proofs.lemmas.Bool.Decides.{nat_tests}
 use Rattle.perf_base.specs.declared.numbers.CpuNo.{CpuNo}
 use Rattle.perf_base.specs.declared.numbers.TaskNo.{TaskNo}
@@ -13,7 +13,7 @@ use Rattle.perf_base.specs.declared.reasons.Reason.{Reason}
 use Rattle.perf_base.specs.declared.reply.Sums.{Sums}
 use Rattle.stage_spec.specs.declared.instance.Instance.{Instance}
 use Rattle.stage_spec.specs.Hardware.{Hardware}
-use Rattle.stage_spec.specs.Stage.{Stage, Group, Lists, lists_of, task_on, first_stage}
+use Rattle.stage_spec.specs.Stage.{Stage, Group, lists_of, task_on, first_stage}
 use Rattle.stage_spec.specs.Effective.{is_ready, effective, leader_state, ready_members}
 use Rattle.stage_spec.specs.Verdict.{Judged, is_eligible, groups_on, judge, judge_pass, judge_passes, passes, task_lists, stands_on, verdicts, on_instances}
 use Rattle.stage_spec.specs.Settle.{settle_all}
@@ -27,7 +27,7 @@ use Rattle.stage_spec.specs.History.{Step, CpuStep, ToolStep, SeenStep, cpu_refu
 use Rattle.stage_spec.specs.Sums.{resets, is_reset_by, sums_of, count_of, enabled_of, running_of}
 use Rattle.stage_spec.specs.Recurrence.{after_reset, same_sums, sums_of-push, BirthLaw}
 use Rattle.stage_spec.specs.Shares.{of_instance, share, no_sums, ready_instances, work_hits, switch_hits, migration_hits, migration_share, switch_share, cpu_share, changes_task}
-use Rattle.stage_spec.proofs.Each.{Each, none-Each, cons-Each, append-Each, map-Each, filter-Each, flat_map-Each, InGroups, InLists, InStage}
+use Rattle.stage_spec.proofs.Each.{Each, none-Each, append-Each, map-Each, filter-Each, flat_map-Each, InGroups, InLists}
 use Rattle.stage_spec.proofs.Ids.{IdBelow, AllBelow, AllBelow-more, first_stage-below, lists_of-below, task_lists-below, settle_all-below, settle_all-ids, opened-ids, opened_all-below, command_each-below, with_period-below, mapped_to-below, output_to-below, closed-below, exited-below, switched-below, rotated-below, rotated-ids, forked-below, forked-ids}
 
 find_none : (f : Instance → ℕ) (id : ℕ) (xs : List Instance) → Each (IdBelow id) xs → of_instance f id xs ≡ 0
@@ -47,7 +47,7 @@ unfolding judge_pass Each
 judge_pass-below n hw before within [] h k = h
 judge_pass-below n hw before within (g ∷ groups) h k =
     judge_pass-below n hw before (within ++ record { group = g; standing = judge hw before within g } ∷ []) groups
-        (append-Each (JudgedBelow n) within (record { group = g; standing = judge hw before within g } ∷ []) h (k.0, tt)) k.1
+    (append-Each (JudgedBelow n) within (record { group = g; standing = judge hw before within g } ∷ []) h (k.0, tt)) k.1
 
 judge_passes-below : (n : ℕ) (hw : Hardware) (before : List Judged) (ps : List (List Group)) → Each (JudgedBelow n) before → Each (InGroups (IdBelow n)) ps
     → Each (JudgedBelow n) (judge_passes hw before ps)
@@ -55,7 +55,7 @@ unfolding judge_passes Each
 judge_passes-below n hw before [] h k = h
 judge_passes-below n hw before (pass ∷ rest) h k =
     judge_passes-below n hw (before ++ judge_pass hw before [] pass) rest
-        (append-Each (JudgedBelow n) before (judge_pass hw before [] pass) h (judge_pass-below n hw before [] pass (none-Each (JudgedBelow n)) k.0)) k.1
+    (append-Each (JudgedBelow n) before (judge_pass hw before [] pass) h (judge_pass-below n hw before [] pass (none-Each (JudgedBelow n)) k.0)) k.1
 
 passes-below : (n : ℕ) (s : Stage) (cpu : CpuNo) → AllBelow n s → Each (InGroups (IdBelow n)) (passes s cpu)
 unfolding Each
@@ -69,16 +69,16 @@ unfolding verdicts
 on_instances-below n hw s cpu h =
     let ps : List (List Group) = map (filter (is_eligible hw cpu)) (passes s cpu) in
     let all : Each (InGroups (IdBelow n)) ps =
-        map-Each (InGroups (IdBelow n)) (InGroups (IdBelow n)) (filter (is_eligible hw cpu)) (λ gs k. filter-Each (Each (IdBelow n)) (is_eligible hw cpu) gs k) (passes s cpu) (passes-below n s cpu h) in
+    map-Each (InGroups (IdBelow n)) (InGroups (IdBelow n)) (filter (is_eligible hw cpu)) (λ gs k. filter-Each (Each (IdBelow n)) (is_eligible hw cpu) gs k) (passes s cpu) (passes-below n s cpu h) in
     let js : Each (JudgedBelow n) (verdicts hw s cpu) = judge_passes-below n hw [] ps (none-Each (JudgedBelow n)) all in
     flat_map-Each (Each (IdBelow n)) (IdBelow n) (filter (λ i. is_ready i.own)) (λ g k. filter-Each (IdBelow n) (λ i. is_ready i.own) g k) (groups_on (verdicts hw s cpu))
-        (map-Each (JudgedBelow n) (Each (IdBelow n)) (λ j. j.group) (λ j k. k) (filter (λ j. stands_on j.standing) (verdicts hw s cpu))
-            (filter-Each (JudgedBelow n) (λ j. stands_on j.standing) (verdicts hw s cpu) js))
+    (map-Each (JudgedBelow n) (Each (IdBelow n)) (λ j. j.group) (λ j k. k) (filter (λ j. stands_on j.standing) (verdicts hw s cpu))
+    (filter-Each (JudgedBelow n) (λ j. stands_on j.standing) (verdicts hw s cpu) js))
 
 ready_instances-below : (n : ℕ) (s : Stage) (cpu : CpuNo) → AllBelow n s → Each (IdBelow n) (ready_instances s cpu)
 ready_instances-below n s cpu h =
     flat_map-Each (Each (IdBelow n)) (IdBelow n) ready_members (λ g k. filter-Each (IdBelow n) (λ i. is_ready (effective (leader_state g) i.own)) g k) (flat_map (λ pass. pass) (passes s cpu))
-        (flat_map-Each (InGroups (IdBelow n)) (Each (IdBelow n)) (λ pass. pass) (λ pass k. k) (passes s cpu) (passes-below n s cpu h))
+    (flat_map-Each (InGroups (IdBelow n)) (Each (IdBelow n)) (λ pass. pass) (λ pass k. k) (passes s cpu) (passes-below n s cpu h))
 
 -- the ids of a stage are drawn, and a step draws more
 record Grows (s t : Stage) : Type 0 where
@@ -162,14 +162,14 @@ cpu_share-none hw s cpu (cpu_line.Switch to) id h =
     let switches : of_instance switch_hits id (on_instances hw s cpu) ≡ 0 = find_none switch_hits id (on_instances hw s cpu) (on_instances-below id hw s cpu h) in
     let migrations : migration_share hw (is_migration s cpu to) after cpu id ≡ 0 = migration-none hw (is_migration s cpu to) after cpu id later in
     either_sums (changes_task (switch_refusal s cpu to) (is_running (task_on s cpu) to)) (switch_share hw s cpu to id)
-        (ap (λ n. record no_sums { count = n }) (omega (arith, switches, migrations)))
+    (ap (λ n. record no_sums { count = n }) (omega (arith, switches, migrations)))
 cpu_share-none hw s cpu (cpu_line.Work w) id h =
     let on : Each (IdBelow id) (on_instances hw s cpu) = on_instances-below id hw s cpu h in
     let count : of_instance (work_hits w) id (on_instances hw s cpu) ≡ 0 = find_none (work_hits w) id (on_instances hw s cpu) on in
     let enabled : of_instance (λ i. w.length) id (ready_instances s cpu) ≡ 0 = find_none (λ i. w.length) id (ready_instances s cpu) (ready_instances-below id s cpu h) in
     let running : of_instance (λ i. w.length) id (on_instances hw s cpu) ≡ 0 = find_none (λ i. w.length) id (on_instances hw s cpu) on in
     same_sums (of_instance (work_hits w) id (on_instances hw s cpu)) (of_instance (λ i. w.length) id (ready_instances s cpu)) (of_instance (λ i. w.length) id (on_instances hw s cpu)) 0 0 0
-        count enabled running
+    count enabled running
 cpu_share-none hw s cpu cpu_line.Tick id h = refl
 cpu_share-none hw s cpu (cpu_line.Fork child) id h = refl
 cpu_share-none hw s cpu cpu_line.Exit id h = refl
@@ -205,9 +205,9 @@ unborn hw s (x ∷ steps) id h low =
     let reset : Bool = is_reset_by hw next steps id in
     let count : (if reset then 0 else (share hw s x id).count) ≡ 0 = nothing reset (share hw s x id).count (ap (λ a. a.count) now) in
     same_sums ((if reset then 0 else (share hw s x id).count) + count_of hw next steps id) ((share hw s x id).enabled + enabled_of hw next steps id)
-        ((share hw s x id).running + running_of hw next steps id) 0 0 0
-        (omega (arith, count, ap (λ a. a.count) later)) (omega (arith, ap (λ a. a.enabled) now, ap (λ a. a.enabled) later))
-        (omega (arith, ap (λ a. a.running) now, ap (λ a. a.running) later))
+    ((share hw s x id).running + running_of hw next steps id) 0 0 0
+    (omega (arith, count, ap (λ a. a.count) later)) (omega (arith, ap (λ a. a.enabled) now, ap (λ a. a.enabled) later))
+    (omega (arith, ap (λ a. a.running) now, ap (λ a. a.running) later))
 
 reset-none : (b : Bool) → after_reset b no_sums ≡ no_sums
 reset-none true = refl

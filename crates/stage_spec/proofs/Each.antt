@@ -1,6 +1,5 @@
 -- What holds of each instance of a stage, through the changes of lists.
-use Rattle.std.specs.Prelude.{◌≡◌, ℕ, Bool, true, false, List, [], ◌∷◌, ◌++◌, map, filter, flat_map, replicate, zero, suc, slice_index_or, slice_set, cond}
-use Rattle.std.proofs.Common.{refl}
+use Rattle.std.specs.Prelude.{ℕ, Bool, true, false, List, [], ◌∷◌, ◌++◌, map, filter, flat_map, replicate, zero, suc, slice_index_or, slice_set, cond}
 use Rattle.stage_spec.specs.declared.instance.Instance.{Instance}
 use Rattle.stage_spec.specs.Stage.{Stage, Group, Lists, no_groups}
 

@@ -88,8 +88,8 @@ settle_pass-below n hw cpu before within (g ∷ groups) h =
     let v : Standing = judge hw before within g in
     let more : List Judged = within ++ judged g v ∷ [] in
     either-below n (is_eligible hw cpu g) (failed v g ∷ settle_pass hw cpu before more groups) (g ∷ settle_pass hw cpu before within groups)
-        (failed-below n v g h.0, settle_pass-below n hw cpu before more groups h.1)
-        (h.0, settle_pass-below n hw cpu before within groups h.1)
+    (failed-below n v g h.0, settle_pass-below n hw cpu before more groups h.1)
+    (h.0, settle_pass-below n hw cpu before within groups h.1)
 
 settle_lists-below : (n : ℕ) (hw : Hardware) (cpu : CpuNo) (before : List Judged) (l : Lists) → InLists (IdBelow n) l → InLists (IdBelow n) (settle_lists hw cpu before l)
 settle_lists-below n hw cpu before l h = record { in_pinned = settle_pass-below n hw cpu before [] l.pinned h.in_pinned; in_flexible = h.in_flexible }
@@ -102,7 +102,7 @@ settle-below : (n : ℕ) (hw : Hardware) (cpu : CpuNo) (s : Stage) → AllBelow 
 unfolding settle
 settle-below n hw cpu s h =
     settle_task-below n hw cpu (own_verdicts hw s cpu) (task_on s cpu) (change_context (context.Processor cpu) (settle_lists hw cpu []) s)
-        (change_context-below n (context.Processor cpu) (settle_lists hw cpu []) s (settle_lists-below n hw cpu []) h)
+    (change_context-below n (context.Processor cpu) (settle_lists hw cpu []) s (settle_lists-below n hw cpu []) h)
 
 settle_each-below : (n : ℕ) (hw : Hardware) (cpus : List CpuNo) (s : Stage) → AllBelow n s → AllBelow n (settle_each hw cpus s)
 unfolding settle_each
@@ -193,14 +193,14 @@ kept_group-below : (n : ℕ) (goes : Instance → Bool) (g : Group) → Each (Id
 kept_group-below n goes [] h = none-Each (Each (IdBelow n))
 kept_group-below n goes (leader ∷ siblings) h = either-below n (goes leader) [] ((leader ∷ filter (λ i. not (goes i)) siblings) ∷ []) (none-Each (Each (IdBelow n)))
     (cons-Each (Each (IdBelow n)) (leader ∷ filter (λ i. not (goes i)) siblings) []
-        (cons-Each (IdBelow n) leader (filter (λ i. not (goes i)) siblings) (head-Each (IdBelow n) leader siblings h)
-            (filter-Each (IdBelow n) (λ i. not (goes i)) siblings (tail-Each (IdBelow n) leader siblings h))) (none-Each (Each (IdBelow n))))
+    (cons-Each (IdBelow n) leader (filter (λ i. not (goes i)) siblings) (head-Each (IdBelow n) leader siblings h)
+    (filter-Each (IdBelow n) (λ i. not (goes i)) siblings (tail-Each (IdBelow n) leader siblings h))) (none-Each (Each (IdBelow n))))
 
 freed_groups-below : (n : ℕ) (goes : Instance → Bool) (g : Group) → Each (IdBelow n) g → InGroups (IdBelow n) (freed_groups goes g)
 freed_groups-below n goes [] h = none-Each (Each (IdBelow n))
 freed_groups-below n goes (leader ∷ siblings) h = either-below n (goes leader) (map (λ i. i ∷ []) (filter (λ i. not (goes i)) siblings)) []
     (map-Each (IdBelow n) (Each (IdBelow n)) (λ i. i ∷ []) (λ i k. cons-Each (IdBelow n) i [] k (none-Each (IdBelow n))) (filter (λ i. not (goes i)) siblings)
-        (filter-Each (IdBelow n) (λ i. not (goes i)) siblings (tail-Each (IdBelow n) leader siblings h))) (none-Each (Each (IdBelow n)))
+    (filter-Each (IdBelow n) (λ i. not (goes i)) siblings (tail-Each (IdBelow n) leader siblings h))) (none-Each (Each (IdBelow n)))
 
 without-below : (n : ℕ) (goes : Instance → Bool) (l : Lists) → InLists (IdBelow n) l → InLists (IdBelow n) (without goes l)
 without-below n goes l h = record {
@@ -208,7 +208,7 @@ without-below n goes l h = record {
   in_flexible = append-Each (Each (IdBelow n)) (flat_map (kept_group goes) l.flexible) (flat_map (freed_groups goes) (l.pinned ++ l.flexible))
       (flat_map-Each (Each (IdBelow n)) (Each (IdBelow n)) (kept_group goes) (kept_group-below n goes) l.flexible h.in_flexible)
       (flat_map-Each (Each (IdBelow n)) (Each (IdBelow n)) (freed_groups goes) (freed_groups-below n goes) (l.pinned ++ l.flexible)
-          (append-Each (Each (IdBelow n)) l.pinned l.flexible h.in_pinned h.in_flexible));
+      (append-Each (Each (IdBelow n)) l.pinned l.flexible h.in_pinned h.in_flexible));
 }
 
 pub closed-below : (n : ℕ) (e : EventNo) (s : Stage) → AllBelow n s → AllBelow n (closed e s)

@@ -4,4 +4,3 @@ mod Ids
 mod Running
 mod Settled
 mod Settling
-mod Try

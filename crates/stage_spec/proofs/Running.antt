@@ -1,16 +1,15 @@
 -- What a history leaves, kept step by step: the stage, what each instance has counted, and the folded sums.
-use Rattle.std.specs.Prelude.{◌≡◌, ℕ, Bool, List, [], ◌∷◌, ◌++◌, filter}
+use Rattle.std.specs.Prelude.{◌≡◌, ℕ, List, [], ◌∷◌, ◌++◌, filter}
 use Rattle.std.proofs.Common.{refl, sym, ap, ◌∙◌}
 use Rattle.std.proofs.Math.Path.{fun_ext}
 use Rattle.perf_base.specs.declared.numbers.EventNo.{EventNo}
 use Rattle.perf_base.specs.declared.reply.Reply.{Reply}
 use Rattle.perf_base.specs.declared.reply.Sums.{Sums}
-use Rattle.stage_spec.specs.declared.instance.Instance.{Instance}
 use Rattle.stage_spec.specs.Hardware.{Hardware}
 use Rattle.stage_spec.specs.Stage.{Stage, all_instances, is_of_family}
 use Rattle.stage_spec.specs.History.{Step, stage_step, stage_after}
 use Rattle.stage_spec.specs.Shares.{share, no_sums}
-use Rattle.stage_spec.specs.Sums.{resets, sums_of, is_reset_by, count_of, enabled_of, running_of}
+use Rattle.stage_spec.specs.Sums.{resets, sums_of, count_of, enabled_of, running_of}
 use Rattle.stage_spec.specs.Families.{plus, plus_each, leaving, folded_of, folded_from, family_sums}
 use Rattle.stage_spec.specs.Recurrence.{after_reset, stage_after-push, sums_of-push, folded_of-push}
 use Rattle.stage_spec.specs.Replies.{IsAnswerAt, IsReply, AreReplies}

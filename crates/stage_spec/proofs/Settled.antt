@@ -1,5 +1,5 @@
 -- The laws of settling, of a processor.
-use Rattle.std.specs.Prelude.{◌≡◌, ℕ, ◌+◌, ◌<◌, Bool, true, false, List, [], ◌∷◌, ◌++◌, length, map, filter, take, drop, Option, Some, None, slice_index_or, slice_set}
+use Rattle.std.specs.Prelude.{◌≡◌, ◌+◌, ◌<◌, Bool, List, [], ◌∷◌, ◌++◌, length, map, filter, drop, Option, Some, None, slice_index_or}
 use Rattle.std.proofs.Common.{arith, refl, sym, ap, ◌∙◌, inl, inr, append_assoc, get_or, set, get_or-set_same, get_or-set_other}
 use Rattle.std.proofs.lemmas.Bool.{cases_lt}
 use Rattle.std.proofs.lemmas.List.{set-get_or, get_or_past}
@@ -12,7 +12,7 @@ use Rattle.perf_base.specs.declared.standing.Context.TheVariants as context
 use Rattle.stage_spec.specs.Hardware.{Hardware}
 use Rattle.stage_spec.specs.Stage.{Stage, Group, Lists, lists_of, no_groups, place_of, task_on, change_context}
 use Rattle.stage_spec.specs.Verdict.{Judged, is_eligible, groups_on, judge_pass, judge_passes, passes, task_lists, stands_on, verdicts}
-use Rattle.stage_spec.specs.Settle.{settle_pass, settle_lists, settle_task, own_verdicts, settle, IsSettled, pinned_verdicts, flexible_verdicts, SettleLaw, SettledVerdictsLaw, VerdictsLaw}
+use Rattle.stage_spec.specs.Settle.{settle_pass, settle_lists, settle_task, own_verdicts, settle, SettleLaw, SettledVerdictsLaw, VerdictsLaw}
 use Rattle.stage_spec.proofs.Settling.{kept, going, groups_on-append, groups_on-kept, judge_pass-kept, judge_pass-same, eligible-settled, settle_pass-again}
 
 -- four passes, of which the first two are settled
@@ -21,7 +21,7 @@ four a b c d = a ∷ b ∷ c ∷ d ∷ []
 
 passes-settled : (hw : Hardware) (a b c d : List Group)
     → judge_passes hw [] (four (going hw [] [] a) (going hw (judge_pass hw [] [] a) [] b) c d)
-        ≡ kept (judge_passes hw [] (a ∷ b ∷ [])) ++ drop (length (judge_passes hw [] (a ∷ b ∷ []))) (judge_passes hw [] (four a b c d))
+    ≡ kept (judge_passes hw [] (a ∷ b ∷ [])) ++ drop (length (judge_passes hw [] (a ∷ b ∷ []))) (judge_passes hw [] (four a b c d))
 unfolding judge_passes
 passes-settled hw a b c d =
     let one : List Judged = judge_pass hw [] [] a in
@@ -30,17 +30,17 @@ passes-settled hw a b c d =
     let last : List Judged = judge_pass hw ((one ++ two) ++ three) [] d in
     let same_one : groups_on one ≡ groups_on (kept one) = sym (groups_on-kept one) in
     let same_two : groups_on (one ++ two) ≡ groups_on (kept one ++ kept two) =
-        groups_on-append one two ∙ (rw (← groups_on-kept one, ← groups_on-kept two) (sym (groups_on-append (kept one) (kept two)))) in
+    groups_on-append one two ∙ (rw (← groups_on-kept one, ← groups_on-kept two) (sym (groups_on-append (kept one) (kept two)))) in
     let same_three : groups_on ((one ++ two) ++ three) ≡ groups_on ((kept one ++ kept two) ++ three) =
-        groups_on-append (one ++ two) three ∙ (ap (λ gs. gs ++ groups_on three) same_two ∙ sym (groups_on-append (kept one ++ kept two) three)) in
+    groups_on-append (one ++ two) three ∙ (ap (λ gs. gs ++ groups_on three) same_two ∙ sym (groups_on-append (kept one ++ kept two) three)) in
     let first : judge_pass hw [] [] (going hw [] [] a) ≡ kept one = judge_pass-kept hw [] [] [] a refl in
     let second : judge_pass hw (kept one) [] (going hw one [] b) ≡ kept two = judge_pass-kept hw one (kept one) [] b same_one in
     let third : judge_pass hw (kept one ++ kept two) [] c ≡ three = judge_pass-same hw (one ++ two) (kept one ++ kept two) [] c same_two in
     let fourth : judge_pass hw ((kept one ++ kept two) ++ three) [] d ≡ last = judge_pass-same hw ((one ++ two) ++ three) ((kept one ++ kept two) ++ three) [] d same_three in
     let left : judge_passes hw [] (four (going hw [] [] a) (going hw one [] b) c d) ≡ ((kept one ++ kept two) ++ three) ++ last =
-        rw (first, second, third, fourth) refl in
+    rw (first, second, third, fourth) refl in
     let rest : drop (length (one ++ two)) (((one ++ two) ++ three) ++ last) ≡ three ++ last =
-        ap (drop (length (one ++ two))) (append_assoc (one ++ two) three last) ∙ drop-append_seam (one ++ two) (three ++ last) in
+    ap (drop (length (one ++ two))) (append_assoc (one ++ two) three last) ∙ drop-append_seam (one ++ two) (three ++ last) in
     let both : kept (one ++ two) ≡ kept one ++ kept two = filter-append (λ j. stands_on j.standing) one two in
     left ∙ (append_assoc (kept one ++ kept two) three last ∙ (rw (both, rest) refl))
 
@@ -97,8 +97,8 @@ is_settled_from hw cpu s low = settled-from hw cpu s (own_verdicts hw s cpu) (ta
 
 passes-are : (hw : Hardware) (cpu : CpuNo) (s : Stage) → cpu.0 < 8
     → passes (settle hw cpu s) cpu
-        ≡ four (settle_pass hw cpu [] [] (lists_of s (context.Processor cpu)).pinned) (settle_pass hw cpu (own_verdicts hw s cpu) [] (task_lists s (task_on s cpu)).pinned)
-            (lists_of s (context.Processor cpu)).flexible (task_lists s (task_on s cpu)).flexible
+    ≡ four (settle_pass hw cpu [] [] (lists_of s (context.Processor cpu)).pinned) (settle_pass hw cpu (own_verdicts hw s cpu) [] (task_lists s (task_on s cpu)).pinned)
+    (lists_of s (context.Processor cpu)).flexible (task_lists s (task_on s cpu)).flexible
 passes-are hw cpu s low =
     let h : IsSettledFrom hw cpu s (own_verdicts hw s cpu) (task_on s cpu) (settle hw cpu s) = is_settled_from hw cpu s low in
     let same : task_on (settle hw cpu s) cpu ≡ task_on s cpu = ap (λ running. slice_index_or running cpu.0 None) h.running in
@@ -116,8 +116,8 @@ settled_verdicts hw cpu s low =
     let all : List (List Group) → List Judged = λ ps. judge_passes hw [] (map (filter test) ps) in
     let now : List Group → List Group → List Judged = λ a b. judge_passes hw [] (four a b (filter test own.flexible) (filter test task.flexible)) in
     ap all (passes-are hw cpu s low)
-        ∙ (ap (λ a. now a (filter test (settle_pass hw cpu one [] task.pinned))) first ∙ (ap (now (going hw [] [] (filter test own.pinned))) second
-            ∙ passes-settled hw (filter test own.pinned) (filter test task.pinned) (filter test own.flexible) (filter test task.flexible)))
+    ∙ (ap (λ a. now a (filter test (settle_pass hw cpu one [] task.pinned))) first ∙ (ap (now (going hw [] [] (filter test own.pinned))) second
+    ∙ passes-settled hw (filter test own.pinned) (filter test task.pinned) (filter test own.flexible) (filter test task.flexible)))
 
 -- the task's pass, settled, stays when it is settled again
 task-again : (hw : Hardware) (cpu : CpuNo) (before others : List Judged) (to : Option TaskNo) (s t : Stage) → groups_on before ≡ groups_on others
@@ -125,8 +125,8 @@ task-again : (hw : Hardware) (cpu : CpuNo) (before others : List Judged) (to : O
 task-again hw cpu before others None s t same h = refl
 task-again hw cpu before others (Some task) s t same h =
     change_context-none (context.Task task) (settle_lists hw cpu others) t
-        (rw h (ap (λ pinned. record { pinned = pinned; flexible = (task_lists s (Some task)).flexible })
-            (settle_pass-again hw cpu before others [] (task_lists s (Some task)).pinned same)))
+    (rw h (ap (λ pinned. record { pinned = pinned; flexible = (task_lists s (Some task)).flexible })
+    (settle_pass-again hw cpu before others [] (task_lists s (Some task)).pinned same)))
 
 pub settles_once : SettleLaw
 unfolding settle
@@ -139,14 +139,14 @@ settles_once hw cpu s low =
     let running : task_on t cpu ≡ task_on s cpu = ap (λ running. slice_index_or running cpu.0 None) h.running in
     let first : filter test (settle_pass hw cpu [] [] own.pinned) ≡ going hw [] [] (filter test own.pinned) = eligible-settled hw cpu [] [] own.pinned in
     let verdicts_now : own_verdicts hw t cpu ≡ kept one =
-        ap (λ l. judge_pass hw [] [] (filter test l.pinned)) h.own
-            ∙ (ap (judge_pass hw [] []) first ∙ judge_pass-kept hw [] [] [] (filter test own.pinned) refl) in
+    ap (λ l. judge_pass hw [] [] (filter test l.pinned)) h.own
+    ∙ (ap (judge_pass hw [] []) first ∙ judge_pass-kept hw [] [] [] (filter test own.pinned) refl) in
     let own_again : own_settled hw cpu t ≡ t =
-        change_context-none (context.Processor cpu) (settle_lists hw cpu []) t
-            (rw h.own (ap (λ pinned. record { pinned = pinned; flexible = own.flexible }) (settle_pass-again hw cpu [] [] [] own.pinned refl))) in
+    change_context-none (context.Processor cpu) (settle_lists hw cpu []) t
+    (rw h.own (ap (λ pinned. record { pinned = pinned; flexible = own.flexible }) (settle_pass-again hw cpu [] [] [] own.pinned refl))) in
     let as_before : settle_task hw cpu (own_verdicts hw t cpu) (task_on t cpu) (own_settled hw cpu t) ≡ settle_task hw cpu (kept one) (task_on s cpu) t =
-        ap (λ js. settle_task hw cpu js (task_on t cpu) (own_settled hw cpu t)) verdicts_now
-            ∙ (ap (λ to. settle_task hw cpu (kept one) to (own_settled hw cpu t)) running ∙ ap (settle_task hw cpu (kept one) (task_on s cpu)) own_again) in
+    ap (λ js. settle_task hw cpu js (task_on t cpu) (own_settled hw cpu t)) verdicts_now
+    ∙ (ap (λ to. settle_task hw cpu (kept one) to (own_settled hw cpu t)) running ∙ ap (settle_task hw cpu (kept one) (task_on s cpu)) own_again) in
     as_before ∙ task-again hw cpu one (kept one) (task_on s cpu) s t (sym (groups_on-kept one)) h.task
 
 pub verdicts_by_eligible : VerdictsLaw

@@ -1,10 +1,9 @@
 -- Settling a pass: the groups that stay are on as before, and the others are no longer eligible.
-use Rattle.std.specs.Prelude.{◌≡◌, ℕ, Bool, true, false, not, List, [], ◌∷◌, ◌++◌, length, map, filter, find, drop, flat_map, Option, Some, None, option_map}
-use Rattle.std.proofs.Common.{refl, sym, ap, ◌∙◌, inl, inr, append_assoc, append-nil}
+use Rattle.std.specs.Prelude.{◌≡◌, ℕ, Bool, true, false, not, List, [], ◌∷◌, ◌++◌, map, filter, flat_map, Option, Some, None}
+use Rattle.std.proofs.Common.{refl, sym, ap, ◌∙◌, inl, inr, append-nil}
 use Rattle.std.proofs.lemmas.Bool.{cases_Bool, false≢true}
 use Rattle.std.proofs.lemmas.List.{map-append}
 use Rattle.std.proofs.lemmas.List.Elements.{filter-append}
-use Rattle.std.proofs.Math.Seq.{drop-append_seam}
 use Rattle.perf_base.specs.declared.numbers.CpuNo.{CpuNo}
 use Rattle.perf_base.specs.declared.numbers.EventNo.{EventNo}
 use Rattle.perf_base.specs.declared.standing.Cause.TheVariants as cause
@@ -16,7 +15,7 @@ use Rattle.stage_spec.specs.Effective.{is_wholly_software, is_exclusive_group, c
 use Rattle.stage_spec.specs.Rules.{refusal_of}
 use Rattle.stage_spec.specs.Fits.{fits}
 use Rattle.stage_spec.specs.Tight.{masks_of, tight_set, shortest_unfit}
-use Rattle.stage_spec.specs.Verdict.{Judged, is_eligible, groups_on, first_named, first_refused, with_masks, by_counters, judge, judge_pass, judge_passes, stands_on, stands_refused}
+use Rattle.stage_spec.specs.Verdict.{Judged, is_eligible, groups_on, first_named, first_refused, with_masks, by_counters, judge, judge_pass, stands_on, stands_refused}
 use Rattle.stage_spec.specs.Settle.{failed, settle_pass}
 
 abbrev pub judged : Group → Standing → Judged
@@ -54,15 +53,15 @@ abbrev judge_by : (software exclusive : Bool) (exclusive_on first_on refused : O
 judge_by software exclusive exclusive_on first_on refused events = elim software [
   | true ↦ standing.On
   | false ↦ elim (refusal_of false exclusive exclusive_on first_on refused) [
-      | Some rule ↦ standing.Refused (cause.Rule rule)
-      | None ↦ by_counters events
-    ]
+    | Some rule ↦ standing.Refused (cause.Rule rule)
+    | None ↦ by_counters events
+  ]
 ]
 
 judge-is : (hw : Hardware) (before within : List Judged) (g : Group) → judge hw before within g
     ≡ judge_by (is_wholly_software g) (is_exclusive_group g) (first_named is_exclusive_group (groups_on (before ++ within)))
-        (first_named (λ h. not (is_wholly_software h)) (groups_on (before ++ within))) (first_refused within)
-        (with_masks hw (flat_map counted_members (groups_on (before ++ within)) ++ counted_members g))
+    (first_named (λ h. not (is_wholly_software h)) (groups_on (before ++ within))) (first_refused within)
+    (with_masks hw (flat_map counted_members (groups_on (before ++ within)) ++ counted_members g))
 unfolding judge
 judge-is hw before within g = refl
 
@@ -107,7 +106,7 @@ is_refused false false None f None events h = counters_decide (fits (masks_of ev
 same_on : (before others within : List Judged) → groups_on before ≡ groups_on others → groups_on (others ++ kept within) ≡ groups_on (before ++ within)
 same_on before others within h =
     groups_on-append others (kept within)
-        ∙ (ap (λ gs. groups_on others ++ gs) (groups_on-kept within) ∙ (ap (λ gs. gs ++ groups_on within) (sym h) ∙ sym (groups_on-append before within)))
+    ∙ (ap (λ gs. groups_on others ++ gs) (groups_on-kept within) ∙ (ap (λ gs. gs ++ groups_on within) (sym h) ∙ sym (groups_on-append before within)))
 
 -- a group that is on is on also where the refused ones are not there
 judge-kept : (hw : Hardware) (before others within : List Judged) (g : Group) → groups_on before ≡ groups_on others
@@ -119,20 +118,20 @@ judge-kept hw before others within g h on =
     let events : List (EventNo × ℕ) = with_masks hw (flat_map counted_members gs ++ counted_members g) in
     let was_on : stands_on (judge_by (is_wholly_software g) (is_exclusive_group g) e f (first_refused within) events) ≡ true = ap stands_on (sym (judge-is hw before within g)) ∙ on in
     judge-is hw others (kept within) g
-        ∙ (rw (same_on before others within h, none_refused within) (goes_on (is_wholly_software g) (is_exclusive_group g) e f (first_refused within) events was_on))
+    ∙ (rw (same_on before others within h, none_refused within) (goes_on (is_wholly_software g) (is_exclusive_group g) e f (first_refused within) events was_on))
 
 judge-same : (hw : Hardware) (before others within : List Judged) (g : Group) → groups_on before ≡ groups_on others → judge hw others within g ≡ judge hw before within g
 judge-same hw before others within g h =
     let same : groups_on (others ++ within) ≡ groups_on (before ++ within) =
-        groups_on-append others within ∙ (ap (λ gs. gs ++ groups_on within) (sym h) ∙ sym (groups_on-append before within)) in
+    groups_on-append others within ∙ (ap (λ gs. gs ++ groups_on within) (sym h) ∙ sym (groups_on-append before within)) in
     judge-is hw others within g ∙ (rw same (sym (judge-is hw before within g)))
 
 refused_if_not_on : (hw : Hardware) (before within : List Judged) (g : Group) → stands_on (judge hw before within g) ≡ false → stands_refused (judge hw before within g) ≡ true
 refused_if_not_on hw before within g h =
     let gs : List Group = groups_on (before ++ within) in
     rw (judge-is hw before within g) (is_refused (is_wholly_software g) (is_exclusive_group g) (first_named is_exclusive_group gs)
-        (first_named (λ h. not (is_wholly_software h)) gs) (first_refused within) (with_masks hw (flat_map counted_members gs ++ counted_members g))
-        (ap stands_on (sym (judge-is hw before within g)) ∙ h))
+    (first_named (λ h. not (is_wholly_software h)) gs) (first_refused within) (with_masks hw (flat_map counted_members gs ++ counted_members g))
+    (ap stands_on (sym (judge-is hw before within g)) ∙ h))
 
 -- the groups of a pass that go on
 unfoldable pub going : Hardware → (before within : List Judged) → List Group → List Group
@@ -162,18 +161,18 @@ going-off hw before within g groups e =
 
 settle_pass-here : (hw : Hardware) (cpu : CpuNo) (before within : List Judged) (g : Group) (groups : List Group) → is_eligible hw cpu g ≡ true
     → settle_pass hw cpu before within (g ∷ groups)
-        ≡ failed (judge hw before within g) g ∷ settle_pass hw cpu before (within ++ judged g (judge hw before within g) ∷ []) groups
+    ≡ failed (judge hw before within g) g ∷ settle_pass hw cpu before (within ++ judged g (judge hw before within g) ∷ []) groups
 unfolding settle_pass
 settle_pass-here hw cpu before within g groups e =
     ap (λ b. either b (failed (judge hw before within g) g ∷ settle_pass hw cpu before (within ++ judged g (judge hw before within g) ∷ []) groups)
-        (g ∷ settle_pass hw cpu before within groups)) e
+    (g ∷ settle_pass hw cpu before within groups)) e
 
 settle_pass-away : (hw : Hardware) (cpu : CpuNo) (before within : List Judged) (g : Group) (groups : List Group) → is_eligible hw cpu g ≡ false
     → settle_pass hw cpu before within (g ∷ groups) ≡ g ∷ settle_pass hw cpu before within groups
 unfolding settle_pass
 settle_pass-away hw cpu before within g groups e =
     ap (λ b. either b (failed (judge hw before within g) g ∷ settle_pass hw cpu before (within ++ judged g (judge hw before within g) ∷ []) groups)
-        (g ∷ settle_pass hw cpu before within groups)) e
+    (g ∷ settle_pass hw cpu before within groups)) e
 
 filter-yes : {X : Type 0} (p : X → Bool) (x : X) (xs : List X) → p x ≡ true → filter p (x ∷ xs) ≡ x ∷ filter p xs
 filter-yes p x xs e = rw e refl
@@ -196,11 +195,11 @@ judge_pass-kept hw before others within (g ∷ groups) h =
     let v : Standing = judge hw before within g in
     let left : List Group = going hw before (within ++ judged g v ∷ []) groups in
     let rest : judge_pass hw others (kept (within ++ judged g v ∷ [])) (going hw before (within ++ judged g v ∷ []) groups) ≡ kept (judge_pass hw before (within ++ judged g v ∷ []) groups) =
-        judge_pass-kept hw before others (within ++ judged g v ∷ []) groups h in
+    judge_pass-kept hw before others (within ++ judged g v ∷ []) groups h in
     elim (cases_Bool (stands_on v)) [
       | inl e ↦ rw (going-on hw before within g groups e)
           (ap (λ u. judge_pass hw others (kept within ++ judged g u ∷ []) left) (judge-kept hw before others within g h e)
-              ∙ (ap (λ js. judge_pass hw others js left) (kept-on within g v e) ∙ rest))
+          ∙ (ap (λ js. judge_pass hw others js left) (kept-on within g v e) ∙ rest))
       | inr e ↦ rw (going-off hw before within g groups e, kept-off within g v e) rest
     ]
 
@@ -235,11 +234,11 @@ eligible-settled hw cpu before within (g ∷ groups) =
       | inr away ↦ rw (settle_pass-away hw cpu before within g groups away, filter-no test g groups away)
           (filter-no test g (settle_pass hw cpu before within groups) away ∙ eligible-settled hw cpu before within groups)
       | inl here ↦ elim (cases_Bool (stands_on v)) [
-          | inl on ↦ rw (settle_pass-here hw cpu before within g groups here, filter-yes test g groups here, going-on hw before within g (filter test groups) on, failed-on v g on)
-              (filter-yes test g (settle_pass hw cpu before more groups) here ∙ ap (λ gs. g ∷ gs) rest)
-          | inr off ↦ rw (settle_pass-here hw cpu before within g groups here, filter-yes test g groups here, going-off hw before within g (filter test groups) off)
-              (filter-no test (failed v g) (settle_pass hw cpu before more groups) (failed_stays hw cpu v g (refused_if_not_on hw before within g off)) ∙ rest)
-        ]
+        | inl on ↦ rw (settle_pass-here hw cpu before within g groups here, filter-yes test g groups here, going-on hw before within g (filter test groups) on, failed-on v g on)
+            (filter-yes test g (settle_pass hw cpu before more groups) here ∙ ap (λ gs. g ∷ gs) rest)
+        | inr off ↦ rw (settle_pass-here hw cpu before within g groups here, filter-yes test g groups here, going-off hw before within g (filter test groups) off)
+            (filter-no test (failed v g) (settle_pass hw cpu before more groups) (failed_stays hw cpu v g (refused_if_not_on hw before within g off)) ∙ rest)
+      ]
     ]
 
 -- settling a pass again changes nothing
@@ -255,13 +254,13 @@ settle_pass-again hw cpu before others within (g ∷ groups) h =
     elim (cases_Bool (is_eligible hw cpu g)) [
       | inr away ↦ rw (settle_pass-away hw cpu before within g groups away)
           (settle_pass-away hw cpu others (kept within) g (settle_pass hw cpu before within groups) away
-              ∙ ap (λ gs. g ∷ gs) (settle_pass-again hw cpu before others within groups h))
+          ∙ ap (λ gs. g ∷ gs) (settle_pass-again hw cpu before others within groups h))
       | inl here ↦ elim (cases_Bool (stands_on v)) [
-          | inl on ↦ rw (settle_pass-here hw cpu before within g groups here, failed-on v g on)
-              (settle_pass-here hw cpu others (kept within) g done here
-                  ∙ (rw (judge-kept hw before others within g h on, kept-on within g v on) (ap (λ gs. g ∷ gs) rest)))
-          | inr off ↦ rw (settle_pass-here hw cpu before within g groups here)
-              (settle_pass-away hw cpu others (kept within) (failed v g) done (failed_stays hw cpu v g (refused_if_not_on hw before within g off))
-                  ∙ (rw (kept-off within g v off) (ap (λ gs. failed v g ∷ gs) rest)))
-        ]
+        | inl on ↦ rw (settle_pass-here hw cpu before within g groups here, failed-on v g on)
+            (settle_pass-here hw cpu others (kept within) g done here
+            ∙ (rw (judge-kept hw before others within g h on, kept-on within g v on) (ap (λ gs. g ∷ gs) rest)))
+        | inr off ↦ rw (settle_pass-here hw cpu before within g groups here)
+            (settle_pass-away hw cpu others (kept within) (failed v g) done (failed_stays hw cpu v g (refused_if_not_on hw before within g off))
+            ∙ (rw (kept-off within g v off) (ap (λ gs. failed v g ∷ gs) rest)))
+      ]
     ]

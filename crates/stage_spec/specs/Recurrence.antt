@@ -4,7 +4,6 @@ use Rattle.std.proofs.Common.{arith, refl, sym, ap, ◌∙◌, append_assoc, app
 use Rattle.perf_base.specs.declared.numbers.EventNo.{EventNo}
 use Rattle.perf_base.specs.declared.numbers.TaskNo.{TaskNo}
 use Rattle.perf_base.specs.declared.reply.Sums.{Sums}
-use Rattle.stage_spec.specs.declared.instance.Instance.{Instance}
 use Rattle.stage_spec.specs.Hardware.{Hardware}
 use Rattle.stage_spec.specs.Stage.{Stage, first_stage}
 use Rattle.stage_spec.specs.History.{Step, stage_step, stage_after}
@@ -55,7 +54,7 @@ unfolding stage_after is_reset_by
 is_reset_by-push hw s [] x id = or-false (resets s x id)
 is_reset_by-push hw s (y ∷ steps) x id =
     ap (λ b. resets s y id || b) (is_reset_by-push hw (stage_step hw s y) steps x id)
-        ∙ or-assoc (resets s y id) (is_reset_by hw (stage_step hw s y) steps id) (resets (stage_after hw (stage_step hw s y) steps) x id)
+    ∙ or-assoc (resets s y id) (is_reset_by hw (stage_step hw s y) steps id) (resets (stage_after hw (stage_step hw s y) steps) x id)
 
 -- a count that a reset takes back
 abbrev taken_back : Bool → ℕ → ℕ
@@ -112,9 +111,9 @@ sums_of-push hw s steps x id =
     let last : Stage = stage_after hw s steps in
     rw (after_reset-is (resets last x id) (count_of hw s steps id) (enabled_of hw s steps id) (running_of hw s steps id))
     (same_sums (count_of hw s (steps ++ x ∷ []) id) (enabled_of hw s (steps ++ x ∷ []) id) (running_of hw s (steps ++ x ∷ []) id)
-        (taken_back (resets last x id) (count_of hw s steps id) + (share hw last x id).count)
-        (enabled_of hw s steps id + (share hw last x id).enabled) (running_of hw s steps id + (share hw last x id).running)
-        (count_of-push hw s steps x id) (enabled_of-push hw s steps x id) (running_of-push hw s steps x id))
+    (taken_back (resets last x id) (count_of hw s steps id) + (share hw last x id).count)
+    (enabled_of hw s steps id + (share hw last x id).enabled) (running_of hw s steps id + (share hw last x id).running)
+    (count_of-push hw s steps x id) (enabled_of-push hw s steps x id) (running_of-push hw s steps x id))
 
 pub plus-assoc : (a b c : Sums) → plus (plus a b) c ≡ plus a (plus b c)
 plus-assoc a b c = same_sums (a.count + b.count + c.count) (a.enabled + b.enabled + c.enabled) (a.running + b.running + c.running)
@@ -137,9 +136,9 @@ folded_from-push hw s e before [] x = rw append-nil (plus-none (gone hw s before
 folded_from-push hw s e before (y ∷ steps) x =
     let regrouped : (before ++ y ∷ []) ++ steps ≡ before ++ y ∷ steps = append_assoc before (y ∷ []) steps in
     let rest : folded_from hw s e (before ++ y ∷ []) (steps ++ x ∷ []) ≡ plus (folded_from hw s e (before ++ y ∷ []) steps) (gone hw s ((before ++ y ∷ []) ++ steps) x e) =
-        folded_from-push hw s e (before ++ y ∷ []) steps x in
+    folded_from-push hw s e (before ++ y ∷ []) steps x in
     ap (λ f. plus (gone hw s before y e) f) (rest ∙ ap (λ done. plus (folded_from hw s e (before ++ y ∷ []) steps) (gone hw s done x e)) regrouped)
-        ∙ sym (plus-assoc (gone hw s before y e) (folded_from hw s e (before ++ y ∷ []) steps) (gone hw s (before ++ y ∷ steps) x e))
+    ∙ sym (plus-assoc (gone hw s before y e) (folded_from hw s e (before ++ y ∷ []) steps) (gone hw s (before ++ y ∷ steps) x e))
 
 pub folded_of-push : FoldedLaw
 unfolding folded_of
