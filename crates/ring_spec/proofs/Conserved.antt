@@ -1,0 +1,63 @@
+-- Records are conserved: those sent are written or lost, those lost are told or pending.
+use Rattle.std.specs.Prelude.{◌≡◌, ℕ, ◌+◌, ◌-◌, ◌==◌, nat_le, Bool, true, false, List, [], ◌∷◌, ◌++◌, map, fold, length, sum, sum_by, count_by, cond, if◌then◌else◌}
+use Rattle.std.proofs.Common.{arith, refl, sym, ap, ◌∙◌, inl, inr, zero, suc}
+use Rattle.std.proofs.lemmas.Bool.{cases_Bool}
+use Rattle.std.proofs.lemmas.List.{length_push}
+use Rattle.std.proofs.lemmas.List.Sums.{sum_by-append, sum_by-cons}
+use Rattle.ring_spec.specs.Records.{Record, Sample, Lost}
+use Rattle.ring_spec.specs.Sending.{Sent}
+use Rattle.ring_spec.specs.Account.{RingEvent, Sends, Looks, Account, account, empty_account, send, ring_step, told_before, records_for, sample_of, written_to, lost_to, need_of, room_of, is_sent, is_sample, losses_in, SentLaw, ToldLaw}
+
+samples : Account → ℕ
+samples a = count_by is_sample a.written
+
+told : Account → ℕ
+told a = sum_by losses_in a.written
+
+-- what a record that is written brings
+told_samples : (pending : ℕ) (sent : Sent) → count_by is_sample (told_before pending sent ++ sample_of sent ∷ []) ≡ 1
+told_samples zero sent = refl
+told_samples (suc n) sent = refl
+
+told_losses : (pending : ℕ) (sent : Sent) → sum_by losses_in (told_before pending sent ++ sample_of sent ∷ []) ≡ pending
+told_losses zero sent = refl
+told_losses (suc n) sent = omega arith
+
+-- one step keeps both
+either_account : (P : Account → Type 0) (b : Bool) (yeas nays : Account) → P yeas → P nays → P (elim b as (λ x. Account) [ true ↦ yeas | false ↦ nays ])
+either_account P true yeas nays h k = h
+either_account P false yeas nays h k = k
+
+sent_step : (bytes : ℕ) (a : Account) (e : RingEvent) → samples (ring_step bytes a e) + length (ring_step bytes a e).lost ≡ (samples a + length a.lost) + cond (is_sent e) 1 0
+unfolding samples
+sent_step bytes a (Looks place) = omega arith
+sent_step bytes a (Sends sent) =
+    either_account (λ b. samples b + length b.lost ≡ (samples a + length a.lost) + 1) (nat_le (need_of a sent) (room_of bytes a)) (written_to a sent) (lost_to a sent)
+        (omega (arith, sum_by-append (λ r. cond (is_sample r) 1 0) a.written (records_for a sent), told_samples a.pending sent))
+        (omega (arith, length_push a.lost sent.event))
+
+told_step : (bytes : ℕ) (a : Account) (e : RingEvent) → length a.lost ≡ told a + a.pending → length (ring_step bytes a e).lost ≡ told (ring_step bytes a e) + (ring_step bytes a e).pending
+unfolding told
+told_step bytes a (Looks place) h = h
+told_step bytes a (Sends sent) h =
+    either_account (λ b. length b.lost ≡ sum_by losses_in b.written + b.pending) (nat_le (need_of a sent) (room_of bytes a)) (written_to a sent) (lost_to a sent)
+        (omega (arith, h, sum_by-append losses_in a.written (records_for a sent), told_losses a.pending sent))
+        (omega (arith, h, length_push a.lost sent.event))
+
+-- over events
+sent_over : (bytes : ℕ) (a : Account) (events : List RingEvent) → samples (fold (ring_step bytes) a events) + length (fold (ring_step bytes) a events).lost ≡ (samples a + length a.lost) + count_by is_sent events
+sent_over bytes a [] = omega arith
+sent_over bytes a (e ∷ events) = omega (arith, sent_over bytes (ring_step bytes a e) events, sent_step bytes a e, sum_by-cons (λ x. cond (is_sent x) 1 0) e events)
+
+told_over : (bytes : ℕ) (a : Account) (events : List RingEvent) → length a.lost ≡ told a + a.pending
+    → length (fold (ring_step bytes) a events).lost ≡ told (fold (ring_step bytes) a events) + (fold (ring_step bytes) a events).pending
+told_over bytes a [] h = h
+told_over bytes a (e ∷ events) h = told_over bytes (ring_step bytes a e) events (told_step bytes a e h)
+
+pub sent_law : SentLaw
+unfolding account samples
+sent_law bytes events = omega (arith, sent_over bytes empty_account events)
+
+pub told_law : ToldLaw
+unfolding account told
+told_law bytes events = told_over bytes empty_account events refl

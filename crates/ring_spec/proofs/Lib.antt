@@ -1,0 +1,3 @@
+mod Conserved
+mod Cutting
+mod Lawful
