@@ -85,7 +85,7 @@ wrote_lines s order replies i out more eo er l so_far =
 
 -- the report, part by part
 pub whole_report : (s : Scripted) (replies : List Reply) (a b c d e : List ℕ) → a ≡ codes "order" → b ≡ a ++ acts_text s.order → c ≡ b ++ 10 ∷ [] → d ≡ c ++ answer_lines s [] s.order replies
-    → e ≡ d ++ codes "end\n" → e ≡ report s s.order replies
+    → e ≡ d ++ codes "end\n" → e ≡ report s s.order replies []
 unfolding report
 whole_report s replies a b c d e ea eb ec ed ee =
     let d_is : d ≡ ((codes "order" ++ acts_text s.order) ++ 10 ∷ []) ++ answer_lines s [] s.order replies =

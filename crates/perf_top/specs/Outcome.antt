@@ -4,7 +4,7 @@ use Rattle.perf_base.specs.declared.reply.Reply.{Reply}
 use Rattle.perf_base.specs.Scripts.{Scripted}
 use Rattle.stage_spec.specs.Order.{IsComplete}
 use Rattle.script_spec.specs.FirstForm.{StandsFor}
-use Rattle.report_spec.specs.Answers.{IsAnswered}
+use Rattle.report_spec.specs.FirstAnswers.{IsAnswered}
 use Rattle.report_spec.specs.Report.{report}
 use Rattle.perf_io.specs.Outside.{Takes, Adds, IsAtEnd, Rose}
 
@@ -26,7 +26,7 @@ pub record IsRun (text out : List ℕ) : Type 0 where
   pub stands : StandsFor text script
   pub complete : IsComplete script script.order
   pub answered : IsAnswered script script.order replies
-  pub reported : out ≡ report script script.order replies
+  pub reported : out ≡ report script script.order replies []
 
 -- The text stands for no script with a complete order.
 abbrev pub IsNoScript : List ℕ → Type 0

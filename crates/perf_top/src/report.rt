@@ -108,7 +108,7 @@ fn push_answers(out: &mut Vec<u8>, script: &Script, replies: &[StoredReply]) -> 
 pub fn report(alloc: Global, script: &Script, replies: &[StoredReply]) -> Result<Vec<u8>, NoMemory>
     requires form { IsFormScript script.now }
     requires replies { replies.now ≡ replies_from script.now [] script.now.order }
-    ensures { IfOk result (λ out. out.items ≡ text.report script.now script.now.order replies.now) }
+    ensures { IfOk result (λ out. out.items ≡ text.report script.now script.now.order replies.now []) }
 {
     let mut out = Vec::from_slice(alloc, b"order")?;
     push_acts(&mut out, script.order())?;

@@ -1,7 +1,9 @@
--- The text of a report, but for rings. This project's own profile.
-use Rattle.std.specs.Prelude.{ℕ, List, [], ◌∷◌, ◌++◌, codes, decimal, Option, Some, None}
+-- The text of a report. This project's own profile.
+use Rattle.std.specs.Prelude.{ℕ, zero, suc, ◌+◌, ◌/◌, ◌%◌, nat_le, Bool, true, false, List, [], ◌∷◌, ◌++◌, map, length, codes, decimal, Option, Some, None}
+use Rattle.std.specs.Fmt.{digit_glyph}
 use Rattle.std.specs.List.{flat_map}
 use Rattle.perf_base.specs.declared.numbers.EventNo.{EventNo}
+use Rattle.perf_base.specs.declared.numbers.RingNo.{RingNo}
 use Rattle.perf_base.specs.declared.lines.CpuLine.{CpuLine}
 use Rattle.perf_base.specs.declared.lines.CpuLine.TheVariants as cpu_line
 use Rattle.perf_base.specs.declared.lines.ToolLine.{ToolLine}
@@ -20,6 +22,9 @@ use Rattle.perf_base.specs.declared.reply.Reply.TheVariants as reply
 use Rattle.perf_base.specs.Reasons.{printed_of}
 use Rattle.perf_base.specs.Scripts.{Scripted}
 use Rattle.stage_spec.specs.Order.{done_by_cpu, done_by_tool, next_of_cpu, next_of_tool}
+use Rattle.ring_spec.specs.Records.{Record, record_words, size_of}
+use Rattle.ring_spec.specs.Account.{Account, head_of}
+use Rattle.ring_spec.specs.Rings.{account_in}
 use Rattle.script_spec.specs.Acts.{act_text, acts_text}
 
 -- numbers in decimal, a space before each
@@ -100,6 +105,34 @@ answer_lines s before [] replies = []
 answer_lines s before (a ∷ acts) [] = []
 answer_lines s before (a ∷ acts) (r ∷ replies) = answer_line s before a (answer_text r) ++ answer_lines s (before ++ a ∷ []) acts replies
 
--- the whole report of an order without rings: the order, the answers, the end
-unfoldable pub report : Scripted → List Act → List Reply → List ℕ
-report s order replies = codes "order" ++ acts_text order ++ 10 ∷ [] ++ answer_lines s [] order replies ++ codes "end" ++ 10 ∷ []
+-- a word as so many hexadecimal digits, in small letters
+unfoldable pub hexadecimal : (digits word : ℕ) → List ℕ
+hexadecimal zero word = []
+hexadecimal (suc n) word = hexadecimal n (word / 16) ++ digit_glyph false (word % 16) ∷ []
+
+-- a record, taken or left, with its words of sixteen digits each
+abbrev pub fate_text : (taken : Bool) → List ℕ
+fate_text true = codes "taken"
+fate_text false = codes "left"
+
+abbrev pub record_line : (taken : Bool) → Record → List ℕ
+record_line taken r = fate_text taken ++ flat_map (λ word. 32 ∷ hexadecimal 16 word) (record_words r) ++ 10 ∷ []
+
+-- the records of a ring from a place on: one that ends at or before the tail was taken
+unfoldable pub record_lines : (tail place : ℕ) → List Record → List ℕ
+record_lines tail place [] = []
+record_lines tail place (r ∷ records) = record_line (nat_le (place + size_of r) tail) r ++ record_lines tail (place + size_of r) records
+
+-- what a ring came to, and the records written on it
+abbrev pub ring_lines : RingNo × Account → List ℕ
+ring_lines ring = codes "ring " ++ decimal ring.0.0 ++ codes " head=" ++ decimal (head_of ring.1) ++ codes " tail=" ++ decimal ring.1.tail
+    ++ codes " lost=" ++ decimal (length ring.1.lost) ++ codes " pending=" ++ decimal ring.1.pending ++ 10 ∷ []
+    ++ record_lines ring.1.tail 0 ring.1.written
+
+-- the whole report: the order, the answers, the rings, the end
+unfoldable pub report : Scripted → List Act → List Reply → List (RingNo × Account) → List ℕ
+report s order replies rings = codes "order" ++ acts_text order ++ 10 ∷ [] ++ answer_lines s [] order replies ++ flat_map ring_lines rings ++ codes "end" ++ 10 ∷ []
+
+-- what each ring of a script comes to over an order
+abbrev pub rings_after : Scripted → List Act → List (RingNo × Account)
+rings_after s order = map (λ ring. (ring.0, account_in s order ring)) s.rings
