@@ -1,6 +1,5 @@
 mod Births
 mod Each
 mod Ids
-mod Running
 mod Settled
 mod Settling

@@ -24,6 +24,7 @@ pub mod Remainders
 pub mod Replies
 pub mod Rotation
 pub mod Rules
+pub mod Running
 pub mod Settle
 pub mod Shares
 pub mod Stage
