@@ -1,0 +1,4 @@
+mod Answered
+mod Kept
+mod Try
+mod Whole
