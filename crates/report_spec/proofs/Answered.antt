@@ -1,37 +1,32 @@
 -- A script whose order is answered step by step is answered as the definitions say.
-use Rattle.std.specs.Prelude.{◌≡◌, ℕ, ◌+◌, ◌<◌, ◌≤◌, ◌==◌, nat_le, nat_lt, Bool, true, false, ◌&&◌, ◌||◌, List, [], ◌∷◌, ◌++◌, map, filter, fold, find, length, take, drop, sum, count_by, Option, Some, None, option_map, unwrap_or, zero, suc, cond, if◌then◌else◌}
-use Rattle.std.specs.List.{list_all}
+use Rattle.std.specs.Prelude.{◌≡◌, ℕ, ◌+◌, ◌==◌, nat_le, Bool, true, false, ◌&&◌, ◌||◌, List, [], ◌∷◌, ◌++◌, map, filter, fold, find, length, take, drop, sum, Option, Some, None, option_map, unwrap_or, suc, cond, if◌then◌else◌}
 use Rattle.std.proofs.Common.{arith, refl, sym, ap, ◌∙◌, inl, inr, append_assoc, append-nil, get_or}
 use Rattle.std.proofs.lemmas.List.{length-append}
 use Rattle.std.proofs.lemmas.Option.{none-some}
-use Rattle.std.proofs.lemmas.Bool.{cases_Bool, cases_lt, false≢true, or_cases, leb-true}
+use Rattle.std.proofs.lemmas.Bool.{false≢true, or_cases, leb-true}
 use Rattle.std.proofs.lemmas.Bool.Decides.{nat_tests}
 use Rattle.std.proofs.Math.Path.{fun_ext}
-use Rattle.std.proofs.lemmas.List.Sums.{fold-append, sum_by-cons}
-use Rattle.perf_base.specs.declared.numbers.CpuNo.{CpuNo}
+use Rattle.std.proofs.lemmas.List.Sums.{fold-append}
 use Rattle.perf_base.specs.declared.numbers.EventNo.{EventNo}
 use Rattle.perf_base.specs.declared.numbers.RingNo.{RingNo}
-use Rattle.perf_base.specs.declared.numbers.ToolNo.{ToolNo}
 use Rattle.perf_base.specs.declared.lines.CpuLine.{CpuLine}
 use Rattle.perf_base.specs.declared.lines.ToolLine.{ToolLine}
 use Rattle.perf_base.specs.declared.acts.Act.{Act}
 use Rattle.perf_base.specs.declared.acts.Act.TheVariants as act
 use Rattle.perf_base.specs.declared.reply.Reply.{Reply}
-use Rattle.perf_base.specs.Scripts.{Scripted, lines_of_cpu, lines_of_tool}
-use Rattle.stage_spec.specs.Hardware.{Hardware, hardware_of, numbers_below}
+use Rattle.perf_base.specs.Scripts.{Scripted}
+use Rattle.stage_spec.specs.Hardware.{Hardware, hardware_of}
 use Rattle.stage_spec.specs.Stage.{Stage}
-use Rattle.stage_spec.specs.Order.{IsCounted, IsLawful, IsLawfulAct, IsLawfulSeen, last_seen, seen_at, done_by_cpu, done_by_tool, is_of_cpu, is_of_tool, next_of_cpu, next_of_tool}
+use Rattle.stage_spec.specs.Order.{IsLawfulAct, IsLawfulSeen, last_seen, seen_at, next_of_cpu, next_of_tool}
 use Rattle.stage_spec.specs.History.{Step, CpuStep, ToolStep, SeenStep, stage_after, steps_of, steps_from, cpu_steps, tool_steps, history, opening_stage}
 use Rattle.stage_spec.specs.Replies.{IsAnswerAt, IsReply, AreReplies}
 use Rattle.stage_spec.specs.Families.{family_sums}
 use Rattle.stage_spec.specs.Running.{family_of, family-is}
 use Rattle.ring_spec.specs.Records.{size_of}
 use Rattle.ring_spec.specs.Sending.{Sent, sent_after}
-use Rattle.ring_spec.specs.Account.{RingEvent, Sends, Looks, Account, account, empty_account, lost_of, send, ring_step, written_to, lost_to, need_of, room_of}
-use Rattle.ring_spec.specs.Rings.{looks_at, sends_to, is_to, events_after, events_from, events_of, account_of, account_in, bytes_of, bytes_in, sizes_in, lost_count, IsLawfulOrder}
-use Rattle.report_spec.specs.Report.{report, rings_after}
-use Rattle.report_spec.specs.Answers.{IsAnswered, lost_in}
-use Rattle.report_spec.proofs.Kept.{RingAccount, Kept, kept_at_first, keep, lost_by, Keeps, keeps-first, keeps-step}
+use Rattle.ring_spec.specs.Account.{Sends, Looks, Account, account, empty_account, lost_of, send, ring_step, written_to, lost_to, need_of, room_of}
+use Rattle.ring_spec.specs.Rings.{looks_at, sends_to, is_to, events_after, events_from, events_of, account_of, account_in, bytes_of, bytes_in, sizes_in, lost_count}
+use Rattle.report_spec.proofs.Kept.{RingAccount, Kept, keep, lost_by, Keeps, keeps-step}
 
 -- whether a place stands behind some of the records of these sizes
 abbrev pub is_behind : (at place : ℕ) → List ℕ → Bool
@@ -122,7 +117,7 @@ events-tail : (bytes : ℕ) (hw : Hardware) (s : Stage) (ring : RingNo) (a : Acc
 events-tail bytes hw s ring a before x =
     let sents : List (RingNo × Sent) = filter (is_to ring) (sent_after hw s before x) in
     ap (λ b. b.tail) (fold-append (ring_step bytes) a (looks_at ring x) (sends_to ring (sent_after hw s before x)))
-        ∙ (sends-tail bytes (fold (ring_step bytes) a (looks_at ring x)) sents ∙ looks-tail bytes ring a x)
+    ∙ (sends-tail bytes (fold (ring_step bytes) a (looks_at ring x)) sents ∙ looks-tail bytes ring a x)
 
 from-tail : (bytes : ℕ) (hw : Hardware) (s : Stage) (ring : RingNo) (a : Account) (before steps : List Step)
     → (fold (ring_step bytes) a (events_from hw s ring before steps)).tail ≡ fold (tail_by ring) a.tail steps
@@ -131,7 +126,7 @@ from-tail bytes hw s ring a before [] = refl
 from-tail bytes hw s ring a before (x ∷ steps) =
     let now : Account = fold (ring_step bytes) a (events_after hw s ring before x) in
     ap (λ b. b.tail) (fold-append (ring_step bytes) a (events_after hw s ring before x) (events_from hw s ring (before ++ x ∷ []) steps))
-        ∙ (from-tail bytes hw s ring now (before ++ x ∷ []) steps ∙ ap (λ last. fold (tail_by ring) last steps) (events-tail bytes hw s ring a before x))
+    ∙ (from-tail bytes hw s ring now (before ++ x ∷ []) steps ∙ ap (λ last. fold (tail_by ring) last steps) (events-tail bytes hw s ring a before x))
 
 account-tail : (hw : Hardware) (s : Stage) (steps : List Step) (ring : RingNo) (bytes : ℕ) → (account_of hw s steps (ring, bytes)).tail ≡ fold (tail_by ring) 0 steps
 unfolding account_of account events_of
@@ -156,8 +151,8 @@ unfolding steps_from
 acts-tail s ring last before [] = refl
 acts-tail s ring last before (a ∷ acts) =
     fold-append (tail_by ring) last (steps_of s before a) (steps_from s (before ++ a ∷ []) acts)
-        ∙ (acts-tail s ring (fold (tail_by ring) last (steps_of s before a)) (before ++ a ∷ []) acts
-            ∙ ap (λ l. fold (seen_at ring) l acts) (act-tail s ring last before a))
+    ∙ (acts-tail s ring (fold (tail_by ring) last (steps_of s before a)) (before ++ a ∷ []) acts
+    ∙ ap (λ l. fold (seen_at ring) l acts) (act-tail s ring last before a))
 
 seen-tail : (s : Scripted) (acts : List Act) (ring : RingNo) (bytes : ℕ) → (account_in s acts (ring, bytes)).tail ≡ last_seen ring acts
 seen-tail s acts ring bytes = account-tail (hardware_of s) (opening_stage s) (history s acts) ring bytes ∙ acts-tail s ring 0 [] acts
@@ -191,7 +186,7 @@ steps_from-push s before (b ∷ acts) a =
     let now : List Step = steps_of s before b in
     let rest : List Step = steps_from s (before ++ b ∷ []) acts in
     ap (λ xs. now ++ xs) (steps_from-push s (before ++ b ∷ []) acts a)
-        ∙ (ap (λ done. now ++ (rest ++ steps_of s done a)) regrouped ∙ sym (append_assoc now rest (steps_of s (before ++ b ∷ acts) a)))
+    ∙ (ap (λ done. now ++ (rest ++ steps_of s done a)) regrouped ∙ sym (append_assoc now rest (steps_of s (before ++ b ∷ acts) a)))
 
 -- the first act of a lawful history is lawful
 first-lawful : (s : Scripted) (before : List Act) (a : Act) (more : List Step)
@@ -214,7 +209,7 @@ lawful_acts s before (c ∷ acts) h (d ∷ some) after a e =
     let regrouped : (before ++ c ∷ []) ++ some ≡ before ++ c ∷ some = append_assoc before (c ∷ []) some in
     let so_far : history s (before ++ c ∷ []) ≡ history s before ++ steps_of s before c = steps_from-push s [] before c in
     let later : LawfulFrom (hardware_of s) (opening_stage s) s.rings (history s before ++ steps_of s before c) (steps_from s (before ++ c ∷ []) acts) =
-        LawfulFrom-rest (hardware_of s) (opening_stage s) s.rings (history s before) (steps_of s before c) (steps_from s (before ++ c ∷ []) acts) h in
+    LawfulFrom-rest (hardware_of s) (opening_stage s) s.rings (history s before) (steps_of s before c) (steps_from s (before ++ c ∷ []) acts) h in
     rw (← same, ← regrouped) (lawful_acts s (before ++ c ∷ []) acts (rw so_far later) some after a rest)
 
 -- a look that is lawful by the accounts kept is lawful
@@ -253,7 +248,7 @@ lawful_by hw s rings before k (ToolStep line) h ok = tt
 lawful_by hw s rings before k (SeenStep ring place) h ok =
     let f : RingNo × ℕ → RingAccount = λ r. (r, account_of hw s before r) in
     let found : find (is_ring ring) k.accounts ≡ option_map f (find (λ r. r.0.0 == ring.0) rings) =
-        ap (find (is_ring ring)) h.accounts ∙ find-passes (λ r. r.0.0 == ring.0) f (is_ring ring) (λ r. refl) rings in
+    ap (find (is_ring ring)) h.accounts ∙ find-passes (λ r. r.0.0 == ring.0) f (is_ring ring) (λ r. refl) rings in
     found_lawful hw s rings before ring place (find (λ r. r.0.0 == ring.0) rings) refl (ap (λ o. lawful_at o place) (sym found) ∙ ok)
 
 lost_sum : (f : RingNo × ℕ → RingAccount) (e : EventNo) (from : ℕ) (rings : List (RingNo × ℕ))

@@ -1,22 +1,19 @@
 -- What a history leaves with its rings, kept step by step, and how worked cases are answered by it.
-use Rattle.std.specs.Prelude.{◌≡◌, ℕ, ◌+◌, ◌≤◌, ◌==◌, nat_le, Bool, true, false, ◌&&◌, ◌||◌, List, [], ◌∷◌, ◌++◌, map, filter, fold, find, length, take, sum, sum_by, Option, Some, None}
-use Rattle.std.proofs.Common.{arith, refl, sym, ap, ◌∙◌, append_assoc, append-nil}
+use Rattle.std.specs.Prelude.{◌≡◌, ℕ, ◌+◌, List, [], ◌∷◌, ◌++◌, map, fold, sum_by}
+use Rattle.std.proofs.Common.{arith, refl, sym, ap, ◌∙◌}
 use Rattle.std.proofs.Math.Path.{fun_ext}
 use Rattle.std.proofs.lemmas.List.Sums.{sum_by-append}
 use Rattle.perf_base.specs.declared.numbers.CpuNo.{CpuNo}
 use Rattle.perf_base.specs.declared.numbers.EventNo.{EventNo}
 use Rattle.perf_base.specs.declared.numbers.RingNo.{RingNo}
-use Rattle.perf_base.specs.declared.reply.Reply.{Reply}
 use Rattle.stage_spec.specs.Hardware.{Hardware}
 use Rattle.stage_spec.specs.Stage.{Stage}
-use Rattle.stage_spec.specs.History.{Step, CpuStep, ToolStep, SeenStep, stage_after}
+use Rattle.stage_spec.specs.History.{Step, stage_after}
 use Rattle.stage_spec.specs.Remainders.{left_by, remainder_of, remainder_from, remainder_of-push}
-use Rattle.stage_spec.specs.Replies.{IsAnswerAt, IsReply, AreReplies}
-use Rattle.stage_spec.specs.Running.{Running, start, run, family_of, Follows, follows-start, follows-run, family-is}
-use Rattle.ring_spec.specs.Records.{size_of}
+use Rattle.stage_spec.specs.Running.{Running, start, run, Follows, follows-start, follows-run}
 use Rattle.ring_spec.specs.Sending.{Sent, sent_by_step, sent_after, length_by, clock_of}
 use Rattle.ring_spec.specs.Account.{Account, empty_account, account, ring_step, lost_of}
-use Rattle.ring_spec.specs.Rings.{looks_at, sends_to, events_after, events_of, events_from, account_of, account_of-push, lost_count}
+use Rattle.ring_spec.specs.Rings.{looks_at, sends_to, events_of, events_from, account_of, account_of-push}
 
 -- a ring with its size, and what it came to
 abbrev pub RingAccount : Type 0
@@ -74,7 +71,7 @@ map-map f g (x ∷ xs) = ap (λ ys. g (f x) ∷ ys) (map-map f g xs)
 
 kept_account : (hw : Hardware) (s : Stage) (before : List Step) (x : Step) (ring : RingNo × ℕ)
     → fold (ring_step ring.1) (account_of hw s before ring) (looks_at ring.0 x ++ sends_to ring.0 (sent_by_step hw (stage_after hw s before) (remainder_of hw s before) (clock_of before) x))
-        ≡ account_of hw s (before ++ x ∷ []) ring
+    ≡ account_of hw s (before ++ x ∷ []) ring
 unfolding sent_after
 kept_account hw s before x ring = sym (account_of-push hw s before x ring)
 
@@ -85,6 +82,6 @@ keeps-step hw s rings before k x h = record {
   clock = fun_ext (λ cpu. rw h.clock (sym (clock_of-push before x cpu)));
   accounts = rw (h.base.stage, h.left, h.clock, h.accounts)
       (map-map (λ ring. (ring, account_of hw s before ring)) (keep_ring x (sent_by_step hw (stage_after hw s before) (remainder_of hw s before) (clock_of before) x)) rings
-          ∙ map_same (λ ring. keep_ring x (sent_by_step hw (stage_after hw s before) (remainder_of hw s before) (clock_of before) x) (ring, account_of hw s before ring))
-              (λ ring. (ring, account_of hw s (before ++ x ∷ []) ring)) (λ ring. ap (λ a. (ring, a)) (kept_account hw s before x ring)) rings);
+      ∙ map_same (λ ring. keep_ring x (sent_by_step hw (stage_after hw s before) (remainder_of hw s before) (clock_of before) x) (ring, account_of hw s before ring))
+      (λ ring. (ring, account_of hw s (before ++ x ∷ []) ring)) (λ ring. ap (λ a. (ring, a)) (kept_account hw s before x ring)) rings);
 }

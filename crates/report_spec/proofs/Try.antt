@@ -1,24 +1,19 @@
 -- trial
-use Rattle.std.specs.Prelude.{◌≡◌, ℕ, Bool, true, false, List, [], ◌∷◌, ◌++◌, Option, Some, None, replicate, codes, decimal}
+use Rattle.std.specs.Prelude.{ℕ, List, [], ◌∷◌, None, codes}
 use Rattle.std.specs.Fmt.{digits}
 use Rattle.std.proofs.Common.{refl}
-use Rattle.perf_base.specs.declared.numbers.CpuNo.{CpuNo}
 use Rattle.perf_base.specs.declared.attr.Attr.{Attr}
 use Rattle.perf_base.specs.declared.attr.Kind.TheVariants as kind
 use Rattle.perf_base.specs.declared.attr.TaskSel.TheVariants as tasks
 use Rattle.perf_base.specs.declared.attr.CpuSel.TheVariants as cpus
-use Rattle.perf_base.specs.declared.lines.CpuLine.{CpuLine}
 use Rattle.perf_base.specs.declared.lines.CpuLine.TheVariants as cpu_line
 use Rattle.perf_base.specs.declared.lines.Mode.TheVariants as mode
-use Rattle.perf_base.specs.declared.lines.ToolLine.{ToolLine}
 use Rattle.perf_base.specs.declared.lines.ToolLine.TheVariants as tool_line
 use Rattle.perf_base.specs.declared.reply.Reply.{Reply}
 use Rattle.perf_base.specs.declared.reply.Reply.TheVariants as reply
-use Rattle.perf_base.specs.declared.acts.Act.{Act}
 use Rattle.perf_base.specs.declared.acts.Act.TheVariants as act
 use Rattle.perf_base.specs.Scripts.{Scripted}
-use Rattle.stage_spec.specs.Hardware.{hardware_of}
-use Rattle.stage_spec.specs.Stage.{Stage, first_stage}
+use Rattle.stage_spec.specs.Stage.{first_stage}
 use Rattle.stage_spec.specs.Fits.{fits, fits_beside, fits_below}
 use Rattle.stage_spec.specs.Tight.{tight_set, tight_after, shortest_unfit, unfit_after}
 use Rattle.stage_spec.specs.Verdict.{judge, judge_pass, judge_passes, verdicts}
@@ -32,7 +27,7 @@ use Rattle.stage_spec.specs.Rotation.{rotated}
 use Rattle.stage_spec.specs.Forks.{copy_group, copy_groups, forked}
 use Rattle.stage_spec.specs.Exits.{exited}
 use Rattle.stage_spec.specs.Reading.{read_words}
-use Rattle.stage_spec.specs.History.{stage_step, steps_from, history, opening_stage}
+use Rattle.stage_spec.specs.History.{stage_step, steps_from}
 use Rattle.stage_spec.specs.Shares.{share}
 use Rattle.stage_spec.specs.Occurrences.{left_after, overflows}
 use Rattle.stage_spec.specs.Replies.{why_of}
