@@ -4,10 +4,10 @@ ghost use Rattle.std.specs.Prelude.{[]};
 ghost use Rattle.perf_base.specs.Scripts.{IsCpuLine, IsToolLine};
 
 use crate::{
-    Act, Actor, Attr, AttrFlags, Cause, Context, CpuLine, CpuNo, CpuSel, CpuSet, EventNo, Kind,
-    KindLine, Mode, Name, NoMemory, Own, PmuLine, ReaderLine, Reason, Reply, RingNo, Rule, SReason,
-    Script, SeatList, Standing, StoredReply, Sums, TaskNo, TaskSel, Tight, ToolLine, ToolNo, Why,
-    Words, Work,
+    Act, Actor, Attr, AttrFlags, Cause, Context, CpuLine, CpuNo, CpuSel, CpuSet, EventNo, Key,
+    Kind, KindLine, Mode, Name, NoMemory, Own, PmuLine, ReaderLine, Reason, Reply, RingNo, Rule,
+    SReason, Script, SeatList, Standing, StoredReply, Sums, TaskNo, TaskSel, Tight, ToolLine,
+    ToolNo, Why, Words, Work,
 };
 use bitflags::Flags;
 use std::alloc::Global;
@@ -187,14 +187,22 @@ fn shared_types_cross_threads(_rt: HostRuntime) {
     crosses::<Cause>();
     crosses::<Context>();
     crosses::<CpuLine>();
+    crosses::<CpuNo>();
+    crosses::<CpuSel>();
     crosses::<CpuSet>();
+    crosses::<EventNo>();
+    crosses::<Key>();
+    crosses::<Kind>();
     crosses::<KindLine>();
+    crosses::<Mode>();
     crosses::<Name>();
+    crosses::<NoMemory>();
     crosses::<Own>();
     crosses::<PmuLine>();
     crosses::<ReaderLine>();
     crosses::<Reason>();
     crosses::<Reply>();
+    crosses::<RingNo>();
     crosses::<Rule>();
     crosses::<SReason>();
     crosses::<Script>();
@@ -202,8 +210,11 @@ fn shared_types_cross_threads(_rt: HostRuntime) {
     crosses::<Standing>();
     crosses::<StoredReply>();
     crosses::<Sums>();
+    crosses::<TaskNo>();
+    crosses::<TaskSel>();
     crosses::<Tight>();
     crosses::<ToolLine>();
+    crosses::<ToolNo>();
     crosses::<Why>();
     crosses::<Words>();
     crosses::<Work>();
