@@ -134,6 +134,16 @@ fn weights_are_those_worked_out_by_hand(rt: HostRuntime) -> Result<(), NoMemory>
 }
 
 #[test]
+fn each_processor_is_of_its_pmu(rt: HostRuntime) -> Result<(), NoMemory> {
+    let mut script = Script::new(rt.alloc(), 2);
+    script.add_pmu(1, 2)?;
+    script.add_pmu(3, 1)?;
+    assert_eq!(rt; script.pmu_of_cpu(CpuNo(0)), 1);
+    assert_eq!(rt; script.pmu_of_cpu(CpuNo(1)), 0);
+    Ok(())
+}
+
+#[test]
 fn sets_hold_what_was_put_in(rt: HostRuntime) {
     let mut one = CpuSet::new();
     one.insert(CpuNo(0));
