@@ -4,10 +4,10 @@ ghost use Rattle.std.specs.Prelude.{[]};
 ghost use Rattle.perf_base.specs.Scripts.{IsCpuLine, IsToolLine};
 
 use crate::{
-    Act, Actor, Attr, AttrFlags, Cause, Context, CpuLine, CpuNo, CpuSel, CpuSet, EventNo, Kind,
-    KindLine, Mode, Name, NoMemory, Own, PmuLine, ReaderLine, Reason, Reply, RingNo, Rule, SReason,
-    Script, SeatList, Standing, StoredReply, Sums, TaskNo, TaskSel, Tight, ToolLine, ToolNo, Why,
-    Words, Work,
+    Act, Actor, Attr, AttrFlags, Cause, Context, CpuLine, CpuNo, CpuSel, CpuSet, EventNo, Key,
+    Kind, KindLine, Mode, Name, NoMemory, Own, PmuLine, ReaderLine, Reason, Reply, RingNo, Rule,
+    SReason, Script, SeatList, Standing, StoredReply, Sums, TaskNo, TaskSel, Tight, ToolLine,
+    ToolNo, Why, Words, Work,
 };
 use bitflags::Flags;
 use std::alloc::Global;
@@ -134,6 +134,16 @@ fn weights_are_those_worked_out_by_hand(rt: HostRuntime) -> Result<(), NoMemory>
 }
 
 #[test]
+fn each_processor_is_of_its_pmu(rt: HostRuntime) -> Result<(), NoMemory> {
+    let mut script = Script::new(rt.alloc(), 2);
+    script.add_pmu(1, 2)?;
+    script.add_pmu(3, 1)?;
+    assert_eq!(rt; script.pmu_of_cpu(CpuNo(0)), 1);
+    assert_eq!(rt; script.pmu_of_cpu(CpuNo(1)), 0);
+    Ok(())
+}
+
+#[test]
 fn sets_hold_what_was_put_in(rt: HostRuntime) {
     let mut one = CpuSet::new();
     one.insert(CpuNo(0));
@@ -187,14 +197,22 @@ fn shared_types_cross_threads(_rt: HostRuntime) {
     crosses::<Cause>();
     crosses::<Context>();
     crosses::<CpuLine>();
+    crosses::<CpuNo>();
+    crosses::<CpuSel>();
     crosses::<CpuSet>();
+    crosses::<EventNo>();
+    crosses::<Key>();
+    crosses::<Kind>();
     crosses::<KindLine>();
+    crosses::<Mode>();
     crosses::<Name>();
+    crosses::<NoMemory>();
     crosses::<Own>();
     crosses::<PmuLine>();
     crosses::<ReaderLine>();
     crosses::<Reason>();
     crosses::<Reply>();
+    crosses::<RingNo>();
     crosses::<Rule>();
     crosses::<SReason>();
     crosses::<Script>();
@@ -202,8 +220,11 @@ fn shared_types_cross_threads(_rt: HostRuntime) {
     crosses::<Standing>();
     crosses::<StoredReply>();
     crosses::<Sums>();
+    crosses::<TaskNo>();
+    crosses::<TaskSel>();
     crosses::<Tight>();
     crosses::<ToolLine>();
+    crosses::<ToolNo>();
     crosses::<Why>();
     crosses::<Words>();
     crosses::<Work>();
