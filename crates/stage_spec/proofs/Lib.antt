@@ -1,2 +1,3 @@
 mod Running
 mod Try
+pub mod rows
