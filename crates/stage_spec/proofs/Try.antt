@@ -23,7 +23,7 @@ use Rattle.stage_spec.specs.Stage.{Stage, first_stage}
 use Rattle.stage_spec.specs.Fits.{fits, fits_beside, fits_below}
 use Rattle.stage_spec.specs.Tight.{tight_set, tight_after, shortest_unfit, unfit_after}
 use Rattle.stage_spec.specs.Verdict.{judge, judge_pass, judge_passes, verdicts}
-use Rattle.stage_spec.specs.Settle.{pinned_verdicts, settle, settle_each, settle_all}
+use Rattle.stage_spec.specs.Settle.{settle_pass, settle, settle_each, settle_all}
 use Rattle.stage_spec.specs.Opening.{open_refusal, opened}
 use Rattle.stage_spec.specs.Commands.{command_each, with_period}
 use Rattle.stage_spec.specs.Mapping.{mapped_to, output_to}
@@ -35,8 +35,8 @@ use Rattle.stage_spec.specs.Exits.{exited}
 use Rattle.stage_spec.specs.Reading.{read_words}
 use Rattle.stage_spec.specs.History.{stage_step, steps_from, history, opening_stage}
 use Rattle.stage_spec.specs.Shares.{share}
-use Rattle.stage_spec.specs.Replies.{why_of}
-use Rattle.stage_spec.proofs.Running.{Running, start, run, RunReplies}
+use Rattle.stage_spec.specs.Replies.{why_of, AnswerOrder}
+use Rattle.stage_spec.proofs.Running.{Running, start, run, RunReplies, answers_of}
 
 abbrev cycles_attr : Attr
 cycles_attr = record { kind = kind.Hard 0; task = tasks.All; cpu = cpus.One (record { 0 = 0 }); period = 0; sample = 0; format = 3; flags = record { 0 = 0 } }
@@ -57,6 +57,6 @@ script = record {
 replies : List Reply
 replies = reply.Ok ∷ reply.Ok ∷ reply.Ok ∷ reply.Ok ∷ reply.Ok ∷ reply.Read (100 ∷ 20 ∷ 10 ∷ []) ∷ reply.Read (40 ∷ 20 ∷ 10 ∷ []) ∷ []
 
-row : RunReplies (hardware_of script) (start (opening_stage script)) (history script script.order) replies
-unfolding script replies RunReplies first_stage fits fits_beside fits_below tight_set tight_after shortest_unfit unfit_after judge judge_pass judge_passes verdicts pinned_verdicts settle settle_each settle_all open_refusal opened command_each with_period mapped_to output_to closed switched rotated copy_group copy_groups forked exited read_words stage_step steps_from share why_of
-row = (refl, (refl, (refl, (refl, (refl, (refl, (refl, tt)))))))
+row : AnswerOrder script (λ before e. 0) script.order replies
+unfolding script replies RunReplies first_stage fits fits_beside fits_below tight_set tight_after shortest_unfit unfit_after judge judge_pass judge_passes verdicts settle_pass settle settle_each settle_all open_refusal opened command_each with_period mapped_to output_to closed switched rotated copy_group copy_groups forked exited read_words stage_step steps_from share why_of
+row = answers_of (hardware_of script) (opening_stage script) (history script script.order) replies (refl, (refl, (refl, (refl, (refl, (refl, (refl, tt)))))))

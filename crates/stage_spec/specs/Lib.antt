@@ -17,6 +17,7 @@ pub mod Opening
 pub mod Order
 pub mod Progress
 pub mod Reading
+pub mod Recurrence
 pub mod Replies
 pub mod Rotation
 pub mod Rules
