@@ -365,15 +365,15 @@ def case_terms(case):
         *wrapped([term for term, _ in answered], f"{name}_replies = ", "    ", ""),
         "",
         f"{name}-answers : Answers {name} {name}_replies",
-        f"unfolding Answers {name} {name}_replies",
-        proof(f"{name}-answers", [it for _, it in answered]),
+        f"unfolding Computed {name} {name}_replies",
+        f"{name}-answers = computed {name} {name}_replies {proof([it for _, it in answered])}",
     ]
     return out
 
 
-def proof(name, proofs):
+def proof(proofs):
     """The nested tuple of the proofs, one for each act."""
-    return f"{name} = " + "".join(f"({it}, " for it in proofs) + "tt" + ")" * len(proofs)
+    return "".join(f"({it}, " for it in proofs) + "tt" + ")" * len(proofs)
 
 
 # The files.
@@ -399,7 +399,7 @@ IMPORTS = [
         ["cpu", "task", "slot", "slots", "ring", "by_cpu", "by_tool", "seen", "pmu", "kind_line", "attr", "work", "reader", "eight", "four"],
     ),
     ("Rattle.stage_spec.proofs.rows.Seats", ["are_seats"]),
-    ("Rattle.stage_spec.proofs.rows.Answering", ["Answers"]),
+    ("Rattle.stage_spec.proofs.rows.Answering", ["Answers", "Computed", "computed"]),
 ]
 
 

@@ -15,7 +15,7 @@ use Rattle.perf_base.specs.declared.reply.Reply.{Reply}
 use Rattle.perf_base.specs.declared.reply.Reply.TheVariants as reply
 use Rattle.perf_base.specs.Scripts.{Scripted}
 use Rattle.stage_spec.proofs.rows.Words.{cpu, task, slot, slots, ring, by_cpu, by_tool, pmu, kind_line, attr, work, eight, four}
-use Rattle.stage_spec.proofs.rows.Answering.{Answers}
+use Rattle.stage_spec.proofs.rows.Answering.{Answers, Computed, computed}
 
 bound_elsewhere : Scripted
 bound_elsewhere = record {
@@ -41,8 +41,8 @@ bound_elsewhere_replies : List Reply
 bound_elsewhere_replies = reply.Ok ∷ reply.Ok ∷ reply.Ok ∷ reply.Read (0 ∷ 50 ∷ 0 ∷ []) ∷ reply.Why why.Away ∷ []
 
 bound_elsewhere-answers : Answers bound_elsewhere bound_elsewhere_replies
-unfolding Answers bound_elsewhere bound_elsewhere_replies
-bound_elsewhere-answers = (refl, (refl, (refl, (refl, (refl, tt)))))
+unfolding Computed bound_elsewhere bound_elsewhere_replies
+bound_elsewhere-answers = computed bound_elsewhere bound_elsewhere_replies (refl, (refl, (refl, (refl, (refl, tt)))))
 
 copy_of_copy : Scripted
 copy_of_copy = record {
@@ -79,8 +79,8 @@ copy_of_copy_replies = reply.Ok ∷ reply.Ok ∷ reply.Ok ∷ reply.Ok ∷ reply
     reply.Ok ∷ reply.Refused reason.Idle ∷ reply.Read (8 ∷ 6 ∷ 6 ∷ []) ∷ reply.Ok ∷ reply.Refused reason.NoEvent ∷ []
 
 copy_of_copy-answers : Answers copy_of_copy copy_of_copy_replies
-unfolding Answers copy_of_copy copy_of_copy_replies
-copy_of_copy-answers = (refl, (refl, (refl, (refl, (refl, (refl, (refl, (refl, (refl, (refl, (refl, (refl, (refl, (refl, tt))))))))))))))
+unfolding Computed copy_of_copy copy_of_copy_replies
+copy_of_copy-answers = computed copy_of_copy copy_of_copy_replies (refl, (refl, (refl, (refl, (refl, (refl, (refl, (refl, (refl, (refl, (refl, (refl, (refl, (refl, tt))))))))))))))
 
 earlier_refusal : Scripted
 earlier_refusal = record {
@@ -106,8 +106,8 @@ earlier_refusal_replies = reply.Ok ∷ reply.Ok ∷ reply.Ok ∷ reply.Why (why.
     reply.Why (why.Refused (cause.Rule (rule.Earlier (slot 1)))) ∷ []
 
 earlier_refusal-answers : Answers earlier_refusal earlier_refusal_replies
-unfolding Answers earlier_refusal earlier_refusal_replies
-earlier_refusal-answers = (refl, (refl, (refl, (refl, (refl, tt)))))
+unfolding Computed earlier_refusal earlier_refusal_replies
+earlier_refusal-answers = computed earlier_refusal earlier_refusal_replies (refl, (refl, (refl, (refl, (refl, tt)))))
 
 empty : Scripted
 empty = record {
@@ -126,8 +126,8 @@ empty_replies : List Reply
 empty_replies = []
 
 empty-answers : Answers empty empty_replies
-unfolding Answers empty empty_replies
-empty-answers = tt
+unfolding Computed empty empty_replies
+empty-answers = computed empty empty_replies tt
 
 exclusive : Scripted
 exclusive = record {
@@ -155,8 +155,8 @@ exclusive_replies = reply.Ok ∷ reply.Ok ∷ reply.Why (why.Refused (cause.Rule
     reply.Why (why.Refused (cause.Rule (rule.Exclusive (slot 1)))) ∷ reply.Why why.On ∷ []
 
 exclusive-answers : Answers exclusive exclusive_replies
-unfolding Answers exclusive exclusive_replies
-exclusive-answers = (refl, (refl, (refl, (refl, (refl, (refl, tt))))))
+unfolding Computed exclusive exclusive_replies
+exclusive-answers = computed exclusive exclusive_replies (refl, (refl, (refl, (refl, (refl, (refl, tt))))))
 
 fold_and_reset : Scripted
 fold_and_reset = record {
@@ -189,8 +189,8 @@ fold_and_reset_replies = reply.Ok ∷ reply.Ok ∷ reply.Ok ∷ reply.Ok ∷ rep
     reply.Ok ∷ reply.Read (70 ∷ 20 ∷ 20 ∷ []) ∷ []
 
 fold_and_reset-answers : Answers fold_and_reset fold_and_reset_replies
-unfolding Answers fold_and_reset fold_and_reset_replies
-fold_and_reset-answers = (refl, (refl, (refl, (refl, (refl, (refl, (refl, (refl, (refl, (refl, (refl, tt)))))))))))
+unfolding Computed fold_and_reset fold_and_reset_replies
+fold_and_reset-answers = computed fold_and_reset fold_and_reset_replies (refl, (refl, (refl, (refl, (refl, (refl, (refl, (refl, (refl, (refl, (refl, tt)))))))))))
 
 group_full : Scripted
 group_full = record {
@@ -219,8 +219,8 @@ group_full_replies : List Reply
 group_full_replies = reply.Ok ∷ reply.Ok ∷ reply.Ok ∷ reply.Ok ∷ reply.Ok ∷ reply.Ok ∷ reply.Ok ∷ reply.Ok ∷ reply.Refused reason.GroupFull ∷ []
 
 group_full-answers : Answers group_full group_full_replies
-unfolding Answers group_full group_full_replies
-group_full-answers = (refl, (refl, (refl, (refl, (refl, (refl, (refl, (refl, (refl, tt)))))))))
+unfolding Computed group_full group_full_replies
+group_full-answers = computed group_full group_full_replies (refl, (refl, (refl, (refl, (refl, (refl, (refl, (refl, (refl, tt)))))))))
 
 group_read : Scripted
 group_read = record {
@@ -248,8 +248,8 @@ group_read_replies = reply.Ok ∷ reply.Ok ∷ reply.Ok ∷ reply.Refused reason
     reply.Refused reason.NotSampling ∷ []
 
 group_read-answers : Answers group_read group_read_replies
-unfolding Answers group_read group_read_replies
-group_read-answers = (refl, (refl, (refl, (refl, (refl, (refl, tt))))))
+unfolding Computed group_read group_read_replies
+group_read-answers = computed group_read group_read_replies (refl, (refl, (refl, (refl, (refl, (refl, tt))))))
 
 hybrid_machine : Scripted
 hybrid_machine = record {
@@ -285,8 +285,8 @@ hybrid_machine_replies = reply.Ok ∷ reply.Ok ∷ reply.Refused reason.NoDevice
     reply.Ok ∷ reply.Ok ∷ reply.Read (100 ∷ 40 ∷ 10 ∷ []) ∷ reply.Read (50 ∷ 40 ∷ 30 ∷ []) ∷ reply.Why why.Away ∷ []
 
 hybrid_machine-answers : Answers hybrid_machine hybrid_machine_replies
-unfolding Answers hybrid_machine hybrid_machine_replies
-hybrid_machine-answers = (refl, (refl, (refl, (refl, (refl, (refl, (refl, (refl, (refl, (refl, (refl, (refl, tt))))))))))))
+unfolding Computed hybrid_machine hybrid_machine_replies
+hybrid_machine-answers = computed hybrid_machine hybrid_machine_replies (refl, (refl, (refl, (refl, (refl, (refl, (refl, (refl, (refl, (refl, (refl, (refl, tt))))))))))))
 
 leader_closed : Scripted
 leader_closed = record {
@@ -317,8 +317,8 @@ leader_closed_replies = reply.Ok ∷ reply.Ok ∷ reply.Why why.Off ∷ reply.Ok
     reply.Read (4 ∷ 10 ∷ 10 ∷ []) ∷ []
 
 leader_closed-answers : Answers leader_closed leader_closed_replies
-unfolding Answers leader_closed leader_closed_replies
-leader_closed-answers = (refl, (refl, (refl, (refl, (refl, (refl, (refl, (refl, (refl, tt)))))))))
+unfolding Computed leader_closed leader_closed_replies
+leader_closed-answers = computed leader_closed leader_closed_replies (refl, (refl, (refl, (refl, (refl, (refl, (refl, (refl, (refl, tt)))))))))
 
 map_and_output : Scripted
 map_and_output = record {
@@ -362,5 +362,5 @@ map_and_output_replies = reply.Ok ∷ reply.Ok ∷ reply.Ok ∷ reply.Ok ∷ rep
     reply.Ok ∷ reply.Ok ∷ []
 
 map_and_output-answers : Answers map_and_output map_and_output_replies
-unfolding Answers map_and_output map_and_output_replies
-map_and_output-answers = (refl, (refl, (refl, (refl, (refl, (refl, (refl, (refl, (refl, (refl, (refl, (refl, (refl, (refl, (refl, (refl, (refl, (refl, (refl, tt)))))))))))))))))))
+unfolding Computed map_and_output map_and_output_replies
+map_and_output-answers = computed map_and_output map_and_output_replies (refl, (refl, (refl, (refl, (refl, (refl, (refl, (refl, (refl, (refl, (refl, (refl, (refl, (refl, (refl, (refl, (refl, (refl, (refl, tt)))))))))))))))))))

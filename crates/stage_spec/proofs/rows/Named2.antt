@@ -15,7 +15,7 @@ use Rattle.perf_base.specs.declared.reply.Reply.TheVariants as reply
 use Rattle.perf_base.specs.Scripts.{Scripted}
 use Rattle.stage_spec.proofs.rows.Words.{cpu, task, slot, slots, ring, by_cpu, by_tool, pmu, kind_line, attr, work, eight, four}
 use Rattle.stage_spec.proofs.rows.Seats.{are_seats}
-use Rattle.stage_spec.proofs.rows.Answering.{Answers}
+use Rattle.stage_spec.proofs.rows.Answering.{Answers, Computed, computed}
 
 multiplexing : Scripted
 multiplexing = record {
@@ -43,8 +43,8 @@ multiplexing_replies : List Reply
 multiplexing_replies = reply.Ok ∷ reply.Ok ∷ reply.Ok ∷ reply.Ok ∷ reply.Ok ∷ reply.Read (100 ∷ 20 ∷ 10 ∷ []) ∷ reply.Read (40 ∷ 20 ∷ 10 ∷ []) ∷ []
 
 multiplexing-answers : Answers multiplexing multiplexing_replies
-unfolding Answers multiplexing multiplexing_replies
-multiplexing-answers = (refl, (refl, (refl, (refl, (refl, (refl, (refl, tt)))))))
+unfolding Computed multiplexing multiplexing_replies
+multiplexing-answers = computed multiplexing multiplexing_replies (refl, (refl, (refl, (refl, (refl, (refl, (refl, tt)))))))
 
 new_period : Scripted
 new_period = record {
@@ -72,8 +72,8 @@ new_period_replies : List Reply
 new_period_replies = reply.Ok ∷ reply.Ok ∷ reply.Ok ∷ reply.Refused reason.ZeroPeriod ∷ reply.Ok ∷ reply.Ok ∷ reply.Ok ∷ []
 
 new_period-answers : Answers new_period new_period_replies
-unfolding Answers new_period new_period_replies
-new_period-answers = (refl, (refl, (refl, (refl, (refl, (refl, (refl, tt)))))))
+unfolding Computed new_period new_period_replies
+new_period-answers = computed new_period new_period_replies (refl, (refl, (refl, (refl, (refl, (refl, (refl, tt)))))))
 
 opens_refused : Scripted
 opens_refused = record {
@@ -112,8 +112,8 @@ opens_refused_replies = reply.Ok ∷ reply.Refused reason.Exists ∷ reply.Refus
     reply.Refused (reason.NoAssignment (slots (0 ∷ 1 ∷ []))) ∷ reply.Ok ∷ reply.Refused reason.NotLeader ∷ []
 
 opens_refused-answers : Answers opens_refused opens_refused_replies
-unfolding Answers opens_refused opens_refused_replies
-opens_refused-answers = (refl, (refl, (refl, (refl, (refl, (refl, (refl, (refl, (refl, (refl, (refl, (refl, (refl, (refl, (refl, tt)))))))))))))))
+unfolding Computed opens_refused opens_refused_replies
+opens_refused-answers = computed opens_refused opens_refused_replies (refl, (refl, (refl, (refl, (refl, (refl, (refl, (refl, (refl, (refl, (refl, (refl, (refl, (refl, (refl, tt)))))))))))))))
 
 pinned_and_error : Scripted
 pinned_and_error = record {
@@ -142,8 +142,8 @@ pinned_and_error_replies = reply.Ok ∷ reply.Ok ∷ reply.Read [] ∷ reply.Why
     reply.Why why.On ∷ reply.Why why.Off ∷ []
 
 pinned_and_error-answers : Answers pinned_and_error pinned_and_error_replies
-unfolding Answers pinned_and_error pinned_and_error_replies
-pinned_and_error-answers = (refl, (refl, (refl, (refl, (refl, (refl, (refl, (refl, tt))))))))
+unfolding Computed pinned_and_error pinned_and_error_replies
+pinned_and_error-answers = computed pinned_and_error pinned_and_error_replies (refl, (refl, (refl, (refl, (refl, (refl, (refl, (refl, tt))))))))
 
 realistic : Scripted
 realistic = record {
@@ -192,8 +192,8 @@ realistic_replies = reply.Ok ∷ reply.Ok ∷ reply.Ok ∷ reply.Ok ∷ reply.Ok
     reply.Read (160000 ∷ 16000000 ∷ 16000000 ∷ []) ∷ reply.Read (160000 ∷ 16000000 ∷ 8000000 ∷ []) ∷ reply.Read (8000 ∷ 16000000 ∷ 4000000 ∷ []) ∷ []
 
 realistic-answers : Answers realistic realistic_replies
-unfolding Answers realistic realistic_replies
-realistic-answers = (refl, (refl, (refl, (refl, (refl, (refl, (refl, (refl, (refl, (refl, (refl, (refl, (refl, (refl, (refl, (refl, (refl, (refl, (refl, (refl, (refl, (refl, tt))))))))))))))))))))))
+unfolding Computed realistic realistic_replies
+realistic-answers = computed realistic realistic_replies (refl, (refl, (refl, (refl, (refl, (refl, (refl, (refl, (refl, (refl, (refl, (refl, (refl, (refl, (refl, (refl, (refl, (refl, (refl, (refl, (refl, (refl, tt))))))))))))))))))))))
 
 seated_event_moves : Scripted
 seated_event_moves = record {
@@ -217,8 +217,8 @@ seated_event_moves_replies : List Reply
 seated_event_moves_replies = reply.Ok ∷ reply.Ok ∷ reply.Seats ((slot 0, 1) ∷ (slot 1, 0) ∷ []) ∷ reply.Why why.On ∷ []
 
 seated_event_moves-answers : Answers seated_event_moves seated_event_moves_replies
-unfolding Answers seated_event_moves seated_event_moves_replies
-seated_event_moves-answers = (refl, (refl, ((_, refl, are_seats refl refl), (refl, tt))))
+unfolding Computed seated_event_moves seated_event_moves_replies
+seated_event_moves-answers = computed seated_event_moves seated_event_moves_replies (refl, (refl, ((_, refl, are_seats refl refl), (refl, tt))))
 
 sibling_off : Scripted
 sibling_off = record {
@@ -247,8 +247,8 @@ sibling_off_replies = reply.Ok ∷ reply.Ok ∷ reply.Ok ∷ reply.Ok ∷ reply.
     reply.Read (0 ∷ 0 ∷ 0 ∷ []) ∷ reply.Why why.Off ∷ []
 
 sibling_off-answers : Answers sibling_off sibling_off_replies
-unfolding Answers sibling_off sibling_off_replies
-sibling_off-answers = (refl, (refl, (refl, (refl, (refl, (refl, (refl, tt)))))))
+unfolding Computed sibling_off sibling_off_replies
+sibling_off-answers = computed sibling_off sibling_off_replies (refl, (refl, (refl, (refl, (refl, (refl, (refl, tt)))))))
 
 smallest_path : Scripted
 smallest_path = record {
@@ -272,8 +272,8 @@ smallest_path_replies : List Reply
 smallest_path_replies = reply.Ok ∷ reply.Ok ∷ reply.Read (500 ∷ 100 ∷ 100 ∷ []) ∷ []
 
 smallest_path-answers : Answers smallest_path smallest_path_replies
-unfolding Answers smallest_path smallest_path_replies
-smallest_path-answers = (refl, (refl, (refl, tt)))
+unfolding Computed smallest_path smallest_path_replies
+smallest_path-answers = computed smallest_path smallest_path_replies (refl, (refl, (refl, tt)))
 
 software_kinds : Scripted
 software_kinds = record {
@@ -310,8 +310,8 @@ software_kinds_replies = reply.Ok ∷ reply.Ok ∷ reply.Ok ∷ reply.Ok ∷ rep
     reply.Read (1 ∷ []) ∷ reply.Read (15 ∷ []) ∷ reply.Read (2 ∷ []) ∷ []
 
 software_kinds-answers : Answers software_kinds software_kinds_replies
-unfolding Answers software_kinds software_kinds_replies
-software_kinds-answers = (refl, (refl, (refl, (refl, (refl, (refl, (refl, (refl, (refl, (refl, (refl, (refl, (refl, tt)))))))))))))
+unfolding Computed software_kinds software_kinds_replies
+software_kinds-answers = computed software_kinds software_kinds_replies (refl, (refl, (refl, (refl, (refl, (refl, (refl, (refl, (refl, (refl, (refl, (refl, (refl, tt)))))))))))))
 
 switches_refused : Scripted
 switches_refused = record {
@@ -335,8 +335,8 @@ switches_refused_replies : List Reply
 switches_refused_replies = reply.Ok ∷ reply.Refused reason.Busy ∷ reply.Refused reason.NoTask ∷ []
 
 switches_refused-answers : Answers switches_refused switches_refused_replies
-unfolding Answers switches_refused switches_refused_replies
-switches_refused-answers = (refl, (refl, (refl, tt)))
+unfolding Computed switches_refused switches_refused_replies
+switches_refused-answers = computed switches_refused switches_refused_replies (refl, (refl, (refl, tt)))
 
 tight_set : Scripted
 tight_set = record {
@@ -361,5 +361,5 @@ tight_set_replies : List Reply
 tight_set_replies = reply.Ok ∷ reply.Ok ∷ reply.Ok ∷ reply.Why (why.Refused (cause.Hall (slots (0 ∷ 2 ∷ [])))) ∷ reply.Why why.On ∷ []
 
 tight_set-answers : Answers tight_set tight_set_replies
-unfolding Answers tight_set tight_set_replies
-tight_set-answers = (refl, (refl, (refl, (refl, (refl, tt)))))
+unfolding Computed tight_set tight_set_replies
+tight_set-answers = computed tight_set tight_set_replies (refl, (refl, (refl, (refl, (refl, tt)))))
