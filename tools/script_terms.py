@@ -269,7 +269,7 @@ def reply(head, words):
         return (f"reply.Why {why(words)}", "refl")
     if head == "seats":
         pairs = [f"(slot {event}, {counter})" for event, counter in (word.split("=") for word in words)]
-        return (f"reply.Seats {bracketed(pairs)}", "(_, refl, are_seats refl refl)")
+        return (f"reply.Seats {bracketed(pairs)}", "(refl, refl)")
     raise ValueError(f"{head} {words}")
 
 
@@ -398,7 +398,6 @@ IMPORTS = [
         "Rattle.stage_spec.proofs.rows.Words",
         ["cpu", "task", "slot", "slots", "ring", "by_cpu", "by_tool", "seen", "pmu", "kind_line", "attr", "work", "reader", "eight", "four"],
     ),
-    ("Rattle.stage_spec.proofs.rows.Seats", ["are_seats"]),
     ("Rattle.stage_spec.proofs.rows.Answering", ["Answers", "Computed", "computed"]),
 ]
 

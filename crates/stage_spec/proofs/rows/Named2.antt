@@ -14,7 +14,6 @@ use Rattle.perf_base.specs.declared.reply.Reply.{Reply}
 use Rattle.perf_base.specs.declared.reply.Reply.TheVariants as reply
 use Rattle.perf_base.specs.Scripts.{Scripted}
 use Rattle.stage_spec.proofs.rows.Words.{cpu, task, slot, slots, ring, by_cpu, by_tool, pmu, kind_line, attr, work, eight, four}
-use Rattle.stage_spec.proofs.rows.Seats.{are_seats}
 use Rattle.stage_spec.proofs.rows.Answering.{Answers, Computed, computed}
 
 multiplexing : Scripted
@@ -218,7 +217,7 @@ seated_event_moves_replies = reply.Ok ∷ reply.Ok ∷ reply.Seats ((slot 0, 1) 
 
 seated_event_moves-answers : Answers seated_event_moves seated_event_moves_replies
 unfolding Computed seated_event_moves seated_event_moves_replies
-seated_event_moves-answers = computed seated_event_moves seated_event_moves_replies (refl, (refl, ((_, refl, are_seats refl refl), (refl, tt))))
+seated_event_moves-answers = computed seated_event_moves seated_event_moves_replies (refl, (refl, ((refl, refl), (refl, tt))))
 
 sibling_off : Scripted
 sibling_off = record {

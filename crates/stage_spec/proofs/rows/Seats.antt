@@ -1,10 +1,12 @@
--- A test of whether counters are an assignment, and seats by that test.
+-- A test of whether counters are an assignment, and the answer to SEATS by that test.
 use Rattle.std.specs.Prelude.{◌≢◌, nat_eq}
 use Rattle.std.proofs.Common.{◌≡◌, ℕ, zero, suc, ◌<◌, Bool, true, false, not, ◌&&◌, List, [], ◌∷◌, map, length, get_or, refl, ap, arith}
 use Rattle.std.specs.List.{list_any}
 use Rattle.std.proofs.lemmas.Bool.{and_parts, not-true, or_parts, eqb-false}
 use Rattle.perf_base.specs.declared.numbers.CpuNo.{CpuNo}
 use Rattle.perf_base.specs.declared.numbers.EventNo.{EventNo}
+use Rattle.perf_base.specs.declared.reply.Reply.{Reply}
+use Rattle.perf_base.specs.declared.reply.Reply.TheVariants as reply
 use Rattle.stage_spec.specs.Hardware.{Hardware, mask_of}
 use Rattle.stage_spec.specs.Stage.{Stage}
 use Rattle.stage_spec.specs.Fits.{can_count, IsAssignment}
@@ -49,10 +51,16 @@ is_assignment-true (m ∷ ms) (c ∷ cs) h =
       different = different-cons c cs (not-true _ q.0) rest.different;
     }
 
--- seats of the events that are on, with counters that pass the test
-pub are_seats : {hw : Hardware} {s : Stage} {cpu : CpuNo} {seats : List (EventNo × ℕ)}
-    → map (λ seat. seat.0) seats ≡ map (λ i. i.event) (seated hw s cpu)
-    → is_assignment (map (λ i. mask_of hw i.attr.kind) (seated hw s cpu)) (map (λ seat. seat.1) seats) ≡ true
-    → IsSeats hw s cpu seats
-are_seats {hw} {s} {cpu} {seats} events test =
-    record { events = events; counters = is_assignment-true (map (λ i. mask_of hw i.attr.kind) (seated hw s cpu)) (map (λ seat. seat.1) seats) test }
+-- the answer to SEATS by that test: the events that are on, each with a counter
+abbrev pub SeatsBy : Hardware → Stage → CpuNo → Reply → Type 0
+SeatsBy hw s cpu (reply.Seats seats) = (map (λ seat. seat.0) seats ≡ map (λ i. i.event) (seated hw s cpu))
+    × (is_assignment (map (λ i. mask_of hw i.attr.kind) (seated hw s cpu)) (map (λ seat. seat.1) seats) ≡ true)
+SeatsBy hw s cpu _ = ⊥
+
+pub seats_by : (hw : Hardware) (s : Stage) (cpu : CpuNo) (r : Reply) → SeatsBy hw s cpu r → (seats : List (EventNo × ℕ)) × (r ≡ reply.Seats seats) × IsSeats hw s cpu seats
+seats_by hw s cpu (reply.Seats seats) h =
+    (seats, refl, record { events = h.0; counters = is_assignment-true (map (λ i. mask_of hw i.attr.kind) (seated hw s cpu)) (map (λ seat. seat.1) seats) h.1 })
+seats_by hw s cpu reply.Ok h = absurd h
+seats_by hw s cpu (reply.Refused reason) h = absurd h
+seats_by hw s cpu (reply.Read words) h = absurd h
+seats_by hw s cpu (reply.Why why) h = absurd h
