@@ -7,5 +7,6 @@ mod Counting2
 mod Counting3
 mod Named1
 mod Named2
+mod Named3
 pub mod Seats
 pub mod Words

@@ -14,7 +14,7 @@ use Rattle.perf_base.specs.declared.reasons.Reason.TheVariants as reason
 use Rattle.perf_base.specs.declared.reply.Reply.{Reply}
 use Rattle.perf_base.specs.declared.reply.Reply.TheVariants as reply
 use Rattle.perf_base.specs.Scripts.{Scripted}
-use Rattle.stage_spec.proofs.rows.Words.{cpu, task, slot, slots, ring, by_cpu, by_tool, pmu, kind_line, attr, work, eight, four}
+use Rattle.stage_spec.proofs.rows.Words.{cpu, task, slot, slots, by_cpu, by_tool, pmu, kind_line, attr, work, eight, four}
 use Rattle.stage_spec.proofs.rows.Answering.{Answers, Computed, computed}
 
 bound_elsewhere : Scripted
@@ -251,6 +251,47 @@ group_read-answers : Answers group_read group_read_replies
 unfolding Computed group_read group_read_replies
 group_read-answers = computed group_read group_read_replies (refl, (refl, (refl, (refl, (refl, (refl, tt))))))
 
+group_whole : Scripted
+group_whole = record {
+  cpus = 1;
+  pmus = pmu 2 1 ∷ [];
+  kinds = kind_line (codes "a") 0 1 ∷ kind_line (codes "b") 0 2 ∷ [];
+  tasks = [];
+  rings = [];
+  cpu_lines = eight ((
+      cpu_line.Work (work 10 mode.User 0 (5 ∷ 6 ∷ [])) ∷
+      cpu_line.Tick ∷
+      cpu_line.Work (work 10 mode.User 0 (7 ∷ 8 ∷ [])) ∷
+      []) ∷ []);
+  tool_lines = four ((
+      tool_line.Open (slot 0) (attr (kind.Hard 0) tasks.All (cpus.One (cpu 0)) 0 0 3 0) None ∷
+      tool_line.Open (slot 1) (attr (kind.Hard 1) tasks.All (cpus.One (cpu 0)) 0 0 3 0) None ∷
+      tool_line.Open (slot 2) (attr (kind.Hard 0) tasks.All (cpus.One (cpu 0)) 0 0 3 0) (Some (slot 1)) ∷
+      tool_line.Why (slot 1) ∷
+      tool_line.Why (slot 2) ∷
+      tool_line.Read (slot 0) None ∷
+      tool_line.Read (slot 1) None ∷
+      tool_line.Read (slot 2) None ∷
+      tool_line.Why (slot 0) ∷
+      tool_line.Read (slot 0) None ∷
+      tool_line.Read (slot 1) None ∷
+      tool_line.Read (slot 2) None ∷
+      []) ∷ []);
+  readers = [];
+  order = by_tool 0 ∷ by_tool 0 ∷ by_tool 0 ∷ by_tool 0 ∷ by_tool 0 ∷ by_cpu 0 ∷ by_tool 0 ∷ by_tool 0 ∷ by_tool 0 ∷ by_cpu 0 ∷ by_tool 0 ∷
+      by_cpu 0 ∷ by_tool 0 ∷ by_tool 0 ∷ by_tool 0 ∷ [];
+}
+
+group_whole_replies : List Reply
+group_whole_replies = reply.Ok ∷ reply.Ok ∷ reply.Ok ∷ reply.Why (why.Refused (cause.Hall (slots (0 ∷ 2 ∷ [])))) ∷
+    reply.Why (why.Refused (cause.Hall (slots (0 ∷ 2 ∷ [])))) ∷ reply.Ok ∷ reply.Read (5 ∷ 10 ∷ 10 ∷ []) ∷ reply.Read (0 ∷ 10 ∷ 0 ∷ []) ∷
+    reply.Read (0 ∷ 10 ∷ 0 ∷ []) ∷ reply.Ok ∷ reply.Why (why.Refused (cause.Hall (slots (2 ∷ 0 ∷ [])))) ∷ reply.Ok ∷ reply.Read (5 ∷ 20 ∷ 10 ∷ []) ∷
+    reply.Read (8 ∷ 20 ∷ 10 ∷ []) ∷ reply.Read (7 ∷ 20 ∷ 10 ∷ []) ∷ []
+
+group_whole-answers : Answers group_whole group_whole_replies
+unfolding Computed group_whole group_whole_replies
+group_whole-answers = computed group_whole group_whole_replies (refl, (refl, (refl, (refl, (refl, (refl, (refl, (refl, (refl, (refl, (refl, (refl, (refl, (refl, (refl, tt)))))))))))))))
+
 hybrid_machine : Scripted
 hybrid_machine = record {
   cpus = 2;
@@ -319,48 +360,3 @@ leader_closed_replies = reply.Ok ∷ reply.Ok ∷ reply.Why why.Off ∷ reply.Ok
 leader_closed-answers : Answers leader_closed leader_closed_replies
 unfolding Computed leader_closed leader_closed_replies
 leader_closed-answers = computed leader_closed leader_closed_replies (refl, (refl, (refl, (refl, (refl, (refl, (refl, (refl, (refl, tt)))))))))
-
-map_and_output : Scripted
-map_and_output = record {
-  cpus = 2;
-  pmus = pmu 2 3 ∷ [];
-  kinds = kind_line (codes "a") 0 3 ∷ [];
-  tasks = task 0 ∷ task 1 ∷ [];
-  rings = (ring 0, 64) ∷ (ring 1, 64) ∷ [];
-  cpu_lines = eight ((
-      cpu_line.Work (work 10 mode.User 7 (5 ∷ [])) ∷
-      []) ∷ []);
-  tool_lines = four ((
-      tool_line.Open (slot 0) (attr (kind.Hard 0) tasks.All (cpus.One (cpu 0)) 0 0 0 0) None ∷
-      tool_line.Open (slot 1) (attr (kind.Hard 0) tasks.All (cpus.One (cpu 1)) 0 0 0 0) None ∷
-      tool_line.Open (slot 2) (attr (kind.Hard 0) (tasks.One (task 0)) cpus.Any 0 0 0 2) None ∷
-      tool_line.Open (slot 3) (attr (kind.Hard 0) tasks.All (cpus.One (cpu 0)) 5 1 0 0) None ∷
-      tool_line.Open (slot 4) (attr (kind.Hard 0) (tasks.One (task 0)) cpus.Any 0 0 0 0) None ∷
-      tool_line.Open (slot 5) (attr (kind.Hard 0) (tasks.One (task 1)) cpus.Any 0 0 0 0) None ∷
-      tool_line.Map (slot 2) (ring 0) ∷
-      tool_line.Map (slot 0) (ring 0) ∷
-      tool_line.Map (slot 0) (ring 1) ∷
-      tool_line.Map (slot 3) (ring 0) ∷
-      tool_line.Output (slot 0) (slot 0) ∷
-      tool_line.Output (slot 1) (slot 0) ∷
-      tool_line.Output (slot 4) (slot 5) ∷
-      tool_line.Output (slot 0) (slot 3) ∷
-      tool_line.Output (slot 4) (slot 2) ∷
-      tool_line.Output (slot 3) (slot 0) ∷
-      tool_line.Output (slot 3) (slot 9) ∷
-      tool_line.Close (slot 0) ∷
-      []) ∷ []);
-  readers = [];
-  order = by_tool 0 ∷ by_tool 0 ∷ by_tool 0 ∷ by_tool 0 ∷ by_tool 0 ∷ by_tool 0 ∷ by_tool 0 ∷ by_tool 0 ∷ by_tool 0 ∷ by_tool 0 ∷ by_tool 0 ∷
-      by_tool 0 ∷ by_tool 0 ∷ by_tool 0 ∷ by_tool 0 ∷ by_tool 0 ∷ by_tool 0 ∷ by_tool 0 ∷ by_cpu 0 ∷ [];
-}
-
-map_and_output_replies : List Reply
-map_and_output_replies = reply.Ok ∷ reply.Ok ∷ reply.Ok ∷ reply.Ok ∷ reply.Ok ∷ reply.Ok ∷ reply.Refused reason.Inherit ∷ reply.Ok ∷
-    reply.Refused reason.HasRing ∷ reply.Refused reason.Busy ∷ reply.Refused reason.SameEvent ∷ reply.Refused reason.OtherCpu ∷
-    reply.Refused reason.OtherContext ∷ reply.Refused reason.HasRing ∷ reply.Refused reason.NoRing ∷ reply.Ok ∷ reply.Refused reason.NoEvent ∷
-    reply.Ok ∷ reply.Ok ∷ []
-
-map_and_output-answers : Answers map_and_output map_and_output_replies
-unfolding Computed map_and_output map_and_output_replies
-map_and_output-answers = computed map_and_output map_and_output_replies (refl, (refl, (refl, (refl, (refl, (refl, (refl, (refl, (refl, (refl, (refl, (refl, (refl, (refl, (refl, (refl, (refl, (refl, (refl, tt)))))))))))))))))))

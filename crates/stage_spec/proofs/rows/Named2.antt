@@ -16,6 +16,51 @@ use Rattle.perf_base.specs.Scripts.{Scripted}
 use Rattle.stage_spec.proofs.rows.Words.{cpu, task, slot, slots, ring, by_cpu, by_tool, pmu, kind_line, attr, work, eight, four}
 use Rattle.stage_spec.proofs.rows.Answering.{Answers, Computed, computed}
 
+map_and_output : Scripted
+map_and_output = record {
+  cpus = 2;
+  pmus = pmu 2 3 ∷ [];
+  kinds = kind_line (codes "a") 0 3 ∷ [];
+  tasks = task 0 ∷ task 1 ∷ [];
+  rings = (ring 0, 64) ∷ (ring 1, 64) ∷ [];
+  cpu_lines = eight ((
+      cpu_line.Work (work 10 mode.User 7 (5 ∷ [])) ∷
+      []) ∷ []);
+  tool_lines = four ((
+      tool_line.Open (slot 0) (attr (kind.Hard 0) tasks.All (cpus.One (cpu 0)) 0 0 0 0) None ∷
+      tool_line.Open (slot 1) (attr (kind.Hard 0) tasks.All (cpus.One (cpu 1)) 0 0 0 0) None ∷
+      tool_line.Open (slot 2) (attr (kind.Hard 0) (tasks.One (task 0)) cpus.Any 0 0 0 2) None ∷
+      tool_line.Open (slot 3) (attr (kind.Hard 0) tasks.All (cpus.One (cpu 0)) 5 1 0 0) None ∷
+      tool_line.Open (slot 4) (attr (kind.Hard 0) (tasks.One (task 0)) cpus.Any 0 0 0 0) None ∷
+      tool_line.Open (slot 5) (attr (kind.Hard 0) (tasks.One (task 1)) cpus.Any 0 0 0 0) None ∷
+      tool_line.Map (slot 2) (ring 0) ∷
+      tool_line.Map (slot 0) (ring 0) ∷
+      tool_line.Map (slot 0) (ring 1) ∷
+      tool_line.Map (slot 3) (ring 0) ∷
+      tool_line.Output (slot 0) (slot 0) ∷
+      tool_line.Output (slot 1) (slot 0) ∷
+      tool_line.Output (slot 4) (slot 5) ∷
+      tool_line.Output (slot 0) (slot 3) ∷
+      tool_line.Output (slot 4) (slot 2) ∷
+      tool_line.Output (slot 3) (slot 0) ∷
+      tool_line.Output (slot 3) (slot 9) ∷
+      tool_line.Close (slot 0) ∷
+      []) ∷ []);
+  readers = [];
+  order = by_tool 0 ∷ by_tool 0 ∷ by_tool 0 ∷ by_tool 0 ∷ by_tool 0 ∷ by_tool 0 ∷ by_tool 0 ∷ by_tool 0 ∷ by_tool 0 ∷ by_tool 0 ∷ by_tool 0 ∷
+      by_tool 0 ∷ by_tool 0 ∷ by_tool 0 ∷ by_tool 0 ∷ by_tool 0 ∷ by_tool 0 ∷ by_tool 0 ∷ by_cpu 0 ∷ [];
+}
+
+map_and_output_replies : List Reply
+map_and_output_replies = reply.Ok ∷ reply.Ok ∷ reply.Ok ∷ reply.Ok ∷ reply.Ok ∷ reply.Ok ∷ reply.Refused reason.Inherit ∷ reply.Ok ∷
+    reply.Refused reason.HasRing ∷ reply.Refused reason.Busy ∷ reply.Refused reason.SameEvent ∷ reply.Refused reason.OtherCpu ∷
+    reply.Refused reason.OtherContext ∷ reply.Refused reason.HasRing ∷ reply.Refused reason.NoRing ∷ reply.Ok ∷ reply.Refused reason.NoEvent ∷
+    reply.Ok ∷ reply.Ok ∷ []
+
+map_and_output-answers : Answers map_and_output map_and_output_replies
+unfolding Computed map_and_output map_and_output_replies
+map_and_output-answers = computed map_and_output map_and_output_replies (refl, (refl, (refl, (refl, (refl, (refl, (refl, (refl, (refl, (refl, (refl, (refl, (refl, (refl, (refl, (refl, (refl, (refl, (refl, tt)))))))))))))))))))
+
 multiplexing : Scripted
 multiplexing = record {
   cpus = 1;
@@ -336,29 +381,3 @@ switches_refused_replies = reply.Ok ∷ reply.Refused reason.Busy ∷ reply.Refu
 switches_refused-answers : Answers switches_refused switches_refused_replies
 unfolding Computed switches_refused switches_refused_replies
 switches_refused-answers = computed switches_refused switches_refused_replies (refl, (refl, (refl, tt)))
-
-tight_set : Scripted
-tight_set = record {
-  cpus = 1;
-  pmus = pmu 3 1 ∷ [];
-  kinds = kind_line (codes "a") 0 1 ∷ kind_line (codes "b") 0 6 ∷ [];
-  tasks = [];
-  rings = [];
-  cpu_lines = eight [];
-  tool_lines = four ((
-      tool_line.Open (slot 0) (attr (kind.Hard 0) tasks.All (cpus.One (cpu 0)) 0 0 0 0) None ∷
-      tool_line.Open (slot 1) (attr (kind.Hard 1) tasks.All (cpus.One (cpu 0)) 0 0 0 0) None ∷
-      tool_line.Open (slot 2) (attr (kind.Hard 0) tasks.All (cpus.One (cpu 0)) 0 0 0 0) None ∷
-      tool_line.Why (slot 2) ∷
-      tool_line.Why (slot 1) ∷
-      []) ∷ []);
-  readers = [];
-  order = by_tool 0 ∷ by_tool 0 ∷ by_tool 0 ∷ by_tool 0 ∷ by_tool 0 ∷ [];
-}
-
-tight_set_replies : List Reply
-tight_set_replies = reply.Ok ∷ reply.Ok ∷ reply.Ok ∷ reply.Why (why.Refused (cause.Hall (slots (0 ∷ 2 ∷ [])))) ∷ reply.Why why.On ∷ []
-
-tight_set-answers : Answers tight_set tight_set_replies
-unfolding Computed tight_set tight_set_replies
-tight_set-answers = computed tight_set tight_set_replies (refl, (refl, (refl, (refl, (refl, tt)))))
