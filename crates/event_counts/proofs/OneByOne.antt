@@ -2,7 +2,7 @@
 use Rattle.std.proofs.Common.{◌≡◌, ℕ, ◌+◌, ◌-◌, ◌*◌, ◌/◌, ◌%◌, ◌<◌, ◌≤◌, zero, suc, refl, sym, arith}
 use Rattle.std.proofs.lemmas.Bool.Decides.{nat_tests}
 use Rattle.std.proofs.lemmas.Nat.{div-mul-add, mod-mul-add}
-use Rattle.event_counts.specs.Counts.{left_after_one, overflows_of_one, left_after, overflows}
+use Rattle.stage_spec.specs.Occurrences.{left_after_one, overflows_of_one, left_after, overflows}
 
 -- one occurrence keeps a remainder within its period
 one_within : (period left : ℕ) → 0 < left → left ≤ period → (0 < left_after_one period left) × (left_after_one period left ≤ period)

@@ -1,7 +1,8 @@
 //! The count of one instance, and when its period is over.
 
 ghost use Rattle.std.specs.Prelude.{◌≡◌, ◌≢◌, ◌+◌, ◌^◌, ◌<◌, ◌≤◌};
-ghost use Rattle.event_counts.specs.Counts.{fresh_counts, counts_after, overflows};
+ghost use Rattle.event_counts.specs.Counts.{fresh_counts, counts_after};
+ghost use Rattle.stage_spec.specs.Occurrences.{overflows};
 
 use std::marker::Model;
 

@@ -12,12 +12,12 @@ use Rattle.perf_base.specs.declared.acts.Actor.{Actor}
 use Rattle.perf_base.specs.declared.acts.Actor.TheVariants as actor
 use Rattle.perf_base.specs.Scripts.{Scripted}
 use Rattle.stage_spec.specs.Order.{is_of_cpu, is_of_tool, done_by_cpu, done_by_tool, IsComplete}
-use Rattle.stage_spec.specs.Counting.{IsFirstForm, IsWorkLine, counting_open, counting_read}
-use Rattle.stage_spec.specs.Progress.{Progress, IsAfter, HasLine}
+use Rattle.stage_spec.specs.FirstCounting.{IsFirstForm, IsWorkLine, counting_open, counting_read}
+use Rattle.stage_spec.specs.FirstProgress.{Progress, IsAfter, HasLine}
 use Rattle.perf_base.specs.declared.reply.Reply.{Reply}
 use Rattle.stage_spec.specs.FirstReplies.{reply_of, replies_from}
 use Rattle.stage_spec.specs.FirstRecurrence.{replies_from-push}
-use Rattle.stage_spec.specs.Steps.{act_of, count_by-push}
+use Rattle.stage_spec.specs.FirstSteps.{act_of, count_by-push}
 use Rattle.script_spec.specs.FirstForm.{FirstForm, IsFormScript, IsFormAct, first_script, work_of}
 
 -- fewer are counted before an element that counts than in all

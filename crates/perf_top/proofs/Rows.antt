@@ -8,7 +8,7 @@ use Rattle.perf_base.specs.declared.numbers.CpuNo.{CpuNo}
 use Rattle.perf_base.specs.declared.numbers.ToolNo.{ToolNo}
 use Rattle.perf_base.specs.declared.acts.Act.{Act}
 use Rattle.perf_base.specs.declared.acts.Act.TheVariants as act
-use Rattle.stage_spec.specs.Counting.{cpu_zero, tool_zero}
+use Rattle.stage_spec.specs.FirstCounting.{cpu_zero, tool_zero}
 use Rattle.script_spec.specs.Acts.{act_text, acts_text}
 use Rattle.script_spec.specs.FirstForm.{IsWorkPair, IsFormAct, line, work_text}
 use Rattle.perf_top.specs.Reading.{◌>>=◌, strip, number_at, work_at, works_at, reads_at, act_at, acts_at}

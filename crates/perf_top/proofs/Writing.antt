@@ -12,9 +12,9 @@ use Rattle.perf_base.specs.declared.acts.Act.TheVariants as act
 use Rattle.perf_base.specs.declared.reply.Reply.{Reply}
 use Rattle.perf_base.specs.Scripts.{Scripted}
 use Rattle.stage_spec.specs.Order.{done_by_tool, is_of_tool, next_of_tool}
-use Rattle.stage_spec.specs.Counting.{tool_zero}
+use Rattle.stage_spec.specs.FirstCounting.{tool_zero}
 use Rattle.stage_spec.specs.FirstReplies.{reply_of, replies_from, tool_reply}
-use Rattle.stage_spec.specs.Steps.{count_by-push}
+use Rattle.stage_spec.specs.FirstSteps.{count_by-push}
 use Rattle.script_spec.specs.FirstForm.{IsFormAct, IsFormScript}
 use Rattle.script_spec.specs.Acts.{act_text, acts_text}
 use Rattle.report_spec.specs.Report.{numbers_text, answer_text, answer_line, answer_lines, tool_word, report}

@@ -4,7 +4,7 @@ use Rattle.std.specs.List.{starts_with, prefix_len}
 use Rattle.std.specs.Char.{is_ascii_digit}
 use Rattle.perf_base.specs.declared.acts.Act.{Act}
 use Rattle.perf_base.specs.declared.acts.Act.TheVariants as act
-use Rattle.stage_spec.specs.Counting.{cpu_zero, tool_zero}
+use Rattle.stage_spec.specs.FirstCounting.{cpu_zero, tool_zero}
 use Rattle.script_spec.specs.FirstForm.{FirstForm}
 use Rattle.std.specs.Prelude.{map}
 use Rattle.perf_top.specs.declared.first_form.reading.Form.{Form}

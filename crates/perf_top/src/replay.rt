@@ -6,7 +6,7 @@ ghost use Rattle.stage_spec.specs.Order as order;
 ghost use Rattle.stage_spec.specs.Order.{done_by_cpu, done_by_tool, IsComplete};
 ghost use Rattle.perf_top.specs.Completing.{CpusComplete, ToolsComplete};
 ghost use Rattle.stage_spec.specs.FirstReplies.{replies_from};
-ghost use Rattle.stage_spec.specs.Steps.{act_of};
+ghost use Rattle.stage_spec.specs.FirstSteps.{act_of};
 ghost use Rattle.script_spec.specs.FirstForm.{IsFormScript, IsFormAct};
 
 use machine::Machine;

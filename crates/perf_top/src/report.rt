@@ -2,7 +2,7 @@
 
 ghost use Rattle.std.specs.Prelude.{◌≡◌, ◌∷◌, [], ◌++◌, ◌<◌, codes, decimal, IfOk, OnOk, if◌then◌else◌};
 ghost use Rattle.stage_spec.specs.Order.{is_of_tool};
-ghost use Rattle.stage_spec.specs.Counting.{tool_zero};
+ghost use Rattle.stage_spec.specs.FirstCounting.{tool_zero};
 ghost use Rattle.stage_spec.specs.FirstReplies.{replies_from};
 ghost use Rattle.script_spec.specs.Acts.{act_text, acts_text};
 ghost use Rattle.script_spec.specs.FirstForm.{IsFormScript};

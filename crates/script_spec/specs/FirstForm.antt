@@ -8,7 +8,7 @@ use Rattle.perf_base.specs.declared.lines.CpuLine.TheVariants as cpu_line
 use Rattle.perf_base.specs.declared.acts.Act.{Act}
 use Rattle.perf_base.specs.declared.acts.Act.TheVariants as act
 use Rattle.perf_base.specs.Scripts.{Scripted, IsName, IsFreeName}
-use Rattle.stage_spec.specs.Counting.{counting_open, counting_read}
+use Rattle.stage_spec.specs.FirstCounting.{counting_open, counting_read}
 use Rattle.script_spec.specs.Acts.{acts_text}
 
 -- what a text of the first form says: the kind's name, each work line's length and occurrences, how many

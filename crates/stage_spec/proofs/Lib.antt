@@ -1,3 +1,6 @@
-mod Running
-mod Try
+mod Births
+mod Each
+mod Ids
+mod Settled
+mod Settling
 pub mod rows

@@ -1,13 +1,11 @@
 -- What an exit does, after perf_event_exit_task of kernel/events/core.c. That the task's own events stay readable is
 -- this project's own profile.
-use Rattle.std.specs.Prelude.{Bool, List, [], ◌∷◌, filter, Option, Some, None}
+use Rattle.std.specs.Prelude.{[], ◌∷◌, Option, Some, None}
 use Rattle.perf_base.specs.declared.numbers.CpuNo.{CpuNo}
-use Rattle.perf_base.specs.declared.numbers.EventNo.{EventNo}
 use Rattle.perf_base.specs.declared.numbers.TaskNo.{TaskNo}
 use Rattle.perf_base.specs.declared.standing.Context.TheVariants as context
 use Rattle.perf_base.specs.declared.reasons.Reason.{Reason}
 use Rattle.perf_base.specs.declared.reasons.Reason.TheVariants as reason
-use Rattle.stage_spec.specs.declared.instance.Instance.{Instance}
 use Rattle.stage_spec.specs.declared.instance.TaskState.TheVariants as state
 use Rattle.stage_spec.specs.Stage.{Stage, task_on, status_of, set_status, change_context, is_copy}
 use Rattle.stage_spec.specs.Opening.{first_of}

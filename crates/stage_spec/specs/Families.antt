@@ -1,6 +1,6 @@
 -- What an event has counted with its copies, those that have exited among them. After __perf_event_read_value and
 -- sync_child_event of kernel/events/core.c.
-use Rattle.std.specs.Prelude.{ℕ, ◌+◌, Bool, ◌&&◌, List, [], ◌∷◌, ◌++◌, filter}
+use Rattle.std.specs.Prelude.{◌+◌, ◌&&◌, List, [], ◌∷◌, ◌++◌, filter}
 use Rattle.perf_base.specs.declared.numbers.CpuNo.{CpuNo}
 use Rattle.perf_base.specs.declared.numbers.EventNo.{EventNo}
 use Rattle.perf_base.specs.declared.lines.CpuLine.{CpuLine}

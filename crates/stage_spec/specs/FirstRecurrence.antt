@@ -3,7 +3,7 @@ use Rattle.std.specs.Prelude.{◌≡◌, ℕ, ◌+◌, List, [], ◌∷◌, ◌+
 use Rattle.std.proofs.Common.{arith, refl, ap, ◌∙◌, append_assoc, append-nil}
 use Rattle.perf_base.specs.declared.acts.Act.{Act}
 use Rattle.perf_base.specs.Scripts.{Scripted}
-use Rattle.stage_spec.specs.Counting.{total}
+use Rattle.stage_spec.specs.FirstCounting.{total}
 use Rattle.stage_spec.specs.FirstReplies.{replies_from, reply_of}
 
 -- the sum over acts and one more

@@ -8,7 +8,7 @@ use Rattle.perf_base.specs.declared.reply.Reply.{Reply}
 use Rattle.perf_base.specs.declared.reply.Reply.TheVariants as reply
 use Rattle.perf_base.specs.Scripts.{Scripted}
 use Rattle.stage_spec.specs.Order.{next_of_tool}
-use Rattle.stage_spec.specs.Counting.{count_after, time_after}
+use Rattle.stage_spec.specs.FirstCounting.{count_after, time_after}
 
 -- a read gives the count and both times; an open is done
 abbrev pub tool_reply : Scripted → List Act → Option ToolLine → Reply

@@ -1,6 +1,6 @@
 -- What a fork does, after perf_event_init_task and inherit_group of kernel/events/core.c. Its refusals are this
 -- project's own profile.
-use Rattle.std.specs.Prelude.{ℕ, ◌+◌, nat_lt, Bool, true, false, not, List, [], ◌∷◌, ◌++◌, map, filter, length, sum_by, Option, Some, None, if◌then◌else◌}
+use Rattle.std.specs.Prelude.{ℕ, ◌+◌, nat_lt, true, false, List, [], ◌∷◌, filter, length, sum_by, Option, Some, None, if◌then◌else◌}
 use Rattle.perf_base.specs.declared.numbers.CpuNo.{CpuNo}
 use Rattle.perf_base.specs.declared.numbers.TaskNo.{TaskNo}
 use Rattle.perf_base.specs.declared.attr.Attr.{Attr}
@@ -10,7 +10,7 @@ use Rattle.perf_base.specs.declared.standing.Own.TheVariants as own
 use Rattle.perf_base.specs.declared.reasons.Reason.{Reason}
 use Rattle.perf_base.specs.declared.reasons.Reason.TheVariants as reason
 use Rattle.stage_spec.specs.declared.instance.Instance.{Instance}
-use Rattle.stage_spec.specs.Stage.{Stage, Group, Lists, original_of, lists_of, task_on, status_of, fresh_task, was_used, live_copies, set_status, change_context}
+use Rattle.stage_spec.specs.Stage.{Stage, Group, Lists, original_of, task_on, status_of, fresh_task, was_used, live_copies, set_status, change_context}
 use Rattle.stage_spec.specs.Effective.{is_ready, leader_is_inherited}
 use Rattle.stage_spec.specs.Verdict.{task_lists}
 use Rattle.stage_spec.specs.Opening.{first_of}
@@ -31,9 +31,13 @@ copied_state o = if is_ready o then own.Ready else own.Off
 -- A copy is of the original, also where it is made from a copy. It is ready where the instance before it is, and else off.
 abbrev pub copy_of : Stage → ℕ → Instance → Instance
 copy_of s id i = record {
-  event = i.event; copy = true; id = id;
+  event = i.event;
+  copy = true;
+  id = id;
   attr = record i.attr { period = present_period (original_of s i.event) i.attr };
-  own = copied_state i.own; ring = None; mapped = false;
+  own = copied_state i.own;
+  ring = None;
+  mapped = false;
 }
 
 -- the copies of a group, the first with this id, and of groups, with rising ids

@@ -1,7 +1,7 @@
 -- What mapping a ring and redirecting an event's output do, after mmap and PERF_EVENT_IOC_SET_OUTPUT of
 -- perf_event_open(2), perf_mmap and perf_event_set_output of kernel/events/core.c. That a ring is mapped at most once is
 -- this project's own profile.
-use Rattle.std.specs.Prelude.{ℕ, ◌==◌, Bool, true, false, not, ◌&&◌, List, [], ◌∷◌, ◌++◌, Option, Some, None, is_some, is_none, if◌then◌else◌}
+use Rattle.std.specs.Prelude.{◌==◌, Bool, true, false, not, ◌&&◌, [], ◌∷◌, ◌++◌, Option, Some, None, is_some, is_none, if◌then◌else◌}
 use Rattle.std.specs.List.{list_any}
 use Rattle.perf_base.specs.declared.numbers.EventNo.{EventNo}
 use Rattle.perf_base.specs.declared.numbers.RingNo.{RingNo}

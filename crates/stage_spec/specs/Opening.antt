@@ -1,8 +1,7 @@
 -- What opening an event does, and for what it is refused. After perf_event_open(2) and the system call of that name
 -- in kernel/events/core.c; what is this project's own profile is marked.
 use Rattle.std.specs.Prelude.{ℕ, ◌+◌, ◌==◌, nat_lt, Bool, true, false, not, ◌&&◌, ◌||◌, List, [], ◌∷◌, ◌++◌, map, filter, find, length, Option, Some, None, option_map, is_some, if◌then◌else◌}
-use Rattle.std.specs.List.{list_any, list_all}
-use Rattle.perf_base.specs.declared.numbers.CpuNo.{CpuNo}
+use Rattle.std.specs.List.{list_any}
 use Rattle.perf_base.specs.declared.numbers.EventNo.{EventNo}
 use Rattle.perf_base.specs.declared.attr.Attr.{Attr}
 use Rattle.perf_base.specs.declared.attr.Kind.{Kind}

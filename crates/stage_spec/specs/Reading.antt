@@ -1,6 +1,6 @@
 -- The words of a read, after perf_event_open(2), perf_read_one and perf_read_group of kernel/events/core.c. Where the
 -- word of lost records stands is this project's own profile.
-use Rattle.std.specs.Prelude.{ℕ, ◌+◌, ◌*◌, ◌==◌, nat_lt, Bool, true, false, not, ◌&&◌, bit_and, List, [], ◌∷◌, ◌++◌, length, flat_map, Option, Some, None, is_some, if◌then◌else◌}
+use Rattle.std.specs.Prelude.{ℕ, ◌*◌, ◌==◌, nat_lt, Bool, true, false, not, bit_and, List, [], ◌∷◌, ◌++◌, length, flat_map, Option, Some, None, if◌then◌else◌}
 use Rattle.perf_base.specs.declared.numbers.EventNo.{EventNo}
 use Rattle.perf_base.specs.declared.standing.Own.{Own}
 use Rattle.perf_base.specs.declared.standing.Own.TheVariants as own

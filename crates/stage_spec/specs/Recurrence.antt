@@ -1,11 +1,11 @@
 -- What one more step adds to a history: to the stage, to the sums of an instance, to the folded sums of an event.
-use Rattle.std.specs.Prelude.{◌≡◌, ℕ, ◌+◌, Bool, true, false, ◌||◌, List, [], ◌∷◌, ◌++◌, if◌then◌else◌}
+use Rattle.std.specs.Prelude.{◌≡◌, ℕ, ◌+◌, ◌≤◌, Bool, true, false, ◌||◌, List, [], ◌∷◌, ◌++◌, if◌then◌else◌}
 use Rattle.std.proofs.Common.{arith, refl, sym, ap, ◌∙◌, append_assoc, append-nil}
 use Rattle.perf_base.specs.declared.numbers.EventNo.{EventNo}
+use Rattle.perf_base.specs.declared.numbers.TaskNo.{TaskNo}
 use Rattle.perf_base.specs.declared.reply.Sums.{Sums}
-use Rattle.stage_spec.specs.declared.instance.Instance.{Instance}
 use Rattle.stage_spec.specs.Hardware.{Hardware}
-use Rattle.stage_spec.specs.Stage.{Stage}
+use Rattle.stage_spec.specs.Stage.{Stage, first_stage}
 use Rattle.stage_spec.specs.History.{Step, stage_step, stage_after}
 use Rattle.stage_spec.specs.Shares.{share, no_sums}
 use Rattle.stage_spec.specs.Sums.{resets, is_reset_by, count_of, enabled_of, running_of, sums_of}
@@ -29,6 +29,11 @@ abbrev pub FoldedLaw : Type 0
 FoldedLaw = (hw : Hardware) (s : Stage) (steps : List Step) (x : Step) (e : EventNo)
     → folded_of hw s (steps ++ x ∷ []) e ≡ plus (folded_of hw s steps e) (plus_each (λ i. sums_of hw s steps i.id) (leaving (stage_after hw s steps) x e))
 
+-- An instance begins with nothing: whatever id a step or a later one draws, nothing was counted under it until then.
+abbrev pub BirthLaw : Type 0
+BirthLaw = (hw : Hardware) (cpus : ℕ) (declared : List TaskNo) (steps : List Step) (x : Step) (id : ℕ)
+    → (stage_after hw (first_stage cpus declared) steps).next_id ≤ id → sums_of hw (first_stage cpus declared) (steps ++ x ∷ []) id ≡ no_sums
+
 pub stage_after-push : StageLaw
 unfolding stage_after
 stage_after-push hw s [] x = refl
@@ -49,7 +54,7 @@ unfolding stage_after is_reset_by
 is_reset_by-push hw s [] x id = or-false (resets s x id)
 is_reset_by-push hw s (y ∷ steps) x id =
     ap (λ b. resets s y id || b) (is_reset_by-push hw (stage_step hw s y) steps x id)
-        ∙ or-assoc (resets s y id) (is_reset_by hw (stage_step hw s y) steps id) (resets (stage_after hw (stage_step hw s y) steps) x id)
+    ∙ or-assoc (resets s y id) (is_reset_by hw (stage_step hw s y) steps id) (resets (stage_after hw (stage_step hw s y) steps) x id)
 
 -- a count that a reset takes back
 abbrev taken_back : Bool → ℕ → ℕ
@@ -90,10 +95,10 @@ unfolding stage_after running_of
 running_of-push hw s [] x id = omega arith
 running_of-push hw s (y ∷ steps) x id = omega (arith, running_of-push hw (stage_step hw s y) steps x id)
 
-abbrev sums : ℕ → ℕ → ℕ → Sums
+abbrev pub sums : ℕ → ℕ → ℕ → Sums
 sums count enabled running = record { count = count; enabled = enabled; running = running }
 
-same_sums : (a b c d e f : ℕ) → a ≡ d → b ≡ e → c ≡ f → sums a b c ≡ sums d e f
+pub same_sums : (a b c d e f : ℕ) → a ≡ d → b ≡ e → c ≡ f → sums a b c ≡ sums d e f
 same_sums a b c d e f p q r = rw (p, q, r) refl
 
 after_reset-is : (reset : Bool) (a b c : ℕ) → after_reset reset (sums a b c) ≡ sums (taken_back reset a) b c
@@ -106,9 +111,9 @@ sums_of-push hw s steps x id =
     let last : Stage = stage_after hw s steps in
     rw (after_reset-is (resets last x id) (count_of hw s steps id) (enabled_of hw s steps id) (running_of hw s steps id))
     (same_sums (count_of hw s (steps ++ x ∷ []) id) (enabled_of hw s (steps ++ x ∷ []) id) (running_of hw s (steps ++ x ∷ []) id)
-        (taken_back (resets last x id) (count_of hw s steps id) + (share hw last x id).count)
-        (enabled_of hw s steps id + (share hw last x id).enabled) (running_of hw s steps id + (share hw last x id).running)
-        (count_of-push hw s steps x id) (enabled_of-push hw s steps x id) (running_of-push hw s steps x id))
+    (taken_back (resets last x id) (count_of hw s steps id) + (share hw last x id).count)
+    (enabled_of hw s steps id + (share hw last x id).enabled) (running_of hw s steps id + (share hw last x id).running)
+    (count_of-push hw s steps x id) (enabled_of-push hw s steps x id) (running_of-push hw s steps x id))
 
 pub plus-assoc : (a b c : Sums) → plus (plus a b) c ≡ plus a (plus b c)
 plus-assoc a b c = same_sums (a.count + b.count + c.count) (a.enabled + b.enabled + c.enabled) (a.running + b.running + c.running)
@@ -131,9 +136,9 @@ folded_from-push hw s e before [] x = rw append-nil (plus-none (gone hw s before
 folded_from-push hw s e before (y ∷ steps) x =
     let regrouped : (before ++ y ∷ []) ++ steps ≡ before ++ y ∷ steps = append_assoc before (y ∷ []) steps in
     let rest : folded_from hw s e (before ++ y ∷ []) (steps ++ x ∷ []) ≡ plus (folded_from hw s e (before ++ y ∷ []) steps) (gone hw s ((before ++ y ∷ []) ++ steps) x e) =
-        folded_from-push hw s e (before ++ y ∷ []) steps x in
+    folded_from-push hw s e (before ++ y ∷ []) steps x in
     ap (λ f. plus (gone hw s before y e) f) (rest ∙ ap (λ done. plus (folded_from hw s e (before ++ y ∷ []) steps) (gone hw s done x e)) regrouped)
-        ∙ sym (plus-assoc (gone hw s before y e) (folded_from hw s e (before ++ y ∷ []) steps) (gone hw s (before ++ y ∷ steps) x e))
+    ∙ sym (plus-assoc (gone hw s before y e) (folded_from hw s e (before ++ y ∷ []) steps) (gone hw s (before ++ y ∷ steps) x e))
 
 pub folded_of-push : FoldedLaw
 unfolding folded_of

@@ -4,10 +4,9 @@ use Rattle.std.specs.Prelude.{Bool, true, false, not, ◌&&◌, List, [], ◌∷
 use Rattle.std.specs.List.{list_any}
 use Rattle.perf_base.specs.declared.numbers.CpuNo.{CpuNo}
 use Rattle.perf_base.specs.declared.numbers.TaskNo.{TaskNo}
-use Rattle.perf_base.specs.declared.standing.Context.{Context}
 use Rattle.perf_base.specs.declared.standing.Context.TheVariants as context
 use Rattle.stage_spec.specs.Hardware.{Hardware}
-use Rattle.stage_spec.specs.Stage.{Stage, Group, Lists, task_on, lists_of, change_context}
+use Rattle.stage_spec.specs.Stage.{Stage, Group, Lists, task_on, change_context}
 use Rattle.stage_spec.specs.Effective.{is_wholly_software}
 use Rattle.stage_spec.specs.Verdict.{Judged, is_eligible, stands_on, standing_among, verdicts}
 

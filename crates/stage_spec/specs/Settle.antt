@@ -1,6 +1,6 @@
 -- Settling: a pinned group that is refused goes to error, as PERF_EVENT_STATE_ERROR in merge_sched_in of
 -- kernel/events/core.c. That it keeps the cause is this project's own profile.
-use Rattle.std.specs.Prelude.{◌≡◌, ℕ, ◌<◌, Bool, true, false, List, [], ◌∷◌, ◌++◌, length, map, filter, take, drop, Option, Some, None}
+use Rattle.std.specs.Prelude.{◌≡◌, ◌<◌, true, false, List, [], ◌∷◌, ◌++◌, length, map, filter, take, drop, Option, Some, None}
 use Rattle.perf_base.specs.declared.numbers.CpuNo.{CpuNo}
 use Rattle.perf_base.specs.declared.numbers.TaskNo.{TaskNo}
 use Rattle.perf_base.specs.declared.standing.Context.TheVariants as context

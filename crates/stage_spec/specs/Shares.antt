@@ -1,7 +1,6 @@
 -- What one step adds to one instance: occurrences, time enabled and time running. After perf_event_update_time,
 -- perf_swevent_event and ctx_sched_in of kernel/events/core.c; when the software kinds occur is this project's own profile.
-use Rattle.std.specs.Prelude.{ℕ, ◌+◌, ◌==◌, Bool, true, false, not, ◌&&◌, List, [], ◌∷◌, find, flat_map, Option, Some, None, slice_index, if◌then◌else◌}
-use Rattle.std.specs.List.{list_any}
+use Rattle.std.specs.Prelude.{ℕ, ◌+◌, ◌==◌, Bool, true, false, not, ◌&&◌, List, find, flat_map, Option, Some, None, slice_index, if◌then◌else◌}
 use Rattle.perf_base.specs.declared.numbers.CpuNo.{CpuNo}
 use Rattle.perf_base.specs.declared.numbers.TaskNo.{TaskNo}
 use Rattle.perf_base.specs.declared.attr.Attr.{Attr}
@@ -17,7 +16,7 @@ use Rattle.perf_base.specs.declared.reply.Sums.{Sums}
 use Rattle.stage_spec.specs.declared.instance.Instance.{Instance}
 use Rattle.stage_spec.specs.Flags.{excludes_user, excludes_kernel}
 use Rattle.stage_spec.specs.Hardware.{Hardware}
-use Rattle.stage_spec.specs.Stage.{Stage, members, task_on}
+use Rattle.stage_spec.specs.Stage.{Stage, task_on}
 use Rattle.stage_spec.specs.Effective.{ready_members}
 use Rattle.stage_spec.specs.Verdict.{passes, on_instances}
 use Rattle.stage_spec.specs.Switching.{is_running, is_migration, switch_refusal}
@@ -93,7 +92,7 @@ migration_share hw false after cpu id = 0
 abbrev pub switch_share : Hardware → Stage → CpuNo → Option TaskNo → ℕ → Sums
 switch_share hw s cpu to id = record no_sums {
   count = of_instance switch_hits id (on_instances hw s cpu)
-      + migration_share hw (is_migration s cpu to) (stage_step hw s (CpuStep cpu (cpu_line.Switch to))) cpu id
+      + migration_share hw (is_migration s cpu to) (stage_step hw s (CpuStep cpu (cpu_line.Switch to))) cpu id;
 }
 
 -- a switch that is refused, or to what already runs there, adds nothing

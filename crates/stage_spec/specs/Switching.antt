@@ -1,6 +1,6 @@
 -- What a switch does, after perf_event_task_sched_out and perf_event_task_sched_in of kernel/events/core.c. Its
 -- refusals are this project's own profile.
-use Rattle.std.specs.Prelude.{◌==◌, Bool, true, false, not, ◌&&◌, List, [], ◌∷◌, Option, Some, None, slice_set}
+use Rattle.std.specs.Prelude.{◌==◌, Bool, true, false, not, [], ◌∷◌, Option, Some, None, slice_set}
 use Rattle.perf_base.specs.declared.numbers.CpuNo.{CpuNo}
 use Rattle.perf_base.specs.declared.numbers.TaskNo.{TaskNo}
 use Rattle.perf_base.specs.declared.reasons.Reason.{Reason}

@@ -1,7 +1,7 @@
 -- Which groups of a processor are on, and why the others are not. After group_can_go_on, ctx_sched_in and
 -- merge_sched_in of kernel/events/core.c; whom a refusal names is this project's own profile.
 use Rattle.std.specs.Prelude.{ℕ, ◌==◌, Bool, true, false, not, ◌&&◌, List, [], ◌∷◌, ◌++◌, map, filter, find, flat_map, Option, Some, None, option_map}
-use Rattle.std.specs.List.{list_all, list_any}
+use Rattle.std.specs.List.{list_all}
 use Rattle.perf_base.specs.declared.numbers.CpuNo.{CpuNo}
 use Rattle.perf_base.specs.declared.numbers.EventNo.{EventNo}
 use Rattle.perf_base.specs.declared.numbers.TaskNo.{TaskNo}
@@ -15,7 +15,7 @@ use Rattle.perf_base.specs.declared.standing.Standing.TheVariants as standing
 use Rattle.stage_spec.specs.declared.instance.Instance.{Instance}
 use Rattle.stage_spec.specs.Hardware.{Hardware, pmu_of_cpu, pmu_of_kind, mask_of}
 use Rattle.stage_spec.specs.Stage.{Stage, Group, Lists, lists_of, no_groups, task_on}
-use Rattle.stage_spec.specs.Effective.{is_ready, name_of, leader_id, is_hardware, is_wholly_software, is_exclusive_group, counted_members}
+use Rattle.stage_spec.specs.Effective.{is_ready, name_of, leader_id, is_wholly_software, is_exclusive_group, counted_members}
 use Rattle.stage_spec.specs.Rules.{refusal_of}
 use Rattle.stage_spec.specs.Fits.{fits}
 use Rattle.stage_spec.specs.Tight.{masks_of, tight_set, shortest_unfit}
@@ -49,7 +49,7 @@ task_lists s (Some task) = lists_of s (context.Task task)
 abbrev pub passes : Stage → CpuNo → List (List Group)
 passes s cpu =
     (lists_of s (context.Processor cpu)).pinned ∷ (task_lists s (task_on s cpu)).pinned
-        ∷ (lists_of s (context.Processor cpu)).flexible ∷ (task_lists s (task_on s cpu)).flexible ∷ []
+    ∷ (lists_of s (context.Processor cpu)).flexible ∷ (task_lists s (task_on s cpu)).flexible ∷ []
 
 -- a group and what was said of it
 pub record Judged : Type 0 where
@@ -95,7 +95,7 @@ judge hw before within g = elim (is_wholly_software g) [
   | true ↦ standing.On
   | false ↦
       elim (refusal_of false (is_exclusive_group g) (first_named is_exclusive_group (groups_on (before ++ within)))
-          (first_named (λ h. not (is_wholly_software h)) (groups_on (before ++ within))) (first_refused within)) [
+      (first_named (λ h. not (is_wholly_software h)) (groups_on (before ++ within))) (first_refused within)) [
         | Some rule ↦ standing.Refused (cause.Rule rule)
         | None ↦ by_counters (with_masks hw (flat_map counted_members (groups_on (before ++ within)) ++ counted_members g))
       ]

@@ -1,7 +1,7 @@
 //! The script that a text of the first form stands for.
 
 ghost use Rattle.std.specs.Prelude.{◌≡◌, [], ◌∷◌, replicate, IfOk, OnOk};
-ghost use Rattle.stage_spec.specs.Counting as counting;
+ghost use Rattle.stage_spec.specs.FirstCounting as counting;
 ghost use Rattle.script_spec.specs.FirstForm as text;
 ghost use Rattle.script_spec.specs.FirstForm.{IsFirstText, first_script};
 ghost use Rattle.perf_top.specs.Building.{made};

@@ -23,7 +23,7 @@ use Rattle.stage_spec.specs.Reading.{read_words}
 use Rattle.stage_spec.specs.History.{Step, CpuStep, ToolStep, SeenStep, tool_refusal, stage_step, steps_from, history, opening_stage}
 use Rattle.stage_spec.specs.Shares.{share}
 use Rattle.stage_spec.specs.Replies.{why_of, IsDone, UnlessRefused, IsAnswerAt, AnswerOrder}
-use Rattle.stage_spec.proofs.Running.{Running, start, run, family_of, RunReplies, answers_of}
+use Rattle.stage_spec.specs.Running.{Running, start, run, family_of, RunReplies, answers_of}
 use Rattle.stage_spec.proofs.rows.Seats.{SeatsBy, seats_by}
 
 -- The answers to the acts of a script's order, by the definitions. No record is lost.

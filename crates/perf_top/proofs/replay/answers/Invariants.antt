@@ -1,5 +1,5 @@
 use Rattle.std.proofs.Common.{◌≡◌, [], take}
-use Rattle.stage_spec.specs.Progress.{IsAfter}
+use Rattle.stage_spec.specs.FirstProgress.{IsAfter}
 use Rattle.stage_spec.specs.FirstReplies.{replies_from}
 use Rattle.perf_top.proofs.replay.answers.Given as goal
 

@@ -1,6 +1,6 @@
 use Rattle.std.proofs.Common.{◌≡◌, ◌++◌, [], take}
 use Rattle.stage_spec.specs.Order.{done_by_tool}
-use Rattle.stage_spec.specs.Counting.{tool_zero}
+use Rattle.stage_spec.specs.FirstCounting.{tool_zero}
 use Rattle.report_spec.specs.Report.{answer_lines}
 use Rattle.perf_top.proofs.report.push_answers.Given as goal
 

@@ -1,6 +1,6 @@
 use Rattle.std.proofs.Common.{subst}
-use Rattle.stage_spec.specs.Progress.{HasLine}
-use Rattle.stage_spec.specs.Steps.{IsAfter-work, IsAfter-tool}
+use Rattle.stage_spec.specs.FirstProgress.{HasLine}
+use Rattle.stage_spec.specs.FirstSteps.{IsAfter-work, IsAfter-tool}
 use Rattle.machine.proofs.machine.Machine.line.Goals as goal
 
 pub returns-in-Processor-clause-done : goal.returns-in-Processor-clause-done

@@ -1,5 +1,5 @@
 use Rattle.std.proofs.Common.{◌≡◌, [], ◌∷◌, replicate}
-use Rattle.stage_spec.specs.Counting.{counting_open, counting_read}
+use Rattle.stage_spec.specs.FirstCounting.{counting_open, counting_read}
 use Rattle.perf_top.specs.Building.{made}
 use Rattle.perf_top.specs.Reading.{pairs_of}
 use Rattle.perf_top.proofs.first_form.building.add_reads.Given as goal

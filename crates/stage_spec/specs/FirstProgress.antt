@@ -7,7 +7,7 @@ use Rattle.perf_base.specs.declared.acts.Actor.{Actor}
 use Rattle.perf_base.specs.declared.acts.Actor.TheVariants as actor
 use Rattle.perf_base.specs.Scripts.{Scripted, lines_of_cpu, lines_of_tool}
 use Rattle.stage_spec.specs.Order.{done_by_cpu, done_by_tool}
-use Rattle.stage_spec.specs.Counting.{count_after, time_after}
+use Rattle.stage_spec.specs.FirstCounting.{count_after, time_after}
 
 -- how many lines each processor and each tool has done, and the event's sums
 pub record Progress : Type 0 where

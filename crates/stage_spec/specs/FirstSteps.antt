@@ -18,9 +18,9 @@ use Rattle.perf_base.specs.declared.reply.Reply.{Reply}
 use Rattle.perf_base.specs.declared.reply.Reply.TheVariants as reply
 use Rattle.perf_base.specs.Scripts.{Scripted, lines_of_cpu, lines_of_tool}
 use Rattle.stage_spec.specs.Order.{done_by_cpu, done_by_tool, is_of_cpu, is_of_tool, next_of_cpu, next_of_tool}
-use Rattle.stage_spec.specs.Counting.{hits, time, hits_of, length_of, tool_zero}
+use Rattle.stage_spec.specs.FirstCounting.{hits, time, hits_of, length_of, tool_zero}
 use Rattle.stage_spec.specs.FirstReplies.{reply_of, tool_reply}
-use Rattle.stage_spec.specs.Progress.{Progress, IsAfter}
+use Rattle.stage_spec.specs.FirstProgress.{Progress, IsAfter}
 use Rattle.stage_spec.specs.FirstRecurrence.{total-push}
 
 -- the act that does an actor's next line

@@ -1,16 +1,15 @@
 -- What a history leaves, kept step by step: the stage, what each instance has counted, and the folded sums.
-use Rattle.std.specs.Prelude.{◌≡◌, ℕ, Bool, List, [], ◌∷◌, ◌++◌, filter}
+use Rattle.std.specs.Prelude.{◌≡◌, ℕ, List, [], ◌∷◌, ◌++◌, filter}
 use Rattle.std.proofs.Common.{refl, sym, ap, ◌∙◌}
 use Rattle.std.proofs.Math.Path.{fun_ext}
 use Rattle.perf_base.specs.declared.numbers.EventNo.{EventNo}
 use Rattle.perf_base.specs.declared.reply.Reply.{Reply}
 use Rattle.perf_base.specs.declared.reply.Sums.{Sums}
-use Rattle.stage_spec.specs.declared.instance.Instance.{Instance}
 use Rattle.stage_spec.specs.Hardware.{Hardware}
 use Rattle.stage_spec.specs.Stage.{Stage, all_instances, is_of_family}
 use Rattle.stage_spec.specs.History.{Step, stage_step, stage_after}
 use Rattle.stage_spec.specs.Shares.{share, no_sums}
-use Rattle.stage_spec.specs.Sums.{resets, sums_of, is_reset_by, count_of, enabled_of, running_of}
+use Rattle.stage_spec.specs.Sums.{resets, sums_of, count_of, enabled_of, running_of}
 use Rattle.stage_spec.specs.Families.{plus, plus_each, leaving, folded_of, folded_from, family_sums}
 use Rattle.stage_spec.specs.Recurrence.{after_reset, stage_after-push, sums_of-push, folded_of-push}
 use Rattle.stage_spec.specs.Replies.{IsAnswerAt, IsReply, AreReplies}
@@ -46,18 +45,18 @@ pub record Follows (hw : Hardware) (s : Stage) (before : List Step) (r : Running
   pub sums : r.sums ≡ sums_of hw s before
   pub folded : r.folded ≡ folded_of hw s before
 
-follows-start : (hw : Hardware) (s : Stage) → Follows hw s [] (start s)
+pub follows-start : (hw : Hardware) (s : Stage) → Follows hw s [] (start s)
 unfolding stage_after sums_of count_of enabled_of running_of folded_of folded_from
 follows-start hw s = record { stage = refl; sums = fun_ext (λ id. refl); folded = fun_ext (λ e. refl) }
 
-follows-run : (hw : Hardware) (s : Stage) (before : List Step) (r : Running) (x : Step) → Follows hw s before r → Follows hw s (before ++ x ∷ []) (run hw r x)
+pub follows-run : (hw : Hardware) (s : Stage) (before : List Step) (r : Running) (x : Step) → Follows hw s before r → Follows hw s (before ++ x ∷ []) (run hw r x)
 follows-run hw s before r x h = record {
   stage = ap (λ t. stage_step hw t x) h.stage ∙ sym (stage_after-push hw s before x);
   sums = fun_ext (λ id. rw (h.stage, h.sums) (sym (sums_of-push hw s before x id)));
   folded = fun_ext (λ e. rw (h.stage, h.sums, h.folded) (sym (folded_of-push hw s before x e)));
 }
 
-family-is : (hw : Hardware) (s : Stage) (before : List Step) (r : Running) → Follows hw s before r → family_of r ≡ family_sums hw s before
+pub family-is : (hw : Hardware) (s : Stage) (before : List Step) (r : Running) → Follows hw s before r → family_of r ≡ family_sums hw s before
 unfolding family_sums
 family-is hw s before r h = fun_ext (λ e. rw (h.stage, h.sums, h.folded) refl)
 
