@@ -90,7 +90,9 @@ unfolding report
 whole_report s replies a b c d e ea eb ec ed ee =
     let d_is : d ≡ ((codes "order" ++ acts_text s.order) ++ 10 ∷ []) ++ answer_lines s [] s.order replies =
     ed ∙ ap (λ (t : List ℕ). t ++ answer_lines s [] s.order replies) (ec ∙ ap (λ (t : List ℕ). t ++ 10 ∷ []) (eb ∙ ap (λ (t : List ℕ). t ++ acts_text s.order) ea)) in
-    ee ∙ (sym (append_assoc d (codes "end") (10 ∷ [])) ∙ ap (λ (t : List ℕ). (t ++ codes "end") ++ 10 ∷ []) d_is)
+    let without_rings : d ≡ (((codes "order" ++ acts_text s.order) ++ 10 ∷ []) ++ answer_lines s [] s.order replies) ++ [] =
+    d_is ∙ sym (append-nil (((codes "order" ++ acts_text s.order) ++ 10 ∷ []) ++ answer_lines s [] s.order replies)) in
+    ee ∙ (sym (append_assoc d (codes "end") (10 ∷ [])) ∙ ap (λ (t : List ℕ). (t ++ codes "end") ++ 10 ∷ []) without_rings)
 
 -- one line more
 pub wrote_line : (s : Scripted) (order : List Act) (replies : List Reply) (i n m : ℕ) (d : Act) (r : Reply) (out more : List ℕ) → IsFormScript s → order ≡ s.order → replies ≡ replies_from s [] s.order
