@@ -8,5 +8,6 @@ mod Counting3
 mod Named1
 mod Named2
 mod Named3
+mod Sampling1
 pub mod Seats
 pub mod Words

@@ -7,6 +7,7 @@ use Rattle.perf_base.specs.declared.attr.CpuSel.TheVariants as cpus
 use Rattle.perf_base.specs.declared.lines.Mode.TheVariants as mode
 use Rattle.perf_base.specs.declared.lines.CpuLine.TheVariants as cpu_line
 use Rattle.perf_base.specs.declared.lines.ToolLine.TheVariants as tool_line
+use Rattle.perf_base.specs.declared.standing.Rule.TheVariants as rule
 use Rattle.perf_base.specs.declared.standing.Cause.TheVariants as cause
 use Rattle.perf_base.specs.declared.standing.Why.TheVariants as why
 use Rattle.perf_base.specs.declared.reasons.Reason.TheVariants as reason
@@ -189,6 +190,49 @@ pinned_and_error-answers : Answers pinned_and_error pinned_and_error_replies
 unfolding Computed pinned_and_error pinned_and_error_replies
 pinned_and_error-answers = computed pinned_and_error pinned_and_error_replies (refl, (refl, (refl, (refl, (refl, (refl, (refl, (refl, tt))))))))
 
+pinned_and_exclusive : Scripted
+pinned_and_exclusive = record {
+  cpus = 1;
+  pmus = pmu 2 1 ∷ [];
+  kinds = kind_line (codes "a") 0 3 ∷ [];
+  tasks = [];
+  rings = [];
+  cpu_lines = eight [];
+  tool_lines = four ((
+      tool_line.Open (slot 0) (attr (kind.Hard 0) tasks.All (cpus.One (cpu 0)) 0 0 0 12) None ∷
+      tool_line.Open (slot 1) (attr (kind.Hard 0) tasks.All (cpus.One (cpu 0)) 0 0 0 4) None ∷
+      tool_line.Why (slot 1) ∷
+      tool_line.Read (slot 1) None ∷
+      tool_line.Close (slot 0) ∷
+      tool_line.Why (slot 1) ∷
+      tool_line.Enable (slot 1) false ∷
+      tool_line.Why (slot 1) ∷
+      tool_line.Open (slot 2) (attr (kind.Hard 0) tasks.All (cpus.One (cpu 0)) 0 0 0 12) None ∷
+      tool_line.Why (slot 2) ∷
+      tool_line.Open (slot 3) (attr (kind.Hard 0) tasks.All (cpus.One (cpu 0)) 0 0 0 4) None ∷
+      tool_line.Why (slot 3) ∷
+      tool_line.Enable (slot 2) false ∷
+      tool_line.Why (slot 3) ∷
+      tool_line.Reset (slot 9) false ∷
+      tool_line.Close (slot 9) ∷
+      tool_line.Reset (slot 0) false ∷
+      []) ∷ []);
+  readers = [];
+  order = by_tool 0 ∷ by_tool 0 ∷ by_tool 0 ∷ by_tool 0 ∷ by_tool 0 ∷ by_tool 0 ∷ by_tool 0 ∷ by_tool 0 ∷ by_tool 0 ∷ by_tool 0 ∷ by_tool 0 ∷
+      by_tool 0 ∷ by_tool 0 ∷ by_tool 0 ∷ by_tool 0 ∷ by_tool 0 ∷ by_tool 0 ∷ [];
+}
+
+pinned_and_exclusive_replies : List Reply
+pinned_and_exclusive_replies = reply.Ok ∷ reply.Ok ∷ reply.Why (why.Failed (cause.Rule (rule.Exclusive (slot 0)))) ∷ reply.Read [] ∷ reply.Ok ∷
+    reply.Why (why.Failed (cause.Rule (rule.Exclusive (slot 0)))) ∷ reply.Ok ∷ reply.Why why.On ∷ reply.Ok ∷
+    reply.Why (why.Failed (cause.Rule (rule.ExclusiveSelf (slot 1)))) ∷ reply.Ok ∷ reply.Why why.On ∷ reply.Ok ∷
+    reply.Why (why.Failed (cause.Rule (rule.Earlier (slot 2)))) ∷ reply.Refused reason.NoEvent ∷ reply.Refused reason.NoEvent ∷
+    reply.Refused reason.NoEvent ∷ []
+
+pinned_and_exclusive-answers : Answers pinned_and_exclusive pinned_and_exclusive_replies
+unfolding Computed pinned_and_exclusive pinned_and_exclusive_replies
+pinned_and_exclusive-answers = computed pinned_and_exclusive pinned_and_exclusive_replies (refl, (refl, (refl, (refl, (refl, (refl, (refl, (refl, (refl, (refl, (refl, (refl, (refl, (refl, (refl, (refl, (refl, tt)))))))))))))))))
+
 realistic : Scripted
 realistic = record {
   cpus = 2;
@@ -318,66 +362,3 @@ smallest_path_replies = reply.Ok ∷ reply.Ok ∷ reply.Read (500 ∷ 100 ∷ 10
 smallest_path-answers : Answers smallest_path smallest_path_replies
 unfolding Computed smallest_path smallest_path_replies
 smallest_path-answers = computed smallest_path smallest_path_replies (refl, (refl, (refl, tt)))
-
-software_kinds : Scripted
-software_kinds = record {
-  cpus = 2;
-  pmus = pmu 1 3 ∷ [];
-  kinds = [];
-  tasks = task 0 ∷ [];
-  rings = [];
-  cpu_lines = eight ((
-      cpu_line.Switch (Some (task 0)) ∷
-      cpu_line.Work (work 10 mode.User 0 []) ∷
-      cpu_line.Switch None ∷
-      []) ∷ (
-      cpu_line.Switch (Some (task 0)) ∷
-      cpu_line.Work (work 5 mode.Kernel 0 []) ∷
-      []) ∷ []);
-  tool_lines = four ((
-      tool_line.Open (slot 0) (attr kind.ContextSwitches (tasks.One (task 0)) cpus.Any 0 0 0 0) None ∷
-      tool_line.Open (slot 1) (attr kind.CpuMigrations (tasks.One (task 0)) cpus.Any 0 0 0 0) None ∷
-      tool_line.Open (slot 2) (attr kind.TaskClock (tasks.One (task 0)) cpus.Any 0 0 0 0) None ∷
-      tool_line.Open (slot 3) (attr kind.ContextSwitches tasks.All (cpus.One (cpu 0)) 0 0 0 0) None ∷
-      tool_line.Read (slot 0) None ∷
-      tool_line.Read (slot 1) None ∷
-      tool_line.Read (slot 2) None ∷
-      tool_line.Read (slot 3) None ∷
-      []) ∷ []);
-  readers = [];
-  order = by_tool 0 ∷ by_tool 0 ∷ by_tool 0 ∷ by_tool 0 ∷ by_cpu 0 ∷ by_cpu 0 ∷ by_cpu 0 ∷ by_cpu 1 ∷ by_cpu 1 ∷ by_tool 0 ∷ by_tool 0 ∷ by_tool 0 ∷
-      by_tool 0 ∷ [];
-}
-
-software_kinds_replies : List Reply
-software_kinds_replies = reply.Ok ∷ reply.Ok ∷ reply.Ok ∷ reply.Ok ∷ reply.Ok ∷ reply.Ok ∷ reply.Ok ∷ reply.Ok ∷ reply.Ok ∷ reply.Read (1 ∷ []) ∷
-    reply.Read (1 ∷ []) ∷ reply.Read (15 ∷ []) ∷ reply.Read (2 ∷ []) ∷ []
-
-software_kinds-answers : Answers software_kinds software_kinds_replies
-unfolding Computed software_kinds software_kinds_replies
-software_kinds-answers = computed software_kinds software_kinds_replies (refl, (refl, (refl, (refl, (refl, (refl, (refl, (refl, (refl, (refl, (refl, (refl, (refl, tt)))))))))))))
-
-switches_refused : Scripted
-switches_refused = record {
-  cpus = 2;
-  pmus = pmu 1 3 ∷ [];
-  kinds = [];
-  tasks = task 1 ∷ [];
-  rings = [];
-  cpu_lines = eight ((
-      cpu_line.Switch (Some (task 1)) ∷
-      []) ∷ (
-      cpu_line.Switch (Some (task 1)) ∷
-      cpu_line.Switch (Some (task 5)) ∷
-      []) ∷ []);
-  tool_lines = four [];
-  readers = [];
-  order = by_cpu 0 ∷ by_cpu 1 ∷ by_cpu 1 ∷ [];
-}
-
-switches_refused_replies : List Reply
-switches_refused_replies = reply.Ok ∷ reply.Refused reason.Busy ∷ reply.Refused reason.NoTask ∷ []
-
-switches_refused-answers : Answers switches_refused switches_refused_replies
-unfolding Computed switches_refused switches_refused_replies
-switches_refused-answers = computed switches_refused switches_refused_replies (refl, (refl, (refl, tt)))

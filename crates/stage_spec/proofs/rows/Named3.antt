@@ -1,17 +1,83 @@
 -- Worked cases, written by tools/script_terms.py from texts and their reports.
-use Rattle.std.specs.Prelude.{List, [], ◌∷◌, None, codes}
+use Rattle.std.specs.Prelude.{List, [], ◌∷◌, Some, None, codes}
 use Rattle.std.proofs.Common.{refl}
 use Rattle.perf_base.specs.declared.attr.Kind.TheVariants as kind
 use Rattle.perf_base.specs.declared.attr.TaskSel.TheVariants as tasks
 use Rattle.perf_base.specs.declared.attr.CpuSel.TheVariants as cpus
+use Rattle.perf_base.specs.declared.lines.Mode.TheVariants as mode
+use Rattle.perf_base.specs.declared.lines.CpuLine.TheVariants as cpu_line
 use Rattle.perf_base.specs.declared.lines.ToolLine.TheVariants as tool_line
 use Rattle.perf_base.specs.declared.standing.Cause.TheVariants as cause
 use Rattle.perf_base.specs.declared.standing.Why.TheVariants as why
+use Rattle.perf_base.specs.declared.reasons.Reason.TheVariants as reason
 use Rattle.perf_base.specs.declared.reply.Reply.{Reply}
 use Rattle.perf_base.specs.declared.reply.Reply.TheVariants as reply
 use Rattle.perf_base.specs.Scripts.{Scripted}
-use Rattle.stage_spec.proofs.rows.Words.{cpu, slot, slots, by_tool, pmu, kind_line, attr, eight, four}
+use Rattle.stage_spec.proofs.rows.Words.{cpu, task, slot, slots, by_cpu, by_tool, pmu, kind_line, attr, work, eight, four}
 use Rattle.stage_spec.proofs.rows.Answering.{Answers, Computed, computed}
+
+software_kinds : Scripted
+software_kinds = record {
+  cpus = 2;
+  pmus = pmu 1 3 ∷ [];
+  kinds = [];
+  tasks = task 0 ∷ [];
+  rings = [];
+  cpu_lines = eight ((
+      cpu_line.Switch (Some (task 0)) ∷
+      cpu_line.Work (work 10 mode.User 0 []) ∷
+      cpu_line.Switch None ∷
+      []) ∷ (
+      cpu_line.Switch (Some (task 0)) ∷
+      cpu_line.Work (work 5 mode.Kernel 0 []) ∷
+      []) ∷ []);
+  tool_lines = four ((
+      tool_line.Open (slot 0) (attr kind.ContextSwitches (tasks.One (task 0)) cpus.Any 0 0 0 0) None ∷
+      tool_line.Open (slot 1) (attr kind.CpuMigrations (tasks.One (task 0)) cpus.Any 0 0 0 0) None ∷
+      tool_line.Open (slot 2) (attr kind.TaskClock (tasks.One (task 0)) cpus.Any 0 0 0 0) None ∷
+      tool_line.Open (slot 3) (attr kind.ContextSwitches tasks.All (cpus.One (cpu 0)) 0 0 0 0) None ∷
+      tool_line.Read (slot 0) None ∷
+      tool_line.Read (slot 1) None ∷
+      tool_line.Read (slot 2) None ∷
+      tool_line.Read (slot 3) None ∷
+      []) ∷ []);
+  readers = [];
+  order = by_tool 0 ∷ by_tool 0 ∷ by_tool 0 ∷ by_tool 0 ∷ by_cpu 0 ∷ by_cpu 0 ∷ by_cpu 0 ∷ by_cpu 1 ∷ by_cpu 1 ∷ by_tool 0 ∷ by_tool 0 ∷ by_tool 0 ∷
+      by_tool 0 ∷ [];
+}
+
+software_kinds_replies : List Reply
+software_kinds_replies = reply.Ok ∷ reply.Ok ∷ reply.Ok ∷ reply.Ok ∷ reply.Ok ∷ reply.Ok ∷ reply.Ok ∷ reply.Ok ∷ reply.Ok ∷ reply.Read (1 ∷ []) ∷
+    reply.Read (1 ∷ []) ∷ reply.Read (15 ∷ []) ∷ reply.Read (2 ∷ []) ∷ []
+
+software_kinds-answers : Answers software_kinds software_kinds_replies
+unfolding Computed software_kinds software_kinds_replies
+software_kinds-answers = computed software_kinds software_kinds_replies (refl, (refl, (refl, (refl, (refl, (refl, (refl, (refl, (refl, (refl, (refl, (refl, (refl, tt)))))))))))))
+
+switches_refused : Scripted
+switches_refused = record {
+  cpus = 2;
+  pmus = pmu 1 3 ∷ [];
+  kinds = [];
+  tasks = task 1 ∷ [];
+  rings = [];
+  cpu_lines = eight ((
+      cpu_line.Switch (Some (task 1)) ∷
+      []) ∷ (
+      cpu_line.Switch (Some (task 1)) ∷
+      cpu_line.Switch (Some (task 5)) ∷
+      []) ∷ []);
+  tool_lines = four [];
+  readers = [];
+  order = by_cpu 0 ∷ by_cpu 1 ∷ by_cpu 1 ∷ [];
+}
+
+switches_refused_replies : List Reply
+switches_refused_replies = reply.Ok ∷ reply.Refused reason.Busy ∷ reply.Refused reason.NoTask ∷ []
+
+switches_refused-answers : Answers switches_refused switches_refused_replies
+unfolding Computed switches_refused switches_refused_replies
+switches_refused-answers = computed switches_refused switches_refused_replies (refl, (refl, (refl, tt)))
 
 tight_set : Scripted
 tight_set = record {
