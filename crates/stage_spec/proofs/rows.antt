@@ -8,5 +8,7 @@ mod Counting3
 mod Named1
 mod Named2
 mod Named3
+mod Named4
+mod Sampling1
 pub mod Seats
 pub mod Words
