@@ -15,7 +15,7 @@ use Rattle.stage_spec.specs.Order.{done_by_tool, is_of_tool, next_of_tool}
 use Rattle.stage_spec.specs.FirstCounting.{tool_zero}
 use Rattle.stage_spec.specs.FirstReplies.{reply_of, replies_from, tool_reply}
 use Rattle.stage_spec.specs.FirstSteps.{count_by-push}
-use Rattle.script_spec.specs.FirstForm.{IsFormAct, IsFormScript}
+use Rattle.perf_top.specs.Served.{IsFormAct}
 use Rattle.script_spec.specs.Acts.{act_text, acts_text}
 use Rattle.report_spec.specs.Report.{numbers_text, answer_text, answer_line, answer_lines, tool_word, report}
 use Rattle.perf_top.specs.Lines.{read_line}
@@ -95,15 +95,14 @@ whole_report s replies a b c d e ea eb ec ed ee =
     ee ∙ (sym (append_assoc d (codes "end") (10 ∷ [])) ∙ ap (λ (t : List ℕ). (t ++ codes "end") ++ 10 ∷ []) without_rings)
 
 -- one line more
-pub wrote_line : (s : Scripted) (order : List Act) (replies : List Reply) (i n m : ℕ) (d : Act) (r : Reply) (out more : List ℕ) → IsFormScript s → order ≡ s.order → replies ≡ replies_from s [] s.order
+pub wrote_line : (s : Scripted) (order : List Act) (replies : List Reply) (i n m : ℕ) (d : Act) (r : Reply) (out more : List ℕ) → All IsFormAct s.order → order ≡ s.order → replies ≡ replies_from s [] s.order
     → i < length order → r ≡ get_or replies i r → n ≡ done_by_tool tool_zero (take i order) → m ≡ cond (is_of_tool tool_zero (get_or order i d)) 1 0
     → out ≡ more ++ answer_lines s [] (take i order) (take i replies)
     → (out ++ read_line (get_or order i d) n r ≡ more ++ answer_lines s [] (take (i + 1) order) (take (i + 1) replies)) × (n + m ≡ done_by_tool tool_zero (take (i + 1) order))
 wrote_line s order replies i n m d r out more form eo er l at en em so_far =
     let a = get_or order i d in
     let in_replies : i < length replies = within s order replies i eo er l in
-    let own : form.0.order ≡ order = ap (λ t. t.order) (sym form.2) ∙ sym eo in
-    let all : All IsFormAct order = subst (All IsFormAct) own form.1.order in
+    let all : All IsFormAct order = subst (All IsFormAct) (sym eo) form in
     let answered : r ≡ reply_of s (take i order) (get_or order i d) =
     at ∙ (ap (λ x. get_or x i r) (er ∙ ap (replies_from s []) (sym eo)) ∙ reply_at s [] order i r d l) in
     let text : answer_line s (take i order) (get_or order i d) (answer_text r) ≡ read_line (get_or order i d) n r =

@@ -1,8 +1,6 @@
-pub mod Building
-pub mod Completing
 pub mod Lines
 pub mod Notes
-pub mod Reading
+pub mod Served
 pub mod Writing
 mod Outcome
 mod Stops

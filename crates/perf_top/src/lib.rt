@@ -5,13 +5,13 @@
 ghost use Rattle.std.specs.Prelude.{◌≡◌, ◌↔◌, ℕ, ◌≤◌, ◌<◌, List, length, take, map, IsTrue, IfSome, string_bytes};
 ghost use Rattle.perf_io.specs.Outside.{Adds, Rose};
 ghost use Rattle.perf_top.specs.Notes.{note_of};
-ghost use Rattle.perf_top.specs.Outcome.{IsReplay, Noted, Gave, IsRun, IsNoScript};
+ghost use Rattle.perf_top.specs.Outcome.{IsReplay, Noted, Gave, IsRun, IsBadScript, IsUnserved};
 
-mod first_form;
 mod notes;
 mod replay;
 mod report;
 mod run;
+mod served;
 mod status;
 #[cfg(test)]
 mod tests;
@@ -48,7 +48,8 @@ pub fn perf_main<S: Source, K: Sink, N: Sink>(
     ensures read_fault { result ≡ Status.ReadFault → Rose S.last_fault (S.faults source.old) (S.faults source.new) }
     ensures too_long { result ≡ Status.TooLong → IfSome (S.left source.old) (λ bytes. 4194304 < length bytes) }
     ensures bad_script { (line : ℕ) → (reason : SReason) → result ≡ Status.BadScript line reason →
-        (line ≡ 0) × (reason ≡ SReason.Form) × ((text : List ℕ) × Gave (S.left source.old) (S.left source.new) text × IsNoScript text) }
+        (text : List ℕ) × Gave (S.left source.old) (S.left source.new) text × IsBadScript text line reason }
+    ensures unbuilt { result ≡ Status.Unbuilt → (text : List ℕ) × Gave (S.left source.old) (S.left source.new) text × IsUnserved text }
     ensures done { result ≡ Status.Done → (text : List ℕ) × (out : List ℕ) × Gave (S.left source.old) (S.left source.new) text × IsRun text out
         × Adds (K.held sink.old) (K.held sink.new) out × IfSome (K.held sink.new) (λ bytes. K.flushed sink.new ≡ length bytes) × (notes.new ≡ notes.old) }
     ensures write_fault { result ≡ Status.WriteFault → (text : List ℕ) × (out : List ℕ) × Gave (S.left source.old) (S.left source.new) text × IsRun text out

@@ -1,11 +1,11 @@
 //! The text of the report, but for rings, with the answers that scripts of the first form have.
 
-ghost use Rattle.std.specs.Prelude.{◌≡◌, ◌∷◌, [], ◌++◌, ◌<◌, codes, decimal, IfOk, OnOk, if◌then◌else◌};
+ghost use Rattle.std.specs.Prelude.{◌≡◌, ◌∷◌, [], ◌++◌, ◌<◌, codes, decimal, All, IfOk, OnOk, if◌then◌else◌};
 ghost use Rattle.stage_spec.specs.Order.{is_of_tool};
 ghost use Rattle.stage_spec.specs.FirstCounting.{tool_zero};
 ghost use Rattle.stage_spec.specs.FirstReplies.{replies_from};
 ghost use Rattle.script_spec.specs.Acts.{act_text, acts_text};
-ghost use Rattle.script_spec.specs.FirstForm.{IsFormScript};
+ghost use Rattle.perf_top.specs.Served.{IsFormAct};
 ghost use Rattle.report_spec.specs.Report.{numbers_text};
 ghost use Rattle.report_spec.specs.Report as text;
 ghost use Rattle.perf_top.specs.Lines.{read_line};
@@ -91,7 +91,7 @@ fn tool_lines(act: &Act) -> u64
 }
 
 fn push_answers(out: &mut Vec<u8>, script: &Script, replies: &[StoredReply]) -> Result<(), NoMemory>
-    requires form { IsFormScript script.now }
+    requires acts { All IsFormAct script.now.order }
     requires replies { replies.now ≡ replies_from script.now [] script.now.order }
     ensures { OnOk result (out.new.items ≡ out.old.items ++ text.answer_lines script.now [] script.now.order replies.now) }
 {
@@ -106,7 +106,7 @@ fn push_answers(out: &mut Vec<u8>, script: &Script, replies: &[StoredReply]) -> 
 
 /// The whole report of a script, with the answers to its order.
 pub fn report(alloc: Global, script: &Script, replies: &[StoredReply]) -> Result<Vec<u8>, NoMemory>
-    requires form { IsFormScript script.now }
+    requires acts { All IsFormAct script.now.order }
     requires replies { replies.now ≡ replies_from script.now [] script.now.order }
     ensures { IfOk result (λ out. out.items ≡ text.report script.now script.now.order replies.now []) }
 {

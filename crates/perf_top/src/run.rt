@@ -1,17 +1,20 @@
 //! From the source's bytes to the report, and from the report to the sink.
 
-ghost use Rattle.std.specs.Prelude.{◌≡◌, ℕ, ◌≤◌, ◌<◌, ◌⊎◌, List, length, take, IfOk, IfSome, Err};
+ghost use Rattle.std.specs.Prelude.{◌≡◌, ℕ, ◌≤◌, ◌<◌, ◌⊎◌, List, length, take, All, IfOk, IfErr, IfSome, Err};
 ghost use Rattle.perf_io.specs.Outside.{Adds, Rose};
 ghost use Rattle.perf_top.specs.Stops.{status_of};
-ghost use Rattle.perf_top.specs.Outcome.{Gave, IsRun, IsNoScript};
+ghost use Rattle.stage_spec.specs.Order.{IsComplete};
+ghost use Rattle.script_spec.specs.Lines.{lines_of};
+ghost use Rattle.script_spec.specs.Texts.{StandsFor};
+ghost use Rattle.perf_top.specs.Served.{IsFormAct, IsServed};
+ghost use Rattle.perf_top.specs.Outcome.{Gave, IsReported, IsRun, IsBadScript, HasOpenOrder, IsUnserved};
 
-use crate::first_form::reading::ReadStop;
-use crate::first_form::{self};
 use crate::status::Status;
 use crate::text::{self, TextStop};
-use crate::{replay, report};
-use perf_base::{RingNo, SReason};
+use crate::{replay, report, served};
+use perf_base::{RingNo, SReason, Script};
 use perf_io::{Sink, Source, write_all};
+use script_read::{ScriptFault, order_complete, read_script};
 use std::alloc::Global;
 
 /// Why there is no report.
@@ -20,7 +23,8 @@ enum RunStop {
     NoMemory,
     ReadFault,
     TooLong,
-    Form,
+    Bad(u32, SReason),
+    Unbuilt,
 }
 
 impl RunStop {
@@ -31,36 +35,69 @@ impl RunStop {
             RunStop::NoMemory => Status::NoMemory,
             RunStop::ReadFault => Status::ReadFault,
             RunStop::TooLong => Status::TooLong,
-            RunStop::Form => Status::BadScript {
-                line: 0,
-                reason: SReason::Form,
-            },
+            RunStop::Bad(line, reason) => Status::BadScript { line, reason },
+            RunStop::Unbuilt => Status::Unbuilt,
         }
     }
 }
 
-/// The report of a text.
-fn report_of(alloc: Global, text: &[u8]) -> Result<Vec<u8>, RunStop>
+/// The number of the lines of a text that are ended by an LF.
+fn line_count(text: &[u8]) -> u32
+    requires { length text.now ≤ 4194304 }
+    ensures { result ≡ length (lines_of text.now) }
+{
+    text.iter().filter(|byte| **byte == b'\n').count() as u32
+}
+
+/// The report of a script that is served.
+fn report_of_order(alloc: Global, script: &Script) -> Result<Vec<u8>, RunStop>
+    requires served { IsServed script.now }
+    requires acts { All IsFormAct script.now.order }
+    requires complete { IsComplete script.now script.now.order }
+    ensures ok { IfOk result (λ out. IsReported script.now out.items) }
+    ensures err { IfErr result (λ stop. stop ≡ RunStop.NoMemory) }
+{
+    match replay::answers(alloc, script) {
+        Err(_) => Err(RunStop::NoMemory),
+        Ok(replies) => match report::report(alloc, script, &replies) {
+            Err(_) => Err(RunStop::NoMemory),
+            Ok(out) => Ok(out),
+        },
+    }
+}
+
+/// The report of a script that was read from a text.
+fn report_of_script(alloc: Global, text: &[u8], script: &Script) -> Result<Vec<u8>, RunStop>
+    requires short { length text.now ≤ 4194304 }
+    requires stands { StandsFor text.now script.now }
     ensures ok { IfOk result (λ out. IsRun text.now out.items) }
-    ensures none { result ≡ Err RunStop.Form → IsNoScript text.now }
+    ensures bad { (line : ℕ) → (reason : SReason) → result ≡ Err (RunStop.Bad line reason) → HasOpenOrder text.now line reason }
+    ensures unbuilt { result ≡ Err RunStop.Unbuilt → IsUnserved text.now }
     ensures fault { result ≡ Err RunStop.ReadFault → ⊥ }
     ensures long { result ≡ Err RunStop.TooLong → ⊥ }
 {
-    match first_form::read_script(alloc, text) {
-        Err(ReadStop::Memory) => Err(RunStop::NoMemory),
-        Err(ReadStop::Form) => Err(RunStop::Form),
-        Ok(script) => {
-            if !replay::order_complete(&script) {
-                return Err(RunStop::Form);
-            }
-            match replay::answers(alloc, &script) {
-                Err(_) => Err(RunStop::NoMemory),
-                Ok(replies) => match report::report(alloc, &script, &replies) {
-                    Err(_) => Err(RunStop::NoMemory),
-                    Ok(out) => Ok(out),
-                },
-            }
-        }
+    if !order_complete(script) {
+        return Err(RunStop::Bad(line_count(text), SReason::Order));
+    }
+    if !served::is_served(script) {
+        return Err(RunStop::Unbuilt);
+    }
+    report_of_order(alloc, script)
+}
+
+/// The report of a text.
+fn report_of(alloc: Global, text: &[u8]) -> Result<Vec<u8>, RunStop>
+    requires short { length text.now ≤ 4194304 }
+    ensures ok { IfOk result (λ out. IsRun text.now out.items) }
+    ensures bad { (line : ℕ) → (reason : SReason) → result ≡ Err (RunStop.Bad line reason) → IsBadScript text.now line reason }
+    ensures unbuilt { result ≡ Err RunStop.Unbuilt → IsUnserved text.now }
+    ensures fault { result ≡ Err RunStop.ReadFault → ⊥ }
+    ensures long { result ≡ Err RunStop.TooLong → ⊥ }
+{
+    match read_script(alloc, text) {
+        Err(ScriptFault::NoMemory) => Err(RunStop::NoMemory),
+        Err(ScriptFault::Bad { line, reason }) => Err(RunStop::Bad(line, reason)),
+        Ok(script) => report_of_script(alloc, text, &script),
     }
 }
 
@@ -68,7 +105,9 @@ fn report_of(alloc: Global, text: &[u8]) -> Result<Vec<u8>, RunStop>
 fn prepare<S: Source>(alloc: Global, source: &mut S) -> Result<Vec<u8>, RunStop>
     ensures count { S.faults source.old ≤ S.faults source.new }
     ensures ok { IfOk result (λ out. (bytes : List ℕ) × Gave (S.left source.old) (S.left source.new) bytes × IsRun bytes out.items) }
-    ensures none { result ≡ Err RunStop.Form → (bytes : List ℕ) × Gave (S.left source.old) (S.left source.new) bytes × IsNoScript bytes }
+    ensures bad { (line : ℕ) → (reason : SReason) → result ≡ Err (RunStop.Bad line reason) →
+        (bytes : List ℕ) × Gave (S.left source.old) (S.left source.new) bytes × IsBadScript bytes line reason }
+    ensures unbuilt { result ≡ Err RunStop.Unbuilt → (bytes : List ℕ) × Gave (S.left source.old) (S.left source.new) bytes × IsUnserved bytes }
     ensures fault { result ≡ Err RunStop.ReadFault → Rose S.last_fault (S.faults source.old) (S.faults source.new) }
     ensures long { result ≡ Err RunStop.TooLong → IfSome (S.left source.old) (λ bytes. 4194304 < length bytes) }
 {
@@ -105,7 +144,8 @@ pub fn replay_all<S: Source, K: Sink>(alloc: Global, source: &mut S, sink: &mut 
     ensures read_fault { result ≡ Status.ReadFault → Rose S.last_fault (S.faults source.old) (S.faults source.new) }
     ensures too_long { result ≡ Status.TooLong → IfSome (S.left source.old) (λ bytes. 4194304 < length bytes) }
     ensures bad_script { (line : ℕ) → (reason : SReason) → result ≡ Status.BadScript line reason →
-        (line ≡ 0) × (reason ≡ SReason.Form) × ((text : List ℕ) × Gave (S.left source.old) (S.left source.new) text × IsNoScript text) }
+        (text : List ℕ) × Gave (S.left source.old) (S.left source.new) text × IsBadScript text line reason }
+    ensures unbuilt { result ≡ Status.Unbuilt → (text : List ℕ) × Gave (S.left source.old) (S.left source.new) text × IsUnserved text }
     ensures done { result ≡ Status.Done → (text : List ℕ) × (out : List ℕ) × Gave (S.left source.old) (S.left source.new) text × IsRun text out
         × Adds (K.held sink.old) (K.held sink.new) out × IfSome (K.held sink.new) (λ bytes. K.flushed sink.new ≡ length bytes) }
     ensures write_fault { result ≡ Status.WriteFault → (text : List ℕ) × (out : List ℕ) × Gave (S.left source.old) (S.left source.new) text × IsRun text out

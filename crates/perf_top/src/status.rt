@@ -33,6 +33,8 @@ pub enum Status {
     NoMemory,
     /// The words are none that the program knows.
     Usage,
+    /// The text is a script with a complete order that the program does not do yet.
+    Unbuilt,
 }
 
 impl Status {
@@ -49,6 +51,7 @@ impl Status {
             Status::WriteFault => 3,
             Status::NoMemory => 4,
             Status::Usage => 5,
+            Status::Unbuilt => 6,
         }
     }
 }

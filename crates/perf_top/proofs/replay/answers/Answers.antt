@@ -1,16 +1,16 @@
 use Rattle.std.proofs.Common.{◌∙◌, take}
-use Rattle.perf_top.proofs.Lines.{step_ready, took_step, is_first}
+use Rattle.perf_top.proofs.Lines.{step_ready, took_step}
 use Rattle.perf_top.proofs.replay.answers.Goals as goal
 
 pub new-requires : goal.new-requires
-new-requires c = is_first c.args.script.now c.requires.form
+new-requires c = c.requires.served.form
 
 pub line-reply-requires-clause-form : goal.line-reply-requires-clause-form
-line-reply-requires-clause-form c = is_first c.args.script.now c.requires.form
+line-reply-requires-clause-form c = c.requires.served.form
 
 pub line-reply-requires-clause-line : goal.line-reply-requires-clause-line
 line-reply-requires-clause-line c =
-    step_ready c.args.script.now c.order-order.result.now c.loop-act.machine c.loop-act.act-index _ c.actor_of.result c.requires.form c.requires.complete c.order-order.ensures
+    step_ready c.args.script.now c.order-order.result.now c.loop-act.machine c.loop-act.act-index _ c.actor_of.result c.requires.acts c.requires.complete c.order-order.ensures
     c.loop-act-test.true c.actor_of.ensures c.loop-act.invariant.0
 
 pub loop-act-preserved : goal.loop-act-preserved
