@@ -1,4 +1,6 @@
+pub mod Acts
 pub mod Filling
+pub mod LineCounts
 pub mod Lines
 pub mod Writing
 pub mod Wrote

@@ -1,10 +1,10 @@
 //! Which scripts the program does today.
 
-ghost use Rattle.std.specs.Prelude.{◌≡◌, ◌↔◌, [], IsTrue, IfSome, All, drop, slice_get};
+ghost use Rattle.std.specs.Prelude.{◌≡◌, ◌↔◌, [], IsTrue, All};
 ghost use Rattle.stage_spec.specs.FirstCounting as counting;
 ghost use Rattle.stage_spec.specs.FirstCounting.{IsFirstForm, IsWorkLine};
 ghost use Rattle.perf_base.specs.Scripts.{IsScript};
-ghost use Rattle.perf_top.specs.Served.{IsFormAct, IsServed, IsSmall, CpusWork, OthersIdle};
+ghost use Rattle.perf_top.specs.Served.{IsFormAct, IsServed, IsSmall, CpusWork, OpensAndReads, OthersIdle};
 
 use perf_base::{
     Attr, AttrFlags, CpuLine, CpuNo, CpuSel, EventNo, Kind, Script, TaskSel, ToolLine, ToolNo,
@@ -52,20 +52,20 @@ fn all_work(lines: &[CpuLine]) -> bool
     lines.iter().all(is_work)
 }
 
-fn opens(lines: &[ToolLine]) -> bool
-    ensures { IsTrue result ↔ IfSome (slice_get lines.now 0) (λ line. line ≡ counting.counting_open) }
+fn is_read(line: &ToolLine) -> bool
+    ensures { IsTrue result ↔ line.now ≡ counting.counting_read }
 {
-    match lines.first() {
-        None => true,
-        Some(line) => *line == counting_open(),
-    }
+    *line == counting_read()
 }
 
-fn all_read(lines: &[ToolLine]) -> bool
-    ensures { IsTrue result ↔ All (λ line. line ≡ counting.counting_read) (drop 1 lines.now) }
+/// Whether the first line, if there is one, opens the event, and the others read it.
+fn opens_and_reads(lines: &[ToolLine]) -> bool
+    ensures { IsTrue result ↔ OpensAndReads lines.now }
 {
-    let read = counting_read();
-    lines.iter().skip(1).all(|line| *line == read)
+    match lines.split_first() {
+        None => true,
+        Some((first, others)) => *first == counting_open() && others.iter().all(is_read),
+    }
 }
 
 /// Whether the lines of each processor are work.
@@ -109,8 +109,8 @@ fn is_first_form(script: &Script) -> bool
     ensures all { IsTrue result ↔ IsFirstForm script.now }
     ensures sound { IsScript script.now }
 {
-    let lines = script.tool_lines(ToolNo(0));
-    cpus_work(script) && opens(lines) && all_read(lines) && others_idle(script)
+    let _cpus = script.cpus();
+    cpus_work(script) && opens_and_reads(script.tool_lines(ToolNo(0))) && others_idle(script)
 }
 
 /// Whether the program does a script.
