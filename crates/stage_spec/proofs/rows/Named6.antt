@@ -16,6 +16,49 @@ use Rattle.perf_base.specs.Scripts.{Scripted}
 use Rattle.stage_spec.proofs.rows.Words.{cpu, task, slot, slots, by_cpu, by_tool, pmu, kind_line, attr, work, eight, four}
 use Rattle.stage_spec.proofs.rows.Answering.{Answers, Computed, computed}
 
+sibling_of_error : Scripted
+sibling_of_error = record {
+  cpus = 1;
+  pmus = pmu 2 1 ∷ [];
+  kinds = kind_line (codes "a") 0 1 ∷ kind_line (codes "b") 0 2 ∷ [];
+  tasks = [];
+  rings = [];
+  cpu_lines = eight [];
+  tool_lines = four ((
+      tool_line.Open (slot 0) (attr (kind.Hard 0) tasks.All (cpus.One (cpu 0)) 0 0 0 4) None ∷
+      tool_line.Open (slot 1) (attr (kind.Hard 0) tasks.All (cpus.One (cpu 0)) 0 0 0 4) None ∷
+      tool_line.Open (slot 2) (attr (kind.Hard 1) tasks.All (cpus.One (cpu 0)) 0 0 0 1) (Some (slot 1)) ∷
+      tool_line.Open (slot 3) (attr kind.Dummy tasks.All (cpus.One (cpu 0)) 0 0 0 0) (Some (slot 1)) ∷
+      tool_line.Why (slot 2) ∷
+      tool_line.Read (slot 2) None ∷
+      tool_line.Read (slot 2) (Some 0) ∷
+      tool_line.Why (slot 3) ∷
+      tool_line.Disable (slot 1) false ∷
+      tool_line.Why (slot 2) ∷
+      tool_line.Why (slot 3) ∷
+      tool_line.Read (slot 3) None ∷
+      tool_line.Enable (slot 1) false ∷
+      tool_line.Why (slot 1) ∷
+      tool_line.Why (slot 2) ∷
+      tool_line.Close (slot 1) ∷
+      tool_line.Why (slot 2) ∷
+      tool_line.Why (slot 3) ∷
+      []) ∷ []);
+  readers = [];
+  order = by_tool 0 ∷ by_tool 0 ∷ by_tool 0 ∷ by_tool 0 ∷ by_tool 0 ∷ by_tool 0 ∷ by_tool 0 ∷ by_tool 0 ∷ by_tool 0 ∷ by_tool 0 ∷ by_tool 0 ∷
+      by_tool 0 ∷ by_tool 0 ∷ by_tool 0 ∷ by_tool 0 ∷ by_tool 0 ∷ by_tool 0 ∷ by_tool 0 ∷ [];
+}
+
+sibling_of_error_replies : List Reply
+sibling_of_error_replies = reply.Ok ∷ reply.Ok ∷ reply.Ok ∷ reply.Ok ∷ reply.Why (why.Failed (cause.Hall (slots (0 ∷ 1 ∷ [])))) ∷ reply.Read [] ∷
+    reply.Read [] ∷ reply.Why (why.Failed (cause.Hall (slots (0 ∷ 1 ∷ [])))) ∷ reply.Ok ∷ reply.Why why.Off ∷ reply.Why why.Off ∷
+    reply.Read (0 ∷ []) ∷ reply.Ok ∷ reply.Why (why.Failed (cause.Hall (slots (0 ∷ 1 ∷ [])))) ∷
+    reply.Why (why.Failed (cause.Hall (slots (0 ∷ 1 ∷ [])))) ∷ reply.Ok ∷ reply.Why why.Off ∷ reply.Why why.On ∷ []
+
+sibling_of_error-answers : Answers sibling_of_error sibling_of_error_replies
+unfolding Computed sibling_of_error sibling_of_error_replies
+sibling_of_error-answers = computed sibling_of_error sibling_of_error_replies (refl, (refl, (refl, (refl, (refl, (refl, (refl, (refl, (refl, (refl, (refl, (refl, (refl, (refl, (refl, (refl, (refl, (refl, tt))))))))))))))))))
+
 sibling_off_takes_no_counter : Scripted
 sibling_off_takes_no_counter = record {
   cpus = 1;
