@@ -3,3 +3,4 @@ mod Each
 mod Ids
 mod Settled
 mod Settling
+pub mod rows

@@ -1,0 +1,484 @@
+#!/usr/bin/env python3
+"""Turns script texts and their reports into antt files of worked cases.
+
+Each case is a pair NAME.script and NAME.report. What comes out is, for each case, the script as a term of the type
+`Scripted`, the replies to all acts of its order as a list of terms, and a theorem that these replies are the answers that
+the definitions of crates/stage_spec/specs give. The theorem is proved by computation, so it fails where the definitions
+answer anything else than the report says.
+
+No proof rests on this program: what it writes is checked by `rt check` like any other file. A slip here could only
+state another case than the text says, which is why the terms are written to be read beside the text.
+
+Usage: script_terms.py CASES OUT
+  CASES  a folder of folders of cases, as tools/cases
+  OUT    the folder of the antt files, as crates/stage_spec/proofs/rows; files that it wrote before are replaced, and
+         the list of the folder's modules, as crates/stage_spec/proofs/rows.antt
+"""
+
+import os
+import sys
+
+CPUS = 8
+TOOLS = 4
+KINDS = 16
+LINES_PER_FILE = 390
+
+SOFTWARE = {
+    "context-switches": "kind.ContextSwitches",
+    "cpu-migrations": "kind.CpuMigrations",
+    "task-clock": "kind.TaskClock",
+    "dummy": "kind.Dummy",
+}
+
+FLAGS = {
+    "disabled": 1,
+    "inherit": 2,
+    "pinned": 4,
+    "exclusive": 8,
+    "exclude_user": 16,
+    "exclude_kernel": 32,
+    "sample_id_all": 64,
+}
+
+REASONS = {
+    "EATTRPERIOD": "BadPeriod",
+    "ESAMPLEBITS": "BadSampleBits",
+    "EFORMATBITS": "BadFormatBits",
+    "ENOPLACE": "NoPlace",
+    "ESOFTPERIOD": "SoftPeriod",
+    "EEXIST": "Exists",
+    "ESRCH": "NoTask",
+    "EBADF": "NoEvent",
+    "ELEADER": "NotLeader",
+    "ECONTEXT": "OtherContext",
+    "EFLAGS": "SiblingFlags",
+    "EINHERIT": "Inherit",
+    "EGROUP": "GroupFull",
+    "EASSIGN": "NoAssignment",
+    "EBUSY": "Busy",
+    "EIDLE": "Idle",
+    "EAGAIN": "CopiesFull",
+    "ENOSAMPLE": "NotSampling",
+    "EPERIOD": "ZeroPeriod",
+    "ENOSPC": "NoSpace",
+    "ESELF": "SameEvent",
+    "ECPU": "OtherCpu",
+    "EMAPPED": "HasRing",
+    "ENORING": "NoRing",
+    "EPMU": "OtherPmu",
+    "EDEVICE": "NoDevice",
+}
+
+RULES = {"exclusive": "Exclusive", "exclusive-self": "ExclusiveSelf", "earlier": "Earlier"}
+
+
+class Case:
+    """One script with its report, both as terms. Each term is a piece of antt text."""
+
+    def __init__(self, name):
+        self.name = name
+        self.cpus = 0
+        self.pmus = []
+        self.kinds = []  # (name, term)
+        self.tasks = []
+        self.rings = []
+        self.cpu_lines = [[] for _ in range(CPUS)]
+        self.tool_lines = [[] for _ in range(TOOLS)]
+        self.readers = []
+        self.order = []  # ("p", 0), ("t", 1), ("s", 0, 16)
+        self.replies = {}  # (actor, line number): (term, proof)
+
+
+def some(term):
+    return f"Some ({term})"
+
+
+def list_of(terms):
+    return " ∷ ".join([*terms, "[]"])
+
+
+def bracketed(terms):
+    return f"({list_of(terms)})" if terms else "[]"
+
+
+def slots(words):
+    return f"(slots ({list_of(words)}))"
+
+
+def after(word, name):
+    """What stands behind `name=` in a word."""
+    if not word.startswith(name + "="):
+        raise ValueError(f"{word}: {name}= is wanted")
+    return word[len(name) + 1 :]
+
+
+def hexadecimal(text):
+    return str(int(text, 16))
+
+
+# The script.
+
+
+def read_script(case, text):
+    place = None
+    for line in text.splitlines():
+        words = line.split(" ")
+        head = words[0]
+        if head == "processor":
+            place = case.cpu_lines[int(words[1])]
+        elif head == "tool":
+            place = case.tool_lines[int(words[1])]
+        elif head in DECLARATIONS:
+            DECLARATIONS[head](case, words)
+        elif head in CPU_LINES:
+            place.append((head, CPU_LINES[head](case, words)))
+        elif head in TOOL_LINES:
+            place.append((head, TOOL_LINES[head](case, words)))
+        elif head not in ("perf", "end"):
+            raise ValueError(f"{case.name}: {line}")
+
+
+def machine(case, words):
+    case.cpus = int(after(words[1], "cpus"))
+    if len(words) > 2:
+        case.pmus.append(f"pmu {int(after(words[2], 'counters'))} {2 ** case.cpus - 1}")
+
+
+def pmu(case, words):
+    case.pmus.append(f"pmu {int(after(words[2], 'counters'))} {hexadecimal(after(words[3], 'cpus'))}")
+
+
+def kind(case, words):
+    number = after(words[2], "pmu") if len(words) > 3 else "0"
+    case.kinds.append((words[1], f'kind_line (codes "{words[1]}") {number} {hexadecimal(after(words[-1], "mask"))}'))
+
+
+def task(case, words):
+    case.tasks.append(f"task {words[1]}")
+
+
+def ring(case, words):
+    case.rings.append(f"(ring {words[1]}, {after(words[2], 'bytes')})")
+
+
+def reader(case, words):
+    case.readers.append(f"reader {words[1]} {after(words[2], 'tries')} {after(words[3], 'batch')}")
+
+
+def order(case, words):
+    for word in words[1:]:
+        number, _, place = word[1:].partition("=")
+        case.order.append((word[0], int(number), *([place] if place else [])))
+
+
+DECLARATIONS = {"machine": machine, "pmu": pmu, "kind": kind, "task": task, "ring": ring, "reader": reader, "order": order}
+
+
+def switch(case, words):
+    return "cpu_line.Switch None" if words[1] == "idle" else f"cpu_line.Switch ({some('task ' + words[1])})"
+
+
+def work(case, words):
+    names = [name for name, _ in case.kinds]
+    address = "0"
+    hits = [0] * len(names)
+    for word in words[3:]:
+        name, _, value = word.partition("=")
+        if name == "ip":
+            address = hexadecimal(value)
+        else:
+            hits[names.index(name)] = int(value)
+    return f"cpu_line.Work (work {words[1]} mode.{words[2].capitalize()} {address} {bracketed(map(str, hits)) if hits else '[]'})"
+
+
+CPU_LINES = {
+    "switch": switch,
+    "work": work,
+    "tick": lambda case, words: "cpu_line.Tick",
+    "fork": lambda case, words: f"cpu_line.Fork (task {words[1]})",
+    "exit": lambda case, words: "cpu_line.Exit",
+}
+
+
+def kind_term(case, name):
+    if name in SOFTWARE:
+        return SOFTWARE[name]
+    return f"(kind.Hard {[it for it, _ in case.kinds].index(name)})"
+
+
+def open_line(case, words):
+    given = dict(word.split("=", 1) for word in words[2:])
+    flags = sum(FLAGS[it] for it in given["flags"].split(",")) if "flags" in given else 0
+    attr = " ".join([
+        "attr",
+        kind_term(case, given["kind"]),
+        "tasks.All" if given["task"] == "all" else f"(tasks.One (task {given['task']}))",
+        "cpus.Any" if given["cpu"] == "any" else f"(cpus.One (cpu {given['cpu']}))",
+        given.get("period", "0"),
+        hexadecimal(given.get("sample", "0")),
+        hexadecimal(given.get("format", "0")),
+        str(flags),
+    ])
+    leader = f"({some('slot ' + given['leader'])})" if "leader" in given else "None"
+    return f"tool_line.Open (slot {words[1]}) ({attr}) {leader}"
+
+
+def command(name):
+    return lambda case, words: f"tool_line.{name} (slot {words[1]}) {'true' if words[2:] == ['group'] else 'false'}"
+
+
+def read_line(case, words):
+    size = f"({'Some ' + after(words[2], 'size')})" if words[2:] else "None"
+    return f"tool_line.Read (slot {words[1]}) {size}"
+
+
+TOOL_LINES = {
+    "open": open_line,
+    "enable": command("Enable"),
+    "disable": command("Disable"),
+    "reset": command("Reset"),
+    "period": lambda case, words: f"tool_line.Period (slot {words[1]}) {words[2]}",
+    "read": read_line,
+    "map": lambda case, words: f"tool_line.Map (slot {words[1]}) (ring {words[2]})",
+    "output": lambda case, words: f"tool_line.Output (slot {words[1]}) (slot {words[2]})",
+    "close": lambda case, words: f"tool_line.Close (slot {words[1]})",
+    "why": lambda case, words: f"tool_line.Why (slot {words[1]})",
+    "seats": lambda case, words: f"tool_line.Seats (cpu {words[1]})",
+}
+
+
+# The report: of each reply its term, and the proof that it is the answer.
+
+
+def read_report(case, text):
+    for line in text.splitlines():
+        words = line.split(" ")
+        actor, dot, number = words[0].partition(".")
+        if dot:
+            case.replies[(actor, int(number))] = reply(words[1], words[2:])
+
+
+def reply(head, words):
+    if words and words[0] in REASONS:
+        slots_named = " " + slots(words[1:]) if words[0] == "EASSIGN" else ""
+        reason = f"reason.{REASONS[words[0]]}{slots_named}"
+        return (f"reply.Refused ({reason})" if slots_named else f"reply.Refused {reason}", "refl")
+    if head == "read":
+        return (f"reply.Read {bracketed(words)}", "refl")
+    if head == "why":
+        return (f"reply.Why {why(words)}", "refl")
+    if head == "seats":
+        pairs = [f"(slot {event}, {counter})" for event, counter in (word.split("=") for word in words)]
+        return (f"reply.Seats {bracketed(pairs)}", "(refl, refl)")
+    raise ValueError(f"{head} {words}")
+
+
+def why(words):
+    if words[0] in ("off", "away", "on"):
+        return f"why.{words[0].capitalize()}"
+    if words[0] == "error":
+        return f"(why.Failed {cause(words[1:])})"
+    return f"(why.Refused {cause(words)})"
+
+
+def cause(words):
+    if words[0] == "hall":
+        return f"(cause.Hall {slots(words[1:])})"
+    return f"(cause.Rule (rule.{RULES[words[0]]} (slot {words[1]})))"
+
+
+# The terms of a case.
+
+
+def act_term(act):
+    if act[0] == "s":
+        return f"seen {act[1]} {act[2]}"
+    return f"by_cpu {act[1]}" if act[0] == "p" else f"by_tool {act[1]}"
+
+
+def replies_in_order(case):
+    """The reply and the proof of each act; a plain Ok where the report shows none."""
+    done = {}
+    answered = []
+    for act in case.order:
+        actor = f"{act[0]}{act[1]}"
+        number = done.get(actor, 0)
+        done[actor] = number + 1
+        answered.append(case.replies.get((actor, number), ("reply.Ok", "refl")) if act[0] != "s" else ("reply.Ok", "refl"))
+    missing = [key for key in case.replies if key[1] >= done.get(key[0], 0)]
+    if missing:
+        raise ValueError(f"{case.name}: replies to no act: {missing}")
+    return answered
+
+
+def pieces(terms):
+    return [f"{term} ∷" for term in terms]
+
+
+def lines_field(name, padding, lists):
+    """The lists of lines of processors or tools, up to the last that is not empty; the others are empty."""
+    while lists and not lists[-1]:
+        lists = lists[:-1]
+    out = []
+    line = f"  {name} = {padding} "
+    line += "(" if lists else ""
+    for lines in lists:
+        if not lines:
+            line += "[] ∷ "
+            continue
+        out.append(line + "(")
+        out += [f"      {term} ∷" for _, term in lines]
+        line = "      []) ∷ "
+    return [*out, line + ("[]);" if lists else "[];")]
+
+
+def wrapped(terms, first, margin, end, width=150):
+    """A list over as many lines as it needs."""
+    out = []
+    line = first
+    for piece in [*pieces(terms), "[]" + end]:
+        if len(line) + len(piece) + 1 > width and line.strip():
+            out.append(line.rstrip())
+            line = margin
+        line += piece + " "
+    return [*out, line.rstrip()]
+
+
+def case_terms(case):
+    name = case.name.replace("-", "_")
+    answered = replies_in_order(case)
+    out = [
+        f"{name} : Scripted",
+        f"{name} = record {{",
+        f"  cpus = {case.cpus};",
+        f"  pmus = {list_of(case.pmus)};",
+        *wrapped([term for _, term in case.kinds], "  kinds = ", "      ", ";"),
+        f"  tasks = {list_of(case.tasks)};",
+        f"  rings = {list_of(case.rings)};",
+        *lines_field("cpu_lines", "eight", case.cpu_lines),
+        *lines_field("tool_lines", "four", case.tool_lines),
+        f"  readers = {list_of(case.readers)};",
+        *wrapped([act_term(act) for act in case.order], "  order = ", "      ", ";"),
+        "}",
+        "",
+        f"{name}_replies : List Reply",
+        *wrapped([term for term, _ in answered], f"{name}_replies = ", "    ", ""),
+        "",
+        f"{name}-answers : Answers {name} {name}_replies",
+        f"unfolding Computed {name} {name}_replies",
+        f"{name}-answers = computed {name} {name}_replies {proof([it for _, it in answered])}",
+    ]
+    return out
+
+
+def proof(proofs):
+    """The nested tuple of the proofs, one for each act."""
+    return "".join(f"({it}, " for it in proofs) + "tt" + ")" * len(proofs)
+
+
+# The files.
+
+IMPORTS = [
+    ("Rattle.std.specs.Prelude", ["Bool", "true", "false", "List", "[]", "◌∷◌", "Option", "Some", "None", "codes"]),
+    ("Rattle.std.proofs.Common", ["refl"]),
+    ("Rattle.perf_base.specs.declared.attr.Kind.TheVariants", "kind"),
+    ("Rattle.perf_base.specs.declared.attr.TaskSel.TheVariants", "tasks"),
+    ("Rattle.perf_base.specs.declared.attr.CpuSel.TheVariants", "cpus"),
+    ("Rattle.perf_base.specs.declared.lines.Mode.TheVariants", "mode"),
+    ("Rattle.perf_base.specs.declared.lines.CpuLine.TheVariants", "cpu_line"),
+    ("Rattle.perf_base.specs.declared.lines.ToolLine.TheVariants", "tool_line"),
+    ("Rattle.perf_base.specs.declared.standing.Rule.TheVariants", "rule"),
+    ("Rattle.perf_base.specs.declared.standing.Cause.TheVariants", "cause"),
+    ("Rattle.perf_base.specs.declared.standing.Why.TheVariants", "why"),
+    ("Rattle.perf_base.specs.declared.reasons.Reason.TheVariants", "reason"),
+    ("Rattle.perf_base.specs.declared.reply.Reply", ["Reply"]),
+    ("Rattle.perf_base.specs.declared.reply.Reply.TheVariants", "reply"),
+    ("Rattle.perf_base.specs.Scripts", ["Scripted"]),
+    (
+        "Rattle.stage_spec.proofs.rows.Words",
+        ["cpu", "task", "slot", "slots", "ring", "by_cpu", "by_tool", "seen", "pmu", "kind_line", "attr", "work", "reader", "eight", "four"],
+    ),
+    ("Rattle.stage_spec.proofs.rows.Answering", ["Answers", "Computed", "computed"]),
+]
+
+
+def imports(lines):
+    text = " ".join(lines)
+    for mark in "(),;{}":
+        text = text.replace(mark, " ")
+    words = set(text.split())
+    heads = {word.split(".")[0] for word in words if "." in word}
+    out = []
+    for module, names in IMPORTS:
+        if isinstance(names, str):
+            if names in heads:
+                out.append(f"use {module} as {names}")
+            continue
+        used = [it for it in names if it in words or (it == "◌∷◌" and "∷" in words)]
+        if used:
+            out.append(f"use {module}.{{{', '.join(used)}}}")
+    return out
+
+
+def write_files(out, folder, cases):
+    """Writes the cases of a folder into files that are not too long, and returns the names of the files."""
+    title = "".join(word.capitalize() for word in folder.split("_"))
+    parts = [[]]
+    for case in cases:
+        terms = case_terms(case)
+        if parts[-1] and sum(len(it) + 1 for it in parts[-1]) + len(terms) + len(IMPORTS) + 3 > LINES_PER_FILE:
+            parts.append([])
+        parts[-1].append(terms)
+    names = []
+    for number, part in enumerate(parts, 1):
+        body = [line for terms in part for line in ["", *terms]]
+        name = f"{title}{number}"
+        head = ["-- Worked cases, written by tools/script_terms.py from texts and their reports.", *imports(body)]
+        with open(os.path.join(out, f"{name}.antt"), "w", encoding="utf-8") as file:
+            file.write("\n".join([*head, *body]) + "\n")
+        names.append(name)
+    return names
+
+
+def read_cases(folder):
+    cases = []
+    for file in sorted(os.listdir(folder)):
+        name, dot, ending = file.rpartition(".")
+        if ending != "script":
+            continue
+        label = f"{os.path.basename(folder)}_{name}" if name.isdigit() else name
+        case = Case(label)
+        with open(os.path.join(folder, file), encoding="ascii") as text:
+            read_script(case, text.read())
+        with open(os.path.join(folder, f"{name}.report"), encoding="ascii") as text:
+            read_report(case, text.read())
+        cases.append(case)
+    return cases
+
+
+# the modules of the folder that are written by hand
+BY_HAND = ("Answering", "Seats", "Words")
+
+
+def is_written(path):
+    with open(path, encoding="utf-8") as file:
+        return "written by tools/script_terms.py" in file.readline()
+
+
+def main(arguments):
+    if len(arguments) != 2:
+        sys.exit(__doc__)
+    cases, out = arguments
+    for file in os.listdir(out):
+        path = os.path.join(out, file)
+        if file.endswith(".antt") and is_written(path):
+            os.remove(path)
+    for folder in sorted(os.listdir(cases)):
+        write_files(out, folder, read_cases(os.path.join(cases, folder)))
+    names = sorted(file[: -len(".antt")] for file in os.listdir(out) if file.endswith(".antt"))
+    with open(f"{out}.antt", "w", encoding="utf-8") as file:
+        file.write("".join(f"{'pub ' if name in BY_HAND else ''}mod {name}\n" for name in names))
+
+
+if __name__ == "__main__":
+    main(sys.argv[1:])
