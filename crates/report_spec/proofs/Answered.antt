@@ -122,7 +122,7 @@ events-tail : (bytes : ℕ) (hw : Hardware) (s : Stage) (ring : RingNo) (a : Acc
 events-tail bytes hw s ring a before x =
     let sents : List (RingNo × Sent) = filter (is_to ring) (sent_after hw s before x) in
     ap (λ b. b.tail) (fold-append (ring_step bytes) a (looks_at ring x) (sends_to ring (sent_after hw s before x)))
-        ∙ (sends-tail bytes (fold (ring_step bytes) a (looks_at ring x)) sents ∙ looks-tail bytes ring a x)
+    ∙ (sends-tail bytes (fold (ring_step bytes) a (looks_at ring x)) sents ∙ looks-tail bytes ring a x)
 
 from-tail : (bytes : ℕ) (hw : Hardware) (s : Stage) (ring : RingNo) (a : Account) (before steps : List Step)
     → (fold (ring_step bytes) a (events_from hw s ring before steps)).tail ≡ fold (tail_by ring) a.tail steps
@@ -131,7 +131,7 @@ from-tail bytes hw s ring a before [] = refl
 from-tail bytes hw s ring a before (x ∷ steps) =
     let now : Account = fold (ring_step bytes) a (events_after hw s ring before x) in
     ap (λ b. b.tail) (fold-append (ring_step bytes) a (events_after hw s ring before x) (events_from hw s ring (before ++ x ∷ []) steps))
-        ∙ (from-tail bytes hw s ring now (before ++ x ∷ []) steps ∙ ap (λ last. fold (tail_by ring) last steps) (events-tail bytes hw s ring a before x))
+    ∙ (from-tail bytes hw s ring now (before ++ x ∷ []) steps ∙ ap (λ last. fold (tail_by ring) last steps) (events-tail bytes hw s ring a before x))
 
 account-tail : (hw : Hardware) (s : Stage) (steps : List Step) (ring : RingNo) (bytes : ℕ) → (account_of hw s steps (ring, bytes)).tail ≡ fold (tail_by ring) 0 steps
 unfolding account_of account events_of
@@ -156,8 +156,8 @@ unfolding steps_from
 acts-tail s ring last before [] = refl
 acts-tail s ring last before (a ∷ acts) =
     fold-append (tail_by ring) last (steps_of s before a) (steps_from s (before ++ a ∷ []) acts)
-        ∙ (acts-tail s ring (fold (tail_by ring) last (steps_of s before a)) (before ++ a ∷ []) acts
-            ∙ ap (λ l. fold (seen_at ring) l acts) (act-tail s ring last before a))
+    ∙ (acts-tail s ring (fold (tail_by ring) last (steps_of s before a)) (before ++ a ∷ []) acts
+    ∙ ap (λ l. fold (seen_at ring) l acts) (act-tail s ring last before a))
 
 seen-tail : (s : Scripted) (acts : List Act) (ring : RingNo) (bytes : ℕ) → (account_in s acts (ring, bytes)).tail ≡ last_seen ring acts
 seen-tail s acts ring bytes = account-tail (hardware_of s) (opening_stage s) (history s acts) ring bytes ∙ acts-tail s ring 0 [] acts
@@ -191,7 +191,7 @@ steps_from-push s before (b ∷ acts) a =
     let now : List Step = steps_of s before b in
     let rest : List Step = steps_from s (before ++ b ∷ []) acts in
     ap (λ xs. now ++ xs) (steps_from-push s (before ++ b ∷ []) acts a)
-        ∙ (ap (λ done. now ++ (rest ++ steps_of s done a)) regrouped ∙ sym (append_assoc now rest (steps_of s (before ++ b ∷ acts) a)))
+    ∙ (ap (λ done. now ++ (rest ++ steps_of s done a)) regrouped ∙ sym (append_assoc now rest (steps_of s (before ++ b ∷ acts) a)))
 
 -- the first act of a lawful history is lawful
 first-lawful : (s : Scripted) (before : List Act) (a : Act) (more : List Step)
@@ -214,7 +214,7 @@ lawful_acts s before (c ∷ acts) h (d ∷ some) after a e =
     let regrouped : (before ++ c ∷ []) ++ some ≡ before ++ c ∷ some = append_assoc before (c ∷ []) some in
     let so_far : history s (before ++ c ∷ []) ≡ history s before ++ steps_of s before c = steps_from-push s [] before c in
     let later : LawfulFrom (hardware_of s) (opening_stage s) s.rings (history s before ++ steps_of s before c) (steps_from s (before ++ c ∷ []) acts) =
-        LawfulFrom-rest (hardware_of s) (opening_stage s) s.rings (history s before) (steps_of s before c) (steps_from s (before ++ c ∷ []) acts) h in
+    LawfulFrom-rest (hardware_of s) (opening_stage s) s.rings (history s before) (steps_of s before c) (steps_from s (before ++ c ∷ []) acts) h in
     rw (← same, ← regrouped) (lawful_acts s (before ++ c ∷ []) acts (rw so_far later) some after a rest)
 
 -- a look that is lawful by the accounts kept is lawful
@@ -253,7 +253,7 @@ lawful_by hw s rings before k (ToolStep line) h ok = tt
 lawful_by hw s rings before k (SeenStep ring place) h ok =
     let f : RingNo × ℕ → RingAccount = λ r. (r, account_of hw s before r) in
     let found : find (is_ring ring) k.accounts ≡ option_map f (find (λ r. r.0.0 == ring.0) rings) =
-        ap (find (is_ring ring)) h.accounts ∙ find-passes (λ r. r.0.0 == ring.0) f (is_ring ring) (λ r. refl) rings in
+    ap (find (is_ring ring)) h.accounts ∙ find-passes (λ r. r.0.0 == ring.0) f (is_ring ring) (λ r. refl) rings in
     found_lawful hw s rings before ring place (find (λ r. r.0.0 == ring.0) rings) refl (ap (λ o. lawful_at o place) (sym found) ∙ ok)
 
 lost_sum : (f : RingNo × ℕ → RingAccount) (e : EventNo) (from : ℕ) (rings : List (RingNo × ℕ))

@@ -74,7 +74,7 @@ map-map f g (x ∷ xs) = ap (λ ys. g (f x) ∷ ys) (map-map f g xs)
 
 kept_account : (hw : Hardware) (s : Stage) (before : List Step) (x : Step) (ring : RingNo × ℕ)
     → fold (ring_step ring.1) (account_of hw s before ring) (looks_at ring.0 x ++ sends_to ring.0 (sent_by_step hw (stage_after hw s before) (remainder_of hw s before) (clock_of before) x))
-        ≡ account_of hw s (before ++ x ∷ []) ring
+    ≡ account_of hw s (before ++ x ∷ []) ring
 unfolding sent_after
 kept_account hw s before x ring = sym (account_of-push hw s before x ring)
 
@@ -85,6 +85,6 @@ keeps-step hw s rings before k x h = record {
   clock = fun_ext (λ cpu. rw h.clock (sym (clock_of-push before x cpu)));
   accounts = rw (h.base.stage, h.left, h.clock, h.accounts)
       (map-map (λ ring. (ring, account_of hw s before ring)) (keep_ring x (sent_by_step hw (stage_after hw s before) (remainder_of hw s before) (clock_of before) x)) rings
-          ∙ map_same (λ ring. keep_ring x (sent_by_step hw (stage_after hw s before) (remainder_of hw s before) (clock_of before) x) (ring, account_of hw s before ring))
-              (λ ring. (ring, account_of hw s (before ++ x ∷ []) ring)) (λ ring. ap (λ a. (ring, a)) (kept_account hw s before x ring)) rings);
+      ∙ map_same (λ ring. keep_ring x (sent_by_step hw (stage_after hw s before) (remainder_of hw s before) (clock_of before) x) (ring, account_of hw s before ring))
+      (λ ring. (ring, account_of hw s (before ++ x ∷ []) ring)) (λ ring. ap (λ a. (ring, a)) (kept_account hw s before x ring)) rings);
 }

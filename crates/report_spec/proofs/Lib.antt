@@ -1,4 +1,4 @@
 mod Answered
 mod Kept
-mod Try
 mod Whole
+pub mod rows

@@ -73,7 +73,7 @@ pub counted_by : (s : Scripted) (order : List Act) → is_counted s order ≡ tr
 counted_by s order h =
     let all : list_all is_in_range order ≡ true = and_left (list_all is_in_range order) (list_all (cpu_counted s order) (numbers_below 8) && list_all (tool_counted s order) (numbers_below 4)) h in
     let both : (list_all (cpu_counted s order) (numbers_below 8) && list_all (tool_counted s order) (numbers_below 4)) ≡ true =
-        and_right (list_all is_in_range order) (list_all (cpu_counted s order) (numbers_below 8) && list_all (tool_counted s order) (numbers_below 4)) h in
+    and_right (list_all is_in_range order) (list_all (cpu_counted s order) (numbers_below 8) && list_all (tool_counted s order) (numbers_below 4)) h in
     record {
       cpus = λ cpu. elim (cases_lt cpu.0 8) [
         | inl l ↦ leb-true (done_by_cpu cpu order) (length (lines_of_cpu s cpu))
@@ -104,10 +104,10 @@ pub worked : (s : Scripted) (replies : List Reply) (text : List ℕ) → is_coun
 unfolding steps_from
 worked s replies text counted g =
     let h : Answered (hardware_of s) (opening_stage s) s.rings (EndsAs s replies text) [] (history s s.order) replies =
-        run_rings (hardware_of s) (opening_stage s) s.rings (EndsAs s replies text) [] (kept_at_first (opening_stage s) s.rings) (keeps-first (hardware_of s) (opening_stage s) s.rings)
-            (history s s.order) replies g in
+    run_rings (hardware_of s) (opening_stage s) s.rings (EndsAs s replies text) [] (kept_at_first (opening_stage s) s.rings) (keeps-first (hardware_of s) (opening_stage s) s.rings)
+    (history s s.order) replies g in
     let ends : rings_kept h.last.accounts ≡ rings_after s s.order =
-        ap rings_kept h.keeps.accounts ∙ map-map (λ ring. (ring, account_of (hardware_of s) (opening_stage s) (history s s.order) ring)) (λ a. (a.0.0, a.1)) s.rings in
+    ap rings_kept h.keeps.accounts ∙ map-map (λ ring. (ring, account_of (hardware_of s) (opening_stage s) (history s s.order) ring)) (λ a. (a.0.0, a.1)) s.rings in
     record {
       answered = record {
         counted = counted_by s s.order counted;

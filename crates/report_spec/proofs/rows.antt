@@ -1,0 +1,3 @@
+pub mod Answering
+mod Named1
+mod Named2
