@@ -1,37 +1,32 @@
 -- A script whose order is answered step by step is answered as the definitions say.
-use Rattle.std.specs.Prelude.{◌≡◌, ℕ, ◌+◌, ◌<◌, ◌≤◌, ◌==◌, nat_le, nat_lt, Bool, true, false, ◌&&◌, ◌||◌, List, [], ◌∷◌, ◌++◌, map, filter, fold, find, length, take, drop, sum, count_by, Option, Some, None, option_map, unwrap_or, zero, suc, cond, if◌then◌else◌}
-use Rattle.std.specs.List.{list_all}
+use Rattle.std.specs.Prelude.{◌≡◌, ℕ, ◌+◌, ◌==◌, nat_le, Bool, true, false, ◌&&◌, ◌||◌, List, [], ◌∷◌, ◌++◌, map, filter, fold, find, length, take, drop, sum, Option, Some, None, option_map, unwrap_or, suc, cond, if◌then◌else◌}
 use Rattle.std.proofs.Common.{arith, refl, sym, ap, ◌∙◌, inl, inr, append_assoc, append-nil, get_or}
 use Rattle.std.proofs.lemmas.List.{length-append}
 use Rattle.std.proofs.lemmas.Option.{none-some}
-use Rattle.std.proofs.lemmas.Bool.{cases_Bool, cases_lt, false≢true, or_cases, leb-true}
+use Rattle.std.proofs.lemmas.Bool.{false≢true, or_cases, leb-true}
 use Rattle.std.proofs.lemmas.Bool.Decides.{nat_tests}
 use Rattle.std.proofs.Math.Path.{fun_ext}
-use Rattle.std.proofs.lemmas.List.Sums.{fold-append, sum_by-cons}
-use Rattle.perf_base.specs.declared.numbers.CpuNo.{CpuNo}
+use Rattle.std.proofs.lemmas.List.Sums.{fold-append}
 use Rattle.perf_base.specs.declared.numbers.EventNo.{EventNo}
 use Rattle.perf_base.specs.declared.numbers.RingNo.{RingNo}
-use Rattle.perf_base.specs.declared.numbers.ToolNo.{ToolNo}
 use Rattle.perf_base.specs.declared.lines.CpuLine.{CpuLine}
 use Rattle.perf_base.specs.declared.lines.ToolLine.{ToolLine}
 use Rattle.perf_base.specs.declared.acts.Act.{Act}
 use Rattle.perf_base.specs.declared.acts.Act.TheVariants as act
 use Rattle.perf_base.specs.declared.reply.Reply.{Reply}
-use Rattle.perf_base.specs.Scripts.{Scripted, lines_of_cpu, lines_of_tool}
-use Rattle.stage_spec.specs.Hardware.{Hardware, hardware_of, numbers_below}
+use Rattle.perf_base.specs.Scripts.{Scripted}
+use Rattle.stage_spec.specs.Hardware.{Hardware, hardware_of}
 use Rattle.stage_spec.specs.Stage.{Stage}
-use Rattle.stage_spec.specs.Order.{IsCounted, IsLawful, IsLawfulAct, IsLawfulSeen, last_seen, seen_at, done_by_cpu, done_by_tool, is_of_cpu, is_of_tool, next_of_cpu, next_of_tool}
+use Rattle.stage_spec.specs.Order.{IsLawfulAct, IsLawfulSeen, last_seen, seen_at, next_of_cpu, next_of_tool}
 use Rattle.stage_spec.specs.History.{Step, CpuStep, ToolStep, SeenStep, stage_after, steps_of, steps_from, cpu_steps, tool_steps, history, opening_stage}
 use Rattle.stage_spec.specs.Replies.{IsAnswerAt, IsReply, AreReplies}
 use Rattle.stage_spec.specs.Families.{family_sums}
 use Rattle.stage_spec.specs.Running.{family_of, family-is}
 use Rattle.ring_spec.specs.Records.{size_of}
 use Rattle.ring_spec.specs.Sending.{Sent, sent_after}
-use Rattle.ring_spec.specs.Account.{RingEvent, Sends, Looks, Account, account, empty_account, lost_of, send, ring_step, written_to, lost_to, need_of, room_of}
-use Rattle.ring_spec.specs.Rings.{looks_at, sends_to, is_to, events_after, events_from, events_of, account_of, account_in, bytes_of, bytes_in, sizes_in, lost_count, IsLawfulOrder}
-use Rattle.report_spec.specs.Report.{report, rings_after}
-use Rattle.report_spec.specs.Answers.{IsAnswered, lost_in}
-use Rattle.report_spec.proofs.Kept.{RingAccount, Kept, kept_at_first, keep, lost_by, Keeps, keeps-first, keeps-step}
+use Rattle.ring_spec.specs.Account.{Sends, Looks, Account, account, empty_account, lost_of, send, ring_step, written_to, lost_to, need_of, room_of}
+use Rattle.ring_spec.specs.Rings.{looks_at, sends_to, is_to, events_after, events_from, events_of, account_of, account_in, bytes_of, bytes_in, sizes_in, lost_count}
+use Rattle.report_spec.proofs.Kept.{RingAccount, Kept, keep, lost_by, Keeps, keeps-step}
 
 -- whether a place stands behind some of the records of these sizes
 abbrev pub is_behind : (at place : ℕ) → List ℕ → Bool

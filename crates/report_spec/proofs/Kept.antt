@@ -1,22 +1,19 @@
 -- What a history leaves with its rings, kept step by step, and how worked cases are answered by it.
-use Rattle.std.specs.Prelude.{◌≡◌, ℕ, ◌+◌, ◌≤◌, ◌==◌, nat_le, Bool, true, false, ◌&&◌, ◌||◌, List, [], ◌∷◌, ◌++◌, map, filter, fold, find, length, take, sum, sum_by, Option, Some, None}
-use Rattle.std.proofs.Common.{arith, refl, sym, ap, ◌∙◌, append_assoc, append-nil}
+use Rattle.std.specs.Prelude.{◌≡◌, ℕ, ◌+◌, List, [], ◌∷◌, ◌++◌, map, fold, sum_by}
+use Rattle.std.proofs.Common.{arith, refl, sym, ap, ◌∙◌}
 use Rattle.std.proofs.Math.Path.{fun_ext}
 use Rattle.std.proofs.lemmas.List.Sums.{sum_by-append}
 use Rattle.perf_base.specs.declared.numbers.CpuNo.{CpuNo}
 use Rattle.perf_base.specs.declared.numbers.EventNo.{EventNo}
 use Rattle.perf_base.specs.declared.numbers.RingNo.{RingNo}
-use Rattle.perf_base.specs.declared.reply.Reply.{Reply}
 use Rattle.stage_spec.specs.Hardware.{Hardware}
 use Rattle.stage_spec.specs.Stage.{Stage}
-use Rattle.stage_spec.specs.History.{Step, CpuStep, ToolStep, SeenStep, stage_after}
+use Rattle.stage_spec.specs.History.{Step, stage_after}
 use Rattle.stage_spec.specs.Remainders.{left_by, remainder_of, remainder_from, remainder_of-push}
-use Rattle.stage_spec.specs.Replies.{IsAnswerAt, IsReply, AreReplies}
-use Rattle.stage_spec.specs.Running.{Running, start, run, family_of, Follows, follows-start, follows-run, family-is}
-use Rattle.ring_spec.specs.Records.{size_of}
+use Rattle.stage_spec.specs.Running.{Running, start, run, Follows, follows-start, follows-run}
 use Rattle.ring_spec.specs.Sending.{Sent, sent_by_step, sent_after, length_by, clock_of}
 use Rattle.ring_spec.specs.Account.{Account, empty_account, account, ring_step, lost_of}
-use Rattle.ring_spec.specs.Rings.{looks_at, sends_to, events_after, events_of, events_from, account_of, account_of-push, lost_count}
+use Rattle.ring_spec.specs.Rings.{looks_at, sends_to, events_of, events_from, account_of, account_of-push}
 
 -- a ring with its size, and what it came to
 abbrev pub RingAccount : Type 0

@@ -1,11 +1,10 @@
 -- A worked case, whole: the order and the replies answer the script, and the report is this text.
-use Rattle.std.specs.Prelude.{◌≡◌, ℕ, zero, suc, ◌+◌, ◌<◌, ◌≤◌, ◌==◌, nat_le, nat_lt, Bool, true, false, ◌&&◌, List, [], ◌∷◌, ◌++◌, map, count_by, length}
+use Rattle.std.specs.Prelude.{◌≡◌, ℕ, zero, suc, ◌<◌, ◌≤◌, nat_le, nat_lt, Bool, true, false, ◌&&◌, List, [], ◌∷◌, map, count_by, length}
 use Rattle.std.specs.List.{list_all}
 use Rattle.std.proofs.Common.{arith, refl, sym, ap, ◌∙◌, inl, inr}
-use Rattle.std.proofs.lemmas.Bool.{cases_lt, cases_eq, false≢true, leb-true}
+use Rattle.std.proofs.lemmas.Bool.{cases_lt, cases_eq, leb-true}
 use Rattle.std.proofs.lemmas.Bool.Decides.{nat_tests}
 use Rattle.std.proofs.lemmas.List.Folds.{list_all-append}
-use Rattle.std.proofs.lemmas.List.Sums.{sum_by-cons}
 use Rattle.perf_base.specs.declared.numbers.CpuNo.{CpuNo}
 use Rattle.perf_base.specs.declared.numbers.RingNo.{RingNo}
 use Rattle.perf_base.specs.declared.numbers.ToolNo.{ToolNo}
@@ -17,10 +16,10 @@ use Rattle.stage_spec.specs.Hardware.{hardware_of, numbers_below}
 use Rattle.stage_spec.specs.Order.{IsCounted, done_by_cpu, done_by_tool, is_of_cpu, is_of_tool}
 use Rattle.stage_spec.specs.History.{steps_from, history, opening_stage}
 use Rattle.ring_spec.specs.Account.{Account}
-use Rattle.ring_spec.specs.Rings.{account_of, account_in}
+use Rattle.ring_spec.specs.Rings.{account_of}
 use Rattle.report_spec.specs.Report.{report, rings_after}
-use Rattle.report_spec.specs.Answers.{IsAnswered, lost_in}
-use Rattle.report_spec.proofs.Kept.{RingAccount, Kept, kept_at_first, keeps-first, Keeps, map-map}
+use Rattle.report_spec.specs.Answers.{IsAnswered}
+use Rattle.report_spec.proofs.Kept.{RingAccount, Kept, kept_at_first, keeps-first, map-map}
 use Rattle.report_spec.proofs.Answered.{RunRings, Answered, run_rings, lawful_acts, and_left, and_right}
 
 abbrev pub cpu_at : ℕ → CpuNo

@@ -1,12 +1,10 @@
 -- Records are conserved: those sent are written or lost, those lost are told or pending.
-use Rattle.std.specs.Prelude.{◌≡◌, ℕ, ◌+◌, ◌-◌, ◌==◌, nat_le, Bool, true, false, List, [], ◌∷◌, ◌++◌, map, fold, length, sum, sum_by, count_by, cond, if◌then◌else◌}
-use Rattle.std.proofs.Common.{arith, refl, sym, ap, ◌∙◌, inl, inr, zero, suc}
-use Rattle.std.proofs.lemmas.Bool.{cases_Bool}
+use Rattle.std.specs.Prelude.{◌≡◌, ℕ, ◌+◌, nat_le, Bool, true, false, List, [], ◌∷◌, ◌++◌, fold, length, sum_by, count_by, cond}
+use Rattle.std.proofs.Common.{arith, refl, zero, suc}
 use Rattle.std.proofs.lemmas.List.{length_push}
 use Rattle.std.proofs.lemmas.List.Sums.{sum_by-append, sum_by-cons}
-use Rattle.ring_spec.specs.Records.{Record, Sample, Lost}
 use Rattle.ring_spec.specs.Sending.{Sent}
-use Rattle.ring_spec.specs.Account.{RingEvent, Sends, Looks, Account, account, empty_account, send, ring_step, told_before, records_for, sample_of, written_to, lost_to, need_of, room_of, is_sent, is_sample, losses_in, SentLaw, ToldLaw}
+use Rattle.ring_spec.specs.Account.{RingEvent, Sends, Looks, Account, account, empty_account, ring_step, told_before, records_for, sample_of, written_to, lost_to, need_of, room_of, is_sent, is_sample, losses_in, SentLaw, ToldLaw}
 
 samples : Account → ℕ
 samples a = count_by is_sample a.written
@@ -33,16 +31,16 @@ unfolding samples
 sent_step bytes a (Looks place) = omega arith
 sent_step bytes a (Sends sent) =
     either_account (λ b. samples b + length b.lost ≡ (samples a + length a.lost) + 1) (nat_le (need_of a sent) (room_of bytes a)) (written_to a sent) (lost_to a sent)
-        (omega (arith, sum_by-append (λ r. cond (is_sample r) 1 0) a.written (records_for a sent), told_samples a.pending sent))
-        (omega (arith, length_push a.lost sent.event))
+    (omega (arith, sum_by-append (λ r. cond (is_sample r) 1 0) a.written (records_for a sent), told_samples a.pending sent))
+    (omega (arith, length_push a.lost sent.event))
 
 told_step : (bytes : ℕ) (a : Account) (e : RingEvent) → length a.lost ≡ told a + a.pending → length (ring_step bytes a e).lost ≡ told (ring_step bytes a e) + (ring_step bytes a e).pending
 unfolding told
 told_step bytes a (Looks place) h = h
 told_step bytes a (Sends sent) h =
     either_account (λ b. length b.lost ≡ sum_by losses_in b.written + b.pending) (nat_le (need_of a sent) (room_of bytes a)) (written_to a sent) (lost_to a sent)
-        (omega (arith, h, sum_by-append losses_in a.written (records_for a sent), told_losses a.pending sent))
-        (omega (arith, h, length_push a.lost sent.event))
+    (omega (arith, h, sum_by-append losses_in a.written (records_for a sent), told_losses a.pending sent))
+    (omega (arith, h, length_push a.lost sent.event))
 
 -- over events
 sent_over : (bytes : ℕ) (a : Account) (events : List RingEvent) → samples (fold (ring_step bytes) a events) + length (fold (ring_step bytes) a events).lost ≡ (samples a + length a.lost) + count_by is_sent events

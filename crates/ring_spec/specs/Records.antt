@@ -1,6 +1,6 @@
 -- The records of a ring, word by word: struct perf_event_header, PERF_RECORD_SAMPLE and PERF_RECORD_LOST of
 -- perf_event_open(2). A word is eight bytes, the lowest first.
-use Rattle.std.specs.Prelude.{◌≡◌, ℕ, ◌+◌, ◌*◌, ◌^◌, ◌≤◌, ◌==◌, not, bit_and, List, [], ◌∷◌, ◌++◌, length, flat_map, All, if◌then◌else◌}
+use Rattle.std.specs.Prelude.{◌≡◌, ℕ, ◌+◌, ◌*◌, ◌^◌, ◌≤◌, ◌==◌, bit_and, List, [], ◌∷◌, ◌++◌, length, flat_map, All, if◌then◌else◌}
 use Rattle.perf_base.specs.declared.lines.Mode.{Mode}
 use Rattle.perf_base.specs.declared.lines.Mode.TheVariants as mode
 use Rattle.ring_spec.specs.declared.fields.Fields.{Fields}

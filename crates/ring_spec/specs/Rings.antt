@@ -1,7 +1,7 @@
 -- The rings of a script over an order: what was sent to each and seen of it, which orders are lawful, and how many records
 -- of a family were lost. This project's own profile.
 use Rattle.std.specs.Prelude.{◌≡◌, ℕ, ◌==◌, Bool, List, [], ◌∷◌, ◌++◌, map, filter, fold, find, sum_by, Option, Some, None, if◌then◌else◌}
-use Rattle.std.proofs.Common.{refl, sym, ap, ◌∙◌, append_assoc, append-nil}
+use Rattle.std.proofs.Common.{sym, ap, ◌∙◌, append_assoc, append-nil}
 use Rattle.std.proofs.lemmas.List.Sums.{fold-append}
 use Rattle.perf_base.specs.declared.numbers.EventNo.{EventNo}
 use Rattle.perf_base.specs.declared.numbers.RingNo.{RingNo}
@@ -84,7 +84,7 @@ events_from-push hw s ring before (y ∷ steps) x =
     let now : List RingEvent = events_after hw s ring before y in
     let rest : List RingEvent = events_from hw s ring (before ++ y ∷ []) steps in
     ap (λ es. now ++ es) (events_from-push hw s ring (before ++ y ∷ []) steps x)
-        ∙ (ap (λ done. now ++ (rest ++ events_after hw s ring done x)) regrouped ∙ sym (append_assoc now rest (events_after hw s ring (before ++ y ∷ steps) x)))
+    ∙ (ap (λ done. now ++ (rest ++ events_after hw s ring done x)) regrouped ∙ sym (append_assoc now rest (events_after hw s ring (before ++ y ∷ steps) x)))
 
 -- the events of a ring over one step more
 pub events_of-push : (hw : Hardware) (s : Stage) (steps : List Step) (x : Step) (ring : RingNo)

@@ -47,8 +47,15 @@ process_of (Some task) = task.0 + 1
 -- What a sample of an instance can say, by its original's id, the line, and the clock after the line.
 abbrev pub fields_of : Stage → CpuNo → Work → (clock id : ℕ) → Instance → Fields
 fields_of s cpu w clock id i = record {
-  identifier = id; ip = w.ip; pid = process_of (task_on s cpu); tid = process_of (task_on s cpu); time = clock;
-  id = id; stream_id = i.id; cpu = cpu.0; period = i.attr.period;
+  identifier = id;
+  ip = w.ip;
+  pid = process_of (task_on s cpu);
+  tid = process_of (task_on s cpu);
+  time = clock;
+  id = id;
+  stream_id = i.id;
+  cpu = cpu.0;
+  period = i.attr.period;
 }
 
 -- sample_id_all, the flag of an original that gives its LOST records a trailer
@@ -62,7 +69,10 @@ trailer_if false sample f = []
 -- the record of an overflow; the trailer has the original's id as STREAM_ID too
 abbrev pub sent_of : Instance → Work → Instance → Fields → Sent
 sent_of original w i f = record {
-  event = original.event; id = original.id; mode = w.mode; body = body_of i.attr.sample f;
+  event = original.event;
+  id = original.id;
+  mode = w.mode;
+  body = body_of i.attr.sample f;
   trailer = trailer_if (has_trailer original.attr) original.attr.sample (record f { stream_id = original.id });
 }
 

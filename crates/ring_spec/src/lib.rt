@@ -8,6 +8,6 @@ mod laws;
 
 pub use fields::Fields;
 pub use laws::{
-    account_grows_by_events, lawful_orders_grow_by_lawful_acts, lost_are_told_or_pending, sent_are_written_or_lost,
-    words_of_records_are_whole, words_stand_for_one_list,
+    account_grows_by_events, lawful_orders_grow_by_lawful_acts, lost_are_told_or_pending,
+    sent_are_written_or_lost, words_of_records_are_whole, words_stand_for_one_list,
 };

@@ -1,7 +1,7 @@
 -- A list of words can be cut into blocks in one way: behind a whole beginning stands the first word of a block.
 use Rattle.std.proofs.Common.{◌≡◌, ℕ, zero, suc, ◌*◌, List, [], ◌∷◌, ◌++◌, length, All, sym, ap, ◌∙◌, subst, append_assoc, length-append, arith}
 use Rattle.std.specs.List.{concat}
-use Rattle.ring_words.specs.Whole.{size_field, IsBlock, IsWhole}
+use Rattle.ring_spec.specs.Whole.{size_field, IsBlock, IsWhole}
 use Rattle.ring_words.specs.Ends.{LeadsTo, BeginsBlock}
 
 first_of : (b : List ℕ) (bs : List (List ℕ)) → All IsBlock (b ∷ bs) → IsBlock b

@@ -37,10 +37,10 @@ tied_so bytes words p c q d e1 e2 e3 e4 e5 e6 t = record {
   last_head = subst (λ (l : List ℕ). d.last_head ≤ 8 * length l) e1 (omega (arith, t.last_head, e6));
   stored = subst (λ (l : List ℕ). (j : ℕ) → d.released ≤ j → j < length l → slice_index words (cell_of bytes j) ≡ slice_index l j) (λ i. e1 i ++ e2 i) (λ j low below. t.stored j (omega (arith, e5, low)) below);
   room = omega (arith, t.room, e3, ap length e1, ap length e2);
-  whole = subst Rattle.ring_words.specs.Whole.IsWhole e1 t.whole;
-  whole_released = subst Rattle.ring_words.specs.Whole.IsWhole (λ i. take (e5 i) (e1 i)) t.whole_released;
-  whole_tail = subst Rattle.ring_words.specs.Whole.IsWhole (λ i. take (e3 i / 8) (e1 i)) t.whole_tail;
-  whole_head = subst Rattle.ring_words.specs.Whole.IsWhole (λ i. take (e6 i / 8) (e1 i)) t.whole_head;
+  whole = subst Rattle.ring_spec.specs.Whole.IsWhole e1 t.whole;
+  whole_released = subst Rattle.ring_spec.specs.Whole.IsWhole (λ i. take (e5 i) (e1 i)) t.whole_released;
+  whole_tail = subst Rattle.ring_spec.specs.Whole.IsWhole (λ i. take (e3 i / 8) (e1 i)) t.whole_tail;
+  whole_head = subst Rattle.ring_spec.specs.Whole.IsWhole (λ i. take (e6 i / 8) (e1 i)) t.whole_head;
 }
 
 -- one more seat with a note

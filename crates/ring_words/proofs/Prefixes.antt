@@ -6,7 +6,7 @@ use Rattle.std.proofs.lemmas.List.Folds.{concat-append}
 use Rattle.std.proofs.Math.Seq.{take-append_seam, take-append-add, get_or-append_seam}
 use Rattle.std.specs.List.{concat}
 use mathlib.Core.List.{IsPrefix}
-use Rattle.ring_words.specs.Whole.{size_field, IsBlock, IsWhole}
+use Rattle.ring_spec.specs.Whole.{size_field, IsBlock, IsWhole}
 use Rattle.ring_words.specs.Ends.{IsStop, LeadsTo}
 
 pub prefix_more : (xs ys zs : List ℕ) → IsPrefix xs ys → IsPrefix xs (ys ++ zs)

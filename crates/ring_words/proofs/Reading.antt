@@ -7,7 +7,7 @@ use mathlib.Core.Option.{none}
 use mathlib.Core.List.{IsPrefix}
 use Rattle.atomic_table.specs.Table.{keeps, Allows, step}
 use Rattle.ring_words.specs.declared.view.View.{View}
-use Rattle.ring_words.specs.Whole.{IsWhole}
+use Rattle.ring_spec.specs.Whole.{IsWhole}
 use Rattle.ring_words.specs.Ends.{cell_of, LeadsTo}
 use Rattle.ring_words.specs.Views.{IsConsumer, Holder, saw_head, with_taken, all_released}
 use Rattle.ring_words.specs.Rule.{Tied, NoteHolds, Kept}

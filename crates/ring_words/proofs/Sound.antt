@@ -3,7 +3,7 @@ use Rattle.std.proofs.Common.{◌≡◌, ℕ, ◌+◌, ◌-◌, ◌*◌, ◌<◌
 use Rattle.std.proofs.Math.Seq.{take-length}
 use Rattle.atomic_table.specs.Seated.{TableId}
 use Rattle.ring_words.specs.declared.view.View.{View}
-use Rattle.ring_words.specs.Whole.{IsWhole}
+use Rattle.ring_spec.specs.Whole.{IsWhole}
 use Rattle.ring_words.specs.Ends.{cells_of, IsRingSize, Ring, LeadsTo, IsSoundProducer, IsSoundConsumer, new_producer, new_consumer}
 use Rattle.ring_words.specs.Steps.{LearnsHead}
 use Rattle.ring_words.specs.Views.{Holder, ring_of, both_ends, producer_of, consumer_of, producer_end, consumer_end, all_published, saw_head, with_taken, all_released, HoldsProducer, HoldsConsumer}

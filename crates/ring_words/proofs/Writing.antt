@@ -7,7 +7,7 @@ use mathlib.Core.Option.{none}
 use Rattle.atomic_table.specs.Table.{keeps, Allows, step}
 use Rattle.atomic_table.proofs.Lists.{one_turn}
 use Rattle.ring_words.specs.declared.view.View.{View}
-use Rattle.ring_words.specs.Whole.{IsWhole}
+use Rattle.ring_spec.specs.Whole.{IsWhole}
 use Rattle.ring_words.specs.Ends.{cells_of, cell_of, IsStop}
 use Rattle.ring_words.specs.Views.{IsProducer, Holder, saw_tail, with_put, all_published}
 use Rattle.ring_words.specs.Rule.{Tied, NoteHolds, Kept}

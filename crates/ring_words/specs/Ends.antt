@@ -2,7 +2,7 @@
 use Rattle.std.specs.Prelude.{◌≡◌, ℕ, ◌+◌, ◌-◌, ◌*◌, ◌/◌, ◌%◌, ◌<◌, ◌≤◌, List, [], ◌++◌, length, take}
 use Rattle.std.specs.Int.{IsPowerOfTwo}
 use Rattle.atomic_table.specs.Seated.{TableId}
-use Rattle.ring_words.specs.Whole.{size_field, IsWhole}
+use Rattle.ring_spec.specs.Whole.{size_field, IsWhole}
 
 -- which ring it is, and how many bytes of data it has (this project's own profile)
 pub record Ring : Type 0 where

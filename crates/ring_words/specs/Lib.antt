@@ -1,4 +1,3 @@
-pub mod Whole
 pub mod Ends
 pub mod Views
 pub mod Rule

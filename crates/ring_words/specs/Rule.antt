@@ -4,7 +4,7 @@ use mathlib.Core.Option.{some}
 use mathlib.Core.List.{IsPrefix}
 use lib.ListN.{get_elem?}
 use Rattle.atomic_table.specs.Table.{State}
-use Rattle.ring_words.specs.Whole.{IsWhole}
+use Rattle.ring_spec.specs.Whole.{IsWhole}
 use Rattle.ring_words.specs.Ends.{cells_of, cell_of, IsRingSize}
 use Rattle.ring_words.specs.declared.view.View.{View}
 

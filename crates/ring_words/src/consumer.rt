@@ -1,6 +1,6 @@
 //! The end of a ring that reads.
 ghost use Rattle.std.specs.Prelude.{◌≡◌, ◌+◌, ◌*◌, ◌<◌, ◌≤◌, [], ◌∷◌, ◌++◌, length};
-ghost use Rattle.ring_words.specs.Whole.{IsWhole};
+ghost use Rattle.ring_spec.specs.Whole.{IsWhole};
 ghost use Rattle.ring_words.specs.Ends.{BeginsBlock, LeadsTo, IsSoundConsumer};
 
 use crate::steps::{load_head, load_word, store_tail};

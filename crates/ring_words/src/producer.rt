@@ -1,6 +1,6 @@
 //! The end of a ring that writes.
 ghost use Rattle.std.specs.Prelude.{◌≡◌, ◌+◌, ◌-◌, ◌*◌, ◌^◌, ◌<◌, ◌≤◌, [], ◌∷◌, ◌++◌};
-ghost use Rattle.ring_words.specs.Whole.{IsWhole};
+ghost use Rattle.ring_spec.specs.Whole.{IsWhole};
 ghost use Rattle.ring_words.specs.Ends.{place_of, room_of, IsStop, IsSoundProducer};
 
 use crate::steps::{load_tail, store_head, store_word};

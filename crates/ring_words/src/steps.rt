@@ -1,6 +1,6 @@
 //! Each kind of step on a ring's table, by a seat. Every call but `meet_ends` is one atomic step.
 ghost use Rattle.std.specs.Prelude.{◌≡◌, ◌+◌, ◌-◌, ◌*◌, ◌%◌, ◌^◌, ◌<◌, ◌≤◌, [], length};
-ghost use Rattle.ring_words.specs.Whole.{IsWhole};
+ghost use Rattle.ring_spec.specs.Whole.{IsWhole};
 ghost use Rattle.ring_words.specs.Views.{IsProducer, IsConsumer, with_put, all_published, all_released, note_of_producer, note_of_consumer, informed};
 ghost use Rattle.ring_words.specs.Ends.{cell_of};
 ghost use Rattle.ring_words.specs.Steps.{LoadsTail, LoadsHead, LoadsWord, ChecksTail, Meets};

@@ -1,6 +1,6 @@
 //! A small ring word by word, and a ring between two threads.
 ghost use Rattle.std.specs.Prelude.{◌≡◌, ◌+◌, ◌*◌, ◌^◌, ◌<◌, ◌≤◌, [], ◌∷◌, ◌++◌, length};
-ghost use Rattle.ring_words.specs.Whole.{IsWhole};
+ghost use Rattle.ring_spec.specs.Whole.{IsWhole};
 ghost use Rattle.ring_words.specs.Ends.{new_producer, place_of, room_of, IsSoundProducer, IsSoundConsumer};
 
 use crate::{Consumer, Producer, RingTable, close, make_ring, meet};

@@ -1,5 +1,5 @@
 use Rattle.std.proofs.Common.{◌≡◌, ◌+◌, ◌*◌, ◌≤◌, length}
-use Rattle.ring_words.specs.Whole.{IsWhole}
+use Rattle.ring_spec.specs.Whole.{IsWhole}
 use Rattle.ring_words.proofs.tests.read_blocks.Given as goal
 
 abbrev pub invariant-loop : goal.invariant-loop

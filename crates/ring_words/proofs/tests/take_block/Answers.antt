@@ -1,5 +1,5 @@
 use Rattle.std.proofs.Common.{rules, ◌≡◌, ap}
-use Rattle.ring_words.specs.Whole.{size_field}
+use Rattle.ring_spec.specs.Whole.{size_field}
 use Rattle.ring_words.proofs.Prefixes.{whole_pair}
 use Rattle.ring_words.proofs.tests.take_block.Goals as goal
 
