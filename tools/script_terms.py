@@ -424,7 +424,7 @@ def unlawful_terms(case):
         *script_term(case, name),
         f"{name}-unlawful : IsUnlawfulLook {claim}",
         f"unfolding Looked {name}",
-        f"{name}-unlawful = unlawful_look {claim} refl {nested(['refl'] * act, '(refl, refl, refl)')}",
+        f"{name}-unlawful = looked {claim} refl {nested(['refl'] * act, '(refl, refl, refl)')}",
     ]
 
 
@@ -465,8 +465,9 @@ IMPORTS = [
 ANSWERS_IMPORTS = [("Rattle.stage_spec.proofs.rows.Answering", ["Answers", "Computed", "computed"])]
 WHOLE_IMPORTS = [
     ("Rattle.report_spec.proofs.Whole", ["IsWorked"]),
+    ("Rattle.report_spec.proofs.Unlawful", ["IsUnlawfulLook"]),
     ("Rattle.report_spec.proofs.rows.Answering", ["Computed", "computed"]),
-    ("Rattle.report_spec.proofs.rows.Unlawful", ["IsUnlawfulLook", "Looked", "unlawful_look"]),
+    ("Rattle.report_spec.proofs.rows.Looking", ["Looked", "looked"]),
 ]
 
 
@@ -528,7 +529,7 @@ def read_cases(folder):
 
 
 # the modules of the folder that are written by hand
-BY_HAND = ("Answering", "Seats", "Unlawful", "Words")
+BY_HAND = ("Answering", "Looking", "Seats", "Words")
 
 
 def is_written(path):
