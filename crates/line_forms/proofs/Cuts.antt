@@ -16,18 +16,18 @@ pieces_behind c (Some rest) = pieces c rest
 abbrev differs : ℕ → ℕ → Bool
 differs c b = not (eqb b c)
 
-cut_here : (c b : ℕ) (bs : List ℕ) → eqb b c ≡ true → cut c (b ∷ bs) ≡ ([], Some bs)
+pub cut_here : (c b : ℕ) (bs : List ℕ) → eqb b c ≡ true → cut c (b ∷ bs) ≡ ([], Some bs)
 unfolding cut
 cut_here c b bs t =
     let n : prefix_len (differs c) (b ∷ bs) ≡ 0 = rw t refl in
     let u : ltb 0 (length (b ∷ bs)) ≡ true = lt-ltb _ _ (omega arith) in
     rw (n, u) refl
 
-cut_nothing : (c : ℕ) → cut c [] ≡ ([], None)
+pub cut_nothing : (c : ℕ) → cut c [] ≡ ([], None)
 unfolding cut
 cut_nothing c = refl
 
-cut_later : (c b : ℕ) (bs : List ℕ) → eqb b c ≡ false → cut c (b ∷ bs) ≡ (b ∷ (cut c bs).0, (cut c bs).1)
+pub cut_later : (c b : ℕ) (bs : List ℕ) → eqb b c ≡ false → cut c (b ∷ bs) ≡ (b ∷ (cut c bs).0, (cut c bs).1)
 unfolding cut
 cut_later c b bs f =
     let n : prefix_len (differs c) (b ∷ bs) ≡ suc (prefix_len (differs c) bs) = rw f (one-add (prefix_len (differs c) bs)) in

@@ -1,3 +1,6 @@
 pub mod Cuts
 pub mod Loops
 pub mod Numbers
+pub mod Optionals
+pub mod Singles
+pub mod Spelling
