@@ -283,3 +283,10 @@ number_again b most n low high some few h =
     let wide : IsNumber b 64 r.text = record { some = r.is.some; few = omega (arith, r.is.few); no_zero = r.is.no_zero; below = r.is.below } in
     let text : digits b false n ≡ r.text = ap (digits b false) (sym r.value) ∙ written b r.text low high wide in
     ap (number b most) text ∙ (number_read b most r.text r.is ∙ ap Some r.value)
+
+pub decimal_below : (n : ℕ) → n < 10 ^ 20 → list_all (λ c. ltb (digit_of c) 10) (digits 10 false n) ≡ true
+decimal_below n h =
+    let r = reads 10 20 n (omega arith) (omega arith) (omega arith) h in
+    let wide : IsNumber 10 64 r.text = record { some = r.is.some; few = omega (arith, r.is.few); no_zero = r.is.no_zero; below = r.is.below } in
+    let text : digits 10 false n ≡ r.text = ap (digits 10 false) (sym r.value) ∙ written 10 r.text (omega arith) (omega arith) wide in
+    rw text r.is.below
