@@ -1,4 +1,5 @@
 pub mod Cuts
+pub mod Grammar
 pub mod Loops
 pub mod Numbers
 pub mod Optionals

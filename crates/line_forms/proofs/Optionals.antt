@@ -41,10 +41,20 @@ number_if-takes key b most ws low high few = go (number_at key b most ws) refl
     go (Some x) e = number_at-takes key b most ws x low high few e
     go None e = (tt, refl)
 
-pub number_if-again : (key : List ℕ) (b most : ℕ) (o : Option ℕ) (rest : List (List ℕ)) → 2 ≤ b → b ≤ 16 → 0 < most → most ≤ 64 → IfSome o (λ n. n < b ^ most) → number_at key b most rest ≡ None
+pub number_if-none : (key : List ℕ) (b most : ℕ) (ws : List (List ℕ)) → (number_if key b most ws).0 ≡ None → number_at key b most (number_if key b most ws).1 ≡ None
+unfolding number_if
+number_if-none key b most ws = go (number_at key b most ws) refl
+  where
+    go : (r : Option (ℕ × List (List ℕ))) → number_at key b most ws ≡ r
+        → (elim r as (λ _. Option ℕ × List (List ℕ)) [ Some x ↦ (Some x.0, x.1) | None ↦ (None, ws) ]).0 ≡ None
+        → number_at key b most (elim r as (λ _. Option ℕ × List (List ℕ)) [ Some x ↦ (Some x.0, x.1) | None ↦ (None, ws) ]).1 ≡ None
+    go (Some x) e n = absurd cc
+    go None e n = e
+
+pub number_if-again : (key : List ℕ) (b most : ℕ) (o : Option ℕ) (rest : List (List ℕ)) → 2 ≤ b → b ≤ 16 → 0 < most → most ≤ 64 → IfSome o (λ n. n < b ^ most) → (o ≡ None → number_at key b most rest ≡ None)
     → number_if key b most (form.word_if o (λ n. key ++ digits b false n) ++ rest) ≡ (o, rest)
 unfolding number_if
-number_if-again key b most None rest low high some few h none = rw (none, number_if) refl
+number_if-again key b most None rest low high some few h none = rw (none refl, number_if) refl
 number_if-again key b most (Some n) rest low high some few h none = rw (number_at-again key b most n rest low high some few h, number_if) refl
 
 -- ---- a word
