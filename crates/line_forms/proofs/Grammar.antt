@@ -164,11 +164,11 @@ no_number_idle : number 10 20 (codes "idle") ≡ None
 unfolding number
 no_number_idle = refl
 
-no_number_all : number 10 20 (codes "all") ≡ None
+pub no_number_all : number 10 20 (codes "all") ≡ None
 unfolding number
 no_number_all = refl
 
-no_number_any : number 10 20 (codes "any") ≡ None
+pub no_number_any : number 10 20 (codes "any") ≡ None
 unfolding number
 no_number_any = refl
 

@@ -7,3 +7,4 @@ pub mod Sequences
 pub mod Singles
 pub mod Spelling
 pub mod Steps
+pub mod Tools
