@@ -1,5 +1,6 @@
 pub mod Cuts
 pub mod Grammar
+pub mod Laws
 pub mod Loops
 pub mod Numbers
 pub mod Optionals
