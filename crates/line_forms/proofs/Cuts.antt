@@ -1,9 +1,9 @@
 -- A text that is cut at a byte, and its pieces.
-use Rattle.std.proofs.Common.{◌≡◌, ◌≢◌, ℕ, suc, ◌+◌, ◌<◌, ◌≤◌, Bool, true, false, not, cond, eqb, ltb, List, [], ◌∷◌, ◌++◌, length, take, drop, All, Option, Some, None, inl, inr, refl, sym, ap, ◌∙◌, Bor, arith, add-one}
+use Rattle.std.proofs.Common.{◌≡◌, ℕ, suc, ◌<◌, ◌≤◌, Bool, true, false, not, eqb, ltb, List, [], ◌∷◌, length, Option, Some, None, inl, inr, refl, sym, ap, ◌∙◌, Bor, arith, add-one}
 use Rattle.std.specs.List.{prefix_len}
 use Rattle.std.proofs.Math.Numerals.{one-add}
-use Rattle.std.proofs.lemmas.Bool.{cases_Bool, eqb-true, lt-ltb, ltb-true, ltb-false, le-ltb}
-use Rattle.script_spec.specs.Lines.{put_before, pieces}
+use Rattle.std.proofs.lemmas.Bool.{cases_Bool, lt-ltb, ltb-true, ltb-false, le-ltb}
+use Rattle.script_spec.specs.Lines.{pieces}
 use Rattle.std.specs.Option.{option_map}
 use Rattle.line_forms.specs.declared.words.Words.{Words}
 use Rattle.line_forms.specs.Words.{cut, left, next_of, end_of}

@@ -1,21 +1,18 @@
 -- The forms, one by one: what is read is of the form, and what is of the form is read.
-use Rattle.std.proofs.Common.{◌≡◌, ℕ, ◌^◌, ◌<◌, Bool, true, false, eqb, cond, List, [], ◌∷◌, ◌++◌, map, All, Option, Some, None, inl, inr, refl, sym, ap, subst, ◌∙◌, arith}
+use Rattle.std.proofs.Common.{◌≡◌, ℕ, Bool, true, false, cond, List, [], ◌∷◌, ◌++◌, map, Option, Some, None, inl, inr, refl, sym, ap, subst, ◌∙◌, arith}
 use Rattle.std.specs.Prelude.{codes, decimal, IfSome}
-use Rattle.std.specs.List.{flat_map}
 use Rattle.std.specs.Str.{bytes_eq}
 use Rattle.std.proofs.lemmas.Bool.{cases_Bool}
-use Rattle.std.proofs.lemmas.List.{append-nil}
 use Rattle.perf_base.specs.declared.lines.Mode.{Mode}
 use Rattle.perf_base.specs.declared.lines.Mode.TheVariants as mode
 use Rattle.script_spec.specs.Forms as form
 use Rattle.script_spec.specs.Forms.{Version, Working, CpuForm, Opening, Asked, ToolForm, Form}
-use Rattle.line_forms.specs.Words.{◌>>=◌, strip, next_of, end_of}
-use Rattle.line_forms.specs.Leaves.{decimal_at, hexadecimal_at, name_at, number, number_at, number_if, word_if, flags_if}
-use Rattle.line_forms.specs.Bodies.{at_end, perf_at, machine_at, machine_of_pmus_at, pmu_at, kind_at, kind_of_pmu_at, ring_at, reader_at, each_word, hit_in, bytes_in, mode_in, stretch_at, work_at, switch_at, place_at, asked_at, open_kind_at, attr_place_at, open_attr_at, first_or, open_at, command_at, read_at}
-use Rattle.line_forms.proofs.Singles.{number_at-takes, bind_some, some_is, none_some, next_takes, end_takes, strip_takes, strip_again, bytes_eq-true, bytes_eq_self, name_at-again, decimal_or-again}
-use Rattle.line_forms.proofs.Optionals.{IsNotKeyed, number_at-none, not_keyed_if, number_if-none, number_if-takes, number_if-again, word_where, word_if-takes, flags_if-takes, flags_if-again}
-use Rattle.line_forms.proofs.Sequences.{each-takes, each-again, hit-takes, hit-again, bytes-takes, bytes-again}
-use Rattle.line_forms.proofs.Steps.{decimal_then, hexadecimal_then, name_then, other_then, end_then, next_then, more, decimal-again, hexadecimal-again, one-takes, one-again, two-takes, two-again}
+use Rattle.line_forms.specs.Leaves.{number, number_at, number_if}
+use Rattle.line_forms.specs.Bodies.{perf_at, machine_at, machine_of_pmus_at, pmu_at, kind_at, kind_of_pmu_at, ring_at, reader_at, each_word, hit_in, mode_in, stretch_at, work_at, switch_at}
+use Rattle.line_forms.proofs.Singles.{number_at-takes, bind_some, some_is, none_some, bytes_eq-true, bytes_eq_self, name_at-again, decimal_or-again}
+use Rattle.line_forms.proofs.Optionals.{number_at-none, number_if-none, number_if-takes, number_if-again}
+use Rattle.line_forms.proofs.Sequences.{each-takes, each-again, hit-takes, hit-again}
+use Rattle.line_forms.proofs.Steps.{decimal_then, hexadecimal_then, name_then, other_then, end_then, next_then, more, decimal-again, hexadecimal-again}
 
 -- the first word and those behind it are spelled so
 abbrev pub IsSpelled : List ℕ → List (List ℕ) → Form → Type 0
@@ -188,9 +185,9 @@ mode-takes : (word : List ℕ) (m : Mode) → mode_in word ≡ Some m → word �
 mode-takes word m e = elim (cases_Bool (bytes_eq word (codes "user"))) [
   | inl u ↦ subst (λ x. word ≡ form.mode_text x) (some_is mode.User m (rw u at e)) (bytes_eq-true _ _ u)
   | inr n ↦ elim (cases_Bool (bytes_eq word (codes "kernel"))) [
-      | inl k ↦ subst (λ x. word ≡ form.mode_text x) (some_is mode.Kernel m (rw k at (rw n at e))) (bytes_eq-true _ _ k)
-      | inr f ↦ absurd (none_some m (rw f at (rw n at e)))
-    ]
+    | inl k ↦ subst (λ x. word ≡ form.mode_text x) (some_is mode.Kernel m (rw k at (rw n at e))) (bytes_eq-true _ _ k)
+    | inr f ↦ absurd (none_some m (rw f at (rw n at e)))
+  ]
 ]
 
 mode-again : (m : Mode) → mode_in (form.mode_text m) ≡ Some m

@@ -1,6 +1,6 @@
 -- A whole line: what is read is of the form, and what is of the form is read. So a line is of at most one form.
-use Rattle.std.proofs.Common.{◌≡◌, ℕ, ◌^◌, ◌<◌, Bool, true, false, cond, eqb, List, [], ◌∷◌, ◌++◌, map, All, Option, Some, None, option_map, inl, inr, refl, sym, ap, subst, ◌∙◌, arith}
-use Rattle.std.specs.Prelude.{codes, decimal, IfSome}
+use Rattle.std.proofs.Common.{◌≡◌, ℕ, Bool, List, [], ◌∷◌, Option, Some, None, option_map, inl, inr, refl, sym, ap, subst, ◌∙◌}
+use Rattle.std.specs.Prelude.{codes, decimal}
 use Rattle.std.specs.Str.{bytes_eq}
 use Rattle.std.proofs.lemmas.Bool.{cases_Bool}
 use Rattle.script_spec.specs.Acts.{act_text}
@@ -8,7 +8,6 @@ use Rattle.script_spec.specs.Forms as form
 use Rattle.script_spec.specs.Forms.{Version, CpuForm, ToolForm, Form, IsOfForm}
 use Rattle.line_forms.specs.declared.keyword.Keyword.{Keyword}
 use Rattle.line_forms.specs.declared.keyword.Keyword.TheVariants as keyword
-use Rattle.line_forms.specs.Words.{◌>>=◌, next_of, end_of}
 use Rattle.line_forms.specs.Keywords.{looked_up, declaring_table, processor_table, tool_table, keyword_of}
 use Rattle.line_forms.specs.Bodies.{at_end, first_or, one_number, two_numbers, each_word, act_in, work_at, command_at}
 use Rattle.line_forms.specs.Reading.{versioned, short_cpu_form_at, cpu_form_at, short_tool_form_at, tool_form_at, command_form, pair_form, single_form, numbered_form, declared_at, body_at, form_at}

@@ -1,17 +1,16 @@
 -- Words that may be missing: what is read is what is spelled so, and what is spelled so is read.
-use Rattle.std.proofs.Common.{◌≡◌, ◌≢◌, ℕ, zero, suc, ◌+◌, ◌*◌, ◌^◌, ◌<◌, ◌≤◌, Bool, true, false, not, ◌&&◌, ◌||◌, cond, eqb, List, [], ◌∷◌, ◌++◌, map, filter, length, All, Option, Some, None, inl, inr, refl, sym, ap, subst, ◌∙◌, arith}
+use Rattle.std.proofs.Common.{◌≡◌, ℕ, ◌+◌, ◌*◌, ◌^◌, ◌<◌, ◌≤◌, Bool, true, false, ◌&&◌, ◌||◌, eqb, List, [], ◌∷◌, ◌++◌, length, Option, Some, None, inl, inr, refl, sym, ap, subst, ◌∙◌, arith}
 use Rattle.std.specs.Prelude.{codes, IfSome}
 use Rattle.std.specs.List.{join_with_byte}
 use Rattle.std.specs.Str.{bytes_eq}
 use Rattle.std.specs.Fmt.{digits}
-use Rattle.std.specs.Int.{bit_at}
 use Rattle.std.proofs.lemmas.Bool.{cases_Bool, cases_lt, and_parts, agree_below_at, agree_below, ne_eqb, eqb-true}
 use Rattle.script_spec.specs.Lines.{pieces, put_before}
 use Rattle.script_spec.specs.Forms as form
 use Rattle.line_forms.specs.Words.{◌>>=◌, cut, strip, next_of, end_of}
-use Rattle.line_forms.specs.Leaves.{number, number_at, number_if, word_if, bit, flags, flags_at, flags_if}
+use Rattle.line_forms.specs.Leaves.{number_at, number_if, word_if, bit, flags, flags_at, flags_if}
 use Rattle.line_forms.proofs.Cuts.{pieces_cut, pieces_behind}
-use Rattle.line_forms.proofs.Singles.{bind_some, some_is, none_some, next_takes, end_takes, strip_takes, strip_again, bytes_eq-true, bytes_eq_self, number_at-takes, number_at-again}
+use Rattle.line_forms.proofs.Singles.{bind_some, some_is, next_takes, end_takes, strip_takes, strip_again, bytes_eq-true, number_at-takes, number_at-again}
 
 -- ---- numbers
 

@@ -1,19 +1,19 @@
 -- Occurrences, acts and bytes: what is read is what is spelled so, and what is spelled so is read.
-use Rattle.std.proofs.Common.{◌≡◌, ◌≢◌, ℕ, zero, suc, ◌+◌, ◌*◌, ◌/◌, ◌%◌, ◌^◌, ◌<◌, ◌≤◌, Bool, true, false, not, ◌&&◌, cond, eqb, leb, ltb, List, [], ◌∷◌, ◌++◌, map, length, All, Option, Some, None, option_map, inl, inr, refl, sym, ap, subst, ◌∙◌, arith, append_assoc, length-append}
-use Rattle.std.specs.Prelude.{codes, decimal, IfSome}
+use Rattle.std.proofs.Common.{◌≡◌, ℕ, ◌+◌, ◌*◌, ◌/◌, ◌%◌, ◌<◌, ◌≤◌, Bool, true, false, ◌&&◌, cond, eqb, leb, ltb, List, [], ◌∷◌, ◌++◌, map, length, All, Option, Some, None, option_map, inl, inr, refl, sym, ap, subst, ◌∙◌, arith, append_assoc}
+use Rattle.std.specs.Prelude.{decimal}
 use Rattle.std.specs.List.{list_all, flat_map}
-use Rattle.std.specs.Fmt.{digits, digit_glyph}
+use Rattle.std.specs.Fmt.{digit_glyph}
 use Rattle.std.proofs.lemmas.Bool.{cases_Bool, eqb-true, ltb-true, leb-true, lt-ltb, le-leb, eq-eqb, ne_eqb, and_parts, and_from}
 use Rattle.std.proofs.lemmas.Nat.{div-mul-add, mod-mul-add, div-add-mod'}
-use Rattle.std.proofs.Math.Nat.{div-lt_iff_lt-mul, mod-eq_of_lt}
+use Rattle.std.proofs.Math.Nat.{mod-eq_of_lt}
 use Rattle.std.proofs.lemmas.List.Elements.{All-cons, All-head, All-tail}
-use Rattle.perf_base.specs.Scripts.{IsLetter, IsNameByte, IsName}
+use Rattle.perf_base.specs.Scripts.{IsNameByte, IsName}
 use Rattle.perf_base.specs.declared.acts.Act.{Act}
 use Rattle.perf_base.specs.declared.acts.Act.TheVariants as act
 use Rattle.script_spec.specs.Acts.{act_text}
 use Rattle.script_spec.specs.Forms as form
-use Rattle.line_forms.specs.Words.{◌>>=◌, cut, strip, next_of, end_of}
-use Rattle.line_forms.specs.Leaves.{digit_of, number, is_number, name}
+use Rattle.line_forms.specs.Words.{◌>>=◌, cut}
+use Rattle.line_forms.specs.Leaves.{digit_of, number, name}
 use Rattle.line_forms.specs.Bodies.{each_word, hit_in, seen_in, act_in, processor_in, tool_in, is_bytes, pair_of, pairs_in, bytes_in}
 use Rattle.line_forms.proofs.Cuts.{cut_here, cut_later, cut_nothing}
 use Rattle.line_forms.proofs.Spelling.{number_takes, number_again, decimal_below, digit_of-glyph, glyph-digit_of}
@@ -168,12 +168,12 @@ act-takes [] a e = absurd (none_some a e)
 act-takes (letter ∷ text) a e = elim (cases_Bool (eqb letter 112)) [
   | inl p ↦ lettered letter 112 text a (eqb-true letter 112 p) (processor-takes text a (rw p at e))
   | inr np ↦ elim (cases_Bool (eqb letter 116)) [
-      | inl t ↦ lettered letter 116 text a (eqb-true letter 116 t) (tool-takes text a (rw t at (rw np at e)))
-      | inr nt ↦ elim (cases_Bool (eqb letter 115)) [
-          | inl s ↦ lettered letter 115 text a (eqb-true letter 115 s) (seen-takes text a (rw s at (rw nt at (rw np at e))))
-          | inr ns ↦ absurd (none_some a (rw ns at (rw nt at (rw np at e))))
-        ]
+    | inl t ↦ lettered letter 116 text a (eqb-true letter 116 t) (tool-takes text a (rw t at (rw np at e)))
+    | inr nt ↦ elim (cases_Bool (eqb letter 115)) [
+      | inl s ↦ lettered letter 115 text a (eqb-true letter 115 s) (seen-takes text a (rw s at (rw nt at (rw np at e))))
+      | inr ns ↦ absurd (none_some a (rw ns at (rw nt at (rw np at e))))
     ]
+  ]
 ]
 
 pub act-again : (a : Act) → form.IsActSpelling a → act_in (act_text a) ≡ Some a

@@ -1,22 +1,20 @@
 -- Single words: what is read is what is spelled so, and what is spelled so is read.
-use Rattle.std.proofs.Common.{◌≡◌, ◌≢◌, ℕ, suc, ◌+◌, ◌-◌, ◌*◌, ◌/◌, ◌%◌, ◌^◌, ◌<◌, ◌≤◌, Bool, true, false, not, ◌&&◌, ◌||◌, cond, eqb, leb, ltb, List, [], ◌∷◌, ◌++◌, map, length, get_or, take, drop, All, Option, Some, None, inl, inr, refl, sym, ap, subst, ◌∙◌, arith, append_assoc}
-use Rattle.std.specs.Prelude.{nat_eq, codes, decimal, IfSome}
-use Rattle.std.specs.List.{starts_with, list_all, join_with_byte}
+use Rattle.std.proofs.Common.{◌≡◌, ℕ, ◌^◌, ◌<◌, ◌≤◌, Bool, true, false, ◌&&◌, ◌||◌, cond, eqb, leb, List, [], ◌∷◌, ◌++◌, length, take, drop, All, Option, Some, None, inl, inr, refl, sym, ap, subst, ◌∙◌, arith}
+use Rattle.std.specs.Prelude.{nat_eq, decimal, IfSome}
+use Rattle.std.specs.List.{starts_with, list_all}
 use Rattle.std.specs.Str.{bytes_eq}
 use Rattle.std.specs.Fmt.{digits}
 use Rattle.std.specs.Cmp.Lexicographic.{same_text}
 use lib.Pointwise.{pointwise}
 use Rattle.std.proofs.lemmas.Cmp.{nat_list_eq_equiv}
 use Rattle.std.proofs.lemmas.Slice.Eq.{bytes_eq-Decides}
-use Rattle.std.proofs.lemmas.Bool.{cases_Bool, eqb-true, ltb-true, leb-true, le-leb, lt-leb, and_parts, and_from, or_cases, false_from_ne_true, ne_eqb}
+use Rattle.std.proofs.lemmas.Bool.{cases_Bool, eqb-true, leb-true, le-leb, and_parts, and_from, or_cases, false_from_ne_true}
 use Rattle.std.proofs.lemmas.List.{take_at, drop_at, take-append-drop}
 use Rattle.std.proofs.lemmas.List.Elements.{All-cons, All-head, All-tail}
-use Rattle.perf_base.specs.Scripts.{IsLetter, IsNameByte, IsName}
-use Rattle.script_spec.specs.Lines.{pieces, put_before}
+use Rattle.perf_base.specs.Scripts.{IsLetter, IsNameByte}
 use Rattle.script_spec.specs.Forms as form
-use Rattle.line_forms.specs.Words.{◌>>=◌, cut, strip, next_of, end_of}
-use Rattle.line_forms.specs.Leaves.{digit_of, is_letter, is_name_byte, is_name, number, name, number_at, name_at, other_or, decimal_or, number_if, word_if}
-use Rattle.line_forms.proofs.Cuts.{pieces_cut, pieces_behind, cut_here, cut_later, cut_nothing}
+use Rattle.line_forms.specs.Words.{◌>>=◌, strip, next_of, end_of}
+use Rattle.line_forms.specs.Leaves.{is_letter, is_name_byte, is_name, number, name, number_at, name_at, other_or, decimal_or}
 use Rattle.line_forms.proofs.Spelling.{number_takes, number_again}
 
 -- ---- steps
@@ -98,9 +96,9 @@ byte_from : (b : ℕ) → is_name_byte b ≡ true → IsNameByte b
 byte_from b h = elim (or_cases (is_letter b) ((leb 48 b && leb b 57) || eqb b 45) h) [
   | inl l ↦ inl (letter_from b l)
   | inr o ↦ elim (or_cases (leb 48 b && leb b 57) (eqb b 45) o) [
-      | inl d ↦ let p = and_parts (leb 48 b) (leb b 57) d in inr (inl (leb-true _ _ p.0, leb-true _ _ p.1))
-      | inr e ↦ inr (inr (eqb-true _ _ e))
-    ]
+    | inl d ↦ let p = and_parts (leb 48 b) (leb b 57) d in inr (inl (leb-true _ _ p.0, leb-true _ _ p.1))
+    | inr e ↦ inr (inr (eqb-true _ _ e))
+  ]
 ]
 
 byte_true : (b : ℕ) → IsNameByte b → is_name_byte b ≡ true

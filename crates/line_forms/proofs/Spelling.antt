@@ -1,12 +1,12 @@
 -- Numbers: what is read is what is spelled so, and what is spelled so is read.
-use Rattle.std.proofs.Common.{◌≡◌, ◌≢◌, ℕ, zero, suc, ◌+◌, ◌-◌, ◌*◌, ◌/◌, ◌%◌, ◌^◌, ◌<◌, ◌≤◌, Bool, true, false, not, ◌&&◌, ◌||◌, cond, eqb, leb, ltb, List, [], ◌∷◌, ◌++◌, map, length, get_or, Option, Some, None, inl, inr, refl, sym, ap, subst, ◌∙◌, arith, add-one}
+use Rattle.std.proofs.Common.{◌≡◌, ◌≢◌, ℕ, suc, ◌+◌, ◌-◌, ◌*◌, ◌/◌, ◌%◌, ◌^◌, ◌<◌, ◌≤◌, Bool, true, false, not, ◌&&◌, ◌||◌, cond, eqb, leb, ltb, List, [], ◌∷◌, ◌++◌, map, length, get_or, Some, None, inl, inr, refl, sym, ap, subst, ◌∙◌, arith}
 use Rattle.std.specs.List.{list_all}
 use Rattle.std.specs.Fmt.{digits, digits_onto, digit_glyph}
 use Rattle.std.specs.Int.Digits.{number_from_digits_after, number_from_digits, digits_of, AllBelowBase}
 use Rattle.std.proofs.lemmas.Int.Digits.{all_below_base_digits_of, number_digits_of, length-digits_of-le, first_digits_of, number_lt}
 use Rattle.std.proofs.lemmas.Nat.{div-mul-add, mod-mul-add}
 use Rattle.std.proofs.Math.Nat.{pow-le-pow_right, le-mul_of_pos_right, div-eq_of_lt, mod-eq_of_lt}
-use Rattle.std.proofs.lemmas.Bool.{cases_Bool, cases_lt, cases_eq, eqb-true, eqb-false, ltb-true, ltb-false, leb-true, lt-ltb, le-ltb, le-leb, lt-leb, eq-eqb, ne_eqb, and_parts, and_from, or_cases}
+use Rattle.std.proofs.lemmas.Bool.{cases_Bool, cases_lt, eqb-true, ltb-true, leb-true, lt-ltb, le-ltb, le-leb, lt-leb, eq-eqb, ne_eqb, and_parts, and_from}
 use Rattle.std.proofs.lemmas.List.{append-nil, length-map}
 use Rattle.line_forms.specs.Leaves.{digit_of, value_after, is_number, number}
 
@@ -54,16 +54,16 @@ glyph-digit_of c l = elim (cases_Bool (leb 48 c && leb c 57)) [
       let g : 48 + (c - 48) ≡ c = omega arith in
       glyph_of c (c - 48) e (rw u g)
   | inr f ↦ elim (cases_Bool (leb 97 c && leb c 102)) [
-      | inl t ↦
-          let p = and_parts (leb 97 c) (leb c 102) t in
-          let a : 97 ≤ c = leb-true _ _ p.0 in
-          let b : c ≤ 102 = leb-true _ _ p.1 in
-          let e : digit_of c ≡ c - 87 = rw (f, t) refl in
-          let u : ltb (c - 87) 10 ≡ false = le-ltb _ _ (omega arith) in
-          let g : 87 + (c - 87) ≡ c = omega arith in
-          glyph_of c (c - 87) e (rw u g)
-      | inr g ↦ let e : digit_of c ≡ 16 = rw (f, g) refl in absurd (omega (arith, e))
-    ]
+    | inl t ↦
+        let p = and_parts (leb 97 c) (leb c 102) t in
+        let a : 97 ≤ c = leb-true _ _ p.0 in
+        let b : c ≤ 102 = leb-true _ _ p.1 in
+        let e : digit_of c ≡ c - 87 = rw (f, t) refl in
+        let u : ltb (c - 87) 10 ≡ false = le-ltb _ _ (omega arith) in
+        let g : 87 + (c - 87) ≡ c = omega arith in
+        glyph_of c (c - 87) e (rw u g)
+    | inr g ↦ let e : digit_of c ≡ 16 = rw (f, g) refl in absurd (omega (arith, e))
+  ]
 ]
 
 -- only 0 is written as a zero

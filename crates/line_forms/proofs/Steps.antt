@@ -1,11 +1,11 @@
 -- One step of reading a line, with what follows: what was read stands there.
-use Rattle.std.proofs.Common.{◌≡◌, ℕ, ◌^◌, ◌<◌, ◌≤◌, List, [], ◌∷◌, ◌++◌, Option, Some, None, refl, sym, ap, ◌∙◌, arith}
-use Rattle.std.specs.Prelude.{codes, decimal, IfSome}
+use Rattle.std.proofs.Common.{◌≡◌, ℕ, List, [], ◌∷◌, ◌++◌, Option, Some, refl, ap, ◌∙◌, arith}
+use Rattle.std.specs.Prelude.{decimal, IfSome}
 use Rattle.script_spec.specs.Forms as form
 use Rattle.line_forms.specs.Words.{◌>>=◌, next_of, end_of}
-use Rattle.line_forms.specs.Leaves.{number_at, decimal_at, hexadecimal_at, name_at, decimal_or}
+use Rattle.line_forms.specs.Leaves.{decimal_at, hexadecimal_at, name_at, decimal_or}
 use Rattle.line_forms.specs.Bodies.{one_number, two_numbers}
-use Rattle.line_forms.proofs.Singles.{bind_some, some_is, next_takes, end_takes, number_at-takes, number_at-again, name_at-takes, name_at-again, decimal_or-takes}
+use Rattle.line_forms.proofs.Singles.{bind_some, some_is, next_takes, end_takes, number_at-takes, number_at-again, name_at-takes, decimal_or-takes}
 
 -- a decimal number was read, and then the rest
 pub record Decimal {B : Type 0} (key : List ℕ) (ws : List (List ℕ)) (f : ℕ × List (List ℕ) → Option B) (y : B) : Type 0 where

@@ -1,14 +1,14 @@
 -- The forms under a tool, one by one: what is read is of the form, and what is of the form is read.
-use Rattle.std.proofs.Common.{◌≡◌, ℕ, ◌^◌, ◌<◌, Bool, true, false, List, [], ◌∷◌, ◌++◌, Option, Some, None, inl, inr, refl, sym, ap, subst, ◌∙◌, arith}
+use Rattle.std.proofs.Common.{◌≡◌, ℕ, Bool, true, false, List, [], ◌∷◌, ◌++◌, Option, Some, None, refl, sym, ap, subst, ◌∙◌, arith}
 use Rattle.std.specs.Prelude.{codes, decimal, IfSome}
 use Rattle.std.specs.List.{flat_map}
 use Rattle.std.proofs.lemmas.List.{append-nil}
 use Rattle.script_spec.specs.Forms as form
 use Rattle.script_spec.specs.Forms.{Opening, Asked, ToolForm}
-use Rattle.line_forms.specs.Words.{◌>>=◌, strip, next_of, end_of}
-use Rattle.line_forms.specs.Leaves.{decimal_at, name_at, number_at, number_if, word_if, flags_if}
-use Rattle.line_forms.specs.Bodies.{at_end, bytes_in, place_at, asked_at, open_kind_at, attr_place_at, open_attr_at, first_or, open_at, command_at, read_at}
-use Rattle.line_forms.proofs.Singles.{bind_some, some_is, none_some, strip_takes, strip_again, name_at-again, decimal_or-again}
+use Rattle.line_forms.specs.Words.{strip}
+use Rattle.line_forms.specs.Leaves.{name_at, number_at, number_if, word_if, flags_if}
+use Rattle.line_forms.specs.Bodies.{bytes_in, place_at, asked_at, open_kind_at, attr_place_at, open_attr_at, first_or, open_at, command_at, read_at}
+use Rattle.line_forms.proofs.Singles.{bind_some, some_is, strip_takes, strip_again, name_at-again, decimal_or-again}
 use Rattle.line_forms.proofs.Optionals.{IsNotKeyed, number_at-none, not_keyed_if, number_if-takes, number_if-again, word_where, word_if-takes, flags_if-takes, flags_if-again}
 use Rattle.line_forms.proofs.Sequences.{bytes-takes, bytes-again}
 use Rattle.line_forms.proofs.Grammar.{no_number_all, no_number_any}

@@ -1,13 +1,12 @@
 -- Reading a whole line from the left: what is given, by the first word.
-use Rattle.std.specs.Prelude.{ℕ, Bool, List, [], ◌∷◌, Option, Some, None, option_map}
-use Rattle.script_spec.specs.Lines.{words_of}
+use Rattle.std.specs.Prelude.{ℕ, Bool, List, Option, Some, None, option_map}
 use Rattle.script_spec.specs.Forms as form
 use Rattle.script_spec.specs.Forms.{Version, CpuForm, ToolForm, Form}
 use Rattle.line_forms.specs.declared.reading.Part.{Part}
 use Rattle.line_forms.specs.declared.reading.Part.TheVariants as part
 use Rattle.line_forms.specs.declared.keyword.Keyword.{Keyword}
 use Rattle.line_forms.specs.declared.keyword.Keyword.TheVariants as keyword
-use Rattle.line_forms.specs.Words.{◌>>=◌, next_of, end_of}
+use Rattle.line_forms.specs.Words.{◌>>=◌, next_of}
 use Rattle.line_forms.specs.Keywords as looks
 use Rattle.line_forms.specs.Bodies.{at_end, one_number, two_numbers, perf_at, machine_at, machine_of_pmus_at, pmu_at, kind_at, kind_of_pmu_at, ring_at, reader_at, each_word, act_in, work_at, switch_at, open_at, command_at, read_at}
 

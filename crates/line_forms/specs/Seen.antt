@@ -1,5 +1,5 @@
 -- What the definitions of the language call the forms that the reader gives.
-use Rattle.std.specs.Prelude.{ℕ, map}
+use Rattle.std.specs.Prelude.{map}
 use Rattle.perf_base.specs.declared.acts.Act.{Act}
 use Rattle.perf_base.specs.declared.acts.Act.TheVariants as act
 use Rattle.script_spec.specs.Forms as form

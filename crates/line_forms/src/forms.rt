@@ -116,18 +116,47 @@ pub enum SpelledAct {
 #[derive(Drop)]
 pub enum Form {
     Perf(Version),
-    Machine { cpus: u128, counters: u128 },
-    MachineOfPmus { cpus: u128 },
-    Pmu { number: u128, counters: u128, cpus: u128 },
-    Kind { name: Name, mask: u128 },
-    KindOfPmu { name: Name, pmu: u128, mask: u128 },
-    Task { number: u128 },
-    Ring { number: u128, bytes: u128 },
-    Processor { number: u128 },
+    Machine {
+        cpus: u128,
+        counters: u128,
+    },
+    MachineOfPmus {
+        cpus: u128,
+    },
+    Pmu {
+        number: u128,
+        counters: u128,
+        cpus: u128,
+    },
+    Kind {
+        name: Name,
+        mask: u128,
+    },
+    KindOfPmu {
+        name: Name,
+        pmu: u128,
+        mask: u128,
+    },
+    Task {
+        number: u128,
+    },
+    Ring {
+        number: u128,
+        bytes: u128,
+    },
+    Processor {
+        number: u128,
+    },
     OnProcessor(CpuForm),
-    Tool { number: u128 },
+    Tool {
+        number: u128,
+    },
     OnTool(ToolForm),
-    Reader { ring: u128, tries: u128, batch: u128 },
+    Reader {
+        ring: u128,
+        tries: u128,
+        batch: u128,
+    },
     Order(Vec<SpelledAct>),
     End,
 }

@@ -13,8 +13,11 @@ use perf_base::Name;
 
 /// The radix of decimal and of hexadecimal numbers, and how many digits they may have.
 const DECIMAL: u8 = 10;
+
 const MOST_DECIMAL: usize = 20;
+
 const HEXADECIMAL: u8 = 16;
+
 const MOST_HEXADECIMAL: usize = 16;
 
 /// Whether two texts are the same.
@@ -137,12 +140,7 @@ pub fn name(text: &[u8]) -> Option<Name>
 }
 
 #[tactic(auto, unfolding(crate::specs::Leaves::number_at))]
-fn number_at<'a>(
-    words: Words<'a>,
-    key: &[u8],
-    radix: u8,
-    most: usize,
-) -> Option<(u128, Words<'a>)>
+fn number_at<'a>(words: Words<'a>, key: &[u8], radix: u8, most: usize) -> Option<(u128, Words<'a>)>
     requires radix { radix ≤ 16 }
     requires most { most ≤ 20 }
     ensures { option_map (λ x. (x.0, left x.1)) result ≡ says.number_at key.now radix most (left words.entry) }
@@ -207,12 +205,7 @@ pub fn decimal_or<'a>(
 }
 
 #[tactic(auto, unfolding(crate::specs::Leaves::number_if))]
-fn number_if<'a>(
-    words: Words<'a>,
-    key: &[u8],
-    radix: u8,
-    most: usize,
-) -> (Option<u128>, Words<'a>)
+fn number_if<'a>(words: Words<'a>, key: &[u8], radix: u8, most: usize) -> (Option<u128>, Words<'a>)
     requires radix { radix ≤ 16 }
     requires most { most ≤ 20 }
     ensures { (result.0, left result.1) ≡ says.number_if key.now radix most (left words.entry) }

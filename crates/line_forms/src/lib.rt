@@ -9,8 +9,12 @@ mod leaves;
 mod lists;
 mod reading;
 mod stop;
+#[cfg(test)]
+mod tests;
 mod under;
 mod words;
 
 pub use forms::{Asked, CpuForm, Form, Hit, Opening, SpelledAct, ToolForm, Version, Working};
+pub use reading::read_form;
 pub use stop::LineStop;
+pub use words::cut;

@@ -1,8 +1,10 @@
 //! The form of a line, by its first word.
 
-ghost use Rattle.std.specs.Prelude.{◌≡◌, ℕ, List, Some, Result, Ok, Err};
+ghost use Rattle.std.specs.Prelude.{◌≡◌, IfOk, Err};
 ghost use Rattle.std.specs.Option.{option_map};
+ghost use Rattle.script_spec.specs.Lines.{words_of};
 ghost use Rattle.script_spec.specs.Forms as form;
+ghost use Rattle.script_spec.specs.Forms.{IsOfForm};
 ghost use Rattle.line_forms.specs.Words.{left};
 ghost use Rattle.line_forms.specs.Stops.{Gives};
 ghost use Rattle.line_forms.specs.Bodies as says;
@@ -302,4 +304,14 @@ fn form_of_words(alloc: Global, version: Version, words: Words<'_>) -> Result<Fo
             Some(keyword) => body(alloc, version, keyword, words),
         },
     }
+}
+
+/// The form of a line, in a text of a version. NoForm exactly where it is of none; a line is of at most one.
+/// Memory is taken for what a work line, an order and bytes hold, in proportion to the line.
+pub fn read_form(alloc: Global, version: Version, line: &[u8]) -> Result<Form, LineStop>
+    ensures ok { IfOk result (λ f. IsOfForm (version_of version) (words_of line.now) (form_of f)) }
+    ensures one { IfOk result (λ f. (g : form.Form) → IsOfForm (version_of version) (words_of line.now) g → g ≡ form_of f) }
+    ensures none { result ≡ Err LineStop.NoForm → (g : form.Form) → IsOfForm (version_of version) (words_of line.now) g → ⊥ }
+{
+    form_of_words(alloc, version, Words::of(line, b' '))
 }

@@ -1,5 +1,4 @@
-use Rattle.std.proofs.Common.{◌≡◌, ◌∙◌, sym, refl}
-use Rattle.line_forms.specs.Words.{end_of}
+use Rattle.std.proofs.Common.{◌∙◌}
 use Rattle.line_forms.proofs.Numbers.{flags_by_steps, then_none, then_some}
 use Rattle.line_forms.proofs.leaves.flags.Goals as goal
 

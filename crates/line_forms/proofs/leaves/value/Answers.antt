@@ -1,4 +1,4 @@
-use Rattle.std.proofs.Common.{◌≡◌, ◌+◌, ◌*◌, ◌^◌, ◌<◌, arith}
+use Rattle.std.proofs.Common.{arith}
 use Rattle.line_forms.proofs.Numbers.{digit_fits}
 use Rattle.line_forms.proofs.leaves.value.Goals as goal
 

@@ -1,4 +1,3 @@
-use Rattle.std.proofs.Common.{sym}
 use Rattle.line_forms.proofs.Loops.{pairs_go_on, pairs_end}
 use Rattle.line_forms.proofs.lists.pairs.Goals as goal
 
