@@ -1,2 +1,7 @@
 pub mod Acts
+pub mod Faults
 pub mod FirstForm
+pub mod Forms
+pub mod Lines
+pub mod Meaning
+pub mod Texts

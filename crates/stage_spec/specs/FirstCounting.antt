@@ -1,6 +1,6 @@
 -- What the one event of a script of the first form counts: it is opened by the first line of tool 0, on the
 -- only counter, for everything on processor 0, so it is on from then on. After perf_event_open(2).
-use Rattle.std.specs.Prelude.{◌≡◌, ℕ, ◌+◌, ◌<◌, nat_lt, List, [], ◌∷◌, ◌++◌, drop, All, Option, Some, None, slice_get, slice_index, if◌then◌else◌}
+use Rattle.std.specs.Prelude.{◌≡◌, ℕ, ◌+◌, ◌<◌, nat_lt, List, [], ◌∷◌, ◌++◌, drop, All, IfSome, Option, Some, None, slice_get, slice_index, if◌then◌else◌}
 use Rattle.perf_base.specs.declared.numbers.CpuNo.{CpuNo}
 use Rattle.perf_base.specs.declared.numbers.ToolNo.{ToolNo}
 use Rattle.perf_base.specs.declared.attr.Attr.{Attr}
@@ -41,10 +41,10 @@ counting_open = tool_line.Open (record { 0 = 0 }) counting_attr None
 abbrev pub counting_read : ToolLine
 counting_read = tool_line.Read (record { 0 = 0 }) None
 
--- work on processor 0, and one event that is opened and then read
+-- work on processor 0, and one event that is opened, if any line is there, and then read
 pub record IsFirstForm (s : Scripted) : Type 0 where
   pub work : (cpu : CpuNo) → All IsWorkLine (lines_of_cpu s cpu)
-  pub opened : slice_get (lines_of_tool s tool_zero) 0 ≡ Some counting_open
+  pub opened : IfSome (slice_get (lines_of_tool s tool_zero) 0) (λ line. line ≡ counting_open)
   pub reads : All (λ line. line ≡ counting_read) (drop 1 (lines_of_tool s tool_zero))
   pub others : (tool : ToolNo) → 0 < tool.0 → lines_of_tool s tool ≡ []
 
