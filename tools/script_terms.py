@@ -6,16 +6,22 @@ Each case is a pair NAME.script and NAME.report. What comes out is, for each cas
 the definitions of crates/stage_spec/specs give. The theorem is proved by computation, so it fails where the definitions
 answer anything else than the report says.
 
+With the word `whole` the report's text comes out too, and the theorem says that it is the report, by the definitions of
+crates/report_spec/specs, with what became of each ring. There a case may also be a pair NAME.script and NAME.note, the
+note of an order with an unlawful look at a tail; the theorem is then that this look, with the note's numbers, is the
+first that is not lawful.
+
 No proof rests on this program: what it writes is checked by `rt check` like any other file. A slip here could only
 state another case than the text says, which is why the terms are written to be read beside the text.
 
-Usage: script_terms.py CASES OUT
-  CASES  a folder of folders of cases, as tools/cases
-  OUT    the folder of the antt files, as crates/stage_spec/proofs/rows; files that it wrote before are replaced, and
-         the list of the folder's modules, as crates/stage_spec/proofs/rows.antt
+Usage: script_terms.py CASES OUT [whole]
+  CASES  a folder of folders of cases, as tools/cases; with `whole`, as tools/report_cases
+  OUT    the folder of the antt files, as crates/stage_spec/proofs/rows; with `whole`, as crates/report_spec/proofs/rows.
+         Files that it wrote before are replaced, and the list of the folder's modules, as crates/stage_spec/proofs/rows.antt
 """
 
 import os
+import re
 import sys
 
 CPUS = 8
@@ -87,6 +93,8 @@ class Case:
         self.readers = []
         self.order = []  # ("p", 0), ("t", 1), ("s", 0, 16)
         self.replies = {}  # (actor, line number): (term, proof)
+        self.report = []  # the lines of the report
+        self.note = None  # of an unlawful look: the act's number, the ring, its last place, its head, the place given
 
 
 def some(term):
@@ -251,7 +259,8 @@ TOOL_LINES = {
 
 
 def read_report(case, text):
-    for line in text.splitlines():
+    case.report = text.splitlines()
+    for line in case.report:
         words = line.split(" ")
         actor, dot, number = words[0].partition(".")
         if dot:
@@ -285,6 +294,13 @@ def cause(words):
     if words[0] == "hall":
         return f"(cause.Hall {slots(words[1:])})"
     return f"(cause.Rule (rule.{RULES[words[0]]} (slot {words[1]})))"
+
+
+NOTE = re.compile(r"perf_run: act (\d+): ring (\d+) last (\d+) head (\d+) given (\d+)\n")
+
+
+def read_note(case, text):
+    case.note = [int(number) for number in NOTE.fullmatch(text).groups()]
 
 
 # The terms of a case.
@@ -344,10 +360,8 @@ def wrapped(terms, first, margin, end, width=150):
     return [*out, line.rstrip()]
 
 
-def case_terms(case):
-    name = case.name.replace("-", "_")
-    answered = replies_in_order(case)
-    out = [
+def script_term(case, name):
+    return [
         f"{name} : Scripted",
         f"{name} = record {{",
         f"  cpus = {case.cpus};",
@@ -361,25 +375,72 @@ def case_terms(case):
         *wrapped([act_term(act) for act in case.order], "  order = ", "      ", ";"),
         "}",
         "",
-        f"{name}_replies : List Reply",
-        *wrapped([term for term, _ in answered], f"{name}_replies = ", "    ", ""),
-        "",
+    ]
+
+
+def replies_term(name, answered):
+    return [f"{name}_replies : List Reply", *wrapped([term for term, _ in answered], f"{name}_replies = ", "    ", ""), ""]
+
+
+def answers_terms(case):
+    """The theorem that the replies are the answers."""
+    name = case.name.replace("-", "_")
+    answered = replies_in_order(case)
+    return [
+        *script_term(case, name),
+        *replies_term(name, answered),
         f"{name}-answers : Answers {name} {name}_replies",
         f"unfolding Computed {name} {name}_replies",
-        f"{name}-answers = computed {name} {name}_replies {proof([it for _, it in answered])}",
+        f"{name}-answers = computed {name} {name}_replies {nested([it for _, it in answered], 'tt')}",
     ]
-    return out
 
 
-def proof(proofs):
-    """The nested tuple of the proofs, one for each act."""
-    return "".join(f"({it}, " for it in proofs) + "tt" + ")" * len(proofs)
+def report_terms(case):
+    """The theorem that the replies are the answers and the text is the report."""
+    name = case.name.replace("-", "_")
+    answered = replies_in_order(case)
+    lines = [f'    codes "{line}\\n"' for line in case.report]
+    proofs = [f"{it}, refl" for _, it in answered]
+    return [
+        *script_term(case, name),
+        *replies_term(name, answered),
+        f"{name}_report : List ℕ",
+        f"{name}_report =",
+        *[line + " ++" for line in lines[:-1]],
+        lines[-1],
+        "",
+        f"{name}-worked : IsWorked {name} {name}_replies {name}_report",
+        f"unfolding Computed {name} {name}_replies {name}_report",
+        f"{name}-worked = computed {name} {name}_replies {name}_report refl {nested(proofs, 'refl')}",
+    ]
+
+
+def unlawful_terms(case):
+    """The theorem that a look is the first that is not lawful: each look before it is, one proof for each act."""
+    name = case.name.replace("-", "_")
+    act, ring_number, last, head, given = case.note
+    claim = f"{name} {act} (ring {ring_number}) {last} {head} {given}"
+    return [
+        *script_term(case, name),
+        f"{name}-unlawful : IsUnlawfulLook {claim}",
+        f"unfolding Looked {name}",
+        f"{name}-unlawful = looked {claim} refl {nested(['refl'] * act, '(refl, refl, refl)')}",
+    ]
+
+
+def whole_terms(case):
+    return report_terms(case) if case.note is None else unlawful_terms(case)
+
+
+def nested(proofs, last):
+    """The nested tuple of the proofs, one for each act, and of the last one."""
+    return "".join(f"({it}, " for it in proofs) + last + ")" * len(proofs)
 
 
 # The files.
 
 IMPORTS = [
-    ("Rattle.std.specs.Prelude", ["Bool", "true", "false", "List", "[]", "◌∷◌", "Option", "Some", "None", "codes"]),
+    ("Rattle.std.specs.Prelude", ["ℕ", "Bool", "true", "false", "List", "[]", "◌∷◌", "◌++◌", "Option", "Some", "None", "codes"]),
     ("Rattle.std.proofs.Common", ["refl"]),
     ("Rattle.perf_base.specs.declared.attr.Kind.TheVariants", "kind"),
     ("Rattle.perf_base.specs.declared.attr.TaskSel.TheVariants", "tasks"),
@@ -398,42 +459,50 @@ IMPORTS = [
         "Rattle.stage_spec.proofs.rows.Words",
         ["cpu", "task", "slot", "slots", "ring", "by_cpu", "by_tool", "seen", "pmu", "kind_line", "attr", "work", "reader", "eight", "four"],
     ),
-    ("Rattle.stage_spec.proofs.rows.Answering", ["Answers", "Computed", "computed"]),
+]
+
+# what else the theorems take, of answers alone and of whole reports
+ANSWERS_IMPORTS = [("Rattle.stage_spec.proofs.rows.Answering", ["Answers", "Computed", "computed"])]
+WHOLE_IMPORTS = [
+    ("Rattle.report_spec.proofs.Whole", ["IsWorked"]),
+    ("Rattle.report_spec.proofs.Unlawful", ["IsUnlawfulLook"]),
+    ("Rattle.report_spec.proofs.rows.Answering", ["Computed", "computed"]),
+    ("Rattle.report_spec.proofs.rows.Looking", ["Looked", "looked"]),
 ]
 
 
-def imports(lines):
-    text = " ".join(lines)
+def imports(lines, modules):
+    text = re.sub(r'"[^"]*"', "", " ".join(lines))
     for mark in "(),;{}":
         text = text.replace(mark, " ")
     words = set(text.split())
     heads = {word.split(".")[0] for word in words if "." in word}
     out = []
-    for module, names in IMPORTS:
+    for module, names in modules:
         if isinstance(names, str):
             if names in heads:
                 out.append(f"use {module} as {names}")
             continue
-        used = [it for it in names if it in words or (it == "◌∷◌" and "∷" in words)]
+        used = [it for it in names if it in words or (it.strip("◌") in words and it.startswith("◌"))]
         if used:
             out.append(f"use {module}.{{{', '.join(used)}}}")
     return out
 
 
-def write_files(out, folder, cases):
+def write_files(out, folder, cases, terms_of, modules):
     """Writes the cases of a folder into files that are not too long, and returns the names of the files."""
     title = "".join(word.capitalize() for word in folder.split("_"))
     parts = [[]]
     for case in cases:
-        terms = case_terms(case)
-        if parts[-1] and sum(len(it) + 1 for it in parts[-1]) + len(terms) + len(IMPORTS) + 3 > LINES_PER_FILE:
+        terms = terms_of(case)
+        if parts[-1] and sum(len(it) + 1 for it in parts[-1]) + len(terms) + len(modules) + 3 > LINES_PER_FILE:
             parts.append([])
         parts[-1].append(terms)
     names = []
     for number, part in enumerate(parts, 1):
         body = [line for terms in part for line in ["", *terms]]
         name = f"{title}{number}"
-        head = ["-- Worked cases, written by tools/script_terms.py from texts and their reports.", *imports(body)]
+        head = ["-- Worked cases, written by tools/script_terms.py from texts and their reports.", *imports(body, modules)]
         with open(os.path.join(out, f"{name}.antt"), "w", encoding="utf-8") as file:
             file.write("\n".join([*head, *body]) + "\n")
         names.append(name)
@@ -450,14 +519,17 @@ def read_cases(folder):
         case = Case(label)
         with open(os.path.join(folder, file), encoding="ascii") as text:
             read_script(case, text.read())
-        with open(os.path.join(folder, f"{name}.report"), encoding="ascii") as text:
-            read_report(case, text.read())
+        for ending, read in (("report", read_report), ("note", read_note)):
+            path = os.path.join(folder, f"{name}.{ending}")
+            if os.path.exists(path):
+                with open(path, encoding="ascii") as text:
+                    read(case, text.read())
         cases.append(case)
     return cases
 
 
 # the modules of the folder that are written by hand
-BY_HAND = ("Answering", "Seats", "Words")
+BY_HAND = ("Answering", "Looking", "Seats", "Words")
 
 
 def is_written(path):
@@ -466,15 +538,16 @@ def is_written(path):
 
 
 def main(arguments):
-    if len(arguments) != 2:
+    if len(arguments) not in (2, 3) or arguments[2:] not in ([], ["whole"]):
         sys.exit(__doc__)
-    cases, out = arguments
+    cases, out = arguments[:2]
+    terms_of, modules = (whole_terms, IMPORTS + WHOLE_IMPORTS) if arguments[2:] else (answers_terms, IMPORTS + ANSWERS_IMPORTS)
     for file in os.listdir(out):
         path = os.path.join(out, file)
         if file.endswith(".antt") and is_written(path):
             os.remove(path)
     for folder in sorted(os.listdir(cases)):
-        write_files(out, folder, read_cases(os.path.join(cases, folder)))
+        write_files(out, folder, read_cases(os.path.join(cases, folder)), terms_of, modules)
     names = sorted(file[: -len(".antt")] for file in os.listdir(out) if file.endswith(".antt"))
     with open(f"{out}.antt", "w", encoding="utf-8") as file:
         file.write("".join(f"{'pub ' if name in BY_HAND else ''}mod {name}\n" for name in names))

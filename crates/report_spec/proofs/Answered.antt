@@ -60,7 +60,7 @@ sum_from : (a : ℕ) (xs : List ℕ) → fold ◌+◌ a xs ≡ a + sum xs
 sum_from a [] = omega arith
 sum_from a (x ∷ xs) = sum_from (a + x) xs ∙ omega (arith, sum_from (0 + x) xs)
 
-sum-cons : (x : ℕ) (xs : List ℕ) → sum (x ∷ xs) ≡ x + sum xs
+pub sum-cons : (x : ℕ) (xs : List ℕ) → sum (x ∷ xs) ≡ x + sum xs
 sum-cons x xs = sum_from (0 + x) xs ∙ omega arith
 
 behind_more : (at place n : ℕ) (sizes : List ℕ) → (m : ℕ) × (place ≡ (at + n) + sum (take m sizes)) → (m : ℕ) × (place ≡ at + sum (take m (n ∷ sizes)))
@@ -154,7 +154,7 @@ acts-tail s ring last before (a ∷ acts) =
     ∙ (acts-tail s ring (fold (tail_by ring) last (steps_of s before a)) (before ++ a ∷ []) acts
     ∙ ap (λ l. fold (seen_at ring) l acts) (act-tail s ring last before a))
 
-seen-tail : (s : Scripted) (acts : List Act) (ring : RingNo) (bytes : ℕ) → (account_in s acts (ring, bytes)).tail ≡ last_seen ring acts
+pub seen-tail : (s : Scripted) (acts : List Act) (ring : RingNo) (bytes : ℕ) → (account_in s acts (ring, bytes)).tail ≡ last_seen ring acts
 seen-tail s acts ring bytes = account-tail (hardware_of s) (opening_stage s) (history s acts) ring bytes ∙ acts-tail s ring 0 [] acts
 
 -- the looks among steps, each lawful
@@ -213,7 +213,7 @@ lawful_acts s before (c ∷ acts) h (d ∷ some) after a e =
     rw (← same, ← regrouped) (lawful_acts s (before ++ c ∷ []) acts (rw so_far later) some after a rest)
 
 -- a look that is lawful by the accounts kept is lawful
-find-passes : (p : RingNo × ℕ → Bool) (f : RingNo × ℕ → RingAccount) (q : RingAccount → Bool) → ((r : RingNo × ℕ) → q (f r) ≡ p r)
+pub find-passes : (p : RingNo × ℕ → Bool) (f : RingNo × ℕ → RingAccount) (q : RingAccount → Bool) → ((r : RingNo × ℕ) → q (f r) ≡ p r)
     → (rings : List (RingNo × ℕ)) → find q (map f rings) ≡ option_map f (find p rings)
 find-passes p f q same [] = refl
 find-passes p f q same (r ∷ rings) = one (p r) (q (f r)) (same r) (find-passes p f q same rings)
@@ -224,7 +224,7 @@ find-passes p f q same (r ∷ rings) = one (p r) (q (f r)) (same r) (find-passes
     one false true e rest = absurd (false≢true (sym e))
     one false false e rest = rest
 
-found_ring : (ring : RingNo) (rings : List (RingNo × ℕ)) (r : RingNo × ℕ) → find (λ r. r.0.0 == ring.0) rings ≡ Some r → r.0 ≡ ring
+pub found_ring : (ring : RingNo) (rings : List (RingNo × ℕ)) (r : RingNo × ℕ) → find (λ r. r.0.0 == ring.0) rings ≡ Some r → r.0 ≡ ring
 found_ring ring [] r e = absurd (none-some r e)
 found_ring ring (q ∷ rings) r e = one (q.0.0 == ring.0) refl (λ e. found_ring ring rings r e) e
   where
@@ -242,7 +242,7 @@ found_lawful hw s rings before ring place (Some r) e h =
     let same : r.0 ≡ ring = found_ring ring rings r e in
     rw (← same) (lawful_seen (map size_of (account_of hw s before r).written) (account_of hw s before r).tail place h)
 
-lawful_by : (hw : Hardware) (s : Stage) (rings : List (RingNo × ℕ)) (before : List Step) (k : Kept) (x : Step) → Keeps hw s rings before k → look_ok k.accounts x ≡ true → LawfulStep hw s rings before x
+pub lawful_by : (hw : Hardware) (s : Stage) (rings : List (RingNo × ℕ)) (before : List Step) (k : Kept) (x : Step) → Keeps hw s rings before k → look_ok k.accounts x ≡ true → LawfulStep hw s rings before x
 lawful_by hw s rings before k (CpuStep cpu line) h ok = tt
 lawful_by hw s rings before k (ToolStep line) h ok = tt
 lawful_by hw s rings before k (SeenStep ring place) h ok =

@@ -1,4 +1,5 @@
 mod Answered
 mod Kept
-mod Try
+mod Unlawful
 mod Whole
+pub mod rows

@@ -1,1 +1,6 @@
 pub mod Acts
+pub mod Faults
+pub mod Forms
+pub mod Lines
+pub mod Meaning
+pub mod Texts

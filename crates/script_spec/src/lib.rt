@@ -1,3 +1,3 @@
-// Definitions of texts: how acts are written, and which text stands for which script. It has no code. It
-// serves the readers and printers of scripts, and the top call.
+// Definitions of texts: how acts are written, which text stands for which script, and which line of another text
+// is refused for which reason. It has no code. It serves the readers and printers of scripts, and the top call.
 #![tactic(auto)]

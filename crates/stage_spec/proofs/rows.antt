@@ -9,6 +9,8 @@ mod Named1
 mod Named2
 mod Named3
 mod Named4
+mod Named5
+mod Named6
 mod Sampling1
 pub mod Seats
 pub mod Words

@@ -14,109 +14,49 @@ use Rattle.perf_base.specs.declared.reasons.Reason.TheVariants as reason
 use Rattle.perf_base.specs.declared.reply.Reply.{Reply}
 use Rattle.perf_base.specs.declared.reply.Reply.TheVariants as reply
 use Rattle.perf_base.specs.Scripts.{Scripted}
-use Rattle.stage_spec.proofs.rows.Words.{cpu, task, slot, slots, ring, by_cpu, by_tool, pmu, kind_line, attr, work, eight, four}
+use Rattle.stage_spec.proofs.rows.Words.{cpu, task, slot, slots, by_cpu, by_tool, pmu, kind_line, attr, work, eight, four}
 use Rattle.stage_spec.proofs.rows.Answering.{Answers, Computed, computed}
 
-multiplexing : Scripted
-multiplexing = record {
+copy_of_copy : Scripted
+copy_of_copy = record {
   cpus = 1;
   pmus = pmu 1 1 ∷ [];
-  kinds = kind_line (codes "cycles") 0 1 ∷ [];
-  tasks = [];
-  rings = [];
-  cpu_lines = eight ((
-      cpu_line.Work (work 10 mode.User 0 (100 ∷ [])) ∷
-      cpu_line.Tick ∷
-      cpu_line.Work (work 10 mode.User 0 (40 ∷ [])) ∷
-      []) ∷ []);
-  tool_lines = four ((
-      tool_line.Open (slot 0) (attr (kind.Hard 0) tasks.All (cpus.One (cpu 0)) 0 0 3 0) None ∷
-      tool_line.Open (slot 1) (attr (kind.Hard 0) tasks.All (cpus.One (cpu 0)) 0 0 3 0) None ∷
-      tool_line.Read (slot 0) None ∷
-      tool_line.Read (slot 1) None ∷
-      []) ∷ []);
-  readers = [];
-  order = by_tool 0 ∷ by_tool 0 ∷ by_cpu 0 ∷ by_cpu 0 ∷ by_cpu 0 ∷ by_tool 0 ∷ by_tool 0 ∷ [];
-}
-
-multiplexing_replies : List Reply
-multiplexing_replies = reply.Ok ∷ reply.Ok ∷ reply.Ok ∷ reply.Ok ∷ reply.Ok ∷ reply.Read (100 ∷ 20 ∷ 10 ∷ []) ∷ reply.Read (40 ∷ 20 ∷ 10 ∷ []) ∷ []
-
-multiplexing-answers : Answers multiplexing multiplexing_replies
-unfolding Computed multiplexing multiplexing_replies
-multiplexing-answers = computed multiplexing multiplexing_replies (refl, (refl, (refl, (refl, (refl, (refl, (refl, tt)))))))
-
-new_period : Scripted
-new_period = record {
-  cpus = 1;
-  pmus = pmu 1 1 ∷ [];
-  kinds = kind_line (codes "a") 0 1 ∷ [];
-  tasks = [];
-  rings = (ring 0, 64) ∷ [];
-  cpu_lines = eight ((
-      cpu_line.Work (work 10 mode.User 0 (90 ∷ [])) ∷
-      cpu_line.Work (work 10 mode.User 0 (29 ∷ [])) ∷
-      cpu_line.Work (work 10 mode.User 0 (1 ∷ [])) ∷
-      []) ∷ []);
-  tool_lines = four ((
-      tool_line.Open (slot 0) (attr (kind.Hard 0) tasks.All (cpus.One (cpu 0)) 100 257 0 0) None ∷
-      tool_line.Map (slot 0) (ring 0) ∷
-      tool_line.Period (slot 0) 0 ∷
-      tool_line.Period (slot 0) 30 ∷
-      []) ∷ []);
-  readers = [];
-  order = by_tool 0 ∷ by_tool 0 ∷ by_cpu 0 ∷ by_tool 0 ∷ by_tool 0 ∷ by_cpu 0 ∷ by_cpu 0 ∷ [];
-}
-
-new_period_replies : List Reply
-new_period_replies = reply.Ok ∷ reply.Ok ∷ reply.Ok ∷ reply.Refused reason.ZeroPeriod ∷ reply.Ok ∷ reply.Ok ∷ reply.Ok ∷ []
-
-new_period-answers : Answers new_period new_period_replies
-unfolding Computed new_period new_period_replies
-new_period-answers = computed new_period new_period_replies (refl, (refl, (refl, (refl, (refl, (refl, (refl, tt)))))))
-
-opens_refused : Scripted
-opens_refused = record {
-  cpus = 2;
-  pmus = pmu 1 3 ∷ [];
   kinds = kind_line (codes "a") 0 1 ∷ [];
   tasks = task 0 ∷ [];
   rings = [];
-  cpu_lines = eight [];
+  cpu_lines = eight ((
+      cpu_line.Switch (Some (task 0)) ∷
+      cpu_line.Fork (task 1) ∷
+      cpu_line.Switch (Some (task 1)) ∷
+      cpu_line.Fork (task 2) ∷
+      cpu_line.Work (work 2 mode.User 0 (3 ∷ [])) ∷
+      cpu_line.Switch (Some (task 2)) ∷
+      cpu_line.Work (work 4 mode.User 0 (5 ∷ [])) ∷
+      cpu_line.Fork (task 1) ∷
+      cpu_line.Switch None ∷
+      cpu_line.Exit ∷
+      []) ∷ []);
   tool_lines = four ((
-      tool_line.Open (slot 0) (attr (kind.Hard 0) (tasks.One (task 0)) cpus.Any 0 0 0 0) None ∷
-      tool_line.Open (slot 0) (attr (kind.Hard 0) (tasks.One (task 0)) cpus.Any 0 0 0 0) None ∷
-      tool_line.Open (slot 1) (attr (kind.Hard 0) tasks.All cpus.Any 0 0 0 0) None ∷
-      tool_line.Open (slot 1) (attr (kind.Hard 0) (tasks.One (task 0)) cpus.Any 9223372036854775808 0 0 0) None ∷
-      tool_line.Open (slot 1) (attr (kind.Hard 0) (tasks.One (task 0)) cpus.Any 0 8 0 0) None ∷
-      tool_line.Open (slot 1) (attr (kind.Hard 0) (tasks.One (task 0)) cpus.Any 0 0 32 0) None ∷
-      tool_line.Open (slot 1) (attr kind.Dummy (tasks.One (task 0)) cpus.Any 5 0 0 0) None ∷
-      tool_line.Open (slot 1) (attr (kind.Hard 0) (tasks.One (task 7)) cpus.Any 0 0 0 0) None ∷
-      tool_line.Open (slot 1) (attr (kind.Hard 0) (tasks.One (task 0)) cpus.Any 0 0 0 0) (Some (slot 9)) ∷
-      tool_line.Open (slot 1) (attr (kind.Hard 0) (tasks.One (task 0)) (cpus.One (cpu 0)) 0 0 0 0) (Some (slot 0)) ∷
-      tool_line.Open (slot 1) (attr (kind.Hard 0) (tasks.One (task 0)) cpus.Any 0 0 0 4) (Some (slot 0)) ∷
-      tool_line.Open (slot 1) (attr (kind.Hard 0) (tasks.One (task 0)) cpus.Any 0 0 0 2) (Some (slot 0)) ∷
-      tool_line.Open (slot 1) (attr (kind.Hard 0) (tasks.One (task 0)) cpus.Any 0 0 0 0) (Some (slot 0)) ∷
-      tool_line.Open (slot 1) (attr kind.Dummy (tasks.One (task 0)) cpus.Any 0 0 0 0) (Some (slot 0)) ∷
-      tool_line.Open (slot 2) (attr kind.Dummy (tasks.One (task 0)) cpus.Any 0 0 0 0) (Some (slot 1)) ∷
+      tool_line.Open (slot 0) (attr (kind.Hard 0) (tasks.One (task 0)) cpus.Any 0 0 3 2) None ∷
+      tool_line.Read (slot 0) None ∷
+      tool_line.Close (slot 0) ∷
+      tool_line.Read (slot 0) None ∷
       []) ∷ []);
   readers = [];
-  order = by_tool 0 ∷ by_tool 0 ∷ by_tool 0 ∷ by_tool 0 ∷ by_tool 0 ∷ by_tool 0 ∷ by_tool 0 ∷ by_tool 0 ∷ by_tool 0 ∷ by_tool 0 ∷ by_tool 0 ∷
-      by_tool 0 ∷ by_tool 0 ∷ by_tool 0 ∷ by_tool 0 ∷ [];
+  order = by_tool 0 ∷ by_cpu 0 ∷ by_cpu 0 ∷ by_cpu 0 ∷ by_cpu 0 ∷ by_cpu 0 ∷ by_cpu 0 ∷ by_cpu 0 ∷ by_cpu 0 ∷ by_cpu 0 ∷ by_cpu 0 ∷ by_tool 0 ∷
+      by_tool 0 ∷ by_tool 0 ∷ [];
 }
 
-opens_refused_replies : List Reply
-opens_refused_replies = reply.Ok ∷ reply.Refused reason.Exists ∷ reply.Refused reason.NoPlace ∷ reply.Refused reason.BadPeriod ∷
-    reply.Refused reason.BadSampleBits ∷ reply.Refused reason.BadFormatBits ∷ reply.Refused reason.SoftPeriod ∷ reply.Refused reason.NoTask ∷
-    reply.Refused reason.NoEvent ∷ reply.Refused reason.OtherContext ∷ reply.Refused reason.SiblingFlags ∷ reply.Refused reason.Inherit ∷
-    reply.Refused (reason.NoAssignment (slots (0 ∷ 1 ∷ []))) ∷ reply.Ok ∷ reply.Refused reason.NotLeader ∷ []
+copy_of_copy_replies : List Reply
+copy_of_copy_replies = reply.Ok ∷ reply.Ok ∷ reply.Ok ∷ reply.Ok ∷ reply.Ok ∷ reply.Ok ∷ reply.Ok ∷ reply.Ok ∷ reply.Refused reason.Exists ∷
+    reply.Ok ∷ reply.Refused reason.Idle ∷ reply.Read (8 ∷ 6 ∷ 6 ∷ []) ∷ reply.Ok ∷ reply.Refused reason.NoEvent ∷ []
 
-opens_refused-answers : Answers opens_refused opens_refused_replies
-unfolding Computed opens_refused opens_refused_replies
-opens_refused-answers = computed opens_refused opens_refused_replies (refl, (refl, (refl, (refl, (refl, (refl, (refl, (refl, (refl, (refl, (refl, (refl, (refl, (refl, (refl, tt)))))))))))))))
+copy_of_copy-answers : Answers copy_of_copy copy_of_copy_replies
+unfolding Computed copy_of_copy copy_of_copy_replies
+copy_of_copy-answers = computed copy_of_copy copy_of_copy_replies (refl, (refl, (refl, (refl, (refl, (refl, (refl, (refl, (refl, (refl, (refl, (refl, (refl, (refl, tt))))))))))))))
 
-pinned_and_error : Scripted
-pinned_and_error = record {
+disable_clears_error : Scripted
+disable_clears_error = record {
   cpus = 1;
   pmus = pmu 1 1 ∷ [];
   kinds = kind_line (codes "a") 0 1 ∷ [];
@@ -126,27 +66,74 @@ pinned_and_error = record {
   tool_lines = four ((
       tool_line.Open (slot 0) (attr (kind.Hard 0) tasks.All (cpus.One (cpu 0)) 0 0 0 4) None ∷
       tool_line.Open (slot 1) (attr (kind.Hard 0) tasks.All (cpus.One (cpu 0)) 0 0 0 4) None ∷
+      tool_line.Why (slot 1) ∷
+      tool_line.Disable (slot 1) false ∷
+      tool_line.Why (slot 1) ∷
       tool_line.Read (slot 1) None ∷
+      tool_line.Close (slot 0) ∷
       tool_line.Why (slot 1) ∷
-      tool_line.Disable (slot 0) false ∷
-      tool_line.Enable (slot 1) false ∷
-      tool_line.Why (slot 1) ∷
-      tool_line.Why (slot 0) ∷
       []) ∷ []);
   readers = [];
   order = by_tool 0 ∷ by_tool 0 ∷ by_tool 0 ∷ by_tool 0 ∷ by_tool 0 ∷ by_tool 0 ∷ by_tool 0 ∷ by_tool 0 ∷ [];
 }
 
-pinned_and_error_replies : List Reply
-pinned_and_error_replies = reply.Ok ∷ reply.Ok ∷ reply.Read [] ∷ reply.Why (why.Failed (cause.Hall (slots (0 ∷ 1 ∷ [])))) ∷ reply.Ok ∷ reply.Ok ∷
-    reply.Why why.On ∷ reply.Why why.Off ∷ []
+disable_clears_error_replies : List Reply
+disable_clears_error_replies = reply.Ok ∷ reply.Ok ∷ reply.Why (why.Failed (cause.Hall (slots (0 ∷ 1 ∷ [])))) ∷ reply.Ok ∷ reply.Why why.Off ∷
+    reply.Read (0 ∷ []) ∷ reply.Ok ∷ reply.Why why.Off ∷ []
 
-pinned_and_error-answers : Answers pinned_and_error pinned_and_error_replies
-unfolding Computed pinned_and_error pinned_and_error_replies
-pinned_and_error-answers = computed pinned_and_error pinned_and_error_replies (refl, (refl, (refl, (refl, (refl, (refl, (refl, (refl, tt))))))))
+disable_clears_error-answers : Answers disable_clears_error disable_clears_error_replies
+unfolding Computed disable_clears_error disable_clears_error_replies
+disable_clears_error-answers = computed disable_clears_error disable_clears_error_replies (refl, (refl, (refl, (refl, (refl, (refl, (refl, (refl, tt))))))))
 
-pinned_and_exclusive : Scripted
-pinned_and_exclusive = record {
+earlier_refusal : Scripted
+earlier_refusal = record {
+  cpus = 1;
+  pmus = pmu 2 1 ∷ [];
+  kinds = kind_line (codes "a") 0 1 ∷ kind_line (codes "b") 0 2 ∷ [];
+  tasks = [];
+  rings = [];
+  cpu_lines = eight [];
+  tool_lines = four ((
+      tool_line.Open (slot 0) (attr (kind.Hard 0) tasks.All (cpus.One (cpu 0)) 0 0 0 0) None ∷
+      tool_line.Open (slot 1) (attr (kind.Hard 0) tasks.All (cpus.One (cpu 0)) 0 0 0 0) None ∷
+      tool_line.Open (slot 2) (attr (kind.Hard 1) tasks.All (cpus.One (cpu 0)) 0 0 0 0) None ∷
+      tool_line.Why (slot 1) ∷
+      tool_line.Why (slot 2) ∷
+      []) ∷ []);
+  readers = [];
+  order = by_tool 0 ∷ by_tool 0 ∷ by_tool 0 ∷ by_tool 0 ∷ by_tool 0 ∷ [];
+}
+
+earlier_refusal_replies : List Reply
+earlier_refusal_replies = reply.Ok ∷ reply.Ok ∷ reply.Ok ∷ reply.Why (why.Refused (cause.Hall (slots (0 ∷ 1 ∷ [])))) ∷
+    reply.Why (why.Refused (cause.Rule (rule.Earlier (slot 1)))) ∷ []
+
+earlier_refusal-answers : Answers earlier_refusal earlier_refusal_replies
+unfolding Computed earlier_refusal earlier_refusal_replies
+earlier_refusal-answers = computed earlier_refusal earlier_refusal_replies (refl, (refl, (refl, (refl, (refl, tt)))))
+
+empty : Scripted
+empty = record {
+  cpus = 1;
+  pmus = pmu 1 1 ∷ [];
+  kinds = [];
+  tasks = [];
+  rings = [];
+  cpu_lines = eight [];
+  tool_lines = four [];
+  readers = [];
+  order = [];
+}
+
+empty_replies : List Reply
+empty_replies = []
+
+empty-answers : Answers empty empty_replies
+unfolding Computed empty empty_replies
+empty-answers = computed empty empty_replies tt
+
+exclusive_software : Scripted
+exclusive_software = record {
   cpus = 1;
   pmus = pmu 2 1 ∷ [];
   kinds = kind_line (codes "a") 0 3 ∷ [];
@@ -154,172 +141,99 @@ pinned_and_exclusive = record {
   rings = [];
   cpu_lines = eight [];
   tool_lines = four ((
-      tool_line.Open (slot 0) (attr (kind.Hard 0) tasks.All (cpus.One (cpu 0)) 0 0 0 12) None ∷
-      tool_line.Open (slot 1) (attr (kind.Hard 0) tasks.All (cpus.One (cpu 0)) 0 0 0 4) None ∷
+      tool_line.Open (slot 0) (attr kind.TaskClock tasks.All (cpus.One (cpu 0)) 0 0 0 8) None ∷
+      tool_line.Open (slot 1) (attr (kind.Hard 0) tasks.All (cpus.One (cpu 0)) 0 0 0 0) None ∷
+      tool_line.Why (slot 0) ∷
       tool_line.Why (slot 1) ∷
-      tool_line.Read (slot 1) None ∷
-      tool_line.Close (slot 0) ∷
+      tool_line.Open (slot 2) (attr (kind.Hard 0) tasks.All (cpus.One (cpu 0)) 0 0 0 0) (Some (slot 0)) ∷
+      tool_line.Why (slot 0) ∷
       tool_line.Why (slot 1) ∷
-      tool_line.Enable (slot 1) false ∷
-      tool_line.Why (slot 1) ∷
-      tool_line.Open (slot 2) (attr (kind.Hard 0) tasks.All (cpus.One (cpu 0)) 0 0 0 12) None ∷
-      tool_line.Why (slot 2) ∷
-      tool_line.Open (slot 3) (attr (kind.Hard 0) tasks.All (cpus.One (cpu 0)) 0 0 0 4) None ∷
-      tool_line.Why (slot 3) ∷
-      tool_line.Enable (slot 2) false ∷
-      tool_line.Why (slot 3) ∷
-      tool_line.Reset (slot 9) false ∷
-      tool_line.Close (slot 9) ∷
-      tool_line.Reset (slot 0) false ∷
       []) ∷ []);
   readers = [];
-  order = by_tool 0 ∷ by_tool 0 ∷ by_tool 0 ∷ by_tool 0 ∷ by_tool 0 ∷ by_tool 0 ∷ by_tool 0 ∷ by_tool 0 ∷ by_tool 0 ∷ by_tool 0 ∷ by_tool 0 ∷
-      by_tool 0 ∷ by_tool 0 ∷ by_tool 0 ∷ by_tool 0 ∷ by_tool 0 ∷ by_tool 0 ∷ [];
+  order = by_tool 0 ∷ by_tool 0 ∷ by_tool 0 ∷ by_tool 0 ∷ by_tool 0 ∷ by_tool 0 ∷ by_tool 0 ∷ [];
 }
 
-pinned_and_exclusive_replies : List Reply
-pinned_and_exclusive_replies = reply.Ok ∷ reply.Ok ∷ reply.Why (why.Failed (cause.Rule (rule.Exclusive (slot 0)))) ∷ reply.Read [] ∷ reply.Ok ∷
-    reply.Why (why.Failed (cause.Rule (rule.Exclusive (slot 0)))) ∷ reply.Ok ∷ reply.Why why.On ∷ reply.Ok ∷
-    reply.Why (why.Failed (cause.Rule (rule.ExclusiveSelf (slot 1)))) ∷ reply.Ok ∷ reply.Why why.On ∷ reply.Ok ∷
-    reply.Why (why.Failed (cause.Rule (rule.Earlier (slot 2)))) ∷ reply.Refused reason.NoEvent ∷ reply.Refused reason.NoEvent ∷
-    reply.Refused reason.NoEvent ∷ []
+exclusive_software_replies : List Reply
+exclusive_software_replies = reply.Ok ∷ reply.Ok ∷ reply.Why why.On ∷ reply.Why why.On ∷ reply.Ok ∷ reply.Why why.On ∷
+    reply.Why (why.Refused (cause.Rule (rule.Exclusive (slot 0)))) ∷ []
 
-pinned_and_exclusive-answers : Answers pinned_and_exclusive pinned_and_exclusive_replies
-unfolding Computed pinned_and_exclusive pinned_and_exclusive_replies
-pinned_and_exclusive-answers = computed pinned_and_exclusive pinned_and_exclusive_replies (refl, (refl, (refl, (refl, (refl, (refl, (refl, (refl, (refl, (refl, (refl, (refl, (refl, (refl, (refl, (refl, (refl, tt)))))))))))))))))
+exclusive_software-answers : Answers exclusive_software exclusive_software_replies
+unfolding Computed exclusive_software exclusive_software_replies
+exclusive_software-answers = computed exclusive_software exclusive_software_replies (refl, (refl, (refl, (refl, (refl, (refl, (refl, tt)))))))
 
-realistic : Scripted
-realistic = record {
-  cpus = 2;
-  pmus = pmu 4 3 ∷ [];
-  kinds = kind_line (codes "cycles") 0 15 ∷ kind_line (codes "instructions") 0 15 ∷ kind_line (codes "branches") 0 15 ∷
-      kind_line (codes "branch-misses") 0 15 ∷ kind_line (codes "cache-references") 0 15 ∷ kind_line (codes "cache-misses") 0 15 ∷ [];
-  tasks = task 0 ∷ [];
+exclusive : Scripted
+exclusive = record {
+  cpus = 1;
+  pmus = pmu 2 1 ∷ [];
+  kinds = kind_line (codes "a") 0 3 ∷ [];
+  tasks = [];
+  rings = [];
+  cpu_lines = eight ((
+      cpu_line.Tick ∷
+      []) ∷ []);
+  tool_lines = four ((
+      tool_line.Open (slot 0) (attr (kind.Hard 0) tasks.All (cpus.One (cpu 0)) 0 0 0 0) None ∷
+      tool_line.Open (slot 1) (attr (kind.Hard 0) tasks.All (cpus.One (cpu 0)) 0 0 0 8) None ∷
+      tool_line.Why (slot 1) ∷
+      tool_line.Why (slot 0) ∷
+      tool_line.Why (slot 1) ∷
+      []) ∷ []);
+  readers = [];
+  order = by_tool 0 ∷ by_tool 0 ∷ by_tool 0 ∷ by_cpu 0 ∷ by_tool 0 ∷ by_tool 0 ∷ [];
+}
+
+exclusive_replies : List Reply
+exclusive_replies = reply.Ok ∷ reply.Ok ∷ reply.Why (why.Refused (cause.Rule (rule.ExclusiveSelf (slot 0)))) ∷ reply.Ok ∷
+    reply.Why (why.Refused (cause.Rule (rule.Exclusive (slot 1)))) ∷ reply.Why why.On ∷ []
+
+exclusive-answers : Answers exclusive exclusive_replies
+unfolding Computed exclusive exclusive_replies
+exclusive-answers = computed exclusive exclusive_replies (refl, (refl, (refl, (refl, (refl, (refl, tt))))))
+
+exited_task : Scripted
+exited_task = record {
+  cpus = 1;
+  pmus = pmu 1 1 ∷ [];
+  kinds = kind_line (codes "a") 0 1 ∷ [];
+  tasks = task 0 ∷ task 1 ∷ [];
   rings = [];
   cpu_lines = eight ((
       cpu_line.Switch (Some (task 0)) ∷
-      cpu_line.Work (work 4000000 mode.User 0 (12000000 ∷ 9000000 ∷ 2000000 ∷ 40000 ∷ 80000 ∷ 8000 ∷ [])) ∷
-      cpu_line.Fork (task 1) ∷
-      cpu_line.Tick ∷
-      cpu_line.Work (work 4000000 mode.User 0 (12000000 ∷ 9000000 ∷ 2000000 ∷ 40000 ∷ 80000 ∷ 8000 ∷ [])) ∷
-      cpu_line.Tick ∷
-      cpu_line.Work (work 4000000 mode.User 0 (12000000 ∷ 9000000 ∷ 2000000 ∷ 40000 ∷ 80000 ∷ 8000 ∷ [])) ∷
-      []) ∷ (
-      cpu_line.Switch (Some (task 1)) ∷
-      cpu_line.Work (work 4000000 mode.User 0 (12000000 ∷ 9000000 ∷ 2000000 ∷ 40000 ∷ 80000 ∷ 8000 ∷ [])) ∷
+      cpu_line.Work (work 10 mode.User 0 (3 ∷ [])) ∷
       cpu_line.Exit ∷
+      cpu_line.Fork (task 2) ∷
+      cpu_line.Switch (Some (task 0)) ∷
+      cpu_line.Switch (Some (task 1)) ∷
+      cpu_line.Fork (task 0) ∷
+      cpu_line.Fork (task 2) ∷
       []) ∷ []);
   tool_lines = four ((
-      tool_line.Open (slot 0) (attr (kind.Hard 0) (tasks.One (task 0)) cpus.Any 0 0 3 2) None ∷
-      tool_line.Open (slot 1) (attr (kind.Hard 1) (tasks.One (task 0)) cpus.Any 0 0 3 2) None ∷
-      tool_line.Open (slot 2) (attr (kind.Hard 2) (tasks.One (task 0)) cpus.Any 0 0 3 2) None ∷
-      tool_line.Open (slot 3) (attr (kind.Hard 3) (tasks.One (task 0)) cpus.Any 0 0 3 2) None ∷
-      tool_line.Open (slot 4) (attr (kind.Hard 4) (tasks.One (task 0)) cpus.Any 0 0 3 2) None ∷
-      tool_line.Open (slot 5) (attr (kind.Hard 5) (tasks.One (task 0)) cpus.Any 0 0 3 2) None ∷
+      tool_line.Open (slot 0) (attr (kind.Hard 0) (tasks.One (task 0)) cpus.Any 0 0 3 0) None ∷
       tool_line.Read (slot 0) None ∷
-      tool_line.Read (slot 1) None ∷
-      tool_line.Read (slot 2) None ∷
-      tool_line.Read (slot 3) None ∷
-      tool_line.Read (slot 4) None ∷
-      tool_line.Read (slot 5) None ∷
+      tool_line.Why (slot 0) ∷
+      tool_line.Disable (slot 0) false ∷
+      tool_line.Why (slot 0) ∷
+      tool_line.Enable (slot 0) false ∷
+      tool_line.Why (slot 0) ∷
+      tool_line.Open (slot 1) (attr (kind.Hard 0) (tasks.One (task 0)) cpus.Any 0 0 0 0) None ∷
+      tool_line.Open (slot 1) (attr (kind.Hard 0) (tasks.One (task 0)) cpus.Any 0 0 0 0) (Some (slot 0)) ∷
       []) ∷ []);
   readers = [];
-  order = by_tool 0 ∷ by_tool 0 ∷ by_tool 0 ∷ by_tool 0 ∷ by_tool 0 ∷ by_tool 0 ∷ by_cpu 0 ∷ by_cpu 0 ∷ by_cpu 0 ∷ by_cpu 1 ∷ by_cpu 0 ∷ by_cpu 1 ∷
-      by_cpu 0 ∷ by_cpu 1 ∷ by_cpu 0 ∷ by_cpu 0 ∷ by_tool 0 ∷ by_tool 0 ∷ by_tool 0 ∷ by_tool 0 ∷ by_tool 0 ∷ by_tool 0 ∷ [];
+  order = by_tool 0 ∷ by_cpu 0 ∷ by_cpu 0 ∷ by_cpu 0 ∷ by_cpu 0 ∷ by_cpu 0 ∷ by_cpu 0 ∷ by_cpu 0 ∷ by_cpu 0 ∷ by_tool 0 ∷ by_tool 0 ∷ by_tool 0 ∷
+      by_tool 0 ∷ by_tool 0 ∷ by_tool 0 ∷ by_tool 0 ∷ by_tool 0 ∷ [];
 }
 
-realistic_replies : List Reply
-realistic_replies = reply.Ok ∷ reply.Ok ∷ reply.Ok ∷ reply.Ok ∷ reply.Ok ∷ reply.Ok ∷ reply.Ok ∷ reply.Ok ∷ reply.Ok ∷ reply.Ok ∷ reply.Ok ∷
-    reply.Ok ∷ reply.Ok ∷ reply.Ok ∷ reply.Ok ∷ reply.Ok ∷ reply.Read (24000000 ∷ 16000000 ∷ 8000000 ∷ []) ∷
-    reply.Read (27000000 ∷ 16000000 ∷ 12000000 ∷ []) ∷ reply.Read (8000000 ∷ 16000000 ∷ 16000000 ∷ []) ∷
-    reply.Read (160000 ∷ 16000000 ∷ 16000000 ∷ []) ∷ reply.Read (160000 ∷ 16000000 ∷ 8000000 ∷ []) ∷ reply.Read (8000 ∷ 16000000 ∷ 4000000 ∷ []) ∷ []
+exited_task_replies : List Reply
+exited_task_replies = reply.Ok ∷ reply.Ok ∷ reply.Ok ∷ reply.Ok ∷ reply.Refused reason.Idle ∷ reply.Refused reason.NoTask ∷ reply.Ok ∷
+    reply.Refused reason.Exists ∷ reply.Ok ∷ reply.Read (3 ∷ 10 ∷ 10 ∷ []) ∷ reply.Why why.Away ∷ reply.Ok ∷ reply.Why why.Off ∷ reply.Ok ∷
+    reply.Why why.Away ∷ reply.Refused reason.NoTask ∷ reply.Refused reason.NoTask ∷ []
 
-realistic-answers : Answers realistic realistic_replies
-unfolding Computed realistic realistic_replies
-realistic-answers = computed realistic realistic_replies (refl, (refl, (refl, (refl, (refl, (refl, (refl, (refl, (refl, (refl, (refl, (refl, (refl, (refl, (refl, (refl, (refl, (refl, (refl, (refl, (refl, (refl, tt))))))))))))))))))))))
+exited_task-answers : Answers exited_task exited_task_replies
+unfolding Computed exited_task exited_task_replies
+exited_task-answers = computed exited_task exited_task_replies (refl, (refl, (refl, (refl, (refl, (refl, (refl, (refl, (refl, (refl, (refl, (refl, (refl, (refl, (refl, (refl, (refl, tt)))))))))))))))))
 
-seated_event_moves : Scripted
-seated_event_moves = record {
-  cpus = 1;
-  pmus = pmu 2 1 ∷ [];
-  kinds = kind_line (codes "x") 0 3 ∷ kind_line (codes "y") 0 1 ∷ [];
-  tasks = [];
-  rings = [];
-  cpu_lines = eight [];
-  tool_lines = four ((
-      tool_line.Open (slot 0) (attr (kind.Hard 0) tasks.All (cpus.One (cpu 0)) 0 0 0 0) None ∷
-      tool_line.Open (slot 1) (attr (kind.Hard 1) tasks.All (cpus.One (cpu 0)) 0 0 0 0) None ∷
-      tool_line.Seats (cpu 0) ∷
-      tool_line.Why (slot 1) ∷
-      []) ∷ []);
-  readers = [];
-  order = by_tool 0 ∷ by_tool 0 ∷ by_tool 0 ∷ by_tool 0 ∷ [];
-}
-
-seated_event_moves_replies : List Reply
-seated_event_moves_replies = reply.Ok ∷ reply.Ok ∷ reply.Seats ((slot 0, 1) ∷ (slot 1, 0) ∷ []) ∷ reply.Why why.On ∷ []
-
-seated_event_moves-answers : Answers seated_event_moves seated_event_moves_replies
-unfolding Computed seated_event_moves seated_event_moves_replies
-seated_event_moves-answers = computed seated_event_moves seated_event_moves_replies (refl, (refl, ((refl, refl), (refl, tt))))
-
-sibling_off : Scripted
-sibling_off = record {
-  cpus = 1;
-  pmus = pmu 3 1 ∷ [];
-  kinds = kind_line (codes "a") 0 1 ∷ kind_line (codes "b") 0 2 ∷ kind_line (codes "c") 0 4 ∷ [];
-  tasks = [];
-  rings = [];
-  cpu_lines = eight ((
-      cpu_line.Work (work 10 mode.User 0 (5 ∷ 6 ∷ 7 ∷ [])) ∷
-      []) ∷ []);
-  tool_lines = four ((
-      tool_line.Open (slot 0) (attr (kind.Hard 0) tasks.All (cpus.One (cpu 0)) 0 0 15 0) None ∷
-      tool_line.Open (slot 1) (attr (kind.Hard 1) tasks.All (cpus.One (cpu 0)) 0 0 3 1) (Some (slot 0)) ∷
-      tool_line.Open (slot 2) (attr (kind.Hard 2) tasks.All (cpus.One (cpu 0)) 0 0 0 0) (Some (slot 0)) ∷
-      tool_line.Read (slot 0) None ∷
-      tool_line.Read (slot 1) None ∷
-      tool_line.Why (slot 1) ∷
-      []) ∷ []);
-  readers = [];
-  order = by_tool 0 ∷ by_tool 0 ∷ by_tool 0 ∷ by_cpu 0 ∷ by_tool 0 ∷ by_tool 0 ∷ by_tool 0 ∷ [];
-}
-
-sibling_off_replies : List Reply
-sibling_off_replies = reply.Ok ∷ reply.Ok ∷ reply.Ok ∷ reply.Ok ∷ reply.Read (3 ∷ 10 ∷ 10 ∷ 5 ∷ 1 ∷ 0 ∷ 2 ∷ 7 ∷ 3 ∷ []) ∷
-    reply.Read (0 ∷ 0 ∷ 0 ∷ []) ∷ reply.Why why.Off ∷ []
-
-sibling_off-answers : Answers sibling_off sibling_off_replies
-unfolding Computed sibling_off sibling_off_replies
-sibling_off-answers = computed sibling_off sibling_off_replies (refl, (refl, (refl, (refl, (refl, (refl, (refl, tt)))))))
-
-smallest_path : Scripted
-smallest_path = record {
-  cpus = 1;
-  pmus = pmu 1 1 ∷ [];
-  kinds = kind_line (codes "cycles") 0 1 ∷ [];
-  tasks = [];
-  rings = [];
-  cpu_lines = eight ((
-      cpu_line.Work (work 100 mode.User 0 (500 ∷ [])) ∷
-      []) ∷ []);
-  tool_lines = four ((
-      tool_line.Open (slot 0) (attr (kind.Hard 0) tasks.All (cpus.One (cpu 0)) 0 0 3 0) None ∷
-      tool_line.Read (slot 0) None ∷
-      []) ∷ []);
-  readers = [];
-  order = by_tool 0 ∷ by_cpu 0 ∷ by_tool 0 ∷ [];
-}
-
-smallest_path_replies : List Reply
-smallest_path_replies = reply.Ok ∷ reply.Ok ∷ reply.Read (500 ∷ 100 ∷ 100 ∷ []) ∷ []
-
-smallest_path-answers : Answers smallest_path smallest_path_replies
-unfolding Computed smallest_path smallest_path_replies
-smallest_path-answers = computed smallest_path smallest_path_replies (refl, (refl, (refl, tt)))
-
-software_kinds : Scripted
-software_kinds = record {
+first_switch_is_no_migration : Scripted
+first_switch_is_no_migration = record {
   cpus = 2;
   pmus = pmu 1 3 ∷ [];
   kinds = [];
@@ -327,56 +241,139 @@ software_kinds = record {
   rings = [];
   cpu_lines = eight ((
       cpu_line.Switch (Some (task 0)) ∷
-      cpu_line.Work (work 10 mode.User 0 []) ∷
-      cpu_line.Switch None ∷
+      cpu_line.Fork (task 1) ∷
+      cpu_line.Switch (Some (task 1)) ∷
       []) ∷ (
-      cpu_line.Switch (Some (task 0)) ∷
-      cpu_line.Work (work 5 mode.Kernel 0 []) ∷
+      cpu_line.Switch (Some (task 1)) ∷
+      cpu_line.Switch None ∷
+      cpu_line.Switch (Some (task 1)) ∷
+      cpu_line.Switch None ∷
       []) ∷ []);
   tool_lines = four ((
-      tool_line.Open (slot 0) (attr kind.ContextSwitches (tasks.One (task 0)) cpus.Any 0 0 0 0) None ∷
-      tool_line.Open (slot 1) (attr kind.CpuMigrations (tasks.One (task 0)) cpus.Any 0 0 0 0) None ∷
-      tool_line.Open (slot 2) (attr kind.TaskClock (tasks.One (task 0)) cpus.Any 0 0 0 0) None ∷
-      tool_line.Open (slot 3) (attr kind.ContextSwitches tasks.All (cpus.One (cpu 0)) 0 0 0 0) None ∷
+      tool_line.Open (slot 0) (attr kind.CpuMigrations (tasks.One (task 0)) cpus.Any 0 0 0 2) None ∷
+      tool_line.Open (slot 1) (attr kind.CpuMigrations tasks.All (cpus.One (cpu 0)) 0 0 0 0) None ∷
+      tool_line.Read (slot 0) None ∷
+      tool_line.Read (slot 0) None ∷
       tool_line.Read (slot 0) None ∷
       tool_line.Read (slot 1) None ∷
-      tool_line.Read (slot 2) None ∷
-      tool_line.Read (slot 3) None ∷
       []) ∷ []);
   readers = [];
-  order = by_tool 0 ∷ by_tool 0 ∷ by_tool 0 ∷ by_tool 0 ∷ by_cpu 0 ∷ by_cpu 0 ∷ by_cpu 0 ∷ by_cpu 1 ∷ by_cpu 1 ∷ by_tool 0 ∷ by_tool 0 ∷ by_tool 0 ∷
+  order = by_tool 0 ∷ by_tool 0 ∷ by_cpu 0 ∷ by_cpu 0 ∷ by_cpu 1 ∷ by_cpu 1 ∷ by_tool 0 ∷ by_cpu 1 ∷ by_cpu 1 ∷ by_tool 0 ∷ by_cpu 0 ∷ by_tool 0 ∷
       by_tool 0 ∷ [];
 }
 
-software_kinds_replies : List Reply
-software_kinds_replies = reply.Ok ∷ reply.Ok ∷ reply.Ok ∷ reply.Ok ∷ reply.Ok ∷ reply.Ok ∷ reply.Ok ∷ reply.Ok ∷ reply.Ok ∷ reply.Read (1 ∷ []) ∷
-    reply.Read (1 ∷ []) ∷ reply.Read (15 ∷ []) ∷ reply.Read (2 ∷ []) ∷ []
+first_switch_is_no_migration_replies : List Reply
+first_switch_is_no_migration_replies = reply.Ok ∷ reply.Ok ∷ reply.Ok ∷ reply.Ok ∷ reply.Ok ∷ reply.Ok ∷ reply.Read (0 ∷ []) ∷ reply.Ok ∷ reply.Ok ∷
+    reply.Read (0 ∷ []) ∷ reply.Ok ∷ reply.Read (1 ∷ []) ∷ reply.Read (1 ∷ []) ∷ []
 
-software_kinds-answers : Answers software_kinds software_kinds_replies
-unfolding Computed software_kinds software_kinds_replies
-software_kinds-answers = computed software_kinds software_kinds_replies (refl, (refl, (refl, (refl, (refl, (refl, (refl, (refl, (refl, (refl, (refl, (refl, (refl, tt)))))))))))))
+first_switch_is_no_migration-answers : Answers first_switch_is_no_migration first_switch_is_no_migration_replies
+unfolding Computed first_switch_is_no_migration first_switch_is_no_migration_replies
+first_switch_is_no_migration-answers = computed first_switch_is_no_migration first_switch_is_no_migration_replies (refl, (refl, (refl, (refl, (refl, (refl, (refl, (refl, (refl, (refl, (refl, (refl, (refl, tt)))))))))))))
 
-switches_refused : Scripted
-switches_refused = record {
-  cpus = 2;
-  pmus = pmu 1 3 ∷ [];
-  kinds = [];
-  tasks = task 1 ∷ [];
+fold_and_reset : Scripted
+fold_and_reset = record {
+  cpus = 1;
+  pmus = pmu 1 1 ∷ [];
+  kinds = kind_line (codes "a") 0 1 ∷ [];
+  tasks = task 0 ∷ [];
   rings = [];
   cpu_lines = eight ((
+      cpu_line.Switch (Some (task 0)) ∷
+      cpu_line.Fork (task 1) ∷
       cpu_line.Switch (Some (task 1)) ∷
-      []) ∷ (
-      cpu_line.Switch (Some (task 1)) ∷
-      cpu_line.Switch (Some (task 5)) ∷
+      cpu_line.Work (work 10 mode.User 0 (70 ∷ [])) ∷
+      cpu_line.Exit ∷
+      cpu_line.Switch (Some (task 0)) ∷
+      cpu_line.Work (work 10 mode.User 0 (30 ∷ [])) ∷
       []) ∷ []);
-  tool_lines = four [];
+  tool_lines = four ((
+      tool_line.Open (slot 0) (attr (kind.Hard 0) (tasks.One (task 0)) cpus.Any 0 0 3 2) None ∷
+      tool_line.Read (slot 0) None ∷
+      tool_line.Reset (slot 0) false ∷
+      tool_line.Read (slot 0) None ∷
+      []) ∷ []);
   readers = [];
-  order = by_cpu 0 ∷ by_cpu 1 ∷ by_cpu 1 ∷ [];
+  order = by_tool 0 ∷ by_cpu 0 ∷ by_cpu 0 ∷ by_cpu 0 ∷ by_cpu 0 ∷ by_cpu 0 ∷ by_cpu 0 ∷ by_cpu 0 ∷ by_tool 0 ∷ by_tool 0 ∷ by_tool 0 ∷ [];
 }
 
-switches_refused_replies : List Reply
-switches_refused_replies = reply.Ok ∷ reply.Refused reason.Busy ∷ reply.Refused reason.NoTask ∷ []
+fold_and_reset_replies : List Reply
+fold_and_reset_replies = reply.Ok ∷ reply.Ok ∷ reply.Ok ∷ reply.Ok ∷ reply.Ok ∷ reply.Ok ∷ reply.Ok ∷ reply.Ok ∷ reply.Read (100 ∷ 20 ∷ 20 ∷ []) ∷
+    reply.Ok ∷ reply.Read (70 ∷ 20 ∷ 20 ∷ []) ∷ []
 
-switches_refused-answers : Answers switches_refused switches_refused_replies
-unfolding Computed switches_refused switches_refused_replies
-switches_refused-answers = computed switches_refused switches_refused_replies (refl, (refl, (refl, tt)))
+fold_and_reset-answers : Answers fold_and_reset fold_and_reset_replies
+unfolding Computed fold_and_reset fold_and_reset_replies
+fold_and_reset-answers = computed fold_and_reset fold_and_reset_replies (refl, (refl, (refl, (refl, (refl, (refl, (refl, (refl, (refl, (refl, (refl, tt)))))))))))
+
+fork_inherits_some : Scripted
+fork_inherits_some = record {
+  cpus = 1;
+  pmus = pmu 2 1 ∷ [];
+  kinds = kind_line (codes "a") 0 3 ∷ [];
+  tasks = task 0 ∷ [];
+  rings = [];
+  cpu_lines = eight ((
+      cpu_line.Switch (Some (task 0)) ∷
+      cpu_line.Work (work 10 mode.User 0 (4 ∷ [])) ∷
+      cpu_line.Fork (task 1) ∷
+      cpu_line.Switch (Some (task 1)) ∷
+      cpu_line.Work (work 20 mode.User 0 (7 ∷ [])) ∷
+      []) ∷ []);
+  tool_lines = four ((
+      tool_line.Open (slot 0) (attr (kind.Hard 0) (tasks.One (task 0)) cpus.Any 0 0 7 2) None ∷
+      tool_line.Open (slot 1) (attr (kind.Hard 0) (tasks.One (task 0)) cpus.Any 0 0 7 0) None ∷
+      tool_line.Read (slot 0) None ∷
+      tool_line.Read (slot 1) None ∷
+      tool_line.Open (slot 2) (attr (kind.Hard 0) (tasks.One (task 1)) cpus.Any 0 0 4 0) None ∷
+      tool_line.Read (slot 2) None ∷
+      []) ∷ []);
+  readers = [];
+  order = by_tool 0 ∷ by_tool 0 ∷ by_cpu 0 ∷ by_cpu 0 ∷ by_cpu 0 ∷ by_cpu 0 ∷ by_cpu 0 ∷ by_tool 0 ∷ by_tool 0 ∷ by_tool 0 ∷ by_tool 0 ∷ [];
+}
+
+fork_inherits_some_replies : List Reply
+fork_inherits_some_replies = reply.Ok ∷ reply.Ok ∷ reply.Ok ∷ reply.Ok ∷ reply.Ok ∷ reply.Ok ∷ reply.Ok ∷ reply.Read (11 ∷ 30 ∷ 30 ∷ 1 ∷ []) ∷
+    reply.Read (4 ∷ 10 ∷ 10 ∷ 2 ∷ []) ∷ reply.Ok ∷ reply.Read (0 ∷ 4 ∷ []) ∷ []
+
+fork_inherits_some-answers : Answers fork_inherits_some fork_inherits_some_replies
+unfolding Computed fork_inherits_some fork_inherits_some_replies
+fork_inherits_some-answers = computed fork_inherits_some fork_inherits_some_replies (refl, (refl, (refl, (refl, (refl, (refl, (refl, (refl, (refl, (refl, (refl, tt)))))))))))
+
+four_passes : Scripted
+four_passes = record {
+  cpus = 1;
+  pmus = pmu 2 1 ∷ [];
+  kinds = kind_line (codes "a") 0 1 ∷ kind_line (codes "b") 0 2 ∷ [];
+  tasks = task 0 ∷ [];
+  rings = [];
+  cpu_lines = eight ((
+      cpu_line.Switch (Some (task 0)) ∷
+      []) ∷ []);
+  tool_lines = four ((
+      tool_line.Open (slot 0) (attr (kind.Hard 0) (tasks.One (task 0)) cpus.Any 0 0 0 4) None ∷
+      tool_line.Why (slot 0) ∷
+      tool_line.Open (slot 1) (attr (kind.Hard 0) tasks.All (cpus.One (cpu 0)) 0 0 0 4) None ∷
+      tool_line.Why (slot 0) ∷
+      tool_line.Why (slot 1) ∷
+      tool_line.Open (slot 2) (attr (kind.Hard 1) (tasks.One (task 0)) cpus.Any 0 0 0 0) None ∷
+      tool_line.Why (slot 2) ∷
+      tool_line.Open (slot 3) (attr (kind.Hard 1) tasks.All (cpus.One (cpu 0)) 0 0 0 0) None ∷
+      tool_line.Why (slot 2) ∷
+      tool_line.Why (slot 3) ∷
+      tool_line.Close (slot 3) ∷
+      tool_line.Open (slot 4) (attr (kind.Hard 0) tasks.All (cpus.One (cpu 0)) 0 0 0 0) None ∷
+      tool_line.Why (slot 4) ∷
+      tool_line.Why (slot 2) ∷
+      []) ∷ []);
+  readers = [];
+  order = by_cpu 0 ∷ by_tool 0 ∷ by_tool 0 ∷ by_tool 0 ∷ by_tool 0 ∷ by_tool 0 ∷ by_tool 0 ∷ by_tool 0 ∷ by_tool 0 ∷ by_tool 0 ∷ by_tool 0 ∷
+      by_tool 0 ∷ by_tool 0 ∷ by_tool 0 ∷ by_tool 0 ∷ [];
+}
+
+four_passes_replies : List Reply
+four_passes_replies = reply.Ok ∷ reply.Ok ∷ reply.Why why.On ∷ reply.Ok ∷ reply.Why (why.Failed (cause.Hall (slots (1 ∷ 0 ∷ [])))) ∷
+    reply.Why why.On ∷ reply.Ok ∷ reply.Why why.On ∷ reply.Ok ∷ reply.Why (why.Refused (cause.Hall (slots (3 ∷ 2 ∷ [])))) ∷ reply.Why why.On ∷
+    reply.Ok ∷ reply.Ok ∷ reply.Why (why.Refused (cause.Hall (slots (1 ∷ 4 ∷ [])))) ∷ reply.Why why.On ∷ []
+
+four_passes-answers : Answers four_passes four_passes_replies
+unfolding Computed four_passes four_passes_replies
+four_passes-answers = computed four_passes four_passes_replies (refl, (refl, (refl, (refl, (refl, (refl, (refl, (refl, (refl, (refl, (refl, (refl, (refl, (refl, (refl, tt)))))))))))))))

@@ -1,0 +1,70 @@
+-- A text that is cut at a byte, and its pieces.
+use Rattle.std.proofs.Common.{◌≡◌, ℕ, suc, ◌<◌, ◌≤◌, Bool, true, false, not, eqb, ltb, List, [], ◌∷◌, length, Option, Some, None, inl, inr, refl, sym, ap, ◌∙◌, Bor, arith, add-one}
+use Rattle.std.specs.List.{prefix_len}
+use Rattle.std.proofs.Math.Numerals.{one-add}
+use Rattle.std.proofs.lemmas.Bool.{cases_Bool, lt-ltb, ltb-true, ltb-false, le-ltb}
+use Rattle.script_spec.specs.Lines.{pieces}
+use Rattle.std.specs.Option.{option_map}
+use Rattle.line_forms.specs.declared.words.Words.{Words}
+use Rattle.line_forms.specs.Words.{cut, left, next_of, end_of}
+
+-- the pieces of what stands behind a cut
+abbrev pub pieces_behind : ℕ → Option (List ℕ) → List (List ℕ)
+pieces_behind c None = []
+pieces_behind c (Some rest) = pieces c rest
+
+abbrev differs : ℕ → ℕ → Bool
+differs c b = not (eqb b c)
+
+pub cut_here : (c b : ℕ) (bs : List ℕ) → eqb b c ≡ true → cut c (b ∷ bs) ≡ ([], Some bs)
+unfolding cut
+cut_here c b bs t =
+    let n : prefix_len (differs c) (b ∷ bs) ≡ 0 = rw t refl in
+    let u : ltb 0 (length (b ∷ bs)) ≡ true = lt-ltb _ _ (omega arith) in
+    rw (n, u) refl
+
+pub cut_nothing : (c : ℕ) → cut c [] ≡ ([], None)
+unfolding cut
+cut_nothing c = refl
+
+pub cut_later : (c b : ℕ) (bs : List ℕ) → eqb b c ≡ false → cut c (b ∷ bs) ≡ (b ∷ (cut c bs).0, (cut c bs).1)
+unfolding cut
+cut_later c b bs f =
+    let n : prefix_len (differs c) (b ∷ bs) ≡ suc (prefix_len (differs c) bs) = rw f (one-add (prefix_len (differs c) bs)) in
+    elim (cases_Bool (ltb (prefix_len (differs c) bs) (length bs))) [
+      | inl t ↦
+          let l : prefix_len (differs c) bs < length bs = ltb-true _ _ t in
+          let u : ltb (suc (prefix_len (differs c) bs)) (length (b ∷ bs)) ≡ true = lt-ltb _ _ (omega arith) in
+          rw (n, t, u, add-one, add-one) refl
+      | inr g ↦
+          let l : length bs ≤ prefix_len (differs c) bs = ltb-false _ _ g in
+          let u : ltb (suc (prefix_len (differs c) bs)) (length (b ∷ bs)) ≡ false = le-ltb _ _ (omega arith) in
+          rw (n, g, u) refl
+    ]
+
+-- a text's first piece ends where it is cut
+pub pieces_cut : (c : ℕ) (text : List ℕ) → pieces c text ≡ (cut c text).0 ∷ pieces_behind c (cut c text).1
+unfolding pieces
+pieces_cut c [] = rw (cut_nothing c) refl
+pieces_cut c (b ∷ bs) = elim (cases_Bool (eqb b c)) [
+  | inl t ↦ rw (cut_here c b bs t, t) refl
+  | inr f ↦ rw (cut_later c b bs f, f, pieces_cut c bs) refl
+]
+
+-- what a cursor has left
+behind_is : (rest : Option (Bor (List ℕ))) (by : ℕ) → left (record { rest = rest; by = by }) ≡ pieces_behind by (option_map (λ t. t.now) rest)
+behind_is None by = refl
+behind_is (Some text) by = refl
+
+left_is : (w : Words) (text : Bor (List ℕ)) → w.rest ≡ Some text → left w ≡ pieces w.by text.now
+left_is w text e = rw e refl
+
+pub next_is : (w : Words) (text : Bor (List ℕ)) (word : List ℕ) (rest : Option (Bor (List ℕ))) → w.rest ≡ Some text → (word, option_map (λ t. t.now) rest) ≡ cut w.by text.now
+    → Some (word, left (record { rest = rest; by = w.by })) ≡ next_of (left w)
+next_is w text word rest e c =
+    let parts : left w ≡ (cut w.by text.now).0 ∷ pieces_behind w.by (cut w.by text.now).1 = left_is w text e ∙ pieces_cut w.by text.now in
+    let same : left w ≡ word ∷ left (record { rest = rest; by = w.by }) = parts ∙ (ap (λ (x : List ℕ × Option (List ℕ)). x.0 ∷ pieces_behind w.by x.1) (sym c) ∙ ap (λ (ws : List (List ℕ)). word ∷ ws) (sym (behind_is rest w.by))) in
+    ap next_of (sym same)
+
+pub end_is : (w : Words) (text : Bor (List ℕ)) → w.rest ≡ Some text → None ≡ end_of (left w)
+end_is w text e = ap end_of (sym (left_is w text e ∙ pieces_cut w.by text.now))

@@ -1,0 +1,12 @@
+pub mod Cuts
+pub mod Given
+pub mod Grammar
+pub mod Laws
+pub mod Loops
+pub mod Numbers
+pub mod Optionals
+pub mod Sequences
+pub mod Singles
+pub mod Spelling
+pub mod Steps
+pub mod Tools

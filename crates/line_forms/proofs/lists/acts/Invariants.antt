@@ -1,0 +1,12 @@
+use Rattle.std.proofs.Common.{◌≡◌, length, map}
+use Rattle.line_forms.specs.Words.{left}
+use Rattle.line_forms.specs.Bodies.{each_word, act_in}
+use Rattle.line_forms.specs.Seen.{act_of}
+use Rattle.line_forms.proofs.Loops.{with_front}
+use Rattle.line_forms.proofs.lists.acts.Given as goal
+
+abbrev pub invariant-loop-word : goal.invariant-loop-word
+invariant-loop-word l = with_front (map act_of l.acts.items) (each_word act_in (left l.rest)) ≡ each_word act_in (left l.words)
+
+abbrev pub decreases-loop-word : goal.decreases-loop-word
+decreases-loop-word l = length (left l.rest)

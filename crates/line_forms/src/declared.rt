@@ -1,0 +1,139 @@
+//! The forms that declare something, behind their first word.
+
+ghost use Rattle.std.specs.Prelude.{◌≡◌};
+ghost use Rattle.std.specs.Option.{option_map};
+ghost use Rattle.script_spec.specs.Forms as text;
+ghost use Rattle.line_forms.specs.Words.{left};
+ghost use Rattle.line_forms.specs.Bodies as says;
+ghost use Rattle.line_forms.specs.Seen.{form_of, version_of};
+
+use crate::forms::{Form, Version};
+use crate::leaves::{decimal_at, hexadecimal_at, name_at, same};
+use crate::words::Words;
+
+/// One number, and no word behind it.
+#[tactic(auto, unfolding(crate::specs::Bodies::one_number))]
+pub fn one_number(words: Words<'_>) -> Option<u128>
+    ensures { result ≡ says.one_number (left words.entry) }
+{
+    let (n, words) = decimal_at(words, b"")?;
+    words.end()?;
+    Some(n)
+}
+
+/// Two numbers, and no word behind them.
+#[tactic(auto, unfolding(crate::specs::Bodies::two_numbers))]
+pub fn two_numbers(words: Words<'_>) -> Option<(u128, u128)>
+    ensures { result ≡ says.two_numbers (left words.entry) }
+{
+    let (n, words) = decimal_at(words, b"")?;
+    let (m, words) = decimal_at(words, b"")?;
+    words.end()?;
+    Some((n, m))
+}
+
+fn version_text(version: Version) -> &'static [u8]
+    ensures { result.now ≡ text.version_text (version_of version) }
+{
+    match version {
+        Version::One => b"1",
+        Version::Two => b"2",
+    }
+}
+
+#[tactic(auto, unfolding(crate::specs::Bodies::perf_at))]
+pub fn perf(version: Version, words: Words<'_>) -> Option<Form>
+    ensures { option_map form_of result ≡ says.perf_at (version_of version) (left words.entry) }
+{
+    let (word, words) = words.next()?;
+    words.end()?;
+    if same(word, version_text(version)) {
+        Some(Form::Perf(version))
+    } else {
+        None
+    }
+}
+
+#[tactic(auto, unfolding(crate::specs::Bodies::machine_at))]
+pub fn machine(words: Words<'_>) -> Option<Form>
+    ensures { option_map form_of result ≡ says.machine_at (left words.entry) }
+{
+    let (cpus, words) = decimal_at(words, b"cpus=")?;
+    let (counters, words) = decimal_at(words, b"counters=")?;
+    words.end()?;
+    Some(Form::Machine { cpus, counters })
+}
+
+#[tactic(auto, unfolding(crate::specs::Bodies::machine_of_pmus_at))]
+pub fn machine_of_pmus(words: Words<'_>) -> Option<Form>
+    ensures { option_map form_of result ≡ says.machine_of_pmus_at (left words.entry) }
+{
+    let (cpus, words) = decimal_at(words, b"cpus=")?;
+    words.end()?;
+    Some(Form::MachineOfPmus { cpus })
+}
+
+#[tactic(auto, unfolding(crate::specs::Bodies::pmu_at))]
+pub fn pmu(words: Words<'_>) -> Option<Form>
+    ensures { option_map form_of result ≡ says.pmu_at (left words.entry) }
+{
+    let (number, words) = decimal_at(words, b"")?;
+    let (counters, words) = decimal_at(words, b"counters=")?;
+    let (cpus, words) = hexadecimal_at(words, b"cpus=")?;
+    words.end()?;
+    Some(Form::Pmu {
+        number,
+        counters,
+        cpus,
+    })
+}
+
+#[tactic(auto, unfolding(crate::specs::Bodies::kind_at))]
+pub fn kind(words: Words<'_>) -> Option<Form>
+    ensures { option_map form_of result ≡ says.kind_at (left words.entry) }
+{
+    match name_at(words, b"") {
+        None => None,
+        Some((name, words)) => {
+            let (mask, words) = hexadecimal_at(words, b"mask=")?;
+            words.end()?;
+            Some(Form::Kind { name, mask })
+        }
+    }
+}
+
+#[tactic(auto, unfolding(crate::specs::Bodies::kind_of_pmu_at))]
+pub fn kind_of_pmu(words: Words<'_>) -> Option<Form>
+    ensures { option_map form_of result ≡ says.kind_of_pmu_at (left words.entry) }
+{
+    match name_at(words, b"") {
+        None => None,
+        Some((name, words)) => {
+            let (pmu, words) = decimal_at(words, b"pmu=")?;
+            let (mask, words) = hexadecimal_at(words, b"mask=")?;
+            words.end()?;
+            Some(Form::KindOfPmu { name, pmu, mask })
+        }
+    }
+}
+
+#[tactic(auto, unfolding(crate::specs::Bodies::ring_at))]
+pub fn ring(words: Words<'_>) -> Option<Form>
+    ensures { option_map form_of result ≡ says.ring_at (left words.entry) }
+{
+    let (number, words) = decimal_at(words, b"")?;
+    let (bytes, words) = decimal_at(words, b"bytes=")?;
+    words.end()?;
+    Some(Form::Ring { number, bytes })
+}
+
+#[tactic(auto, unfolding(crate::specs::Bodies::reader_at))]
+pub fn reader(words: Words<'_>) -> Option<Form>
+    ensures { option_map form_of result ≡ says.reader_at (left words.entry) }
+{
+    let (ring, words) = decimal_at(words, b"")?;
+    let (tries, words) = decimal_at(words, b"tries=")?;
+    let (batch, words) = decimal_at(words, b"batch=")?;
+    words.end()?;
+    Some(Form::Reader { ring, tries, batch })
+}

@@ -1,0 +1,162 @@
+//! The forms of a line, with their numbers as they are spelled.
+
+use perf_base::{Mode, Name};
+
+/// The version of a text: one PMU on all processors, or PMUs of their own.
+#[derive(Clone, Copy, PartialEq, Eq, Debug)]
+pub enum Version {
+    One,
+    Two,
+}
+
+/// A kind and how often it occurs, as a work line says it.
+#[derive(Clone, Copy)]
+pub struct Hit {
+    pub name: Name,
+    pub times: u128,
+}
+
+/// A stretch of work. A missing ip is none.
+#[derive(Drop)]
+pub struct Working {
+    pub length: u128,
+    pub mode: Mode,
+    pub ip: Option<u128>,
+    pub hits: Vec<Hit>,
+}
+
+/// The forms under a processor. A switch to no task leaves it idle.
+#[derive(Drop)]
+pub enum CpuForm {
+    Switch(Option<u128>),
+    Work(Working),
+    Tick,
+    Fork(u128),
+    Exit,
+}
+
+/// Where an event is opened: for all tasks, or on any processor, where none is named.
+#[derive(Clone, Copy)]
+pub struct Opening {
+    pub slot: u128,
+    pub task: Option<u128>,
+    pub cpu: Option<u128>,
+    pub leader: Option<u128>,
+}
+
+/// What is asked of an event. Flags are the bits of `AttrFlags`.
+#[derive(Clone, Copy)]
+pub struct Asked {
+    pub period: Option<u128>,
+    pub sample: Option<u128>,
+    pub format: Option<u128>,
+    pub flags: Option<u128>,
+}
+
+/// The forms under a tool. An event is opened by a kind's name or by the bytes of a perf_event_attr.
+#[derive(Drop)]
+pub enum ToolForm {
+    OpenKind {
+        place: Opening,
+        name: Name,
+        asked: Asked,
+    },
+    OpenAttr {
+        place: Opening,
+        bytes: Vec<u8>,
+    },
+    Enable {
+        slot: u128,
+        group: bool,
+    },
+    Disable {
+        slot: u128,
+        group: bool,
+    },
+    Reset {
+        slot: u128,
+        group: bool,
+    },
+    Period {
+        slot: u128,
+        period: u128,
+    },
+    Read {
+        slot: u128,
+        size: Option<u128>,
+    },
+    Map {
+        slot: u128,
+        ring: u128,
+    },
+    Output {
+        slot: u128,
+        target: u128,
+    },
+    Close {
+        slot: u128,
+    },
+    Why {
+        slot: u128,
+    },
+    Seats {
+        cpu: u128,
+    },
+}
+
+/// An act of an order.
+#[derive(Clone, Copy, PartialEq, Eq, Debug)]
+pub enum SpelledAct {
+    Processor(u128),
+    Tool(u128),
+    Seen(u128, u128),
+}
+
+/// The forms of a line.
+#[derive(Drop)]
+pub enum Form {
+    Perf(Version),
+    Machine {
+        cpus: u128,
+        counters: u128,
+    },
+    MachineOfPmus {
+        cpus: u128,
+    },
+    Pmu {
+        number: u128,
+        counters: u128,
+        cpus: u128,
+    },
+    Kind {
+        name: Name,
+        mask: u128,
+    },
+    KindOfPmu {
+        name: Name,
+        pmu: u128,
+        mask: u128,
+    },
+    Task {
+        number: u128,
+    },
+    Ring {
+        number: u128,
+        bytes: u128,
+    },
+    Processor {
+        number: u128,
+    },
+    OnProcessor(CpuForm),
+    Tool {
+        number: u128,
+    },
+    OnTool(ToolForm),
+    Reader {
+        ring: u128,
+        tries: u128,
+        batch: u128,
+    },
+    Order(Vec<SpelledAct>),
+    End,
+}

@@ -1,0 +1,301 @@
+//! Numbers, names and other single words.
+
+ghost use Rattle.std.specs.Prelude.{◌≡◌, ℕ, ◌≤◌, ◌+◌, nat_lt, length};
+ghost use Rattle.std.specs.List.{list_all};
+ghost use Rattle.std.specs.Option.{option_map};
+ghost use Rattle.std.specs.Str.{bytes_eq};
+ghost use Rattle.line_forms.specs.Words.{left};
+ghost use Rattle.line_forms.specs.Leaves as says;
+ghost use Rattle.line_forms.specs.Leaves.{digit_of, value_after};
+
+use crate::words::{Words, skip};
+use perf_base::Name;
+
+/// The radix of decimal and of hexadecimal numbers, and how many digits they may have.
+const DECIMAL: u8 = 10;
+
+const MOST_DECIMAL: usize = 20;
+
+const HEXADECIMAL: u8 = 16;
+
+const MOST_HEXADECIMAL: usize = 16;
+
+/// Whether two texts are the same.
+pub fn same(left: &[u8], right: &[u8]) -> bool
+    ensures { result ≡ bytes_eq left.now right.now }
+{
+    left == right
+}
+
+/// The value of a digit, in small letters, and 16 where it is none.
+pub fn digit(byte: u8) -> u8
+    ensures value { result ≡ digit_of byte }
+    ensures most { result ≤ 16 }
+{
+    match byte {
+        48..=57 => byte - 48,
+        97..=102 => byte - 87,
+        _ => 16,
+    }
+}
+
+fn are_digits(text: &[u8], radix: u8) -> bool
+    ensures { result ≡ list_all (λ b. nat_lt (digit_of b) radix) text.now }
+{
+    text.iter().all(|byte| digit(*byte) < radix)
+}
+
+/// The value of at most 20 digits of a radix of at most 16.
+fn value(text: &[u8], radix: u8) -> u128
+    requires radix { radix ≤ 16 }
+    requires few { length text.now ≤ 20 }
+    ensures { result ≡ value_after radix 0 text.now }
+{
+    let mut value: u128 = 0;
+    for byte in text {
+        value = value * u128::from(radix) + u128::from(digit(*byte));
+    }
+    value
+}
+
+fn is_number(text: &[u8], radix: u8, most: usize) -> bool
+    ensures { result ≡ says.is_number radix most text.now }
+{
+    !text.is_empty()
+        && text.len() <= most
+        && (text[0] != 48 || text.len() == 1)
+        && are_digits(text, radix)
+}
+
+/// A number of at most so many digits, without a zero too many in front.
+#[tactic(auto, unfolding(crate::specs::Leaves::number))]
+pub fn number(text: &[u8], radix: u8, most: usize) -> Option<u128>
+    requires radix { radix ≤ 16 }
+    requires most { most ≤ 20 }
+    ensures { result ≡ says.number radix most text.now }
+{
+    if is_number(text, radix, most) {
+        Some(value(text, radix))
+    } else {
+        None
+    }
+}
+
+/// A decimal number.
+pub fn decimal(text: &[u8]) -> Option<u128>
+    ensures { result ≡ says.number 10 20 text.now }
+{
+    number(text, DECIMAL, MOST_DECIMAL)
+}
+
+fn is_letter(byte: u8) -> bool
+    ensures { result ≡ says.is_letter byte }
+{
+    97 <= byte && byte <= 122
+}
+
+fn is_name_byte(byte: u8) -> bool
+    ensures { result ≡ says.is_name_byte byte }
+{
+    is_letter(byte) || (48 <= byte && byte <= 57) || byte == 45
+}
+
+fn are_name_bytes(text: &[u8]) -> bool
+    ensures { result ≡ list_all says.is_name_byte text.now }
+{
+    text.iter().all(|byte| is_name_byte(*byte))
+}
+
+fn is_name(text: &[u8]) -> bool
+    ensures { result ≡ says.is_name text.now }
+{
+    match text {
+        [] => false,
+        [first, rest @ ..] => is_letter(*first) && rest.len() <= 30 && are_name_bytes(rest),
+    }
+}
+
+/// A text of at most 31 bytes as a name.
+fn to_name(text: &[u8]) -> Name
+    requires { length text.now ≤ 31 }
+    ensures { result ≡ text.now }
+{
+    let mut name = Name::new();
+    for byte in text {
+        name.push(*byte);
+    }
+    name
+}
+
+/// A name: 1 to 31 small letters, digits and dashes, the first a letter.
+#[tactic(auto, unfolding(crate::specs::Leaves::name))]
+pub fn name(text: &[u8]) -> Option<Name>
+    ensures { result ≡ says.name text.now }
+{
+    if is_name(text) {
+        Some(to_name(text))
+    } else {
+        None
+    }
+}
+
+#[tactic(auto, unfolding(crate::specs::Leaves::number_at))]
+fn number_at<'a>(words: Words<'a>, key: &[u8], radix: u8, most: usize) -> Option<(u128, Words<'a>)>
+    requires radix { radix ≤ 16 }
+    requires most { most ≤ 20 }
+    ensures { option_map (λ x. (x.0, left x.1)) result ≡ says.number_at key.now radix most (left words.entry) }
+{
+    let (word, words) = words.next()?;
+    let text = skip(word, key)?;
+    let n = number(text, radix, most)?;
+    Some((n, words))
+}
+
+/// A decimal number behind a literal in the next word.
+pub fn decimal_at<'a>(words: Words<'a>, key: &[u8]) -> Option<(u128, Words<'a>)>
+    ensures { option_map (λ x. (x.0, left x.1)) result ≡ says.decimal_at key.now (left words.entry) }
+{
+    number_at(words, key, DECIMAL, MOST_DECIMAL)
+}
+
+/// A hexadecimal number behind a literal in the next word.
+pub fn hexadecimal_at<'a>(words: Words<'a>, key: &[u8]) -> Option<(u128, Words<'a>)>
+    ensures { option_map (λ x. (x.0, left x.1)) result ≡ says.hexadecimal_at key.now (left words.entry) }
+{
+    number_at(words, key, HEXADECIMAL, MOST_HEXADECIMAL)
+}
+
+/// A name behind a literal in the next word.
+#[tactic(auto, unfolding(crate::specs::Leaves::name_at))]
+pub fn name_at<'a>(words: Words<'a>, key: &[u8]) -> Option<(Name, Words<'a>)>
+    ensures { option_map (λ x. (x.0, left x.1)) result ≡ says.name_at key.now (left words.entry) }
+{
+    let (word, words) = words.next()?;
+    let text = skip(word, key)?;
+    let n = name(text)?;
+    Some((n, words))
+}
+
+/// A decimal number, or another word in its place.
+fn other_or(text: &[u8], other: &[u8]) -> Option<Option<u128>>
+    ensures { result ≡ says.other_or (bytes_eq text.now other.now) (says.number 10 20 text.now) }
+{
+    if same(text, other) {
+        return Some(None);
+    }
+    match decimal(text) {
+        Some(n) => Some(Some(n)),
+        None => None,
+    }
+}
+
+/// A decimal number behind a literal in the next word, or another text in its place.
+#[tactic(auto, unfolding(crate::specs::Leaves::decimal_or))]
+pub fn decimal_or<'a>(
+    words: Words<'a>,
+    key: &[u8],
+    other: &[u8],
+) -> Option<(Option<u128>, Words<'a>)>
+    ensures { option_map (λ x. (x.0, left x.1)) result ≡ says.decimal_or key.now other.now (left words.entry) }
+{
+    let (word, words) = words.next()?;
+    let text = skip(word, key)?;
+    let n = other_or(text, other)?;
+    Some((n, words))
+}
+
+#[tactic(auto, unfolding(crate::specs::Leaves::number_if))]
+fn number_if<'a>(words: Words<'a>, key: &[u8], radix: u8, most: usize) -> (Option<u128>, Words<'a>)
+    requires radix { radix ≤ 16 }
+    requires most { most ≤ 20 }
+    ensures { (result.0, left result.1) ≡ says.number_if key.now radix most (left words.entry) }
+{
+    match number_at(words, key, radix, most) {
+        Some((n, rest)) => (Some(n), rest),
+        None => (None, words),
+    }
+}
+
+/// A decimal number behind a literal, where it is in the next word.
+pub fn decimal_if<'a>(words: Words<'a>, key: &[u8]) -> (Option<u128>, Words<'a>)
+    ensures { (result.0, left result.1) ≡ says.number_if key.now 10 20 (left words.entry) }
+{
+    number_if(words, key, DECIMAL, MOST_DECIMAL)
+}
+
+/// A hexadecimal number behind a literal, where it is in the next word.
+pub fn hexadecimal_if<'a>(words: Words<'a>, key: &[u8]) -> (Option<u128>, Words<'a>)
+    ensures { (result.0, left result.1) ≡ says.number_if key.now 16 16 (left words.entry) }
+{
+    number_if(words, key, HEXADECIMAL, MOST_HEXADECIMAL)
+}
+
+/// Whether the next word is this one, and the words behind it.
+#[tactic(auto, unfolding(crate::specs::Leaves::word_if))]
+pub fn word_if<'a>(words: Words<'a>, word: &[u8]) -> (bool, Words<'a>)
+    ensures { (result.0, left result.1) ≡ says.word_if word.now (left words.entry) }
+{
+    match words.next() {
+        None => (false, words),
+        Some((next, rest)) => {
+            if same(next, word) {
+                (true, rest)
+            } else {
+                (false, words)
+            }
+        }
+    }
+}
+
+fn bit(set: bool) -> u128
+    ensures value { result ≡ says.bit set }
+    ensures most { result ≤ 1 }
+{
+    u128::from(set)
+}
+
+/// Flags in their order, parted by commas.
+#[tactic(auto, unfolding(crate::specs::Leaves::flags))]
+fn flags(text: &[u8]) -> Option<u128>
+    ensures { result ≡ says.flags text.now }
+{
+    let words = Words::of(text, b',');
+    let (disabled, words) = word_if(words, b"disabled");
+    let (inherit, words) = word_if(words, b"inherit");
+    let (pinned, words) = word_if(words, b"pinned");
+    let (exclusive, words) = word_if(words, b"exclusive");
+    let (exclude_user, words) = word_if(words, b"exclude_user");
+    let (exclude_kernel, words) = word_if(words, b"exclude_kernel");
+    let (sample_id_all, words) = word_if(words, b"sample_id_all");
+    words.end()?;
+    Some(
+        bit(disabled)
+            + 2 * bit(inherit)
+            + 4 * bit(pinned)
+            + 8 * bit(exclusive)
+            + 16 * bit(exclude_user)
+            + 32 * bit(exclude_kernel)
+            + 64 * bit(sample_id_all),
+    )
+}
+
+#[tactic(auto, unfolding(crate::specs::Leaves::flags_at))]
+fn flags_at(words: Words<'_>) -> Option<(u128, Words<'_>)>
+    ensures { option_map (λ x. (x.0, left x.1)) result ≡ says.flags_at (left words.entry) }
+{
+    let (word, words) = words.next()?;
+    let text = skip(word, b"flags=")?;
+    let n = flags(text)?;
+    Some((n, words))
+}
+
+/// Flags, where they are in the next word.
+#[tactic(auto, unfolding(crate::specs::Leaves::flags_if))]
+pub fn flags_if(words: Words<'_>) -> (Option<u128>, Words<'_>)
+    ensures { (result.0, left result.1) ≡ says.flags_if (left words.entry) }
+{
+    match flags_at(words) {
+        Some((n, rest)) => (Some(n), rest),
+        None => (None, words),
+    }
+}

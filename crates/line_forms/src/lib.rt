@@ -1,0 +1,20 @@
+// The form of a line of a script. Contracts see a line as its words, and a form as what the definitions of the
+// language call so, with numbers of any size that can be spelled. It serves the reader of scripts.
+#![tactic(auto)]
+
+mod declared;
+mod forms;
+mod keyword;
+mod leaves;
+mod lists;
+mod reading;
+mod stop;
+#[cfg(test)]
+mod tests;
+mod under;
+mod words;
+
+pub use forms::{Asked, CpuForm, Form, Hit, Opening, SpelledAct, ToolForm, Version, Working};
+pub use reading::read_form;
+pub use stop::LineStop;
+pub use words::cut;

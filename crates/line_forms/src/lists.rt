@@ -1,0 +1,174 @@
+//! Words that hold lists: occurrences, acts, and bytes.
+
+ghost use Rattle.std.specs.Prelude.{◌≡◌, ℕ, ◌≤◌, ◌+◌, map, length, nat_lt, Some, None, Result, Ok, Err};
+ghost use Rattle.std.specs.List.{list_all};
+ghost use Rattle.std.specs.Option.{option_map};
+ghost use Rattle.line_forms.specs.Words.{left};
+ghost use Rattle.line_forms.specs.Leaves.{digit_of};
+ghost use Rattle.line_forms.specs.Bodies as says;
+ghost use Rattle.line_forms.specs.Bodies.{each_word, hit_in, act_in};
+ghost use Rattle.line_forms.specs.Stops.{Gives};
+ghost use Rattle.line_forms.specs.Seen.{act_of, hit_of};
+
+use crate::forms::{Hit, SpelledAct};
+use crate::leaves::{decimal, digit, name};
+use crate::stop::LineStop;
+use crate::words::{Words, cut};
+use std::alloc::Global;
+
+/// How often a kind occurs: its name and a number, an equals sign between them.
+#[tactic(auto, unfolding(crate::specs::Bodies::hit_in))]
+fn hit(word: &[u8]) -> Option<Hit>
+    ensures { option_map hit_of result ≡ hit_in word.now }
+{
+    let (front, back) = cut(word, b'=');
+    let text = back?;
+    match name(front) {
+        None => None,
+        Some(name) => {
+            let times = decimal(text)?;
+            Some(Hit { name, times })
+        }
+    }
+}
+
+fn hit_there(word: &[u8]) -> Result<Hit, LineStop>
+    ensures { Gives hit_of result (hit_in word.now) }
+{
+    match hit(word) {
+        Some(hit) => Ok(hit),
+        None => Err(LineStop::NoForm),
+    }
+}
+
+/// The occurrences that the words say.
+pub fn hits(alloc: Global, words: Words<'_>) -> Result<Vec<Hit>, LineStop>
+    ensures { Gives (λ v. map hit_of v.items) result (each_word hit_in (left words.entry)) }
+{
+    let mut hits = Vec::new(alloc);
+    let mut rest = words;
+    while let Some((word, more)) = rest.next() {
+        let hit = hit_there(word)?;
+        hits.push(hit)?;
+        rest = more;
+    }
+    Ok(hits)
+}
+
+/// A tail that was seen, behind its letter.
+#[tactic(auto, unfolding(crate::specs::Bodies::seen_in))]
+fn seen(text: &[u8]) -> Option<SpelledAct>
+    ensures { option_map act_of result ≡ says.seen_in text.now }
+{
+    let (front, back) = cut(text, b'=');
+    let back = back?;
+    let ring = decimal(front)?;
+    let place = decimal(back)?;
+    Some(SpelledAct::Seen(ring, place))
+}
+
+fn processor(text: &[u8]) -> Option<SpelledAct>
+    ensures { option_map act_of result ≡ says.processor_in text.now }
+{
+    match decimal(text) {
+        Some(n) => Some(SpelledAct::Processor(n)),
+        None => None,
+    }
+}
+
+fn tool(text: &[u8]) -> Option<SpelledAct>
+    ensures { option_map act_of result ≡ says.tool_in text.now }
+{
+    match decimal(text) {
+        Some(n) => Some(SpelledAct::Tool(n)),
+        None => None,
+    }
+}
+
+/// An act: a letter, and its numbers.
+#[tactic(auto, unfolding(crate::specs::Bodies::act_in))]
+fn act(word: &[u8]) -> Option<SpelledAct>
+    ensures { option_map act_of result ≡ act_in word.now }
+{
+    match word {
+        [] => None,
+        [letter, text @ ..] => {
+            if *letter == b'p' {
+                processor(text)
+            } else if *letter == b't' {
+                tool(text)
+            } else if *letter == b's' {
+                seen(text)
+            } else {
+                None
+            }
+        }
+    }
+}
+
+fn act_there(word: &[u8]) -> Result<SpelledAct, LineStop>
+    ensures { Gives act_of result (act_in word.now) }
+{
+    match act(word) {
+        Some(act) => Ok(act),
+        None => Err(LineStop::NoForm),
+    }
+}
+
+/// The acts that the words say.
+pub fn acts(alloc: Global, words: Words<'_>) -> Result<Vec<SpelledAct>, LineStop>
+    ensures { Gives (λ v. map act_of v.items) result (each_word act_in (left words.entry)) }
+{
+    let mut acts = Vec::new(alloc);
+    let mut rest = words;
+    while let Some((word, more)) = rest.next() {
+        let act = act_there(word)?;
+        acts.push(act)?;
+        rest = more;
+    }
+    Ok(acts)
+}
+
+fn are_hexadecimal(text: &[u8]) -> bool
+    ensures { result ≡ list_all (λ b. nat_lt (digit_of b) 16) text.now }
+{
+    text.iter().all(|byte| digit(*byte) < 16)
+}
+
+fn is_bytes(text: &[u8]) -> bool
+    ensures { result ≡ says.is_bytes text.now }
+{
+    !text.is_empty() && text.len() <= 8192 && text.len() % 2 == 0 && are_hexadecimal(text)
+}
+
+/// The byte of two digits.
+fn pair(high: u8, low: u8) -> u8
+    ensures { result ≡ says.pair_of high low }
+{
+    digit(high).wrapping_mul(16).wrapping_add(digit(low))
+}
+
+/// The bytes of pairs of digits.
+fn pairs(alloc: Global, text: &[u8]) -> Result<Vec<u8>, LineStop>
+    ensures { Gives (λ v. v.items) result (Some (says.pairs_in text.now)) }
+{
+    let mut bytes = Vec::new(alloc);
+    let mut rest = text;
+    while let [high, low, more @ ..] = rest {
+        bytes.push(pair(*high, *low))?;
+        rest = more;
+    }
+    Ok(bytes)
+}
+
+/// The bytes that a text says, two hexadecimal digits each.
+#[tactic(auto, unfolding(crate::specs::Bodies::bytes_in))]
+pub fn bytes(alloc: Global, text: &[u8]) -> Result<Vec<u8>, LineStop>
+    ensures { Gives (λ v. v.items) result (says.bytes_in text.now) }
+{
+    if is_bytes(text) {
+        pairs(alloc, text)
+    } else {
+        Err(LineStop::NoForm)
+    }
+}

@@ -1,0 +1,98 @@
+//! Lines that are of a form, and lines that are of none.
+
+use crate::{Form, LineStop, Version, read_form};
+use std::alloc::Global;
+use std::test::Fail;
+
+/// Whether a line is of some form.
+fn is_form(alloc: Global, version: Version, line: &[u8]) -> Result<bool, LineStop> {
+    match read_form(alloc, version, line) {
+        Ok(_) => Ok(true),
+        Err(LineStop::NoForm) => Ok(false),
+        Err(LineStop::Memory) => Err(LineStop::Memory),
+    }
+}
+
+#[test]
+fn lines_of_the_first_version(rt: HostRuntime) -> Result<(), Fail> {
+    let table: [(&[u8], bool); 34] = [
+        (b"perf 1", true),
+        (b"perf 2", false),
+        (b"machine cpus=1 counters=1", true),
+        (b"machine cpus=1", false),
+        (b"machine cpus=01 counters=1", false),
+        (b"machine cpus=99999999999999999999 counters=1", true),
+        (b"machine cpus=100000000000000000000 counters=1", false),
+        (b"kind a-9 mask=ff", true),
+        (b"kind 9a mask=ff", false),
+        (b"kind a mask=FF", false),
+        (b"switch idle", true),
+        (b"switch 5", true),
+        (b"switch", false),
+        (b"tick", true),
+        (b"tick ", false),
+        (b" tick", false),
+        (b"work 1 user", true),
+        (b"work 1 kernel ip=ab a=1 b=2", true),
+        (b"work 1 user a=1 ip=5", true),
+        (b"work 1 user a=1 ip=ab", false),
+        (b"work 1 user ip=12345678901234567", true),
+        (b"work 1 user ip=1234567890123456a", false),
+        (b"work 1  user", false),
+        (b"open 0 kind=a task=all cpu=any", true),
+        (
+            b"open 0 kind=a task=1 cpu=2 leader=0 period=5 sample=ff format=3 flags=inherit,pinned",
+            true,
+        ),
+        (b"open 0 kind=a task=1 cpu=2 period=5 leader=0", false),
+        (b"open 0 kind=a task=1 cpu=2 flags=pinned,inherit", false),
+        (b"open 0 kind=a task=1 cpu=2 flags=", false),
+        (b"open 0 attr=00ff task=all cpu=0", true),
+        (b"open 0 attr=0 task=all cpu=0", false),
+        (b"open 0 attr=00 task=all cpu=0 period=1", false),
+        (b"order", true),
+        (b"order p0 t3 s15=18446744073709551616", true),
+        (b"order p0 t", false),
+    ];
+    for (line, expected) in table {
+        assert_eq!(rt;
+            is_form(rt.alloc(), Version::One, line),
+            Ok(expected),
+            "{line:?}"
+        );
+    }
+    Ok(())
+}
+
+#[test]
+fn lines_of_the_second_version(rt: HostRuntime) -> Result<(), Fail> {
+    let table: [(&[u8], bool); 7] = [
+        (b"perf 2", true),
+        (b"perf 1", false),
+        (b"machine cpus=1", true),
+        (b"machine cpus=1 counters=1", false),
+        (b"pmu 0 counters=1 cpus=f", true),
+        (b"kind a pmu=0 mask=1", true),
+        (b"kind a mask=1", false),
+    ];
+    for (line, expected) in table {
+        assert_eq!(rt;
+            is_form(rt.alloc(), Version::Two, line),
+            Ok(expected),
+            "{line:?}"
+        );
+    }
+    Ok(())
+}
+
+#[test]
+fn numbers_and_names_are_read(rt: HostRuntime) -> Result<(), Fail> {
+    match read_form(rt.alloc(), Version::One, b"kind cycles mask=1f") {
+        Ok(Form::Kind { name, mask }) => {
+            assert_eq!(rt; mask, 31);
+            assert_eq!(rt; name.len(), 6);
+        }
+        _ => assert!(rt; false),
+    }
+    Ok(())
+}

@@ -1,0 +1,83 @@
+//! The words of a line, from the left.
+
+ghost use Rattle.std.specs.Prelude.{◌≡◌, ◌≤◌, not, ◌==◌, length};
+ghost use Rattle.std.specs.List.{prefix_len};
+ghost use Rattle.std.specs.Option.{option_map};
+ghost use Rattle.script_spec.specs.Lines.{pieces};
+ghost use Rattle.line_forms.specs.Words as says;
+ghost use Rattle.line_forms.specs.Words.{left, next_of, end_of, strip};
+
+/// How many bytes stand before the first of a kind.
+fn length_before(text: &[u8], by: u8) -> usize
+    ensures count { result ≡ prefix_len (λ b. not (b == by)) text.now }
+    ensures within { result ≤ length text.now }
+{
+    text.iter().take_while(|byte| **byte != by).count()
+}
+
+/// What stands before the first of some bytes, and what stands behind it, if there is one.
+#[tactic(auto, unfolding(crate::specs::Words::cut))]
+pub fn cut(text: &[u8], by: u8) -> (&[u8], Option<&[u8]>)
+    ensures { (result.0.now, option_map (λ t. t.now) result.1) ≡ says.cut by text.now }
+{
+    let n = length_before(text, by);
+    if n < text.len() {
+        (&text[..n], Some(&text[n + 1..]))
+    } else {
+        (text, None)
+    }
+}
+
+/// The bytes behind a literal.
+#[tactic(auto, unfolding(crate::specs::Words::strip))]
+pub fn skip<'a>(text: &'a [u8], literal: &[u8]) -> Option<&'a [u8]>
+    ensures { option_map (λ rest. rest.now) result ≡ strip literal.now text.now }
+{
+    if text.starts_with(literal) {
+        Some(&text[literal.len()..])
+    } else {
+        None
+    }
+}
+
+/// The words of a text that were not read yet. Between each two stands one byte of a kind.
+#[derive(Clone, Copy)]
+pub struct Words<'a> {
+    rest: Option<&'a [u8]>,
+    by: u8,
+}
+
+impl<'a> Words<'a> {
+    /// All words of a text.
+    pub fn of(text: &'a [u8], by: u8) -> Words<'a>
+        ensures { left result ≡ pieces by text.now }
+    {
+        Words {
+            rest: Some(text),
+            by,
+        }
+    }
+
+    /// The first word, and those behind it.
+    pub fn next(self) -> Option<(&'a [u8], Words<'a>)>
+        ensures { option_map (λ x. (x.0.now, left x.1)) result ≡ next_of (left self.entry) }
+    {
+        match self.rest {
+            None => None,
+            Some(text) => {
+                let (word, rest) = cut(text, self.by);
+                Some((word, Words { rest, by: self.by }))
+            }
+        }
+    }
+
+    /// Some exactly where no word is left.
+    pub fn end(self) -> Option<()>
+        ensures { result ≡ end_of (left self.entry) }
+    {
+        match self.rest {
+            None => Some(()),
+            Some(_) => None,
+        }
+    }
+}
