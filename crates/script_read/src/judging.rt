@@ -1,0 +1,61 @@
+//! The first reason for which a form is refused behind the lines so far.
+
+use crate::names::{has_attr, is_named};
+use crate::place::is_placed;
+use crate::range::is_in_range;
+use crate::state::State;
+use line_forms::Form;
+use perf_base::{CpuNo, SReason, Script, ToolNo};
+
+/// How many kinds a script may have, and how many lines under its processors and tools.
+const MOST_KINDS: usize = 16;
+const MOST_LINES: usize = 16384;
+
+/// The greatest weight of a script.
+const MOST_WEIGHT: u64 = 65536;
+
+/// How many lines stand under processors and tools.
+fn line_count(script: &Script) -> usize {
+    let mut count = 0;
+    for cpu in 0..8 {
+        count += script.cpu_lines(CpuNo(cpu)).len();
+    }
+    for tool in 0..4 {
+        count += script.tool_lines(ToolNo(tool)).len();
+    }
+    count
+}
+
+fn is_within_limits(state: &State, form: &Form) -> bool {
+    match form {
+        Form::Kind { .. } | Form::KindOfPmu { .. } => state.script.kinds() < MOST_KINDS,
+        Form::OnProcessor(_) | Form::OnTool(_) => line_count(&state.script) < MOST_LINES,
+        _ => true,
+    }
+}
+
+fn is_light(state: &State, form: &Form) -> bool {
+    match form {
+        Form::End => state.script.weight() <= MOST_WEIGHT,
+        _ => true,
+    }
+}
+
+/// The first reason for which the form is refused there.
+pub fn judge(state: &State, form: &Form) -> Option<SReason> {
+    if !is_placed(state, form) {
+        Some(SReason::Place)
+    } else if !is_in_range(state, form) {
+        Some(SReason::Range)
+    } else if !has_attr(form) {
+        Some(SReason::Attr)
+    } else if !is_named(state, form) {
+        Some(SReason::Name)
+    } else if !is_within_limits(state, form) {
+        Some(SReason::Limit)
+    } else if !is_light(state, form) {
+        Some(SReason::Weight)
+    } else {
+        None
+    }
+}
