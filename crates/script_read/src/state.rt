@@ -1,6 +1,10 @@
 //! What the lines so far say.
 
-use line_forms::{Form, ToolForm};
+ghost use Rattle.std.specs.Prelude.{◌≡◌};
+ghost use Rattle.line_forms.specs.Seen.{form_of};
+ghost use Rattle.script_read.specs.States.{rank_of, part_of};
+
+use line_forms::Form;
 use perf_base::{CpuNo, CpuSet, Script, ToolNo};
 
 /// The sections of a text, in their order.
@@ -21,7 +25,9 @@ pub enum Section {
 
 impl Section {
     /// The place of the section among all.
-    pub fn rank(self) -> u8 {
+    pub fn rank(self) -> u8
+        ensures { result ≡ rank_of self }
+    {
         match self {
             Section::Perf => 0,
             Section::Machine => 1,
@@ -39,7 +45,9 @@ impl Section {
 }
 
 /// The section that a form belongs to.
-pub fn section_of(form: &Form) -> Section {
+pub fn section_of(form: &Form) -> Section
+    ensures { result ≡ part_of (form_of form.now) }
+{
     match form {
         Form::Perf(_) => Section::Perf,
         Form::Machine { .. } | Form::MachineOfPmus { .. } => Section::Machine,

@@ -1,6 +1,6 @@
 -- The script that the forms of a text say: each part is read off the whole list of forms. This project's own
 -- profile.
-use Rattle.std.specs.Prelude.{ℕ, ◌-◌, ◌/◌, ◌^◌, ◌==◌, nat_lt, bit_and, bit_or, Bool, false, List, [], ◌∷◌, ◌++◌, length, map, filter_map, flat_map, position, replicate, slice_get, slice_index, sum_by, Option, Some, None, option_map, unwrap_or, codes, if◌then◌else◌}
+use Rattle.std.specs.Prelude.{ℕ, ◌-◌, ◌/◌, ◌^◌, ◌==◌, nat_lt, bit_and, bit_or, Bool, false, List, [], ◌∷◌, ◌++◌, length, map, filter_map, flat_map, position, replicate, slice_get, slice_index, Option, Some, None, option_map, unwrap_or, codes, if◌then◌else◌}
 use Rattle.std.specs.Option.{option_or}
 use Rattle.std.specs.Str.{bytes_eq}
 use Rattle.perf_base.specs.declared.numbers.EventNo.{EventNo}
@@ -139,9 +139,10 @@ flags_of_word word = bit_or (bit_and word 63) (bit_and (word / 4096) 64)
 
 -- ---- lines
 
--- how often a kind of this name occurs
+-- how often the kind of this name occurs: 0 where it does not stand there
 abbrev pub times_of : List Hit → List ℕ → ℕ
-times_of hits name = sum_by (λ h. if bytes_eq h.name name then h.times else 0) hits
+times_of [] name = 0
+times_of (h ∷ hits) name = if bytes_eq h.name name then h.times else times_of hits name
 
 -- the occurrences of all sixteen kinds that there can be, 0 for those that are not named or not declared
 abbrev pub occurrences : List KindLine → List Hit → List ℕ
