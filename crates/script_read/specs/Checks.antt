@@ -1,6 +1,8 @@
 -- What the tests of numbers ask, of the script so far and what the state keeps beside it.
-use Rattle.std.specs.Prelude.{◌≡◌, ℕ, ◌<◌, ◌≤◌, bit_and, List, length, map, All, Option, IfSome}
+use Rattle.std.specs.Prelude.{◌≡◌, ℕ, ◌<◌, ◌≤◌, bit_and, List, length, map, All, Option, IfSome, IsSome}
+use Rattle.perf_base.specs.declared.numbers.CpuNo.{CpuNo}
 use Rattle.perf_base.specs.declared.numbers.RingNo.{RingNo}
+use Rattle.perf_base.specs.Cpus.{HasCpu}
 use Rattle.perf_base.specs.declared.lines.PmuLine.{PmuLine}
 use Rattle.perf_base.specs.declared.lines.ReaderLine.{ReaderLine}
 use Rattle.perf_base.specs.Scripts.{Scripted, IsPmuLine, IsMaskOf, IsRingLine}
@@ -9,7 +11,30 @@ use Rattle.script_spec.specs.Forms as form
 use Rattle.script_spec.specs.Forms.{Form}
 use Rattle.script_spec.specs.Faults.{IsBetween, IsWide, IsCpuFormInRange, IsToolFormInRange}
 use Rattle.script_read.specs.declared.state.State.{State}
-use Rattle.script_read.specs.States.{cpu_number, tool_number}
+use Rattle.script_read.specs.States.{cpu_number, tool_number, rank_of, part_of}
+
+-- each processor is of some PMU
+abbrev pub IsCoveredOf : State → Type 0
+IsCoveredOf s = (cpu : CpuNo) → cpu.0 < s.script.cpus → HasCpu s.named cpu
+
+abbrev pub IsUnderOf : State → Form → Type 0
+IsUnderOf s (form.OnProcessor line) = IsSome s.cpu
+IsUnderOf s (form.OnTool line) = IsSome s.tool
+IsUnderOf s other = Unit {0}
+
+abbrev pub IsInOrderOf : State → Form → Type 0
+IsInOrderOf s f = rank_of s.section ≤ rank_of (part_of f)
+
+abbrev pub IsBehindOf : State → Form → Type 0
+IsBehindOf s f = IsInOrderOf s f × IsCoveredOf s × IsUnderOf s f
+
+-- behind the machine
+abbrev pub IsPlacedOf : State → Form → Type 0
+IsPlacedOf s (form.Perf version) = ⊥
+IsPlacedOf s (form.Machine cpus counters) = ⊥
+IsPlacedOf s (form.MachineOfPmus cpus) = ⊥
+IsPlacedOf s (form.Pmu number counters cpus) = IsInOrderOf s (form.Pmu number counters cpus)
+IsPlacedOf s other = IsBehindOf s other
 
 -- the next PMU, with none of the processors that are named
 pub record IsNextPmuOf (cpus : ℕ) (pmus : List PmuLine) (named number counters own : ℕ) : Type 0 where

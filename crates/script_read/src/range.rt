@@ -204,12 +204,7 @@ fn is_act_in_range(act: &SpelledAct) -> bool
 fn are_all_in_range(acts: &[SpelledAct]) -> bool
     ensures { IsTrue result ↔ All (λ a. IsActInRange (act_of a)) acts.now }
 {
-    for act in acts {
-        if !is_act_in_range(act) {
-            return false;
-        }
-    }
-    true
+    acts.iter().all(|act| is_act_in_range(act))
 }
 
 fn are_acts_in_range(acts: &[SpelledAct]) -> bool
