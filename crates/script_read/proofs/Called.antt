@@ -1,13 +1,15 @@
 -- Names that are the same, or not, and the first kind of a name.
-use Rattle.std.proofs.Common.{◌≡◌, ◌≢◌, ℕ, zero, suc, ◌+◌, ◌<◌, ◌≤◌, ◌↔◌, Bool, true, false, List, [], ◌∷◌, length, get_or, Option, Some, None, inl, inr, refl, sym, ap, subst, ◌∙◌, arith, cond, ltb, not}
-use Rattle.std.specs.Prelude.{slice_get, IfSome, IsTrue, position}
+use Rattle.std.proofs.Common.{◌≡◌, ◌≢◌, ℕ, zero, suc, ◌+◌, ◌<◌, ◌≤◌, ◌↔◌, Bool, AllPairs, take, map, length-take, is_some, true, false, All, List, [], ◌∷◌, length, get_or, Option, Some, None, inl, inr, refl, sym, ap, subst, ◌∙◌, arith, cond, ltb, not}
+use Rattle.std.specs.Prelude.{slice_get, IfSome, IsTrue, position, Any}
 use Rattle.std.specs.List.{position_or_len}
 use Rattle.std.specs.Str.{bytes_eq}
 use Rattle.std.proofs.lemmas.Slice.Eq.{bytes_eq-Decides}
 use Rattle.std.proofs.lemmas.Bool.{cases_eq, cases_lt, false_from_ne_true, lt-ltb, le-ltb}
-use Rattle.std.proofs.lemmas.List.{ext_get_or}
-use Rattle.std.proofs.lemmas.List.Sums.{position_or_len_is}
+use Rattle.std.proofs.lemmas.List.{length-map, ext_get_or, get_or_default, get_or-take, take_more, take_all}
+use Rattle.std.proofs.lemmas.List.Sums.{position_or_len_is, fails_before_first}
+use Rattle.std.proofs.lemmas.List.Quantifiers.{position-Some, all_pairs_push}
 use Rattle.std.proofs.lemmas.Option.{slice_get-get_or, slice_get_within}
+use Rattle.std.proofs.lemmas.List.Elements.{All-push}
 use Rattle.perf_base.specs.declared.lines.KindLine.{KindLine}
 use Rattle.script_spec.specs.Meaning.{number_of}
 
@@ -60,6 +62,11 @@ one_more_other kinds name i before here k l = elim (cases_lt k i) [
   | inr at ↦ let is : k ≡ i = omega arith in rw is here
 ]
 
+none_within : (xs : List KindLine) (k : ℕ) → k < length xs → slice_get xs k ≡ None → ⊥
+none_within [] k l e = omega (arith, l)
+none_within (x ∷ xs) zero l e = absurd cc
+none_within (x ∷ xs) (suc k) l e = none_within xs k (omega (arith, l)) e
+
 pub number_found_by : (kinds : List KindLine) (name called : List ℕ) (i : ℕ) → i < length kinds → IfSome (slice_get kinds i) (λ k. called ≡ k.name) → bytes_eq called name ≡ true
     → ((k : ℕ) → k < i → IfSome (slice_get kinds k) (λ y. bytes_eq y.name name ≡ false)) → Some i ≡ number_of kinds name
 number_found_by kinds name called i within is t before = go (slice_get kinds i) refl is
@@ -68,7 +75,79 @@ number_found_by kinds name called i within is t before = go (slice_get kinds i) 
     go (Some x) at same = number_found kinds name i x at (rw (← same) t) before
     go None at same = absurd (none_within kinds i within at)
 
-    none_within : (xs : List KindLine) (k : ℕ) → k < length xs → slice_get xs k ≡ None → ⊥
-    none_within [] k l e = omega (arith, l)
-    none_within (x ∷ xs) zero l e = absurd cc
-    none_within (x ∷ xs) (suc k) l e = none_within xs k (omega (arith, l)) e
+-- ---- declared names
+
+none_some : {A : Type 0} (x : A) → None ≡ Some x → ⊥
+none_some x e = cc
+
+pub any_at : {X : Type 0} (P : X → Type 0) (xs : List X) (i : ℕ) (d : X) → i < length xs → P (get_or xs i d) → Any P xs
+any_at P xs i d l p = (i, get_or xs i d, l, get_or_default xs i (get_or xs i d) d l, p)
+
+pub declared_some : (kinds : List KindLine) (name : List ℕ) (i : ℕ) → number_of kinds name ≡ Some i → Any (λ k. k.name ≡ name) kinds
+declared_some [] name i e = absurd cc
+declared_some (x ∷ kinds) name i e =
+    let p = position-Some (λ k. bytes_eq k.name name) (x ∷ kinds) i x e in
+    any_at (λ k. k.name ≡ name) (x ∷ kinds) i x p.0 ((bytes_eq-Decides (get_or (x ∷ kinds) i x).name name).0 p.1)
+
+pub declared_none : (kinds : List KindLine) (name : List ℕ) → number_of kinds name ≡ None → All (λ k. k.name ≢ name) kinds
+declared_none kinds name e = λ k d l same.
+    let t : bytes_eq (get_or kinds k d).name name ≡ true = (bytes_eq-Decides (get_or kinds k d).name name).1 same in
+    elim (cases_lt (position_or_len (λ x. bytes_eq x.name name) kinds) (length kinds)) [
+      | inl within ↦ absurd (none_some (position_or_len (λ x. bytes_eq x.name name) kinds) (sym e ∙ rw (lt-ltb _ _ within) refl))
+      | inr past ↦ let f : bytes_eq (get_or kinds k d).name name ≡ false = fails_before_first (λ x. bytes_eq x.name name) kinds k d (omega arith) in absurd cc
+    ]
+
+pub declared_iff : (kinds : List KindLine) (name : List ℕ) (r : Option ℕ) (b : Bool) → r ≡ number_of kinds name → b ≡ is_some r → IsTrue b ↔ Any (λ k. k.name ≡ name) kinds
+declared_iff kinds name (Some i) b e is = (λ t. declared_some kinds name i (sym e), λ any. is)
+declared_iff kinds name None b e is = (λ t. absurd cc, λ any. let none = declared_none kinds name (sym e) in absurd (none any.0 any.1 any.2 (ap (λ (k : KindLine). k.name) any.3 ∙ any.4)))
+
+pub new_iff : (kinds : List KindLine) (name : List ℕ) (r : Option ℕ) (b : Bool) → r ≡ number_of kinds name → is_some r ≡ not b → IsTrue b ↔ All (λ k. k.name ≢ name) kinds
+new_iff kinds name (Some i) true e is = absurd cc
+new_iff kinds name (Some i) false e is = (λ t. absurd cc, λ all. let any = declared_some kinds name i (sym e) in absurd (all any.0 any.1 any.2 (ap (λ (k : KindLine). k.name) any.3 ∙ any.4)))
+new_iff kinds name None true e is = (λ t. declared_none kinds name (sym e), λ all. refl)
+new_iff kinds name None false e is = absurd cc
+
+-- ---- names that are apart
+
+pub not_apart : {X : Type 0} (f : X → List ℕ) (xs : List X) (i : ℕ) (d : X) → i < length xs → Any (λ x. f x ≡ f (get_or xs i d)) (take i xs) → AllPairs (λ x y. f x ≢ f y) xs → ⊥
+not_apart f xs i d l any apart =
+    let k : any.0 < i = omega (arith, any.2, length-take i xs) in
+    let at : get_or xs any.0 any.1 ≡ any.1 = sym (get_or-take i xs any.0 any.1 k) ∙ any.3 in
+    let same : f (get_or xs any.0 d) ≡ f (get_or xs i d) = ap f (get_or_default xs any.0 d any.1 (omega arith) ∙ at) ∙ any.4 in
+    apart any.0 i d k l same
+
+pub apart_more : {X : Type 0} (f : X → List ℕ) (xs : List X) (i : ℕ) (d : X) → i < length xs → AllPairs (λ x y. f x ≢ f y) (take i xs) → (Any (λ x. f x ≡ f (get_or xs i d)) (take i xs) → ⊥)
+    → AllPairs (λ x y. f x ≢ f y) (take (i + 1) xs)
+apart_more f xs i d l apart none =
+    rw (take_more xs i d l) (all_pairs_push (λ x y. f x ≢ f y) (take i xs) (get_or xs i d) apart (λ k e w same. none (any_at (λ x. f x ≡ f (get_or xs i d)) (take i xs) k e w same)))
+
+pub apart_all : {X : Type 0} (f : X → List ℕ) (xs : List X) (i : ℕ) → length xs ≤ i → AllPairs (λ x y. f x ≢ f y) (take i xs) → AllPairs (λ x y. f x ≢ f y) xs
+apart_all f xs i l h = rw (take_all i xs l) at h
+
+pub apart_map : {X Y : Type 0} (f : X → List ℕ) (g : Y → X) (ys : List Y) → AllPairs (λ x y. f (g x) ≢ f (g y)) ys ↔ AllPairs (λ x y. f x ≢ f y) (map g ys)
+apart_map f g [] = (λ h i j d l m. absurd (omega (arith, m)), λ h i j d l m. absurd (omega (arith, m)))
+apart_map f g (z ∷ ys) = (
+  λ h i j d l m.
+      let w : j < length (z ∷ ys) = omega (arith, m, length-map (z ∷ ys) g) in
+      rw (read_map g (z ∷ ys) i z d (omega arith), read_map g (z ∷ ys) j z d w) (h i j z l w),
+  λ h i j d l m.
+      let w : j < length (map g (z ∷ ys)) = omega (arith, m, length-map (z ∷ ys) g) in
+      let p = h i j (g d) l w in
+      rw (read_map g (z ∷ ys) i d (g d) (omega arith), read_map g (z ∷ ys) j d (g d) m) at p,
+)
+  where
+    read_map : {X Y : Type 0} (g : Y → X) (ys : List Y) (i : ℕ) (d : Y) (e : X) → i < length ys → get_or (map g ys) i e ≡ g (get_or ys i d)
+    read_map g [] i d e l = absurd (omega (arith, l))
+    read_map g (y ∷ ys) zero d e l = refl
+    read_map g (y ∷ ys) (suc i) d e l = read_map g ys i d e (omega (arith, l))
+
+-- ---- a loop that tests each element
+
+pub all_more : {X : Type 0} (P : X → Type 0) (xs : List X) (i : ℕ) (d : X) → i < length xs → All P (take i xs) → P (get_or xs i d) → All P (take (i + 1) xs)
+all_more P xs i d l h p = rw (take_more xs i d l) (All-push P (take i xs) (get_or xs i d) h p)
+
+pub all_not : {X : Type 0} (P : X → Type 0) (xs : List X) (i : ℕ) (d : X) → i < length xs → (P (get_or xs i d) → ⊥) → IsTrue false ↔ All P xs
+all_not P xs i d l h = (λ t. absurd cc, λ all. absurd (h (all i d l)))
+
+pub all_done : {X : Type 0} (P : X → Type 0) (xs : List X) (i : ℕ) → length xs ≤ i → All P (take i xs) → IsTrue true ↔ All P xs
+all_done P xs i l h = let all : All P xs = (rw (take_all i xs l) at h) in (λ t. all, λ a. refl)

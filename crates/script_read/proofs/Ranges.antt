@@ -14,9 +14,9 @@ mask_iff pmus pmu mask r b e h = go (slice_get pmus pmu) (subst (λ q. MatchOpti
     go (Some p) h = h
     go None h = (λ t. absurd cc, λ bad. absurd bad)
 
+pub un_map : {X Y : Type 0} (P : X → Type 0) (f : Y → X) (ys : List Y) → All P (map f ys) → All (λ y. P (f y)) ys
+un_map P f [] a = λ k d l. absurd (omega arith)
+un_map P f (y ∷ ys) a = All-cons (λ y. P (f y)) y ys (All-head P (f y) (map f ys) a) (un_map P f ys (All-tail P (f y) (map f ys) a))
+
 pub All_map_iff : {X Y : Type 0} (P : X → Type 0) (f : Y → X) (ys : List Y) (T : Type 0) → T ↔ All (λ y. P (f y)) ys → T ↔ All P (map f ys)
 All_map_iff P f ys T h = (λ t. All-map P f ys (h.0 t), λ a. h.1 (un_map P f ys a))
-  where
-    un_map : {X Y : Type 0} (P : X → Type 0) (f : Y → X) (ys : List Y) → All P (map f ys) → All (λ y. P (f y)) ys
-    un_map P f [] a = λ k d l. absurd (omega arith)
-    un_map P f (y ∷ ys) a = All-cons (λ y. P (f y)) y ys (All-head P (f y) (map f ys) a) (un_map P f ys (All-tail P (f y) (map f ys) a))

@@ -1,5 +1,11 @@
 //! The first reason for which a form is refused behind the lines so far.
 
+ghost use Rattle.std.specs.Prelude.{◌≡◌, ◌↔◌, IsTrue, sum_by, length};
+ghost use Rattle.perf_base.specs.Scripts as says;
+ghost use Rattle.perf_base.specs.Scripts.{IsScript};
+ghost use Rattle.line_forms.specs.Seen.{form_of};
+ghost use Rattle.script_read.specs.Naming.{IsWithinLimitsOf, IsLightOf};
+
 use crate::names::{has_attr, is_named};
 use crate::place::is_placed;
 use crate::range::is_in_range;
@@ -15,18 +21,39 @@ const MOST_LINES: usize = 16384;
 const MOST_WEIGHT: u64 = 65536;
 
 /// How many lines stand under processors and tools.
-fn line_count(script: &Script) -> usize {
+fn lines_of_cpus(script: &Script) -> usize
+    requires { IsScript script.now }
+    ensures { result ≡ sum_by length script.now.cpu_lines }
+{
     let mut count = 0;
     for cpu in 0..8 {
         count += script.cpu_lines(CpuNo(cpu)).len();
     }
+    count
+}
+
+fn lines_of_tools(script: &Script) -> usize
+    requires { IsScript script.now }
+    ensures { result ≡ sum_by length script.now.tool_lines }
+{
+    let mut count = 0;
     for tool in 0..4 {
         count += script.tool_lines(ToolNo(tool)).len();
     }
     count
 }
 
-fn is_within_limits(state: &State, form: &Form) -> bool {
+fn line_count(script: &Script) -> usize
+    requires { IsScript script.now }
+    ensures { result ≡ says.line_count script.now }
+{
+    lines_of_cpus(script) + lines_of_tools(script)
+}
+
+fn is_within_limits(state: &State, form: &Form) -> bool
+    ensures { IsTrue result ↔ IsWithinLimitsOf state.now (form_of form.now) }
+{
+    let _cpus = state.script.cpus();
     match form {
         Form::Kind { .. } | Form::KindOfPmu { .. } => state.script.kinds() < MOST_KINDS,
         Form::OnProcessor(_) | Form::OnTool(_) => line_count(&state.script) < MOST_LINES,
@@ -34,7 +61,9 @@ fn is_within_limits(state: &State, form: &Form) -> bool {
     }
 }
 
-fn is_light(state: &State, form: &Form) -> bool {
+fn is_light(state: &State, form: &Form) -> bool
+    ensures { IsTrue result ↔ IsLightOf state.now (form_of form.now) }
+{
     match form {
         Form::End => state.script.weight() <= MOST_WEIGHT,
         _ => true,
