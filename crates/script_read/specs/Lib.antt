@@ -1,3 +1,4 @@
+pub mod Adding
 pub mod Checks
 pub mod Lines
 pub mod Naming
