@@ -32,6 +32,13 @@ pub record IsFirst (s : State) (f : Form) (r : SReason) : Type 0 where
   pub earlier : (q : SReason) → rank q < rank r → Asks s f q
   pub broken : Asks s f r → ⊥
 
+-- a form keeps all that is asked of what it adds
+pub record IsKept (s : State) (f : Form) : Type 0 where
+  pub range : IsInRangeOf s f
+  pub attr : HasAttr f
+  pub name : IsNamedOf s f
+  pub limit : IsWithinLimitsOf s f
+
 -- the headers that came last are of the machine, and the named processors are those of the PMUs
 pub record IsSoundState (s : State) : Type 0 where
   pub cpu : IfSome (cpu_number s.cpu) (λ n. n < s.script.cpus)

@@ -1,10 +1,12 @@
 //! The first reason for which a form is refused behind the lines so far.
 
-ghost use Rattle.std.specs.Prelude.{◌≡◌, ◌↔◌, IsTrue, sum_by, length};
+ghost use Rattle.std.specs.Prelude.{◌≡◌, ◌↔◌, IsTrue, MatchOption, sum_by, length};
 ghost use Rattle.perf_base.specs.Scripts as says;
 ghost use Rattle.perf_base.specs.Scripts.{IsScript};
 ghost use Rattle.line_forms.specs.Seen.{form_of};
+ghost use Rattle.perf_base.specs.declared.reasons.SReason.{SReason};
 ghost use Rattle.script_read.specs.Naming.{IsWithinLimitsOf, IsLightOf};
+ghost use Rattle.script_read.specs.Adding.{Asks, IsFirst};
 
 use crate::names::{has_attr, is_named};
 use crate::place::is_placed;
@@ -71,7 +73,11 @@ fn is_light(state: &State, form: &Form) -> bool
 }
 
 /// The first reason for which the form is refused there.
-pub fn judge(state: &State, form: &Form) -> Option<SReason> {
+pub fn judge(state: &State, form: &Form) -> Option<SReason>
+    ensures { MatchOption result
+        ((q : SReason) → Asks state.now (form_of form.now) q)
+        (λ r. IsFirst state.now (form_of form.now) r) }
+{
     if !is_placed(state, form) {
         Some(SReason::Place)
     } else if !is_in_range(state, form) {
