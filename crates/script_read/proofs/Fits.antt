@@ -66,7 +66,7 @@ cpu_line_fits kinds (form.Work w) h =
     record {
       length = h.0;
       hits = All-append (λ m. m ≤ 1000000000) ts (replicate (16 - length kinds) 0) (all_times kinds w.hits h.1) (All-replicate (λ m. m ≤ 1000000000) (16 - length kinds) 0 (omega arith));
-      declared = rw (drop_at ts (replicate (16 - length kinds) 0) (length kinds) (sym n)) (All-replicate (λ m. m ≡ 0) (16 - length kinds) 0 refl);
+      declared = rw (drop_at ts (replicate (16 - length kinds) 0) (length kinds) n) (All-replicate (λ m. m ≡ 0) (16 - length kinds) 0 refl);
     }
 cpu_line_fits kinds form.Tick h = tt
 cpu_line_fits kinds (form.Fork task) h = h
