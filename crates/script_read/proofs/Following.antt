@@ -44,7 +44,7 @@ last_push ns n = ap (slice_get (ns ++ n ∷ [])) (ap (λ k. k - 1) (length_push 
     at_end [] n = refl
     at_end (m ∷ ns) n = at_end ns n
 
-none_empty : (ns : List ℕ) → last_of ns ≡ None → ns ≡ []
+pub none_empty : (ns : List ℕ) → last_of ns ≡ None → ns ≡ []
 none_empty [] e = refl
 none_empty (n ∷ ns) e = absurd (within ns n (length (n ∷ ns) - 1) (omega arith) e)
   where
@@ -58,7 +58,7 @@ last_more ns (Some n) = last_push ns n
 last_more ns None = ap last_of (append-nil ns)
 
 -- all are at most the number behind them
-below : (ns : List ℕ) (last : Option ℕ) (n : ℕ) → last_of ns ≡ last → IsGreatest ns last → IfSome last (λ m. m < n) → All (λ m. m ≤ n) ns
+pub below : (ns : List ℕ) (last : Option ℕ) (n : ℕ) → last_of ns ≡ last → IsGreatest ns last → IfSome last (λ m. m < n) → All (λ m. m ≤ n) ns
 below ns (Some m) n e h l = All-weaker (λ k. k ≤ m) (λ k. k ≤ n) (λ k le. omega (arith, le, l)) ns h
 below ns None n e h l = rw (none_empty ns e) (λ k d w. absurd (omega (arith, w)))
 
@@ -85,7 +85,7 @@ placed_order s (form.MachineOfPmus cpus) h = absurd h
 placed_order s (form.Pmu number counters cpus) h = h
 placed_order s other h = h.0
 
-rank_part : (f : Form) → rank_of (part_of f) ≡ section f
+pub rank_part : (f : Form) → rank_of (part_of f) ≡ section f
 rank_part (form.Perf version) = refl
 rank_part other = refl
 
