@@ -1,15 +1,15 @@
 -- How far a text is read, by the forms of its lines so far.
-use Rattle.std.specs.Prelude.{◌≡◌, ℕ, ◌<◌, List, [], ◌∷◌, ◌++◌}
+use Rattle.std.specs.Prelude.{◌≡◌, ℕ, ◌<◌, List, [], ◌∷◌, ◌++◌, Bool, false, ◌==◌}
 use Rattle.perf_base.specs.declared.reasons.SReason.{SReason}
 use Rattle.perf_base.specs.declared.reasons.SReason.TheVariants as reason
 use Rattle.script_spec.specs.Forms as form
 use Rattle.script_spec.specs.Forms.{Version, Form}
-use Rattle.script_spec.specs.Faults.{IsPlaced, IsInRange, HasAttr, IsNamed, IsWithinLimits, IsLight, rank}
+use Rattle.script_spec.specs.Faults.{IsPlaced, IsInRange, HasAttr, IsNamed, IsWithinLimits, IsLight, IsSound, rank}
 use Rattle.script_read.specs.declared.progress.Progress.{Progress}
 use Rattle.script_read.specs.declared.progress.Progress.TheVariants as progress
 use Rattle.script_read.specs.declared.fault.LineFault.{LineFault}
 use Rattle.script_read.specs.declared.fault.LineFault.TheVariants as fault
-use Rattle.script_read.specs.States.{Follows}
+use Rattle.script_read.specs.States.{rank_of, Follows}
 
 -- the lines so far are of these forms
 abbrev pub Behind : List Form → Progress → Type 0
@@ -43,3 +43,15 @@ pub record IsTaken (before : List Form) (f : Form) (p : Progress) : Type 0 where
 abbrev pub Blames : LineFault → (SReason → Type 0) → Type 0
 Blames (fault.Bad r) P = P r
 Blames fault.NoMemory P = Unit {0}
+
+-- whether the `end` line was read
+abbrev pub ended_of : Progress → Bool
+ended_of progress.Start = false
+ended_of progress.Begun = false
+ended_of (progress.Told s) = rank_of s.section == 10
+
+-- a line is sound behind those before it, and taken
+pub record IsTakenLine (version : Version) (before : List Form) (line : List ℕ) (p : Progress) : Type 0 where
+  pub form : Form
+  pub sound : IsSound version before line form
+  pub behind : Behind (before ++ form ∷ []) p
