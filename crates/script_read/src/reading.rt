@@ -1,5 +1,15 @@
 //! Reading a script from its text.
 
+ghost use Rattle.std.specs.Prelude.{◌≡◌, ◌≤◌, length, codes, IfOk, IfErr, MatchOption};
+ghost use Rattle.std.specs.Str.{bytes_eq};
+ghost use Rattle.perf_base.specs.declared.reasons.SReason.TheVariants.{End};
+ghost use Rattle.script_spec.specs.Lines.{lines_of};
+ghost use Rattle.script_spec.specs.Texts as text_version;
+ghost use Rattle.script_spec.specs.Texts.{StandsFor};
+ghost use Rattle.line_forms.specs.Seen as seen;
+ghost use Rattle.script_read.specs.declared.fault.ScriptFault.TheVariants.{Bad};
+ghost use Rattle.script_read.specs.Finishing.{IsNextLine, HasNoLine, IsFinished, IsUnfinished, IsBlamed};
+
 use crate::fault::{LineFault, ScriptFault};
 use crate::progress::{Progress, has_ended, take_line};
 use line_forms::{Version, cut};
@@ -7,23 +17,40 @@ use perf_base::{SReason, Script};
 use std::alloc::Global;
 
 /// The version of a text, by its first line.
-fn version_of(text: &[u8]) -> Version {
-    if text.starts_with(b"perf 2\n") {
-        Version::Two
-    } else {
-        Version::One
+fn version_of(text: &[u8]) -> Version
+    ensures { seen.version_of result ≡ text_version.version_of (lines_of text.now) }
+{
+    match next_line(text) {
+        None => Version::One,
+        Some((line, _)) => {
+            if is_second(line) {
+                Version::Two
+            } else {
+                Version::One
+            }
+        }
     }
 }
 
+fn is_second(line: &[u8]) -> bool
+    ensures { result ≡ bytes_eq line.now (codes "perf 2") }
+{
+    line == b"perf 2".as_slice()
+}
+
 /// The next line, without its LF, and what stands behind it. None where no LF is left.
-fn next_line(text: &[u8]) -> Option<(&[u8], &[u8])> {
+fn next_line(text: &[u8]) -> Option<(&[u8], &[u8])>
+    ensures { MatchOption result (HasNoLine text.now) (λ x. IsNextLine text.now x.0.now x.1.now) }
+{
     match cut(text, b'\n') {
         (_, None) => None,
         (line, Some(rest)) => Some((line, rest)),
     }
 }
 
-fn no_end(line: u32) -> ScriptFault {
+fn no_end(line: u32) -> ScriptFault
+    ensures { result ≡ Bad line End }
+{
     ScriptFault::Bad {
         line,
         reason: SReason::End,
@@ -31,7 +58,11 @@ fn no_end(line: u32) -> ScriptFault {
 }
 
 /// What a text gives whose lines were all read, so many.
-fn finish(progress: Progress, lines: u32, rest: &[u8]) -> Result<Script, ScriptFault> {
+fn finish(progress: Progress, lines: u32, rest: &[u8]) -> Result<Script, ScriptFault>
+    requires { lines ≤ 4194304 }
+    ensures ok { IfOk result (λ s. IsFinished rest.now progress s) }
+    ensures bad { IfErr result (λ e. IsUnfinished rest.now progress lines e) }
+{
     if !rest.is_empty() {
         return Err(no_end(lines + 1));
     }
@@ -45,7 +76,11 @@ fn finish(progress: Progress, lines: u32, rest: &[u8]) -> Result<Script, ScriptF
 }
 
 /// The script that a text stands for, or its first faulty line and the first reason of that line.
-pub fn read_script(alloc: Global, bytes: &[u8]) -> Result<Script, ScriptFault> {
+pub fn read_script(alloc: Global, bytes: &[u8]) -> Result<Script, ScriptFault>
+    requires { length bytes.now ≤ 4194304 }
+    ensures ok { IfOk result (λ s. StandsFor bytes.now s) }
+    ensures bad { IfErr result (λ e. IsBlamed bytes.now e) }
+{
     let version = version_of(bytes);
     let mut progress = Progress::Start;
     let mut lines: u32 = 0;
