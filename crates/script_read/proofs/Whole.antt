@@ -16,9 +16,11 @@ use Rattle.script_read.specs.declared.progress.Progress.{Progress}
 use Rattle.script_read.specs.declared.progress.Progress.TheVariants as progress
 use Rattle.script_read.specs.declared.fault.ScriptFault.{ScriptFault}
 use Rattle.script_read.specs.declared.fault.ScriptFault.TheVariants as fault
+use Rattle.script_read.specs.declared.fault.LineFault.{LineFault}
+use Rattle.script_read.specs.declared.fault.LineFault.TheVariants as line_fault
 use Rattle.script_read.specs.States.{Follows}
-use Rattle.script_read.specs.Progressing.{Behind, ended_of, IsTakenLine}
-use Rattle.script_read.specs.Finishing.{IsNextLine, HasNoLine, IsReading, Says, IsFinished, IsUnfinished, IsBlamed}
+use Rattle.script_read.specs.Progressing.{Behind, Blames, ended_of, IsTakenLine}
+use Rattle.script_read.specs.Finishing.{IsNextLine, HasNoLine, IsReading, Says, IsFinished, IsUnfinished, IsBlamed, blamed_of}
 use Rattle.script_read.proofs.Begun.{ended_false}
 
 get_last : {X : Type 0} (xs : List X) (x d : X) (rest : List X) → get_or (xs ++ x ∷ rest) (length xs) d ≡ x
@@ -147,3 +149,8 @@ unfinished text p n left e r x (inr open_end) =
       number = count_all text p n left r x;
       is_end = refl;
     })))
+
+pub line_blamed : (text : List ℕ) (v : Version) (p : Progress) (n : ℕ) (left line more : List ℕ) (x : LineFault) → v ≡ version_of (lines_of text) → IsReading text p n left → IsNextLine left line more
+    → ((forms : List Form) → Behind forms p → Blames x (λ r. IsFaulty v forms line r)) → IsBlamed text (blamed_of (n + 1) x)
+line_blamed text v p n left line more (line_fault.Bad r) e reading next h = refused_at text v p n left line more r e reading next h
+line_blamed text v p n left line more line_fault.NoMemory e reading next h = tt

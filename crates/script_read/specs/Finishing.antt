@@ -10,6 +10,8 @@ use Rattle.script_read.specs.declared.progress.Progress.{Progress}
 use Rattle.script_read.specs.declared.progress.Progress.TheVariants as progress
 use Rattle.script_read.specs.declared.fault.ScriptFault.{ScriptFault}
 use Rattle.script_read.specs.declared.fault.ScriptFault.TheVariants as fault
+use Rattle.script_read.specs.declared.fault.LineFault.{LineFault}
+use Rattle.script_read.specs.declared.fault.LineFault.TheVariants as line_fault
 use Rattle.script_read.specs.Progressing.{Behind, ended_of}
 
 -- the next line and what is behind it, or nothing but the rest
@@ -46,6 +48,11 @@ pub record IsFinished (rest : List ℕ) (p : Progress) (s : Scripted) : Type 0 w
 -- something stands behind the last LF, or there was no end
 abbrev pub IsUnfinished : List ℕ → Progress → ℕ → ScriptFault → Type 0
 IsUnfinished rest p n e = ((rest ≢ []) × (e ≡ fault.Bad (n + 1) reason.End)) ⊎ ((rest ≡ []) × (ended_of p ≡ false) × (e ≡ fault.Bad n reason.End))
+
+-- a line's fault in the text
+abbrev pub blamed_of : ℕ → LineFault → ScriptFault
+blamed_of n (line_fault.Bad r) = fault.Bad n r
+blamed_of n line_fault.NoMemory = fault.NoMemory
 
 -- a fault other than want of memory is the line's that is refused, with its reason
 abbrev pub IsBlamed : List ℕ → ScriptFault → Type 0

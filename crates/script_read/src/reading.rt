@@ -8,7 +8,7 @@ ghost use Rattle.script_spec.specs.Texts as text_version;
 ghost use Rattle.script_spec.specs.Texts.{StandsFor};
 ghost use Rattle.line_forms.specs.Seen as seen;
 ghost use Rattle.script_read.specs.declared.fault.ScriptFault.TheVariants.{Bad};
-ghost use Rattle.script_read.specs.Finishing.{IsNextLine, HasNoLine, IsFinished, IsUnfinished, IsBlamed};
+ghost use Rattle.script_read.specs.Finishing.{IsNextLine, HasNoLine, IsFinished, IsUnfinished, IsBlamed, blamed_of};
 
 use crate::fault::{LineFault, ScriptFault};
 use crate::progress::{Progress, has_ended, take_line};
@@ -42,9 +42,10 @@ fn is_second(line: &[u8]) -> bool
 fn next_line(text: &[u8]) -> Option<(&[u8], &[u8])>
     ensures { MatchOption result (HasNoLine text.now) (λ x. IsNextLine text.now x.0.now x.1.now) }
 {
-    match cut(text, b'\n') {
-        (_, None) => None,
-        (line, Some(rest)) => Some((line, rest)),
+    let (line, back) = cut(text, b'\n');
+    match back {
+        None => None,
+        Some(rest) => Some((line, rest)),
     }
 }
 
@@ -75,6 +76,16 @@ fn finish(progress: Progress, lines: u32, rest: &[u8]) -> Result<Script, ScriptF
     }
 }
 
+/// A fault in a line of the text.
+fn blamed(line: u32, fault: LineFault) -> ScriptFault
+    ensures { result ≡ blamed_of line fault }
+{
+    match fault {
+        LineFault::NoMemory => ScriptFault::NoMemory,
+        LineFault::Bad(reason) => ScriptFault::Bad { line, reason },
+    }
+}
+
 /// The script that a text stands for, or its first faulty line and the first reason of that line.
 pub fn read_script(alloc: Global, bytes: &[u8]) -> Result<Script, ScriptFault>
     requires { length bytes.now ≤ 4194304 }
@@ -88,13 +99,7 @@ pub fn read_script(alloc: Global, bytes: &[u8]) -> Result<Script, ScriptFault>
     while let Some((line, more)) = next_line(rest) {
         progress = match take_line(alloc, version, progress, line) {
             Ok(progress) => progress,
-            Err(LineFault::NoMemory) => return Err(ScriptFault::NoMemory),
-            Err(LineFault::Bad(reason)) => {
-                return Err(ScriptFault::Bad {
-                    line: lines + 1,
-                    reason,
-                });
-            }
+            Err(fault) => return Err(blamed(lines + 1, fault)),
         };
         lines += 1;
         rest = more;
