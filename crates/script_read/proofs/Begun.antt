@@ -1,0 +1,283 @@
+-- The first two lines, and a line as its form.
+use Rattle.std.proofs.Common.{◌≡◌, ◌≢◌, ℕ, zero, suc, ◌+◌, ◌-◌, ◌^◌, ◌<◌, ◌≤◌, ◌↔◌, Bool, true, false, eqb, max, All, List, [], ◌∷◌, ◌++◌, length, get_or, Option, Some, None, refl, sym, ap, subst, ◌∙◌, arith}
+use Rattle.std.specs.Prelude.{bit_or, IfSome, IsSome, Any, IsTrue}
+use Rattle.std.specs.Int.{bit_at}
+use Rattle.std.proofs.lemmas.Bool.{eqb-true, eqb-false}
+use Rattle.std.proofs.Math.Nat.{pow-le-pow_right}
+use Rattle.std.proofs.lemmas.Nat.Bits.{bit_at_or, bit_at-zero, same_from_bits}
+use Rattle.std.proofs.lemmas.List.Elements.{All-cons, All-head}
+use Rattle.perf_base.specs.declared.reasons.SReason.{SReason}
+use Rattle.perf_base.specs.declared.reasons.SReason.TheVariants as reason
+use Rattle.perf_base.specs.Scripts.{Scripted, IsScript, empty_script, with_pmu}
+use Rattle.script_spec.specs.Lines.{words_of}
+use Rattle.script_spec.specs.Forms as form
+use Rattle.script_spec.specs.Forms.{Version, Form, IsOfForm}
+use Rattle.script_spec.specs.Meaning.{last_of, processors_in, tools_in, pmus_in, script_of}
+use Rattle.script_spec.specs.Faults.{section, IsPlaced, IsNoEnd, IsPrintable, Keeps, IsFaulty, IsSound, rank, IsInRange}
+use Rattle.script_read.specs.declared.state.State.{State}
+use Rattle.script_read.specs.declared.state.Section.TheVariants as part
+use Rattle.script_read.specs.declared.progress.Progress.{Progress}
+use Rattle.script_read.specs.declared.progress.Progress.TheVariants as progress
+use Rattle.script_read.specs.States.{rank_of, union_of, cpu_number, tool_number, Follows}
+use Rattle.script_read.specs.Adding.{Asks, IsKept, IsSoundState}
+use Rattle.script_read.specs.Progressing.{Behind, AsksOf, IsFirstOf, IsTaken, ended_of, IsTakenLine}
+use Rattle.script_read.proofs.Following.{script_cpus}
+
+-- ---- the first line
+
+pub perf_taken : (v : Version) → IsTaken [] (form.Perf v) progress.Begun
+perf_taken v = record { asks = asks; behind = (v, refl) }
+  where
+    asks : (q : SReason) → AsksOf [] (form.Perf v) q
+    asks reason.Place = refl
+    asks other = tt
+
+early : (before : List Form) (f : Form) (q : SReason) → rank q < 3 → AsksOf before f q
+early before f reason.End l = tt
+early before f reason.Ascii l = tt
+early before f reason.Form l = tt
+early before f reason.Order l = tt
+early before f reason.Place l = absurd (omega (arith, l))
+early before f reason.Range l = absurd (omega (arith, l))
+early before f reason.Attr l = absurd (omega (arith, l))
+early before f reason.Name l = absurd (omega (arith, l))
+early before f reason.Limit l = absurd (omega (arith, l))
+early before f reason.Weight l = absurd (omega (arith, l))
+
+abbrev IsNoPerf : Form → Type 0
+IsNoPerf (form.Perf v) = ⊥
+IsNoPerf other = Unit {0}
+
+not_first : (f : Form) → IsNoPerf f → IsPlaced [] f → ⊥
+not_first (form.Perf v) n h = n
+not_first (form.Machine cpus counters) n h = omega (arith, h)
+not_first (form.MachineOfPmus cpus) n h = omega (arith, h)
+not_first (form.Pmu number counters cpus) n h = omega (arith, h.behind_machine)
+not_first other n h = omega (arith, h.in_order.behind_machine)
+
+pub place_first : (f : Form) → IsNoPerf f → IsFirstOf [] f reason.Place
+place_first f n = record { earlier = early [] f; broken = not_first f n }
+
+-- ---- the second line
+
+abbrev IsNoMachine : Form → Type 0
+IsNoMachine (form.Machine cpus counters) = ⊥
+IsNoMachine (form.MachineOfPmus cpus) = ⊥
+IsNoMachine other = Unit {0}
+
+not_second : (v : Version) (f : Form) → IsNoMachine f → IsPlaced (form.Perf v ∷ []) f → ⊥
+not_second v (form.Perf w) n h = let z : length (form.Perf v ∷ []) ≡ 0 = ap length h in omega (arith, z)
+not_second v (form.Machine cpus counters) n h = n
+not_second v (form.MachineOfPmus cpus) n h = n
+not_second v (form.Pmu number counters cpus) n h = omega (arith, h.behind_machine)
+not_second v other n h = omega (arith, h.in_order.behind_machine)
+
+pub place_second : (v : Version) (f : Form) → IsNoMachine f → IsFirstOf (form.Perf v ∷ []) f reason.Place
+place_second v f n = record { earlier = early (form.Perf v ∷ []) f; broken = not_second v f n }
+
+early_range : (before : List Form) (f : Form) → IsPlaced before f → (q : SReason) → rank q < 4 → AsksOf before f q
+early_range before f p reason.End l = tt
+early_range before f p reason.Ascii l = tt
+early_range before f p reason.Form l = tt
+early_range before f p reason.Order l = tt
+early_range before f p reason.Place l = p
+early_range before f p reason.Range l = absurd (omega (arith, l))
+early_range before f p reason.Attr l = absurd (omega (arith, l))
+early_range before f p reason.Name l = absurd (omega (arith, l))
+early_range before f p reason.Limit l = absurd (omega (arith, l))
+early_range before f p reason.Weight l = absurd (omega (arith, l))
+
+pub range_first : (before : List Form) (f : Form) → IsPlaced before f → (IsInRange before f → ⊥) → IsFirstOf before f reason.Range
+range_first before f p b = record { earlier = early_range before f p; broken = b }
+
+machine_asks : (before : List Form) (cpus counters : ℕ) → IsPlaced before (form.Machine cpus counters) → IsInRange before (form.Machine cpus counters) → (q : SReason) → AsksOf before (form.Machine cpus counters) q
+machine_asks before cpus counters p r reason.Place = p
+machine_asks before cpus counters p r reason.Range = r
+machine_asks before cpus counters p r other = tt
+
+bare_asks : (before : List Form) (cpus : ℕ) → IsPlaced before (form.MachineOfPmus cpus) → IsInRange before (form.MachineOfPmus cpus) → (q : SReason) → AsksOf before (form.MachineOfPmus cpus) q
+bare_asks before cpus p r reason.Place = p
+bare_asks before cpus p r reason.Range = r
+bare_asks before cpus p r other = tt
+
+pub machine_taken : (v : Version) (cpus counters : ℕ) (s : State) → IsInRange (form.Perf v ∷ []) (form.Machine cpus counters) → Follows (form.Perf v ∷ form.Machine cpus counters ∷ []) s → IsTaken (form.Perf v ∷ []) (form.Machine cpus counters) (progress.Told s)
+machine_taken v cpus counters s r h = record { asks = machine_asks (form.Perf v ∷ []) cpus counters refl r; behind = h }
+
+pub bare_taken : (v : Version) (cpus : ℕ) (s : State) → IsInRange (form.Perf v ∷ []) (form.MachineOfPmus cpus) → Follows (form.Perf v ∷ form.MachineOfPmus cpus ∷ []) s → IsTaken (form.Perf v ∷ []) (form.MachineOfPmus cpus) (progress.Told s)
+bare_taken v cpus s r h = record { asks = bare_asks (form.Perf v ∷ []) cpus refl r; behind = h }
+
+or_none : (n : ℕ) → n ≡ bit_or n 0
+or_none n = same_from_bits n (bit_or n 0) (λ i. let z = bit_at-zero i in let o = bit_at_or n 0 i in omega (arith, z, o))
+
+pub follows_machine : (v : Version) (cpus counters : ℕ) (s : State) → s.script ≡ with_pmu (empty_script cpus) (record { counters = counters; cpus = record { 0 = 2 ^ cpus - 1 } }) → s.section ≡ part.Machine → s.cpu ≡ None → s.tool ≡ None → s.named.0 ≡ 2 ^ cpus - 1
+    → Follows (form.Perf v ∷ form.Machine cpus counters ∷ []) s
+unfolding script_of
+follows_machine v cpus counters s e sect c t n = record {
+  two = omega arith;
+  script = e;
+  highest = rw sect (All-cons (λ g. section g ≤ 1) (form.Perf v) (form.Machine cpus counters ∷ []) (omega arith) (All-cons (λ g. section g ≤ 1) (form.Machine cpus counters) [] (omega arith) (λ k d l. absurd (omega (arith, l)))));
+  reached = rw sect (1, form.Machine cpus counters, omega arith, refl, refl);
+  cpu = ap cpu_number c;
+  cpus_rise = tt;
+  cpu_within = tt;
+  tool = ap tool_number t;
+  tools_rise = tt;
+  tool_within = tt;
+  named = n ∙ or_none (2 ^ cpus - 1);
+}
+
+pub follows_bare : (v : Version) (cpus : ℕ) (s : State) → s.script ≡ empty_script cpus → s.section ≡ part.Machine → s.cpu ≡ None → s.tool ≡ None → s.named.0 ≡ 0 → Follows (form.Perf v ∷ form.MachineOfPmus cpus ∷ []) s
+unfolding script_of
+follows_bare v cpus s e sect c t n = record {
+  two = omega arith;
+  script = e;
+  highest = rw sect (All-cons (λ g. section g ≤ 1) (form.Perf v) (form.MachineOfPmus cpus ∷ []) (omega arith) (All-cons (λ g. section g ≤ 1) (form.MachineOfPmus cpus) [] (omega arith) (λ k d l. absurd (omega (arith, l)))));
+  reached = rw sect (1, form.MachineOfPmus cpus, omega arith, refl, refl);
+  cpu = ap cpu_number c;
+  cpus_rise = tt;
+  cpu_within = tt;
+  tool = ap tool_number t;
+  tools_rise = tt;
+  tool_within = tt;
+  named = n;
+}
+
+pub all_of : (n : ℕ) → 1 ≤ n → (0 < 2 ^ n - 1) × (2 ^ n - 1 < 2 ^ n)
+all_of n l = let p : 2 ^ 1 ≤ 2 ^ n = pow-le-pow_right {n = 2} (omega arith) l in (omega (arith, p), omega (arith, p))
+
+-- ---- later lines
+
+pub sound_state : (forms : List Form) (s : State) → Follows forms s → IsSoundState s
+unfolding script_of
+sound_state forms s h = record {
+  cpu = subst (λ (o : Option ℕ). IfSome o (λ n. n < s.script.cpus)) (sym h.cpu) (subst (λ k. IfSome (last_of (processors_in forms)) (λ n. n < k)) (sym (script_cpus forms s.script h.script)) h.cpu_within);
+  tool = subst (λ (o : Option ℕ). IfSome o (λ n. n < 4)) (sym h.tool) h.tool_within;
+  named = h.named ∙ ap (λ (x : Scripted). union_of x.pmus) (sym h.script);
+}
+
+pub kept_form : (s : State) (f : Form) → ((q : SReason) → Asks s f q) → IsKept s f
+kept_form s f h = record { range = h reason.Range; attr = h reason.Attr; name = h reason.Name; limit = h reason.Limit }
+
+-- ---- the end
+
+end_section : (f : Form) → section f ≡ 10 → IsNoEnd f → ⊥
+end_section (form.Perf v) e h = omega (arith, e)
+end_section form.End e h = h
+end_section other e h = omega (arith, e)
+
+low_section : (f : Form) → section f < 10 → IsNoEnd f
+low_section form.End l = omega (arith, l)
+low_section other l = tt
+
+low_all : (forms : List Form) (n : ℕ) → n < 10 → All (λ g. section g ≤ n) forms → All IsNoEnd forms
+low_all forms n l h = λ k d w. low_section (get_or forms k d) (omega (arith, l, h k d w))
+
+pub ended_true : (forms : List Form) (p : Progress) → Behind forms p → ended_of p ≡ true → All IsNoEnd forms → ⊥
+ended_true forms progress.Start b e all = absurd cc
+ended_true forms progress.Begun b e all = absurd cc
+ended_true forms (progress.Told s) h e all =
+    let a = h.reached in
+    end_section (get_or forms a.0 a.1) (ap section a.3 ∙ (a.4 ∙ eqb-true _ _ e)) (all a.0 a.1 a.2)
+
+rank_high : (s : State) → rank_of s.section ≤ 10
+rank_high s = go s.section
+  where
+    go : (x : _) → rank_of x ≤ 10
+    go part.Perf = omega arith
+    go part.Machine = omega arith
+    go part.Pmus = omega arith
+    go part.Kinds = omega arith
+    go part.Tasks = omega arith
+    go part.Rings = omega arith
+    go part.Processors = omega arith
+    go part.Tools = omega arith
+    go part.Readers = omega arith
+    go part.Order = omega arith
+    go part.End = omega arith
+
+pub ended_false : (forms : List Form) (p : Progress) → Behind forms p → ended_of p ≡ false → All IsNoEnd forms
+ended_false forms progress.Start b e = rw b (λ k d l. absurd (omega (arith, l)))
+ended_false forms progress.Begun b e = rw b.1 (All-cons IsNoEnd (form.Perf b.0) [] tt (λ k d l. absurd (omega (arith, l))))
+ended_false forms (progress.Told s) h e =
+    let ne : rank_of s.section ≢ 10 = eqb-false _ _ e in
+    let high = rank_high s in
+    low_all forms (rank_of s.section) (omega (arith, ne, high)) h.highest
+
+-- ---- a line as its form
+
+pub sound_line : (v : Version) (before : List Form) (line : List ℕ) (f : Form) → All IsNoEnd before → All IsPrintable line → IsOfForm v (words_of line) f → ((g : Form) → IsOfForm v (words_of line) g → g ≡ f)
+    → ((q : SReason) → AsksOf before f q) → IsSound v before line f
+sound_line v before line f no_end plain is one asks = record { is = is; keeps = keeps }
+  where
+    keeps : (q : SReason) → Keeps v before line q
+    keeps reason.End = no_end
+    keeps reason.Ascii = plain
+    keeps reason.Form = (f, is)
+    keeps reason.Place = λ g h. subst (λ x. AsksOf before x reason.Place) (sym (one g h)) (asks reason.Place)
+    keeps reason.Range = λ g h. subst (λ x. AsksOf before x reason.Range) (sym (one g h)) (asks reason.Range)
+    keeps reason.Attr = λ g h. subst (λ x. AsksOf before x reason.Attr) (sym (one g h)) (asks reason.Attr)
+    keeps reason.Name = λ g h. subst (λ x. AsksOf before x reason.Name) (sym (one g h)) (asks reason.Name)
+    keeps reason.Limit = λ g h. subst (λ x. AsksOf before x reason.Limit) (sym (one g h)) (asks reason.Limit)
+    keeps reason.Weight = λ g h. subst (λ x. AsksOf before x reason.Weight) (sym (one g h)) (asks reason.Weight)
+    keeps reason.Order = tt
+
+pub faulty_line : (v : Version) (before : List Form) (line : List ℕ) (f : Form) (r : SReason) → All IsNoEnd before → All IsPrintable line → IsOfForm v (words_of line) f → ((g : Form) → IsOfForm v (words_of line) g → g ≡ f)
+    → IsFirstOf before f r → IsFaulty v before line r
+faulty_line v before line f r no_end plain is one first = record { earlier = earlier; broken = broken r first.broken }
+  where
+    earlier : (q : SReason) → rank q < rank r → Keeps v before line q
+    earlier reason.End l = no_end
+    earlier reason.Ascii l = plain
+    earlier reason.Form l = (f, is)
+    earlier reason.Place l = λ g h. subst (λ x. AsksOf before x reason.Place) (sym (one g h)) (first.earlier reason.Place l)
+    earlier reason.Range l = λ g h. subst (λ x. AsksOf before x reason.Range) (sym (one g h)) (first.earlier reason.Range l)
+    earlier reason.Attr l = λ g h. subst (λ x. AsksOf before x reason.Attr) (sym (one g h)) (first.earlier reason.Attr l)
+    earlier reason.Name l = λ g h. subst (λ x. AsksOf before x reason.Name) (sym (one g h)) (first.earlier reason.Name l)
+    earlier reason.Limit l = λ g h. subst (λ x. AsksOf before x reason.Limit) (sym (one g h)) (first.earlier reason.Limit l)
+    earlier reason.Weight l = λ g h. subst (λ x. AsksOf before x reason.Weight) (sym (one g h)) (first.earlier reason.Weight l)
+    earlier reason.Order l = tt
+
+    broken : (q : SReason) → (AsksOf before f q → ⊥) → Keeps v before line q → ⊥
+    broken reason.End b k = b tt
+    broken reason.Ascii b k = b tt
+    broken reason.Form b k = b tt
+    broken reason.Place b k = b (k f is)
+    broken reason.Range b k = b (k f is)
+    broken reason.Attr b k = b (k f is)
+    broken reason.Name b k = b (k f is)
+    broken reason.Limit b k = b (k f is)
+    broken reason.Weight b k = b (k f is)
+    broken reason.Order b k = b tt
+
+pub end_faulty : (v : Version) (before : List Form) (line : List ℕ) → (All IsNoEnd before → ⊥) → IsFaulty v before line reason.End
+end_faulty v before line b = record { earlier = λ q l. absurd (omega (arith, l)); broken = b }
+
+pub ascii_faulty : (v : Version) (before : List Form) (line : List ℕ) → All IsNoEnd before → (All IsPrintable line → ⊥) → IsFaulty v before line reason.Ascii
+ascii_faulty v before line no_end b = record { earlier = earlier; broken = b }
+  where
+    earlier : (q : SReason) → rank q < 1 → Keeps v before line q
+    earlier reason.End l = no_end
+    earlier reason.Ascii l = absurd (omega (arith, l))
+    earlier reason.Form l = absurd (omega (arith, l))
+    earlier reason.Place l = absurd (omega (arith, l))
+    earlier reason.Range l = absurd (omega (arith, l))
+    earlier reason.Attr l = absurd (omega (arith, l))
+    earlier reason.Name l = absurd (omega (arith, l))
+    earlier reason.Limit l = absurd (omega (arith, l))
+    earlier reason.Weight l = absurd (omega (arith, l))
+    earlier reason.Order l = absurd (omega (arith, l))
+
+pub form_faulty : (v : Version) (before : List Form) (line : List ℕ) → All IsNoEnd before → All IsPrintable line → ((f : Form) → IsOfForm v (words_of line) f → ⊥) → IsFaulty v before line reason.Form
+form_faulty v before line no_end plain b = record { earlier = earlier; broken = λ k. b k.0 k.1 }
+  where
+    earlier : (q : SReason) → rank q < 2 → Keeps v before line q
+    earlier reason.End l = no_end
+    earlier reason.Ascii l = plain
+    earlier reason.Form l = absurd (omega (arith, l))
+    earlier reason.Place l = absurd (omega (arith, l))
+    earlier reason.Range l = absurd (omega (arith, l))
+    earlier reason.Attr l = absurd (omega (arith, l))
+    earlier reason.Name l = absurd (omega (arith, l))
+    earlier reason.Limit l = absurd (omega (arith, l))
+    earlier reason.Weight l = absurd (omega (arith, l))
+    earlier reason.Order l = absurd (omega (arith, l))

@@ -1,0 +1,153 @@
+-- Names that are the same, or not, and the first kind of a name.
+use Rattle.std.proofs.Common.{◌≡◌, ◌≢◌, ℕ, zero, suc, ◌+◌, ◌<◌, ◌≤◌, ◌↔◌, Bool, AllPairs, take, map, length-take, is_some, true, false, All, List, [], ◌∷◌, length, get_or, Option, Some, None, inl, inr, refl, sym, ap, subst, ◌∙◌, arith, cond, ltb, not}
+use Rattle.std.specs.Prelude.{slice_get, IfSome, IsTrue, position, Any}
+use Rattle.std.specs.List.{position_or_len}
+use Rattle.std.specs.Str.{bytes_eq}
+use Rattle.std.proofs.lemmas.Slice.Eq.{bytes_eq-Decides}
+use Rattle.std.proofs.lemmas.Bool.{cases_eq, cases_lt, false_from_ne_true, lt-ltb, le-ltb}
+use Rattle.std.proofs.lemmas.List.{length-map, ext_get_or, get_or_default, get_or-take, take_more, take_all}
+use Rattle.std.proofs.lemmas.List.Sums.{position_or_len_is, fails_before_first}
+use Rattle.std.proofs.lemmas.List.Quantifiers.{position-Some, all_pairs_push}
+use Rattle.std.proofs.lemmas.Option.{slice_get-get_or, slice_get_within}
+use Rattle.std.proofs.lemmas.List.Elements.{All-push}
+use Rattle.perf_base.specs.declared.lines.KindLine.{KindLine}
+use Rattle.script_spec.specs.Meaning.{number_of}
+
+pub get_is : {X : Type 0} (xs : List X) (i : ℕ) (x d : X) → slice_get xs i ≡ Some x → get_or xs i d ≡ x
+get_is xs i x d e = some_is (sym (slice_get-get_or xs i d (slice_get_within xs i x e)) ∙ e)
+  where
+    some_is : {A : Type 0} {a b : A} → Some a ≡ Some b → a ≡ b
+    some_is e = cc
+
+pub names_differ : (xs ys : List ℕ) (i : ℕ) → (get_or xs i 0 ≡ get_or ys i 0 → ⊥) → false ≡ bytes_eq xs ys
+names_differ xs ys i h = sym (false_from_ne_true _ (λ t. h (ap (λ (zs : List ℕ). get_or zs i 0) ((bytes_eq-Decides xs ys).0 t))))
+
+pub lengths_differ : (xs ys : List ℕ) → (length xs ≡ length ys → ⊥) → false ≡ bytes_eq xs ys
+lengths_differ xs ys h = sym (false_from_ne_true _ (λ t. h (ap (λ (zs : List ℕ). length zs) ((bytes_eq-Decides xs ys).0 t))))
+
+pub names_same : (xs ys : List ℕ) (n : ℕ) → length xs ≡ length ys → length xs ≤ n → ((k : ℕ) → k < n → get_or xs k 0 ≡ get_or ys k 0) → true ≡ bytes_eq xs ys
+names_same xs ys n l m h = sym ((bytes_eq-Decides xs ys).1 (ext_get_or 0 xs ys l (λ i w. h i (omega arith))))
+
+pub one_more_same : (xs ys : List ℕ) (n : ℕ) → ((k : ℕ) → k < n → get_or xs k 0 ≡ get_or ys k 0) → get_or xs n 0 ≡ get_or ys n 0 → (k : ℕ) → k < n + 1 → get_or xs k 0 ≡ get_or ys k 0
+one_more_same xs ys n h e k l = elim (cases_lt k n) [
+  | inl before ↦ h k before
+  | inr here ↦ let is : k ≡ n = omega arith in rw is e
+]
+
+-- the first kind of the name, or none
+other_name : (kinds : List KindLine) (name : List ℕ) (k : ℕ) (d : KindLine) → k < length kinds → IfSome (slice_get kinds k) (λ x. bytes_eq x.name name ≡ false) → bytes_eq (get_or kinds k d).name name ≡ false
+other_name kinds name k d l h = subst (λ (o : Option KindLine). IfSome o (λ x. bytes_eq x.name name ≡ false)) (slice_get-get_or kinds k d l) h
+
+pub number_found : (kinds : List KindLine) (name : List ℕ) (i : ℕ) (x : KindLine) → slice_get kinds i ≡ Some x → bytes_eq x.name name ≡ true
+    → ((k : ℕ) → k < i → IfSome (slice_get kinds k) (λ y. bytes_eq y.name name ≡ false)) → Some i ≡ number_of kinds name
+number_found kinds name i x at is before =
+    let within : i < length kinds = slice_get_within kinds i x at in
+    let here : get_or kinds i x ≡ x = get_is kinds i x x at in
+    let n : position_or_len (λ k. bytes_eq k.name name) kinds ≡ i = position_or_len_is (λ k. bytes_eq k.name name) kinds i x (omega arith) (λ k l. other_name kinds name k x (omega arith) (before k l)) (λ _. rw here is) in
+    let t : ltb i (length kinds) ≡ true = lt-ltb _ _ within in
+    rw (n, t) refl
+
+pub number_not_found : (kinds : List KindLine) (name : List ℕ) (i : ℕ) → length kinds ≤ i
+    → ((k : ℕ) → k < i → IfSome (slice_get kinds k) (λ y. bytes_eq y.name name ≡ false)) → None ≡ number_of kinds name
+number_not_found [] name i past before = refl
+number_not_found (x ∷ kinds) name i past before =
+    let n : position_or_len (λ k. bytes_eq k.name name) (x ∷ kinds) ≡ length (x ∷ kinds) = position_or_len_is (λ k. bytes_eq k.name name) (x ∷ kinds) (length (x ∷ kinds)) x (omega arith) (λ k l. other_name (x ∷ kinds) name k x l (before k (omega arith))) (λ l. absurd (omega (arith, l))) in
+    let t : ltb (length (x ∷ kinds)) (length (x ∷ kinds)) ≡ false = le-ltb _ _ (omega arith) in
+    rw (n, t) refl
+
+pub one_more_other : (kinds : List KindLine) (name : List ℕ) (i : ℕ) → ((k : ℕ) → k < i → IfSome (slice_get kinds k) (λ y. bytes_eq y.name name ≡ false))
+    → IfSome (slice_get kinds i) (λ y. bytes_eq y.name name ≡ false) → (k : ℕ) → k < i + 1 → IfSome (slice_get kinds k) (λ y. bytes_eq y.name name ≡ false)
+one_more_other kinds name i before here k l = elim (cases_lt k i) [
+  | inl less ↦ before k less
+  | inr at ↦ let is : k ≡ i = omega arith in rw is here
+]
+
+none_within : (xs : List KindLine) (k : ℕ) → k < length xs → slice_get xs k ≡ None → ⊥
+none_within [] k l e = omega (arith, l)
+none_within (x ∷ xs) zero l e = absurd cc
+none_within (x ∷ xs) (suc k) l e = none_within xs k (omega (arith, l)) e
+
+pub number_found_by : (kinds : List KindLine) (name called : List ℕ) (i : ℕ) → i < length kinds → IfSome (slice_get kinds i) (λ k. called ≡ k.name) → bytes_eq called name ≡ true
+    → ((k : ℕ) → k < i → IfSome (slice_get kinds k) (λ y. bytes_eq y.name name ≡ false)) → Some i ≡ number_of kinds name
+number_found_by kinds name called i within is t before = go (slice_get kinds i) refl is
+  where
+    go : (o : Option KindLine) → slice_get kinds i ≡ o → IfSome o (λ k. called ≡ k.name) → Some i ≡ number_of kinds name
+    go (Some x) at same = number_found kinds name i x at (rw (← same) t) before
+    go None at same = absurd (none_within kinds i within at)
+
+-- ---- declared names
+
+none_some : {A : Type 0} (x : A) → None ≡ Some x → ⊥
+none_some x e = cc
+
+pub any_at : {X : Type 0} (P : X → Type 0) (xs : List X) (i : ℕ) (d : X) → i < length xs → P (get_or xs i d) → Any P xs
+any_at P xs i d l p = (i, get_or xs i d, l, get_or_default xs i (get_or xs i d) d l, p)
+
+pub declared_some : (kinds : List KindLine) (name : List ℕ) (i : ℕ) → number_of kinds name ≡ Some i → Any (λ k. k.name ≡ name) kinds
+declared_some [] name i e = absurd cc
+declared_some (x ∷ kinds) name i e =
+    let p = position-Some (λ k. bytes_eq k.name name) (x ∷ kinds) i x e in
+    any_at (λ k. k.name ≡ name) (x ∷ kinds) i x p.0 ((bytes_eq-Decides (get_or (x ∷ kinds) i x).name name).0 p.1)
+
+pub declared_none : (kinds : List KindLine) (name : List ℕ) → number_of kinds name ≡ None → All (λ k. k.name ≢ name) kinds
+declared_none kinds name e = λ k d l same.
+    let t : bytes_eq (get_or kinds k d).name name ≡ true = (bytes_eq-Decides (get_or kinds k d).name name).1 same in
+    elim (cases_lt (position_or_len (λ x. bytes_eq x.name name) kinds) (length kinds)) [
+      | inl within ↦ absurd (none_some (position_or_len (λ x. bytes_eq x.name name) kinds) (sym e ∙ rw (lt-ltb _ _ within) refl))
+      | inr past ↦ let f : bytes_eq (get_or kinds k d).name name ≡ false = fails_before_first (λ x. bytes_eq x.name name) kinds k d (omega arith) in absurd cc
+    ]
+
+pub declared_iff : (kinds : List KindLine) (name : List ℕ) (r : Option ℕ) (b : Bool) → r ≡ number_of kinds name → b ≡ is_some r → IsTrue b ↔ Any (λ k. k.name ≡ name) kinds
+declared_iff kinds name (Some i) b e is = (λ t. declared_some kinds name i (sym e), λ any. is)
+declared_iff kinds name None b e is = (λ t. absurd cc, λ any. let none = declared_none kinds name (sym e) in absurd (none any.0 any.1 any.2 (ap (λ (k : KindLine). k.name) any.3 ∙ any.4)))
+
+pub new_iff : (kinds : List KindLine) (name : List ℕ) (r : Option ℕ) (b : Bool) → r ≡ number_of kinds name → is_some r ≡ not b → IsTrue b ↔ All (λ k. k.name ≢ name) kinds
+new_iff kinds name (Some i) true e is = absurd cc
+new_iff kinds name (Some i) false e is = (λ t. absurd cc, λ all. let any = declared_some kinds name i (sym e) in absurd (all any.0 any.1 any.2 (ap (λ (k : KindLine). k.name) any.3 ∙ any.4)))
+new_iff kinds name None true e is = (λ t. declared_none kinds name (sym e), λ all. refl)
+new_iff kinds name None false e is = absurd cc
+
+-- ---- names that are apart
+
+pub not_apart : {X : Type 0} (f : X → List ℕ) (xs : List X) (i : ℕ) (d : X) → i < length xs → Any (λ x. f x ≡ f (get_or xs i d)) (take i xs) → AllPairs (λ x y. f x ≢ f y) xs → ⊥
+not_apart f xs i d l any apart =
+    let k : any.0 < i = omega (arith, any.2, length-take i xs) in
+    let at : get_or xs any.0 any.1 ≡ any.1 = sym (get_or-take i xs any.0 any.1 k) ∙ any.3 in
+    let same : f (get_or xs any.0 d) ≡ f (get_or xs i d) = ap f (get_or_default xs any.0 d any.1 (omega arith) ∙ at) ∙ any.4 in
+    apart any.0 i d k l same
+
+pub apart_more : {X : Type 0} (f : X → List ℕ) (xs : List X) (i : ℕ) (d : X) → i < length xs → AllPairs (λ x y. f x ≢ f y) (take i xs) → (Any (λ x. f x ≡ f (get_or xs i d)) (take i xs) → ⊥)
+    → AllPairs (λ x y. f x ≢ f y) (take (i + 1) xs)
+apart_more f xs i d l apart none =
+    rw (take_more xs i d l) (all_pairs_push (λ x y. f x ≢ f y) (take i xs) (get_or xs i d) apart (λ k e w same. none (any_at (λ x. f x ≡ f (get_or xs i d)) (take i xs) k e w same)))
+
+pub apart_all : {X : Type 0} (f : X → List ℕ) (xs : List X) (i : ℕ) → length xs ≤ i → AllPairs (λ x y. f x ≢ f y) (take i xs) → AllPairs (λ x y. f x ≢ f y) xs
+apart_all f xs i l h = rw (take_all i xs l) at h
+
+pub apart_map : {X Y : Type 0} (f : X → List ℕ) (g : Y → X) (ys : List Y) → AllPairs (λ x y. f (g x) ≢ f (g y)) ys ↔ AllPairs (λ x y. f x ≢ f y) (map g ys)
+apart_map f g [] = (λ h i j d l m. absurd (omega (arith, m)), λ h i j d l m. absurd (omega (arith, m)))
+apart_map f g (z ∷ ys) = (
+  λ h i j d l m.
+      let w : j < length (z ∷ ys) = omega (arith, m, length-map (z ∷ ys) g) in
+      rw (read_map g (z ∷ ys) i z d (omega arith), read_map g (z ∷ ys) j z d w) (h i j z l w),
+  λ h i j d l m.
+      let w : j < length (map g (z ∷ ys)) = omega (arith, m, length-map (z ∷ ys) g) in
+      let p = h i j (g d) l w in
+      rw (read_map g (z ∷ ys) i d (g d) (omega arith), read_map g (z ∷ ys) j d (g d) m) at p,
+)
+  where
+    read_map : {X Y : Type 0} (g : Y → X) (ys : List Y) (i : ℕ) (d : Y) (e : X) → i < length ys → get_or (map g ys) i e ≡ g (get_or ys i d)
+    read_map g [] i d e l = absurd (omega (arith, l))
+    read_map g (y ∷ ys) zero d e l = refl
+    read_map g (y ∷ ys) (suc i) d e l = read_map g ys i d e (omega (arith, l))
+
+-- ---- a loop that tests each element
+
+pub all_more : {X : Type 0} (P : X → Type 0) (xs : List X) (i : ℕ) (d : X) → i < length xs → All P (take i xs) → P (get_or xs i d) → All P (take (i + 1) xs)
+all_more P xs i d l h p = rw (take_more xs i d l) (All-push P (take i xs) (get_or xs i d) h p)
+
+pub all_not : {X : Type 0} (P : X → Type 0) (xs : List X) (i : ℕ) (d : X) → i < length xs → (P (get_or xs i d) → ⊥) → IsTrue false ↔ All P xs
+all_not P xs i d l h = (λ t. absurd cc, λ all. absurd (h (all i d l)))
+
+pub all_done : {X : Type 0} (P : X → Type 0) (xs : List X) (i : ℕ) → length xs ≤ i → All P (take i xs) → IsTrue true ↔ All P xs
+all_done P xs i l h = let all : All P xs = (rw (take_all i xs l) at h) in (λ t. all, λ a. refl)

@@ -1,0 +1,33 @@
+-- A form that is taken, as a line.
+use Rattle.std.proofs.Common.{◌≡◌, ℕ, Bool, true, false, All, List, [], ◌∷◌, ◌++◌, Result, Ok, Err, refl, sym, ap, subst, ◌∙◌}
+use Rattle.std.specs.Prelude.{IfOk, IfErr}
+use Rattle.script_spec.specs.Lines.{words_of}
+use Rattle.script_spec.specs.Forms as form
+use Rattle.script_spec.specs.Forms.{Version, Form, IsOfForm}
+use Rattle.script_spec.specs.Faults.{IsPrintable, IsFaulty}
+use Rattle.script_read.specs.declared.progress.Progress.{Progress}
+use Rattle.script_read.specs.declared.progress.Progress.TheVariants as progress
+use Rattle.script_read.specs.declared.fault.LineFault.{LineFault}
+use Rattle.script_read.specs.declared.fault.LineFault.TheVariants as fault
+use Rattle.script_read.specs.Progressing.{Behind, IsTaken, IsFirstOf, Blames, ended_of, IsTakenLine}
+use Rattle.script_read.proofs.Begun.{ended_false, sound_line, faulty_line}
+
+begun_taken : (forms : List Form) (f : Form) (q : Progress) → ((v : Version) → IsTaken (form.Perf v ∷ []) f q) → (v : Version) × (forms ≡ form.Perf v ∷ []) → IsTaken forms f q
+begun_taken forms f q h x = subst (λ fs. IsTaken fs f q) (sym x.1) (h x.0)
+
+pub begun_ok : (r : Result Progress LineFault) (f : Form) (p : Progress) → p ≡ progress.Begun → IfOk r (λ q. (v : Version) → IsTaken (form.Perf v ∷ []) f q) → IfOk r (λ q. (forms : List Form) → Behind forms p → IsTaken forms f q)
+begun_ok (Ok q) f p e h = λ forms b. begun_taken forms f q h (subst (Behind forms) e b)
+begun_ok (Err x) f p e h = tt
+
+pub line_ok : (r : Result Progress LineFault) (v : Version) (line : List ℕ) (f : Form) (p : Progress) → ended_of p ≡ false → All IsPrintable line → IsOfForm v (words_of line) f → ((g : Form) → IsOfForm v (words_of line) g → g ≡ f)
+    → IfOk r (λ q. (forms : List Form) → Behind forms p → IsTaken forms f q) → IfOk r (λ q. (forms : List Form) → Behind forms p → IsTakenLine v forms line q)
+line_ok (Ok q) v line f p e plain is one h = λ forms b.
+    let t = h forms b in
+    record { form = f; sound = sound_line v forms line f (ended_false forms p b e) plain is one t.asks; behind = t.behind }
+line_ok (Err x) v line f p e plain is one h = tt
+
+pub line_bad : (r : Result Progress LineFault) (v : Version) (line : List ℕ) (f : Form) (p : Progress) → ended_of p ≡ false → All IsPrintable line → IsOfForm v (words_of line) f → ((g : Form) → IsOfForm v (words_of line) g → g ≡ f)
+    → IfErr r (λ x. (forms : List Form) → Behind forms p → Blames x (λ q. IsFirstOf forms f q)) → IfErr r (λ x. (forms : List Form) → Behind forms p → Blames x (λ q. IsFaulty v forms line q))
+line_bad (Ok q) v line f p e plain is one h = tt
+line_bad (Err (fault.Bad q)) v line f p e plain is one h = λ forms b. faulty_line v forms line f q (ended_false forms p b e) plain is one (h forms b)
+line_bad (Err fault.NoMemory) v line f p e plain is one h = λ forms b. tt

@@ -1,0 +1,156 @@
+-- Line after line, and the whole text.
+use Rattle.std.proofs.Common.{◌≡◌, ◌≢◌, ℕ, zero, suc, ◌+◌, ◌<◌, ◌≤◌, ◌⊎◌, Bool, true, false, eqb, All, List, [], ◌∷◌, ◌++◌, length, length-append, length-take, get_or, take, Option, Some, None, Result, Ok, Err, inl, inr, refl, sym, ap, subst, ◌∙◌, arith, append_assoc}
+use Rattle.std.specs.Prelude.{IfOk, IfErr, Any}
+use Rattle.std.proofs.lemmas.Bool.{cases_lt, eqb-true}
+use Rattle.std.proofs.lemmas.List.{append-nil, length_push, take-append-le, take_at, take_all, get_or_append_left, get_or-take}
+use Rattle.perf_base.specs.declared.reasons.SReason.{SReason}
+use Rattle.perf_base.specs.declared.reasons.SReason.TheVariants as reason
+use Rattle.perf_base.specs.Scripts.{Scripted}
+use Rattle.script_spec.specs.Lines.{lines_of, rest_of}
+use Rattle.script_spec.specs.Forms as form
+use Rattle.script_spec.specs.Forms.{Version, Form}
+use Rattle.script_spec.specs.Meaning.{script_of}
+use Rattle.script_spec.specs.Faults.{section, IsNoEnd, IsSound, IsFaulty}
+use Rattle.script_spec.specs.Texts.{version_of, AreSound, IsWholeText, StandsFor, HasFaultyLine, IsCutOff, HasNoEnd, IsRefused}
+use Rattle.script_read.specs.declared.progress.Progress.{Progress}
+use Rattle.script_read.specs.declared.progress.Progress.TheVariants as progress
+use Rattle.script_read.specs.declared.fault.ScriptFault.{ScriptFault}
+use Rattle.script_read.specs.declared.fault.ScriptFault.TheVariants as fault
+use Rattle.script_read.specs.declared.fault.LineFault.{LineFault}
+use Rattle.script_read.specs.declared.fault.LineFault.TheVariants as line_fault
+use Rattle.script_read.specs.States.{Follows}
+use Rattle.script_read.specs.Progressing.{Behind, Blames, ended_of, IsTakenLine}
+use Rattle.script_read.specs.Finishing.{IsNextLine, HasNoLine, IsReading, Says, IsFinished, IsUnfinished, IsBlamed, blamed_of}
+use Rattle.script_read.proofs.Begun.{ended_false}
+
+get_last : {X : Type 0} (xs : List X) (x d : X) (rest : List X) → get_or (xs ++ x ∷ rest) (length xs) d ≡ x
+get_last [] x d rest = refl
+get_last (y ∷ xs) x d rest = get_last xs x d rest
+
+-- ---- one line more
+
+sound_more : (v : Version) (lines : List (List ℕ)) (before : List Form) (line : List ℕ) (f : Form) → AreSound v lines before → IsSound v before line f → AreSound v (lines ++ line ∷ []) (before ++ f ∷ [])
+sound_more v lines before line f h s = record {
+  as_many = length_push before f ∙ (ap (λ n. n + 1) h.as_many ∙ sym (length_push lines line));
+  each = λ k l. elim (cases_lt k (length lines)) [
+    | inl less ↦
+        let b : k < length before = omega (arith, h.as_many) in
+        rw (take-append-le k before (f ∷ []) (omega arith), get_or_append_left lines (line ∷ []) [] k less, get_or_append_left before (f ∷ []) form.End k b) (h.each k less)
+    | inr past ↦
+        let n : k ≡ length lines = omega (arith, l, length_push lines line) in
+        let m : length before ≡ k = h.as_many ∙ sym n in
+        let t : take k (before ++ f ∷ []) ≡ before = take_at before (f ∷ []) k m in
+        let x : get_or (lines ++ line ∷ []) k [] ≡ line = ap (λ j. get_or (lines ++ line ∷ []) j []) n ∙ get_last lines line [] [] in
+        let y : get_or (before ++ f ∷ []) k form.End ≡ f = ap (λ j. get_or (before ++ f ∷ []) j form.End) (sym m) ∙ get_last before f form.End [] in
+        rw (t, x, y) s
+  ];
+}
+
+-- the lines that were read, and one more
+split_more : (all front : List (List ℕ)) (line : List ℕ) (more : List (List ℕ)) (n : ℕ) → all ≡ front ++ (line ∷ more) → length front ≡ n → take (n + 1) all ≡ front ++ line ∷ []
+split_more all front line more n e l =
+    let w : all ≡ (front ++ line ∷ []) ++ more = e ∙ sym (append_assoc front (line ∷ []) more) in
+    ap (take (n + 1)) w ∙ take_at (front ++ line ∷ []) more (n + 1) (length_push front line ∙ ap (λ k. k + 1) l)
+
+front_length : (text : List ℕ) (p : Progress) (n : ℕ) (left : List ℕ) (r : IsReading text p n left) → length (take n (lines_of text)) ≡ n
+front_length text p n left r = sym r.sound.as_many ∙ r.many
+
+pub reading_start : (text : List ℕ) → IsReading text progress.Start 0 text
+reading_start text = record {
+  forms = [];
+  behind = refl;
+  many = refl;
+  sound = record { as_many = refl; each = λ k l. absurd (omega (arith, l)) };
+  lines = refl;
+  rest = refl;
+  few = omega arith;
+}
+
+pub reading_more : (text : List ℕ) (v : Version) (p q : Progress) (n : ℕ) (left line more : List ℕ) → v ≡ version_of (lines_of text) → IsReading text p n left → IsNextLine left line more
+    → ((forms : List Form) → Behind forms p → IsTakenLine v forms line q) → IsReading text q (n + 1) more
+reading_more text v p q n left line more e r x h =
+    let t = h r.forms r.behind in
+    let split : lines_of text ≡ take n (lines_of text) ++ (line ∷ lines_of more) = r.lines ∙ ap (λ (ls : List (List ℕ)). take n (lines_of text) ++ ls) x.lines in
+    let front : take (n + 1) (lines_of text) ≡ take n (lines_of text) ++ line ∷ [] = split_more (lines_of text) (take n (lines_of text)) line (lines_of more) n split (front_length text p n left r) in
+    record {
+      forms = r.forms ++ t.form ∷ [];
+      behind = t.behind;
+      many = length_push r.forms t.form ∙ ap (λ k. k + 1) r.many;
+      sound = rw front (sound_more (version_of (lines_of text)) (take n (lines_of text)) r.forms line t.form r.sound (subst (λ u. IsSound u r.forms line t.form) e t.sound));
+      lines = rw front (split ∙ sym (append_assoc (take n (lines_of text)) (line ∷ []) (lines_of more)));
+      rest = r.rest ∙ x.rest;
+      few = omega (arith, r.few, x.shorter);
+    }
+
+-- ---- a faulty line
+
+pub refused_at : (text : List ℕ) (v : Version) (p : Progress) (n : ℕ) (left line more : List ℕ) (r : SReason) → v ≡ version_of (lines_of text) → IsReading text p n left → IsNextLine left line more
+    → ((forms : List Form) → Behind forms p → IsFaulty v forms line r) → IsRefused text (n + 1) r
+refused_at text v p n left line more q e r x h =
+    let split : lines_of text ≡ take n (lines_of text) ++ (line ∷ lines_of more) = r.lines ∙ ap (λ (ls : List (List ℕ)). take n (lines_of text) ++ ls) x.lines in
+    let len : length (take n (lines_of text)) ≡ n = front_length text p n left r in
+    let whole : length (lines_of text) ≡ length (take n (lines_of text)) + length (line ∷ lines_of more) = ap length split ∙ length-append (take n (lines_of text)) (line ∷ lines_of more) in
+    let at : get_or (lines_of text) (length r.forms) [] ≡ line = ap (λ (ls : List (List ℕ)). get_or ls (length r.forms) []) split ∙ (ap (λ k. get_or (take n (lines_of text) ++ (line ∷ lines_of more)) k []) (r.many ∙ sym len) ∙ get_last (take n (lines_of text)) line [] (lines_of more)) in
+    (r.forms, inl (record {
+      within = omega (arith, whole, len, r.many);
+      sound = subst (λ k. AreSound (version_of (lines_of text)) (take k (lines_of text)) r.forms) (sym r.many) r.sound;
+      faulty = rw at (subst (λ u. IsFaulty u r.forms line q) e (h r.forms r.behind));
+      number = ap (λ k. k + 1) (sym r.many);
+    }))
+
+-- ---- the end
+
+all_read : (text : List ℕ) (p : Progress) (n : ℕ) (left : List ℕ) → (r : IsReading text p n left) → HasNoLine left → (take n (lines_of text) ≡ lines_of text) × (rest_of text ≡ left)
+all_read text p n left r x = (sym (r.lines ∙ (ap (λ (ls : List (List ℕ)). take n (lines_of text) ++ ls) x.lines ∙ append-nil (take n (lines_of text)))), r.rest ∙ x.rest)
+
+sound_all : (text : List ℕ) (p : Progress) (n : ℕ) (left : List ℕ) → (r : IsReading text p n left) → HasNoLine left → AreSound (version_of (lines_of text)) (lines_of text) r.forms
+sound_all text p n left r x = subst (λ ls. AreSound (version_of (lines_of text)) ls r.forms) (all_read text p n left r x).0 r.sound
+
+count_all : (text : List ℕ) (p : Progress) (n : ℕ) (left : List ℕ) → (r : IsReading text p n left) → HasNoLine left → n ≡ length (lines_of text)
+count_all text p n left r x = sym r.many ∙ (sound_all text p n left r x).as_many
+
+end_form : (f : Form) → section f ≡ 10 → f ≡ form.End
+end_form (form.Perf v) e = absurd (omega (arith, e))
+end_form form.End e = refl
+end_form other e = absurd (omega (arith, e))
+
+has_end : (forms : List Form) (p : Progress) → Behind forms p → ended_of p ≡ true → Any (λ f. f ≡ form.End) forms
+has_end forms progress.Start b e = absurd cc
+has_end forms progress.Begun b e = absurd cc
+has_end forms (progress.Told s) h e =
+    let a = h.reached in
+    (a.0, a.1, a.2, a.3, end_form a.1 (a.4 ∙ eqb-true _ _ e))
+
+says_script : (forms : List Form) (p : Progress) (s : Scripted) → Behind forms p → Says p s → s ≡ script_of forms
+says_script forms progress.Start s b h = absurd h
+says_script forms progress.Begun s b h = absurd h
+says_script forms (progress.Told t) s b h = h ∙ b.script
+
+pub stands : (text : List ℕ) (p : Progress) (n : ℕ) (left : List ℕ) (s : Scripted) → IsReading text p n left → HasNoLine left → IsFinished left p s → StandsFor text s
+stands text p n left s r x f =
+    (r.forms, record { sound = sound_all text p n left r x; ended = (all_read text p n left r x).1 ∙ f.nothing; has_end = has_end r.forms p r.behind f.ended }, says_script r.forms p s r.behind f.says)
+
+blamed : (text : List ℕ) (e : ScriptFault) (n : ℕ) (r : SReason) → e ≡ fault.Bad n r → IsRefused text n r → IsBlamed text e
+blamed text e n r is h = subst (IsBlamed text) (sym is) h
+
+pub unfinished : (text : List ℕ) (p : Progress) (n : ℕ) (left : List ℕ) (e : ScriptFault) → IsReading text p n left → HasNoLine left → IsUnfinished left p n e → IsBlamed text e
+unfinished text p n left e r x (inl cut) =
+    blamed text e (n + 1) reason.End cut.1 (r.forms, inr (inl (record {
+      sound = sound_all text p n left r x;
+      more = λ none. cut.0 (sym (all_read text p n left r x).1 ∙ none);
+      number = ap (λ k. k + 1) (count_all text p n left r x);
+      is_end = refl;
+    })))
+unfinished text p n left e r x (inr open_end) =
+    blamed text e n reason.End open_end.2 (r.forms, inr (inr (record {
+      sound = sound_all text p n left r x;
+      ended = (all_read text p n left r x).1 ∙ open_end.0;
+      no_end = ended_false r.forms p r.behind open_end.1;
+      number = count_all text p n left r x;
+      is_end = refl;
+    })))
+
+pub line_blamed : (text : List ℕ) (v : Version) (p : Progress) (n : ℕ) (left line more : List ℕ) (x : LineFault) → v ≡ version_of (lines_of text) → IsReading text p n left → IsNextLine left line more
+    → ((forms : List Form) → Behind forms p → Blames x (λ r. IsFaulty v forms line r)) → IsBlamed text (blamed_of (n + 1) x)
+line_blamed text v p n left line more (line_fault.Bad r) e reading next h = refused_at text v p n left line more r e reading next h
+line_blamed text v p n left line more line_fault.NoMemory e reading next h = tt

@@ -1,0 +1,21 @@
+use Rattle.std.proofs.Common.{◌≡◌, ◌∙◌, sym, false}
+use Rattle.line_forms.specs.Seen.{form_of, version_of}
+use Rattle.script_read.specs.Progressing.{ended_of}
+use Rattle.script_read.proofs.Begun.{ended_false, ascii_faulty}
+use Rattle.script_read.proofs.Lined.{line_ok, line_bad}
+use Rattle.script_read.proofs.progress.take_line.Goals as goal
+
+pub returns-then-not-is_printable-clause-bad : goal.returns-then-not-is_printable-clause-bad
+returns-then-not-is_printable-clause-bad c = λ forms b.
+    let e : ended_of c.args.progress ≡ false = sym c.has_ended.ensures ∙ c.if-has_ended.false in
+    ascii_faulty (version_of c.args.version) forms c.args.line.now (ended_false forms c.args.progress b e) (λ all. let t = c.is_printable.ensures.1 all in absurd cc)
+
+pub returns-clause-ok : goal.returns-clause-ok
+returns-clause-ok c =
+    let e : ended_of c.args.progress ≡ false = sym c.has_ended.ensures ∙ c.if-has_ended.false in
+    line_ok c.take_form.result (version_of c.args.version) c.args.line.now (form_of c.in-Ok.form) c.args.progress e (c.is_printable.ensures.0 cc) c.in-Ok.ensures.ok c.in-Ok.ensures.one c.take_form.ensures.ok
+
+pub returns-clause-bad : goal.returns-clause-bad
+returns-clause-bad c =
+    let e : ended_of c.args.progress ≡ false = sym c.has_ended.ensures ∙ c.if-has_ended.false in
+    line_bad c.take_form.result (version_of c.args.version) c.args.line.now (form_of c.in-Ok.form) c.args.progress e (c.is_printable.ensures.0 cc) c.in-Ok.ensures.ok c.in-Ok.ensures.one c.take_form.ensures.bad

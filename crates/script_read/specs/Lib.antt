@@ -1,0 +1,7 @@
+pub mod Adding
+pub mod Checks
+pub mod Finishing
+pub mod Lines
+pub mod Naming
+pub mod Progressing
+pub mod States

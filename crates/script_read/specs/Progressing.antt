@@ -1,0 +1,57 @@
+-- How far a text is read, by the forms of its lines so far.
+use Rattle.std.specs.Prelude.{◌≡◌, ℕ, ◌<◌, List, [], ◌∷◌, ◌++◌, Bool, false, ◌==◌}
+use Rattle.perf_base.specs.declared.reasons.SReason.{SReason}
+use Rattle.perf_base.specs.declared.reasons.SReason.TheVariants as reason
+use Rattle.script_spec.specs.Forms as form
+use Rattle.script_spec.specs.Forms.{Version, Form}
+use Rattle.script_spec.specs.Faults.{IsPlaced, IsInRange, HasAttr, IsNamed, IsWithinLimits, IsLight, IsSound, rank}
+use Rattle.script_read.specs.declared.progress.Progress.{Progress}
+use Rattle.script_read.specs.declared.progress.Progress.TheVariants as progress
+use Rattle.script_read.specs.declared.fault.LineFault.{LineFault}
+use Rattle.script_read.specs.declared.fault.LineFault.TheVariants as fault
+use Rattle.script_read.specs.States.{rank_of, Follows}
+
+-- the lines so far are of these forms
+abbrev pub Behind : List Form → Progress → Type 0
+Behind forms progress.Start = forms ≡ []
+Behind forms progress.Begun = (v : Version) × (forms ≡ form.Perf v ∷ [])
+Behind forms (progress.Told s) = Follows forms s
+
+-- what each reason asks of a form behind those before it
+abbrev pub AsksOf : List Form → Form → SReason → Type 0
+AsksOf before f reason.Place = IsPlaced before f
+AsksOf before f reason.Range = IsInRange before f
+AsksOf before f reason.Attr = HasAttr f
+AsksOf before f reason.Name = IsNamed before f
+AsksOf before f reason.Limit = IsWithinLimits before f
+AsksOf before f reason.Weight = IsLight before f
+AsksOf before f reason.Ascii = Unit {0}
+AsksOf before f reason.Form = Unit {0}
+AsksOf before f reason.Order = Unit {0}
+AsksOf before f reason.End = Unit {0}
+
+pub record IsFirstOf (before : List Form) (f : Form) (r : SReason) : Type 0 where
+  pub earlier : (q : SReason) → rank q < rank r → AsksOf before f q
+  pub broken : AsksOf before f r → ⊥
+
+-- a form is taken behind those before it
+pub record IsTaken (before : List Form) (f : Form) (p : Progress) : Type 0 where
+  pub asks : (q : SReason) → AsksOf before f q
+  pub behind : Behind (before ++ f ∷ []) p
+
+-- a fault other than want of memory
+abbrev pub Blames : LineFault → (SReason → Type 0) → Type 0
+Blames (fault.Bad r) P = P r
+Blames fault.NoMemory P = Unit {0}
+
+-- whether the `end` line was read
+abbrev pub ended_of : Progress → Bool
+ended_of progress.Start = false
+ended_of progress.Begun = false
+ended_of (progress.Told s) = rank_of s.section == 10
+
+-- a line is sound behind those before it, and taken
+pub record IsTakenLine (version : Version) (before : List Form) (line : List ℕ) (p : Progress) : Type 0 where
+  pub form : Form
+  pub sound : IsSound version before line form
+  pub behind : Behind (before ++ form ∷ []) p

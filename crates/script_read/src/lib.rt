@@ -1,0 +1,22 @@
+// The reader of scripts. Contracts say by the definitions of the language which text stands for which script,
+// and which line of another text is refused for which reason. It serves the top call.
+#![tactic(auto)]
+
+mod adding;
+mod fault;
+mod judging;
+mod kinds;
+mod lines;
+mod names;
+mod order;
+mod place;
+mod progress;
+mod range;
+mod reading;
+mod state;
+#[cfg(test)]
+mod tests;
+
+pub use fault::ScriptFault;
+pub use order::order_complete;
+pub use reading::read_script;

@@ -1,0 +1,184 @@
+//! One line behind the lines so far.
+
+ghost use Rattle.std.specs.Prelude.{◌≡◌, ◌-◌, ◌^◌, ◌≤◌, ◌↔◌, IsTrue, IfOk, IfErr, All, List, [], ◌∷◌};
+ghost use Rattle.script_spec.specs.Forms as text;
+ghost use Rattle.script_spec.specs.Faults.{IsPrintable, IsBetween, IsFaulty};
+ghost use Rattle.line_forms.specs.Seen.{form_of, version_of};
+ghost use Rattle.script_read.specs.States.{Follows};
+ghost use Rattle.script_read.specs.Progressing.{Behind, IsTaken, IsFirstOf, Blames, ended_of, IsTakenLine};
+
+use crate::adding::add;
+use crate::fault::LineFault;
+use crate::judging::judge;
+use crate::range::{are_counters, is_machine};
+use crate::state::{Section, State};
+use line_forms::{Form, LineStop, Version, read_form};
+use perf_base::{CpuSet, NoMemory, SReason, Script};
+use std::alloc::Global;
+
+/// How far a text is read: not at all, up to its version, or up to its machine and more.
+#[derive(Drop)]
+pub enum Progress {
+    Start,
+    Begun,
+    Told(State),
+}
+
+/// Whether all bytes are printable ones of ASCII.
+fn is_printable(line: &[u8]) -> bool
+    ensures { IsTrue result ↔ All IsPrintable line.now }
+{
+    line.iter().all(|byte| 32 <= *byte && *byte <= 126)
+}
+
+/// All processors of a machine.
+fn all_cpus(cpus: u8) -> u8
+    requires { (1 ≤ cpus) × (cpus ≤ 8) }
+    ensures { result ≡ 2 ^ cpus - 1 }
+{
+    match cpus {
+        1 => 1,
+        2 => 3,
+        3 => 7,
+        4 => 15,
+        5 => 31,
+        6 => 63,
+        7 => 127,
+        _ => 255,
+    }
+}
+
+/// What a machine with one PMU on all processors says.
+fn whole_machine(alloc: Global, cpus: u8, counters: u8) -> Result<State, NoMemory>
+    requires cpus { IsBetween 1 8 cpus }
+    requires counters { IsBetween 1 16 counters }
+    ensures { IfOk result (λ s. (v : text.Version) → Follows (text.Perf v ∷ text.Machine cpus counters ∷ []) s) }
+{
+    let mut script = Script::new(alloc, cpus);
+    script.add_pmu(counters, all_cpus(cpus))?;
+    Ok(State {
+        script,
+        section: Section::Machine,
+        cpu: None,
+        tool: None,
+        named: CpuSet(all_cpus(cpus)),
+    })
+}
+
+/// What a machine of PMUs says.
+fn bare_machine(alloc: Global, cpus: u8) -> State
+    requires { IsBetween 1 8 cpus }
+    ensures { (v : text.Version) → Follows (text.Perf v ∷ text.MachineOfPmus cpus ∷ []) result }
+{
+    State {
+        script: Script::new(alloc, cpus),
+        section: Section::Machine,
+        cpu: None,
+        tool: None,
+        named: CpuSet::new(),
+    }
+}
+
+/// The first form of a text.
+fn begin(form: &Form) -> Result<Progress, LineFault>
+    ensures ok { IfOk result (λ p. IsTaken [] (form_of form.now) p) }
+    ensures bad { IfErr result (λ e. Blames e (λ r. IsFirstOf [] (form_of form.now) r)) }
+{
+    match form {
+        Form::Perf(_) => Ok(Progress::Begun),
+        _ => Err(LineFault::Bad(SReason::Place)),
+    }
+}
+
+/// The second form of a text.
+fn build(alloc: Global, form: &Form) -> Result<Progress, LineFault>
+    ensures ok { IfOk result (λ p. (v : text.Version) → IsTaken (text.Perf v ∷ []) (form_of form.now) p) }
+    ensures bad { IfErr result (λ e. (v : text.Version) → Blames e (λ r. IsFirstOf (text.Perf v ∷ []) (form_of form.now) r)) }
+{
+    match form {
+        Form::Machine { cpus, counters } => {
+            if is_machine(*cpus) && are_counters(*counters) {
+                match whole_machine(alloc, *cpus as u8, *counters as u8) {
+                    Ok(state) => Ok(Progress::Told(state)),
+                    Err(NoMemory) => Err(LineFault::NoMemory),
+                }
+            } else {
+                Err(LineFault::Bad(SReason::Range))
+            }
+        }
+        Form::MachineOfPmus { cpus } => {
+            if is_machine(*cpus) {
+                Ok(Progress::Told(bare_machine(alloc, *cpus as u8)))
+            } else {
+                Err(LineFault::Bad(SReason::Range))
+            }
+        }
+        _ => Err(LineFault::Bad(SReason::Place)),
+    }
+}
+
+/// A later form of a text.
+fn go_on(state: State, form: &Form) -> Result<Progress, LineFault>
+    requires told { (forms : List text.Form) × Follows forms state }
+    requires spelling { text.IsSpelling (form_of form.now) }
+    ensures ok { IfOk result (λ p. (forms : List text.Form) → Follows forms state → IsTaken forms (form_of form.now) p) }
+    ensures bad { IfErr result (λ e. (forms : List text.Form) → Follows forms state → Blames e (λ r. IsFirstOf forms (form_of form.now) r)) }
+{
+    let mut state = state;
+    let _cpus = state.script.cpus();
+    match judge(&state, form) {
+        Some(reason) => Err(LineFault::Bad(reason)),
+        None => match add(&mut state, form) {
+            Ok(()) => Ok(Progress::Told(state)),
+            Err(NoMemory) => Err(LineFault::NoMemory),
+        },
+    }
+}
+
+/// One form more.
+fn take_form(alloc: Global, progress: Progress, form: &Form) -> Result<Progress, LineFault>
+    requires told { (forms : List text.Form) × Behind forms progress }
+    requires spelling { text.IsSpelling (form_of form.now) }
+    ensures ok { IfOk result (λ p. (forms : List text.Form) → Behind forms progress → IsTaken forms (form_of form.now) p) }
+    ensures bad { IfErr result (λ e. (forms : List text.Form) → Behind forms progress → Blames e (λ r. IsFirstOf forms (form_of form.now) r)) }
+{
+    match progress {
+        Progress::Start => begin(form),
+        Progress::Begun => build(alloc, form),
+        Progress::Told(state) => go_on(state, form),
+    }
+}
+
+/// Whether the text's `end` line was read.
+pub fn has_ended(progress: &Progress) -> bool
+    ensures { result ≡ ended_of progress.now }
+{
+    match progress {
+        Progress::Told(state) => state.section.rank() == 10,
+        _ => false,
+    }
+}
+
+/// One line more.
+pub fn take_line(
+    alloc: Global,
+    version: Version,
+    progress: Progress,
+    line: &[u8],
+) -> Result<Progress, LineFault>
+    requires { (forms : List text.Form) × Behind forms progress }
+    ensures ok { IfOk result (λ p. (forms : List text.Form) → Behind forms progress → IsTakenLine (version_of version) forms line.now p) }
+    ensures bad { IfErr result (λ e. (forms : List text.Form) → Behind forms progress → Blames e (λ r. IsFaulty (version_of version) forms line.now r)) }
+{
+    if has_ended(&progress) {
+        return Err(LineFault::Bad(SReason::End));
+    }
+    if !is_printable(line) {
+        return Err(LineFault::Bad(SReason::Ascii));
+    }
+    match read_form(alloc, version, line) {
+        Err(LineStop::Memory) => Err(LineFault::NoMemory),
+        Err(LineStop::NoForm) => Err(LineFault::Bad(SReason::Form)),
+        Ok(form) => take_form(alloc, progress, &form),
+    }
+}
