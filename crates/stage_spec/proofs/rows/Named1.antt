@@ -7,12 +7,13 @@ use Rattle.perf_base.specs.declared.attr.CpuSel.TheVariants as cpus
 use Rattle.perf_base.specs.declared.lines.Mode.TheVariants as mode
 use Rattle.perf_base.specs.declared.lines.CpuLine.TheVariants as cpu_line
 use Rattle.perf_base.specs.declared.lines.ToolLine.TheVariants as tool_line
+use Rattle.perf_base.specs.declared.standing.Cause.TheVariants as cause
 use Rattle.perf_base.specs.declared.standing.Why.TheVariants as why
 use Rattle.perf_base.specs.declared.reasons.Reason.TheVariants as reason
 use Rattle.perf_base.specs.declared.reply.Reply.{Reply}
 use Rattle.perf_base.specs.declared.reply.Reply.TheVariants as reply
 use Rattle.perf_base.specs.Scripts.{Scripted}
-use Rattle.stage_spec.proofs.rows.Words.{cpu, task, slot, ring, by_cpu, by_tool, pmu, kind_line, attr, work, eight, four}
+use Rattle.stage_spec.proofs.rows.Words.{cpu, task, slot, slots, ring, by_cpu, by_tool, pmu, kind_line, attr, work, eight, four}
 use Rattle.stage_spec.proofs.rows.Answering.{Answers, Computed, computed}
 
 bound_elsewhere : Scripted
@@ -41,6 +42,38 @@ bound_elsewhere_replies = reply.Ok ∷ reply.Ok ∷ reply.Ok ∷ reply.Read (0 �
 bound_elsewhere-answers : Answers bound_elsewhere bound_elsewhere_replies
 unfolding Computed bound_elsewhere bound_elsewhere_replies
 bound_elsewhere-answers = computed bound_elsewhere bound_elsewhere_replies (refl, (refl, (refl, (refl, (refl, tt)))))
+
+close_takes_copies : Scripted
+close_takes_copies = record {
+  cpus = 1;
+  pmus = pmu 1 1 ∷ [];
+  kinds = kind_line (codes "a") 0 1 ∷ [];
+  tasks = task 0 ∷ [];
+  rings = [];
+  cpu_lines = eight ((
+      cpu_line.Switch (Some (task 0)) ∷
+      cpu_line.Fork (task 1) ∷
+      cpu_line.Switch (Some (task 1)) ∷
+      []) ∷ []);
+  tool_lines = four ((
+      tool_line.Open (slot 0) (attr (kind.Hard 0) (tasks.One (task 0)) cpus.Any 0 0 0 2) None ∷
+      tool_line.Open (slot 1) (attr (kind.Hard 0) (tasks.One (task 1)) cpus.Any 0 0 0 0) None ∷
+      tool_line.Why (slot 1) ∷
+      tool_line.Why (slot 0) ∷
+      tool_line.Close (slot 0) ∷
+      tool_line.Why (slot 1) ∷
+      []) ∷ []);
+  readers = [];
+  order = by_tool 0 ∷ by_cpu 0 ∷ by_cpu 0 ∷ by_cpu 0 ∷ by_tool 0 ∷ by_tool 0 ∷ by_tool 0 ∷ by_tool 0 ∷ by_tool 0 ∷ [];
+}
+
+close_takes_copies_replies : List Reply
+close_takes_copies_replies = reply.Ok ∷ reply.Ok ∷ reply.Ok ∷ reply.Ok ∷ reply.Ok ∷ reply.Why (why.Refused (cause.Hall (slots (0 ∷ 1 ∷ [])))) ∷
+    reply.Why why.Away ∷ reply.Ok ∷ reply.Why why.On ∷ []
+
+close_takes_copies-answers : Answers close_takes_copies close_takes_copies_replies
+unfolding Computed close_takes_copies close_takes_copies_replies
+close_takes_copies-answers = computed close_takes_copies close_takes_copies_replies (refl, (refl, (refl, (refl, (refl, (refl, (refl, (refl, (refl, tt)))))))))
 
 command_refusals_in_order : Scripted
 command_refusals_in_order = record {

@@ -195,14 +195,17 @@ exited_task = record {
   cpus = 1;
   pmus = pmu 1 1 ∷ [];
   kinds = kind_line (codes "a") 0 1 ∷ [];
-  tasks = task 0 ∷ [];
+  tasks = task 0 ∷ task 1 ∷ [];
   rings = [];
   cpu_lines = eight ((
       cpu_line.Switch (Some (task 0)) ∷
       cpu_line.Work (work 10 mode.User 0 (3 ∷ [])) ∷
       cpu_line.Exit ∷
-      cpu_line.Fork (task 1) ∷
+      cpu_line.Fork (task 2) ∷
       cpu_line.Switch (Some (task 0)) ∷
+      cpu_line.Switch (Some (task 1)) ∷
+      cpu_line.Fork (task 0) ∷
+      cpu_line.Fork (task 2) ∷
       []) ∷ []);
   tool_lines = four ((
       tool_line.Open (slot 0) (attr (kind.Hard 0) (tasks.One (task 0)) cpus.Any 0 0 3 0) None ∷
@@ -216,18 +219,18 @@ exited_task = record {
       tool_line.Open (slot 1) (attr (kind.Hard 0) (tasks.One (task 0)) cpus.Any 0 0 0 0) (Some (slot 0)) ∷
       []) ∷ []);
   readers = [];
-  order = by_tool 0 ∷ by_cpu 0 ∷ by_cpu 0 ∷ by_cpu 0 ∷ by_cpu 0 ∷ by_cpu 0 ∷ by_tool 0 ∷ by_tool 0 ∷ by_tool 0 ∷ by_tool 0 ∷ by_tool 0 ∷ by_tool 0 ∷
-      by_tool 0 ∷ by_tool 0 ∷ [];
+  order = by_tool 0 ∷ by_cpu 0 ∷ by_cpu 0 ∷ by_cpu 0 ∷ by_cpu 0 ∷ by_cpu 0 ∷ by_cpu 0 ∷ by_cpu 0 ∷ by_cpu 0 ∷ by_tool 0 ∷ by_tool 0 ∷ by_tool 0 ∷
+      by_tool 0 ∷ by_tool 0 ∷ by_tool 0 ∷ by_tool 0 ∷ by_tool 0 ∷ [];
 }
 
 exited_task_replies : List Reply
-exited_task_replies = reply.Ok ∷ reply.Ok ∷ reply.Ok ∷ reply.Ok ∷ reply.Refused reason.Idle ∷ reply.Refused reason.NoTask ∷
-    reply.Read (3 ∷ 10 ∷ 10 ∷ []) ∷ reply.Why why.Away ∷ reply.Ok ∷ reply.Why why.Off ∷ reply.Ok ∷ reply.Why why.Away ∷ reply.Refused reason.NoTask ∷
-    reply.Refused reason.NoTask ∷ []
+exited_task_replies = reply.Ok ∷ reply.Ok ∷ reply.Ok ∷ reply.Ok ∷ reply.Refused reason.Idle ∷ reply.Refused reason.NoTask ∷ reply.Ok ∷
+    reply.Refused reason.Exists ∷ reply.Ok ∷ reply.Read (3 ∷ 10 ∷ 10 ∷ []) ∷ reply.Why why.Away ∷ reply.Ok ∷ reply.Why why.Off ∷ reply.Ok ∷
+    reply.Why why.Away ∷ reply.Refused reason.NoTask ∷ reply.Refused reason.NoTask ∷ []
 
 exited_task-answers : Answers exited_task exited_task_replies
 unfolding Computed exited_task exited_task_replies
-exited_task-answers = computed exited_task exited_task_replies (refl, (refl, (refl, (refl, (refl, (refl, (refl, (refl, (refl, (refl, (refl, (refl, (refl, (refl, tt))))))))))))))
+exited_task-answers = computed exited_task exited_task_replies (refl, (refl, (refl, (refl, (refl, (refl, (refl, (refl, (refl, (refl, (refl, (refl, (refl, (refl, (refl, (refl, (refl, tt)))))))))))))))))
 
 first_switch_is_no_migration : Scripted
 first_switch_is_no_migration = record {

@@ -86,6 +86,39 @@ opens_refused-answers : Answers opens_refused opens_refused_replies
 unfolding Computed opens_refused opens_refused_replies
 opens_refused-answers = computed opens_refused opens_refused_replies (refl, (refl, (refl, (refl, (refl, (refl, (refl, (refl, (refl, (refl, (refl, (refl, (refl, (refl, (refl, tt)))))))))))))))
 
+pass_order_of_seats : Scripted
+pass_order_of_seats = record {
+  cpus = 1;
+  pmus = pmu 4 1 ∷ [];
+  kinds = kind_line (codes "a") 0 15 ∷ [];
+  tasks = task 0 ∷ [];
+  rings = [];
+  cpu_lines = eight ((
+      cpu_line.Switch (Some (task 0)) ∷
+      []) ∷ []);
+  tool_lines = four ((
+      tool_line.Open (slot 0) (attr (kind.Hard 0) (tasks.One (task 0)) cpus.Any 0 0 0 0) None ∷
+      tool_line.Open (slot 1) (attr (kind.Hard 0) tasks.All (cpus.One (cpu 0)) 0 0 0 0) None ∷
+      tool_line.Open (slot 2) (attr (kind.Hard 0) (tasks.One (task 0)) (cpus.One (cpu 0)) 0 0 0 4) None ∷
+      tool_line.Open (slot 3) (attr (kind.Hard 0) tasks.All (cpus.One (cpu 0)) 0 0 0 4) None ∷
+      tool_line.Open (slot 4) (attr kind.Dummy tasks.All (cpus.One (cpu 0)) 0 0 0 4) None ∷
+      tool_line.Seats (cpu 0) ∷
+      tool_line.Open (slot 5) (attr (kind.Hard 0) tasks.All (cpus.One (cpu 0)) 0 0 0 8) None ∷
+      tool_line.Why (slot 5) ∷
+      []) ∷ []);
+  readers = [];
+  order = by_cpu 0 ∷ by_tool 0 ∷ by_tool 0 ∷ by_tool 0 ∷ by_tool 0 ∷ by_tool 0 ∷ by_tool 0 ∷ by_tool 0 ∷ by_tool 0 ∷ [];
+}
+
+pass_order_of_seats_replies : List Reply
+pass_order_of_seats_replies = reply.Ok ∷ reply.Ok ∷ reply.Ok ∷ reply.Ok ∷ reply.Ok ∷ reply.Ok ∷
+    reply.Seats ((slot 3, 0) ∷ (slot 2, 1) ∷ (slot 1, 2) ∷ (slot 0, 3) ∷ []) ∷ reply.Ok ∷
+    reply.Why (why.Refused (cause.Rule (rule.ExclusiveSelf (slot 3)))) ∷ []
+
+pass_order_of_seats-answers : Answers pass_order_of_seats pass_order_of_seats_replies
+unfolding Computed pass_order_of_seats pass_order_of_seats_replies
+pass_order_of_seats-answers = computed pass_order_of_seats pass_order_of_seats_replies (refl, (refl, (refl, (refl, (refl, (refl, ((refl, refl), (refl, (refl, tt)))))))))
+
 pinned_and_error : Scripted
 pinned_and_error = record {
   cpus = 1;
@@ -315,46 +348,3 @@ shortest_beginning_replies = reply.Ok ∷ reply.Ok ∷ reply.Ok ∷ reply.Ok ∷
 shortest_beginning-answers : Answers shortest_beginning shortest_beginning_replies
 unfolding Computed shortest_beginning shortest_beginning_replies
 shortest_beginning-answers = computed shortest_beginning shortest_beginning_replies (refl, (refl, (refl, (refl, (refl, (refl, tt))))))
-
-sibling_of_error : Scripted
-sibling_of_error = record {
-  cpus = 1;
-  pmus = pmu 2 1 ∷ [];
-  kinds = kind_line (codes "a") 0 1 ∷ kind_line (codes "b") 0 2 ∷ [];
-  tasks = [];
-  rings = [];
-  cpu_lines = eight [];
-  tool_lines = four ((
-      tool_line.Open (slot 0) (attr (kind.Hard 0) tasks.All (cpus.One (cpu 0)) 0 0 0 4) None ∷
-      tool_line.Open (slot 1) (attr (kind.Hard 0) tasks.All (cpus.One (cpu 0)) 0 0 0 4) None ∷
-      tool_line.Open (slot 2) (attr (kind.Hard 1) tasks.All (cpus.One (cpu 0)) 0 0 0 1) (Some (slot 1)) ∷
-      tool_line.Open (slot 3) (attr kind.Dummy tasks.All (cpus.One (cpu 0)) 0 0 0 0) (Some (slot 1)) ∷
-      tool_line.Why (slot 2) ∷
-      tool_line.Read (slot 2) None ∷
-      tool_line.Read (slot 2) (Some 0) ∷
-      tool_line.Why (slot 3) ∷
-      tool_line.Disable (slot 1) false ∷
-      tool_line.Why (slot 2) ∷
-      tool_line.Why (slot 3) ∷
-      tool_line.Read (slot 3) None ∷
-      tool_line.Enable (slot 1) false ∷
-      tool_line.Why (slot 1) ∷
-      tool_line.Why (slot 2) ∷
-      tool_line.Close (slot 1) ∷
-      tool_line.Why (slot 2) ∷
-      tool_line.Why (slot 3) ∷
-      []) ∷ []);
-  readers = [];
-  order = by_tool 0 ∷ by_tool 0 ∷ by_tool 0 ∷ by_tool 0 ∷ by_tool 0 ∷ by_tool 0 ∷ by_tool 0 ∷ by_tool 0 ∷ by_tool 0 ∷ by_tool 0 ∷ by_tool 0 ∷
-      by_tool 0 ∷ by_tool 0 ∷ by_tool 0 ∷ by_tool 0 ∷ by_tool 0 ∷ by_tool 0 ∷ by_tool 0 ∷ [];
-}
-
-sibling_of_error_replies : List Reply
-sibling_of_error_replies = reply.Ok ∷ reply.Ok ∷ reply.Ok ∷ reply.Ok ∷ reply.Why (why.Failed (cause.Hall (slots (0 ∷ 1 ∷ [])))) ∷ reply.Read [] ∷
-    reply.Read [] ∷ reply.Why (why.Failed (cause.Hall (slots (0 ∷ 1 ∷ [])))) ∷ reply.Ok ∷ reply.Why why.Off ∷ reply.Why why.Off ∷
-    reply.Read (0 ∷ []) ∷ reply.Ok ∷ reply.Why (why.Failed (cause.Hall (slots (0 ∷ 1 ∷ [])))) ∷
-    reply.Why (why.Failed (cause.Hall (slots (0 ∷ 1 ∷ [])))) ∷ reply.Ok ∷ reply.Why why.Off ∷ reply.Why why.On ∷ []
-
-sibling_of_error-answers : Answers sibling_of_error sibling_of_error_replies
-unfolding Computed sibling_of_error sibling_of_error_replies
-sibling_of_error-answers = computed sibling_of_error sibling_of_error_replies (refl, (refl, (refl, (refl, (refl, (refl, (refl, (refl, (refl, (refl, (refl, (refl, (refl, (refl, (refl, (refl, (refl, (refl, tt))))))))))))))))))

@@ -16,6 +16,49 @@ use Rattle.perf_base.specs.Scripts.{Scripted}
 use Rattle.stage_spec.proofs.rows.Words.{cpu, task, slot, slots, by_cpu, by_tool, pmu, kind_line, attr, work, eight, four}
 use Rattle.stage_spec.proofs.rows.Answering.{Answers, Computed, computed}
 
+sibling_of_error : Scripted
+sibling_of_error = record {
+  cpus = 1;
+  pmus = pmu 2 1 ∷ [];
+  kinds = kind_line (codes "a") 0 1 ∷ kind_line (codes "b") 0 2 ∷ [];
+  tasks = [];
+  rings = [];
+  cpu_lines = eight [];
+  tool_lines = four ((
+      tool_line.Open (slot 0) (attr (kind.Hard 0) tasks.All (cpus.One (cpu 0)) 0 0 0 4) None ∷
+      tool_line.Open (slot 1) (attr (kind.Hard 0) tasks.All (cpus.One (cpu 0)) 0 0 0 4) None ∷
+      tool_line.Open (slot 2) (attr (kind.Hard 1) tasks.All (cpus.One (cpu 0)) 0 0 0 1) (Some (slot 1)) ∷
+      tool_line.Open (slot 3) (attr kind.Dummy tasks.All (cpus.One (cpu 0)) 0 0 0 0) (Some (slot 1)) ∷
+      tool_line.Why (slot 2) ∷
+      tool_line.Read (slot 2) None ∷
+      tool_line.Read (slot 2) (Some 0) ∷
+      tool_line.Why (slot 3) ∷
+      tool_line.Disable (slot 1) false ∷
+      tool_line.Why (slot 2) ∷
+      tool_line.Why (slot 3) ∷
+      tool_line.Read (slot 3) None ∷
+      tool_line.Enable (slot 1) false ∷
+      tool_line.Why (slot 1) ∷
+      tool_line.Why (slot 2) ∷
+      tool_line.Close (slot 1) ∷
+      tool_line.Why (slot 2) ∷
+      tool_line.Why (slot 3) ∷
+      []) ∷ []);
+  readers = [];
+  order = by_tool 0 ∷ by_tool 0 ∷ by_tool 0 ∷ by_tool 0 ∷ by_tool 0 ∷ by_tool 0 ∷ by_tool 0 ∷ by_tool 0 ∷ by_tool 0 ∷ by_tool 0 ∷ by_tool 0 ∷
+      by_tool 0 ∷ by_tool 0 ∷ by_tool 0 ∷ by_tool 0 ∷ by_tool 0 ∷ by_tool 0 ∷ by_tool 0 ∷ [];
+}
+
+sibling_of_error_replies : List Reply
+sibling_of_error_replies = reply.Ok ∷ reply.Ok ∷ reply.Ok ∷ reply.Ok ∷ reply.Why (why.Failed (cause.Hall (slots (0 ∷ 1 ∷ [])))) ∷ reply.Read [] ∷
+    reply.Read [] ∷ reply.Why (why.Failed (cause.Hall (slots (0 ∷ 1 ∷ [])))) ∷ reply.Ok ∷ reply.Why why.Off ∷ reply.Why why.Off ∷
+    reply.Read (0 ∷ []) ∷ reply.Ok ∷ reply.Why (why.Failed (cause.Hall (slots (0 ∷ 1 ∷ [])))) ∷
+    reply.Why (why.Failed (cause.Hall (slots (0 ∷ 1 ∷ [])))) ∷ reply.Ok ∷ reply.Why why.Off ∷ reply.Why why.On ∷ []
+
+sibling_of_error-answers : Answers sibling_of_error sibling_of_error_replies
+unfolding Computed sibling_of_error sibling_of_error_replies
+sibling_of_error-answers = computed sibling_of_error sibling_of_error_replies (refl, (refl, (refl, (refl, (refl, (refl, (refl, (refl, (refl, (refl, (refl, (refl, (refl, (refl, (refl, (refl, (refl, (refl, tt))))))))))))))))))
+
 sibling_off_takes_no_counter : Scripted
 sibling_off_takes_no_counter = record {
   cpus = 1;
@@ -141,6 +184,39 @@ software_kinds-answers : Answers software_kinds software_kinds_replies
 unfolding Computed software_kinds software_kinds_replies
 software_kinds-answers = computed software_kinds software_kinds_replies (refl, (refl, (refl, (refl, (refl, (refl, (refl, (refl, (refl, (refl, (refl, (refl, (refl, tt)))))))))))))
 
+software_sibling_of_another_pmu : Scripted
+software_sibling_of_another_pmu = record {
+  cpus = 2;
+  pmus = pmu 1 1 ∷ pmu 1 2 ∷ [];
+  kinds = kind_line (codes "core") 0 1 ∷ [];
+  tasks = task 0 ∷ [];
+  rings = [];
+  cpu_lines = eight ([] ∷ (
+      cpu_line.Switch (Some (task 0)) ∷
+      cpu_line.Work (work 10 mode.User 0 (0 ∷ [])) ∷
+      []) ∷ []);
+  tool_lines = four ((
+      tool_line.Open (slot 0) (attr kind.TaskClock (tasks.One (task 0)) cpus.Any 0 0 3 0) None ∷
+      tool_line.Open (slot 1) (attr (kind.Hard 0) (tasks.One (task 0)) cpus.Any 0 0 0 0) (Some (slot 0)) ∷
+      tool_line.Open (slot 2) (attr kind.TaskClock (tasks.One (task 0)) cpus.Any 0 0 3 0) None ∷
+      tool_line.Why (slot 0) ∷
+      tool_line.Why (slot 1) ∷
+      tool_line.Why (slot 2) ∷
+      tool_line.Read (slot 0) None ∷
+      tool_line.Read (slot 2) None ∷
+      []) ∷ []);
+  readers = [];
+  order = by_cpu 1 ∷ by_tool 0 ∷ by_tool 0 ∷ by_tool 0 ∷ by_tool 0 ∷ by_tool 0 ∷ by_tool 0 ∷ by_cpu 1 ∷ by_tool 0 ∷ by_tool 0 ∷ [];
+}
+
+software_sibling_of_another_pmu_replies : List Reply
+software_sibling_of_another_pmu_replies = reply.Ok ∷ reply.Ok ∷ reply.Ok ∷ reply.Ok ∷ reply.Why why.Away ∷ reply.Why why.Away ∷ reply.Why why.On ∷
+    reply.Ok ∷ reply.Read (0 ∷ 10 ∷ 0 ∷ []) ∷ reply.Read (10 ∷ 10 ∷ 10 ∷ []) ∷ []
+
+software_sibling_of_another_pmu-answers : Answers software_sibling_of_another_pmu software_sibling_of_another_pmu_replies
+unfolding Computed software_sibling_of_another_pmu software_sibling_of_another_pmu_replies
+software_sibling_of_another_pmu-answers = computed software_sibling_of_another_pmu software_sibling_of_another_pmu_replies (refl, (refl, (refl, (refl, (refl, (refl, (refl, (refl, (refl, (refl, tt))))))))))
+
 switches_refused : Scripted
 switches_refused = record {
   cpus = 2;
@@ -256,3 +332,35 @@ tight_set_replies = reply.Ok ∷ reply.Ok ∷ reply.Ok ∷ reply.Why (why.Refuse
 tight_set-answers : Answers tight_set tight_set_replies
 unfolding Computed tight_set tight_set_replies
 tight_set-answers = computed tight_set tight_set_replies (refl, (refl, (refl, (refl, (refl, tt)))))
+
+times_under_an_off_leader : Scripted
+times_under_an_off_leader = record {
+  cpus = 1;
+  pmus = pmu 2 1 ∷ [];
+  kinds = kind_line (codes "a") 0 3 ∷ [];
+  tasks = [];
+  rings = [];
+  cpu_lines = eight ((
+      cpu_line.Work (work 10 mode.User 0 (3 ∷ [])) ∷
+      cpu_line.Work (work 20 mode.User 0 (5 ∷ [])) ∷
+      []) ∷ []);
+  tool_lines = four ((
+      tool_line.Open (slot 0) (attr (kind.Hard 0) tasks.All (cpus.One (cpu 0)) 0 0 3 1) None ∷
+      tool_line.Open (slot 1) (attr (kind.Hard 0) tasks.All (cpus.One (cpu 0)) 0 0 3 0) (Some (slot 0)) ∷
+      tool_line.Read (slot 0) None ∷
+      tool_line.Read (slot 1) None ∷
+      tool_line.Enable (slot 0) false ∷
+      tool_line.Read (slot 0) None ∷
+      tool_line.Read (slot 1) None ∷
+      []) ∷ []);
+  readers = [];
+  order = by_tool 0 ∷ by_tool 0 ∷ by_cpu 0 ∷ by_tool 0 ∷ by_tool 0 ∷ by_tool 0 ∷ by_cpu 0 ∷ by_tool 0 ∷ by_tool 0 ∷ [];
+}
+
+times_under_an_off_leader_replies : List Reply
+times_under_an_off_leader_replies = reply.Ok ∷ reply.Ok ∷ reply.Ok ∷ reply.Read (0 ∷ 0 ∷ 0 ∷ []) ∷ reply.Read (0 ∷ 0 ∷ 0 ∷ []) ∷ reply.Ok ∷
+    reply.Ok ∷ reply.Read (5 ∷ 20 ∷ 20 ∷ []) ∷ reply.Read (5 ∷ 20 ∷ 20 ∷ []) ∷ []
+
+times_under_an_off_leader-answers : Answers times_under_an_off_leader times_under_an_off_leader_replies
+unfolding Computed times_under_an_off_leader times_under_an_off_leader_replies
+times_under_an_off_leader-answers = computed times_under_an_off_leader times_under_an_off_leader_replies (refl, (refl, (refl, (refl, (refl, (refl, (refl, (refl, (refl, tt)))))))))
