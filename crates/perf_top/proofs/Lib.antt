@@ -1,3 +1,4 @@
+mod Words
 pub mod Acts
 pub mod Filling
 pub mod LineCounts
