@@ -1,17 +1,17 @@
 -- A text stands for at most one script, or is refused at one line for one reason, and never both.
-use Rattle.std.proofs.Common.{◌≡◌, ◌≢◌, ℕ, zero, suc, ◌+◌, ◌<◌, ◌≤◌, ◌⊎◌, All, List, [], ◌∷◌, ◌++◌, length, length-take, length-take-le, get_or, take, min, Result, Ok, Err, inl, inr, refl, sym, ap, subst, ◌∙◌, arith}
+use Rattle.std.proofs.Common.{◌≡◌, ℕ, zero, suc, ◌+◌, ◌<◌, ◌≤◌, ◌⊎◌, All, List, [], ◌∷◌, length, length-take-le, get_or, take, Result, Ok, Err, inl, inr, refl, sym, ap, subst, ◌∙◌, arith}
 use Rattle.std.specs.Prelude.{Any, IfOk, IfErr, MatchResult}
-use Rattle.std.proofs.lemmas.Bool.{cases_lt, cases_order}
-use Rattle.std.proofs.lemmas.List.{ext_get_or, get_or-take, take_all}
+use Rattle.std.proofs.lemmas.Bool.{cases_order}
+use Rattle.std.proofs.lemmas.List.{ext_get_or, get_or-take}
 use Rattle.perf_base.specs.declared.reasons.SReason.{SReason}
 use Rattle.perf_base.specs.declared.reasons.SReason.TheVariants as reason
 use Rattle.perf_base.specs.Scripts.{Scripted}
-use Rattle.script_spec.specs.Lines.{words_of, lines_of, rest_of}
+use Rattle.script_spec.specs.Lines.{words_of, lines_of}
 use Rattle.script_spec.specs.Forms as form
 use Rattle.script_spec.specs.Forms.{Version, Form}
 use Rattle.script_spec.specs.Meaning.{script_of}
 use Rattle.script_spec.specs.Faults.{IsNoEnd, IsSound, IsFaulty, rank}
-use Rattle.script_spec.specs.Texts.{version_of, AreSound, IsWholeText, StandsFor, HasFaultyLine, IsCutOff, HasNoEnd, IsRefused}
+use Rattle.script_spec.specs.Texts.{version_of, AreSound, StandsFor, HasFaultyLine, IsRefused}
 use Rattle.line_forms.proofs.Laws.{one_form}
 use Rattle.script_read.specs.declared.fault.ScriptFault.{ScriptFault}
 use Rattle.script_read.specs.declared.fault.ScriptFault.TheVariants as fault
@@ -118,20 +118,20 @@ faulty_one text x y l m r q a b = elim (cases_order (length x) (length y)) [
 pub refused_one : (text : List ℕ) (l m : ℕ) (r q : SReason) → IsRefused text l r → IsRefused text m q → (l ≡ m) × (r ≡ q)
 refused_one text l m r q a b = elim a.1 [
   | inl f ↦ elim b.1 [
-      | inl g ↦ faulty_one text a.0 b.0 l m r q f g
-      | inr (inl d) ↦ absurd (clash (version_of (lines_of text)) (lines_of text) b.0 a.0 r d.sound f.within f.sound f.faulty)
-      | inr (inr d) ↦ absurd (clash (version_of (lines_of text)) (lines_of text) b.0 a.0 r d.sound f.within f.sound f.faulty)
-    ]
+    | inl g ↦ faulty_one text a.0 b.0 l m r q f g
+    | inr (inl d) ↦ absurd (clash (version_of (lines_of text)) (lines_of text) b.0 a.0 r d.sound f.within f.sound f.faulty)
+    | inr (inr d) ↦ absurd (clash (version_of (lines_of text)) (lines_of text) b.0 a.0 r d.sound f.within f.sound f.faulty)
+  ]
   | inr (inl c) ↦ elim b.1 [
-      | inl g ↦ absurd (clash (version_of (lines_of text)) (lines_of text) a.0 b.0 q c.sound g.within g.sound g.faulty)
-      | inr (inl d) ↦ (c.number ∙ sym d.number, c.is_end ∙ sym d.is_end)
-      | inr (inr d) ↦ absurd (c.more d.ended)
-    ]
+    | inl g ↦ absurd (clash (version_of (lines_of text)) (lines_of text) a.0 b.0 q c.sound g.within g.sound g.faulty)
+    | inr (inl d) ↦ (c.number ∙ sym d.number, c.is_end ∙ sym d.is_end)
+    | inr (inr d) ↦ absurd (c.more d.ended)
+  ]
   | inr (inr c) ↦ elim b.1 [
-      | inl g ↦ absurd (clash (version_of (lines_of text)) (lines_of text) a.0 b.0 q c.sound g.within g.sound g.faulty)
-      | inr (inl d) ↦ absurd (d.more c.ended)
-      | inr (inr d) ↦ (c.number ∙ sym d.number, c.is_end ∙ sym d.is_end)
-    ]
+    | inl g ↦ absurd (clash (version_of (lines_of text)) (lines_of text) a.0 b.0 q c.sound g.within g.sound g.faulty)
+    | inr (inl d) ↦ absurd (d.more c.ended)
+    | inr (inr d) ↦ (c.number ∙ sym d.number, c.is_end ∙ sym d.is_end)
+  ]
 ]
 
 -- so what was read is the only answer
