@@ -1,18 +1,17 @@
 -- The first two lines, and a line as its form.
-use Rattle.std.proofs.Common.{◌≡◌, ◌≢◌, ℕ, zero, suc, ◌+◌, ◌-◌, ◌^◌, ◌<◌, ◌≤◌, ◌↔◌, Bool, true, false, eqb, max, All, List, [], ◌∷◌, ◌++◌, length, get_or, Option, Some, None, refl, sym, ap, subst, ◌∙◌, arith}
-use Rattle.std.specs.Prelude.{bit_or, IfSome, IsSome, Any, IsTrue}
-use Rattle.std.specs.Int.{bit_at}
+use Rattle.std.proofs.Common.{◌≡◌, ◌≢◌, ℕ, ◌-◌, ◌^◌, ◌<◌, ◌≤◌, true, false, All, List, [], ◌∷◌, length, get_or, Option, None, refl, sym, ap, subst, ◌∙◌, arith}
+use Rattle.std.specs.Prelude.{bit_or, IfSome}
 use Rattle.std.proofs.lemmas.Bool.{eqb-true, eqb-false}
 use Rattle.std.proofs.Math.Nat.{pow-le-pow_right}
 use Rattle.std.proofs.lemmas.Nat.Bits.{bit_at_or, bit_at-zero, same_from_bits}
-use Rattle.std.proofs.lemmas.List.Elements.{All-cons, All-head}
+use Rattle.std.proofs.lemmas.List.Elements.{All-cons}
 use Rattle.perf_base.specs.declared.reasons.SReason.{SReason}
 use Rattle.perf_base.specs.declared.reasons.SReason.TheVariants as reason
-use Rattle.perf_base.specs.Scripts.{Scripted, IsScript, empty_script, with_pmu}
+use Rattle.perf_base.specs.Scripts.{Scripted, empty_script, with_pmu}
 use Rattle.script_spec.specs.Lines.{words_of}
 use Rattle.script_spec.specs.Forms as form
 use Rattle.script_spec.specs.Forms.{Version, Form, IsOfForm}
-use Rattle.script_spec.specs.Meaning.{last_of, processors_in, tools_in, pmus_in, script_of}
+use Rattle.script_spec.specs.Meaning.{last_of, processors_in, script_of}
 use Rattle.script_spec.specs.Faults.{section, IsPlaced, IsNoEnd, IsPrintable, Keeps, IsFaulty, IsSound, rank, IsInRange}
 use Rattle.script_read.specs.declared.state.State.{State}
 use Rattle.script_read.specs.declared.state.Section.TheVariants as part
@@ -20,7 +19,7 @@ use Rattle.script_read.specs.declared.progress.Progress.{Progress}
 use Rattle.script_read.specs.declared.progress.Progress.TheVariants as progress
 use Rattle.script_read.specs.States.{rank_of, union_of, cpu_number, tool_number, Follows}
 use Rattle.script_read.specs.Adding.{Asks, IsKept, IsSoundState}
-use Rattle.script_read.specs.Progressing.{Behind, AsksOf, IsFirstOf, IsTaken, ended_of, IsTakenLine}
+use Rattle.script_read.specs.Progressing.{Behind, AsksOf, IsFirstOf, IsTaken, ended_of}
 use Rattle.script_read.proofs.Following.{script_cpus}
 
 -- ---- the first line

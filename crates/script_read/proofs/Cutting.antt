@@ -1,7 +1,7 @@
 -- The lines of a text, from the left.
-use Rattle.std.proofs.Common.{◌≡◌, ◌≢◌, ℕ, zero, suc, ◌+◌, ◌<◌, ◌≤◌, List, [], ◌∷◌, ◌++◌, length, length-append, Option, Some, None, refl, sym, ap, subst, ◌∙◌, arith}
+use Rattle.std.proofs.Common.{◌≡◌, ℕ, List, [], ◌∷◌, ◌++◌, length, length-append, Option, Some, None, refl, sym, ap, ◌∙◌, arith}
 use Rattle.std.specs.List.{join_with_byte}
-use Rattle.script_spec.specs.Lines.{pieces, all_but_last, last_one, lines_of, rest_of}
+use Rattle.script_spec.specs.Lines.{pieces, all_but_last, last_one}
 use Rattle.line_forms.specs.Words.{cut}
 use Rattle.line_forms.proofs.Cuts.{pieces_cut, pieces_behind}
 use Rattle.line_forms.proofs.Optionals.{join_pieces}

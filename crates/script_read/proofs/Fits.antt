@@ -1,31 +1,26 @@
 -- What a form says, where it keeps what is asked of it, the script can hold.
-use Rattle.std.proofs.Common.{◌≡◌, ◌≢◌, ℕ, zero, suc, ◌+◌, ◌-◌, ◌*◌, ◌^◌, ◌<◌, ◌≤◌, ◌⊎◌, Bool, true, false, cond, eqb, ltb, All, List, [], ◌∷◌, ◌++◌, map, length, drop, Option, Some, None, option_map, inl, inr, refl, sym, ap, subst, ◌∙◌, arith}
-use Rattle.std.specs.Prelude.{replicate, slice_get, slice_index, IfSome, IsSome, MatchOption, unwrap_or, codes}
+use Rattle.std.proofs.Common.{◌≡◌, ℕ, zero, suc, ◌-◌, ◌^◌, ◌<◌, ◌≤◌, eqb, ltb, All, List, [], ◌∷◌, map, length, Option, Some, None, option_map, inl, inr, refl, sym, ap, subst, ◌∙◌, arith}
+use Rattle.std.specs.Prelude.{replicate, IfSome, codes}
 use Rattle.std.specs.Str.{bytes_eq}
 use Rattle.std.proofs.lemmas.Bool.{cases_Bool, ltb-true}
 use Rattle.std.proofs.lemmas.List.{length-map, drop_at}
-use Rattle.std.proofs.lemmas.List.Elements.{All-cons, All-head, All-tail, All-map, All-append, All-replicate}
+use Rattle.std.proofs.lemmas.List.Elements.{All-cons, All-head, All-tail, All-append, All-replicate}
 use Rattle.std.proofs.lemmas.List.Quantifiers.{position-Some}
 use Rattle.std.proofs.Math.Nat.{pow-le-pow_right}
-use Rattle.std.proofs.lemmas.Option.{slice_get_within, slice_get-get_or}
-use Rattle.perf_base.specs.declared.numbers.EventNo.{EventNo}
-use Rattle.perf_base.specs.declared.numbers.RingNo.{RingNo}
-use Rattle.perf_base.specs.declared.attr.Attr.{Attr}
 use Rattle.perf_base.specs.declared.attr.Kind.{Kind}
 use Rattle.perf_base.specs.declared.attr.Kind.TheVariants as kind
 use Rattle.perf_base.specs.declared.lines.PmuLine.{PmuLine}
 use Rattle.perf_base.specs.declared.lines.KindLine.{KindLine}
-use Rattle.perf_base.specs.declared.lines.CpuLine.{CpuLine}
 use Rattle.perf_base.specs.declared.lines.ToolLine.{ToolLine}
 use Rattle.perf_base.specs.declared.acts.Act.{Act}
 use Rattle.perf_base.specs.declared.acts.Act.TheVariants as act
-use Rattle.perf_base.specs.Scripts.{Scripted, IsScript, IsPmuLine, IsMaskOf, IsCpuLine, IsToolLine, IsKind, IsAttr, IsTaskSel, IsCpuSel, IsSlot, IsAct, HasRing}
+use Rattle.perf_base.specs.Scripts.{Scripted, IsPmuLine, IsMaskOf, IsCpuLine, IsToolLine, IsKind, IsTaskSel, IsCpuSel, IsSlot, IsAct}
 use Rattle.attr_bytes.proofs.Bits.{AreFlagsOf-word}
 use Rattle.attr_bytes.specs.Layout.{type_in, config_in, flag_word_in}
 use Rattle.script_spec.specs.Forms as form
 use Rattle.script_spec.specs.Forms.{Hit, CpuForm, ToolForm, Opening, Asked, IsAsked}
-use Rattle.script_spec.specs.Faults.{IsAmount, IsCpuFormInRange, IsOpeningInRange, IsToolFormInRange}
-use Rattle.script_spec.specs.Meaning.{number_of, software_kind, kind_named, kind_numbered, kind_of_bytes, flags_of_word, times_of, occurrences, or_zero, cpu_line_of, tool_line_of, task_sel, cpu_sel, slot, open_line, asked_attr, bytes_attr}
+use Rattle.script_spec.specs.Faults.{IsAmount, IsCpuFormInRange, IsToolFormInRange}
+use Rattle.script_spec.specs.Meaning.{number_of, software_kind, kind_named, kind_numbered, kind_of_bytes, times_of, or_zero, cpu_line_of, tool_line_of, task_sel, cpu_sel, slot, open_line, asked_attr, bytes_attr}
 use Rattle.script_read.specs.Naming.{IsToolFormNamedOf}
 
 -- the order of acts says nothing of who has lines
@@ -89,15 +84,15 @@ software_fits : (name : List ℕ) → IsAnyKind (software_kind name)
 software_fits name n = elim (cases_Bool (bytes_eq name (codes "context-switches"))) [
   | inl t ↦ rw t tt
   | inr f ↦ elim (cases_Bool (bytes_eq name (codes "cpu-migrations"))) [
-      | inl t ↦ rw (f, t) tt
-      | inr g ↦ elim (cases_Bool (bytes_eq name (codes "task-clock"))) [
-          | inl t ↦ rw (f, g, t) tt
-          | inr h ↦ elim (cases_Bool (bytes_eq name (codes "dummy"))) [
-              | inl t ↦ rw (f, g, h, t) tt
-              | inr i ↦ rw (f, g, h, i) tt
-            ]
-        ]
+    | inl t ↦ rw (f, t) tt
+    | inr g ↦ elim (cases_Bool (bytes_eq name (codes "task-clock"))) [
+      | inl t ↦ rw (f, g, t) tt
+      | inr h ↦ elim (cases_Bool (bytes_eq name (codes "dummy"))) [
+        | inl t ↦ rw (f, g, h, t) tt
+        | inr i ↦ rw (f, g, h, i) tt
+      ]
     ]
+  ]
 ]
 
 named_fits : (kinds : List KindLine) (name : List ℕ) (k : Kind) → kind_named kinds name ≡ Some k → IsKind (length kinds) k
@@ -110,22 +105,22 @@ named_fits kinds name k e = go (number_of kinds name) refl
 numbered_fits : (kinds : List KindLine) (class config : ℕ) → IfSome (kind_numbered kinds class config) (IsKind (length kinds))
 numbered_fits kinds class config = elim (cases_Bool (eqb class 1)) [
   | inl one ↦ elim (cases_Bool (eqb config 1)) [
-      | inl t ↦ rw (one, t) tt
-      | inr f ↦ elim (cases_Bool (eqb config 3)) [
-          | inl t ↦ rw (one, f, t) tt
-          | inr g ↦ elim (cases_Bool (eqb config 4)) [
-              | inl t ↦ rw (one, f, g, t) tt
-              | inr h ↦ elim (cases_Bool (eqb config 9)) [
-                  | inl t ↦ rw (one, f, g, h, t) tt
-                  | inr i ↦ rw (one, f, g, h, i) tt
-                ]
-            ]
+    | inl t ↦ rw (one, t) tt
+    | inr f ↦ elim (cases_Bool (eqb config 3)) [
+      | inl t ↦ rw (one, f, t) tt
+      | inr g ↦ elim (cases_Bool (eqb config 4)) [
+        | inl t ↦ rw (one, f, g, t) tt
+        | inr h ↦ elim (cases_Bool (eqb config 9)) [
+          | inl t ↦ rw (one, f, g, h, t) tt
+          | inr i ↦ rw (one, f, g, h, i) tt
         ]
+      ]
     ]
+  ]
   | inr other ↦ elim (cases_Bool (ltb config (length kinds))) [
-      | inl t ↦ rw (other, t) (ltb-true _ _ t)
-      | inr f ↦ rw (other, f) tt
-    ]
+    | inl t ↦ rw (other, t) (ltb-true _ _ t)
+    | inr f ↦ rw (other, f) tt
+  ]
 ]
 
 task_fits : (task : Option ℕ) → IfSome task (λ n. n < 64) → IsTaskSel (task_sel task)

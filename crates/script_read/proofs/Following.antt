@@ -1,8 +1,8 @@
 -- The state with one form more is that behind the forms with one more.
-use Rattle.std.proofs.Common.{◌≡◌, ◌≢◌, ℕ, zero, suc, ◌+◌, ◌-◌, ◌<◌, ◌≤◌, All, List, [], ◌∷◌, ◌++◌, length, length-append, Option, Some, None, option_map, inl, inr, refl, sym, ap, subst, ◌∙◌, arith}
-use Rattle.std.specs.Prelude.{slice_get, slice_index, filter_map, bit_or, IfSome, Any}
+use Rattle.std.proofs.Common.{◌≡◌, ℕ, zero, suc, ◌+◌, ◌-◌, ◌<◌, ◌≤◌, All, List, [], ◌∷◌, ◌++◌, length, Option, Some, None, refl, sym, ap, subst, ◌∙◌, arith}
+use Rattle.std.specs.Prelude.{slice_get, slice_index, filter_map, IfSome}
 use Rattle.std.specs.List.{cons_option}
-use Rattle.std.proofs.lemmas.List.{append-nil, length_push, get_or_append_left}
+use Rattle.std.proofs.lemmas.List.{append-nil, length_push}
 use Rattle.std.proofs.lemmas.List.Elements.{All-push, All-weaker}
 use Rattle.std.proofs.lemmas.List.Quantifiers.{Any-push}
 use Rattle.perf_base.specs.declared.lines.PmuLine.{PmuLine}
@@ -11,10 +11,9 @@ use Rattle.script_spec.specs.Forms as form
 use Rattle.script_spec.specs.Forms.{Form}
 use Rattle.script_spec.specs.Meaning.{machine_cpus, pmu_said, processor_said, tool_said, cpus_in, pmus_in, processors_in, tools_in, last_of, script_of}
 use Rattle.script_spec.specs.Faults.{section}
-use Rattle.script_read.specs.declared.state.Section.{Section}
 use Rattle.script_read.specs.declared.state.State.{State}
 use Rattle.script_read.specs.States.{rank_of, part_of, cpu_number, tool_number, union_of, IsGreatest, Follows}
-use Rattle.script_read.specs.Checks.{IsPlacedOf, IsInOrderOf, IsInRangeOf, IsNextNumber}
+use Rattle.script_read.specs.Checks.{IsPlacedOf, IsInRangeOf}
 use Rattle.script_read.specs.Adding.{said_by, next_cpu, next_tool, next_named, IsAdded}
 use Rattle.script_read.proofs.Snoc.{pushed}
 use Rattle.script_read.proofs.More.{IsLater, script_more}

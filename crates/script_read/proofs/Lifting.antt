@@ -1,24 +1,23 @@
 -- What is asked by the state is what is asked by the forms.
-use Rattle.std.proofs.Common.{◌≡◌, ◌≢◌, ℕ, zero, suc, ◌+◌, ◌-◌, ◌<◌, ◌≤◌, ◌↔◌, All, List, [], ◌∷◌, ◌++◌, length, get_or, Option, Some, None, option_map, is_some, refl, sym, ap, subst, ◌∙◌, arith}
-use Rattle.std.specs.Prelude.{slice_get, bit_and, IfSome, IsSome, Any}
+use Rattle.std.proofs.Common.{◌≡◌, ℕ, zero, suc, ◌-◌, ◌<◌, ◌≤◌, ◌↔◌, All, List, [], ◌∷◌, length, get_or, Option, Some, None, option_map, refl, sym, ap, subst, ◌∙◌, arith}
+use Rattle.std.specs.Prelude.{slice_get, bit_and, IfSome, IsSome}
 use Rattle.std.proofs.lemmas.List.Elements.{All-weaker, All-head, All-tail}
 use Rattle.perf_base.specs.declared.numbers.CpuNo.{CpuNo}
-use Rattle.perf_base.specs.declared.lines.PmuLine.{PmuLine}
 use Rattle.perf_base.specs.declared.reasons.SReason.{SReason}
 use Rattle.perf_base.specs.declared.reasons.SReason.TheVariants as reason
 use Rattle.perf_base.specs.Cpus.{HasCpu}
-use Rattle.perf_base.specs.Scripts.{Scripted, AreApart}
+use Rattle.perf_base.specs.Scripts.{Scripted}
 use Rattle.script_spec.specs.Forms as form
 use Rattle.script_spec.specs.Forms.{Form, CpuForm, ToolForm}
-use Rattle.script_spec.specs.Meaning.{cpus_in, pmus_in, kinds_in, processors_in, tools_in, last_of, script_of}
-use Rattle.script_spec.specs.Faults.{section, IsInOrder, AreCovered, IsUnder, IsBehindPmus, IsPlaced, IsNextPmu, IsInRange, IsNewName, AreKinds, IsCpuFormNamed, IsToolFormNamed, IsNamed, rank}
+use Rattle.script_spec.specs.Meaning.{pmus_in, processors_in, tools_in, last_of, script_of}
+use Rattle.script_spec.specs.Faults.{section, IsInOrder, AreCovered, IsUnder, IsBehindPmus, IsPlaced, IsInRange, IsCpuFormNamed, IsToolFormNamed, IsNamed}
 use Rattle.script_read.specs.declared.state.State.{State}
-use Rattle.script_read.specs.States.{rank_of, part_of, cpu_number, tool_number, union_of, IsGreatest, Follows}
-use Rattle.script_read.specs.Checks.{IsCoveredOf, IsUnderOf, IsInOrderOf, IsBehindOf, IsPlacedOf, IsNextPmuOf, IsInRangeOf}
+use Rattle.script_read.specs.States.{rank_of, cpu_number, tool_number, union_of, IsGreatest, Follows}
+use Rattle.script_read.specs.Checks.{IsCoveredOf, IsUnderOf, IsInOrderOf, IsBehindOf, IsPlacedOf, IsInRangeOf}
 use Rattle.script_read.specs.Naming.{IsCpuFormNamedOf, IsToolFormNamedOf, IsNamedOf, IsWithinLimitsOf, IsLightOf}
 use Rattle.script_read.specs.Adding.{Asks, IsFirst}
 use Rattle.script_read.specs.Progressing.{AsksOf, IsFirstOf}
-use Rattle.script_read.proofs.Following.{rank_part, below, none_empty}
+use Rattle.script_read.proofs.Following.{rank_part, none_empty}
 use Rattle.script_read.proofs.Unions.{union_apart, apart_union, covered_any, any_covered}
 
 -- the state with the script that the forms say in its place

@@ -1,5 +1,5 @@
 -- A form that is taken, as a line.
-use Rattle.std.proofs.Common.{◌≡◌, ℕ, Bool, true, false, All, List, [], ◌∷◌, ◌++◌, Result, Ok, Err, refl, sym, ap, subst, ◌∙◌}
+use Rattle.std.proofs.Common.{◌≡◌, ℕ, false, All, List, [], ◌∷◌, Result, Ok, Err, sym, subst}
 use Rattle.std.specs.Prelude.{IfOk, IfErr}
 use Rattle.script_spec.specs.Lines.{words_of}
 use Rattle.script_spec.specs.Forms as form

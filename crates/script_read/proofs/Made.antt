@@ -1,5 +1,5 @@
 -- The lines that forms say.
-use Rattle.std.proofs.Common.{◌≡◌, ℕ, zero, suc, ◌+◌, ◌-◌, ◌<◌, ◌≤◌, List, [], ◌∷◌, ◌++◌, map, length, get_or, set, take, Option, Some, None, option_map, refl, sym, ap, subst, ◌∙◌, arith, append_assoc}
+use Rattle.std.proofs.Common.{◌≡◌, ℕ, suc, ◌+◌, ◌-◌, ◌<◌, ◌≤◌, List, [], ◌∷◌, ◌++◌, map, length, get_or, set, take, Option, Some, option_map, refl, sym, ap, subst, ◌∙◌, arith}
 use Rattle.std.specs.Prelude.{replicate, slice_get, IfSome}
 use Rattle.std.proofs.lemmas.List.{take_more, map_push, length-map, length-take-le}
 use Rattle.std.proofs.lemmas.Option.{slice_get-get_or}
@@ -45,7 +45,7 @@ one_more_kind f kinds i v name now l few is value so_far =
     let len : length (map (λ (k : KindLine). f k.name) (take i kinds)) ≡ i = length-map (take i kinds) (λ (k : KindLine). f k.name) ∙ length-take-le i kinds (omega arith) in
     let here : v ≡ f (get_or kinds i d).name = value ∙ ap f (read_name kinds i d name l is) in
     let start : set now i v ≡ set (map (λ (k : KindLine). f k.name) (take i kinds) ++ replicate (suc (16 - (i + 1))) 0) (length (map (λ (k : KindLine). f k.name) (take i kinds))) v =
-        ap (λ (xs : List ℕ). set xs i v) (so_far ∙ ap (λ m. map (λ (k : KindLine). f k.name) (take i kinds) ++ replicate m 0) n) ∙ ap (λ m. set (map (λ (k : KindLine). f k.name) (take i kinds) ++ replicate (suc (16 - (i + 1))) 0) m v) (sym len) in
+    ap (λ (xs : List ℕ). set xs i v) (so_far ∙ ap (λ m. map (λ (k : KindLine). f k.name) (take i kinds) ++ replicate m 0) n) ∙ ap (λ m. set (map (λ (k : KindLine). f k.name) (take i kinds) ++ replicate (suc (16 - (i + 1))) 0) m v) (sym len) in
     let next : map (λ (k : KindLine). f k.name) (take (i + 1) kinds) ≡ map (λ (k : KindLine). f k.name) (take i kinds) ++ f (get_or kinds i d).name ∷ [] = ap (map (λ (k : KindLine). f k.name)) (take_more kinds i d l) ∙ map_push (λ (k : KindLine). f k.name) (take i kinds) (get_or kinds i d) in
     start ∙ (set_next (map (λ (k : KindLine). f k.name) (take i kinds)) (16 - (i + 1)) v
     ∙ ap (λ (xs : List ℕ). xs ++ replicate (16 - (i + 1)) 0) (ap (λ x. map (λ (k : KindLine). f k.name) (take i kinds) ++ x ∷ []) here ∙ sym next))

@@ -1,5 +1,5 @@
 -- The kinds of a work line.
-use Rattle.std.proofs.Common.{◌≡◌, ◌≢◌, ℕ, ◌↔◌, Bool, true, false, All, AllPairs, List, map, refl, sym, ap, subst, ◌∙◌}
+use Rattle.std.proofs.Common.{◌≡◌, ◌≢◌, ◌↔◌, Bool, true, false, All, AllPairs, List, map}
 use Rattle.std.specs.Prelude.{IsTrue, Any}
 use Rattle.std.proofs.lemmas.List.Elements.{All-map}
 use Rattle.perf_base.specs.declared.lines.KindLine.{KindLine}

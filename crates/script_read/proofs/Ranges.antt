@@ -1,9 +1,9 @@
 -- Numbers, masks and lists in their ranges.
-use Rattle.std.proofs.Common.{◌≡◌, ◌≢◌, ℕ, zero, suc, ◌+◌, ◌^◌, ◌<◌, ◌≤◌, ◌↔◌, Bool, true, false, List, [], ◌∷◌, map, length, All, Option, Some, None, option_map, refl, sym, ap, subst, ◌∙◌, arith}
+use Rattle.std.proofs.Common.{◌≡◌, ℕ, ◌^◌, ◌<◌, ◌↔◌, Bool, false, List, [], ◌∷◌, map, All, Option, Some, None, option_map, subst, arith}
 use Rattle.std.specs.Prelude.{slice_get, MatchOption, IsTrue}
 use Rattle.std.proofs.lemmas.List.Elements.{All-cons, All-head, All-tail, All-map}
 use Rattle.perf_base.specs.declared.lines.PmuLine.{PmuLine}
-use Rattle.perf_base.specs.Scripts.{IsMaskOf, IsRingSize}
+use Rattle.perf_base.specs.Scripts.{IsMaskOf}
 
 pub mask_iff : (pmus : List PmuLine) (pmu mask : ℕ) (r : Option ℕ) (b : Bool) → r ≡ option_map (λ p. p.counters) (slice_get pmus pmu)
     → MatchOption r (b ≡ false) (λ c. IsTrue b ↔ ((0 < mask) × (mask < 2 ^ c))) → IsTrue b ↔ IsMaskOf pmus pmu mask

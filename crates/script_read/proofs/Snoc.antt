@@ -1,18 +1,12 @@
 -- The script that forms say, with one form more.
-use Rattle.std.proofs.Common.{◌≡◌, ◌≢◌, ℕ, zero, suc, ◌+◌, ◌-◌, ◌<◌, ◌≤◌, Bool, true, false, cond, eqb, List, [], ◌∷◌, ◌++◌, map, length, get_or, set, Option, Some, None, inl, inr, refl, sym, ap, subst, ◌∙◌, arith, append_assoc}
-use Rattle.std.specs.Prelude.{slice_get, slice_index, filter_map, flat_map, IfSome, IsSome}
+use Rattle.std.proofs.Common.{◌≡◌, ◌≢◌, ℕ, zero, suc, ◌+◌, ◌<◌, List, [], ◌∷◌, ◌++◌, map, get_or, set, Option, refl, sym, ap, subst, ◌∙◌, arith, append_assoc}
+use Rattle.std.specs.Prelude.{filter_map}
 use Rattle.std.specs.List.{cons_option}
-use Rattle.std.proofs.lemmas.Bool.{cases_eq, eq-eqb, ne_eqb}
 use Rattle.std.proofs.lemmas.List.{append-nil}
 use Rattle.std.proofs.lemmas.List.Elements.{filter_map-append}
 use Rattle.std.proofs.lemmas.Grind.{flat_map-append}
-use Rattle.perf_base.specs.declared.lines.CpuLine.{CpuLine}
-use Rattle.perf_base.specs.declared.lines.ToolLine.{ToolLine}
-use Rattle.perf_base.specs.Scripts.{Scripted}
-use Rattle.script_spec.specs.Forms as form
-use Rattle.script_spec.specs.Forms.{Form, CpuForm, ToolForm}
-use Rattle.script_spec.specs.Meaning.{machine_cpus, pmu_said, kind_said, task_said, ring_said, processor_said, tool_said, reader_said, acts_said, cpus_in, pmus_in, kinds_in, tasks_in, rings_in, processors_in, tools_in, readers_in, acts_in, cpu_line_of, tool_line_of, last_of, is_number, cpu_line_at, tool_line_at, each_behind, cpu_lines_in, tool_lines_in, script_of}
-use Rattle.script_read.specs.Adding.{said_by, on_cpu, on_tool}
+use Rattle.script_spec.specs.Forms.{Form}
+use Rattle.script_spec.specs.Meaning.{acts_said, acts_in, cpu_line_at, tool_line_at, each_behind, cpu_lines_in, tool_lines_in}
 
 pub pushed : {Y : Type 0} (h : Form → Option Y) (forms : List Form) (f : Form) → filter_map h (forms ++ f ∷ []) ≡ filter_map h forms ++ cons_option (h f) []
 pushed h forms f = filter_map-append h forms (f ∷ [])
@@ -44,7 +38,6 @@ map_same f g h (n ∷ ns) = ap (λ x. x ∷ map f ns) (h n) ∙ ap (λ xs. g n �
 -- one list among those from a number on is longer
 pub one_longer : {X : Type 0} (f g : ℕ → List X) (x : X) (a c n : ℕ) → c < n → g (a + c) ≡ f (a + c) ++ x ∷ [] → ((p : ℕ) → p ≢ a + c → g p ≡ f p)
     → map g (from a n) ≡ set (map f (from a n)) c (get_or (map f (from a n)) c [] ++ x ∷ [])
-
 one_longer f g x a c zero l at other = absurd (omega (arith, l))
 one_longer f g x a zero (suc n) l at other =
     let z : a + 0 ≡ a = omega arith in

@@ -1,8 +1,8 @@
 -- Line after line, and the whole text.
-use Rattle.std.proofs.Common.{◌≡◌, ◌≢◌, ℕ, zero, suc, ◌+◌, ◌<◌, ◌≤◌, ◌⊎◌, Bool, true, false, eqb, All, List, [], ◌∷◌, ◌++◌, length, length-append, length-take, get_or, take, Option, Some, None, Result, Ok, Err, inl, inr, refl, sym, ap, subst, ◌∙◌, arith, append_assoc}
-use Rattle.std.specs.Prelude.{IfOk, IfErr, Any}
+use Rattle.std.proofs.Common.{◌≡◌, ℕ, ◌+◌, ◌<◌, true, List, [], ◌∷◌, ◌++◌, length, length-append, get_or, take, inl, inr, refl, sym, ap, subst, ◌∙◌, arith, append_assoc}
+use Rattle.std.specs.Prelude.{Any}
 use Rattle.std.proofs.lemmas.Bool.{cases_lt, eqb-true}
-use Rattle.std.proofs.lemmas.List.{append-nil, length_push, take-append-le, take_at, take_all, get_or_append_left, get_or-take}
+use Rattle.std.proofs.lemmas.List.{append-nil, length_push, take-append-le, take_at, get_or_append_left}
 use Rattle.perf_base.specs.declared.reasons.SReason.{SReason}
 use Rattle.perf_base.specs.declared.reasons.SReason.TheVariants as reason
 use Rattle.perf_base.specs.Scripts.{Scripted}
@@ -10,15 +10,14 @@ use Rattle.script_spec.specs.Lines.{lines_of, rest_of}
 use Rattle.script_spec.specs.Forms as form
 use Rattle.script_spec.specs.Forms.{Version, Form}
 use Rattle.script_spec.specs.Meaning.{script_of}
-use Rattle.script_spec.specs.Faults.{section, IsNoEnd, IsSound, IsFaulty}
-use Rattle.script_spec.specs.Texts.{version_of, AreSound, IsWholeText, StandsFor, HasFaultyLine, IsCutOff, HasNoEnd, IsRefused}
+use Rattle.script_spec.specs.Faults.{section, IsSound, IsFaulty}
+use Rattle.script_spec.specs.Texts.{version_of, AreSound, StandsFor, IsRefused}
 use Rattle.script_read.specs.declared.progress.Progress.{Progress}
 use Rattle.script_read.specs.declared.progress.Progress.TheVariants as progress
 use Rattle.script_read.specs.declared.fault.ScriptFault.{ScriptFault}
 use Rattle.script_read.specs.declared.fault.ScriptFault.TheVariants as fault
 use Rattle.script_read.specs.declared.fault.LineFault.{LineFault}
 use Rattle.script_read.specs.declared.fault.LineFault.TheVariants as line_fault
-use Rattle.script_read.specs.States.{Follows}
 use Rattle.script_read.specs.Progressing.{Behind, Blames, ended_of, IsTakenLine}
 use Rattle.script_read.specs.Finishing.{IsNextLine, HasNoLine, IsReading, Says, IsFinished, IsUnfinished, IsBlamed, blamed_of}
 use Rattle.script_read.proofs.Begun.{ended_false}
@@ -90,13 +89,15 @@ refused_at text v p n left line more q e r x h =
     let split : lines_of text ≡ take n (lines_of text) ++ (line ∷ lines_of more) = r.lines ∙ ap (λ (ls : List (List ℕ)). take n (lines_of text) ++ ls) x.lines in
     let len : length (take n (lines_of text)) ≡ n = front_length text p n left r in
     let whole : length (lines_of text) ≡ length (take n (lines_of text)) + length (line ∷ lines_of more) = ap length split ∙ length-append (take n (lines_of text)) (line ∷ lines_of more) in
-    let at : get_or (lines_of text) (length r.forms) [] ≡ line = ap (λ (ls : List (List ℕ)). get_or ls (length r.forms) []) split ∙ (ap (λ k. get_or (take n (lines_of text) ++ (line ∷ lines_of more)) k []) (r.many ∙ sym len) ∙ get_last (take n (lines_of text)) line [] (lines_of more)) in
-    (r.forms, inl (record {
-      within = omega (arith, whole, len, r.many);
-      sound = subst (λ k. AreSound (version_of (lines_of text)) (take k (lines_of text)) r.forms) (sym r.many) r.sound;
-      faulty = rw at (subst (λ u. IsFaulty u r.forms line q) e (h r.forms r.behind));
-      number = ap (λ k. k + 1) (sym r.many);
-    }))
+    let at : get_or (lines_of text) (length r.forms) [] ≡ line = ap (λ (ls : List (List ℕ)). get_or ls (length r.forms) []) split ∙ (ap (λ k. get_or (take n (lines_of text) ++ (line ∷ lines_of more)) k []) (r.many ∙ sym len) ∙ get_last (take n (lines_of text)) line [] (lines_of more)) in (
+      r.forms,
+      inl (record {
+        within = omega (arith, whole, len, r.many);
+        sound = subst (λ k. AreSound (version_of (lines_of text)) (take k (lines_of text)) r.forms) (sym r.many) r.sound;
+        faulty = rw at (subst (λ u. IsFaulty u r.forms line q) e (h r.forms r.behind));
+        number = ap (λ k. k + 1) (sym r.many);
+      }),
+    )
 
 -- ---- the end
 
@@ -135,20 +136,26 @@ blamed text e n r is h = subst (IsBlamed text) (sym is) h
 
 pub unfinished : (text : List ℕ) (p : Progress) (n : ℕ) (left : List ℕ) (e : ScriptFault) → IsReading text p n left → HasNoLine left → IsUnfinished left p n e → IsBlamed text e
 unfinished text p n left e r x (inl cut) =
-    blamed text e (n + 1) reason.End cut.1 (r.forms, inr (inl (record {
-      sound = sound_all text p n left r x;
-      more = λ none. cut.0 (sym (all_read text p n left r x).1 ∙ none);
-      number = ap (λ k. k + 1) (count_all text p n left r x);
-      is_end = refl;
-    })))
+    blamed text e (n + 1) reason.End cut.1 (
+      r.forms,
+      inr (inl (record {
+        sound = sound_all text p n left r x;
+        more = λ none. cut.0 (sym (all_read text p n left r x).1 ∙ none);
+        number = ap (λ k. k + 1) (count_all text p n left r x);
+        is_end = refl;
+      })),
+    )
 unfinished text p n left e r x (inr open_end) =
-    blamed text e n reason.End open_end.2 (r.forms, inr (inr (record {
-      sound = sound_all text p n left r x;
-      ended = (all_read text p n left r x).1 ∙ open_end.0;
-      no_end = ended_false r.forms p r.behind open_end.1;
-      number = count_all text p n left r x;
-      is_end = refl;
-    })))
+    blamed text e n reason.End open_end.2 (
+      r.forms,
+      inr (inr (record {
+        sound = sound_all text p n left r x;
+        ended = (all_read text p n left r x).1 ∙ open_end.0;
+        no_end = ended_false r.forms p r.behind open_end.1;
+        number = count_all text p n left r x;
+        is_end = refl;
+      })),
+    )
 
 pub line_blamed : (text : List ℕ) (v : Version) (p : Progress) (n : ℕ) (left line more : List ℕ) (x : LineFault) → v ≡ version_of (lines_of text) → IsReading text p n left → IsNextLine left line more
     → ((forms : List Form) → Behind forms p → Blames x (λ r. IsFaulty v forms line r)) → IsBlamed text (blamed_of (n + 1) x)

@@ -1,11 +1,11 @@
 -- What the tests of numbers ask, of the script so far and what the state keeps beside it.
-use Rattle.std.specs.Prelude.{◌≡◌, ℕ, ◌<◌, ◌≤◌, bit_and, List, length, map, All, Option, IfSome, IsSome}
+use Rattle.std.specs.Prelude.{◌≡◌, ℕ, ◌<◌, ◌≤◌, bit_and, List, length, All, Option, IfSome, IsSome}
 use Rattle.perf_base.specs.declared.numbers.CpuNo.{CpuNo}
 use Rattle.perf_base.specs.declared.numbers.RingNo.{RingNo}
 use Rattle.perf_base.specs.Cpus.{HasCpu}
 use Rattle.perf_base.specs.declared.lines.PmuLine.{PmuLine}
 use Rattle.perf_base.specs.declared.lines.ReaderLine.{ReaderLine}
-use Rattle.perf_base.specs.Scripts.{Scripted, IsPmuLine, IsMaskOf, IsRingLine}
+use Rattle.perf_base.specs.Scripts.{IsPmuLine, IsMaskOf, IsRingLine}
 use Rattle.script_spec.specs.Acts.{IsActInRange}
 use Rattle.script_spec.specs.Forms as form
 use Rattle.script_spec.specs.Forms.{Form}

@@ -1,10 +1,9 @@
 -- What reading gives, line by line and at the end.
-use Rattle.std.specs.Prelude.{◌≡◌, ◌≢◌, ℕ, ◌+◌, ◌<◌, ◌≤◌, ◌⊎◌, Bool, true, false, List, [], ◌∷◌, ◌++◌, length, take, Option, Some, None}
-use Rattle.perf_base.specs.declared.reasons.SReason.{SReason}
+use Rattle.std.specs.Prelude.{◌≡◌, ◌≢◌, ℕ, ◌+◌, ◌<◌, ◌≤◌, ◌⊎◌, true, false, List, [], ◌∷◌, ◌++◌, length, take}
 use Rattle.perf_base.specs.declared.reasons.SReason.TheVariants as reason
 use Rattle.perf_base.specs.Scripts.{Scripted}
 use Rattle.script_spec.specs.Lines.{lines_of, rest_of}
-use Rattle.script_spec.specs.Forms.{Version, Form}
+use Rattle.script_spec.specs.Forms.{Form}
 use Rattle.script_spec.specs.Texts.{version_of, AreSound, IsRefused}
 use Rattle.script_read.specs.declared.progress.Progress.{Progress}
 use Rattle.script_read.specs.declared.progress.Progress.TheVariants as progress

@@ -1,5 +1,6 @@
 pub mod Adding
 pub mod Checks
+pub mod Completing
 pub mod Finishing
 pub mod Lines
 pub mod Naming

@@ -1,5 +1,5 @@
 -- What the making of lines needs, and what it gives.
-use Rattle.std.specs.Prelude.{◌≡◌, ℕ, ◌<◌, List, [], Option, Some, None, IfSome, option_map}
+use Rattle.std.specs.Prelude.{◌<◌, [], Option, None, IfSome}
 use Rattle.perf_base.specs.declared.attr.Attr.{Attr}
 use Rattle.perf_base.specs.declared.attr.Kind.{Kind}
 use Rattle.perf_base.specs.declared.lines.ToolLine.{ToolLine}

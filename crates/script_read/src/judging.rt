@@ -17,6 +17,7 @@ use perf_base::{CpuNo, SReason, Script, ToolNo};
 
 /// How many kinds a script may have, and how many lines under its processors and tools.
 const MOST_KINDS: usize = 16;
+
 const MOST_LINES: usize = 16384;
 
 /// The greatest weight of a script.

@@ -189,12 +189,7 @@ fn open_by_bytes(script: &Script, place: &Opening, bytes: &[u8]) -> Option<ToolL
     }
 }
 
-fn open_by_kind(
-    script: &Script,
-    place: &Opening,
-    name: Name,
-    asked: &Asked,
-) -> Option<ToolLine>
+fn open_by_kind(script: &Script, place: &Opening, name: Name, asked: &Asked) -> Option<ToolLine>
     requires script { IsScript script.now }
     requires place { IsPlaceInRange (opening_of place.now) }
     requires asked { IsAskedInRange (asked_of asked.now) }

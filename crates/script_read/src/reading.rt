@@ -1,13 +1,15 @@
 //! Reading a script from its text.
 
-ghost use Rattle.std.specs.Prelude.{◌≡◌, ◌≤◌, length, codes, IfOk, IfErr, MatchOption};
+ghost use Rattle.std.specs.Prelude.{◌≡◌, ◌≤◌, ◌⊎◌, ℕ, length, codes, IfOk, IfErr, MatchOption, MatchResult};
+ghost use Rattle.perf_base.specs.Scripts.{Scripted};
+ghost use Rattle.perf_base.specs.declared.reasons.SReason.{SReason};
 ghost use Rattle.std.specs.Str.{bytes_eq};
 ghost use Rattle.perf_base.specs.declared.reasons.SReason.TheVariants.{End};
 ghost use Rattle.script_spec.specs.Lines.{lines_of};
 ghost use Rattle.script_spec.specs.Texts as text_version;
-ghost use Rattle.script_spec.specs.Texts.{StandsFor};
+ghost use Rattle.script_spec.specs.Texts.{StandsFor, IsRefused};
 ghost use Rattle.line_forms.specs.Seen as seen;
-ghost use Rattle.script_read.specs.declared.fault.ScriptFault.TheVariants.{Bad};
+ghost use Rattle.script_read.specs.declared.fault.ScriptFault.TheVariants.{Bad, NoMemory};
 ghost use Rattle.script_read.specs.Finishing.{IsNextLine, HasNoLine, IsFinished, IsUnfinished, IsBlamed, blamed_of};
 
 use crate::fault::{LineFault, ScriptFault};
@@ -87,7 +89,7 @@ fn blamed(line: u32, fault: LineFault) -> ScriptFault
 }
 
 /// The script that a text stands for, or its first faulty line and the first reason of that line.
-pub fn read_script(alloc: Global, bytes: &[u8]) -> Result<Script, ScriptFault>
+fn read(alloc: Global, bytes: &[u8]) -> Result<Script, ScriptFault>
     requires { length bytes.now ≤ 4194304 }
     ensures ok { IfOk result (λ s. StandsFor bytes.now s) }
     ensures bad { IfErr result (λ e. IsBlamed bytes.now e) }
@@ -105,4 +107,22 @@ pub fn read_script(alloc: Global, bytes: &[u8]) -> Result<Script, ScriptFault>
         rest = more;
     }
     finish(progress, lines, rest)
+}
+
+/// The script that a text of at most 4,194,304 bytes stands for, or its first faulty line and the first reason of
+/// that line, unless memory runs out. A text stands for at most one script, or is refused for one reason at one
+/// line, and never both. Work and memory are in proportion to the text.
+pub fn read_script(alloc: Global, bytes: &[u8]) -> Result<Script, ScriptFault>
+    requires { length bytes.now ≤ 4194304 }
+    // What is read, the text stands for.
+    ensures ok { IfOk result (λ s. StandsFor bytes.now s) }
+    // What the text stands for is read.
+    ensures every { (s : Scripted) → StandsFor bytes.now s → MatchResult result (λ t. t ≡ s) (λ e. e ≡ NoMemory) }
+    // A fault is that of the first faulty line.
+    ensures bad { IfErr result (λ e. IsBlamed bytes.now e) }
+    // A text with a faulty line is refused there, for that reason.
+    ensures refused { (line : ℕ) (reason : SReason) → IsRefused bytes.now line reason
+        → MatchResult result (λ _. ⊥) (λ e. (e ≡ Bad line reason) ⊎ (e ≡ NoMemory)) }
+{
+    read(alloc, bytes)
 }

@@ -1,7 +1,5 @@
-use Rattle.std.proofs.Common.{◌≡◌, ◌∙◌, sym, ap, All}
+use Rattle.std.proofs.Common.{◌∙◌, sym, ap}
 use Rattle.std.specs.Prelude.{bit_and}
-use Rattle.script_read.specs.States.{union_of}
-use Rattle.script_read.specs.Checks.{IsNextPmuOf}
 use Rattle.script_read.proofs.Unions.{union_apart}
 use Rattle.script_read.proofs.adding.add_said.Goals as goal
 

@@ -1,8 +1,4 @@
-use Rattle.std.proofs.Common.{◌≡◌, ◌∙◌, sym, length, arith, Some, None, Option, refl, ap, subst, ◌<◌}
-use Rattle.std.specs.Prelude.{slice_get, IfSome}
-use Rattle.std.specs.Str.{bytes_eq}
-use Rattle.perf_base.specs.declared.lines.KindLine.{KindLine}
-use Rattle.std.proofs.lemmas.Option.{slice_get-get_or}
+use Rattle.std.proofs.Common.{◌∙◌, sym, arith}
 use Rattle.script_read.proofs.Called.{number_found_by, number_not_found}
 use Rattle.script_read.proofs.kinds.number_of.Goals as goal
 

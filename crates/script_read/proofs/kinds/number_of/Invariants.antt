@@ -1,4 +1,4 @@
-use Rattle.std.proofs.Common.{◌≡◌, ◌<◌, ℕ, false, length}
+use Rattle.std.proofs.Common.{◌≡◌, ◌<◌, ℕ, false}
 use Rattle.std.specs.Prelude.{slice_get, IfSome}
 use Rattle.std.specs.Str.{bytes_eq}
 use Rattle.script_read.proofs.kinds.number_of.Given as goal

@@ -1,4 +1,3 @@
-use Rattle.std.proofs.Common.{◌∙◌, ap}
 use Rattle.line_forms.specs.Seen.{opening_of}
 use Rattle.script_read.proofs.Made.{opened_by_bytes}
 use Rattle.script_read.proofs.lines.open_by_bytes.Goals as goal

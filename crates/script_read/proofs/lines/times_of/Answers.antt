@@ -1,4 +1,4 @@
-use Rattle.std.proofs.Common.{◌≡◌, ◌≤◌, ap, arith, get_or}
+use Rattle.std.proofs.Common.{ap, arith}
 use Rattle.script_spec.specs.Forms as form
 use Rattle.script_spec.specs.Faults.{IsAmount}
 use Rattle.line_forms.specs.declared.forms.Hit.{Hit}

@@ -1,4 +1,4 @@
-use Rattle.std.proofs.Common.{◌≡◌, true, subst, sym}
+use Rattle.std.proofs.Common.{◌≡◌, true}
 use Rattle.perf_base.specs.Scripts.{IsAct}
 use Rattle.script_spec.specs.Acts.{IsActInRange}
 use Rattle.line_forms.specs.declared.forms.SpelledAct.{SpelledAct}

@@ -1,4 +1,4 @@
-use Rattle.std.proofs.Common.{◌≡◌, ◌≢◌, AllPairs, refl}
+use Rattle.std.proofs.Common.{◌≢◌, AllPairs, refl}
 use Rattle.line_forms.specs.declared.forms.Hit.{Hit}
 use Rattle.script_read.proofs.Called.{not_apart, apart_more, apart_all}
 use Rattle.script_read.proofs.names.are_apart.Goals as goal

@@ -1,4 +1,3 @@
-use Rattle.std.proofs.Common.{◌≡◌, ◌∙◌, ap, List, ℕ, Option, Some, None}
 use Rattle.script_read.proofs.Cutting.{no_line, next_line_is}
 use Rattle.script_read.proofs.reading.next_line.Goals as goal
 

@@ -1,6 +1,6 @@
 use Rattle.std.proofs.Common.{length}
 use Rattle.script_read.specs.Finishing.{IsReading}
-use Rattle.script_read.proofs.reading.read_script.Given as goal
+use Rattle.script_read.proofs.reading.read.Given as goal
 
 abbrev pub invariant-loop-line : goal.invariant-loop-line
 invariant-loop-line l = IsReading l.bytes l.progress l.lines l.rest

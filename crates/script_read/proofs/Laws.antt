@@ -1,0 +1,146 @@
+-- A text stands for at most one script, or is refused at one line for one reason, and never both.
+use Rattle.std.proofs.Common.{◌≡◌, ℕ, zero, suc, ◌+◌, ◌<◌, ◌≤◌, ◌⊎◌, All, List, [], ◌∷◌, length, length-take-le, get_or, take, Result, Ok, Err, inl, inr, refl, sym, ap, subst, ◌∙◌, arith}
+use Rattle.std.specs.Prelude.{Any, IfOk, IfErr, MatchResult}
+use Rattle.std.proofs.lemmas.Bool.{cases_order}
+use Rattle.std.proofs.lemmas.List.{ext_get_or, get_or-take}
+use Rattle.perf_base.specs.declared.reasons.SReason.{SReason}
+use Rattle.perf_base.specs.declared.reasons.SReason.TheVariants as reason
+use Rattle.perf_base.specs.Scripts.{Scripted}
+use Rattle.script_spec.specs.Lines.{words_of, lines_of}
+use Rattle.script_spec.specs.Forms as form
+use Rattle.script_spec.specs.Forms.{Version, Form}
+use Rattle.script_spec.specs.Meaning.{script_of}
+use Rattle.script_spec.specs.Faults.{IsNoEnd, IsSound, IsFaulty, rank}
+use Rattle.script_spec.specs.Texts.{version_of, AreSound, StandsFor, HasFaultyLine, IsRefused}
+use Rattle.line_forms.proofs.Laws.{one_form}
+use Rattle.script_read.specs.declared.fault.ScriptFault.{ScriptFault}
+use Rattle.script_read.specs.declared.fault.ScriptFault.TheVariants as fault
+use Rattle.script_read.specs.Finishing.{IsBlamed}
+
+take_front : {X : Type 0} (k n : ℕ) (xs : List X) → k ≤ n → take k (take n xs) ≡ take k xs
+take_front zero n xs l = refl
+take_front (suc k) zero xs l = absurd (omega (arith, l))
+take_front (suc k) (suc n) [] l = refl
+take_front (suc k) (suc n) (x ∷ xs) l = ap (λ ys. x ∷ ys) (take_front k n xs (omega (arith, l)))
+
+-- lines have at most one list of forms
+pub forms_one : (v : Version) (lines : List (List ℕ)) (f g : List Form) → AreSound v lines f → AreSound v lines g → f ≡ g
+forms_one v lines f g a b =
+    ext_get_or form.End f g (a.as_many ∙ sym b.as_many) (λ k l.
+    let w : k < length lines = omega (arith, l, a.as_many) in
+    one_form v (words_of (get_or lines k [])) (get_or f k form.End) (get_or g k form.End) (a.each k w).is (b.each k w).is)
+
+front_sound : (v : Version) (lines : List (List ℕ)) (forms : List Form) (n : ℕ) → n ≤ length lines → AreSound v lines forms → AreSound v (take n lines) (take n forms)
+front_sound v lines forms n l h =
+    let a : length (take n forms) ≡ n = length-take-le n forms (omega (arith, h.as_many)) in
+    let b : length (take n lines) ≡ n = length-take-le n lines l in
+    record {
+      as_many = a ∙ sym b;
+      each = λ k w.
+          let x : k < n = omega (arith, w, b) in
+          let t : take k (take n forms) ≡ take k forms = take_front k n forms (omega arith) in
+          rw (t, get_or-take n lines k [] x, get_or-take n forms k form.End x) (h.each k (omega arith));
+    }
+
+-- no faulty line is among sound ones
+clash : (v : Version) (lines : List (List ℕ)) (forms before : List Form) (r : SReason) → AreSound v lines forms → length before < length lines → AreSound v (take (length before) lines) before → IsFaulty v before (get_or lines (length before) []) r → ⊥
+clash v lines forms before r all l front bad =
+    let same : before ≡ take (length before) forms = forms_one v (take (length before) lines) before (take (length before) forms) front (front_sound v lines forms (length before) (omega arith) all) in
+    let s = subst (λ fs. IsSound v fs (get_or lines (length before) []) (get_or forms (length before) form.End)) (sym same) (all.each (length before) l) in
+    bad.broken (s.keeps r)
+
+-- the ranks are all different
+rank_one : (r q : SReason) → rank r ≡ rank q → r ≡ q
+rank_one r q e = sym (by_rank r) ∙ (ap back e ∙ by_rank q)
+  where
+    back : ℕ → SReason
+    back zero = reason.End
+    back (suc zero) = reason.Ascii
+    back (suc (suc zero)) = reason.Form
+    back (suc (suc (suc zero))) = reason.Place
+    back (suc (suc (suc (suc zero)))) = reason.Range
+    back (suc (suc (suc (suc (suc zero))))) = reason.Attr
+    back (suc (suc (suc (suc (suc (suc zero)))))) = reason.Name
+    back (suc (suc (suc (suc (suc (suc (suc zero))))))) = reason.Limit
+    back (suc (suc (suc (suc (suc (suc (suc (suc zero)))))))) = reason.Weight
+    back other = reason.Order
+
+    by_rank : (x : SReason) → back (rank x) ≡ x
+    by_rank reason.End = refl
+    by_rank reason.Ascii = refl
+    by_rank reason.Form = refl
+    by_rank reason.Place = refl
+    by_rank reason.Range = refl
+    by_rank reason.Attr = refl
+    by_rank reason.Name = refl
+    by_rank reason.Limit = refl
+    by_rank reason.Weight = refl
+    by_rank reason.Order = refl
+
+-- a line is refused for one reason
+reason_one : (v : Version) (before : List Form) (line : List ℕ) (r q : SReason) → IsFaulty v before line r → IsFaulty v before line q → r ≡ q
+reason_one v before line r q a b = elim (cases_order (rank r) (rank q)) [
+  | inl same ↦ rank_one r q same
+  | inr (inl less) ↦ absurd (a.broken (b.earlier r less))
+  | inr (inr more) ↦ absurd (b.broken (a.earlier q more))
+]
+
+no_end : (forms : List Form) → Any (λ f. f ≡ form.End) forms → All IsNoEnd forms → ⊥
+no_end forms a all = subst IsNoEnd (a.3 ∙ a.4) (all a.0 a.1 a.2)
+
+pub stands_one : (text : List ℕ) (s t : Scripted) → StandsFor text s → StandsFor text t → s ≡ t
+stands_one text s t a b = a.2 ∙ (ap script_of (forms_one (version_of (lines_of text)) (lines_of text) a.0 b.0 a.1.sound b.1.sound) ∙ sym b.2)
+
+pub stands_or_refused : (text : List ℕ) (s : Scripted) (line : ℕ) (r : SReason) → StandsFor text s → IsRefused text line r → ⊥
+stands_or_refused text s line r a b = elim b.1 [
+  | inl f ↦ clash (version_of (lines_of text)) (lines_of text) a.0 b.0 r a.1.sound f.within f.sound f.faulty
+  | inr (inl c) ↦ c.more a.1.ended
+  | inr (inr n) ↦ no_end b.0 (subst (Any (λ f. f ≡ form.End)) (forms_one (version_of (lines_of text)) (lines_of text) a.0 b.0 a.1.sound n.sound) a.1.has_end) n.no_end
+]
+
+inside : (text : List ℕ) (x y : List Form) (l : ℕ) (r : SReason) → HasFaultyLine text x l r → AreSound (version_of (lines_of text)) (take (length y) (lines_of text)) y → length y ≤ length (lines_of text) → length x < length y → ⊥
+inside text x y l r a sound le less =
+    let n : length (take (length y) (lines_of text)) ≡ length y = length-take-le (length y) (lines_of text) le in
+    let t : take (length x) (take (length y) (lines_of text)) ≡ take (length x) (lines_of text) = take_front (length x) (length y) (lines_of text) (omega arith) in
+    let g : get_or (take (length y) (lines_of text)) (length x) [] ≡ get_or (lines_of text) (length x) [] = get_or-take (length y) (lines_of text) (length x) [] less in
+    clash (version_of (lines_of text)) (take (length y) (lines_of text)) y x r sound (omega (arith, n)) (rw t a.sound) (rw g a.faulty)
+
+faulty_one : (text : List ℕ) (x y : List Form) (l m : ℕ) (r q : SReason) → HasFaultyLine text x l r → HasFaultyLine text y m q → (l ≡ m) × (r ≡ q)
+faulty_one text x y l m r q a b = elim (cases_order (length x) (length y)) [
+  | inl same ↦
+      let forms : x ≡ y = forms_one (version_of (lines_of text)) (take (length x) (lines_of text)) x y a.sound (subst (λ k. AreSound (version_of (lines_of text)) (take k (lines_of text)) y) (sym same) b.sound) in
+      let site : IsFaulty (version_of (lines_of text)) x (get_or (lines_of text) (length x) []) q = subst (λ fs. IsFaulty (version_of (lines_of text)) fs (get_or (lines_of text) (length fs) []) q) (sym forms) b.faulty in
+      (a.number ∙ (ap (λ k. k + 1) same ∙ sym b.number), reason_one (version_of (lines_of text)) x (get_or (lines_of text) (length x) []) r q a.faulty site)
+  | inr (inl less) ↦ absurd (inside text x y l r a b.sound (omega (arith, b.within)) less)
+  | inr (inr more) ↦ absurd (inside text y x m q b a.sound (omega (arith, a.within)) more)
+]
+
+pub refused_one : (text : List ℕ) (l m : ℕ) (r q : SReason) → IsRefused text l r → IsRefused text m q → (l ≡ m) × (r ≡ q)
+refused_one text l m r q a b = elim a.1 [
+  | inl f ↦ elim b.1 [
+    | inl g ↦ faulty_one text a.0 b.0 l m r q f g
+    | inr (inl d) ↦ absurd (clash (version_of (lines_of text)) (lines_of text) b.0 a.0 r d.sound f.within f.sound f.faulty)
+    | inr (inr d) ↦ absurd (clash (version_of (lines_of text)) (lines_of text) b.0 a.0 r d.sound f.within f.sound f.faulty)
+  ]
+  | inr (inl c) ↦ elim b.1 [
+    | inl g ↦ absurd (clash (version_of (lines_of text)) (lines_of text) a.0 b.0 q c.sound g.within g.sound g.faulty)
+    | inr (inl d) ↦ (c.number ∙ sym d.number, c.is_end ∙ sym d.is_end)
+    | inr (inr d) ↦ absurd (c.more d.ended)
+  ]
+  | inr (inr c) ↦ elim b.1 [
+    | inl g ↦ absurd (clash (version_of (lines_of text)) (lines_of text) a.0 b.0 q c.sound g.within g.sound g.faulty)
+    | inr (inl d) ↦ absurd (d.more c.ended)
+    | inr (inr d) ↦ (c.number ∙ sym d.number, c.is_end ∙ sym d.is_end)
+  ]
+]
+
+-- so what was read is the only answer
+pub only_script : (text : List ℕ) (r : Result Scripted ScriptFault) → IfOk r (StandsFor text) → IfErr r (IsBlamed text) → (s : Scripted) → StandsFor text s → MatchResult r (λ t. t ≡ s) (λ e. e ≡ fault.NoMemory)
+only_script text (Ok t) ok bad s h = stands_one text t s ok h
+only_script text (Err (fault.Bad line q)) ok bad s h = absurd (stands_or_refused text s line q h bad)
+only_script text (Err fault.NoMemory) ok bad s h = refl
+
+pub only_refusal : (text : List ℕ) (r : Result Scripted ScriptFault) → IfOk r (StandsFor text) → IfErr r (IsBlamed text) → (line : ℕ) (q : SReason) → IsRefused text line q → MatchResult r (λ t. ⊥) (λ e. (e ≡ fault.Bad line q) ⊎ (e ≡ fault.NoMemory))
+only_refusal text (Ok t) ok bad line q h = stands_or_refused text t line q ok h
+only_refusal text (Err (fault.Bad m p)) ok bad line q h = let one = refused_one text m line p q bad h in inl (ap (λ k. fault.Bad k p) one.0 ∙ ap (fault.Bad line) one.1)
+only_refusal text (Err fault.NoMemory) ok bad line q h = inr refl
