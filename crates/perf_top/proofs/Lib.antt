@@ -1,5 +1,6 @@
 mod Words
 pub mod Acts
+pub mod Ends
 pub mod Filling
 pub mod LineCounts
 pub mod Lines

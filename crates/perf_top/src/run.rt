@@ -1,6 +1,6 @@
 //! From the source's bytes to the report, and from the report to the sink.
 
-ghost use Rattle.std.specs.Prelude.{◌≡◌, ℕ, ◌≤◌, ◌<◌, ◌⊎◌, List, length, take, All, IfOk, IfErr, IfSome, Err};
+ghost use Rattle.std.specs.Prelude.{◌≡◌, ℕ, ◌≤◌, ◌<◌, ◌⊎◌, ◌==◌, List, length, count_by, take, All, IfOk, IfErr, IfSome, Err};
 ghost use Rattle.perf_io.specs.Outside.{Adds, Rose};
 ghost use Rattle.perf_top.specs.Stops.{status_of};
 ghost use Rattle.stage_spec.specs.Order.{IsComplete};
@@ -41,12 +41,19 @@ impl RunStop {
     }
 }
 
-/// The number of the lines of a text that are ended by an LF.
-fn line_count(text: &[u8]) -> u32
+/// How many LFs a text has.
+fn lf_count(text: &[u8]) -> usize
+    ensures { result ≡ count_by (λ byte. byte == 10) text.now }
+{
+    text.iter().filter(|byte| **byte == b'\n').count()
+}
+
+/// The number of the last line of a text whose lines are all ended by an LF.
+fn last_line(text: &[u8]) -> u32
     requires { length text.now ≤ 4194304 }
     ensures { result ≡ length (lines_of text.now) }
 {
-    text.iter().filter(|byte| **byte == b'\n').count() as u32
+    lf_count(text) as u32
 }
 
 /// The report of a script that is served.
@@ -77,7 +84,7 @@ fn report_of_script(alloc: Global, text: &[u8], script: &Script) -> Result<Vec<u
     ensures long { result ≡ Err RunStop.TooLong → ⊥ }
 {
     if !order_complete(script) {
-        return Err(RunStop::Bad(line_count(text), SReason::Order));
+        return Err(RunStop::Bad(last_line(text), SReason::Order));
     }
     if !served::is_served(script) {
         return Err(RunStop::Unbuilt);
