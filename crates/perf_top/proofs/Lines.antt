@@ -1,8 +1,7 @@
 -- A complete order of a script that is served has a line for each of its acts.
-use Rattle.std.proofs.Common.{◌≡◌, ℕ, zero, suc, ◌<◌, ◌≤◌, ◌+◌, Bool, true, cond, eqb, List, [], ◌∷◌, ◌++◌, length, take, replicate, map, All, get_or, arith, refl, sym, ap, subst, ◌∙◌, eq-eqb}
+use Rattle.std.proofs.Common.{◌≡◌, ℕ, ◌<◌, ◌≤◌, ◌+◌, Bool, true, cond, eqb, List, [], ◌∷◌, ◌++◌, length, take, All, get_or, arith, refl, sym, ap, subst, ◌∙◌, eq-eqb}
 use Rattle.std.specs.Prelude.{count_by}
 use Rattle.std.proofs.lemmas.List.{get_or_default, take_more}
-use Rattle.std.proofs.lemmas.List.Elements.{All-cons, All-replicate}
 use Rattle.std.proofs.lemmas.List.Sums.{sum_by-take-le}
 use Rattle.perf_base.specs.declared.acts.Act.{Act}
 use Rattle.perf_base.specs.declared.acts.Act.TheVariants as act

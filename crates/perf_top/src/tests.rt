@@ -11,10 +11,12 @@ const SCRIPT: &str = "perf 1\nmachine cpus=1 counters=1\nkind cycles mask=1\npro
 
 const REPORT: &str = "order t0 p0 t0\nt0.1 read 500 100 100\nend\n";
 
-const NO_SCRIPT: Status = Status::BadScript {
-    line: 0,
-    reason: SReason::Form,
-};
+const OPEN_ORDER: &str =
+    "perf 1\nmachine cpus=1 counters=1\nprocessor 0\nwork 1 user\norder\nend\n";
+
+const WITH_TASK: &str = "perf 1\nmachine cpus=1 counters=1\ntask 0\nend\n";
+
+const EMPTY: &str = "perf 1\nmachine cpus=1 counters=1\nend\n";
 
 const CALM: u64 = 1000000;
 
@@ -30,7 +32,7 @@ type Row = (
     &'static str,
 );
 
-const ROWS: [Row; 11] = [
+const ROWS: [Row; 14] = [
     ("replay", SCRIPT, 9, [CALM, CALM], Status::Done, REPORT, ""),
     ("replay", SCRIPT, 1, [CALM, CALM], Status::Done, REPORT, ""),
     (
@@ -80,21 +82,57 @@ const ROWS: [Row; 11] = [
     ),
     (
         "replay",
+        EMPTY,
+        9,
+        [CALM, CALM],
+        Status::Done,
+        "order\nend\n",
+        "",
+    ),
+    (
+        "replay",
         "perf 2\nend\n",
         9,
         [CALM, CALM],
-        NO_SCRIPT,
+        Status::BadScript {
+            line: 2,
+            reason: SReason::Place,
+        },
         "",
-        "perf_run: line 0: FORM\n",
+        "perf_run: line 2: PLACE\n",
     ),
     (
         "replay",
         "",
         9,
         [CALM, CALM],
-        NO_SCRIPT,
+        Status::BadScript {
+            line: 0,
+            reason: SReason::End,
+        },
         "",
-        "perf_run: line 0: FORM\n",
+        "perf_run: line 0: END\n",
+    ),
+    (
+        "replay",
+        OPEN_ORDER,
+        9,
+        [CALM, CALM],
+        Status::BadScript {
+            line: 6,
+            reason: SReason::Order,
+        },
+        "",
+        "perf_run: line 6: ORDER\n",
+    ),
+    (
+        "replay",
+        WITH_TASK,
+        9,
+        [CALM, CALM],
+        Status::Unbuilt,
+        "",
+        "perf_run: not built\n",
     ),
     (
         "replay now",
@@ -146,7 +184,14 @@ fn each_answer_comes_with_its_bytes_and_its_note(rt: HostRuntime) -> Result<(), 
 #[test]
 fn a_text_may_be_too_long(rt: HostRuntime) -> Result<(), Fail> {
     let table = [
-        (4194304, NO_SCRIPT, "perf_run: line 0: FORM\n"),
+        (
+            4194304,
+            Status::BadScript {
+                line: 1,
+                reason: SReason::End,
+            },
+            "perf_run: line 1: END\n",
+        ),
         (
             4194305,
             Status::TooLong,
