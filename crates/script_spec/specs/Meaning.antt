@@ -122,10 +122,10 @@ kind_named kinds name = option_or (option_map kind.Hard (number_of kinds name)) 
 abbrev pub kind_numbered : List KindLine → ℕ → ℕ → Option Kind
 kind_numbered kinds class config =
     if class == 1 then (
-        if config == 1 then Some kind.TaskClock else
-        if config == 3 then Some kind.ContextSwitches else
-        if config == 4 then Some kind.CpuMigrations else
-        if config == 9 then Some kind.Dummy else None
+    if config == 1 then Some kind.TaskClock else
+    if config == 3 then Some kind.ContextSwitches else
+    if config == 4 then Some kind.CpuMigrations else
+    if config == 9 then Some kind.Dummy else None
     ) else if nat_lt config (length kinds) then Some (kind.Hard config) else None
 
 -- the kind of an attribute's bytes
