@@ -31,7 +31,7 @@ perf_taken v = record { asks = asks; behind = (v, refl) }
     asks reason.Place = refl
     asks other = tt
 
-early : (before : List Form) (f : Form) (q : SReason) → rank q < 3 → AsksOf before f q
+pub early : (before : List Form) (f : Form) (q : SReason) → rank q < 3 → AsksOf before f q
 early before f reason.End l = tt
 early before f reason.Ascii l = tt
 early before f reason.Form l = tt
@@ -89,7 +89,7 @@ early_range before f p reason.Weight l = absurd (omega (arith, l))
 pub range_first : (before : List Form) (f : Form) → IsPlaced before f → (IsInRange before f → ⊥) → IsFirstOf before f reason.Range
 range_first before f p b = record { earlier = early_range before f p; broken = b }
 
-machine_asks : (before : List Form) (cpus counters : ℕ) → IsPlaced before (form.Machine cpus counters) → IsInRange before (form.Machine cpus counters) → (q : SReason) → AsksOf before (form.Machine cpus counters) q
+pub machine_asks : (before : List Form) (cpus counters : ℕ) → IsPlaced before (form.Machine cpus counters) → IsInRange before (form.Machine cpus counters) → (q : SReason) → AsksOf before (form.Machine cpus counters) q
 machine_asks before cpus counters p r reason.Place = p
 machine_asks before cpus counters p r reason.Range = r
 machine_asks before cpus counters p r other = tt
