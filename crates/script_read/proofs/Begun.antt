@@ -94,7 +94,7 @@ machine_asks before cpus counters p r reason.Place = p
 machine_asks before cpus counters p r reason.Range = r
 machine_asks before cpus counters p r other = tt
 
-bare_asks : (before : List Form) (cpus : ℕ) → IsPlaced before (form.MachineOfPmus cpus) → IsInRange before (form.MachineOfPmus cpus) → (q : SReason) → AsksOf before (form.MachineOfPmus cpus) q
+pub bare_asks : (before : List Form) (cpus : ℕ) → IsPlaced before (form.MachineOfPmus cpus) → IsInRange before (form.MachineOfPmus cpus) → (q : SReason) → AsksOf before (form.MachineOfPmus cpus) q
 bare_asks before cpus p r reason.Place = p
 bare_asks before cpus p r reason.Range = r
 bare_asks before cpus p r other = tt
