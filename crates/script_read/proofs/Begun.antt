@@ -31,7 +31,7 @@ perf_taken v = record { asks = asks; behind = (v, refl) }
     asks reason.Place = refl
     asks other = tt
 
-early : (before : List Form) (f : Form) (q : SReason) → rank q < 3 → AsksOf before f q
+pub early : (before : List Form) (f : Form) (q : SReason) → rank q < 3 → AsksOf before f q
 early before f reason.End l = tt
 early before f reason.Ascii l = tt
 early before f reason.Form l = tt
@@ -89,12 +89,12 @@ early_range before f p reason.Weight l = absurd (omega (arith, l))
 pub range_first : (before : List Form) (f : Form) → IsPlaced before f → (IsInRange before f → ⊥) → IsFirstOf before f reason.Range
 range_first before f p b = record { earlier = early_range before f p; broken = b }
 
-machine_asks : (before : List Form) (cpus counters : ℕ) → IsPlaced before (form.Machine cpus counters) → IsInRange before (form.Machine cpus counters) → (q : SReason) → AsksOf before (form.Machine cpus counters) q
+pub machine_asks : (before : List Form) (cpus counters : ℕ) → IsPlaced before (form.Machine cpus counters) → IsInRange before (form.Machine cpus counters) → (q : SReason) → AsksOf before (form.Machine cpus counters) q
 machine_asks before cpus counters p r reason.Place = p
 machine_asks before cpus counters p r reason.Range = r
 machine_asks before cpus counters p r other = tt
 
-bare_asks : (before : List Form) (cpus : ℕ) → IsPlaced before (form.MachineOfPmus cpus) → IsInRange before (form.MachineOfPmus cpus) → (q : SReason) → AsksOf before (form.MachineOfPmus cpus) q
+pub bare_asks : (before : List Form) (cpus : ℕ) → IsPlaced before (form.MachineOfPmus cpus) → IsInRange before (form.MachineOfPmus cpus) → (q : SReason) → AsksOf before (form.MachineOfPmus cpus) q
 bare_asks before cpus p r reason.Place = p
 bare_asks before cpus p r reason.Range = r
 bare_asks before cpus p r other = tt

@@ -28,7 +28,7 @@ get_last (y ∷ xs) x d rest = get_last xs x d rest
 
 -- ---- one line more
 
-sound_more : (v : Version) (lines : List (List ℕ)) (before : List Form) (line : List ℕ) (f : Form) → AreSound v lines before → IsSound v before line f → AreSound v (lines ++ line ∷ []) (before ++ f ∷ [])
+pub sound_more : (v : Version) (lines : List (List ℕ)) (before : List Form) (line : List ℕ) (f : Form) → AreSound v lines before → IsSound v before line f → AreSound v (lines ++ line ∷ []) (before ++ f ∷ [])
 sound_more v lines before line f h s = record {
   as_many = length_push before f ∙ (ap (λ n. n + 1) h.as_many ∙ sym (length_push lines line));
   each = λ k l. elim (cases_lt k (length lines)) [
