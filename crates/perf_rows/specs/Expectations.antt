@@ -1,0 +1,16 @@
+-- What each expectation of a worked case allows. This project's own profile.
+use Rattle.std.specs.Prelude.{◌≡◌, ◌⊎◌, ℕ, List, [], codes, string_bytes}
+use Rattle.perf_rows.specs.declared.case.Expected.{Expected}
+use Rattle.perf_rows.specs.declared.case.Expected.TheVariants as expected
+
+-- the call ended with 6, wrote nothing and noted that the script is not built yet
+abbrev pub IsUnbuilt : ℕ → List ℕ → List ℕ → Type 0
+IsUnbuilt number out note = (number ≡ 6) × (out ≡ []) × (note ≡ codes "perf_run: not built\n")
+
+-- the number, the output and the note of a call, by the report that a case names
+abbrev pub Allows : Expected → List ℕ → ℕ → List ℕ → List ℕ → Type 0
+Allows expected.Done report number out note = (number ≡ 0) × (out ≡ report) × (note ≡ [])
+Allows (expected.Refused wanted) report number out note = (number ≡ 1) × (out ≡ []) × (note ≡ string_bytes wanted)
+Allows expected.Read report number out note = ((number ≡ 0) × (note ≡ [])) ⊎ IsUnbuilt number out note
+Allows (expected.Unlawful wanted) report number out note = ((number ≡ 1) × (out ≡ []) × (note ≡ string_bytes wanted)) ⊎ IsUnbuilt number out note
+Allows expected.Unknown report number out note = ⊥

@@ -1,0 +1,70 @@
+//! A case, as a line of the list says it.
+
+use std::alloc::{AllocError, Global};
+
+/// What a case expects of the answer.
+#[derive(Drop)]
+pub enum Expected {
+    /// All is done: the report is in a file.
+    Done,
+    /// The text is refused with this note, whose LF is with it, and nothing is written.
+    Refused(String),
+    /// The text is a script: it is done, or not built yet.
+    Read,
+    /// The text is a script whose order can't be: it is refused with this note, or not built yet.
+    Unlawful(String),
+    /// The list does not say it in a way that is known.
+    Unknown,
+}
+
+impl Expected {
+    /// The status that is expected.
+    pub fn status(&self) -> &'static str {
+        match self {
+            Expected::Done => "0",
+            Expected::Refused(_) => "1",
+            Expected::Read => "0 or 6",
+            Expected::Unlawful(_) => "1 or 6",
+            Expected::Unknown => "unknown",
+        }
+    }
+}
+
+/// A case: its name, which is that of its files, and what it expects.
+#[derive(Drop)]
+pub struct Case {
+    pub name: String,
+    pub expected: Expected,
+}
+
+/// A word and what stands behind the space that ends it, if anything.
+fn cut_word(line: &str) -> (&str, &str) {
+    match line.split_once(' ') {
+        None => (line, ""),
+        Some((word, rest)) => (word, rest),
+    }
+}
+
+fn parse_expected(alloc: Global, kind: &str, note: &str) -> Result<Expected, AllocError> {
+    match (kind, note) {
+        ("done", "") => Ok(Expected::Done),
+        ("read", "") => Ok(Expected::Read),
+        ("done" | "read", _) | (_, "") => Ok(Expected::Unknown),
+        ("refused", _) => Ok(Expected::Refused(format!(in alloc; "{note}\n")?)),
+        ("unlawful", _) => Ok(Expected::Unlawful(format!(in alloc; "{note}\n")?)),
+        _ => Ok(Expected::Unknown),
+    }
+}
+
+/// The case of a line, which is KIND NAME or KIND NAME NOTE. A line that is empty or begins with `#` has none.
+pub fn parse_case(alloc: Global, line: &str) -> Result<Option<Case>, AllocError> {
+    if line.is_empty() || line.starts_with('#') {
+        return Ok(None);
+    }
+    let (kind, rest) = cut_word(line);
+    let (name, note) = cut_word(rest);
+    Ok(Some(Case {
+        name: String::from_str(alloc, name)?,
+        expected: parse_expected(alloc, kind, note)?,
+    }))
+}

@@ -1,0 +1,106 @@
+//! Runs the top call on worked cases, and says where its answer is not what a case expects. The cases are
+//! those of the list `cases`; each text is a file beside it.
+#![tactic(auto)]
+
+ghost use Rattle.std.specs.Prelude.{◌≡◌, ◌<◌, ◌↔◌, IsTrue};
+
+mod answer;
+mod case;
+mod verdict;
+
+use answer::answer_to;
+use case::{Case, Expected, parse_case};
+use std::process::ExitCode;
+use std::{fs, io};
+use verdict::{Verdict, judge};
+
+/// How many cases there were, and in how many the answer was not what was expected.
+#[derive(Clone, Copy)]
+struct Tally {
+    cases: u64,
+    failures: u64,
+}
+
+impl Tally {
+    /// The tally with one case more.
+    fn with(self, verdict: &Verdict) -> Tally
+        ensures kept { verdict.now ≡ Verdict.AsExpected → result.failures ≡ self.failures }
+        ensures failed { (verdict.now ≡ Verdict.AsExpected → ⊥) → 0 < result.failures }
+    {
+        let failed = match verdict {
+            Verdict::AsExpected => 0,
+            Verdict::Differs(_) => 1,
+        };
+        Tally {
+            cases: self.cases.saturating_add(1),
+            failures: self.failures.saturating_add(failed),
+        }
+    }
+}
+
+/// The bytes of the file of a case with this ending.
+fn read_part(rt: &HostRuntime, name: &str, ending: &str) -> io::Result<Vec<u8>> {
+    fs::read(rt, format!(in rt.alloc(); "{name}.{ending}")?)
+}
+
+/// What a case expects on standard output, where it says.
+fn read_report(rt: &HostRuntime, case: &Case) -> io::Result<Vec<u8>> {
+    match case.expected {
+        Expected::Done => read_part(rt, case.name.as_str(), "report"),
+        _ => Ok(Vec::new(rt.alloc())),
+    }
+}
+
+/// Runs a case, and says how it went.
+fn run_case(rt: &HostRuntime, case: &Case) -> io::Result<Verdict> {
+    let text = read_part(rt, case.name.as_str(), "script")?;
+    let report = read_report(rt, case)?;
+    match answer_to(rt.alloc(), text) {
+        Err(_) => Err(io::ErrorKind::OutOfMemory.into()),
+        Ok(answer) => Ok(judge(rt.alloc(), &case.expected, &report, answer.ending())?),
+    }
+}
+
+/// Prints the line of a case.
+fn print_verdict(rt: &HostRuntime, case: &Case, verdict: &Verdict) -> io::Result<()> {
+    let name = case.name.as_str();
+    match verdict {
+        Verdict::AsExpected => println!(rt; "{name}: {}, as expected", case.expected.status()),
+        Verdict::Differs(how) => println!(rt; "{name}: {how}"),
+    }
+}
+
+/// Runs the case of a line of the list, if it is one.
+fn run_line(rt: &HostRuntime, line: &str, tally: Tally) -> io::Result<Tally> {
+    match parse_case(rt.alloc(), line)? {
+        None => Ok(tally),
+        Some(case) => {
+            let verdict = run_case(rt, &case)?;
+            print_verdict(rt, &case, &verdict)?;
+            Ok(tally.with(&verdict))
+        }
+    }
+}
+
+/// Runs the cases of the list.
+fn run_list(rt: &HostRuntime) -> io::Result<Tally> {
+    let list = fs::read_to_string(rt, "cases")?;
+    let mut tally = Tally {
+        cases: 0,
+        failures: 0,
+    };
+    for line in list.as_str().lines() {
+        tally = run_line(rt, line, tally)?;
+    }
+    println!(rt; "{} cases, {} failures", tally.cases, tally.failures)?;
+    Ok(tally)
+}
+
+fn main(rt: HostRuntime) -> io::Result<ExitCode> {
+    let tally = run_list(&rt)?;
+    if tally.failures == 0 {
+        Ok(ExitCode::SUCCESS)
+    } else {
+        Ok(ExitCode::FAILURE)
+    }
+}

@@ -1,0 +1,110 @@
+//! Whether an answer is what a case expects.
+
+ghost use Rattle.std.specs.Prelude.{◌≡◌, ◌↔◌, IsTrue, IfOk};
+ghost use Rattle.perf_rows.specs.Expectations.{IsUnbuilt, Allows};
+
+use crate::case::Expected;
+use std::alloc::{AllocError, Global};
+
+/// How a case went.
+#[derive(Drop)]
+pub enum Verdict {
+    AsExpected,
+    /// What differs.
+    Differs(String),
+}
+
+/// How a call ended: its number, what it wrote and what it noted.
+#[derive(Clone, Copy)]
+pub struct Ending<'a> {
+    pub number: u8,
+    pub out: &'a [u8],
+    pub note: &'a [u8],
+}
+
+const UNBUILT: &str = "perf_run: not built\n";
+
+/// Whether a call ended with this number, and wrote and noted this.
+fn is_ending(ending: Ending<'_>, number: u8, out: &[u8], note: &[u8]) -> bool
+    ensures { IsTrue result ↔ (ending.entry.number ≡ number) × (ending.entry.out.now ≡ out.now) × (ending.entry.note.now ≡ note.now) }
+{
+    ending.number == number && ending.out == out && ending.note == note
+}
+
+/// Whether a call ended so that the script is not built yet.
+fn is_unbuilt(ending: Ending<'_>) -> bool
+    ensures { IsTrue result ↔ IsUnbuilt ending.entry.number ending.entry.out.now ending.entry.note.now }
+{
+    is_ending(ending, 6, b"", UNBUILT.as_bytes())
+}
+
+/// Whether a call ended as a case expects. The report is what an expectation of `Done` names.
+fn is_expected(expected: &Expected, report: &[u8], ending: Ending<'_>) -> bool
+    ensures { IsTrue result ↔ Allows expected.now report.now ending.entry.number ending.entry.out.now ending.entry.note.now }
+{
+    match expected {
+        Expected::Done => is_ending(ending, 0, report, b""),
+        Expected::Refused(note) => is_ending(ending, 1, b"", note.as_bytes()),
+        Expected::Read => (ending.number == 0 && ending.note.is_empty()) || is_unbuilt(ending),
+        Expected::Unlawful(note) => {
+            is_ending(ending, 1, b"", note.as_bytes()) || is_unbuilt(ending)
+        }
+        Expected::Unknown => false,
+    }
+}
+
+/// How many lines two texts begin with in common.
+fn common_lines(left: &[u8], right: &[u8]) -> usize {
+    left.iter()
+        .zip(right.iter())
+        .take_while(|(a, b)| a == b)
+        .filter(|(a, _)| **a == b'\n')
+        .count()
+}
+
+/// The first line of a note, as text.
+fn as_text(note: &[u8]) -> &str {
+    match std::str::from_utf8(note) {
+        Err(_) => "not text",
+        Ok(text) => text.trim_end(),
+    }
+}
+
+/// What is wanted on standard error.
+fn wanted_note(expected: &Expected) -> &str {
+    match expected {
+        Expected::Refused(note) | Expected::Unlawful(note) => note.as_str().trim_end(),
+        _ => "",
+    }
+}
+
+/// What differs: the status, the note, or the output.
+fn difference(
+    alloc: Global,
+    expected: &Expected,
+    report: &[u8],
+    ending: Ending<'_>,
+) -> Result<String, AllocError> {
+    let (status, number) = (expected.status(), ending.number);
+    let (wanted, note) = (wanted_note(expected), as_text(ending.note));
+    let (len, same) = (ending.out.len(), common_lines(ending.out, report));
+    format!(in alloc;
+        "{number}, wanted {status}; note '{note}', wanted '{wanted}'; {len} bytes of output, {same} lines as in the report"
+    )
+}
+
+/// How a case went by how its call ended.
+pub fn judge(
+    alloc: Global,
+    expected: &Expected,
+    report: &[u8],
+    ending: Ending<'_>,
+) -> Result<Verdict, AllocError>
+    ensures { IfOk result (λ verdict. verdict ≡ Verdict.AsExpected ↔ Allows expected.now report.now ending.entry.number ending.entry.out.now ending.entry.note.now) }
+{
+    if is_expected(expected, report, ending) {
+        Ok(Verdict::AsExpected)
+    } else {
+        Ok(Verdict::Differs(difference(alloc, expected, report, ending)?))
+    }
+}

@@ -1,0 +1,128 @@
+#!/usr/bin/env python3
+"""Makes the worked cases of crates/perf_rows, and what the program must print for them.
+
+Usage: perf_rows.py
+           writes crates/perf_rows/stdout from the list crates/perf_rows/data/cases
+       perf_rows.py row FOLDER..
+           takes a case of each folder, which has the files `stdin`, `stdout`, `stderr` and `status` of a call of
+           `perf_run replay`; then as above
+       perf_rows.py folder NAME FOLDER
+           takes the cases of a folder of scripts into the group NAME, in the place of those that the group had; then
+           as above. Beside NNN.script there is NNN.note, what standard error must hold, or NNN.report, what standard
+           output must hold
+       perf_rows.py served NAME FOLDER
+           as `folder`, for scripts that the program does by now: the reports are taken too
+
+The words of the list are told at its head. What a case expects is taken from the folders alone: nothing here asks the
+program.
+"""
+
+import os
+import re
+import shutil
+import sys
+
+CRATE = os.path.join(os.path.dirname(os.path.abspath(__file__)), "..", "crates", "perf_rows")
+DATA = os.path.join(CRATE, "data")
+LIST = os.path.join(DATA, "cases")
+
+HEAD = """\
+# The cases of perf_rows, one a line: KIND NAME, and for some a note. The text of a case is NAME.script beside this list.
+# done NAME           all is done: status 0, standard output is NAME.report, no note
+# refused NAME NOTE   status 1, nothing on standard output, this note
+# read NAME           the text is a script: status 0 and no note, or status 6 and the note that it is not built
+# unlawful NAME NOTE  the text is a script whose order can't be: status 1 and this note, or status 6 as above
+"""
+
+STATUS = {"done": "0", "refused": "1", "read": "0 or 6", "unlawful": "1 or 6"}
+
+
+def read(path):
+    with open(path, newline="") as file:
+        return file.read()
+
+
+def cases():
+    """The kind, the name and the note of each case of the list, in order."""
+    if not os.path.exists(LIST):
+        return []
+    lines = [line for line in read(LIST).splitlines() if line and not line.startswith("#")]
+    return [(line.split(" ", 2) + [""])[:3] for line in lines]
+
+
+def write_list(all_cases):
+    lines = [" ".join(word for word in case if word) for case in all_cases]
+    with open(LIST, "w") as file:
+        file.write(HEAD + "\n".join(lines) + "\n")
+
+
+def write_stdout(all_cases):
+    lines = [f"{name}: {STATUS[kind]}, as expected" for kind, name, _ in all_cases]
+    with open(os.path.join(CRATE, "stdout"), "w") as file:
+        file.write("\n".join(lines + [f"{len(all_cases)} cases, 0 failures"]) + "\n")
+
+
+def copy(source, name):
+    target = os.path.join(DATA, name)
+    os.makedirs(os.path.dirname(target), exist_ok=True)
+    shutil.copyfile(source, target)
+    os.chmod(target, 0o644)
+
+
+def note_of(text):
+    """The one line of a note."""
+    if not re.fullmatch(r"[^\n]+\n", text):
+        raise ValueError(f"no note of one line: {text!r}")
+    return text[:-1]
+
+
+def case_of_row(folder):
+    name = "rows/" + os.path.basename(os.path.normpath(folder))
+    status = read(os.path.join(folder, "status")).strip()
+    copy(os.path.join(folder, "stdin"), name + ".script")
+    if status == "0":
+        copy(os.path.join(folder, "stdout"), name + ".report")
+        return ["done", name, ""]
+    if status != "1" or read(os.path.join(folder, "stdout")):
+        raise ValueError(f"{folder}: status {status}")
+    return ["refused", name, note_of(read(os.path.join(folder, "stderr")))]
+
+
+def case_of_script(group, stem, served):
+    """The case of the script STEM.script."""
+    name = f"{group}/{os.path.basename(stem)}"
+    copy(stem + ".script", name + ".script")
+    if os.path.exists(stem + ".note"):
+        note = note_of(read(stem + ".note"))
+        refused = served or note.startswith("perf_run: line ")
+        return ["refused" if refused else "unlawful", name, note]
+    if served:
+        copy(stem + ".report", name + ".report")
+    return ["done" if served else "read", name, ""]
+
+
+def cases_of_folder(group, folder, served):
+    shutil.rmtree(os.path.join(DATA, group), ignore_errors=True)
+    stems = sorted(name[: -len(".script")] for name in os.listdir(folder) if name.endswith(".script"))
+    return [case_of_script(group, os.path.join(folder, stem), served) for stem in stems]
+
+
+def main(words):
+    os.makedirs(DATA, exist_ok=True)
+    old = cases()
+    if words[:1] == ["row"]:
+        new = [case_of_row(folder) for folder in words[1:]]
+        names = {name for _, name, _ in new}
+        old = [case for case in old if case[1] not in names]
+    elif words[:1] in (["folder"], ["served"]) and len(words) == 3:
+        new = cases_of_folder(words[1], words[2], words[0] == "served")
+        old = [case for case in old if not case[1].startswith(words[1] + "/")]
+    elif not words:
+        new = []
+    else:
+        sys.exit(__doc__)
+    write_list(old + new)
+    write_stdout(old + new)
+
+
+main(sys.argv[1:])
