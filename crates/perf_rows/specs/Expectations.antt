@@ -1,5 +1,5 @@
 -- What each expectation of a worked case allows. This project's own profile.
-use Rattle.std.specs.Prelude.{◌≡◌, ◌⊎◌, ℕ, List, [], codes, string_bytes}
+use Rattle.std.specs.Prelude.{◌≡◌, ◌⊎◌, ℕ, List, [], ◌++◌, ⊤, codes, string_bytes}
 use Rattle.perf_rows.specs.declared.case.Expected.{Expected}
 use Rattle.perf_rows.specs.declared.case.Expected.TheVariants as expected
 
@@ -14,3 +14,11 @@ Allows (expected.Refused wanted) report number out note = (number ≡ 1) × (out
 Allows expected.Read report number out note = ((number ≡ 0) × (note ≡ [])) ⊎ IsUnbuilt number out note
 Allows (expected.Unlawful wanted) report number out note = ((number ≡ 1) × (out ≡ []) × (note ≡ string_bytes wanted)) ⊎ IsUnbuilt number out note
 Allows expected.Unknown report number out note = ⊥
+
+-- the kind and the note of a line of the list that states an expectation; a wanted note has its LF
+abbrev pub IsStated : List ℕ → List ℕ → Expected → Type 0
+IsStated kind note expected.Done = (kind ≡ codes "done") × (note ≡ [])
+IsStated kind note (expected.Refused wanted) = (kind ≡ codes "refused") × (string_bytes wanted ≡ note ++ codes "\n")
+IsStated kind note expected.Read = (kind ≡ codes "read") × (note ≡ [])
+IsStated kind note (expected.Unlawful wanted) = (kind ≡ codes "unlawful") × (string_bytes wanted ≡ note ++ codes "\n")
+IsStated kind note expected.Unknown = ⊤

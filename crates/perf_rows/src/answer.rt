@@ -1,7 +1,11 @@
 //! The top call over memory.
 
+ghost use Rattle.std.specs.Prelude.{◌≡◌, ℕ, [], IfOk};
+ghost use Rattle.perf_top.specs.Notes.{number_of};
+ghost use Rattle.perf_top.specs.Outcome.{IsRun, IsBadScript, IsUnserved};
+
 use crate::verdict::Ending;
-use perf_base::NoMemory;
+use perf_base::{NoMemory, SReason};
 use perf_io::{MemSink, MemSource};
 use perf_top::{Status, perf_main};
 use std::alloc::Global;
@@ -22,7 +26,9 @@ pub struct Answer {
 
 impl Answer {
     /// How the call ended.
-    pub fn ending(&self) -> Ending<'_> {
+    pub fn ending(&self) -> Ending<'_>
+        ensures { (result.number ≡ number_of self.now.status) × (result.out.now ≡ self.now.out.held) × (result.note.now ≡ self.now.notes.held) }
+    {
         Ending {
             number: self.status.number(),
             out: self.out.bytes(),
@@ -31,12 +37,19 @@ impl Answer {
     }
 }
 
-fn sink(alloc: Global) -> Result<MemSink, NoMemory> {
+/// A sink that is empty.
+fn sink(alloc: Global) -> Result<MemSink, NoMemory>
+    ensures { IfOk result (λ sink. sink.held ≡ []) }
+{
     MemSink::new(alloc, PIECE, Vec::new(alloc), ROOM)
 }
 
 /// The answer of a replay of the text.
-pub fn answer_to(alloc: Global, text: Vec<u8>) -> Result<Answer, NoMemory> {
+pub fn answer_to(alloc: Global, text: Vec<u8>) -> Result<Answer, NoMemory>
+    ensures done { IfOk result (λ answer. answer.status ≡ Status.Done → IsRun text.items answer.out.held) }
+    ensures bad_script { IfOk result (λ answer. (line : ℕ) → (reason : SReason) → answer.status ≡ Status.BadScript line reason → IsBadScript text.items line reason) }
+    ensures unbuilt { IfOk result (λ answer. answer.status ≡ Status.Unbuilt → IsUnserved text.items) }
+{
     let mut words = Vec::new(alloc);
     words.push(String::from_str(alloc, "replay")?)?;
     let mut source = MemSource::new(text, PIECE, Vec::new(alloc));

@@ -1,5 +1,8 @@
 //! A case, as a line of the list says it.
 
+ghost use Rattle.std.specs.Prelude.{◌≡◌, ◌↔◌, IsTrue, IfOk, IfSome, None, slice_get};
+ghost use Rattle.perf_rows.specs.Expectations.{IsStated};
+
 use std::alloc::{AllocError, Global};
 
 /// What a case expects of the answer.
@@ -45,20 +48,39 @@ fn cut_word(line: &str) -> (&str, &str) {
     }
 }
 
-fn parse_expected(alloc: Global, kind: &str, note: &str) -> Result<Expected, AllocError> {
-    match (kind, note) {
-        ("done", "") => Ok(Expected::Done),
-        ("read", "") => Ok(Expected::Read),
-        ("done" | "read", _) | (_, "") => Ok(Expected::Unknown),
-        ("refused", _) => Ok(Expected::Refused(format!(in alloc; "{note}\n")?)),
-        ("unlawful", _) => Ok(Expected::Unlawful(format!(in alloc; "{note}\n")?)),
+/// Whether a line says no case: it is empty, or a comment.
+fn is_blank(line: &str) -> bool
+    ensures { IsTrue result ↔ IfSome (slice_get line.now 0) (λ byte. byte ≡ 35) }
+{
+    match line.as_bytes().first() {
+        None => true,
+        Some(byte) => *byte == b'#',
+    }
+}
+
+/// What a kind and a note expect.
+fn parse_expected(alloc: Global, kind: &str, note: &str) -> Result<Expected, AllocError>
+    ensures { IfOk result (λ expected. IsStated kind.now note.now expected) }
+{
+    if note.is_empty() {
+        return Ok(match kind {
+            "done" => Expected::Done,
+            "read" => Expected::Read,
+            _ => Expected::Unknown,
+        });
+    }
+    match kind {
+        "refused" => Ok(Expected::Refused(format!(in alloc; "{note}\n")?)),
+        "unlawful" => Ok(Expected::Unlawful(format!(in alloc; "{note}\n")?)),
         _ => Ok(Expected::Unknown),
     }
 }
 
 /// The case of a line, which is KIND NAME or KIND NAME NOTE. A line that is empty or begins with `#` has none.
-pub fn parse_case(alloc: Global, line: &str) -> Result<Option<Case>, AllocError> {
-    if line.is_empty() || line.starts_with('#') {
+pub fn parse_case(alloc: Global, line: &str) -> Result<Option<Case>, AllocError>
+    ensures { IfOk result (λ case. case ≡ None ↔ IfSome (slice_get line.now 0) (λ byte. byte ≡ 35)) }
+{
+    if is_blank(line) {
         return Ok(None);
     }
     let (kind, rest) = cut_word(line);

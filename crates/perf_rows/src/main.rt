@@ -1,8 +1,9 @@
 //! Runs the top call on worked cases, and says where its answer is not what a case expects. The cases are
-//! those of the list `cases`; each text is a file beside it.
+//! those of the list `cases` in the folder that the first word names, or else in the folder where it runs; each
+//! text is a file beside the list.
 #![tactic(auto)]
 
-ghost use Rattle.std.specs.Prelude.{◌≡◌, ◌<◌, ◌↔◌, IsTrue};
+ghost use Rattle.std.specs.Prelude.{◌≡◌, ◌<◌, ◌≤◌};
 
 mod answer;
 mod case;
@@ -11,7 +12,7 @@ mod verdict;
 use answer::answer_to;
 use case::{Case, Expected, parse_case};
 use std::process::ExitCode;
-use std::{fs, io};
+use std::{env, fs, io};
 use verdict::{Verdict, judge};
 
 /// How many cases there were, and in how many the answer was not what was expected.
@@ -25,6 +26,7 @@ impl Tally {
     /// The tally with one case more.
     fn with(self, verdict: &Verdict) -> Tally
         ensures kept { verdict.now ≡ Verdict.AsExpected → result.failures ≡ self.failures }
+        ensures none_lost { self.failures ≤ result.failures }
         ensures failed { (verdict.now ≡ Verdict.AsExpected → ⊥) → 0 < result.failures }
     {
         let failed = match verdict {
@@ -38,26 +40,42 @@ impl Tally {
     }
 }
 
+/// The folder of the list.
+fn list_folder(rt: &HostRuntime) -> io::Result<String> {
+    match env::args(rt)?.nth(1) {
+        Some(folder) => Ok(folder),
+        None => Ok(String::from_str(rt.alloc(), ".")?),
+    }
+}
+
 /// The bytes of the file of a case with this ending.
-fn read_part(rt: &HostRuntime, name: &str, ending: &str) -> io::Result<Vec<u8>> {
-    fs::read(rt, format!(in rt.alloc(); "{name}.{ending}")?)
+fn read_part(rt: &HostRuntime, folder: &str, name: &str, ending: &str) -> io::Result<Vec<u8>> {
+    fs::read(rt, format!(in rt.alloc(); "{folder}/{name}.{ending}")?)
 }
 
 /// What a case expects on standard output, where it says.
-fn read_report(rt: &HostRuntime, case: &Case) -> io::Result<Vec<u8>> {
+fn read_report(rt: &HostRuntime, folder: &str, case: &Case) -> io::Result<Vec<u8>> {
     match case.expected {
-        Expected::Done => read_part(rt, case.name.as_str(), "report"),
+        Expected::Done => read_part(rt, folder, case.name.as_str(), "report"),
         _ => Ok(Vec::new(rt.alloc())),
     }
 }
 
 /// Runs a case, and says how it went.
-fn run_case(rt: &HostRuntime, case: &Case) -> io::Result<Verdict> {
-    let text = read_part(rt, case.name.as_str(), "script")?;
-    let report = read_report(rt, case)?;
+fn run_case(rt: &HostRuntime, folder: &str, case: &Case) -> io::Result<Verdict> {
+    let text = read_part(rt, folder, case.name.as_str(), "script")?;
+    let report = read_report(rt, folder, case)?;
     match answer_to(rt.alloc(), text) {
         Err(_) => Err(io::ErrorKind::OutOfMemory.into()),
         Ok(answer) => Ok(judge(rt.alloc(), &case.expected, &report, answer.ending())?),
+    }
+}
+
+/// How a case went; one that could not be run differs.
+fn verdict_of(rt: &HostRuntime, folder: &str, case: &Case) -> io::Result<Verdict> {
+    match run_case(rt, folder, case) {
+        Ok(verdict) => Ok(verdict),
+        Err(error) => Ok(Verdict::Differs(format!(in rt.alloc(); "not run: {error}")?)),
     }
 }
 
@@ -71,11 +89,11 @@ fn print_verdict(rt: &HostRuntime, case: &Case, verdict: &Verdict) -> io::Result
 }
 
 /// Runs the case of a line of the list, if it is one.
-fn run_line(rt: &HostRuntime, line: &str, tally: Tally) -> io::Result<Tally> {
+fn run_line(rt: &HostRuntime, folder: &str, line: &str, tally: Tally) -> io::Result<Tally> {
     match parse_case(rt.alloc(), line)? {
         None => Ok(tally),
         Some(case) => {
-            let verdict = run_case(rt, &case)?;
+            let verdict = verdict_of(rt, folder, &case)?;
             print_verdict(rt, &case, &verdict)?;
             Ok(tally.with(&verdict))
         }
@@ -83,21 +101,22 @@ fn run_line(rt: &HostRuntime, line: &str, tally: Tally) -> io::Result<Tally> {
 }
 
 /// Runs the cases of the list.
-fn run_list(rt: &HostRuntime) -> io::Result<Tally> {
-    let list = fs::read_to_string(rt, "cases")?;
+fn run_list(rt: &HostRuntime, folder: &str) -> io::Result<Tally> {
+    let list = fs::read_to_string(rt, format!(in rt.alloc(); "{folder}/cases")?)?;
     let mut tally = Tally {
         cases: 0,
         failures: 0,
     };
     for line in list.as_str().lines() {
-        tally = run_line(rt, line, tally)?;
+        tally = run_line(rt, folder, line, tally)?;
     }
     println!(rt; "{} cases, {} failures", tally.cases, tally.failures)?;
     Ok(tally)
 }
 
 fn main(rt: HostRuntime) -> io::Result<ExitCode> {
-    let tally = run_list(&rt)?;
+    let folder = list_folder(&rt)?;
+    let tally = run_list(&rt, folder.as_str())?;
     if tally.failures == 0 {
         Ok(ExitCode::SUCCESS)
     } else {

@@ -1,0 +1,13 @@
+use Rattle.std.proofs.Common.{ap}
+use Rattle.perf_rows.proofs.Given.{bad_of, done_of}
+use Rattle.perf_rows.proofs.answer.answer_to.Goals as goal
+
+pub returns-clause-done : goal.returns-clause-done
+returns-clause-done c = λ e.
+    let h = c.perf_main-status.ensures.done e in
+    done_of _ _ _ h.0 _ _ h.1 (ap (λ s. s.left) c.new-source.ensures) c.in_ok-out.ensures h.2 h.3 h.4
+
+pub returns-clause-bad_script : goal.returns-clause-bad_script
+returns-clause-bad_script c = λ line reason e.
+    let h = c.perf_main-status.ensures.bad_script line reason e in
+    bad_of _ _ _ h.0 line reason (ap (λ s. s.left) c.new-source.ensures) h.1 h.2
