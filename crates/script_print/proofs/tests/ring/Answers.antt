@@ -1,6 +1,5 @@
 use Rattle.std.proofs.Common.{◌≡◌, refl, arith}
 use Rattle.std.proofs.lemmas.List.Quantifiers.{Any-push}
-use Rattle.perf_base.specs.Scripts.{HasRing}
 use Rattle.script_print.proofs.Covered.{one_covered}
 use Rattle.script_print.proofs.tests.ring.Goals as goal
 
