@@ -1,0 +1,75 @@
+-- The processors of a PMU, gathered one after the other.
+use Rattle.std.proofs.Common.{◌≡◌, ◌≢◌, ℕ, ◌+◌, ◌^◌, ◌<◌, ◌≤◌, min, List, length, get_or, map, Some, inl, inr, sym, ap, subst, ◌∙◌, arith}
+use Rattle.std.specs.Prelude.{bit_and, bit_or, AllPairs, IfSome, slice_get}
+use Rattle.std.specs.Int.{bit_at}
+use Rattle.std.specs.Option.{option_map}
+use Rattle.std.proofs.lemmas.Bool.{cases_lt, cases_eq}
+use Rattle.std.proofs.lemmas.Nat.Bits.{bit_at_and, bit_at_or, bit_at-zero, bit_at-lt, bit_at-pow_same, bit_at-pow_other, bit_at_above, same_from_bits}
+use Rattle.std.proofs.lemmas.Option.{slice_get-get_or, slice_get-map}
+use Rattle.perf_base.specs.declared.numbers.CpuNo.{CpuNo}
+use Rattle.perf_base.specs.declared.numbers.CpuSet.{CpuSet}
+use Rattle.perf_base.specs.declared.lines.PmuLine.{PmuLine}
+use Rattle.perf_base.specs.Cpus.{HasCpu}
+use Rattle.perf_base.specs.Scripts.{Scripted, IsScript, AreApart}
+
+abbrev pub no_pmu : PmuLine
+no_pmu = record { counters = 0; cpus = record { 0 = 0 } }
+
+-- the processors of the PMU at a place, by bits
+abbrev pub mask_at : List PmuLine → ℕ → ℕ
+mask_at pmus k = (get_or pmus k no_pmu).cpus.0
+
+-- the set has those of the processors below n that are of the PMU
+pub record IsGathered (pmus : List PmuLine) (pmu n set : ℕ) : Type 0 where
+  pub below : (i : ℕ) → i < n → bit_at set i ≡ bit_at (mask_at pmus pmu) i
+  pub above : (i : ℕ) → n ≤ i → bit_at set i ≡ 0
+
+-- a processor has its bit in the mask of its PMU
+pub own_bit : (pmus : List PmuLine) (k : ℕ) (cpu : CpuNo) → k < length pmus → IfSome (slice_get pmus k) (λ p. HasCpu p.cpus cpu) → bit_at (mask_at pmus k) cpu.0 ≡ 1
+own_bit pmus k cpu l h = subst (λ o. IfSome o (λ p. HasCpu p.cpus cpu)) (slice_get-get_or pmus k no_pmu l) h
+
+apart_bits : (a b : ℕ) → bit_and a b ≡ 0 → (i : ℕ) → min (bit_at a i) (bit_at b i) ≡ 0
+apart_bits a b e i = sym (bit_at_and a b i) ∙ (ap (λ n. bit_at n i) e ∙ bit_at-zero i)
+
+-- and in no other mask
+pub other_bit : (pmus : List PmuLine) (k pmu i : ℕ) → AllPairs AreApart pmus → k < length pmus → pmu < length pmus → k ≢ pmu
+    → bit_at (mask_at pmus k) i ≡ 1 → bit_at (mask_at pmus pmu) i ≡ 0
+other_bit pmus k pmu i apart l m ne h = elim (cases_lt k pmu) [
+  | inl before ↦ omega (arith, h, apart_bits (mask_at pmus k) (mask_at pmus pmu) (apart k pmu no_pmu before m) i)
+  | inr behind ↦ omega (arith, h, apart_bits (mask_at pmus pmu) (mask_at pmus k) (apart pmu k no_pmu (omega (arith, ne, behind)) l) i)
+]
+
+pub IsGathered-none : (pmus : List PmuLine) (pmu : ℕ) → IsGathered pmus pmu 0 0
+IsGathered-none pmus pmu = record { below = λ i l. absurd (omega (arith, l)); above = λ i l. bit_at-zero i }
+
+pub IsGathered-other : (pmus : List PmuLine) (pmu n set : ℕ) → IsGathered pmus pmu n set → bit_at (mask_at pmus pmu) n ≡ 0 → IsGathered pmus pmu (n + 1) set
+IsGathered-other pmus pmu n set g z = record {
+  below = λ i l. elim (cases_eq i n) [
+    | inl e ↦ rw e (g.above n (omega arith) ∙ sym z)
+    | inr ne ↦ g.below i (omega (arith, l, ne))
+  ];
+  above = λ i l. g.above i (omega (arith, l));
+}
+
+pub IsGathered-own : (pmus : List PmuLine) (pmu n set : ℕ) → IsGathered pmus pmu n set → bit_at (mask_at pmus pmu) n ≡ 1 → IsGathered pmus pmu (n + 1) (bit_or set (2 ^ n))
+IsGathered-own pmus pmu n set g one = record {
+  below = λ i l. elim (cases_eq i n) [
+    | inl e ↦ rw e (omega (arith, one, bit_at_or set (2 ^ n) n, bit_at-pow_same n, bit_at-lt set n))
+    | inr ne ↦ omega (arith, bit_at_or set (2 ^ n) i, bit_at-pow_other n i ne, g.below i (omega (arith, l, ne)))
+  ];
+  above = λ i l. omega (arith, bit_at_or set (2 ^ n) i, bit_at-pow_other n i (λ e. omega (arith, l, e)), g.above i (omega (arith, l)));
+}
+
+set_of : ℕ → CpuSet
+set_of n = record { 0 = n }
+
+-- all processors gathered are those of the PMU
+pub gathered : (s : Scripted) (pmu : ℕ) (set : CpuSet) → IsScript s → pmu < length s.pmus → IsGathered s.pmus pmu s.cpus set.0 → slice_get (map (λ p. p.cpus) s.pmus) pmu ≡ Some set
+unfolding set_of
+gathered s pmu set sound l g =
+    let bits : set.0 ≡ mask_at s.pmus pmu = same_from_bits set.0 (mask_at s.pmus pmu) (λ i. elim (cases_lt i s.cpus) [
+      | inl lt ↦ g.below i lt
+      | inr ge ↦ g.above i ge ∙ sym (bit_at_above (mask_at s.pmus pmu) s.cpus i (sound.pmus pmu no_pmu l).cpus.1 ge)
+    ]) in
+    let same : (get_or s.pmus pmu no_pmu).cpus ≡ set = ap set_of (sym bits) in
+    slice_get-map (λ p. p.cpus) s.pmus pmu ∙ (ap (option_map (λ p. p.cpus)) (slice_get-get_or s.pmus pmu no_pmu l) ∙ ap Some same)

@@ -1,0 +1,8 @@
+//! The law of printed texts.
+
+ghost use Rattle.script_spec.specs.Printing.{PrintingLaw};
+
+/// The printed text of a script stands for that script.
+pub fn printed_text_stands()
+    ensures { PrintingLaw }
+{}

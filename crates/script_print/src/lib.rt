@@ -1,0 +1,19 @@
+// The printed text of a script, written without memory. Contracts see the text and what a sink holds. It serves
+// the commands that give out scripts.
+#![tactic(auto)]
+
+mod cpu_lines;
+mod declared;
+mod flags;
+mod laws;
+mod pieces;
+mod printing;
+mod stored;
+#[cfg(test)]
+mod tests;
+mod tool_lines;
+mod words;
+
+pub use laws::printed_text_stands;
+pub use printing::print_script;
+pub use stored::printed_text_stands_for;
