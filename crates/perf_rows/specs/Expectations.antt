@@ -15,6 +15,14 @@ Allows expected.Read report number out note = ((number ≡ 0) × (note ≡ [])) 
 Allows (expected.Unlawful wanted) report number out note = ((number ≡ 1) × (out ≡ []) × (note ≡ string_bytes wanted)) ⊎ IsUnbuilt number out note
 Allows expected.Unknown report number out note = ⊥
 
+-- the numbers that an expectation allows, in words
+abbrev pub numbers_allowed : Expected → List ℕ
+numbers_allowed expected.Done = codes "0"
+numbers_allowed (expected.Refused wanted) = codes "1"
+numbers_allowed expected.Read = codes "0 or 6"
+numbers_allowed (expected.Unlawful wanted) = codes "1 or 6"
+numbers_allowed expected.Unknown = codes "unknown"
+
 -- the kind and the note of a line of the list that states an expectation; a wanted note has its LF
 abbrev pub IsStated : List ℕ → List ℕ → Expected → Type 0
 IsStated kind note expected.Done = (kind ≡ codes "done") × (note ≡ [])

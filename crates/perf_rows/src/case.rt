@@ -1,7 +1,7 @@
 //! A case, as a line of the list says it.
 
 ghost use Rattle.std.specs.Prelude.{◌≡◌, ◌↔◌, IsTrue, IfOk, IfSome, None, slice_get};
-ghost use Rattle.perf_rows.specs.Expectations.{IsStated};
+ghost use Rattle.perf_rows.specs.Expectations.{IsStated, numbers_allowed};
 
 use std::alloc::{AllocError, Global};
 
@@ -22,7 +22,9 @@ pub enum Expected {
 
 impl Expected {
     /// The status that is expected.
-    pub fn status(&self) -> &'static str {
+    pub fn status(&self) -> &'static str
+        ensures { result.now ≡ numbers_allowed self.now }
+    {
         match self {
             Expected::Done => "0",
             Expected::Refused(_) => "1",
