@@ -1,7 +1,7 @@
 //! Reading a script from its text.
 
 ghost use Rattle.std.specs.Prelude.{◌≡◌, ◌≤◌, ◌⊎◌, ℕ, length, codes, IfOk, IfErr, MatchOption, MatchResult};
-ghost use Rattle.perf_base.specs.Scripts.{Scripted};
+ghost use Rattle.perf_base.specs.Scripts.{Scripted, IsCovered};
 ghost use Rattle.perf_base.specs.declared.reasons.SReason.{SReason};
 ghost use Rattle.std.specs.Str.{bytes_eq};
 ghost use Rattle.perf_base.specs.declared.reasons.SReason.TheVariants.{End};
@@ -116,6 +116,8 @@ pub fn read_script(alloc: Global, bytes: &[u8]) -> Result<Script, ScriptFault>
     requires { length bytes.now ≤ 4194304 }
     // What is read, the text stands for.
     ensures ok { IfOk result (λ s. StandsFor bytes.now s) }
+    // It can be printed: each processor is of a PMU.
+    ensures covered { IfOk result IsCovered }
     // What the text stands for is read.
     ensures every { (s : Scripted) → StandsFor bytes.now s → MatchResult result (λ t. t ≡ s) (λ e. e ≡ NoMemory) }
     // A fault is that of the first faulty line.
