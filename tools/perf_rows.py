@@ -56,8 +56,13 @@ def write_list(all_cases):
         file.write(HEAD + "\n".join(lines) + "\n")
 
 
+def has_script(kind, note):
+    """Whether the text stands for a script, which is then printed, and the printed text run too."""
+    return kind != "refused" or note.endswith(": ORDER")
+
+
 def write_stdout(all_cases):
-    lines = [f"{name}: {STATUS[kind]}, as expected" for kind, name, _ in all_cases]
+    lines = [f"{name}: {STATUS[kind]}, as expected" + ", printed too" * has_script(kind, note) for kind, name, note in all_cases]
     with open(os.path.join(CRATE, "stdout"), "w") as file:
         file.write("\n".join(lines + [f"{len(all_cases)} cases, 0 failures"]) + "\n")
 

@@ -1,8 +1,20 @@
 -- A text that was read to its end is all that the source had.
-use Rattle.std.proofs.Common.{◌≡◌, ℕ, List, [], ◌++◌, Option, Some, None, sym, ap, subst, ◌∙◌, append-nil}
+use Rattle.std.proofs.Common.{◌≡◌, ℕ, List, [], ◌++◌, Option, Some, None, Result, Ok, Err, refl, sym, ap, subst, ◌∙◌, arith, append-nil}
+use Rattle.std.specs.Prelude.{IfOk}
+use Rattle.perf_base.specs.declared.numbers.NoMemory.{NoMemory}
 use Rattle.perf_base.specs.declared.reasons.SReason.{SReason}
+use Rattle.script_read.specs.declared.fault.ScriptFault.TheVariants as fault
 use Rattle.perf_io.specs.Outside.{Takes, Adds, IsAtEnd}
+use Rattle.perf_top.specs.declared.status.Status.{Status}
+use Rattle.perf_top.specs.declared.status.Status.TheVariants as status
+use Rattle.perf_top.specs.Notes.{number_of}
 use Rattle.perf_top.specs.Outcome.{Gave, IsRun, IsBadScript}
+use Rattle.perf_rows.specs.declared.case.Expected.{Expected}
+use Rattle.perf_rows.specs.declared.printed.Printed.{Printed}
+use Rattle.perf_rows.specs.declared.verdict.Verdict.{Verdict}
+use Rattle.perf_rows.specs.declared.verdict.Verdict.TheVariants as verdict
+use Rattle.perf_rows.specs.Expectations.{Allows}
+use Rattle.perf_rows.specs.Printed.{IsPrintedOf, AllowsPrinted, IsAsExpected}
 
 given_is : (left : List ℕ) (after : Option (List ℕ)) (text : List ℕ) → Takes (Some left) after text → IsAtEnd after → text ≡ left
 given_is left None text t e = absurd t
@@ -19,3 +31,20 @@ pub done_of : (had left : List ℕ) (after : Option (List ℕ)) (text before hel
 done_of had left after text before held out e empty gave run added =
     let is_out : held ≡ out = added ∙ ap (λ b. b ++ out) empty in
     subst (λ t. IsRun t held) (given_is left after text gave.taken gave.ended ∙ e) (subst (λ o. IsRun text o) (sym is_out) run)
+
+-- a faulty line is no want of memory
+pub not_memory : (line : ℕ) (reason : SReason) → fault.Bad line reason ≡ fault.NoMemory → ⊥
+not_memory line reason e = cc
+
+-- only Done has the number 0
+pub is_done : (s : Status) → number_of s ≡ 0 → s ≡ status.Done
+is_done status.Done e = refl
+is_done other e = absurd (omega (arith, e))
+
+pub as_expected : (r : Result Verdict NoMemory) (e : Expected) (report text : List ℕ) (number : ℕ) (out note : List ℕ) (print : Printed)
+    → IfOk r (λ v. v ≡ verdict.AsExpected → Allows e report number out note × AllowsPrinted e number out print) → (number ≡ 0 → IsRun text out) → IsPrintedOf text print
+    → IfOk r (λ v. v ≡ verdict.AsExpected → IsAsExpected e report text)
+as_expected (Ok v) e report text number out note print h run printed = λ is.
+    let both = h is in
+    record { number = number; out = out; note = note; print = print; allowed = both.0; run = run; printed = printed; again = both.1 }
+as_expected (Err x) e report text number out note print h run printed = tt

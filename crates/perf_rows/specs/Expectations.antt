@@ -1,5 +1,6 @@
 -- What each expectation of a worked case allows. This project's own profile.
-use Rattle.std.specs.Prelude.{◌≡◌, ◌⊎◌, ℕ, List, [], ◌++◌, ⊤, codes, string_bytes}
+use Rattle.std.specs.Prelude.{◌≡◌, ◌⊎◌, ℕ, Bool, true, false, nat_eq, List, [], ◌++◌, ⊤, codes, string_bytes}
+use Rattle.std.specs.List.{ends_with}
 use Rattle.perf_rows.specs.declared.case.Expected.{Expected}
 use Rattle.perf_rows.specs.declared.case.Expected.TheVariants as expected
 
@@ -30,3 +31,11 @@ IsStated kind note (expected.Refused wanted) = (kind ≡ codes "refused") × (st
 IsStated kind note expected.Read = (kind ≡ codes "read") × (note ≡ [])
 IsStated kind note (expected.Unlawful wanted) = (kind ≡ codes "unlawful") × (string_bytes wanted ≡ note ++ codes "\n")
 IsStated kind note expected.Unknown = ⊤
+
+-- Whether the text stands for a script. One that is refused does so only where its order is at fault.
+abbrev pub has_script : Expected → Bool
+has_script expected.Done = true
+has_script (expected.Refused wanted) = ends_with nat_eq (string_bytes wanted) (codes ": ORDER\n")
+has_script expected.Read = true
+has_script (expected.Unlawful wanted) = true
+has_script expected.Unknown = false

@@ -38,7 +38,7 @@ impl Answer {
 }
 
 /// A sink that is empty.
-fn sink(alloc: Global) -> Result<MemSink, NoMemory>
+pub fn sink(alloc: Global) -> Result<MemSink, NoMemory>
     ensures { IfOk result (λ sink. sink.held ≡ []) }
 {
     MemSink::new(alloc, PIECE, Vec::new(alloc), ROOM)

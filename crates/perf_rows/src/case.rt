@@ -1,7 +1,7 @@
 //! A case, as a line of the list says it.
 
 ghost use Rattle.std.specs.Prelude.{◌≡◌, ◌↔◌, IsTrue, IfOk, IfSome, None, slice_get};
-ghost use Rattle.perf_rows.specs.Expectations.{IsStated, numbers_allowed};
+ghost use Rattle.perf_rows.specs.Expectations.{IsStated, numbers_allowed, has_script};
 
 use std::alloc::{AllocError, Global};
 
@@ -31,6 +31,17 @@ impl Expected {
             Expected::Read => "0 or 6",
             Expected::Unlawful(_) => "1 or 6",
             Expected::Unknown => "unknown",
+        }
+    }
+
+    /// Whether the text stands for a script: one that is refused does so only where its order is at fault.
+    pub fn has_script(&self) -> bool
+        ensures { result ≡ has_script self.now }
+    {
+        match self {
+            Expected::Done | Expected::Read | Expected::Unlawful(_) => true,
+            Expected::Refused(note) => note.as_bytes().ends_with(b": ORDER\n"),
+            Expected::Unknown => false,
         }
     }
 }

@@ -1,19 +1,26 @@
-//! Runs the top call on worked cases, and says where its answer is not what a case expects. The cases are
-//! those of the list `cases` in the folder that the first word names, or else in the folder where it runs; each
-//! text is a file beside the list.
+//! Runs the top call on worked cases, and says where its answer is not what a case expects. What a text stands for
+//! is then printed, and the printed text has to end as the text did. The cases are those of the list `cases` in the
+//! folder that the first word names, or else in the folder where it runs; each text is a file beside the list.
 #![tactic(auto)]
 
-ghost use Rattle.std.specs.Prelude.{◌≡◌, ◌<◌, ◌≤◌};
+ghost use Rattle.std.specs.Prelude.{◌≡◌, ◌<◌, ◌≤◌, IfOk};
+ghost use Rattle.perf_rows.specs.Printed.{IsAsExpected};
 
+mod again;
 mod answer;
 mod case;
+mod printed;
 mod verdict;
 
+use again::judge_both;
 use answer::answer_to;
 use case::{Case, Expected, parse_case};
+use perf_base::NoMemory;
+use printed::printed_text;
+use std::alloc::Global;
 use std::process::ExitCode;
 use std::{env, fs, io};
-use verdict::{Verdict, judge};
+use verdict::Verdict;
 
 /// How many cases there were, and in how many the answer was not what was expected.
 #[derive(Clone, Copy)]
@@ -61,13 +68,27 @@ fn read_report(rt: &HostRuntime, folder: &str, case: &Case) -> io::Result<Vec<u8
     }
 }
 
+/// How a text went, and then how the printed text of its script went.
+fn run_text(
+    alloc: Global,
+    expected: &Expected,
+    report: &[u8],
+    text: Vec<u8>,
+) -> Result<Verdict, NoMemory>
+    ensures { IfOk result (λ verdict. verdict ≡ Verdict.AsExpected → IsAsExpected expected.now report.now text.items) }
+{
+    let printed = printed_text(alloc, &text)?;
+    let answer = answer_to(alloc, text)?;
+    judge_both(alloc, expected, report, answer.ending(), printed)
+}
+
 /// Runs a case, and says how it went.
 fn run_case(rt: &HostRuntime, folder: &str, case: &Case) -> io::Result<Verdict> {
     let text = read_part(rt, folder, case.name.as_str(), "script")?;
     let report = read_report(rt, folder, case)?;
-    match answer_to(rt.alloc(), text) {
-        Err(_) => Err(io::ErrorKind::OutOfMemory.into()),
-        Ok(answer) => Ok(judge(rt.alloc(), &case.expected, &report, answer.ending())?),
+    match run_text(rt.alloc(), &case.expected, &report, text) {
+        Err(NoMemory) => Err(io::ErrorKind::OutOfMemory.into()),
+        Ok(verdict) => Ok(verdict),
     }
 }
 
@@ -79,11 +100,24 @@ fn verdict_of(rt: &HostRuntime, folder: &str, case: &Case) -> io::Result<Verdict
     }
 }
 
+/// What the line of a case says of its printed text.
+fn printed_too(expected: &Expected) -> &'static str {
+    if expected.has_script() {
+        ", printed too"
+    } else {
+        ""
+    }
+}
+
 /// Prints the line of a case.
 fn print_verdict(rt: &HostRuntime, case: &Case, verdict: &Verdict) -> io::Result<()> {
     let name = case.name.as_str();
     match verdict {
-        Verdict::AsExpected => println!(rt; "{name}: {}, as expected", case.expected.status()),
+        Verdict::AsExpected => println!(rt;
+            "{name}: {}, as expected{}",
+            case.expected.status(),
+            printed_too(&case.expected)
+        ),
         Verdict::Differs(how) => println!(rt; "{name}: {how}"),
     }
 }

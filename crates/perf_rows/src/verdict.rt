@@ -53,6 +53,13 @@ fn is_expected(expected: &Expected, report: &[u8], ending: Ending<'_>) -> bool
     }
 }
 
+/// Whether two calls ended with the same number and wrote the same.
+fn is_same(one: Ending<'_>, other: Ending<'_>) -> bool
+    ensures { IsTrue result ↔ (one.entry.number ≡ other.entry.number) × (one.entry.out.now ≡ other.entry.out.now) }
+{
+    one.number == other.number && one.out == other.out
+}
+
 /// How many lines two texts begin with in common.
 fn common_lines(left: &[u8], right: &[u8]) -> usize {
     left.iter()
@@ -107,4 +114,19 @@ pub fn judge(
     } else {
         Ok(Verdict::Differs(difference(alloc, expected, report, ending)?))
     }
+}
+
+/// How a printed text went: it has to end with the number and the output of the text that it was printed from.
+/// Its note may name another line.
+pub fn compare(alloc: Global, first: Ending<'_>, again: Ending<'_>) -> Result<Verdict, AllocError>
+    ensures { IfOk result (λ verdict. verdict ≡ Verdict.AsExpected ↔ (first.entry.number ≡ again.entry.number) × (first.entry.out.now ≡ again.entry.out.now)) }
+{
+    if is_same(first, again) {
+        return Ok(Verdict::AsExpected);
+    }
+    let (number, wanted, note) = (again.number, first.number, as_text(again.note));
+    let (len, same) = (again.out.len(), common_lines(again.out, first.out));
+    Ok(Verdict::Differs(format!(in alloc;
+        "printed: {number}, wanted {wanted}; note '{note}'; {len} bytes of output, {same} lines as unprinted"
+    )?))
 }

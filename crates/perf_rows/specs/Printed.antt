@@ -1,0 +1,40 @@
+-- What the script of a text is printed as, and what a worked case allows there. This project's own profile.
+use Rattle.std.specs.Prelude.{◌≡◌, ◌<◌, ⊤, ℕ, List, length, IsTrue}
+use Rattle.perf_base.specs.Scripts.{Scripted}
+use Rattle.script_spec.specs.Texts.{StandsFor}
+use Rattle.script_spec.specs.Printing as printing
+use Rattle.perf_top.specs.Outcome.{IsRun}
+use Rattle.perf_rows.specs.Expectations.{Allows, has_script}
+use Rattle.perf_rows.specs.declared.case.Expected.{Expected}
+use Rattle.perf_rows.specs.declared.printed.Printed.{Printed}
+use Rattle.perf_rows.specs.declared.printed.Printed.TheVariants as printed
+
+-- what a script is printed as: its printed text, where there is room
+abbrev pub IsPrintOf : Scripted → Printed → Type 0
+IsPrintOf s (printed.Text bytes) = bytes.items ≡ printing.printed s
+IsPrintOf s printed.NoScript = ⊥
+IsPrintOf s printed.NoRoom = ⊤
+
+-- what the script of a text is printed as; only a text that is too long may have a script that is not printed
+abbrev pub IsPrintedOf : List ℕ → Printed → Type 0
+IsPrintedOf text printed.NoScript = (s : Scripted) → StandsFor text s → 4194304 < length text
+IsPrintedOf text other = (s : Scripted) × StandsFor text s × IsPrintOf s other
+
+-- A text that has a script is printed, and its report, where it has one, is that of the printed text too. No other
+-- text is printed.
+abbrev pub AllowsPrinted : Expected → ℕ → List ℕ → Printed → Type 0
+AllowsPrinted e number out (printed.Text bytes) = IsTrue (has_script e) × (number ≡ 0 → IsRun bytes.items out)
+AllowsPrinted e number out printed.NoScript = IsTrue (has_script e) → ⊥
+AllowsPrinted e number out printed.NoRoom = ⊥
+
+-- How a text and its printed text went: the text ended as the case allows, and so did the printed text, and what was
+-- written under 0 is the text's report.
+pub record IsAsExpected (e : Expected) (report text : List ℕ) : Type 0 where
+  pub number : ℕ
+  pub out : List ℕ
+  pub note : List ℕ
+  pub print : Printed
+  pub allowed : Allows e report number out note
+  pub run : number ≡ 0 → IsRun text out
+  pub printed : IsPrintedOf text print
+  pub again : AllowsPrinted e number out print
