@@ -9,9 +9,9 @@ use Rattle.script_spec.specs.Forms as form
 use Rattle.script_spec.specs.Forms.{Version, Form}
 use Rattle.script_spec.specs.Meaning.{processor_said, tool_said, processors_in, tools_in, cpus_in, pmus_in, kinds_in, tasks_in, rings_in, readers_in, last_of, script_of}
 use Rattle.script_spec.specs.Faults.{section, IsNoEnd, IsUnder, IsBehindPmus}
-use Rattle.script_print.proofs.Said.{said_by}
-use Rattle.script_print.proofs.Snoc.{pushed}
-use Rattle.script_print.proofs.More.{IsLater, script_more}
+use Rattle.script_spec.specs.Saying.{said_by, IsLater}
+use Rattle.script_spec.proofs.Snoc.{pushed}
+use Rattle.script_spec.proofs.More.{script_more}
 use Rattle.script_print.proofs.Fitting.{FitAll, Fits, fit_append}
 
 -- the forms so far say this script, with these headers, and are of no later section

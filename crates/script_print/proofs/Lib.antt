@@ -13,12 +13,9 @@ pub mod Hexadecimal
 pub mod Hits
 pub mod Lines
 pub mod Masks
-pub mod More
 pub mod Plain
 pub mod Processors
-pub mod Said
 pub mod Sections
-pub mod Snoc
 pub mod Taken
 pub mod ToolForms
 pub mod Tooled

@@ -15,7 +15,7 @@ use Rattle.script_spec.specs.Forms as form
 use Rattle.script_spec.specs.Forms.{Version, Form}
 use Rattle.script_spec.specs.Meaning.{kinds_in}
 use Rattle.script_spec.specs.Printing.{kind_form, task_form, ring_form, reader_form}
-use Rattle.script_print.proofs.Said.{said_by}
+use Rattle.script_spec.specs.Saying.{said_by}
 use Rattle.script_print.proofs.Fitting.{Fits}
 use Rattle.script_print.proofs.Behind.{Behind, AreLow, IsEntry, Ran, run, no_end, placed_behind, pmus_are, kinds_are, tasks_are, rings_are, readers_are}
 

@@ -10,8 +10,8 @@ use Rattle.script_spec.specs.Forms as form
 use Rattle.script_spec.specs.Forms.{Version, Form}
 use Rattle.script_spec.specs.Meaning.{last_of, tools_in, script_of}
 use Rattle.script_spec.specs.Printing.{tool_form, tool_forms, IsStored, IsStoredToolLine}
-use Rattle.script_print.proofs.Said.{said_by, on_tool}
-use Rattle.script_print.proofs.Snoc.{from}
+use Rattle.script_spec.specs.Saying.{said_by, on_tool}
+use Rattle.script_spec.proofs.Snoc.{from}
 use Rattle.script_print.proofs.Fitting.{Fits}
 use Rattle.script_print.proofs.Behind.{Behind, AreLow, IsEntry, Ran, ran_then, run, no_end, placed_behind, behind_push, cpus_are, kinds_are, rings_are}
 use Rattle.script_print.proofs.Sections.{all_in, fewer}

@@ -12,7 +12,7 @@ use Rattle.script_spec.specs.Meaning.{cpus_in, pmus_in, machine_cpus, pmu_said, 
 use Rattle.script_spec.specs.Faults.{IsNoEnd, AreCovered}
 use Rattle.script_spec.specs.Texts.{version_of, AreSound, StandsFor}
 use Rattle.script_read.specs.declared.fault.ScriptFault.{ScriptFault}
-use Rattle.script_read.proofs.Snoc.{pushed}
+use Rattle.script_spec.proofs.Snoc.{pushed}
 
 last_apart : {X : Type 0} (xs : List X) (k : ℕ) (d : X) → k + 1 ≡ length xs → xs ≡ take k xs ++ get_or xs k d ∷ []
 last_apart [] k d e = absurd (omega (arith, e))

@@ -14,9 +14,10 @@ use Rattle.script_spec.specs.Faults.{section}
 use Rattle.script_read.specs.declared.state.State.{State}
 use Rattle.script_read.specs.States.{rank_of, part_of, cpu_number, tool_number, union_of, IsGreatest, Follows}
 use Rattle.script_read.specs.Checks.{IsPlacedOf, IsInRangeOf}
-use Rattle.script_read.specs.Adding.{said_by, next_cpu, next_tool, next_named, IsAdded}
-use Rattle.script_read.proofs.Snoc.{pushed}
-use Rattle.script_read.proofs.More.{IsLater, script_more}
+use Rattle.script_spec.specs.Saying.{said_by, IsLater}
+use Rattle.script_read.specs.Adding.{next_cpu, next_tool, next_named, IsAdded}
+use Rattle.script_spec.proofs.Snoc.{pushed}
+use Rattle.script_spec.proofs.More.{script_more}
 use Rattle.script_read.proofs.Unions.{union_push}
 
 abbrev or_else : Option ℕ → Option ℕ → Option ℕ

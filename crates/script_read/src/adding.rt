@@ -10,7 +10,8 @@ ghost use Rattle.line_forms.specs.Seen as seen;
 ghost use Rattle.line_forms.specs.Seen.{form_of, cpu_form_of, tool_form_of};
 ghost use Rattle.script_read.specs.States.{cpu_number, tool_number, part_of};
 ghost use Rattle.script_read.specs.Naming.{HasAttrIn, IsCpuFormNamedOf, IsToolFormNamedOf};
-ghost use Rattle.script_read.specs.Adding.{IsKept, IsSoundState, IsAdded, on_cpu, on_tool};
+ghost use Rattle.script_spec.specs.Saying.{on_cpu, on_tool};
+ghost use Rattle.script_read.specs.Adding.{IsKept, IsSoundState, IsAdded};
 
 use crate::lines::{cpu_line, tool_line};
 use crate::state::{State, section_of};

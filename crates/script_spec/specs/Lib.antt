@@ -4,4 +4,5 @@ pub mod Forms
 pub mod Lines
 pub mod Meaning
 pub mod Printing
+pub mod Saying
 pub mod Texts

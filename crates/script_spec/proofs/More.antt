@@ -8,8 +8,8 @@ use Rattle.perf_base.specs.declared.lines.ToolLine.{ToolLine}
 use Rattle.script_spec.specs.Forms as form
 use Rattle.script_spec.specs.Forms.{Form, CpuForm, ToolForm}
 use Rattle.script_spec.specs.Meaning.{machine_cpus, pmu_said, kind_said, task_said, ring_said, reader_said, acts_said, cpus_in, pmus_in, kinds_in, tasks_in, rings_in, processors_in, tools_in, readers_in, acts_in, cpu_line_of, tool_line_of, last_of, cpu_line_at, tool_line_at, cpu_lines_in, tool_lines_in, script_of}
-use Rattle.script_print.proofs.Said.{said_by}
-use Rattle.script_print.proofs.Snoc.{pushed, cpu_lines_more, tool_lines_more, acts_more, one_longer, map_same}
+use Rattle.script_spec.specs.Saying.{said_by, GrowingLaw}
+use Rattle.script_spec.proofs.Snoc.{pushed, cpu_lines_more, tool_lines_more, acts_more, one_longer, map_same}
 
 abbrev cpus_list : List ℕ
 cpus_list = 0 ∷ 1 ∷ 2 ∷ 3 ∷ 4 ∷ 5 ∷ 6 ∷ 7 ∷ []
@@ -76,15 +76,7 @@ tool_more forms line cpu (Some c) (Some x) e k l =
     let longer : map g tools_list ≡ set (map (tool_lines_in forms) tools_list) c (get_or (map (tool_lines_in forms) tools_list) c [] ++ x ∷ []) = one_longer (tool_lines_in forms) g x 0 c 4 l at other in
     parts forms (form.OnTool line) refl ∙ rw (longer, k) (simp append-nil)
 
--- behind the machine a form adds what it says
-abbrev pub IsLater : Form → Type 0
-IsLater (form.Perf version) = ⊥
-IsLater (form.Machine cpus counters) = ⊥
-IsLater (form.MachineOfPmus cpus) = ⊥
-IsLater other = Unit {0}
-
-pub script_more : (forms : List Form) (f : Form) → IsLater f → IfSome (last_of (processors_in forms)) (λ c. c < 8) → IfSome (last_of (tools_in forms)) (λ t. t < 4)
-    → script_of (forms ++ f ∷ []) ≡ said_by (script_of forms) (last_of (processors_in forms)) (last_of (tools_in forms)) f
+pub script_more : GrowingLaw
 unfolding script_of
 script_more forms (form.Perf version) later c t = absurd later
 script_more forms (form.Machine cpus counters) later c t = absurd later
