@@ -9,9 +9,9 @@ use Rattle.perf_rows.specs.declared.case.Expected.{Expected}
 use Rattle.perf_rows.specs.declared.printed.Printed.{Printed}
 use Rattle.perf_rows.specs.declared.printed.Printed.TheVariants as printed
 
--- what a script is printed as: its printed text, where there is room
+-- what a script is printed as: its printed text, which stands for it, where there is room
 abbrev pub IsPrintOf : Scripted → Printed → Type 0
-IsPrintOf s (printed.Text bytes) = bytes.items ≡ printing.printed s
+IsPrintOf s (printed.Text bytes) = (bytes.items ≡ printing.printed s) × StandsFor bytes.items s
 IsPrintOf s printed.NoScript = ⊥
 IsPrintOf s printed.NoRoom = ⊤
 

@@ -1,12 +1,13 @@
 //! The printed text of the script that a text stands for.
 
-ghost use Rattle.std.specs.Prelude.{◌≡◌, IfOk};
+ghost use Rattle.std.specs.Prelude.{◌≡◌, ◌≤◌, IfOk};
 ghost use Rattle.perf_base.specs.Scripts.{IsCovered};
+ghost use Rattle.perf_base.specs.Weight.{weight};
 ghost use Rattle.perf_rows.specs.Printed.{IsPrintOf, IsPrintedOf};
 
 use crate::answer::sink;
 use perf_base::{NoMemory, Script};
-use script_print::print_script;
+use script_print::{print_script, printed_text_stands_for};
 use script_read::{ScriptFault, read_script};
 use std::alloc::Global;
 
@@ -26,9 +27,11 @@ pub enum Printed {
 
 /// A script as it is printed.
 fn print(alloc: Global, script: &Script) -> Result<Printed, NoMemory>
-    requires { IsCovered script.now }
+    requires covered { IsCovered script.now }
+    requires light { weight script.now ≤ 65536 }
     ensures { IfOk result (IsPrintOf script.now) }
 {
+    printed_text_stands_for(script);
     let mut sink = sink(alloc)?;
     match print_script(script, &mut sink) {
         Ok(()) => Ok(Printed::Text(sink.bytes().to_vec(alloc)?)),

@@ -2,6 +2,7 @@
 
 ghost use Rattle.std.specs.Prelude.{◌≡◌, ◌≤◌, ◌⊎◌, ℕ, length, codes, IfOk, IfErr, MatchOption, MatchResult};
 ghost use Rattle.perf_base.specs.Scripts.{Scripted, IsCovered};
+ghost use Rattle.perf_base.specs.Weight.{weight};
 ghost use Rattle.perf_base.specs.declared.reasons.SReason.{SReason};
 ghost use Rattle.std.specs.Str.{bytes_eq};
 ghost use Rattle.perf_base.specs.declared.reasons.SReason.TheVariants.{End};
@@ -116,8 +117,9 @@ pub fn read_script(alloc: Global, bytes: &[u8]) -> Result<Script, ScriptFault>
     requires { length bytes.now ≤ 4194304 }
     // What is read, the text stands for.
     ensures ok { IfOk result (λ s. StandsFor bytes.now s) }
-    // It can be printed: each processor is of a PMU.
+    // It can be printed, and its printed text stands for it: each processor is of a PMU, and it is not too heavy.
     ensures covered { IfOk result IsCovered }
+    ensures light { IfOk result (λ s. weight s ≤ 65536) }
     // What the text stands for is read.
     ensures every { (s : Scripted) → StandsFor bytes.now s → MatchResult result (λ t. t ≡ s) (λ e. e ≡ NoMemory) }
     // A fault is that of the first faulty line.

@@ -76,6 +76,11 @@ tool_more forms line cpu (Some c) (Some x) e k l =
     let longer : map g tools_list ≡ set (map (tool_lines_in forms) tools_list) c (get_or (map (tool_lines_in forms) tools_list) c [] ++ x ∷ []) = one_longer (tool_lines_in forms) g x 0 c 4 l at other in
     parts forms (form.OnTool line) refl ∙ rw (longer, k) (simp append-nil)
 
+-- an `end` line says nothing of the script
+pub end_adds_nothing : (forms : List Form) → script_of (forms ++ form.End ∷ []) ≡ script_of forms
+unfolding script_of
+end_adds_nothing forms = parts forms form.End refl ∙ simp append-nil
+
 pub script_more : GrowingLaw
 unfolding script_of
 script_more forms (form.Perf version) later c t = absurd later

@@ -1,18 +1,20 @@
--- Each processor of a script that a text stands for is of a PMU: its `end` line may not stand elsewhere.
-use Rattle.std.proofs.Common.{◌≡◌, ℕ, zero, suc, ◌+◌, ◌<◌, All, List, [], ◌∷◌, ◌++◌, length, length-take-le, get_or, take, Result, Ok, Err, inl, inr, refl, sym, ap, subst, ◌∙◌, arith}
+-- What the `end` line of a text asks holds of the script that the text stands for: each processor is of a PMU, and it
+-- is not too heavy.
+use Rattle.std.proofs.Common.{◌≡◌, ℕ, zero, suc, ◌+◌, ◌<◌, ◌≤◌, All, List, [], ◌∷◌, ◌++◌, length, length-take-le, get_or, take, Result, Ok, Err, inl, inr, refl, sym, ap, subst, ◌∙◌, arith}
 use Rattle.std.specs.Prelude.{IfOk}
 use Rattle.std.proofs.lemmas.Bool.{cases_lt}
-use Rattle.std.proofs.lemmas.List.{append-nil, get_or-take}
+use Rattle.std.proofs.lemmas.List.{get_or-take}
 use Rattle.perf_base.specs.declared.reasons.SReason.TheVariants as reason
 use Rattle.perf_base.specs.Scripts.{Scripted, IsCovered}
+use Rattle.perf_base.specs.Weight.{weight}
 use Rattle.script_spec.specs.Lines.{lines_of}
 use Rattle.script_spec.specs.Forms as form
 use Rattle.script_spec.specs.Forms.{Version, Form}
-use Rattle.script_spec.specs.Meaning.{cpus_in, pmus_in, machine_cpus, pmu_said, script_of}
+use Rattle.script_spec.specs.Meaning.{script_of}
 use Rattle.script_spec.specs.Faults.{IsNoEnd, AreCovered}
 use Rattle.script_spec.specs.Texts.{version_of, AreSound, StandsFor}
+use Rattle.script_spec.proofs.More.{end_adds_nothing}
 use Rattle.script_read.specs.declared.fault.ScriptFault.{ScriptFault}
-use Rattle.script_spec.proofs.Snoc.{pushed}
 
 last_apart : {X : Type 0} (xs : List X) (k : ℕ) (d : X) → k + 1 ≡ length xs → xs ≡ take k xs ++ get_or xs k d ∷ []
 last_apart [] k d e = absurd (omega (arith, e))
@@ -30,26 +32,44 @@ end_last v lines forms k h l e = elim (cases_lt (k + 1) (length forms)) [
   | inr past ↦ omega (arith, l, past)
 ]
 
--- all that is declared stands before the `end` line
-covered_before : (before : List Form) → AreCovered before → IsCovered (script_of (before ++ form.End ∷ []))
-unfolding script_of
-covered_before before h =
-    let cpus : cpus_in (before ++ form.End ∷ []) ≡ cpus_in before = ap (λ ns. get_or ns 0 0) (pushed machine_cpus before form.End ∙ append-nil _) in
-    let pmus : pmus_in (before ++ form.End ∷ []) ≡ pmus_in before = pushed pmu_said before form.End ∙ append-nil _ in
-    λ cpu low. rw pmus (h cpu (subst (λ n. cpu.0 < n) cpus low))
+-- the forms before the `end` line, and what it asks of them
+record IsEnded (s : Scripted) : Type 0 where
+  forms : List Form
+  script : s ≡ script_of forms
+  covered : AreCovered forms
+  light : weight (script_of forms) ≤ 65536
 
-pub stands_covered : (text : List ℕ) (s : Scripted) → StandsFor text s → IsCovered s
-stands_covered text s stands =
+ended : (text : List ℕ) (s : Scripted) → StandsFor text s → IsEnded s
+ended text s stands =
     let forms = stands.0 in
     let whole = stands.1 in
     let k = whole.has_end.0 in
     let l : k < length forms = whole.has_end.2 in
     let is_end : get_or forms k form.End ≡ form.End = subst (λ f. get_or forms k f ≡ f) whole.has_end.4 whole.has_end.3 in
     let sound = whole.sound.each k (omega (arith, l, whole.sound.as_many)) in
-    let covered : AreCovered (take k forms) = (sound.keeps reason.Place form.End (rw is_end at sound.is)).covered in
+    let spelled = rw is_end at sound.is in
     let last : forms ≡ take k forms ++ form.End ∷ [] = last_apart forms k form.End (end_last (version_of (lines_of text)) (lines_of text) forms k whole.sound l is_end) ∙ ap (λ f. take k forms ++ f ∷ []) is_end in
-    subst IsCovered (sym (stands.2 ∙ ap script_of last)) (covered_before (take k forms) covered)
+    record {
+      forms = take k forms;
+      script = stands.2 ∙ (ap script_of last ∙ end_adds_nothing (take k forms));
+      covered = (sound.keeps reason.Place form.End spelled).covered;
+      light = sound.keeps reason.Weight form.End spelled;
+    }
+
+script_covered : (forms : List Form) → AreCovered forms → IsCovered (script_of forms)
+unfolding script_of
+script_covered forms h = h
+
+stands_covered : (text : List ℕ) (s : Scripted) → StandsFor text s → IsCovered s
+stands_covered text s stands = let e = ended text s stands in subst IsCovered (sym e.script) (script_covered e.forms e.covered)
+
+stands_light : (text : List ℕ) (s : Scripted) → StandsFor text s → weight s ≤ 65536
+stands_light text s stands = let e = ended text s stands in subst (λ t. weight t ≤ 65536) (sym e.script) e.light
 
 pub read_covered : (text : List ℕ) (r : Result Scripted ScriptFault) → IfOk r (StandsFor text) → IfOk r IsCovered
 read_covered text (Ok s) ok = stands_covered text s ok
 read_covered text (Err e) ok = tt
+
+pub read_light : (text : List ℕ) (r : Result Scripted ScriptFault) → IfOk r (StandsFor text) → IfOk r (λ s. weight s ≤ 65536)
+read_light text (Ok s) ok = stands_light text s ok
+read_light text (Err e) ok = tt
