@@ -1,5 +1,5 @@
 -- What each expectation of a worked case allows. This project's own profile.
-use Rattle.std.specs.Prelude.{◌≡◌, ◌⊎◌, ℕ, Bool, true, false, nat_eq, List, [], ◌++◌, ⊤, codes, string_bytes}
+use Rattle.std.specs.Prelude.{◌≡◌, ◌≢◌, ◌⊎◌, ℕ, Bool, true, false, nat_eq, List, [], ◌++◌, codes, string_bytes}
 use Rattle.std.specs.List.{ends_with}
 use Rattle.perf_rows.specs.declared.case.Expected.{Expected}
 use Rattle.perf_rows.specs.declared.case.Expected.TheVariants as expected
@@ -24,13 +24,17 @@ numbers_allowed expected.Read = codes "0 or 6"
 numbers_allowed (expected.Unlawful wanted) = codes "1 or 6"
 numbers_allowed expected.Unknown = codes "unknown"
 
+-- the kinds that are stated without a note, and those with one
+abbrev pub IsKnown : List ℕ → List ℕ → Type 0
+IsKnown kind note = ((note ≡ []) × ((kind ≡ codes "done") ⊎ (kind ≡ codes "read"))) ⊎ ((note ≢ []) × ((kind ≡ codes "refused") ⊎ (kind ≡ codes "unlawful")))
+
 -- the kind and the note of a line of the list that states an expectation; a wanted note has its LF
 abbrev pub IsStated : List ℕ → List ℕ → Expected → Type 0
 IsStated kind note expected.Done = (kind ≡ codes "done") × (note ≡ [])
 IsStated kind note (expected.Refused wanted) = (kind ≡ codes "refused") × (string_bytes wanted ≡ note ++ codes "\n")
 IsStated kind note expected.Read = (kind ≡ codes "read") × (note ≡ [])
 IsStated kind note (expected.Unlawful wanted) = (kind ≡ codes "unlawful") × (string_bytes wanted ≡ note ++ codes "\n")
-IsStated kind note expected.Unknown = ⊤
+IsStated kind note expected.Unknown = IsKnown kind note → ⊥
 
 -- Whether the text stands for a script. One that is refused does so only where its order is at fault.
 abbrev pub has_script : Expected → Bool
@@ -39,3 +43,8 @@ has_script (expected.Refused wanted) = ends_with nat_eq (string_bytes wanted) (c
 has_script expected.Read = true
 has_script (expected.Unlawful wanted) = true
 has_script expected.Unknown = false
+
+-- what is said of a text that is printed too
+abbrev pub words_if_printed : Bool → List ℕ
+words_if_printed true = codes ", printed too"
+words_if_printed false = []

@@ -4,6 +4,7 @@
 #![tactic(auto)]
 
 ghost use Rattle.std.specs.Prelude.{◌≡◌, ◌<◌, ◌≤◌, IfOk};
+ghost use Rattle.perf_rows.specs.Expectations.{has_script, words_if_printed};
 ghost use Rattle.perf_rows.specs.Printed.{IsAsExpected};
 
 mod again;
@@ -101,7 +102,9 @@ fn verdict_of(rt: &HostRuntime, folder: &str, case: &Case) -> io::Result<Verdict
 }
 
 /// What the line of a case says of its printed text.
-fn printed_too(expected: &Expected) -> &'static str {
+fn printed_too(expected: &Expected) -> &'static str
+    ensures { result.now ≡ words_if_printed (has_script expected.now) }
+{
     if expected.has_script() {
         ", printed too"
     } else {
