@@ -1,6 +1,7 @@
 -- What each expectation of a worked case allows. This project's own profile.
-use Rattle.std.specs.Prelude.{◌≡◌, ◌≢◌, ◌⊎◌, ℕ, Bool, true, false, nat_eq, List, [], ◌++◌, codes, string_bytes}
-use Rattle.std.specs.List.{ends_with}
+use Rattle.std.specs.Prelude.{◌≡◌, ◌≢◌, ◌==◌, ◌⊎◌, ℕ, Bool, true, false, nat_eq, List, [], ◌++◌, codes, string_bytes}
+use Rattle.std.specs.List.{ends_with, before_first, after_first}
+use Rattle.perf_rows.specs.declared.case.Case.{Case}
 use Rattle.perf_rows.specs.declared.case.Expected.{Expected}
 use Rattle.perf_rows.specs.declared.case.Expected.TheVariants as expected
 
@@ -48,3 +49,14 @@ has_script expected.Unknown = false
 abbrev pub words_if_printed : Bool → List ℕ
 words_if_printed true = codes ", printed too"
 words_if_printed false = []
+
+-- a line's first word, and what stands behind the space that ends it
+abbrev pub first_word : List ℕ → List ℕ
+first_word line = before_first (λ b. b == 32) line
+
+abbrev pub behind_word : List ℕ → List ℕ
+behind_word line = after_first (λ b. b == 32) line
+
+-- the case of a line of the list: its kind, its name and its note
+abbrev pub IsCaseOf : List ℕ → Case → Type 0
+IsCaseOf line case = (string_bytes case.name ≡ first_word (behind_word line)) × IsStated (first_word line) (behind_word (behind_word line)) case.expected

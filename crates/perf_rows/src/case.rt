@@ -1,7 +1,7 @@
 //! A case, as a line of the list says it.
 
 ghost use Rattle.std.specs.Prelude.{◌≡◌, ◌↔◌, IsTrue, IfOk, IfSome, None, slice_get};
-ghost use Rattle.perf_rows.specs.Expectations.{IsStated, numbers_allowed, has_script};
+ghost use Rattle.perf_rows.specs.Expectations.{IsStated, IsCaseOf, numbers_allowed, has_script, first_word, behind_word};
 
 use std::alloc::{AllocError, Global};
 
@@ -54,7 +54,9 @@ pub struct Case {
 }
 
 /// A word and what stands behind the space that ends it, if anything.
-fn cut_word(line: &str) -> (&str, &str) {
+fn cut_word(line: &str) -> (&str, &str)
+    ensures { (result.0.now ≡ first_word line.now) × (result.1.now ≡ behind_word line.now) }
+{
     match line.split_once(' ') {
         None => (line, ""),
         Some((word, rest)) => (word, rest),
@@ -91,7 +93,8 @@ fn parse_expected(alloc: Global, kind: &str, note: &str) -> Result<Expected, All
 
 /// The case of a line, which is KIND NAME or KIND NAME NOTE. A line that is empty or begins with `#` has none.
 pub fn parse_case(alloc: Global, line: &str) -> Result<Option<Case>, AllocError>
-    ensures { IfOk result (λ case. case ≡ None ↔ IfSome (slice_get line.now 0) (λ byte. byte ≡ 35)) }
+    ensures none { IfOk result (λ case. case ≡ None ↔ IfSome (slice_get line.now 0) (λ byte. byte ≡ 35)) }
+    ensures case { IfOk result (λ case. IfSome case (IsCaseOf line.now)) }
 {
     if is_blank(line) {
         return Ok(None);
