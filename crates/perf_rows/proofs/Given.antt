@@ -1,7 +1,5 @@
 -- A text that was read to its end is all that the source had.
-use Rattle.std.proofs.Common.{◌≡◌, ℕ, List, [], ◌++◌, Option, Some, None, Result, Ok, Err, refl, sym, ap, subst, ◌∙◌, arith, append-nil}
-use Rattle.std.specs.Prelude.{IfOk}
-use Rattle.perf_base.specs.declared.numbers.NoMemory.{NoMemory}
+use Rattle.std.proofs.Common.{◌≡◌, ℕ, List, [], ◌++◌, Option, Some, None, refl, sym, ap, subst, ◌∙◌, arith, append-nil}
 use Rattle.perf_base.specs.declared.reasons.SReason.{SReason}
 use Rattle.script_read.specs.declared.fault.ScriptFault.TheVariants as fault
 use Rattle.perf_io.specs.Outside.{Takes, Adds, IsAtEnd}
@@ -10,11 +8,14 @@ use Rattle.perf_top.specs.declared.status.Status.TheVariants as status
 use Rattle.perf_top.specs.Notes.{number_of}
 use Rattle.perf_top.specs.Outcome.{Gave, IsRun, IsBadScript}
 use Rattle.perf_rows.specs.declared.case.Expected.{Expected}
+use Rattle.perf_rows.specs.declared.again.Again.{Again}
+use Rattle.perf_rows.specs.declared.again.Again.TheVariants as again
 use Rattle.perf_rows.specs.declared.printed.Printed.{Printed}
+use Rattle.perf_rows.specs.declared.printed.Printed.TheVariants as printed
 use Rattle.perf_rows.specs.declared.verdict.Verdict.{Verdict}
 use Rattle.perf_rows.specs.declared.verdict.Verdict.TheVariants as verdict
 use Rattle.perf_rows.specs.Expectations.{Allows}
-use Rattle.perf_rows.specs.Printed.{IsPrintedOf, AllowsPrinted, IsAsExpected}
+use Rattle.perf_rows.specs.Printed.{IsPrintedOf, IsRunOf, AllowsAgain, HasSameReport, IsAsExpected}
 
 given_is : (left : List ℕ) (after : Option (List ℕ)) (text : List ℕ) → Takes (Some left) after text → IsAtEnd after → text ≡ left
 given_is left None text t e = absurd t
@@ -41,10 +42,23 @@ pub is_done : (s : Status) → number_of s ≡ 0 → s ≡ status.Done
 is_done status.Done e = refl
 is_done other e = absurd (omega (arith, e))
 
-pub as_expected : (r : Result Verdict NoMemory) (e : Expected) (report text : List ℕ) (number : ℕ) (out note : List ℕ) (print : Printed)
-    → IfOk r (λ v. v ≡ verdict.AsExpected → Allows e report number out note × AllowsPrinted e number out print) → (number ≡ 0 → IsRun text out) → IsPrintedOf text print
-    → IfOk r (λ v. v ≡ verdict.AsExpected → IsAsExpected e report text)
-as_expected (Ok v) e report text number out note print h run printed = λ is.
-    let both = h is in
-    record { number = number; out = out; note = note; print = print; allowed = both.0; run = run; printed = printed; again = both.1 }
-as_expected (Err x) e report text number out note print h run printed = tt
+same_report : (e : Expected) (number : ℕ) (out : List ℕ) (p : Printed) (a : Again) → IsRunOf p a → AllowsAgain e number out a → HasSameReport e number out p
+same_report e number out (printed.Text bytes) (again.Ran answer) r h = (h.0, λ z. subst (λ o. IsRun bytes.items o) (sym h.2) (r (sym h.1 ∙ z)))
+same_report e number out printed.NoScript again.NoScript r h = h
+same_report e number out printed.NoScript (again.Ran answer) r h = absurd r
+same_report e number out printed.NoScript again.NoRoom r h = absurd r
+same_report e number out printed.NoRoom a r h = absurd (no_room a r h)
+  where
+    no_room : (a : Again) → IsRunOf printed.NoRoom a → AllowsAgain e number out a → ⊥
+    no_room (again.Ran answer) r h = r
+    no_room again.NoScript r h = r
+    no_room again.NoRoom r h = h
+same_report e number out (printed.Text bytes) again.NoScript r h = absurd r
+same_report e number out (printed.Text bytes) again.NoRoom r h = absurd r
+
+pub as_expected : (v : Verdict) (e : Expected) (report text : List ℕ) (number : ℕ) (out note : List ℕ) (print : Printed) (a : Again)
+    → (v ≡ verdict.AsExpected → Allows e report number out note × AllowsAgain e number out a) → (number ≡ 0 → IsRun text out) → IsPrintedOf text print → IsRunOf print a
+    → v ≡ verdict.AsExpected → IsAsExpected e report text
+as_expected v e report text number out note print a h run is ran expected =
+    let both = h expected in
+    record { number = number; out = out; note = note; print = print; allowed = both.0; run = run; printed = is; same = same_report e number out print a ran both.1 }

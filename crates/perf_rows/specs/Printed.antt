@@ -3,9 +3,12 @@ use Rattle.std.specs.Prelude.{◌≡◌, ◌<◌, ⊤, ℕ, List, length, IsTrue
 use Rattle.perf_base.specs.Scripts.{Scripted}
 use Rattle.script_spec.specs.Texts.{StandsFor}
 use Rattle.script_spec.specs.Printing as printing
+use Rattle.perf_top.specs.Notes.{number_of}
 use Rattle.perf_top.specs.Outcome.{IsRun}
 use Rattle.perf_rows.specs.Expectations.{Allows, has_script}
 use Rattle.perf_rows.specs.declared.case.Expected.{Expected}
+use Rattle.perf_rows.specs.declared.again.Again.{Again}
+use Rattle.perf_rows.specs.declared.again.Again.TheVariants as again
 use Rattle.perf_rows.specs.declared.printed.Printed.{Printed}
 use Rattle.perf_rows.specs.declared.printed.Printed.TheVariants as printed
 
@@ -20,12 +23,25 @@ abbrev pub IsPrintedOf : List ℕ → Printed → Type 0
 IsPrintedOf text printed.NoScript = (s : Scripted) → StandsFor text s → 4194304 < length text
 IsPrintedOf text other = (s : Scripted) × StandsFor text s × IsPrintOf s other
 
--- A text that has a script is printed, and its report, where it has one, is that of the printed text too. No other
+-- what became of what was printed: a text was run, and what it wrote under 0 is its report
+abbrev pub IsRunOf : Printed → Again → Type 0
+IsRunOf (printed.Text bytes) (again.Ran answer) = number_of answer.status ≡ 0 → IsRun bytes.items answer.out.held
+IsRunOf printed.NoScript again.NoScript = ⊤
+IsRunOf printed.NoRoom again.NoRoom = ⊤
+IsRunOf p other = ⊥
+
+-- A text that has a script is printed, and its printed text ends with the same number and writes the same. No other
 -- text is printed.
-abbrev pub AllowsPrinted : Expected → ℕ → List ℕ → Printed → Type 0
-AllowsPrinted e number out (printed.Text bytes) = IsTrue (has_script e) × (number ≡ 0 → IsRun bytes.items out)
-AllowsPrinted e number out printed.NoScript = IsTrue (has_script e) → ⊥
-AllowsPrinted e number out printed.NoRoom = ⊥
+abbrev pub AllowsAgain : Expected → ℕ → List ℕ → Again → Type 0
+AllowsAgain e number out (again.Ran answer) = IsTrue (has_script e) × (number ≡ number_of answer.status) × (out ≡ answer.out.held)
+AllowsAgain e number out again.NoScript = IsTrue (has_script e) → ⊥
+AllowsAgain e number out again.NoRoom = ⊥
+
+-- so its report, where it has one, is that of the printed text too
+abbrev pub HasSameReport : Expected → ℕ → List ℕ → Printed → Type 0
+HasSameReport e number out (printed.Text bytes) = IsTrue (has_script e) × (number ≡ 0 → IsRun bytes.items out)
+HasSameReport e number out printed.NoScript = IsTrue (has_script e) → ⊥
+HasSameReport e number out printed.NoRoom = ⊥
 
 -- How a text and its printed text went: the text ended as the case allows, and so did the printed text, and what was
 -- written under 0 is the text's report.
@@ -37,4 +53,4 @@ pub record IsAsExpected (e : Expected) (report text : List ℕ) : Type 0 where
   pub allowed : Allows e report number out note
   pub run : number ≡ 0 → IsRun text out
   pub printed : IsPrintedOf text print
-  pub again : AllowsPrinted e number out print
+  pub same : HasSameReport e number out print

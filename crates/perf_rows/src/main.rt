@@ -13,7 +13,7 @@ mod case;
 mod printed;
 mod verdict;
 
-use again::judge_both;
+use again::{judge_both, run_printed};
 use answer::answer_to;
 use case::{Case, Expected, parse_case};
 use perf_base::NoMemory;
@@ -80,7 +80,8 @@ fn run_text(
 {
     let printed = printed_text(alloc, &text)?;
     let answer = answer_to(alloc, text)?;
-    judge_both(alloc, expected, report, answer.ending(), printed)
+    let again = run_printed(alloc, printed)?;
+    Ok(judge_both(alloc, expected, report, answer.ending(), &again)?)
 }
 
 /// Runs a case, and says how it went.

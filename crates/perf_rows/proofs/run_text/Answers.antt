@@ -7,4 +7,4 @@ use Rattle.perf_rows.proofs.run_text.Goals as goal
 pub returns : goal.returns
 returns c =
     let run : c.ending.result.number ≡ 0 → IsRun c.args.text.items c.ending.result.out.now = λ z. subst (IsRun c.args.text.items) (sym c.ending.ensures.1) (c.in_ok-answer.ensures.done (is_done _ (sym c.ending.ensures.0 ∙ z))) in
-    as_expected c.judge_both.result _ _ _ _ _ _ _ c.judge_both.ensures run (subst (λ t. IsPrintedOf t c.in_ok-printed.printed) c.deref.ensures.value c.in_ok-printed.ensures)
+    as_expected c.in_ok-judge_both.field-0 _ _ _ _ _ _ _ _ c.in_ok-judge_both.ensures.0 run (subst (λ t. IsPrintedOf t c.in_ok-printed.printed) c.deref.ensures.value c.in_ok-printed.ensures) c.in_ok-again.ensures
