@@ -90,7 +90,8 @@ def case_of_row(folder):
         return ["done", name, ""]
     if status != "1" or read(os.path.join(folder, "stdout")):
         raise ValueError(f"{folder}: status {status}")
-    return ["refused", name, note_of(read(os.path.join(folder, "stderr")))]
+    note = note_of(read(os.path.join(folder, "stderr")))
+    return ["refused" if note.startswith("perf_run: line ") else "unlawful", name, note]
 
 
 def case_of_script(group, stem, served):
