@@ -7,6 +7,7 @@ hand after definitions moved, from the top of the repository, and says which nam
 Usage: definition_lines.py [--check]    with --check nothing is written, and the status is 1 where a line is wrong
 """
 
+import os
 import re
 import sys
 
@@ -15,7 +16,9 @@ PLACE = re.compile(r"`([^`]+)`, `(crates/[^`:]+):(\d+)`")
 
 
 def line_of(path, name):
-    """The line, from 1, at which a file declares a name; None where it doesn't."""
+    """The line, from 1, at which a file declares a name; None where it doesn't, or is not there."""
+    if not os.path.exists(path):
+        return None
     declared = re.compile(
         r"(?:pub )?(?:unfoldable |abbrev )?(?:pub )?(?:record |data |struct |enum )?" + re.escape(name) + r"(?= |$)"
     )

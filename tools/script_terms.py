@@ -2,7 +2,7 @@
 """Turns script texts and their reports into antt files of worked cases.
 
 Each case is a pair NAME.script and NAME.report. What comes out is, for each case, the script as a term of the type
-`Scripted`, the replies to all acts of its order as a list of terms, and a theorem that these replies are the answers that
+`Scripted`, the replies to all lines of its order as a list of terms, and a theorem that these replies are the answers that
 the definitions of crates/stage_spec/specs give. The theorem is proved by computation, so it fails where the definitions
 answer anything else than the report says.
 
@@ -16,8 +16,8 @@ state another case than the text says, which is why the terms are written to be 
 
 Usage: script_terms.py CASES OUT [whole]
   CASES  a folder of folders of cases, as tools/cases; with `whole`, as tools/report_cases
-  OUT    the folder of the antt files, as crates/stage_spec/proofs/rows; with `whole`, as crates/report_spec/proofs/rows.
-         Files that it wrote before are replaced, and the list of the folder's modules, as crates/stage_spec/proofs/rows.antt
+  OUT    the folder of the antt files, as crates/worked_theorems/proofs/answers; with `whole`, .../reports.
+         Files that it wrote before are replaced, and the list of the folder's modules, as answers.antt beside it
 """
 
 import os
@@ -313,14 +313,17 @@ def act_term(act):
 
 
 def replies_in_order(case):
-    """The reply and the proof of each act; a plain Ok where the report shows none."""
+    """The reply and the proof of each act that does a line, a plain Ok where the report shows none; None for a look at a tail."""
     done = {}
     answered = []
     for act in case.order:
+        if act[0] == "s":
+            answered.append(None)
+            continue
         actor = f"{act[0]}{act[1]}"
         number = done.get(actor, 0)
         done[actor] = number + 1
-        answered.append(case.replies.get((actor, number), ("reply.Ok", "refl")) if act[0] != "s" else ("reply.Ok", "refl"))
+        answered.append(case.replies.get((actor, number), ("reply.Ok", "refl")))
     missing = [key for key in case.replies if key[1] >= done.get(key[0], 0)]
     if missing:
         raise ValueError(f"{case.name}: replies to no act: {missing}")
@@ -379,7 +382,7 @@ def script_term(case, name):
 
 
 def replies_term(name, answered):
-    return [f"{name}_replies : List Reply", *wrapped([term for term, _ in answered], f"{name}_replies = ", "    ", ""), ""]
+    return [f"{name}_replies : List Reply", *wrapped([it[0] for it in answered if it], f"{name}_replies = ", "    ", ""), ""]
 
 
 def answers_terms(case):
@@ -391,7 +394,7 @@ def answers_terms(case):
         *replies_term(name, answered),
         f"{name}-answers : Answers {name} {name}_replies",
         f"unfolding Computed {name} {name}_replies",
-        f"{name}-answers = computed {name} {name}_replies {nested([it for _, it in answered], 'tt')}",
+        f"{name}-answers = computed {name} {name}_replies {nested([it[1] for it in answered if it], 'tt')}",
     ]
 
 
@@ -400,7 +403,7 @@ def report_terms(case):
     name = case.name.replace("-", "_")
     answered = replies_in_order(case)
     lines = [f'    codes "{line}\\n"' for line in case.report]
-    proofs = [f"{it}, refl" for _, it in answered]
+    proofs = [it[1] if it else "refl" for it in answered]
     return [
         *script_term(case, name),
         *replies_term(name, answered),
@@ -423,7 +426,7 @@ def unlawful_terms(case):
     return [
         *script_term(case, name),
         f"{name}-unlawful : IsUnlawfulLook {claim}",
-        f"unfolding Looked {name}",
+        f"unfolding Walked {name}",
         f"{name}-unlawful = looked {claim} refl {nested(['refl'] * act, '(refl, refl, refl)')}",
     ]
 
@@ -456,18 +459,18 @@ IMPORTS = [
     ("Rattle.perf_base.specs.declared.reply.Reply.TheVariants", "reply"),
     ("Rattle.perf_base.specs.Scripts", ["Scripted"]),
     (
-        "Rattle.stage_spec.proofs.rows.Words",
+        "Rattle.worked_theorems.proofs.answers.Words",
         ["cpu", "task", "slot", "slots", "ring", "by_cpu", "by_tool", "seen", "pmu", "kind_line", "attr", "work", "reader", "eight", "four"],
     ),
 ]
 
 # what else the theorems take, of answers alone and of whole reports
-ANSWERS_IMPORTS = [("Rattle.stage_spec.proofs.rows.Answering", ["Answers", "Computed", "computed"])]
+ANSWERS_IMPORTS = [("Rattle.worked_theorems.proofs.answers.Answering", ["Answers", "Computed", "computed"])]
 WHOLE_IMPORTS = [
-    ("Rattle.report_spec.proofs.Whole", ["IsWorked"]),
-    ("Rattle.report_spec.proofs.Unlawful", ["IsUnlawfulLook"]),
-    ("Rattle.report_spec.proofs.rows.Answering", ["Computed", "computed"]),
-    ("Rattle.report_spec.proofs.rows.Looking", ["Looked", "looked"]),
+    ("Rattle.worked_theorems.proofs.Whole", ["IsWorked"]),
+    ("Rattle.worked_theorems.proofs.Unlawful", ["IsUnlawfulLook"]),
+    ("Rattle.worked_theorems.proofs.reports.Answering", ["Computed", "computed"]),
+    ("Rattle.worked_theorems.proofs.reports.Looking", ["Walked", "looked"]),
 ]
 
 

@@ -7,6 +7,23 @@ use Rattle.stage_spec.specs.Fits.{can_count, IsAssignment}
 use Rattle.counter_match.specs.Search.{SeatsAllBut, IsSearch, IsClosedBelow}
 use Rattle.counter_match.proofs.Lists.{In, AreDifferent, length-le_from_In}
 
+-- different numbers at places of one kind stay different where a place gets a number that no other of them has
+pub different_set : (xs : List ℕ) (place x : ℕ) (Of : ℕ → Type 0) → place < length xs
+    → ((i : ℕ) → i < length xs → i ≢ place → Of i → get_or xs i 0 ≢ x)
+    → ((i j : ℕ) → i < j → j < length xs → i ≢ place → j ≢ place → Of i → Of j → get_or xs i 0 ≢ get_or xs j 0)
+    → (i j : ℕ) → i < j → j < length (set xs place x) → Of i → Of j → get_or (set xs place x) i 0 ≢ get_or (set xs place x) j 0
+different_set xs place x Of at free differ i j l m n o q =
+    let lj : j < length xs = omega (arith, length-set xs place x) in
+    elim (cases_eq i place) [
+      | inl e ↦
+          let ne_j : j ≢ place = omega arith in
+          free j lj ne_j o (sym (get_or-set_other xs place j x 0 ne_j) ∙ (sym q ∙ (ap (λ k. get_or (set xs place x) k 0) e ∙ get_or-set_same xs place x 0 at)))
+      | inr e ↦ elim (cases_eq j place) [
+        | inl f ↦ free i (omega (arith, l, lj)) e n (sym (get_or-set_other xs place i x 0 e) ∙ (q ∙ (ap (λ k. get_or (set xs place x) k 0) f ∙ get_or-set_same xs place x 0 at)))
+        | inr f ↦ differ i j l lj e f n o (sym (get_or-set_other xs place i x 0 e) ∙ (q ∙ get_or-set_other xs place j x 0 f))
+      ]
+    ]
+
 -- the event without a counter takes that of another one, which then has none
 pub SeatsAllBut-move : (gap place : ℕ) (masks counters : List ℕ) → SeatsAllBut gap masks counters → gap < length masks → place < length masks → place ≢ gap
     → can_count (get_or masks gap 0) (get_or counters place 0) ≡ true → SeatsAllBut place masks (set counters gap (get_or counters place 0))
@@ -17,10 +34,7 @@ SeatsAllBut-move gap place masks counters s g p ne can =
         | inl e ↦ rw (e, get_or-set_same counters gap (get_or counters place 0) 0 (omega (arith, s.one_each))) can
         | inr e ↦ rw (get_or-set_other counters gap i (get_or counters place 0) 0 e) (s.allowed i l e)
       ];
-      different = λ i j l m n o.
-          let li : i < length counters = omega (arith, length-set counters gap (get_or counters place 0)) in
-          let lj : j < length counters = omega (arith, length-set counters gap (get_or counters place 0)) in
-          apart i j l li lj n o;
+      different = different_set counters gap (get_or counters place 0) (λ i. i ≢ place) lg free (λ i j l m e f _ _. s.different i j l m e f);
     }
   where
     lg : gap < length counters
@@ -28,20 +42,6 @@ SeatsAllBut-move gap place masks counters s g p ne can =
 
     free : (i : ℕ) → i < length counters → i ≢ gap → i ≢ place → get_or counters i 0 ≢ get_or counters place 0
     free i l a b q = elim (cases_order i place) [ inl e ↦ b e | inr o ↦ elim o [ inl lt ↦ s.different i place lt (omega (arith, s.one_each)) a ne q | inr gt ↦ s.different place i gt l ne a (sym q) ] ]
-
-    apart : (i j : ℕ) → i < j → i < length counters → j < length counters → i ≢ place → j ≢ place → get_or (set counters gap (get_or counters place 0)) i 0 ≢ get_or (set counters gap (get_or counters place 0)) j 0
-    apart i j l li lj n o q =
-        elim (cases_eq i gap) [
-          | inl e ↦
-              let ne_j : j ≢ gap = omega arith in
-              free j lj ne_j o (sym (get_or-set_other counters gap j (get_or counters place 0) 0 ne_j) ∙ (sym q ∙ (ap (λ k. get_or (set counters gap (get_or counters place 0)) k 0) e ∙ get_or-set_same counters gap (get_or counters place 0) 0 lg)))
-          | inr e ↦ elim (cases_eq j gap) [
-            | inl f ↦
-                free i li e n (sym (get_or-set_other counters gap i (get_or counters place 0) 0 e) ∙ (q ∙ (ap (λ k. get_or (set counters gap (get_or counters place 0)) k 0) f ∙ get_or-set_same counters gap (get_or counters place 0) 0 lg)))
-            | inr f ↦
-                s.different i j l lj e f (sym (get_or-set_other counters gap i (get_or counters place 0) 0 e) ∙ (q ∙ get_or-set_other counters gap j (get_or counters place 0) 0 f))
-          ]
-        ]
 
 -- the event without a counter takes one that no other event has
 pub IsAssignment-from_free : (gap counter : ℕ) (masks counters : List ℕ) → SeatsAllBut gap masks counters → gap < length masks
@@ -53,26 +53,11 @@ IsAssignment-from_free gap counter masks counters s g can free =
         | inl e ↦ rw (e, get_or-set_same counters gap counter 0 lg) can
         | inr e ↦ rw (get_or-set_other counters gap i counter 0 e) (s.allowed i l e)
       ];
-      different = λ i j l m.
-          let li : i < length counters = omega (arith, length-set counters gap counter) in
-          let lj : j < length counters = omega (arith, length-set counters gap counter) in
-          apart i j l li lj;
+      different = λ i j l m. different_set counters gap counter (λ _. Unit {0}) lg (λ i l e _. free i l e) (λ i j l m e f _ _. s.different i j l m e f) i j l m tt tt;
     }
   where
     lg : gap < length counters
     lg = omega (arith, s.one_each)
-
-    apart : (i j : ℕ) → i < j → i < length counters → j < length counters → get_or (set counters gap counter) i 0 ≢ get_or (set counters gap counter) j 0
-    apart i j l li lj q =
-        elim (cases_eq i gap) [
-          | inl e ↦
-              let ne_j : j ≢ gap = omega arith in
-              free j lj ne_j (sym (get_or-set_other counters gap j counter 0 ne_j) ∙ (sym q ∙ (ap (λ k. get_or (set counters gap counter) k 0) e ∙ get_or-set_same counters gap counter 0 lg)))
-          | inr e ↦ elim (cases_eq j gap) [
-            | inl f ↦ free i li e (sym (get_or-set_other counters gap i counter 0 e) ∙ (q ∙ (ap (λ k. get_or (set counters gap counter) k 0) f ∙ get_or-set_same counters gap counter 0 lg)))
-            | inr f ↦ s.different i j l lj e f (sym (get_or-set_other counters gap i counter 0 e) ∙ (q ∙ get_or-set_other counters gap j counter 0 f))
-          ]
-        ]
 
 -- counters for all but a reached event, the same as before for the events that are not reached up to it
 pub record Vacated (masks counters queue : List ℕ) (q : ℕ) : Type 0 where

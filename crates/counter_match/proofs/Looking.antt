@@ -8,7 +8,7 @@ use Rattle.std.specs.Int.{bit_at}
 use Rattle.std.proofs.lemmas.List.{get_or_push, length_push, get_or_append_left}
 use Rattle.stage_spec.specs.Fits.{can_count}
 use Rattle.counter_match.specs.Search.{IsSearch, IsHeld, IsExtended, IsClosedAt, CanTake}
-use Rattle.counter_match.specs.Seating.{IsMask}
+use Rattle.perf_base.specs.Masks.{IsMask}
 use Rattle.counter_match.proofs.Lists.{any-from_In}
 use Rattle.counter_match.proofs.Growth.{IsExtended-same, IsExtended-push, IsHeld-reached, IsSearch-push, length-le_below}
 

@@ -5,7 +5,7 @@ use Rattle.std.proofs.lemmas.Bool.{cases_eq, cases_order}
 use Rattle.stage_spec.specs.Fits.{can_count, fits, IsAssignment}
 use Rattle.counter_match.specs.Search.{SeatsAllBut, IsSearch, IsShift}
 use Rattle.counter_match.proofs.Fitting.{fits-IsAssignment}
-use Rattle.counter_match.proofs.Hall.{IsAssignment-from_free}
+use Rattle.counter_match.proofs.Hall.{different_set, IsAssignment-from_free}
 
 -- an event with a counter takes one that no event has
 pub SeatsAllBut-retake : (gap place counter : ℕ) (masks seats : List ℕ) → SeatsAllBut gap masks seats → place < length masks → place ≢ gap
@@ -17,26 +17,11 @@ SeatsAllBut-retake gap place counter masks seats s lp ne can free =
         | inl e ↦ rw (e, get_or-set_same seats place counter 0 lg) can
         | inr e ↦ rw (get_or-set_other seats place i counter 0 e) (s.allowed i l n)
       ];
-      different = λ i j l m n o.
-          let li : i < length seats = omega (arith, length-set seats place counter) in
-          let lj : j < length seats = omega (arith, length-set seats place counter) in
-          apart i j l li lj n o;
+      different = different_set seats place counter (λ i. i ≢ gap) lg (λ i l _ n. free i l n) (λ i j l m _ _ n o. s.different i j l m n o);
     }
   where
     lg : place < length seats
     lg = omega (arith, s.one_each)
-
-    apart : (i j : ℕ) → i < j → i < length seats → j < length seats → i ≢ gap → j ≢ gap → get_or (set seats place counter) i 0 ≢ get_or (set seats place counter) j 0
-    apart i j l li lj n o q =
-        elim (cases_eq i place) [
-          | inl e ↦
-              let ne_j : j ≢ place = omega arith in
-              free j lj o (sym (get_or-set_other seats place j counter 0 ne_j) ∙ (sym q ∙ (ap (λ k. get_or (set seats place counter) k 0) e ∙ get_or-set_same seats place counter 0 lg)))
-          | inr e ↦ elim (cases_eq j place) [
-            | inl f ↦ free i li n (sym (get_or-set_other seats place i counter 0 e) ∙ (q ∙ (ap (λ k. get_or (set seats place counter) k 0) f ∙ get_or-set_same seats place counter 0 lg)))
-            | inr f ↦ s.different i j l lj n o (sym (get_or-set_other seats place i counter 0 e) ∙ (q ∙ get_or-set_other seats place j counter 0 f))
-          ]
-        ]
 
 -- one event further back
 pub IsShift-next : (masks counters queue parents seats : List ℕ) (position counter : ℕ) → IsSearch masks counters queue parents → 0 < position

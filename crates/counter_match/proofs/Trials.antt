@@ -5,7 +5,8 @@ use Rattle.std.proofs.lemmas.List.{get_or-take, take-map}
 use Rattle.std.proofs.lemmas.List.Elements.{All-take, All-drop}
 use Rattle.perf_base.specs.declared.numbers.EventNo.{EventNo}
 use Rattle.stage_spec.specs.Tight.{masks_of}
-use Rattle.counter_match.specs.Seating.{IsMask, AreDistinct}
+use Rattle.perf_base.specs.Masks.{IsMask}
+use Rattle.counter_match.specs.Seating.{AreDistinct}
 
 pub AreDistinct-take : (n : ℕ) (events : List (EventNo × ℕ)) → AreDistinct events → AreDistinct (take n events)
 AreDistinct-take n events h i j d l m e =

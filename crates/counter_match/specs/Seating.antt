@@ -1,6 +1,7 @@
 -- Hardware events on the counters of one processor. This project's own profile.
-use Rattle.std.specs.Prelude.{◌≢◌, ℕ, ◌<◌, ◌≤◌, ◌^◌, List, [], map, All}
+use Rattle.std.specs.Prelude.{◌≢◌, ℕ, ◌<◌, ◌≤◌, List, [], map, All}
 use Rattle.std.specs.List.{AllPairs, zip}
+use Rattle.perf_base.specs.Masks.{IsMask}
 use Rattle.perf_base.specs.declared.numbers.EventNo.{EventNo}
 use Rattle.stage_spec.specs.Fits.{IsAssignment}
 use Rattle.stage_spec.specs.Tight.{masks_of}
@@ -11,10 +12,6 @@ pub record Seated : Type 0 where
   pub counters : ℕ
   pub events : List (EventNo × ℕ)
   pub seats : List ℕ
-
--- a mask of some counters of a processor
-abbrev pub IsMask : ℕ → ℕ → Type 0
-IsMask counters mask = (0 < mask) × (mask < 2 ^ counters)
 
 -- no event comes twice
 abbrev pub AreDistinct : List (EventNo × ℕ) → Type 0

@@ -3,7 +3,8 @@ use Rattle.std.specs.Prelude.{ℕ, ◌<◌, ◌≤◌, List, take, All}
 use Rattle.perf_base.specs.declared.numbers.EventNo.{EventNo}
 use Rattle.stage_spec.specs.Fits.{IsAssignment}
 use Rattle.stage_spec.specs.Tight.{masks_of}
-use Rattle.counter_match.specs.Seating.{IsMask, AreDistinct, Seated}
+use Rattle.perf_base.specs.Masks.{IsMask}
+use Rattle.counter_match.specs.Seating.{AreDistinct, Seated}
 use Rattle.counter_match.specs.declared.seating.Seating.{Seating}
 
 -- the events, and their counters

@@ -5,14 +5,11 @@
 #![tactic(auto)]
 
 mod laws;
-mod places;
 mod search;
 mod seating;
 mod seats;
-mod steps;
 #[cfg(test)]
 mod tests;
 
 pub use laws::{fits_where_assigned, no_path_where_unfit, tight_sets_lack_one};
 pub use seats::Seats;
-pub use steps::Steps;

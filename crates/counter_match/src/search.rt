@@ -7,11 +7,11 @@ ghost use Rattle.perf_base.specs.declared.numbers.EventNo.{EventNo};
 ghost use Rattle.stage_spec.specs.Fits.{can_count, fits, IsAssignment};
 ghost use Rattle.stage_spec.specs.Tight.{masks_of, tight_set};
 ghost use Rattle.counter_match.specs.Search.{SeatsAllBut, IsSearch, IsHeld, IsClosedAt, IsClosedBelow, IsExtended, IsFree, IsShift, CanTake, picked};
-ghost use Rattle.counter_match.specs.Seating.{IsMask, slots_of};
+ghost use Rattle.perf_base.specs.Masks.{IsMask};
+ghost use Rattle.counter_match.specs.Seating.{slots_of};
 
-use crate::places::Places;
-use crate::steps::Steps;
-use perf_base::{EventNo, Tight};
+use arrayvec::ArrayVec;
+use perf_base::{EventNo, Steps, Tight};
 use std::sync::ledger::Ledger;
 
 /// Whether the event at a place can count on a counter: one step.
@@ -49,32 +49,40 @@ fn holder(seats: &[u8], last: usize, counter: u8) -> Option<usize>
 /// from. The first is the last of the list, which has no counter.
 #[derive(Drop)]
 pub struct Search {
-    pub queue: Places,
-    pub parents: Places,
+    pub queue: ArrayVec<usize, 17>,
+    pub parents: ArrayVec<usize, 17>,
 }
 
 impl Search {
     /// A search that has reached one place.
     pub fn from(last: usize) -> Self
-        ensures queue { result.queue ≡ last ∷ [] }
-        ensures parents { result.parents ≡ 0 ∷ [] }
+        ensures queue { result.queue.items ≡ last ∷ [] }
+        ensures parents { result.parents.items ≡ 0 ∷ [] }
     {
-        Search {
-            queue: Places::one(last),
-            parents: Places::one(0),
-        }
+        let mut queue = ArrayVec::new();
+        let mut parents = ArrayVec::new();
+        queue.push(last);
+        parents.push(0);
+        Search { queue, parents }
+    }
+
+    /// Whether a place was reached.
+    fn has_reached(&self, place: usize) -> bool
+        ensures { result ≡ list_any (nat_eq place) self.now.queue.items }
+    {
+        self.queue.contains(&place)
     }
 
     /// Reaches a place from a position of the queue, if it was not reached before.
     fn reach(&mut self, place: usize, position: usize)
-        requires queue { list_any (nat_eq place) self.old.queue ≡ false → length self.old.queue < 17 }
-        requires parents { length self.old.parents ≡ length self.old.queue }
-        ensures queue { self.new.queue
-            ≡ (if list_any (nat_eq place) self.old.queue then self.old.queue else self.old.queue ++ place ∷ []) }
-        ensures parents { self.new.parents
-            ≡ (if list_any (nat_eq place) self.old.queue then self.old.parents else self.old.parents ++ position ∷ []) }
+        requires queue { list_any (nat_eq place) self.old.queue.items ≡ false → length self.old.queue.items < 17 }
+        requires parents { length self.old.parents.items ≡ length self.old.queue.items }
+        ensures queue { self.new.queue.items
+            ≡ (if list_any (nat_eq place) self.old.queue.items then self.old.queue.items else self.old.queue.items ++ place ∷ []) }
+        ensures parents { self.new.parents.items
+            ≡ (if list_any (nat_eq place) self.old.queue.items then self.old.parents.items else self.old.parents.items ++ position ∷ []) }
     {
-        if !self.queue.contains(place) {
+        if !self.has_reached(place) {
             self.queue.push(place);
             self.parents.push(position);
         }
@@ -90,20 +98,20 @@ impl Search {
         counter: u8,
         steps: &mut Steps<L>,
     ) -> bool
-        requires search { IsSearch (masks_of events.now) seats.now self.old.queue self.old.parents }
+        requires search { IsSearch (masks_of events.now) seats.now self.old.queue.items self.old.parents.items }
         requires seats { length seats.now ≡ length events.now }
         requires few { length events.now ≤ 17 }
-        requires position { position < length self.old.queue }
+        requires position { position < length self.old.queue.items }
         requires counter { counter < 16 }
-        ensures search { IsSearch (masks_of events.now) seats.now self.new.queue self.new.parents }
-        ensures extended { IsExtended self.old.queue self.new.queue }
-        ensures free { IsTrue result → CanTake (masks_of events.now) self.new.queue position counter
-            × IsFree (slice_index self.new.queue 0) seats.now counter }
-        ensures held { result ≡ false → CanTake (masks_of events.now) self.new.queue position counter
-            → IsHeld seats.now self.new.queue counter }
+        ensures search { IsSearch (masks_of events.now) seats.now self.new.queue.items self.new.parents.items }
+        ensures extended { IsExtended self.old.queue.items self.new.queue.items }
+        ensures free { IsTrue result → CanTake (masks_of events.now) self.new.queue.items position counter
+            × IsFree (slice_index self.new.queue.items 0) seats.now counter }
+        ensures held { result ≡ false → CanTake (masks_of events.now) self.new.queue.items position counter
+            → IsHeld seats.now self.new.queue.items counter }
         ensures step { steps.new ≡ steps.old + 1 }
     {
-        let place = self.queue.get(position);
+        let place = self.queue[position];
         if !can_take(events, place, counter, steps) {
             return false;
         }
@@ -126,18 +134,18 @@ impl Search {
         position: usize,
         steps: &mut Steps<L>,
     ) -> Option<u8>
-        requires search { IsSearch (masks_of events.now) seats.now self.old.queue self.old.parents }
+        requires search { IsSearch (masks_of events.now) seats.now self.old.queue.items self.old.parents.items }
         requires seats { length seats.now ≡ length events.now }
         requires few { length events.now ≤ 17 }
-        requires position { position < length self.old.queue }
+        requires position { position < length self.old.queue.items }
         requires some { 0 < counters }
         requires most { counters ≤ 16 }
-        ensures search { IsSearch (masks_of events.now) seats.now self.new.queue self.new.parents }
-        ensures extended { IsExtended self.old.queue self.new.queue }
-        ensures free { IfSome result (λ counter. CanTake (masks_of events.now) self.new.queue position counter
-            × IsFree (slice_index self.new.queue 0) seats.now counter) }
+        ensures search { IsSearch (masks_of events.now) seats.now self.new.queue.items self.new.parents.items }
+        ensures extended { IsExtended self.old.queue.items self.new.queue.items }
+        ensures free { IfSome result (λ counter. CanTake (masks_of events.now) self.new.queue.items position counter
+            × IsFree (slice_index self.new.queue.items 0) seats.now counter) }
         ensures held { IfNone result
-            (IsClosedAt position counters (masks_of events.now) seats.now self.new.queue) }
+            (IsClosedAt position counters (masks_of events.now) seats.now self.new.queue.items) }
         ensures least { steps.old + 1 ≤ steps.new }
         ensures most { steps.new ≤ steps.old + 16 }
     {
@@ -158,17 +166,17 @@ impl Search {
         counters: u8,
         steps: &mut Steps<L>,
     ) -> Option<(usize, u8)>
-        requires search { IsSearch (masks_of events.now) seats.now self.old.queue self.old.parents }
-        requires seats { SeatsAllBut (slice_index self.old.queue 0) (masks_of events.now) seats.now }
+        requires search { IsSearch (masks_of events.now) seats.now self.old.queue.items self.old.parents.items }
+        requires seats { SeatsAllBut (slice_index self.old.queue.items 0) (masks_of events.now) seats.now }
         requires few { length events.now ≤ 17 }
         requires some { 0 < counters }
         requires most { counters ≤ 16 }
         requires masks { All (IsMask counters) (masks_of events.now) }
-        ensures search { IsSearch (masks_of events.now) seats.now self.new.queue self.new.parents }
+        ensures search { IsSearch (masks_of events.now) seats.now self.new.queue.items self.new.parents.items }
         ensures free { IfSome result
-            (λ found. IsShift (masks_of events.now) seats.now self.new.queue seats.now found.0 found.1) }
+            (λ found. IsShift (masks_of events.now) seats.now self.new.queue.items seats.now found.0 found.1) }
         ensures closed { IfNone result
-            (IsClosedBelow (length self.new.queue) (masks_of events.now) seats.now self.new.queue) }
+            (IsClosedBelow (length self.new.queue.items) (masks_of events.now) seats.now self.new.queue.items) }
         ensures least { steps.old + 1 ≤ steps.new }
         ensures most { steps.new ≤ steps.old + 272 }
     {
@@ -191,16 +199,16 @@ impl Search {
         mut position: usize,
         mut counter: u8,
     )
-        requires search { IsSearch (masks_of events.now) seats.old self.now.queue self.now.parents }
-        requires free { IsShift (masks_of events.now) seats.old self.now.queue seats.old position counter }
+        requires search { IsSearch (masks_of events.now) seats.old self.now.queue.items self.now.parents.items }
+        requires free { IsShift (masks_of events.now) seats.old self.now.queue.items seats.old position counter }
         ensures { IsAssignment (masks_of events.now) seats.new }
     {
         while position > 0 {
-            let place = self.queue.get(position);
+            let place = self.queue[position];
             let given = seats[place];
             seats[place] = counter;
             counter = given;
-            position = self.parents.get(position);
+            position = self.parents[position];
         }
         seats[events.len() - 1] = counter;
     }
@@ -209,11 +217,11 @@ impl Search {
     fn reached(&self, events: &[(EventNo, u32)]) -> Tight
         requires { length events.now ≤ 17 }
         ensures { result
-            ≡ slots_of (picked (λ place. list_any (nat_eq place) self.now.queue) 0 events.now) }
+            ≡ slots_of (picked (λ place. list_any (nat_eq place) self.now.queue.items) 0 events.now) }
     {
         let mut tight = Tight::new();
         for place in 0..events.len() {
-            if self.queue.contains(place) {
+            if self.has_reached(place) {
                 let (event, _) = events[place];
                 tight.push(event);
             }

@@ -4,12 +4,12 @@ ghost use Rattle.std.specs.Prelude.{◌≡◌, ℕ, ◌+◌, ◌<◌, ◌≤◌,
 ghost use Rattle.std.specs.List.{zip};
 ghost use Rattle.stage_spec.specs.Fits.{fits};
 ghost use Rattle.stage_spec.specs.Tight.{masks_of, tight_set};
-ghost use Rattle.counter_match.specs.Seating.{IsMask, slots_of};
+ghost use Rattle.perf_base.specs.Masks.{IsMask};
+ghost use Rattle.counter_match.specs.Seating.{slots_of};
 ghost use Rattle.counter_match.specs.Stored.{IsSeating, events_of, seats_of};
 
 use crate::search::seat_last;
-use crate::steps::Steps;
-use perf_base::{EventNo, SeatList, Tight};
+use perf_base::{EventNo, SeatList, Steps, Tight};
 use std::sync::ledger::Ledger;
 
 /// Events with their masks, and a counter for each, in order of coming. One more place than there are counters is

@@ -3,11 +3,11 @@
 ghost use Rattle.std.specs.Prelude.{◌≡◌, ◌↔◌, ℕ, ◌+◌, ◌*◌, ◌<◌, ◌≤◌, ◌++◌, length, All, IsTrue, IsOk, OnOk, OnErr, IfErr};
 ghost use Rattle.stage_spec.specs.Fits.{fits, IsAssignment};
 ghost use Rattle.stage_spec.specs.Tight.{masks_of, tight_set, shortest_unfit};
-ghost use Rattle.counter_match.specs.Seating.{IsMask, AreDistinct, IsSound, slots_of, seat_list, empty_seating};
+ghost use Rattle.perf_base.specs.Masks.{IsMask};
+ghost use Rattle.counter_match.specs.Seating.{AreDistinct, IsSound, slots_of, seat_list, empty_seating};
 
 use crate::seating::Seating;
-use crate::steps::Steps;
-use perf_base::{EventNo, SeatList, Tight};
+use perf_base::{EventNo, SeatList, Steps, Tight};
 use std::marker::Model;
 use std::sync::ledger::Ledger;
 

@@ -2,10 +2,11 @@
 
 ghost use Rattle.std.specs.Prelude.{◌≡◌, ℕ, ◌+◌, ◌^◌, ◌<◌, ◌≤◌, length, All, IfOk};
 ghost use Rattle.stage_spec.specs.Tight.{masks_of};
-ghost use Rattle.counter_match.specs.Seating.{IsMask, AreDistinct};
+ghost use Rattle.perf_base.specs.Masks.{IsMask};
+ghost use Rattle.counter_match.specs.Seating.{AreDistinct};
 
-use crate::{Seats, Steps};
-use perf_base::{EventNo, SeatList, Tight};
+use crate::Seats;
+use perf_base::{EventNo, SeatList, Steps, Tight};
 use std::alloc::{AllocError, Global};
 use std::marker::Brand;
 use std::sync::ledger::{Blank, Ledger};
@@ -170,15 +171,14 @@ fn told<L: Ledger>(
 }
 
 fn tell_set(text: &mut String, set: &Tight) -> Result<(), AllocError> {
-    for i in 0..set.len() {
-        write!(text, "{} ", set.get(i).0)?;
+    for event in set.as_slice() {
+        write!(text, "{} ", event.0)?;
     }
     text.push_str("no ")
 }
 
 fn tell_list(text: &mut String, list: &SeatList) -> Result<(), AllocError> {
-    for i in 0..list.len() {
-        let (event, counter) = list.get(i);
+    for (event, counter) in list.as_slice() {
         write!(text, "{}:{} ", event.0, counter)?;
     }
     Ok(())
@@ -335,4 +335,11 @@ fn agrees_with_the_plain_search(rt: HostRuntime) -> Result<(), Fail> {
     assert!(rt; all_agree_plainly(alloc, 16, 6, 12, 100, 7919)?);
     assert!(rt; all_agree_plainly(alloc, 16, 9, 12, 100, 1_299_709_421)?);
     Ok(())
+}
+
+fn crosses<T: Send + Sync>() {}
+
+#[test]
+fn seats_cross_threads(_rt: HostRuntime) {
+    crosses::<Seats>();
 }

@@ -1,5 +1,6 @@
 -- The forms, one by one: what is read is of the form, and what is of the form is read.
 use Rattle.std.proofs.Common.{◌≡◌, ℕ, Bool, true, false, cond, List, [], ◌∷◌, ◌++◌, map, Option, Some, None, inl, inr, refl, sym, ap, subst, ◌∙◌, arith}
+use Rattle.std.proofs.lemmas.Option.{same_Some, none-some}
 use Rattle.std.specs.Prelude.{codes, decimal, IfSome}
 use Rattle.std.specs.Str.{bytes_eq}
 use Rattle.std.proofs.lemmas.Bool.{cases_Bool}
@@ -9,7 +10,7 @@ use Rattle.script_spec.specs.Forms as form
 use Rattle.script_spec.specs.Forms.{Version, Working, CpuForm, Opening, Asked, ToolForm, Form}
 use Rattle.line_forms.specs.Leaves.{number, number_at, number_if}
 use Rattle.line_forms.specs.Bodies.{perf_at, machine_at, machine_of_pmus_at, pmu_at, kind_at, kind_of_pmu_at, ring_at, reader_at, each_word, hit_in, mode_in, stretch_at, work_at, switch_at}
-use Rattle.line_forms.proofs.Singles.{number_at-takes, bind_some, some_is, none_some, bytes_eq-true, bytes_eq_self, name_at-again, decimal_or-again}
+use Rattle.line_forms.proofs.Singles.{number_at-takes, bind_some, bytes_eq-true, bytes_eq_self, name_at-again, decimal_or-again}
 use Rattle.line_forms.proofs.Optionals.{number_at-none, number_if-none, number_if-takes, number_if-again}
 use Rattle.line_forms.proofs.Sequences.{each-takes, each-again, hit-takes, hit-again}
 use Rattle.line_forms.proofs.Steps.{decimal_then, hexadecimal_then, name_then, other_then, end_then, next_then, more, decimal-again, hexadecimal-again}
@@ -44,7 +45,7 @@ machine-takes ws f e =
     let b = decimal_then (codes "counters=") a.rest _ f a.then in
     let z = end_then b.rest _ f b.then in
     let words = more (codes "machine") ws _ (a.words ∙ more _ a.rest _ (b.words ∙ more _ b.rest [] z.words)) in
-    subst (λ g. form.IsOfVersion form.One g × IsSpelled (codes "machine") ws g) (some_is (form.Machine a.n b.n) f z.then) (refl, ((a.fits, b.fits), words))
+    subst (λ g. form.IsOfVersion form.One g × IsSpelled (codes "machine") ws g) (same_Some (form.Machine a.n b.n) f z.then) (refl, ((a.fits, b.fits), words))
 
 pub machine-again : (cpus counters : ℕ) → form.IsNumber cpus → form.IsNumber counters
     → machine_at ((codes "cpus=" ++ decimal cpus) ∷ (codes "counters=" ++ decimal counters) ∷ []) ≡ Some (form.Machine cpus counters)
@@ -57,7 +58,7 @@ machine_of_pmus-takes ws f e =
     let a = decimal_then (codes "cpus=") ws _ f e in
     let z = end_then a.rest _ f a.then in
     let words = more (codes "machine") ws _ (a.words ∙ more _ a.rest [] z.words) in
-    subst (λ g. form.IsOfVersion form.Two g × IsSpelled (codes "machine") ws g) (some_is (form.MachineOfPmus a.n) f z.then) (refl, (a.fits, words))
+    subst (λ g. form.IsOfVersion form.Two g × IsSpelled (codes "machine") ws g) (same_Some (form.MachineOfPmus a.n) f z.then) (refl, (a.fits, words))
 
 pub machine_of_pmus-again : (cpus : ℕ) → form.IsNumber cpus → machine_of_pmus_at ((codes "cpus=" ++ decimal cpus) ∷ []) ≡ Some (form.MachineOfPmus cpus)
 unfolding machine_of_pmus_at
@@ -71,7 +72,7 @@ pmu-takes ws f e =
     let c = hexadecimal_then (codes "cpus=") b.rest _ f b.then in
     let z = end_then c.rest _ f c.then in
     let words = more (codes "pmu") ws _ (a.words ∙ more _ a.rest _ (b.words ∙ more _ b.rest _ (c.words ∙ more _ c.rest [] z.words))) in
-    subst (λ g. form.IsOfVersion form.Two g × IsSpelled (codes "pmu") ws g) (some_is (form.Pmu a.n b.n c.n) f z.then) (refl, ((a.fits, b.fits, c.fits), words))
+    subst (λ g. form.IsOfVersion form.Two g × IsSpelled (codes "pmu") ws g) (same_Some (form.Pmu a.n b.n c.n) f z.then) (refl, ((a.fits, b.fits, c.fits), words))
 
 pub pmu-again : (n counters cpus : ℕ) → form.IsNumber n → form.IsNumber counters → form.IsHexadecimal cpus
     → pmu_at (decimal n ∷ (codes "counters=" ++ decimal counters) ∷ (codes "cpus=" ++ form.hexadecimal cpus) ∷ []) ≡ Some (form.Pmu n counters cpus)
@@ -90,7 +91,7 @@ kind-takes ws f e =
     let b = hexadecimal_then (codes "mask=") a.rest _ f a.then in
     let z = end_then b.rest _ f b.then in
     let words = more (codes "kind") ws _ (a.words ∙ more _ a.rest _ (b.words ∙ more _ b.rest [] z.words)) in
-    subst (λ g. form.IsOfVersion form.One g × IsSpelled (codes "kind") ws g) (some_is (form.Kind a.n b.n) f z.then) (refl, ((a.fits, b.fits), words))
+    subst (λ g. form.IsOfVersion form.One g × IsSpelled (codes "kind") ws g) (same_Some (form.Kind a.n b.n) f z.then) (refl, ((a.fits, b.fits), words))
 
 pub kind-again : (n : List ℕ) (mask : ℕ) → form.IsWord n → form.IsHexadecimal mask → kind_at (n ∷ (codes "mask=" ++ form.hexadecimal mask) ∷ []) ≡ Some (form.Kind n mask)
 unfolding kind_at
@@ -104,7 +105,7 @@ kind_of_pmu-takes ws f e =
     let c = hexadecimal_then (codes "mask=") b.rest _ f b.then in
     let z = end_then c.rest _ f c.then in
     let words = more (codes "kind") ws _ (a.words ∙ more _ a.rest _ (b.words ∙ more _ b.rest _ (c.words ∙ more _ c.rest [] z.words))) in
-    subst (λ g. form.IsOfVersion form.Two g × IsSpelled (codes "kind") ws g) (some_is (form.KindOfPmu a.n b.n c.n) f z.then) (refl, ((a.fits, b.fits, c.fits), words))
+    subst (λ g. form.IsOfVersion form.Two g × IsSpelled (codes "kind") ws g) (same_Some (form.KindOfPmu a.n b.n c.n) f z.then) (refl, ((a.fits, b.fits, c.fits), words))
 
 pub kind_of_pmu-again : (n : List ℕ) (pmu mask : ℕ) → form.IsWord n → form.IsNumber pmu → form.IsHexadecimal mask
     → kind_of_pmu_at (n ∷ (codes "pmu=" ++ decimal pmu) ∷ (codes "mask=" ++ form.hexadecimal mask) ∷ []) ≡ Some (form.KindOfPmu n pmu mask)
@@ -123,7 +124,7 @@ ring-takes v ws f e =
     let b = decimal_then (codes "bytes=") a.rest _ f a.then in
     let z = end_then b.rest _ f b.then in
     let words = more (codes "ring") ws _ (a.words ∙ more _ a.rest _ (b.words ∙ more _ b.rest [] z.words)) in
-    subst (λ g. form.IsOfVersion v g × IsSpelled (codes "ring") ws g) (some_is (form.Ring a.n b.n) f z.then) (tt, ((a.fits, b.fits), words))
+    subst (λ g. form.IsOfVersion v g × IsSpelled (codes "ring") ws g) (same_Some (form.Ring a.n b.n) f z.then) (tt, ((a.fits, b.fits), words))
 
 pub ring-again : (n bytes : ℕ) → form.IsNumber n → form.IsNumber bytes → ring_at (decimal n ∷ (codes "bytes=" ++ decimal bytes) ∷ []) ≡ Some (form.Ring n bytes)
 unfolding ring_at
@@ -137,7 +138,7 @@ reader-takes v ws f e =
     let c = decimal_then (codes "batch=") b.rest _ f b.then in
     let z = end_then c.rest _ f c.then in
     let words = more (codes "reader") ws _ (a.words ∙ more _ a.rest _ (b.words ∙ more _ b.rest _ (c.words ∙ more _ c.rest [] z.words))) in
-    subst (λ g. form.IsOfVersion v g × IsSpelled (codes "reader") ws g) (some_is (form.Reader a.n b.n c.n) f z.then) (tt, ((a.fits, b.fits, c.fits), words))
+    subst (λ g. form.IsOfVersion v g × IsSpelled (codes "reader") ws g) (same_Some (form.Reader a.n b.n c.n) f z.then) (tt, ((a.fits, b.fits, c.fits), words))
 
 pub reader-again : (ring tries batch : ℕ) → form.IsNumber ring → form.IsNumber tries → form.IsNumber batch
     → reader_at (decimal ring ∷ (codes "tries=" ++ decimal tries) ∷ (codes "batch=" ++ decimal batch) ∷ []) ≡ Some (form.Reader ring tries batch)
@@ -175,7 +176,7 @@ switch-takes ws f e =
     let a = other_then [] (codes "idle") ws _ f e in
     let z = end_then a.rest _ f a.then in
     let words = more (codes "switch") ws _ (a.words ∙ more _ a.rest [] z.words) in
-    subst (IsCpuSpelled (codes "switch") ws) (some_is (form.Switch a.n) f z.then) (a.fits, words)
+    subst (IsCpuSpelled (codes "switch") ws) (same_Some (form.Switch a.n) f z.then) (a.fits, words)
 
 pub switch-again : (task : Option ℕ) → IfSome task form.IsNumber → switch_at (form.number_or (codes "idle") task ∷ []) ≡ Some (form.Switch task)
 unfolding switch_at
@@ -183,10 +184,10 @@ switch-again task h = rw (decimal_or-again [] (codes "idle") task [] no_number_i
 
 mode-takes : (word : List ℕ) (m : Mode) → mode_in word ≡ Some m → word ≡ form.mode_text m
 mode-takes word m e = elim (cases_Bool (bytes_eq word (codes "user"))) [
-  | inl u ↦ subst (λ x. word ≡ form.mode_text x) (some_is mode.User m (rw u at e)) (bytes_eq-true _ _ u)
+  | inl u ↦ subst (λ x. word ≡ form.mode_text x) (same_Some mode.User m (rw u at e)) (bytes_eq-true _ _ u)
   | inr n ↦ elim (cases_Bool (bytes_eq word (codes "kernel"))) [
-    | inl k ↦ subst (λ x. word ≡ form.mode_text x) (some_is mode.Kernel m (rw k at (rw n at e))) (bytes_eq-true _ _ k)
-    | inr f ↦ absurd (none_some m (rw f at (rw n at e)))
+    | inl k ↦ subst (λ x. word ≡ form.mode_text x) (same_Some mode.Kernel m (rw k at (rw n at e))) (bytes_eq-true _ _ k)
+    | inr f ↦ absurd (none-some m (rw f at (rw n at e)))
   ]
 ]
 
@@ -210,7 +211,7 @@ stretch-takes ws x e =
     let ip = number_if (codes "ip=") 16 16 w.rest in
     let t = number_if-takes (codes "ip=") 16 16 w.rest (omega arith) (omega arith) (omega arith) in
     let words : ws ≡ decimal a.n ∷ form.mode_text m.0 ∷ (form.word_if ip.0 form.ip_text ++ ip.1) = a.words ∙ more (decimal a.n) a.rest _ (w.words ∙ (ap (λ (v : List ℕ). v ∷ w.rest) (mode-takes w.n m.0 m.1) ∙ more (form.mode_text m.0) w.rest _ t.1)) in
-    subst (IsStretch ws) {x = ((a.n, m.0, ip.0), ip.1)} (some_is ((a.n, m.0, ip.0), ip.1) x m.2) (record {
+    subst (IsStretch ws) {x = ((a.n, m.0, ip.0), ip.1)} (same_Some ((a.n, m.0, ip.0), ip.1) x m.2) (record {
       length = a.fits;
       ip = t.0;
       no_ip = number_if-none (codes "ip=") 16 16 w.rest;
@@ -231,7 +232,7 @@ ip_first : (ip : Option ℕ) (hits : List form.Hit) → IfSome ip form.IsHexadec
 ip_first (Some n) hits h none = h
 ip_first None [] h none = tt
 ip_first None (g ∷ gs) h none = λ n fits e.
-    none_some (n, map form.hit_text gs) (sym (none refl) ∙ (ap (λ (w : List ℕ). number_at (codes "ip=") 16 16 (w ∷ map form.hit_text gs)) e ∙ hexadecimal-again (codes "ip=") n (map form.hit_text gs) fits))
+    none-some (n, map form.hit_text gs) (sym (none refl) ∙ (ap (λ (w : List ℕ). number_at (codes "ip=") 16 16 (w ∷ map form.hit_text gs)) e ∙ hexadecimal-again (codes "ip=") n (map form.hit_text gs) fits))
 
 ip_fits : (ip : Option ℕ) (hits : List form.Hit) → form.HasIpFirst ip hits → IfSome ip form.IsHexadecimal
 ip_fits (Some n) hits h = h
@@ -260,7 +261,7 @@ work-takes ws y e =
     let h = each-takes hit_in form.IsHit form.hit_text hit-takes s.0.1 hs.0 hs.1 in
     let words : ws ≡ decimal s.0.0.0 ∷ form.mode_text s.0.0.1 ∷ (form.word_if s.0.0.2 form.ip_text ++ map form.hit_text hs.0) = t.words ∙ ap (λ (r : List (List ℕ)). decimal s.0.0.0 ∷ form.mode_text s.0.0.1 ∷ (form.word_if s.0.0.2 form.ip_text ++ r)) h.1 in
     let none : s.0.0.2 ≡ None → number_at (codes "ip=") 16 16 (map form.hit_text hs.0) ≡ None = λ n. ap (number_at (codes "ip=") 16 16) (sym h.1) ∙ t.no_ip n in
-    subst (λ w. IsCpuSpelled (codes "work") ws (form.Work w)) (some_is _ y hs.2) (record { length = t.length; ip = ip_first s.0.0.2 hs.0 t.ip none; hits = h.0 }, more (codes "work") ws _ words)
+    subst (λ w. IsCpuSpelled (codes "work") ws (form.Work w)) (same_Some _ y hs.2) (record { length = t.length; ip = ip_first s.0.0.2 hs.0 t.ip none; hits = h.0 }, more (codes "work") ws _ words)
 
 pub work-again : (w : Working) → form.IsWorking w → work_at (decimal w.length ∷ form.mode_text w.mode ∷ (form.word_if w.ip form.ip_text ++ map form.hit_text w.hits)) ≡ Some w
 unfolding work_at

@@ -1,5 +1,6 @@
 -- A whole line: what is read is of the form, and what is of the form is read. So a line is of at most one form.
 use Rattle.std.proofs.Common.{◌≡◌, ℕ, Bool, List, [], ◌∷◌, Option, Some, None, option_map, inl, inr, refl, sym, ap, subst, ◌∙◌}
+use Rattle.std.proofs.lemmas.Option.{same_Some, none-some}
 use Rattle.std.specs.Prelude.{codes, decimal}
 use Rattle.std.specs.Str.{bytes_eq}
 use Rattle.std.proofs.lemmas.Bool.{cases_Bool}
@@ -11,7 +12,7 @@ use Rattle.line_forms.specs.declared.keyword.Keyword.TheVariants as keyword
 use Rattle.line_forms.specs.Keywords.{looked_up, declaring_table, processor_table, tool_table, keyword_of}
 use Rattle.line_forms.specs.Bodies.{at_end, first_or, one_number, two_numbers, each_word, act_in, work_at, command_at}
 use Rattle.line_forms.specs.Reading.{versioned, short_cpu_form_at, cpu_form_at, short_tool_form_at, tool_form_at, command_form, pair_form, single_form, numbered_form, declared_at, body_at, form_at}
-use Rattle.line_forms.proofs.Singles.{bind_some, some_is, none_some, bytes_eq-true}
+use Rattle.line_forms.proofs.Singles.{bind_some, bytes_eq-true}
 use Rattle.line_forms.proofs.Sequences.{each-takes, each-again, act-takes, act-again}
 use Rattle.line_forms.proofs.Steps.{end_then, next_then, more, one-takes, one-again, two-takes, two-again}
 use Rattle.line_forms.proofs.Grammar.{IsSpelled, IsCpuSpelled, perf-takes, perf-again, machine-takes, machine-again, machine_of_pmus-takes, machine_of_pmus-again, pmu-takes, pmu-again, kind-takes, kind-again, kind_of_pmu-takes, kind_of_pmu-again, ring-takes, ring-again, reader-takes, reader-again, switch-takes, switch-again, work-takes, work-again}
@@ -54,9 +55,9 @@ IsRight [] = Unit {0}
 IsRight (entry ∷ table) = (entry.0 ≡ keyword_text entry.1) × IsRight table
 
 looked-takes : (table : List (List ℕ × Keyword)) (word : List ℕ) (k : Keyword) → IsRight table → looked_up table word ≡ Some k → word ≡ keyword_text k
-looked-takes [] word k right e = absurd (none_some k e)
+looked-takes [] word k right e = absurd (none-some k e)
 looked-takes (entry ∷ table) word k right e = elim (cases_Bool (bytes_eq word entry.0)) [
-  | inl t ↦ bytes_eq-true word entry.0 t ∙ (right.0 ∙ ap keyword_text (some_is entry.1 k (rw t at e)))
+  | inl t ↦ bytes_eq-true word entry.0 t ∙ (right.0 ∙ ap keyword_text (same_Some entry.1 k (rw t at e)))
   | inr f ↦ looked-takes table word k right.1 (rw f at e)
 ]
 
@@ -90,11 +91,11 @@ record Made {A B : Type 0} (make : A → B) (read : Option A) (y : B) : Type 0 w
   is : make x ≡ y
 
 made_of : {A B : Type 0} (make : A → B) (read : Option A) (y : B) → option_map make read ≡ Some y → Made make read y
-made_of make (Some x) y e = record { x = x; was = refl; is = some_is (make x) y e }
-made_of make None y e = absurd (none_some y e)
+made_of make (Some x) y e = record { x = x; was = refl; is = same_Some (make x) y e }
+made_of make None y e = absurd (none-some y e)
 
 alone-takes : {A : Type 0} (ws : List (List ℕ)) (a b : A) → at_end ws a ≡ Some b → (ws ≡ []) × (a ≡ b)
-alone-takes ws a b e = let z = end_then ws (λ _. Some a) b e in (z.words, some_is a b z.then)
+alone-takes ws a b e = let z = end_then ws (λ _. Some a) b e in (z.words, same_Some a b z.then)
 
 short_cpu-takes : (k : Keyword) (ws : List (List ℕ)) (f : CpuForm) → short_cpu_form_at k ws ≡ Some f → IsCpuSpelled (keyword_text k) ws f
 unfolding short_cpu_form_at keyword_text
@@ -105,29 +106,29 @@ short_cpu-takes keyword.Fork ws f e =
     let t = one-takes ws m.x m.was in
     subst (IsCpuSpelled (codes "fork") ws) m.is (t.0, more (codes "fork") ws _ t.1)
 short_cpu-takes keyword.Exit ws f e = let z = alone-takes ws form.Exit f e in subst (IsCpuSpelled (codes "exit") ws) z.1 (tt, more (codes "exit") ws [] z.0)
-short_cpu-takes keyword.Perf ws f e = absurd (none_some f e)
-short_cpu-takes keyword.Machine ws f e = absurd (none_some f e)
-short_cpu-takes keyword.Pmu ws f e = absurd (none_some f e)
-short_cpu-takes keyword.Kind ws f e = absurd (none_some f e)
-short_cpu-takes keyword.Task ws f e = absurd (none_some f e)
-short_cpu-takes keyword.Ring ws f e = absurd (none_some f e)
-short_cpu-takes keyword.Processor ws f e = absurd (none_some f e)
-short_cpu-takes keyword.Work ws f e = absurd (none_some f e)
-short_cpu-takes keyword.Tool ws f e = absurd (none_some f e)
-short_cpu-takes keyword.Open ws f e = absurd (none_some f e)
-short_cpu-takes keyword.Enable ws f e = absurd (none_some f e)
-short_cpu-takes keyword.Disable ws f e = absurd (none_some f e)
-short_cpu-takes keyword.Reset ws f e = absurd (none_some f e)
-short_cpu-takes keyword.Period ws f e = absurd (none_some f e)
-short_cpu-takes keyword.Read ws f e = absurd (none_some f e)
-short_cpu-takes keyword.Map ws f e = absurd (none_some f e)
-short_cpu-takes keyword.Output ws f e = absurd (none_some f e)
-short_cpu-takes keyword.Close ws f e = absurd (none_some f e)
-short_cpu-takes keyword.Why ws f e = absurd (none_some f e)
-short_cpu-takes keyword.Seats ws f e = absurd (none_some f e)
-short_cpu-takes keyword.Reader ws f e = absurd (none_some f e)
-short_cpu-takes keyword.Order ws f e = absurd (none_some f e)
-short_cpu-takes keyword.End ws f e = absurd (none_some f e)
+short_cpu-takes keyword.Perf ws f e = absurd (none-some f e)
+short_cpu-takes keyword.Machine ws f e = absurd (none-some f e)
+short_cpu-takes keyword.Pmu ws f e = absurd (none-some f e)
+short_cpu-takes keyword.Kind ws f e = absurd (none-some f e)
+short_cpu-takes keyword.Task ws f e = absurd (none-some f e)
+short_cpu-takes keyword.Ring ws f e = absurd (none-some f e)
+short_cpu-takes keyword.Processor ws f e = absurd (none-some f e)
+short_cpu-takes keyword.Work ws f e = absurd (none-some f e)
+short_cpu-takes keyword.Tool ws f e = absurd (none-some f e)
+short_cpu-takes keyword.Open ws f e = absurd (none-some f e)
+short_cpu-takes keyword.Enable ws f e = absurd (none-some f e)
+short_cpu-takes keyword.Disable ws f e = absurd (none-some f e)
+short_cpu-takes keyword.Reset ws f e = absurd (none-some f e)
+short_cpu-takes keyword.Period ws f e = absurd (none-some f e)
+short_cpu-takes keyword.Read ws f e = absurd (none-some f e)
+short_cpu-takes keyword.Map ws f e = absurd (none-some f e)
+short_cpu-takes keyword.Output ws f e = absurd (none-some f e)
+short_cpu-takes keyword.Close ws f e = absurd (none-some f e)
+short_cpu-takes keyword.Why ws f e = absurd (none-some f e)
+short_cpu-takes keyword.Seats ws f e = absurd (none-some f e)
+short_cpu-takes keyword.Reader ws f e = absurd (none-some f e)
+short_cpu-takes keyword.Order ws f e = absurd (none-some f e)
+short_cpu-takes keyword.End ws f e = absurd (none-some f e)
 
 cpu-takes : (k : Keyword) (ws : List (List ℕ)) (f : CpuForm) → cpu_form_at k ws ≡ Some f → IsCpuSpelled (keyword_text k) ws f
 unfolding cpu_form_at keyword_text
@@ -182,33 +183,33 @@ single-takes ws f n e make word fits words is =
 
 short_tool-takes : (k : Keyword) (ws : List (List ℕ)) (f : ToolForm) → short_tool_form_at k ws ≡ Some f → IsToolSpelled (keyword_text k) ws f
 unfolding short_tool_form_at keyword_text
-short_tool-takes keyword.Enable ws f e = let b = bind_some (command_at ws) (command_form keyword.Enable) f e in commanded-takes keyword.Enable ws f b.0 b.1 form.Enable (codes "enable") (λ n g h. h) (λ n g. refl) (some_is _ f b.2)
-short_tool-takes keyword.Disable ws f e = let b = bind_some (command_at ws) (command_form keyword.Disable) f e in commanded-takes keyword.Disable ws f b.0 b.1 form.Disable (codes "disable") (λ n g h. h) (λ n g. refl) (some_is _ f b.2)
-short_tool-takes keyword.Reset ws f e = let b = bind_some (command_at ws) (command_form keyword.Reset) f e in commanded-takes keyword.Reset ws f b.0 b.1 form.Reset (codes "reset") (λ n g h. h) (λ n g. refl) (some_is _ f b.2)
-short_tool-takes keyword.Period ws f e = let b = bind_some (two_numbers ws) (pair_form keyword.Period) f e in paired-takes ws f b.0 b.1 form.Period (codes "period") (λ n m h i. (h, i)) (λ n m. refl) (some_is _ f b.2)
-short_tool-takes keyword.Map ws f e = let b = bind_some (two_numbers ws) (pair_form keyword.Map) f e in paired-takes ws f b.0 b.1 form.Map (codes "map") (λ n m h i. (h, i)) (λ n m. refl) (some_is _ f b.2)
-short_tool-takes keyword.Output ws f e = let b = bind_some (two_numbers ws) (pair_form keyword.Output) f e in paired-takes ws f b.0 b.1 form.Output (codes "output") (λ n m h i. (h, i)) (λ n m. refl) (some_is _ f b.2)
-short_tool-takes keyword.Close ws f e = let b = bind_some (one_number ws) (single_form keyword.Close) f e in single-takes ws f b.0 b.1 form.Close (codes "close") (λ n h. h) (λ n. refl) (some_is _ f b.2)
-short_tool-takes keyword.Why ws f e = let b = bind_some (one_number ws) (single_form keyword.Why) f e in single-takes ws f b.0 b.1 form.Why (codes "why") (λ n h. h) (λ n. refl) (some_is _ f b.2)
-short_tool-takes keyword.Seats ws f e = let b = bind_some (one_number ws) (single_form keyword.Seats) f e in single-takes ws f b.0 b.1 form.Seats (codes "seats") (λ n h. h) (λ n. refl) (some_is _ f b.2)
+short_tool-takes keyword.Enable ws f e = let b = bind_some (command_at ws) (command_form keyword.Enable) f e in commanded-takes keyword.Enable ws f b.0 b.1 form.Enable (codes "enable") (λ n g h. h) (λ n g. refl) (same_Some _ f b.2)
+short_tool-takes keyword.Disable ws f e = let b = bind_some (command_at ws) (command_form keyword.Disable) f e in commanded-takes keyword.Disable ws f b.0 b.1 form.Disable (codes "disable") (λ n g h. h) (λ n g. refl) (same_Some _ f b.2)
+short_tool-takes keyword.Reset ws f e = let b = bind_some (command_at ws) (command_form keyword.Reset) f e in commanded-takes keyword.Reset ws f b.0 b.1 form.Reset (codes "reset") (λ n g h. h) (λ n g. refl) (same_Some _ f b.2)
+short_tool-takes keyword.Period ws f e = let b = bind_some (two_numbers ws) (pair_form keyword.Period) f e in paired-takes ws f b.0 b.1 form.Period (codes "period") (λ n m h i. (h, i)) (λ n m. refl) (same_Some _ f b.2)
+short_tool-takes keyword.Map ws f e = let b = bind_some (two_numbers ws) (pair_form keyword.Map) f e in paired-takes ws f b.0 b.1 form.Map (codes "map") (λ n m h i. (h, i)) (λ n m. refl) (same_Some _ f b.2)
+short_tool-takes keyword.Output ws f e = let b = bind_some (two_numbers ws) (pair_form keyword.Output) f e in paired-takes ws f b.0 b.1 form.Output (codes "output") (λ n m h i. (h, i)) (λ n m. refl) (same_Some _ f b.2)
+short_tool-takes keyword.Close ws f e = let b = bind_some (one_number ws) (single_form keyword.Close) f e in single-takes ws f b.0 b.1 form.Close (codes "close") (λ n h. h) (λ n. refl) (same_Some _ f b.2)
+short_tool-takes keyword.Why ws f e = let b = bind_some (one_number ws) (single_form keyword.Why) f e in single-takes ws f b.0 b.1 form.Why (codes "why") (λ n h. h) (λ n. refl) (same_Some _ f b.2)
+short_tool-takes keyword.Seats ws f e = let b = bind_some (one_number ws) (single_form keyword.Seats) f e in single-takes ws f b.0 b.1 form.Seats (codes "seats") (λ n h. h) (λ n. refl) (same_Some _ f b.2)
 short_tool-takes keyword.Read ws f e = read-takes ws f e
-short_tool-takes keyword.Perf ws f e = absurd (none_some f e)
-short_tool-takes keyword.Machine ws f e = absurd (none_some f e)
-short_tool-takes keyword.Pmu ws f e = absurd (none_some f e)
-short_tool-takes keyword.Kind ws f e = absurd (none_some f e)
-short_tool-takes keyword.Task ws f e = absurd (none_some f e)
-short_tool-takes keyword.Ring ws f e = absurd (none_some f e)
-short_tool-takes keyword.Processor ws f e = absurd (none_some f e)
-short_tool-takes keyword.Switch ws f e = absurd (none_some f e)
-short_tool-takes keyword.Work ws f e = absurd (none_some f e)
-short_tool-takes keyword.Tick ws f e = absurd (none_some f e)
-short_tool-takes keyword.Fork ws f e = absurd (none_some f e)
-short_tool-takes keyword.Exit ws f e = absurd (none_some f e)
-short_tool-takes keyword.Tool ws f e = absurd (none_some f e)
-short_tool-takes keyword.Open ws f e = absurd (none_some f e)
-short_tool-takes keyword.Reader ws f e = absurd (none_some f e)
-short_tool-takes keyword.Order ws f e = absurd (none_some f e)
-short_tool-takes keyword.End ws f e = absurd (none_some f e)
+short_tool-takes keyword.Perf ws f e = absurd (none-some f e)
+short_tool-takes keyword.Machine ws f e = absurd (none-some f e)
+short_tool-takes keyword.Pmu ws f e = absurd (none-some f e)
+short_tool-takes keyword.Kind ws f e = absurd (none-some f e)
+short_tool-takes keyword.Task ws f e = absurd (none-some f e)
+short_tool-takes keyword.Ring ws f e = absurd (none-some f e)
+short_tool-takes keyword.Processor ws f e = absurd (none-some f e)
+short_tool-takes keyword.Switch ws f e = absurd (none-some f e)
+short_tool-takes keyword.Work ws f e = absurd (none-some f e)
+short_tool-takes keyword.Tick ws f e = absurd (none-some f e)
+short_tool-takes keyword.Fork ws f e = absurd (none-some f e)
+short_tool-takes keyword.Exit ws f e = absurd (none-some f e)
+short_tool-takes keyword.Tool ws f e = absurd (none-some f e)
+short_tool-takes keyword.Open ws f e = absurd (none-some f e)
+short_tool-takes keyword.Reader ws f e = absurd (none-some f e)
+short_tool-takes keyword.Order ws f e = absurd (none-some f e)
+short_tool-takes keyword.End ws f e = absurd (none-some f e)
 
 tool-takes : (k : Keyword) (ws : List (List ℕ)) (f : ToolForm) → tool_form_at k ws ≡ Some f → IsToolSpelled (keyword_text k) ws f
 unfolding tool_form_at keyword_text
@@ -247,55 +248,55 @@ versioned-takes form.One keyword.Kind ws f e = kind-takes ws f e
 versioned-takes form.Two keyword.Machine ws f e = machine_of_pmus-takes ws f e
 versioned-takes form.Two keyword.Kind ws f e = kind_of_pmu-takes ws f e
 versioned-takes form.Two keyword.Pmu ws f e = pmu-takes ws f e
-versioned-takes form.One keyword.Perf ws f e = absurd (none_some f e)
-versioned-takes form.One keyword.Pmu ws f e = absurd (none_some f e)
-versioned-takes form.One keyword.Task ws f e = absurd (none_some f e)
-versioned-takes form.One keyword.Ring ws f e = absurd (none_some f e)
-versioned-takes form.One keyword.Processor ws f e = absurd (none_some f e)
-versioned-takes form.One keyword.Switch ws f e = absurd (none_some f e)
-versioned-takes form.One keyword.Work ws f e = absurd (none_some f e)
-versioned-takes form.One keyword.Tick ws f e = absurd (none_some f e)
-versioned-takes form.One keyword.Fork ws f e = absurd (none_some f e)
-versioned-takes form.One keyword.Exit ws f e = absurd (none_some f e)
-versioned-takes form.One keyword.Tool ws f e = absurd (none_some f e)
-versioned-takes form.One keyword.Open ws f e = absurd (none_some f e)
-versioned-takes form.One keyword.Enable ws f e = absurd (none_some f e)
-versioned-takes form.One keyword.Disable ws f e = absurd (none_some f e)
-versioned-takes form.One keyword.Reset ws f e = absurd (none_some f e)
-versioned-takes form.One keyword.Period ws f e = absurd (none_some f e)
-versioned-takes form.One keyword.Read ws f e = absurd (none_some f e)
-versioned-takes form.One keyword.Map ws f e = absurd (none_some f e)
-versioned-takes form.One keyword.Output ws f e = absurd (none_some f e)
-versioned-takes form.One keyword.Close ws f e = absurd (none_some f e)
-versioned-takes form.One keyword.Why ws f e = absurd (none_some f e)
-versioned-takes form.One keyword.Seats ws f e = absurd (none_some f e)
-versioned-takes form.One keyword.Reader ws f e = absurd (none_some f e)
-versioned-takes form.One keyword.Order ws f e = absurd (none_some f e)
-versioned-takes form.One keyword.End ws f e = absurd (none_some f e)
-versioned-takes form.Two keyword.Perf ws f e = absurd (none_some f e)
-versioned-takes form.Two keyword.Task ws f e = absurd (none_some f e)
-versioned-takes form.Two keyword.Ring ws f e = absurd (none_some f e)
-versioned-takes form.Two keyword.Processor ws f e = absurd (none_some f e)
-versioned-takes form.Two keyword.Switch ws f e = absurd (none_some f e)
-versioned-takes form.Two keyword.Work ws f e = absurd (none_some f e)
-versioned-takes form.Two keyword.Tick ws f e = absurd (none_some f e)
-versioned-takes form.Two keyword.Fork ws f e = absurd (none_some f e)
-versioned-takes form.Two keyword.Exit ws f e = absurd (none_some f e)
-versioned-takes form.Two keyword.Tool ws f e = absurd (none_some f e)
-versioned-takes form.Two keyword.Open ws f e = absurd (none_some f e)
-versioned-takes form.Two keyword.Enable ws f e = absurd (none_some f e)
-versioned-takes form.Two keyword.Disable ws f e = absurd (none_some f e)
-versioned-takes form.Two keyword.Reset ws f e = absurd (none_some f e)
-versioned-takes form.Two keyword.Period ws f e = absurd (none_some f e)
-versioned-takes form.Two keyword.Read ws f e = absurd (none_some f e)
-versioned-takes form.Two keyword.Map ws f e = absurd (none_some f e)
-versioned-takes form.Two keyword.Output ws f e = absurd (none_some f e)
-versioned-takes form.Two keyword.Close ws f e = absurd (none_some f e)
-versioned-takes form.Two keyword.Why ws f e = absurd (none_some f e)
-versioned-takes form.Two keyword.Seats ws f e = absurd (none_some f e)
-versioned-takes form.Two keyword.Reader ws f e = absurd (none_some f e)
-versioned-takes form.Two keyword.Order ws f e = absurd (none_some f e)
-versioned-takes form.Two keyword.End ws f e = absurd (none_some f e)
+versioned-takes form.One keyword.Perf ws f e = absurd (none-some f e)
+versioned-takes form.One keyword.Pmu ws f e = absurd (none-some f e)
+versioned-takes form.One keyword.Task ws f e = absurd (none-some f e)
+versioned-takes form.One keyword.Ring ws f e = absurd (none-some f e)
+versioned-takes form.One keyword.Processor ws f e = absurd (none-some f e)
+versioned-takes form.One keyword.Switch ws f e = absurd (none-some f e)
+versioned-takes form.One keyword.Work ws f e = absurd (none-some f e)
+versioned-takes form.One keyword.Tick ws f e = absurd (none-some f e)
+versioned-takes form.One keyword.Fork ws f e = absurd (none-some f e)
+versioned-takes form.One keyword.Exit ws f e = absurd (none-some f e)
+versioned-takes form.One keyword.Tool ws f e = absurd (none-some f e)
+versioned-takes form.One keyword.Open ws f e = absurd (none-some f e)
+versioned-takes form.One keyword.Enable ws f e = absurd (none-some f e)
+versioned-takes form.One keyword.Disable ws f e = absurd (none-some f e)
+versioned-takes form.One keyword.Reset ws f e = absurd (none-some f e)
+versioned-takes form.One keyword.Period ws f e = absurd (none-some f e)
+versioned-takes form.One keyword.Read ws f e = absurd (none-some f e)
+versioned-takes form.One keyword.Map ws f e = absurd (none-some f e)
+versioned-takes form.One keyword.Output ws f e = absurd (none-some f e)
+versioned-takes form.One keyword.Close ws f e = absurd (none-some f e)
+versioned-takes form.One keyword.Why ws f e = absurd (none-some f e)
+versioned-takes form.One keyword.Seats ws f e = absurd (none-some f e)
+versioned-takes form.One keyword.Reader ws f e = absurd (none-some f e)
+versioned-takes form.One keyword.Order ws f e = absurd (none-some f e)
+versioned-takes form.One keyword.End ws f e = absurd (none-some f e)
+versioned-takes form.Two keyword.Perf ws f e = absurd (none-some f e)
+versioned-takes form.Two keyword.Task ws f e = absurd (none-some f e)
+versioned-takes form.Two keyword.Ring ws f e = absurd (none-some f e)
+versioned-takes form.Two keyword.Processor ws f e = absurd (none-some f e)
+versioned-takes form.Two keyword.Switch ws f e = absurd (none-some f e)
+versioned-takes form.Two keyword.Work ws f e = absurd (none-some f e)
+versioned-takes form.Two keyword.Tick ws f e = absurd (none-some f e)
+versioned-takes form.Two keyword.Fork ws f e = absurd (none-some f e)
+versioned-takes form.Two keyword.Exit ws f e = absurd (none-some f e)
+versioned-takes form.Two keyword.Tool ws f e = absurd (none-some f e)
+versioned-takes form.Two keyword.Open ws f e = absurd (none-some f e)
+versioned-takes form.Two keyword.Enable ws f e = absurd (none-some f e)
+versioned-takes form.Two keyword.Disable ws f e = absurd (none-some f e)
+versioned-takes form.Two keyword.Reset ws f e = absurd (none-some f e)
+versioned-takes form.Two keyword.Period ws f e = absurd (none-some f e)
+versioned-takes form.Two keyword.Read ws f e = absurd (none-some f e)
+versioned-takes form.Two keyword.Map ws f e = absurd (none-some f e)
+versioned-takes form.Two keyword.Output ws f e = absurd (none-some f e)
+versioned-takes form.Two keyword.Close ws f e = absurd (none-some f e)
+versioned-takes form.Two keyword.Why ws f e = absurd (none-some f e)
+versioned-takes form.Two keyword.Seats ws f e = absurd (none-some f e)
+versioned-takes form.Two keyword.Reader ws f e = absurd (none-some f e)
+versioned-takes form.Two keyword.Order ws f e = absurd (none-some f e)
+versioned-takes form.Two keyword.End ws f e = absurd (none-some f e)
 
 numbered-takes : (v : Version) (ws : List (List ℕ)) (f : Form) (n : ℕ) → one_number ws ≡ Some n → (make : ℕ → Form) → (word : List ℕ)
     → ((n : ℕ) → form.IsNumber n → form.IsOfVersion v (make n) × form.IsSpelling (make n)) → ((n : ℕ) → form.form_words (make n) ≡ word ∷ decimal n ∷ []) → make n ≡ f → form.IsOfVersion v f × IsSpelled word ws f
@@ -312,9 +313,9 @@ declared-takes v keyword.Reader ws f e = reader-takes v ws f e
 declared-takes v keyword.End ws f e =
     let z = alone-takes ws form.End f e in
     subst (λ g. form.IsOfVersion v g × IsSpelled (codes "end") ws g) z.1 (tt, (tt, more (codes "end") ws [] z.0))
-declared-takes v keyword.Task ws f e = let b = bind_some (one_number ws) (numbered_form keyword.Task) f e in numbered-takes v ws f b.0 b.1 form.Task (codes "task") (λ n h. (tt, h)) (λ n. refl) (some_is _ f b.2)
-declared-takes v keyword.Processor ws f e = let b = bind_some (one_number ws) (numbered_form keyword.Processor) f e in numbered-takes v ws f b.0 b.1 form.Processor (codes "processor") (λ n h. (tt, h)) (λ n. refl) (some_is _ f b.2)
-declared-takes v keyword.Tool ws f e = let b = bind_some (one_number ws) (numbered_form keyword.Tool) f e in numbered-takes v ws f b.0 b.1 form.Tool (codes "tool") (λ n h. (tt, h)) (λ n. refl) (some_is _ f b.2)
+declared-takes v keyword.Task ws f e = let b = bind_some (one_number ws) (numbered_form keyword.Task) f e in numbered-takes v ws f b.0 b.1 form.Task (codes "task") (λ n h. (tt, h)) (λ n. refl) (same_Some _ f b.2)
+declared-takes v keyword.Processor ws f e = let b = bind_some (one_number ws) (numbered_form keyword.Processor) f e in numbered-takes v ws f b.0 b.1 form.Processor (codes "processor") (λ n h. (tt, h)) (λ n. refl) (same_Some _ f b.2)
+declared-takes v keyword.Tool ws f e = let b = bind_some (one_number ws) (numbered_form keyword.Tool) f e in numbered-takes v ws f b.0 b.1 form.Tool (codes "tool") (λ n h. (tt, h)) (λ n. refl) (same_Some _ f b.2)
 declared-takes v keyword.Machine ws f e = versioned-takes v keyword.Machine ws f e
 declared-takes v keyword.Pmu ws f e = versioned-takes v keyword.Pmu ws f e
 declared-takes v keyword.Kind ws f e = versioned-takes v keyword.Kind ws f e
@@ -439,4 +440,4 @@ form-again v ws f h = ap (form_at v) h.is ∙ spelled-again v f h.of_version h.s
 
 -- a line is of at most one form
 pub one_form : (v : Version) (ws : List (List ℕ)) (f g : Form) → IsOfForm v ws f → IsOfForm v ws g → f ≡ g
-one_form v ws f g a b = some_is f g (sym (form-again v ws f a) ∙ form-again v ws g b)
+one_form v ws f g a b = same_Some f g (sym (form-again v ws f a) ∙ form-again v ws g b)

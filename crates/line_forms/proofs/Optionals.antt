@@ -1,5 +1,6 @@
 -- Words that may be missing: what is read is what is spelled so, and what is spelled so is read.
 use Rattle.std.proofs.Common.{◌≡◌, ℕ, ◌+◌, ◌*◌, ◌^◌, ◌<◌, ◌≤◌, Bool, true, false, ◌&&◌, ◌||◌, eqb, List, [], ◌∷◌, ◌++◌, length, Option, Some, None, inl, inr, refl, sym, ap, subst, ◌∙◌, arith}
+use Rattle.std.proofs.lemmas.Option.{same_Some}
 use Rattle.std.specs.Prelude.{codes, IfSome}
 use Rattle.std.specs.List.{join_with_byte}
 use Rattle.std.specs.Str.{bytes_eq}
@@ -8,9 +9,9 @@ use Rattle.std.proofs.lemmas.Bool.{cases_Bool, cases_lt, and_parts, agree_below_
 use Rattle.script_spec.specs.Lines.{pieces, put_before}
 use Rattle.script_spec.specs.Forms as form
 use Rattle.line_forms.specs.Words.{◌>>=◌, cut, strip, next_of, end_of}
-use Rattle.line_forms.specs.Leaves.{number_at, number_if, word_if, bit, flags, flags_at, flags_if}
+use Rattle.line_forms.specs.Leaves.{number_at, number_if, word_if, bit, flags, flags_in, flags_at, flags_if}
 use Rattle.line_forms.proofs.Cuts.{pieces_cut, pieces_behind}
-use Rattle.line_forms.proofs.Singles.{bind_some, some_is, next_takes, end_takes, strip_takes, strip_again, bytes_eq-true, number_at-takes, number_at-again}
+use Rattle.line_forms.proofs.Singles.{bind_some, next_takes, end_takes, strip_takes, strip_again, bytes_eq-true, number_at-takes, number_at-again}
 
 -- ---- numbers
 
@@ -79,7 +80,7 @@ names a b c d e f g =
     ++ (word_where e (codes "exclude_user") ++ (word_where f (codes "exclude_kernel") ++ (word_where g (codes "sample_id_all") ++ []))))))
 
 abbrev numbered : Bool → Bool → Bool → Bool → Bool → Bool → Bool → ℕ
-numbered a b c d e f g = bit a + 2 * bit b + 4 * bit c + 8 * bit d + 16 * bit e + 32 * bit f + 64 * bit g
+numbered a b c d e f g = 1 * bit a + (2 * bit b + (4 * bit c + (8 * bit d + (16 * bit e + (32 * bit f + (64 * bit g + 0))))))
 
 -- a test at both values
 abbrev at_both : (Bool → Bool) → Bool
@@ -168,7 +169,7 @@ named text a b c d e f g h =
     ((some, below_128 a b c d e f g), sym (join_pieces 44 text) ∙ (ap (join_with_byte 44) h ∙ all_names a b c d e f g))
 
 pub flags_takes : (text : List ℕ) (n : ℕ) → flags text ≡ Some n → form.AreFlags n × (text ≡ form.flags_text n)
-unfolding flags
+unfolding flags flags_in
 flags_takes text n h =
     let a = word_if (codes "disabled") (pieces 44 text) in
     let b = word_if (codes "inherit") a.1 in
@@ -178,7 +179,7 @@ flags_takes text n h =
     let f = word_if (codes "exclude_kernel") e.1 in
     let g = word_if (codes "sample_id_all") f.1 in
     let last = bind_some (end_of g.1) (λ _. Some (numbered a.0 b.0 c.0 d.0 e.0 f.0 g.0)) n h in
-    let is : numbered a.0 b.0 c.0 d.0 e.0 f.0 g.0 ≡ n = some_is _ n last.2 in
+    let is : numbered a.0 b.0 c.0 d.0 e.0 f.0 g.0 ≡ n = same_Some _ n last.2 in
     let all : pieces 44 text ≡ names a.0 b.0 c.0 d.0 e.0 f.0 g.0 = chain _ _ _ _ _ _ _ _ _ _ _ _ _ _ _ (word_if-takes (codes "disabled") (pieces 44 text)) (word_if-takes (codes "inherit") a.1) (word_if-takes (codes "pinned") b.1) (word_if-takes (codes "exclusive") c.1) (word_if-takes (codes "exclude_user") d.1) (word_if-takes (codes "exclude_kernel") e.1) (word_if-takes (codes "sample_id_all") f.1) (end_takes g.1 last.0 last.1) in
     subst (λ m. form.AreFlags m × (text ≡ form.flags_text m)) is (named text a.0 b.0 c.0 d.0 e.0 f.0 g.0 all)
 
@@ -191,7 +192,7 @@ reads_back : ℕ → Bool
 reads_back n = eqb n 0 || is_some_of (flags (form.flags_text n)) n
 
 all_read_back : agree_below reads_back (λ _. true) 128 ≡ true
-unfolding reads_back is_some_of flags pieces word_if
+unfolding reads_back is_some_of flags flags_in pieces word_if
 all_read_back = refl
 
 some_of : (o : Option ℕ) (n : ℕ) → is_some_of o n ≡ true → o ≡ Some n
@@ -212,7 +213,7 @@ flags_at-takes ws x e =
     let w = bind_some (next_of ws) (λ word. strip (codes "flags=") word.0 >>= λ text. flags text >>= λ n. Some (n, word.1)) x e in
     let t = bind_some (strip (codes "flags=") w.0.0) (λ text. flags text >>= λ n. Some (n, w.0.1)) x w.2 in
     let n = bind_some (flags t.0) (λ n. Some (n, w.0.1)) x t.2 in
-    let is : (n.0, w.0.1) ≡ x = some_is (n.0, w.0.1) x n.2 in
+    let is : (n.0, w.0.1) ≡ x = same_Some (n.0, w.0.1) x n.2 in
     let num = flags_takes t.0 n.0 n.1 in
     let word : w.0.0 ≡ codes "flags=" ++ form.flags_text n.0 = strip_takes (codes "flags=") w.0.0 t.0 t.1 ∙ ap (λ (y : List ℕ). codes "flags=" ++ y) num.1 in
     let words : ws ≡ (codes "flags=" ++ form.flags_text n.0) ∷ w.0.1 = next_takes ws w.0 w.1 ∙ ap (λ (y : List ℕ). y ∷ w.0.1) word in

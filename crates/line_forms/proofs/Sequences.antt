@@ -1,5 +1,6 @@
 -- Occurrences, acts and bytes: what is read is what is spelled so, and what is spelled so is read.
 use Rattle.std.proofs.Common.{◌≡◌, ℕ, ◌+◌, ◌*◌, ◌/◌, ◌%◌, ◌<◌, ◌≤◌, Bool, true, false, ◌&&◌, cond, eqb, leb, ltb, List, [], ◌∷◌, ◌++◌, map, length, All, Option, Some, None, option_map, inl, inr, refl, sym, ap, subst, ◌∙◌, arith, append_assoc}
+use Rattle.std.proofs.lemmas.Option.{same_Some, none-some}
 use Rattle.std.specs.Prelude.{decimal}
 use Rattle.std.specs.List.{list_all, flat_map}
 use Rattle.std.specs.Fmt.{digit_glyph}
@@ -17,7 +18,7 @@ use Rattle.line_forms.specs.Leaves.{digit_of, number, name}
 use Rattle.line_forms.specs.Bodies.{each_word, hit_in, seen_in, act_in, processor_in, tool_in, is_bytes, pair_of, pairs_in, bytes_in}
 use Rattle.line_forms.proofs.Cuts.{cut_here, cut_later, cut_nothing}
 use Rattle.line_forms.proofs.Spelling.{number_takes, number_again, decimal_below, digit_of-glyph, glyph-digit_of}
-use Rattle.line_forms.proofs.Singles.{bind_some, some_is, none_some, name_takes, name_again}
+use Rattle.line_forms.proofs.Singles.{bind_some, name_takes, name_again}
 
 All-none : {A : Type 0} (P : A → Type 0) → All P []
 All-none P = λ k d l. absurd (omega arith)
@@ -28,11 +29,11 @@ pub each-takes : {A : Type 0} (f : List ℕ → Option A) (P : A → Type 0) (sp
     → ((w : List ℕ) (a : A) → f w ≡ Some a → P a × (w ≡ spelled a))
     → (ws : List (List ℕ)) (xs : List A) → each_word f ws ≡ Some xs → All P xs × (ws ≡ map spelled xs)
 unfolding each_word
-each-takes f P spelled one [] xs e = subst (λ ys. All P ys × ([] ≡ map spelled ys)) (some_is [] xs e) (All-none P, refl)
+each-takes f P spelled one [] xs e = subst (λ ys. All P ys × ([] ≡ map spelled ys)) (same_Some [] xs e) (All-none P, refl)
 each-takes f P spelled one (w ∷ ws) xs e =
     let x = bind_some (f w) (λ x. each_word f ws >>= λ ys. Some (x ∷ ys)) xs e in
     let ys = bind_some (each_word f ws) (λ ys. Some (x.0 ∷ ys)) xs x.2 in
-    let is : x.0 ∷ ys.0 ≡ xs = some_is (x.0 ∷ ys.0) xs ys.2 in
+    let is : x.0 ∷ ys.0 ≡ xs = same_Some (x.0 ∷ ys.0) xs ys.2 in
     let first = one w x.0 x.1 in
     let others = each-takes f P spelled one ws ys.0 ys.1 in
     let words : w ∷ ws ≡ spelled x.0 ∷ map spelled ys.0 = ap (λ (v : List ℕ). v ∷ ws) first.1 ∙ ap (λ (vs : List (List ℕ)). spelled x.0 ∷ vs) others.1 in
@@ -48,11 +49,11 @@ each-again f P spelled one (x ∷ xs) h = rw (one x (All-head P x xs h), each-ag
 -- ---- a cut
 
 cut-takes : (c : ℕ) (text back : List ℕ) → (cut c text).1 ≡ Some back → text ≡ (cut c text).0 ++ (c ∷ back)
-cut-takes c [] back e = absurd (none_some back (sym (ap (λ (x : List ℕ × Option (List ℕ)). x.1) (cut_nothing c)) ∙ e))
+cut-takes c [] back e = absurd (none-some back (sym (ap (λ (x : List ℕ × Option (List ℕ)). x.1) (cut_nothing c)) ∙ e))
 cut-takes c (b ∷ bs) back e = elim (cases_Bool (eqb b c)) [
   | inl t ↦
       let h = cut_here c b bs t in
-      let rest : bs ≡ back = some_is bs back (sym (ap (λ (x : List ℕ × Option (List ℕ)). x.1) h) ∙ e) in
+      let rest : bs ≡ back = same_Some bs back (sym (ap (λ (x : List ℕ × Option (List ℕ)). x.1) h) ∙ e) in
       rw (h, rest, eqb-true b c t) refl
   | inr f ↦
       let h = cut_later c b bs f in
@@ -105,7 +106,7 @@ hit-takes word h e =
     let n = bind_some (name (cut 61 word).0) (λ n. number 10 20 t.0 >>= λ times. Some (record { name = n; times = times })) h t.2 in
     let m = bind_some (number 10 20 t.0) (λ times. Some (record { name = n.0; times = times })) h n.2 in
     let made : form.Hit = record { name = n.0; times = m.0 } in
-    let is : made ≡ h = some_is made h m.2 in
+    let is : made ≡ h = same_Some made h m.2 in
     let named = name_takes (cut 61 word).0 n.0 n.1 in
     let num = number_takes 10 20 m.0 t.0 (omega arith) (omega arith) (omega arith) m.1 in
     let whole : word ≡ n.0 ++ (61 ∷ decimal m.0) = cut-takes 61 word t.0 t.1 ∙ (ap (λ (x : List ℕ). x ++ (61 ∷ t.0)) named.1 ∙ ap (λ (x : List ℕ). n.0 ++ (61 ∷ x)) num.1) in
@@ -126,7 +127,7 @@ seen-takes text a e =
     let r = bind_some (number 10 20 (cut 61 text).0) (λ ring. number 10 20 t.0 >>= λ place. Some (act.Seen (record { 0 = ring }) place)) a t.2 in
     let p = bind_some (number 10 20 t.0) (λ place. Some (act.Seen (record { 0 = r.0 }) place)) a r.2 in
     let made : Act = act.Seen (record { 0 = r.0 }) p.0 in
-    let is : made ≡ a = some_is made a p.2 in
+    let is : made ≡ a = same_Some made a p.2 in
     let ring = number_takes 10 20 r.0 (cut 61 text).0 (omega arith) (omega arith) (omega arith) r.1 in
     let place = number_takes 10 20 p.0 t.0 (omega arith) (omega arith) (omega arith) p.1 in
     let whole : text ≡ decimal r.0 ++ (61 ∷ decimal p.0) = cut-takes 61 text t.0 t.1 ∙ (ap (λ (x : List ℕ). x ++ (61 ∷ t.0)) ring.1 ∙ ap (λ (x : List ℕ). decimal r.0 ++ (61 ∷ x)) place.1) in
@@ -146,8 +147,8 @@ numbered-takes make text a e = go (number 10 20 text) refl
     go : (r : Option ℕ) → number 10 20 text ≡ r → (n : ℕ) × form.IsNumber n × (text ≡ decimal n) × (make n ≡ a)
     go (Some n) h =
         let num = number_takes 10 20 n text (omega arith) (omega arith) (omega arith) h in
-        (n, num.0, num.1, some_is (make n) a (sym (ap (option_map make) h) ∙ e))
-    go None h = absurd (none_some a (sym (ap (option_map make) h) ∙ e))
+        (n, num.0, num.1, same_Some (make n) a (sym (ap (option_map make) h) ∙ e))
+    go None h = absurd (none-some a (sym (ap (option_map make) h) ∙ e))
 
 processor-takes : (text : List ℕ) (a : Act) → processor_in text ≡ Some a → form.IsActSpelling a × (112 ∷ text ≡ act_text a)
 processor-takes text a e =
@@ -164,14 +165,14 @@ lettered letter code text a e h = rw e h
 
 pub act-takes : (word : List ℕ) (a : Act) → act_in word ≡ Some a → form.IsActSpelling a × (word ≡ act_text a)
 unfolding act_in
-act-takes [] a e = absurd (none_some a e)
+act-takes [] a e = absurd (none-some a e)
 act-takes (letter ∷ text) a e = elim (cases_Bool (eqb letter 112)) [
   | inl p ↦ lettered letter 112 text a (eqb-true letter 112 p) (processor-takes text a (rw p at e))
   | inr np ↦ elim (cases_Bool (eqb letter 116)) [
     | inl t ↦ lettered letter 116 text a (eqb-true letter 116 t) (tool-takes text a (rw t at (rw np at e)))
     | inr nt ↦ elim (cases_Bool (eqb letter 115)) [
       | inl s ↦ lettered letter 115 text a (eqb-true letter 115 s) (seen-takes text a (rw s at (rw nt at (rw np at e))))
-      | inr ns ↦ absurd (none_some a (rw ns at (rw nt at (rw np at e))))
+      | inr ns ↦ absurd (none-some a (rw ns at (rw nt at (rw np at e))))
     ]
   ]
 ]

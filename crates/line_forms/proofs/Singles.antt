@@ -1,5 +1,6 @@
 -- Single words: what is read is what is spelled so, and what is spelled so is read.
 use Rattle.std.proofs.Common.{◌≡◌, ℕ, ◌^◌, ◌<◌, ◌≤◌, Bool, true, false, ◌&&◌, ◌||◌, cond, eqb, leb, List, [], ◌∷◌, ◌++◌, length, take, drop, All, Option, Some, None, inl, inr, refl, sym, ap, subst, ◌∙◌, arith}
+use Rattle.std.proofs.lemmas.Option.{same_Some, none-some}
 use Rattle.std.specs.Prelude.{nat_eq, decimal, IfSome}
 use Rattle.std.specs.List.{starts_with, list_all}
 use Rattle.std.specs.Str.{bytes_eq}
@@ -23,19 +24,13 @@ pub bind_some : {A B : Type 0} (r : Option A) (f : A → Option B) (y : B) → (
 bind_some (Some x) f y e = (x, refl, e)
 bind_some None f y e = absurd cc
 
-pub some_is : {A : Type 0} (x y : A) → Some x ≡ Some y → x ≡ y
-some_is x y e = cc
-
-pub none_some : {A : Type 0} (x : A) → None ≡ Some x → ⊥
-none_some x e = cc
-
 guard_some : {A : Type 0} (b : Bool) (x y : A) → cond b (Some x) None ≡ Some y → (b ≡ true) × (x ≡ y)
 guard_some true x y e = (refl, cc)
 guard_some false x y e = absurd cc
 
 pub next_takes : (ws : List (List ℕ)) (x : List ℕ × List (List ℕ)) → next_of ws ≡ Some x → ws ≡ x.0 ∷ x.1
 next_takes [] x e = absurd cc
-next_takes (w ∷ ws) x e = ap (λ (y : List ℕ × List (List ℕ)). y.0 ∷ y.1) (some_is (w, ws) x e)
+next_takes (w ∷ ws) x e = ap (λ (y : List ℕ × List (List ℕ)). y.0 ∷ y.1) (same_Some (w, ws) x e)
 
 pub end_takes : (ws : List (List ℕ)) (x : Unit {0}) → end_of ws ≡ Some x → ws ≡ []
 end_takes [] x e = refl
@@ -73,7 +68,7 @@ number_at-takes key b most ws x low high few e =
     let w = bind_some (next_of ws) (λ word. strip key word.0 >>= λ text. number b most text >>= λ n. Some (n, word.1)) x e in
     let t = bind_some (strip key w.0.0) (λ text. number b most text >>= λ n. Some (n, w.0.1)) x w.2 in
     let n = bind_some (number b most t.0) (λ n. Some (n, w.0.1)) x t.2 in
-    let is : (n.0, w.0.1) ≡ x = some_is (n.0, w.0.1) x n.2 in
+    let is : (n.0, w.0.1) ≡ x = same_Some (n.0, w.0.1) x n.2 in
     let num = number_takes b most n.0 t.0 low high few n.1 in
     let word : w.0.0 ≡ key ++ digits b false n.0 = strip_takes key w.0.0 t.0 t.1 ∙ ap (λ (y : List ℕ). key ++ y) num.1 in
     let words : ws ≡ (key ++ digits b false n.0) ∷ w.0.1 = next_takes ws w.0 w.1 ∙ ap (λ (y : List ℕ). y ∷ w.0.1) word in
@@ -150,7 +145,7 @@ name_at-takes key ws x e =
     let w = bind_some (next_of ws) (λ word. strip key word.0 >>= λ text. name text >>= λ n. Some (n, word.1)) x e in
     let t = bind_some (strip key w.0.0) (λ text. name text >>= λ n. Some (n, w.0.1)) x w.2 in
     let n = bind_some (name t.0) (λ n. Some (n, w.0.1)) x t.2 in
-    let is : (n.0, w.0.1) ≡ x = some_is (n.0, w.0.1) x n.2 in
+    let is : (n.0, w.0.1) ≡ x = same_Some (n.0, w.0.1) x n.2 in
     let num = name_takes t.0 n.0 n.1 in
     let word : w.0.0 ≡ key ++ n.0 = strip_takes key w.0.0 t.0 t.1 ∙ ap (λ (y : List ℕ). key ++ y) num.1 in
     let words : ws ≡ (key ++ n.0) ∷ w.0.1 = next_takes ws w.0 w.1 ∙ ap (λ (y : List ℕ). y ∷ w.0.1) word in
@@ -165,11 +160,11 @@ name_at-again key n ws h = rw (strip_again key n, name_again n h) refl
 other_takes : (text other : List ℕ) (o : Option ℕ) → other_or (bytes_eq text other) (number 10 20 text) ≡ Some o → IfSome o form.IsNumber × (text ≡ form.number_or other o)
 other_takes text other o e = elim (cases_Bool (bytes_eq text other)) [
   | inl t ↦
-      let is : None ≡ o = some_is None o (sym (ap (λ b. other_or b (number 10 20 text)) t) ∙ e) in
+      let is : None ≡ o = same_Some None o (sym (ap (λ b. other_or b (number 10 20 text)) t) ∙ e) in
       subst (λ (p : Option ℕ). IfSome p form.IsNumber × (text ≡ form.number_or other p)) is (tt, bytes_eq-true text other t)
   | inr f ↦
       let m = bind_some (number 10 20 text) (λ m. Some (Some m)) o (sym (ap (λ b. other_or b (number 10 20 text)) f) ∙ e) in
-      let is : Some m.0 ≡ o = some_is (Some m.0) o m.2 in
+      let is : Some m.0 ≡ o = same_Some (Some m.0) o m.2 in
       let num = number_takes 10 20 m.0 text (omega arith) (omega arith) (omega arith) m.1 in
       subst (λ (p : Option ℕ). IfSome p form.IsNumber × (text ≡ form.number_or other p)) is (num.0, num.1)
 ]
@@ -181,7 +176,7 @@ decimal_or-takes key other ws x e =
     let w = bind_some (next_of ws) (λ word. strip key word.0 >>= λ text. other_or (bytes_eq text other) (number 10 20 text) >>= λ n. Some (n, word.1)) x e in
     let t = bind_some (strip key w.0.0) (λ text. other_or (bytes_eq text other) (number 10 20 text) >>= λ n. Some (n, w.0.1)) x w.2 in
     let n = bind_some (other_or (bytes_eq t.0 other) (number 10 20 t.0)) (λ n. Some (n, w.0.1)) x t.2 in
-    let is : (n.0, w.0.1) ≡ x = some_is (n.0, w.0.1) x n.2 in
+    let is : (n.0, w.0.1) ≡ x = same_Some (n.0, w.0.1) x n.2 in
     let num = other_takes t.0 other n.0 n.1 in
     let word : w.0.0 ≡ key ++ form.number_or other n.0 = strip_takes key w.0.0 t.0 t.1 ∙ ap (λ (y : List ℕ). key ++ y) num.1 in
     let words : ws ≡ (key ++ form.number_or other n.0) ∷ w.0.1 = next_takes ws w.0 w.1 ∙ ap (λ (y : List ℕ). y ∷ w.0.1) word in
@@ -191,7 +186,7 @@ other_again : (other : List ℕ) (o : Option ℕ) → number 10 20 other ≡ Non
 other_again other None none h = let t : bytes_eq other other ≡ true = bytes_eq_self other in rw t refl
 other_again other (Some n) none h =
     let num : number 10 20 (decimal n) ≡ Some n = number_again 10 20 n (omega arith) (omega arith) (omega arith) (omega arith) h in
-    let f : bytes_eq (decimal n) other ≡ false = false_from_ne_true _ (λ t. none_some n (sym none ∙ (ap (number 10 20) (sym (bytes_eq-true (decimal n) other t)) ∙ num))) in
+    let f : bytes_eq (decimal n) other ≡ false = false_from_ne_true _ (λ t. none-some n (sym none ∙ (ap (number 10 20) (sym (bytes_eq-true (decimal n) other t)) ∙ num))) in
     rw (f, num) refl
 
 pub decimal_or-again : (key other : List ℕ) (o : Option ℕ) (ws : List (List ℕ)) → number 10 20 other ≡ None → IfSome o form.IsNumber

@@ -1,11 +1,12 @@
 -- One step of reading a line, with what follows: what was read stands there.
 use Rattle.std.proofs.Common.{◌≡◌, ℕ, List, [], ◌∷◌, ◌++◌, Option, Some, refl, ap, ◌∙◌, arith}
+use Rattle.std.proofs.lemmas.Option.{same_Some}
 use Rattle.std.specs.Prelude.{decimal, IfSome}
 use Rattle.script_spec.specs.Forms as form
 use Rattle.line_forms.specs.Words.{◌>>=◌, next_of, end_of}
 use Rattle.line_forms.specs.Leaves.{decimal_at, hexadecimal_at, name_at, decimal_or}
 use Rattle.line_forms.specs.Bodies.{one_number, two_numbers}
-use Rattle.line_forms.proofs.Singles.{bind_some, some_is, next_takes, end_takes, number_at-takes, number_at-again, name_at-takes, decimal_or-takes}
+use Rattle.line_forms.proofs.Singles.{bind_some, next_takes, end_takes, number_at-takes, number_at-again, name_at-takes, decimal_or-takes}
 
 -- a decimal number was read, and then the rest
 pub record Decimal {B : Type 0} (key : List ℕ) (ws : List (List ℕ)) (f : ℕ × List (List ℕ) → Option B) (y : B) : Type 0 where
@@ -98,7 +99,7 @@ unfolding one_number
 one-takes ws n e =
     let a = decimal_then [] ws _ n e in
     let z = end_then a.rest _ n a.then in
-    rw (← some_is a.n n z.then) (a.fits, a.words ∙ more (decimal a.n) a.rest [] z.words)
+    rw (← same_Some a.n n z.then) (a.fits, a.words ∙ more (decimal a.n) a.rest [] z.words)
 
 pub one-again : (n : ℕ) → form.IsNumber n → one_number (decimal n ∷ []) ≡ Some n
 unfolding one_number
@@ -110,7 +111,7 @@ two-takes ws x e =
     let a = decimal_then [] ws _ x e in
     let b = decimal_then [] a.rest _ x a.then in
     let z = end_then b.rest _ x b.then in
-    rw (← some_is (a.n, b.n) x z.then) (a.fits, b.fits, a.words ∙ more (decimal a.n) a.rest _ (b.words ∙ more (decimal b.n) b.rest [] z.words))
+    rw (← same_Some (a.n, b.n) x z.then) (a.fits, b.fits, a.words ∙ more (decimal a.n) a.rest _ (b.words ∙ more (decimal b.n) b.rest [] z.words))
 
 pub two-again : (n m : ℕ) → form.IsNumber n → form.IsNumber m → two_numbers (decimal n ∷ decimal m ∷ []) ≡ Some (n, m)
 unfolding two_numbers

@@ -1,5 +1,6 @@
 -- The forms under a tool, one by one: what is read is of the form, and what is of the form is read.
 use Rattle.std.proofs.Common.{◌≡◌, ℕ, Bool, true, false, List, [], ◌∷◌, ◌++◌, Option, Some, None, refl, sym, ap, subst, ◌∙◌, arith}
+use Rattle.std.proofs.lemmas.Option.{same_Some}
 use Rattle.std.specs.Prelude.{codes, decimal, IfSome}
 use Rattle.std.specs.List.{flat_map}
 use Rattle.std.proofs.lemmas.List.{append-nil}
@@ -8,7 +9,7 @@ use Rattle.script_spec.specs.Forms.{Opening, Asked, ToolForm}
 use Rattle.line_forms.specs.Words.{strip}
 use Rattle.line_forms.specs.Leaves.{name_at, number_at, number_if, word_if, flags_if}
 use Rattle.line_forms.specs.Bodies.{bytes_in, place_at, asked_at, open_kind_at, attr_place_at, open_attr_at, first_or, open_at, command_at, read_at}
-use Rattle.line_forms.proofs.Singles.{bind_some, some_is, strip_takes, strip_again, name_at-again, decimal_or-again}
+use Rattle.line_forms.proofs.Singles.{bind_some, strip_takes, strip_again, name_at-again, decimal_or-again}
 use Rattle.line_forms.proofs.Optionals.{IsNotKeyed, number_at-none, not_keyed_if, number_if-takes, number_if-again, word_where, word_if-takes, flags_if-takes, flags_if-again}
 use Rattle.line_forms.proofs.Sequences.{bytes-takes, bytes-again}
 use Rattle.line_forms.proofs.Grammar.{no_number_all, no_number_any}
@@ -35,7 +36,7 @@ place-takes slot ws x e =
     let t = number_if-takes (codes "leader=") 10 20 b.rest (omega arith) (omega arith) (omega arith) in
     let made : Opening = record { slot = slot; task = a.n; cpu = b.n; leader = l.0 } in
     let words : ws ≡ form.place_words made l.1 = a.words ∙ more _ a.rest _ (b.words ∙ more _ b.rest _ t.1) in
-    subst (IsPlace slot ws) {x = (made, l.1)} (some_is (made, l.1) x b.then) (record { slot_is = refl; task = a.fits; cpu = b.fits; leader = t.0; words = words })
+    subst (IsPlace slot ws) {x = (made, l.1)} (same_Some (made, l.1) x b.then) (record { slot_is = refl; task = a.fits; cpu = b.fits; leader = t.0; words = words })
 
 place-again : (p : Opening) (others : List (List ℕ)) → form.IsOpening p → (p.leader ≡ None → number_at (codes "leader=") 10 20 others ≡ None) → place_at p.slot (form.place_words p others) ≡ Some (p, others)
 unfolding place_at
@@ -64,7 +65,7 @@ asked-takes ws a e =
     let last : f.1 ≡ form.word_if g.0 (λ n. codes "flags=" ++ form.flags_text n) = tg.1 ∙ (ap (λ (r : List (List ℕ)). form.word_if g.0 (λ n. codes "flags=" ++ form.flags_text n) ++ r) z.words ∙ append-nil _) in
     let words : ws ≡ form.asked_words made =
     tp.1 ∙ ap (λ (r : List (List ℕ)). form.word_if p.0 (λ n. codes "period=" ++ decimal n) ++ r) (ts.1 ∙ ap (λ (r : List (List ℕ)). form.word_if s.0 (λ n. codes "sample=" ++ form.hexadecimal n) ++ r) (tf.1 ∙ ap (λ (r : List (List ℕ)). form.word_if f.0 (λ n. codes "format=" ++ form.hexadecimal n) ++ r) last)) in
-    subst (λ b. form.IsAsked b × (ws ≡ form.asked_words b)) {x = made} (some_is made a z.then) (record { period = tp.0; sample = ts.0; format = tf.0; flags = tg.0 }, words)
+    subst (λ b. form.IsAsked b × (ws ≡ form.asked_words b)) {x = made} (same_Some made a z.then) (record { period = tp.0; sample = ts.0; format = tf.0; flags = tg.0 }, words)
 
 not_keyed_last : (key : List ℕ) (o : Option ℕ) (word : ℕ → List ℕ) → ((n : ℕ) → strip key (word n) ≡ None) → IsNotKeyed key (form.word_if o word)
 not_keyed_last key None word h = tt
@@ -124,7 +125,7 @@ open_kind-takes ws f e =
     let ta = asked-takes p.0.1 a.0 a.1 in
     let words : ws ≡ decimal p.0.0.slot ∷ (codes "kind=" ++ n.n) ∷ form.place_words p.0.0 (form.asked_words a.0) =
     s.words ∙ (ap (λ (k : ℕ). decimal k ∷ s.rest) (sym tp.slot_is) ∙ more _ s.rest _ (n.words ∙ more _ n.rest _ (tp.words ∙ ap (form.place_words p.0.0) ta.1))) in
-    subst (IsToolSpelled (codes "open") ws) (some_is (form.OpenKind p.0.0 n.n a.0) f a.2) ((opening_is p.0.0 s.n tp.slot_is s.fits tp.task tp.cpu tp.leader, n.fits, ta.0), more (codes "open") ws _ words)
+    subst (IsToolSpelled (codes "open") ws) (same_Some (form.OpenKind p.0.0 n.n a.0) f a.2) ((opening_is p.0.0 s.n tp.slot_is s.fits tp.task tp.cpu tp.leader, n.fits, ta.0), more (codes "open") ws _ words)
 
 open_kind-again : (p : Opening) (n : List ℕ) (a : Asked) → form.IsOpening p → form.IsWord n → form.IsAsked a
     → open_kind_at (decimal p.slot ∷ (codes "kind=" ++ n) ∷ form.place_words p (form.asked_words a)) ≡ Some (form.OpenKind p n a)
@@ -148,7 +149,7 @@ open_attr-takes ws f e =
     let p = bind_some (place_at s.n w.rest) _ x.0 t.2 in
     let z = end_then p.0.1 _ x.0 p.2 in
     let tp = place-takes s.n w.rest p.0 p.1 in
-    let pair : (p.0.0, t.0) ≡ x.0 = some_is (p.0.0, t.0) x.0 z.then in
+    let pair : (p.0.0, t.0) ≡ x.0 = same_Some (p.0.0, t.0) x.0 z.then in
     let tb = bytes-takes x.0.1 b.0 b.1 in
     let text : t.0 ≡ flat_map form.byte_text b.0 = ap (λ (y : Opening × List ℕ). y.1) pair ∙ tb.1 in
     let place : p.0.0 ≡ x.0.0 = ap (λ (y : Opening × List ℕ). y.0) pair in
@@ -156,7 +157,7 @@ open_attr-takes ws f e =
     let words : ws ≡ decimal p.0.0.slot ∷ (codes "attr=" ++ flat_map form.byte_text b.0) ∷ form.place_words p.0.0 [] =
     s.words ∙ (ap (λ (k : ℕ). decimal k ∷ s.rest) (sym tp.slot_is) ∙ more _ s.rest _ (w.words ∙ (ap (λ (v : List ℕ). v ∷ w.rest) word ∙ more _ w.rest _ (tp.words ∙ ap (form.place_words p.0.0) z.words)))) in
     let made : IsToolSpelled (codes "open") ws (form.OpenAttr p.0.0 b.0) = ((opening_is p.0.0 s.n tp.slot_is s.fits tp.task tp.cpu tp.leader, tb.0), more (codes "open") ws _ words) in
-    subst (IsToolSpelled (codes "open") ws) (ap (λ (q : Opening). form.OpenAttr q b.0) place ∙ some_is (form.OpenAttr x.0.0 b.0) f b.2) made
+    subst (IsToolSpelled (codes "open") ws) (ap (λ (q : Opening). form.OpenAttr q b.0) place ∙ same_Some (form.OpenAttr x.0.0 b.0) f b.2) made
 
 open_attr-again : (p : Opening) (bytes : List ℕ) → form.IsOpening p → form.AreBytes bytes
     → open_attr_at (decimal p.slot ∷ (codes "attr=" ++ flat_map form.byte_text bytes) ∷ form.place_words p []) ≡ Some (form.OpenAttr p bytes)
@@ -201,7 +202,7 @@ command-takes ws x e =
     let g = word_if (codes "group") s.rest in
     let z = end_then g.1 _ x s.then in
     let t : s.rest ≡ form.group_words g.0 = word_if-takes (codes "group") s.rest ∙ (ap (λ (r : List (List ℕ)). word_where g.0 (codes "group") ++ r) z.words ∙ (append-nil _ ∙ group_is g.0)) in
-    subst (λ (y : ℕ × Bool). form.IsNumber y.0 × (ws ≡ decimal y.0 ∷ form.group_words y.1)) {x = (s.n, g.0)} (some_is (s.n, g.0) x z.then) (s.fits, s.words ∙ more _ s.rest _ t)
+    subst (λ (y : ℕ × Bool). form.IsNumber y.0 × (ws ≡ decimal y.0 ∷ form.group_words y.1)) {x = (s.n, g.0)} (same_Some (s.n, g.0) x z.then) (s.fits, s.words ∙ more _ s.rest _ t)
 
 group-again : (b : Bool) → word_if (codes "group") (form.group_words b) ≡ (b, [])
 unfolding word_if
@@ -220,7 +221,7 @@ read-takes ws f e =
     let t = number_if-takes (codes "size=") 10 20 s.rest (omega arith) (omega arith) (omega arith) in
     let z = end_then n.1 _ f s.then in
     let words : ws ≡ decimal s.n ∷ form.word_if n.0 (λ m. codes "size=" ++ decimal m) = s.words ∙ more _ s.rest _ (t.1 ∙ (ap (λ (r : List (List ℕ)). form.word_if n.0 (λ m. codes "size=" ++ decimal m) ++ r) z.words ∙ append-nil _)) in
-    subst (IsToolSpelled (codes "read") ws) (some_is (form.Read s.n n.0) f z.then) ((s.fits, t.0), more (codes "read") ws _ words)
+    subst (IsToolSpelled (codes "read") ws) (same_Some (form.Read s.n n.0) f z.then) ((s.fits, t.0), more (codes "read") ws _ words)
 
 size_last : (o : Option ℕ) → IfSome o form.IsNumber → number_if (codes "size=") 10 20 (form.word_if o (λ n. codes "size=" ++ decimal n)) ≡ (o, [])
 size_last o h =

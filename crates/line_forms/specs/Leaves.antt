@@ -2,6 +2,7 @@
 use Rattle.std.specs.Prelude.{ℕ, ◌+◌, ◌-◌, ◌*◌, Bool, true, false, not, ◌==◌, ◌&&◌, ◌||◌, nat_lt, nat_le, List, [], ◌∷◌, length, slice_index, codes, Option, Some, None, if◌then◌else◌}
 use Rattle.std.specs.List.{list_all}
 use Rattle.std.specs.Str.{bytes_eq}
+use Rattle.perf_base.specs.Flags.{flag_table}
 use Rattle.script_spec.specs.Lines.{pieces}
 use Rattle.line_forms.specs.Words.{◌>>=◌, strip, next_of, end_of}
 
@@ -87,17 +88,23 @@ abbrev pub bit : Bool → ℕ
 bit true = 1
 bit false = 0
 
+-- a flag's bit where its word is next, else 0, and the words behind it
+abbrev pub flag_if : List ℕ → ℕ → List (List ℕ) → ℕ × List (List ℕ)
+flag_if word flag words = (flag * bit (word_if word words).0, (word_if word words).1)
+
+-- the flags of a table, each by its word, which may be missing, and in their order: the bits of those that are there
+unfoldable pub flags_in : List (List ℕ × ℕ) → List (List ℕ) → ℕ × List (List ℕ)
+flags_in [] words = (0, words)
+flags_in (row ∷ rows) words =
+    let flag = flag_if row.0 row.1 words in
+    let others = flags_in rows flag.1 in
+    (flag.0 + others.0, others.1)
+
 -- flags in their order, parted by commas
 unfoldable pub flags : List ℕ → Option ℕ
 flags text =
-    let a = word_if (codes "disabled") (pieces 44 text) in
-    let b = word_if (codes "inherit") a.1 in
-    let c = word_if (codes "pinned") b.1 in
-    let d = word_if (codes "exclusive") c.1 in
-    let e = word_if (codes "exclude_user") d.1 in
-    let f = word_if (codes "exclude_kernel") e.1 in
-    let g = word_if (codes "sample_id_all") f.1 in
-    end_of g.1 >>= λ _. Some (bit a.0 + 2 * bit b.0 + 4 * bit c.0 + 8 * bit d.0 + 16 * bit e.0 + 32 * bit f.0 + 64 * bit g.0)
+    let all = flags_in flag_table (pieces 44 text) in
+    end_of all.1 >>= λ _. Some all.0
 
 unfoldable pub flags_at : List (List ℕ) → Option (ℕ × List (List ℕ))
 flags_at words = do

@@ -9,7 +9,7 @@ ghost use Rattle.line_forms.specs.Leaves as says;
 ghost use Rattle.line_forms.specs.Leaves.{digit_of, value_after};
 
 use crate::words::{Words, skip};
-use perf_base::Name;
+use perf_base::{AttrFlags, Name};
 
 /// The radix of decimal and of hexadecimal numbers, and how many digits they may have.
 const DECIMAL: u8 = 10;
@@ -247,11 +247,17 @@ pub fn word_if<'a>(words: Words<'a>, word: &[u8]) -> (bool, Words<'a>)
     }
 }
 
-fn bit(set: bool) -> u128
-    ensures value { result ≡ says.bit set }
-    ensures most { result ≤ 1 }
+/// A flag's bit where its word is next, else 0, and the words behind it.
+fn flag_if<'a>(words: Words<'a>, word: &[u8], flag: u64) -> (u128, Words<'a>)
+    ensures bit { (result.0, left result.1) ≡ says.flag_if word.now flag (left words.entry) }
+    ensures most { result.0 ≤ flag }
 {
-    u128::from(set)
+    let (is_next, rest) = word_if(words, word);
+    if is_next {
+        (u128::from(flag), rest)
+    } else {
+        (0, rest)
+    }
 }
 
 /// Flags in their order, parted by commas.
@@ -259,24 +265,15 @@ fn bit(set: bool) -> u128
 fn flags(text: &[u8]) -> Option<u128>
     ensures { result ≡ says.flags text.now }
 {
-    let words = Words::of(text, b',');
-    let (disabled, words) = word_if(words, b"disabled");
-    let (inherit, words) = word_if(words, b"inherit");
-    let (pinned, words) = word_if(words, b"pinned");
-    let (exclusive, words) = word_if(words, b"exclusive");
-    let (exclude_user, words) = word_if(words, b"exclude_user");
-    let (exclude_kernel, words) = word_if(words, b"exclude_kernel");
-    let (sample_id_all, words) = word_if(words, b"sample_id_all");
+    let mut words = Words::of(text, b',');
+    let mut bits = 0;
+    for flag in AttrFlags::table() {
+        let (bit, rest) = flag_if(words, flag.name.as_bytes(), flag.value.0);
+        bits += bit;
+        words = rest;
+    }
     words.end()?;
-    Some(
-        bit(disabled)
-            + 2 * bit(inherit)
-            + 4 * bit(pinned)
-            + 8 * bit(exclusive)
-            + 16 * bit(exclude_user)
-            + 32 * bit(exclude_kernel)
-            + 64 * bit(sample_id_all),
-    )
+    Some(bits)
 }
 
 #[tactic(auto, unfolding(crate::specs::Leaves::flags_at))]

@@ -7,10 +7,10 @@ use Rattle.perf_base.specs.declared.numbers.ToolNo.{ToolNo}
 use Rattle.perf_base.specs.declared.lines.CpuLine.{CpuLine}
 use Rattle.perf_base.specs.declared.lines.CpuLine.TheVariants as cpu_line
 use Rattle.perf_base.specs.Scripts.{Scripted, IsScript, IsCpuLine, lines_of_cpu, lines_of_tool}
-use Rattle.stage_spec.specs.FirstCounting.{hits_of, length_of}
+use Rattle.machine.specs.FirstCounting.{hits_of, length_of}
 use Rattle.machine.specs.declared.machine.Machine.TheInside.{Inside}
 use Rattle.std.proofs.lemmas.Option.{slice_get-get_or}
-use Rattle.stage_spec.specs.FirstSteps.{after_work}
+use Rattle.machine.specs.FirstSteps.{after_work}
 use Rattle.machine.specs.Kept.{kept, IsKept}
 
 first_le : (b : ℕ) (xs : List ℕ) → All (λ n. n ≤ b) xs → get_or xs 0 0 ≤ b

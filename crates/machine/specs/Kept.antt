@@ -1,7 +1,7 @@
 -- What a machine keeps true of its numbers. No line does more than a thousand million of anything, and no
 -- processor or tool has more than 16,384 lines.
 use Rattle.std.specs.Prelude.{◌≡◌, ◌*◌, ◌≤◌, length, sum, All}
-use Rattle.stage_spec.specs.FirstProgress.{Progress}
+use Rattle.machine.specs.FirstProgress.{Progress}
 use Rattle.machine.specs.declared.machine.Machine.TheInside.{Inside}
 
 -- what is kept, read off the fields

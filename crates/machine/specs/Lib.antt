@@ -1,1 +1,5 @@
+pub mod FirstCounting
+pub mod FirstProgress
+pub mod FirstReplies
+pub mod FirstSteps
 pub mod Kept

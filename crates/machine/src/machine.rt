@@ -4,10 +4,10 @@ ghost use Rattle.std.specs.Prelude.{◌≡◌, ◌+◌, ◌<◌, ◌↔◌, List
 ghost use Rattle.perf_base.specs.declared.acts.Act.{Act};
 ghost use Rattle.perf_base.specs.declared.acts.Act.TheVariants as act;
 ghost use Rattle.perf_base.specs.Scripts.{lines_of_tool};
-ghost use Rattle.stage_spec.specs.FirstCounting.{IsFirstForm};
-ghost use Rattle.stage_spec.specs.FirstProgress.{IsAfter, HasLine};
-ghost use Rattle.stage_spec.specs.FirstReplies.{reply_of};
-ghost use Rattle.stage_spec.specs.FirstSteps.{act_of, after_work, after_tool, answer_now};
+ghost use Rattle.machine.specs.FirstCounting.{IsFirstForm};
+ghost use Rattle.machine.specs.FirstProgress.{IsAfter, HasLine};
+ghost use Rattle.machine.specs.FirstReplies.{reply_of};
+ghost use Rattle.machine.specs.FirstSteps.{act_of, after_work, after_tool, answer_now};
 
 use crate::shares::added;
 use perf_base::{Actor, CpuNo, NoMemory, Reply, Script, ToolLine, ToolNo, Words};
@@ -26,7 +26,7 @@ pub struct Machine {
 }
 
 impl Model for Machine {
-    ghost use Rattle.stage_spec.specs.FirstProgress.{Progress};
+    ghost use Rattle.machine.specs.FirstProgress.{Progress};
 
     ghost Value = { Progress };
 

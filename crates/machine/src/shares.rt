@@ -1,7 +1,7 @@
 //! What a line adds to the event.
 
 ghost use Rattle.std.specs.Prelude.{◌≡◌, if◌then◌else◌, Some};
-ghost use Rattle.stage_spec.specs.FirstCounting.{hits_of, length_of};
+ghost use Rattle.machine.specs.FirstCounting.{hits_of, length_of};
 
 use perf_base::CpuLine;
 

@@ -1,4 +1,5 @@
 -- Acts: what is read is what stands there, and what stands there is read.
+use Rattle.std.proofs.lemmas.Option.{same_Some}
 use Rattle.std.proofs.Common.{◌≡◌, ℕ, ◌^◌, ◌<◌, Bool, true, false, ◌&&◌, All, List, [], ◌∷◌, ◌++◌, length, take, drop, Some, None, refl, sym, ap, ◌∙◌, append_assoc, arith}
 use Rattle.std.specs.Prelude.{decimal}
 use Rattle.std.specs.List.{prefix_len}
@@ -14,9 +15,6 @@ use Rattle.perf_base.specs.declared.acts.Act.TheVariants as act
 use Rattle.script_spec.specs.Acts.{act_text, IsActInRange}
 use Rattle.order_text.specs.Reading.{Reads}
 use Rattle.order_text.proofs.Numbers.{own}
-
-some_is : {A : Type 0} (x y : A) → Some x ≡ Some y → x ≡ y
-some_is x y e = cc
 
 behind : (x y : ℕ) (xs ys : List ℕ) → x ∷ xs ≡ y ∷ ys → xs ≡ ys
 behind x y xs ys e = cc
@@ -65,8 +63,8 @@ seen_exact text k ring place kp r q (act.Processor cpu) i e = absurd (omega (ari
 seen_exact text k ring place kp r q (act.Tool tool) i e = absurd (omega (arith, before 115 116 text (decimal tool.0) e))
 seen_exact text k ring place kp r q (act.Seen own_ring own_place) i e =
     let parts = split_seen text k own_ring own_place i.0 kp e in
-    let x : ring ≡ own_ring.0 = some_is ring own_ring.0 (r.exact own_ring.0 i.0 parts.0) in
-    let y : place ≡ own_place = some_is place own_place (q.exact own_place i.1 parts.1) in
+    let x : ring ≡ own_ring.0 = same_Some ring own_ring.0 (r.exact own_ring.0 i.0 parts.0) in
+    let y : place ≡ own_place = same_Some place own_place (q.exact own_place i.1 parts.1) in
     ap (λ n. Some (act.Seen (ring_of n) place)) x ∙ ap (λ n. Some (act.Seen own_ring n)) y
 
 pub seen_some : (text : List ℕ) (k ring place : ℕ) → k ≡ prefix_len is_ascii_digit text → Reads (λ n. n < 16) decimal (take k text) (Some ring)

@@ -1,6 +1,8 @@
+pub mod Acts
 pub mod Cpus
-pub mod Kept
+pub mod Flags
 pub mod Light
+pub mod Masks
 pub mod Padded
 pub mod Reasons
 pub mod Said

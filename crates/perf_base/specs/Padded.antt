@@ -1,8 +1,7 @@
 -- Short lists that are kept in an array whose unused places have one filling. This project's own profile.
-use Rattle.std.specs.Prelude.{slice_get, Some, ◌≡◌, ℕ, ◌-◌, ◌+◌, ◌<◌, ◌≤◌, List, ◌++◌, length, take, drop, replicate}
-use Rattle.std.proofs.Common.{arith, ◌∙◌, sym, ap, refl, set, length-set, length-take, get_or}
-use Rattle.std.proofs.lemmas.List.{length-take-le, take-append-drop, drop-set-lt, drop-replicate, drop-drop, length-replicate, get_or-take}
-use Rattle.std.proofs.lemmas.Option.{slice_get-get_or}
+use Rattle.std.specs.Prelude.{◌≡◌, ℕ, ◌-◌, ◌≤◌, List, ◌++◌, length, take, drop, replicate}
+use Rattle.std.proofs.Common.{arith, refl}
+use Rattle.std.proofs.lemmas.List.{length-take-le, take-append-drop}
 
 -- what an array of `room` places holds: the list's length in use, and the filling elsewhere
 pub record IsPadded {X : Type 0} (room : ℕ) (filling : X) (places : List X) (used : ℕ) : Type 0 where
@@ -21,42 +20,3 @@ padded_again make room filling places used h =
     let fits : used ≤ length places = omega (arith, h.whole, h.within) in
     let n : length (take used places) ≡ used = length-take-le used places fits in
     rw n (rw (← h.unused) (rw take-append-drop refl))
-
--- no place of an empty list is in use
-pub IsPadded-none : {X : Type 0} (room : ℕ) (filling : X) (places : List X) → places ≡ replicate room filling → IsPadded room filling places 0
-IsPadded-none room filling places e =
-    record { whole = ap length e ∙ length-replicate room filling; within = omega arith; unused = let z : room - 0 ≡ room = omega arith in rw z e }
-
--- one place more is in use
-pub IsPadded-more : {X : Type 0} (room : ℕ) (filling : X) (places : List X) (used : ℕ) (x : X)
-    → IsPadded room filling places used → used < room → IsPadded room filling (set places used x) (used + 1)
-IsPadded-more room filling places used x h l =
-    record {
-      whole = length-set places used x ∙ h.whole;
-      within = omega arith;
-      unused = let lt : used < used + 1 = omega arith in
-          rw drop-set-lt (sym (drop-drop 1 used places) ∙ (ap (drop 1) h.unused ∙ (drop-replicate 1 (room - used) filling ∙ ap (λ n. replicate n filling) (omega arith))));
-    }
-
--- as many places are in use as the list is long
-pub length-IsPadded : {X : Type 0} (room : ℕ) (filling : X) (places : List X) (used : ℕ) → IsPadded room filling places used → length (take used places) ≡ used
-length-IsPadded room filling places used h =
-    let fits : used ≤ length places = omega (arith, h.whole, h.within) in
-    length-take-le used places fits
-
--- so it is where the list in use is known under another name
-pub IsPadded-push : {X : Type 0} (room : ℕ) (filling : X) (places : List X) (used : ℕ) (x : X) (xs : List X)
-    → IsPadded room filling places used → take used places ≡ xs → length xs < room → IsPadded room filling (set places used x) (used + 1)
-IsPadded-push room filling places used x xs h e l =
-    let n : length (take used places) ≡ used = length-IsPadded room filling places used h in
-    let m : length (take used places) ≡ length xs = ap length e in
-    let lt : used < room = omega arith in
-    IsPadded-more room filling places used x h lt
-
--- what a place within the list in use reads
-pub slice_get-take : {X : Type 0} (used : ℕ) (places : List X) (i : ℕ) (d : X) → i < length (take used places) → slice_get (take used places) i ≡ Some (get_or places i d)
-slice_get-take used places i d within =
-    let low : i < used = omega (arith, length-take used places) in
-    slice_get-get_or (take used places) i d within ∙ ap Some (get_or-take used places i d low)
-
-pub ruleset paddings = (IsPadded-none, length-IsPadded, slice_get-take)

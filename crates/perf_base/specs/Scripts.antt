@@ -23,6 +23,7 @@ use Rattle.perf_base.specs.declared.lines.ReaderLine.{ReaderLine}
 use Rattle.perf_base.specs.declared.acts.Act.{Act}
 use Rattle.perf_base.specs.declared.acts.Act.TheVariants as act
 use Rattle.perf_base.specs.Cpus.{HasCpu}
+use Rattle.perf_base.specs.Masks.{IsMask}
 
 -- what a script says: its machine, its names, the lines of each processor and tool, its readers and its order
 pub record Scripted : Type 0 where
@@ -107,7 +108,7 @@ pub record IsFreeName (name : List ℕ) : Type 0 where
 
 -- a mask that names counters of a declared PMU
 abbrev pub IsMaskOf : List PmuLine → ℕ → ℕ → Type 0
-IsMaskOf pmus n mask = MatchOption (slice_get pmus n) ⊥ (λ p. (0 < mask) × (mask < 2 ^ p.counters))
+IsMaskOf pmus n mask = MatchOption (slice_get pmus n) ⊥ (λ p. IsMask p.counters mask)
 
 pub record IsKindLine (pmus : List PmuLine) (k : KindLine) : Type 0 where
   pub name : IsName k.name
@@ -182,13 +183,47 @@ pub record IsReaderLine (rings : List (RingNo × ℕ)) (r : ReaderLine) : Type 0
   pub tries : (1 ≤ r.tries) × (r.tries ≤ 65536)
   pub batch : (1 ≤ r.batch) × (r.batch ≤ 1024)
 
+-- What the types of a script's entries say: numbers have 64 bits, and a work line has sixteen occurrences.
+abbrev pub IsWide : ℕ → Type 0
+IsWide n = n < 2 ^ 64
+
+abbrev pub IsStoredWork : CpuLine → Type 0
+IsStoredWork (cpu_line.Switch to) = Unit {0}
+IsStoredWork (cpu_line.Work w) = IsWide w.ip × (length w.hits ≡ 16)
+IsStoredWork cpu_line.Tick = Unit {0}
+IsStoredWork (cpu_line.Fork task) = Unit {0}
+IsStoredWork cpu_line.Exit = Unit {0}
+
+abbrev pub IsStoredToolLine : ToolLine → Type 0
+IsStoredToolLine (tool_line.Open slot attr leader) = IsWide attr.period × IsWide attr.sample × IsWide attr.format
+IsStoredToolLine (tool_line.Enable event group) = Unit {0}
+IsStoredToolLine (tool_line.Disable event group) = Unit {0}
+IsStoredToolLine (tool_line.Reset event group) = Unit {0}
+IsStoredToolLine (tool_line.Period event period) = IsWide period
+IsStoredToolLine (tool_line.Read event size) = IfSome size IsWide
+IsStoredToolLine (tool_line.Map event ring) = Unit {0}
+IsStoredToolLine (tool_line.Output event target) = Unit {0}
+IsStoredToolLine (tool_line.Close event) = Unit {0}
+IsStoredToolLine (tool_line.Why event) = Unit {0}
+IsStoredToolLine (tool_line.Seats cpu) = Unit {0}
+
+abbrev pub IsStoredAct : Act → Type 0
+IsStoredAct (act.Processor cpu) = Unit {0}
+IsStoredAct (act.Tool tool) = Unit {0}
+IsStoredAct (act.Seen ring place) = IsWide place
+
+pub record IsStored (s : Scripted) : Type 0 where
+  pub cpu_lines : All (All IsStoredWork) s.cpu_lines
+  pub tool_lines : All (All IsStoredToolLine) s.tool_lines
+  pub order : All IsStoredAct s.order
+
 -- an act is of a processor or tool that has lines, or names a declared ring
 abbrev pub IsAct : Scripted → Act → Type 0
 IsAct s (act.Processor cpu) = 0 < length (lines_of_cpu s cpu)
 IsAct s (act.Tool tool) = 0 < length (lines_of_tool s tool)
 IsAct s (act.Seen ring place) = HasRing s.rings ring
 
--- each entry in its ranges, each name declared once, each number that must rise above the one before
+-- each entry in its ranges and of its type, each name declared once, each number that must rise above the one before
 pub record IsScript (s : Scripted) : Type 0 where
   pub cpus : (1 ≤ s.cpus) × (s.cpus ≤ 8)
   pub pmus : All (IsPmuLine s.cpus) s.pmus
@@ -210,6 +245,7 @@ pub record IsScript (s : Scripted) : Type 0 where
   pub readers : All (IsReaderLine s.rings) s.readers
   pub readers_rise : AllPairs (λ q r. q.ring.0 < r.ring.0) s.readers
   pub order : All (IsAct s) s.order
+  pub stored : IsStored s
 
 -- each processor is of some PMU
 abbrev pub IsCovered : Scripted → Type 0

@@ -1,23 +1,67 @@
 //! The flags of an attribute.
 
-ghost use Rattle.std.specs.Prelude.{⊤, [], ◌∷◌, codes};
+ghost use Rattle.std.specs.Prelude.{⊤, ◌≡◌, map};
+ghost use Rattle.perf_base.specs.Flags.{flag_table};
 
-use bitflags::{Flag, Flags, bitflag_items};
+use bitflags::{Flag, Flags};
 
 /// The flags of an attribute: those bits of perf_event_attr that this profile knows, numbered by their
 /// order in the text of a script.
 #[derive(Clone, Copy, PartialEq, Eq, Debug)]
 pub struct AttrFlags(pub u64);
 
-bitflag_items! {
-    impl AttrFlags: u64 {
-        const DISABLED = 1;
-        const INHERIT = 2;
-        const PINNED = 4;
-        const EXCLUSIVE = 8;
-        const EXCLUDE_USER = 16;
-        const EXCLUDE_KERNEL = 32;
-        const SAMPLE_ID_ALL = 64;
+impl AttrFlags {
+    pub const DISABLED: AttrFlags = AttrFlags(1);
+
+    pub const INHERIT: AttrFlags = AttrFlags(2);
+
+    pub const PINNED: AttrFlags = AttrFlags(4);
+
+    pub const EXCLUSIVE: AttrFlags = AttrFlags(8);
+
+    pub const EXCLUDE_USER: AttrFlags = AttrFlags(16);
+
+    pub const EXCLUDE_KERNEL: AttrFlags = AttrFlags(32);
+
+    pub const SAMPLE_ID_ALL: AttrFlags = AttrFlags(64);
+
+    const TABLE: &'static [Flag<AttrFlags>] = &[
+        Flag {
+            name: "disabled",
+            value: AttrFlags::DISABLED,
+        },
+        Flag {
+            name: "inherit",
+            value: AttrFlags::INHERIT,
+        },
+        Flag {
+            name: "pinned",
+            value: AttrFlags::PINNED,
+        },
+        Flag {
+            name: "exclusive",
+            value: AttrFlags::EXCLUSIVE,
+        },
+        Flag {
+            name: "exclude_user",
+            value: AttrFlags::EXCLUDE_USER,
+        },
+        Flag {
+            name: "exclude_kernel",
+            value: AttrFlags::EXCLUDE_KERNEL,
+        },
+        Flag {
+            name: "sample_id_all",
+            value: AttrFlags::SAMPLE_ID_ALL,
+        },
+    ];
+
+    /// Each flag with the word that a script has for it and its bit, in the order of a script's text. Reading
+    /// and printing go by this table, and it is the table of `Flags`.
+    pub fn table() -> &'static [Flag<AttrFlags>]
+        ensures { map (λ flag. (flag.name.now, flag.value.0)) result.now ≡ flag_table }
+    {
+        AttrFlags::TABLE
     }
 }
 
@@ -26,13 +70,12 @@ impl Flags for AttrFlags {
 
     ghost exact = { ⊤ };
 
-    ghost table = { (codes "DISABLED", 1) ∷ (codes "INHERIT", 2) ∷ (codes "PINNED", 4) ∷ (codes "EXCLUSIVE", 8)
-        ∷ (codes "EXCLUDE_USER", 16) ∷ (codes "EXCLUDE_KERNEL", 32) ∷ (codes "SAMPLE_ID_ALL", 64) ∷ [] };
+    ghost table = { flag_table };
 
     ghost set_of = { λ f. f.0 };
 
     fn flags<'a>() -> &'a [Flag<AttrFlags>] {
-        AttrFlags::FLAGS
+        AttrFlags::TABLE
     }
 
     fn bits(&self) -> u64 {

@@ -26,7 +26,7 @@ pub struct RingNo(pub u8);
 pub struct ToolNo(pub u8);
 
 /// An event instance, by its key in the slab.
-#[derive(Clone, Copy, PartialEq, Eq, Debug)]
+#[derive(Clone, Copy, PartialEq, Eq, Debug, Default)]
 pub struct Key(pub usize);
 
 /// A set of processors: bit P stands for processor P.

@@ -1,6 +1,6 @@
 //! A script: what it declares, the lines of its processors, tools and readers, and its order.
 
-ghost use Rattle.std.specs.Prelude.{◌≡◌, ◌≢◌, ℕ, ◌+◌, ◌^◌, ◌<◌, ◌≤◌, List, length, map, All, bit_and, slice_get, IfSome, OnErr, OnOk, Some};
+ghost use Rattle.std.specs.Prelude.{◌≡◌, ◌≢◌, ℕ, ◌+◌, ◌^◌, ◌<◌, ◌≤◌, List, length, map, All, bit_and, slice_get, IfSome, OnErr, OnOk, Some, Any, IsTrue, ◌↔◌};
 ghost use Rattle.perf_base.specs.Scripts.{Scripted, IsScript, empty_script, lines_of_cpu, lines_of_tool, line_count, with_pmu, with_kind, with_task, with_ring, with_cpu_line, with_tool_line, with_reader, with_act, IsPmuLine, AreApart, IsKindLine, IsRingLine, IsCpuLine, IsToolLine, IsReaderLine, IsAct, IsCovered};
 ghost use Rattle.perf_base.specs.Cpus.{HasCpu};
 
@@ -8,6 +8,7 @@ use crate::acts::Act;
 use crate::lines::{CpuLine, KindLine, PmuLine, ReaderLine, ToolLine};
 use crate::lists::Name;
 use crate::numbers::{CpuNo, CpuSet, NoMemory, RingNo, TaskNo, ToolNo};
+use crate::stored::{read_act, read_cpu_line, read_tool_line};
 use std::alloc::Global;
 use std::marker::Model;
 
@@ -36,6 +37,22 @@ impl Model for Script {
     ghost view = { said };
 
     ghost invariant = { SaysScript };
+}
+
+/// Whether a processor, 0 to 7, is of a PMU.
+fn is_of(line: &PmuLine, cpu: CpuNo) -> bool
+    requires { cpu.0 < 8 }
+    ensures { IsTrue result ↔ HasCpu line.now.cpus cpu }
+{
+    line.cpus.contains(cpu)
+}
+
+/// Whether a processor, 0 to 7, is of one of the PMUs.
+fn is_of_any(lines: &[PmuLine], cpu: CpuNo) -> bool
+    requires { cpu.0 < 8 }
+    ensures { IsTrue result ↔ Any (λ line. HasCpu line.cpus cpu) lines.now }
+{
+    lines.iter().any(|line| is_of(line, cpu))
 }
 
 impl Script {
@@ -129,6 +146,7 @@ impl Script {
         ensures ok { OnOk result (self.new ≡ with_cpu_line self.old cpu line) }
         ensures err { OnErr result (self.new ≡ self.old) }
     {
+        read_cpu_line(&line);
         let lines = &mut self.cpu_lines[cpu.0 as usize];
         lines.push(line)?;
         Ok(())
@@ -142,6 +160,7 @@ impl Script {
         ensures ok { OnOk result (self.new ≡ with_tool_line self.old tool line) }
         ensures err { OnErr result (self.new ≡ self.old) }
     {
+        read_tool_line(&line);
         let lines = &mut self.tool_lines[tool.0 as usize];
         lines.push(line)?;
         Ok(())
@@ -164,6 +183,7 @@ impl Script {
         ensures ok { OnOk result (self.new ≡ with_act self.old act) }
         ensures err { OnErr result (self.new ≡ self.old) }
     {
+        read_act(&act);
         self.order.push(act)?;
         Ok(())
     }
@@ -178,7 +198,8 @@ impl Script {
 
     /// How many PMUs, at most 4.
     pub fn pmus(&self) -> u8
-        ensures { result ≡ length self.now.pmus }
+        ensures number { result ≡ length self.now.pmus }
+        ensures sound { IsScript self.now }
     {
         self.pmus.len() as u8
     }
@@ -186,14 +207,16 @@ impl Script {
     /// How many counters each processor of a PMU has, 1 to 16.
     pub fn counters(&self, pmu: u8) -> u8
         requires { pmu < length self.now.pmus }
-        ensures { IfSome (slice_get self.now.pmus pmu) (λ p. result ≡ p.counters) }
+        ensures number { IfSome (slice_get self.now.pmus pmu) (λ p. result ≡ p.counters) }
+        ensures sound { IsScript self.now }
     {
         self.pmus[pmu as usize].counters
     }
 
     /// How many hardware kinds, at most 16.
     pub fn kinds(&self) -> usize
-        ensures { result ≡ length self.now.kinds }
+        ensures number { result ≡ length self.now.kinds }
+        ensures sound { IsScript self.now }
     {
         self.kinds.len()
     }
@@ -201,7 +224,8 @@ impl Script {
     /// The counters that can count a hardware kind, bit C for counter C.
     pub fn mask(&self, kind: usize) -> u32
         requires { kind < length self.now.kinds }
-        ensures { IfSome (slice_get self.now.kinds kind) (λ k. result ≡ k.mask) }
+        ensures mask { IfSome (slice_get self.now.kinds kind) (λ k. result ≡ k.mask) }
+        ensures sound { IsScript self.now }
     {
         self.kinds[kind].mask
     }
@@ -209,7 +233,8 @@ impl Script {
     /// The name of a hardware kind.
     pub fn name(&self, kind: usize) -> Name
         requires { kind < length self.now.kinds }
-        ensures { IfSome (slice_get self.now.kinds kind) (λ k. result ≡ k.name) }
+        ensures name { IfSome (slice_get self.now.kinds kind) (λ k. result ≡ k.name) }
+        ensures sound { IsScript self.now }
     {
         self.kinds[kind].name
     }
@@ -217,7 +242,8 @@ impl Script {
     /// The number of a hardware kind's PMU.
     pub fn pmu_of_kind(&self, kind: usize) -> u8
         requires { kind < length self.now.kinds }
-        ensures { IfSome (slice_get self.now.kinds kind) (λ k. result ≡ k.pmu) }
+        ensures number { IfSome (slice_get self.now.kinds kind) (λ k. result ≡ k.pmu) }
+        ensures sound { IsScript self.now }
     {
         self.kinds[kind].pmu
     }
@@ -228,6 +254,7 @@ impl Script {
         requires covered { IsCovered self.now }
         ensures within { result < length self.now.pmus }
         ensures has { IfSome (slice_get self.now.pmus result) (λ p. HasCpu p.cpus cpu) }
+        ensures sound { IsScript self.now }
     {
         for pmu in 0..self.pmus() {
             if self.cpus_of(pmu).contains(cpu) {
@@ -235,6 +262,26 @@ impl Script {
             }
         }
         unreachable!()
+    }
+
+    fn has_pmu(&self, cpu: CpuNo) -> bool
+        requires { cpu.0 < 8 }
+        ensures { IsTrue result ↔ Any (λ line. HasCpu line.cpus cpu) self.now.pmus }
+    {
+        is_of_any(&self.pmus, cpu)
+    }
+
+    /// Whether each processor of the machine is of a PMU.
+    pub fn is_covered(&self) -> bool
+        ensures covered { IsTrue result ↔ IsCovered self.now }
+        ensures sound { IsScript self.now }
+    {
+        for cpu in 0..self.cpus() {
+            if !self.has_pmu(CpuNo(cpu)) {
+                return false;
+            }
+        }
+        true
     }
 
     /// The processors of a PMU.
@@ -248,14 +295,16 @@ impl Script {
 
     /// The tasks that exist from the start, rising.
     pub fn tasks(&self) -> &[TaskNo]
-        ensures { result.now ≡ self.now.tasks }
+        ensures tasks { result.now ≡ self.now.tasks }
+        ensures sound { IsScript self.now }
     {
         self.tasks.as_slice()
     }
 
     /// The rings with their bytes, by rising number.
     pub fn rings(&self) -> &[(RingNo, u32)]
-        ensures { result.now ≡ self.now.rings }
+        ensures rings { result.now ≡ self.now.rings }
+        ensures sound { IsScript self.now }
     {
         self.rings.as_slice()
     }
@@ -280,14 +329,16 @@ impl Script {
 
     /// The readers, by rising number of their rings.
     pub fn readers(&self) -> &[ReaderLine]
-        ensures { result.now ≡ self.now.readers }
+        ensures readers { result.now ≡ self.now.readers }
+        ensures sound { IsScript self.now }
     {
         self.readers.as_slice()
     }
 
     /// The order.
     pub fn order(&self) -> &[Act]
-        ensures { result.now ≡ self.now.order }
+        ensures order { result.now ≡ self.now.order }
+        ensures sound { IsScript self.now }
     {
         self.order.as_slice()
     }

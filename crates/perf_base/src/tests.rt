@@ -6,11 +6,12 @@ ghost use Rattle.perf_base.specs.Scripts.{IsCpuLine, IsToolLine};
 use crate::{
     Act, Actor, Attr, AttrFlags, Cause, Context, CpuLine, CpuNo, CpuSel, CpuSet, EventNo, Key,
     Kind, KindLine, Mode, Name, NoMemory, Own, PmuLine, ReaderLine, Reason, Reply, RingNo, Rule,
-    SReason, Script, SeatList, Standing, StoredReply, Sums, TaskNo, TaskSel, Tight, ToolLine,
-    ToolNo, Why, Words, Work,
+    SReason, Script, SeatList, Standing, Steps, StoredReply, Sums, TaskNo, TaskSel, Tight,
+    ToolLine, ToolNo, Why, Words, Work,
 };
 use bitflags::Flags;
 use std::alloc::Global;
+use std::marker::Brand;
 
 #[test]
 fn a_script_is_built(rt: HostRuntime) -> Result<(), NoMemory> {
@@ -144,6 +145,30 @@ fn each_processor_is_of_its_pmu(rt: HostRuntime) -> Result<(), NoMemory> {
 }
 
 #[test]
+fn a_script_is_covered_by_all_its_pmus(rt: HostRuntime) -> Result<(), NoMemory> {
+    let mut script = Script::new(rt.alloc(), 3);
+    assert!(rt; !script.is_covered());
+    script.add_pmu(1, 5)?;
+    assert!(rt; !script.is_covered());
+    script.add_pmu(3, 2)?;
+    assert!(rt; script.is_covered());
+    Ok(())
+}
+
+#[test]
+fn short_lists_are_read_as_slices(rt: HostRuntime) {
+    let mut name = Name::new();
+    assert!(rt; name.as_bytes().is_empty());
+    name.push(b'c');
+    name.push(b'-');
+    name.push(b'0');
+    assert_eq!(rt; name.as_bytes(), b"c-0".as_slice());
+    let mut seats = SeatList::new();
+    seats.push((EventNo(255), 15));
+    assert_eq!(rt; seats.as_slice(), [(EventNo(255), 15)].as_slice());
+}
+
+#[test]
 fn sets_hold_what_was_put_in(rt: HostRuntime) {
     let mut one = CpuSet::new();
     one.insert(CpuNo(0));
@@ -181,12 +206,31 @@ fn flags_are_those_of_their_table(rt: HostRuntime) {
         );
     }
     let mut names = AttrFlags(66).iter_names();
-    assert_eq!(rt; names.next().map(|x| x.0), Some("INHERIT"));
-    assert_eq!(rt; names.next().map(|x| x.0), Some("SAMPLE_ID_ALL"));
+    assert_eq!(rt; names.next().map(|x| x.0), Some("inherit"));
+    assert_eq!(rt; names.next().map(|x| x.0), Some("sample_id_all"));
     assert!(rt; names.next().is_none());
+    let mut rows = AttrFlags::table().iter();
+    for (name, bit) in [
+        ("disabled", 1),
+        ("inherit", 2),
+        ("pinned", 4),
+        ("exclusive", 8),
+        ("exclude_user", 16),
+        ("exclude_kernel", 32),
+        ("sample_id_all", 64),
+    ] {
+        assert!(rt;
+            rows.next()
+                .is_some_and(|row| row.name == name && row.value.0 == bit),
+            "{name}"
+        );
+    }
+    assert!(rt; rows.next().is_none());
 }
 
 fn crosses<T: Send + Sync>() {}
+
+fn moves<T: Send>() {}
 
 #[test]
 fn shared_types_cross_threads(_rt: HostRuntime) {
@@ -228,4 +272,9 @@ fn shared_types_cross_threads(_rt: HostRuntime) {
     crosses::<Why>();
     crosses::<Words>();
     crosses::<Work>();
+}
+
+#[test]
+fn counted_steps_go_with_their_thread(_rt: HostRuntime) {
+    moves::<Steps<Brand>>();
 }

@@ -2,3 +2,4 @@ pub mod Outside
 pub mod Counts
 pub mod MemSource
 pub mod MemSink
+pub mod Wrote

@@ -18,4 +18,4 @@ pub use mem_sink::MemSink;
 pub use mem_source::MemSource;
 pub use outside::{Failed, Sink, Source};
 pub use standard::{StdNotes, StdSink, StdSource};
-pub use writing::write_all;
+pub use writing::{write_all, write_decimal, write_numbered};

@@ -1,7 +1,8 @@
 //! What no clause says: that the calls succeed, and what the system does at its edge.
 
 use crate::{
-    CalmSink, CalmSource, MemSink, MemSource, Sink, Source, StdNotes, StdSink, StdSource, write_all,
+    CalmSink, CalmSource, MemSink, MemSource, Sink, Source, StdNotes, StdSink, StdSource,
+    write_all, write_decimal, write_numbered,
 };
 use std::test::Fail;
 
@@ -64,6 +65,10 @@ fn memory_sinks_take_in_pieces(rt: HostRuntime) -> Result<(), Fail> {
     let mut sink = CalmSink::new();
     assert!(rt; write_all(&mut sink, b"hello").is_ok());
     assert_eq!(rt; sink.written(), 5);
+    let mut sink = MemSink::new(rt.alloc(), 9, vec![in rt.alloc(); 9u64]?, 9)?;
+    assert!(rt; write_numbered(&mut sink, b"cpus=", 8).is_ok());
+    assert!(rt; write_decimal(&mut sink, 120).is_ok());
+    assert_eq!(rt; sink.bytes(), b"cpus=8120".as_slice());
     Ok(())
 }
 

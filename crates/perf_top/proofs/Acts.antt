@@ -8,7 +8,7 @@ use Rattle.perf_base.specs.declared.numbers.CpuNo.{CpuNo}
 use Rattle.perf_base.specs.declared.acts.Act.{Act}
 use Rattle.perf_base.specs.declared.acts.Act.TheVariants as act
 use Rattle.perf_base.specs.Scripts.{Scripted, IsScript, IsAct, HasRing, lines_of_cpu}
-use Rattle.stage_spec.specs.FirstCounting.{IsFirstForm}
+use Rattle.machine.specs.FirstCounting.{IsFirstForm}
 use Rattle.perf_top.specs.Served.{IsSmall, IsFormAct}
 
 -- a processor that the machine does not have has no lines

@@ -5,4 +5,3 @@ pub mod Filling
 pub mod LineCounts
 pub mod Lines
 pub mod Writing
-pub mod Wrote

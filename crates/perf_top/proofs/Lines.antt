@@ -1,25 +1,25 @@
 -- A complete order of a script that is served has a line for each of its acts.
-use Rattle.std.proofs.Common.{◌≡◌, ℕ, ◌<◌, ◌≤◌, ◌+◌, Bool, true, cond, eqb, List, [], ◌∷◌, ◌++◌, length, take, All, get_or, arith, refl, sym, ap, subst, ◌∙◌, eq-eqb}
+use Rattle.std.proofs.Common.{◌≡◌, ℕ, ◌<◌, ◌≤◌, ◌+◌, Bool, true, cond, eqb, List, [], ◌∷◌, ◌++◌, length, take, All, get_or, arith, refl, sym, ap, subst, ◌∙◌, eq-eqb, append_assoc, append-nil}
 use Rattle.std.specs.Prelude.{count_by}
 use Rattle.std.proofs.lemmas.List.{get_or_default, take_more}
-use Rattle.std.proofs.lemmas.List.Sums.{sum_by-take-le}
+use Rattle.std.proofs.lemmas.List.Sums.{sum_by-take-le, sum_by_push}
 use Rattle.perf_base.specs.declared.acts.Act.{Act}
 use Rattle.perf_base.specs.declared.acts.Act.TheVariants as act
 use Rattle.perf_base.specs.declared.acts.Actor.{Actor}
 use Rattle.perf_base.specs.declared.acts.Actor.TheVariants as actor
 use Rattle.perf_base.specs.Scripts.{Scripted}
 use Rattle.stage_spec.specs.Order.{is_of_cpu, is_of_tool, done_by_cpu, done_by_tool, IsComplete}
-use Rattle.stage_spec.specs.FirstProgress.{Progress, IsAfter, HasLine}
+use Rattle.machine.specs.FirstProgress.{Progress, IsAfter, HasLine}
 use Rattle.perf_base.specs.declared.reply.Reply.{Reply}
-use Rattle.stage_spec.specs.FirstReplies.{reply_of, replies_from}
-use Rattle.stage_spec.specs.FirstRecurrence.{replies_from-push}
-use Rattle.stage_spec.specs.FirstSteps.{act_of, count_by-push}
+use Rattle.machine.specs.FirstReplies.{reply_of}
+use Rattle.machine.specs.FirstSteps.{act_of}
 use Rattle.perf_top.specs.Served.{IsFormAct}
+use Rattle.perf_top.specs.FirstAnswers.{replies_from}
 
 -- fewer are counted before an element that counts than in all
 counts_before : {X : Type 0} (p : X → Bool) (xs : List X) (i : ℕ) (x : X) → i < length xs → get_or xs i x ≡ x → p x ≡ true → count_by p (take i xs) < count_by p xs
 counts_before p xs i x l e t =
-    let more : count_by p (take (i + 1) xs) ≡ count_by p (take i xs) + cond (p x) 1 0 = ap (count_by p) (take_more xs i x l ∙ ap (λ y. take i xs ++ y ∷ []) e) ∙ count_by-push p (take i xs) x in
+    let more : count_by p (take (i + 1) xs) ≡ count_by p (take i xs) + cond (p x) 1 0 = ap (count_by p) (take_more xs i x l ∙ ap (λ y. take i xs ++ y ∷ []) e) ∙ sum_by_push (λ y. cond (p y) 1 0) (take i xs) x in
     let one : cond (p x) 1 0 ≡ 1 = rw t refl in
     let part : count_by p (take (i + 1) xs) ≤ count_by p xs = sum_by-take-le (λ y. cond (p y) 1 0) xs (i + 1) in
     let grows : count_by p (take (i + 1) xs) ≡ count_by p (take i xs) + 1 = more ∙ ap (λ n. count_by p (take i xs) + n) one in
@@ -46,6 +46,13 @@ step_ready s order m i d who form c e l at h =
     let in_order : i < length s.order = subst (λ o. i < length o) e l in
     let read : get_or s.order i (act_of who) ≡ act_of who = ap (λ o. get_or o i (act_of who)) (sym e) ∙ (get_or_default order i (act_of who) d l ∙ sym at) in
     has_line s m i who in_order read (subst IsFormAct read (form i (act_of who) in_order)) (subst (λ o. IsAfter s (take i o) m) e h) c
+
+-- the answers to acts and to one more
+pub replies_from-push : (s : Scripted) (before acts : List Act) (a : Act) → replies_from s before (acts ++ a ∷ []) ≡ replies_from s before acts ++ reply_of s (before ++ acts) a ∷ []
+replies_from-push s before [] a = rw append-nil refl
+replies_from-push s before (b ∷ acts) a =
+    let regrouped : (before ++ b ∷ []) ++ acts ≡ before ++ b ∷ acts = append_assoc before (b ∷ []) acts in
+    ap (λ rs. reply_of s before b ∷ rs) (replies_from-push s (before ++ b ∷ []) acts a ∙ ap (λ bs. replies_from s (before ++ b ∷ []) acts ++ reply_of s bs a ∷ []) regrouped)
 
 -- one act more, and its answer
 pub took_step : (s : Scripted) (order : List Act) (m : Progress) (i : ℕ) (d : Act) (who : Actor) (replies : List Reply) (r : Reply) → i < length order → act_of who ≡ get_or order i d

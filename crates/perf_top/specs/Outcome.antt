@@ -1,16 +1,19 @@
 -- What a call of the program reads, does and leaves. This project's own profile.
-use Rattle.std.specs.Prelude.{◌≡◌, ℕ, ◌≤◌, ◌⊎◌, List, [], ◌∷◌, length, take, Option, codes}
+use Rattle.std.specs.Prelude.{◌≡◌, ℕ, ◌≤◌, ◌⊎◌, List, [], ◌∷◌, length, Option, Result, codes}
 use Rattle.perf_base.specs.declared.reply.Reply.{Reply}
 use Rattle.perf_base.specs.Scripts.{Scripted}
 use Rattle.stage_spec.specs.Order.{IsComplete}
+use Rattle.stage_spec.specs.Replies.{answers_to}
 use Rattle.perf_base.specs.declared.reasons.SReason.{SReason}
 use Rattle.perf_base.specs.declared.reasons.SReason.TheVariants as s_reason
 use Rattle.script_spec.specs.Lines.{lines_of}
 use Rattle.script_spec.specs.Texts.{StandsFor, IsRefused}
-use Rattle.report_spec.specs.FirstAnswers.{IsAnswered}
+use Rattle.perf_top.specs.FirstAnswers.{IsAnswered}
 use Rattle.report_spec.specs.Report.{report}
 use Rattle.perf_top.specs.Served.{IsServed}
-use Rattle.perf_io.specs.Outside.{Takes, Adds, IsAtEnd, Rose}
+use Rattle.perf_io.specs.Outside.{Takes, IsAtEnd}
+use Rattle.perf_io.specs.Wrote.{Wrote}
+use Rattle.perf_io.specs.declared.outside.Failed.{Failed}
 
 -- the words of the program that it knows: do the script's own order
 abbrev pub IsReplay : List (List ℕ) → Type 0
@@ -26,7 +29,7 @@ pub record Gave (before after : Option (List ℕ)) (text : List ℕ) : Type 0 wh
 pub record IsReported (script : Scripted) (out : List ℕ) : Type 0 where
   pub replies : List Reply
   pub answered : IsAnswered script script.order replies
-  pub is : out ≡ report script script.order replies []
+  pub is : out ≡ report script script.order (answers_to script.order replies) []
 
 -- The text stands for a script that is served, the script's order is complete, and these bytes are its report.
 pub record IsRun (text out : List ℕ) : Type 0 where
@@ -55,7 +58,10 @@ pub record IsUnserved (text : List ℕ) : Type 0 where
   pub complete : IsComplete script script.order
   pub unserved : IsServed script → ⊥
 
--- The whole note was added; or the count of the notes' faults rose, and the front of it was added.
-abbrev pub Noted : Option (List ℕ) → Option (List ℕ) → Option ℕ → ℕ → ℕ → List ℕ → Type 0
-Noted before after last faults_before faults_after note =
-    Adds before after note ⊎ (Rose last faults_before faults_after × ((n : ℕ) × (n ≤ length note) × Adds before after (take n note)))
+-- Nothing was read, or all that the source had left, which is a text that is not too long.
+abbrev pub ReadNoneOrAll : {S : Type 0} → (S → Option (List ℕ)) → S → S → Type 0
+ReadNoneOrAll left before after = (after ≡ before) ⊎ ((text : List ℕ) × Gave (left before) (left after) text)
+
+-- The note was written, whether or not that failed.
+abbrev pub Noted : {N : Type 0} → (N → Option (List ℕ)) → (N → ℕ) → Option ℕ → N → N → List ℕ → Type 0
+Noted held faults last_fault before after note = (answer : Result (Unit {0}) Failed) × Wrote held faults last_fault before after answer note

@@ -6,7 +6,7 @@ use Rattle.perf_base.specs.declared.lines.ToolLine.{ToolLine}
 use Rattle.perf_base.specs.declared.acts.Act.{Act}
 use Rattle.perf_base.specs.declared.acts.Act.TheVariants as act
 use Rattle.perf_base.specs.Scripts.{Scripted, lines_of_cpu, lines_of_tool}
-use Rattle.stage_spec.specs.FirstCounting.{IsFirstForm, IsWorkLine, counting_open, counting_read}
+use Rattle.machine.specs.FirstCounting.{IsFirstForm, IsWorkLine, counting_open, counting_read}
 
 -- one processor with one counter, at most one kind, no task and no ring
 pub record IsSmall (s : Scripted) : Type 0 where

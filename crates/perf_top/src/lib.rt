@@ -2,10 +2,11 @@
 // the bytes that the source had left and of those that the sink and the notes hold. It serves the program.
 #![tactic(auto)]
 
-ghost use Rattle.std.specs.Prelude.{◌≡◌, ◌↔◌, ℕ, ◌≤◌, ◌<◌, List, length, take, map, IsTrue, IfSome, string_bytes};
+ghost use Rattle.std.specs.Prelude.{◌≡◌, ◌↔◌, ℕ, ◌≤◌, ◌<◌, List, length, map, IsTrue, IfSome, string_bytes};
 ghost use Rattle.perf_io.specs.Outside.{Adds, Rose};
+ghost use Rattle.perf_io.specs.Wrote.{WroteFront};
 ghost use Rattle.perf_top.specs.Notes.{note_of};
-ghost use Rattle.perf_top.specs.Outcome.{IsReplay, Noted, Gave, IsRun, IsBadScript, IsUnserved};
+ghost use Rattle.perf_top.specs.Outcome.{IsReplay, Noted, Gave, ReadNoneOrAll, IsRun, IsBadScript, IsUnserved};
 
 mod notes;
 mod replay;
@@ -33,7 +34,8 @@ fn is_replay(words: &[String]) -> bool
 /// Reads a script from the source to its end, does its own order, and writes that order and what its lines
 /// answered to the sink. The words are those behind the program's name: `replay` is the only one known. A
 /// text may have 4194304 bytes. Each answer but Done is written to the notes as one line. All memory is
-/// taken before the first write.
+/// taken before the first write, and none between the first read and the last: where it runs out, nothing
+/// was read, or the whole text.
 pub fn perf_main<S: Source, K: Sink, N: Sink>(
     alloc: Global,
     words: &[String],
@@ -53,10 +55,10 @@ pub fn perf_main<S: Source, K: Sink, N: Sink>(
     ensures done { result ≡ Status.Done → (text : List ℕ) × (out : List ℕ) × Gave (S.left source.old) (S.left source.new) text × IsRun text out
         × Adds (K.held sink.old) (K.held sink.new) out × IfSome (K.held sink.new) (λ bytes. K.flushed sink.new ≡ length bytes) × (notes.new ≡ notes.old) }
     ensures write_fault { result ≡ Status.WriteFault → (text : List ℕ) × (out : List ℕ) × Gave (S.left source.old) (S.left source.new) text × IsRun text out
-        × Rose K.last_fault (K.faults sink.old) (K.faults sink.new)
-        × ((n : ℕ) × (n ≤ length out) × Adds (K.held sink.old) (K.held sink.new) (take n out)) }
+        × WroteFront K.held K.faults K.last_fault sink.old sink.new out }
+    ensures no_memory { result ≡ Status.NoMemory → ReadNoneOrAll S.left source.old source.new }
     ensures unwritten { (result ≡ Status.Done → ⊥) → (result ≡ Status.WriteFault → ⊥) → sink.new ≡ sink.old }
-    ensures note { (result ≡ Status.Done → ⊥) → Noted (N.held notes.old) (N.held notes.new) N.last_fault (N.faults notes.old) (N.faults notes.new) (note_of result) }
+    ensures note { (result ≡ Status.Done → ⊥) → Noted N.held N.faults N.last_fault notes.old notes.new (note_of result) }
 {
     let status = if is_replay(words) {
         run::replay_all(alloc, source, sink)

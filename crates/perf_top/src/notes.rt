@@ -1,64 +1,82 @@
 //! Writing the note of an answer. It takes no memory.
 
-ghost use Rattle.std.specs.Prelude.{◌≡◌, ◌∷◌, [], ◌++◌, codes, decimal, length};
-ghost use Rattle.perf_base.specs.Reasons.{script_word};
+ghost use Rattle.std.specs.Prelude.{◌++◌, decimal};
 ghost use Rattle.perf_top.specs.Notes.{note_of, act_note, places_note};
-ghost use Rattle.perf_top.specs.Writing.{Wrote};
+ghost use Rattle.perf_io.specs.Wrote.{Wrote};
 
 use crate::status::Status;
-use itoa::Buffer;
 use perf_base::SReason;
-use perf_io::{Failed, Sink, write_all};
+use perf_io::{Failed, Sink, write_all, write_numbered};
 
-/// Writes a text.
-fn put<N: Sink>(notes: &mut N, text: &[u8]) -> Result<(), Failed>
-    ensures { Wrote (N.held notes.old) (N.held notes.new) N.last_fault (N.faults notes.old) (N.faults notes.new) result text.now }
-{
-    write_all(notes, text)
-}
+/// A part of a note: a text, and the number behind it.
+type Part<'a> = (&'a [u8], u64);
 
-/// Writes a number.
-fn put_number<N: Sink>(notes: &mut N, n: u64) -> Result<(), Failed>
-    ensures { Wrote (N.held notes.old) (N.held notes.new) N.last_fault (N.faults notes.old) (N.faults notes.new) result (decimal n) }
+/// Writes a part, and three texts behind it.
+#[tactic(auto, using(perf_io::proofs::Wrote::writes))]
+fn put_worded<N: Sink>(
+    notes: &mut N,
+    part: Part,
+    between: &[u8],
+    word: &[u8],
+    end: &[u8],
+) -> Result<(), Failed>
+    ensures { Wrote N.held N.faults N.last_fault notes.old notes.new result (part.entry.0.now ++ decimal part.entry.1 ++ between.now ++ word.now ++ end.now) }
 {
-    let mut buffer = Buffer::new();
-    put(notes, buffer.format(n).as_bytes())
-}
-
-/// Writes a text and a number behind it.
-fn put_both<N: Sink>(notes: &mut N, text: &[u8], n: u64) -> Result<(), Failed>
-    ensures { Wrote (N.held notes.old) (N.held notes.new) N.last_fault (N.faults notes.old) (N.faults notes.new) result (text.now ++ decimal n) }
-{
-    put(notes, text)?;
-    put_number(notes, n)
+    write_numbered(notes, part.0, part.1)?;
+    write_all(notes, between)?;
+    write_all(notes, word)?;
+    write_all(notes, end)
 }
 
 /// Writes the note of a text that is no script.
 fn put_line<N: Sink>(notes: &mut N, line: u64, reason: SReason) -> Result<(), Failed>
-    ensures { Wrote (N.held notes.old) (N.held notes.new) N.last_fault (N.faults notes.old) (N.faults notes.new) result (note_of (Status.BadScript line reason)) }
+    ensures { Wrote N.held N.faults N.last_fault notes.old notes.new result (note_of (Status.BadScript line reason)) }
 {
-    put_both(notes, b"perf_run: line ", line)?;
-    put(notes, b": ")?;
-    put(notes, reason.printed().as_bytes())?;
-    put(notes, b"\n")
+    put_worded(
+        notes,
+        (b"perf_run: line ", line),
+        b": ",
+        reason.printed().as_bytes(),
+        b"\n",
+    )
 }
 
-/// Writes the first half of the note of an order that can't be.
-fn put_act<N: Sink>(notes: &mut N, index: u64, ring: u64, last: u64) -> Result<(), Failed>
-    ensures { Wrote (N.held notes.old) (N.held notes.new) N.last_fault (N.faults notes.old) (N.faults notes.new) result (act_note index ring last) }
+/// Writes three parts.
+#[tactic(auto, using(perf_io::proofs::Wrote::writes))]
+fn put_three<N: Sink>(notes: &mut N, first: Part, second: Part, third: Part) -> Result<(), Failed>
+    ensures { Wrote N.held N.faults N.last_fault notes.old notes.new result (first.entry.0.now ++ decimal first.entry.1 ++ (second.entry.0.now ++ decimal second.entry.1) ++ (third.entry.0.now ++ decimal third.entry.1)) }
 {
-    put_both(notes, b"perf_run: act ", index)?;
-    put_both(notes, b": ring ", ring)?;
-    put_both(notes, b" last ", last)
+    write_numbered(notes, first.0, first.1)?;
+    write_numbered(notes, second.0, second.1)?;
+    write_numbered(notes, third.0, third.1)
 }
 
-/// Writes the second half.
-fn put_places<N: Sink>(notes: &mut N, head: u64, given: u64) -> Result<(), Failed>
-    ensures { Wrote (N.held notes.old) (N.held notes.new) N.last_fault (N.faults notes.old) (N.faults notes.new) result (places_note head given) }
+/// Writes two parts and the end of the note.
+#[tactic(auto, using(perf_io::proofs::Wrote::writes))]
+fn put_last<N: Sink>(notes: &mut N, first: Part, second: Part, end: &[u8]) -> Result<(), Failed>
+    ensures { Wrote N.held N.faults N.last_fault notes.old notes.new result (first.entry.0.now ++ decimal first.entry.1 ++ (second.entry.0.now ++ decimal second.entry.1) ++ end.now) }
 {
-    put_both(notes, b" head ", head)?;
-    put_both(notes, b" given ", given)?;
-    put(notes, b"\n")
+    write_numbered(notes, first.0, first.1)?;
+    write_numbered(notes, second.0, second.1)?;
+    write_all(notes, end)
+}
+
+/// Writes five parts and the end of the note.
+#[tactic(auto, using(perf_io::proofs::Wrote::writes))]
+fn put_five<N: Sink>(
+    notes: &mut N,
+    first: Part,
+    second: Part,
+    third: Part,
+    fourth: Part,
+    fifth: Part,
+    end: &[u8],
+) -> Result<(), Failed>
+    ensures { Wrote N.held N.faults N.last_fault notes.old notes.new result (first.entry.0.now ++ decimal first.entry.1 ++ (second.entry.0.now ++ decimal second.entry.1) ++ (third.entry.0.now ++ decimal third.entry.1)
+        ++ (fourth.entry.0.now ++ decimal fourth.entry.1 ++ (fifth.entry.0.now ++ decimal fifth.entry.1) ++ end.now)) }
+{
+    put_three(notes, first, second, third)?;
+    put_last(notes, fourth, fifth, end)
 }
 
 /// Writes the note of an order that can't be.
@@ -70,18 +88,25 @@ fn put_order<N: Sink>(
     head: u64,
     given: u64,
 ) -> Result<(), Failed>
-    ensures { Wrote (N.held notes.old) (N.held notes.new) N.last_fault (N.faults notes.old) (N.faults notes.new) result (act_note index ring last ++ places_note head given) }
+    ensures { Wrote N.held N.faults N.last_fault notes.old notes.new result (act_note index ring last ++ places_note head given) }
 {
-    put_act(notes, index, ring, last)?;
-    put_places(notes, head, given)
+    put_five(
+        notes,
+        (b"perf_run: act ", index),
+        (b": ring ", ring),
+        (b" last ", last),
+        (b" head ", head),
+        (b" given ", given),
+        b"\n",
+    )
 }
 
 /// Writes the note of an answer; there is none where all was done.
 pub fn put_note<N: Sink>(notes: &mut N, status: &Status) -> Result<(), Failed>
-    ensures { Wrote (N.held notes.old) (N.held notes.new) N.last_fault (N.faults notes.old) (N.faults notes.new) result (note_of status.now) }
+    ensures { Wrote N.held N.faults N.last_fault notes.old notes.new result (note_of status.now) }
 {
     match status {
-        Status::Done => put(notes, b""),
+        Status::Done => write_all(notes, b""),
         Status::BadScript { line, reason } => put_line(notes, u64::from(*line), *reason),
         Status::BadOrder {
             index,
@@ -97,14 +122,14 @@ pub fn put_note<N: Sink>(notes: &mut N, status: &Status) -> Result<(), Failed>
             *head,
             *given,
         ),
-        Status::TooLong => put(notes, b"perf_run: script longer than 4194304 bytes\n"),
-        Status::ReadFault => put(notes, b"perf_run: read fault\n"),
-        Status::WriteFault => put(notes, b"perf_run: write fault\n"),
-        Status::NoMemory => put(notes, b"perf_run: no memory\n"),
-        Status::Usage => put(
+        Status::TooLong => write_all(notes, b"perf_run: script longer than 4194304 bytes\n"),
+        Status::ReadFault => write_all(notes, b"perf_run: read fault\n"),
+        Status::WriteFault => write_all(notes, b"perf_run: write fault\n"),
+        Status::NoMemory => write_all(notes, b"perf_run: no memory\n"),
+        Status::Usage => write_all(
             notes,
             b"perf_run: usage: run, replay, make N, make N script\n",
         ),
-        Status::Unbuilt => put(notes, b"perf_run: not built\n"),
+        Status::Unbuilt => write_all(notes, b"perf_run: not built\n"),
     }
 }

@@ -1,24 +1,14 @@
 //! Doing the order of a script that is served.
 
 ghost use Rattle.std.specs.Prelude.{◌≡◌, [], All, IfOk};
-ghost use Rattle.stage_spec.specs.Order as order;
 ghost use Rattle.stage_spec.specs.Order.{IsComplete};
-ghost use Rattle.stage_spec.specs.FirstReplies.{replies_from};
-ghost use Rattle.stage_spec.specs.FirstSteps.{act_of};
+ghost use Rattle.perf_top.specs.FirstAnswers.{replies_from};
+ghost use Rattle.machine.specs.FirstSteps.{act_of};
 ghost use Rattle.perf_top.specs.Served.{IsServed, IsFormAct};
 
 use machine::Machine;
-use perf_base::{Act, Actor, NoMemory, Script, StoredReply, ToolNo};
+use perf_base::{Act, Actor, NoMemory, Script, StoredReply};
 use std::alloc::Global;
-
-pub fn is_of_tool(tool: ToolNo, act: &Act) -> bool
-    ensures { result ≡ order.is_of_tool tool act.now }
-{
-    match act {
-        Act::Tool(t) => t.0 == tool.0,
-        _ => false,
-    }
-}
 
 /// Whose line an act of a script that is served does.
 fn actor_of(act: &Act) -> Actor

@@ -2,15 +2,15 @@
 
 ghost use Rattle.std.specs.Prelude.{◌≡◌, ◌∷◌, [], ◌++◌, ◌<◌, codes, decimal, All, IfOk, OnOk, if◌then◌else◌};
 ghost use Rattle.stage_spec.specs.Order.{is_of_tool};
-ghost use Rattle.stage_spec.specs.FirstCounting.{tool_zero};
-ghost use Rattle.stage_spec.specs.FirstReplies.{replies_from};
+ghost use Rattle.stage_spec.specs.Replies.{answers_to};
+ghost use Rattle.machine.specs.FirstCounting.{tool_zero};
+ghost use Rattle.perf_top.specs.FirstAnswers.{replies_from};
 ghost use Rattle.script_spec.specs.Acts.{act_text, acts_text};
 ghost use Rattle.perf_top.specs.Served.{IsFormAct};
 ghost use Rattle.report_spec.specs.Report.{numbers_text};
 ghost use Rattle.report_spec.specs.Report as text;
 ghost use Rattle.perf_top.specs.Lines.{read_line};
 
-use crate::replay;
 use itoa::Buffer;
 use perf_base::{Act, NoMemory, Reply, Script, StoredReply, ToolNo, Words};
 use std::alloc::Global;
@@ -57,9 +57,9 @@ fn push_acts(out: &mut Vec<u8>, acts: &[Act]) -> Result<(), NoMemory>
 fn push_words(out: &mut Vec<u8>, words: &Words) -> Result<(), NoMemory>
     ensures { OnOk result (out.new.items ≡ out.old.items ++ numbers_text words.now) }
 {
-    for i in 0..words.len() {
+    for word in words.as_slice() {
         out.push(b' ')?;
-        push_number(out, words.get(i))?;
+        push_number(out, *word)?;
     }
     Ok(())
 }
@@ -83,17 +83,13 @@ fn push_answer(out: &mut Vec<u8>, act: &Act, line: u64, reply: &Reply) -> Result
 fn tool_lines(act: &Act) -> u64
     ensures { result ≡ (if is_of_tool tool_zero act.now then 1 else 0) }
 {
-    if replay::is_of_tool(ToolNo(0), act) {
-        1
-    } else {
-        0
-    }
+    if act.is_of_tool(ToolNo(0)) { 1 } else { 0 }
 }
 
 fn push_answers(out: &mut Vec<u8>, script: &Script, replies: &[StoredReply]) -> Result<(), NoMemory>
     requires acts { All IsFormAct script.now.order }
     requires replies { replies.now ≡ replies_from script.now [] script.now.order }
-    ensures { OnOk result (out.new.items ≡ out.old.items ++ text.answer_lines script.now [] script.now.order replies.now) }
+    ensures { OnOk result (out.new.items ≡ out.old.items ++ text.answer_lines script.now (answers_to script.now.order replies.now)) }
 {
     let order = script.order();
     let mut done = 0;
@@ -108,7 +104,7 @@ fn push_answers(out: &mut Vec<u8>, script: &Script, replies: &[StoredReply]) -> 
 pub fn report(alloc: Global, script: &Script, replies: &[StoredReply]) -> Result<Vec<u8>, NoMemory>
     requires acts { All IsFormAct script.now.order }
     requires replies { replies.now ≡ replies_from script.now [] script.now.order }
-    ensures { IfOk result (λ out. out.items ≡ text.report script.now script.now.order replies.now []) }
+    ensures { IfOk result (λ out. out.items ≡ text.report script.now script.now.order (answers_to script.now.order replies.now) []) }
 {
     let mut out = Vec::from_slice(alloc, b"order")?;
     push_acts(&mut out, script.order())?;

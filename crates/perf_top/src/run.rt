@@ -1,13 +1,14 @@
 //! From the source's bytes to the report, and from the report to the sink.
 
-ghost use Rattle.std.specs.Prelude.{◌≡◌, ℕ, ◌≤◌, ◌<◌, ◌⊎◌, ◌==◌, List, length, count_by, take, All, IfOk, IfErr, IfSome, Err};
+ghost use Rattle.std.specs.Prelude.{◌≡◌, ℕ, ◌≤◌, ◌<◌, ◌⊎◌, ◌==◌, List, length, count_by, All, IfOk, IfErr, IfSome, Err};
 ghost use Rattle.perf_io.specs.Outside.{Adds, Rose};
+ghost use Rattle.perf_io.specs.Wrote.{WroteFront};
 ghost use Rattle.perf_top.specs.Stops.{status_of};
 ghost use Rattle.stage_spec.specs.Order.{IsComplete};
 ghost use Rattle.script_spec.specs.Lines.{lines_of};
 ghost use Rattle.script_spec.specs.Texts.{StandsFor};
 ghost use Rattle.perf_top.specs.Served.{IsFormAct, IsServed};
-ghost use Rattle.perf_top.specs.Outcome.{Gave, IsReported, IsRun, IsBadScript, HasOpenOrder, IsUnserved};
+ghost use Rattle.perf_top.specs.Outcome.{Gave, ReadNoneOrAll, IsReported, IsRun, IsBadScript, HasOpenOrder, IsUnserved};
 
 use crate::status::Status;
 use crate::text::{self, TextStop};
@@ -115,6 +116,7 @@ fn prepare<S: Source>(alloc: Global, source: &mut S) -> Result<Vec<u8>, RunStop>
     ensures bad { (line : ℕ) → (reason : SReason) → result ≡ Err (RunStop.Bad line reason) →
         (bytes : List ℕ) × Gave (S.left source.old) (S.left source.new) bytes × IsBadScript bytes line reason }
     ensures unbuilt { result ≡ Err RunStop.Unbuilt → (bytes : List ℕ) × Gave (S.left source.old) (S.left source.new) bytes × IsUnserved bytes }
+    ensures no_memory { result ≡ Err RunStop.NoMemory → ReadNoneOrAll S.left source.old source.new }
     ensures fault { result ≡ Err RunStop.ReadFault → Rose S.last_fault (S.faults source.old) (S.faults source.new) }
     ensures long { result ≡ Err RunStop.TooLong → IfSome (S.left source.old) (λ bytes. 4194304 < length bytes) }
 {
@@ -131,8 +133,7 @@ fn send<K: Sink>(sink: &mut K, out: &[u8]) -> Status
     ensures count { K.faults sink.old ≤ K.faults sink.new }
     ensures only { (result ≡ Status.Done) ⊎ (result ≡ Status.WriteFault) }
     ensures done { result ≡ Status.Done → Adds (K.held sink.old) (K.held sink.new) out.now × IfSome (K.held sink.new) (λ bytes. K.flushed sink.new ≡ length bytes) }
-    ensures fault { result ≡ Status.WriteFault → Rose K.last_fault (K.faults sink.old) (K.faults sink.new)
-        × ((n : ℕ) × (n ≤ length out.now) × Adds (K.held sink.old) (K.held sink.new) (take n out.now)) }
+    ensures fault { result ≡ Status.WriteFault → WroteFront K.held K.faults K.last_fault sink.old sink.new out.now }
 {
     match write_all(sink, out) {
         Err(_) => Status::WriteFault,
@@ -156,8 +157,8 @@ pub fn replay_all<S: Source, K: Sink>(alloc: Global, source: &mut S, sink: &mut 
     ensures done { result ≡ Status.Done → (text : List ℕ) × (out : List ℕ) × Gave (S.left source.old) (S.left source.new) text × IsRun text out
         × Adds (K.held sink.old) (K.held sink.new) out × IfSome (K.held sink.new) (λ bytes. K.flushed sink.new ≡ length bytes) }
     ensures write_fault { result ≡ Status.WriteFault → (text : List ℕ) × (out : List ℕ) × Gave (S.left source.old) (S.left source.new) text × IsRun text out
-        × Rose K.last_fault (K.faults sink.old) (K.faults sink.new)
-        × ((n : ℕ) × (n ≤ length out) × Adds (K.held sink.old) (K.held sink.new) (take n out)) }
+        × WroteFront K.held K.faults K.last_fault sink.old sink.new out }
+    ensures no_memory { result ≡ Status.NoMemory → ReadNoneOrAll S.left source.old source.new }
     ensures unwritten { (result ≡ Status.Done → ⊥) → (result ≡ Status.WriteFault → ⊥) → sink.new ≡ sink.old }
 {
     match prepare(alloc, source) {

@@ -1,8 +1,8 @@
 //! Which scripts the program does today.
 
 ghost use Rattle.std.specs.Prelude.{◌≡◌, ◌↔◌, [], IsTrue, All};
-ghost use Rattle.stage_spec.specs.FirstCounting as counting;
-ghost use Rattle.stage_spec.specs.FirstCounting.{IsFirstForm, IsWorkLine};
+ghost use Rattle.machine.specs.FirstCounting as counting;
+ghost use Rattle.machine.specs.FirstCounting.{IsFirstForm, IsWorkLine};
 ghost use Rattle.perf_base.specs.Scripts.{IsScript};
 ghost use Rattle.perf_top.specs.Served.{IsFormAct, IsServed, IsSmall, CpusWork, OpensAndReads, OthersIdle};
 
@@ -94,7 +94,8 @@ fn others_idle(script: &Script) -> bool
 
 /// Whether there is one processor with one counter, at most one kind, no task and no ring.
 fn is_small(script: &Script) -> bool
-    ensures { IsTrue result ↔ IsSmall script.now }
+    ensures small { IsTrue result ↔ IsSmall script.now }
+    ensures sound { IsScript script.now }
 {
     script.cpus() == 1
         && script.pmus() == 1
@@ -106,10 +107,8 @@ fn is_small(script: &Script) -> bool
 
 /// Whether the lines are those of the first form: work, and one event that is opened and then read.
 fn is_first_form(script: &Script) -> bool
-    ensures all { IsTrue result ↔ IsFirstForm script.now }
-    ensures sound { IsScript script.now }
+    ensures { IsTrue result ↔ IsFirstForm script.now }
 {
-    let _cpus = script.cpus();
     cpus_work(script) && opens_and_reads(script.tool_lines(ToolNo(0))) && others_idle(script)
 }
 

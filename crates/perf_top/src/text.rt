@@ -23,6 +23,7 @@ fn fill<S: Source>(source: &mut S, room: &mut [u8]) -> Result<usize, TextStop>
     requires { 0 < length room.old }
     ensures count { S.faults source.old ≤ S.faults source.new }
     ensures ok { IfOk result (λ n. (n < length room.new) × Takes (S.left source.old) (S.left source.new) (take n room.new) × IsAtEnd (S.left source.new)) }
+    ensures no_memory { result ≡ Err TextStop.NoMemory → ⊥ }
     ensures fault { result ≡ Err TextStop.ReadFault → Rose S.last_fault (S.faults source.old) (S.faults source.new) }
     ensures long { result ≡ Err TextStop.TooLong → IfSome (S.left source.old) (λ bytes. length room.old ≤ length bytes) }
 {
@@ -57,6 +58,7 @@ fn room(alloc: Global) -> Result<Vec<u8>, TextStop>
 pub fn read_text<S: Source>(alloc: Global, source: &mut S) -> Result<Vec<u8>, TextStop>
     ensures count { S.faults source.old ≤ S.faults source.new }
     ensures ok { IfOk result (λ text. (length text.items ≤ MOST_BYTES) × Takes (S.left source.old) (S.left source.new) text.items × IsAtEnd (S.left source.new)) }
+    ensures no_memory { result ≡ Err TextStop.NoMemory → source.new ≡ source.old }
     ensures fault { result ≡ Err TextStop.ReadFault → Rose S.last_fault (S.faults source.old) (S.faults source.new) }
     ensures long { result ≡ Err TextStop.TooLong → IfSome (S.left source.old) (λ bytes. MOST_BYTES < length bytes) }
 {

@@ -1,16 +1,17 @@
 //! The table of the PMUs.
 
-ghost use Rattle.std.specs.Prelude.{◌≡◌, ℕ, ◌<◌, ◌≤◌, ◌↔◌, IsTrue, IsNone, slice_index};
+ghost use Rattle.std.specs.Prelude.{◌≡◌, ℕ, ◌<◌, ◌≤◌, ◌↔◌, IsTrue, IsNone, length, slice_index};
 ghost use Rattle.perf_base.specs.Scripts.{IsKind};
-ghost use Rattle.pmu_model.specs.Pmus as says;
-ghost use Rattle.pmu_model.specs.Pmus.{IsPmuTable, IsPmu};
+ghost use Rattle.stage_spec.specs.Hardware as hardware;
+ghost use Rattle.stage_spec.specs.Hardware.{IsHardware, IsPmu};
+ghost use Rattle.pmu_model.specs.Pmus.{seen, IsTable};
 
 use perf_base::{CpuNo, Kind};
 use std::marker::Model;
 
 /// The PMUs of a machine. It is 1 to 8 processors, each of one of at most 4 PMUs, and at most 16 hardware
 /// kinds, each of one PMU.
-#[derive(Clone, Copy, PartialEq, Eq, Debug)]
+#[derive(Debug, Drop)]
 pub struct Pmus {
     cpus: u8,
     pmu_of: [u8; 8],
@@ -21,20 +22,19 @@ pub struct Pmus {
 }
 
 impl Model for Pmus {
-    ghost use Rattle.pmu_model.specs.Pmus.{PmuTable, IsPmuTable};
+    ghost use Rattle.stage_spec.specs.Hardware.{Hardware};
+    ghost use Rattle.pmu_model.specs.Pmus.{seen, IsTable};
 
-    ghost Value = { PmuTable };
+    ghost Value = { Hardware };
 
-    ghost view = { λ p. record { cpus = p.cpus; pmu_of = p.pmu_of; counters = p.counters; kinds = p.kinds; kind_pmu = p.kind_pmu; masks = p.masks } };
+    ghost view = { λ p. seen p.cpus p.pmu_of p.counters p.kinds p.kind_pmu p.masks };
 
-    ghost invariant = { λ p. IsPmuTable (record { cpus = p.cpus; pmu_of = p.pmu_of; counters = p.counters; kinds = p.kinds; kind_pmu = p.kind_pmu; masks = p.masks }) };
-
-    ghost inverse = { λ t. record { cpus = t.cpus; pmu_of = t.pmu_of; counters = t.counters; kinds = t.kinds; kind_pmu = t.kind_pmu; masks = t.masks } };
+    ghost invariant = { λ p. IsTable p.cpus p.pmu_of p.counters p.kinds p.kind_pmu p.masks };
 }
 
 /// Whether no counter counts a kind.
 pub fn is_software(kind: Kind) -> bool
-    ensures { result ≡ says.is_software kind }
+    ensures { result ≡ hardware.is_software kind }
 {
     match kind {
         Kind::Hard(_) => false,
@@ -54,8 +54,8 @@ impl Pmus {
         kind_pmu: [u8; 16],
         masks: [u32; 16],
     ) -> Pmus
-        requires { IsPmuTable (record { cpus = cpus; pmu_of = pmu_of; counters = counters; kinds = kinds; kind_pmu = kind_pmu; masks = masks }) }
-        ensures { result ≡ record { cpus = cpus; pmu_of = pmu_of; counters = counters; kinds = kinds; kind_pmu = kind_pmu; masks = masks } }
+        requires { IsTable cpus pmu_of counters kinds kind_pmu masks }
+        ensures { result ≡ seen cpus pmu_of counters kinds kind_pmu masks }
     {
         Pmus {
             cpus,
@@ -69,10 +69,10 @@ impl Pmus {
 
     /// How many counters a processor has, 1 to 16.
     pub fn counters(&self, cpu: CpuNo) -> u8
-        requires { cpu.0 < self.now.cpus }
-        ensures number { result ≡ slice_index self.now.counters (says.pmu_of_cpu self.now cpu) }
+        requires { cpu.0 < length self.now.cpu_pmus }
+        ensures number { result ≡ slice_index self.now.counters (hardware.pmu_of_cpu self.now cpu) }
         ensures range { (1 ≤ result) × (result ≤ 16) }
-        ensures sound { IsPmuTable self.now }
+        ensures sound { IsHardware self.now }
     {
         self.counters_of(self.pmu_of_cpu(cpu))
     }
@@ -81,17 +81,17 @@ impl Pmus {
     pub fn counters_of(&self, pmu: u8) -> u8
         requires { pmu < 4 }
         ensures number { result ≡ slice_index self.now.counters pmu }
-        ensures sound { IsPmuTable self.now }
+        ensures sound { IsHardware self.now }
     {
         self.counters[pmu as usize]
     }
 
     /// The counters that can count a kind, bit C for counter C: none exactly for a software kind.
     pub fn mask_of(&self, kind: Kind) -> u32
-        requires { IsKind self.now.kinds kind }
-        ensures mask { result ≡ says.mask_of self.now kind }
-        ensures none { (result ≡ 0) ↔ IsTrue (says.is_software kind) }
-        ensures sound { IsPmuTable self.now }
+        requires { IsKind (length self.now.kind_pmus) kind }
+        ensures mask { result ≡ hardware.mask_of self.now kind }
+        ensures none { (result ≡ 0) ↔ IsTrue (hardware.is_software kind) }
+        ensures sound { IsHardware self.now }
     {
         match kind {
             Kind::Hard(n) => self.masks[n as usize],
@@ -101,20 +101,20 @@ impl Pmus {
 
     /// The PMU of a processor.
     pub fn pmu_of_cpu(&self, cpu: CpuNo) -> u8
-        requires { cpu.0 < self.now.cpus }
-        ensures pmu { result ≡ says.pmu_of_cpu self.now cpu }
+        requires { cpu.0 < length self.now.cpu_pmus }
+        ensures pmu { result ≡ hardware.pmu_of_cpu self.now cpu }
         ensures range { IsPmu self.now.counters result }
-        ensures sound { IsPmuTable self.now }
+        ensures sound { IsHardware self.now }
     {
         self.pmu_of[cpu.0 as usize]
     }
 
     /// The PMU of a kind: none exactly for a software kind.
     pub fn pmu_of_kind(&self, kind: Kind) -> Option<u8>
-        requires { IsKind self.now.kinds kind }
-        ensures pmu { result ≡ says.pmu_of_kind self.now kind }
-        ensures none { IsNone result ↔ IsTrue (says.is_software kind) }
-        ensures sound { IsPmuTable self.now }
+        requires { IsKind (length self.now.kind_pmus) kind }
+        ensures pmu { result ≡ hardware.pmu_of_kind self.now kind }
+        ensures none { IsNone result ↔ IsTrue (hardware.is_software kind) }
+        ensures sound { IsHardware self.now }
     {
         match kind {
             Kind::Hard(n) => Some(self.kind_pmu[n as usize]),

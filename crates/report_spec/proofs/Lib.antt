@@ -1,5 +1,0 @@
-mod Answered
-mod Kept
-mod Unlawful
-mod Whole
-pub mod rows

@@ -6,12 +6,11 @@ use Rattle.perf_base.specs.declared.numbers.RingNo.{RingNo}
 use Rattle.perf_base.specs.declared.lines.ReaderLine.{ReaderLine}
 use Rattle.perf_base.specs.declared.acts.Act.{Act}
 use Rattle.perf_base.specs.declared.acts.Act.TheVariants as act
-use Rattle.perf_base.specs.declared.reply.Reply.{Reply}
 use Rattle.perf_base.specs.Scripts.{Scripted}
 use Rattle.stage_spec.specs.Hardware.{hardware_of}
 use Rattle.stage_spec.specs.Order.{IsCounted, last_seen}
 use Rattle.stage_spec.specs.History.{Step, opening_stage}
-use Rattle.stage_spec.specs.Replies.{AnswerOrder}
+use Rattle.stage_spec.specs.Replies.{Answered, AnswerOrder}
 use Rattle.ring_spec.specs.Records.{Record, size_of}
 use Rattle.ring_spec.specs.Account.{Account}
 use Rattle.ring_spec.specs.Rings.{IsLawfulOrder, account_in, lost_count}
@@ -20,11 +19,12 @@ use Rattle.ring_spec.specs.Rings.{IsLawfulOrder, account_in, lost_count}
 abbrev pub lost_in : Scripted → List Step → EventNo → ℕ
 lost_in s steps e = lost_count (hardware_of s) (opening_stage s) s.rings steps e
 
--- No actor has more acts than lines, each look at a tail is lawful, and each reply is the answer to the line at its place.
-pub record IsAnswered (s : Scripted) (order : List Act) (replies : List Reply) : Type 0 where
+-- No actor has more acts than lines, each look at a tail is lawful, and there is one answer to each line that is done, in their
+-- order.
+pub record IsAnswered (s : Scripted) (order : List Act) (answers : List Answered) : Type 0 where
   pub counted : IsCounted s order
   pub lawful : IsLawfulOrder s order
-  pub answers : AnswerOrder s (lost_in s) order replies
+  pub answered : AnswerOrder s (lost_in s) order answers
 
 -- the looks at tails stand before a processor's act or at the end, by rising rings
 abbrev pub StandsBefore : List Act → Type 0

@@ -1,5 +1,5 @@
 -- The text of a report. This project's own profile.
-use Rattle.std.specs.Prelude.{ℕ, zero, suc, ◌+◌, ◌/◌, ◌%◌, nat_le, Bool, true, false, List, [], ◌∷◌, ◌++◌, map, length, codes, decimal, Option, Some, None}
+use Rattle.std.specs.Prelude.{ℕ, zero, suc, ◌+◌, ◌/◌, ◌%◌, nat_le, Bool, true, false, List, [], ◌∷◌, ◌++◌, map, length, codes, decimal, Option, Some, None, slice_get}
 use Rattle.std.specs.Fmt.{digit_glyph}
 use Rattle.std.specs.List.{flat_map}
 use Rattle.perf_base.specs.declared.numbers.EventNo.{EventNo}
@@ -10,6 +10,8 @@ use Rattle.perf_base.specs.declared.lines.ToolLine.{ToolLine}
 use Rattle.perf_base.specs.declared.lines.ToolLine.TheVariants as tool_line
 use Rattle.perf_base.specs.declared.acts.Act.{Act}
 use Rattle.perf_base.specs.declared.acts.Act.TheVariants as act
+use Rattle.perf_base.specs.declared.acts.Actor.{Actor}
+use Rattle.perf_base.specs.declared.acts.Actor.TheVariants as actor
 use Rattle.perf_base.specs.declared.standing.Rule.TheVariants as rule
 use Rattle.perf_base.specs.declared.standing.Cause.{Cause}
 use Rattle.perf_base.specs.declared.standing.Cause.TheVariants as cause
@@ -20,8 +22,8 @@ use Rattle.perf_base.specs.declared.reasons.Reason.TheVariants as reason
 use Rattle.perf_base.specs.declared.reply.Reply.{Reply}
 use Rattle.perf_base.specs.declared.reply.Reply.TheVariants as reply
 use Rattle.perf_base.specs.Reasons.{printed_of}
-use Rattle.perf_base.specs.Scripts.{Scripted}
-use Rattle.stage_spec.specs.Order.{done_by_cpu, done_by_tool, next_of_cpu, next_of_tool}
+use Rattle.perf_base.specs.Scripts.{Scripted, lines_of_cpu, lines_of_tool}
+use Rattle.stage_spec.specs.Replies.{Answered}
 use Rattle.ring_spec.specs.Records.{Record, record_words, size_of}
 use Rattle.ring_spec.specs.Account.{Account, head_of}
 use Rattle.ring_spec.specs.Rings.{account_in}
@@ -83,27 +85,25 @@ tool_word (Some (tool_line.Close event)) = codes "close"
 tool_word (Some (tool_line.Why event)) = codes "why"
 tool_word (Some (tool_line.Seats cpu)) = codes "seats"
 
--- the number of the line that an act does among its actor's lines, and that line's first word
-abbrev pub line_number : List Act → Act → ℕ
-line_number before (act.Processor cpu) = done_by_cpu cpu before
-line_number before (act.Tool tool) = done_by_tool tool before
-line_number before (act.Seen ring place) = 0
+-- an actor's name, and the first word of its line of a number; a reader has neither
+abbrev pub actor_text : Actor → List ℕ
+actor_text (actor.Processor cpu) = act_text (act.Processor cpu)
+actor_text (actor.Tool tool) = act_text (act.Tool tool)
+actor_text (actor.Reader ring) = []
 
-abbrev pub line_word : Scripted → List Act → Act → List ℕ
-line_word s before (act.Processor cpu) = cpu_word (next_of_cpu s before cpu)
-line_word s before (act.Tool tool) = tool_word (next_of_tool s before tool)
-line_word s before (act.Seen ring place) = []
+abbrev pub line_word : Scripted → Actor → ℕ → List ℕ
+line_word s (actor.Processor cpu) n = cpu_word (slice_get (lines_of_cpu s cpu) n)
+line_word s (actor.Tool tool) n = tool_word (slice_get (lines_of_tool s tool) n)
+line_word s (actor.Reader ring) n = []
 
 -- the line of an answer: the actor, a dot, the number of its line, that line's first word, the answer
-abbrev pub answer_line : Scripted → List Act → Act → Option (List ℕ) → List ℕ
-answer_line s before a None = []
-answer_line s before a (Some text) = act_text a ++ codes "." ++ decimal (line_number before a) ++ codes " " ++ line_word s before a ++ text ++ 10 ∷ []
+abbrev pub answer_line : Scripted → Actor → ℕ → Option (List ℕ) → List ℕ
+answer_line s who n None = []
+answer_line s who n (Some text) = actor_text who ++ codes "." ++ decimal n ++ codes " " ++ line_word s who n ++ text ++ 10 ∷ []
 
--- the lines of the answers to acts, the first of them after some acts
-abbrev pub answer_lines : Scripted → List Act → List Act → List Reply → List ℕ
-answer_lines s before [] replies = []
-answer_lines s before (a ∷ acts) [] = []
-answer_lines s before (a ∷ acts) (r ∷ replies) = answer_line s before a (answer_text r) ++ answer_lines s (before ++ a ∷ []) acts replies
+-- the lines of the answers
+abbrev pub answer_lines : Scripted → List Answered → List ℕ
+answer_lines s answers = flat_map (λ a. answer_line s a.actor a.number (answer_text a.reply)) answers
 
 -- a word as so many hexadecimal digits, in small letters
 unfoldable pub hexadecimal : (digits word : ℕ) → List ℕ
@@ -130,8 +130,8 @@ ring_lines ring = codes "ring " ++ decimal ring.0.0 ++ codes " head=" ++ decimal
     ++ record_lines ring.1.tail 0 ring.1.written
 
 -- the whole report: the order, the answers, the rings, the end
-unfoldable pub report : Scripted → List Act → List Reply → List (RingNo × Account) → List ℕ
-report s order replies rings = codes "order" ++ acts_text order ++ 10 ∷ [] ++ answer_lines s [] order replies ++ flat_map ring_lines rings ++ codes "end" ++ 10 ∷ []
+unfoldable pub report : Scripted → List Act → List Answered → List (RingNo × Account) → List ℕ
+report s order answers rings = codes "order" ++ acts_text order ++ 10 ∷ [] ++ answer_lines s answers ++ flat_map ring_lines rings ++ codes "end" ++ 10 ∷ []
 
 -- what each ring of a script comes to over an order
 abbrev pub rings_after : Scripted → List Act → List (RingNo × Account)

@@ -16,7 +16,7 @@ use Rattle.ring_spec.specs.Records.{Record, Sample, Lost, misc_of, header, recor
 front : (xs ys us vs : List ℕ) → length xs ≡ length ys → xs ++ us ≡ ys ++ vs → xs ≡ ys
 front xs ys us vs n e = sym (take-append_seam xs us) ∙ (ap (take (length xs)) e ∙ (ap (λ k. take k (ys ++ vs)) n ∙ take-append_seam ys vs))
 
-back : (xs ys us vs : List ℕ) → length xs ≡ length ys → xs ++ us ≡ ys ++ vs → us ≡ vs
+pub back : (xs ys us vs : List ℕ) → length xs ≡ length ys → xs ++ us ≡ ys ++ vs → us ≡ vs
 back xs ys us vs n e = sym (drop-append_seam xs us) ∙ (ap (drop (length xs)) e ∙ (ap (λ k. drop k (ys ++ vs)) n ∙ drop-append_seam ys vs))
 
 first : (x y : ℕ) (xs ys : List ℕ) → x ∷ xs ≡ y ∷ ys → x ≡ y
@@ -98,7 +98,7 @@ size_field-header type misc n a b c =
     let small : 8 * n < 2 ^ 16 = omega arith in
     ap (λ x. x % 2 ^ 16) over ∙ mod-eq_of_lt small
 
-block-of : (r : Record) → IsRecord r → IsBlock (record_words r)
+pub block-of : (r : Record) → IsRecord r → IsBlock (record_words r)
 block-of (Sample m b) h = size_field-header 9 (misc_of m) (length b + 1) (omega arith) (misc-low m) (omega arith) ∙ omega arith
 block-of (Lost id lost trailer) h = size_field-header 2 0 (length trailer + 3) (omega arith) (omega arith) (omega arith) ∙ omega arith
 

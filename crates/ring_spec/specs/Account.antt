@@ -60,6 +60,15 @@ abbrev pub ring_step : ℕ → Account → RingEvent → Account
 ring_step bytes a (Sends sent) = send bytes a sent
 ring_step bytes a (Looks place) = record a { tail = place }
 
+-- the events whose records are lost among some more
+abbrev pub lost_by : ℕ → Account → RingEvent → List EventNo
+lost_by bytes a (Sends sent) = elim (nat_le (need_of a sent) (room_of bytes a)) [ true ↦ [] | false ↦ sent.event ∷ [] ]
+lost_by bytes a (Looks place) = []
+
+abbrev pub lost_among : ℕ → Account → List RingEvent → List EventNo
+lost_among bytes a [] = []
+lost_among bytes a (e ∷ events) = lost_by bytes a e ++ lost_among bytes (ring_step bytes a e) events
+
 -- the account of a ring of so many bytes after some events
 unfoldable pub account : ℕ → List RingEvent → Account
 account bytes events = fold (ring_step bytes) empty_account events

@@ -1,6 +1,6 @@
 -- The records of a ring, word by word: struct perf_event_header, PERF_RECORD_SAMPLE and PERF_RECORD_LOST of
 -- perf_event_open(2). A word is eight bytes, the lowest first.
-use Rattle.std.specs.Prelude.{◌≡◌, ℕ, ◌+◌, ◌*◌, ◌^◌, ◌≤◌, ◌==◌, bit_and, List, [], ◌∷◌, ◌++◌, length, flat_map, All, if◌then◌else◌}
+use Rattle.std.specs.Prelude.{◌≡◌, ℕ, ◌+◌, ◌*◌, ◌^◌, ◌≤◌, ◌==◌, bit_and, List, [], ◌∷◌, ◌++◌, length, map, take, sum, flat_map, All, if◌then◌else◌}
 use Rattle.perf_base.specs.declared.lines.Mode.{Mode}
 use Rattle.perf_base.specs.declared.lines.Mode.TheVariants as mode
 use Rattle.ring_spec.specs.declared.fields.Fields.{Fields}
@@ -61,3 +61,12 @@ WordsLaw = (records others : List Record) → words_of records ≡ words_of othe
 
 abbrev pub WholeLaw : Type 0
 WholeLaw = (records : List Record) → All IsRecord records → IsWhole (words_of records)
+
+-- Where the first so many words of some records are whole, they end at a record: they are the words of the first few.
+pub record EndsAtRecord (records : List Record) (words : List ℕ) : Type 0 where
+  pub few : ℕ
+  pub cut : words ≡ words_of (take few records)
+  pub place : 8 * length words ≡ sum (take few (map size_of records))
+
+abbrev pub PrefixLaw : Type 0
+PrefixLaw = (records : List Record) (n : ℕ) → All IsRecord records → IsWhole (take n (words_of records)) → EndsAtRecord records (take n (words_of records))

@@ -1,19 +1,18 @@
 -- The rings of a script over an order: what was sent to each and seen of it, which orders are lawful, and how many records
 -- of a family were lost. This project's own profile.
-use Rattle.std.specs.Prelude.{◌≡◌, ℕ, ◌==◌, Bool, List, [], ◌∷◌, ◌++◌, map, filter, fold, find, sum_by, Option, Some, None, if◌then◌else◌}
-use Rattle.std.proofs.Common.{sym, ap, ◌∙◌, append_assoc, append-nil}
-use Rattle.std.proofs.lemmas.List.Sums.{fold-append}
+use Rattle.std.specs.Prelude.{◌≡◌, ℕ, ◌*◌, ◌≤◌, ◌==◌, Bool, All, List, [], ◌∷◌, ◌++◌, length, map, take, filter, fold, find, sum_by, Option, Some, None, if◌then◌else◌}
 use Rattle.perf_base.specs.declared.numbers.EventNo.{EventNo}
 use Rattle.perf_base.specs.declared.numbers.RingNo.{RingNo}
 use Rattle.perf_base.specs.declared.acts.Act.{Act}
 use Rattle.perf_base.specs.Scripts.{Scripted}
 use Rattle.stage_spec.specs.Hardware.{Hardware, hardware_of}
 use Rattle.stage_spec.specs.Stage.{Stage}
-use Rattle.stage_spec.specs.Order.{IsLawful, IsLawfulAct}
+use Rattle.stage_spec.specs.Order.{IsLawful, IsLawfulAct, IsLawfulSeen}
 use Rattle.stage_spec.specs.History.{Step, CpuStep, ToolStep, SeenStep, history, opening_stage}
-use Rattle.ring_spec.specs.Records.{size_of}
-use Rattle.ring_spec.specs.Sending.{Sent, sent_after}
-use Rattle.ring_spec.specs.Account.{RingEvent, Sends, Looks, Account, account, empty_account, ring_step, lost_of}
+use Rattle.ring_spec.specs.Records.{size_of, words_of, IsRecord}
+use Rattle.ring_spec.specs.Whole.{IsWhole}
+use Rattle.ring_spec.specs.Sending.{Sent, sent_after, sent_by_steps}
+use Rattle.ring_spec.specs.Account.{RingEvent, Sends, Looks, Account, account, ring_step, is_sent, lost_of}
 
 -- the records among some that go to a ring
 abbrev pub is_to : RingNo → RingNo × Sent → Bool
@@ -28,9 +27,13 @@ looks_at ring (CpuStep cpu line) = []
 looks_at ring (ToolStep line) = []
 looks_at ring (SeenStep other place) = if other.0 == ring.0 then Looks place ∷ [] else []
 
+-- what a step that sends these records does to a ring
+abbrev pub events_by : Step → List (RingNo × Sent) → RingNo → List RingEvent
+events_by x sents ring = looks_at ring x ++ sends_to ring sents
+
 -- what a step does to a ring after some steps, the first of them at a stage
 abbrev pub events_after : Hardware → Stage → RingNo → (before : List Step) → Step → List RingEvent
-events_after hw s ring before x = looks_at ring x ++ sends_to ring (sent_after hw s before x)
+events_after hw s ring before x = events_by x (sent_after hw s before x) ring
 
 -- what some steps do to a ring, the first of them after some others
 unfoldable pub events_from : Hardware → Stage → RingNo → (before steps : List Step) → List RingEvent
@@ -48,10 +51,31 @@ account_of hw s steps ring = account ring.1 (events_of hw s steps ring.0)
 unfoldable pub lost_count : Hardware → Stage → List (RingNo × ℕ) → List Step → EventNo → ℕ
 lost_count hw s rings steps e = sum_by (λ ring. lost_of e (account_of hw s steps ring)) rings
 
+-- The records that are sent to a ring over the steps are those among all that the steps send which go to it, in their order.
+abbrev pub SendsLaw : Type 0
+SendsLaw = (hw : Hardware) (s : Stage) (steps : List Step) (ring : RingNo)
+    → filter is_sent (events_of hw s steps ring) ≡ sends_to ring (sent_by_steps hw s steps)
+
 -- what one more step adds to a ring's account
 abbrev pub AccountLaw : Type 0
 AccountLaw = (hw : Hardware) (s : Stage) (steps : List Step) (x : Step) (ring : RingNo × ℕ)
     → account_of hw s (steps ++ x ∷ []) ring ≡ fold (ring_step ring.1) (account_of hw s steps ring) (events_after hw s ring.0 steps x)
+
+-- What is written on a ring are records of lawful sizes.
+abbrev pub SizesLaw : Type 0
+SizesLaw = (hw : Hardware) (s : Stage) (steps : List Step) (ring : RingNo × ℕ) → All IsRecord (account_of hw s steps ring).written
+
+-- On no ring are more than 9 words written for each record that is sent: a sample has at most 9, and a LOST record of at most 9
+-- with its trailer comes only where a record was lost.
+abbrev pub RingWordsLaw : Type 0
+RingWordsLaw = (hw : Hardware) (s : Stage) (steps : List Step) (ring : RingNo × ℕ)
+    → length (words_of (account_of hw s steps ring).written) ≤ 9 * length (sent_by_steps hw s steps)
+
+-- A look is lawful where it is not below the last one, and the words before its place are whole.
+abbrev pub WholeLookLaw : Type 0
+WholeLookLaw = (hw : Hardware) (s : Stage) (steps : List Step) (ring : RingNo × ℕ) (last n : ℕ)
+    → let words : List ℕ = take n (words_of (account_of hw s steps ring).written) in
+    IsWhole words → last ≤ 8 * length words → IsLawfulSeen (map size_of (account_of hw s steps ring).written) last (8 * length words)
 
 -- the declared size of a ring, and the sizes of the records written on it after some acts of a script
 abbrev pub bytes_in : Option (RingNo × ℕ) → ℕ
@@ -74,25 +98,3 @@ IsLawfulOrder s order = IsLawful (sizes_in s) order
 -- what one more act asks of a lawful order: that it is lawful itself
 abbrev pub LawfulLaw : Type 0
 LawfulLaw = (s : Scripted) (order : List Act) (a : Act) → IsLawfulOrder s order → IsLawfulAct (sizes_in s order) order a → IsLawfulOrder s (order ++ a ∷ [])
-
-events_from-push : (hw : Hardware) (s : Stage) (ring : RingNo) (before steps : List Step) (x : Step)
-    → events_from hw s ring before (steps ++ x ∷ []) ≡ events_from hw s ring before steps ++ events_after hw s ring (before ++ steps) x
-unfolding events_from
-events_from-push hw s ring before [] x = append-nil (events_after hw s ring before x) ∙ ap (λ done. events_after hw s ring done x) (sym (append-nil before))
-events_from-push hw s ring before (y ∷ steps) x =
-    let regrouped : (before ++ y ∷ []) ++ steps ≡ before ++ y ∷ steps = append_assoc before (y ∷ []) steps in
-    let now : List RingEvent = events_after hw s ring before y in
-    let rest : List RingEvent = events_from hw s ring (before ++ y ∷ []) steps in
-    ap (λ es. now ++ es) (events_from-push hw s ring (before ++ y ∷ []) steps x)
-    ∙ (ap (λ done. now ++ (rest ++ events_after hw s ring done x)) regrouped ∙ sym (append_assoc now rest (events_after hw s ring (before ++ y ∷ steps) x)))
-
--- the events of a ring over one step more
-pub events_of-push : (hw : Hardware) (s : Stage) (steps : List Step) (x : Step) (ring : RingNo)
-    → events_of hw s (steps ++ x ∷ []) ring ≡ events_of hw s steps ring ++ events_after hw s ring steps x
-unfolding events_of
-events_of-push hw s steps x ring = events_from-push hw s ring [] steps x
-
-pub account_of-push : AccountLaw
-unfolding account_of account
-account_of-push hw s steps x ring = ap (fold (ring_step ring.1) empty_account) (events_of-push hw s steps x ring.0)
-    ∙ fold-append (ring_step ring.1) empty_account (events_of hw s steps ring.0) (events_after hw s ring.0 steps x)

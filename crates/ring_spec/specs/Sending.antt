@@ -114,3 +114,7 @@ sent_after hw s before x = sent_by_step hw (stage_after hw s before) (remainder_
 unfoldable pub sent_from : Hardware → Stage → (before steps : List Step) → List (RingNo × Sent)
 sent_from hw s before [] = []
 sent_from hw s before (x ∷ steps) = sent_after hw s before x ++ sent_from hw s (before ++ x ∷ []) steps
+
+-- the records that steps send, the first of which is at a stage
+abbrev pub sent_by_steps : Hardware → Stage → List Step → List (RingNo × Sent)
+sent_by_steps hw s steps = sent_from hw s [] steps

@@ -7,3 +7,4 @@ pub mod Reading
 pub mod Parting
 pub mod Sound
 pub mod Cuts
+pub mod Loads

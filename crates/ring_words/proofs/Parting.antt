@@ -8,11 +8,13 @@ use lib.ListN.{get_elem?}
 use Rattle.atomic_table.specs.Table.{State, Splits, Joins, Final, Seen, opening}
 use Rattle.atomic_table.proofs.Lists.{at_set, at_snoc, set_again, set_else}
 use Rattle.ring_words.specs.declared.view.View.{View}
-use Rattle.ring_words.specs.Ends.{cells_of, cell_of, IsRingSize}
+use Rattle.perf_base.specs.Scripts.{IsRingSize}
+use Rattle.ring_words.specs.Ends.{cells_of, cell_of}
 use Rattle.ring_words.specs.Views.{both_ends, spent, producer_of, consumer_of, note_of_producer, note_of_consumer, informed, rejoined, IsProducer, IsConsumer, IsNote}
 use Rattle.ring_words.specs.Rule.{Tied, NoteHolds, Kept}
 use Rattle.ring_words.proofs.Alone.{it_stays, it_goes, it_comes, others_stay}
 use Rattle.ring_words.proofs.Prefixes.{prefix_self, whole_nothing}
+use Rattle.ring_words.proofs.Sizes.{least_bytes}
 use Rattle.ring_words.proofs.Keeping.{after, is_producer, is_consumer, tied_producer, tied_consumer, producer_keeps, consumer_keeps}
 
 abbrev Table : Type 0
@@ -23,11 +25,12 @@ abbrev grown : Table → ℕ → View → View → Table
 grown s id v n = record { words = s.words; homes = s.homes; views = set s.views id v ++ n ∷ [] }
 
 -- what ties the words to two views looks at no other part of them
-tied_so : (bytes : ℕ) (words : List ℕ) (p c q d : View) → p.published ≡ q.published → p.put ≡ q.put → p.last_tail ≡ q.last_tail
+tied_so : (bytes : ℕ) (words : List ℕ) (p c q d : View) → p.bytes ≡ q.bytes → c.bytes ≡ d.bytes → p.published ≡ q.published → p.put ≡ q.put → p.last_tail ≡ q.last_tail
     → c.taken ≡ d.taken → c.released ≡ d.released → c.last_head ≡ d.last_head → Tied bytes words p c → Tied bytes words q d
-tied_so bytes words p c q d e1 e2 e3 e4 e5 e6 t = record {
+tied_so bytes words p c q d e e' e1 e2 e3 e4 e5 e6 t = record {
   size = t.size;
   count = t.count;
+  known = (sym e ∙ t.known.0, sym e' ∙ t.known.1);
   head = subst (λ (l : List ℕ). slice_index words 1 ≡ 8 * length l) e1 t.head;
   tail = subst (λ (n : ℕ). slice_index words 0 ≡ 8 * n) e5 t.tail;
   last_tail = omega (arith, t.last_tail, e3, e5);
@@ -90,7 +93,7 @@ module _ (bytes id : ℕ) (v : View) where
         one_reads = filter-append (λ u. u.reads) views (consumer_of v ∷ [])
             ∙ ap (λ (l : List View). l ++ filter (λ u. u.reads) (consumer_of v ∷ [])) (it_goes (λ u. u.reads) s.views id v at k.consumer (producer_of v) reads refl k.one_reads)
             ∙ ap (λ (b : Rattle.std.proofs.Common.Bool). Rattle.std.proofs.Common.cond b (consumer_of v ∷ []) []) reads;
-        tied = tied_so bytes s.words v v (producer_of v) (consumer_of v) refl refl refl refl refl refl tied;
+        tied = tied_so bytes s.words v v (producer_of v) (consumer_of v) refl refl refl refl refl refl refl refl tied;
         notes = λ seat u there.
             ⊎_elim
             (λ (was : get_elem? views seat ≡ some u).
@@ -117,7 +120,7 @@ module _ (bytes id : ℕ) (v : View) where
         let p : v ≡ k.producer = is_producer bytes s k id v at role.0 in
         let t = tied_producer bytes s k id v at role.0 in
         let n : NoteHolds v k.consumer w = subst (λ (q : View). NoteHolds q k.consumer w) (sym p) (k.notes other w was) in
-        let tied : Tied bytes s.words (informed v w) k.consumer = tied_so bytes s.words v k.consumer (informed v w) k.consumer refl refl refl refl refl refl t in
+        let tied : Tied bytes s.words (informed v w) k.consumer = tied_so bytes s.words v k.consumer (informed v w) k.consumer refl refl refl refl refl refl refl refl t in
         let first : Kept bytes (after s s.words id (informed v w)) =
         producer_keeps bytes s k id v at s.words (informed v w) role role tied (prefix_self v.published) n in
         replaces_note bytes (after s s.words id (informed v w)) first other w spent there none (refl, refl) (spent_holds first.producer first.consumer)
@@ -128,7 +131,7 @@ module _ (bytes id : ℕ) (v : View) where
         let c : v ≡ k.consumer = is_consumer bytes s k id v at role.0 in
         let t = tied_consumer bytes s k id v at role.0 in
         let n : NoteHolds k.producer v w = subst (λ (d : View). NoteHolds k.producer d w) (sym c) (k.notes other w was) in
-        let tied : Tied bytes s.words k.producer (informed v w) = tied_so bytes s.words k.producer v k.producer (informed v w) refl refl refl refl refl refl t in
+        let tied : Tied bytes s.words k.producer (informed v w) = tied_so bytes s.words k.producer v k.producer (informed v w) refl refl refl refl refl refl refl refl t in
         let first : Kept bytes (after s s.words id (informed v w)) =
         consumer_keeps bytes s k id v at s.words (informed v w) role role tied (omega arith) n in
         replaces_note bytes (after s s.words id (informed v w)) first other w spent there none (refl, refl) (spent_holds first.producer first.consumer)
@@ -140,6 +143,7 @@ module _ (bytes id : ℕ) (v : View) where
         let p : v ≡ k.producer = is_producer bytes s k id v at role.0 in
         let c : w ≡ k.consumer = is_consumer bytes s k other w was reader.0 in
         let tied : Tied bytes s.words v w = subst (λ (d : View). Tied bytes s.words v d) (sym c) (tied_producer bytes s k id v at role.0) in
+        let known : w.bytes ≡ both.bytes = tied.known.1 ∙ sym tied.known.0 in
         let left : List View = set s.views other spent in
         let turned : set (set s.views id both) other spent ≡ set left id both = set_comm s.views id other both spent (λ e. apart (sym e)) in
         let here : get_elem? left id ≡ some v = set_else s.views other id spent (λ e. apart (sym e)) ∙ at in
@@ -151,7 +155,7 @@ module _ (bytes id : ℕ) (v : View) where
               ∙ it_stays (λ u. u.writes) left id v here k.producer both role.0 role.0 (others_stay (λ u. u.writes) s.views other w was spent reader.1 refl ∙ k.one_writes);
           one_reads = ap (filter (λ (u : View). u.reads)) turned
               ∙ it_comes (λ u. u.reads) left id v here both role.1 reader.0 (it_goes (λ u. u.reads) s.views other w was k.consumer spent reader.0 refl k.one_reads);
-          tied = tied_so bytes s.words v w both both refl refl refl refl refl refl tied;
+          tied = tied_so bytes s.words v w both both refl known refl refl refl refl refl refl tied;
           notes = λ seat u at'.
               ⊎_elim (λ (t : (seat ≡ other) × (spent ≡ u)). subst (λ (z : View). NoteHolds both both z) t.1 (spent_holds both both))
               (λ (t : (seat ≢ other) × (get_elem? (set s.views id both) seat ≡ some u)).
@@ -160,20 +164,21 @@ module _ (bytes id : ℕ) (v : View) where
               (at_set (set s.views id both) other seat spent u at');
         }
 
-first_note : (seat : ℕ) (v : View) → get_elem? (both_ends ∷ []) seat ≡ some v → NoteHolds both_ends both_ends v
-first_note zero v at = subst (λ (z : View). NoteHolds both_ends both_ends z) (some-injective both_ends v at) (prefix_self [], omega arith)
-first_note (suc seat) v at = absurd (some-ne-none v (sym at))
+first_note : (bytes seat : ℕ) (v : View) → get_elem? (both_ends bytes ∷ []) seat ≡ some v → NoteHolds (both_ends bytes) (both_ends bytes) v
+first_note bytes zero v at = subst (λ (z : View). NoteHolds (both_ends bytes) (both_ends bytes) z) (some-injective (both_ends bytes) v at) (prefix_self [], omega arith)
+first_note bytes (suc seat) v at = absurd (some-ne-none v (sym at))
 
 -- a new ring: all words are 0
-pub starts : (bytes : ℕ) → IsRingSize bytes → (words : List ℕ) → words ≡ replicate (2 + cells_of bytes) 0 → Kept bytes (opening words [] both_ends)
+pub starts : (bytes : ℕ) → IsRingSize bytes → (words : List ℕ) → words ≡ replicate (2 + cells_of bytes) 0 → Kept bytes (opening words [] (both_ends bytes))
 starts bytes size words are = record {
-  producer = both_ends;
-  consumer = both_ends;
+  producer = both_ends bytes;
+  consumer = both_ends bytes;
   one_writes = refl;
   one_reads = refl;
   tied = record {
     size = size;
     count = ap length are ∙ length-replicate (2 + cells_of bytes) 0;
+    known = (refl, refl);
     head = ap (λ (l : List ℕ). slice_index l 1) are ∙ get_or-replicate (2 + cells_of bytes) 1 0 0 (omega arith);
     tail = ap (λ (l : List ℕ). slice_index l 0) are ∙ get_or-replicate (2 + cells_of bytes) 0 0 0 (omega arith);
     last_tail = omega arith;
@@ -182,13 +187,13 @@ starts bytes size words are = record {
     looked = omega arith;
     last_head = omega arith;
     stored = λ j low below. absurd (omega arith);
-    room = let least : 64 ≤ bytes = size.least in omega (arith, least);
+    room = let least : 64 ≤ bytes = least_bytes bytes size in omega (arith, least);
     whole = whole_nothing;
     whole_released = whole_nothing;
     whole_tail = whole_nothing;
     whole_head = whole_nothing;
   };
-  notes = first_note;
+  notes = first_note bytes;
 }
 
 pub at_word : (l : List ℕ) (i n : ℕ) → get_elem? l i ≡ some n → n ≡ slice_index l i

@@ -3,9 +3,8 @@ use Rattle.std.proofs.Common.{◌≡◌, ℕ, ◌+◌, ◌*◌, ◌/◌, ◌%◌
 use Rattle.std.proofs.lemmas.List.{set-get_or}
 use Rattle.std.proofs.Math.ListN.{get_or-append}
 use Rattle.std.proofs.Math.Seq.{take-length}
-use mathlib.Core.Option.{none}
 use mathlib.Core.List.{IsPrefix}
-use Rattle.atomic_table.specs.Table.{keeps, Allows, step}
+use Rattle.atomic_table.specs.Table.{keeps, Allows}
 use Rattle.ring_words.specs.declared.view.View.{View}
 use Rattle.ring_spec.specs.Whole.{IsWhole}
 use Rattle.ring_words.specs.Ends.{cell_of, LeadsTo}
@@ -25,6 +24,7 @@ module _ (bytes : ℕ) (words : List ℕ) (p v : View) (t : Tied bytes words p v
   sees_head = record {
     size = t.size;
     count = t.count;
+    known = t.known;
     head = t.head;
     tail = t.tail;
     last_tail = t.last_tail;
@@ -60,6 +60,7 @@ module _ (bytes : ℕ) (words : List ℕ) (p v : View) (t : Tied bytes words p v
         let long : length (v.taken ++ word ∷ []) ≡ length v.taken + 1 = length-append v.taken (word ∷ []) in record {
           size = t.size;
           count = t.count;
+          known = t.known;
           head = t.head;
           tail = t.tail;
           last_tail = t.last_tail;
@@ -84,6 +85,7 @@ module _ (bytes : ℕ) (words : List ℕ) (p v : View) (t : Tied bytes words p v
   releases whole = record {
     size = t.size;
     count = length-set words 0 (8 * length v.taken) ∙ t.count;
+    known = t.known;
     head = get_or-set_other words 0 1 (8 * length v.taken) 0 (λ e. omega arith) ∙ t.head;
     tail = get_or-set_same words 0 (8 * length v.taken) 0 (omega (arith, t.count));
     last_tail = omega (arith, t.last_tail, t.released);
@@ -100,7 +102,7 @@ module _ (bytes : ℕ) (words : List ℕ) (p v : View) (t : Tied bytes words p v
   }
 
 module _ (bytes slots id : ℕ) (m : Holder) (role : IsConsumer m.0) where
-  pub may_load_head : Allows (Kept bytes) slots id m 1 (λ n. n) (LoadsHead m)
+  pub may_load_head : Allows (Kept bytes) slots id m 1 (λ n. n) (LoadsHead 1 m)
   may_load_head s k _ at _ =
       let v : View = m.0 in
       let t : Tied bytes s.words k.producer v = tied_consumer bytes s k id v at role.0 in
@@ -115,6 +117,7 @@ module _ (bytes slots id : ℕ) (m : Holder) (role : IsConsumer m.0) where
         tt,
         consumer_keeps bytes s k id v at (set s.words 1 (slice_index s.words 1)) (saw_head v (slice_index s.words 1)) role role tied (omega arith) note,
         record {
+          on = refl;
           view = refl;
           learns = record {
             rises = omega (arith, found, t.last_head);
@@ -125,7 +128,7 @@ module _ (bytes slots id : ℕ) (m : Holder) (role : IsConsumer m.0) where
       )
 
   pub may_load_word : (place : ℕ) → place ≡ cell_of bytes (length m.0.taken) → 8 * length m.0.taken < m.0.last_head → m.0.last_head % 8 ≡ 0
-      → Allows (Kept bytes) slots id m place (λ n. n) (LoadsWord m)
+      → Allows (Kept bytes) slots id m place (λ n. n) (LoadsWord place m)
   may_load_word place is more even s k _ at _ =
       let v : View = m.0 in
       let t : Tied bytes s.words k.producer v = tied_consumer bytes s k id v at role.0 in
@@ -139,10 +142,10 @@ module _ (bytes slots id : ℕ) (m : Holder) (role : IsConsumer m.0) where
         keeps,
         tt,
         consumer_keeps bytes s k id v at (set s.words place word) (with_taken v word) role role tied (omega arith) note,
-        record { view = refl; leads = leads_still bytes s.words k.producer v t more even word found },
+        record { on = is ∙ ap (λ (b : ℕ). cell_of b (length v.taken)) (sym t.known.1); view = refl; leads = leads_still bytes s.words k.producer v t more even word found },
       )
 
-  pub may_store_tail : (tail : ℕ) → tail ≡ 8 * length m.0.taken → IsWhole m.0.taken → Allows (Kept bytes) slots id m 0 (λ _. tail) (λ _. StoresTail (step slots 0 tail 0 none) m tail)
+  pub may_store_tail : (tail : ℕ) → tail ≡ 8 * length m.0.taken → IsWhole m.0.taken → Allows (Kept bytes) slots id m 0 (λ _. tail) (λ _. StoresTail 0 m tail)
   may_store_tail tail is whole s k _ at _ =
       let v : View = m.0 in
       let t : Tied bytes s.words k.producer v = tied_consumer bytes s k id v at role.0 in
@@ -153,10 +156,10 @@ module _ (bytes slots id : ℕ) (m : Holder) (role : IsConsumer m.0) where
         keeps,
         tt,
         consumer_keeps bytes s k id v at (set s.words 0 tail) (all_released v) role role tied t.released (note.0, omega (arith, note.1, t.released)),
-        refl,
+        record { on = refl; view = refl },
       )
 
-  pub may_check_tail : Allows (Kept bytes) slots id m 0 (λ n. n) (ChecksTail m)
+  pub may_check_tail : Allows (Kept bytes) slots id m 0 (λ n. n) (ChecksTail 0 m)
   may_check_tail s k _ at _ =
       let v : View = m.0 in
       let t : Tied bytes s.words k.producer v = tied_consumer bytes s k id v at role.0 in
@@ -168,5 +171,5 @@ module _ (bytes slots id : ℕ) (m : Holder) (role : IsConsumer m.0) where
         keeps,
         tt,
         consumer_keeps bytes s k id v at (set s.words 0 (slice_index s.words 0)) v role role tied (omega arith) note,
-        record { view = refl; own = t.tail; note = omega (arith, t.tail, note.1) },
+        record { on = refl; view = refl; own = t.tail; note = omega (arith, t.tail, note.1) },
       )

@@ -1,6 +1,11 @@
--- A ring's size in words.
-use Rattle.std.proofs.Common.{◌≡◌, ℕ, zero, suc, ◌*◌, ◌/◌, ◌^◌, ◌≤◌, pow-suc, arith}
-use Rattle.ring_words.specs.Ends.{cells_of, IsRingSize}
+-- A ring's size in bytes and in words.
+use Rattle.std.proofs.Common.{◌≡◌, ℕ, zero, suc, ◌*◌, ◌/◌, ◌^◌, ◌≤◌, pow-suc, sym, subst, arith}
+use Rattle.std.proofs.Math.Pow.{pow_mono}
+use Rattle.perf_base.specs.Scripts.{IsRingSize}
+use Rattle.ring_words.specs.Ends.{cells_of}
+
+pub least_bytes : (bytes : ℕ) → IsRingSize bytes → 64 ≤ bytes
+least_bytes bytes size = let P : ℕ → Type 0 = λ n. 64 ≤ n in subst P (sym size.3) (pow_mono size.1)
 
 eighths : (bytes k : ℕ) → bytes ≡ 2 ^ k → 64 ≤ bytes → 8 * (bytes / 8) ≡ bytes
 eighths bytes zero e h = absurd (omega arith)
@@ -9,4 +14,4 @@ eighths bytes (suc (suc zero)) e h = absurd (omega arith)
 eighths bytes (suc (suc (suc k))) e h = omega (arith, e, pow-suc 2 k, pow-suc 2 (suc k), pow-suc 2 (suc (suc k)))
 
 pub bytes_of_cells : (bytes : ℕ) → IsRingSize bytes → 8 * cells_of bytes ≡ bytes
-bytes_of_cells bytes size = eighths bytes size.power.0 size.power.1 size.least
+bytes_of_cells bytes size = eighths bytes size.0 size.3 (least_bytes bytes size)

@@ -1,14 +1,15 @@
 -- What is true of an end between any two calls stays true.
-use Rattle.std.proofs.Common.{◌≡◌, ℕ, ◌+◌, ◌-◌, ◌*◌, ◌<◌, ◌≤◌, ◌^◌, [], ◌∷◌, ◌++◌, length-append, subst, sym, ap, ◌∙◌, refl, arith}
+use Rattle.std.proofs.Common.{◌≡◌, ℕ, ◌+◌, ◌-◌, ◌*◌, ◌<◌, ◌≤◌, ◌^◌, [], ◌∷◌, ◌++◌, length, length-append, subst, sym, ap, ◌∙◌, refl, arith}
 use Rattle.std.proofs.Math.Seq.{take-length}
 use Rattle.atomic_table.specs.Seated.{TableId}
 use Rattle.ring_words.specs.declared.view.View.{View}
 use Rattle.ring_spec.specs.Whole.{IsWhole}
-use Rattle.ring_words.specs.Ends.{cells_of, IsRingSize, Ring, LeadsTo, IsSoundProducer, IsSoundConsumer, new_producer, new_consumer}
+use Rattle.perf_base.specs.Scripts.{IsRingSize}
+use Rattle.ring_words.specs.Ends.{cells_of, Ring, LeadsTo, IsSoundProducer, IsSoundConsumer, new_producer, new_consumer}
 use Rattle.ring_words.specs.Steps.{LearnsHead}
-use Rattle.ring_words.specs.Views.{Holder, ring_of, both_ends, producer_of, consumer_of, producer_end, consumer_end, all_published, saw_head, with_taken, all_released, HoldsProducer, HoldsConsumer}
+use Rattle.ring_words.specs.Views.{Holder, IsProducer, ring_of, both_ends, producer_of, consumer_of, producer_end, consumer_end, all_published, saw_head, with_taken, all_released, HoldsProducer, HoldsConsumer}
 use Rattle.ring_words.proofs.Prefixes.{whole_nothing, whole_both, whole_more, stop_at_start, stop_more}
-use Rattle.ring_words.proofs.Sizes.{bytes_of_cells}
+use Rattle.ring_words.proofs.Sizes.{least_bytes, bytes_of_cells}
 
 pub sound_published : (id : TableId) (v : View) → IsSoundProducer (producer_end id v) → IsWhole v.put → IsSoundProducer (producer_end id (all_published v))
 sound_published id v s put = record {
@@ -70,14 +71,23 @@ sound_first : (ring : Ring) → IsSoundConsumer (new_consumer ring)
 sound_first ring = record { leads = record { others = []; whole = whole_nothing; ends = refl }; released = omega arith; whole = whole_nothing }
 
 module _ (id : TableId) (bytes : ℕ) (words : id.words ≡ 2 + cells_of bytes) (size : IsRingSize bytes) where
-  pub producer_starts : (id' : TableId) (v : View) → id' ≡ id → v ≡ producer_of both_ends
+  pub producer_starts : (id' : TableId) (v : View) → id' ≡ id → v ≡ producer_of (both_ends bytes)
       → (producer_end id' v ≡ new_producer (record { table = id; bytes = bytes })) × IsSoundProducer (producer_end id' v)
   producer_starts id' v same start =
       let ring : Ring = record { table = id; bytes = bytes } in
       let e : producer_end id' v ≡ new_producer ring = (λ i. producer_end (same i) (start i)) ∙ ap new_producer (ring_is id bytes words size) in
-      (e, subst IsSoundProducer (sym e) (sound_start ring size.least))
+      (e, subst IsSoundProducer (sym e) (sound_start ring (least_bytes bytes size)))
 
-  pub consumer_starts : (id' : TableId) (v : View) → id' ≡ id → v ≡ consumer_of both_ends
+  pub producer_holds : (id' : TableId) (m : Holder) → id' ≡ id → m.0 ≡ producer_of (both_ends bytes) → m.1 ≡ [] → HoldsProducer id' m 0
+  producer_holds id' m same start bare = record {
+    role = subst IsProducer (sym start) (refl, refl);
+    bare = bare;
+    place_is = let P : View → Type 0 = λ v. 0 ≡ 8 * (length v.published + length v.put) in subst P (sym start) refl;
+    below = omega arith;
+    sound = (producer_starts id' m.0 same start).1;
+  }
+
+  pub consumer_starts : (id' : TableId) (v : View) → id' ≡ id → v ≡ consumer_of (both_ends bytes)
       → (consumer_end id' v ≡ new_consumer (record { table = id; bytes = bytes })) × IsSoundConsumer (consumer_end id' v)
   consumer_starts id' v same start =
       let ring : Ring = record { table = id; bytes = bytes } in

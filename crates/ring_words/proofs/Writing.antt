@@ -3,8 +3,7 @@ use Rattle.std.proofs.Common.{◌≡◌, ◌≢◌, ℕ, ◌+◌, ◌-◌, ◌*�
 use Rattle.std.proofs.lemmas.List.{set-get_or}
 use Rattle.std.proofs.Math.ListN.{get_or-append}
 use Rattle.std.proofs.Math.Seq.{get_or-append_seam}
-use mathlib.Core.Option.{none}
-use Rattle.atomic_table.specs.Table.{keeps, Allows, step}
+use Rattle.atomic_table.specs.Table.{keeps, Allows}
 use Rattle.atomic_table.proofs.Lists.{one_turn}
 use Rattle.ring_words.specs.declared.view.View.{View}
 use Rattle.ring_spec.specs.Whole.{IsWhole}
@@ -13,7 +12,7 @@ use Rattle.ring_words.specs.Views.{IsProducer, Holder, saw_tail, with_put, all_p
 use Rattle.ring_words.specs.Rule.{Tied, NoteHolds, Kept}
 use Rattle.ring_words.specs.Steps.{LoadsTail, StoresWord, StoresHead}
 use Rattle.ring_words.proofs.Prefixes.{prefix_more, prefix_self, length-prefix, whole_both, whole_more}
-use Rattle.ring_words.proofs.Sizes.{bytes_of_cells}
+use Rattle.ring_words.proofs.Sizes.{least_bytes, bytes_of_cells}
 use Rattle.ring_words.proofs.Keeping.{tied_producer, producer_note, producer_keeps}
 
 module _ (bytes : ℕ) (words : List ℕ) (v c : View) (t : Tied bytes words v c) where
@@ -27,6 +26,7 @@ module _ (bytes : ℕ) (words : List ℕ) (v c : View) (t : Tied bytes words v c
   sees_tail = record {
     size = t.size;
     count = t.count;
+    known = t.known;
     head = t.head;
     tail = t.tail;
     last_tail = omega arith;
@@ -53,6 +53,7 @@ module _ (bytes : ℕ) (words : List ℕ) (v c : View) (t : Tied bytes words v c
   publishes put_whole = record {
     size = t.size;
     count = length-set words 1 (8 * (length v.published + length v.put)) ∙ t.count;
+    known = t.known;
     head = get_or-set_same words 1 (8 * (length v.published + length v.put)) 0 (omega (arith, t.count)) ∙ ap (λ (n : ℕ). 8 * n) (sym (length-append v.published v.put));
     tail = get_or-set_other words 1 0 (8 * (length v.published + length v.put)) 0 (λ e. omega arith) ∙ t.tail;
     last_tail = t.last_tail;
@@ -94,7 +95,7 @@ module _ (bytes : ℕ) (words : List ℕ) (v c : View) (t : Tied bytes words v c
         let at_most : j ≤ end_of = omega (arith, long, below, ap length joined, length-append stream (word ∷ [])) in
         let read : slice_index (stream ++ word ∷ []) j ≡ slice_index (v.published ++ (v.put ++ word ∷ [])) j = ap (λ (l : List ℕ). slice_index l j) joined in
         let whole : 8 * cells_of bytes ≡ bytes = bytes_of_cells bytes t.size in
-        let cells : cell_of bytes end_of < length words = let n : ℕ = cells_of bytes in let least : 64 ≤ bytes = t.size.least in omega (arith, t.count, whole, least) in
+        let cells : cell_of bytes end_of < length words = let n : ℕ = cells_of bytes in let least : 64 ≤ bytes = least_bytes bytes t.size in omega (arith, t.count, whole, least) in
         ⊎_elim
         (λ (same : j ≡ end_of).
         ap (λ (k : ℕ). slice_index (set words (cell_of bytes end_of) word) (cell_of bytes k)) same
@@ -113,6 +114,7 @@ module _ (bytes : ℕ) (words : List ℕ) (v c : View) (t : Tied bytes words v c
         let long : length (v.put ++ word ∷ []) ≡ length v.put + 1 = length-append v.put (word ∷ []) in record {
           size = t.size;
           count = length-set words (cell_of bytes end_of) word ∙ t.count;
+          known = t.known;
           head = get_or-set_other words (cell_of bytes end_of) 1 word 0 (λ e. omega arith) ∙ t.head;
           tail = get_or-set_other words (cell_of bytes end_of) 0 word 0 (λ e. omega arith) ∙ t.tail;
           last_tail = t.last_tail;
@@ -129,7 +131,7 @@ module _ (bytes : ℕ) (words : List ℕ) (v c : View) (t : Tied bytes words v c
         }
 
 module _ (bytes slots id : ℕ) (m : Holder) (role : IsProducer m.0) where
-  pub may_load_tail : Allows (Kept bytes) slots id m 0 (λ n. n) (LoadsTail m)
+  pub may_load_tail : Allows (Kept bytes) slots id m 0 (λ n. n) (LoadsTail 0 m)
   may_load_tail s k _ at _ =
       let v : View = m.0 in
       let t : Tied bytes s.words v k.consumer = tied_producer bytes s k id v at role.0 in
@@ -144,6 +146,7 @@ module _ (bytes slots id : ℕ) (m : Holder) (role : IsProducer m.0) where
         tt,
         producer_keeps bytes s k id v at (set s.words 0 (slice_index s.words 0)) (saw_tail v (slice_index s.words 0)) role role tied (prefix_self v.published) note,
         record {
+          on = refl;
           view = refl;
           learns = record {
             rises = omega (arith, found, t.last_tail);
@@ -155,7 +158,7 @@ module _ (bytes slots id : ℕ) (m : Holder) (role : IsProducer m.0) where
       )
 
   pub may_store_word : (word place : ℕ) → place ≡ cell_of bytes (length m.0.published + length m.0.put) → 8 ≤ bytes - 1 - (8 * (length m.0.published + length m.0.put) - m.0.last_tail)
-      → Allows (Kept bytes) slots id m place (λ _. word) (λ _. StoresWord (step slots place word 0 none) m word)
+      → Allows (Kept bytes) slots id m place (λ _. word) (λ _. StoresWord place m word)
   may_store_word word place is room s k _ at _ =
       let v : View = m.0 in
       let t : Tied bytes s.words v k.consumer = tied_producer bytes s k id v at role.0 in
@@ -166,11 +169,11 @@ module _ (bytes slots id : ℕ) (m : Holder) (role : IsProducer m.0) where
         keeps,
         tt,
         producer_keeps bytes s k id v at (set s.words place word) (with_put v word) role role tied (prefix_self v.published) note,
-        refl,
+        record { on = is ∙ ap (λ (b : ℕ). cell_of b (length v.published + length v.put)) (sym t.known.0); view = refl },
       )
 
   pub may_store_head : (head : ℕ) → head ≡ 8 * (length m.0.published + length m.0.put) → IsWhole m.0.put
-      → Allows (Kept bytes) slots id m 1 (λ _. head) (λ _. StoresHead (step slots 1 head 0 none) m head)
+      → Allows (Kept bytes) slots id m 1 (λ _. head) (λ _. StoresHead 1 m head)
   may_store_head head is whole s k _ at _ =
       let v : View = m.0 in
       let t : Tied bytes s.words v k.consumer = tied_producer bytes s k id v at role.0 in
@@ -181,5 +184,5 @@ module _ (bytes slots id : ℕ) (m : Holder) (role : IsProducer m.0) where
         keeps,
         tt,
         producer_keeps bytes s k id v at (set s.words 1 head) (all_published v) role role tied (v.put, refl) (prefix_more v.note v.published v.put note.0, note.1),
-        refl,
+        record { on = refl; view = refl },
       )

@@ -1,6 +1,5 @@
 -- What contracts see of a ring and of its two ends. Places, heads and tails are in bytes from the start of the stream, and never wrap.
 use Rattle.std.specs.Prelude.{◌≡◌, ℕ, ◌+◌, ◌-◌, ◌*◌, ◌/◌, ◌%◌, ◌<◌, ◌≤◌, List, [], ◌++◌, length, take}
-use Rattle.std.specs.Int.{IsPowerOfTwo}
 use Rattle.atomic_table.specs.Seated.{TableId}
 use Rattle.ring_spec.specs.Whole.{size_field, IsWhole}
 
@@ -9,11 +8,12 @@ pub record Ring : Type 0 where
   pub table : TableId
   pub bytes : ℕ
 
--- a ring's size: a power of two from 64 to 65,536 bytes (this project's own profile, after perf_event_open(2))
-pub record IsRingSize (bytes : ℕ) : Type 0 where
-  pub power : IsPowerOfTwo bytes
-  pub least : 64 ≤ bytes
-  pub most : bytes ≤ 65536
+-- the table's words that are the tail and the head (kernel/events/ring_buffer.c)
+abbrev pub tail_word : ℕ
+tail_word = 0
+
+abbrev pub head_word : ℕ
+head_word = 1
 
 -- the data words of a ring of this size (kernel/events/ring_buffer.c)
 abbrev pub cells_of : ℕ → ℕ

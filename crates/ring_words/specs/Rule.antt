@@ -4,17 +4,20 @@ use mathlib.Core.Option.{some}
 use mathlib.Core.List.{IsPrefix}
 use lib.ListN.{get_elem?}
 use Rattle.atomic_table.specs.Table.{State}
+use Rattle.perf_base.specs.Scripts.{IsRingSize}
 use Rattle.ring_spec.specs.Whole.{IsWhole}
-use Rattle.ring_words.specs.Ends.{cells_of, cell_of, IsRingSize}
+use Rattle.ring_words.specs.Ends.{tail_word, head_word, cells_of, cell_of}
 use Rattle.ring_words.specs.declared.view.View.{View}
 
 -- what ties the table's words to what the producer p and the consumer c know (kernel/events/ring_buffer.c; whole words are this project's own profile)
 pub record Tied (bytes : ℕ) (words : List ℕ) (p c : View) : Type 0 where
   pub size : IsRingSize bytes
   pub count : length words ≡ 2 + cells_of bytes
+  -- both ends know the size
+  pub known : (p.bytes ≡ bytes) × (c.bytes ≡ bytes)
   -- the head and the tail
-  pub head : slice_index words 1 ≡ 8 * length p.published
-  pub tail : slice_index words 0 ≡ 8 * c.released
+  pub head : slice_index words head_word ≡ 8 * length p.published
+  pub tail : slice_index words tail_word ≡ 8 * c.released
   -- the producer has seen no more than was released
   pub last_tail : p.last_tail ≤ 8 * c.released
   -- what was released was taken, and what was taken was published before the last head seen

@@ -2,16 +2,17 @@
 use Rattle.std.specs.Prelude.{◌≡◌, ℕ, ◌+◌, ◌-◌, ◌*◌, ◌<◌, ◌^◌, true, false, List, [], ◌∷◌, ◌++◌, length}
 use Rattle.atomic_table.specs.Seated.{TableId}
 use Rattle.atomic_table.specs.Table.{Me}
-use Rattle.ring_words.specs.Ends.{cells_of, IsRingSize, Ring, ProducerEnd, ConsumerEnd, IsSoundProducer, IsSoundConsumer}
+use Rattle.perf_base.specs.Scripts.{IsRingSize}
+use Rattle.ring_words.specs.Ends.{cells_of, Ring, ProducerEnd, ConsumerEnd, IsSoundProducer, IsSoundConsumer}
 use Rattle.ring_words.specs.declared.view.View.{View}
 
--- the one view of a new ring holds both ends (this project's own profile)
-abbrev pub both_ends : View
-both_ends = record { writes = true; published = []; put = []; last_tail = 0; tail_loads = 0; reads = true; taken = []; released = 0; last_head = 0; head_loads = 0; note = []; note_place = 0 }
+-- the one view of a new ring of this size holds both ends (this project's own profile)
+abbrev pub both_ends : ℕ → View
+both_ends bytes = record { bytes = bytes; writes = true; published = []; put = []; last_tail = 0; tail_loads = 0; reads = true; taken = []; released = 0; last_head = 0; head_loads = 0; note = []; note_place = 0 }
 
 -- a view that is no end, and has this note (this project's own profile)
 abbrev pub noted : List ℕ → ℕ → View
-noted words place = record both_ends { writes = false; reads = false; note = words; note_place = place }
+noted words place = record (both_ends 0) { writes = false; reads = false; note = words; note_place = place }
 
 -- the view of a seat that was joined to another (this project's own profile)
 abbrev pub spent : View

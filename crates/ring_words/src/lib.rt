@@ -4,6 +4,7 @@
 #![tactic(auto)]
 
 mod consumer;
+mod laws;
 mod plays;
 mod producer;
 mod ring;
@@ -14,6 +15,7 @@ mod tests;
 mod view;
 
 pub use consumer::Consumer;
+pub use laws::{loads_of_their_words, notes_load_nothing};
 pub use producer::Producer;
 pub use ring::{close, make_ring, meet};
 pub use table::RingTable;

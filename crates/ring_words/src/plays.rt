@@ -10,49 +10,49 @@ use atomic_table::{Join, Play, Split};
 pub(crate) struct LoadTail;
 
 impl Play<(), View> for LoadTail {
-    ghost then = { λ _. LoadsTail };
+    ghost then = { λ s. LoadsTail s.word };
 }
 
 /// The producer stores a data word.
 pub(crate) struct StoreWord;
 
 impl Play<(), View> for StoreWord {
-    ghost then = { StoresWord };
+    ghost then = { λ s. StoresWord s.word };
 }
 
 /// The producer stores the head.
 pub(crate) struct StoreHead;
 
 impl Play<(), View> for StoreHead {
-    ghost then = { StoresHead };
+    ghost then = { λ s. StoresHead s.word };
 }
 
 /// The consumer loads the head.
 pub(crate) struct LoadHead;
 
 impl Play<(), View> for LoadHead {
-    ghost then = { λ _. LoadsHead };
+    ghost then = { λ s. LoadsHead s.word };
 }
 
 /// The consumer loads a data word.
 pub(crate) struct LoadWord;
 
 impl Play<(), View> for LoadWord {
-    ghost then = { λ _. LoadsWord };
+    ghost then = { λ s. LoadsWord s.word };
 }
 
 /// The consumer stores the tail.
 pub(crate) struct StoreTail;
 
 impl Play<(), View> for StoreTail {
-    ghost then = { StoresTail };
+    ghost then = { λ s. StoresTail s.word };
 }
 
 /// The consumer loads the tail while it meets the producer.
 pub(crate) struct CheckTail;
 
 impl Play<(), View> for CheckTail {
-    ghost then = { λ _. ChecksTail };
+    ghost then = { λ s. ChecksTail s.word };
 }
 
 /// The one view of a new ring is parted into the two ends.

@@ -1,7 +1,8 @@
 //! A ring from its making to its close, and the meeting of its two ends.
 ghost use Rattle.std.specs.Prelude.{◌≡◌, ◌+◌, ◌*◌, ◌≤◌, length, IfOk};
 ghost use mathlib.Core.List.{IsPrefix};
-ghost use Rattle.ring_words.specs.Ends.{IsRingSize, new_producer, new_consumer, IsSoundProducer, IsSoundConsumer};
+ghost use Rattle.perf_base.specs.Scripts.{IsRingSize};
+ghost use Rattle.ring_words.specs.Ends.{new_producer, new_consumer, IsSoundProducer, IsSoundConsumer};
 
 use crate::consumer::Consumer;
 use crate::plays::Ends;

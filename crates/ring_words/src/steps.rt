@@ -1,9 +1,9 @@
 //! Each kind of step on a ring's table, by a seat. Every call but `meet_ends` is one atomic step.
 ghost use Rattle.std.specs.Prelude.{◌≡◌, ◌+◌, ◌-◌, ◌*◌, ◌%◌, ◌^◌, ◌<◌, ◌≤◌, [], length};
 ghost use Rattle.ring_spec.specs.Whole.{IsWhole};
-ghost use Rattle.ring_words.specs.Views.{IsProducer, IsConsumer, with_put, all_published, all_released, note_of_producer, note_of_consumer, informed};
-ghost use Rattle.ring_words.specs.Ends.{cell_of};
-ghost use Rattle.ring_words.specs.Steps.{LoadsTail, LoadsHead, LoadsWord, ChecksTail, Meets};
+ghost use Rattle.ring_words.specs.Views.{IsProducer, IsConsumer, note_of_producer, note_of_consumer, informed};
+ghost use Rattle.ring_words.specs.Ends.{tail_word, head_word, cell_of};
+ghost use Rattle.ring_words.specs.Steps.{LoadsTail, StoresWord, StoresHead, LoadsHead, LoadsWord, StoresTail, ChecksTail, Meets};
 
 use crate::plays::{
     CheckTail, ConsumerNote, KeepNote, LoadHead, LoadTail, LoadWord, ProducerNote, StoreHead,
@@ -19,7 +19,7 @@ pub(crate) fn load_tail(shared: &RingShared, seat: &mut RingSeat) -> u64
     requires table { (seat.old.table_id ≡ shared.now.table_id) × (1 < shared.now.table_id.words) }
     requires role { IsProducer seat.old.me.0 }
     ensures table { seat.new.table_id ≡ seat.old.table_id }
-    ensures step { LoadsTail seat.old.me result seat.new.me }
+    ensures step { LoadsTail tail_word seat.old.me result seat.new.me }
 {
     shared.load::<LoadTail>(seat, TAIL)
 }
@@ -30,7 +30,7 @@ pub(crate) fn store_word(shared: &RingShared, seat: &mut RingSeat, cell: usize, 
     requires cell { cell ≡ cell_of shared.now.key (length seat.old.me.0.published + length seat.old.me.0.put) }
     requires room { 8 ≤ shared.now.key - 1 - (8 * (length seat.old.me.0.published + length seat.old.me.0.put) - seat.old.me.0.last_tail) }
     ensures table { seat.new.table_id ≡ seat.old.table_id }
-    ensures step { seat.new.me ≡ (with_put seat.old.me.0 word, seat.old.me.1) }
+    ensures step { StoresWord cell seat.old.me word seat.new.me }
 {
     shared.store::<StoreWord>(seat, cell, word);
 }
@@ -41,7 +41,7 @@ pub(crate) fn store_head(shared: &RingShared, seat: &mut RingSeat, head: u64)
     requires head { head ≡ 8 * (length seat.old.me.0.published + length seat.old.me.0.put) }
     requires whole { IsWhole seat.old.me.0.put }
     ensures table { seat.new.table_id ≡ seat.old.table_id }
-    ensures step { seat.new.me ≡ (all_published seat.old.me.0, seat.old.me.1) }
+    ensures step { StoresHead head_word seat.old.me head seat.new.me }
 {
     shared.store::<StoreHead>(seat, HEAD, head);
 }
@@ -50,7 +50,7 @@ pub(crate) fn load_head(shared: &RingShared, seat: &mut RingSeat) -> u64
     requires table { (seat.old.table_id ≡ shared.now.table_id) × (1 < shared.now.table_id.words) }
     requires role { IsConsumer seat.old.me.0 }
     ensures table { seat.new.table_id ≡ seat.old.table_id }
-    ensures step { LoadsHead seat.old.me result seat.new.me }
+    ensures step { LoadsHead head_word seat.old.me result seat.new.me }
 {
     shared.load::<LoadHead>(seat, HEAD)
 }
@@ -61,7 +61,7 @@ pub(crate) fn load_word(shared: &RingShared, seat: &mut RingSeat, cell: usize) -
     requires cell { cell ≡ cell_of shared.now.key (length seat.old.me.0.taken) }
     requires more { (8 * length seat.old.me.0.taken < seat.old.me.0.last_head) × (seat.old.me.0.last_head % 8 ≡ 0) }
     ensures table { seat.new.table_id ≡ seat.old.table_id }
-    ensures step { LoadsWord seat.old.me result seat.new.me }
+    ensures step { LoadsWord cell seat.old.me result seat.new.me }
 {
     shared.load::<LoadWord>(seat, cell)
 }
@@ -72,7 +72,7 @@ pub(crate) fn store_tail(shared: &RingShared, seat: &mut RingSeat, tail: u64)
     requires tail { tail ≡ 8 * length seat.old.me.0.taken }
     requires whole { IsWhole seat.old.me.0.taken }
     ensures table { seat.new.table_id ≡ seat.old.table_id }
-    ensures step { seat.new.me ≡ (all_released seat.old.me.0, seat.old.me.1) }
+    ensures step { StoresTail tail_word seat.old.me tail seat.new.me }
 {
     shared.store::<StoreTail>(seat, TAIL, tail);
 }
@@ -81,7 +81,7 @@ fn check_tail(shared: &RingShared, seat: &mut RingSeat) -> u64
     requires table { (seat.old.table_id ≡ shared.now.table_id) × (1 < shared.now.table_id.words) }
     requires role { IsConsumer seat.old.me.0 }
     ensures table { seat.new.table_id ≡ seat.old.table_id }
-    ensures step { ChecksTail seat.old.me result seat.new.me }
+    ensures step { ChecksTail tail_word seat.old.me result seat.new.me }
 {
     shared.load::<CheckTail>(seat, TAIL)
 }

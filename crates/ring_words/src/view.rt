@@ -6,6 +6,8 @@ use std::collections::LinkedList;
 
 /// What a seat at the ring's table knows: as the producer, as the consumer, and by a note. No value of it is made.
 pub struct View {
+    /// The ring's size in bytes, which an end knows from the start.
+    pub bytes: u64,
     pub writes: bool,
     pub published: LinkedList<u64>,
     pub put: LinkedList<u64>,
@@ -30,7 +32,7 @@ impl TableRule<(), View, u64> for RingRule {
 
     ghost holds = { Kept };
 
-    ghost first = { λ _. both_ends };
+    ghost first = { both_ends };
 }
 
 /// An end's seat. The table has no slots.

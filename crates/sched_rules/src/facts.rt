@@ -1,7 +1,7 @@
 //! What the rules look at, and the rules.
 
 ghost use Rattle.std.specs.Prelude.{◌≡◌, OnOk, IfErr};
-ghost use Rattle.stage_spec.specs.Rules.{refusal_of};
+ghost use Rattle.stage_spec.specs.Rules.{refusal_by, ruling_of};
 
 use perf_base::{EventNo, Rule};
 
@@ -26,9 +26,9 @@ pub struct Facts {
 /// which names the first group of this pass that was refused.
 pub fn may_go(facts: &Facts) -> Result<(), Rule>
     ensures ok { let f = facts.now in OnOk result
-        (refusal_of f.software f.exclusive f.exclusive_on f.first_on f.refused ≡ None) }
+        (refusal_by (ruling_of f.software f.exclusive f.exclusive_on f.first_on f.refused) ≡ None) }
     ensures err { let f = facts.now in IfErr result (λ r.
-        refusal_of f.software f.exclusive f.exclusive_on f.first_on f.refused ≡ Some r) }
+        refusal_by (ruling_of f.software f.exclusive f.exclusive_on f.first_on f.refused) ≡ Some r) }
 {
     if facts.software {
         return Ok(());

@@ -9,7 +9,7 @@ use Rattle.script_spec.specs.Forms as form
 use Rattle.script_spec.specs.Forms.{Form}
 use Rattle.script_spec.specs.Printing.{cpu_form, processor_forms, tool_form, tool_forms, line_text}
 use Rattle.script_print.proofs.Lines.{flat-append}
-use Rattle.script_print.proofs.Wrote.{IsText}
+use Rattle.script_print.proofs.Loops.{IsText}
 
 -- forms for each entry
 pub all_text : {X : Type 0} (f : X → List Form) → IsText (λ xs. flat_map line_text (flat_map f xs)) (λ x. flat_map line_text (f x))

@@ -9,13 +9,13 @@ use Rattle.perf_base.specs.declared.lines.KindLine.{KindLine}
 use Rattle.perf_base.specs.declared.lines.PmuLine.{PmuLine}
 use Rattle.perf_base.specs.declared.lines.CpuLine.{CpuLine}
 use Rattle.perf_base.specs.declared.lines.CpuLine.TheVariants as cpu_line
-use Rattle.perf_base.specs.Scripts.{IsKindLine, IsCpuLine, IsName, IsNameByte}
+use Rattle.perf_base.specs.Scripts.{IsKindLine, IsCpuLine, IsName, IsNameByte, IsStoredWork}
 use Rattle.script_spec.specs.Lines.{pieces}
 use Rattle.script_spec.specs.Forms as form
 use Rattle.script_spec.specs.Forms.{Hit, CpuForm, Form, hit_text, ip_text}
 use Rattle.script_spec.specs.Meaning.{times_of, occurrences, or_zero, cpu_line_of, kinds_in}
 use Rattle.script_spec.specs.Faults.{IsCpuFormInRange, IsCpuFormNamed}
-use Rattle.script_spec.specs.Printing.{some_of, hits_of, cpu_form, IsStoredWork}
+use Rattle.script_spec.specs.Printing.{some_of, hits_of, cpu_form}
 use Rattle.line_forms.proofs.Singles.{bytes_eq-true, bytes_eq_self}
 use Rattle.script_print.proofs.Cutting.{lacks, pieces_at}
 

@@ -7,14 +7,14 @@ use Rattle.std.proofs.lemmas.List.Elements.{All-nil}
 use Rattle.perf_base.specs.declared.lines.PmuLine.{PmuLine}
 use Rattle.perf_base.specs.declared.acts.Act.{Act}
 use Rattle.perf_base.specs.declared.acts.Act.TheVariants as act
-use Rattle.perf_base.specs.Scripts.{Scripted, IsScript, IsCovered, IsAct}
+use Rattle.perf_base.specs.Scripts.{Scripted, IsScript, IsCovered, IsAct, IsStored, IsStoredAct}
 use Rattle.perf_base.specs.Weight.{weight}
 use Rattle.script_spec.specs.Acts.{IsActInRange}
 use Rattle.script_spec.specs.Forms as form
 use Rattle.script_spec.specs.Forms.{Version, Form}
 use Rattle.script_spec.specs.Meaning.{script_of}
 use Rattle.script_spec.specs.Texts.{version_of, StandsFor}
-use Rattle.script_spec.specs.Printing.{head_forms, kind_form, task_form, ring_form, reader_form, order_forms, all_processor_forms, all_tool_forms, printed_forms, printed, IsStored, IsStoredAct}
+use Rattle.script_spec.specs.Printing.{head_forms, kind_form, task_form, ring_form, reader_form, order_forms, all_processor_forms, all_tool_forms, printed_forms, printed}
 use Rattle.script_print.proofs.Fitting.{Fits, line_bytes, text_stands}
 use Rattle.script_print.proofs.Behind.{Behind, AreLow, Ran, ran_then, no_end, behind_plain, behind_higher, placed_behind}
 use Rattle.script_print.proofs.Sections.{ring_small, with_kinds, with_tasks, with_rings, with_readers, version_for, kinds_run, tasks_run, rings_run, readers_run}
@@ -178,9 +178,9 @@ unfolding printed_forms
 version_is s = version_head s.cpus s.pmus _
 
 -- the printed text of a script stands for it
-pub printed_stands : (s : Scripted) → IsScript s → IsStored s → IsCovered s → weight s ≤ 65536 → StandsFor (printed s) s
+pub printed_stands : (s : Scripted) → IsScript s → IsCovered s → weight s ≤ 65536 → StandsFor (printed s) s
 unfolding printed
-printed_stands s h w covered light =
-    let all = whole s h w covered light in
+printed_stands s h covered light =
+    let all = whole s h h.stored covered light in
     let text : StandsFor (printed s) (script_of (printed_forms s)) = text_stands (version_for (length s.pmus)) (printed_forms s) all.ran.fits (version_is s) (has_end s) in
     subst (StandsFor (printed s)) all.ran.behind.script text

@@ -7,7 +7,7 @@ use Rattle.perf_base.specs.declared.lines.PmuLine.{PmuLine}
 use Rattle.script_spec.specs.Forms as form
 use Rattle.script_spec.specs.Forms.{Form}
 use Rattle.script_spec.specs.Printing.{head_forms, pmu_forms, line_text}
-use Rattle.script_print.proofs.Wrote.{IsText, IsNumbered}
+use Rattle.script_print.proofs.Loops.{IsText, IsNumbered}
 
 pub head_one : (n counters : ℕ) (pmus : List PmuLine) → length pmus ≡ 1 → IfSome (slice_get pmus 0) (λ p. counters ≡ p.counters)
     → flat_map line_text (head_forms n pmus) ≡ line_text (form.Perf form.One) ++ line_text (form.Machine n counters)

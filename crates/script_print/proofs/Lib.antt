@@ -12,12 +12,11 @@ pub mod Heads
 pub mod Hexadecimal
 pub mod Hits
 pub mod Lines
+pub mod Loops
 pub mod Masks
 pub mod Plain
 pub mod Processors
 pub mod Sections
-pub mod Taken
 pub mod ToolForms
 pub mod Tooled
 pub mod Whole
-pub mod Wrote

@@ -4,7 +4,7 @@ use Rattle.std.specs.Prelude.{flat_map}
 use Rattle.std.specs.List.{join_with_byte}
 use Rattle.std.proofs.lemmas.List.{append-nil}
 use Rattle.script_print.specs.Words.{said, all_said, spaced}
-use Rattle.script_print.proofs.Wrote.{IsText}
+use Rattle.script_print.proofs.Loops.{IsText}
 
 pub flat-append : {X : Type 0} (f : X → List ℕ) (xs ys : List X) → flat_map f (xs ++ ys) ≡ flat_map f xs ++ flat_map f ys
 flat-append f [] ys = refl
@@ -17,6 +17,3 @@ join_spaced w (v ∷ ws) = ap (λ (t : List ℕ). w ++ (32 ∷ t)) (join_spaced 
 
 pub words_text : IsText (λ ws. spaced (all_said ws)) (λ w. spaced (said w))
 words_text = record { nil = refl; cons = λ w ws. flat-append (λ v. 32 ∷ v) (said w) (all_said ws) }
-
-pub bytes_text : IsText (λ (bytes : List ℕ). bytes) (λ b. b ∷ [])
-bytes_text = record { nil = refl; cons = λ b bs. refl }

@@ -1,16 +1,17 @@
 -- The processors of a PMU, gathered one after the other.
-use Rattle.std.proofs.Common.{◌≡◌, ◌≢◌, ℕ, ◌+◌, ◌^◌, ◌<◌, ◌≤◌, min, List, length, get_or, map, Some, inl, inr, sym, ap, subst, ◌∙◌, arith}
-use Rattle.std.specs.Prelude.{bit_and, bit_or, AllPairs, IfSome, slice_get}
+use Rattle.std.proofs.Common.{◌≡◌, ◌≢◌, ℕ, ◌+◌, ◌^◌, ◌<◌, ◌≤◌, List, length, get_or, map, Some, inl, inr, sym, ap, subst, ◌∙◌, arith}
+use Rattle.std.specs.Prelude.{bit_or, AllPairs, IfSome, slice_get}
 use Rattle.std.specs.Int.{bit_at}
 use Rattle.std.specs.Option.{option_map}
 use Rattle.std.proofs.lemmas.Bool.{cases_lt, cases_eq}
-use Rattle.std.proofs.lemmas.Nat.Bits.{bit_at_and, bit_at_or, bit_at-zero, bit_at-lt, bit_at-pow_same, bit_at-pow_other, bit_at_above, same_from_bits}
+use Rattle.std.proofs.lemmas.Nat.Bits.{bit_at_or, bit_at-zero, bit_at-lt, bit_at-pow_same, bit_at-pow_other, bit_at_above, same_from_bits}
 use Rattle.std.proofs.lemmas.Option.{slice_get-get_or, slice_get-map}
 use Rattle.perf_base.specs.declared.numbers.CpuNo.{CpuNo}
 use Rattle.perf_base.specs.declared.numbers.CpuSet.{CpuSet}
 use Rattle.perf_base.specs.declared.lines.PmuLine.{PmuLine}
 use Rattle.perf_base.specs.Cpus.{HasCpu}
 use Rattle.perf_base.specs.Scripts.{Scripted, IsScript, AreApart}
+use Rattle.perf_base.proofs.Bits.{apart_bits}
 
 abbrev pub no_pmu : PmuLine
 no_pmu = record { counters = 0; cpus = record { 0 = 0 } }
@@ -27,9 +28,6 @@ pub record IsGathered (pmus : List PmuLine) (pmu n set : ℕ) : Type 0 where
 -- a processor has its bit in the mask of its PMU
 pub own_bit : (pmus : List PmuLine) (k : ℕ) (cpu : CpuNo) → k < length pmus → IfSome (slice_get pmus k) (λ p. HasCpu p.cpus cpu) → bit_at (mask_at pmus k) cpu.0 ≡ 1
 own_bit pmus k cpu l h = subst (λ o. IfSome o (λ p. HasCpu p.cpus cpu)) (slice_get-get_or pmus k no_pmu l) h
-
-apart_bits : (a b : ℕ) → bit_and a b ≡ 0 → (i : ℕ) → min (bit_at a i) (bit_at b i) ≡ 0
-apart_bits a b e i = sym (bit_at_and a b i) ∙ (ap (λ n. bit_at n i) e ∙ bit_at-zero i)
 
 -- and in no other mask
 pub other_bit : (pmus : List PmuLine) (k pmu i : ℕ) → AllPairs AreApart pmus → k < length pmus → pmu < length pmus → k ≢ pmu

@@ -73,25 +73,14 @@ name_plain [] h = absurd h
 name_plain (b ∷ bs) h = plain_cons b bs (graphic b (omega (arith, h.0)) (omega (arith, h.0))) (name_bytes bs h.1)
 
 flag_plain : (n : ℕ) → is_plain (flag_name n) ≡ true
-flag_plain n = elim (cases_Bool (eqb n 0)) [
-  | inl t ↦ rw t refl
-  | inr f0 ↦ elim (cases_Bool (eqb n 1)) [
-    | inl t ↦ rw (f0, t) refl
-    | inr f1 ↦ elim (cases_Bool (eqb n 2)) [
-      | inl t ↦ rw (f0, f1, t) refl
-      | inr f2 ↦ elim (cases_Bool (eqb n 3)) [
-        | inl t ↦ rw (f0, f1, f2, t) refl
-        | inr f3 ↦ elim (cases_Bool (eqb n 4)) [
-          | inl t ↦ rw (f0, f1, f2, f3, t) refl
-          | inr f4 ↦ elim (cases_Bool (eqb n 5)) [
-            | inl t ↦ rw (f0, f1, f2, f3, f4, t) refl
-            | inr f5 ↦ rw (f0, f1, f2, f3, f4, f5) refl
-          ]
-        ]
-      ]
-    ]
-  ]
-]
+flag_plain zero = refl
+flag_plain (suc zero) = refl
+flag_plain (suc (suc zero)) = refl
+flag_plain (suc (suc (suc zero))) = refl
+flag_plain (suc (suc (suc (suc zero)))) = refl
+flag_plain (suc (suc (suc (suc (suc zero))))) = refl
+flag_plain (suc (suc (suc (suc (suc (suc zero)))))) = refl
+flag_plain (suc (suc (suc (suc (suc (suc (suc n))))))) = refl
 
 commas_plain : (ns : List ℕ) → is_plain (join_with_byte 44 (map flag_name ns)) ≡ true
 commas_plain [] = refl

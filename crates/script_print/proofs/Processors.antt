@@ -6,11 +6,11 @@ use Rattle.std.proofs.lemmas.List.{append-nil, length-drop, get_or-drop}
 use Rattle.std.proofs.lemmas.List.Elements.{All-push, All-weaker}
 use Rattle.std.proofs.lemmas.List.Sums.{sum_by-set}
 use Rattle.perf_base.specs.declared.lines.CpuLine.{CpuLine}
-use Rattle.perf_base.specs.Scripts.{Scripted, IsScript, IsCovered, IsCpuLine, line_count}
+use Rattle.perf_base.specs.Scripts.{Scripted, IsScript, IsCovered, IsCpuLine, line_count, IsStored, IsStoredWork}
 use Rattle.script_spec.specs.Forms as form
 use Rattle.script_spec.specs.Forms.{Version, Form}
 use Rattle.script_spec.specs.Meaning.{last_of, processors_in, script_of}
-use Rattle.script_spec.specs.Printing.{cpu_form, processor_forms, IsStored, IsStoredWork}
+use Rattle.script_spec.specs.Printing.{cpu_form, processor_forms}
 use Rattle.script_spec.specs.Saying.{said_by, on_cpu}
 use Rattle.script_spec.proofs.Snoc.{from}
 use Rattle.script_print.proofs.Fitting.{Fits}

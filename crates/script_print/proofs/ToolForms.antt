@@ -1,5 +1,6 @@
 -- Lines of tools: the forms that are printed are spelled, in range and named, and say these lines.
 use Rattle.std.proofs.Common.{◌≡◌, ◌≢◌, ℕ, zero, suc, ◌^◌, ◌<◌, ◌≤◌, Bool, true, false, ltb, eqb, cond, All, List, [], ◌∷◌, map, length, get_or, Option, Some, None, option_map, inl, inr, refl, ap, ◌∙◌, arith}
+use Rattle.std.proofs.lemmas.Option.{same_Some, none-some}
 use Rattle.std.proofs.Math.Numerals.{one-add}
 use Rattle.std.specs.Prelude.{AllPairs, IfSome, IsSome, codes}
 use Rattle.std.specs.List.{position_or_len, position}
@@ -19,14 +20,14 @@ use Rattle.perf_base.specs.declared.lines.KindLine.{KindLine}
 use Rattle.perf_base.specs.declared.lines.PmuLine.{PmuLine}
 use Rattle.perf_base.specs.declared.lines.ToolLine.{ToolLine}
 use Rattle.perf_base.specs.declared.lines.ToolLine.TheVariants as tool_line
-use Rattle.perf_base.specs.Scripts.{IsKindLine, IsToolLine, IsKind, IsTaskSel, IsCpuSel, IsSlot, IsRingLine}
+use Rattle.perf_base.specs.Scripts.{IsKindLine, IsToolLine, IsKind, IsTaskSel, IsCpuSel, IsSlot, IsRingLine, IsStoredToolLine}
 use Rattle.script_spec.specs.Forms as form
 use Rattle.script_spec.specs.Forms.{Form, ToolForm, Opening}
 use Rattle.script_spec.specs.Meaning.{number_of, software_kind, kind_named, tool_line_of, open_line, asked_attr, task_sel, cpu_sel, slot, kinds_in, rings_in}
 use Rattle.script_spec.specs.Faults.{IsToolFormInRange, IsToolFormNamed, IsWide, HasAttr}
-use Rattle.script_spec.specs.Printing.{some_of, kind_name, task_number, cpu_number, asked, tool_form, IsStoredToolLine}
+use Rattle.script_spec.specs.Printing.{some_of, kind_name, task_number, cpu_number, asked, tool_form}
 use Rattle.line_forms.specs.Leaves as says
-use Rattle.line_forms.proofs.Singles.{bytes_eq_self, name_takes, some_is, none_some}
+use Rattle.line_forms.proofs.Singles.{bytes_eq_self, name_takes}
 use Rattle.script_print.proofs.Sections.{ring_small}
 use Rattle.script_print.proofs.CpuForms.{differ, pairs_tail, pairs_head, or_zero_again, if_some_of}
 
@@ -43,8 +44,8 @@ position_later p k kinds i f e =
   where
     found_at : (n l i : ℕ) → cond (ltb n l) (Some n) None ≡ Some i → (ltb n l ≡ true) × (n ≡ i)
     found_at n l i e = elim (cases_Bool (ltb n l)) [
-      | inl t ↦ (t, some_is n i (rw t at e))
-      | inr f ↦ absurd (none_some i (rw f at e))
+      | inl t ↦ (t, same_Some n i (rw t at e))
+      | inr f ↦ absurd (none-some i (rw f at e))
     ]
 
 position_first : (p : KindLine → Bool) (k : KindLine) (kinds : List KindLine) → p k ≡ true → position p (k ∷ kinds) ≡ Some 0
@@ -182,7 +183,7 @@ attr_again : (e : EventNo) (attr : Attr) (leader : Option EventNo) → asked_att
 attr_again e attr leader = rw (task_again attr.task, cpu_sel_again attr.cpu, or_zero_again attr.period, or_zero_again attr.sample, or_zero_again attr.format, or_zero_again attr.flags.0) refl
 
 some_one : (o : Option Kind) (k : Kind) → o ≡ Some k → IsSome o
-some_one None k e = absurd (none_some k e)
+some_one None k e = absurd (none-some k e)
 some_one (Some x) k e = refl
 
 module _ (kinds : List KindLine) (pmus : List PmuLine) (n : ℕ) (rings : List (RingNo × ℕ)) (are : All (IsKindLine pmus) kinds) (once : AllPairs (λ j k. j.name ≢ k.name) kinds) (few : n ≤ 8) (sized : All IsRingLine rings) where

@@ -5,11 +5,11 @@ use Rattle.std.proofs.lemmas.List.{append-nil}
 use Rattle.std.proofs.lemmas.List.Elements.{All-push, All-weaker}
 use Rattle.std.proofs.lemmas.List.Sums.{sum_by-set}
 use Rattle.perf_base.specs.declared.lines.ToolLine.{ToolLine}
-use Rattle.perf_base.specs.Scripts.{Scripted, IsScript, IsCovered, IsToolLine, line_count}
+use Rattle.perf_base.specs.Scripts.{Scripted, IsScript, IsCovered, IsToolLine, line_count, IsStored, IsStoredToolLine}
 use Rattle.script_spec.specs.Forms as form
 use Rattle.script_spec.specs.Forms.{Version, Form}
 use Rattle.script_spec.specs.Meaning.{last_of, tools_in, script_of}
-use Rattle.script_spec.specs.Printing.{tool_form, tool_forms, IsStored, IsStoredToolLine}
+use Rattle.script_spec.specs.Printing.{tool_form, tool_forms}
 use Rattle.script_spec.specs.Saying.{said_by, on_tool}
 use Rattle.script_spec.proofs.Snoc.{from}
 use Rattle.script_print.proofs.Fitting.{Fits}

@@ -3,19 +3,18 @@
 ghost use Rattle.std.specs.Prelude.{◌≡◌, ◌<◌, ◌≤◌, ◌++◌, [], ◌∷◌, length, map, flat_map, All};
 ghost use Rattle.script_spec.specs.Forms.{hit_text, mode_text};
 ghost use Rattle.script_spec.specs.Printing.{hits_of, cpu_form, processor_forms, all_processor_forms, line_text};
-ghost use Rattle.order_text.specs.Writing.{Wrote};
+ghost use Rattle.perf_io.specs.Wrote.{Wrote};
 ghost use Rattle.perf_base.specs.Scripts.{lines_of_cpu};
 ghost use Rattle.script_print.specs.Words.{spaced, hit_piece};
 ghost use Rattle.perf_base.specs.declared.lines.CpuLine.TheVariants as cpu_line;
 
-use crate::pieces::{put, put_decimal, put_name, put_two};
 use crate::words::{Word, put_line, put_start};
 use perf_base::{CpuLine, CpuNo, Mode, Name, Script, TaskNo, Work};
-use perf_io::{Failed, Sink};
+use perf_io::{Failed, Sink, write_all, write_numbered};
 
 /// Writes a switch.
 fn put_switch<K: Sink>(sink: &mut K, to: Option<TaskNo>) -> Result<(), Failed>
-    ensures wrote { Wrote (K.held sink.old) (K.held sink.new) K.last_fault (K.faults sink.old) (K.faults sink.new) result (line_text (cpu_form [] (cpu_line.Switch to))) }
+    ensures wrote { Wrote K.held K.faults K.last_fault sink.old sink.new result (line_text (cpu_form [] (cpu_line.Switch to))) }
     ensures flushed { K.flushed sink.new ≡ K.flushed sink.old }
 {
     match to {
@@ -33,28 +32,20 @@ fn mode_name(mode: Mode) -> &'static [u8]
     }
 }
 
-/// Writes a name with a space before it and an equals sign behind it.
-fn put_key<K: Sink>(sink: &mut K, name: &Name) -> Result<(), Failed>
-    ensures wrote { Wrote (K.held sink.old) (K.held sink.new) K.last_fault (K.faults sink.old) (K.faults sink.new) result ((32 ∷ name.now) ++ 61 ∷ []) }
-    ensures flushed { K.flushed sink.new ≡ K.flushed sink.old }
-{
-    put(sink, b" ")?;
-    put_name(sink, name)?;
-    put(sink, b"=")
-}
-
 /// Writes how often a kind occurs.
+#[tactic(auto, using(perf_io::proofs::Wrote::writes))]
 fn put_times<K: Sink>(sink: &mut K, name: &Name, times: u64) -> Result<(), Failed>
-    ensures wrote { Wrote (K.held sink.old) (K.held sink.new) K.last_fault (K.faults sink.old) (K.faults sink.new) result (32 ∷ hit_text (record { name = name.now; times = times })) }
+    ensures wrote { Wrote K.held K.faults K.last_fault sink.old sink.new result (32 ∷ hit_text (record { name = name.now; times = times })) }
     ensures flushed { K.flushed sink.new ≡ K.flushed sink.old }
 {
-    put_key(sink, name)?;
-    put_decimal(sink, times)
+    write_all(sink, b" ")?;
+    write_all(sink, name.as_bytes())?;
+    write_numbered(sink, b"=", times)
 }
 
 /// Writes how often a kind occurs, or nothing where it does not.
 fn put_hit<K: Sink>(sink: &mut K, name: &Name, times: u64) -> Result<(), Failed>
-    ensures wrote { Wrote (K.held sink.old) (K.held sink.new) K.last_fault (K.faults sink.old) (K.faults sink.new) result (hit_piece name.now times) }
+    ensures wrote { Wrote K.held K.faults K.last_fault sink.old sink.new result (hit_piece name.now times) }
     ensures flushed { K.flushed sink.new ≡ K.flushed sink.old }
 {
     if times == 0 {
@@ -66,7 +57,7 @@ fn put_hit<K: Sink>(sink: &mut K, name: &Name, times: u64) -> Result<(), Failed>
 /// Writes how often each kind occurs that does, in their declared order.
 fn put_hits<K: Sink>(sink: &mut K, script: &Script, hits: &[u64; 16]) -> Result<(), Failed>
     requires { length script.now.kinds ≤ 16 }
-    ensures wrote { Wrote (K.held sink.old) (K.held sink.new) K.last_fault (K.faults sink.old) (K.faults sink.new) result (spaced (map hit_text (hits_of script.now.kinds hits.now))) }
+    ensures wrote { Wrote K.held K.faults K.last_fault sink.old sink.new result (spaced (map hit_text (hits_of script.now.kinds hits.now))) }
     ensures flushed { K.flushed sink.new ≡ K.flushed sink.old }
 {
     for kind in 0..script.kinds() {
@@ -78,7 +69,7 @@ fn put_hits<K: Sink>(sink: &mut K, script: &Script, hits: &[u64; 16]) -> Result<
 /// Writes a stretch of work.
 fn put_work<K: Sink>(sink: &mut K, script: &Script, work: &Work) -> Result<(), Failed>
     requires { length script.now.kinds ≤ 16 }
-    ensures wrote { Wrote (K.held sink.old) (K.held sink.new) K.last_fault (K.faults sink.old) (K.faults sink.new) result (line_text (cpu_form script.now.kinds (cpu_line.Work work.now))) }
+    ensures wrote { Wrote K.held K.faults K.last_fault sink.old sink.new result (line_text (cpu_form script.now.kinds (cpu_line.Work work.now))) }
     ensures flushed { K.flushed sink.new ≡ K.flushed sink.old }
 {
     put_start(
@@ -91,13 +82,13 @@ fn put_work<K: Sink>(sink: &mut K, script: &Script, work: &Work) -> Result<(), F
         ],
     )?;
     put_hits(sink, script, &work.hits)?;
-    put(sink, b"\n")
+    write_all(sink, b"\n")
 }
 
 /// Writes a line of a processor.
 fn put_cpu_line<K: Sink>(sink: &mut K, script: &Script, line: &CpuLine) -> Result<(), Failed>
     requires { length script.now.kinds ≤ 16 }
-    ensures wrote { Wrote (K.held sink.old) (K.held sink.new) K.last_fault (K.faults sink.old) (K.faults sink.new) result (line_text (cpu_form script.now.kinds line.now)) }
+    ensures wrote { Wrote K.held K.faults K.last_fault sink.old sink.new result (line_text (cpu_form script.now.kinds line.now)) }
     ensures flushed { K.flushed sink.new ≡ K.flushed sink.old }
 {
     match line {
@@ -112,7 +103,7 @@ fn put_cpu_line<K: Sink>(sink: &mut K, script: &Script, line: &CpuLine) -> Resul
 /// Writes lines of a processor.
 fn put_cpu_lines<K: Sink>(sink: &mut K, script: &Script, lines: &[CpuLine]) -> Result<(), Failed>
     requires { length script.now.kinds ≤ 16 }
-    ensures wrote { Wrote (K.held sink.old) (K.held sink.new) K.last_fault (K.faults sink.old) (K.faults sink.new) result (flat_map line_text (map (cpu_form script.now.kinds) lines.now)) }
+    ensures wrote { Wrote K.held K.faults K.last_fault sink.old sink.new result (flat_map line_text (map (cpu_form script.now.kinds) lines.now)) }
     ensures flushed { K.flushed sink.new ≡ K.flushed sink.old }
 {
     for line in lines {
@@ -124,7 +115,7 @@ fn put_cpu_lines<K: Sink>(sink: &mut K, script: &Script, lines: &[CpuLine]) -> R
 /// Writes a processor with its lines, or nothing where it has none.
 pub fn put_processor<K: Sink>(sink: &mut K, script: &Script, cpu: CpuNo) -> Result<(), Failed>
     requires { cpu.0 < 8 }
-    ensures wrote { Wrote (K.held sink.old) (K.held sink.new) K.last_fault (K.faults sink.old) (K.faults sink.new) result (flat_map line_text (processor_forms script.now.kinds cpu.0 (lines_of_cpu script.now cpu))) }
+    ensures wrote { Wrote K.held K.faults K.last_fault sink.old sink.new result (flat_map line_text (processor_forms script.now.kinds cpu.0 (lines_of_cpu script.now cpu))) }
     ensures flushed { K.flushed sink.new ≡ K.flushed sink.old }
 {
     let lines = script.cpu_lines(cpu);
@@ -137,7 +128,7 @@ pub fn put_processor<K: Sink>(sink: &mut K, script: &Script, cpu: CpuNo) -> Resu
 
 /// Writes all processors that have lines.
 pub fn put_processors<K: Sink>(sink: &mut K, script: &Script) -> Result<(), Failed>
-    ensures wrote { Wrote (K.held sink.old) (K.held sink.new) K.last_fault (K.faults sink.old) (K.faults sink.new) result (flat_map line_text (all_processor_forms script.now)) }
+    ensures wrote { Wrote K.held K.faults K.last_fault sink.old sink.new result (flat_map line_text (all_processor_forms script.now)) }
     ensures flushed { K.flushed sink.new ≡ K.flushed sink.old }
 {
     for cpu in 0..8 {

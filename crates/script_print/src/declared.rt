@@ -3,7 +3,7 @@
 ghost use Rattle.std.specs.Prelude.{◌≡◌, ◌<◌, ◌++◌, [], ◌∷◌, length, map, flat_map, codes, ◌≢◌, IfSome, Some, slice_get};
 ghost use Rattle.script_spec.specs.Forms as form;
 ghost use Rattle.script_spec.specs.Printing.{head_forms, pmu_forms, kind_form, task_form, ring_form, reader_form, line_text};
-ghost use Rattle.order_text.specs.Writing.{Wrote};
+ghost use Rattle.perf_io.specs.Wrote.{Wrote};
 ghost use Rattle.perf_base.specs.Scripts.{IsScript, IsCovered};
 
 use crate::words::{Word, put_line};
@@ -12,7 +12,7 @@ use perf_io::{Failed, Sink};
 
 /// Writes the version.
 fn put_version<K: Sink>(sink: &mut K, version: &[u8]) -> Result<(), Failed>
-    ensures wrote { Wrote (K.held sink.old) (K.held sink.new) K.last_fault (K.faults sink.old) (K.faults sink.new) result ((codes "perf " ++ version.now) ++ 10 ∷ []) }
+    ensures wrote { Wrote K.held K.faults K.last_fault sink.old sink.new result ((codes "perf " ++ version.now) ++ 10 ∷ []) }
     ensures flushed { K.flushed sink.new ≡ K.flushed sink.old }
 {
     put_line(sink, b"perf", &[Word::Plain(version)])
@@ -20,7 +20,7 @@ fn put_version<K: Sink>(sink: &mut K, version: &[u8]) -> Result<(), Failed>
 
 /// Writes the machine of a script with one PMU.
 fn put_machine<K: Sink>(sink: &mut K, cpus: u8, counters: u8) -> Result<(), Failed>
-    ensures wrote { Wrote (K.held sink.old) (K.held sink.new) K.last_fault (K.faults sink.old) (K.faults sink.new) result (line_text (form.Machine cpus counters)) }
+    ensures wrote { Wrote K.held K.faults K.last_fault sink.old sink.new result (line_text (form.Machine cpus counters)) }
     ensures flushed { K.flushed sink.new ≡ K.flushed sink.old }
 {
     put_line(
@@ -35,7 +35,7 @@ fn put_machine<K: Sink>(sink: &mut K, cpus: u8, counters: u8) -> Result<(), Fail
 
 /// Writes the machine of a script with PMUs of its own.
 fn put_machine_of_pmus<K: Sink>(sink: &mut K, cpus: u8) -> Result<(), Failed>
-    ensures wrote { Wrote (K.held sink.old) (K.held sink.new) K.last_fault (K.faults sink.old) (K.faults sink.new) result (line_text (form.MachineOfPmus cpus)) }
+    ensures wrote { Wrote K.held K.faults K.last_fault sink.old sink.new result (line_text (form.MachineOfPmus cpus)) }
     ensures flushed { K.flushed sink.new ≡ K.flushed sink.old }
 {
     put_line(
@@ -64,7 +64,7 @@ fn cpus_of(script: &Script, pmu: u8) -> CpuSet
 fn put_pmu<K: Sink>(sink: &mut K, script: &Script, pmu: u8) -> Result<(), Failed>
     requires covered { IsCovered script.now }
     requires within { pmu < length script.now.pmus }
-    ensures wrote { IfSome (slice_get script.now.pmus pmu) (λ p. Wrote (K.held sink.old) (K.held sink.new) K.last_fault (K.faults sink.old) (K.faults sink.new) result (line_text (form.Pmu pmu p.counters p.cpus.0))) }
+    ensures wrote { IfSome (slice_get script.now.pmus pmu) (λ p. Wrote K.held K.faults K.last_fault sink.old sink.new result (line_text (form.Pmu pmu p.counters p.cpus.0))) }
     ensures flushed { K.flushed sink.new ≡ K.flushed sink.old }
 {
     let counters = u64::from(script.counters(pmu));
@@ -82,7 +82,7 @@ fn put_pmu<K: Sink>(sink: &mut K, script: &Script, pmu: u8) -> Result<(), Failed
 
 fn put_pmus<K: Sink>(sink: &mut K, script: &Script) -> Result<(), Failed>
     requires { IsCovered script.now }
-    ensures wrote { Wrote (K.held sink.old) (K.held sink.new) K.last_fault (K.faults sink.old) (K.faults sink.new) result (flat_map line_text (pmu_forms 0 script.now.pmus)) }
+    ensures wrote { Wrote K.held K.faults K.last_fault sink.old sink.new result (flat_map line_text (pmu_forms 0 script.now.pmus)) }
     ensures flushed { K.flushed sink.new ≡ K.flushed sink.old }
 {
     for pmu in 0..script.pmus() {
@@ -94,7 +94,7 @@ fn put_pmus<K: Sink>(sink: &mut K, script: &Script) -> Result<(), Failed>
 /// Writes the version and the machine of a script with one PMU, which is on all its processors.
 fn put_one_pmu<K: Sink>(sink: &mut K, script: &Script) -> Result<(), Failed>
     requires { length script.now.pmus ≡ 1 }
-    ensures wrote { Wrote (K.held sink.old) (K.held sink.new) K.last_fault (K.faults sink.old) (K.faults sink.new) result (flat_map line_text (head_forms script.now.cpus script.now.pmus)) }
+    ensures wrote { Wrote K.held K.faults K.last_fault sink.old sink.new result (flat_map line_text (head_forms script.now.cpus script.now.pmus)) }
     ensures flushed { K.flushed sink.new ≡ K.flushed sink.old }
 {
     put_version(sink, b"1")?;
@@ -105,7 +105,7 @@ fn put_one_pmu<K: Sink>(sink: &mut K, script: &Script) -> Result<(), Failed>
 fn put_several_pmus<K: Sink>(sink: &mut K, script: &Script) -> Result<(), Failed>
     requires covered { IsCovered script.now }
     requires several { length script.now.pmus ≢ 1 }
-    ensures wrote { Wrote (K.held sink.old) (K.held sink.new) K.last_fault (K.faults sink.old) (K.faults sink.new) result (flat_map line_text (head_forms script.now.cpus script.now.pmus)) }
+    ensures wrote { Wrote K.held K.faults K.last_fault sink.old sink.new result (flat_map line_text (head_forms script.now.cpus script.now.pmus)) }
     ensures flushed { K.flushed sink.new ≡ K.flushed sink.old }
 {
     put_version(sink, b"2")?;
@@ -116,7 +116,7 @@ fn put_several_pmus<K: Sink>(sink: &mut K, script: &Script) -> Result<(), Failed
 /// Writes the version, the machine and its PMUs.
 pub fn put_head<K: Sink>(sink: &mut K, script: &Script) -> Result<(), Failed>
     requires { IsCovered script.now }
-    ensures wrote { Wrote (K.held sink.old) (K.held sink.new) K.last_fault (K.faults sink.old) (K.faults sink.new) result (flat_map line_text (head_forms script.now.cpus script.now.pmus)) }
+    ensures wrote { Wrote K.held K.faults K.last_fault sink.old sink.new result (flat_map line_text (head_forms script.now.cpus script.now.pmus)) }
     ensures flushed { K.flushed sink.new ≡ K.flushed sink.old }
 {
     if script.pmus() == 1 {
@@ -129,7 +129,7 @@ pub fn put_head<K: Sink>(sink: &mut K, script: &Script) -> Result<(), Failed>
 /// Writes a kind.
 fn put_kind<K: Sink>(sink: &mut K, script: &Script, kind: usize) -> Result<(), Failed>
     requires { kind < length script.now.kinds }
-    ensures wrote { IfSome (slice_get script.now.kinds kind) (λ k. Wrote (K.held sink.old) (K.held sink.new) K.last_fault (K.faults sink.old) (K.faults sink.new) result (line_text (kind_form (length script.now.pmus) k))) }
+    ensures wrote { IfSome (slice_get script.now.kinds kind) (λ k. Wrote K.held K.faults K.last_fault sink.old sink.new result (line_text (kind_form (length script.now.pmus) k))) }
     ensures flushed { K.flushed sink.new ≡ K.flushed sink.old }
 {
     let name = script.name(kind);
@@ -156,7 +156,7 @@ fn put_kind<K: Sink>(sink: &mut K, script: &Script, kind: usize) -> Result<(), F
 
 /// Writes all kinds.
 pub fn put_kinds<K: Sink>(sink: &mut K, script: &Script) -> Result<(), Failed>
-    ensures wrote { Wrote (K.held sink.old) (K.held sink.new) K.last_fault (K.faults sink.old) (K.faults sink.new) result (flat_map line_text (map (kind_form (length script.now.pmus)) script.now.kinds)) }
+    ensures wrote { Wrote K.held K.faults K.last_fault sink.old sink.new result (flat_map line_text (map (kind_form (length script.now.pmus)) script.now.kinds)) }
     ensures flushed { K.flushed sink.new ≡ K.flushed sink.old }
 {
     for kind in 0..script.kinds() {
@@ -167,7 +167,7 @@ pub fn put_kinds<K: Sink>(sink: &mut K, script: &Script) -> Result<(), Failed>
 
 /// Writes all tasks.
 pub fn put_tasks<K: Sink>(sink: &mut K, tasks: &[TaskNo]) -> Result<(), Failed>
-    ensures wrote { Wrote (K.held sink.old) (K.held sink.new) K.last_fault (K.faults sink.old) (K.faults sink.new) result (flat_map line_text (map task_form tasks.now)) }
+    ensures wrote { Wrote K.held K.faults K.last_fault sink.old sink.new result (flat_map line_text (map task_form tasks.now)) }
     ensures flushed { K.flushed sink.new ≡ K.flushed sink.old }
 {
     for task in tasks {
@@ -178,7 +178,7 @@ pub fn put_tasks<K: Sink>(sink: &mut K, tasks: &[TaskNo]) -> Result<(), Failed>
 
 /// Writes a ring.
 fn put_ring<K: Sink>(sink: &mut K, ring: &(RingNo, u32)) -> Result<(), Failed>
-    ensures wrote { Wrote (K.held sink.old) (K.held sink.new) K.last_fault (K.faults sink.old) (K.faults sink.new) result (line_text (ring_form ring.now)) }
+    ensures wrote { Wrote K.held K.faults K.last_fault sink.old sink.new result (line_text (ring_form ring.now)) }
     ensures flushed { K.flushed sink.new ≡ K.flushed sink.old }
 {
     let (number, bytes) = ring;
@@ -194,7 +194,7 @@ fn put_ring<K: Sink>(sink: &mut K, ring: &(RingNo, u32)) -> Result<(), Failed>
 
 /// Writes all rings.
 pub fn put_rings<K: Sink>(sink: &mut K, rings: &[(RingNo, u32)]) -> Result<(), Failed>
-    ensures wrote { Wrote (K.held sink.old) (K.held sink.new) K.last_fault (K.faults sink.old) (K.faults sink.new) result (flat_map line_text (map ring_form rings.now)) }
+    ensures wrote { Wrote K.held K.faults K.last_fault sink.old sink.new result (flat_map line_text (map ring_form rings.now)) }
     ensures flushed { K.flushed sink.new ≡ K.flushed sink.old }
 {
     for ring in rings {
@@ -205,7 +205,7 @@ pub fn put_rings<K: Sink>(sink: &mut K, rings: &[(RingNo, u32)]) -> Result<(), F
 
 /// Writes a reader.
 fn put_reader<K: Sink>(sink: &mut K, reader: &ReaderLine) -> Result<(), Failed>
-    ensures wrote { Wrote (K.held sink.old) (K.held sink.new) K.last_fault (K.faults sink.old) (K.faults sink.new) result (line_text (reader_form reader.now)) }
+    ensures wrote { Wrote K.held K.faults K.last_fault sink.old sink.new result (line_text (reader_form reader.now)) }
     ensures flushed { K.flushed sink.new ≡ K.flushed sink.old }
 {
     put_line(
@@ -221,7 +221,7 @@ fn put_reader<K: Sink>(sink: &mut K, reader: &ReaderLine) -> Result<(), Failed>
 
 /// Writes all readers.
 pub fn put_readers<K: Sink>(sink: &mut K, readers: &[ReaderLine]) -> Result<(), Failed>
-    ensures wrote { Wrote (K.held sink.old) (K.held sink.new) K.last_fault (K.faults sink.old) (K.faults sink.new) result (flat_map line_text (map reader_form readers.now)) }
+    ensures wrote { Wrote K.held K.faults K.last_fault sink.old sink.new result (flat_map line_text (map reader_form readers.now)) }
     ensures flushed { K.flushed sink.new ≡ K.flushed sink.old }
 {
     for reader in readers {

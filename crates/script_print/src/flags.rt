@@ -3,26 +3,18 @@
 ghost use Rattle.std.specs.Prelude.{◌≡◌, ◌<◌, ◌↔◌, IsTrue};
 ghost use Rattle.std.specs.Int.{bit_at};
 ghost use Rattle.script_spec.specs.Forms.{flag_name, flags_text};
-ghost use Rattle.order_text.specs.Writing.{Wrote};
+ghost use Rattle.perf_io.specs.Wrote.{Wrote};
 
 use crate::pieces::put_two;
 use perf_base::AttrFlags;
 use perf_io::{Failed, Sink};
 
-/// The name of a flag by its number.
+/// The word of a flag by its number.
 fn name_of(flag: u8) -> &'static [u8]
     requires { flag < 7 }
     ensures { result.now ≡ flag_name flag }
 {
-    match flag {
-        0 => b"disabled",
-        1 => b"inherit",
-        2 => b"pinned",
-        3 => b"exclusive",
-        4 => b"exclude_user",
-        5 => b"exclude_kernel",
-        _ => b"sample_id_all",
-    }
+    AttrFlags::table()[usize::from(flag)].name.as_bytes()
 }
 
 fn is_set(flags: AttrFlags, flag: u8) -> bool
@@ -34,7 +26,7 @@ fn is_set(flags: AttrFlags, flag: u8) -> bool
 
 /// Writes the names of the flags that are set, in their order, with a comma between each two.
 pub fn put_flags<K: Sink>(sink: &mut K, flags: AttrFlags) -> Result<(), Failed>
-    ensures wrote { Wrote (K.held sink.old) (K.held sink.new) K.last_fault (K.faults sink.old) (K.faults sink.new) result (flags_text flags.0) }
+    ensures wrote { Wrote K.held K.faults K.last_fault sink.old sink.new result (flags_text flags.0) }
     ensures flushed { K.flushed sink.new ≡ K.flushed sink.old }
 {
     let mut comma: &[u8] = b"";

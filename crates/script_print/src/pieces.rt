@@ -1,38 +1,20 @@
-//! Writing texts, numbers and names.
+//! Writing texts and hexadecimal numbers.
 
-ghost use Rattle.std.specs.Prelude.{◌≡◌, ℕ, ◌^◌, ◌<◌, ◌≤◌, [], ◌∷◌, ◌++◌, drop, length, decimal, false};
+ghost use Rattle.std.specs.Prelude.{◌≡◌, ℕ, ◌^◌, ◌<◌, ◌≤◌, [], ◌∷◌, ◌++◌, drop, length, false};
 ghost use Rattle.std.specs.Fmt.{digit_glyph};
 ghost use Rattle.script_spec.specs.Forms.{hexadecimal};
-ghost use Rattle.order_text.specs.Writing.{Wrote};
+ghost use Rattle.perf_io.specs.Wrote.{Wrote};
 
-use itoa::Buffer;
-use perf_base::Name;
 use perf_io::{Failed, Sink, write_all};
 
-/// Writes a text.
-pub fn put<K: Sink>(sink: &mut K, text: &[u8]) -> Result<(), Failed>
-    ensures wrote { Wrote (K.held sink.old) (K.held sink.new) K.last_fault (K.faults sink.old) (K.faults sink.new) result text.now }
-    ensures flushed { K.flushed sink.new ≡ K.flushed sink.old }
-{
-    write_all(sink, text)
-}
-
 /// Writes a text and another behind it.
+#[tactic(auto, using(perf_io::proofs::Wrote::writes))]
 pub fn put_two<K: Sink>(sink: &mut K, first: &[u8], second: &[u8]) -> Result<(), Failed>
-    ensures wrote { Wrote (K.held sink.old) (K.held sink.new) K.last_fault (K.faults sink.old) (K.faults sink.new) result (first.now ++ second.now) }
+    ensures wrote { Wrote K.held K.faults K.last_fault sink.old sink.new result (first.now ++ second.now) }
     ensures flushed { K.flushed sink.new ≡ K.flushed sink.old }
 {
-    put(sink, first)?;
-    put(sink, second)
-}
-
-/// Writes a decimal number.
-pub fn put_decimal<K: Sink>(sink: &mut K, n: u64) -> Result<(), Failed>
-    ensures wrote { Wrote (K.held sink.old) (K.held sink.new) K.last_fault (K.faults sink.old) (K.faults sink.new) result (decimal n) }
-    ensures flushed { K.flushed sink.new ≡ K.flushed sink.old }
-{
-    let mut buffer = Buffer::new();
-    put(sink, buffer.format(n).as_bytes())
+    write_all(sink, first)?;
+    write_all(sink, second)
 }
 
 /// A hexadecimal digit, in small letters.
@@ -62,20 +44,9 @@ fn hexadecimal_digits(n: u64) -> ([u8; 16], usize)
 
 /// Writes a hexadecimal number.
 pub fn put_hexadecimal<K: Sink>(sink: &mut K, n: u64) -> Result<(), Failed>
-    ensures wrote { Wrote (K.held sink.old) (K.held sink.new) K.last_fault (K.faults sink.old) (K.faults sink.new) result (hexadecimal n) }
+    ensures wrote { Wrote K.held K.faults K.last_fault sink.old sink.new result (hexadecimal n) }
     ensures flushed { K.flushed sink.new ≡ K.flushed sink.old }
 {
     let (places, start) = hexadecimal_digits(n);
-    put(sink, &places[start..])
-}
-
-/// Writes a name.
-pub fn put_name<K: Sink>(sink: &mut K, name: &Name) -> Result<(), Failed>
-    ensures wrote { Wrote (K.held sink.old) (K.held sink.new) K.last_fault (K.faults sink.old) (K.faults sink.new) result name.now }
-    ensures flushed { K.flushed sink.new ≡ K.flushed sink.old }
-{
-    for i in 0..name.len() {
-        put(sink, &[name.get(i)])?;
-    }
-    Ok(())
+    write_all(sink, &places[start..])
 }

@@ -1,26 +1,26 @@
 //! Printing a script.
 
-ghost use Rattle.std.specs.Prelude.{◌≡◌, ℕ, ◌≤◌, ◌++◌, [], ◌∷◌, length, map, flat_map, take, OnOk, OnErr};
+ghost use Rattle.std.specs.Prelude.{◌≡◌, ◌++◌, ◌∷◌, length, map, flat_map};
 ghost use Rattle.perf_base.specs.Scripts.{IsCovered};
-ghost use Rattle.perf_io.specs.Outside.{Adds, Rose};
 ghost use Rattle.script_spec.specs.Acts.{act_text, acts_text};
 ghost use Rattle.script_spec.specs.Forms as form;
 ghost use Rattle.script_spec.specs.Printing.{head_forms, kind_form, task_form, ring_form, reader_form, order_forms, all_processor_forms, all_tool_forms, line_text, printed};
-ghost use Rattle.order_text.specs.Writing.{Wrote};
+ghost use Rattle.perf_io.specs.Wrote.{Wrote};
 
 use crate::cpu_lines::put_processors;
 use crate::declared::{put_head, put_kinds, put_readers, put_rings, put_tasks};
-use crate::pieces::put;
 use crate::tool_lines::put_tools;
 use crate::words::put_line;
 use order_text::write_act;
 use perf_base::{Act, Script};
-use perf_io::{Failed, Sink};
+use perf_io::{Failed, Sink, write_all};
 
 /// Writes what a script declares.
+#[tactic(auto, using(perf_io::proofs::Wrote::writes))]
 fn put_declared<K: Sink>(sink: &mut K, script: &Script) -> Result<(), Failed>
     requires { IsCovered script.now }
-    ensures wrote { Wrote (K.held sink.old) (K.held sink.new) K.last_fault (K.faults sink.old) (K.faults sink.new) result (flat_map line_text (head_forms script.now.cpus script.now.pmus ++ (map (kind_form (length script.now.pmus)) script.now.kinds ++ (map task_form script.now.tasks ++ map ring_form script.now.rings)))) }
+    ensures wrote { Wrote K.held K.faults K.last_fault sink.old sink.new result (flat_map line_text (head_forms script.now.cpus script.now.pmus) ++ (flat_map line_text (map (kind_form (length script.now.pmus)) script.now.kinds)
+        ++ (flat_map line_text (map task_form script.now.tasks) ++ flat_map line_text (map ring_form script.now.rings)))) }
     ensures flushed { K.flushed sink.new ≡ K.flushed sink.old }
 {
     put_head(sink, script)?;
@@ -30,8 +30,9 @@ fn put_declared<K: Sink>(sink: &mut K, script: &Script) -> Result<(), Failed>
 }
 
 /// Writes the lines of processors, tools and readers.
+#[tactic(auto, using(perf_io::proofs::Wrote::writes))]
 fn put_lines<K: Sink>(sink: &mut K, script: &Script) -> Result<(), Failed>
-    ensures wrote { Wrote (K.held sink.old) (K.held sink.new) K.last_fault (K.faults sink.old) (K.faults sink.new) result (flat_map line_text (all_processor_forms script.now ++ (all_tool_forms script.now ++ map reader_form script.now.readers))) }
+    ensures wrote { Wrote K.held K.faults K.last_fault sink.old sink.new result (flat_map line_text (all_processor_forms script.now) ++ (flat_map line_text (all_tool_forms script.now) ++ flat_map line_text (map reader_form script.now.readers))) }
     ensures flushed { K.flushed sink.new ≡ K.flushed sink.old }
 {
     put_processors(sink, script)?;
@@ -40,17 +41,18 @@ fn put_lines<K: Sink>(sink: &mut K, script: &Script) -> Result<(), Failed>
 }
 
 /// Writes an act with a space before it.
+#[tactic(auto, using(perf_io::proofs::Wrote::writes))]
 fn put_act<K: Sink>(sink: &mut K, act: &Act) -> Result<(), Failed>
-    ensures wrote { Wrote (K.held sink.old) (K.held sink.new) K.last_fault (K.faults sink.old) (K.faults sink.new) result (32 ∷ act_text act.now) }
+    ensures wrote { Wrote K.held K.faults K.last_fault sink.old sink.new result (32 ∷ act_text act.now) }
     ensures flushed { K.flushed sink.new ≡ K.flushed sink.old }
 {
-    put(sink, b" ")?;
+    write_all(sink, b" ")?;
     write_act(act, sink)
 }
 
 /// Writes acts with a space before each.
 fn put_acts<K: Sink>(sink: &mut K, acts: &[Act]) -> Result<(), Failed>
-    ensures wrote { Wrote (K.held sink.old) (K.held sink.new) K.last_fault (K.faults sink.old) (K.faults sink.new) result (acts_text acts.now) }
+    ensures wrote { Wrote K.held K.faults K.last_fault sink.old sink.new result (acts_text acts.now) }
     ensures flushed { K.flushed sink.new ≡ K.flushed sink.old }
 {
     for act in acts {
@@ -61,35 +63,25 @@ fn put_acts<K: Sink>(sink: &mut K, acts: &[Act]) -> Result<(), Failed>
 
 /// Writes the order line, or nothing where the order is empty.
 fn put_order<K: Sink>(sink: &mut K, acts: &[Act]) -> Result<(), Failed>
-    ensures wrote { Wrote (K.held sink.old) (K.held sink.new) K.last_fault (K.faults sink.old) (K.faults sink.new) result (flat_map line_text (order_forms acts.now)) }
+    ensures wrote { Wrote K.held K.faults K.last_fault sink.old sink.new result (flat_map line_text (order_forms acts.now)) }
     ensures flushed { K.flushed sink.new ≡ K.flushed sink.old }
 {
     if acts.is_empty() {
         return Ok(());
     }
-    put(sink, b"order")?;
+    write_all(sink, b"order")?;
     put_acts(sink, acts)?;
-    put(sink, b"\n")
+    write_all(sink, b"\n")
 }
 
 /// Writes the order and the end.
+#[tactic(auto, using(perf_io::proofs::Wrote::writes))]
 fn put_last<K: Sink>(sink: &mut K, acts: &[Act]) -> Result<(), Failed>
-    ensures wrote { Wrote (K.held sink.old) (K.held sink.new) K.last_fault (K.faults sink.old) (K.faults sink.new) result (flat_map line_text (order_forms acts.now ++ form.End ∷ [])) }
+    ensures wrote { Wrote K.held K.faults K.last_fault sink.old sink.new result (flat_map line_text (order_forms acts.now) ++ line_text form.End) }
     ensures flushed { K.flushed sink.new ≡ K.flushed sink.old }
 {
     put_order(sink, acts)?;
     put_line(sink, b"end", &[])
-}
-
-/// Writes the whole printed text.
-fn put_script<K: Sink>(sink: &mut K, script: &Script) -> Result<(), Failed>
-    requires { IsCovered script.now }
-    ensures wrote { Wrote (K.held sink.old) (K.held sink.new) K.last_fault (K.faults sink.old) (K.faults sink.new) result (printed script.now) }
-    ensures flushed { K.flushed sink.new ≡ K.flushed sink.old }
-{
-    put_declared(sink, script)?;
-    put_lines(sink, script)?;
-    put_last(sink, script.order())
 }
 
 /// Writes the printed text of a script: missing values, kinds that do not occur and processors and tools
@@ -97,12 +89,10 @@ fn put_script<K: Sink>(sink: &mut K, script: &Script) -> Result<(), Failed>
 /// to be of a PMU. It takes no memory. Where a call of the sink fails, some front of the text stays added.
 pub fn print_script<K: Sink>(script: &Script, sink: &mut K) -> Result<(), Failed>
     requires { IsCovered script.now }
-    ensures count { K.faults sink.old ≤ K.faults sink.new }
-    ensures cause { OnErr result (Rose K.last_fault (K.faults sink.old) (K.faults sink.new)) }
-    ensures added { OnOk result (Adds (K.held sink.old) (K.held sink.new) (printed script.now)) }
-    ensures front { OnErr result ((n : ℕ) × (n ≤ length (printed script.now))
-        × Adds (K.held sink.old) (K.held sink.new) (take n (printed script.now))) }
+    ensures wrote { Wrote K.held K.faults K.last_fault sink.old sink.new result (printed script.now) }
     ensures flushed { K.flushed sink.new ≡ K.flushed sink.old }
 {
-    put_script(sink, script)
+    put_declared(sink, script)?;
+    put_lines(sink, script)?;
+    put_last(sink, script.order())
 }

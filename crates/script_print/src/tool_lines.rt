@@ -3,7 +3,7 @@
 ghost use Rattle.std.specs.Prelude.{◌≡◌, ◌<◌, ◌≤◌, ◌++◌, [], ◌∷◌, length, map, flat_map, codes, decimal, All, option_map};
 ghost use Rattle.script_spec.specs.Forms.{number_or, word_if, group_words};
 ghost use Rattle.script_spec.specs.Printing.{kind_name, task_number, cpu_number, tool_form, tool_forms, all_tool_forms, line_text};
-ghost use Rattle.order_text.specs.Writing.{Wrote};
+ghost use Rattle.perf_io.specs.Wrote.{Wrote};
 ghost use Rattle.perf_base.specs.Scripts.{lines_of_tool, IsToolLine, IsKind};
 ghost use Rattle.script_print.specs.Words.{said};
 ghost use Rattle.perf_base.specs.declared.lines.ToolLine.TheVariants as tool_line;
@@ -100,7 +100,7 @@ fn put_open<K: Sink>(
     leader: Option<EventNo>,
 ) -> Result<(), Failed>
     requires { IsKind (length script.now.kinds) attr.now.kind }
-    ensures wrote { Wrote (K.held sink.old) (K.held sink.new) K.last_fault (K.faults sink.old) (K.faults sink.new) result (line_text (tool_form script.now.kinds (tool_line.Open slot attr.now leader))) }
+    ensures wrote { Wrote K.held K.faults K.last_fault sink.old sink.new result (line_text (tool_form script.now.kinds (tool_line.Open slot attr.now leader))) }
     ensures flushed { K.flushed sink.new ≡ K.flushed sink.old }
 {
     put_line(
@@ -123,7 +123,7 @@ fn put_open<K: Sink>(
 /// Writes a line of a tool.
 fn put_tool_line<K: Sink>(sink: &mut K, script: &Script, line: &ToolLine) -> Result<(), Failed>
     requires { IsToolLine script.now.cpus (length script.now.kinds) script.now.rings line.now }
-    ensures wrote { Wrote (K.held sink.old) (K.held sink.new) K.last_fault (K.faults sink.old) (K.faults sink.new) result (line_text (tool_form script.now.kinds line.now)) }
+    ensures wrote { Wrote K.held K.faults K.last_fault sink.old sink.new result (line_text (tool_form script.now.kinds line.now)) }
     ensures flushed { K.flushed sink.new ≡ K.flushed sink.old }
 {
     match line {
@@ -172,7 +172,7 @@ fn put_tool_line<K: Sink>(sink: &mut K, script: &Script, line: &ToolLine) -> Res
 /// Writes lines of a tool.
 fn put_tool_lines<K: Sink>(sink: &mut K, script: &Script, lines: &[ToolLine]) -> Result<(), Failed>
     requires { All (IsToolLine script.now.cpus (length script.now.kinds) script.now.rings) lines.now }
-    ensures wrote { Wrote (K.held sink.old) (K.held sink.new) K.last_fault (K.faults sink.old) (K.faults sink.new) result (flat_map line_text (map (tool_form script.now.kinds) lines.now)) }
+    ensures wrote { Wrote K.held K.faults K.last_fault sink.old sink.new result (flat_map line_text (map (tool_form script.now.kinds) lines.now)) }
     ensures flushed { K.flushed sink.new ≡ K.flushed sink.old }
 {
     for line in lines {
@@ -184,7 +184,7 @@ fn put_tool_lines<K: Sink>(sink: &mut K, script: &Script, lines: &[ToolLine]) ->
 /// Writes a tool with its lines, or nothing where it has none.
 pub fn put_tool<K: Sink>(sink: &mut K, script: &Script, tool: ToolNo) -> Result<(), Failed>
     requires { tool.0 < 4 }
-    ensures wrote { Wrote (K.held sink.old) (K.held sink.new) K.last_fault (K.faults sink.old) (K.faults sink.new) result (flat_map line_text (tool_forms script.now.kinds tool.0 (lines_of_tool script.now tool))) }
+    ensures wrote { Wrote K.held K.faults K.last_fault sink.old sink.new result (flat_map line_text (tool_forms script.now.kinds tool.0 (lines_of_tool script.now tool))) }
     ensures flushed { K.flushed sink.new ≡ K.flushed sink.old }
 {
     let lines = script.tool_lines(tool);
@@ -197,7 +197,7 @@ pub fn put_tool<K: Sink>(sink: &mut K, script: &Script, tool: ToolNo) -> Result<
 
 /// Writes all tools that have lines.
 pub fn put_tools<K: Sink>(sink: &mut K, script: &Script) -> Result<(), Failed>
-    ensures wrote { Wrote (K.held sink.old) (K.held sink.new) K.last_fault (K.faults sink.old) (K.faults sink.new) result (flat_map line_text (all_tool_forms script.now)) }
+    ensures wrote { Wrote K.held K.faults K.last_fault sink.old sink.new result (flat_map line_text (all_tool_forms script.now)) }
     ensures flushed { K.flushed sink.new ≡ K.flushed sink.old }
 {
     for tool in 0..4 {

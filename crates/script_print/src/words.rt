@@ -4,13 +4,13 @@ ghost use Rattle.std.specs.Prelude.{◌≡◌, [], ◌∷◌, ◌++◌, decimal,
 ghost use Rattle.std.specs.List.{join_with_byte};
 ghost use Rattle.script_spec.specs.Forms.{hexadecimal, flags_text, word_if};
 ghost use Rattle.script_spec.specs.Printing.{some_of};
-ghost use Rattle.order_text.specs.Writing.{Wrote};
+ghost use Rattle.perf_io.specs.Wrote.{Wrote};
 ghost use Rattle.script_print.specs.Words.{said, all_said, spaced};
 
 use crate::flags::put_flags;
-use crate::pieces::{put, put_decimal, put_hexadecimal, put_name, put_two};
+use crate::pieces::{put_hexadecimal, put_two};
 use perf_base::{AttrFlags, Name};
-use perf_io::{Failed, Sink};
+use perf_io::{Failed, Sink, write_all, write_numbered};
 
 /// A word of a line: a text, and what stands behind it. A missing value has no word.
 #[derive(Clone, Copy)]
@@ -59,44 +59,50 @@ impl<'a> Word<'a> {
 }
 
 /// Writes a word with a decimal number.
+#[tactic(auto, using(perf_io::proofs::Wrote::writes))]
 fn put_decimal_word<K: Sink>(sink: &mut K, key: &[u8], n: u64) -> Result<(), Failed>
-    ensures wrote { Wrote (K.held sink.old) (K.held sink.new) K.last_fault (K.faults sink.old) (K.faults sink.new) result ((codes " " ++ key.now) ++ decimal n) }
+    ensures wrote { Wrote K.held K.faults K.last_fault sink.old sink.new result ((codes " " ++ key.now) ++ decimal n) }
     ensures flushed { K.flushed sink.new ≡ K.flushed sink.old }
 {
-    put_two(sink, b" ", key)?;
-    put_decimal(sink, n)
+    write_all(sink, b" ")?;
+    write_numbered(sink, key, n)
 }
 
 /// Writes a word with a hexadecimal number.
+#[tactic(auto, using(perf_io::proofs::Wrote::writes))]
 fn put_hexadecimal_word<K: Sink>(sink: &mut K, key: &[u8], n: u64) -> Result<(), Failed>
-    ensures wrote { Wrote (K.held sink.old) (K.held sink.new) K.last_fault (K.faults sink.old) (K.faults sink.new) result ((codes " " ++ key.now) ++ hexadecimal n) }
+    ensures wrote { Wrote K.held K.faults K.last_fault sink.old sink.new result ((codes " " ++ key.now) ++ hexadecimal n) }
     ensures flushed { K.flushed sink.new ≡ K.flushed sink.old }
 {
-    put_two(sink, b" ", key)?;
+    write_all(sink, b" ")?;
+    write_all(sink, key)?;
     put_hexadecimal(sink, n)
 }
 
 /// Writes a word with a name.
+#[tactic(auto, using(perf_io::proofs::Wrote::writes))]
 fn put_named_word<K: Sink>(sink: &mut K, key: &[u8], name: &Name) -> Result<(), Failed>
-    ensures wrote { Wrote (K.held sink.old) (K.held sink.new) K.last_fault (K.faults sink.old) (K.faults sink.new) result ((codes " " ++ key.now) ++ name.now) }
+    ensures wrote { Wrote K.held K.faults K.last_fault sink.old sink.new result ((codes " " ++ key.now) ++ name.now) }
     ensures flushed { K.flushed sink.new ≡ K.flushed sink.old }
 {
-    put_two(sink, b" ", key)?;
-    put_name(sink, name)
+    write_all(sink, b" ")?;
+    put_two(sink, key, name.as_bytes())
 }
 
 /// Writes a word with flags.
-fn put_flags_word<K: Sink>(sink: &mut K, flags: AttrFlags) -> Result<(), Failed>
-    ensures wrote { Wrote (K.held sink.old) (K.held sink.new) K.last_fault (K.faults sink.old) (K.faults sink.new) result (codes " flags=" ++ flags_text flags.0) }
+#[tactic(auto, using(perf_io::proofs::Wrote::writes))]
+fn put_flags_word<K: Sink>(sink: &mut K, key: &[u8], flags: AttrFlags) -> Result<(), Failed>
+    ensures wrote { Wrote K.held K.faults K.last_fault sink.old sink.new result ((codes " " ++ key.now) ++ flags_text flags.0) }
     ensures flushed { K.flushed sink.new ≡ K.flushed sink.old }
 {
-    put(sink, b" flags=")?;
+    write_all(sink, b" ")?;
+    write_all(sink, key)?;
     put_flags(sink, flags)
 }
 
 /// Writes a word with a space before it, or nothing.
 pub fn put_word<K: Sink>(sink: &mut K, word: &Word) -> Result<(), Failed>
-    ensures wrote { Wrote (K.held sink.old) (K.held sink.new) K.last_fault (K.faults sink.old) (K.faults sink.new) result (spaced (said word.now)) }
+    ensures wrote { Wrote K.held K.faults K.last_fault sink.old sink.new result (spaced (said word.now)) }
     ensures flushed { K.flushed sink.new ≡ K.flushed sink.old }
 {
     match word {
@@ -105,13 +111,13 @@ pub fn put_word<K: Sink>(sink: &mut K, word: &Word) -> Result<(), Failed>
         Word::Decimal(key, n) => put_decimal_word(sink, key, *n),
         Word::Hexadecimal(key, n) => put_hexadecimal_word(sink, key, *n),
         Word::Named(key, name) => put_named_word(sink, key, name),
-        Word::Flags(flags) => put_flags_word(sink, *flags),
+        Word::Flags(flags) => put_flags_word(sink, b"flags=", *flags),
     }
 }
 
 /// Writes words with a space before each.
 pub fn put_words<K: Sink>(sink: &mut K, words: &[Word]) -> Result<(), Failed>
-    ensures wrote { Wrote (K.held sink.old) (K.held sink.new) K.last_fault (K.faults sink.old) (K.faults sink.new) result (spaced (all_said words.now)) }
+    ensures wrote { Wrote K.held K.faults K.last_fault sink.old sink.new result (spaced (all_said words.now)) }
     ensures flushed { K.flushed sink.new ≡ K.flushed sink.old }
 {
     for word in words {
@@ -121,19 +127,21 @@ pub fn put_words<K: Sink>(sink: &mut K, words: &[Word]) -> Result<(), Failed>
 }
 
 /// Writes the first words of a line.
+#[tactic(auto, using(perf_io::proofs::Wrote::writes, crate::proofs::Lines::join_spaced))]
 pub fn put_start<K: Sink>(sink: &mut K, first: &[u8], words: &[Word]) -> Result<(), Failed>
-    ensures wrote { Wrote (K.held sink.old) (K.held sink.new) K.last_fault (K.faults sink.old) (K.faults sink.new) result (join_with_byte 32 (first.now ∷ all_said words.now)) }
+    ensures wrote { Wrote K.held K.faults K.last_fault sink.old sink.new result (join_with_byte 32 (first.now ∷ all_said words.now)) }
     ensures flushed { K.flushed sink.new ≡ K.flushed sink.old }
 {
-    put(sink, first)?;
+    write_all(sink, first)?;
     put_words(sink, words)
 }
 
 /// Writes a line.
+#[tactic(auto, using(perf_io::proofs::Wrote::writes))]
 pub fn put_line<K: Sink>(sink: &mut K, first: &[u8], words: &[Word]) -> Result<(), Failed>
-    ensures wrote { Wrote (K.held sink.old) (K.held sink.new) K.last_fault (K.faults sink.old) (K.faults sink.new) result (join_with_byte 32 (first.now ∷ all_said words.now) ++ 10 ∷ []) }
+    ensures wrote { Wrote K.held K.faults K.last_fault sink.old sink.new result (join_with_byte 32 (first.now ∷ all_said words.now) ++ 10 ∷ []) }
     ensures flushed { K.flushed sink.new ≡ K.flushed sink.old }
 {
     put_start(sink, first, words)?;
-    put(sink, b"\n")
+    write_all(sink, b"\n")
 }

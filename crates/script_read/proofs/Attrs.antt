@@ -1,5 +1,6 @@
 -- The kind that an attribute names.
 use Rattle.std.proofs.Common.{◌≡◌, ◌⊎◌, true, false, eqb, ltb, List, length, Option, Some, None, inl, inr, refl, arith}
+use Rattle.std.proofs.lemmas.Option.{none-some}
 use Rattle.std.specs.Prelude.{IfSome}
 use Rattle.std.proofs.lemmas.Bool.{cases_Bool, eqb-true, eqb-false, ne_eqb, ltb-true, lt-ltb}
 use Rattle.perf_base.specs.declared.attr.Kind.{Kind}
@@ -9,9 +10,6 @@ use Rattle.attr_bytes.specs.declared.raw.RawAttr.{RawAttr}
 use Rattle.attr_bytes.specs.Standing.{IsClass}
 use Rattle.attr_bytes.specs.Kinds.{NamesKind}
 use Rattle.script_spec.specs.Meaning.{kind_numbered}
-
-none_some : {A : Type 0} (x : A) → None ≡ Some x → ⊥
-none_some x e = cc
 
 not_one : (raw : RawAttr) → ((raw.class ≡ 0) ⊎ (raw.class ≡ 4)) → eqb raw.class 1 ≡ false
 not_one raw (inl z) = ne_eqb _ _ (λ e. omega (arith, z, e))
@@ -52,4 +50,4 @@ not_named kinds raw class h = elim (cases_Bool (eqb raw.class 1)) [
 
 pub kind_is : (kinds : List KindLine) (raw : RawAttr) (r : Option Kind) → IsClass raw.class → IfSome r (NamesKind (length kinds) raw) → ((k : Kind) → NamesKind (length kinds) raw k → r ≡ Some k) → r ≡ kind_numbered kinds raw.class raw.config
 kind_is kinds raw (Some k) class some every = named kinds raw k some
-kind_is kinds raw None class some every = not_named kinds raw class (λ k n. none_some k (every k n))
+kind_is kinds raw None class some every = not_named kinds raw class (λ k n. none-some k (every k n))

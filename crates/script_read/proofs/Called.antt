@@ -4,35 +4,16 @@ use Rattle.std.specs.Prelude.{slice_get, IfSome, IsTrue, Any}
 use Rattle.std.specs.List.{position_or_len}
 use Rattle.std.specs.Str.{bytes_eq}
 use Rattle.std.proofs.lemmas.Slice.Eq.{bytes_eq-Decides}
-use Rattle.std.proofs.lemmas.Bool.{cases_lt, false_from_ne_true, lt-ltb, le-ltb}
-use Rattle.std.proofs.lemmas.List.{length-map, ext_get_or, get_or_default, get_or-take, take_more, take_all}
+use Rattle.std.proofs.lemmas.Bool.{cases_lt, lt-ltb, le-ltb}
+use Rattle.std.proofs.lemmas.List.{length-map, get_or_default, get_or-take, take_more, take_all}
 use Rattle.std.proofs.lemmas.List.Sums.{position_or_len_is, fails_before_first}
 use Rattle.std.proofs.lemmas.List.Quantifiers.{position-Some, all_pairs_push}
-use Rattle.std.proofs.lemmas.Option.{slice_get-get_or, slice_get_within}
-use Rattle.std.proofs.lemmas.List.Elements.{All-push}
+use Rattle.std.proofs.lemmas.Option.{slice_get-get_or, slice_get_within, same_Some, none-some}
 use Rattle.perf_base.specs.declared.lines.KindLine.{KindLine}
 use Rattle.script_spec.specs.Meaning.{number_of}
 
 pub get_is : {X : Type 0} (xs : List X) (i : ℕ) (x d : X) → slice_get xs i ≡ Some x → get_or xs i d ≡ x
-get_is xs i x d e = some_is (sym (slice_get-get_or xs i d (slice_get_within xs i x e)) ∙ e)
-  where
-    some_is : {A : Type 0} {a b : A} → Some a ≡ Some b → a ≡ b
-    some_is e = cc
-
-pub names_differ : (xs ys : List ℕ) (i : ℕ) → (get_or xs i 0 ≡ get_or ys i 0 → ⊥) → false ≡ bytes_eq xs ys
-names_differ xs ys i h = sym (false_from_ne_true _ (λ t. h (ap (λ (zs : List ℕ). get_or zs i 0) ((bytes_eq-Decides xs ys).0 t))))
-
-pub lengths_differ : (xs ys : List ℕ) → (length xs ≡ length ys → ⊥) → false ≡ bytes_eq xs ys
-lengths_differ xs ys h = sym (false_from_ne_true _ (λ t. h (ap (λ (zs : List ℕ). length zs) ((bytes_eq-Decides xs ys).0 t))))
-
-pub names_same : (xs ys : List ℕ) (n : ℕ) → length xs ≡ length ys → length xs ≤ n → ((k : ℕ) → k < n → get_or xs k 0 ≡ get_or ys k 0) → true ≡ bytes_eq xs ys
-names_same xs ys n l m h = sym ((bytes_eq-Decides xs ys).1 (ext_get_or 0 xs ys l (λ i w. h i (omega arith))))
-
-pub one_more_same : (xs ys : List ℕ) (n : ℕ) → ((k : ℕ) → k < n → get_or xs k 0 ≡ get_or ys k 0) → get_or xs n 0 ≡ get_or ys n 0 → (k : ℕ) → k < n + 1 → get_or xs k 0 ≡ get_or ys k 0
-one_more_same xs ys n h e k l = elim (cases_lt k n) [
-  | inl before ↦ h k before
-  | inr here ↦ let is : k ≡ n = omega arith in rw is e
-]
+get_is xs i x d e = same_Some _ x (sym (slice_get-get_or xs i d (slice_get_within xs i x e)) ∙ e)
 
 -- the first kind of the name, or none
 other_name : (kinds : List KindLine) (name : List ℕ) (k : ℕ) (d : KindLine) → k < length kinds → IfSome (slice_get kinds k) (λ x. bytes_eq x.name name ≡ false) → bytes_eq (get_or kinds k d).name name ≡ false
@@ -77,9 +58,6 @@ number_found_by kinds name called i within is t before = go (slice_get kinds i) 
 
 -- ---- declared names
 
-none_some : {A : Type 0} (x : A) → None ≡ Some x → ⊥
-none_some x e = cc
-
 pub any_at : {X : Type 0} (P : X → Type 0) (xs : List X) (i : ℕ) (d : X) → i < length xs → P (get_or xs i d) → Any P xs
 any_at P xs i d l p = (i, get_or xs i d, l, get_or_default xs i (get_or xs i d) d l, p)
 
@@ -93,7 +71,7 @@ pub declared_none : (kinds : List KindLine) (name : List ℕ) → number_of kind
 declared_none kinds name e = λ k d l same.
     let t : bytes_eq (get_or kinds k d).name name ≡ true = (bytes_eq-Decides (get_or kinds k d).name name).1 same in
     elim (cases_lt (position_or_len (λ x. bytes_eq x.name name) kinds) (length kinds)) [
-      | inl within ↦ absurd (none_some (position_or_len (λ x. bytes_eq x.name name) kinds) (sym e ∙ rw (lt-ltb _ _ within) refl))
+      | inl within ↦ absurd (none-some (position_or_len (λ x. bytes_eq x.name name) kinds) (sym e ∙ rw (lt-ltb _ _ within) refl))
       | inr past ↦ let f : bytes_eq (get_or kinds k d).name name ≡ false = fails_before_first (λ x. bytes_eq x.name name) kinds k d (omega arith) in absurd cc
     ]
 
@@ -142,9 +120,6 @@ apart_map f g (z ∷ ys) = (
     read_map g (y ∷ ys) (suc i) d e l = read_map g ys i d e (omega (arith, l))
 
 -- ---- a loop that tests each element
-
-pub all_more : {X : Type 0} (P : X → Type 0) (xs : List X) (i : ℕ) (d : X) → i < length xs → All P (take i xs) → P (get_or xs i d) → All P (take (i + 1) xs)
-all_more P xs i d l h p = rw (take_more xs i d l) (All-push P (take i xs) (get_or xs i d) h p)
 
 pub all_not : {X : Type 0} (P : X → Type 0) (xs : List X) (i : ℕ) (d : X) → i < length xs → (P (get_or xs i d) → ⊥) → IsTrue false ↔ All P xs
 all_not P xs i d l h = (λ t. absurd cc, λ all. absurd (h (all i d l)))

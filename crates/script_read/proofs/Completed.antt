@@ -39,10 +39,10 @@ none_counted test s (a ∷ order) h all =
     let n : count_by test order ≡ 0 = none_counted test s order h (All-tail (IsAct s) a order all) in
     rw f (omega (arith, n))
 
-pub complete_iff : (s : Scripted) (b : Bool) → IsScript s → ((cpu : CpuNo) → cpu.0 < 8 → IsCpuDone s cpu) → IsTrue b ↔ ((tool : ToolNo) → tool.0 < 4 → IsToolDone s tool) → IsTrue b ↔ IsComplete s s.order
+pub complete_iff : (s : Scripted) (b : Bool) → IsScript s → ((cpu : CpuNo) → cpu.0 < 8 → IsCpuDone s s.order cpu) → IsTrue b ↔ ((tool : ToolNo) → tool.0 < 4 → IsToolDone s s.order tool) → IsTrue b ↔ IsComplete s s.order
 complete_iff s b h cpus tools = (λ t. record { cpus = all_cpus; tools = all_tools (tools.0 t) }, λ c. tools.1 (λ tool l. c.tools tool))
   where
-    all_cpus : (cpu : CpuNo) → IsCpuDone s cpu
+    all_cpus : (cpu : CpuNo) → IsCpuDone s s.order cpu
     all_cpus cpu = elim (cases_lt cpu.0 8) [
       | inl less ↦ cpus cpu less
       | inr past ↦
@@ -50,7 +50,7 @@ complete_iff s b h cpus tools = (λ t. record { cpus = all_cpus; tools = all_too
           none_counted (is_of_cpu cpu) s s.order (λ a i. other_cpu s cpu a l i) h.order ∙ sym (past_none s.cpu_lines cpu.0 l)
     ]
 
-    all_tools : ((tool : ToolNo) → tool.0 < 4 → IsToolDone s tool) → (tool : ToolNo) → IsToolDone s tool
+    all_tools : ((tool : ToolNo) → tool.0 < 4 → IsToolDone s s.order tool) → (tool : ToolNo) → IsToolDone s s.order tool
     all_tools own tool = elim (cases_lt tool.0 4) [
       | inl less ↦ own tool less
       | inr past ↦

@@ -1,5 +1,6 @@
 -- What a form says, where it keeps what is asked of it, the script can hold.
 use Rattle.std.proofs.Common.{◌≡◌, ℕ, zero, suc, ◌-◌, ◌^◌, ◌<◌, ◌≤◌, eqb, ltb, All, List, [], ◌∷◌, map, length, Option, Some, None, option_map, inl, inr, refl, sym, ap, subst, ◌∙◌, arith}
+use Rattle.std.proofs.lemmas.Option.{same_Some}
 use Rattle.std.specs.Prelude.{replicate, IfSome, codes}
 use Rattle.std.specs.Str.{bytes_eq}
 use Rattle.std.proofs.lemmas.Bool.{cases_Bool, ltb-true}
@@ -73,9 +74,6 @@ position_within : (kinds : List KindLine) (name : List ℕ) (i : ℕ) → number
 position_within [] name i e = absurd cc
 position_within (k ∷ kinds) name i e = (position-Some (λ x. bytes_eq x.name name) (k ∷ kinds) i k e).0
 
-some_is : {A : Type 0} (x y : A) → Some x ≡ Some y → x ≡ y
-some_is x y e = cc
-
 -- the four software kinds are kinds of every script
 abbrev IsAnyKind : Option Kind → Type 0
 IsAnyKind o = (n : ℕ) → IfSome o (IsKind n)
@@ -99,7 +97,7 @@ named_fits : (kinds : List KindLine) (name : List ℕ) (k : Kind) → kind_named
 named_fits kinds name k e = go (number_of kinds name) refl
   where
     go : (o : Option ℕ) → number_of kinds name ≡ o → IsKind (length kinds) k
-    go (Some i) at = subst (IsKind (length kinds)) (some_is (kind.Hard i) k (rw at at e)) (position_within kinds name i at)
+    go (Some i) at = subst (IsKind (length kinds)) (same_Some (kind.Hard i) k (rw at at e)) (position_within kinds name i at)
     go None at = let soft : software_kind name ≡ Some k = (rw at at e) in subst (λ (o : Option Kind). IfSome o (IsKind (length kinds))) soft (software_fits name (length kinds))
 
 numbered_fits : (kinds : List KindLine) (class config : ℕ) → IfSome (kind_numbered kinds class config) (IsKind (length kinds))
@@ -145,7 +143,7 @@ tool_line_fits s (form.OpenKind p name a) line spelled range named e = go (kind_
     go : (o : Option Kind) → kind_named s.kinds name ≡ o → IsToolLine s.cpus (length s.kinds) s.rings line
     go None at = absurd cc
     go (Some k) at =
-        let is : open_line p (asked_attr p a) k ≡ line = some_is _ line (ap (option_map (open_line p (asked_attr p a))) (sym at) ∙ sym e) in
+        let is : open_line p (asked_attr p a) k ≡ line = same_Some _ line (ap (option_map (open_line p (asked_attr p a))) (sym at) ∙ sym e) in
         subst (IsToolLine s.cpus (length s.kinds) s.rings) is (
           range.0.slot,
           record { kind = named_fits s.kinds name k at; task = task_fits p.task range.0.task; cpu = cpu_fits s.cpus p.cpu range.0.cpu; flags = flags_fit a.flags spelled.2.flags },
@@ -156,20 +154,20 @@ tool_line_fits s (form.OpenAttr p bytes) line spelled range named e = go (kind_o
     go : (o : Option Kind) → kind_of_bytes s.kinds bytes ≡ o → IsToolLine s.cpus (length s.kinds) s.rings line
     go None at = absurd cc
     go (Some k) at =
-        let is : open_line p (bytes_attr p bytes) k ≡ line = some_is _ line (ap (option_map (open_line p (bytes_attr p bytes))) (sym at) ∙ sym e) in
+        let is : open_line p (bytes_attr p bytes) k ≡ line = same_Some _ line (ap (option_map (open_line p (bytes_attr p bytes))) (sym at) ∙ sym e) in
         let fits : IsKind (length s.kinds) k = subst (λ (o : Option Kind). IfSome o (IsKind (length s.kinds))) at (numbered_fits s.kinds (type_in bytes) (config_in bytes)) in
         subst (IsToolLine s.cpus (length s.kinds) s.rings) is (
           range.slot,
           record { kind = fits; task = task_fits p.task range.task; cpu = cpu_fits s.cpus p.cpu range.cpu; flags = (AreFlagsOf-word (flag_word_in bytes)).no_other },
           leader_fits p.leader range.leader,
         )
-tool_line_fits s (form.Enable n group) line spelled range named e = subst (IsToolLine s.cpus (length s.kinds) s.rings) (some_is _ line (sym e)) range
-tool_line_fits s (form.Disable n group) line spelled range named e = subst (IsToolLine s.cpus (length s.kinds) s.rings) (some_is _ line (sym e)) range
-tool_line_fits s (form.Reset n group) line spelled range named e = subst (IsToolLine s.cpus (length s.kinds) s.rings) (some_is _ line (sym e)) range
-tool_line_fits s (form.Period n period) line spelled range named e = subst (IsToolLine s.cpus (length s.kinds) s.rings) (some_is _ line (sym e)) range.0
-tool_line_fits s (form.Read n size) line spelled range named e = subst (IsToolLine s.cpus (length s.kinds) s.rings) (some_is _ line (sym e)) range.0
-tool_line_fits s (form.Map n ring) line spelled range named e = subst (IsToolLine s.cpus (length s.kinds) s.rings) (some_is _ line (sym e)) (range.0, named)
-tool_line_fits s (form.Output n target) line spelled range named e = subst (IsToolLine s.cpus (length s.kinds) s.rings) (some_is _ line (sym e)) range
-tool_line_fits s (form.Close n) line spelled range named e = subst (IsToolLine s.cpus (length s.kinds) s.rings) (some_is _ line (sym e)) range
-tool_line_fits s (form.Why n) line spelled range named e = subst (IsToolLine s.cpus (length s.kinds) s.rings) (some_is _ line (sym e)) range
-tool_line_fits s (form.Seats cpu) line spelled range named e = subst (IsToolLine s.cpus (length s.kinds) s.rings) (some_is _ line (sym e)) range
+tool_line_fits s (form.Enable n group) line spelled range named e = subst (IsToolLine s.cpus (length s.kinds) s.rings) (same_Some _ line (sym e)) range
+tool_line_fits s (form.Disable n group) line spelled range named e = subst (IsToolLine s.cpus (length s.kinds) s.rings) (same_Some _ line (sym e)) range
+tool_line_fits s (form.Reset n group) line spelled range named e = subst (IsToolLine s.cpus (length s.kinds) s.rings) (same_Some _ line (sym e)) range
+tool_line_fits s (form.Period n period) line spelled range named e = subst (IsToolLine s.cpus (length s.kinds) s.rings) (same_Some _ line (sym e)) range.0
+tool_line_fits s (form.Read n size) line spelled range named e = subst (IsToolLine s.cpus (length s.kinds) s.rings) (same_Some _ line (sym e)) range.0
+tool_line_fits s (form.Map n ring) line spelled range named e = subst (IsToolLine s.cpus (length s.kinds) s.rings) (same_Some _ line (sym e)) (range.0, named)
+tool_line_fits s (form.Output n target) line spelled range named e = subst (IsToolLine s.cpus (length s.kinds) s.rings) (same_Some _ line (sym e)) range
+tool_line_fits s (form.Close n) line spelled range named e = subst (IsToolLine s.cpus (length s.kinds) s.rings) (same_Some _ line (sym e)) range
+tool_line_fits s (form.Why n) line spelled range named e = subst (IsToolLine s.cpus (length s.kinds) s.rings) (same_Some _ line (sym e)) range
+tool_line_fits s (form.Seats cpu) line spelled range named e = subst (IsToolLine s.cpus (length s.kinds) s.rings) (same_Some _ line (sym e)) range

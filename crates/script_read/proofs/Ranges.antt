@@ -1,16 +1,17 @@
 -- Numbers, masks and lists in their ranges.
-use Rattle.std.proofs.Common.{◌≡◌, ℕ, ◌^◌, ◌<◌, ◌↔◌, Bool, false, List, [], ◌∷◌, map, All, Option, Some, None, option_map, subst, arith}
+use Rattle.std.proofs.Common.{◌≡◌, ℕ, ◌↔◌, Bool, false, List, [], ◌∷◌, map, All, Option, Some, None, option_map, subst, arith}
 use Rattle.std.specs.Prelude.{slice_get, MatchOption, IsTrue}
 use Rattle.std.proofs.lemmas.List.Elements.{All-cons, All-head, All-tail, All-map}
+use Rattle.perf_base.specs.Masks.{IsMask}
 use Rattle.perf_base.specs.declared.lines.PmuLine.{PmuLine}
 use Rattle.perf_base.specs.Scripts.{IsMaskOf}
 
 pub mask_iff : (pmus : List PmuLine) (pmu mask : ℕ) (r : Option ℕ) (b : Bool) → r ≡ option_map (λ p. p.counters) (slice_get pmus pmu)
-    → MatchOption r (b ≡ false) (λ c. IsTrue b ↔ ((0 < mask) × (mask < 2 ^ c))) → IsTrue b ↔ IsMaskOf pmus pmu mask
-mask_iff pmus pmu mask r b e h = go (slice_get pmus pmu) (subst (λ q. MatchOption q (b ≡ false) (λ c. IsTrue b ↔ ((0 < mask) × (mask < 2 ^ c)))) e h)
+    → MatchOption r (b ≡ false) (λ c. IsTrue b ↔ IsMask c mask) → IsTrue b ↔ IsMaskOf pmus pmu mask
+mask_iff pmus pmu mask r b e h = go (slice_get pmus pmu) (subst (λ q. MatchOption q (b ≡ false) (λ c. IsTrue b ↔ IsMask c mask)) e h)
   where
-    go : (o : Option PmuLine) → MatchOption (option_map (λ p. p.counters) o) (b ≡ false) (λ c. IsTrue b ↔ ((0 < mask) × (mask < 2 ^ c)))
-        → IsTrue b ↔ MatchOption o ⊥ (λ p. (0 < mask) × (mask < 2 ^ p.counters))
+    go : (o : Option PmuLine) → MatchOption (option_map (λ p. p.counters) o) (b ≡ false) (λ c. IsTrue b ↔ IsMask c mask)
+        → IsTrue b ↔ MatchOption o ⊥ (λ p. IsMask p.counters mask)
     go (Some p) h = h
     go None h = (λ t. absurd cc, λ bad. absurd bad)
 

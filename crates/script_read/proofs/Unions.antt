@@ -9,10 +9,8 @@ use Rattle.std.proofs.lemmas.List.Elements.{All-cons, All-head, All-tail}
 use Rattle.perf_base.specs.declared.numbers.CpuNo.{CpuNo}
 use Rattle.perf_base.specs.declared.lines.PmuLine.{PmuLine}
 use Rattle.perf_base.specs.Cpus.{HasCpu}
+use Rattle.perf_base.proofs.Bits.{apart_bits}
 use Rattle.script_read.specs.States.{union_of}
-
-apart_bits : (a b : ℕ) → bit_and a b ≡ 0 → (i : ℕ) → min (bit_at a i) (bit_at b i) ≡ 0
-apart_bits a b e i = sym (bit_at_and a b i) ∙ (ap (λ n. bit_at n i) e ∙ bit_at-zero i)
 
 bits_apart : (a b : ℕ) → ((i : ℕ) → min (bit_at a i) (bit_at b i) ≡ 0) → bit_and a b ≡ 0
 bits_apart a b h = same_from_bits (bit_and a b) 0 (λ i. bit_at_and a b i ∙ (h i ∙ sym (bit_at-zero i)))

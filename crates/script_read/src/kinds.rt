@@ -13,30 +13,14 @@ use perf_base::{Kind, Name, Script};
 fn is_called(name: Name, text: &[u8]) -> bool
     ensures { result ≡ bytes_eq name text.now }
 {
-    if name.len() != text.len() {
-        return false;
-    }
-    for i in 0..text.len() {
-        if name.get(i) != text[i] {
-            return false;
-        }
-    }
-    true
+    name.as_bytes() == text
 }
 
 /// Whether two names are the same.
 pub fn same_name(left: Name, right: Name) -> bool
     ensures { result ≡ bytes_eq left right }
 {
-    if left.len() != right.len() {
-        return false;
-    }
-    for i in 0..left.len() {
-        if left.get(i) != right.get(i) {
-            return false;
-        }
-    }
-    true
+    is_called(left, right.as_bytes())
 }
 
 /// One of the four kinds that every script has, by its name.

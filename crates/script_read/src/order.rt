@@ -9,66 +9,51 @@ ghost use Rattle.script_read.specs.Completing.{IsCpuDone, IsToolDone};
 
 use perf_base::{Act, CpuNo, Script, ToolNo};
 
-fn is_of_cpu(act: &Act, cpu: u8) -> bool
-    ensures { result ≡ says.is_of_cpu (record { 0 = cpu }) act.now }
-{
-    match act {
-        Act::Processor(p) => p.0 == cpu,
-        _ => false,
-    }
-}
-
-fn is_of_tool(act: &Act, tool: u8) -> bool
-    ensures { result ≡ says.is_of_tool (record { 0 = tool }) act.now }
-{
-    match act {
-        Act::Tool(t) => t.0 == tool,
-        _ => false,
-    }
-}
-
 fn done_by_cpu(order: &[Act], cpu: u8) -> usize
     ensures { result ≡ says.done_by_cpu (record { 0 = cpu }) order.now }
 {
-    order.iter().filter(|act| is_of_cpu(act, cpu)).count()
+    order.iter().filter(|act| act.is_of_cpu(CpuNo(cpu))).count()
 }
 
 fn done_by_tool(order: &[Act], tool: u8) -> usize
     ensures { result ≡ says.done_by_tool (record { 0 = tool }) order.now }
 {
-    order.iter().filter(|act| is_of_tool(act, tool)).count()
+    order
+        .iter()
+        .filter(|act| act.is_of_tool(ToolNo(tool)))
+        .count()
 }
 
-fn is_cpu_done(script: &Script, cpu: u8) -> bool
+fn is_cpu_done(script: &Script, order: &[Act], cpu: u8) -> bool
     requires { cpu < 8 }
-    ensures { IsTrue result ↔ IsCpuDone script.now (record { 0 = cpu }) }
+    ensures { IsTrue result ↔ IsCpuDone script.now order.now (record { 0 = cpu }) }
 {
-    done_by_cpu(script.order(), cpu) == script.cpu_lines(CpuNo(cpu)).len()
+    done_by_cpu(order, cpu) == script.cpu_lines(CpuNo(cpu)).len()
 }
 
-fn is_tool_done(script: &Script, tool: u8) -> bool
+fn is_tool_done(script: &Script, order: &[Act], tool: u8) -> bool
     requires { tool < 4 }
-    ensures { IsTrue result ↔ IsToolDone script.now (record { 0 = tool }) }
+    ensures { IsTrue result ↔ IsToolDone script.now order.now (record { 0 = tool }) }
 {
-    done_by_tool(script.order(), tool) == script.tool_lines(ToolNo(tool)).len()
+    done_by_tool(order, tool) == script.tool_lines(ToolNo(tool)).len()
 }
 
-fn are_cpus_done(script: &Script) -> bool
-    ensures { IsTrue result ↔ ((cpu : CpuNo) → cpu.0 < 8 → IsCpuDone script.now cpu) }
+fn are_cpus_done(script: &Script, order: &[Act]) -> bool
+    ensures { IsTrue result ↔ ((cpu : CpuNo) → cpu.0 < 8 → IsCpuDone script.now order.now cpu) }
 {
     for cpu in 0..8 {
-        if !is_cpu_done(script, cpu) {
+        if !is_cpu_done(script, order, cpu) {
             return false;
         }
     }
     true
 }
 
-fn are_tools_done(script: &Script) -> bool
-    ensures { IsTrue result ↔ ((tool : ToolNo) → tool.0 < 4 → IsToolDone script.now tool) }
+fn are_tools_done(script: &Script, order: &[Act]) -> bool
+    ensures { IsTrue result ↔ ((tool : ToolNo) → tool.0 < 4 → IsToolDone script.now order.now tool) }
 {
     for tool in 0..4 {
-        if !is_tool_done(script, tool) {
+        if !is_tool_done(script, order, tool) {
             return false;
         }
     }
@@ -79,6 +64,6 @@ fn are_tools_done(script: &Script) -> bool
 pub fn order_complete(script: &Script) -> bool
     ensures { IsTrue result ↔ IsComplete script.now script.now.order }
 {
-    let _cpus = script.cpus();
-    are_cpus_done(script) && are_tools_done(script)
+    let order = script.order();
+    are_cpus_done(script, order) && are_tools_done(script, order)
 }

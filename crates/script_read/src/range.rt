@@ -1,6 +1,7 @@
 //! Whether numbers and masks are in their ranges.
 
 ghost use Rattle.std.specs.Prelude.{◌≡◌, ◌<◌, ◌≤◌, ◌↔◌, IsTrue, IfSome, All, map, option_map, slice_get, ◌^◌};
+ghost use Rattle.perf_base.specs.Masks.{IsMask};
 ghost use Rattle.perf_base.specs.Scripts.{IsScript, IsMaskOf, IsRingSize};
 ghost use Rattle.script_spec.specs.Acts.{IsActInRange};
 ghost use Rattle.script_spec.specs.Faults.{IsBetween, IsCpuFormInRange, IsOpeningInRange, IsToolFormInRange};
@@ -46,7 +47,7 @@ fn counters_of(script: &Script, pmu: u128) -> Option<u8>
 
 fn is_mask_of(counters: u8, mask: u128) -> bool
     requires { counters ≤ 16 }
-    ensures { IsTrue result ↔ ((0 < mask) × (mask < 2 ^ counters)) }
+    ensures { IsTrue result ↔ IsMask counters mask }
 {
     0 < mask && mask < 1 << counters
 }

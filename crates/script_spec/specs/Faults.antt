@@ -1,10 +1,11 @@
 -- Why a line is refused: what each reason asks of a line, in a text whose lines before it are of these forms.
 -- This project's own profile.
-use Rattle.std.specs.Prelude.{◌≡◌, ◌≢◌, ℕ, ◌^◌, ◌<◌, ◌≤◌, List, [], length, All, AllPairs, Any, IfSome, IsSome, None}
+use Rattle.std.specs.Prelude.{◌≡◌, ◌≢◌, ℕ, ◌<◌, ◌≤◌, List, [], length, All, AllPairs, Any, IfSome, IsSome, None}
 use Rattle.perf_base.specs.declared.numbers.CpuNo.{CpuNo}
 use Rattle.perf_base.specs.declared.reasons.SReason.{SReason}
 use Rattle.perf_base.specs.declared.reasons.SReason.TheVariants as reason
 use Rattle.perf_base.specs.Scripts.{IsPmuLine, AreApart, IsMaskOf, IsRingLine, IsFreeName, HasRing, IsAct, line_count}
+pub use Rattle.perf_base.specs.Scripts.{IsWide}
 use Rattle.perf_base.specs.Cpus.{HasCpu}
 use Rattle.perf_base.specs.Weight.{weight}
 use Rattle.attr_bytes.specs.Faults.{fault_of}
@@ -76,10 +77,6 @@ IsPlaced before other = IsBehindPmus before other
 
 abbrev pub IsBetween : ℕ → ℕ → ℕ → Type 0
 IsBetween low high n = (low ≤ n) × (n ≤ high)
-
--- decimal numbers are of 64 bits wherever no less is said
-abbrev pub IsWide : ℕ → Type 0
-IsWide n = n < 2 ^ 64
 
 abbrev pub IsTaskNumber : ℕ → Type 0
 IsTaskNumber n = n < 64

@@ -1,5 +1,5 @@
 -- The forms that a line of a script can have, and how each is spelled. This project's own profile.
-use Rattle.std.specs.Prelude.{◌≡◌, ◌≢◌, ℕ, ◌/◌, ◌%◌, ◌^◌, ◌<◌, ◌≤◌, ◌==◌, Bool, true, false, List, [], ◌∷◌, ◌++◌, length, map, flat_map, filter, All, Option, Some, None, IfSome, codes, decimal, if◌then◌else◌}
+use Rattle.std.specs.Prelude.{◌≡◌, ◌≢◌, ℕ, ◌/◌, ◌%◌, ◌^◌, ◌<◌, ◌≤◌, ◌==◌, Bool, true, false, List, [], ◌∷◌, ◌++◌, length, map, flat_map, filter, All, Option, Some, None, IfSome, slice_index_or, codes, decimal}
 use Rattle.std.specs.Fmt.{digits, digit_glyph}
 use Rattle.std.specs.List.{join_with_byte}
 use Rattle.std.specs.Int.{bit_at}
@@ -7,6 +7,7 @@ use Rattle.perf_base.specs.declared.lines.Mode.{Mode}
 use Rattle.perf_base.specs.declared.lines.Mode.TheVariants as mode
 use Rattle.perf_base.specs.declared.acts.Act.{Act}
 use Rattle.perf_base.specs.declared.acts.Act.TheVariants as act
+use Rattle.perf_base.specs.Flags.{flag_table}
 use Rattle.perf_base.specs.Scripts.{IsName}
 use Rattle.script_spec.specs.Acts.{act_text}
 
@@ -96,17 +97,11 @@ abbrev pub word_if : Option ℕ → (ℕ → List ℕ) → List (List ℕ)
 word_if None word = []
 word_if (Some n) word = word n ∷ []
 
--- the name of each flag, by its number
+-- the word of each flag, by its number
 abbrev pub flag_name : ℕ → List ℕ
-flag_name n =
-    if n == 0 then codes "disabled" else
-    if n == 1 then codes "inherit" else
-    if n == 2 then codes "pinned" else
-    if n == 3 then codes "exclusive" else
-    if n == 4 then codes "exclude_user" else
-    if n == 5 then codes "exclude_kernel" else codes "sample_id_all"
+flag_name n = (slice_index_or flag_table n ([], 0)).0
 
--- the names of the flags that are set, in their order, parted by commas
+-- the words of the flags that are set, in their order, parted by commas
 abbrev pub flags_text : ℕ → List ℕ
 flags_text flags = join_with_byte 44 (map flag_name (filter (λ n. bit_at flags n == 1) (0 ∷ 1 ∷ 2 ∷ 3 ∷ 4 ∷ 5 ∷ 6 ∷ [])))
 

@@ -1,7 +1,7 @@
 -- The printed text of a script. This project's own profile: what is 0, kinds that do not occur and processors and
 -- tools without lines are left out, the kinds of a work line stand in their declared order, and the order stands
 -- on one line. A script with one PMU is printed in version one, every other one in version two.
-use Rattle.std.specs.Prelude.{ℕ, ◌+◌, ◌≤◌, ◌≡◌, ◌==◌, List, [], ◌∷◌, ◌++◌, length, map, flat_map, slice_index_or, All, Option, Some, None, IfSome, option_map, codes, if◌then◌else◌}
+use Rattle.std.specs.Prelude.{ℕ, ◌+◌, ◌≤◌, ◌==◌, List, [], ◌∷◌, ◌++◌, length, map, flat_map, slice_index_or, Option, Some, None, option_map, codes, if◌then◌else◌}
 use Rattle.std.specs.List.{join_with_byte}
 use Rattle.perf_base.specs.declared.numbers.RingNo.{RingNo}
 use Rattle.perf_base.specs.declared.numbers.TaskNo.{TaskNo}
@@ -20,12 +20,10 @@ use Rattle.perf_base.specs.declared.lines.ToolLine.{ToolLine}
 use Rattle.perf_base.specs.declared.lines.ToolLine.TheVariants as tool_line
 use Rattle.perf_base.specs.declared.lines.ReaderLine.{ReaderLine}
 use Rattle.perf_base.specs.declared.acts.Act.{Act}
-use Rattle.perf_base.specs.declared.acts.Act.TheVariants as act
 use Rattle.perf_base.specs.Scripts.{Scripted, IsScript, IsCovered}
 use Rattle.perf_base.specs.Weight.{weight}
 use Rattle.script_spec.specs.Forms as form
 use Rattle.script_spec.specs.Forms.{Version, Hit, Opening, Asked, Form, form_words}
-use Rattle.script_spec.specs.Faults.{IsWide}
 use Rattle.script_spec.specs.Texts.{StandsFor}
 
 -- 0 is the same as missing
@@ -152,39 +150,7 @@ printed s = flat_map line_text (printed_forms s)
 
 -- ---- the law
 
--- What the types of a script's entries say beside IsScript: numbers have 64 bits, and a work line has sixteen
--- occurrences.
-abbrev pub IsStoredWork : CpuLine → Type 0
-IsStoredWork (cpu_line.Switch to) = Unit {0}
-IsStoredWork (cpu_line.Work w) = IsWide w.ip × (length w.hits ≡ 16)
-IsStoredWork cpu_line.Tick = Unit {0}
-IsStoredWork (cpu_line.Fork task) = Unit {0}
-IsStoredWork cpu_line.Exit = Unit {0}
-
-abbrev pub IsStoredToolLine : ToolLine → Type 0
-IsStoredToolLine (tool_line.Open slot attr leader) = IsWide attr.period × IsWide attr.sample × IsWide attr.format
-IsStoredToolLine (tool_line.Enable event group) = Unit {0}
-IsStoredToolLine (tool_line.Disable event group) = Unit {0}
-IsStoredToolLine (tool_line.Reset event group) = Unit {0}
-IsStoredToolLine (tool_line.Period event period) = IsWide period
-IsStoredToolLine (tool_line.Read event size) = IfSome size IsWide
-IsStoredToolLine (tool_line.Map event ring) = Unit {0}
-IsStoredToolLine (tool_line.Output event target) = Unit {0}
-IsStoredToolLine (tool_line.Close event) = Unit {0}
-IsStoredToolLine (tool_line.Why event) = Unit {0}
-IsStoredToolLine (tool_line.Seats cpu) = Unit {0}
-
-abbrev pub IsStoredAct : Act → Type 0
-IsStoredAct (act.Processor cpu) = Unit {0}
-IsStoredAct (act.Tool tool) = Unit {0}
-IsStoredAct (act.Seen ring place) = IsWide place
-
-pub record IsStored (s : Scripted) : Type 0 where
-  pub cpu_lines : All (All IsStoredWork) s.cpu_lines
-  pub tool_lines : All (All IsStoredToolLine) s.tool_lines
-  pub order : All IsStoredAct s.order
-
 -- The printed text of a script stands for that script: of each that can be built, whose processors are all of a
 -- PMU, and that is not too heavy.
 abbrev pub PrintingLaw : Type 0
-PrintingLaw = (s : Scripted) → IsScript s → IsStored s → IsCovered s → weight s ≤ 65536 → StandsFor (printed s) s
+PrintingLaw = (s : Scripted) → IsScript s → IsCovered s → weight s ≤ 65536 → StandsFor (printed s) s

@@ -13,22 +13,24 @@ use Rattle.perf_base.specs.declared.reasons.Reason.{Reason}
 use Rattle.perf_base.specs.declared.reply.Sums.{Sums}
 use Rattle.stage_spec.specs.declared.instance.Instance.{Instance}
 use Rattle.stage_spec.specs.Hardware.{Hardware}
-use Rattle.stage_spec.specs.Stage.{Stage, Group, lists_of, task_on, first_stage}
-use Rattle.stage_spec.specs.Effective.{is_ready, effective, leader_state, ready_members}
+use Rattle.stage_spec.specs.Stage.{Stage, Group, members_of, lists_of, task_on, first_stage}
+use Rattle.stage_spec.specs.Effective.{is_ready, state_in, ready_members}
 use Rattle.stage_spec.specs.Verdict.{Judged, is_eligible, groups_on, judge, judge_pass, judge_passes, passes, task_lists, stands_on, verdicts, on_instances}
 use Rattle.stage_spec.specs.Settle.{settle_all}
 use Rattle.stage_spec.specs.Commands.{command_each, enabled, disabled, targets, with_period}
 use Rattle.stage_spec.specs.Mapping.{mapped_to, output_to}
 use Rattle.stage_spec.specs.Closing.{closed}
-use Rattle.stage_spec.specs.Switching.{switched, switch_refusal, put_on, is_running, is_migration}
+use Rattle.stage_spec.specs.Switching.{switched, switch_refusal, is_running, is_migration}
 use Rattle.stage_spec.specs.Rotation.{rotated}
-use Rattle.stage_spec.specs.Exits.{exited, exited_by}
+use Rattle.stage_spec.specs.Exits.{exited}
 use Rattle.stage_spec.specs.History.{Step, CpuStep, ToolStep, SeenStep, cpu_refusal, tool_refusal, cpu_changed, tool_changed, stage_step, stage_after, unless_refused}
 use Rattle.stage_spec.specs.Sums.{resets, is_reset_by, sums_of, count_of, enabled_of, running_of}
-use Rattle.stage_spec.specs.Recurrence.{after_reset, same_sums, sums_of-push, BirthLaw}
+use Rattle.stage_spec.specs.Recurrence.{after_reset, BirthLaw}
+use Rattle.stage_spec.proofs.Recurrence.{same_sums, sums_of-push}
 use Rattle.stage_spec.specs.Shares.{of_instance, share, no_sums, ready_instances, work_hits, switch_hits, migration_hits, migration_share, switch_share, cpu_share, changes_task}
-use Rattle.stage_spec.proofs.Each.{Each, none-Each, append-Each, map-Each, filter-Each, flat_map-Each, InGroups, InLists}
-use Rattle.stage_spec.proofs.Ids.{IdBelow, AllBelow, AllBelow-more, first_stage-below, lists_of-below, task_lists-below, settle_all-below, settle_all-ids, opened-ids, opened_all-below, command_each-below, with_period-below, mapped_to-below, output_to-below, closed-below, exited-below, switched-below, rotated-below, rotated-ids, forked-below, forked-ids}
+use Rattle.stage_spec.proofs.Each.{Each, none-Each, append-Each, map-Each, filter-Each, flat_map-Each, InGroup, InGroups, InLists}
+use Rattle.stage_spec.proofs.Shape.{settle_all-numbers, switched-numbers, rotated-numbers, exited-numbers}
+use Rattle.stage_spec.proofs.Ids.{IdBelow, AllBelow, AllBelow-more, first_stage-below, lists_of-below, task_lists-below, settle_all-below, opened-ids, opened_all-below, command_each-below, with_period-below, mapped_to-below, output_to-below, closed-below, exited-below, switched-below, rotated-below, forked-below, forked-ids}
 
 find_none : (f : Instance → ℕ) (id : ℕ) (xs : List Instance) → Each (IdBelow id) xs → of_instance f id xs ≡ 0
 unfolding Each
@@ -39,7 +41,7 @@ find_none f id (x ∷ xs) h =
 
 -- the groups that were judged are those of the passes
 abbrev JudgedBelow : ℕ → Judged → Type 0
-JudgedBelow n j = Each (IdBelow n) j.group
+JudgedBelow n j = InGroup (IdBelow n) j.group
 
 judge_pass-below : (n : ℕ) (hw : Hardware) (before within : List Judged) (groups : List Group) → Each (JudgedBelow n) within → InGroups (IdBelow n) groups
     → Each (JudgedBelow n) (judge_pass hw before within groups)
@@ -69,19 +71,19 @@ unfolding verdicts
 on_instances-below n hw s cpu h =
     let ps : List (List Group) = map (filter (is_eligible hw cpu)) (passes s cpu) in
     let all : Each (InGroups (IdBelow n)) ps =
-    map-Each (InGroups (IdBelow n)) (InGroups (IdBelow n)) (filter (is_eligible hw cpu)) (λ gs k. filter-Each (Each (IdBelow n)) (is_eligible hw cpu) gs k) (passes s cpu) (passes-below n s cpu h) in
+    map-Each (InGroups (IdBelow n)) (InGroups (IdBelow n)) (filter (is_eligible hw cpu)) (λ gs k. filter-Each (InGroup (IdBelow n)) (is_eligible hw cpu) gs k) (passes s cpu) (passes-below n s cpu h) in
     let js : Each (JudgedBelow n) (verdicts hw s cpu) = judge_passes-below n hw [] ps (none-Each (JudgedBelow n)) all in
-    flat_map-Each (Each (IdBelow n)) (IdBelow n) (filter (λ i. is_ready i.own)) (λ g k. filter-Each (IdBelow n) (λ i. is_ready i.own) g k) (groups_on (verdicts hw s cpu))
-    (map-Each (JudgedBelow n) (Each (IdBelow n)) (λ j. j.group) (λ j k. k) (filter (λ j. stands_on j.standing) (verdicts hw s cpu))
+    flat_map-Each (InGroup (IdBelow n)) (IdBelow n) (λ g. filter (λ i. is_ready i.own) (members_of g)) (λ g k. filter-Each (IdBelow n) (λ i. is_ready i.own) (members_of g) k) (groups_on (verdicts hw s cpu))
+    (map-Each (JudgedBelow n) (InGroup (IdBelow n)) (λ j. j.group) (λ j k. k) (filter (λ j. stands_on j.standing) (verdicts hw s cpu))
     (filter-Each (JudgedBelow n) (λ j. stands_on j.standing) (verdicts hw s cpu) js))
 
 ready_instances-below : (n : ℕ) (s : Stage) (cpu : CpuNo) → AllBelow n s → Each (IdBelow n) (ready_instances s cpu)
 ready_instances-below n s cpu h =
-    flat_map-Each (Each (IdBelow n)) (IdBelow n) ready_members (λ g k. filter-Each (IdBelow n) (λ i. is_ready (effective (leader_state g) i.own)) g k) (flat_map (λ pass. pass) (passes s cpu))
-    (flat_map-Each (InGroups (IdBelow n)) (Each (IdBelow n)) (λ pass. pass) (λ pass k. k) (passes s cpu) (passes-below n s cpu h))
+    flat_map-Each (InGroup (IdBelow n)) (IdBelow n) ready_members (λ g k. filter-Each (IdBelow n) (λ i. is_ready (state_in g i)) (members_of g) k) (flat_map (λ pass. pass) (passes s cpu))
+    (flat_map-Each (InGroups (IdBelow n)) (InGroup (IdBelow n)) (λ pass. pass) (λ pass k. k) (passes s cpu) (passes-below n s cpu h))
 
 -- the ids of a stage are drawn, and a step draws more
-record Grows (s t : Stage) : Type 0 where
+pub record Grows (s t : Stage) : Type 0 where
   pub ids : s.next_id ≤ t.next_id
   pub below : AllBelow t.next_id t
 
@@ -92,38 +94,18 @@ unless_refused-below n hw None change s h k = settle_all-below n hw (change s) k
 unless_refused-grows : (hw : Hardware) (r : Option Reason) (change : Stage → Stage) (s : Stage) → AllBelow s.next_id s → Grows s (change s) → Grows s (unless_refused hw r change s)
 unless_refused-grows hw (Some r) change s h k = record { ids = omega arith; below = h }
 unless_refused-grows hw None change s h k =
-    let same : (settle_all hw (change s)).next_id ≡ (change s).next_id = settle_all-ids hw (change s) in
+    let same : (settle_all hw (change s)).next_id ≡ (change s).next_id = (settle_all-numbers hw (change s)).ids in
     record { ids = omega (arith, same, k.ids); below = rw same (settle_all-below (change s).next_id hw (change s) k.below) }
-
-put_on-ids : (cpu : CpuNo) (to : Option TaskNo) (s : Stage) → (put_on cpu to s).next_id ≡ s.next_id
-put_on-ids cpu None s = refl
-put_on-ids cpu (Some task) s = refl
-
-one_stage-ids : (b : Bool) (s t : Stage) (n : ℕ) → s.next_id ≡ n → t.next_id ≡ n → (elim b as (λ x. Stage) [ true ↦ s | false ↦ t ]).next_id ≡ n
-one_stage-ids true s t n h k = h
-one_stage-ids false s t n h k = k
-
-switched-ids : (cpu : CpuNo) (to : Option TaskNo) (s : Stage) → (switched cpu to s).next_id ≡ s.next_id
-unfolding switched
-switched-ids cpu to s = one_stage-ids (is_running (task_on s cpu) to) s (put_on cpu to s) s.next_id refl (put_on-ids cpu to s)
-
-exited_by-ids : (cpu : CpuNo) (to : Option TaskNo) (s : Stage) → (exited_by cpu to s).next_id ≡ s.next_id
-exited_by-ids cpu None s = refl
-exited_by-ids cpu (Some task) s = refl
-
-exited-ids : (cpu : CpuNo) (s : Stage) → (exited cpu s).next_id ≡ s.next_id
-unfolding exited
-exited-ids cpu s = exited_by-ids cpu (task_on s cpu) s
 
 same_ids : (s t : Stage) → t.next_id ≡ s.next_id → AllBelow s.next_id t → Grows s t
 same_ids s t same h = record { ids = omega (arith, same); below = rw same h }
 
 cpu_changed-grows : (hw : Hardware) (cpu : CpuNo) (line : CpuLine) (s : Stage) → AllBelow s.next_id s → Grows s (cpu_changed hw cpu line s)
-cpu_changed-grows hw cpu (cpu_line.Switch to) s h = same_ids s (switched cpu to s) (switched-ids cpu to s) (switched-below s.next_id cpu to s h)
+cpu_changed-grows hw cpu (cpu_line.Switch to) s h = same_ids s (switched cpu to s) (switched-numbers cpu to s).ids (switched-below s.next_id cpu to s h)
 cpu_changed-grows hw cpu (cpu_line.Work w) s h = same_ids s s refl h
-cpu_changed-grows hw cpu cpu_line.Tick s h = same_ids s (rotated hw cpu s) (rotated-ids hw cpu s) (rotated-below s.next_id hw cpu s h)
+cpu_changed-grows hw cpu cpu_line.Tick s h = same_ids s (rotated hw cpu s) (rotated-numbers hw cpu s).ids (rotated-below s.next_id hw cpu s h)
 cpu_changed-grows hw cpu (cpu_line.Fork child) s h = record { ids = forked-ids cpu child s; below = forked-below cpu child s h }
-cpu_changed-grows hw cpu cpu_line.Exit s h = same_ids s (exited cpu s) (exited-ids cpu s) (exited-below s.next_id cpu s h)
+cpu_changed-grows hw cpu cpu_line.Exit s h = same_ids s (exited cpu s) (exited-numbers cpu s).ids (exited-below s.next_id cpu s h)
 
 tool_changed-grows : (line : ToolLine) (s : Stage) → AllBelow s.next_id s → Grows s (tool_changed line s)
 unfolding command_each with_period mapped_to output_to closed
@@ -174,14 +156,14 @@ cpu_share-none hw s cpu cpu_line.Tick id h = refl
 cpu_share-none hw s cpu (cpu_line.Fork child) id h = refl
 cpu_share-none hw s cpu cpu_line.Exit id h = refl
 
-share-none : (hw : Hardware) (s : Stage) (x : Step) (id : ℕ) → AllBelow id s → share hw s x id ≡ no_sums
+pub share-none : (hw : Hardware) (s : Stage) (x : Step) (id : ℕ) → AllBelow id s → share hw s x id ≡ no_sums
 unfolding share
 share-none hw s (CpuStep cpu line) id h = cpu_share-none hw s cpu line id h
 share-none hw s (ToolStep line) id h = refl
 share-none hw s (SeenStep ring place) id h = refl
 
 -- nor by a whole history
-after-ids : (hw : Hardware) (s : Stage) (steps : List Step) → AllBelow s.next_id s → Grows s (stage_after hw s steps)
+pub after-ids : (hw : Hardware) (s : Stage) (steps : List Step) → AllBelow s.next_id s → Grows s (stage_after hw s steps)
 unfolding stage_after
 after-ids hw s [] h = same_ids s s refl h
 after-ids hw s (x ∷ steps) h =
@@ -193,7 +175,7 @@ nothing : (b : Bool) (n : ℕ) → n ≡ 0 → (if b then 0 else n) ≡ 0
 nothing true n h = refl
 nothing false n h = h
 
-unborn : (hw : Hardware) (s : Stage) (steps : List Step) (id : ℕ) → AllBelow s.next_id s → (stage_after hw s steps).next_id ≤ id → sums_of hw s steps id ≡ no_sums
+pub unborn : (hw : Hardware) (s : Stage) (steps : List Step) (id : ℕ) → AllBelow s.next_id s → (stage_after hw s steps).next_id ≤ id → sums_of hw s steps id ≡ no_sums
 unfolding sums_of stage_after count_of enabled_of running_of
 unborn hw s [] id h low = refl
 unborn hw s (x ∷ steps) id h low =
@@ -213,7 +195,7 @@ reset-none : (b : Bool) → after_reset b no_sums ≡ no_sums
 reset-none true = refl
 reset-none false = refl
 
-at_first : (cpus : ℕ) (declared : List TaskNo) → AllBelow (first_stage cpus declared).next_id (first_stage cpus declared)
+pub at_first : (cpus : ℕ) (declared : List TaskNo) → AllBelow (first_stage cpus declared).next_id (first_stage cpus declared)
 unfolding first_stage
 at_first cpus declared = first_stage-below cpus declared
 

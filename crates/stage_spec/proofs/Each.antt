@@ -1,7 +1,7 @@
 -- What holds of each instance of a stage, through the changes of lists.
 use Rattle.std.specs.Prelude.{ℕ, Bool, true, false, List, [], ◌∷◌, ◌++◌, map, filter, flat_map, replicate, zero, suc, slice_index_or, slice_set, cond}
 use Rattle.stage_spec.specs.declared.instance.Instance.{Instance}
-use Rattle.stage_spec.specs.Stage.{Stage, Group, Lists, no_groups}
+use Rattle.stage_spec.specs.Stage.{Stage, Group, members_of, Lists, no_groups}
 
 unfoldable pub Each : {X : Type 0} → (X → Type 0) → List X → Type 0
 Each P [] = Unit {0}
@@ -70,9 +70,12 @@ set-Each P [] i y h g = tt
 set-Each P (x ∷ xs) zero y h g = (g, h.1)
 set-Each P (x ∷ xs) (suc i) y h g = (h.0, set-Each P xs i y h.1 g)
 
--- of each instance of groups, of a context, of a stage
+-- of each instance of a group, of groups, of a context, of a stage
+abbrev pub InGroup : (Instance → Type 0) → Group → Type 0
+InGroup P g = Each P (members_of g)
+
 abbrev pub InGroups : (Instance → Type 0) → List Group → Type 0
-InGroups P groups = Each (Each P) groups
+InGroups P groups = Each (InGroup P) groups
 
 pub record InLists (P : Instance → Type 0) (l : Lists) : Type 0 where
   pub in_pinned : InGroups P l.pinned
@@ -82,4 +85,4 @@ abbrev pub InStage : (Instance → Type 0) → Stage → Type 0
 InStage P s = Each (InLists P) s.contexts
 
 pub no_groups-In : (P : Instance → Type 0) → InLists P no_groups
-no_groups-In P = record { in_pinned = none-Each (Each P); in_flexible = none-Each (Each P) }
+no_groups-In P = record { in_pinned = none-Each (InGroup P); in_flexible = none-Each (InGroup P) }

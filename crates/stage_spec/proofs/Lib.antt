@@ -1,6 +1,16 @@
-mod Births
-mod Each
-mod Ids
-mod Settled
-mod Settling
-pub mod rows
+pub mod Births
+pub mod ByContexts
+pub mod Carried
+pub mod Contexts
+pub mod Drawn
+pub mod Each
+pub mod Ids
+pub mod Inside
+pub mod Machines
+pub mod Parts
+pub mod Present
+pub mod Recurrence
+pub mod Remainders
+pub mod Settled
+pub mod Settling
+pub mod Shape

@@ -1,7 +1,8 @@
 -- The laws of settling, of a processor.
-use Rattle.std.specs.Prelude.{◌≡◌, ◌+◌, ◌<◌, Bool, List, [], ◌∷◌, ◌++◌, length, map, filter, drop, Option, Some, None, slice_index_or}
+use Rattle.std.specs.Prelude.{◌≡◌, ◌+◌, ◌<◌, nat_lt, Bool, true, List, [], ◌∷◌, ◌++◌, length, map, filter, drop, Option, Some, None, slice_index_or}
 use Rattle.std.proofs.Common.{arith, refl, sym, ap, ◌∙◌, inl, inr, append_assoc, get_or, set, get_or-set_same, get_or-set_other}
 use Rattle.std.proofs.lemmas.Bool.{cases_lt}
+use Rattle.std.proofs.lemmas.Bool.Decides.{nat_tests}
 use Rattle.std.proofs.lemmas.List.{set-get_or, get_or_past}
 use Rattle.std.proofs.Math.Seq.{drop-append_seam, set_out}
 use Rattle.std.proofs.lemmas.List.Elements.{filter-append}
@@ -16,7 +17,7 @@ use Rattle.stage_spec.specs.Settle.{settle_pass, settle_lists, settle_task, own_
 use Rattle.stage_spec.proofs.Settling.{kept, going, groups_on-append, groups_on-kept, judge_pass-kept, judge_pass-same, eligible-settled, settle_pass-again}
 
 -- four passes, of which the first two are settled
-abbrev four : List Group → List Group → List Group → List Group → List (List Group)
+abbrev pub four : List Group → List Group → List Group → List Group → List (List Group)
 four a b c d = a ∷ b ∷ c ∷ d ∷ []
 
 passes-settled : (hw : Hardware) (a b c d : List Group)
@@ -45,7 +46,7 @@ passes-settled hw a b c d =
     left ∙ (append_assoc (kept one ++ kept two) three last ∙ (rw (both, rest) refl))
 
 -- the groups of a context that is changed, and those of another
-lists_of-same : (c : Context) (f : Lists → Lists) (s : Stage) → f no_groups ≡ no_groups → lists_of (change_context c f s) c ≡ f (lists_of s c)
+pub lists_of-same : (c : Context) (f : Lists → Lists) (s : Stage) → f no_groups ≡ no_groups → lists_of (change_context c f s) c ≡ f (lists_of s c)
 lists_of-same c f s none = elim (cases_lt (place_of c) (length s.contexts)) [
   | inl within ↦ get_or-set_same s.contexts (place_of c) (f (lists_of s c)) no_groups within
   | inr past ↦
@@ -54,22 +55,25 @@ lists_of-same c f s none = elim (cases_lt (place_of c) (length s.contexts)) [
       ap (λ contexts. get_or contexts (place_of c) no_groups) left ∙ (here ∙ (sym none ∙ ap f (sym here)))
 ]
 
-lists_of-other : (c d : Context) (f : Lists → Lists) (s : Stage) → (place_of d ≡ place_of c → ⊥) → lists_of (change_context c f s) d ≡ lists_of s d
+pub place_of-cpu : (cpu : CpuNo) → cpu.0 < 8 → place_of (context.Processor cpu) ≡ cpu.0
+place_of-cpu cpu low = let small : nat_lt cpu.0 8 ≡ true = grind (arith, nat_tests, low) in rw small refl
+
+pub lists_of-other : (c d : Context) (f : Lists → Lists) (s : Stage) → (place_of d ≡ place_of c → ⊥) → lists_of (change_context c f s) d ≡ lists_of s d
 lists_of-other c d f s apart = get_or-set_other s.contexts (place_of c) (place_of d) (f (lists_of s c)) no_groups apart
 
-change_context-none : (c : Context) (f : Lists → Lists) (s : Stage) → f (lists_of s c) ≡ lists_of s c → change_context c f s ≡ s
+pub change_context-none : (c : Context) (f : Lists → Lists) (s : Stage) → f (lists_of s c) ≡ lists_of s c → change_context c f s ≡ s
 change_context-none c f s same =
     ap (λ contexts. record s { contexts = contexts }) (ap (set s.contexts (place_of c)) same ∙ set-get_or s.contexts (place_of c) no_groups)
 
-no_groups-settled : (hw : Hardware) (cpu : CpuNo) (before : List Judged) → settle_lists hw cpu before no_groups ≡ no_groups
+pub no_groups-settled : (hw : Hardware) (cpu : CpuNo) (before : List Judged) → settle_lists hw cpu before no_groups ≡ no_groups
 unfolding settle_pass
 no_groups-settled hw cpu before = refl
 
 -- the stage with a processor's own pass settled
-abbrev own_settled : Hardware → CpuNo → Stage → Stage
+abbrev pub own_settled : Hardware → CpuNo → Stage → Stage
 own_settled hw cpu s = change_context (context.Processor cpu) (settle_lists hw cpu []) s
 
-record IsSettledFrom (hw : Hardware) (cpu : CpuNo) (s : Stage) (before : List Judged) (to : Option TaskNo) (t : Stage) : Type 0 where
+pub record IsSettledFrom (hw : Hardware) (cpu : CpuNo) (s : Stage) (before : List Judged) (to : Option TaskNo) (t : Stage) : Type 0 where
   pub running : t.running ≡ s.running
   pub own : lists_of t (context.Processor cpu) ≡ settle_lists hw cpu [] (lists_of s (context.Processor cpu))
   pub task : task_lists t to ≡ settle_lists hw cpu before (task_lists s to)
@@ -81,8 +85,9 @@ settled-from hw cpu s before None low = record {
   task = sym (no_groups-settled hw cpu before);
 }
 settled-from hw cpu s before (Some task) low =
-    let apart : cpu.0 ≡ 8 + task.0 → ⊥ = λ e. omega (arith, e) in
-    let back : 8 + task.0 ≡ cpu.0 → ⊥ = λ e. omega (arith, e) in
+    let at_cpu : place_of (context.Processor cpu) ≡ cpu.0 = place_of-cpu cpu low in
+    let apart : place_of (context.Processor cpu) ≡ 8 + task.0 → ⊥ = λ e. omega (arith, e, at_cpu) in
+    let back : 8 + task.0 ≡ place_of (context.Processor cpu) → ⊥ = λ e. omega (arith, e, at_cpu) in
     record {
       running = refl;
       own = lists_of-other (context.Task task) (context.Processor cpu) (settle_lists hw cpu before) (own_settled hw cpu s) apart
@@ -91,7 +96,7 @@ settled-from hw cpu s before (Some task) low =
           ∙ ap (settle_lists hw cpu before) (lists_of-other (context.Processor cpu) (context.Task task) (settle_lists hw cpu []) s back);
     }
 
-is_settled_from : (hw : Hardware) (cpu : CpuNo) (s : Stage) → cpu.0 < 8 → IsSettledFrom hw cpu s (own_verdicts hw s cpu) (task_on s cpu) (settle hw cpu s)
+pub is_settled_from : (hw : Hardware) (cpu : CpuNo) (s : Stage) → cpu.0 < 8 → IsSettledFrom hw cpu s (own_verdicts hw s cpu) (task_on s cpu) (settle hw cpu s)
 unfolding settle
 is_settled_from hw cpu s low = settled-from hw cpu s (own_verdicts hw s cpu) (task_on s cpu) low
 

@@ -12,10 +12,10 @@ use Rattle.perf_base.specs.declared.standing.Standing.TheVariants as standing
 use Rattle.stage_spec.specs.Hardware.{Hardware}
 use Rattle.stage_spec.specs.Stage.{Group}
 use Rattle.stage_spec.specs.Effective.{is_wholly_software, is_exclusive_group, counted_members}
-use Rattle.stage_spec.specs.Rules.{refusal_of}
+use Rattle.stage_spec.specs.Rules.{ruling_of}
 use Rattle.stage_spec.specs.Fits.{fits}
 use Rattle.stage_spec.specs.Tight.{masks_of, tight_set, shortest_unfit}
-use Rattle.stage_spec.specs.Verdict.{Judged, is_eligible, groups_on, first_named, first_refused, with_masks, by_counters, judge, judge_pass, stands_on, stands_refused}
+use Rattle.stage_spec.specs.Verdict.{Judged, is_eligible, groups_on, first_named, first_refused, with_masks, by_counters, by_ruling, judge, judge_pass, stands_on, stands_refused}
 use Rattle.stage_spec.specs.Settle.{failed, settle_pass}
 
 abbrev pub judged : Group → Standing → Judged
@@ -50,13 +50,7 @@ none_refused (x ∷ xs) = none_refused-step x.group x.standing xs (none_refused 
 
 -- what a verdict goes by
 abbrev judge_by : (software exclusive : Bool) (exclusive_on first_on refused : Option EventNo) → List (EventNo × ℕ) → Standing
-judge_by software exclusive exclusive_on first_on refused events = elim software [
-  | true ↦ standing.On
-  | false ↦ elim (refusal_of false exclusive exclusive_on first_on refused) [
-    | Some rule ↦ standing.Refused (cause.Rule rule)
-    | None ↦ by_counters events
-  ]
-]
+judge_by software exclusive exclusive_on first_on refused events = by_ruling (ruling_of software exclusive exclusive_on first_on refused) events
 
 judge-is : (hw : Hardware) (before within : List Judged) (g : Group) → judge hw before within g
     ≡ judge_by (is_wholly_software g) (is_exclusive_group g) (first_named is_exclusive_group (groups_on (before ++ within)))
@@ -159,7 +153,7 @@ going-off hw before within g groups e =
     let rest : List Group = going hw before (within ++ judged g (judge hw before within g) ∷ []) groups in
     ap (λ b. either b (g ∷ rest) rest) e
 
-settle_pass-here : (hw : Hardware) (cpu : CpuNo) (before within : List Judged) (g : Group) (groups : List Group) → is_eligible hw cpu g ≡ true
+pub settle_pass-here : (hw : Hardware) (cpu : CpuNo) (before within : List Judged) (g : Group) (groups : List Group) → is_eligible hw cpu g ≡ true
     → settle_pass hw cpu before within (g ∷ groups)
     ≡ failed (judge hw before within g) g ∷ settle_pass hw cpu before (within ++ judged g (judge hw before within g) ∷ []) groups
 unfolding settle_pass
@@ -167,17 +161,17 @@ settle_pass-here hw cpu before within g groups e =
     ap (λ b. either b (failed (judge hw before within g) g ∷ settle_pass hw cpu before (within ++ judged g (judge hw before within g) ∷ []) groups)
     (g ∷ settle_pass hw cpu before within groups)) e
 
-settle_pass-away : (hw : Hardware) (cpu : CpuNo) (before within : List Judged) (g : Group) (groups : List Group) → is_eligible hw cpu g ≡ false
+pub settle_pass-away : (hw : Hardware) (cpu : CpuNo) (before within : List Judged) (g : Group) (groups : List Group) → is_eligible hw cpu g ≡ false
     → settle_pass hw cpu before within (g ∷ groups) ≡ g ∷ settle_pass hw cpu before within groups
 unfolding settle_pass
 settle_pass-away hw cpu before within g groups e =
     ap (λ b. either b (failed (judge hw before within g) g ∷ settle_pass hw cpu before (within ++ judged g (judge hw before within g) ∷ []) groups)
     (g ∷ settle_pass hw cpu before within groups)) e
 
-filter-yes : {X : Type 0} (p : X → Bool) (x : X) (xs : List X) → p x ≡ true → filter p (x ∷ xs) ≡ x ∷ filter p xs
+pub filter-yes : {X : Type 0} (p : X → Bool) (x : X) (xs : List X) → p x ≡ true → filter p (x ∷ xs) ≡ x ∷ filter p xs
 filter-yes p x xs e = rw e refl
 
-filter-no : {X : Type 0} (p : X → Bool) (x : X) (xs : List X) → p x ≡ false → filter p (x ∷ xs) ≡ filter p xs
+pub filter-no : {X : Type 0} (p : X → Bool) (x : X) (xs : List X) → p x ≡ false → filter p (x ∷ xs) ≡ filter p xs
 filter-no p x xs e = rw e refl
 
 kept-on : (within : List Judged) (g : Group) (v : Standing) → stands_on v ≡ true → kept within ++ judged g standing.On ∷ [] ≡ kept (within ++ judged g v ∷ [])
@@ -214,8 +208,7 @@ judge_pass-same hw before others within (g ∷ groups) h = ap (λ v. judge_pass 
 failed_stays : (hw : Hardware) (cpu : CpuNo) (v : Standing) (g : Group) → stands_refused v ≡ true → is_eligible hw cpu (failed v g) ≡ false
 failed_stays hw cpu standing.Out g h = absurd (false≢true h)
 failed_stays hw cpu standing.On g h = absurd (false≢true h)
-failed_stays hw cpu (standing.Refused c) [] h = refl
-failed_stays hw cpu (standing.Refused c) (leader ∷ siblings) h = refl
+failed_stays hw cpu (standing.Refused c) g h = refl
 
 failed-on : (v : Standing) (g : Group) → stands_on v ≡ true → failed v g ≡ g
 failed-on v g e = rw (on_alone v e) refl

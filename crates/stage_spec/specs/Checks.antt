@@ -1,16 +1,13 @@
 -- For what an attribute is refused by itself, whatever is open. The first four conditions are those of
 -- perf_copy_attr in kernel/events/core.c and of perf_event_open(2), with the bits that this project's own
 -- profile knows; the fifth is this project's own.
-use Rattle.std.specs.Prelude.{ℕ, ◌^◌, ◌==◌, Bool, true, false, not, ◌&&◌, bit_and, List, [], ◌∷◌, find, Option, option_map}
+use Rattle.std.specs.Prelude.{ℕ, ◌^◌, ◌==◌, Bool, not, ◌&&◌, bit_and, List, [], ◌∷◌, Option}
 use Rattle.perf_base.specs.declared.attr.Attr.{Attr}
-use Rattle.perf_base.specs.declared.attr.Kind.{Kind}
-use Rattle.perf_base.specs.declared.attr.Kind.TheVariants as kind
-use Rattle.perf_base.specs.declared.attr.TaskSel.{TaskSel}
-use Rattle.perf_base.specs.declared.attr.TaskSel.TheVariants as tasks
-use Rattle.perf_base.specs.declared.attr.CpuSel.{CpuSel}
-use Rattle.perf_base.specs.declared.attr.CpuSel.TheVariants as cpus
 use Rattle.perf_base.specs.declared.reasons.Reason.{Reason}
 use Rattle.perf_base.specs.declared.reasons.Reason.TheVariants as reason
+use Rattle.stage_spec.specs.Hardware.{is_software}
+use Rattle.stage_spec.specs.Places.{is_all_tasks, is_any_cpu}
+use Rattle.stage_spec.specs.Refusals.{first_of}
 
 -- the bits of PERF_SAMPLE_ that are known: IP, TID, TIME, ID, CPU, PERIOD, STREAM_ID and IDENTIFIER
 abbrev pub sample_bits : ℕ
@@ -23,24 +20,6 @@ format_bits = 0x1f
 -- whether some bit of a number is not among these
 abbrev pub has_other_bits : ℕ → ℕ → Bool
 has_other_bits known bits = not (bit_and bits known == bits)
-
--- whether a kind is counted in software
-abbrev pub is_software : Kind → Bool
-is_software (kind.Hard number) = false
-is_software kind.ContextSwitches = true
-is_software kind.CpuMigrations = true
-is_software kind.TaskClock = true
-is_software kind.Dummy = true
-
--- whether an event counts all tasks, as pid -1 does
-abbrev pub is_all_tasks : TaskSel → Bool
-is_all_tasks tasks.All = true
-is_all_tasks (tasks.One task) = false
-
--- whether it counts on any processor, as cpu -1 does
-abbrev pub is_any_cpu : CpuSel → Bool
-is_any_cpu cpus.Any = true
-is_any_cpu (cpus.One cpu) = false
 
 -- the period has its highest bit set
 abbrev pub has_high_period : Attr → Bool
@@ -69,4 +48,4 @@ faults_of a = (reason.BadPeriod, has_high_period a) ∷ (reason.BadSampleBits, h
 
 -- the first of them that holds, if one does
 abbrev pub first_fault : Attr → Option Reason
-first_fault a = option_map (λ f. f.0) (find (λ f. f.1) (faults_of a))
+first_fault a = first_of (faults_of a)

@@ -3,17 +3,19 @@
 use Rattle.std.specs.Prelude.{Bool, true, false, not, List, [], ◌∷◌, ◌++◌, map, filter, flat_map}
 use Rattle.perf_base.specs.declared.numbers.EventNo.{EventNo}
 use Rattle.stage_spec.specs.declared.instance.Instance.{Instance}
-use Rattle.stage_spec.specs.Stage.{Stage, Group, Lists, is_of_family}
+use Rattle.stage_spec.specs.Stage.{Stage, Group, alone, Lists, is_of_family}
 
--- the group without the members that go, and nothing where its leader goes
+-- those of some instances that stay
+abbrev pub staying : (Instance → Bool) → List Instance → List Instance
+staying goes instances = filter (λ i. not (goes i)) instances
+
+-- the group without the siblings that go, and nothing where its leader goes
 abbrev pub kept_group : (Instance → Bool) → Group → List Group
-kept_group goes [] = []
-kept_group goes (leader ∷ siblings) = elim (goes leader) [ true ↦ [] | false ↦ (leader ∷ filter (λ i. not (goes i)) siblings) ∷ [] ]
+kept_group goes g = elim (goes g.leader) [ true ↦ [] | false ↦ record g { siblings = staying goes g.siblings } ∷ [] ]
 
 -- where its leader goes, each sibling that stays, as a group of its own
 abbrev pub freed_groups : (Instance → Bool) → Group → List Group
-freed_groups goes [] = []
-freed_groups goes (leader ∷ siblings) = elim (goes leader) [ true ↦ map (λ i. i ∷ []) (filter (λ i. not (goes i)) siblings) | false ↦ [] ]
+freed_groups goes g = elim (goes g.leader) [ true ↦ map alone (staying goes g.siblings) | false ↦ [] ]
 
 -- the groups of a context without the instances that go; siblings of a leader that goes come last among the flexible groups,
 -- in the order in which they joined

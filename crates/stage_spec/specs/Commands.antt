@@ -8,13 +8,13 @@ use Rattle.perf_base.specs.declared.standing.Own.TheVariants as own
 use Rattle.perf_base.specs.declared.reasons.Reason.{Reason}
 use Rattle.perf_base.specs.declared.reasons.Reason.TheVariants as reason
 use Rattle.stage_spec.specs.declared.instance.Instance.{Instance}
-use Rattle.stage_spec.specs.Stage.{Stage, Group, is_original, is_open, original_of, group_of, change_each}
-use Rattle.stage_spec.specs.Opening.{holds_of, first_of}
+use Rattle.stage_spec.specs.Stage.{Stage, Group, members_of, is_original, is_open, original_of, group_of, change_each}
+use Rattle.stage_spec.specs.Refusals.{first_of, holds_of}
 
 -- the events whose families a command reaches: the one named, or each member of its group
 abbrev pub slots_of : Option Group → List EventNo
 slots_of None = []
-slots_of (Some g) = map (λ i. i.event) g
+slots_of (Some g) = map (λ i. i.event) (members_of g)
 
 abbrev pub targets : Stage → EventNo → (group : Bool) → List EventNo
 targets s e true = slots_of (group_of s e)

@@ -7,10 +7,9 @@ use Rattle.perf_base.specs.declared.standing.Context.TheVariants as context
 use Rattle.perf_base.specs.declared.reasons.Reason.{Reason}
 use Rattle.perf_base.specs.declared.reasons.Reason.TheVariants as reason
 use Rattle.stage_spec.specs.declared.instance.TaskState.TheVariants as state
-use Rattle.stage_spec.specs.Stage.{Stage, task_on, status_of, set_status, change_context, is_copy}
-use Rattle.stage_spec.specs.Opening.{first_of}
+use Rattle.stage_spec.specs.Stage.{Stage, task_on, is_idle, set_running, status_of, set_status, change_context, is_copy}
+use Rattle.stage_spec.specs.Refusals.{first_of}
 use Rattle.stage_spec.specs.Closing.{without}
-use Rattle.stage_spec.specs.Switching.{is_idle, set_running}
 
 -- no task is on
 abbrev pub exit_refusal : Stage → CpuNo → Option Reason

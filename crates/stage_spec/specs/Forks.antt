@@ -1,6 +1,6 @@
 -- What a fork does, after perf_event_init_task and inherit_group of kernel/events/core.c. Its refusals are this
 -- project's own profile.
-use Rattle.std.specs.Prelude.{ℕ, ◌+◌, nat_lt, true, false, List, [], ◌∷◌, filter, length, sum_by, Option, Some, None, if◌then◌else◌}
+use Rattle.std.specs.Prelude.{ℕ, ◌+◌, nat_lt, true, false, List, [], ◌∷◌, filter, sum_by, Option, Some, None, if◌then◌else◌}
 use Rattle.perf_base.specs.declared.numbers.CpuNo.{CpuNo}
 use Rattle.perf_base.specs.declared.numbers.TaskNo.{TaskNo}
 use Rattle.perf_base.specs.declared.attr.Attr.{Attr}
@@ -10,15 +10,15 @@ use Rattle.perf_base.specs.declared.standing.Own.TheVariants as own
 use Rattle.perf_base.specs.declared.reasons.Reason.{Reason}
 use Rattle.perf_base.specs.declared.reasons.Reason.TheVariants as reason
 use Rattle.stage_spec.specs.declared.instance.Instance.{Instance}
-use Rattle.stage_spec.specs.Stage.{Stage, Group, Lists, original_of, task_on, status_of, fresh_task, was_used, live_copies, set_status, change_context}
-use Rattle.stage_spec.specs.Effective.{is_ready, leader_is_inherited}
+use Rattle.stage_spec.specs.Stage.{Stage, Group, size_of, is_idle, Lists, original_of, task_on, status_of, fresh_task, was_used, live_copies, set_status, change_context}
+use Rattle.stage_spec.specs.Effective.{is_ready}
 use Rattle.stage_spec.specs.Verdict.{task_lists}
-use Rattle.stage_spec.specs.Opening.{first_of}
-use Rattle.stage_spec.specs.Switching.{is_idle}
+use Rattle.stage_spec.specs.Flags.{is_inherited}
+use Rattle.stage_spec.specs.Refusals.{first_of}
 
 -- the groups whose leaders are inherited
 abbrev pub inherited_groups : List Group → List Group
-inherited_groups groups = filter leader_is_inherited groups
+inherited_groups groups = filter (λ g. is_inherited g.leader.attr) groups
 
 -- the present period of the original
 abbrev pub present_period : Option Instance → Attr → ℕ
@@ -40,25 +40,28 @@ copy_of s id i = record {
   mapped = false;
 }
 
--- the copies of a group, the first with this id, and of groups, with rising ids
-unfoldable pub copy_group : Stage → ℕ → Group → Group
-copy_group s id [] = []
-copy_group s id (i ∷ g) = copy_of s id i ∷ copy_group s (id + 1) g
+-- the copies of some instances, of a group and of groups, the first with this id and each with the next
+unfoldable pub copies_from : Stage → ℕ → List Instance → List Instance
+copies_from s id [] = []
+copies_from s id (i ∷ instances) = copy_of s id i ∷ copies_from s (id + 1) instances
+
+abbrev pub copy_group : Stage → ℕ → Group → Group
+copy_group s id g = record { leader = copy_of s id g.leader; siblings = copies_from s (id + 1) g.siblings }
 
 unfoldable pub copy_groups : Stage → ℕ → List Group → List Group
 copy_groups s id [] = []
-copy_groups s id (g ∷ groups) = copy_group s id g ∷ copy_groups s (id + length g) groups
+copy_groups s id (g ∷ groups) = copy_group s id g ∷ copy_groups s (id + size_of g) groups
 
 -- the groups that a child gets: the pinned ones take the first ids
 abbrev pub copied : Stage → Lists → Lists
 copied s l = record {
   pinned = copy_groups s s.next_id (inherited_groups l.pinned);
-  flexible = copy_groups s (s.next_id + sum_by length (inherited_groups l.pinned)) (inherited_groups l.flexible);
+  flexible = copy_groups s (s.next_id + sum_by size_of (inherited_groups l.pinned)) (inherited_groups l.flexible);
 }
 
 -- how many copies a fork makes
 abbrev pub new_copies : Lists → ℕ
-new_copies l = sum_by length (inherited_groups l.pinned) + sum_by length (inherited_groups l.flexible)
+new_copies l = sum_by size_of (inherited_groups l.pinned) + sum_by size_of (inherited_groups l.flexible)
 
 -- no task is on; the child's number was used; there would be more than 4,096 copies
 abbrev pub fork_refusal : Stage → CpuNo → TaskNo → Option Reason

@@ -9,9 +9,9 @@ use Rattle.perf_base.specs.declared.reasons.Reason.{Reason}
 use Rattle.perf_base.specs.declared.reasons.Reason.TheVariants as reason
 use Rattle.stage_spec.specs.declared.instance.Instance.{Instance}
 use Rattle.stage_spec.specs.Flags.{is_inherited}
-use Rattle.stage_spec.specs.Checks.{is_any_cpu}
+use Rattle.stage_spec.specs.Places.{is_any_cpu, is_same_cpu, is_same_task}
 use Rattle.stage_spec.specs.Stage.{Stage, is_original, is_open, original_of, change_each}
-use Rattle.stage_spec.specs.Opening.{holds_of, first_of, is_same_cpu, is_same_task}
+use Rattle.stage_spec.specs.Refusals.{first_of, holds_of, holds_of_both}
 
 -- the ring that an event writes to
 abbrev pub ring_of_instance : Option Instance → Option RingNo
@@ -38,12 +38,6 @@ map_refusal s e ring = first_of ((reason.NoEvent, not (is_open s e))
     ∷ (reason.Inherit, holds_of (λ i. is_inherited i.attr && is_any_cpu i.attr.cpu) (original_of s e))
     ∷ (reason.HasRing, is_some (ring_of s e))
     ∷ (reason.Busy, list_any (λ r. r.0 == ring.0) s.mapped) ∷ [])
-
--- whether a test of two events holds, where both are open
-abbrev pub holds_of_both : (Instance → Instance → Bool) → Option Instance → Option Instance → Bool
-holds_of_both test (Some i) (Some j) = test i j
-holds_of_both test (Some i) None = false
-holds_of_both test None j = false
 
 -- An event can't be redirected to itself, to one on another processor, from any processor to one of another task, away from
 -- a mapping of its own, nor to an event without a ring.

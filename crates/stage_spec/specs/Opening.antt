@@ -1,6 +1,6 @@
 -- What opening an event does, and for what it is refused. After perf_event_open(2) and the system call of that name
 -- in kernel/events/core.c; what is this project's own profile is marked.
-use Rattle.std.specs.Prelude.{ℕ, ◌+◌, ◌==◌, nat_lt, Bool, true, false, not, ◌&&◌, ◌||◌, List, [], ◌∷◌, ◌++◌, map, filter, find, length, Option, Some, None, option_map, is_some, if◌then◌else◌}
+use Rattle.std.specs.Prelude.{ℕ, ◌+◌, ◌==◌, nat_lt, Bool, true, false, not, ◌&&◌, ◌||◌, List, [], ◌∷◌, ◌++◌, map, Option, Some, None, is_some, if◌then◌else◌}
 use Rattle.std.specs.List.{list_any}
 use Rattle.perf_base.specs.declared.numbers.EventNo.{EventNo}
 use Rattle.perf_base.specs.declared.attr.Attr.{Attr}
@@ -9,52 +9,26 @@ use Rattle.perf_base.specs.declared.attr.TaskSel.{TaskSel}
 use Rattle.perf_base.specs.declared.attr.TaskSel.TheVariants as tasks
 use Rattle.perf_base.specs.declared.attr.CpuSel.{CpuSel}
 use Rattle.perf_base.specs.declared.attr.CpuSel.TheVariants as cpus
-use Rattle.perf_base.specs.declared.standing.Context.{Context}
-use Rattle.perf_base.specs.declared.standing.Context.TheVariants as context
 use Rattle.perf_base.specs.declared.standing.Own.{Own}
 use Rattle.perf_base.specs.declared.standing.Own.TheVariants as own
 use Rattle.perf_base.specs.declared.reasons.Reason.{Reason}
 use Rattle.perf_base.specs.declared.reasons.Reason.TheVariants as reason
 use Rattle.stage_spec.specs.declared.instance.Instance.{Instance}
 use Rattle.stage_spec.specs.Flags.{is_disabled, is_inherited, is_pinned, is_exclusive}
-use Rattle.stage_spec.specs.Hardware.{Hardware, pmu_of_cpu, pmu_of_kind}
-use Rattle.stage_spec.specs.Stage.{Stage, Group, Lists, is_original, is_open, original_of, group_of, status_of, is_live, change_context}
-use Rattle.stage_spec.specs.Effective.{is_hardware, name_of}
-use Rattle.stage_spec.specs.Verdict.{is_pmu, with_masks}
+use Rattle.stage_spec.specs.Hardware.{Hardware, pmu_of_kind, is_pmu, is_counted_on}
+use Rattle.stage_spec.specs.Places.{is_same_task, is_same_cpu, context_of}
+use Rattle.stage_spec.specs.Refusals.{first_of, holds_of}
+use Rattle.stage_spec.specs.Stage.{Stage, Group, members_of, size_of, alone, Lists, is_original, is_open, original_of, group_of, status_of, is_live, change_context}
+use Rattle.stage_spec.specs.Effective.{hardware_members, name_of}
+use Rattle.stage_spec.specs.Verdict.{with_masks}
 use Rattle.stage_spec.specs.Fits.{fits}
 use Rattle.stage_spec.specs.Tight.{masks_of, tight_set, shortest_unfit}
 use Rattle.stage_spec.specs.Checks.{faults_of}
 
--- whether two events name the same task, and the same processor
-abbrev pub is_same_task : TaskSel → TaskSel → Bool
-is_same_task tasks.All tasks.All = true
-is_same_task tasks.All (tasks.One task) = false
-is_same_task (tasks.One task) tasks.All = false
-is_same_task (tasks.One task) (tasks.One other) = task.0 == other.0
-
-abbrev pub is_same_cpu : CpuSel → CpuSel → Bool
-is_same_cpu cpus.Any cpus.Any = true
-is_same_cpu cpus.Any (cpus.One cpu) = false
-is_same_cpu (cpus.One cpu) cpus.Any = false
-is_same_cpu (cpus.One cpu) (cpus.One other) = cpu.0 == other.0
-
+-- whether two flags are the same
 abbrev pub is_same_flag : Bool → Bool → Bool
 is_same_flag true b = b
 is_same_flag false b = not b
-
--- the context that an event counts: its task's, or its processor's
-abbrev pub context_by : TaskSel → CpuSel → Context
-context_by (tasks.One task) cpu = context.Task task
-context_by tasks.All (cpus.One cpu) = context.Processor cpu
-context_by tasks.All cpus.Any = context.Processor (record { 0 = 0 })
-
-abbrev pub context_of : Attr → Context
-context_of a = context_by a.task a.cpu
-
--- whether a test holds of what is there
-abbrev pub holds_of : {X : Type 0} → (X → Bool) → Option X → Bool
-holds_of test None = false
-holds_of test (Some x) = test x
 
 -- the slot was opened before (own)
 abbrev pub is_used : Stage → EventNo → Bool
@@ -63,7 +37,7 @@ is_used s slot = list_any (λ e. e.0 == slot.0) s.used
 -- the event is of a hardware kind and names a processor of another PMU
 abbrev pub names_other_pmu : Hardware → Attr → CpuSel → Bool
 names_other_pmu hw a cpus.Any = false
-names_other_pmu hw a (cpus.One cpu) = not (is_pmu (pmu_of_kind hw a.kind) (pmu_of_cpu hw cpu))
+names_other_pmu hw a (cpus.One cpu) = not (is_counted_on hw cpu a.kind)
 
 -- it names a task that is not there or has exited
 abbrev pub names_no_task : Stage → TaskSel → Bool
@@ -97,11 +71,11 @@ abbrev pub is_other_pmu : Hardware → Kind → Kind → Bool
 is_other_pmu hw k other = holds_of (λ pmu. not (is_pmu (pmu_of_kind hw other) pmu)) (pmu_of_kind hw k)
 
 abbrev pub group_is_of_other_pmu : Hardware → Stage → Attr → Option EventNo → Bool
-group_is_of_other_pmu hw s a leader = holds_of (list_any (λ i. is_other_pmu hw a.kind i.attr.kind)) (group_led s leader)
+group_is_of_other_pmu hw s a leader = holds_of (λ g. list_any (λ i. is_other_pmu hw a.kind i.attr.kind) (members_of g)) (group_led s leader)
 
 -- the group has eight members (own)
 abbrev pub group_is_full : Stage → Option EventNo → Bool
-group_is_full s leader = holds_of (λ g. not (nat_lt (length g) 8)) (group_led s leader)
+group_is_full s leader = holds_of (λ g. not (nat_lt (size_of g) 8)) (group_led s leader)
 
 -- the reasons before the last in their order, each with whether it holds
 abbrev pub open_faults : Hardware → Stage → EventNo → Attr → Option EventNo → List (Reason × Bool)
@@ -111,9 +85,6 @@ open_faults hw s slot a leader = (reason.Exists, is_used s slot) ∷ faults_of a
     ∷ (reason.SiblingFlags, is_some leader && (is_pinned a || is_exclusive a)) ∷ (reason.Inherit, leader_inherits_otherwise s a leader)
     ∷ (reason.OtherPmu, group_is_of_other_pmu hw s a leader) ∷ (reason.GroupFull, group_is_full s leader) ∷ []
 
-abbrev pub first_of : List (Reason × Bool) → Option Reason
-first_of faults = option_map (λ f. f.0) (find (λ f. f.1) faults)
-
 -- the new original; it draws the next id
 abbrev pub first_state : Attr → Own
 first_state a = if is_disabled a then own.Off else own.Ready
@@ -121,10 +92,13 @@ first_state a = if is_disabled a then own.Off else own.Ready
 abbrev pub new_original : Stage → EventNo → Attr → Instance
 new_original s slot a = record { event = slot; copy = false; id = s.next_id; attr = a; own = first_state a; ring = None; mapped = false }
 
--- the group as it would be
+-- a group that an instance joins, and the group as it would be
+abbrev pub joined : Instance → Group → Group
+joined i g = record g { siblings = g.siblings ++ i ∷ [] }
+
 abbrev pub group_with : Option Group → Instance → Group
-group_with None i = i ∷ []
-group_with (Some g) i = g ++ i ∷ []
+group_with None i = alone i
+group_with (Some g) i = joined i g
 
 -- The hardware members of the group, whatever their states, have no assignment by themselves: the tight set (own).
 abbrev pub unassignable : List (EventNo × ℕ) → Option Reason
@@ -137,7 +111,7 @@ unassignable events = elim (fits (masks_of events)) [
 unfoldable pub open_refusal : Hardware → Stage → EventNo → Attr → Option EventNo → Option Reason
 open_refusal hw s slot a leader = elim (first_of (open_faults hw s slot a leader)) [
   | Some r ↦ Some r
-  | None ↦ unassignable (with_masks hw (filter is_hardware (group_with (group_led s leader) (new_original s slot a))))
+  | None ↦ unassignable (with_masks hw (hardware_members (group_with (group_led s leader) (new_original s slot a))))
 ]
 
 -- a group of its own goes last in the pinned or the flexible list
@@ -147,13 +121,13 @@ add_group false g l = record l { flexible = l.flexible ++ g ∷ [] }
 
 -- a sibling goes last in the group that its leader leads
 abbrev pub join_group : EventNo → Instance → Group → Group
-join_group e i g = if list_any (is_original e) g then g ++ i ∷ [] else g
+join_group e i g = if is_original e g.leader then joined i g else g
 
 abbrev pub join_lists : EventNo → Instance → Lists → Lists
 join_lists e i l = record { pinned = map (join_group e i) l.pinned; flexible = map (join_group e i) l.flexible }
 
 abbrev pub placed : Option EventNo → Instance → Stage → Stage
-placed None i s = change_context (context_of i.attr) (add_group (is_pinned i.attr) (i ∷ [])) s
+placed None i s = change_context (context_of i.attr) (add_group (is_pinned i.attr) (alone i)) s
 placed (Some e) i s = record s { contexts = map (join_lists e i) s.contexts }
 
 -- the stage after an open that is not refused

@@ -1,5 +1,5 @@
 -- Which line an act does, and when an order is complete. This project's own profile.
-use Rattle.std.specs.Prelude.{◌≡◌, ℕ, Bool, false, ◌==◌, ◌≤◌, List, ◌∷◌, ◌++◌, length, take, sum, fold, count_by, Option, slice_get, if◌then◌else◌}
+use Rattle.std.specs.Prelude.{◌≡◌, ℕ, ◌==◌, ◌≤◌, List, ◌∷◌, ◌++◌, length, take, sum, fold, count_by, Option, slice_get, if◌then◌else◌}
 use Rattle.perf_base.specs.declared.numbers.CpuNo.{CpuNo}
 use Rattle.perf_base.specs.declared.numbers.RingNo.{RingNo}
 use Rattle.perf_base.specs.declared.numbers.ToolNo.{ToolNo}
@@ -8,17 +8,7 @@ use Rattle.perf_base.specs.declared.lines.ToolLine.{ToolLine}
 use Rattle.perf_base.specs.declared.acts.Act.{Act}
 use Rattle.perf_base.specs.declared.acts.Act.TheVariants as act
 use Rattle.perf_base.specs.Scripts.{Scripted, lines_of_cpu, lines_of_tool}
-
--- whether an act is a line of this processor, or of this tool
-abbrev pub is_of_cpu : CpuNo → Act → Bool
-is_of_cpu cpu (act.Processor p) = p.0 == cpu.0
-is_of_cpu cpu (act.Tool t) = false
-is_of_cpu cpu (act.Seen ring place) = false
-
-abbrev pub is_of_tool : ToolNo → Act → Bool
-is_of_tool tool (act.Processor p) = false
-is_of_tool tool (act.Tool t) = t.0 == tool.0
-is_of_tool tool (act.Seen ring place) = false
+pub use Rattle.perf_base.specs.Acts.{is_of_cpu, is_of_tool}
 
 -- how many lines of it some acts have done
 abbrev pub done_by_cpu : CpuNo → List Act → ℕ

@@ -8,9 +8,9 @@ use Rattle.perf_base.specs.declared.reasons.Reason.{Reason}
 use Rattle.perf_base.specs.declared.reasons.Reason.TheVariants as reason
 use Rattle.perf_base.specs.declared.reply.Sums.{Sums}
 use Rattle.stage_spec.specs.declared.instance.Instance.{Instance}
-use Rattle.stage_spec.specs.Stage.{Stage, Group, is_open, original_of, group_of}
-use Rattle.stage_spec.specs.Effective.{effective, leader_state}
-use Rattle.stage_spec.specs.Opening.{holds_of, first_of}
+use Rattle.stage_spec.specs.Stage.{Stage, Group, members_of, size_of, is_open, original_of, group_of}
+use Rattle.stage_spec.specs.Effective.{state_in}
+use Rattle.stage_spec.specs.Refusals.{first_of, holds_of}
 
 -- the words that a format asks for: PERF_FORMAT_TOTAL_TIME_ENABLED, TOTAL_TIME_RUNNING, ID, GROUP and LOST
 abbrev pub has_format : ℕ → ℕ → Bool
@@ -34,13 +34,9 @@ abbrev pub words_of_member : ℕ → Sums → (id lost : ℕ) → List ℕ
 words_of_member format sums id lost = sums.count ∷ marks_of format id lost
 
 -- the words of a group: the number of members, the leader's times, then each member in the order in which they joined
-abbrev pub leader_sums : (EventNo → Sums) → Group → Sums
-leader_sums sums [] = record { count = 0; enabled = 0; running = 0 }
-leader_sums sums (leader ∷ siblings) = sums leader.event
-
 abbrev pub words_of_group : ℕ → (EventNo → Sums) → (EventNo → ℕ) → Group → List ℕ
-words_of_group format sums lost g = length g ∷ times_of format (leader_sums sums g)
-    ++ flat_map (λ i. words_of_member format (sums i.event) i.id (lost i.event)) g
+words_of_group format sums lost g = size_of g ∷ times_of format (sums g.leader.event)
+    ++ flat_map (λ i. words_of_member format (sums i.event) i.id (lost i.event)) (members_of g)
 
 -- the words of a read of an event in a group, where it is not in error; the format is its own
 abbrev pub words_by : Bool → (EventNo → Sums) → (EventNo → ℕ) → Group → Instance → List ℕ
@@ -49,10 +45,6 @@ words_by false sums lost g i = words_alone i.attr.format (sums i.event) i.id (lo
 
 abbrev pub words_in : (EventNo → Sums) → (EventNo → ℕ) → Group → Instance → List ℕ
 words_in sums lost g i = words_by (has_format 8 i.attr.format) sums lost g i
-
--- the effective state of an event in its group
-abbrev pub state_in : Group → Instance → Own
-state_in g i = effective (leader_state g) i.own
 
 abbrev pub is_error : Own → Bool
 is_error own.Off = false

@@ -2,7 +2,6 @@
 -- kernel/events/core.c; that PERIOD restarts the remainder is this project's own profile.
 use Rattle.std.specs.Prelude.{◌≡◌, ℕ, ◌==◌, Bool, true, false, ◌&&◌, List, [], ◌∷◌, ◌++◌, find, Option, Some, None}
 use Rattle.std.specs.List.{list_any}
-use Rattle.std.proofs.Common.{refl}
 use Rattle.perf_base.specs.declared.lines.ToolLine.{ToolLine}
 use Rattle.perf_base.specs.declared.lines.ToolLine.TheVariants as tool_line
 use Rattle.perf_base.specs.declared.reasons.Reason.{Reason}
@@ -62,13 +61,3 @@ remainder_of hw s steps id = remainder_from hw s 0 steps id
 abbrev pub RemainderLaw : Type 0
 RemainderLaw = (hw : Hardware) (s : Stage) (steps : List Step) (x : Step) (id : ℕ)
     → remainder_of hw s (steps ++ x ∷ []) id ≡ left_by hw (stage_after hw s steps) x id (remainder_of hw s steps id)
-
-remainder_from-push : (hw : Hardware) (s : Stage) (left : ℕ) (steps : List Step) (x : Step) (id : ℕ)
-    → remainder_from hw s left (steps ++ x ∷ []) id ≡ left_by hw (stage_after hw s steps) x id (remainder_from hw s left steps id)
-unfolding remainder_from stage_after
-remainder_from-push hw s left [] x id = refl
-remainder_from-push hw s left (y ∷ steps) x id = remainder_from-push hw (stage_step hw s y) (left_by hw s y id left) steps x id
-
-pub remainder_of-push : RemainderLaw
-unfolding remainder_of
-remainder_of-push hw s steps x id = remainder_from-push hw s 0 steps x id

@@ -1,7 +1,7 @@
 -- The answer to a line. After perf_event_open(2); the order of reasons, and what WHY and SEATS answer, are this project's
 -- own profile.
-use Rattle.std.specs.Prelude.{◌≡◌, ℕ, true, false, ◌&&◌, List, [], ◌∷◌, ◌++◌, map, filter, Option, Some, None}
-use Rattle.std.specs.List.{list_all}
+use Rattle.std.specs.Prelude.{◌≡◌, ℕ, List, [], ◌∷◌, ◌++◌, map, filter, Option, Some, None}
+use Rattle.std.specs.List.{zip}
 use Rattle.perf_base.specs.declared.numbers.CpuNo.{CpuNo}
 use Rattle.perf_base.specs.declared.numbers.EventNo.{EventNo}
 use Rattle.perf_base.specs.declared.lines.ToolLine.{ToolLine}
@@ -19,15 +19,19 @@ use Rattle.perf_base.specs.declared.reply.Reply.{Reply}
 use Rattle.perf_base.specs.declared.reply.Reply.TheVariants as reply
 use Rattle.perf_base.specs.declared.reply.Sums.{Sums}
 use Rattle.perf_base.specs.declared.acts.Act.{Act}
+use Rattle.perf_base.specs.declared.acts.Act.TheVariants as act
+use Rattle.perf_base.specs.declared.acts.Actor.{Actor}
+use Rattle.perf_base.specs.declared.acts.Actor.TheVariants as actor
 use Rattle.perf_base.specs.Scripts.{Scripted}
 use Rattle.stage_spec.specs.declared.instance.Instance.{Instance}
 use Rattle.stage_spec.specs.Hardware.{Hardware, hardware_of, mask_of}
 use Rattle.stage_spec.specs.Stage.{Stage, Group, original_of, group_of, cpu_of}
-use Rattle.stage_spec.specs.Effective.{is_hardware}
-use Rattle.stage_spec.specs.Verdict.{may_count_on, is_counted_on, on_instances, standing_of}
+use Rattle.stage_spec.specs.Effective.{is_hardware, state_in}
+use Rattle.stage_spec.specs.Verdict.{on_instances, standing_of}
 use Rattle.stage_spec.specs.Fits.{IsAssignment}
-use Rattle.stage_spec.specs.Opening.{context_of}
-use Rattle.stage_spec.specs.Reading.{state_in, read_words}
+use Rattle.stage_spec.specs.Places.{context_of}
+use Rattle.stage_spec.specs.Reading.{read_words}
+use Rattle.stage_spec.specs.Order.{done_by_cpu, done_by_tool}
 use Rattle.stage_spec.specs.History.{Step, CpuStep, ToolStep, SeenStep, cpu_refusal, tool_refusal, stage_after, history, opening_stage}
 use Rattle.stage_spec.specs.Families.{family_sums}
 
@@ -36,25 +40,22 @@ abbrev pub cpu_with : Stage → Context → Option CpuNo
 cpu_with s (context.Processor cpu) = Some cpu
 cpu_with s (context.Task task) = cpu_of s task
 
--- Why a ready event counts or does not. It is away where its context is on no processor, where its place is another one, and
--- where its group has a hardware member of another PMU.
+-- Why a ready event counts or does not, by where its group stands. It is away where its context is on no processor, and where
+-- the group is not eligible there: its place is another processor, or it has a hardware member of another PMU.
 abbrev pub why_standing : Standing → Why
 why_standing standing.Out = why.Away
 why_standing standing.On = why.On
 why_standing (standing.Refused cause) = why.Refused cause
 
-abbrev pub why_on : Hardware → Stage → Group → Instance → Option CpuNo → Why
-why_on hw s g i None = why.Away
-why_on hw s g i (Some cpu) = elim (may_count_on cpu i.attr.cpu && list_all (λ j. is_counted_on hw cpu j.attr.kind) g) [
-  | true ↦ why_standing (standing_of hw s cpu g)
-  | false ↦ why.Away
-]
+abbrev pub why_on : Hardware → Stage → Group → Option CpuNo → Why
+why_on hw s g None = why.Away
+why_on hw s g (Some cpu) = why_standing (standing_of hw s cpu g)
 
 -- by its effective state first
 abbrev pub why_by : Hardware → Stage → Group → Instance → Own → Why
 why_by hw s g i own.Off = why.Off
 why_by hw s g i (own.Error cause) = why.Failed cause
-why_by hw s g i own.Ready = why_on hw s g i (cpu_with s (context_of i.attr))
+why_by hw s g i own.Ready = why_on hw s g (cpu_with s (context_of i.attr))
 
 abbrev pub why_in : Hardware → Stage → Option Group → Option Instance → Why
 why_in hw s (Some g) (Some i) = why_by hw s g i (state_in g i)
@@ -91,23 +92,48 @@ abbrev pub UnlessRefused : Option Reason → Reply → Type 0 → Type 0
 UnlessRefused (Some reason) r Done = r ≡ reply.Refused reason
 UnlessRefused None r Done = Done
 
--- the answer to a step at a stage
+-- The answer to a step at a stage, given what each family has counted and lost. A look at a tail has none.
 abbrev pub IsAnswerAt : Hardware → Stage → (EventNo → Sums) → (EventNo → ℕ) → Step → Reply → Type 0
 IsAnswerAt hw s sums lost (CpuStep cpu line) r = UnlessRefused (cpu_refusal s cpu line) r (r ≡ reply.Ok)
 IsAnswerAt hw s sums lost (ToolStep line) r = UnlessRefused (tool_refusal hw s line) r (IsDone hw s sums lost line r)
-IsAnswerAt hw s sums lost (SeenStep ring place) r = r ≡ reply.Ok
+IsAnswerAt hw s sums lost (SeenStep ring place) r = ⊥
 
 -- the answer to a step after some steps, the first of them at a stage, given how many records of each family were lost
 unfoldable pub IsReply : Hardware → Stage → List Step → (EventNo → ℕ) → Step → Reply → Type 0
 IsReply hw s before lost x r = IsAnswerAt hw (stage_after hw s before) (family_sums hw s before) lost x r
 
--- The answers to steps, the first of them after some steps, given what was lost after each.
+-- The replies to steps, one to each line and none to a look; the first step comes after some steps. Given what was lost after
+-- each.
 unfoldable pub AreReplies : Hardware → Stage → (List Step → EventNo → ℕ) → (before steps : List Step) → List Reply → Type 0
 AreReplies hw s lost before [] [] = Unit {0}
 AreReplies hw s lost before [] (r ∷ replies) = ⊥
+AreReplies hw s lost before (SeenStep ring place ∷ steps) replies = AreReplies hw s lost (before ++ SeenStep ring place ∷ []) steps replies
 AreReplies hw s lost before (x ∷ steps) [] = ⊥
 AreReplies hw s lost before (x ∷ steps) (r ∷ replies) = IsReply hw s before (lost before) x r × AreReplies hw s lost (before ++ x ∷ []) steps replies
 
--- The answers to the acts of an order of a script.
-abbrev pub AnswerOrder : Scripted → (List Step → EventNo → ℕ) → List Act → List Reply → Type 0
-AnswerOrder s lost order replies = AreReplies (hardware_of s) (opening_stage s) lost [] (history s order) replies
+-- An answer as it is kept: whose line it answers, a processor's or a tool's, the line's number among that actor's lines, from 0,
+-- and the reply.
+pub record Answered : Type 0 where
+  pub actor : Actor
+  pub number : ℕ
+  pub reply : Reply
+
+-- whose line an act does, and the line's number, which is the count of that actor's earlier acts; a look does none
+abbrev pub lines_of_act : (before : List Act) → Act → List (Actor × ℕ)
+lines_of_act before (act.Processor cpu) = (actor.Processor cpu, done_by_cpu cpu before) ∷ []
+lines_of_act before (act.Tool tool) = (actor.Tool tool, done_by_tool tool before) ∷ []
+lines_of_act before (act.Seen ring place) = []
+
+-- the lines that acts do, the first of them after some acts
+abbrev pub lines_from : (before acts : List Act) → List (Actor × ℕ)
+lines_from before [] = []
+lines_from before (a ∷ acts) = lines_of_act before a ++ lines_from (before ++ a ∷ []) acts
+
+-- The answers to the acts of an order of a script: one to each line that is done, in their order.
+pub record AnswerOrder (s : Scripted) (lost : List Step → EventNo → ℕ) (order : List Act) (answers : List Answered) : Type 0 where
+  pub lines : map (λ a. (a.actor, a.number)) answers ≡ lines_from [] order
+  pub replies : AreReplies (hardware_of s) (opening_stage s) lost [] (history s order) (map (λ a. a.reply) answers)
+
+-- replies as answers to the lines that an order does
+abbrev pub answers_to : (order : List Act) → List Reply → List Answered
+answers_to order replies = map (λ a. record { actor = a.0.0; number = a.0.1; reply = a.1 }) (zip (lines_from [] order) replies)

@@ -15,10 +15,17 @@ abbrev pub first_goes_last : (Group → Bool) → List Group → List Group
 first_goes_last test [] = []
 first_goes_last test (g ∷ groups) = elim (test g) [ true ↦ groups ++ g ∷ [] | false ↦ g ∷ first_goes_last test groups ]
 
--- Where some eligible flexible group is not on, the first eligible flexible hardware group goes last.
+-- whether a group waits, by some verdicts: it is eligible and not on; and whether it takes turns: it is eligible and a hardware group
+abbrev pub waits : Hardware → CpuNo → List Judged → Group → Bool
+waits hw cpu judged g = is_eligible hw cpu g && not (stands_on (standing_among judged g))
+
+abbrev pub takes_turns : Hardware → CpuNo → Group → Bool
+takes_turns hw cpu g = is_eligible hw cpu g && not (is_wholly_software g)
+
+-- Where some flexible group waits, the first flexible group that takes turns goes last.
 abbrev pub turned : Hardware → CpuNo → List Judged → List Group → List Group
-turned hw cpu judged groups = elim (list_any (λ g. is_eligible hw cpu g && not (stands_on (standing_among judged g))) groups) [
-  | true ↦ first_goes_last (λ g. is_eligible hw cpu g && not (is_wholly_software g)) groups
+turned hw cpu judged groups = elim (list_any (waits hw cpu judged) groups) [
+  | true ↦ first_goes_last (takes_turns hw cpu) groups
   | false ↦ groups
 ]
 

@@ -15,8 +15,7 @@ use Rattle.stage_spec.specs.Verdict.{Judged, is_eligible, judge, judge_pass, jud
 abbrev pub failed : Standing → Group → Group
 failed standing.Out g = g
 failed standing.On g = g
-failed (standing.Refused cause) [] = []
-failed (standing.Refused cause) (leader ∷ siblings) = record leader { own = own.Error cause } ∷ siblings
+failed (standing.Refused cause) g = record g { leader = record g.leader { own = own.Error cause } }
 
 -- the groups of a pinned pass, each eligible one that is refused in error
 unfoldable pub settle_pass : Hardware → CpuNo → (before within : List Judged) → List Group → List Group

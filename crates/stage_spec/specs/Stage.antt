@@ -1,7 +1,7 @@
 -- The stage between two lines: the task on each processor, which tasks there are, and the groups of each context with
 -- the own states of their events. It holds no count, no time and no counter. After struct perf_event_context and
 -- struct perf_event of kernel/events/core.c.
-use Rattle.std.specs.Prelude.{ℕ, ◌+◌, ◌==◌, Bool, true, false, not, ◌&&◌, List, [], ◌++◌, map, length, replicate, find, count_by, flat_map, Option, Some, None, slice_index_or, slice_set, if◌then◌else◌}
+use Rattle.std.specs.Prelude.{ℕ, ◌+◌, ◌==◌, nat_lt, Bool, true, false, not, ◌&&◌, List, [], ◌∷◌, ◌++◌, map, length, replicate, find, count_by, flat_map, Option, Some, None, slice_index_or, slice_set, if◌then◌else◌}
 use Rattle.std.specs.List.{list_any}
 use Rattle.perf_base.specs.declared.numbers.CpuNo.{CpuNo}
 use Rattle.perf_base.specs.declared.numbers.EventNo.{EventNo}
@@ -13,11 +13,22 @@ use Rattle.stage_spec.specs.declared.instance.Instance.{Instance}
 use Rattle.stage_spec.specs.declared.instance.TaskState.{TaskState}
 use Rattle.stage_spec.specs.declared.instance.TaskState.TheVariants as state
 use Rattle.stage_spec.specs.declared.instance.TaskStatus.{TaskStatus}
-use Rattle.stage_spec.specs.Hardware.{numbers_below}
+use Rattle.stage_spec.specs.Numbers.{numbers_below}
 
--- a group: its leader, then its siblings in the order in which they joined
-abbrev pub Group : Type 0
-Group = List Instance
+-- a group: its leader, and its siblings in the order in which they joined
+pub record Group : Type 0 where
+  pub leader : Instance
+  pub siblings : List Instance
+
+-- its members, the leader first; how many they are; and a group of one
+abbrev pub members_of : Group → List Instance
+members_of g = g.leader ∷ g.siblings
+
+abbrev pub size_of : Group → ℕ
+size_of g = length (members_of g)
+
+abbrev pub alone : Instance → Group
+alone i = record { leader = i; siblings = [] }
 
 -- the pinned and the flexible groups of a context, in their order
 pub record Lists : Type 0 where
@@ -56,9 +67,9 @@ first_stage cpus declared = record {
   next_id = 1;
 }
 
--- where a context stands among all contexts
+-- where a context stands among all contexts; a number of no processor has no place there, and no groups
 abbrev pub place_of : Context → ℕ
-place_of (context.Processor cpu) = cpu.0
+place_of (context.Processor cpu) = if nat_lt cpu.0 8 then cpu.0 else 72
 place_of (context.Task task) = 8 + task.0
 
 -- the groups of one context
@@ -73,7 +84,7 @@ abbrev pub all_groups : Stage → List Group
 all_groups s = flat_map groups_in s.contexts
 
 abbrev pub members : List Group → List Instance
-members groups = flat_map (λ g. g) groups
+members groups = flat_map members_of groups
 
 abbrev pub all_instances : Stage → List Instance
 all_instances s = members (all_groups s)
@@ -93,7 +104,7 @@ abbrev pub original_of : Stage → EventNo → Option Instance
 original_of s e = find (is_original e) (all_instances s)
 
 abbrev pub group_of : Stage → EventNo → Option Group
-group_of s e = find (list_any (is_original e)) (all_groups s)
+group_of s e = find (λ g. list_any (is_original e) (members_of g)) (all_groups s)
 
 -- whether a slot is open
 abbrev pub is_open : Stage → EventNo → Bool
@@ -136,15 +147,27 @@ was_used state.Unknown = false
 was_used state.Live = true
 was_used state.Exited = true
 
--- the stage with a change of each instance, and with a change of the groups of one context
+-- a group, the groups of a context and the stage, with a change of each instance
+abbrev pub change_group : (Instance → Instance) → Group → Group
+change_group f g = record { leader = f g.leader; siblings = map f g.siblings }
+
 abbrev pub change_lists : (Instance → Instance) → Lists → Lists
-change_lists f l = record { pinned = map (map f) l.pinned; flexible = map (map f) l.flexible }
+change_lists f l = record { pinned = map (change_group f) l.pinned; flexible = map (change_group f) l.flexible }
 
 abbrev pub change_each : (Instance → Instance) → Stage → Stage
 change_each f s = record s { contexts = map (change_lists f) s.contexts }
 
+-- the stage with a change of the groups of one context
 abbrev pub change_context : Context → (Lists → Lists) → Stage → Stage
 change_context c f s = record s { contexts = slice_set s.contexts (place_of c) (f (lists_of s c)) }
+
+-- whether no task runs, and the stage with another one running
+abbrev pub is_idle : Option TaskNo → Bool
+is_idle None = true
+is_idle (Some task) = false
+
+abbrev pub set_running : CpuNo → Option TaskNo → Stage → Stage
+set_running cpu to s = record s { running = slice_set s.running cpu.0 to }
 
 -- the stage with a task's state changed
 abbrev pub set_status : TaskNo → TaskStatus → Stage → Stage

@@ -1,17 +1,12 @@
 -- What a switch does, after perf_event_task_sched_out and perf_event_task_sched_in of kernel/events/core.c. Its
 -- refusals are this project's own profile.
-use Rattle.std.specs.Prelude.{◌==◌, Bool, true, false, not, [], ◌∷◌, Option, Some, None, slice_set}
+use Rattle.std.specs.Prelude.{◌==◌, Bool, true, false, not, [], ◌∷◌, Option, Some, None}
 use Rattle.perf_base.specs.declared.numbers.CpuNo.{CpuNo}
 use Rattle.perf_base.specs.declared.numbers.TaskNo.{TaskNo}
 use Rattle.perf_base.specs.declared.reasons.Reason.{Reason}
 use Rattle.perf_base.specs.declared.reasons.Reason.TheVariants as reason
-use Rattle.stage_spec.specs.Stage.{Stage, task_on, cpu_of, status_of, is_live, is_task, set_status}
-use Rattle.stage_spec.specs.Opening.{holds_of, first_of}
-
--- no task runs there
-abbrev pub is_idle : Option TaskNo → Bool
-is_idle None = true
-is_idle (Some task) = false
+use Rattle.stage_spec.specs.Stage.{Stage, task_on, cpu_of, status_of, is_live, is_task, is_idle, set_running, set_status}
+use Rattle.stage_spec.specs.Refusals.{first_of, holds_of}
 
 -- whether what is to run already runs there
 abbrev pub is_running : Option TaskNo → Option TaskNo → Bool
@@ -25,9 +20,6 @@ switch_refusal s cpu (Some task) = first_of ((reason.NoTask, not (is_live (statu
     ∷ (reason.Busy, holds_of (λ other. not (other.0 == cpu.0)) (cpu_of s task)) ∷ [])
 
 -- the task, or none, is on the processor, which is then the last one that switched to it
-abbrev pub set_running : CpuNo → Option TaskNo → Stage → Stage
-set_running cpu to s = record s { running = slice_set s.running cpu.0 to }
-
 abbrev pub put_on : CpuNo → Option TaskNo → Stage → Stage
 put_on cpu None s = set_running cpu None s
 put_on cpu (Some task) s = set_status task (record (status_of s task) { last = Some cpu }) (set_running cpu (Some task) s)

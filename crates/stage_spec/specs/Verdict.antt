@@ -5,40 +5,25 @@ use Rattle.std.specs.List.{list_all}
 use Rattle.perf_base.specs.declared.numbers.CpuNo.{CpuNo}
 use Rattle.perf_base.specs.declared.numbers.EventNo.{EventNo}
 use Rattle.perf_base.specs.declared.numbers.TaskNo.{TaskNo}
-use Rattle.perf_base.specs.declared.attr.Kind.{Kind}
-use Rattle.perf_base.specs.declared.attr.CpuSel.{CpuSel}
-use Rattle.perf_base.specs.declared.attr.CpuSel.TheVariants as cpus
+use Rattle.perf_base.specs.declared.standing.Context.{Context}
 use Rattle.perf_base.specs.declared.standing.Context.TheVariants as context
 use Rattle.perf_base.specs.declared.standing.Cause.TheVariants as cause
 use Rattle.perf_base.specs.declared.standing.Standing.{Standing}
 use Rattle.perf_base.specs.declared.standing.Standing.TheVariants as standing
 use Rattle.stage_spec.specs.declared.instance.Instance.{Instance}
-use Rattle.stage_spec.specs.Hardware.{Hardware, pmu_of_cpu, pmu_of_kind, mask_of}
-use Rattle.stage_spec.specs.Stage.{Stage, Group, Lists, lists_of, no_groups, task_on}
-use Rattle.stage_spec.specs.Effective.{is_ready, name_of, leader_id, is_wholly_software, is_exclusive_group, counted_members}
-use Rattle.stage_spec.specs.Rules.{refusal_of}
+use Rattle.stage_spec.specs.Hardware.{Hardware, mask_of, is_counted_on}
+use Rattle.stage_spec.specs.Places.{may_count_on}
+use Rattle.stage_spec.specs.Stage.{Stage, Group, members_of, members, Lists, lists_of, groups_in, no_groups, task_on}
+use Rattle.stage_spec.specs.Effective.{is_ready, name_of, is_wholly_software, is_exclusive_group, counted_members}
+use Rattle.stage_spec.specs.Rules.{Ruling, GoesOn, Refuses, AsksCounters, ruling_of}
 use Rattle.stage_spec.specs.Fits.{fits}
 use Rattle.stage_spec.specs.Tight.{masks_of, tight_set, shortest_unfit}
-
--- whether an event's place is any processor, or this one
-abbrev pub may_count_on : CpuNo → CpuSel → Bool
-may_count_on cpu cpus.Any = true
-may_count_on cpu (cpus.One other) = other.0 == cpu.0
-
--- whether a kind is a software kind, or one of the PMU of this processor
-abbrev pub is_pmu : Option ℕ → ℕ → Bool
-is_pmu None pmu = true
-is_pmu (Some other) pmu = other == pmu
-
-abbrev pub is_counted_on : Hardware → CpuNo → Kind → Bool
-is_counted_on hw cpu k = is_pmu (pmu_of_kind hw k) (pmu_of_cpu hw cpu)
 
 -- A group of a context that is on a processor may go on there where its leader is ready, its place is any processor or
 -- that one, and its hardware members are of that processor's PMU.
 abbrev pub is_eligible : Hardware → CpuNo → Group → Bool
-is_eligible hw cpu [] = false
-is_eligible hw cpu (leader ∷ siblings) =
-    is_ready leader.own && may_count_on cpu leader.attr.cpu && list_all (λ i. is_counted_on hw cpu i.attr.kind) (leader ∷ siblings)
+is_eligible hw cpu g =
+    is_ready g.leader.own && may_count_on cpu g.leader.attr.cpu && list_all (λ i. is_counted_on hw cpu i.attr.kind) (members_of g)
 
 -- the groups of the task on a processor; an idle processor has none
 abbrev pub task_lists : Stage → Option TaskNo → Lists
@@ -88,18 +73,17 @@ by_counters events = elim (fits (masks_of events)) [
   | false ↦ standing.Refused (cause.Hall (map (λ event. event.0) (tight_set (shortest_unfit events))))
 ]
 
--- What is said of a group after those of earlier passes and those within its own pass: the first rule that refuses it
--- decides, and else the counters do. A wholly software group goes on.
+-- What is said of a group after those of earlier passes and those within its own pass: the rules decide first, and else the
+-- counters do.
+abbrev pub by_ruling : Ruling → List (EventNo × ℕ) → Standing
+by_ruling GoesOn events = standing.On
+by_ruling (Refuses rule) events = standing.Refused (cause.Rule rule)
+by_ruling AsksCounters events = by_counters events
+
 unfoldable pub judge : Hardware → (before within : List Judged) → Group → Standing
-judge hw before within g = elim (is_wholly_software g) [
-  | true ↦ standing.On
-  | false ↦
-      elim (refusal_of false (is_exclusive_group g) (first_named is_exclusive_group (groups_on (before ++ within)))
-      (first_named (λ h. not (is_wholly_software h)) (groups_on (before ++ within))) (first_refused within)) [
-        | Some rule ↦ standing.Refused (cause.Rule rule)
-        | None ↦ by_counters (with_masks hw (flat_map counted_members (groups_on (before ++ within)) ++ counted_members g))
-      ]
-]
+judge hw before within g = by_ruling (ruling_of (is_wholly_software g) (is_exclusive_group g) (first_named is_exclusive_group (groups_on (before ++ within)))
+    (first_named (λ h. not (is_wholly_software h)) (groups_on (before ++ within))) (first_refused within))
+    (with_masks hw (flat_map counted_members (groups_on (before ++ within)) ++ counted_members g))
 
 -- the groups of one pass, judged one after the other
 unfoldable pub judge_pass : Hardware → (before within : List Judged) → List Group → List Judged
@@ -118,11 +102,18 @@ verdicts hw s cpu = judge_passes hw [] (map (filter (is_eligible hw cpu)) (passe
 -- where a group stands on a processor: its verdict, or out where it is not eligible
 abbrev pub standing_among : List Judged → Group → Standing
 standing_among [] g = standing.Out
-standing_among (j ∷ judged) g = elim (leader_id j.group == leader_id g) [ true ↦ j.standing | false ↦ standing_among judged g ]
+standing_among (j ∷ judged) g = elim (j.group.leader.id == g.leader.id) [ true ↦ j.standing | false ↦ standing_among judged g ]
 
 abbrev pub standing_of : Hardware → Stage → CpuNo → Group → Standing
 standing_of hw s cpu g = standing_among (verdicts hw s cpu) g
 
 -- the instances that are on, in pass order: the ready members of the groups on
 abbrev pub on_instances : Hardware → Stage → CpuNo → List Instance
-on_instances hw s cpu = flat_map (filter (λ i. is_ready i.own)) (groups_on (verdicts hw s cpu))
+on_instances hw s cpu = flat_map (λ g. filter (λ i. is_ready i.own) (members_of g)) (groups_on (verdicts hw s cpu))
+
+-- the instances of a context, and those that a processor reaches: its own and those of the task on it
+abbrev pub instances_in : Stage → Context → List Instance
+instances_in s c = members (groups_in (lists_of s c))
+
+abbrev pub reached : Stage → CpuNo → List Instance
+reached s cpu = members (flat_map (λ pass. pass) (passes s cpu))

@@ -4,6 +4,7 @@
 ghost use Rattle.stage_spec.specs.Settle.{SettleLaw, SettledVerdictsLaw, VerdictsLaw};
 ghost use Rattle.stage_spec.specs.Recurrence.{StageLaw, SumsLaw, FoldedLaw, BirthLaw};
 ghost use Rattle.stage_spec.specs.Remainders.{RemainderLaw};
+ghost use Rattle.stage_spec.specs.Limits.{ScriptMachineLaw};
 
 /// Settling a settled processor changes nothing.
 pub fn settling_settled_changes_nothing()
@@ -43,4 +44,9 @@ pub fn instances_begin_with_nothing()
 /// What one more step leaves of the remainder of a period.
 pub fn remainder_goes_by_steps()
     ensures { RemainderLaw }
+{}
+
+/// The counters that a script declares are a machine within its limits, where each of its processors is of some PMU.
+pub fn scripts_declare_machines()
+    ensures { ScriptMachineLaw }
 {}

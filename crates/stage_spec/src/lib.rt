@@ -9,6 +9,6 @@ mod laws;
 pub use instance::{Instance, TaskState, TaskStatus};
 pub use laws::{
     folded_sums_grow_by_exits, instances_begin_with_nothing, remainder_goes_by_steps,
-    settling_leaves_verdicts, settling_settled_changes_nothing, stage_grows_by_steps,
-    sums_grow_by_shares, verdicts_go_by_eligible_groups,
+    scripts_declare_machines, settling_leaves_verdicts, settling_settled_changes_nothing,
+    stage_grows_by_steps, sums_grow_by_shares, verdicts_go_by_eligible_groups,
 };

@@ -2,7 +2,8 @@ use Rattle.std.specs.Prelude.{All}
 use Rattle.std.proofs.Common.{ℕ, ◌-◌, ◌∙◌, ap, sym, subst, List, ◌++◌, length, take, drop}
 use Rattle.perf_base.specs.declared.numbers.EventNo.{EventNo}
 use Rattle.stage_spec.specs.Tight.{masks_of}
-use Rattle.counter_match.specs.Seating.{IsMask, AreDistinct}
+use Rattle.perf_base.specs.Masks.{IsMask}
+use Rattle.counter_match.specs.Seating.{AreDistinct}
 use Rattle.counter_match.proofs.Trials.{AreDistinct-take, masks-take, masks-part}
 use Rattle.counter_match.proofs.tests.agrees.Goals as goal
 

@@ -1,6 +1,6 @@
 use Rattle.std.specs.Prelude.{All}
 use Rattle.std.proofs.Common.{◌≡◌, length}
-use Rattle.counter_match.specs.Seating.{IsMask}
+use Rattle.perf_base.specs.Masks.{IsMask}
 use Rattle.counter_match.proofs.tests.masks_by.Given as goal
 
 abbrev pub invariant-loop : goal.invariant-loop

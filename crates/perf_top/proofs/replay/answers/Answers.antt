@@ -10,7 +10,7 @@ line-reply-requires-clause-form c = c.requires.served.form
 
 pub line-reply-requires-clause-line : goal.line-reply-requires-clause-line
 line-reply-requires-clause-line c =
-    step_ready c.args.script.now c.order-order.result.now c.loop-act.machine c.loop-act.act-index _ c.actor_of.result c.requires.acts c.requires.complete c.order-order.ensures
+    step_ready c.args.script.now c.order-order.result.now c.loop-act.machine c.loop-act.act-index _ c.actor_of.result c.requires.acts c.requires.complete c.order-order.ensures.order
     c.loop-act-test.true c.actor_of.ensures c.loop-act.invariant.0
 
 pub loop-act-preserved : goal.loop-act-preserved

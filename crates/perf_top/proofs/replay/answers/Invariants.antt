@@ -1,6 +1,6 @@
 use Rattle.std.proofs.Common.{◌≡◌, [], take}
-use Rattle.stage_spec.specs.FirstProgress.{IsAfter}
-use Rattle.stage_spec.specs.FirstReplies.{replies_from}
+use Rattle.machine.specs.FirstProgress.{IsAfter}
+use Rattle.perf_top.specs.FirstAnswers.{replies_from}
 use Rattle.perf_top.proofs.replay.answers.Given as goal
 
 abbrev pub invariant-loop-act : goal.invariant-loop-act

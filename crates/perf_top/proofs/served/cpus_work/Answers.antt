@@ -1,7 +1,7 @@
 use Rattle.std.proofs.Common.{All, IsTrue, subst}
 use Rattle.std.proofs.lemmas.Bool.{false≢true}
 use Rattle.perf_base.specs.declared.numbers.CpuNo.{CpuNo}
-use Rattle.stage_spec.specs.FirstCounting.{IsWorkLine}
+use Rattle.machine.specs.FirstCounting.{IsWorkLine}
 use Rattle.perf_top.proofs.served.cpus_work.Goals as goal
 
 pub returns-then-not-all_work : goal.returns-then-not-all_work

@@ -1,7 +1,7 @@
 use Rattle.std.proofs.Common.{◌<◌, All}
 use Rattle.perf_base.specs.declared.numbers.CpuNo.{CpuNo}
 use Rattle.perf_base.specs.Scripts.{lines_of_cpu}
-use Rattle.stage_spec.specs.FirstCounting.{IsWorkLine}
+use Rattle.machine.specs.FirstCounting.{IsWorkLine}
 use Rattle.perf_top.proofs.served.cpus_work.Given as goal
 
 abbrev pub invariant-loop-cpu : goal.invariant-loop-cpu

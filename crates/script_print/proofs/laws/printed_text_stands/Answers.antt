@@ -2,4 +2,4 @@ use Rattle.script_print.proofs.Ended.{printed_stands}
 use Rattle.script_print.proofs.laws.printed_text_stands.Goals as goal
 
 pub returns : goal.returns
-returns c s h w covered light = printed_stands s h w covered light
+returns c = printed_stands

@@ -1,7 +1,7 @@
-use Rattle.script_print.proofs.Wrote.{loop_exit}
+use Rattle.script_print.proofs.Loops.{loop_exit}
 use Rattle.script_print.proofs.Whole.{acts_each}
 use Rattle.script_print.proofs.printing.put_acts.Goals as goal
 
 pub returns-in_err-put_act-clause-wrote : goal.returns-in_err-put_act-clause-wrote
 returns-in_err-put_act-clause-wrote g c =
-    loop_exit _ _ acts_each _ c.args.acts.now c.loop-act.act-index _ _ _ _ _ _ _ _ _ _ c.loop-act-test.true c.loop-act.invariant.wrote c.from_residual.ensures.1 c.in_err-put_act.ensures.wrote
+    loop_exit acts_each c.args.acts.now c.loop-act.act-index _ c.loop-act-test.true c.loop-act.invariant.wrote c.from_residual.ensures.0 c.in_err-put_act.ensures.wrote

@@ -5,7 +5,8 @@ use Rattle.line_forms.specs.declared.forms.SpelledAct.{SpelledAct}
 use Rattle.line_forms.specs.declared.forms.SpelledAct.TheVariants as spelled
 use Rattle.line_forms.specs.Seen.{act_of}
 use Rattle.script_read.proofs.Ranges.{un_map, All_map_iff}
-use Rattle.script_read.proofs.Called.{all_not, all_more, all_done}
+use Rattle.perf_base.proofs.Entries.{all_more}
+use Rattle.script_read.proofs.Called.{all_not, all_done}
 use Rattle.script_read.proofs.names.are_acts_named.Goals as goal
 
 pub is_act_named-requires : goal.is_act_named-requires

@@ -1,5 +1,6 @@
 use Rattle.std.proofs.Common.{◌≡◌, true, subst, sym}
-use Rattle.script_read.proofs.Called.{all_not, all_more, all_done}
+use Rattle.perf_base.proofs.Entries.{all_more}
+use Rattle.script_read.proofs.Called.{all_not, all_done}
 use Rattle.script_read.proofs.Named.{IsKnown}
 use Rattle.script_read.proofs.names.are_declared.Goals as goal
 

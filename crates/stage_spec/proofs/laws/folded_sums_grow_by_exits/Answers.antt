@@ -1,4 +1,4 @@
-use Rattle.stage_spec.specs.Recurrence.{folded_of-push}
+use Rattle.stage_spec.proofs.Recurrence.{folded_of-push}
 use Rattle.stage_spec.proofs.laws.folded_sums_grow_by_exits.Goals as goal
 
 pub returns : goal.returns

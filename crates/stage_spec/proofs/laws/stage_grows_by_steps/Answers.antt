@@ -1,4 +1,4 @@
-use Rattle.stage_spec.specs.Recurrence.{stage_after-push}
+use Rattle.stage_spec.proofs.Recurrence.{stage_after-push}
 use Rattle.stage_spec.proofs.laws.stage_grows_by_steps.Goals as goal
 
 pub returns : goal.returns

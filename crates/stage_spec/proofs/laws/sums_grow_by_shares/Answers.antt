@@ -1,4 +1,4 @@
-use Rattle.stage_spec.specs.Recurrence.{sums_of-push}
+use Rattle.stage_spec.proofs.Recurrence.{sums_of-push}
 use Rattle.stage_spec.proofs.laws.sums_grow_by_shares.Goals as goal
 
 pub returns : goal.returns

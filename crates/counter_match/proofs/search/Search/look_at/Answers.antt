@@ -6,12 +6,12 @@ use Rattle.counter_match.proofs.search.Search.look_at.Goals as goal
 pub loop-counter-preserved : goal.loop-counter-preserved
 loop-counter-preserved g c =
     let i = c.loop-counter.invariant in
-    let reached : c.args.position < length c.loop-counter.self.queue = omega (arith, i.extended.longer, c.requires.position) in
+    let reached : c.args.position < length c.loop-counter.self.queue.items = omega (arith, i.extended.longer, c.requires.position) in
     record {
       search = c.look.ensures.search;
-      extended = IsExtended-trans c.args.self.now.queue c.loop-counter.self.queue c.look.new.self.queue i.extended c.look.ensures.extended;
-      closed = IsClosedAt-more c.args.position c.loop-counter.counter (masks_of c.args.events.now) c.args.seats.now c.look.new.self.queue
-          (IsClosedAt-extended c.args.position c.loop-counter.counter (masks_of c.args.events.now) c.args.seats.now c.loop-counter.self.queue c.look.new.self.queue reached c.look.ensures.extended i.closed)
+      extended = IsExtended-trans c.args.self.now.queue.items c.loop-counter.self.queue.items c.look.new.self.queue.items i.extended c.look.ensures.extended;
+      closed = IsClosedAt-more c.args.position c.loop-counter.counter (masks_of c.args.events.now) c.args.seats.now c.look.new.self.queue.items
+          (IsClosedAt-extended c.args.position c.loop-counter.counter (masks_of c.args.events.now) c.args.seats.now c.loop-counter.self.queue.items c.look.new.self.queue.items reached c.look.ensures.extended i.closed)
           (c.look.ensures.held c.if-look.false);
       counted = omega (arith, c.look.ensures.step, i.counted);
     }

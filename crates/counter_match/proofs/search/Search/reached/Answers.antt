@@ -5,19 +5,19 @@ use Rattle.std.proofs.lemmas.List.{length_push}
 use Rattle.perf_base.specs.declared.numbers.EventNo.{EventNo}
 use Rattle.counter_match.proofs.Picking.{picked_yes, picked_no}
 use Rattle.counter_match.proofs.search.Search.reached.Goals as goal
-use Rattle.counter_match.proofs.search.Search.reached.Goals.{then-contains, else-contains}
+use Rattle.counter_match.proofs.search.Search.reached.Goals.{then-has_reached, else-has_reached}
 
 pub loop-place-preserved : goal.loop-place-preserved
 loop-place-preserved c =
-    elim c.if-contains.branch [
-      | then-contains w ↦ record {
-        all = picked_yes (λ (event : EventNo × ℕ). event.0) (λ place. list_any (nat_eq place) c.args.self.now.queue) c.loop-place.place c.args.events.now (record { 0 = 0 }, 0)
-            c.loop-place.tight c.if-contains.tight _ c.loop-place-test.true (sym w.if-contains.ensures) (w.tight-is ∙ w.push.ensures) c.loop-place.invariant.all;
+    elim c.if-has_reached.branch [
+      | then-has_reached w ↦ record {
+        all = picked_yes (λ (event : EventNo × ℕ). event.0) (λ place. list_any (nat_eq place) c.args.self.now.queue.items) c.loop-place.place c.args.events.now (record { 0 = 0 }, 0)
+            c.loop-place.tight c.if-has_reached.tight _ c.loop-place-test.true (sym w.if-has_reached.ensures) (w.tight-is ∙ w.push.ensures) c.loop-place.invariant.all;
         few = omega (arith, c.loop-place.invariant.few, length_push c.loop-place.tight, ap length (w.tight-is ∙ w.push.ensures));
       }
-      | else-contains w ↦ record {
-        all = picked_no (λ (event : EventNo × ℕ). event.0) (λ place. list_any (nat_eq place) c.args.self.now.queue) c.loop-place.place c.args.events.now (record { 0 = 0 }, 0)
-            c.loop-place.tight c.if-contains.tight _ c.loop-place-test.true (sym w.if-contains.ensures) w.tight-is c.loop-place.invariant.all;
+      | else-has_reached w ↦ record {
+        all = picked_no (λ (event : EventNo × ℕ). event.0) (λ place. list_any (nat_eq place) c.args.self.now.queue.items) c.loop-place.place c.args.events.now (record { 0 = 0 }, 0)
+            c.loop-place.tight c.if-has_reached.tight _ c.loop-place-test.true (sym w.if-has_reached.ensures) w.tight-is c.loop-place.invariant.all;
         few = omega (arith, c.loop-place.invariant.few, ap length w.tight-is);
       }
     ]

@@ -5,10 +5,10 @@ use Rattle.counter_match.proofs.search.Search.run.Given as goal
 
 abbrev pub invariant-loop-position : goal.invariant-loop-position
 invariant-loop-position g l = record {
-  search : IsSearch (masks_of l.events) l.seats l.self.queue l.self.parents;
-  first : get_or l.self.queue 0 0 ≡ get_or l.fn.self.queue 0 0;
-  closed : IsClosedBelow l.position (masks_of l.events) l.seats l.self.queue;
-  within : l.position ≤ length l.self.queue;
+  search : IsSearch (masks_of l.events) l.seats l.self.queue.items l.self.parents.items;
+  first : get_or l.self.queue.items 0 0 ≡ get_or l.fn.self.queue.items 0 0;
+  closed : IsClosedBelow l.position (masks_of l.events) l.seats l.self.queue.items;
+  within : l.position ≤ length l.self.queue.items;
   least : l.fn.steps + l.position ≤ l.steps;
   most : l.steps ≤ l.fn.steps + 16 * l.position;
 }

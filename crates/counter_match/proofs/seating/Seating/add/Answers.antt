@@ -5,7 +5,7 @@ use Rattle.std.proofs.lemmas.List.Elements.{All-push}
 use Rattle.perf_base.specs.declared.numbers.EventNo.{EventNo}
 use Rattle.stage_spec.specs.Fits.{IsAssignment}
 use Rattle.stage_spec.specs.Tight.{masks_of}
-use Rattle.counter_match.specs.Seating.{IsMask}
+use Rattle.perf_base.specs.Masks.{IsMask}
 use Rattle.counter_match.proofs.Assigned.{length-assigned}
 use Rattle.counter_match.proofs.seating.Seating.add.Goals as goal
 

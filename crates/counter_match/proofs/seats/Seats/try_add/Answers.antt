@@ -5,7 +5,8 @@ use Rattle.std.proofs.lemmas.Result.{err_from_is_err_and}
 use Rattle.perf_base.specs.declared.numbers.EventNo.{EventNo}
 use Rattle.stage_spec.specs.Fits.{fits}
 use Rattle.stage_spec.specs.Tight.{masks_of, tight_set, shortest_unfit}
-use Rattle.counter_match.specs.Seating.{IsMask, slots_of}
+use Rattle.perf_base.specs.Masks.{IsMask}
+use Rattle.counter_match.specs.Seating.{slots_of}
 use Rattle.counter_match.specs.Stored.{events_of}
 use Rattle.counter_match.proofs.Fitting.{fits-IsAssignment}
 use Rattle.counter_match.proofs.Refusal.{unfit_group, shortest_unfit_group}

@@ -1,6 +1,6 @@
 use Rattle.std.proofs.Common.{subst}
-use Rattle.stage_spec.specs.FirstProgress.{HasLine}
-use Rattle.stage_spec.specs.FirstSteps.{IsAfter-work, IsAfter-tool}
+use Rattle.machine.specs.FirstProgress.{HasLine}
+use Rattle.machine.proofs.Steps.{IsAfter-work, IsAfter-tool}
 use Rattle.machine.proofs.machine.Machine.line.Goals as goal
 
 pub returns-in-Processor-clause-done : goal.returns-in-Processor-clause-done

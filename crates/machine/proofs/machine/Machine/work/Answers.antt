@@ -1,6 +1,6 @@
 use Rattle.std.proofs.Common.{◌<◌, ◌≤◌, length, arith, subst, sym, ap, ◌∙◌, get_or, refl}
 use Rattle.perf_base.specs.Scripts.{lines_of_cpu}
-use Rattle.stage_spec.specs.FirstSteps.{after_work}
+use Rattle.machine.specs.FirstSteps.{after_work}
 use Rattle.machine.proofs.Bounds.{share_le, cpu_lines_le, kept_work, sum_le, after_work_is}
 use Rattle.machine.proofs.machine.Machine.work.Goals as goal
 use Rattle.machine.proofs.machine.Machine.work.Goals.{After-added-share}

@@ -2,7 +2,7 @@ use Rattle.std.proofs.Common.{subst, sym, ap, ◌<◌, length, arith}
 use Rattle.std.proofs.lemmas.List.{length-map}
 use Rattle.std.proofs.lemmas.Result.{err_from_is_err_and}
 use Rattle.perf_base.specs.Scripts.{IsScript, with_cpu_line}
-use Rattle.perf_base.specs.Kept.{IsScript-cpu_line}
+use Rattle.perf_base.proofs.Kept.{IsScript-cpu_line}
 use Rattle.perf_base.proofs.ListsOfLists.{lists_push, lists_same}
 use Rattle.perf_base.proofs.script.Script.add_cpu_line.Goals as goal
 use Rattle.perf_base.proofs.script.Script.add_cpu_line.Goals.{In_ok-push}
@@ -23,7 +23,7 @@ returns-in_err-push-clause-err c =
 pub invariant_of-self-2 : goal.invariant_of-self-2
 invariant_of-self-2 c =
     let old = subst IsScript c.self.view_is c.self.invariant in
-    let new = IsScript-cpu_line c.args.self.now c.args.cpu c.args.line old c.requires.cpu c.requires.line c.requires.few in
+    let new = IsScript-cpu_line c.args.self.now c.args.cpu c.args.line old c.requires.cpu c.requires.line c.read_cpu_line.ensures c.requires.few in
     rw (lists_push (λ v. v.items) c.self.inside.cpu_lines c.args.cpu.0 c.index-self-cpu.result c.push.new.self c.args.line (within c) c.in_ok-push.ensures.items)
     (subst (λ s. IsScript (with_cpu_line s c.args.cpu c.args.line)) (sym c.self.view_is) new)
 

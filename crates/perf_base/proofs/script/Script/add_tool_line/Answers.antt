@@ -2,7 +2,7 @@ use Rattle.std.proofs.Common.{subst, sym, ap, ◌<◌, length, arith}
 use Rattle.std.proofs.lemmas.List.{length-map}
 use Rattle.std.proofs.lemmas.Result.{err_from_is_err_and}
 use Rattle.perf_base.specs.Scripts.{IsScript, with_tool_line}
-use Rattle.perf_base.specs.Kept.{IsScript-tool_line}
+use Rattle.perf_base.proofs.Kept.{IsScript-tool_line}
 use Rattle.perf_base.proofs.ListsOfLists.{lists_push, lists_same}
 use Rattle.perf_base.proofs.script.Script.add_tool_line.Goals as goal
 use Rattle.perf_base.proofs.script.Script.add_tool_line.Goals.{In_ok-push}
@@ -23,7 +23,7 @@ returns-in_err-push-clause-err c =
 pub invariant_of-self-2 : goal.invariant_of-self-2
 invariant_of-self-2 c =
     let old = subst IsScript c.self.view_is c.self.invariant in
-    let new = IsScript-tool_line c.args.self.now c.args.tool c.args.line old c.requires.tool c.requires.line c.requires.few in
+    let new = IsScript-tool_line c.args.self.now c.args.tool c.args.line old c.requires.tool c.requires.line c.read_tool_line.ensures c.requires.few in
     rw (lists_push (λ v. v.items) c.self.inside.tool_lines c.args.tool.0 c.index-self-tool.result c.push.new.self c.args.line (within c) c.in_ok-push.ensures.items)
     (subst (λ s. IsScript (with_tool_line s c.args.tool c.args.line)) (sym c.self.view_is) new)
 

@@ -1,4 +1,4 @@
-use Rattle.perf_base.specs.Kept.{IsScript-empty}
+use Rattle.perf_base.proofs.Kept.{IsScript-empty}
 use Rattle.perf_base.proofs.script.Script.new.Goals as goal
 
 pub invariant_of-result : goal.invariant_of-result

@@ -1,0 +1,7 @@
+-- The numbers below a number.
+use Rattle.std.specs.Prelude.{ℕ, zero, suc, List, [], ◌∷◌, ◌++◌}
+
+-- rising
+abbrev pub numbers_below : ℕ → List ℕ
+numbers_below zero = []
+numbers_below (suc n) = numbers_below n ++ n ∷ []
