@@ -1,0 +1,134 @@
+-- A slot that has no original has no copy either, through each change of the stage.
+use Rattle.std.specs.Prelude.{◌≡◌, ℕ, ◌+◌, ◌*◌, ◌<◌, ◌≤◌, ◌==◌, Bool, true, false, not, ◌&&◌, length, cond, Option, Some, None}
+use Rattle.std.proofs.Common.{refl, sym, ap, ◌∙◌, arith, inl, inr}
+use Rattle.std.proofs.lemmas.Bool.{cases_eq, eqb-true}
+use Rattle.perf_base.specs.declared.numbers.CpuNo.{CpuNo}
+use Rattle.perf_base.specs.declared.numbers.EventNo.{EventNo}
+use Rattle.perf_base.specs.declared.numbers.TaskNo.{TaskNo}
+use Rattle.perf_base.specs.declared.attr.Attr.{Attr}
+use Rattle.perf_base.specs.declared.standing.Context.TheVariants as context
+use Rattle.stage_spec.specs.declared.instance.Instance.{Instance}
+use Rattle.stage_spec.specs.Hardware.{Hardware}
+use Rattle.stage_spec.specs.Places.{context_of}
+use Rattle.stage_spec.specs.Stage.{Stage, Lists, lists_of, groups_in, members, no_groups, place_of, is_original, is_of_family, is_copy, change_each, task_on, all_instances}
+use Rattle.stage_spec.specs.Verdict.{task_lists}
+use Rattle.stage_spec.specs.Settle.{settle_all}
+use Rattle.stage_spec.specs.Opening.{opened, new_original}
+use Rattle.stage_spec.specs.Closing.{closed}
+use Rattle.stage_spec.specs.Rotation.{rotated}
+use Rattle.stage_spec.specs.Forks.{forked}
+use Rattle.stage_spec.specs.Exits.{exited}
+use Rattle.stage_spec.specs.Switching.{switched}
+use Rattle.stage_laws.proofs.Totals.{total-none, one_if}
+use Rattle.stage_laws.proofs.Weights.{weigh, lists_weight, no_groups-weigh, lists-weigh, weigh-is-total, weight_in-le, lists-same, weigh-same, change_each-keeps, settle_all-weighs, switched-weighs, rotated-weighs, if_stays, if_goes, closed-weighs, closed-le, exited-weighs, exited-le}
+use Rattle.stage_laws.proofs.Gains.{groups_joined, opened-weighs, copied-weighs, inherited_weight-le, forked-weighs, forked-le}
+
+abbrev pub IsFamilied : Stage → Type 0
+IsFamilied s = (e : EventNo) → weigh (one_if (is_original e)) s ≡ 0 → weigh (one_if (is_of_family e)) s ≡ 0
+
+familied-same : (s t : Stage) → ((e : EventNo) → weigh (one_if (is_original e)) t ≡ weigh (one_if (is_original e)) s)
+    → ((e : EventNo) → weigh (one_if (is_of_family e)) t ≤ weigh (one_if (is_of_family e)) s) → IsFamilied s → IsFamilied t
+familied-same s t originals families h e none = omega (arith, families e, h e (sym (originals e) ∙ none))
+
+pub settle_all-familied : (hw : Hardware) (s : Stage) → IsFamilied s → IsFamilied (settle_all hw s)
+settle_all-familied hw s h = familied-same s (settle_all hw s) (λ e. settle_all-weighs (one_if (is_original e)) (λ i o. refl) hw s)
+    (λ e. omega (arith, settle_all-weighs (one_if (is_of_family e)) (λ i o. refl) hw s)) h
+
+pub switched-familied : (cpu : CpuNo) (to : Option TaskNo) (s : Stage) → IsFamilied s → IsFamilied (switched cpu to s)
+switched-familied cpu to s h = familied-same s (switched cpu to s) (λ e. switched-weighs (one_if (is_original e)) cpu to s)
+    (λ e. omega (arith, switched-weighs (one_if (is_of_family e)) cpu to s)) h
+
+pub rotated-familied : (hw : Hardware) (cpu : CpuNo) (s : Stage) → IsFamilied s → IsFamilied (rotated hw cpu s)
+rotated-familied hw cpu s h = familied-same s (rotated hw cpu s) (λ e. rotated-weighs (one_if (is_original e)) hw cpu s)
+    (λ e. omega (arith, rotated-weighs (one_if (is_of_family e)) hw cpu s)) h
+
+pub change_each-familied : (f : Instance → Instance) → ((i : Instance) → ((f i).event ≡ i.event) × ((f i).copy ≡ i.copy)) → (s : Stage) → IsFamilied s → IsFamilied (change_each f s)
+change_each-familied f same s h =
+    familied-same s (change_each f s)
+    (λ e. change_each-keeps (one_if (is_original e)) f
+    (λ i. ap (λ slot. cond (slot.0 == e.0 && not (f i).copy) 1 0) (same i).0 ∙ ap (λ b. cond (i.event.0 == e.0 && not b) 1 0) (same i).1) s)
+    (λ e. omega (arith, change_each-keeps (one_if (is_of_family e)) f (λ i. ap (λ slot. cond (slot.0 == e.0) 1 0) (same i).0) s)) h
+
+-- a weight of nothing
+weigh-none : (f : Instance → ℕ) → ((i : Instance) → f i ≡ 0) → (s : Stage) → weigh f s ≡ 0
+weigh-none f none s = weigh-same f (λ i. 0) none s ∙ (sym (weigh-is-total (λ i. 0) s) ∙ total-none (all_instances s))
+
+lists-none : (f : Instance → ℕ) → ((i : Instance) → f i ≡ 0) → (l : Lists) → lists_weight f l ≡ 0
+lists-none f none l = lists-same f (λ i. 0) none l ∙ (sym (lists-weigh (λ i. 0) l) ∙ total-none (members (groups_in l)))
+
+-- a close
+abbrev either_of : Bool → ℕ → ℕ → ℕ
+either_of b m n = cond b m n
+
+gone : (b : Bool) → either_of b 0 (either_of b 1 0) ≡ 0
+gone true = refl
+gone false = refl
+
+stays_if : (goes here original : Bool) → (goes ≡ true → here ≡ true → ⊥) → either_of goes 0 (either_of (here && original) 1 0) ≡ either_of (here && original) 1 0
+stays_if true true original h = absurd (h refl refl)
+stays_if true false original h = refl
+stays_if false here original h = refl
+
+pub closed-familied : (c : EventNo) (s : Stage) → IsFamilied s → IsFamilied (closed c s)
+closed-familied c s h e none = elim (cases_eq e.0 c.0) [
+  | inl same ↦ closed-weighs (one_if (is_of_family e)) c s
+      ∙ weigh-none (if_stays (is_of_family c) (one_if (is_of_family e)))
+      (λ i. ap (λ m. either_of (i.event.0 == c.0) 0 (either_of (i.event.0 == m) 1 0)) same ∙ gone (i.event.0 == c.0)) s
+  | inr apart ↦
+      let left : weigh (if_stays (is_of_family c) (one_if (is_original e))) s ≡ weigh (one_if (is_original e)) s =
+      weigh-same (if_stays (is_of_family c) (one_if (is_original e))) (one_if (is_original e))
+      (λ i. stays_if (i.event.0 == c.0) (i.event.0 == e.0) (not i.copy) (λ goes here. apart (sym (eqb-true i.event.0 e.0 here) ∙ eqb-true i.event.0 c.0 goes))) s in
+      omega (arith, closed-le (one_if (is_of_family e)) c s, h e (sym left ∙ (sym (closed-weighs (one_if (is_original e)) c s) ∙ none)))
+]
+
+-- an exit takes no original
+no_original : (here copy : Bool) → either_of copy (either_of (here && not copy) 1 0) 0 ≡ 0
+no_original here false = refl
+no_original true true = refl
+no_original false true = refl
+
+pub exited-familied : (cpu : CpuNo) (s : Stage) → IsFamilied s → IsFamilied (exited cpu s)
+exited-familied cpu s h =
+    familied-same s (exited cpu s)
+    (λ e. omega (
+      arith,
+      exited-weighs (one_if (is_original e)) cpu s,
+      lists-none (if_goes is_copy (one_if (is_original e))) (λ i. no_original (i.event.0 == e.0) i.copy) (task_lists s (task_on s cpu)),
+    ))
+    (λ e. exited-le (one_if (is_of_family e)) cpu s) h
+
+-- an open brings an original, as often as it brings one of the family
+as_original : (b : Bool) → either_of (b && true) 1 0 ≡ either_of b 1 0
+as_original true = refl
+as_original false = refl
+
+pub opened-familied : (s : Stage) (slot : EventNo) (a : Attr) (leader : Option EventNo) → place_of (context_of a) < length s.contexts → IsFamilied s → IsFamilied (opened s slot a leader)
+opened-familied s slot a leader place h e none =
+    let i : Instance = new_original s slot a in
+    let n : ℕ = groups_joined leader s in
+    let same : n * one_if (is_original e) i ≡ n * one_if (is_of_family e) i = ap (λ k. n * k) (as_original (slot.0 == e.0)) in
+    let originals : weigh (one_if (is_original e)) (opened s slot a leader) ≡ weigh (one_if (is_original e)) s + n * one_if
+    (is_original e) i = opened-weighs (one_if (is_original e)) s slot a leader place in
+    let family : weigh (one_if (is_of_family e)) (opened s slot a leader) ≡ weigh (one_if (is_of_family e)) s + n * one_if
+    (is_of_family e) i = opened-weighs (one_if (is_of_family e)) s slot a leader place in
+    let before : weigh (one_if (is_of_family e)) s ≡ 0 = h e (omega (arith, originals, none)) in
+    omega (arith, family, before, same, originals, none)
+
+-- a fork brings copies of what is there
+parent-le : (f : Instance → ℕ) (s : Stage) (to : Option TaskNo) → lists_weight f (task_lists s to) ≤ weigh f s
+parent-le f s None = omega (arith, no_groups-weigh f)
+parent-le f s (Some task) = weight_in-le f s (context.Task task)
+
+pub forked-familied : (cpu : CpuNo) (child : TaskNo) (s : Stage) → place_of (context.Task child) < length s.contexts → lists_of s (context.Task child) ≡ no_groups
+    → IsFamilied s → IsFamilied (forked cpu child s)
+forked-familied cpu child s place empty h e none =
+    let parent : Lists = task_lists s (task_on s cpu) in
+    let before : weigh (one_if (is_of_family e)) s ≡ 0 = h e (omega (arith, none, forked-weighs (one_if (is_original e)) cpu child s place empty)) in
+    omega (
+      arith,
+      before,
+      forked-le (one_if (is_of_family e)) cpu child s,
+      copied-weighs (one_if (is_of_family e)) (one_if (is_of_family e)) s (λ id i. refl) parent,
+      inherited_weight-le (one_if (is_of_family e)) parent,
+      parent-le (one_if (is_of_family e)) s (task_on s cpu),
+    )

@@ -1,0 +1,61 @@
+-- Every stage that lines lead to is settled.
+use Rattle.std.specs.Prelude.{◌≡◌, ℕ, All, List, [], ◌∷◌, replicate, Option, Some, None, slice_index_or}
+use Rattle.std.proofs.Common.{arith, refl, ap, ◌∙◌, inl, inr}
+use Rattle.std.proofs.lemmas.List.Elements.{All-head, All-tail}
+use Rattle.std.proofs.lemmas.Bool.{cases_lt}
+use Rattle.std.proofs.lemmas.List.{get_or-replicate, get_or_past, length-replicate}
+use Rattle.perf_base.specs.declared.numbers.CpuNo.{CpuNo}
+use Rattle.perf_base.specs.declared.numbers.TaskNo.{TaskNo}
+use Rattle.perf_base.specs.declared.standing.Context.{Context}
+use Rattle.perf_base.specs.declared.standing.Context.TheVariants as context
+use Rattle.stage_spec.specs.Hardware.{Hardware}
+use Rattle.stage_spec.specs.Stage.{Stage, lists_of, no_groups, place_of, task_on, first_stage}
+use Rattle.stage_spec.specs.Verdict.{Judged}
+use Rattle.stage_spec.specs.Settle.{settle, settle_lists, settle_task, own_verdicts, IsSettled}
+use Rattle.stage_spec.specs.History.{Step, stage_step, stage_after}
+use Rattle.stage_spec.specs.Limits.{Limits, IsMachine, IsWithin}
+use Rattle.stage_laws.specs.Sound.{IsSound}
+use Rattle.stage_laws.specs.Narrowing.{AreSettled, ReachedSettledLaw}
+use Rattle.stage_spec.proofs.Settled.{change_context-none, no_groups-settled}
+use Rattle.stage_laws.proofs.Sound.{first_sound, step_sound}
+use Rattle.stage_laws.proofs.Narrow.{narrows}
+
+-- a stage without groups is settled
+replicate-empty : (n k : ℕ) → slice_index_or (replicate n no_groups) k no_groups ≡ no_groups
+replicate-empty n k = elim (cases_lt k n) [
+  | inl low ↦ get_or-replicate n k no_groups no_groups low
+  | inr past ↦ get_or_past (replicate n no_groups) k no_groups (omega (arith, past, length-replicate n no_groups))
+]
+
+abbrev IsEmpty : Stage → Type 0
+IsEmpty s = (c : Context) → lists_of s c ≡ no_groups
+
+empty-context : (hw : Hardware) (cpu : CpuNo) (c : Context) (s : Stage) → IsEmpty s → (js : List Judged) → settle_lists hw cpu js (lists_of s c) ≡ lists_of s c
+empty-context hw cpu c s h js = rw (h c) (no_groups-settled hw cpu js)
+
+empty-task : (hw : Hardware) (cpu : CpuNo) (to : Option TaskNo) (s : Stage) → IsEmpty s → (js : List Judged) → settle_task hw cpu js to s ≡ s
+empty-task hw cpu None s h js = refl
+empty-task hw cpu (Some task) s h js = change_context-none (context.Task task) (settle_lists hw cpu js) s (empty-context hw cpu (context.Task task) s h js)
+
+empty-settled : (hw : Hardware) (cpu : CpuNo) (s : Stage) → IsEmpty s → IsSettled hw cpu s
+unfolding settle
+empty-settled hw cpu s h =
+    ap (settle_task hw cpu (own_verdicts hw s cpu) (task_on s cpu)) (change_context-none (context.Processor cpu) (settle_lists hw cpu []) s (empty-context hw cpu (context.Processor cpu) s h []))
+    ∙ empty-task hw cpu (task_on s cpu) s h (own_verdicts hw s cpu)
+
+first-empty : (cpus : ℕ) (declared : List TaskNo) → IsEmpty (first_stage cpus declared)
+unfolding first_stage
+first-empty cpus declared c = replicate-empty 72 (place_of c)
+
+-- and so on, step by step
+after-settled : (l : Limits) (hw : Hardware) (s : Stage) (steps : List Step) → IsMachine l hw → IsSound hw s → AreSettled hw s → All (IsWithin l) steps → AreSettled hw (stage_after hw s steps)
+unfolding stage_after
+after-settled l hw s [] machine sound settled within = settled
+after-settled l hw s (x ∷ steps) machine sound settled within =
+    let first : IsWithin l x = All-head (IsWithin l) x steps within in
+    after-settled l hw (stage_step hw s x) steps machine (step_sound l hw s x machine first sound) (narrows l hw s x machine first sound settled).settled (All-tail (IsWithin l) x steps within)
+
+pub reached_settled : ReachedSettledLaw
+reached_settled l hw declared steps machine numbers within =
+    after-settled l hw (first_stage l.cpus declared) steps machine (first_sound l hw declared machine numbers)
+    (λ cpu low. empty-settled hw cpu (first_stage l.cpus declared) (first-empty l.cpus declared)) within

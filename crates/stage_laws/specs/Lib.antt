@@ -1,0 +1,7 @@
+pub mod Bounds
+pub mod Narrowing
+pub mod OneByOne
+pub mod Reachable
+pub mod Sound
+pub mod Standings
+pub mod Turns
