@@ -1,0 +1,4 @@
+pub mod Clocks
+pub mod Families
+pub mod Few
+pub mod Losses
