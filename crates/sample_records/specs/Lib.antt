@@ -1,0 +1,6 @@
+pub mod FieldWords
+pub mod Fields
+pub mod HeaderLaw
+pub mod Headers
+pub mod Reading
+pub mod Seen
