@@ -1,0 +1,11 @@
+use Rattle.std.proofs.Common.{◌≡◌, Ok, take}
+use Rattle.std.specs.Prelude.{flat_map}
+use Rattle.perf_io.specs.Wrote.{Wrote}
+use Rattle.stat_table.specs.Table.{row_text}
+use Rattle.stat_table.proofs.table.write_rows.Given as goal
+
+abbrev pub invariant-loop-row : goal.invariant-loop-row
+invariant-loop-row g l = record {
+  wrote : Wrote g.K.Sink.held g.K.Sink.faults g.K.Sink.last_fault l.fn.sink l.sink (Ok tt) (flat_map row_text (take l.row-index l.rows));
+  flushed : g.K.Sink.flushed l.sink ≡ g.K.Sink.flushed l.fn.sink;
+}
