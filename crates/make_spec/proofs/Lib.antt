@@ -1,0 +1,5 @@
+pub mod ForEach
+pub mod Names
+pub mod Lines
+pub mod Sound
+pub mod Weights
