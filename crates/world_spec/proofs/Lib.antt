@@ -1,0 +1,17 @@
+pub mod Accounts
+pub mod Added
+pub mod AddedKept
+pub mod AddedStage
+pub mod Coming
+pub mod ComingGroups
+pub mod ComingLinks
+pub mod Going
+pub mod Gone
+pub mod GoneSibling
+pub mod GoneStage
+pub mod Keeping
+pub mod Keys
+pub mod Moving
+pub mod Placing
+pub mod Renaming
+pub mod Tables

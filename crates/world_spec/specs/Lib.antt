@@ -1,0 +1,9 @@
+pub mod Adding
+pub mod Changes
+pub mod Comings
+pub mod Goings
+pub mod Kept
+pub mod Laws
+pub mod Moves
+pub mod StageOf
+pub mod Value
