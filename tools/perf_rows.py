@@ -4,8 +4,8 @@
 Usage: perf_rows.py
            writes crates/perf_rows/stdout from the list crates/perf_rows/data/cases
        perf_rows.py row FOLDER..
-           takes a case of each folder, which has the files `stdin`, `stdout`, `stderr` and `status` of a call of
-           `perf_run replay`; then as above
+           takes a case of each folder, which has the files `args`, `stdin`, `stdout`, `stderr` and `status` of a call of
+           perf_run; then as above
        perf_rows.py folder NAME FOLDER
            takes the cases of a folder of scripts into the group NAME, in the place of those that the group had; then
            as above. Beside NNN.script there is NNN.note, what standard error must hold, or NNN.report, what standard
@@ -27,14 +27,18 @@ DATA = os.path.join(CRATE, "data")
 LIST = os.path.join(DATA, "cases")
 
 HEAD = """\
-# The cases of perf_rows, one a line: KIND NAME, and for some a note. The text of a case is NAME.script beside this list.
+# The cases of perf_rows, one a line: KIND NAME, and for some a note. The text of a case is NAME.script beside this list. A
+# case of words has no text: NAME.words has the words, one a line.
 # done NAME           all is done: status 0, standard output is NAME.report, no note
 # refused NAME NOTE   status 1, nothing on standard output, this note
 # read NAME           the text is a script: status 0 and no note, or status 6 and the note that it is not built
 # unlawful NAME NOTE  the text is a script whose order can't be: status 1 and this note, or status 6 as above
+# words NAME          all is done: status 0, standard output is NAME.report, no note
+# usage NAME          the words are not known: status 5, nothing on standard output, the note of usage
 """
 
-STATUS = {"done": "0", "refused": "1", "read": "0 or 6", "unlawful": "1 or 6"}
+STATUS = {"done": "0", "refused": "1", "read": "0 or 6", "unlawful": "1 or 6", "words": "0", "usage": "5"}
+USAGE = "perf_run: usage: run, replay, make N, make N script"
 
 
 def read(path):
@@ -58,7 +62,7 @@ def write_list(all_cases):
 
 def has_script(kind, note):
     """Whether the text stands for a script, which is then printed, and the printed text run too."""
-    return kind != "refused" or note.endswith(": ORDER")
+    return kind in ("done", "read", "unlawful") or note.endswith(": ORDER")
 
 
 def write_stdout(all_cases):
@@ -81,9 +85,22 @@ def note_of(text):
     return text[:-1]
 
 
+def case_of_words(folder, name, status):
+    """The case of words other than `replay`."""
+    copy(os.path.join(folder, "args"), name + ".words")
+    if status == "0" and not read(os.path.join(folder, "stderr")):
+        copy(os.path.join(folder, "stdout"), name + ".report")
+        return ["words", name, ""]
+    if status != "5" or read(os.path.join(folder, "stdout")) or note_of(read(os.path.join(folder, "stderr"))) != USAGE:
+        raise ValueError(f"{folder}: status {status}")
+    return ["usage", name, ""]
+
+
 def case_of_row(folder):
     name = "rows/" + os.path.basename(os.path.normpath(folder))
     status = read(os.path.join(folder, "status")).strip()
+    if read(os.path.join(folder, "args")).split() != ["replay"]:
+        return case_of_words(folder, name, status)
     copy(os.path.join(folder, "stdin"), name + ".script")
     if status == "0":
         copy(os.path.join(folder, "stdout"), name + ".report")

@@ -1,5 +1,5 @@
 -- Reading one word after the other, as a loop does.
-use Rattle.std.proofs.Common.{◌≡◌, ℕ, ◌-◌, ◌<◌, ◌≤◌, List, [], ◌∷◌, ◌++◌, length, get_or, take, drop, Option, Some, None, refl, sym, ap, ◌∙◌, append_assoc, arith}
+use Rattle.std.proofs.Common.{◌≡◌, ℕ, ◌+◌, ◌*◌, ◌-◌, ◌<◌, ◌≤◌, List, [], ◌∷◌, ◌++◌, length, get_or, take, drop, Option, Some, None, refl, sym, ap, ◌∙◌, append_assoc, arith, length-take, length-drop}
 use Rattle.std.proofs.Math.Seq.{take-length}
 use Rattle.std.proofs.lemmas.List.{append-nil}
 use Rattle.line_forms.specs.declared.stop.LineStop.{LineStop}
@@ -60,8 +60,11 @@ pairs_go_on bytes (x ∷ y ∷ rest) whole l e =
     let all : take (length (x ∷ y ∷ rest) - 2) rest ≡ rest = rw n (take-length rest) in
     rw all (append_assoc bytes (pair_of x y ∷ []) (pairs_in rest) ∙ e)
 
-pub pairs_end : (bytes rest whole : List ℕ) → length rest < 2 → bytes ++ pairs_in rest ≡ whole → Some whole ≡ Some bytes
+pub pairs_count : (rest text : List ℕ) (count : ℕ) → 2 ≤ length rest → length rest + 2 * count ≡ length text → length (take (length rest - 2) (drop 2 rest)) + 2 * (count + 1) ≡ length text
+pairs_count rest text count l e = omega (arith, l, e, length-take (length rest - 2) (drop 2 rest), length-drop 2 rest)
+
+pub pairs_end : (bytes rest whole : List ℕ) → length rest < 2 → bytes ++ pairs_in rest ≡ whole → bytes ≡ whole
 unfolding pairs_in
-pairs_end bytes [] whole l e = ap Some (sym e ∙ append-nil bytes)
-pairs_end bytes (x ∷ []) whole l e = ap Some (sym e ∙ append-nil bytes)
+pairs_end bytes [] whole l e = sym (append-nil bytes) ∙ e
+pairs_end bytes (x ∷ []) whole l e = sym (append-nil bytes) ∙ e
 pairs_end bytes (x ∷ y ∷ rest) whole l e = absurd (omega (arith, l))

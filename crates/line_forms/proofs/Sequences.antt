@@ -1,7 +1,7 @@
 -- Occurrences, acts and bytes: what is read is what is spelled so, and what is spelled so is read.
-use Rattle.std.proofs.Common.{◌≡◌, ℕ, ◌+◌, ◌*◌, ◌/◌, ◌%◌, ◌<◌, ◌≤◌, Bool, true, false, ◌&&◌, cond, eqb, leb, ltb, List, [], ◌∷◌, ◌++◌, map, length, All, Option, Some, None, option_map, inl, inr, refl, sym, ap, subst, ◌∙◌, arith, append_assoc}
+use Rattle.std.proofs.Common.{◌≡◌, ℕ, ◌+◌, ◌*◌, ◌/◌, ◌%◌, ◌<◌, ◌≤◌, Bool, true, false, ◌&&◌, cond, eqb, leb, ltb, List, [], ◌∷◌, ◌++◌, map, take, length, All, Option, Some, None, option_map, inl, inr, refl, sym, ap, subst, ◌∙◌, arith, append_assoc}
 use Rattle.std.proofs.lemmas.Option.{same_Some, none-some}
-use Rattle.std.specs.Prelude.{decimal}
+use Rattle.std.specs.Prelude.{decimal, IfSome}
 use Rattle.std.specs.List.{list_all, flat_map}
 use Rattle.std.specs.Fmt.{digit_glyph}
 use Rattle.std.proofs.lemmas.Bool.{cases_Bool, eqb-true, ltb-true, leb-true, lt-ltb, le-leb, eq-eqb, ne_eqb, and_parts, and_from}
@@ -274,3 +274,9 @@ bytes-again bytes h =
     let b : leb (length (flat_map form.byte_text bytes)) 8192 ≡ true = le-leb _ _ (omega (arith, w.twice, h.few)) in
     let c : eqb (length (flat_map form.byte_text bytes) % 2) 0 ≡ true = eq-eqb _ _ (omega (arith, w.twice)) in
     rw (a, b, c, w.below) (ap Some w.pairs)
+
+-- what was put into the front of a room is what the text says
+pub said_in_room : (count : Option ℕ) (room text : List ℕ) → option_map (λ n. take n room) count ≡ bytes_in text
+    → IfSome count (λ n. form.AreBytes (take n room) × (text ≡ flat_map form.byte_text (take n room)))
+said_in_room None room text e = tt
+said_in_room (Some n) room text e = bytes-takes text (take n room) (sym e)

@@ -1,5 +1,6 @@
 // The form of a line of a script. Contracts see a line as its words, and a form as what the definitions of the
-// language call so, with numbers of any size that can be spelled. It serves the reader of scripts.
+// language call so, with numbers of any size that can be spelled. It serves the reader of scripts, and whoever reads
+// bytes from their digits.
 #![tactic(auto)]
 
 mod declared;
@@ -15,6 +16,7 @@ mod under;
 mod words;
 
 pub use forms::{Asked, CpuForm, Form, Hit, Opening, SpelledAct, ToolForm, Version, Working};
+pub use lists::{MOST_BYTES, read_bytes};
 pub use reading::read_form;
 pub use stop::LineStop;
 pub use words::cut;

@@ -1,8 +1,9 @@
 //! Words that hold lists: occurrences, acts, and bytes.
 
-ghost use Rattle.std.specs.Prelude.{◌≡◌, ℕ, ◌≤◌, ◌+◌, map, length, nat_lt, Some, None, Result, Ok, Err};
+ghost use Rattle.std.specs.Prelude.{◌≡◌, ℕ, ◌≤◌, ◌+◌, List, map, flat_map, take, length, nat_lt, IfSome, Some, None, Result, Ok, Err};
 ghost use Rattle.std.specs.List.{list_all};
 ghost use Rattle.std.specs.Option.{option_map};
+ghost use Rattle.script_spec.specs.Forms.{AreBytes, byte_text};
 ghost use Rattle.line_forms.specs.Words.{left};
 ghost use Rattle.line_forms.specs.Leaves.{digit_of};
 ghost use Rattle.line_forms.specs.Bodies as says;
@@ -148,27 +149,61 @@ fn pair(high: u8, low: u8) -> u8
     digit(high).wrapping_mul(16).wrapping_add(digit(low))
 }
 
-/// The bytes of pairs of digits.
-fn pairs(alloc: Global, text: &[u8]) -> Result<Vec<u8>, LineStop>
-    ensures { Gives (λ v. v.items) result (Some (says.pairs_in text.now)) }
+/// The most bytes that a word says, two digits each.
+pub const MOST_BYTES: usize = 4096;
+
+/// Puts the bytes of pairs of digits into the front of the room, and answers how many.
+fn put_pairs(text: &[u8], room: &mut [u8; MOST_BYTES]) -> usize
+    requires { length text.now ≤ 8192 }
+    ensures within { result ≤ 4096 }
+    ensures pairs { take result room.new ≡ says.pairs_in text.now }
 {
-    let mut bytes = Vec::new(alloc);
+    let mut count = 0;
     let mut rest = text;
     while let [high, low, more @ ..] = rest {
-        bytes.push(pair(*high, *low))?;
+        room[count] = pair(*high, *low);
+        count += 1;
         rest = more;
     }
-    Ok(bytes)
+    count
+}
+
+/// Puts the bytes that a text says into the front of the room, and answers how many.
+#[tactic(auto, unfolding(crate::specs::Bodies::bytes_in))]
+fn put_bytes(text: &[u8], room: &mut [u8; MOST_BYTES]) -> Option<usize>
+    ensures within { IfSome result (λ n. n ≤ 4096) }
+    ensures bytes { option_map (λ n. take n room.new) result ≡ says.bytes_in text.now }
+{
+    if is_bytes(text) {
+        Some(put_pairs(text, room))
+    } else {
+        None
+    }
+}
+
+/// Puts the bytes that a text says into the front of the room, and answers how many. A text says bytes where it
+/// has two hexadecimal digits for each of 1 to 4096 bytes, in small letters, and nothing else; any other text has
+/// None. It takes no memory.
+pub fn read_bytes(text: &[u8], room: &mut [u8; MOST_BYTES]) -> Option<usize>
+    ensures within { IfSome result (λ n. n ≤ 4096) }
+    // What is read, the text says.
+    ensures some { IfSome result (λ n. AreBytes (take n room.new) × (text.now ≡ flat_map byte_text (take n room.new))) }
+    // What a text says is read.
+    ensures every { (bytes : List ℕ) → AreBytes bytes → text.now ≡ flat_map byte_text bytes → option_map (λ n. take n room.new) result ≡ Some bytes }
+{
+    put_bytes(text, room)
 }
 
 /// The bytes that a text says, two hexadecimal digits each.
-#[tactic(auto, unfolding(crate::specs::Bodies::bytes_in))]
 pub fn bytes(alloc: Global, text: &[u8]) -> Result<Vec<u8>, LineStop>
     ensures { Gives (λ v. v.items) result (says.bytes_in text.now) }
 {
-    if is_bytes(text) {
-        pairs(alloc, text)
-    } else {
-        Err(LineStop::NoForm)
+    let mut room = [0; MOST_BYTES];
+    match put_bytes(text, &mut room) {
+        None => Err(LineStop::NoForm),
+        Some(count) => match Vec::from_slice(alloc, &room[..count]) {
+            Err(_) => Err(LineStop::Memory),
+            Ok(bytes) => Ok(bytes),
+        },
     }
 }

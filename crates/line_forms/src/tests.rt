@@ -1,6 +1,6 @@
 //! Lines that are of a form, and lines that are of none.
 
-use crate::{Form, LineStop, Version, read_form};
+use crate::{Form, LineStop, MOST_BYTES, Version, read_bytes, read_form};
 use std::alloc::Global;
 use std::test::Fail;
 
@@ -97,5 +97,16 @@ fn mask_of(alloc: Global, line: &[u8]) -> Option<u128> {
 fn masks_are_read(rt: HostRuntime) -> Result<(), Fail> {
     assert_eq!(rt; mask_of(rt.alloc(), b"kind cycles mask=1f"), Some(31));
     assert_eq!(rt; mask_of(rt.alloc(), b"kind a mask=0"), Some(0));
+    Ok(())
+}
+
+#[test]
+fn bytes_are_read(rt: HostRuntime) -> Result<(), Fail> {
+    let mut room = [7; MOST_BYTES];
+    assert_eq!(rt; read_bytes(b"00ff9a", &mut room), Some(3));
+    assert_eq!(rt; &room[..4], [0, 255, 154, 7].as_slice());
+    assert_eq!(rt; read_bytes(b"00f", &mut room), None);
+    assert_eq!(rt; read_bytes(b"", &mut room), None);
+    assert_eq!(rt; read_bytes(b"0F", &mut room), None);
     Ok(())
 }

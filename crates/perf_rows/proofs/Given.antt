@@ -1,12 +1,12 @@
 -- A text that was read to its end is all that the source had.
-use Rattle.std.proofs.Common.{◌≡◌, ℕ, List, [], ◌++◌, Option, Some, None, refl, sym, ap, subst, ◌∙◌, arith, append-nil}
+use Rattle.std.proofs.Common.{◌≡◌, ◌↔◌, ℕ, List, [], ◌++◌, Option, Some, None, refl, sym, ap, subst, ◌∙◌, arith, append-nil}
 use Rattle.perf_base.specs.declared.reasons.SReason.{SReason}
 use Rattle.script_read.specs.declared.fault.ScriptFault.TheVariants as fault
 use Rattle.perf_io.specs.Outside.{Takes, Adds, IsAtEnd}
 use Rattle.perf_top.specs.declared.status.Status.{Status}
 use Rattle.perf_top.specs.declared.status.Status.TheVariants as status
 use Rattle.perf_top.specs.Notes.{number_of}
-use Rattle.perf_top.specs.Outcome.{Gave, IsRun, IsBadScript}
+use Rattle.perf_top.specs.Outcome.{Gave, IsRun, IsBadScript, AreKnown, IsOutput}
 use Rattle.perf_rows.specs.declared.case.Expected.{Expected}
 use Rattle.perf_rows.specs.declared.again.Again.{Again}
 use Rattle.perf_rows.specs.declared.again.Again.TheVariants as again
@@ -15,6 +15,7 @@ use Rattle.perf_rows.specs.declared.printed.Printed.TheVariants as printed
 use Rattle.perf_rows.specs.declared.verdict.Verdict.{Verdict}
 use Rattle.perf_rows.specs.declared.verdict.Verdict.TheVariants as verdict
 use Rattle.perf_rows.specs.Expectations.{Allows}
+use Rattle.perf_rows.specs.Words.{AreAsExpected}
 use Rattle.perf_rows.specs.Printed.{IsPrintedOf, IsRunOf, AllowsAgain, HasSameReport, IsAsExpected}
 
 given_is : (left : List ℕ) (after : Option (List ℕ)) (text : List ℕ) → Takes (Some left) after text → IsAtEnd after → text ≡ left
@@ -26,21 +27,44 @@ pub bad_of : (had left : List ℕ) (after : Option (List ℕ)) (text : List ℕ)
     → left ≡ had → Gave (Some left) after text → IsBadScript text line reason → IsBadScript had line reason
 bad_of had left after text line reason e gave bad = subst (λ t. IsBadScript t line reason) (given_is left after text gave.taken gave.ended ∙ e) bad
 
--- the sink was empty, and holds the report of what the source had
-pub done_of : (had left : List ℕ) (after : Option (List ℕ)) (text before held out : List ℕ)
-    → left ≡ had → before ≡ [] → Gave (Some left) after text → IsRun text out → Adds (Some before) (Some held) out → IsRun had held
-done_of had left after text before held out e empty gave run added =
+-- the sink was empty, and holds what the words have written beside what the source had
+pub output_of : (words : List (List ℕ)) (had left : List ℕ) (after : Option (List ℕ)) (before held out : List ℕ)
+    → left ≡ had → before ≡ [] → IsOutput words (Some left) after out → Adds (Some before) (Some held) out → (rest : Option (List ℕ)) × IsOutput words (Some had) rest held
+output_of words had left after before held out e empty is added =
     let is_out : held ≡ out = added ∙ ap (λ b. b ++ out) empty in
-    subst (λ t. IsRun t held) (given_is left after text gave.taken gave.ended ∙ e) (subst (λ o. IsRun text o) (sym is_out) run)
-
--- a faulty line is no want of memory
-pub not_memory : (line : ℕ) (reason : SReason) → fault.Bad line reason ≡ fault.NoMemory → ⊥
-not_memory line reason e = cc
+    (after, subst (λ l. IsOutput words (Some l) after held) e (subst (λ o. IsOutput words (Some left) after o) (sym is_out) is))
 
 -- only Done has the number 0
 pub is_done : (s : Status) → number_of s ≡ 0 → s ≡ status.Done
 is_done status.Done e = refl
 is_done other e = absurd (omega (arith, e))
+
+-- only Usage has the number 5
+pub is_usage : (s : Status) → number_of s ≡ 5 → s ≡ status.Usage
+is_usage status.Usage e = refl
+is_usage other e = absurd (omega (arith, e))
+
+usage_number : (s : Status) → s ≡ status.Usage → number_of s ≡ 5
+usage_number s e = ap number_of e
+
+pub words_as_expected : (v : Verdict) (e : Expected) (report : List ℕ) (words : List (List ℕ)) (s : Status) (number : ℕ) (out held note : List ℕ)
+    → (v ≡ verdict.AsExpected → Allows e report number out note) → number ≡ number_of s → out ≡ held
+    → (s ≡ status.Done → (left : Option (List ℕ)) × IsOutput words (Some []) left held) → (s ≡ status.Usage ↔ (AreKnown words → ⊥))
+    → v ≡ verdict.AsExpected → AreAsExpected e report words
+words_as_expected v e report words s number out held note h n o done usage expected =
+    let written : number ≡ 0 → (left : Option (List ℕ)) × IsOutput words (Some []) left out = λ z. let d = done (is_done s (sym n ∙ z)) in (d.0, subst (λ t. IsOutput words (Some []) d.0 t) (sym o) d.1) in
+    record {
+      number = number;
+      out = out;
+      note = note;
+      allowed = h expected;
+      written = written;
+      unknown = ((λ z. usage.0 (is_usage s (sym n ∙ z))), (λ k. n ∙ usage_number s (usage.1 k)));
+    }
+
+-- a faulty line is no want of memory
+pub not_memory : (line : ℕ) (reason : SReason) → fault.Bad line reason ≡ fault.NoMemory → ⊥
+not_memory line reason e = cc
 
 same_report : (e : Expected) (number : ℕ) (out : List ℕ) (p : Printed) (a : Again) → IsRunOf p a → AllowsAgain e number out a → HasSameReport e number out p
 same_report e number out (printed.Text bytes) (again.Ran answer) r h = (h.0, λ z. subst (λ o. IsRun bytes.items o) (sym h.2) (r (sym h.1 ∙ z)))

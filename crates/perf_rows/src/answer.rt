@@ -1,8 +1,8 @@
 //! The top call over memory.
 
-ghost use Rattle.std.specs.Prelude.{◌≡◌, ℕ, [], IfOk};
+ghost use Rattle.std.specs.Prelude.{◌≡◌, ◌↔◌, ℕ, List, [], map, Option, Some, IfOk, string_bytes};
 ghost use Rattle.perf_top.specs.Notes.{number_of};
-ghost use Rattle.perf_top.specs.Outcome.{IsRun, IsBadScript, IsUnserved};
+ghost use Rattle.perf_top.specs.Outcome.{AreKnown, IsOutput, IsRun, IsBadScript, IsUnserved};
 
 use crate::verdict::Ending;
 use perf_base::{NoMemory, SReason};
@@ -44,6 +44,20 @@ pub fn sink(alloc: Global) -> Result<MemSink, NoMemory>
     MemSink::new(alloc, PIECE, Vec::new(alloc), ROOM)
 }
 
+/// The answer to words, beside a source that has these bytes.
+fn answer_of(alloc: Global, words: &[String], text: Vec<u8>) -> Result<Answer, NoMemory>
+    ensures done { IfOk result (λ answer. answer.status ≡ Status.Done → (left : Option (List ℕ)) × IsOutput (map string_bytes words.now) (Some text.items) left answer.out.held) }
+    ensures bad_script { IfOk result (λ answer. (line : ℕ) → (reason : SReason) → answer.status ≡ Status.BadScript line reason → IsBadScript text.items line reason) }
+    ensures unbuilt { IfOk result (λ answer. answer.status ≡ Status.Unbuilt → IsUnserved text.items) }
+    ensures usage { IfOk result (λ answer. answer.status ≡ Status.Usage ↔ (AreKnown (map string_bytes words.now) → ⊥)) }
+{
+    let mut source = MemSource::new(text, PIECE, Vec::new(alloc));
+    let mut out = sink(alloc)?;
+    let mut notes = sink(alloc)?;
+    let status = perf_main(alloc, words, &mut source, &mut out, &mut notes);
+    Ok(Answer { status, out, notes })
+}
+
 /// The answer of a replay of the text.
 pub fn answer_to(alloc: Global, text: Vec<u8>) -> Result<Answer, NoMemory>
     ensures done { IfOk result (λ answer. answer.status ≡ Status.Done → IsRun text.items answer.out.held) }
@@ -52,9 +66,13 @@ pub fn answer_to(alloc: Global, text: Vec<u8>) -> Result<Answer, NoMemory>
 {
     let mut words = Vec::new(alloc);
     words.push(String::from_str(alloc, "replay")?)?;
-    let mut source = MemSource::new(text, PIECE, Vec::new(alloc));
-    let mut out = sink(alloc)?;
-    let mut notes = sink(alloc)?;
-    let status = perf_main(alloc, &words, &mut source, &mut out, &mut notes);
-    Ok(Answer { status, out, notes })
+    answer_of(alloc, &words, text)
+}
+
+/// The answer to words, beside a source that has nothing.
+pub fn answer_to_words(alloc: Global, words: &[String]) -> Result<Answer, NoMemory>
+    ensures done { IfOk result (λ answer. answer.status ≡ Status.Done → (left : Option (List ℕ)) × IsOutput (map string_bytes words.now) (Some []) left answer.out.held) }
+    ensures usage { IfOk result (λ answer. answer.status ≡ Status.Usage ↔ (AreKnown (map string_bytes words.now) → ⊥)) }
+{
+    answer_of(alloc, words, Vec::new(alloc))
 }

@@ -16,6 +16,10 @@ pub enum Expected {
     Read,
     /// The text is a script whose order can't be: it is refused with this note, or not built yet.
     Unlawful(String),
+    /// There is no text, but words, which are in a file: all is done, and the output is in a file.
+    Words,
+    /// There is no text, but words, which are in a file and are none that the program knows.
+    Usage,
     /// The list does not say it in a way that is known.
     Unknown,
 }
@@ -30,18 +34,20 @@ impl Expected {
             Expected::Refused(_) => "1",
             Expected::Read => "0 or 6",
             Expected::Unlawful(_) => "1 or 6",
+            Expected::Words => "0",
+            Expected::Usage => "5",
             Expected::Unknown => "unknown",
         }
     }
 
-    /// Whether the text stands for a script: one that is refused does so only where its order is at fault.
+    /// Whether there is a text that stands for a script: one that is refused does so only where its order is at fault.
     pub fn has_script(&self) -> bool
         ensures { result ≡ has_script self.now }
     {
         match self {
             Expected::Done | Expected::Read | Expected::Unlawful(_) => true,
             Expected::Refused(note) => note.as_bytes().ends_with(b": ORDER\n"),
-            Expected::Unknown => false,
+            Expected::Words | Expected::Usage | Expected::Unknown => false,
         }
     }
 }
@@ -81,6 +87,8 @@ fn parse_expected(alloc: Global, kind: &str, note: &str) -> Result<Expected, All
         return Ok(match kind {
             "done" => Expected::Done,
             "read" => Expected::Read,
+            "words" => Expected::Words,
+            "usage" => Expected::Usage,
             _ => Expected::Unknown,
         });
     }

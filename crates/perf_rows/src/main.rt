@@ -1,11 +1,13 @@
 //! Runs the top call on worked cases, and says where its answer is not what a case expects. What a text stands for
-//! is then printed, and the printed text has to end as the text did. The cases are those of the list `cases` in the
-//! folder that the first word names, or else in the folder where it runs; each text is a file beside the list.
+//! is then printed, and the printed text has to end as the text did. A case may also be words without a text. The cases
+//! are those of the list `cases` in the folder that the first word names, or else in the folder where it runs; each text,
+//! and the words of each other case, are a file beside the list.
 #![tactic(auto)]
 
-ghost use Rattle.std.specs.Prelude.{◌≡◌, ◌<◌, ◌≤◌, IfOk};
+ghost use Rattle.std.specs.Prelude.{◌≡◌, ◌<◌, ◌≤◌, map, IfOk, string_bytes};
 ghost use Rattle.perf_rows.specs.Expectations.{has_script, words_if_printed};
 ghost use Rattle.perf_rows.specs.Printed.{IsAsExpected};
+ghost use Rattle.perf_rows.specs.Words.{AreAsExpected};
 
 mod again;
 mod answer;
@@ -14,14 +16,14 @@ mod printed;
 mod verdict;
 
 use again::{judge_both, run_printed};
-use answer::answer_to;
+use answer::{answer_to, answer_to_words};
 use case::{Case, Expected, parse_case};
 use perf_base::NoMemory;
 use printed::printed_text;
 use std::alloc::Global;
 use std::process::ExitCode;
 use std::{env, fs, io};
-use verdict::Verdict;
+use verdict::{Verdict, judge};
 
 /// How many cases there were, and in how many the answer was not what was expected.
 #[derive(Clone, Copy)]
@@ -64,7 +66,7 @@ fn read_part(rt: &HostRuntime, folder: &str, name: &str, ending: &str) -> io::Re
 /// What a case expects on standard output, where it says.
 fn read_report(rt: &HostRuntime, folder: &str, case: &Case) -> io::Result<Vec<u8>> {
     match case.expected {
-        Expected::Done => read_part(rt, folder, case.name.as_str(), "report"),
+        Expected::Done | Expected::Words => read_part(rt, folder, case.name.as_str(), "report"),
         _ => Ok(Vec::new(rt.alloc())),
     }
 }
@@ -84,11 +86,53 @@ fn run_text(
     Ok(judge_both(alloc, expected, report, answer.ending(), &again)?)
 }
 
+/// How words went.
+fn run_words(
+    alloc: Global,
+    expected: &Expected,
+    report: &[u8],
+    words: &[String],
+) -> Result<Verdict, NoMemory>
+    ensures { IfOk result (λ verdict. verdict ≡ Verdict.AsExpected → AreAsExpected expected.now report.now (map string_bytes words.now)) }
+{
+    let answer = answer_to_words(alloc, words)?;
+    Ok(judge(alloc, expected, report, answer.ending())?)
+}
+
+/// The words of a case, which stand in a file, one a line.
+fn read_words(rt: &HostRuntime, folder: &str, case: &Case) -> io::Result<Vec<String>> {
+    let name = case.name.as_str();
+    let text = fs::read_to_string(rt, format!(in rt.alloc(); "{folder}/{name}.words")?)?;
+    let mut words = Vec::new(rt.alloc());
+    for line in text.as_str().lines() {
+        words.push(String::from_str(rt.alloc(), line)?)?;
+    }
+    Ok(words)
+}
+
+/// Runs the words or the text of a case.
+fn run_given(
+    rt: &HostRuntime,
+    folder: &str,
+    case: &Case,
+    report: &[u8],
+) -> io::Result<Result<Verdict, NoMemory>> {
+    match case.expected {
+        Expected::Words | Expected::Usage => {
+            let words = read_words(rt, folder, case)?;
+            Ok(run_words(rt.alloc(), &case.expected, report, &words))
+        }
+        _ => {
+            let text = read_part(rt, folder, case.name.as_str(), "script")?;
+            Ok(run_text(rt.alloc(), &case.expected, report, text))
+        }
+    }
+}
+
 /// Runs a case, and says how it went.
 fn run_case(rt: &HostRuntime, folder: &str, case: &Case) -> io::Result<Verdict> {
-    let text = read_part(rt, folder, case.name.as_str(), "script")?;
     let report = read_report(rt, folder, case)?;
-    match run_text(rt.alloc(), &case.expected, &report, text) {
+    match run_given(rt, folder, case, &report)? {
         Err(NoMemory) => Err(io::ErrorKind::OutOfMemory.into()),
         Ok(verdict) => Ok(verdict),
     }

@@ -24,6 +24,8 @@ pub struct Ending<'a> {
 
 const UNBUILT: &str = "perf_run: not built\n";
 
+const USAGE: &str = "perf_run: usage: run, replay, make N, make N script\n";
+
 /// Whether a call ended with this number, and wrote and noted this.
 fn is_ending(ending: Ending<'_>, number: u8, out: &[u8], note: &[u8]) -> bool
     ensures { IsTrue result ↔ (ending.entry.number ≡ number) × (ending.entry.out.now ≡ out.now) × (ending.entry.note.now ≡ note.now) }
@@ -38,17 +40,18 @@ fn is_unbuilt(ending: Ending<'_>) -> bool
     is_ending(ending, 6, b"", UNBUILT.as_bytes())
 }
 
-/// Whether a call ended as a case expects. The report is what an expectation of `Done` names.
+/// Whether a call ended as a case expects. The report is what an expectation of `Done` or `Words` names.
 fn is_expected(expected: &Expected, report: &[u8], ending: Ending<'_>) -> bool
     ensures { IsTrue result ↔ Allows expected.now report.now ending.entry.number ending.entry.out.now ending.entry.note.now }
 {
     match expected {
-        Expected::Done => is_ending(ending, 0, report, b""),
+        Expected::Done | Expected::Words => is_ending(ending, 0, report, b""),
         Expected::Refused(note) => is_ending(ending, 1, b"", note.as_bytes()),
         Expected::Read => (ending.number == 0 && ending.note.is_empty()) || is_unbuilt(ending),
         Expected::Unlawful(note) => {
             is_ending(ending, 1, b"", note.as_bytes()) || is_unbuilt(ending)
         }
+        Expected::Usage => is_ending(ending, 5, b"", USAGE.as_bytes()),
         Expected::Unknown => false,
     }
 }
@@ -81,6 +84,7 @@ fn as_text(note: &[u8]) -> &str {
 fn wanted_note(expected: &Expected) -> &str {
     match expected {
         Expected::Refused(note) | Expected::Unlawful(note) => note.as_str().trim_end(),
+        Expected::Usage => USAGE.trim_end(),
         _ => "",
     }
 }

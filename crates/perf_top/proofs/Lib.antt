@@ -1,7 +1,9 @@
 mod Words
 pub mod Acts
+pub mod Commands
 pub mod Ends
 pub mod Filling
 pub mod LineCounts
 pub mod Lines
+pub mod Rooms
 pub mod Writing

@@ -1,4 +1,4 @@
--- One word.
+-- One word, and two.
 use Rattle.std.proofs.Common.{◌≡◌, ◌↔◌, ℕ, List, [], ◌∷◌, length, map, get_or, sym, ap, ◌∙◌}
 
 head_of : List (List ℕ) → List ℕ
@@ -10,3 +10,11 @@ unfolding head_of
 one_word text (x ∷ []) w t l e = ((λ h. ap text e ∙ ap head_of h), (λ h. ap (λ y. y ∷ []) (sym (ap text e) ∙ h)))
 one_word text [] w t l e = absurd cc
 one_word text (x ∷ y ∷ ys) w t l e = absurd cc
+
+-- two words, of which the first is known
+pub two_words : {A : Type 0} (text : A → List ℕ) (words : List A) (w v : A) (t : List ℕ) → length words ≡ 2 → w ≡ get_or words 0 w → v ≡ get_or words 1 v → text w ≡ t
+    → map text words ≡ t ∷ text v ∷ []
+two_words text (x ∷ y ∷ []) w v t l e f h = ap (λ a. a ∷ text y ∷ []) (sym (ap text e) ∙ h) ∙ ap (λ b. t ∷ b ∷ []) (sym (ap text f))
+two_words text [] w v t l e f h = absurd cc
+two_words text (x ∷ []) w v t l e f h = absurd cc
+two_words text (x ∷ y ∷ z ∷ zs) w v t l e f h = absurd cc

@@ -1,6 +1,8 @@
 mod Stops
+pub mod Attributes
 pub mod FirstAnswers
 pub mod Lines
 pub mod Notes
 pub mod Outcome
 pub mod Served
+pub mod Rooms

@@ -8,6 +8,7 @@ use Rattle.perf_base.specs.declared.reasons.SReason.{SReason}
 use Rattle.perf_base.specs.declared.reasons.SReason.TheVariants as s_reason
 use Rattle.script_spec.specs.Lines.{lines_of}
 use Rattle.script_spec.specs.Texts.{StandsFor, IsRefused}
+use Rattle.perf_top.specs.Attributes.{IsAttr, IsLineOf}
 use Rattle.perf_top.specs.FirstAnswers.{IsAnswered}
 use Rattle.report_spec.specs.Report.{report}
 use Rattle.perf_top.specs.Served.{IsServed}
@@ -15,9 +16,13 @@ use Rattle.perf_io.specs.Outside.{Takes, IsAtEnd}
 use Rattle.perf_io.specs.Wrote.{Wrote}
 use Rattle.perf_io.specs.declared.outside.Failed.{Failed}
 
--- the words of the program that it knows: do the script's own order
+-- the words that have the script's own order done
 abbrev pub IsReplay : List (List ℕ) → Type 0
 IsReplay words = words ≡ codes "replay" ∷ []
+
+-- the words that the program knows
+abbrev pub AreKnown : List (List ℕ) → Type 0
+AreKnown words = IsReplay words ⊎ ((bytes : List ℕ) × IsAttr words bytes)
 
 -- The source was read to its end, and this is all that it gave.
 pub record Gave (before after : Option (List ℕ)) (text : List ℕ) : Type 0 where
@@ -57,6 +62,13 @@ pub record IsUnserved (text : List ℕ) : Type 0 where
   pub stands : StandsFor text script
   pub complete : IsComplete script script.order
   pub unserved : IsServed script → ⊥
+
+-- What the words have written: under `replay` the report of the text that the source gave, to its end, and under `attr` the line
+-- of the bytes that the second word spells, for which no source is read.
+abbrev pub IsOutput : List (List ℕ) → Option (List ℕ) → Option (List ℕ) → List ℕ → Type 0
+IsOutput words before after out =
+    (IsReplay words × ((text : List ℕ) × Gave before after text × IsRun text out))
+    ⊎ ((bytes : List ℕ) × IsAttr words bytes × IsLineOf bytes out)
 
 -- Nothing was read, or all that the source had left, which is a text that is not too long.
 abbrev pub ReadNoneOrAll : {S : Type 0} → (S → Option (List ℕ)) → S → S → Type 0

@@ -1,13 +1,17 @@
-// The top call: it reads a script to its end, does its order, and writes the report. Its contract speaks of
-// the bytes that the source had left and of those that the sink and the notes hold. It serves the program.
+// The top call: it reads a script to its end, does its order, and writes the report; or it writes what the bytes of an
+// attribute say. Its contract speaks of the bytes that the source had left and of those that the sink and the notes hold.
+// It serves the program.
 #![tactic(auto)]
 
-ghost use Rattle.std.specs.Prelude.{◌≡◌, ◌↔◌, ℕ, ◌≤◌, ◌<◌, List, length, map, IsTrue, IfSome, string_bytes};
+ghost use Rattle.std.specs.Prelude.{◌≡◌, ◌⊎◌, ◌↔◌, ℕ, ◌∷◌, [], ◌≤◌, ◌<◌, List, length, map, codes, IsTrue, IfSome, MatchOption, string_bytes};
 ghost use Rattle.perf_io.specs.Outside.{Adds, Rose};
 ghost use Rattle.perf_io.specs.Wrote.{WroteFront};
+ghost use Rattle.perf_top.specs.Attributes.{IsAttr};
 ghost use Rattle.perf_top.specs.Notes.{note_of};
-ghost use Rattle.perf_top.specs.Outcome.{IsReplay, Noted, Gave, ReadNoneOrAll, IsRun, IsBadScript, IsUnserved};
+ghost use Rattle.perf_top.specs.Outcome.{AreKnown, IsReplay, IsOutput, Noted, Gave, ReadNoneOrAll, IsBadScript, IsUnserved};
 
+mod attr;
+mod line;
 mod notes;
 mod replay;
 mod report;
@@ -31,9 +35,38 @@ fn is_replay(words: &[String]) -> bool
     words.len() == 1 && words[0].as_str() == "replay"
 }
 
-/// Reads a script from the source to its end, does its own order, and writes that order and what its lines
-/// answered to the sink. The words are those behind the program's name: `replay` is the only one known. A
-/// text may have 4194304 bytes. Each answer but Done is written to the notes as one line. All memory is
+/// The second of two words of which the first is `attr`.
+fn attr_word(words: &[String]) -> Option<&str>
+    ensures { MatchOption result
+        ((t : List ℕ) → map string_bytes words.now ≡ codes "attr" ∷ t ∷ [] → ⊥)
+        (λ t. map string_bytes words.now ≡ codes "attr" ∷ t.now ∷ []) }
+{
+    if words.len() == 2 && words[0].as_str() == "attr" {
+        Some(words[1].as_str())
+    } else {
+        None
+    }
+}
+
+/// Writes the note of an answer other than Done, and gives the answer.
+fn noted<N: Sink>(notes: &mut N, status: Status) -> Status
+    ensures same { result ≡ status }
+    ensures count { N.faults notes.old ≤ N.faults notes.new }
+    ensures done { result ≡ Status.Done → notes.new ≡ notes.old }
+    ensures note { (result ≡ Status.Done → ⊥) → Noted N.held N.faults N.last_fault notes.old notes.new (note_of result) }
+{
+    if status == Status::Done {
+        return status;
+    }
+    match notes::put_note(notes, &status) {
+        Ok(()) | Err(_) => status,
+    }
+}
+
+/// Does what the words ask for, those behind the program's name. `replay` reads a script from the source to its end, does
+/// its own order, and writes that order and what its lines answered to the sink. A text may have 4194304 bytes. `attr` and
+/// the bytes of an attribute, two hexadecimal digits each, writes what they say, or their first fault; it reads nothing and
+/// takes no memory. Other words are not known. Each answer but Done is written to the notes as one line. All memory is
 /// taken before the first write, and none between the first read and the last: where it runs out, nothing
 /// was read, or the whole text.
 pub fn perf_main<S: Source, K: Sink, N: Sink>(
@@ -44,31 +77,29 @@ pub fn perf_main<S: Source, K: Sink, N: Sink>(
     notes: &mut N,
 ) -> Status
     ensures counts { (S.faults source.old ≤ S.faults source.new) × (K.faults sink.old ≤ K.faults sink.new) × (N.faults notes.old ≤ N.faults notes.new) }
-    ensures usage { result ≡ Status.Usage ↔ (IsReplay (map string_bytes words.now) → ⊥) }
-    ensures unread { result ≡ Status.Usage → source.new ≡ source.old }
+    ensures usage { result ≡ Status.Usage ↔ (AreKnown (map string_bytes words.now) → ⊥) }
+    ensures unread { (IsReplay (map string_bytes words.now) → ⊥) → source.new ≡ source.old }
+    // Under `attr` all is written or the sink failed: memory never runs out there.
+    ensures attr { (bytes : List ℕ) → IsAttr (map string_bytes words.now) bytes → (result ≡ Status.Done) ⊎ (result ≡ Status.WriteFault) }
     ensures order { (index : ℕ) → (ring : RingNo) → (last : ℕ) → (head : ℕ) → (given : ℕ) → result ≡ Status.BadOrder index ring last head given → ⊥ }
     ensures read_fault { result ≡ Status.ReadFault → Rose S.last_fault (S.faults source.old) (S.faults source.new) }
     ensures too_long { result ≡ Status.TooLong → IfSome (S.left source.old) (λ bytes. 4194304 < length bytes) }
     ensures bad_script { (line : ℕ) → (reason : SReason) → result ≡ Status.BadScript line reason →
         (text : List ℕ) × Gave (S.left source.old) (S.left source.new) text × IsBadScript text line reason }
     ensures unbuilt { result ≡ Status.Unbuilt → (text : List ℕ) × Gave (S.left source.old) (S.left source.new) text × IsUnserved text }
-    ensures done { result ≡ Status.Done → (text : List ℕ) × (out : List ℕ) × Gave (S.left source.old) (S.left source.new) text × IsRun text out
+    ensures done { result ≡ Status.Done → (out : List ℕ) × IsOutput (map string_bytes words.now) (S.left source.old) (S.left source.new) out
         × Adds (K.held sink.old) (K.held sink.new) out × IfSome (K.held sink.new) (λ bytes. K.flushed sink.new ≡ length bytes) × (notes.new ≡ notes.old) }
-    ensures write_fault { result ≡ Status.WriteFault → (text : List ℕ) × (out : List ℕ) × Gave (S.left source.old) (S.left source.new) text × IsRun text out
+    ensures write_fault { result ≡ Status.WriteFault → (out : List ℕ) × IsOutput (map string_bytes words.now) (S.left source.old) (S.left source.new) out
         × WroteFront K.held K.faults K.last_fault sink.old sink.new out }
     ensures no_memory { result ≡ Status.NoMemory → ReadNoneOrAll S.left source.old source.new }
     ensures unwritten { (result ≡ Status.Done → ⊥) → (result ≡ Status.WriteFault → ⊥) → sink.new ≡ sink.old }
     ensures note { (result ≡ Status.Done → ⊥) → Noted N.held N.faults N.last_fault notes.old notes.new (note_of result) }
 {
-    let status = if is_replay(words) {
-        run::replay_all(alloc, source, sink)
-    } else {
-        Status::Usage
-    };
-    if status == Status::Done {
-        return status;
+    if is_replay(words) {
+        return noted(notes, run::replay_all(alloc, source, sink));
     }
-    match notes::put_note(notes, &status) {
-        Ok(()) | Err(_) => status,
+    match attr_word(words) {
+        Some(word) => noted(notes, attr::print_attr(sink, word.as_bytes())),
+        None => noted(notes, Status::Usage),
     }
 }

@@ -128,8 +128,8 @@ fn prepare<S: Source>(alloc: Global, source: &mut S) -> Result<Vec<u8>, RunStop>
     }
 }
 
-/// Writes a report and flushes.
-fn send<K: Sink>(sink: &mut K, out: &[u8]) -> Status
+/// Writes a report or a line and flushes.
+pub fn send<K: Sink>(sink: &mut K, out: &[u8]) -> Status
     ensures count { K.faults sink.old ≤ K.faults sink.new }
     ensures only { (result ≡ Status.Done) ⊎ (result ≡ Status.WriteFault) }
     ensures done { result ≡ Status.Done → Adds (K.held sink.old) (K.held sink.new) out.now × IfSome (K.held sink.new) (λ bytes. K.flushed sink.new ≡ length bytes) }

@@ -1,5 +1,5 @@
-// The printed text of a script, written without memory. Contracts see the text and what a sink holds. It serves
-// the commands that give out scripts.
+// The printed text of a script, and lines of words, written without memory. Contracts see the text and what a sink
+// holds. It serves the commands that give out scripts or lines.
 #![tactic(auto)]
 
 mod cpu_lines;
@@ -17,3 +17,4 @@ mod words;
 pub use laws::printed_text_stands;
 pub use printing::print_script;
 pub use stored::printed_text_stands_for;
+pub use words::{Word, put_line};

@@ -1,11 +1,11 @@
 use Rattle.std.proofs.Common.{ap}
-use Rattle.perf_rows.proofs.Given.{bad_of, done_of}
-use Rattle.perf_rows.proofs.answer.answer_to.Goals as goal
+use Rattle.perf_rows.proofs.Given.{bad_of, output_of}
+use Rattle.perf_rows.proofs.answer.answer_of.Goals as goal
 
 pub returns-clause-done : goal.returns-clause-done
 returns-clause-done c = λ e.
     let h = c.perf_main-status.ensures.done e in
-    done_of _ _ _ h.0 _ _ h.1 (ap (λ s. s.left) c.new-source.ensures) c.in_ok-out.ensures h.2 h.3 h.4
+    output_of _ _ _ _ _ _ h.0 (ap (λ s. s.left) c.new-source.ensures) c.in_ok-out.ensures h.1 h.2
 
 pub returns-clause-bad_script : goal.returns-clause-bad_script
 returns-clause-bad_script c = λ line reason e.

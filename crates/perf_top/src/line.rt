@@ -1,0 +1,73 @@
+//! A line in memory.
+
+ghost use Rattle.std.specs.Prelude.{◌≡◌, ◌-◌, ◌≤◌, [], ◌++◌, length};
+
+use perf_base::ShortList;
+use perf_io::{Failed, Sink};
+
+/// How many bytes a line has room for.
+const ROOM: usize = 512;
+
+/// A line in memory: a sink that takes no memory, and fails only at a write of something where no room is left. That
+/// it is full is its one fault.
+#[derive(Drop)]
+pub struct Line {
+    text: ShortList<u8, ROOM>,
+    flushed: usize,
+}
+
+impl Line {
+    /// The empty line.
+    pub fn new() -> Line
+        ensures { result ≡ record { text = []; flushed = 0 } }
+    {
+        Line {
+            text: ShortList::new(),
+            flushed: 0,
+        }
+    }
+
+    /// Its bytes.
+    pub fn as_bytes(&self) -> &[u8]
+        ensures { result.now ≡ self.now.text }
+    {
+        self.text.as_bytes()
+    }
+}
+
+/// Adds bytes for which the list has room.
+fn push_all(text: &mut ShortList<u8, ROOM>, bytes: &[u8])
+    requires { length bytes.now ≤ 512 - length text.old }
+    ensures { text.new ≡ text.old ++ bytes.now }
+{
+    for byte in bytes {
+        text.push(*byte);
+    }
+}
+
+impl Sink for Line {
+    ghost use Rattle.std.specs.Prelude.{Some, length};
+    ghost use Rattle.perf_top.specs.Rooms.{full_count};
+
+    ghost held = { λ s. Some s.text };
+
+    ghost flushed = { λ s. s.flushed };
+
+    ghost faults = { λ s. full_count (length s.text) };
+
+    ghost last_fault = { Some 1 };
+
+    fn write(&mut self, piece: &[u8]) -> Result<usize, Failed> {
+        let count = piece.len().min(ROOM.saturating_sub(self.text.len()));
+        if count == 0 && !piece.is_empty() {
+            return Err(Failed);
+        }
+        push_all(&mut self.text, &piece[..count]);
+        Ok(count)
+    }
+
+    fn flush(&mut self) -> Result<(), Failed> {
+        self.flushed = self.text.len();
+        Ok(())
+    }
+}
