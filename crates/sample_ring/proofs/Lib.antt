@@ -1,0 +1,5 @@
+pub mod Cuts
+pub mod Fresh
+pub mod Marks
+pub mod Sending
+pub mod Taking

@@ -1,0 +1,8 @@
+use Rattle.std.proofs.Common.{◌+◌, rules, arith}
+use Rattle.sample_ring.proofs.Marks.{marks_put}
+use Rattle.sample_ring.proofs.putting.put_record.Goals as goal
+
+pub returns-clause-marks : goal.returns-clause-marks
+returns-clause-marks c =
+    rw (c.put_words.ensures.end, c.as_slice.ensures, c.words_of-words.ensures)
+    (marks_put c.args.marks.now c.args.producer.now _ (c.args.head + c.size_of.result) c.requires.marks c.requires.lawful (omega (arith, c.size_of.ensures, c.requires.head)) (search rules) c.requires.sound c.requires.room)
