@@ -65,7 +65,7 @@ none_of_both true true c h = absurd (cc)
 none_of_both true false c h = refl
 none_of_both false b c h = refl
 
-family-times : (w : World) → AreLinked (post_at w) w.contexts w.families → (k : Key) (slot : ℕ)
+pub family-times : (w : World) → AreLinked (post_at w) w.contexts w.families → (k : Key) (slot : ℕ)
     → times k (keys_of (slice_index_or w.families slot no_family)) ≡ once_if (is_original_in (post_at w) slot k) + once_if (is_copy_in (post_at w) slot k)
 family-times w h k slot =
     let f : Family = slice_index_or w.families slot no_family in
@@ -134,15 +134,19 @@ account-kept f hw w k n m there count enabled ran room_count room_enabled h = re
     families = h.tables.families;
     folded = h.tables.folded;
     lost = h.tables.lost;
+    clocks = h.tables.clocks;
+    seats = h.tables.seats;
   };
   shape = record { running = h.shape.running; tasks = h.shape.tasks; contexts = h.shape.contexts };
   running = record { live = h.running.live; once = h.running.once };
   linked = h.linked;
+  copies = h.copies;
   grouped = h.grouped;
   numbered = h.numbered;
   apart = h.apart;
   fitting = h.fitting;
-  lawful = record { errors = h.lawful.errors; samples = h.lawful.samples; used = h.lawful.used };
+  lawful = record { errors = h.lawful.errors; samples = h.lawful.samples; kinds = h.lawful.kinds; used = h.lawful.used };
+  seated = h.seated;
   small = record {
     counts = family-grows (λ s. s.count) counts_are_sums w h.linked (λ q. (account_at (with_account f k w) q).sums) k n (2 ^ 63)
         (account-grows (λ s. s.count) f w k n count) h.small.counts room_count;

@@ -1,12 +1,12 @@
 -- A world is kept when an instance comes.
-use Rattle.std.specs.Prelude.{◌≡◌, ℕ, ◌+◌, ◌^◌, ◌<◌, ◌≤◌, ◌==◌, Bool, true, false, not, ◌&&◌, List, [], ◌∷◌, ◌++◌, length, is_some, Option, Some, None, slice_index_or, if◌then◌else◌}
+use Rattle.std.specs.Prelude.{◌≡◌, ℕ, ◌+◌, ◌^◌, ◌<◌, ◌≤◌, ◌==◌, Bool, true, false, List, [], ◌∷◌, ◌++◌, length, is_some, Option, Some, None, slice_index_or, if◌then◌else◌}
 use Rattle.std.specs.FinMap.{FinMap, contains_key, insert}
 use Rattle.std.specs.Option.{unwrap_or}
 use Rattle.std.specs.Ordering.{nat_cmp}
 use Rattle.std.proofs.Common.{arith, refl, sym, ap, subst, ◌∙◌, inl, inr}
 use Rattle.std.proofs.lemmas.Bool.{cases_Bool, false≢true}
-use Rattle.std.proofs.lemmas.Bool.Decides.{nat_tests}
 use Rattle.std.proofs.lemmas.List.{length-map, length-set}
+use Rattle.perf_base.specs.Scripts.{IsKind}
 use Rattle.perf_base.specs.declared.numbers.Key.{Key}
 use Rattle.perf_base.specs.declared.reply.Sums.{Sums}
 use Rattle.stage_spec.specs.Checks.{has_unknown_sample}
@@ -26,6 +26,7 @@ use Rattle.world_spec.proofs.Accounts.{counts_are_sums, times_are_sums}
 use Rattle.world_spec.proofs.Moving.{leads-parts}
 use Rattle.world_spec.proofs.Coming.{Comes, live-apart, was-live, by_coming, comes-numbered, comes-apart, number_true, three}
 use Rattle.world_spec.proofs.ComingLinks.{comes-originals, comes-copies, comes-alone, comes-joined}
+use Rattle.world_spec.proofs.Copies.{comes-rising}
 use Rattle.world_spec.proofs.ComingGroups.{pick, comes-listed, comes-unlisted, grouped-alone, grouped-joined, fitting-alone, fitting-joined}
 use Rattle.world_spec.proofs.Added.{added, comes-by, alone-members, grown-members, joined-members, other-instance, new-entry_at, entry-instance, added-sums, used-more, used-new, fresh-state}
 
@@ -83,9 +84,14 @@ post-live : (w : World) (k : Key) (n : Newcomer) (leader : Option Key) → Comes
     → (j : Key) → (j.0 ≡ k.0 → ⊥) → is_live (added w k n leader) j ≡ true → is_live w j ≡ true
 post-live w k n leader c j apart live = was-live (post_at w) (post_at (added w k n leader)) k (arriving w k n leader) c j apart live
 
+added-hardware : (w : World) (k : Key) (n : Newcomer) (leader : Option Key) → (added w k n leader).hardware ≡ w.hardware
+added-hardware w k n None = refl
+added-hardware w k n (Some first) = refl
+
 lawful-added : (w : World) (k : Key) (n : Newcomer) (leader : Option Key) → Comes (post_at w) (post_at (added w k n leader)) k (arriving w k n leader)
-    → (added w k n leader).quiet.used ≡ (if n.copy then w.quiet.used else w.quiet.used ++ n.event ∷ []) → has_unknown_sample n.attr ≡ false → AreLawful w → AreLawful (added w k n leader)
-lawful-added w k n leader c used known h =
+    → (added w k n leader).quiet.used ≡ (if n.copy then w.quiet.used else w.quiet.used ++ n.event ∷ []) → has_unknown_sample n.attr ≡ false
+    → IsKind (length w.hardware.kind_pmus) n.attr.kind → AreLawful w → AreLawful (added w k n leader)
+lawful-added w k n leader c used known kind h =
     let t : World = added w k n leader in
     let mine : instance_at t k ≡ new_instance w n = ap (λ x. x.instance) (new-entry_at w k n leader) ∙ entry-instance w k n leader in
     record {
@@ -96,6 +102,10 @@ lawful-added w k n leader c used known h =
       samples = by_coming (λ j. is_live t j ≡ true → has_unknown_sample (instance_at t j).attr ≡ false) k
           (λ live. ap (λ i. has_unknown_sample i.attr) mine ∙ known)
           (λ j apart live. ap (λ i. has_unknown_sample i.attr) (other-instance w k n leader j apart) ∙ h.samples j (post-live w k n leader c j apart live));
+      kinds = subst (λ (m : Hardware). (j : Key) → is_live t j ≡ true → IsKind (length m.kind_pmus) (instance_at t j).attr.kind) (sym (added-hardware w k n leader))
+          (by_coming (λ j. is_live t j ≡ true → IsKind (length w.hardware.kind_pmus) (instance_at t j).attr.kind) k
+          (λ live. subst (λ i. IsKind (length w.hardware.kind_pmus) i.attr.kind) (sym mine) kind)
+          (λ j apart live. subst (λ i. IsKind (length w.hardware.kind_pmus) i.attr.kind) (sym (other-instance w k n leader j apart)) (h.kinds j (post-live w k n leader c j apart live))));
       used = by_coming (λ j. is_live t j ≡ true → (instance_at t j).copy ≡ false → is_used (stage_of t) (instance_at t j).event ≡ true) k
           (λ live first. ap (λ i. is_used (stage_of t) i.event) mine ∙ (ap (λ us. is_used (record (stage_of t) { used = us }) n.event) used
           ∙ used-new n.copy w.quiet.used n.event (sym (ap (λ i. i.copy) mine) ∙ first)))
@@ -145,6 +155,8 @@ added-kept hw w k n None fits room may of h =
         families = length-set w.families n.event.0 (in_family n.copy k (slice_index_or w.families n.event.0 no_family)) ∙ h.tables.families;
         folded = h.tables.folded;
         lost = h.tables.lost;
+        clocks = h.tables.clocks;
+        seats = h.tables.seats;
       };
       shape = record {
         running = h.shape.running;
@@ -159,11 +171,13 @@ added-kept hw w k n None fits room may of h =
         pinned = listed true;
         flexible = listed false;
       };
+      copies = comes-rising (post_at w) (post_at t) k p w.quiet.next_id c refl h.numbered w.families (omega (arith, may.slot, h.tables.families)) h.linked.copies of.few h.copies;
       grouped = grouped-alone (post_at w) (post_at t) k p c refl refl (alone-members w k n) h.grouped;
       numbered = comes-numbered (post_at w) (post_at t) k p w.quiet.next_id c refl may.slot may.place h.numbered;
       apart = comes-apart (post_at w) (post_at t) k p c may.first_there of.of_task of.original h.apart;
       fitting = fitting-alone hw (post_at w) (post_at t) k p c refl (alone-members w k n) h.linked.members fits h.fitting;
-      lawful = lawful-added w k n None c refl may.known h.lawful;
+      lawful = lawful-added w k n None c refl may.known may.kind h.lawful;
+      seated = h.seated;
       small = small-added w k n None (omega (arith, may.slot, h.tables.families)) may.room h.small;
     }
 added-kept hw w k n (Some first) fits room may of h =
@@ -181,6 +195,8 @@ added-kept hw w k n (Some first) fits room may of h =
         families = length-set w.families n.event.0 (in_family n.copy k (slice_index_or w.families n.event.0 no_family)) ∙ h.tables.families;
         folded = h.tables.folded;
         lost = h.tables.lost;
+        clocks = h.tables.clocks;
+        seats = h.tables.seats;
       };
       shape = record {
         running = h.shape.running;
@@ -195,11 +211,13 @@ added-kept hw w k n (Some first) fits room may of h =
         pinned = listed true;
         flexible = listed false;
       };
+      copies = comes-rising (post_at w) (post_at t) k p w.quiet.next_id c refl h.numbered w.families (omega (arith, may.slot, h.tables.families)) h.linked.copies of.few h.copies;
       grouped = grouped-joined (post_at w) (post_at t) k first p c room.0 room.1 room.2 refl refl (grown-members w k n first far) (joined-members w k n first) h.grouped;
       numbered = comes-numbered (post_at w) (post_at t) k p w.quiet.next_id c refl may.slot may.place h.numbered;
       apart = comes-apart (post_at w) (post_at t) k p c may.first_there of.of_task of.original h.apart;
       fitting = fitting-joined hw (post_at w) (post_at t) k first p c refl (ap (λ x. x.members) (dead-entry w k may.fresh)) (grown-members w k n first far) (joined-members w k n first) h.linked.members fits h.fitting;
-      lawful = lawful-added w k n (Some first) c refl may.known h.lawful;
+      lawful = lawful-added w k n (Some first) c refl may.known may.kind h.lawful;
+      seated = h.seated;
       small = small-added w k n (Some first) (omega (arith, may.slot, h.tables.families)) may.room h.small;
     }
 

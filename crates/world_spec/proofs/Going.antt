@@ -1,24 +1,28 @@
 -- What posts, links and groups are after a key went, over plain posts.
-use Rattle.std.specs.Prelude.{◌≡◌, ℕ, ◌+◌, ◌<◌, ◌≤◌, ◌==◌, Bool, true, false, not, ◌&&◌, cond, List, [], ◌∷◌, ◌++◌, length, map, Option, Some, None, slice_index_or, slice_set, if◌then◌else◌}
+use Rattle.std.specs.Prelude.{◌≡◌, ℕ, ◌<◌, ◌≤◌, ◌==◌, Bool, true, false, not, ◌&&◌, List, [], length, slice_index_or, slice_set}
 use Rattle.std.proofs.Common.{arith, refl, sym, ap, subst, ◌∙◌, inl, inr}
 use Rattle.std.proofs.lemmas.Bool.{cases_eq, cases_Bool, false≢true}
 use Rattle.std.proofs.lemmas.Bool.Decides.{nat_tests}
 use Rattle.perf_base.specs.declared.numbers.Key.{Key}
 use Rattle.stage_spec.specs.Stage.{place_of}
-use Rattle.world_spec.specs.Value.{Family, no_family, is_key, times}
+use Rattle.world_spec.specs.Value.{Family, no_family, times}
 use Rattle.world_spec.specs.Kept.{Post, once_if, in_option, is_original_in, is_copy_in, is_of_task, AreNumbered, AreApart}
 use Rattle.world_spec.specs.Changes.{all_but}
 use Rattle.world_spec.specs.Adding.{out_of_family}
-use Rattle.world_spec.proofs.Keys.{key-is, is_key-same, is_key-other, times-all_but_same, times-all_but_other, once-true, once-false, at_place}
-use Rattle.world_spec.proofs.Coming.{core, by_coming, first-true, number_true, three}
-use Rattle.world_spec.proofs.ComingLinks.{none_of_three, none_of_two}
+use Rattle.world_spec.proofs.Keys.{key-is, times-all_but_same, times-all_but_other, once-true, once-false, at_place}
+use Rattle.world_spec.proofs.Coming.{number_true, three}
+use Rattle.world_spec.proofs.ComingLinks.{none_of_three}
 use Rattle.world_spec.proofs.AddedStage.{one-in_option}
 
--- a key that was live goes; of others the members alone may change
+-- a post but for its group
+abbrev pub shell : Post → Post
+shell p = record p { leader = record { 0 = 0 }; members = []; pinned = false }
+
+-- a key that was live goes; of others the groups alone may change
 pub record Goes (at to : Key → Post) (k : Key) : Type 0 where
   pub live : (at k).live ≡ true
   pub gone : (to k).live ≡ false
-  pub others : (j : Key) → (j.0 ≡ k.0 → ⊥) → core (to j) ≡ core (at j)
+  pub others : (j : Key) → (j.0 ≡ k.0 → ⊥) → shell (to j) ≡ shell (at j)
 
 pub still-apart : (at to : Key → Post) (k : Key) → Goes at to k → (j : Key) → (to j).live ≡ true → j.0 ≡ k.0 → ⊥
 still-apart at to k g j live e = false≢true (sym g.gone ∙ (ap (λ x. (to x).live) (sym (key-is j k e)) ∙ live))
@@ -28,7 +32,7 @@ still-live at to k g j live = sym (ap (λ x. x.live) (g.others j (still-apart at
 
 pub goes-numbered : (at to : Key → Post) (k : Key) (next : ℕ) → Goes at to k → AreNumbered at next → AreNumbered to next
 goes-numbered at to k next g h =
-    let same : (j : Key) → (to j).live ≡ true → core (to j) ≡ core (at j) = λ j live. g.others j (still-apart at to k g j live) in
+    let same : (j : Key) → (to j).live ≡ true → shell (to j) ≡ shell (at j) = λ j live. g.others j (still-apart at to k g j live) in
     let was : (j : Key) → (to j).live ≡ true → (at j).live ≡ true = still-live at to k g in
     record {
       first = h.first;
@@ -39,7 +43,7 @@ goes-numbered at to k next g h =
     }
 
 -- the parts of a test of a copy
-all_three : (a b c : Bool) → a ≡ true → b ≡ true → c ≡ true → (a && b && c) ≡ true
+pub all_three : (a b c : Bool) → a ≡ true → b ≡ true → c ≡ true → (a && b && c) ≡ true
 all_three true true true ha hb hc = refl
 all_three true true false ha hb hc = absurd (cc)
 all_three true false c ha hb hc = absurd (cc)
@@ -47,7 +51,7 @@ all_three false b c ha hb hc = absurd (cc)
 
 pub goes-apart : (at to : Key → Post) (k : Key) → Goes at to k → ((at k).copy ≡ false → (j : Key) → is_copy_in at (at k).event.0 j ≡ false) → AreApart at → AreApart to
 goes-apart at to k g last h =
-    let same : (j : Key) → (to j).live ≡ true → core (to j) ≡ core (at j) = λ j live. g.others j (still-apart at to k g j live) in
+    let same : (j : Key) → (to j).live ≡ true → shell (to j) ≡ shell (at j) = λ j live. g.others j (still-apart at to k g j live) in
     let was : (j : Key) → (to j).live ≡ true → (at j).live ≡ true = still-live at to k g in
     record {
       one_each = λ i j live_i live_j slot place. h.one_each i j (was i live_i) (was j live_j)
@@ -76,7 +80,7 @@ off_slot : (a c : Bool) (m n : ℕ) → (n ≡ m → ⊥) → (a && m == n && c)
 off_slot true c m n apart = let no : (m == n) ≡ false = grind (arith, nat_tests, apart) in rw no refl
 off_slot false c m n apart = refl
 
-last_fails : (a b c : Bool) → c ≡ false → (a && b && c) ≡ false
+pub last_fails : (a b c : Bool) → c ≡ false → (a && b && c) ≡ false
 last_fails true true c h = h
 last_fails true false c h = refl
 last_fails false b c h = refl

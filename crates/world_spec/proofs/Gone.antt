@@ -1,17 +1,19 @@
 -- A sibling that goes: the tables after it, and that the world is kept.
-use Rattle.std.specs.Prelude.{◌≡◌, ℕ, ◌+◌, ◌^◌, ◌<◌, ◌≤◌, ◌==◌, Bool, true, false, not, ◌&&◌, cond, List, [], ◌∷◌, ◌++◌, length, map, is_some, Option, Some, None, slice_index_or, slice_set}
+use Rattle.std.specs.Prelude.{◌≡◌, ℕ, ◌^◌, ◌<◌, ◌≤◌, ◌==◌, Bool, true, false, cond, List, [], ◌∷◌, length, map, is_some, None, slice_index_or, slice_set}
 use Rattle.std.specs.Cmp.{unsigned_tied}
 use Rattle.std.specs.FinMap.{FinMap, get, contains_key, remove, get-remove}
 use Rattle.std.specs.Option.{unwrap_or}
 use Rattle.std.specs.Ordering.{nat_cmp}
 use Rattle.std.proofs.Common.{arith, refl, sym, ap, subst, ◌∙◌, inl, inr}
-use Rattle.std.proofs.lemmas.Bool.{cases_eq, cases_Bool, false≢true}
+use Rattle.std.proofs.lemmas.Bool.{cases_eq, cases_Bool}
 use Rattle.std.proofs.lemmas.Bool.Decides.{nat_tests}
 use Rattle.std.proofs.lemmas.Cmp.{nat_cmp_total}
 use Rattle.std.proofs.lemmas.List.{length-map, length-set}
+use Rattle.perf_base.specs.Scripts.{IsKind}
 use Rattle.perf_base.specs.declared.attr.Kind.{Kind}
 use Rattle.perf_base.specs.declared.numbers.Key.{Key}
 use Rattle.perf_base.specs.declared.reply.Sums.{Sums}
+use Rattle.perf_base.specs.declared.standing.Standing.{Standing}
 use Rattle.stage_spec.specs.Checks.{has_unknown_sample}
 use Rattle.stage_spec.specs.Families.{plus}
 use Rattle.stage_spec.specs.Fits.{fits, fits_beside}
@@ -19,23 +21,29 @@ use Rattle.stage_spec.specs.Hardware.{Hardware}
 use Rattle.stage_spec.specs.Opening.{is_used}
 use Rattle.stage_spec.specs.Reading.{is_error}
 use Rattle.stage_spec.specs.Shares.{no_sums}
-use Rattle.world_spec.specs.Value.{World, Entry, Family, no_family, no_leaders, no_entry, no_account, is_live, entry_at, instance_at, account_at, is_key, times}
+use Rattle.world_spec.specs.Value.{World, Entry, Leaders, Family, no_family, no_leaders, no_entry, no_account, is_live, entry_at, instance_at, account_at, is_key, times}
 use Rattle.world_spec.specs.StageOf.{stage_of, lists_at}
-use Rattle.world_spec.specs.Kept.{Post, post_at, once_if, in_option, is_member_of, leads_in, kinds_in, keys_of, plus_keys, AreLinked, AreFitting, AreLawful, AreSmall, IsKept}
+use Rattle.world_spec.specs.Kept.{post_at, once_if, in_option, is_copy_in, is_member_of, leads_in, kinds_in, keys_of, plus_keys, AreFitting, AreLawful, AreSmall, IsKept}
 use Rattle.world_spec.specs.Changes.{all_but}
-use Rattle.world_spec.specs.Adding.{out_of_family, leave_group, taken_out, drop_instance}
-use Rattle.world_spec.specs.Goings.{MayGo, SiblingGoesKeptLaw}
-use Rattle.world_spec.proofs.Tables.{post_of, with_entry, entry-here, entry-there, entry-numbered, live-written}
+use Rattle.world_spec.specs.Adding.{out_of_family, leave_group, taken_out}
+use Rattle.world_spec.proofs.Tables.{post_of, with_entry, entry-here, entry-there, entry-numbered}
 use Rattle.world_spec.proofs.Accounts.{IsSum, counts_are_sums, times_are_sums}
 use Rattle.world_spec.proofs.Keys.{key-is, is_key-other, at_place, all_but-none, times-all_but_same, once-false}
 use Rattle.world_spec.proofs.Moving.{leads-parts}
 use Rattle.world_spec.proofs.Coming.{core, by_coming}
-use Rattle.world_spec.proofs.ComingLinks.{last_of_two, none_of_two}
+use Rattle.world_spec.proofs.ComingLinks.{last_of_two}
+use Rattle.world_spec.proofs.Copies.{goes-rising}
 use Rattle.world_spec.proofs.ComingGroups.{pick, map-apart}
 use Rattle.world_spec.proofs.Added.{sums-le, sums-append, written-post, other-post}
 use Rattle.world_spec.proofs.AddedKept.{both-picks}
-use Rattle.world_spec.proofs.Going.{Goes, still-apart, still-live, goes-numbered, goes-apart, goes-originals, goes-copies}
-use Rattle.world_spec.proofs.GoneSibling.{not-led, gone-members, gone-listed, gone-grouped, fitting-fewer}
+use Rattle.world_spec.proofs.Going.{shell, still-apart, still-live, goes-numbered, goes-apart, goes-originals, goes-copies}
+use Rattle.world_spec.proofs.GoneSibling.{GoesAlone, not-led, gone-members, gone-listed, gone-grouped, fitting-fewer}
+
+-- a key that does not lead; an original goes after its copies
+pub record SiblingMayGo (w : World) (k : Key) : Type 0 where
+  pub live : is_live w k ≡ true
+  pub sibling : is_key k (entry_at w k).leader ≡ false
+  pub last : (instance_at w k).copy ≡ false → (j : Key) → is_copy_in (post_at w) (instance_at w k).event.0 j ≡ false
 
 -- the world after it went
 abbrev pub left_world : World → Key → World
@@ -45,13 +53,13 @@ abbrev pub fewer_entry : World → Key → Entry
 fewer_entry w k = record (entry_at w (entry_at w k).leader) { members = all_but k (entry_at w (entry_at w k).leader).members }
 
 -- a table after a key was removed
-get-removed : {X : Type 0} (m : FinMap nat_cmp X) (k q : ℕ) → get (remove m k) q ≡ cond (q == k) None (get m q)
+pub get-removed : {X : Type 0} (m : FinMap nat_cmp X) (k q : ℕ) → get (remove m k) q ≡ cond (q == k) None (get m q)
 get-removed m k q = get-remove nat_cmp_total m k q ∙ ap (λ b. cond b None (get m q)) (unsigned_tied q k)
 
-get-gone : {X : Type 0} (m : FinMap nat_cmp X) (k q : ℕ) → q ≡ k → get (remove m k) q ≡ None
+pub get-gone : {X : Type 0} (m : FinMap nat_cmp X) (k q : ℕ) → q ≡ k → get (remove m k) q ≡ None
 get-gone m k q e = let same : (q == k) ≡ true = grind (arith, nat_tests, e) in get-removed m k q ∙ ap (λ b. cond b None (get m q)) same
 
-get-left : {X : Type 0} (m : FinMap nat_cmp X) (k q : ℕ) → (q ≡ k → ⊥) → get (remove m k) q ≡ get m q
+pub get-left : {X : Type 0} (m : FinMap nat_cmp X) (k q : ℕ) → (q ≡ k → ⊥) → get (remove m k) q ≡ get m q
 get-left m k q apart = let other : (q == k) ≡ false = grind (arith, nat_tests, apart) in get-removed m k q ∙ ap (λ b. cond b None (get m q)) other
 
 left-post : (w : World) (k j : Key) → (j.0 ≡ k.0 → ⊥) → post_at (left_world w k) j ≡ post_at (with_entry w (entry_at w k).leader (fewer_entry w k)) j
@@ -78,12 +86,18 @@ left-core w k there j apart =
       | inr off ↦ ap core (other-post w first (fewer_entry w k) j off)
     ]
 
-pub left-goes : (hw : Hardware) (w : World) (k : Key) → IsKept hw w → is_live w k ≡ true → Goes (post_at w) (post_at (left_world w k)) k
-left-goes hw w k h live = record {
-  live = live;
-  gone = ap is_some (get-gone (with_entry w (entry_at w k).leader (fewer_entry w k)).entries k.0 k.0 refl);
-  others = left-core w k (leads-parts (is_live w (entry_at w k).leader) (is_key (entry_at w k).leader (entry_at w (entry_at w k).leader).leader) (h.grouped.led k live)).0;
-}
+pub left-goes : (hw : Hardware) (w : World) (k : Key) → IsKept hw w → is_live w k ≡ true → GoesAlone (post_at w) (post_at (left_world w k)) k
+left-goes hw w k h live =
+    let same : (j : Key) → (j.0 ≡ k.0 → ⊥) → core (post_at (left_world w k) j) ≡ core (post_at w j) =
+    left-core w k (leads-parts (is_live w (entry_at w k).leader) (is_key (entry_at w k).leader (entry_at w (entry_at w k).leader).leader) (h.grouped.led k live)).0 in
+    record {
+      goes = record {
+        live = live;
+        gone = ap is_some (get-gone (with_entry w (entry_at w k).leader (fewer_entry w k)).entries k.0 k.0 refl);
+        others = λ j apart. ap shell (same j apart);
+      };
+      same = same;
+    }
 
 -- sums of fewer keys
 sums-fewer : (p : Sums → ℕ) → IsSum p → (s : Key → Sums) (k : Key) (keys : List Key) → p (plus_keys s (all_but k keys)) ≤ p (plus_keys s keys)
@@ -130,7 +144,31 @@ account-less : (p : Sums → ℕ) → p no_sums ≡ 0 → (w : World) (k q : Key
 account-less p none w k = by_coming (λ q. p (account_at (left_world w k) q).sums ≤ p (account_at w q).sums) k
     (omega (arith, ap (λ a. p a.sums) (account-gone w k), none)) (λ q apart. omega (arith, ap (λ a. p a.sums) (account-left w k q apart)))
 
-fewer-keys : {X : Type 0} (m : FinMap nat_cmp X) (k : Key) (before after : Key → Bool) → ((j : Key) → contains_key m j.0 ≡ before j) → after k ≡ false
+-- accounts and families without it stay small
+pub small-left : (w : World) (k : Key) (entries : FinMap nat_cmp Entry) (standings : FinMap nat_cmp Standing) (contexts : List Leaders) → (instance_at w k).event.0 < length w.families → AreSmall w
+    → AreSmall (record w {
+      entries = entries;
+      accounts = remove w.accounts k.0;
+      standings = standings;
+      contexts = contexts;
+      families = slice_set w.families (instance_at w k).event.0 (out_of_family (instance_at w k).copy k (slice_index_or w.families (instance_at w k).event.0 no_family));
+    })
+small-left w k entries standings contexts low h =
+    let s : Key → Sums = λ q. (account_at w q).sums in
+    let t : Key → Sums = λ q. (account_at (left_world w k) q).sums in
+    record {
+      counts = left-sums (λ x. x.count) counts_are_sums w s t k (2 ^ 63) (account-less (λ x. x.count) refl w k) (instance_at w k).event.0 (instance_at w k).copy low h.counts;
+      times = left-sums (λ x. x.enabled) times_are_sums w s t k (2 ^ 63) (account-less (λ x. x.enabled) refl w k) (instance_at w k).event.0 (instance_at w k).copy low h.times;
+      ran = by_coming (λ q. (t q).running ≤ (t q).enabled) k
+          (subst (λ a. a.sums.running ≤ a.sums.enabled) (sym (account-gone w k)) (omega arith))
+          (λ q apart. subst (λ a. a.sums.running ≤ a.sums.enabled) (sym (account-left w k q apart)) (h.ran q));
+      folded_ran = h.folded_ran;
+      clocks = h.clocks;
+      lost = h.lost;
+      ids = h.ids;
+    }
+
+pub fewer-keys : {X : Type 0} (m : FinMap nat_cmp X) (k : Key) (before after : Key → Bool) → ((j : Key) → contains_key m j.0 ≡ before j) → after k ≡ false
     → ((j : Key) → (j.0 ≡ k.0 → ⊥) → after j ≡ before j) → (j : Key) → contains_key (remove m k.0) j.0 ≡ after j
 fewer-keys m k before after h gone others = by_coming (λ j. contains_key (remove m k.0) j.0 ≡ after j) k
     (ap is_some (get-gone m k.0 k.0 refl) ∙ sym gone) (λ j apart. ap is_some (get-left m k.0 j.0 apart) ∙ (h j ∙ sym (others j apart)))
@@ -145,7 +183,7 @@ left-others : (w : World) (k j : Key) → (j.0 ≡ k.0 → ⊥) → (j.0 ≡ (en
 left-others w k j apart off = ap (λ x. x.members) (left-post w k j apart) ∙ ap (λ x. x.members) (entry-there w (entry_at w k).leader (fewer_entry w k) j off)
 
 -- so of each key that stays the members are the same but for the one that went
-pub left-members : (hw : Hardware) (w : World) (k : Key) → IsKept hw w → MayGo w k → (j : Key) → (j.0 ≡ k.0 → ⊥) → (post_at (left_world w k) j).members ≡ all_but k (entry_at w j).members
+pub left-members : (hw : Hardware) (w : World) (k : Key) → IsKept hw w → SiblingMayGo w k → (j : Key) → (j.0 ≡ k.0 → ⊥) → (post_at (left_world w k) j).members ≡ all_but k (entry_at w j).members
 left-members hw w k h may j apart =
     let first : Key = (entry_at w k).leader in
     let far : first.0 ≡ k.0 → ⊥ = λ e. not-led (post_at w) k may.sibling h.grouped k may.live e in
@@ -155,11 +193,11 @@ left-members hw w k h may j apart =
           ∙ once-false (is_member_of (post_at w) j k) (last_of_two (is_live w k) (is_key j first) (λ x. is_key-other j first (λ e. off (sym e))))))
     ]
 
-nothing-fits : (hw : Hardware) → AreFitting hw []
+pub nothing-fits : (hw : Hardware) → AreFitting hw []
 unfolding fits fits_beside
 nothing-fits hw = record { fit = refl; one_pmu = λ i j d below low. absurd (omega (arith, low)) }
 
-kinds-left : (hw : Hardware) (w : World) (k : Key) → IsKept hw w → MayGo w k → (j : Key) → AreFitting hw (kinds_in (post_at (left_world w k)) j)
+kinds-left : (hw : Hardware) (w : World) (k : Key) → IsKept hw w → SiblingMayGo w k → (j : Key) → AreFitting hw (kinds_in (post_at (left_world w k)) j)
 kinds-left hw w k h may =
     let t : World = left_world w k in
     let kind : Key → Kind = λ q. (instance_at w q).attr.kind in
@@ -169,34 +207,37 @@ kinds-left hw w k h may =
     ∙ map-apart (λ q. (instance_at t q).attr.kind) kind k (λ q far. ap (λ i. i.attr.kind) (left-instance w k q far)) (all_but k (entry_at w j).members) (times-all_but_same k (entry_at w j).members)))
     (fitting-fewer hw kind k (entry_at w j).members (h.fitting j)))
 
-lawful-left : (hw : Hardware) (w : World) (k : Key) → IsKept hw w → Goes (post_at w) (post_at (left_world w k)) k → AreLawful (left_world w k)
+lawful-left : (hw : Hardware) (w : World) (k : Key) → IsKept hw w → GoesAlone (post_at w) (post_at (left_world w k)) k → AreLawful (left_world w k)
 lawful-left hw w k h g =
     let t : World = left_world w k in
-    let far : (j : Key) → is_live t j ≡ true → j.0 ≡ k.0 → ⊥ = still-apart (post_at w) (post_at t) k g in
-    let was : (j : Key) → is_live t j ≡ true → is_live w j ≡ true = still-live (post_at w) (post_at t) k g in
+    let far : (j : Key) → is_live t j ≡ true → j.0 ≡ k.0 → ⊥ = still-apart (post_at w) (post_at t) k g.goes in
+    let was : (j : Key) → is_live t j ≡ true → is_live w j ≡ true = still-live (post_at w) (post_at t) k g.goes in
     record {
-      errors = λ j live error. ap (λ x. is_key j x.leader) (g.others j (far j live))
+      errors = λ j live error. ap (λ x. is_key j x.leader) (g.same j (far j live))
           ∙ h.lawful.errors j (was j live) (ap (λ i. is_error i.own) (sym (left-instance w k j (far j live))) ∙ error);
       samples = λ j live. ap (λ i. has_unknown_sample i.attr) (left-instance w k j (far j live)) ∙ h.lawful.samples j (was j live);
+      kinds = λ j live. subst (λ i. IsKind (length w.hardware.kind_pmus) i.attr.kind) (sym (left-instance w k j (far j live))) (h.lawful.kinds j (was j live));
       used = λ j live first. ap (λ i. is_used (stage_of w) i.event) (left-instance w k j (far j live))
           ∙ h.lawful.used j (was j live) (sym (ap (λ i. i.copy) (left-instance w k j (far j live))) ∙ first);
     }
 
-left-kept : (hw : Hardware) (w : World) (k : Key) → MayGo w k → IsKept hw w → IsKept hw (left_world w k)
+pub left-kept : (hw : Hardware) (w : World) (k : Key) → SiblingMayGo w k → IsKept hw w → IsKept hw (left_world w k)
 left-kept hw w k may h =
     let t : World = left_world w k in
-    let g : Goes (post_at w) (post_at t) k = left-goes hw w k h may.live in
+    let g : GoesAlone (post_at w) (post_at t) k = left-goes hw w k h may.live in
     let far : (entry_at w k).leader.0 ≡ k.0 → ⊥ = λ e. not-led (post_at w) k may.sibling h.grouped k may.live e in
     let low : (instance_at w k).event.0 < length w.families = omega (arith, h.numbered.slots k may.live, h.tables.families) in
     let listed : (b : Bool) (j : Key) (place : ℕ) → times j (pick b (slice_index_or w.contexts place no_leaders)) ≡ once_if (leads_in (post_at t) place b j) =
     gone-listed (post_at w) (post_at t) k g may.sibling w.contexts (both-picks w w.contexts (post_at w) h.linked.pinned h.linked.flexible) in
     record {
       tables = record {
-        accounts = fewer-keys w.accounts k (is_live w) (is_live t) h.tables.accounts g.gone (λ j apart. ap (λ x. x.live) (g.others j apart));
-        standings = fewer-keys w.standings k (is_live w) (is_live t) h.tables.standings g.gone (λ j apart. ap (λ x. x.live) (g.others j apart));
+        accounts = fewer-keys w.accounts k (is_live w) (is_live t) h.tables.accounts g.goes.gone (λ j apart. ap (λ x. x.live) (g.same j apart));
+        standings = fewer-keys w.standings k (is_live w) (is_live t) h.tables.standings g.goes.gone (λ j apart. ap (λ x. x.live) (g.same j apart));
         families = length-set w.families (instance_at w k).event.0 _ ∙ h.tables.families;
         folded = h.tables.folded;
         lost = h.tables.lost;
+        clocks = h.tables.clocks;
+        seats = h.tables.seats;
       };
       shape = record {
         running = h.shape.running;
@@ -205,31 +246,18 @@ left-kept hw w k may h =
       };
       running = record { live = h.running.live; once = h.running.once };
       linked = record {
-        originals = goes-originals (post_at w) (post_at t) k g w.families low h.linked.originals;
-        copies = goes-copies (post_at w) (post_at t) k g w.families low h.linked.copies;
+        originals = goes-originals (post_at w) (post_at t) k g.goes w.families low h.linked.originals;
+        copies = goes-copies (post_at w) (post_at t) k g.goes w.families low h.linked.copies;
         members = gone-members (post_at w) (post_at t) k g may.sibling h.grouped (left-none w k) (left-fewer w k far) (left-others w k) h.linked.members;
         pinned = listed true;
         flexible = listed false;
       };
+      copies = goes-rising (post_at w) (post_at t) k g.goes w.families low (goes-copies (post_at w) (post_at t) k g.goes w.families low h.linked.copies) h.copies;
       grouped = gone-grouped (post_at w) (post_at t) k g may.sibling (left-none w k) (left-fewer w k far) (left-others w k) h.grouped;
-      numbered = goes-numbered (post_at w) (post_at t) k w.quiet.next_id g h.numbered;
-      apart = goes-apart (post_at w) (post_at t) k g may.last h.apart;
+      numbered = goes-numbered (post_at w) (post_at t) k w.quiet.next_id g.goes h.numbered;
+      apart = goes-apart (post_at w) (post_at t) k g.goes may.last h.apart;
       fitting = kinds-left hw w k h may;
       lawful = lawful-left hw w k h g;
-      small = record {
-        counts = left-sums (λ s. s.count) counts_are_sums w (λ q. (account_at w q).sums) (λ q. (account_at t q).sums) k (2 ^ 63) (account-less (λ s. s.count) refl w k)
-            (instance_at w k).event.0 (instance_at w k).copy low h.small.counts;
-        times = left-sums (λ s. s.enabled) times_are_sums w (λ q. (account_at w q).sums) (λ q. (account_at t q).sums) k (2 ^ 63) (account-less (λ s. s.enabled) refl w k)
-            (instance_at w k).event.0 (instance_at w k).copy low h.small.times;
-        ran = by_coming (λ q. (account_at t q).sums.running ≤ (account_at t q).sums.enabled) k
-            (subst (λ a. a.sums.running ≤ a.sums.enabled) (sym (account-gone w k)) (omega arith))
-            (λ q apart. subst (λ a. a.sums.running ≤ a.sums.enabled) (sym (account-left w k q apart)) (h.small.ran q));
-        folded_ran = h.small.folded_ran;
-        clocks = h.small.clocks;
-        lost = h.small.lost;
-        ids = h.small.ids;
-      };
+      seated = h.seated;
+      small = small-left w k (remove (with_entry w (entry_at w k).leader (fewer_entry w k)).entries k.0) (remove w.standings k.0) w.contexts low h.small;
     }
-
-pub sibling-kept : SiblingGoesKeptLaw
-sibling-kept hw w k may h = subst (λ b. IsKept hw (taken_out k (instance_at w k) (leave_group k b w))) (sym may.sibling) (left-kept hw w k may h)

@@ -1,7 +1,7 @@
 -- The members, the lists, the groups and the kinds of groups after a sibling went.
-use Rattle.std.specs.Prelude.{◌≡◌, ℕ, ◌+◌, ◌<◌, ◌≤◌, ◌==◌, Bool, true, false, not, ◌&&◌, cond, IsTrue, List, [], ◌∷◌, ◌++◌, length, map, filter, slice_index_or, if◌then◌else◌}
+use Rattle.std.specs.Prelude.{◌≡◌, ℕ, ◌≤◌, ◌==◌, Bool, true, false, not, ◌&&◌, cond, List, [], ◌∷◌, length, map, filter, slice_index_or, if◌then◌else◌}
 use Rattle.std.specs.List.{AllPairs}
-use Rattle.std.proofs.Common.{arith, refl, sym, ap, subst, ◌∙◌, inl, inr}
+use Rattle.std.proofs.Common.{arith, sym, ap, subst, ◌∙◌, inl, inr}
 use Rattle.std.proofs.lemmas.Bool.{cases_eq, cases_Bool, false≢true}
 use Rattle.std.proofs.lemmas.List.{get_or_default, length-map}
 use Rattle.std.proofs.lemmas.List.Kept.{AllPairs-filter}
@@ -16,14 +16,19 @@ use Rattle.stage_spec.specs.Stage.{place_of}
 use Rattle.stage_laws.proofs.Fitting.{fits_beside-others, fits_beside-rest}
 use Rattle.world_spec.specs.Value.{Leaders, no_leaders, is_key, times}
 use Rattle.world_spec.specs.StageOf.{after_first}
-use Rattle.world_spec.specs.Kept.{Post, once_if, is_member_of, leads, leads_in, kinds_in, AreFitting, AreGrouped}
+use Rattle.world_spec.specs.Kept.{Post, once_if, is_member_of, leads, leads_in, AreFitting, AreGrouped}
 use Rattle.world_spec.specs.Changes.{all_but}
-use Rattle.world_spec.proofs.Keys.{key-is, is_key-same, is_key-other, is_key-true, is_key-false, times-cons, times-all_but_same, times-all_but_other, once-true, once-false}
+use Rattle.world_spec.proofs.Keys.{key-is, is_key-other, times-all_but_same, times-all_but_other, once-false}
 use Rattle.world_spec.proofs.Moving.{leads-parts}
 use Rattle.world_spec.proofs.Coming.{core, by_coming}
 use Rattle.world_spec.proofs.ComingLinks.{none_of_two, none_of_three, last_of_two}
-use Rattle.world_spec.proofs.ComingGroups.{pick, dead_leads, map-apart}
+use Rattle.world_spec.proofs.ComingGroups.{pick, dead_leads}
 use Rattle.world_spec.proofs.Going.{Goes, still-apart, still-live}
+
+-- a key goes, and of others the members alone may change
+pub record GoesAlone (at to : Key → Post) (k : Key) : Type 0 where
+  pub goes : Goes at to k
+  pub same : (j : Key) → (j.0 ≡ k.0 → ⊥) → core (to j) ≡ core (at j)
 
 -- nobody is led by a sibling
 pub not-led : (at : Key → Post) (k : Key) → is_key k (at k).leader ≡ false → AreGrouped at → (j : Key) → (at j).live ≡ true → (at j).leader.0 ≡ k.0 → ⊥
@@ -32,15 +37,15 @@ not-led at k sibling h j live e =
     let own : is_key m (at m).leader ≡ true = (leads-parts (at m).live (is_key m (at m).leader) (h.led j live)).1 in
     false≢true (sym sibling ∙ (ap (λ x. is_key x (at x).leader) (sym (key-is m k e)) ∙ own))
 
-pub gone-members : (at to : Key → Post) (k : Key) → Goes at to k → is_key k (at k).leader ≡ false → AreGrouped at → (to k).members ≡ []
+pub gone-members : (at to : Key → Post) (k : Key) → GoesAlone at to k → is_key k (at k).leader ≡ false → AreGrouped at → (to k).members ≡ []
     → (to (at k).leader).members ≡ all_but k (at (at k).leader).members
     → ((j : Key) → (j.0 ≡ k.0 → ⊥) → (j.0 ≡ (at k).leader.0 → ⊥) → (to j).members ≡ (at j).members)
     → ((j leader : Key) → times j (at leader).members ≡ once_if (is_member_of at leader j))
     → (j leader : Key) → times j (to leader).members ≡ once_if (is_member_of to leader j)
 gone-members at to k g sibling grouped none fewer others h j leader =
-    let dead : (to k).live && is_key leader (to k).leader ≡ false = none_of_two (to k).live (is_key leader (to k).leader) g.gone in
+    let dead : (to k).live && is_key leader (to k).leader ≡ false = none_of_two (to k).live (is_key leader (to k).leader) g.goes.gone in
     let there : j.0 ≡ k.0 → is_member_of to leader j ≡ false = λ e. ap (λ x. is_member_of to leader x) (key-is j k e) ∙ dead in
-    let same : (j.0 ≡ k.0 → ⊥) → is_member_of to leader j ≡ is_member_of at leader j = λ apart. ap (λ x. x.live && is_key leader x.leader) (g.others j apart) in
+    let same : (j.0 ≡ k.0 → ⊥) → is_member_of to leader j ≡ is_member_of at leader j = λ apart. ap (λ x. x.live && is_key leader x.leader) (g.same j apart) in
     elim (cases_eq leader.0 k.0) [
       | inl el ↦
           ap (λ x. times j (to x).members) (key-is leader k el) ∙ (ap (times j) none ∙ sym (once-false (is_member_of to leader j) (elim (cases_eq j.0 k.0) [
@@ -63,15 +68,15 @@ gone-members at to k g sibling grouped none fewer others h j leader =
       ]
     ]
 
-pub gone-listed : (at to : Key → Post) (k : Key) → Goes at to k → is_key k (at k).leader ≡ false → (contexts : List Leaders)
+pub gone-listed : (at to : Key → Post) (k : Key) → GoesAlone at to k → is_key k (at k).leader ≡ false → (contexts : List Leaders)
     → ((b : Bool) (j : Key) (place : ℕ) → times j (pick b (slice_index_or contexts place no_leaders)) ≡ once_if (leads_in at place b j))
     → (b : Bool) (j : Key) (place : ℕ) → times j (pick b (slice_index_or contexts place no_leaders)) ≡ once_if (leads_in to place b j)
 gone-listed at to k g sibling contexts h b j place = h b j place ∙ elim (cases_eq j.0 k.0) [
   | inl e ↦
       let before : leads_in at place b k ≡ false = none_of_three (leads at k) (place_of (at k).context == place) (if (at k).pinned then b else not b)
       (last_of_two (at k).live (is_key k (at k).leader) (λ x. sibling)) in
-      ap once_if (ap (λ x. leads_in at place b x) (key-is j k e) ∙ (before ∙ (sym (dead_leads to place b k g.gone) ∙ ap (λ x. leads_in to place b x) (sym (key-is j k e)))))
-  | inr apart ↦ ap once_if (sym (ap (λ x. (x.live && is_key j x.leader) && place_of x.context == place && (if x.pinned then b else not b)) (g.others j apart)))
+      ap once_if (ap (λ x. leads_in at place b x) (key-is j k e) ∙ (before ∙ (sym (dead_leads to place b k g.goes.gone) ∙ ap (λ x. leads_in to place b x) (sym (key-is j k e)))))
+  | inr apart ↦ ap once_if (sym (ap (λ x. (x.live && is_key j x.leader) && place_of x.context == place && (if x.pinned then b else not b)) (g.same j apart)))
 ]
 
 all_but-first : (ms : List Key) (first k : Key) → (first.0 ≡ k.0 → ⊥) → ms ≡ first ∷ after_first ms → all_but k ms ≡ first ∷ after_first (all_but k ms)
@@ -82,18 +87,18 @@ all_but-first (m ∷ ms) first k apart h =
     let kept : all_but k (m ∷ ms) ≡ m ∷ all_but k ms = ap {B = List Key} (λ c. cond (not c) (m ∷ all_but k ms) (all_but k ms)) no in
     subst (λ xs. xs ≡ first ∷ after_first xs) (sym kept) (ap (λ x. x ∷ all_but k ms) is)
 
-length-all_but : (k : Key) (ms : List Key) → length (all_but k ms) ≤ length ms
+pub length-all_but : (k : Key) (ms : List Key) → length (all_but k ms) ≤ length ms
 length-all_but k ms = omega (arith, length-filter (λ j. not (is_key k j)) ms, count_by-le-length (λ j. not (is_key k j)) ms)
 
-pub gone-grouped : (at to : Key → Post) (k : Key) → Goes at to k → is_key k (at k).leader ≡ false → (to k).members ≡ []
+pub gone-grouped : (at to : Key → Post) (k : Key) → GoesAlone at to k → is_key k (at k).leader ≡ false → (to k).members ≡ []
     → (to (at k).leader).members ≡ all_but k (at (at k).leader).members
     → ((j : Key) → (j.0 ≡ k.0 → ⊥) → (j.0 ≡ (at k).leader.0 → ⊥) → (to j).members ≡ (at j).members) → AreGrouped at → AreGrouped to
 gone-grouped at to k g sibling none fewer others h =
     let first : Key = (at k).leader in
-    let far : first.0 ≡ k.0 → ⊥ = λ e. not-led at k sibling h k g.live e in
-    let leads_same : (j : Key) → (j.0 ≡ k.0 → ⊥) → leads to j ≡ leads at j = λ j apart. ap (λ x. x.live && is_key j x.leader) (g.others j apart) in
+    let far : first.0 ≡ k.0 → ⊥ = λ e. not-led at k sibling h k g.goes.live e in
+    let leads_same : (j : Key) → (j.0 ≡ k.0 → ⊥) → leads to j ≡ leads at j = λ j apart. ap (λ x. x.live && is_key j x.leader) (g.same j apart) in
     let was : (j : Key) → (to j).live ≡ true → (j.0 ≡ k.0 → ⊥) × ((at j).leader.0 ≡ k.0 → ⊥) =
-    λ j live. (still-apart at to k g j live, not-led at k sibling h j (still-live at to k g j live)) in
+    λ j live. (still-apart at to k g.goes j live, not-led at k sibling h j (still-live at to k g.goes j live)) in
     let by_first : (P : Key → List Key → Type 0) → P k [] → P first (all_but k (at first).members) → ((j : Key) → (j.0 ≡ k.0 → ⊥) → P j (at j).members) → (j : Key) → P j (to j).members =
     λ P gone here rest. by_coming (λ j. P j (to j).members) k (subst (P k) (sym none) gone) (λ j apart. (elim (cases_eq j.0 first.0) [
       | inl e ↦ subst (λ x. P x (to x).members) (sym (key-is j first e)) (subst (P first) (sym fewer) here)
@@ -101,24 +106,24 @@ gone-grouped at to k g sibling none fewer others h =
     ])) in
     record {
       led = λ j live.
-          let leader : (to j).leader ≡ (at j).leader = ap (λ x. x.leader) (g.others j (was j live).0) in
-          ap (leads to) leader ∙ (leads_same (at j).leader (was j live).1 ∙ h.led j (still-live at to k g j live));
+          let leader : (to j).leader ≡ (at j).leader = ap (λ x. x.leader) (g.same j (was j live).0) in
+          ap (leads to) leader ∙ (leads_same (at j).leader (was j live).1 ∙ h.led j (still-live at to k g.goes j live));
       together = λ j live.
-          let leader : (to j).leader ≡ (at j).leader = ap (λ x. x.leader) (g.others j (was j live).0) in
-          ap (λ x. (to x).context) leader ∙ (ap (λ x. x.context) (g.others (at j).leader (was j live).1)
-          ∙ (h.together j (still-live at to k g j live) ∙ sym (ap (λ x. x.context) (g.others j (was j live).0))));
+          let leader : (to j).leader ≡ (at j).leader = ap (λ x. x.leader) (g.same j (was j live).0) in
+          ap (λ x. (to x).context) leader ∙ (ap (λ x. x.context) (g.same (at j).leader (was j live).1)
+          ∙ (h.together j (still-live at to k g.goes j live) ∙ sym (ap (λ x. x.context) (g.same j (was j live).0))));
       leader_first = by_first (λ j ms. leads to j ≡ true → ms ≡ j ∷ after_first ms)
-          (λ lead. absurd (false≢true (sym (none_of_two (to k).live (is_key k (to k).leader) g.gone) ∙ lead)))
+          (λ lead. absurd (false≢true (sym (none_of_two (to k).live (is_key k (to k).leader) g.goes.gone) ∙ lead)))
           (λ lead. all_but-first (at first).members first k far (h.leader_first first (sym (leads_same first far) ∙ lead)))
           (λ j apart lead. h.leader_first j (sym (leads_same j apart) ∙ lead));
       small = by_first (λ j ms. length ms ≤ 8) (omega arith) (omega (arith, h.small first, length-all_but k (at first).members)) (λ j apart. h.small j);
     }
 
 -- fewer kinds fit too
-abbrev hardware_masks : Hardware → List Kind → List ℕ
+abbrev pub hardware_masks : Hardware → List Kind → List ℕ
 hardware_masks hw kinds = map (mask_of hw) (filter (λ k. not (is_software k)) kinds)
 
-masks-cons : (hw : Hardware) (x : Kind) (kinds : List Kind) (b : Bool) → is_software x ≡ b
+pub masks-cons : (hw : Hardware) (x : Kind) (kinds : List Kind) (b : Bool) → is_software x ≡ b
     → hardware_masks hw (x ∷ kinds) ≡ cond (not b) (mask_of hw x ∷ hardware_masks hw kinds) (hardware_masks hw kinds)
 masks-cons hw x kinds true e = ap {B = List ℕ} (λ c. map (mask_of hw) (cond (not c) (x ∷ filter (λ y. not (is_software y)) kinds) (filter (λ y. not (is_software y)) kinds))) e
 masks-cons hw x kinds false e = ap {B = List ℕ} (λ c. map (mask_of hw) (cond (not c) (x ∷ filter (λ y. not (is_software y)) kinds) (filter (λ y. not (is_software y)) kinds))) e

@@ -1,6 +1,6 @@
 -- The stage after a sibling went.
-use Rattle.std.specs.Prelude.{◌≡◌, ℕ, ◌+◌, ◌<◌, ◌≤◌, ◌==◌, Bool, true, false, not, ◌&&◌, cond, List, [], ◌∷◌, ◌++◌, map, filter, flat_map, slice_index_or, if◌then◌else◌}
-use Rattle.std.proofs.Common.{arith, refl, sym, ap, subst, ◌∙◌, inl, inr}
+use Rattle.std.specs.Prelude.{◌≡◌, ℕ, ◌≤◌, ◌==◌, Bool, true, false, not, cond, List, [], ◌∷◌, ◌++◌, map, flat_map, slice_index_or, if◌then◌else◌}
+use Rattle.std.proofs.Common.{arith, refl, sym, ap, ◌∙◌, inl, inr}
 use Rattle.std.proofs.lemmas.Bool.{cases_eq, cases_Bool, false≢true}
 use Rattle.std.proofs.lemmas.Bool.Decides.{nat_tests}
 use Rattle.std.proofs.lemmas.List.{append-nil}
@@ -9,29 +9,27 @@ use Rattle.perf_base.specs.declared.numbers.Key.{Key}
 use Rattle.stage_spec.specs.declared.instance.Instance.{Instance}
 use Rattle.stage_spec.specs.Closing.{staying, kept_group, freed_groups, without}
 use Rattle.stage_spec.specs.Hardware.{Hardware}
-use Rattle.stage_spec.specs.Stage.{Stage, Group, Lists, alone, place_of}
+use Rattle.stage_spec.specs.Stage.{Group, Lists, alone, place_of}
 use Rattle.stage_laws.specs.Sound.{has_id}
 use Rattle.stage_laws.specs.OneByOne.{drop_one}
-use Rattle.stage_laws.proofs.Images.{filter-map, map-same}
+use Rattle.stage_laws.proofs.Images.{filter-map}
 use Rattle.world_spec.specs.Value.{World, Leaders, no_leaders, is_live, entry_at, instance_at, is_key, times}
 use Rattle.world_spec.specs.StageOf.{after_first, group_at, lists_at, stage_of}
-use Rattle.world_spec.specs.Kept.{post_at, once_if, is_member_of, leads, leads_in, IsKept}
+use Rattle.world_spec.specs.Kept.{post_at, once_if, leads, leads_in, IsKept}
 use Rattle.world_spec.specs.Changes.{all_but}
-use Rattle.world_spec.specs.Adding.{leave_group, taken_out}
-use Rattle.world_spec.specs.Goings.{MayGo, SiblingGoesLaw}
 use Rattle.world_spec.proofs.Renaming.{id-apart}
-use Rattle.world_spec.proofs.Keys.{key-is, is_key-same, is_key-other, is_key-true, times-cons, times-all_but_same, once-true, once-false}
+use Rattle.world_spec.proofs.Keys.{key-is, is_key-same, is_key-other, times-cons, times-all_but_same, once-true, once-false}
 use Rattle.world_spec.proofs.Moving.{leads-parts}
-use Rattle.world_spec.proofs.ComingLinks.{last_of_two, none_of_three}
+use Rattle.world_spec.proofs.ComingLinks.{none_of_three}
 use Rattle.world_spec.proofs.ComingGroups.{map-apart}
-use Rattle.world_spec.proofs.AddedStage.{map-places, times-after_first}
-use Rattle.world_spec.proofs.Gone.{left_world, left-instance, left-members}
+use Rattle.world_spec.proofs.AddedStage.{map-places}
+use Rattle.world_spec.proofs.Gone.{SiblingMayGo, left_world, left-instance, left-members}
 
-abbrev goes_by : World → Key → Instance → Bool
+abbrev pub goes_by : World → Key → Instance → Bool
 goes_by w k i = has_id (instance_at w k).id i
 
 -- the test by id is the test by key
-same-test : (hw : Hardware) (w : World) (k : Key) → IsKept hw w → is_live w k ≡ true → (q : Key) → goes_by w k (instance_at w q) ≡ is_key k q
+pub same-test : (hw : Hardware) (w : World) (k : Key) → IsKept hw w → is_live w k ≡ true → (q : Key) → goes_by w k (instance_at w q) ≡ is_key k q
 same-test hw w k h live q = elim (cases_eq q.0 k.0) [
   | inl e ↦
       let own : goes_by w k (instance_at w k) ≡ true = grind (arith, nat_tests) in
@@ -47,7 +45,7 @@ after-all_but (m ∷ ms) q k apart h =
     let no : is_key k m ≡ false = is_key-other k m (λ e. apart (ap (λ x. x.0) (sym is) ∙ e)) in
     ap {B = List Key} (λ c. after_first (cond (not c) (m ∷ all_but k ms) (all_but k ms))) no
 
-siblings-stay : (hw : Hardware) (w : World) (k : Key) → IsKept hw w → MayGo w k → (q : Key) → (q.0 ≡ k.0 → ⊥) → leads (post_at w) q ≡ true
+siblings-stay : (hw : Hardware) (w : World) (k : Key) → IsKept hw w → SiblingMayGo w k → (q : Key) → (q.0 ≡ k.0 → ⊥) → leads (post_at w) q ≡ true
     → map (instance_at (left_world w k)) (after_first (entry_at (left_world w k) q).members) ≡ staying (goes_by w k) (group_at w q).siblings
 siblings-stay hw w k h may q apart lead =
     let t : World = left_world w k in
@@ -58,7 +56,7 @@ siblings-stay hw w k h may q apart lead =
     ∙ sym (filter-map (λ i. not (goes_by w k i)) (λ j. not (is_key k j)) (instance_at w) (λ j. ap not (same-test hw w k h may.live j)) keys)))
 
 -- a group whose leader stays
-group-kept : (hw : Hardware) (w : World) (k : Key) → IsKept hw w → MayGo w k → (q : Key) → (q.0 ≡ k.0 → ⊥) → leads (post_at w) q ≡ true
+group-kept : (hw : Hardware) (w : World) (k : Key) → IsKept hw w → SiblingMayGo w k → (q : Key) → (q.0 ≡ k.0 → ⊥) → leads (post_at w) q ≡ true
     → kept_group (goes_by w k) (group_at w q) ≡ group_at (left_world w k) q ∷ []
 group-kept hw w k h may q apart lead =
     let no : goes_by w k (instance_at w q) ≡ false = id-apart w k q h.numbered may.live apart in
@@ -69,11 +67,28 @@ group-kept hw w k h may q apart lead =
     } in
     ap {B = List Group} (λ b. elim b as (λ x. List Group) [ true ↦ [] | false ↦ record g { siblings = staying (goes_by w k) g.siblings } ∷ [] ]) no ∙ ap (λ x. x ∷ []) now
 
-group-freed : (hw : Hardware) (w : World) (k : Key) → IsKept hw w → MayGo w k → (q : Key) → (q.0 ≡ k.0 → ⊥) → freed_groups (goes_by w k) (group_at w q) ≡ []
+group-freed : (hw : Hardware) (w : World) (k : Key) → IsKept hw w → SiblingMayGo w k → (q : Key) → (q.0 ≡ k.0 → ⊥) → freed_groups (goes_by w k) (group_at w q) ≡ []
 group-freed hw w k h may q apart =
     let no : goes_by w k (instance_at w q) ≡ false = id-apart w k q h.numbered may.live apart in
     let g : Group = group_at w q in
     ap {B = List Group} (λ b. elim b as (λ x. List Group) [ true ↦ map alone (staying (goes_by w k) g.siblings) | false ↦ [] ]) no
+
+-- a list of leaders
+abbrev pub AreLeading : World → List Key → Type 0
+AreLeading w keys = (q : Key) → 1 ≤ times q keys → leads (post_at w) q ≡ true
+
+pub listed-lead : (w : World) (place : ℕ) (b : Bool) (keys : List Key) → ((j : Key) → times j keys ≡ once_if (leads_in (post_at w) place b j)) → AreLeading w keys
+listed-lead w place b keys h q some = elim (cases_Bool (leads (post_at w) q)) [
+  | inl lead ↦ lead
+  | inr fails ↦
+      absurd (omega (
+        arith,
+        some,
+        h q,
+        once-false (leads_in (post_at w) place b q)
+            (none_of_three (leads (post_at w) q) (place_of (entry_at w q).context == place) (if (entry_at w q).pinned then b else not b) fails),
+      ))
+]
 
 -- a list of leaders: each leads, and the one that goes is not among them
 abbrev AreLeaders : World → Key → List Key → Type 0
@@ -85,7 +100,7 @@ leaders-rest w k q keys h j some = h j (omega (arith, some, times-cons j q keys)
 leaders-first : (w : World) (k q : Key) (keys : List Key) → AreLeaders w k (q ∷ keys) → (leads (post_at w) q ≡ true) × (q.0 ≡ k.0 → ⊥)
 leaders-first w k q keys h = h q (omega (arith, times-cons q q keys, once-true (is_key q q) (is_key-same q q refl)))
 
-all-kept : (hw : Hardware) (w : World) (k : Key) → IsKept hw w → MayGo w k → (keys : List Key) → AreLeaders w k keys
+all-kept : (hw : Hardware) (w : World) (k : Key) → IsKept hw w → SiblingMayGo w k → (keys : List Key) → AreLeaders w k keys
     → map (group_at (left_world w k)) keys ≡ flat_map (kept_group (goes_by w k)) (map (group_at w) keys)
 all-kept hw w k h may [] ls = refl
 all-kept hw w k h may (q ∷ keys) ls =
@@ -93,7 +108,7 @@ all-kept hw w k h may (q ∷ keys) ls =
     ap (λ gs. group_at (left_world w k) q ∷ gs) (all-kept hw w k h may keys (leaders-rest w k q keys ls))
     ∙ ap (λ gs. gs ++ flat_map (kept_group (goes_by w k)) (map (group_at w) keys)) (sym (group-kept hw w k h may q first.1 first.0))
 
-none-freed : (hw : Hardware) (w : World) (k : Key) → IsKept hw w → MayGo w k → (keys : List Key) → AreLeaders w k keys → (more : List Group)
+none-freed : (hw : Hardware) (w : World) (k : Key) → IsKept hw w → SiblingMayGo w k → (keys : List Key) → AreLeaders w k keys → (more : List Group)
     → flat_map (freed_groups (goes_by w k)) (map (group_at w) keys ++ more) ≡ flat_map (freed_groups (goes_by w k)) more
 none-freed hw w k h may [] ls more = refl
 none-freed hw w k h may (q ∷ keys) ls more =
@@ -101,20 +116,12 @@ none-freed hw w k h may (q ∷ keys) ls more =
     ap (λ gs. gs ++ flat_map (freed_groups (goes_by w k)) (map (group_at w) keys ++ more)) (group-freed hw w k h may q first.1)
     ∙ none-freed hw w k h may keys (leaders-rest w k q keys ls) more
 
-listed-leads : (hw : Hardware) (w : World) (k : Key) → MayGo w k → (place : ℕ) (b : Bool) (keys : List Key) → ((j : Key) → times j keys ≡ once_if (leads_in (post_at w) place b j)) → AreLeaders w k keys
-listed-leads hw w k may place b keys h q some = elim (cases_Bool (leads (post_at w) q)) [
-  | inr fails ↦
-      absurd (omega (
-        arith,
-        some,
-        h q,
-        once-false (leads_in (post_at w) place b q)
-            (none_of_three (leads (post_at w) q) (place_of (entry_at w q).context == place) (if (entry_at w q).pinned then b else not b) fails),
-      ))
-  | inl lead ↦ (lead, λ e. false≢true (sym may.sibling ∙ (ap (λ x. is_key x (entry_at w x).leader) (sym (key-is q k e)) ∙ (leads-parts (is_live w q) (is_key q (entry_at w q).leader) lead).1)))
-]
+listed-leads : (hw : Hardware) (w : World) (k : Key) → SiblingMayGo w k → (place : ℕ) (b : Bool) (keys : List Key) → ((j : Key) → times j keys ≡ once_if (leads_in (post_at w) place b j)) → AreLeaders w k keys
+listed-leads hw w k may place b keys h q some =
+    let lead : leads (post_at w) q ≡ true = listed-lead w place b keys h q some in
+    (lead, λ e. false≢true (sym may.sibling ∙ (ap (λ x. is_key x (entry_at w x).leader) (sym (key-is q k e)) ∙ (leads-parts (is_live w q) (is_key q (entry_at w q).leader) lead).1)))
 
-lists-left : (hw : Hardware) (w : World) (k : Key) → IsKept hw w → MayGo w k → (place : ℕ)
+lists-left : (hw : Hardware) (w : World) (k : Key) → IsKept hw w → SiblingMayGo w k → (place : ℕ)
     → lists_at (left_world w k) (slice_index_or w.contexts place no_leaders) ≡ without (goes_by w k) (lists_at w (slice_index_or w.contexts place no_leaders))
 lists-left hw w k h may place =
     let l : Leaders = slice_index_or w.contexts place no_leaders in
@@ -129,11 +136,8 @@ lists-left hw w k h may place =
     ∙ ap (λ gs. flat_map (kept_group (goes_by w k)) (map (group_at w) l.flexible) ++ gs) (sym freed)) in
     λ i. record { pinned = all-kept hw w k h may l.pinned pinned i; flexible = rest i }
 
-left-stage : (hw : Hardware) (w : World) (k : Key) → IsKept hw w → MayGo w k → stage_of (left_world w k) ≡ drop_one (instance_at w k).id (stage_of w)
+pub left-stage : (hw : Hardware) (w : World) (k : Key) → IsKept hw w → SiblingMayGo w k → stage_of (left_world w k) ≡ drop_one (instance_at w k).id (stage_of w)
 left-stage hw w k h may =
     ap {A = List Lists} (λ cs. record (stage_of w) { contexts = cs })
     (map-places (lists_at (left_world w k)) (λ l. without (goes_by w k) (lists_at w l)) no_leaders w.contexts (lists-left hw w k h may)
     ∙ sym (map-map (without (goes_by w k)) (lists_at w) w.contexts))
-
-pub sibling-stage : SiblingGoesLaw
-sibling-stage hw w k h may = ap {B = Stage} (λ b. stage_of (taken_out k (instance_at w k) (leave_group k b w))) may.sibling ∙ left-stage hw w k h may

@@ -1,22 +1,25 @@
 -- What a world keeps, through changes of one instance, of one account, of a standing and of the quiet fields.
 use Rattle.std.specs.Prelude.{◌≡◌, ℕ, ◌+◌, ◌^◌, ◌<◌, ◌==◌, true, false, List, [], ◌∷◌, ◌++◌, length, Some, slice_index_or, slice_set, if◌then◌else◌}
-use Rattle.std.proofs.Common.{refl, sym, ap, subst, ◌∙◌, inl, inr, get_or-set_other, get_or-set_same}
+use Rattle.std.proofs.Common.{arith, refl, sym, ap, subst, ◌∙◌, inl, inr, get_or-set_other, get_or-set_same}
 use Rattle.std.proofs.lemmas.Bool.{cases_eq, cases_lt}
 use Rattle.std.proofs.lemmas.List.{length-map, length-set}
 use Rattle.std.proofs.Math.Seq.{set_out}
+use Rattle.perf_base.specs.Scripts.{IsKind}
+use Rattle.perf_base.specs.declared.numbers.CpuNo.{CpuNo}
 use Rattle.perf_base.specs.declared.numbers.Key.{Key}
 use Rattle.stage_spec.specs.declared.instance.Instance.{Instance}
 use Rattle.stage_spec.specs.Checks.{has_unknown_sample}
-use Rattle.stage_spec.specs.Hardware.{Hardware}
+use Rattle.stage_spec.specs.Hardware.{Hardware, counters_of}
 use Rattle.stage_spec.specs.Limits.{HasShape}
 use Rattle.stage_spec.specs.Opening.{is_used}
 use Rattle.stage_spec.specs.Reading.{is_error}
 use Rattle.stage_spec.specs.Stage.{Stage}
 use Rattle.stage_laws.specs.Sound.{AreRunning}
+use Rattle.counter_match.specs.Seating.{Seated, IsSound, empty_seating}
 use Rattle.world_spec.specs.Value.{World, Entry, Quiet, is_live, entry_at, instance_at, is_key}
 use Rattle.world_spec.specs.StageOf.{stage_of, lists_at}
-use Rattle.world_spec.specs.Kept.{post_at, AreLinked, AreGrouped, AreNumbered, AreApart, AreFitting, kinds_in, AreLawful, IsKept}
-use Rattle.world_spec.specs.Changes.{with_instance}
+use Rattle.world_spec.specs.Kept.{post_at, AreLinked, HaveCopies, AreSeated, AreGrouped, AreNumbered, AreApart, AreFitting, kinds_in, AreLawful, IsKept}
+use Rattle.world_spec.specs.Changes.{remember, with_instance}
 use Rattle.world_spec.specs.Laws.{OwnLaw, OwnKeptLaw, RingLaw, RingKeptLaw, StandingLaw, StandingKeptLaw, SeatsLaw, SeatsKeptLaw, ClockLaw, ClockKeptLaw, LostLaw, LostKeptLaw}
 use Rattle.world_spec.proofs.Tables.{KeepsPost, posts-same, keys-written, live-written, with_entry, entry-here, entry-there}
 use Rattle.world_spec.proofs.Renaming.{instance-stage}
@@ -41,6 +44,7 @@ instance-lawful f keeps w k there error sample h =
           (λ same failed. ap (λ n. (entry_at w k).leader.0 == n) same ∙ error failed) (λ apart. h.errors q (live q alive));
       samples = λ q alive. by_entry (λ x. has_unknown_sample x.instance.attr ≡ false) w k e q
           (λ same. sample ∙ h.samples k there) (λ apart. h.samples q (live q alive));
+      kinds = λ q alive. subst (λ at. IsKind (length w.hardware.kind_pmus) (at q).kind) (sym posts) (h.kinds q (live q alive));
       used = λ q alive first.
           ap (λ at. is_used (stage_of w) (at q).event) posts ∙ h.used q (live q alive) (sym (ap (λ at. (at q).copy) posts) ∙ first);
     }
@@ -58,6 +62,8 @@ instance-kept f keeps hw w k there error sample h =
         families = h.tables.families;
         folded = h.tables.folded;
         lost = h.tables.lost;
+        clocks = h.tables.clocks;
+        seats = h.tables.seats;
       };
       shape = record {
         running = h.shape.running;
@@ -66,23 +72,27 @@ instance-kept f keeps hw w k there error sample h =
       };
       running = record { live = h.running.live; once = h.running.once };
       linked = subst (λ at. AreLinked at w.contexts w.families) posts h.linked;
+      copies = subst (λ at. HaveCopies at w.families) posts h.copies;
       grouped = subst AreGrouped posts h.grouped;
       numbered = subst (λ at. AreNumbered at w.quiet.next_id) posts h.numbered;
       apart = subst AreApart posts h.apart;
       fitting = subst (λ at. (q : Key) → AreFitting hw (kinds_in at q)) posts h.fitting;
       lawful = instance-lawful f keeps w k there error sample h.lawful;
+      seated = h.seated;
       small = record { counts = h.small.counts; times = h.small.times; ran = h.small.ran; folded_ran = h.small.folded_ran; clocks = h.small.clocks; lost = h.small.lost; ids = h.small.ids };
     }
 
 -- a change of the quiet fields that leaves the slots used and the next id
 pub quiet-kept : (hw : Hardware) (w : World) (quiet : Quiet) → quiet.used ≡ w.quiet.used → quiet.next_id ≡ w.quiet.next_id
     → HasShape hw (stage_of (record w { quiet = quiet })) → AreRunning (stage_of (record w { quiet = quiet }))
-    → ((cpu : ℕ) → slice_index_or quiet.clocks cpu 0 < 2 ^ 63) → IsKept hw w → IsKept hw (record w { quiet = quiet })
-quiet-kept hw w quiet used next shape running clocks h = record {
-  tables = record { accounts = h.tables.accounts; standings = h.tables.standings; families = h.tables.families; folded = h.tables.folded; lost = h.tables.lost };
+    → ((cpu : ℕ) → slice_index_or quiet.clocks cpu 0 < 2 ^ 63) → length quiet.clocks ≡ length quiet.running → length quiet.seats ≡ length quiet.running → AreSeated hw quiet.seats
+    → IsKept hw w → IsKept hw (record w { quiet = quiet })
+quiet-kept hw w quiet used next shape running clocks many_clocks many_seats seated h = record {
+  tables = record { accounts = h.tables.accounts; standings = h.tables.standings; families = h.tables.families; folded = h.tables.folded; lost = h.tables.lost; clocks = many_clocks; seats = many_seats };
   shape = shape;
   running = running;
   linked = h.linked;
+  copies = h.copies;
   grouped = h.grouped;
   numbered = subst (AreNumbered (post_at w)) (sym next) h.numbered;
   apart = h.apart;
@@ -90,8 +100,10 @@ quiet-kept hw w quiet used next shape running clocks h = record {
   lawful = record {
     errors = h.lawful.errors;
     samples = h.lawful.samples;
+    kinds = h.lawful.kinds;
     used = λ q alive first. ap (λ slots. is_used (record (stage_of w) { used = slots }) (instance_at w q).event) used ∙ h.lawful.used q alive first;
   };
+  seated = seated;
   small = record { counts = h.small.counts; times = h.small.times; ran = h.small.ran; folded_ran = h.small.folded_ran; clocks = clocks; lost = h.small.lost; ids = subst (λ n. n < 2 ^ 63) (sym next) h.small.ids };
 }
 
@@ -104,6 +116,27 @@ bounded-set xs i v bound each low k = elim (cases_eq k i) [
     | inr past ↦ subst (λ ys. slice_index_or ys k 0 < bound) (sym (set_out xs i v past)) (each k)
   ]
 ]
+
+-- the seats of a processor after they were written
+seated-set : (hw : Hardware) (seats : List Seated) (cpu : CpuNo) (seated : Seated) → IsSound seated → seated.counters ≡ counters_of hw cpu → AreSeated hw seats
+    → AreSeated hw (slice_set seats cpu.0 seated)
+seated-set hw seats cpu seated sound counters h =
+    let size : length (slice_set seats cpu.0 seated) ≡ length seats = length-set seats cpu.0 seated in
+    let each : (P : CpuNo → Seated → Type 0) → P cpu seated → ((other : CpuNo) → other.0 < length seats → P other (slice_index_or seats other.0 (empty_seating 0)))
+    → (other : CpuNo) → other.0 < length (slice_set seats cpu.0 seated) → P other (slice_index_or (slice_set seats cpu.0 seated) other.0 (empty_seating 0)) =
+    λ P here there other low.
+    (let within : other.0 < length seats = omega (arith, low, size) in
+    elim (cases_eq other.0 cpu.0) [
+      | inl e ↦
+          let is : other ≡ cpu = λ i. record { 0 = e i } in
+          let written : slice_index_or (slice_set seats cpu.0 seated) cpu.0 (empty_seating 0) ≡ seated = get_or-set_same seats cpu.0 seated (empty_seating 0) (omega (arith, within, e)) in
+          subst (λ x. P x (slice_index_or (slice_set seats cpu.0 seated) x.0 (empty_seating 0))) (sym is) (subst (P cpu) (sym written) here)
+      | inr apart ↦ subst (P other) (sym (get_or-set_other seats cpu.0 other.0 seated (empty_seating 0) apart)) (there other within)
+    ]) in
+    record {
+      counters = each (λ x s. s.counters ≡ counters_of hw x) counters h.counters;
+      sound = each (λ x s. IsSound s) sound h.sound;
+    }
 
 -- the laws of one instance
 pub own-stage : OwnLaw
@@ -124,15 +157,19 @@ standing-kept hw w k s there h = record {
     families = h.tables.families;
     folded = h.tables.folded;
     lost = h.tables.lost;
+    clocks = h.tables.clocks;
+    seats = h.tables.seats;
   };
   shape = record { running = h.shape.running; tasks = h.shape.tasks; contexts = h.shape.contexts };
   running = record { live = h.running.live; once = h.running.once };
   linked = h.linked;
+  copies = h.copies;
   grouped = h.grouped;
   numbered = h.numbered;
   apart = h.apart;
   fitting = h.fitting;
-  lawful = record { errors = h.lawful.errors; samples = h.lawful.samples; used = h.lawful.used };
+  lawful = record { errors = h.lawful.errors; samples = h.lawful.samples; kinds = h.lawful.kinds; used = h.lawful.used };
+  seated = h.seated;
   small = record { counts = h.small.counts; times = h.small.times; ran = h.small.ran; folded_ran = h.small.folded_ran; clocks = h.small.clocks; lost = h.small.lost; ids = h.small.ids };
 }
 
@@ -140,7 +177,9 @@ pub seats-stage : SeatsLaw
 seats-stage w cpu seated = refl
 
 pub seats-kept : SeatsKeptLaw
-seats-kept hw w cpu seated h = quiet-kept hw w (record w.quiet { seats = slice_set w.quiet.seats cpu.0 seated }) refl refl h.shape h.running h.small.clocks h
+seats-kept hw w cpu seated sound counters h =
+    quiet-kept hw w (record w.quiet { seats = slice_set w.quiet.seats cpu.0 seated }) refl refl h.shape h.running h.small.clocks
+    h.tables.clocks (length-set w.quiet.seats cpu.0 seated ∙ h.tables.seats) (seated-set hw w.quiet.seats cpu seated sound counters h.seated) h
 
 pub clock-stage : ClockLaw
 clock-stage w cpu n = refl
@@ -149,7 +188,7 @@ pub clock-kept : ClockKeptLaw
 clock-kept hw w cpu n low h =
     let now : ℕ = slice_index_or w.quiet.clocks cpu.0 0 + n in
     quiet-kept hw w (record w.quiet { clocks = slice_set w.quiet.clocks cpu.0 now }) refl refl h.shape h.running
-    (bounded-set w.quiet.clocks cpu.0 now (2 ^ 63) h.small.clocks low) h
+    (bounded-set w.quiet.clocks cpu.0 now (2 ^ 63) h.small.clocks low) (length-set w.quiet.clocks cpu.0 now ∙ h.tables.clocks) h.tables.seats h.seated h
 
 pub lost-stage : LostLaw
 lost-stage w k = refl
@@ -165,15 +204,19 @@ lost-kept hw w k low h =
         families = h.tables.families;
         folded = h.tables.folded;
         lost = length-set w.lost slot more ∙ h.tables.lost;
+        clocks = h.tables.clocks;
+        seats = h.tables.seats;
       };
       shape = record { running = h.shape.running; tasks = h.shape.tasks; contexts = h.shape.contexts };
       running = record { live = h.running.live; once = h.running.once };
       linked = h.linked;
+      copies = h.copies;
       grouped = h.grouped;
       numbered = h.numbered;
       apart = h.apart;
       fitting = h.fitting;
-      lawful = record { errors = h.lawful.errors; samples = h.lawful.samples; used = h.lawful.used };
+      lawful = record { errors = h.lawful.errors; samples = h.lawful.samples; kinds = h.lawful.kinds; used = h.lawful.used };
+      seated = h.seated;
       small = record {
         counts = h.small.counts;
         times = h.small.times;
@@ -187,7 +230,7 @@ lost-kept hw w k low h =
 
 pub ring-stage : RingLaw
 ring-stage hw w k ring owner h there =
-    ap {A = Stage} (λ s. record s { mapped = if owner then s.mapped ++ ring ∷ [] else s.mapped })
+    ap {A = Stage} (λ s. record s { mapped = if owner then remember ring s.mapped else s.mapped })
     (instance-stage (λ i. record i { ring = Some ring; mapped = owner }) (λ live e. refl) w k h.numbered there)
 
 pub ring-kept : RingKeptLaw
@@ -195,6 +238,6 @@ ring-kept hw w k ring owner there h =
     let f : Instance → Instance = λ i. record i { ring = Some ring; mapped = owner } in
     let t : World = with_instance f k w in
     let kept : IsKept hw t = instance-kept f (λ live e. refl) hw w k there (h.lawful.errors k there) refl h in
-    quiet-kept hw t (record w.quiet { mapped = if owner then w.quiet.mapped ++ ring ∷ [] else w.quiet.mapped }) refl refl
+    quiet-kept hw t (record w.quiet { mapped = if owner then remember ring w.quiet.mapped else w.quiet.mapped }) refl refl
     (record { running = kept.shape.running; tasks = kept.shape.tasks; contexts = kept.shape.contexts })
-    (record { live = kept.running.live; once = kept.running.once }) kept.small.clocks kept
+    (record { live = kept.running.live; once = kept.running.once }) kept.small.clocks kept.tables.clocks kept.tables.seats kept.seated kept

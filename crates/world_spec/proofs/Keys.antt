@@ -45,7 +45,7 @@ pub once-false : (b : Bool) → b ≡ false → once_if b ≡ 0
 once-false b h = ap {B = ℕ} (λ c. cond c 1 0) h
 
 -- all but one key
-all_but-cons : (k q : Key) (keys : List Key) (b : Bool) → is_key k q ≡ b → all_but k (q ∷ keys) ≡ cond (not b) (q ∷ all_but k keys) (all_but k keys)
+pub all_but-cons : (k q : Key) (keys : List Key) (b : Bool) → is_key k q ≡ b → all_but k (q ∷ keys) ≡ cond (not b) (q ∷ all_but k keys) (all_but k keys)
 all_but-cons k q keys b h = ap {B = List Key} (λ c. cond (not c) (q ∷ all_but k keys) (all_but k keys)) h
 
 pub times-all_but_same : (k : Key) (keys : List Key) → times k (all_but k keys) ≡ 0

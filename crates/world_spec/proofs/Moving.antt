@@ -98,7 +98,7 @@ leaders-kept hw w c f low same h =
     let size : length w.contexts ≡ 72 = sym (length-map w.contexts (lists_at w)) ∙ h.shape.contexts in
     let within : place_of c < length w.contexts = omega (arith, low, size) in
     record {
-      tables = record { accounts = h.tables.accounts; standings = h.tables.standings; families = h.tables.families; folded = h.tables.folded; lost = h.tables.lost };
+      tables = record { accounts = h.tables.accounts; standings = h.tables.standings; families = h.tables.families; folded = h.tables.folded; lost = h.tables.lost; clocks = h.tables.clocks; seats = h.tables.seats };
       shape = record {
         running = h.shape.running;
         tasks = h.shape.tasks;
@@ -114,11 +114,13 @@ leaders-kept hw w c f low same h =
         flexible = λ j place. at_place (λ l. times j l.flexible ≡ once_if (leads_in (post_at w) place false j)) w.contexts (place_of c) (f (leaders_of w c)) no_leaders place within
             (λ e. (same j).1 ∙ (h.linked.flexible j (place_of c) ∙ ap (λ n. once_if (leads_in (post_at w) n false j)) (sym e))) (λ apart. h.linked.flexible j place);
       };
+      copies = h.copies;
       grouped = h.grouped;
       numbered = h.numbered;
       apart = h.apart;
       fitting = h.fitting;
-      lawful = record { errors = h.lawful.errors; samples = h.lawful.samples; used = h.lawful.used };
+      lawful = record { errors = h.lawful.errors; samples = h.lawful.samples; kinds = h.lawful.kinds; used = h.lawful.used };
+      seated = h.seated;
       small = record {
         counts = h.small.counts;
         times = h.small.times;

@@ -1,5 +1,5 @@
 -- Tasks that are placed, that come and that exit keep a world.
-use Rattle.std.specs.Prelude.{◌≡◌, Option, Some, None, slice_index_or, slice_set}
+use Rattle.std.specs.Prelude.{◌≡◌, length, Option, Some, None, slice_index_or, slice_set}
 use Rattle.std.proofs.Common.{refl, sym, ap, ◌∙◌, inl, inr}
 use Rattle.std.proofs.lemmas.Bool.{cases_eq, false≢true}
 use Rattle.std.proofs.lemmas.List.{length-set}
@@ -25,9 +25,10 @@ place-stage w cpu (Some task) = refl
 
 running-kept : (hw : Hardware) (w : World) (cpu : CpuNo) (to : Option TaskNo) → AreRunning (set_running cpu to (stage_of w)) → IsKept hw w → IsKept hw (with_running cpu to w)
 running-kept hw w cpu to running h =
+    let size : length (slice_set w.quiet.running cpu.0 to) ≡ length w.quiet.running = length-set w.quiet.running cpu.0 to in
     quiet-kept hw w (record w.quiet { running = slice_set w.quiet.running cpu.0 to }) refl refl
     (record { running = length-set w.quiet.running cpu.0 to ∙ h.shape.running; tasks = h.shape.tasks; contexts = h.shape.contexts })
-    (record { live = running.live; once = running.once }) h.small.clocks h
+    (record { live = running.live; once = running.once }) h.small.clocks (h.tables.clocks ∙ sym size) (h.tables.seats ∙ sym size) h.seated h
 
 status-kept : (hw : Hardware) (w : World) (task : TaskNo) (f : TaskStatus → TaskStatus) → AreRunning (set_status task (f (status_of (stage_of w) task)) (stage_of w))
     → IsKept hw w → IsKept hw (with_status task f w)
@@ -35,7 +36,7 @@ status-kept hw w task f running h =
     let status : TaskStatus = f (slice_index_or w.quiet.tasks task.0 unknown_task) in
     quiet-kept hw w (record w.quiet { tasks = slice_set w.quiet.tasks task.0 status }) refl refl
     (record { running = h.shape.running; tasks = length-set w.quiet.tasks task.0 status ∙ h.shape.tasks; contexts = h.shape.contexts })
-    (record { live = running.live; once = running.once }) h.small.clocks h
+    (record { live = running.live; once = running.once }) h.small.clocks h.tables.clocks h.tables.seats h.seated h
 
 pub place-kept : PlaceKeptLaw
 place-kept hw w cpu None low free h =

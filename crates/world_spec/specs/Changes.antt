@@ -1,8 +1,9 @@
 -- What each change does to a world, but for those by which instances come and go. After perf_event_enable,
 -- perf_event_period, perf_mmap, perf_swevent_event, perf_event_update_time and perf_event_task_sched_in of
 -- kernel/events/core.c; the tables are this project's own profile.
-use Rattle.std.specs.Prelude.{ℕ, ◌+◌, Bool, true, false, not, List, [], ◌∷◌, ◌++◌, filter, Option, Some, None, slice_index_or, slice_set, if◌then◌else◌}
+use Rattle.std.specs.Prelude.{ℕ, ◌+◌, ◌==◌, Bool, true, false, not, List, [], ◌∷◌, ◌++◌, filter, Option, Some, None, slice_index_or, slice_set, if◌then◌else◌}
 use Rattle.std.specs.FinMap.{insert}
+use Rattle.std.specs.List.{list_any}
 use Rattle.perf_base.specs.declared.numbers.CpuNo.{CpuNo}
 use Rattle.perf_base.specs.declared.numbers.Key.{Key}
 use Rattle.perf_base.specs.declared.numbers.RingNo.{RingNo}
@@ -25,6 +26,10 @@ with_instance f k w = record w { entries = insert w.entries k.0 (record (entry_a
 abbrev pub with_account : (Account → Account) → Key → World → World
 with_account f k w = record w { accounts = insert w.accounts k.0 (f (account_at w k)) }
 
+-- a ring that was mapped is remembered, once
+abbrev pub remember : RingNo → List RingNo → List RingNo
+remember ring mapped = if list_any (λ r. r.0 == ring.0) mapped then mapped else mapped ++ ring ∷ []
+
 -- the own state, the period, of which a whole one is left then, and the ring; a mapping of its own is remembered
 abbrev pub set_own : Key → Own → World → World
 set_own k o w = with_instance (λ i. record i { own = o }) k w
@@ -34,7 +39,7 @@ set_period k period w = with_account (λ a. record a { left = period }) k (with_
 
 abbrev pub set_ring : Key → RingNo → Bool → World → World
 set_ring k ring owner w = record (with_instance (λ i. record i { ring = Some ring; mapped = owner }) k w) {
-  quiet = record w.quiet { mapped = if owner then w.quiet.mapped ++ ring ∷ [] else w.quiet.mapped };
+  quiet = record w.quiet { mapped = if owner then remember ring w.quiet.mapped else w.quiet.mapped };
 }
 
 -- so many occurrences; a stretch of work, with whether the instance is ready and on; and a count from 0 on again

@@ -1,6 +1,7 @@
 -- An instance that comes keeps a world and is the stage's own new instance. After perf_install_in_context, perf_group_attach and
 -- inherit_event of kernel/events/core.c; the tables are this project's own profile.
 use Rattle.std.specs.Prelude.{◌≡◌, ℕ, ◌+◌, ◌^◌, ◌<◌, true, false, List, [], ◌∷◌, ◌++◌, length, map, Option, Some, None, if◌then◌else◌}
+use Rattle.perf_base.specs.Scripts.{IsKind}
 use Rattle.perf_base.specs.declared.attr.Kind.{Kind}
 use Rattle.perf_base.specs.declared.numbers.EventNo.{EventNo}
 use Rattle.perf_base.specs.declared.numbers.Key.{Key}
@@ -14,7 +15,7 @@ use Rattle.stage_spec.specs.Stage.{Stage, Group, Lists, alone, place_of, change_
 use Rattle.stage_laws.specs.Sound.{has_id}
 use Rattle.world_spec.specs.Value.{World, is_live, entry_at, instance_at}
 use Rattle.world_spec.specs.StageOf.{stage_of}
-use Rattle.world_spec.specs.Kept.{leads, post_at, is_original_in, is_of_task, kinds_in, AreFitting, IsKept}
+use Rattle.world_spec.specs.Kept.{leads, post_at, is_original_in, is_of_task, kinds_in, copies_in, AreFitting, IsKept}
 use Rattle.world_spec.specs.Adding.{Newcomer, new_instance, add}
 use Rattle.world_spec.specs.Laws.{Keeps}
 
@@ -23,20 +24,23 @@ abbrev pub new_kinds : World → Newcomer → Option Key → List Kind
 new_kinds w n None = n.attr.kind ∷ []
 new_kinds w n (Some leader) = kinds_in (post_at w) leader ++ n.attr.kind ∷ []
 
--- The key names nothing; the context has none of the family; the group fits with it; ids have room.
+-- The key names nothing; the kind is one of the machine's; the context has none of the family; the group fits with it; ids have room.
 pub record MayCome (hw : Hardware) (w : World) (k : Key) (n : Newcomer) : Type 0 where
   pub fresh : is_live w k ≡ false
   pub slot : n.event.0 < 256
   pub place : place_of n.context < 72
   pub known : has_unknown_sample n.attr ≡ false
+  pub kind : IsKind (length w.hardware.kind_pmus) n.attr.kind
   pub first_there : (j : Key) → is_live w j ≡ true → (instance_at w j).event.0 ≡ n.event.0 → place_of (entry_at w j).context ≡ place_of n.context → ⊥
   pub fitting : AreFitting hw (new_kinds w n n.leader)
   pub room : w.quiet.next_id + 1 < 2 ^ 63
 
--- the slot of a new original was not used; a copy and its original, which is there, stand in contexts of tasks
+-- The slot of a new original was not used. A copy and its original, which is there, stand in contexts of tasks, and there are fewer than
+-- 4,096 copies.
 pub record IsOfOriginal (w : World) (n : Newcomer) : Type 0 where
   pub unused : n.copy ≡ false → is_used (stage_of w) n.event ≡ false
   pub of_task : n.copy ≡ true → is_of_task n.context ≡ true
+  pub few : n.copy ≡ true → copies_in w.families < 4096
   pub original : n.copy ≡ true → (j : Key) × (is_original_in (post_at w) n.event.0 j ≡ true) × (is_of_task (entry_at w j).context ≡ true)
 
 -- a leader that is given leads in that context, and its group has room

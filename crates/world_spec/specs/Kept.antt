@@ -2,8 +2,10 @@
 -- kernel/events/core.c keeps of its groups, contexts and inherited events; the counting is this project's own profile.
 use Rattle.std.specs.Prelude.{◌≡◌, ℕ, ◌^◌, ◌<◌, ◌≤◌, ◌==◌, Bool, true, false, not, ◌&&◌, IsTrue, List, [], ◌∷◌, ◌++◌, length, map, filter, Option, Some, None, slice_index_or, if◌then◌else◌}
 use Rattle.std.specs.FinMap.{contains_key}
-use Rattle.std.specs.List.{AllPairs}
+use Rattle.std.specs.List.{AllPairs, sum_by}
+use Rattle.perf_base.specs.Scripts.{IsKind}
 use Rattle.perf_base.specs.declared.attr.Kind.{Kind}
+use Rattle.perf_base.specs.declared.numbers.CpuNo.{CpuNo}
 use Rattle.perf_base.specs.declared.numbers.EventNo.{EventNo}
 use Rattle.perf_base.specs.declared.numbers.Key.{Key}
 use Rattle.perf_base.specs.declared.reply.Sums.{Sums}
@@ -12,13 +14,14 @@ use Rattle.perf_base.specs.declared.standing.Context.TheVariants as context
 use Rattle.stage_spec.specs.Checks.{has_unknown_sample}
 use Rattle.stage_spec.specs.Families.{plus}
 use Rattle.stage_spec.specs.Fits.{fits}
-use Rattle.stage_spec.specs.Hardware.{Hardware, is_software, mask_of}
+use Rattle.stage_spec.specs.Hardware.{Hardware, is_software, mask_of, counters_of}
 use Rattle.stage_spec.specs.Limits.{HasShape}
 use Rattle.stage_spec.specs.Opening.{is_used, is_other_pmu}
 use Rattle.stage_spec.specs.Reading.{is_error}
 use Rattle.stage_spec.specs.Shares.{no_sums}
 use Rattle.stage_spec.specs.Stage.{place_of}
 use Rattle.stage_laws.specs.Sound.{AreRunning}
+use Rattle.counter_match.specs.Seating.{Seated, IsSound, empty_seating}
 use Rattle.world_spec.specs.Value.{World, Leaders, Family, no_leaders, no_family, is_live, entry_at, instance_at, account_at, is_key, times}
 use Rattle.world_spec.specs.StageOf.{after_first, stage_of}
 
@@ -142,11 +145,25 @@ pub record AreSmall (w : World) : Type 0 where
   pub lost : (slot : ℕ) → slice_index_or w.lost slot 0 < 2 ^ 63
   pub ids : w.quiet.next_id < 2 ^ 63
 
--- Only a leader is in error; sample bits are known; the slot of an original was used.
+-- Only a leader is in error; sample bits are known; a hardware kind is one of the machine's; the slot of an original was used.
 pub record AreLawful (w : World) : Type 0 where
   pub errors : (k : Key) → is_live w k ≡ true → is_error (instance_at w k).own ≡ true → is_key k (entry_at w k).leader ≡ true
   pub samples : (k : Key) → is_live w k ≡ true → has_unknown_sample (instance_at w k).attr ≡ false
+  pub kinds : (k : Key) → is_live w k ≡ true → IsKind (length w.hardware.kind_pmus) (instance_at w k).attr.kind
   pub used : (k : Key) → is_live w k ≡ true → (instance_at w k).copy ≡ false → is_used (stage_of w) (instance_at w k).event ≡ true
+
+-- The copies of a family stand by rising ids, and those of all families are 4,096 at most.
+abbrev pub copies_in : List Family → ℕ
+copies_in families = sum_by (λ f. length f.copies) families
+
+pub record HaveCopies (at : Key → Post) (families : List Family) : Type 0 where
+  pub rising : (slot : ℕ) → AllPairs (λ j k. (at j).id < (at k).id) (slice_index_or families slot no_family).copies
+  pub few : copies_in families ≤ 4096
+
+-- The seats of each processor are over the counters of its PMU: each event that is seated is on a counter of its mask, and no counter serves two.
+pub record AreSeated (hw : Hardware) (seats : List Seated) : Type 0 where
+  pub counters : (cpu : CpuNo) → cpu.0 < length seats → (slice_index_or seats cpu.0 (empty_seating 0)).counters ≡ counters_of hw cpu
+  pub sound : (cpu : CpuNo) → cpu.0 < length seats → IsSound (slice_index_or seats cpu.0 (empty_seating 0))
 
 -- The tables have the same keys, and the lists their lengths.
 pub record HaveTables (w : World) : Type 0 where
@@ -155,6 +172,8 @@ pub record HaveTables (w : World) : Type 0 where
   pub families : length w.families ≡ 256
   pub folded : length w.folded ≡ 256
   pub lost : length w.lost ≡ 256
+  pub clocks : length w.quiet.clocks ≡ length w.quiet.running
+  pub seats : length w.quiet.seats ≡ length w.quiet.running
 
 -- what a world's type keeps
 pub record IsKept (hw : Hardware) (w : World) : Type 0 where
@@ -162,9 +181,11 @@ pub record IsKept (hw : Hardware) (w : World) : Type 0 where
   pub shape : HasShape hw (stage_of w)
   pub running : AreRunning (stage_of w)
   pub linked : AreLinked (post_at w) w.contexts w.families
+  pub copies : HaveCopies (post_at w) w.families
   pub grouped : AreGrouped (post_at w)
   pub numbered : AreNumbered (post_at w) w.quiet.next_id
   pub apart : AreApart (post_at w)
   pub fitting : (k : Key) → AreFitting hw (kinds_in (post_at w) k)
   pub lawful : AreLawful w
+  pub seated : AreSeated hw w.quiet.seats
   pub small : AreSmall w

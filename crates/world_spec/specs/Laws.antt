@@ -8,16 +8,16 @@ use Rattle.perf_base.specs.declared.numbers.TaskNo.{TaskNo}
 use Rattle.perf_base.specs.declared.standing.Own.{Own}
 use Rattle.perf_base.specs.declared.standing.Standing.{Standing}
 use Rattle.stage_spec.specs.declared.instance.TaskState.TheVariants as state
-use Rattle.stage_spec.specs.Hardware.{Hardware}
+use Rattle.stage_spec.specs.Hardware.{Hardware, counters_of}
 use Rattle.stage_spec.specs.Reading.{is_error}
 use Rattle.stage_spec.specs.Stage.{Stage, task_on, status_of, fresh_task, set_status}
 use Rattle.stage_spec.specs.Switching.{put_on}
 use Rattle.stage_laws.specs.OneByOne.{change_one}
-use Rattle.counter_match.specs.Seating.{Seated}
+use Rattle.counter_match.specs.Seating.{Seated, IsSound}
 use Rattle.world_spec.specs.Value.{World, is_live, entry_at, instance_at, is_key}
 use Rattle.world_spec.specs.StageOf.{stage_of}
 use Rattle.world_spec.specs.Kept.{IsKept, family_sums}
-use Rattle.world_spec.specs.Changes.{set_own, set_period, set_ring, set_standing, with_seats, pass_time, add_lost, hit, pass, reset_count, place, add_task, end_task}
+use Rattle.world_spec.specs.Changes.{remember, set_own, set_period, set_ring, set_standing, with_seats, pass_time, add_lost, hit, pass, reset_count, place, add_task, end_task}
 
 -- a change of the world that keeps what it keeps
 abbrev pub Keeps : Hardware → World → World → Type 0
@@ -41,7 +41,7 @@ PeriodKeptLaw = (hw : Hardware) (w : World) (k : Key) (period : ℕ) → is_live
 
 -- and a ring, which is remembered where the event has a mapping of its own
 abbrev pub remembered : RingNo → Bool → Stage → Stage
-remembered ring owner s = record s { mapped = if owner then s.mapped ++ ring ∷ [] else s.mapped }
+remembered ring owner s = record s { mapped = if owner then remember ring s.mapped else s.mapped }
 
 abbrev pub RingLaw : Type 0
 RingLaw = (hw : Hardware) (w : World) (k : Key) (ring : RingNo) (owner : Bool) → IsKept hw w → is_live w k ≡ true
@@ -50,7 +50,7 @@ RingLaw = (hw : Hardware) (w : World) (k : Key) (ring : RingNo) (owner : Bool) �
 abbrev pub RingKeptLaw : Type 0
 RingKeptLaw = (hw : Hardware) (w : World) (k : Key) (ring : RingNo) (owner : Bool) → is_live w k ≡ true → Keeps hw w (set_ring k ring owner w)
 
--- Standings, seats, clocks and lost counts leave the stage.
+-- Standings, seats, clocks and lost counts leave the stage. Seats are sound and over the processor's counters.
 abbrev pub StandingLaw : Type 0
 StandingLaw = (w : World) (k : Key) (s : Standing) → stage_of (set_standing k s w) ≡ stage_of w
 
@@ -61,7 +61,7 @@ abbrev pub SeatsLaw : Type 0
 SeatsLaw = (w : World) (cpu : CpuNo) (seated : Seated) → stage_of (with_seats cpu seated w) ≡ stage_of w
 
 abbrev pub SeatsKeptLaw : Type 0
-SeatsKeptLaw = (hw : Hardware) (w : World) (cpu : CpuNo) (seated : Seated) → Keeps hw w (with_seats cpu seated w)
+SeatsKeptLaw = (hw : Hardware) (w : World) (cpu : CpuNo) (seated : Seated) → IsSound seated → seated.counters ≡ counters_of hw cpu → Keeps hw w (with_seats cpu seated w)
 
 abbrev pub ClockLaw : Type 0
 ClockLaw = (w : World) (cpu : CpuNo) (n : ℕ) → stage_of (pass_time cpu n w) ≡ stage_of w

@@ -8,6 +8,7 @@ use Rattle.perf_base.specs.declared.attr.Attr.{Attr}
 use Rattle.perf_base.specs.declared.attr.CpuSel.TheVariants as cpus
 use Rattle.perf_base.specs.declared.attr.Kind.TheVariants as kind
 use Rattle.perf_base.specs.declared.attr.TaskSel.TheVariants as tasks
+use Rattle.perf_base.specs.declared.numbers.CpuNo.{CpuNo}
 use Rattle.perf_base.specs.declared.numbers.EventNo.{EventNo}
 use Rattle.perf_base.specs.declared.numbers.Key.{Key}
 use Rattle.perf_base.specs.declared.numbers.RingNo.{RingNo}
@@ -20,9 +21,10 @@ use Rattle.perf_base.specs.declared.standing.Standing.{Standing}
 use Rattle.perf_base.specs.declared.standing.Standing.TheVariants as standing
 use Rattle.stage_spec.specs.declared.instance.Instance.{Instance}
 use Rattle.stage_spec.specs.declared.instance.TaskStatus.{TaskStatus}
+use Rattle.stage_spec.specs.Hardware.{Hardware}
 use Rattle.stage_spec.specs.Shares.{no_sums}
 use Rattle.stage_spec.specs.Stage.{place_of}
-use Rattle.counter_match.specs.Seating.{Seated}
+use Rattle.counter_match.specs.Seating.{Seated, empty_seating}
 
 -- An instance, the context that it stands in, and the leader of its group; of a leader the members of the group, itself
 -- first, and none of a sibling; and whether the group stands among the pinned ones.
@@ -59,9 +61,11 @@ pub record Quiet : Type 0 where
   pub mapped : List RingNo
   pub next_id : ℕ
 
--- By key the entries, the accounts and, of leaders, the standings. The leaders of the eight processors' groups and then of each
--- task's. By slot the families, what the copies that exited had counted, and how many records were lost.
+-- The machine's counters, which never change. By key the entries, the accounts and, of leaders, the standings. The leaders of the
+-- eight processors' groups and then of each task's. By slot the families, what the copies that exited had counted, and how many
+-- records were lost.
 pub record World : Type 0 where
+  pub hardware : Hardware
   pub entries : FinMap nat_cmp Entry
   pub accounts : FinMap nat_cmp Account
   pub standings : FinMap nat_cmp Standing
@@ -112,6 +116,10 @@ leaders_of w c = slice_index_or w.contexts (place_of c) no_leaders
 
 abbrev pub family_of : World → EventNo → Family
 family_of w e = slice_index_or w.families e.0 no_family
+
+-- the seats of a processor
+abbrev pub seats_at : World → CpuNo → Seated
+seats_at w cpu = slice_index_or w.quiet.seats cpu.0 (empty_seating 0)
 
 -- whether two keys are the same, and how often a key stands in a list
 abbrev pub is_key : Key → Key → Bool

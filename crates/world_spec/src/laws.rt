@@ -1,9 +1,18 @@
 //! The laws of the changes of a world, each as the contract of an empty function.
 
+ghost use Rattle.world_spec.specs.Agreement.{FamilyAgreesLaw, FirstAgreesLaw, OtherRecordLaw, RecordsAgreeLaw};
 ghost use Rattle.world_spec.specs.Comings.{AddKeptLaw, AddLaw, OpenLaw};
-ghost use Rattle.world_spec.specs.Goings.{SiblingGoesKeptLaw, SiblingGoesLaw};
+ghost use Rattle.world_spec.specs.Copying.{CopyKeptLaw, CopyLaw};
+ghost use Rattle.world_spec.specs.Families.{CopiesLaw, FamilyIdsLaw, FamilySumsLaw, GroupLaw, OneReachedLaw, OpenSlotLaw, OriginalLaw};
+ghost use Rattle.world_spec.specs.First.{FirstKeptLaw, FirstStageLaw};
+ghost use Rattle.world_spec.specs.Foldings.{FoldKeptLaw, FoldLaw, FoldSumsLaw};
+ghost use Rattle.world_spec.specs.Goings.{GoKeptLaw, GoLaw};
 ghost use Rattle.world_spec.specs.Laws.{ClockKeptLaw, ClockLaw, EndKeptLaw, EndLaw, HitKeptLaw, HitLaw, LostKeptLaw, LostLaw, OwnKeptLaw, OwnLaw, PassKeptLaw, PassLaw, PeriodKeptLaw, PeriodLaw, PlaceKeptLaw, PlaceLaw, ResetKeptLaw, ResetLaw, RingKeptLaw, RingLaw, SeatsKeptLaw, SeatsLaw, StandingKeptLaw, StandingLaw, TaskKeptLaw, TaskLaw};
+ghost use Rattle.world_spec.specs.Listings.{ContextLaw, MembersLaw, NumberedLaw, OneInContextLaw, OneOnProcessorLaw, PassesLaw};
 ghost use Rattle.world_spec.specs.Moves.{MoveKeptLaw, MoveLaw};
+ghost use Rattle.world_spec.specs.Rescheduled.{FailKeptLaw, FailLaw, FailStageLaw, LeftLaw, SeatsAnswerLaw};
+ghost use Rattle.world_spec.specs.Staying.{AddStaysLaw, FoldStaysLaw, GoStaysLaw, OriginLaw};
+ghost use Rattle.world_spec.specs.Working.{OnLaw, ReadyLaw};
 
 /// A new own state is that of the stage's instance, and keeps the world where only a leader gets an error.
 pub fn own_states_are_set()
@@ -47,7 +56,7 @@ pub fn standings_are_set()
     ensures kept { StandingKeptLaw }
 {}
 
-/// Seats leave the stage and keep the world.
+/// Seats leave the stage, and keep the world where they are sound and over the processor's counters.
 pub fn seats_are_given()
     ensures stage { SeatsLaw }
     ensures kept { SeatsKeptLaw }
@@ -98,8 +107,96 @@ pub fn instances_come()
     ensures kept { AddKeptLaw }
 {}
 
-/// A sibling that goes is the stage's, and the world is kept where an original goes after its copies.
-pub fn siblings_go()
-    ensures stage { SiblingGoesLaw }
-    ensures kept { SiblingGoesKeptLaw }
+/// An instance that goes, a sibling or a leader, is the stage's, and the world is kept where an original goes after its copies.
+pub fn instances_go()
+    ensures stage { GoLaw }
+    ensures kept { GoKeptLaw }
+{}
+
+/// A copy that is folded is the stage's instance that goes. The world is kept, and so are the sums of each family.
+pub fn copies_fold()
+    ensures stage { FoldLaw }
+    ensures kept { FoldKeptLaw }
+    ensures sums { FoldSumsLaw }
+{}
+
+/// The seats of a processor that stands as rescheduling leaves it are the answer to SEATS. It stands so after a change that leaves
+/// its seats, its groups' standings and what verdicts need of them.
+pub fn processors_stay_rescheduled()
+    ensures seats { SeatsAnswerLaw }
+    ensures stay { LeftLaw }
+{}
+
+/// Where a processor was judged and its refused pinned groups then go to error, the stage is settled there, the processor stands as
+/// rescheduling leaves it, and the world is kept.
+pub fn refused_groups_fail()
+    ensures stage { FailStageLaw }
+    ensures rescheduled { FailLaw }
+    ensures kept { FailKeptLaw }
+{}
+
+/// The first world is kept, and stands for the first stage.
+pub fn worlds_begin()
+    ensures stage { FirstStageLaw }
+    ensures kept { FirstKeptLaw }
+{}
+
+/// A processor reaches at most one instance of a family, by keys and on the stage. So does a context.
+pub fn processors_reach_one()
+    ensures one { OneReachedLaw }
+    ensures reached { OneOnProcessorLaw }
+    ensures context { OneInContextLaw }
+{}
+
+/// The groups of the passes, the members of a group and the instances of a context are those of the world's keys, and the stage is
+/// numbered.
+pub fn stages_are_listed()
+    ensures passes { PassesLaw }
+    ensures members { MembersLaw }
+    ensures context { ContextLaw }
+    ensures numbered { NumberedLaw }
+{}
+
+/// A copy that comes is what the definitions' fork adds for the instance that it is made from, and the world is kept.
+pub fn copies_come()
+    ensures stage { CopyLaw }
+    ensures kept { CopyKeptLaw }
+{}
+
+/// The original in a slot, and its group, are those of the slot's family, and the slot is open where there is one. The original of
+/// each instance is there.
+pub fn originals_are_found()
+    ensures original { OriginalLaw }
+    ensures opened { OpenSlotLaw }
+    ensures group { GroupLaw }
+    ensures origin { OriginLaw }
+{}
+
+/// The instances of a family on the stage are those of its keys, with the same ids and sums, and copies are as many.
+pub fn families_are_whole()
+    ensures ids { FamilyIdsLaw }
+    ensures sums { FamilySumsLaw }
+    ensures copies { CopiesLaw }
+{}
+
+/// The first world agrees with the record before the first step. Records with which a world agrees are those that agree with
+/// each other, and the sums of a family are the record's.
+pub fn worlds_agree()
+    ensures first { FirstAgreesLaw }
+    ensures records { RecordsAgreeLaw }
+    ensures others { OtherRecordLaw }
+    ensures families { FamilyAgreesLaw }
+{}
+
+/// When an instance comes, goes or is folded, all others stay with their contexts and accounts, and so do other families.
+pub fn others_stay()
+    ensures come { AddStaysLaw }
+    ensures gone { GoStaysLaw }
+    ensures folded { FoldStaysLaw }
+{}
+
+/// The instances that are on, and those that are ready, are those of the world's keys by its standings and own states, in pass order.
+pub fn instances_work()
+    ensures on { OnLaw }
+    ensures ready { ReadyLaw }
 {}

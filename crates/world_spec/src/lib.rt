@@ -6,7 +6,10 @@
 mod laws;
 
 pub use laws::{
-    clocks_advance, counts_are_reset, groups_go_last, instances_come, lost_records_are_counted,
-    occurrences_are_counted, own_states_are_set, periods_are_set, rings_are_set, seats_are_given,
-    siblings_go, standings_are_set, tasks_are_placed, tasks_come, tasks_end, work_passes,
+    clocks_advance, copies_come, copies_fold, counts_are_reset, families_are_whole, groups_go_last,
+    instances_come, instances_go, instances_work, lost_records_are_counted,
+    occurrences_are_counted, originals_are_found, others_stay, own_states_are_set, periods_are_set,
+    processors_reach_one, processors_stay_rescheduled, refused_groups_fail, rings_are_set,
+    seats_are_given, stages_are_listed, standings_are_set, tasks_are_placed, tasks_come, tasks_end,
+    work_passes, worlds_agree, worlds_begin,
 };
