@@ -67,6 +67,15 @@ impl Pmus {
         }
     }
 
+    /// How many processors there are, 1 to 8.
+    pub fn cpus(&self) -> u8
+        ensures number { result ≡ length self.now.cpu_pmus }
+        ensures range { (1 ≤ result) × (result ≤ 8) }
+        ensures sound { IsHardware self.now }
+    {
+        self.cpus
+    }
+
     /// How many counters a processor has, 1 to 16.
     pub fn counters(&self, cpu: CpuNo) -> u8
         requires { cpu.0 < length self.now.cpu_pmus }

@@ -13,6 +13,7 @@ fn two_pmus(rt: HostRuntime) {
         [0, 1, 0, 0, 0, 0, 0, 0, 0, 0, 0, 0, 0, 0, 0, 0],
         [1, 3, 0, 0, 0, 0, 0, 0, 0, 0, 0, 0, 0, 0, 0, 0],
     );
+    assert_eq!(rt; pmus.cpus(), 2);
     assert_eq!(rt; pmus.counters(CpuNo(0)), 1);
     assert_eq!(rt; pmus.counters(CpuNo(1)), 2);
     assert_eq!(rt; pmus.counters_of(1), 2);
