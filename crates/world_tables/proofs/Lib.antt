@@ -1,0 +1,5 @@
+mod Listed
+mod Marked
+mod Parts
+mod Retained
+mod Written

@@ -1,0 +1,38 @@
+-- How the values of the tables are stored: each as the tuple of its parts.
+use Rattle.std.specs.Prelude.{ℕ, Bool, List, refl}
+use Rattle.std.specs.Coded.{Coded, code_by, coded×, coded_ℕ, coded_bool, coded_list}
+use Rattle.std.specs.FinMap.{FinMap, code}
+use Rattle.std.specs.Ordering.{nat_cmp}
+use Rattle.perf_base.specs.contracts.numbers.Key.{the_row as key_row}
+use Rattle.perf_base.specs.contracts.reply.Sums.{the_row as sums_row}
+use Rattle.perf_base.specs.contracts.standing.Context.{the_row as context_row}
+use Rattle.perf_base.specs.contracts.standing.Standing.{the_row as standing_row}
+use Rattle.perf_base.specs.declared.numbers.Key.{Key}
+use Rattle.perf_base.specs.declared.reply.Sums.{Sums}
+use Rattle.perf_base.specs.declared.standing.Context.{Context}
+use Rattle.perf_base.specs.declared.standing.Standing.{Standing}
+use Rattle.stage_spec.specs.contracts.instance.Instance.{the_row as instance_row}
+use Rattle.stage_spec.specs.declared.instance.Instance.{Instance}
+use Rattle.world_spec.specs.Value.{Entry, Account}
+use Rattle.world_tables.specs.Columns.{Columns}
+
+abbrev pub entry_code : Coded Entry
+entry_code =
+    code_by
+    (Instance × (Context × (Key × (List Key × Bool))))
+    (coded× instance_row.coded (coded× context_row.coded (coded× key_row.coded (coded× (coded_list key_row.coded) coded_bool))))
+    (λ e. (e.instance, (e.context, (e.leader, (e.members, e.pinned)))))
+    (λ p. record { instance = p.0; context = p.1.0; leader = p.1.1.0; members = p.1.1.1.0; pinned = p.1.1.1.1 })
+    (λ _. refl)
+
+abbrev pub account_code : Coded Account
+account_code = code_by (Sums × ℕ) (coded× sums_row.coded coded_ℕ) (λ a. (a.sums, a.left)) (λ p. record { sums = p.0; left = p.1 }) (λ _. refl)
+
+abbrev pub columns_code : Coded Columns
+columns_code =
+    code_by
+    (FinMap nat_cmp Entry × (FinMap nat_cmp Account × FinMap nat_cmp Standing))
+    (coded× (code coded_ℕ entry_code) (coded× (code coded_ℕ account_code) (code coded_ℕ standing_row.coded)))
+    (λ t. (t.entries, (t.accounts, t.standings)))
+    (λ p. record { entries = p.0; accounts = p.1.0; standings = p.1.1 })
+    (λ _. refl)

@@ -1,0 +1,5 @@
+pub mod Codes
+pub mod Columns
+pub mod Marks
+pub mod Places
+pub mod Rows
