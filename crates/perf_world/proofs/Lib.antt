@@ -1,0 +1,7 @@
+mod Added
+mod Counted
+mod Gone
+mod Kept
+mod Room
+mod Seats
+mod Tables

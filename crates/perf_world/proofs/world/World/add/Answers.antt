@@ -1,0 +1,56 @@
+use Rattle.std.proofs.Common.{◌≡◌, ℕ, ◌+◌, ◌<◌, ◌++◌, [], ◌∷◌, true, false, Bool, is_some, ap, sym, subst, ◌∙◌, inl, inr, if◌then◌else◌}
+use Rattle.std.specs.FinMap.{len}
+use Rattle.std.proofs.lemmas.Bool.{cases_Bool}
+use Rattle.stage_spec.specs.Flags.{is_pinned}
+use Rattle.stage_spec.specs.Stage.{place_of}
+use Rattle.world_spec.specs.Value.{World, is_live}
+use Rattle.world_spec.specs.StageOf.{stage_of}
+use Rattle.world_spec.specs.Adding.{new_instance, in_family, add}
+use Rattle.world_spec.proofs.AddedKept.{add-kept}
+use Rattle.world_spec.proofs.AddedStage.{add-stage}
+use Rattle.world_tables.specs.Places.{with_family}
+use Rattle.perf_world.specs.Parts.{newcomer, MayAdd, joined_events, joined_contexts}
+use Rattle.perf_world.specs.Seen.{seen, IsWorld}
+use Rattle.perf_world.proofs.Added.{added, added-kept, may-come}
+use Rattle.perf_world.proofs.Counted.{room-for-copy, room-for-original}
+use Rattle.perf_world.proofs.Kept.{kept-now, kept-after}
+use Rattle.perf_world.proofs.Room.{list-room, unlisted, copies-room}
+use Rattle.perf_world.proofs.world.World.add.Goals as goal
+
+pub join-key-requires-clause-events : goal.join-key-requires-clause-events
+join-key-requires-clause-events c =
+    let h : MayAdd (seen c.self.inside.pmus c.self.inside.events c.self.inside.contexts c.self.inside.families c.self.inside.processors c.self.inside.tasks c.self.inside.used c.self.inside.mapped c.self.inside.next_id) (newcomer c.args.event c.args.attr.now c.args.leader c.args.origin c.args.context) = subst (λ w. MayAdd w (newcomer c.args.event c.args.attr.now c.args.leader c.args.origin c.args.context)) (sym c.self.view_is) c.requires in
+    elim (cases_Bool (is_some c.args.origin)) [
+      | inl copy ↦ room-for-copy c.self.inside.pmus (seen c.self.inside.pmus c.self.inside.events c.self.inside.contexts c.self.inside.families c.self.inside.processors c.self.inside.tasks c.self.inside.used c.self.inside.mapped c.self.inside.next_id) c.self.invariant (h.original.few copy)
+      | inr first ↦ room-for-original c.self.inside.pmus (seen c.self.inside.pmus c.self.inside.events c.self.inside.contexts c.self.inside.families c.self.inside.processors c.self.inside.tasks c.self.inside.used c.self.inside.mapped c.self.inside.next_id) c.self.invariant c.args.event h.slot (h.original.unused first)
+    ]
+
+pub join-key-requires-clause-new : goal.join-key-requires-clause-new
+join-key-requires-clause-new c k dead = unlisted c.self.inside.pmus (seen c.self.inside.pmus c.self.inside.events c.self.inside.contexts c.self.inside.families c.self.inside.processors c.self.inside.tasks c.self.inside.used c.self.inside.mapped c.self.inside.next_id) c.self.invariant (is_pinned c.new_instance-instance.result.attr) (place_of c.args.context) k dead
+
+pub join-key-requires-clause-room : goal.join-key-requires-clause-room
+join-key-requires-clause-room c =
+    let h : MayAdd (seen c.self.inside.pmus c.self.inside.events c.self.inside.contexts c.self.inside.families c.self.inside.processors c.self.inside.tasks c.self.inside.used c.self.inside.mapped c.self.inside.next_id) (newcomer c.args.event c.args.attr.now c.args.leader c.args.origin c.args.context) = subst (λ w. MayAdd w (newcomer c.args.event c.args.attr.now c.args.leader c.args.origin c.args.context)) (sym c.self.view_is) c.requires in
+    list-room c.self.inside.pmus (seen c.self.inside.pmus c.self.inside.events c.self.inside.contexts c.self.inside.families c.self.inside.processors c.self.inside.tasks c.self.inside.used c.self.inside.mapped c.self.inside.next_id) c.self.invariant (is_pinned c.new_instance-instance.result.attr) (place_of c.args.context) c.args.event.0 h.slot h.first_there
+
+pub enter_family-requires-clause-copies : goal.enter_family-requires-clause-copies
+enter_family-requires-clause-copies c copy =
+    let h : MayAdd (seen c.self.inside.pmus c.self.inside.events c.self.inside.contexts c.self.inside.families c.self.inside.processors c.self.inside.tasks c.self.inside.used c.self.inside.mapped c.self.inside.next_id) (newcomer c.args.event c.args.attr.now c.args.leader c.args.origin c.args.context) = subst (λ w. MayAdd w (newcomer c.args.event c.args.attr.now c.args.leader c.args.origin c.args.context)) (sym c.self.view_is) c.requires in
+    copies-room c.self.inside.pmus (seen c.self.inside.pmus c.self.inside.events c.self.inside.contexts c.self.inside.families c.self.inside.processors c.self.inside.tasks c.self.inside.used c.self.inside.mapped c.self.inside.next_id) c.self.invariant c.args.event.0 (place_of c.args.context) h.place h.first_there
+
+pub invariant_of-self : goal.invariant_of-self
+invariant_of-self c =
+    let fresh : is_live c.args.self.now c.join-key.result ≡ false = sym (ap (λ w. is_live w c.join-key.result) c.self.view_is) ∙ c.join-key.ensures.fresh in
+    kept-after _ (add c.join-key.result (newcomer c.args.event c.args.attr.now c.args.leader c.args.origin c.args.context) c.args.self.now) ((λ i. seen c.self.inside.pmus ((c.join-key.ensures.events ∙ ap (λ x. joined_events c.join-key.result x c.args.context c.args.leader c.self.inside.events) (c.new_instance-instance.ensures ∙ ap (λ copy. record (new_instance (seen c.self.inside.pmus c.self.inside.events c.self.inside.contexts c.self.inside.families c.self.inside.processors c.self.inside.tasks c.self.inside.used c.self.inside.mapped c.self.inside.next_id) (newcomer c.args.event c.args.attr.now c.args.leader c.args.origin c.args.context)) { copy = copy }) c.is_some-copy.ensures)) i) ((c.join-key.ensures.contexts ∙ ap (λ x. joined_contexts c.join-key.result x c.args.context c.args.leader c.self.inside.contexts) (c.new_instance-instance.ensures ∙ ap (λ copy. record (new_instance (seen c.self.inside.pmus c.self.inside.events c.self.inside.contexts c.self.inside.families c.self.inside.processors c.self.inside.tasks c.self.inside.used c.self.inside.mapped c.self.inside.next_id) (newcomer c.args.event c.args.attr.now c.args.leader c.args.origin c.args.context)) { copy = copy }) c.is_some-copy.ensures)) i) ((c.enter_family.ensures.families ∙ ap (λ b. with_family c.args.event.0 (in_family b c.join-key.result) c.self.inside.families) c.is_some-copy.ensures) i) c.self.inside.processors c.self.inside.tasks ((c.enter_family.ensures.used ∙ ap (λ b. if b then c.self.inside.used else c.self.inside.used ++ c.args.event ∷ []) c.is_some-copy.ensures) i) c.self.inside.mapped (c.self.inside.next_id + 1))
+    ∙ (added c.self.inside.pmus c.self.inside.events c.self.inside.contexts c.self.inside.families c.self.inside.processors c.self.inside.tasks c.self.inside.used c.self.inside.mapped c.self.inside.next_id c.join-key.result c.args.event c.args.attr.now c.args.leader c.args.origin c.args.context
+    ∙ ap (add c.join-key.result (newcomer c.args.event c.args.attr.now c.args.leader c.args.origin c.args.context)) c.self.view_is))
+    (added-kept c.join-key.result c.args.event c.args.attr.now c.args.leader c.args.origin c.args.context c.args.self.now
+    (add-kept c.args.self.now.hardware c.args.self.now c.join-key.result (newcomer c.args.event c.args.attr.now c.args.leader c.args.origin c.args.context) (may-come c.args.self.now (newcomer c.args.event c.args.attr.now c.args.leader c.args.origin c.args.context) c.join-key.result c.requires fresh) c.requires.original c.requires.group (kept-now (seen c.self.inside.pmus c.self.inside.events c.self.inside.contexts c.self.inside.families c.self.inside.processors c.self.inside.tasks c.self.inside.used c.self.inside.mapped c.self.inside.next_id) c.args.self.now c.self.view_is c.self.invariant)))
+
+pub returns-clause-stage : goal.returns-clause-stage
+returns-clause-stage c =
+    let fresh : is_live c.args.self.now c.join-key.result ≡ false = sym (ap (λ w. is_live w c.join-key.result) c.self.view_is) ∙ c.join-key.ensures.fresh in
+    ap stage_of ((λ i. seen c.self.inside.pmus ((c.join-key.ensures.events ∙ ap (λ x. joined_events c.join-key.result x c.args.context c.args.leader c.self.inside.events) (c.new_instance-instance.ensures ∙ ap (λ copy. record (new_instance (seen c.self.inside.pmus c.self.inside.events c.self.inside.contexts c.self.inside.families c.self.inside.processors c.self.inside.tasks c.self.inside.used c.self.inside.mapped c.self.inside.next_id) (newcomer c.args.event c.args.attr.now c.args.leader c.args.origin c.args.context)) { copy = copy }) c.is_some-copy.ensures)) i) ((c.join-key.ensures.contexts ∙ ap (λ x. joined_contexts c.join-key.result x c.args.context c.args.leader c.self.inside.contexts) (c.new_instance-instance.ensures ∙ ap (λ copy. record (new_instance (seen c.self.inside.pmus c.self.inside.events c.self.inside.contexts c.self.inside.families c.self.inside.processors c.self.inside.tasks c.self.inside.used c.self.inside.mapped c.self.inside.next_id) (newcomer c.args.event c.args.attr.now c.args.leader c.args.origin c.args.context)) { copy = copy }) c.is_some-copy.ensures)) i) ((c.enter_family.ensures.families ∙ ap (λ b. with_family c.args.event.0 (in_family b c.join-key.result) c.self.inside.families) c.is_some-copy.ensures) i) c.self.inside.processors c.self.inside.tasks ((c.enter_family.ensures.used ∙ ap (λ b. if b then c.self.inside.used else c.self.inside.used ++ c.args.event ∷ []) c.is_some-copy.ensures) i) c.self.inside.mapped (c.self.inside.next_id + 1))
+    ∙ (added c.self.inside.pmus c.self.inside.events c.self.inside.contexts c.self.inside.families c.self.inside.processors c.self.inside.tasks c.self.inside.used c.self.inside.mapped c.self.inside.next_id c.join-key.result c.args.event c.args.attr.now c.args.leader c.args.origin c.args.context
+    ∙ ap (add c.join-key.result (newcomer c.args.event c.args.attr.now c.args.leader c.args.origin c.args.context)) c.self.view_is))
+    ∙ add-stage c.args.self.now.hardware c.args.self.now c.join-key.result (newcomer c.args.event c.args.attr.now c.args.leader c.args.origin c.args.context) (kept-now (seen c.self.inside.pmus c.self.inside.events c.self.inside.contexts c.self.inside.families c.self.inside.processors c.self.inside.tasks c.self.inside.used c.self.inside.mapped c.self.inside.next_id) c.args.self.now c.self.view_is c.self.invariant) (may-come c.args.self.now (newcomer c.args.event c.args.attr.now c.args.leader c.args.origin c.args.context) c.join-key.result c.requires fresh) c.requires.group

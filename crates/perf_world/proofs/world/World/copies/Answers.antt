@@ -1,0 +1,13 @@
+use Rattle.std.proofs.Common.{◌≡◌, ap, sym, ◌∙◌}
+use Rattle.world_spec.specs.StageOf.{stage_of}
+use Rattle.world_spec.specs.Changes as change
+use Rattle.world_spec.specs.Kept.{copies_in}
+use Rattle.world_spec.proofs.Families.{copies-are}
+use Rattle.perf_world.specs.Seen.{seen, IsWorld}
+use Rattle.perf_world.proofs.Kept.{kept-now, kept-after}
+use Rattle.perf_world.proofs.world.World.copies.Goals as goal
+
+pub returns-clause-copies : goal.returns-clause-copies
+returns-clause-copies c =
+    c.live_copies.ensures ∙ (ap (λ w. copies_in w.families) c.self.view_is
+    ∙ sym (copies-are c.args.self.now.hardware c.args.self.now (kept-now (seen c.self.inside.pmus c.self.inside.events c.self.inside.contexts c.self.inside.families c.self.inside.processors c.self.inside.tasks c.self.inside.used c.self.inside.mapped c.self.inside.next_id) c.args.self.now c.self.view_is c.self.invariant)))

@@ -1,0 +1,43 @@
+-- A world as its tables show it. This project's own profile.
+use Rattle.std.specs.Prelude.{ℕ, List, Option, Some, None, slice_index_or, slice_set}
+use Rattle.perf_base.specs.declared.numbers.CpuNo.{CpuNo}
+use Rattle.perf_base.specs.declared.numbers.EventNo.{EventNo}
+use Rattle.perf_base.specs.declared.numbers.RingNo.{RingNo}
+use Rattle.perf_base.specs.declared.numbers.TaskNo.{TaskNo}
+use Rattle.stage_spec.specs.declared.instance.TaskStatus.{TaskStatus}
+use Rattle.stage_spec.specs.Hardware.{Hardware}
+use Rattle.stage_spec.specs.Stage.{unknown_task}
+use Rattle.world_spec.specs.Kept.{IsKept}
+use Rattle.world_spec.specs.Value.{World, Leaders}
+use Rattle.world_tables.specs.Columns.{Columns}
+use Rattle.world_tables.specs.Places.{Slots, Places}
+
+abbrev pub seen : Hardware → Columns → List Leaders → Slots → Places → List TaskStatus → List EventNo → List RingNo → ℕ → World
+seen hw events contexts families processors tasks used mapped next = record {
+  hardware = hw;
+  entries = events.entries;
+  accounts = events.accounts;
+  standings = events.standings;
+  contexts = contexts;
+  families = families.families;
+  folded = families.folded;
+  lost = families.lost;
+  quiet = record {
+    tasks = tasks;
+    running = processors.running;
+    clocks = processors.clocks;
+    seats = processors.seats;
+    used = used;
+    mapped = mapped;
+    next_id = next;
+  };
+}
+
+-- what always holds of one
+abbrev pub IsWorld : World → Type 0
+IsWorld w = IsKept w.hardware w
+
+-- the statuses of tasks after one came onto a processor
+abbrev pub noted : CpuNo → Option TaskNo → List TaskStatus → List TaskStatus
+noted cpu None tasks = tasks
+noted cpu (Some task) tasks = slice_set tasks task.0 (record (slice_index_or tasks task.0 unknown_task) { last = Some cpu })
