@@ -79,6 +79,8 @@ impl<T: Filling, const ROOM: usize> Model for ShortList<T, ROOM> {
 }
 
 impl<T: Filling, const ROOM: usize> Clone for ShortList<T, ROOM> {
+    ghost is_clone = { λ list copy. copy ≡ list };
+
     fn clone(&self) -> Result<Self, AllocError> {
         Ok(*self)
     }
