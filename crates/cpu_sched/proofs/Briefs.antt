@@ -1,0 +1,106 @@
+-- What is looked at of a group by its keys, and that its events can be put on the counters of a processor on which it is eligible.
+use Rattle.std.specs.Prelude.{◌≡◌, ℕ, suc, ◌<◌, ◌≤◌, Bool, true, false, not, ◌&&◌, cond, All, List, [], ◌∷◌, length, map, filter, slice_index, slice_index_or}
+use Rattle.std.specs.List.{list_all}
+use Rattle.std.proofs.Common.{arith, refl, sym, ap, subst, ◌∙◌, inl, inr}
+use Rattle.std.proofs.lemmas.Bool.{cases_Bool, cases_lt}
+use Rattle.std.proofs.lemmas.Bool.Decides.{nat_tests}
+use Rattle.std.proofs.lemmas.List.{get_or_past}
+use Rattle.std.proofs.lemmas.List.Elements.{All-cons}
+use Rattle.std.proofs.lemmas.List.Folds.{list_all-map}
+use Rattle.perf_base.specs.Masks.{IsMask}
+use Rattle.perf_base.specs.declared.attr.Kind.{Kind}
+use Rattle.perf_base.specs.declared.attr.Kind.TheVariants as kind
+use Rattle.perf_base.specs.declared.numbers.CpuNo.{CpuNo}
+use Rattle.perf_base.specs.declared.numbers.EventNo.{EventNo}
+use Rattle.perf_base.specs.declared.numbers.Key.{Key}
+use Rattle.stage_spec.specs.declared.instance.Instance.{Instance}
+use Rattle.stage_spec.specs.Effective.{is_ready, is_hardware, is_wholly_software, counted_members}
+use Rattle.stage_spec.specs.Hardware.{Hardware, IsHardware, is_software, mask_of, counters_of, pmu_of_cpu, is_counted_on}
+use Rattle.stage_spec.specs.Places.{may_count_on}
+use Rattle.stage_spec.specs.Stage.{Group, members_of}
+use Rattle.stage_spec.specs.Tight.{masks_of}
+use Rattle.stage_spec.specs.Verdict.{is_eligible, with_masks}
+use Rattle.world_spec.specs.Kept.{leads, post_at, once_if, IsKept}
+use Rattle.world_spec.specs.StageOf.{group_at}
+use Rattle.world_spec.specs.Value.{World, entry_at, instance_at, is_live, is_key, times}
+use Rattle.world_spec.proofs.Copies.{times-at}
+use Rattle.world_spec.proofs.Families.{group-members}
+use Rattle.world_spec.proofs.Moving.{leads-parts}
+
+-- the members of a group are there
+counted : (a b : Bool) → 1 ≤ once_if (a && b) → a ≡ true
+counted true b h = refl
+counted false b h = absurd (omega (arith, h))
+
+pub members-live : (hw : Hardware) (w : World) (k : Key) (keys : List Key) → IsKept hw w → keys ≡ (entry_at w k).members → All (λ q. is_live w q ≡ true) keys
+members-live hw w k keys h is i d low =
+    let q : Key = slice_index_or keys i d in
+    counted (is_live w q) (is_key k (entry_at w q).leader) (omega (arith, h.linked.members q k, ap (times q) is, times-at keys i d low))
+
+pub by-members : (hw : Hardware) (w : World) (k : Key) (keys : List Key) → IsKept hw w → leads (post_at w) k ≡ true → keys ≡ (entry_at w k).members → map (instance_at w) keys ≡ members_of (group_at w k)
+by-members hw w k keys h lead is = ap (map (instance_at w)) is ∙ sym (group-members hw w k h lead)
+
+pub wholly-software : (hw : Hardware) (w : World) (k : Key) (keys : List Key) → IsKept hw w → leads (post_at w) k ≡ true → keys ≡ (entry_at w k).members
+    → list_all (λ q. is_software (instance_at w q).attr.kind) keys ≡ is_wholly_software (group_at w k)
+wholly-software hw w k keys h lead is =
+    sym (list_all-map (λ i. is_software i.attr.kind) (instance_at w) keys) ∙ ap (list_all (λ i. is_software i.attr.kind)) (by-members hw w k keys h lead is)
+
+-- a wholly software group needs no counter
+no-more : (b : Bool) (xs ys : List Instance) → cond (b && false) xs ys ≡ ys
+no-more true xs ys = refl
+no-more false xs ys = refl
+
+none-needed : (is : List Instance) → list_all (λ i. is_software i.attr.kind) is ≡ true → filter (λ i. is_ready i.own && is_hardware i) is ≡ []
+none-needed [] h = refl
+none-needed (i ∷ is) h =
+    let parts : (is_software i.attr.kind ≡ true) × (list_all (λ j. is_software j.attr.kind) is ≡ true) = leads-parts (is_software i.attr.kind) (list_all (λ j. is_software j.attr.kind) is) h in
+    ap (λ b. cond (is_ready i.own && not b) (i ∷ filter (λ j. is_ready j.own && is_hardware j) is) (filter (λ j. is_ready j.own && is_hardware j) is)) parts.0
+    ∙ (no-more (is_ready i.own) (i ∷ filter (λ j. is_ready j.own && is_hardware j) is) (filter (λ j. is_ready j.own && is_hardware j) is) ∙ none-needed is parts.1)
+
+pub software-uncounted : (hw : Hardware) (g : Group) → is_wholly_software g ≡ true → with_masks hw (counted_members g) ≡ []
+software-uncounted hw g h = ap (with_masks hw) (none-needed (members_of g) h)
+
+-- A mask of a kind that a processor's PMU counts is on its counters.
+hard-fits : (hw : Hardware) (cpu : CpuNo) (n : ℕ) → IsHardware hw → is_counted_on hw cpu (kind.Hard n) ≡ true → 0 < slice_index hw.masks n → IsMask (counters_of hw cpu) (slice_index hw.masks n)
+hard-fits hw cpu n h counts some = elim (cases_lt n (length hw.masks)) [
+  | inl low ↦
+      let same : slice_index hw.kind_pmus n ≡ pmu_of_cpu hw cpu = grind (arith, nat_tests, counts) in
+      subst (λ pmu. IsMask (slice_index hw.counters pmu) (slice_index hw.masks n)) same (h.masks n low)
+  | inr past ↦ absurd (omega (arith, some, get_or_past hw.masks n 0 past))
+]
+
+mask-fits : (hw : Hardware) (cpu : CpuNo) (k : Kind) → IsHardware hw → is_counted_on hw cpu k ≡ true → 0 < mask_of hw k → IsMask (counters_of hw cpu) (mask_of hw k)
+mask-fits hw cpu (kind.Hard n) h counts some = hard-fits hw cpu n h counts some
+mask-fits hw cpu kind.ContextSwitches h counts some = absurd (omega (arith, some))
+mask-fits hw cpu kind.CpuMigrations h counts some = absurd (omega (arith, some))
+mask-fits hw cpu kind.TaskClock h counts some = absurd (omega (arith, some))
+mask-fits hw cpu kind.Dummy h counts some = absurd (omega (arith, some))
+
+-- so are the masks of the members that need counters of a group that is eligible there
+masks-each : (hw : Hardware) (cpu : CpuNo) (p : Instance → Bool) (is : List Instance) → IsHardware hw → list_all (λ i. is_counted_on hw cpu i.attr.kind) is ≡ true
+    → All (λ mask. 0 < mask) (masks_of (with_masks hw (filter p is))) → All (IsMask (counters_of hw cpu)) (masks_of (with_masks hw (filter p is)))
+masks-each hw cpu p [] h counts some = λ k d low. absurd (omega (arith, low))
+masks-each hw cpu p (i ∷ is) h counts some =
+    let parts : (is_counted_on hw cpu i.attr.kind ≡ true) × (list_all (λ j. is_counted_on hw cpu j.attr.kind) is ≡ true) =
+    leads-parts (is_counted_on hw cpu i.attr.kind) (list_all (λ j. is_counted_on hw cpu j.attr.kind) is) counts in
+    elim (cases_Bool (p i)) [
+      | inl e ↦
+          let all : All (λ mask. 0 < mask) (mask_of hw i.attr.kind ∷ masks_of (with_masks hw (filter p is))) =
+          subst (λ b. All (λ mask. 0 < mask) (masks_of (with_masks hw (cond b (i ∷ filter p is) (filter p is))))) e some in
+          subst (λ b. All (IsMask (counters_of hw cpu)) (masks_of (with_masks hw (cond b (i ∷ filter p is) (filter p is))))) (sym e)
+          (All-cons (IsMask (counters_of hw cpu)) (mask_of hw i.attr.kind) (masks_of (with_masks hw (filter p is)))
+          (mask-fits hw cpu i.attr.kind h parts.0 (all 0 0 (omega arith)))
+          (masks-each hw cpu p is h parts.1 (λ k d low. all (suc k) d (omega (arith, low)))))
+      | inr e ↦
+          subst (λ b. All (IsMask (counters_of hw cpu)) (masks_of (with_masks hw (cond b (i ∷ filter p is) (filter p is))))) (sym e)
+          (masks-each hw cpu p is h parts.1 (subst (λ b. All (λ mask. 0 < mask) (masks_of (with_masks hw (cond b (i ∷ filter p is) (filter p is))))) e some))
+    ]
+
+pub group-fits : (hw : Hardware) (cpu : CpuNo) (g : Group) (events : List (EventNo × ℕ)) (counters : ℕ) → IsHardware hw → is_eligible hw cpu g ≡ true → events ≡ with_masks hw (counted_members g)
+    → All (λ mask. 0 < mask) (masks_of events) → counters ≡ counters_of hw cpu → All (IsMask counters) (masks_of events)
+group-fits hw cpu g events counters h eligible is some same =
+    let counts : list_all (λ i. is_counted_on hw cpu i.attr.kind) (members_of g) ≡ true =
+    (leads-parts (is_ready g.leader.own && may_count_on cpu g.leader.attr.cpu) (list_all (λ i. is_counted_on hw cpu i.attr.kind) (members_of g)) eligible).1 in
+    subst (λ n. All (IsMask n) (masks_of events)) (sym same)
+    (subst (λ es. All (IsMask (counters_of hw cpu)) (masks_of es)) (sym is)
+    (masks-each hw cpu (λ i. is_ready i.own && is_hardware i) (members_of g) h counts (subst (λ es. All (λ mask. 0 < mask) (masks_of es)) is some)))

@@ -1,0 +1,155 @@
+-- A processor all of whose groups were told is judged.
+use Rattle.std.specs.Prelude.{◌≡◌, ℕ, ◌+◌, ◌<◌, ◌≤◌, ◌==◌, Bool, true, false, ◌&&◌, cond, nat_lt, List, [], ◌∷◌, ◌++◌, length, map, filter, flat_map, Option, Some, None, if◌then◌else◌}
+use Rattle.std.specs.List.{fold}
+use Rattle.std.proofs.Common.{arith, refl, sym, ap, subst, ◌∙◌, inl, inr}
+use Rattle.std.proofs.lemmas.Bool.{cases_eq, false≢true}
+use Rattle.std.proofs.lemmas.Bool.Decides.{nat_tests}
+use Rattle.std.proofs.lemmas.List.{append-nil, length-set, get_or-set_same}
+use Rattle.std.proofs.lemmas.List.Elements.{filter-append}
+use Rattle.perf_base.specs.declared.numbers.CpuNo.{CpuNo}
+use Rattle.perf_base.specs.declared.numbers.Key.{Key}
+use Rattle.perf_base.specs.declared.numbers.TaskNo.{TaskNo}
+use Rattle.perf_base.specs.declared.standing.Context.{Context}
+use Rattle.perf_base.specs.declared.standing.Context.TheVariants as context
+use Rattle.stage_spec.specs.declared.instance.Instance.{Instance}
+use Rattle.stage_spec.specs.Effective.{is_ready, is_hardware, counted_members}
+use Rattle.stage_spec.specs.Hardware.{Hardware}
+use Rattle.stage_spec.specs.Stage.{Group, members_of, place_of, task_on, is_task}
+use Rattle.stage_spec.specs.Verdict.{Judged, is_eligible, judge_passes, verdicts, groups_on, with_masks, standing_among}
+use Rattle.stage_laws.specs.Narrowing.{has_context}
+use Rattle.stage_laws.proofs.Counts.{count-append}
+use Rattle.counter_match.specs.Seating.{empty_seating}
+use Rattle.world_spec.specs.Kept.{leads, post_at, once_if, IsKept}
+use Rattle.world_spec.specs.Listings.{pass_leaders, task_leaders}
+use Rattle.world_spec.specs.Rescheduled.{IsJudged}
+use Rattle.world_spec.specs.StageOf.{group_at, stage_of}
+use Rattle.world_spec.specs.Value.{World, Leaders, leaders_of, entry_at, standing_at, seats_at, is_key, times}
+use Rattle.world_spec.proofs.Families.{leaders_both, leaders-at}
+use Rattle.world_spec.proofs.Listings.{passes-are, reached_leaders, reached-once, reached-context, reached-leading}
+use Rattle.cpu_sched.specs.declared.judging.SoFar.{SoFar}
+use Rattle.cpu_sched.specs.Judging.{tally_in, tell_pass, retold}
+use Rattle.cpu_sched.proofs.Telling.{Stands, passes-told}
+
+-- A leader in one of a processor's contexts is among those that it reaches.
+led-here : (live here : Bool) → live ≡ true → here ≡ true → once_if (live && here) ≡ 1
+led-here true true a b = refl
+led-here true false a b = absurd (false≢true b)
+led-here false here a b = absurd (false≢true a)
+
+parts-reached : (w : World) (cpu : CpuNo) (q : Key)
+    → times q (reached_leaders w cpu) ≡ times q (leaders_both (leaders_of w (context.Processor cpu))) + times q (leaders_both (task_leaders w (task_on (stage_of w) cpu)))
+parts-reached w cpu q =
+    let own : Leaders = leaders_of w (context.Processor cpu) in
+    let task : Leaders = task_leaders w (task_on (stage_of w) cpu) in
+    omega (
+      arith,
+      count-append (is_key q) own.pinned (task.pinned ++ (own.flexible ++ (task.flexible ++ []))),
+      count-append (is_key q) task.pinned (own.flexible ++ (task.flexible ++ [])),
+      count-append (is_key q) own.flexible (task.flexible ++ []),
+      count-append (is_key q) task.flexible [],
+      count-append (is_key q) own.pinned own.flexible,
+      count-append (is_key q) task.pinned task.flexible,
+    )
+
+pub same-number : (m n : ℕ) → (m == n) ≡ true → m ≡ n
+same-number m n h = grind (arith, nat_tests, h)
+
+is-number : (m n : ℕ) → m ≡ n → (m == n) ≡ true
+is-number m n h = grind (arith, nat_tests, h)
+
+in-task : (hw : Hardware) (w : World) → IsKept hw w → (q : Key) → leads (post_at w) q ≡ true → (task : TaskNo) → (entry_at w q).context ≡ context.Task task → (o : Option TaskNo) → is_task o task ≡ true
+    → times q (leaders_both (task_leaders w o)) ≡ 1
+in-task hw w h q lead task at None is = absurd (false≢true is)
+in-task hw w h q lead task at (Some other) is =
+    leaders-at hw w h q (8 + other.0)
+    ∙ led-here (leads (post_at w) q) (place_of (entry_at w q).context == 8 + other.0) lead
+    (is-number (place_of (entry_at w q).context) (8 + other.0) (ap place_of at ∙ ap (λ n. 8 + n) (sym (same-number other.0 task.0 is))))
+
+reached-by : (hw : Hardware) (w : World) (cpu : CpuNo) → IsKept hw w → (q : Key) → leads (post_at w) q ≡ true → (c : Context) → (entry_at w q).context ≡ c
+    → has_context (stage_of w) cpu c ≡ true → 1 ≤ times q (reached_leaders w cpu)
+reached-by hw w cpu h q lead (context.Processor other) at has =
+    let same : place_of (entry_at w q).context ≡ place_of (context.Processor cpu) = ap place_of at ∙ ap (λ n. if nat_lt n 8 then n else 72) (same-number other.0 cpu.0 has) in
+    omega (
+      arith,
+      parts-reached w cpu q,
+      leaders-at hw w h q (place_of (context.Processor cpu)),
+      led-here (leads (post_at w) q) (place_of (entry_at w q).context == place_of (context.Processor cpu)) lead
+          (is-number (place_of (entry_at w q).context) (place_of (context.Processor cpu)) same),
+    )
+reached-by hw w cpu h q lead (context.Task task) at has = omega (arith, parts-reached w cpu q, in-task hw w h q lead task at (task_on (stage_of w) cpu) has)
+
+pub reached-there : (hw : Hardware) (w : World) (cpu : CpuNo) → IsKept hw w → (q : Key) → leads (post_at w) q ≡ true → has_context (stage_of w) cpu (entry_at w q).context ≡ true
+    → 1 ≤ times q (reached_leaders w cpu)
+reached-there hw w cpu h q lead has = reached-by hw w cpu h q lead (entry_at w q).context refl has
+
+-- The hardware instances that are on are the members that need counters of the groups that are on.
+filter-one : (b : Bool) (p q : Instance → Bool) (x : Instance) (xs : List Instance) → p x ≡ b → filter q (filter p xs) ≡ filter (λ y. p y && q y) xs
+    → filter q (filter p (x ∷ xs)) ≡ filter (λ y. p y && q y) (x ∷ xs)
+filter-one true p q x xs e rest =
+    ap (λ b. filter q (cond b (x ∷ filter p xs) (filter p xs))) e
+    ∙ (ap (λ ys. cond (q x) (x ∷ ys) ys) rest ∙ ap (λ b. cond (b && q x) (x ∷ filter (λ y. p y && q y) xs) (filter (λ y. p y && q y) xs)) (sym e))
+filter-one false p q x xs e rest =
+    ap (λ b. filter q (cond b (x ∷ filter p xs) (filter p xs))) e
+    ∙ (rest ∙ ap (λ b. cond (b && q x) (x ∷ filter (λ y. p y && q y) xs) (filter (λ y. p y && q y) xs)) (sym e))
+
+filter-both : (p q : Instance → Bool) (xs : List Instance) → filter q (filter p xs) ≡ filter (λ x. p x && q x) xs
+filter-both p q [] = refl
+filter-both p q (x ∷ xs) = filter-one (p x) p q x xs refl (filter-both p q xs)
+
+counted-on : (gs : List Group) → flat_map counted_members gs ≡ filter is_hardware (flat_map (λ g. filter (λ i. is_ready i.own) (members_of g)) gs)
+counted-on [] = refl
+counted-on (g ∷ gs) =
+    let ready : List Instance = filter (λ i. is_ready i.own) (members_of g) in
+    let rest : List Instance = flat_map (λ x. filter (λ i. is_ready i.own) (members_of x)) gs in
+    (λ i. sym (filter-both (λ x. is_ready x.own) is_hardware (members_of g)) i ++ counted-on gs i) ∙ sym (filter-append is_hardware ready rest)
+
+-- all leaders of a processor are told
+abbrev all_verdicts : World → CpuNo → List Judged
+all_verdicts v cpu = judge_passes v.hardware [] (map (filter (is_eligible v.hardware cpu)) (map (map (group_at v)) (pass_leaders v cpu)))
+
+abbrev pub is_tallied : World → World → CpuNo → SoFar → Type 0
+is_tallied v w cpu f =
+    tally_in w cpu f ≡ fold (tell_pass v.hardware cpu (group_at v)) (tally_in v cpu (record { exclusive_on = None; first_on = None; refused = None })) (pass_leaders v cpu)
+
+all-told : (v w : World) (cpu : CpuNo) (f : SoFar) → IsKept v.hardware v → (seats_at v cpu).events ≡ [] → is_tallied v w cpu f
+    → Stands v cpu v.standings (reached_leaders v cpu) (all_verdicts v cpu) [] (tally_in w cpu f)
+all-told v w cpu f kept empty tally =
+    subst (Stands v cpu v.standings (reached_leaders v cpu) (all_verdicts v cpu) []) (sym tally)
+    (passes-told v cpu v.standings (pass_leaders v cpu) [] [] (tally_in v cpu (record { exclusive_on = None; first_on = None; refused = None })) kept (reached-leading v.hardware v kept cpu) (reached-once v.hardware v kept cpu) (record {
+      groups = refl;
+      standings = λ q some. absurd (omega (arith, some));
+      others = λ q none. refl;
+      events = empty;
+      exclusive = refl;
+      first = refl;
+      refused = refl;
+    }))
+
+pub all-judged : (v w : World) (cpu : CpuNo) (f : SoFar) → IsKept v.hardware v → IsKept v.hardware w → cpu.0 < length v.quiet.seats → w ≡ retold cpu v w → (seats_at v cpu).events ≡ []
+    → is_tallied v w cpu f → IsJudged v.hardware w cpu
+unfolding verdicts
+all-judged v w cpu f kept kept_now low is empty tally =
+    let hw : Hardware = v.hardware in
+    let h : Stands v cpu v.standings (reached_leaders v cpu) (all_verdicts v cpu) [] (tally_in w cpu f) = all-told v w cpu f kept empty tally in
+    let whole : all_verdicts v cpu ++ [] ≡ verdicts hw (stage_of v) cpu =
+    append-nil (all_verdicts v cpu) ∙ ap (λ ps. judge_passes hw [] (map (filter (is_eligible hw cpu)) ps)) (sym (passes-are v cpu)) in
+    let judged_now : IsJudged hw (retold cpu v w) cpu = record {
+      standings = λ q lead has.
+          h.standings q (reached-there hw v cpu kept q lead has) ∙ ap (λ js. standing_among js (group_at v q)) whole;
+      served = record {
+        events =
+            ap (λ s. s.events) (get_or-set_same v.quiet.seats cpu.0 (seats_at w cpu) (empty_seating 0) low)
+            ∙ (h.events ∙ ap (with_masks hw) (ap (λ js. flat_map counted_members (groups_on js)) whole ∙ counted-on (groups_on (verdicts hw (stage_of v) cpu))));
+        assigned = ((subst (λ x. IsKept hw x) is kept_now).seated.sound cpu (omega (arith, low, length-set v.quiet.seats cpu.0 (seats_at w cpu)))).assigned;
+      };
+    } in
+    subst (λ x. IsJudged hw x cpu) (sym is) judged_now
+
+-- standings of groups elsewhere stay
+pub others-stand : (v w : World) (cpu : CpuNo) (f : SoFar) → IsKept v.hardware v → (seats_at v cpu).events ≡ [] → is_tallied v w cpu f → (q : Key)
+    → has_context (stage_of v) cpu (entry_at v q).context ≡ false → standing_at w q ≡ standing_at v q
+others-stand v w cpu f kept empty tally q away =
+    (all-told v w cpu f kept empty tally).others q (elim (cases_eq (times q (reached_leaders v cpu)) 0) [
+      | inl none ↦ none
+      | inr more ↦ absurd (false≢true (sym away ∙ reached-context v.hardware v kept cpu q (omega (arith, more))))
+    ])

@@ -1,0 +1,7 @@
+pub mod Briefs
+pub mod Judged
+pub mod Passing
+pub mod Retold
+pub mod Served
+pub mod Staying
+pub mod Telling

@@ -1,0 +1,91 @@
+use Rattle.std.proofs.Common.{arith, ◌≡◌, ◌∙◌, ◌<◌, ◌+◌, ◌++◌, [], ◌∷◌, List, length, ap, sym, subst, refl, take, slice_index_or}
+use Rattle.std.proofs.lemmas.List.{append-nil, take_all}
+use Rattle.std.proofs.Common.{append_assoc}
+use Rattle.perf_base.specs.declared.numbers.Key.{Key}
+use Rattle.stage_spec.specs.Effective.{counted_members}
+use Rattle.stage_spec.specs.Verdict.{with_masks}
+use Rattle.counter_match.specs.Seating.{AreDistinct}
+use Rattle.world_spec.specs.Listings.{pass_leaders}
+use Rattle.world_spec.specs.StageOf.{group_at}
+use Rattle.world_spec.specs.Value.{World, seats_at}
+use Rattle.cpu_sched.specs.Judging.{tally_in, tell}
+use Rattle.std.specs.List.{fold}
+use Rattle.cpu_sched.specs.Passes.{AreOfTold, told_before}
+use Rattle.cpu_sched.proofs.Passing.{leads-at}
+use Rattle.cpu_sched.proofs.Served.{next-distinct}
+use Rattle.cpu_sched.proofs.Retold.{retold-self, retold-twice, retold-list, retold-told, told-then, events-then, next-key, told-next}
+use Rattle.cpu_sched.proofs.passes.judge_pass.Goals as goal
+
+pub loop-place-init : goal.loop-place-init
+loop-place-init g c = record {
+  world = retold-self c.args.cpu c.args.world.now;
+  tally = refl;
+  events = subst (λ ks. AreOfTold c.args.world.now ks (seats_at c.args.world.now c.args.cpu).events) (sym (append-nil (told_before c.args.world.now c.args.cpu c.args.pass))) c.requires.events;
+  counted = omega arith;
+}
+
+pub leaders-requires-clause-cpu : goal.leaders-requires-clause-cpu
+leaders-requires-clause-cpu g c = omega (arith, c.requires.cpu, ap (λ (w : World). length w.quiet.running) c.loop-place.invariant.world)
+
+pub bounds-leaders-place : goal.bounds-leaders-place
+bounds-leaders-place g c =
+    omega (
+      arith,
+      c.loop-place-test.true,
+      ap length c.leaders-place-end.ensures.leaders,
+      ap length (retold-list c.args.cpu c.args.world.now c.loop-place.world c.args.pass c.leaders.result.now c.loop-place.invariant.world c.leaders.ensures.leaders),
+    )
+
+pub tell-so_far-requires-clause-leads : goal.tell-so_far-requires-clause-leads
+tell-so_far-requires-clause-leads g c =
+    leads-at c.loop-place.world.hardware c.loop-place.world c.args.cpu c.args.pass c.loop-place.place (record { 0 = 0 }) c.leaders.result.now c.leaders.ensures.kept c.leaders.ensures.leaders
+    (omega (
+      arith,
+      c.loop-place-test.true,
+      ap length c.leaders-place-end.ensures.leaders,
+      ap length (retold-list c.args.cpu c.args.world.now c.loop-place.world c.args.pass c.leaders.result.now c.loop-place.invariant.world c.leaders.ensures.leaders),
+    ))
+
+pub tell-so_far-requires-clause-distinct : goal.tell-so_far-requires-clause-distinct
+tell-so_far-requires-clause-distinct g c =
+    let keys : List Key = slice_index_or (pass_leaders c.args.world.now c.args.cpu) c.args.pass [] in
+    let same : c.leaders.result.now ≡ keys =
+    retold-list c.args.cpu c.args.world.now c.loop-place.world c.args.pass c.leaders.result.now c.loop-place.invariant.world c.leaders.ensures.leaders in
+    let k : Key = slice_index_or c.leaders.result.now c.loop-place.place (record { 0 = 0 }) in
+    let low : c.loop-place.place < length keys = omega (arith, c.loop-place-test.true, ap length c.leaders-place-end.ensures.leaders) in
+    let is : k ≡ slice_index_or keys c.loop-place.place (record { 0 = 0 }) = ap (λ ks. slice_index_or ks c.loop-place.place (record { 0 = 0 })) same in
+    let next : take (c.loop-place.place + 1) keys ≡ take c.loop-place.place keys ++ k ∷ [] =
+    next-key keys c.loop-place.place (record { 0 = 0 }) low ∙ ap (λ q. take c.loop-place.place keys ++ q ∷ []) (sym is) in
+    subst (λ (w : World). AreDistinct ((seats_at c.loop-place.world c.args.cpu).events ++ with_masks w.hardware (counted_members (group_at w k)))) (sym c.loop-place.invariant.world)
+    (next-distinct c.args.world.now.hardware c.args.world.now c.args.cpu c.args.pass c.loop-place.place k (seats_at c.loop-place.world c.args.cpu).events c.leaders-place-end.ensures.kept next c.loop-place.invariant.events)
+
+pub loop-place-preserved : goal.loop-place-preserved
+loop-place-preserved g c =
+    let keys : List Key = slice_index_or (pass_leaders c.args.world.now c.args.cpu) c.args.pass [] in
+    let same : c.leaders.result.now ≡ keys =
+    retold-list c.args.cpu c.args.world.now c.loop-place.world c.args.pass c.leaders.result.now c.loop-place.invariant.world c.leaders.ensures.leaders in
+    let k : Key = slice_index_or c.leaders.result.now c.loop-place.place (record { 0 = 0 }) in
+    let low : c.loop-place.place < length keys = omega (arith, c.loop-place-test.true, ap length c.leaders-place-end.ensures.leaders) in
+    let is : k ≡ slice_index_or keys c.loop-place.place (record { 0 = 0 }) = ap (λ ks. slice_index_or ks c.loop-place.place (record { 0 = 0 })) same in
+    let next : take (c.loop-place.place + 1) keys ≡ take c.loop-place.place keys ++ k ∷ [] =
+    next-key keys c.loop-place.place (record { 0 = 0 }) low ∙ ap (λ q. take c.loop-place.place keys ++ q ∷ []) (sym is) in
+    let told : List Key = told_before c.args.world.now c.args.cpu c.args.pass in
+    record {
+      world = retold-twice c.args.cpu c.args.world.now c.loop-place.world c.tell-so_far.new.world c.loop-place.invariant.world c.tell-so_far.ensures.told.world;
+      tally = told-then c.args.cpu c.args.world.now c.loop-place.world c.tell-so_far.new.world c.args.so_far c.loop-place.so_far c.tell-so_far.result (take c.loop-place.place keys) k
+          c.loop-place.invariant.world c.loop-place.invariant.tally c.tell-so_far.ensures.told
+          ∙ ap (λ ks. fold (tell c.args.world.now.hardware c.args.cpu (group_at c.args.world.now)) (tally_in c.args.world.now c.args.cpu c.args.so_far) ks) (sym next);
+      events = subst (λ ks. AreOfTold c.args.world.now ks (seats_at c.tell-so_far.new.world c.args.cpu).events) (append_assoc told (take c.loop-place.place keys) (k ∷ []) ∙ ap (λ ks. told ++ ks) (sym next))
+          (events-then c.args.cpu c.args.world.now c.loop-place.world c.tell-so_far.new.world c.loop-place.so_far c.tell-so_far.result (told ++ take c.loop-place.place keys) k
+          c.loop-place.invariant.world c.loop-place.invariant.events c.tell-so_far.ensures.told);
+      counted = omega (arith, c.loop-place.invariant.counted, c.tell-so_far.ensures.counted);
+    }
+
+pub returns-clause-events : goal.returns-clause-events
+returns-clause-events g c =
+    let keys : List Key = slice_index_or (pass_leaders c.args.world.now c.args.cpu) c.args.pass [] in
+    let all : take c.loop-place.place keys ≡ keys = take_all c.loop-place.place keys (omega (arith, c.loop-place-test.false, ap length c.leaders-place-end.ensures.leaders)) in
+    retold-told c.args.cpu c.args.world.now c.loop-place.world (c.args.pass + 1) (seats_at c.loop-place.world c.args.cpu).events c.loop-place.invariant.world
+    (subst (λ ks. AreOfTold c.args.world.now ks (seats_at c.loop-place.world c.args.cpu).events)
+    (ap (λ ks. told_before c.args.world.now c.args.cpu c.args.pass ++ ks) all ∙ sym (told-next c.args.world.now c.args.cpu c.args.pass c.requires.pass))
+    c.loop-place.invariant.events)

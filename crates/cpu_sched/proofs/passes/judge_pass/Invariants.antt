@@ -1,0 +1,17 @@
+use Rattle.std.proofs.Common.{◌≡◌, ◌≤◌, ◌++◌, [], take, slice_index_or}
+use Rattle.std.specs.List.{fold}
+use Rattle.world_spec.specs.Listings.{pass_leaders}
+use Rattle.world_spec.specs.StageOf.{group_at}
+use Rattle.world_spec.specs.Value.{seats_at}
+use Rattle.cpu_sched.specs.Judging.{tally_in, tell, retold}
+use Rattle.cpu_sched.specs.Passes.{AreOfTold, told_before}
+use Rattle.cpu_sched.proofs.passes.judge_pass.Given as goal
+
+abbrev pub invariant-loop-place : goal.invariant-loop-place
+invariant-loop-place g l = record {
+  world : l.world ≡ retold l.cpu l.fn.world l.world;
+  tally : tally_in l.world l.cpu l.so_far
+      ≡ fold (tell l.fn.world.hardware l.cpu (group_at l.fn.world)) (tally_in l.fn.world l.cpu l.fn.so_far) (take l.place (slice_index_or (pass_leaders l.fn.world l.cpu) l.pass []));
+  events : AreOfTold l.fn.world (told_before l.fn.world l.cpu l.pass ++ take l.place (slice_index_or (pass_leaders l.fn.world l.cpu) l.pass [])) (seats_at l.world l.cpu).events;
+  counted : l.fn.tests ≤ l.tests;
+}

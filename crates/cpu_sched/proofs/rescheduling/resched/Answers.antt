@@ -1,0 +1,44 @@
+use Rattle.std.proofs.Common.{arith, ◌∙◌, ap, sym, subst}
+use Rattle.stage_spec.specs.Hardware.{Hardware}
+use Rattle.stage_spec.specs.Settle.{settle}
+use Rattle.world_spec.specs.Kept.{IsKept}
+use Rattle.world_spec.specs.Rescheduled.{IsRescheduled}
+use Rattle.world_spec.specs.StageOf.{stage_of}
+use Rattle.world_spec.specs.Value.{World}
+use Rattle.world_spec.proofs.Rescheduling.{fail-stage, fail-rescheduled}
+use Rattle.cpu_sched.proofs.Staying.{stays-but, others-stay}
+use Rattle.cpu_sched.proofs.rescheduling.resched.Goals as goal
+
+pub returns-clause-stage : goal.returns-clause-stage
+returns-clause-stage g c =
+    let hw : Hardware = c.args.world.now.hardware in
+    let w : World = c.judge_all.new.world in
+    let kept : IsKept hw w = subst (λ h. IsKept h w) (ap (λ (x : World). x.hardware) c.judge_all.ensures.world) c.judge_all.ensures.kept in
+    ap stage_of c.fail_refused.ensures
+    ∙ (fail-stage hw w c.args.cpu c.judge_all.ensures.low kept c.judge_all.ensures.judged
+    ∙ ap (λ (x : World). settle hw c.args.cpu (stage_of x)) c.judge_all.ensures.world)
+
+pub returns-clause-rescheduled : goal.returns-clause-rescheduled
+returns-clause-rescheduled g c =
+    let hw : Hardware = c.args.world.now.hardware in
+    let w : World = c.judge_all.new.world in
+    let kept : IsKept hw w = subst (λ h. IsKept h w) (ap (λ (x : World). x.hardware) c.judge_all.ensures.world) c.judge_all.ensures.kept in
+    subst (λ (x : World). IsRescheduled hw x c.args.cpu) (sym c.fail_refused.ensures) (fail-rescheduled hw w c.args.cpu c.judge_all.ensures.low kept c.judge_all.ensures.judged)
+
+pub returns-clause-others : goal.returns-clause-others
+returns-clause-others g c =
+    let hw : Hardware = c.args.world.now.hardware in
+    let w : World = c.judge_all.new.world in
+    let kept : IsKept hw w = subst (λ h. IsKept h w) (ap (λ (x : World). x.hardware) c.judge_all.ensures.world) c.judge_all.ensures.kept in
+    λ other low apart before.
+    others-stay hw c.args.world.now w c.fail_refused.new.world c.args.cpu other
+    (record { kept = kept; told = c.judge_all.ensures.world; others = c.judge_all.ensures.others; failed = c.fail_refused.ensures })
+    c.own_context-own.ensures.kept (omega (arith, low, c.own_context-own.ensures.kept.shape.running, c.own_context-own.ensures.hardware.cpus)) apart before
+
+pub returns-clause-rest : goal.returns-clause-rest
+returns-clause-rest g c =
+    let hw : Hardware = c.args.world.now.hardware in
+    let w : World = c.judge_all.new.world in
+    let kept : IsKept hw w = subst (λ h. IsKept h w) (ap (λ (x : World). x.hardware) c.judge_all.ensures.world) c.judge_all.ensures.kept in
+    stays-but hw c.args.world.now w c.fail_refused.new.world c.args.cpu
+    (record { kept = kept; told = c.judge_all.ensures.world; others = c.judge_all.ensures.others; failed = c.fail_refused.ensures })

@@ -1,0 +1,81 @@
+-- How the groups of a processor are judged one after the other, by what those before leave. After ctx_sched_in, merge_sched_in and
+-- group_can_go_on of kernel/events/core.c; the tally is this project's own profile.
+use Rattle.std.specs.Prelude.{◌≡◌, ℕ, Bool, true, false, not, ◌&&◌, List, ◌++◌, Option, Some, None, if◌then◌else◌}
+use Rattle.std.specs.FinMap.{FinMap, insert}
+use Rattle.std.specs.List.{fold}
+use Rattle.std.specs.Ordering.{nat_cmp}
+use Rattle.perf_base.specs.declared.numbers.CpuNo.{CpuNo}
+use Rattle.perf_base.specs.declared.numbers.EventNo.{EventNo}
+use Rattle.perf_base.specs.declared.numbers.Key.{Key}
+use Rattle.perf_base.specs.declared.standing.Standing.{Standing}
+use Rattle.perf_base.specs.declared.standing.Standing.TheVariants as standing
+use Rattle.stage_spec.specs.Effective.{name_of, is_wholly_software, is_exclusive_group, counted_members}
+use Rattle.stage_spec.specs.Hardware.{Hardware}
+use Rattle.stage_spec.specs.Rules.{ruling_of}
+use Rattle.stage_spec.specs.Stage.{Group}
+use Rattle.stage_spec.specs.Verdict.{is_eligible, by_ruling, stands_on, stands_refused, with_masks}
+use Rattle.world_spec.specs.Changes.{with_seats}
+use Rattle.world_spec.specs.StageOf.{group_at}
+use Rattle.world_spec.specs.Value.{World, seats_at}
+use Rattle.cpu_sched.specs.declared.judging.SoFar.{SoFar}
+
+-- the name that is there, or the one that comes where a test holds
+abbrev pub first_or : Bool → EventNo → Option EventNo → Option EventNo
+first_or holds name (Some group) = Some group
+first_or holds name None = if holds then Some name else None
+
+-- what is noted of a group with its standing: the first exclusive group on, the first hardware group on, the first that was refused
+abbrev pub noted : EventNo → (software exclusive : Bool) → Standing → SoFar → SoFar
+noted name software exclusive s f = record {
+  exclusive_on = first_or (stands_on s && exclusive) name f.exclusive_on;
+  first_on = first_or (stands_on s && not software) name f.first_on;
+  refused = first_or (stands_refused s) name f.refused;
+}
+
+-- the events on the counters after a group was judged
+abbrev pub events_next : Standing → (group events : List (EventNo × ℕ)) → List (EventNo × ℕ)
+events_next s group events = if stands_on s then events ++ group else events
+
+-- What was told so far: the standings of the groups, the events on the counters, and what is noted for the rules.
+pub record Tally : Type 0 where
+  pub standings : FinMap nat_cmp Standing
+  pub events : List (EventNo × ℕ)
+  pub so_far : SoFar
+
+-- where a group stands after what was told: Out where it is not eligible
+abbrev pub told_of : Hardware → CpuNo → Group → Tally → Standing
+told_of hw cpu g t = elim (is_eligible hw cpu g) [
+  | true ↦ by_ruling (ruling_of (is_wholly_software g) (is_exclusive_group g) t.so_far.exclusive_on t.so_far.first_on t.so_far.refused)
+      (t.events ++ with_masks hw (counted_members g))
+  | false ↦ standing.Out
+]
+
+abbrev pub with_told : Hardware → Group → Key → Standing → Tally → Tally
+with_told hw g k s t = record {
+  standings = insert t.standings k.0 s;
+  events = events_next s (with_masks hw (counted_members g)) t.events;
+  so_far = noted (name_of g) (is_wholly_software g) (is_exclusive_group g) s t.so_far;
+}
+
+abbrev pub tell : Hardware → CpuNo → (Key → Group) → Tally → Key → Tally
+tell hw cpu group t k = with_told hw (group k) k (told_of hw cpu (group k) t) t
+
+-- the groups of a pass; in the next one no group was refused yet
+abbrev pub next_pass : Tally → Tally
+next_pass t = record t { so_far = record t.so_far { refused = None } }
+
+abbrev pub tell_pass : Hardware → CpuNo → (Key → Group) → Tally → List Key → Tally
+tell_pass hw cpu group t keys = next_pass (fold (tell hw cpu group) t keys)
+
+-- the tally of a world
+abbrev pub tally_in : World → CpuNo → SoFar → Tally
+tally_in w cpu f = record { standings = w.standings; events = (seats_at w cpu).events; so_far = f }
+
+-- a world that differs in standings and in the seats of one processor
+abbrev pub retold : CpuNo → World → World → World
+retold cpu w after = record (with_seats cpu (seats_at after cpu) w) { standings = after.standings }
+
+-- one group is told: the tally has it, and nothing else changes
+pub record IsTold (cpu : CpuNo) (k : Key) (w : World) (f : SoFar) (after : World) (next : SoFar) : Type 0 where
+  pub tally : tally_in after cpu next ≡ tell w.hardware cpu (group_at w) (tally_in w cpu f) k
+  pub world : after ≡ retold cpu w after

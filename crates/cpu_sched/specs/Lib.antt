@@ -1,0 +1,4 @@
+pub mod Briefs
+pub mod Judging
+pub mod Passes
+pub mod Resched

@@ -1,0 +1,169 @@
+//! How a group is judged after those before it: by the rules, and else by the counters.
+
+ghost use Rattle.std.specs.Prelude.{◌≡◌, ℕ, ◌+◌, ◌<◌, ◌≤◌, ◌++◌, ◌↔◌, ◌&&◌, not, true, All, [], None, length, slice_set, if◌then◌else◌};
+ghost use Rattle.perf_base.specs.Masks.{IsMask};
+ghost use Rattle.perf_base.specs.declared.standing.Standing.TheVariants as stands;
+ghost use Rattle.stage_spec.specs.Hardware.{IsHardware};
+ghost use Rattle.stage_spec.specs.Rules.{ruling_of};
+ghost use Rattle.stage_spec.specs.Tight.{masks_of};
+ghost use Rattle.stage_spec.specs.Verdict.{by_ruling, stands_on, stands_refused, with_masks};
+ghost use Rattle.stage_spec.specs.Effective as effective;
+ghost use Rattle.counter_match.specs.Seating.{AreDistinct};
+ghost use Rattle.world_spec.specs.Changes as change;
+ghost use Rattle.world_spec.specs.Kept.{leads, post_at};
+ghost use Rattle.world_spec.specs.StageOf.{group_at};
+ghost use Rattle.world_spec.specs.Value.{seats_at};
+ghost use Rattle.cpu_sched.specs.Briefs.{events_of};
+ghost use Rattle.cpu_sched.specs.Judging.{first_or, noted, events_next, IsTold};
+
+use crate::brief::{Brief, brief_of};
+use perf_base::{Cause, CpuNo, EventNo, Key, Standing, Steps};
+use perf_world::World;
+use sched_rules::{Facts, may_go};
+use std::sync::ledger::Ledger;
+
+/// What the groups that were judged leave to the rules for the next one. Groups are named by the slot of their leader's original.
+#[derive(Clone, Copy, PartialEq, Eq, Debug)]
+pub struct SoFar {
+    /// The exclusive group that is on, if there is one.
+    pub exclusive_on: Option<EventNo>,
+    /// The first hardware group that is on, in the order of the passes.
+    pub first_on: Option<EventNo>,
+    /// The first group of this pass that was refused.
+    pub refused: Option<EventNo>,
+}
+
+/// The name that is there, or the one that comes where a test holds.
+fn or_first(known: Option<EventNo>, holds: bool, name: EventNo) -> Option<EventNo>
+    ensures { result ≡ first_or holds name known }
+{
+    match known {
+        Some(group) => Some(group),
+        None => { if holds { Some(name) } else { None } }
+    }
+}
+
+fn is_on(standing: &Standing) -> bool
+    ensures { result ≡ stands_on standing.now }
+{
+    match standing {
+        Standing::On => true,
+        Standing::Out | Standing::Refused(_) => false,
+    }
+}
+
+fn is_refused(standing: &Standing) -> bool
+    ensures { result ≡ stands_refused standing.now }
+{
+    match standing {
+        Standing::Refused(_) => true,
+        Standing::Out | Standing::On => false,
+    }
+}
+
+impl SoFar {
+    /// Before the first group.
+    pub fn new() -> SoFar
+        ensures { result ≡ record { exclusive_on = None; first_on = None; refused = None } }
+    {
+        SoFar {
+            exclusive_on: None,
+            first_on: None,
+            refused: None,
+        }
+    }
+
+    /// Before the first group of the next pass: a refusal stops only those behind it in its own pass.
+    pub fn next_pass(self) -> SoFar
+        ensures { result ≡ record self { refused = None } }
+    {
+        let mut next = self;
+        next.refused = None;
+        next
+    }
+
+    /// What the rules look at for a group.
+    fn facts(&self, brief: &Brief) -> Facts
+        ensures { result ≡ record {
+          software = brief.now.software;
+          exclusive = brief.now.exclusive;
+          exclusive_on = self.now.exclusive_on;
+          first_on = self.now.first_on;
+          refused = self.now.refused;
+        } }
+    {
+        Facts {
+            software: brief.software,
+            exclusive: brief.exclusive,
+            exclusive_on: self.exclusive_on,
+            first_on: self.first_on,
+            refused: self.refused,
+        }
+    }
+
+    /// With a group that was judged.
+    fn with(&self, brief: &Brief, standing: &Standing) -> SoFar
+        ensures { result ≡ noted brief.now.name brief.now.software brief.now.exclusive standing.now self.now }
+    {
+        let on = is_on(standing);
+        SoFar {
+            exclusive_on: or_first(self.exclusive_on, on && brief.exclusive, brief.name),
+            first_on: or_first(self.first_on, on && !brief.software, brief.name),
+            refused: or_first(self.refused, is_refused(standing), brief.name),
+        }
+    }
+}
+
+/// Judges an eligible group: a rule that refuses it, or else the counters, on which it goes with those that are there where all fit together.
+fn judge<L: Ledger>(
+    world: &mut World,
+    cpu: CpuNo,
+    brief: &Brief,
+    so_far: &SoFar,
+    tests: &mut Steps<L>,
+) -> Standing
+    requires cpu { cpu.0 < length world.old.quiet.running }
+    requires few { brief.now.events.used ≤ 8 }
+    requires software { brief.now.software ≡ true → (events_of brief.now.events) ≡ [] }
+    requires distinct { AreDistinct ((seats_at world.old cpu).events ++ (events_of brief.now.events)) }
+    requires masks { All (IsMask (seats_at world.old cpu).counters) (masks_of (events_of brief.now.events)) }
+    ensures standing { result ≡ by_ruling
+        (ruling_of brief.now.software brief.now.exclusive so_far.now.exclusive_on so_far.now.first_on so_far.now.refused)
+        ((seats_at world.old cpu).events ++ (events_of brief.now.events)) }
+    ensures events { (seats_at world.new cpu).events ≡ events_next result (events_of brief.now.events) (seats_at world.old cpu).events }
+    ensures world { world.new ≡ change.with_seats cpu (seats_at world.new cpu) world.old }
+    ensures counted { tests.old ≤ tests.new }
+{
+    if let Err(rule) = may_go(&so_far.facts(brief)) {
+        return Standing::Refused(Cause::Rule(rule));
+    }
+    match world.seat(cpu, brief.events.as_slice(), tests) {
+        Ok(()) => Standing::On,
+        Err(slots) => Standing::Refused(Cause::Hall(slots)),
+    }
+}
+
+/// Judges a group after those that were judged before it, and keeps where it stands: Out where it is not eligible.
+pub fn tell<L: Ledger>(
+    world: &mut World,
+    cpu: CpuNo,
+    leader: Key,
+    so_far: SoFar,
+    tests: &mut Steps<L>,
+) -> SoFar
+    requires cpu { cpu.0 < length world.old.quiet.running }
+    requires leads { leads (post_at world.old) leader ≡ true }
+    requires hardware { IsHardware world.old.hardware }
+    requires distinct { AreDistinct ((seats_at world.old cpu).events ++ with_masks world.old.hardware (effective.counted_members (group_at world.old leader))) }
+    ensures told { IsTold cpu leader world.old so_far world.new result }
+    ensures counted { tests.old ≤ tests.new }
+{
+    if !world.eligible(cpu, leader) {
+        world.set_standing(leader, Standing::Out);
+        return so_far;
+    }
+    let brief = brief_of(world, leader);
+    let standing = judge(world, cpu, &brief, &so_far, tests);
+    world.set_standing(leader, standing);
+    so_far.with(&brief, &standing)
+}

@@ -1,0 +1,109 @@
+//! The four passes over the groups of a processor: its own pinned groups and then its task's, its own flexible groups and then its task's.
+
+ghost use Rattle.std.specs.Prelude.{◌≡◌, ◌+◌, ◌<◌, ◌≤◌, false, [], length, take, flat_map, slice_index_or};
+ghost use Rattle.counter_match.specs.Seating.{empty_seating};
+ghost use Rattle.world_spec.specs.Changes as change;
+ghost use Rattle.perf_base.specs.declared.standing.Context.TheVariants as context;
+ghost use Rattle.perf_base.specs.declared.numbers.Key.{Key as KeyNo};
+ghost use Rattle.stage_spec.specs.Hardware.{IsHardware};
+ghost use Rattle.stage_spec.specs.Stage.{task_on};
+ghost use Rattle.stage_laws.specs.Narrowing.{has_context};
+ghost use Rattle.world_spec.specs.Listings.{pass_leaders, task_leaders};
+ghost use Rattle.world_spec.specs.Rescheduled.{IsJudged};
+ghost use Rattle.world_spec.specs.StageOf.{group_at, stage_of};
+ghost use Rattle.world_spec.specs.Value.{entry_at, standing_at, seats_at};
+ghost use Rattle.world_spec.specs.Copying.{leaders_in};
+ghost use Rattle.perf_world.specs.Seen.{IsWorld};
+ghost use Rattle.cpu_sched.specs.Judging.{tally_in, tell_pass, retold};
+ghost use Rattle.cpu_sched.specs.Passes.{AreOfTold, told_before};
+
+use crate::judging::{SoFar, tell};
+use perf_base::{Context, CpuNo, Key, Steps};
+use perf_world::World;
+use std::sync::ledger::Ledger;
+
+/// A processor's own context. A machine has at most 8 processors. As a reader it also tells what always holds of a world.
+pub fn own_context(world: &World, cpu: CpuNo) -> Context
+    requires { cpu.0 < length world.now.quiet.running }
+    ensures context { result ≡ context.Processor cpu }
+    ensures low { cpu.0 < 8 }
+    ensures hardware { IsHardware world.now.hardware }
+    ensures kept { IsWorld world.now }
+{
+    let cpus = world.pmus().cpus();
+    prove!(cpu.0 < cpus);
+    Context::Processor(cpu)
+}
+
+/// The leaders of the groups of the task on a processor, pinned or flexible: none while it is idle.
+fn leaders_of_task(world: &World, cpu: CpuNo, pinned: bool) -> &[Key]
+    requires { IsWorld world.now }
+    ensures { result.now ≡ leaders_in pinned (task_leaders world.now (task_on (stage_of world.now) cpu)) }
+{
+    match world.task_on(cpu) {
+        Some(task) => world.list(Context::Task(task), pinned),
+        None => &[],
+    }
+}
+
+/// The leaders of the groups of a pass, 0 to 3.
+pub fn leaders(world: &World, cpu: CpuNo, pass: u8) -> &[Key]
+    requires cpu { cpu.0 < length world.now.quiet.running }
+    requires pass { pass < 4 }
+    ensures leaders { result.now ≡ slice_index_or (pass_leaders world.now cpu) pass [] }
+    ensures low { cpu.0 < 8 }
+    ensures hardware { IsHardware world.now.hardware }
+    ensures kept { IsWorld world.now }
+{
+    let own = own_context(world, cpu);
+    match pass {
+        0 => world.list(own, true),
+        1 => leaders_of_task(world, cpu, true),
+        2 => world.list(own, false),
+        _ => leaders_of_task(world, cpu, false),
+    }
+}
+
+/// Judges the groups of a pass, one after the other.
+fn judge_pass<L: Ledger>(
+    world: &mut World,
+    cpu: CpuNo,
+    pass: u8,
+    so_far: SoFar,
+    tests: &mut Steps<L>,
+) -> SoFar
+    requires cpu { cpu.0 < length world.old.quiet.running }
+    requires pass { pass < 4 }
+    requires events { AreOfTold world.old (told_before world.old cpu pass) (seats_at world.old cpu).events }
+    ensures tally { tally_in world.new cpu result ≡ tell_pass world.old.hardware cpu (group_at world.old) (tally_in world.old cpu so_far)
+        (slice_index_or (pass_leaders world.old cpu) pass []) }
+    ensures world { world.new ≡ retold cpu world.old world.new }
+    ensures events { AreOfTold world.new (told_before world.new cpu (pass + 1)) (seats_at world.new cpu).events }
+    ensures counted { tests.old ≤ tests.new }
+{
+    let mut so_far = so_far;
+    for place in 0..leaders(world, cpu, pass).len() {
+        let leader = leaders(world, cpu, pass)[place];
+        so_far = tell(world, cpu, leader, so_far, tests);
+    }
+    so_far.next_pass()
+}
+
+/// Judges all groups of a processor, with its counters empty at first.
+pub fn judge_all<L: Ledger>(world: &mut World, cpu: CpuNo, tests: &mut Steps<L>)
+    requires { cpu.0 < length world.old.quiet.running }
+    ensures world { world.new ≡ retold cpu world.old world.new }
+    ensures judged { IsJudged world.old.hardware world.new cpu }
+    ensures others { (k : KeyNo) → has_context (stage_of world.old) cpu (entry_at world.old k).context ≡ false → standing_at world.new k ≡ standing_at world.old k }
+    ensures low { cpu.0 < 8 }
+    ensures kept { IsWorld world.new }
+    ensures counted { tests.old ≤ tests.new }
+{
+    world.clear_seats(cpu);
+    let _own = own_context(world, cpu);
+    let mut so_far = SoFar::new();
+    for pass in 0..4 {
+        so_far = judge_pass(world, cpu, pass, so_far, tests);
+    }
+    let _own = own_context(world, cpu);
+}

@@ -1,0 +1,32 @@
+//! Rescheduling a processor.
+
+ghost use Rattle.std.specs.Prelude.{◌≡◌, ◌≢◌, ◌<◌, ◌≤◌, length};
+ghost use Rattle.perf_base.specs.declared.numbers.CpuNo.{CpuNo as Cpu};
+ghost use Rattle.stage_spec.specs.Settle.{settle};
+ghost use Rattle.world_spec.specs.Rescheduled.{IsRescheduled};
+ghost use Rattle.world_spec.specs.StageOf.{stage_of};
+ghost use Rattle.cpu_sched.specs.Resched.{StaysBut};
+
+use crate::failing::fail_refused;
+use crate::passes::{judge_all, own_context};
+use perf_base::{CpuNo, Steps};
+use perf_world::World;
+use std::sync::ledger::Ledger;
+
+/// Reschedules a processor: takes all groups off its counters and judges those of its own context and of its task's anew, in the order
+/// of the four passes. A pinned group that is refused goes to error with its cause. After ctx_resched of kernel/events/core.c. A step of `tests` is one
+/// test of one counter for one event.
+pub fn resched<L: Ledger>(world: &mut World, cpu: CpuNo, tests: &mut Steps<L>)
+    requires { cpu.0 < length world.old.quiet.running }
+    ensures stage { stage_of world.new ≡ settle world.old.hardware cpu (stage_of world.old) }
+    ensures rescheduled { IsRescheduled world.old.hardware world.new cpu }
+    ensures others { (other : Cpu) → other.0 < length world.old.quiet.running → other.0 ≢ cpu.0
+        → IsRescheduled world.old.hardware world.old other → IsRescheduled world.old.hardware world.new other }
+    ensures rest { StaysBut cpu world.old world.new }
+    ensures counted { tests.old ≤ tests.new }
+{
+    // A reader tells what always holds of a world.
+    let _own = own_context(world, cpu);
+    judge_all(world, cpu, tests);
+    fail_refused(world, cpu);
+}
