@@ -6,7 +6,6 @@ use Rattle.std.proofs.lemmas.Bool.{cases_Bool, cases_lt}
 use Rattle.std.proofs.lemmas.Bool.Decides.{nat_tests}
 use Rattle.std.proofs.lemmas.List.{get_or_past}
 use Rattle.std.proofs.lemmas.List.Elements.{All-cons}
-use Rattle.std.proofs.lemmas.List.Folds.{list_all-map}
 use Rattle.perf_base.specs.Masks.{IsMask}
 use Rattle.perf_base.specs.declared.attr.Kind.{Kind}
 use Rattle.perf_base.specs.declared.attr.Kind.TheVariants as kind
@@ -39,11 +38,6 @@ members-live hw w k keys h is i d low =
 
 pub by-members : (hw : Hardware) (w : World) (k : Key) (keys : List Key) → IsKept hw w → leads (post_at w) k ≡ true → keys ≡ (entry_at w k).members → map (instance_at w) keys ≡ members_of (group_at w k)
 by-members hw w k keys h lead is = ap (map (instance_at w)) is ∙ sym (group-members hw w k h lead)
-
-pub wholly-software : (hw : Hardware) (w : World) (k : Key) (keys : List Key) → IsKept hw w → leads (post_at w) k ≡ true → keys ≡ (entry_at w k).members
-    → list_all (λ q. is_software (instance_at w q).attr.kind) keys ≡ is_wholly_software (group_at w k)
-wholly-software hw w k keys h lead is =
-    sym (list_all-map (λ i. is_software i.attr.kind) (instance_at w) keys) ∙ ap (list_all (λ i. is_software i.attr.kind)) (by-members hw w k keys h lead is)
 
 -- a wholly software group needs no counter
 no-more : (b : Bool) (xs ys : List Instance) → cond (b && false) xs ys ≡ ys

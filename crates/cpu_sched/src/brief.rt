@@ -1,7 +1,6 @@
 //! What rescheduling looks at of a group.
 
 ghost use Rattle.std.specs.Prelude.{◌≡◌, ◌+◌, ◌<◌, ◌≤◌, true, All, filter, length, map, ◌&&◌, not, bit_and, ◌==◌, [], ◌∷◌, ◌++◌};
-ghost use Rattle.std.specs.List.{list_all};
 ghost use Rattle.stage_spec.specs.Effective as effective;
 ghost use Rattle.stage_spec.specs.Hardware as hardware;
 ghost use Rattle.stage_spec.specs.Tight.{masks_of};
@@ -67,19 +66,6 @@ pub struct Brief {
     pub events: Counted,
 }
 
-/// Whether all of some instances are of software kinds.
-fn are_software(world: &World, members: &[Key]) -> bool
-    requires { All (λ k. is_live world.now k ≡ true) members.now }
-    ensures { result ≡ list_all (λ k. hardware.is_software (instance_at world.now k).attr.kind) members.now }
-{
-    for member in members {
-        if !is_software(world.attr(*member).kind) {
-            return false;
-        }
-    }
-    true
-}
-
 /// Whether an instance needs a counter when its group is on: it is ready, and of a hardware kind.
 fn needs_counter(world: &World, key: Key) -> bool
     requires { is_live world.now key ≡ true }
@@ -139,7 +125,7 @@ pub fn brief_of(world: &World, leader: Key) -> Brief
     ensures kept { IsWorld world.now }
 {
     let members = world.members(leader);
-    let software = are_software(world, members);
+    let software = world.is_wholly_software(leader);
     Brief {
         name: world.event_of(leader),
         software,

@@ -1,5 +1,5 @@
 -- What is kept of a world, and what follows from it for its tables.
-use Rattle.std.specs.Prelude.{◌≡◌, ℕ, ◌+◌, ◌<◌, ◌≤◌, ◌==◌, Bool, true, false, not, ◌&&◌, cond, List, [], ◌∷◌, ◌++◌, length, Option, Some, None, IfSome, slice_index_or, slice_set, if◌then◌else◌}
+use Rattle.std.specs.Prelude.{◌≡◌, ℕ, ◌+◌, ◌<◌, ◌≤◌, ◌==◌, Bool, true, false, not, List, [], ◌∷◌, length, Option, Some, None, IfSome, slice_index_or, slice_set, if◌then◌else◌}
 use Rattle.std.proofs.Common.{arith, refl, sym, ap, subst, ◌∙◌, inl, inr}
 use Rattle.std.proofs.lemmas.Bool.{cases_Bool, cases_lt}
 use Rattle.std.proofs.lemmas.Bool.Decides.{nat_tests}
@@ -10,15 +10,13 @@ use Rattle.perf_base.specs.declared.numbers.Key.{Key}
 use Rattle.perf_base.specs.declared.numbers.RingNo.{RingNo}
 use Rattle.perf_base.specs.declared.numbers.TaskNo.{TaskNo}
 use Rattle.perf_base.specs.declared.reply.Sums.{Sums}
-use Rattle.stage_spec.specs.Families.{plus}
 use Rattle.stage_spec.specs.Hardware.{Hardware}
-use Rattle.stage_spec.specs.Shares.{no_sums}
 use Rattle.stage_spec.specs.declared.instance.TaskState.TheVariants as task_state
 use Rattle.stage_spec.specs.declared.instance.TaskStatus.{TaskStatus}
 use Rattle.stage_spec.specs.Stage.{place_of, unknown_task}
 use Rattle.stage_laws.proofs.Counts.{count-append}
-use Rattle.world_spec.specs.Value.{World, Family, Leaders, no_family, no_leaders, is_live, entry_at, instance_at, account_at, leaders_of, is_key, times}
-use Rattle.world_spec.specs.Kept.{leads, leads_in, post_at, once_if, in_option, keys_of, plus_keys, family_sums, is_original_in, is_copy_in, IsKept}
+use Rattle.world_spec.specs.Value.{World, Family, Leaders, no_family, is_live, entry_at, instance_at, account_at, leaders_of, is_key, times}
+use Rattle.world_spec.specs.Kept.{leads, leads_in, post_at, in_option, keys_of, plus_keys, family_sums, is_original_in, is_copy_in, IsKept}
 use Rattle.world_spec.proofs.Accounts.{IsSum, counts_are_sums, times_are_sums}
 use Rattle.world_spec.proofs.Keys.{times-cons, once-true, once-false, is_key-true, key-is}
 use Rattle.world_spec.specs.Changes as change

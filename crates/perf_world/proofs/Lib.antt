@@ -3,5 +3,6 @@ mod Counted
 mod Gone
 mod Kept
 mod Room
+mod Running
 mod Seats
 mod Tables

@@ -1,5 +1,5 @@
 -- What happens to each table of a world where an instance comes or goes. This project's own profile.
-use Rattle.std.specs.Prelude.{◌≡◌, ℕ, ◌+◌, ◌^◌, ◌<◌, ◌≤◌, Bool, true, false, is_some, List, [], ◌∷◌, ◌++◌, length, Option, Some, None, slice_index_or, slice_set}
+use Rattle.std.specs.Prelude.{◌≡◌, ◌+◌, ◌^◌, ◌<◌, ◌≤◌, Bool, true, false, is_some, List, [], ◌∷◌, ◌++◌, length, Option, Some, None, slice_index_or, slice_set}
 use Rattle.std.specs.List.{fold}
 use Rattle.perf_base.specs.Scripts.{IsKind}
 use Rattle.perf_base.specs.declared.attr.Attr.{Attr}
@@ -11,14 +11,13 @@ use Rattle.stage_spec.specs.declared.instance.Instance.{Instance}
 use Rattle.stage_spec.specs.Checks.{has_unknown_sample}
 use Rattle.stage_spec.specs.Flags.{is_pinned}
 use Rattle.stage_spec.specs.Stage.{place_of}
-use Rattle.world_spec.specs.Value.{World, Leaders, Family, no_leaders, is_live, entry_at, instance_at, is_key, times}
+use Rattle.world_spec.specs.Value.{World, Leaders, no_leaders, is_live, entry_at, instance_at, times}
 use Rattle.world_spec.specs.StageOf.{after_first}
 use Rattle.world_spec.specs.Kept.{AreFitting}
 use Rattle.world_spec.specs.Adding.{Newcomer}
 use Rattle.world_spec.specs.Changes.{in_list, all_but}
 use Rattle.world_spec.specs.Comings.{new_kinds, IsOfOriginal, HasRoom}
-use Rattle.world_tables.specs.Columns.{Columns, entry_in, put_entry, put_standing, put_row, taken}
-use Rattle.world_tables.specs.Places.{picked}
+use Rattle.world_tables.specs.Columns.{Columns, entry_in, put_entry, put_standing, put_row}
 use Rattle.world_tables.specs.Rows.{fresh_row, leader_entry, sibling_entry, freed_entry}
 
 -- an instance that is opened in a slot, or a copy of the original there

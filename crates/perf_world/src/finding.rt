@@ -4,12 +4,12 @@ ghost use Rattle.std.specs.Prelude.{◌≡◌, ◌<◌, All, length, nat_lt, fin
 ghost use Rattle.std.specs.List.{list_all};
 ghost use Rattle.perf_base.specs.Scripts.{IsKind};
 ghost use Rattle.stage_spec.specs.Effective as effective;
-ghost use Rattle.stage_spec.specs.Hardware.{is_counted_on as counted_on};
+ghost use Rattle.stage_spec.specs.Hardware.{is_counted_on as counted_on, is_software as software};
 ghost use Rattle.stage_spec.specs.Places as places;
 ghost use Rattle.world_tables.specs.Columns.{is_there, entry_in};
 
 use perf_base::{CpuNo, CpuSel, Key, Kind, Own};
-use pmu_model::Pmus;
+use pmu_model::{Pmus, is_software};
 use world_tables::EventTable;
 
 /// Whether an own state is ready.
@@ -53,6 +53,19 @@ pub fn are_counted_on(pmus: &Pmus, events: &EventTable, cpu: CpuNo, members: &[K
 {
     for member in members {
         if !is_counted_on(pmus, cpu, events.instance(*member).attr.kind) {
+            return false;
+        }
+    }
+    true
+}
+
+/// Whether all of some instances are of software kinds.
+pub fn are_software(events: &EventTable, members: &[Key]) -> bool
+    requires { All (λ k. is_there events.now k ≡ true) members.now }
+    ensures { result ≡ list_all (λ k. software (entry_in events.now k).instance.attr.kind) members.now }
+{
+    for member in members {
+        if !is_software(events.instance(*member).attr.kind) {
             return false;
         }
     }

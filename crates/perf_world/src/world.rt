@@ -5,6 +5,7 @@ ghost use Rattle.std.specs.List.{list_any};
 ghost use Rattle.perf_base.specs.declared.numbers.CpuNo.{CpuNo as Cpu};
 ghost use Rattle.perf_base.specs.declared.numbers.TaskNo.{TaskNo as Task};
 ghost use Rattle.perf_base.specs.Masks.{IsMask};
+ghost use Rattle.stage_spec.specs.Effective.{is_wholly_software};
 ghost use Rattle.stage_spec.specs.Hardware as hardware;
 ghost use Rattle.stage_spec.specs.Mapping.{ring_of};
 ghost use Rattle.stage_spec.specs.Verdict.{is_eligible};
@@ -35,7 +36,7 @@ ghost use Rattle.perf_world.specs.Parts.{MayAdd, newcomer};
 ghost use Rattle.perf_world.specs.Seen.{IsWorld, noted};
 
 use crate::coming::{enter_family, join, new_instance};
-use crate::finding::{are_counted_on, first_after, is_ready, may_count_on};
+use crate::finding::{are_counted_on, are_software, first_after, is_ready, may_count_on};
 use crate::going::{leave_family, leave_group};
 use counter_match::Seats;
 use perf_base::{
@@ -217,6 +218,14 @@ impl World {
         first_after(&self.events, self.families.copies(event), id)
     }
 
+    /// Whether all members of a group are of software kinds.
+    pub fn is_wholly_software(&self, leader: Key) -> bool
+        requires { leads (post_at self.now) leader ≡ true }
+        ensures { result ≡ is_wholly_software (group_at self.now leader) }
+    {
+        are_software(&self.events, self.events.members(leader))
+    }
+
     /// Whether a group may go on on a processor: its leader is ready, its place is any processor or that one, and its hardware
     /// members are of that processor's PMU.
     pub fn eligible(&self, cpu: CpuNo, leader: Key) -> bool
@@ -357,8 +366,18 @@ impl World {
 
     /// The processor that a task is on: none exactly where it is on none.
     pub fn cpu_of(&self, task: TaskNo) -> Option<CpuNo>
+        ensures cpu { result ≡ stage.cpu_of (stage_of self.now) task }
         ensures there { IfSome result (λ cpu. stage.task_on (stage_of self.now) cpu ≡ Some task) }
         ensures nowhere { IfNone result ((cpu : Cpu) → stage.task_on (stage_of self.now) cpu ≡ Some task → ⊥) }
+    {
+        self.processor_with(task)
+    }
+
+    /// The first processor that runs a task.
+    fn processor_with(&self, task: TaskNo) -> Option<CpuNo>
+        ensures there { IfSome result (λ cpu. stage.task_on (stage_of self.now) cpu ≡ Some task) }
+        ensures nowhere { IfNone result ((cpu : Cpu) → stage.task_on (stage_of self.now) cpu ≡ Some task → ⊥) }
+        ensures kept { IsWorld self.now }
     {
         for cpu in 0..self.pmus.cpus() {
             if self.processors.running(CpuNo(cpu)) == Some(task) {

@@ -1,4 +1,4 @@
-use Rattle.std.proofs.Common.{◌≡◌, ◌∙◌, ◌<◌, ◌++◌, [], ◌∷◌, true, length, ap, sym, subst, is_some}
+use Rattle.std.proofs.Common.{◌≡◌, ◌∙◌, ◌<◌, ◌++◌, [], ◌∷◌, length, ap, sym, subst, is_some}
 use Rattle.std.specs.Option.{unwrap_or}
 use Rattle.world_spec.specs.Value.{Entry, no_entry}
 use Rattle.world_tables.specs.Columns.{Columns, is_there, entry_in, put_entry, put_row}

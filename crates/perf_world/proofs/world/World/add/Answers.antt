@@ -1,16 +1,15 @@
-use Rattle.std.proofs.Common.{◌≡◌, ℕ, ◌+◌, ◌<◌, ◌++◌, [], ◌∷◌, true, false, Bool, is_some, ap, sym, subst, ◌∙◌, inl, inr, if◌then◌else◌}
-use Rattle.std.specs.FinMap.{len}
+use Rattle.std.proofs.Common.{◌≡◌, ◌+◌, ◌++◌, [], ◌∷◌, false, is_some, ap, sym, subst, ◌∙◌, inl, inr, if◌then◌else◌}
 use Rattle.std.proofs.lemmas.Bool.{cases_Bool}
 use Rattle.stage_spec.specs.Flags.{is_pinned}
 use Rattle.stage_spec.specs.Stage.{place_of}
-use Rattle.world_spec.specs.Value.{World, is_live}
+use Rattle.world_spec.specs.Value.{is_live}
 use Rattle.world_spec.specs.StageOf.{stage_of}
 use Rattle.world_spec.specs.Adding.{new_instance, in_family, add}
 use Rattle.world_spec.proofs.AddedKept.{add-kept}
 use Rattle.world_spec.proofs.AddedStage.{add-stage}
 use Rattle.world_tables.specs.Places.{with_family}
 use Rattle.perf_world.specs.Parts.{newcomer, MayAdd, joined_events, joined_contexts}
-use Rattle.perf_world.specs.Seen.{seen, IsWorld}
+use Rattle.perf_world.specs.Seen.{seen}
 use Rattle.perf_world.proofs.Added.{added, added-kept, may-come}
 use Rattle.perf_world.proofs.Counted.{room-for-copy, room-for-original}
 use Rattle.perf_world.proofs.Kept.{kept-now, kept-after}

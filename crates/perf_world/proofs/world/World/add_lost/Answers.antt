@@ -1,8 +1,7 @@
-use Rattle.std.proofs.Common.{◌≡◌, ◌+◌, ap, sym, ◌∙◌, slice_set, slice_index_or}
-use Rattle.world_spec.specs.StageOf.{stage_of}
+use Rattle.std.proofs.Common.{◌+◌, ap, ◌∙◌, slice_set, slice_index_or}
 use Rattle.world_spec.specs.Changes as change
 use Rattle.world_spec.proofs.Keeping.{lost-kept}
-use Rattle.perf_world.specs.Seen.{seen, IsWorld}
+use Rattle.perf_world.specs.Seen.{seen}
 use Rattle.perf_world.proofs.Kept.{kept-now, kept-after}
 use Rattle.perf_world.proofs.world.World.add_lost.Goals as goal
 

@@ -1,10 +1,8 @@
-use Rattle.std.proofs.Common.{◌≡◌, ap, sym, ◌∙◌}
-use Rattle.world_spec.specs.StageOf.{stage_of}
-use Rattle.world_spec.specs.Changes as change
+use Rattle.std.proofs.Common.{ap, sym, ◌∙◌}
 use Rattle.world_spec.specs.Kept.{copies_in}
 use Rattle.world_spec.proofs.Families.{copies-are}
-use Rattle.perf_world.specs.Seen.{seen, IsWorld}
-use Rattle.perf_world.proofs.Kept.{kept-now, kept-after}
+use Rattle.perf_world.specs.Seen.{seen}
+use Rattle.perf_world.proofs.Kept.{kept-now}
 use Rattle.perf_world.proofs.world.World.copies.Goals as goal
 
 pub returns-clause-copies : goal.returns-clause-copies

@@ -1,18 +1,11 @@
-use Rattle.std.proofs.Common.{◌≡◌, ◌≤◌, ◌<◌, ◌&&◌, true, Bool, List, ap, sym, subst, ◌∙◌, slice_index_or, slice_set}
-use Rattle.perf_base.specs.declared.numbers.Key.{Key}
-use Rattle.stage_spec.specs.declared.instance.Instance.{Instance}
-use Rattle.stage_spec.specs.Families.{plus}
-use Rattle.stage_spec.specs.Stage.{place_of}
-use Rattle.world_spec.specs.Value.{World, no_leaders, no_family, is_live, entry_at, instance_at, account_at, is_key, times}
-use Rattle.world_spec.specs.StageOf.{stage_of, after_first}
-use Rattle.world_spec.specs.Kept.{leads, post_at}
-use Rattle.world_spec.specs.Adding.{drop_instance, fold_sums, folded_away, out_of_family}
-use Rattle.world_spec.specs.Goings.{MayGo}
+use Rattle.std.proofs.Common.{◌≡◌, true, ap, sym, subst, ◌∙◌, slice_index_or}
+use Rattle.world_spec.specs.Value.{no_family, is_live, instance_at, is_key, times}
+use Rattle.world_spec.specs.StageOf.{stage_of}
+use Rattle.world_spec.specs.Adding.{drop_instance, out_of_family}
 use Rattle.world_tables.specs.Columns.{Columns, is_there, entry_in, taken}
-use Rattle.world_tables.specs.Places.{Slots, with_family}
-use Rattle.perf_world.specs.Parts.{left_events, left_contexts}
-use Rattle.perf_world.specs.Seen.{seen, IsWorld}
-use Rattle.perf_world.proofs.Gone.{gone, left-there, members-there, copy-once, fold-room, both-true, dropped-kept}
+use Rattle.world_tables.specs.Places.{with_family}
+use Rattle.perf_world.specs.Seen.{seen}
+use Rattle.perf_world.proofs.Gone.{gone, left-there, members-there, copy-once, both-true, dropped-kept}
 use Rattle.perf_world.proofs.Kept.{kept-now, kept-after, listed-once}
 use Rattle.perf_world.proofs.Room.{room-behind}
 use Rattle.perf_world.proofs.Gone.{leader-there}

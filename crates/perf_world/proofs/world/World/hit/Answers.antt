@@ -1,10 +1,10 @@
-use Rattle.std.proofs.Common.{arith, ◌≡◌, ap, sym, ◌∙◌}
+use Rattle.std.proofs.Common.{arith, ap, ◌∙◌}
 use Rattle.world_spec.specs.Value.{account_at}
 use Rattle.world_spec.specs.StageOf.{stage_of}
 use Rattle.world_spec.specs.Changes as change
 use Rattle.world_spec.proofs.Accounts.{hit-kept, hit-stage}
 use Rattle.perf_world.proofs.Kept.{own-count}
-use Rattle.perf_world.specs.Seen.{seen, IsWorld}
+use Rattle.perf_world.specs.Seen.{seen}
 use Rattle.perf_world.proofs.Kept.{kept-now, kept-after}
 use Rattle.perf_world.proofs.world.World.hit.Goals as goal
 

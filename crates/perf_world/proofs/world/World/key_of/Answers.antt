@@ -1,12 +1,10 @@
 use Rattle.std.proofs.Common.{◌≡◌, true, ap, sym, ◌∙◌}
-use Rattle.world_spec.specs.StageOf.{stage_of}
-use Rattle.world_spec.specs.Changes as change
 use Rattle.std.specs.Prelude.{option_map}
 use Rattle.world_spec.specs.Value.{family_of, instance_at, is_live}
 use Rattle.world_spec.proofs.Families.{original-is}
 use Rattle.perf_world.proofs.Kept.{original-live, if-some}
-use Rattle.perf_world.specs.Seen.{seen, IsWorld}
-use Rattle.perf_world.proofs.Kept.{kept-now, kept-after}
+use Rattle.perf_world.specs.Seen.{seen}
+use Rattle.perf_world.proofs.Kept.{kept-now}
 use Rattle.perf_world.proofs.world.World.key_of.Goals as goal
 
 pub returns-clause-live : goal.returns-clause-live

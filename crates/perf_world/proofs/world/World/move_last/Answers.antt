@@ -8,7 +8,7 @@ use Rattle.world_spec.specs.Value.{no_leaders, entry_at, times}
 use Rattle.world_tables.specs.Places.{picked}
 use Rattle.world_spec.proofs.Moving.{move-kept, move-stage}
 use Rattle.perf_world.proofs.Kept.{listed-once}
-use Rattle.perf_world.specs.Seen.{seen, IsWorld}
+use Rattle.perf_world.specs.Seen.{seen}
 use Rattle.perf_world.proofs.Kept.{kept-now, kept-after}
 use Rattle.perf_world.proofs.world.World.move_last.Goals as goal
 

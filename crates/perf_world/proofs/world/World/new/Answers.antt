@@ -1,8 +1,8 @@
-use Rattle.std.proofs.Common.{◌≡◌, ◌∙◌, ap, sym, length}
+use Rattle.std.proofs.Common.{◌∙◌, ap, length}
 use Rattle.world_spec.specs.StageOf.{stage_of}
 use Rattle.world_spec.specs.First.{first_world}
 use Rattle.world_spec.proofs.First.{first-kept, first-stage}
-use Rattle.perf_world.specs.Seen.{seen, IsWorld}
+use Rattle.perf_world.specs.Seen.{seen}
 use Rattle.perf_world.proofs.Kept.{kept-after}
 use Rattle.perf_world.proofs.world.World.new.Goals as goal
 

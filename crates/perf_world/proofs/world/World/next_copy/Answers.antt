@@ -1,6 +1,6 @@
-use Rattle.std.proofs.Common.{◌≡◌, ◌≤◌, true, List, ap, subst, sym, slice_index_or}
+use Rattle.std.proofs.Common.{◌≤◌, List, subst, slice_index_or}
 use Rattle.perf_base.specs.declared.numbers.Key.{Key}
-use Rattle.world_spec.specs.Value.{no_family, times}
+use Rattle.world_spec.specs.Value.{times}
 use Rattle.perf_world.specs.Seen.{seen}
 use Rattle.perf_world.proofs.Gone.{times-at}
 use Rattle.perf_world.proofs.Room.{copy-there}

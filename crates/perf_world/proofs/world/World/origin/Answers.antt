@@ -1,6 +1,6 @@
-use Rattle.std.proofs.Common.{◌≡◌, ◌∙◌, ap, sym, true, Some, None, slice_index_or}
-use Rattle.world_spec.specs.Value.{World, family_of, instance_at, is_live, no_family}
-use Rattle.perf_world.specs.Seen.{seen, IsWorld}
+use Rattle.std.proofs.Common.{◌≡◌, ◌∙◌, ap, sym, Some, None, slice_index_or}
+use Rattle.world_spec.specs.Value.{World, family_of, instance_at, no_family}
+use Rattle.perf_world.specs.Seen.{seen}
 use Rattle.perf_world.proofs.Kept.{kept-now, original-live, original-there}
 use Rattle.perf_world.proofs.world.World.origin.Goals as goal
 

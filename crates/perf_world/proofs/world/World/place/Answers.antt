@@ -1,10 +1,7 @@
-use Rattle.std.proofs.Common.{arith, ◌≡◌, ℕ, ap, sym, subst, length, ◌∙◌}
-use Rattle.perf_base.specs.declared.numbers.TaskNo.{TaskNo}
-use Rattle.world_spec.specs.Laws.{IsFree}
-use Rattle.world_spec.specs.StageOf.{stage_of}
+use Rattle.std.proofs.Common.{arith, ap, ◌∙◌}
 use Rattle.world_spec.specs.Changes as change
 use Rattle.world_spec.proofs.Placing.{place-kept}
-use Rattle.perf_world.specs.Seen.{seen, IsWorld}
+use Rattle.perf_world.specs.Seen.{seen}
 use Rattle.perf_world.proofs.Kept.{kept-now, kept-after, placed, placed-kept, task-there}
 use Rattle.perf_world.proofs.world.World.place.Goals as goal
 

@@ -1,11 +1,10 @@
-use Rattle.std.proofs.Common.{arith, ◌≡◌, ◌∙◌, ◌++◌, ◌<◌, List, length, ap, sym, subst, OnOk, OnErr, slice_index_or}
+use Rattle.std.proofs.Common.{arith, ◌≡◌, ◌∙◌, ◌++◌, ◌<◌, length, ap, subst, OnOk, slice_index_or}
 use Rattle.counter_match.specs.Seating.{Seated, IsSound}
-use Rattle.stage_spec.specs.Hardware.{counters_of}
 use Rattle.world_spec.specs.Value.{seats_at}
 use Rattle.world_spec.specs.Changes as change
 use Rattle.world_spec.proofs.Keeping.{seats-kept}
 use Rattle.world_tables.specs.Places.{Places, no_seats}
-use Rattle.perf_world.specs.Seen.{seen, IsWorld}
+use Rattle.perf_world.specs.Seen.{seen}
 use Rattle.perf_world.proofs.Kept.{kept-now, kept-after}
 use Rattle.perf_world.proofs.Seats.{seats-sound, on-err}
 use Rattle.perf_world.proofs.world.World.seat.Goals as goal
