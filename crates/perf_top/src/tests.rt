@@ -18,6 +18,13 @@ const WITH_TASK: &str = "perf 1\nmachine cpus=1 counters=1\ntask 0\nend\n";
 
 const EMPTY: &str = "perf 1\nmachine cpus=1 counters=1\nend\n";
 
+/// The bytes of a `struct perf_event_attr` of the smallest size.
+const ATTR: &str = "04000000400000000100000000000000e803000000000000070000000000000003\
+    00000000000000030000000000000000000000000000000000000000000000";
+
+const ATTR_LINE: &str =
+    "attr type=4 config=1 period=1000 sample=7 format=3 flags=disabled,inherit\n";
+
 const CALM: u64 = 1000000;
 
 /// A call: the words, the text, how much a read or a write takes, the calls of the source and of the sink
@@ -177,6 +184,30 @@ fn each_answer_comes_with_its_bytes_and_its_note(rt: HostRuntime) -> Result<(), 
         if status == Status::Usage {
             assert_eq!(rt; source.read(&mut [0; 9]).ok(), Some(9));
         }
+    }
+    Ok(())
+}
+
+#[test]
+fn attr_says_what_bytes_are(rt: HostRuntime) -> Result<(), Fail> {
+    let table = [
+        (ATTR, CALM, Status::Done, ATTR_LINE),
+        ("04000000", CALM, Status::Done, "attr ESHORT\n"),
+        (ATTR, 0, Status::WriteFault, ""),
+        (ATTR, 1, Status::WriteFault, ATTR_LINE),
+        ("0", CALM, Status::Usage, ""),
+    ];
+    for (word, fails, answer, line) in table {
+        let mut words = vec![in rt.alloc(); String::from_str(rt.alloc(), "attr")?]?;
+        words.push(String::from_str(rt.alloc(), word)?)?;
+        let bytes = Vec::from_slice(rt.alloc(), b"perf 1\n".as_slice())?;
+        let mut source = MemSource::new(bytes, 9, Vec::new(rt.alloc()));
+        let mut sink = MemSink::new(rt.alloc(), 1000, vec![in rt.alloc(); fails]?, 1000)?;
+        let mut notes = MemSink::new(rt.alloc(), 9, Vec::new(rt.alloc()), 1000)?;
+        let status = perf_main(rt.alloc(), &words, &mut source, &mut sink, &mut notes);
+        assert_eq!(rt; status, answer);
+        assert_eq!(rt; sink.bytes(), line.as_bytes());
+        assert_eq!(rt; source.read(&mut [0; 9]).ok(), Some(7));
     }
     Ok(())
 }
