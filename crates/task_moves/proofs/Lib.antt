@@ -1,0 +1,3 @@
+pub mod Rotating
+pub mod Switching
+pub mod Turning

@@ -1,0 +1,179 @@
+-- That turning the leaders of contexts is the definitions' rotation.
+use Rattle.std.specs.Prelude.{◌≡◌, ℕ, zero, suc, ◌<◌, ◌≤◌, ◌==◌, nat_lt, Bool, true, false, not, ◌&&◌, ◌||◌, List, [], ◌∷◌, ◌++◌, map, find, Option, Some, None, slice_set, if◌then◌else◌}
+use Rattle.std.specs.List.{list_any}
+use Rattle.std.proofs.Common.{arith, refl, sym, ap, ◌∙◌, inl, inr}
+use Rattle.std.proofs.lemmas.Bool.{cases_Bool}
+use Rattle.std.proofs.lemmas.Bool.Decides.{nat_tests}
+use Rattle.std.proofs.lemmas.List.{map-append}
+use Rattle.std.proofs.Math.ListN.{get_or-map}
+use Rattle.perf_base.specs.declared.numbers.CpuNo.{CpuNo}
+use Rattle.perf_base.specs.declared.numbers.Key.{Key}
+use Rattle.perf_base.specs.declared.standing.Context.{Context}
+use Rattle.perf_base.specs.declared.standing.Context.TheVariants as context
+use Rattle.stage_spec.specs.Hardware.{Hardware}
+use Rattle.stage_spec.specs.Rotation.{first_goes_last, waits, takes_turns, turned, turn_lists}
+use Rattle.stage_spec.specs.Stage.{Group, Lists, lists_of, place_of, change_context}
+use Rattle.stage_spec.specs.Verdict.{Judged, is_eligible, stands_on, verdicts, standing_of}
+use Rattle.stage_laws.specs.Narrowing.{has_context}
+use Rattle.stage_laws.proofs.Leaders.{find-first, find-later}
+use Rattle.world_spec.specs.Changes.{all_but}
+use Rattle.world_spec.specs.Kept.{post_at, leads, leads_in, once_if, IsKept}
+use Rattle.world_spec.specs.Rescheduled.{IsJudged}
+use Rattle.world_spec.specs.StageOf.{group_at, lists_at, stage_of}
+use Rattle.world_spec.specs.Value.{World, Leaders, no_leaders, leaders_of, entry_at, standing_at, is_key, times}
+use Rattle.world_spec.proofs.Keys.{is_key-same, is_key-other, times-cons, once-true, all_but-cons, all_but-none}
+use Rattle.task_moves.specs.Turning.{waits_there, turning, last_if, turn_keys, turn_in}
+
+-- The first group of a list that passes a test goes last, by its leader.
+goes-here : (test : Group → Bool) (g : Group) (groups : List Group) → test g ≡ true → first_goes_last test (g ∷ groups) ≡ groups ++ g ∷ []
+goes-here test g groups h = ap {B = List Group} (λ b. elim b as (λ x. List Group) [ true ↦ groups ++ g ∷ [] | false ↦ g ∷ first_goes_last test groups ]) h
+
+goes-away : (test : Group → Bool) (g : Group) (groups : List Group) → test g ≡ false → first_goes_last test (g ∷ groups) ≡ g ∷ first_goes_last test groups
+goes-away test g groups h = ap {B = List Group} (λ b. elim b as (λ x. List Group) [ true ↦ groups ++ g ∷ [] | false ↦ g ∷ first_goes_last test groups ]) h
+
+abbrev number-in : Option Key → ℕ
+number-in None = 0
+number-in (Some k) = k.0
+
+pub found-there : (p : Key → Bool) (keys : List Key) (k : Key) → find p keys ≡ Some k → 1 ≤ times k keys
+found-there p [] k h = absurd (cc)
+found-there p (q ∷ keys) k h = elim (cases_Bool (p q)) [
+  | inl on ↦
+      let same : Some q ≡ Some k = sym (find-first p q keys on) ∙ h in
+      let is : q.0 ≡ k.0 = ap (λ o. number-in o) same in
+      omega (arith, times-cons k q keys, once-true (is_key k q) (is_key-same k q is))
+  | inr off ↦ omega (arith, times-cons k q keys, found-there p keys k (sym (find-later p q keys off) ∙ h))
+]
+
+later-by : (f : Key → Group) (test : Group → Bool) (q : Key) (keys : List Key) (o : Option Key) → ((j : Key) → times j (q ∷ keys) ≤ 1) → find (λ k. test (f k)) keys ≡ o → test (f q) ≡ false
+    → map f (last_if o keys) ≡ first_goes_last test (map f keys) → map f (last_if o (q ∷ keys)) ≡ first_goes_last test (map f (q ∷ keys))
+later-by f test q keys None once found off rest = ap (λ gs. f q ∷ gs) rest ∙ sym (goes-away test (f q) (map f keys) off)
+later-by f test q keys (Some k) once found off rest =
+    let there : 1 ≤ times k keys = found-there (λ j. test (f j)) keys k found in
+    let apart : q.0 ≡ k.0 → ⊥ = λ e. omega (arith, once k, there, times-cons k q keys, once-true (is_key k q) (is_key-same k q e)) in
+    let but : all_but k (q ∷ keys) ≡ q ∷ all_but k keys = all_but-cons k q keys false (is_key-other k q apart) in
+    ap (λ ks. map f (ks ++ k ∷ [])) but ∙ (ap (λ gs. f q ∷ gs) rest ∙ sym (goes-away test (f q) (map f keys) off))
+
+last-first : (f : Key → Group) (test : Group → Bool) (keys : List Key) (o : Option Key) → ((q : Key) → times q keys ≤ 1) → find (λ k. test (f k)) keys ≡ o
+    → map f (last_if o keys) ≡ first_goes_last test (map f keys)
+last-first f test [] None once h = refl
+last-first f test [] (Some k) once h = absurd (cc)
+last-first f test (q ∷ keys) o once h = elim (cases_Bool (test (f q))) [
+  | inl on ↦
+      let is : o ≡ Some q = sym h ∙ find-first (λ k. test (f k)) q keys on in
+      let none : times q keys ≡ 0 = omega (arith, once q, times-cons q q keys, once-true (is_key q q) (is_key-same q q refl)) in
+      let own : all_but q (q ∷ keys) ≡ keys = all_but-cons q q keys true (is_key-same q q refl) ∙ all_but-none q keys none in
+      ap (λ x. map f (last_if x (q ∷ keys))) is
+      ∙ (ap (λ ks. map f (ks ++ q ∷ [])) own ∙ (map-append f keys (q ∷ []) ∙ sym (goes-here test (f q) (map f keys) on)))
+  | inr off ↦
+      let found : find (λ k. test (f k)) keys ≡ o = sym (find-later (λ k. test (f k)) q keys off) ∙ h in
+      let few : (j : Key) → times j keys ≤ 1 = λ j. omega (arith, once j, times-cons j q keys) in
+      let rest : map f (last_if o keys) ≡ first_goes_last test (map f keys) = last-first f test keys o few found in
+      later-by f test q keys o once found off rest
+]
+
+-- Whether some group waits, by groups and by leaders.
+some-same : (f : Key → Group) (p : Group → Bool) (r : Key → Bool) (keys : List Key) → ((q : Key) → 1 ≤ times q keys → p (f q) ≡ r q) → list_any p (map f keys) ≡ list_any r keys
+some-same f p r [] same = refl
+some-same f p r (q ∷ keys) same =
+    let first : p (f q) ≡ r q = same q (omega (arith, times-cons q q keys, once-true (is_key q q) (is_key-same q q refl))) in
+    let rest : list_any p (map f keys) ≡ list_any r keys = some-same f p r keys (λ j some. same j (omega (arith, some, times-cons j q keys))) in
+    λ i. first i || rest i
+
+-- the groups of a list that is turned
+turned-list : (hw : Hardware) (cpu : CpuNo) (judged : List Judged) (w : World) (keys : List Key) (b : Bool) → w.hardware ≡ hw → ((q : Key) → times q keys ≤ 1)
+    → ((q : Key) → 1 ≤ times q keys → waits hw cpu judged (group_at w q) ≡ waits_there w cpu q) → list_any (waits_there w cpu) keys ≡ b
+    → map (group_at w) (last_if (turning w cpu keys) keys) ≡ turned hw cpu judged (map (group_at w) keys)
+turned-list hw cpu judged w keys true is once same waiting =
+    let found : find (λ k. takes_turns hw cpu (group_at w k)) keys ≡ turning w cpu keys =
+    sym (ap (λ h. find (λ k. takes_turns h cpu (group_at w k)) keys) is)
+    ∙ sym (ap {B = Option Key} (λ b. elim b as (λ x. Option Key) [ true ↦ find (λ k. takes_turns w.hardware cpu (group_at w k)) keys | false ↦ None ]) waiting) in
+    last-first (group_at w) (takes_turns hw cpu) keys (turning w cpu keys) once found
+    ∙ sym (ap {B = List Group} (λ b. elim b as (λ x. List Group) [ true ↦ first_goes_last (takes_turns hw cpu) (map (group_at w) keys) | false ↦ map (group_at w) keys ])
+    (some-same (group_at w) (waits hw cpu judged) (waits_there w cpu) keys same ∙ waiting))
+turned-list hw cpu judged w keys false is once same waiting =
+    ap (λ o. map (group_at w) (last_if o keys))
+    (ap {B = Option Key} (λ b. elim b as (λ x. Option Key) [ true ↦ find (λ k. takes_turns w.hardware cpu (group_at w k)) keys | false ↦ None ]) waiting)
+    ∙ sym (ap {B = List Group} (λ b. elim b as (λ x. List Group) [ true ↦ first_goes_last (takes_turns hw cpu) (map (group_at w) keys) | false ↦ map (group_at w) keys ])
+    (some-same (group_at w) (waits hw cpu judged) (waits_there w cpu) keys same ∙ waiting))
+
+map-set : {X Y : Type 0} (f : X → Y) (xs : List X) (i : ℕ) (x : X) → map f (slice_set xs i x) ≡ slice_set (map f xs) i (f x)
+map-set f [] i x = refl
+map-set f (y ∷ xs) zero x = refl
+map-set f (y ∷ xs) (suc i) x = ap (λ ys. f y ∷ ys) (map-set f xs i x)
+
+-- a context that is turned is the stage's
+pub turn-stage : (hw : Hardware) (cpu : CpuNo) (judged : List Judged) (w : World) (c : Context) → w.hardware ≡ hw → ((q : Key) → times q (leaders_of w c).flexible ≤ 1)
+    → ((q : Key) → 1 ≤ times q (leaders_of w c).flexible → waits hw cpu judged (group_at w q) ≡ waits_there w cpu q)
+    → stage_of (turn_in cpu c w) ≡ change_context c (turn_lists hw cpu judged) (stage_of w)
+turn-stage hw cpu judged w c is once same =
+    let l : Leaders = leaders_of w c in
+    let flexible : map (group_at w) (last_if (turning w cpu l.flexible) l.flexible) ≡ turned hw cpu judged (map (group_at w) l.flexible) =
+    turned-list hw cpu judged w l.flexible (list_any (waits_there w cpu) l.flexible) is once same refl in
+    let lists : lists_at w (turn_keys w cpu l) ≡ turn_lists hw cpu judged (lists_at w l) = ap {B = Lists} (λ gs. record (lists_at w l) { flexible = gs }) flexible in
+    let there : lists_of (stage_of w) c ≡ lists_at w l = get_or-map (lists_at w) w.contexts (place_of c) no_leaders in
+    ap (λ cs. record (stage_of w) { contexts = cs })
+    (map-set (lists_at w) w.contexts (place_of c) (turn_keys w cpu l) ∙ ap (slice_set (map (lists_at w) w.contexts) (place_of c)) (lists ∙ ap (turn_lists hw cpu judged) (sym there)))
+
+-- leaders in the flexible list of a context lead there
+flexible-parts : (a b pinned : Bool) → 1 ≤ once_if (a && b && (if pinned then false else true)) → (a ≡ true) × (b ≡ true) × (pinned ≡ false)
+flexible-parts true true false h = (refl, refl, refl)
+flexible-parts true true true h = absurd (omega (arith, h))
+flexible-parts true false pinned h = absurd (omega (arith, h))
+flexible-parts false b pinned h = absurd (omega (arith, h))
+
+pub flexible-there : (hw : Hardware) (w : World) (c : Context) (q : Key) → IsKept hw w → 1 ≤ times q (leaders_of w c).flexible
+    → (leads (post_at w) q ≡ true) × (place_of (entry_at w q).context == place_of c ≡ true) × ((entry_at w q).pinned ≡ false)
+flexible-there hw w c q h some =
+    flexible-parts (leads (post_at w) q) (place_of (entry_at w q).context == place_of c) (entry_at w q).pinned (omega (arith, some, h.linked.flexible q (place_of c)))
+
+at-most-one : (b : Bool) → once_if b ≤ 1
+at-most-one true = omega arith
+at-most-one false = omega arith
+
+pub flexible-once : (hw : Hardware) (w : World) (c : Context) → IsKept hw w → (q : Key) → times q (leaders_of w c).flexible ≤ 1
+flexible-once hw w c h q = omega (arith, h.linked.flexible q (place_of c), at-most-one (leads_in (post_at w) (place_of c) false q))
+
+-- contexts go by their places
+pub same-number : (m n : ℕ) → (m == n) ≡ true → m ≡ n
+same-number m n h = grind (arith, nat_tests, h)
+
+own-place : (n : ℕ) (b : Bool) → nat_lt n 8 ≡ b → (if nat_lt n 8 then n else 72) < 72 → (n < 8) × ((if nat_lt n 8 then n else 72) ≡ n)
+own-place n true h low = (grind (arith, nat_tests, h), ap (λ b. if b then n else 72) h)
+own-place n false h low = absurd (omega (arith, low, ap (λ b. if b then n else 72) h))
+
+pub one-context : (a b : Context) → place_of b < 72 → place_of a ≡ place_of b → a ≡ b
+one-context (context.Processor m) (context.Processor n) low same =
+    let right : (n.0 < 8) × (place_of (context.Processor n) ≡ n.0) = own-place n.0 (nat_lt n.0 8) refl low in
+    let left : (m.0 < 8) × (place_of (context.Processor m) ≡ m.0) = own-place m.0 (nat_lt m.0 8) refl (omega (arith, low, same)) in
+    let is : m.0 ≡ n.0 = sym left.1 ∙ (same ∙ right.1) in
+    ap (λ x. context.Processor (record { 0 = x })) is
+one-context (context.Processor m) (context.Task u) low same =
+    let left : (m.0 < 8) × (place_of (context.Processor m) ≡ m.0) = own-place m.0 (nat_lt m.0 8) refl (omega (arith, low, same)) in
+    absurd (omega (arith, left.0, left.1, same))
+one-context (context.Task t) (context.Processor n) low same =
+    let right : (n.0 < 8) × (place_of (context.Processor n) ≡ n.0) = own-place n.0 (nat_lt n.0 8) refl low in
+    absurd (omega (arith, right.0, right.1, same))
+one-context (context.Task t) (context.Task u) low same =
+    let is : t.0 ≡ u.0 = omega (arith, same) in
+    ap (λ x. context.Task (record { 0 = x })) is
+
+-- where a processor was judged, a group in one of its contexts waits by where it stands
+pub waits-same : (hw : Hardware) (w : World) (cpu : CpuNo) (c : Context) → IsKept hw w → w.hardware ≡ hw → IsJudged hw w cpu → place_of c < 72 → has_context (stage_of w) cpu c ≡ true
+    → (q : Key) → 1 ≤ times q (leaders_of w c).flexible → waits hw cpu (verdicts hw (stage_of w) cpu) (group_at w q) ≡ waits_there w cpu q
+waits-same hw w cpu c h is judged low has q some =
+    let there : (leads (post_at w) q ≡ true) × (place_of (entry_at w q).context == place_of c ≡ true) × ((entry_at w q).pinned ≡ false) = flexible-there hw w c q h some in
+    let at : (entry_at w q).context ≡ c = one-context (entry_at w q).context c low (same-number (place_of (entry_at w q).context) (place_of c) there.1) in
+    let stands : standing_at w q ≡ standing_of hw (stage_of w) cpu (group_at w q) = judged.standings q there.0 (ap (has_context (stage_of w) cpu) at ∙ has) in
+    λ i. is_eligible (sym is i) cpu (group_at w q) && not (stands_on (sym stands i))
+
+-- the leader that is turned stands in the list
+pub turning-there : (w : World) (cpu : CpuNo) (keys : List Key) (k : Key) → turning w cpu keys ≡ Some k → 1 ≤ times k keys
+turning-there w cpu keys k h = elim (cases_Bool (list_any (waits_there w cpu) keys)) [
+  | inl waiting ↦
+      found-there (λ j. takes_turns w.hardware cpu (group_at w j)) keys k
+      (sym (ap {B = Option Key} (λ b. elim b as (λ x. Option Key) [ true ↦ find (λ j. takes_turns w.hardware cpu (group_at w j)) keys | false ↦ None ]) waiting) ∙ h)
+  | inr still ↦
+      let none : None ≡ Some k = sym (ap {B = Option Key} (λ b. elim b as (λ x. Option Key) [ true ↦ find (λ j. takes_turns w.hardware cpu (group_at w j)) keys | false ↦ None ]) still) ∙ h in
+      absurd (cc)
+]
