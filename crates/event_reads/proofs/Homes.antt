@@ -1,0 +1,62 @@
+-- On which processor a context is, and that a group is out on every other one.
+use Rattle.std.specs.Prelude.{◌≡◌, ℕ, ◌<◌, ◌≤◌, ◌==◌, Bool, true, false, List, [], ◌∷◌, length, map, filter, flat_map, count_by}
+use Rattle.std.proofs.Common.{arith, refl, sym, ap, ◌∙◌}
+use Rattle.std.proofs.lemmas.Bool.{false≢true}
+use Rattle.perf_base.specs.declared.numbers.CpuNo.{CpuNo}
+use Rattle.perf_base.specs.declared.numbers.Key.{Key}
+use Rattle.perf_base.specs.declared.standing.Context.{Context}
+use Rattle.perf_base.specs.declared.standing.Context.TheVariants as context
+use Rattle.perf_base.specs.declared.standing.Standing.TheVariants as standing
+use Rattle.stage_spec.specs.Hardware.{Hardware}
+use Rattle.stage_spec.specs.Stage.{Stage, Group, task_on}
+use Rattle.stage_spec.specs.Verdict.{is_eligible, passes, verdicts, standing_of}
+use Rattle.stage_laws.specs.Narrowing.{has_context}
+use Rattle.stage_laws.proofs.Counts.{count-append, count-cons, count-filter}
+use Rattle.stage_laws.proofs.Tasks.{is_task-some, runs-within}
+use Rattle.world_spec.specs.Kept.{leads, post_at, IsKept}
+use Rattle.world_spec.specs.Listings.{pass_leaders}
+use Rattle.world_spec.specs.StageOf.{group_at, stage_of}
+use Rattle.world_spec.specs.Value.{World, entry_at, instance_at}
+use Rattle.world_spec.proofs.Coming.{number_true}
+use Rattle.world_spec.proofs.Listings.{count-none, passes-are, reached_leaders, reached-context, reached-leading}
+use Rattle.world_spec.proofs.Rescheduling.{about-groups, among-none, is_led, same-id}
+use Rattle.world_spec.proofs.Standing.{passes-groups}
+
+-- a processor that has a context of one of the machine's, or of a task, is one of the machine's
+pub cpu-low : (s : Stage) (cpu : CpuNo) (c : Context) → ((own : CpuNo) → c ≡ context.Processor own → own.0 < length s.running) → has_context s cpu c ≡ true → cpu.0 < length s.running
+cpu-low s cpu (context.Processor own) low there = omega (arith, low own refl, number_true own.0 cpu.0 there)
+cpu-low s cpu (context.Task task) low there = runs-within s.running cpu.0 task (is_task-some (task_on s cpu) task there)
+
+-- of the groups that pass a test those of an id are at most as many as the leaders of that id
+led-by : (w : World) (id : ℕ) (keys : List Key) → count_by (is_led id) (map (group_at w) keys) ≡ count_by (λ q. (instance_at w q).id == id) keys
+led-by w id [] = refl
+led-by w id (q ∷ keys) =
+    omega (arith, count-cons (is_led id) (group_at w q) (map (group_at w) keys), count-cons (λ k. (instance_at w k).id == id) q keys, led-by w id keys)
+
+led-among : (w : World) (id : ℕ) (test : Group → Bool) (ps : List (List Key))
+    → count_by (is_led id) (flat_map (λ p. p) (map (filter test) (map (map (group_at w)) ps))) ≤ count_by (λ q. (instance_at w q).id == id) (flat_map (λ keys. keys) ps)
+led-among w id test [] = omega arith
+led-among w id test (keys ∷ ps) =
+    omega (
+      arith,
+      count-append (is_led id) (filter test (map (group_at w) keys)) (flat_map (λ p. p) (map (filter test) (map (map (group_at w)) ps))),
+      count-filter (is_led id) test (map (group_at w) keys),
+      led-by w id keys,
+      count-append (λ q. (instance_at w q).id == id) keys (flat_map (λ k. k) ps),
+      led-among w id test ps,
+    )
+
+-- a group is out on a processor that its context is not on
+pub out-elsewhere : (hw : Hardware) (w : World) (cpu : CpuNo) (k : Key) → IsKept hw w → leads (post_at w) k ≡ true
+    → has_context (stage_of w) cpu (entry_at w k).context ≡ false → standing.Out ≡ standing_of hw (stage_of w) cpu (group_at w k)
+unfolding verdicts
+out-elsewhere hw w cpu k h lead off =
+    let s : Stage = stage_of w in
+    let id : ℕ = (instance_at w k).id in
+    let test : Group → Bool = is_eligible hw cpu in
+    let none : count_by (λ q. (instance_at w q).id == id) (reached_leaders w cpu) ≡ 0 = count-none (λ q. (instance_at w q).id == id) (reached_leaders w cpu)
+    (λ q some same. false≢true (sym off ∙ (ap (λ j. has_context s cpu (entry_at w j).context) (sym (same-id hw w h q k (reached-leading hw w h cpu q some) lead same)) ∙ reached-context hw w h cpu q some))) in
+    let groups : map (λ j. j.group) (verdicts hw s cpu) ≡ flat_map (λ p. p) (map (filter test) (map (map (group_at w)) (pass_leaders w cpu))) =
+    passes-groups hw [] (map (filter test) (passes s cpu)) ∙ ap (λ ps. flat_map (λ p. p) (map (filter test) ps)) (passes-are w cpu) in
+    sym (among-none (verdicts hw s cpu) (group_at w k)
+    (omega (arith, about-groups id (verdicts hw s cpu), ap (count_by (is_led id)) groups, led-among w id test (pass_leaders w cpu), none)))

@@ -1,0 +1,4 @@
+pub mod Homes
+pub mod Opened
+pub mod Whole
+pub mod Wording
