@@ -1,0 +1,8 @@
+pub mod Admitting
+pub mod Demanding
+pub mod InPlace
+pub mod Joining
+pub mod Leaders
+pub mod Others
+pub mod Reached
+pub mod Refusing

@@ -1,0 +1,125 @@
+//! The opening of an event.
+
+ghost use Rattle.std.specs.Prelude.{◌≡◌, ◌+◌, ◌^◌, ◌<◌, ◌≤◌, ◌↔◌, OnOk, OnErr, IfOk, IfErr, None, Some, true, false, length, bit_or, if◌then◌else◌};
+ghost use Rattle.perf_base.specs.Cpus.{HasCpu};
+ghost use Rattle.perf_base.specs.Scripts.{IsAttr};
+ghost use Rattle.perf_base.specs.declared.numbers.CpuNo.{CpuNo as Cpu};
+ghost use Rattle.perf_base.specs.declared.numbers.Key.{Key as KeyNo};
+ghost use Rattle.stage_spec.specs.Opening.{open_refusal, opened};
+ghost use Rattle.stage_spec.specs.Places as places;
+ghost use Rattle.stage_spec.specs.Verdict.{verdicts};
+ghost use Rattle.stage_laws.specs.Narrowing as narrowing;
+ghost use Rattle.world_spec.specs.Adding.{add};
+ghost use Rattle.world_spec.specs.Rescheduled.{IsRescheduled};
+ghost use Rattle.world_spec.specs.StageOf.{stage_of};
+ghost use Rattle.world_spec.specs.Value.{is_live};
+ghost use Rattle.perf_world.specs.Seen.{IsWorld};
+ghost use Rattle.event_open.specs.Opened.{AreInPlace, leader_key, opened_as};
+
+use crate::checking::check_open;
+use perf_base::{Attr, Context, CpuNo, CpuSel, CpuSet, EventNo, Key, Reason, TaskSel};
+use perf_world::World;
+
+/// The context that an event counts: its task's, or its processor's.
+fn context_of(attr: &Attr) -> Context
+    ensures { result ≡ places.context_of attr.now }
+{
+    match (attr.task, attr.cpu) {
+        (TaskSel::One(task), _) => Context::Task(task),
+        (TaskSel::All, CpuSel::One(cpu)) => Context::Processor(cpu),
+        (TaskSel::All, CpuSel::Any) => Context::Processor(CpuNo(0)),
+    }
+}
+
+/// Whether a context is one of a processor's two: its own, and that of the task on it.
+fn has_context(world: &World, cpu: CpuNo, context: Context) -> bool
+    ensures { result ≡ narrowing.has_context (stage_of world.now) cpu context }
+{
+    match context {
+        Context::Processor(other) => other.0 == cpu.0,
+        Context::Task(task) => match world.task_on(cpu) {
+            None => false,
+            Some(other) => other.0 == task.0,
+        },
+    }
+}
+
+/// Adds a processor to a set, where it is to be there.
+fn insert_if(set: &mut CpuSet, cpu: CpuNo, there: bool)
+    requires { cpu.0 < 8 }
+    ensures { set.new.0 ≡ (if there then bit_or set.old.0 (2 ^ cpu.0) else set.old.0) }
+{
+    if there {
+        set.insert(cpu);
+    }
+}
+
+/// The processors that have a context.
+fn cpus_with(world: &World, context: Context) -> CpuSet
+    ensures there { (cpu : Cpu) → HasCpu result cpu ↔ ((cpu.0 < length world.now.quiet.running) × (narrowing.has_context (stage_of world.now) cpu context ≡ true)) }
+    ensures few { length world.now.quiet.running ≤ 8 }
+    ensures kept { IsWorld world.now }
+{
+    let mut set = CpuSet::new();
+    for cpu in 0..world.pmus().cpus() {
+        insert_if(
+            &mut set,
+            CpuNo(cpu),
+            has_context(world, CpuNo(cpu), context),
+        );
+    }
+    set
+}
+
+/// The key of the original in the slot of the leader that is given: none where there is no leader, or it is not open.
+fn leader_of(world: &World, leader: Option<EventNo>) -> Option<Key>
+    ensures { result ≡ leader_key world.now leader }
+{
+    match leader {
+        None => None,
+        Some(leader) => world.key_of(leader),
+    }
+}
+
+/// Opens an event in a slot, as a group of its own or in the group of a leader. It is an original, stands in the context that its
+/// attribute names, and draws the next id. The answer is the processors that must be rescheduled: those that have this context. The
+/// others stand as they stood.
+///
+/// The error is the first of these that holds, and then nothing changes, and no id is drawn: `Exists` where the slot was used; the
+/// reasons of `check_attr`; `NoDevice` for a hardware kind on a processor of another PMU; `NoTask` for a task that is not there or has
+/// exited; then, where a leader is given, `NoEvent` where it is not open, `NotLeader` where it is a sibling, `OtherContext` where it
+/// names another task or processor, `SiblingFlags` where the event is to be pinned or exclusive, `Inherit` where one of them is
+/// inherited and the other is not, `OtherPmu` where the event and a member of the group are of different PMUs, `GroupFull` where the
+/// group has eight members; and last `NoAssignment` where its hardware members, whatever their states, have no assignment by
+/// themselves, with the tight set.
+pub fn open(
+    world: &mut World,
+    event: EventNo,
+    attr: &Attr,
+    leader: Option<EventNo>,
+) -> Result<CpuSet, Reason>
+    requires slot { event.0 < 256 }
+    requires attr { IsAttr (length world.old.quiet.running) (length world.old.hardware.kind_pmus) attr.now }
+    requires placed { AreInPlace world.old }
+    requires room { world.old.quiet.next_id + 1 < 2 ^ 63 }
+    ensures accepted { OnOk result (open_refusal world.old.hardware (stage_of world.old) event attr.now leader ≡ None) }
+    ensures refused { IfErr result (λ reason. open_refusal world.old.hardware (stage_of world.old) event attr.now leader ≡ Some reason) }
+    ensures same { OnErr result (world.new ≡ world.old) }
+    ensures world { OnOk result ((key : KeyNo) × (is_live world.old key ≡ false) × (world.new ≡ add key (opened_as world.old event attr.now leader) world.old)) }
+    ensures stage { OnOk result (stage_of world.new ≡ opened (stage_of world.old) event attr.now leader) }
+    ensures placed { AreInPlace world.new }
+    ensures processors { IfOk result (λ set. (cpu : Cpu) → cpu.0 < length world.old.quiet.running
+        → (HasCpu set cpu ↔ (narrowing.has_context (stage_of world.old) cpu (places.context_of attr.now) ≡ true))) }
+    ensures within { IfOk result (λ set. (cpu : Cpu) → HasCpu set cpu → cpu.0 < length world.old.quiet.running) }
+    ensures others { IfOk result (λ set. (cpu : Cpu) → cpu.0 < length world.old.quiet.running → (HasCpu set cpu → ⊥)
+        → IsRescheduled world.old.hardware world.old cpu → IsRescheduled world.old.hardware world.new cpu) }
+    ensures verdicts { IfOk result (λ set. (cpu : Cpu) → cpu.0 < length world.old.quiet.running → (HasCpu set cpu → ⊥)
+        → verdicts world.old.hardware (stage_of world.new) cpu ≡ verdicts world.old.hardware (stage_of world.old) cpu) }
+{
+    check_open(world, event, attr, leader)?;
+    let first = leader_of(world, leader);
+    let context = context_of(attr);
+    let cpus = cpus_with(world, context);
+    world.add(event, attr, first, None, context);
+    Ok(cpus)
+}
