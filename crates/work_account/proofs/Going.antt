@@ -1,0 +1,107 @@
+-- Lists of keys and of groups that are gone over one by one, in front of what is left of them.
+use Rattle.std.specs.Prelude.{◌≡◌, ℕ, suc, ◌+◌, ◌<◌, ◌≤◌, ◌==◌, Bool, true, false, ◌&&◌, List, [], ◌∷◌, ◌++◌, length, drop, slice_index_or, if◌then◌else◌}
+use Rattle.std.proofs.Common.{arith, refl, sym, ap, subst, ◌∙◌}
+use Rattle.std.proofs.lemmas.List.{drop_all}
+use Rattle.std.proofs.Math.Seq.{drop-cons}
+use Rattle.std.proofs.lemmas.List.Sums.{fold-append}
+use Rattle.perf_base.specs.declared.numbers.Key.{Key}
+use Rattle.perf_base.specs.declared.standing.Context.{Context}
+use Rattle.stage_spec.specs.Hardware.{Hardware}
+use Rattle.stage_spec.specs.Stage.{place_of}
+use Rattle.world_spec.specs.Value.{World, leaders_of, entry_at, times}
+use Rattle.world_spec.specs.Kept.{post_at, leads, once_if, AreLinked, IsKept}
+use Rattle.world_tables.specs.Places.{picked}
+use Rattle.work_account.specs.declared.happening.Happening.{Happening}
+use Rattle.work_account.specs.Visits.{visit, visited, members_at, all_members, MayVisit}
+use Rattle.work_account.proofs.Passing.{MayTake, first-may, rest-may}
+
+-- a list from a place on
+split-rest : (xs : List Key) (i : ℕ) (d : Key) → i < length xs → drop i xs ≡ slice_index_or xs i d ∷ drop (i + 1) xs
+split-rest xs i d low = drop-cons xs i d low ∙ ap (λ n. slice_index_or xs i d ∷ drop n xs) (let e : suc i ≡ i + 1 = omega arith in e)
+
+pub visited-cons : (x : Happening) (k : Key) (keys : List Key) (w : World) → visited x (k ∷ keys) w ≡ visited x keys (visit x w k)
+unfolding visited
+visited-cons x k keys w = refl
+
+pub visited-none : (x : Happening) (w : World) → visited x [] w ≡ w
+unfolding visited
+visited-none x w = refl
+
+pub visited-append : (x : Happening) (xs ys : List Key) (w : World) → visited x (xs ++ ys) w ≡ visited x ys (visited x xs w)
+unfolding visited
+visited-append x xs ys w = fold-append (visit x) w xs ys
+
+-- a world that is another one but for its accounts, and so are those after it
+abbrev pub IsButAccounts : World → World → Type 0
+IsButAccounts w after = after ≡ record w { accounts = after.accounts }
+
+pub but-after : (w now after new : World) → IsButAccounts w now → IsButAccounts now after → new ≡ after → IsButAccounts w new
+but-after w now after new rest more is =
+    is ∙ (more ∙ (ap {A = World} {B = World} (λ x. record x { accounts = after.accounts }) rest ∙ ap {A = World} {B = World} (λ x. record w { accounts = x.accounts }) (sym is)))
+
+pub but-visit : (x : Happening) (w : World) (k : Key) → IsButAccounts w (visit x w k)
+but-visit x w k = refl
+
+-- one key further in a group, whose members are read of a world that differs from the first one in accounts alone
+abbrev pub more_members : World → Key → ℕ → List Key
+more_members first leader at = drop at (members_at first leader)
+
+pub key-may : (x : Happening) (first w : World) (leader : Key) (keys : List Key) (at : ℕ) (d : Key) → keys ≡ members_at w leader → IsButAccounts first w
+    → at < length (members_at first leader) → MayVisit x w (more_members first leader at)
+    → MayVisit x w (slice_index_or keys at d ∷ more_members first leader (at + 1))
+key-may x first w leader keys at d read rest low may =
+    let same : keys ≡ members_at first leader = read ∙ ap (λ v. members_at v leader) rest in
+    subst (MayVisit x w)
+    (split-rest (members_at first leader) at d low ∙ ap (λ ks. slice_index_or ks at d ∷ more_members first leader (at + 1)) (sym same)) may
+
+pub key-takes : (x : Happening) (first w : World) (leader : Key) (keys : List Key) (at : ℕ) (d : Key) → keys ≡ members_at w leader → IsButAccounts first w
+    → at < length (members_at first leader) → MayVisit x w (more_members first leader at) → MayTake x w (slice_index_or keys at d)
+key-takes x first w leader keys at d read rest low may =
+    first-may x w (slice_index_or keys at d) (more_members first leader (at + 1)) (key-may x first w leader keys at d read rest low may)
+
+pub key-left : (x : Happening) (first w new : World) (leader : Key) (keys : List Key) (at : ℕ) (d : Key) → keys ≡ members_at w leader → IsButAccounts first w
+    → at < length (members_at first leader) → new ≡ visit x w (slice_index_or keys at d)
+    → visited x (more_members first leader (at + 1)) new ≡ visited x (more_members first leader at) w
+key-left x first w new leader keys at d read rest low is =
+    let more : List Key = more_members first leader (at + 1) in
+    let same : keys ≡ members_at first leader = read ∙ ap (λ v. members_at v leader) rest in
+    ap (visited x more) is
+    ∙ (sym (visited-cons x (slice_index_or keys at d) more w)
+    ∙ ap (λ ks. visited x ks w) (ap (λ ks. slice_index_or ks at d ∷ more) same ∙ sym (split-rest (members_at first leader) at d low)))
+
+-- one group further: the world that the members are read of differs from the first one in accounts alone
+pub group-front : (x : Happening) (first w : World) (leaders all : List Key) (i : ℕ) (d : Key) → leaders ≡ all → i < length all → MayVisit x w (all_members first (drop i all))
+    → MayVisit x w (members_at first (slice_index_or leaders i d) ++ all_members first (drop (i + 1) all))
+group-front x first w leaders all i d same low may =
+    subst (λ ls. MayVisit x w (all_members first ls)) (split-rest all i d low ∙ ap (λ ks. slice_index_or ks i d ∷ drop (i + 1) all) (sym same)) may
+
+pub group-left : (x : Happening) (first w new : World) (leaders all : List Key) (i : ℕ) (d : Key) → leaders ≡ all → i < length all
+    → new ≡ visited x (members_at first (slice_index_or leaders i d)) w → visited x (all_members first (drop (i + 1) all)) new ≡ visited x (all_members first (drop i all)) w
+group-left x first w new leaders all i d same low is =
+    let q : Key = slice_index_or leaders i d in
+    let more : List Key = all_members first (drop (i + 1) all) in
+    ap (visited x more) is
+    ∙ (sym (visited-append x (members_at first q) more w)
+    ∙ ap (λ ls. visited x (all_members first ls) w) (ap (λ ks. slice_index_or ks i d ∷ drop (i + 1) all) same ∙ sym (split-rest all i d low)))
+
+pub group-next : (x : Happening) (first w new : World) (q : Key) (more : List Key) → AreLinked (post_at w) w.contexts w.families
+    → new ≡ visited x (members_at first q) w → MayVisit x w (members_at first q ++ more) → MayVisit x new more
+group-next x first w new q more linked is may = subst (λ v. MayVisit x v more) (sym is) (rest-may x (members_at first q) more w linked may)
+
+-- a list that was gone over to its end
+pub none-left : (x : Happening) (w : World) (all : List Key) (i : ℕ) → length all ≤ i → visited x (drop i all) w ≡ w
+none-left x w all i past = ap (λ ks. visited x ks w) (drop_all i all past) ∙ visited-none x w
+
+pub no-group-left : (x : Happening) (first w : World) (all : List Key) (i : ℕ) → length all ≤ i → visited x (all_members first (drop i all)) w ≡ w
+no-group-left x first w all i past = ap (λ ks. visited x (all_members first ks) w) (drop_all i all past) ∙ visited-none x w
+
+-- who stands in a list of a context leads
+leads-where : (lead other third : Bool) → 1 ≤ once_if (lead && other && third) → lead ≡ true
+leads-where true other third h = refl
+leads-where false other third h = absurd (omega (arith, h))
+
+pub listed-leads : (hw : Hardware) (w : World) (c : Context) (pinned : Bool) (q : Key) → IsKept hw w → 1 ≤ times q (picked pinned (leaders_of w c)) → leads (post_at w) q ≡ true
+listed-leads hw w c true q h some =
+    leads-where (leads (post_at w) q) (place_of (entry_at w q).context == place_of c) (if (entry_at w q).pinned then true else false) (omega (arith, some, h.linked.pinned q (place_of c)))
+listed-leads hw w c false q h some =
+    leads-where (leads (post_at w) q) (place_of (entry_at w q).context == place_of c) (if (entry_at w q).pinned then false else true) (omega (arith, some, h.linked.flexible q (place_of c)))

@@ -1,0 +1,9 @@
+pub mod Passing
+pub mod Going
+pub mod Ahead
+pub mod Reached
+pub mod Given
+pub mod Shared
+pub mod Growing
+pub mod Processor
+pub mod Left

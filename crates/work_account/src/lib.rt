@@ -1,0 +1,11 @@
+//! What a stretch of work on a processor, and a switch or a migration there, add to the events of a world. It serves the
+//! machine that does the lines of a processor.
+#![tactic(auto)]
+
+mod account;
+mod happening;
+#[cfg(test)]
+mod tests;
+mod visits;
+
+pub use account::{soft, work};
