@@ -1,0 +1,20 @@
+//! The laws of a world after a step, each as the contract of an empty function.
+
+ghost use Rattle.step_laws.specs.Quiet.{QuietLaw, RefusedLaw};
+ghost use Rattle.step_laws.specs.Stepping.{SteppedLaw};
+
+/// Where a world agrees with a record, a world that a step leads to agrees with the record after that step, if the step loses no record.
+pub fn steps_lead_to_records()
+    ensures { SteppedLaw }
+{}
+
+/// A step that is no stretch of work, no switch that is done, no reset and no new period leaves what each instance has counted and what is left of its
+/// period.
+pub fn quiet_steps_leave_accounts()
+    ensures { QuietLaw }
+{}
+
+/// A step that is refused leads to the world itself.
+pub fn refused_steps_leave_worlds()
+    ensures { RefusedLaw }
+{}
