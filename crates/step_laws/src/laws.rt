@@ -1,5 +1,6 @@
 //! The laws of a world after a step, each as the contract of an empty function.
 
+ghost use Rattle.step_laws.specs.Asking.{AnswerLaw};
 ghost use Rattle.step_laws.specs.Quiet.{QuietLaw, RefusedLaw};
 ghost use Rattle.step_laws.specs.Stepping.{SteppedLaw};
 
@@ -17,4 +18,9 @@ pub fn quiet_steps_leave_accounts()
 /// A step that is refused leads to the world itself.
 pub fn refused_steps_leave_worlds()
     ensures { RefusedLaw }
+{}
+
+/// What a world answers by what its families have counted and lost is the answer by each record with which it agrees.
+pub fn worlds_answer_by_records()
+    ensures { AnswerLaw }
 {}

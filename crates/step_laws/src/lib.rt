@@ -4,4 +4,7 @@
 
 mod laws;
 
-pub use laws::{quiet_steps_leave_accounts, refused_steps_leave_worlds, steps_lead_to_records};
+pub use laws::{
+    quiet_steps_leave_accounts, refused_steps_leave_worlds, steps_lead_to_records,
+    worlds_answer_by_records,
+};
