@@ -11,9 +11,10 @@ use Rattle.stage_spec.specs.Opening.{group_led, group_with, new_original}
 use Rattle.stage_spec.specs.Places.{context_of}
 use Rattle.stage_spec.specs.Stage.{Stage, Group, members_of}
 use Rattle.stage_laws.specs.Sound.{IsSound}
-use Rattle.world_spec.specs.Adding.{Newcomer}
+use Rattle.world_spec.specs.Adding.{Newcomer, add}
 use Rattle.world_spec.specs.First.{first_world}
 use Rattle.world_spec.specs.StageOf.{stage_of}
+use Rattle.world_spec.specs.Staying.{HasCome}
 use Rattle.world_spec.specs.Value.{World, is_live, entry_at, instance_at, family_of}
 use Rattle.perf_world.specs.Parts.{newcomer}
 use Rattle.perf_world.specs.Seen.{IsWorld}
@@ -45,3 +46,10 @@ SoundInPlaceLaw = (w : World) → IsWorld w → IsSound w.hardware (stage_of w) 
 
 abbrev pub FirstInPlaceLaw : Type 0
 FirstInPlaceLaw = (hw : Hardware) (declared : List TaskNo) → AreInPlace (first_world hw declared)
+
+-- A newcomer came by a key that named nothing, and all others stayed.
+pub record IsOpenedAs (w after : World) (n : Newcomer) : Type 0 where
+  pub key : Key
+  pub fresh : is_live w key ≡ false
+  pub world : after ≡ add key n w
+  pub come : HasCome w after key n

@@ -4,17 +4,14 @@ ghost use Rattle.std.specs.Prelude.{◌≡◌, ◌+◌, ◌^◌, ◌<◌, ◌≤
 ghost use Rattle.perf_base.specs.Cpus.{HasCpu};
 ghost use Rattle.perf_base.specs.Scripts.{IsAttr};
 ghost use Rattle.perf_base.specs.declared.numbers.CpuNo.{CpuNo as Cpu};
-ghost use Rattle.perf_base.specs.declared.numbers.Key.{Key as KeyNo};
 ghost use Rattle.stage_spec.specs.Opening.{open_refusal, opened};
 ghost use Rattle.stage_spec.specs.Places as places;
 ghost use Rattle.stage_spec.specs.Verdict.{verdicts};
 ghost use Rattle.stage_laws.specs.Narrowing as narrowing;
-ghost use Rattle.world_spec.specs.Adding.{add};
 ghost use Rattle.world_spec.specs.Rescheduled.{IsRescheduled};
 ghost use Rattle.world_spec.specs.StageOf.{stage_of};
-ghost use Rattle.world_spec.specs.Value.{is_live};
 ghost use Rattle.perf_world.specs.Seen.{IsWorld};
-ghost use Rattle.event_open.specs.Opened.{AreInPlace, leader_key, opened_as};
+ghost use Rattle.event_open.specs.Opened.{AreInPlace, IsOpenedAs, leader_key, opened_as};
 
 use crate::checking::check_open;
 use perf_base::{Attr, Context, CpuNo, CpuSel, CpuSet, EventNo, Key, Reason, TaskSel};
@@ -105,7 +102,7 @@ pub fn open(
     ensures accepted { OnOk result (open_refusal world.old.hardware (stage_of world.old) event attr.now leader ≡ None) }
     ensures refused { IfErr result (λ reason. open_refusal world.old.hardware (stage_of world.old) event attr.now leader ≡ Some reason) }
     ensures same { OnErr result (world.new ≡ world.old) }
-    ensures world { OnOk result ((key : KeyNo) × (is_live world.old key ≡ false) × (world.new ≡ add key (opened_as world.old event attr.now leader) world.old)) }
+    ensures world { OnOk result (IsOpenedAs world.old world.new (opened_as world.old event attr.now leader)) }
     ensures stage { OnOk result (stage_of world.new ≡ opened (stage_of world.old) event attr.now leader) }
     ensures placed { AreInPlace world.new }
     ensures processors { IfOk result (λ set. (cpu : Cpu) → cpu.0 < length world.old.quiet.running

@@ -4,7 +4,9 @@ use Rattle.world_spec.specs.Adding.{add}
 use Rattle.world_spec.specs.Value.{World}
 use Rattle.perf_world.specs.Parts.{newcomer, MayAdd}
 use Rattle.event_open.specs.Opened.{opened_as}
-use Rattle.event_open.proofs.Joining.{may-add}
+use Rattle.world_spec.specs.Staying.{HasCome}
+use Rattle.world_spec.proofs.Staying.{add-stays}
+use Rattle.event_open.proofs.Joining.{may-add, may-come}
 use Rattle.event_open.proofs.Others.{IsOpened, is-opened, not-among}
 use Rattle.event_open.proofs.opening.open.Goals as goal
 
@@ -26,7 +28,14 @@ returns c =
       accepted = c.in_ok-check_open.ensures.ok;
       refused = search rules;
       same = search rules;
-      world = (c.add.result, c.add.ensures.fresh, now);
+      world = record {
+        key = c.add.result;
+        fresh = c.add.ensures.fresh;
+        world = now;
+        come = subst (λ (after : World). HasCome w after c.add.result (opened_as w c.args.event c.args.attr.now c.args.leader)) (sym now)
+            (add-stays w.hardware w c.add.result (opened_as w c.args.event c.args.attr.now c.args.leader) c.cpus_with-cpus.ensures.kept
+            (may-come w (opened_as w c.args.event c.args.attr.now c.args.leader) c.add.result may c.add.ensures.fresh) may.group);
+      };
       stage = o.stage;
       placed = o.placed;
       processors = search rules;
