@@ -1,0 +1,123 @@
+-- A quiet line after which all events are there that were, with their accounts.
+use Rattle.std.specs.Prelude.{◌≡◌, ℕ, zero, suc, ◌<◌, ◌≤◌, ◌==◌, true, false, cond, is_some, List, [], ◌∷◌, ◌++◌, length, filter, slice_index_or}
+use Rattle.std.specs.FinMap.{FinMap, get}
+use Rattle.std.specs.List.{list_any}
+use Rattle.std.specs.Option.{unwrap_or}
+use Rattle.std.specs.Ordering.{nat_cmp}
+use Rattle.std.proofs.Common.{arith, refl, sym, ap, subst, ◌∙◌, inl, inr}
+use Rattle.std.proofs.lemmas.Bool.{cases_eq}
+use Rattle.std.proofs.lemmas.Bool.Decides.{nat_tests}
+use Rattle.std.proofs.lemmas.List.{append-nil, map-append}
+use Rattle.std.proofs.lemmas.List.Elements.{filter-append}
+use Rattle.perf_base.specs.declared.numbers.CpuNo.{CpuNo}
+use Rattle.perf_base.specs.declared.numbers.EventNo.{EventNo}
+use Rattle.perf_base.specs.declared.numbers.Key.{Key}
+use Rattle.stage_spec.specs.Families.{leaving}
+use Rattle.stage_spec.specs.Hardware.{Hardware}
+use Rattle.stage_spec.specs.History.{Step, stage_step}
+use Rattle.stage_spec.specs.Limits.{IsMachine, IsWithin}
+use Rattle.stage_spec.specs.Numbers.{numbers_below}
+use Rattle.stage_spec.specs.Shares.{no_sums}
+use Rattle.stage_spec.proofs.Recurrence.{plus-none}
+use Rattle.stage_laws.specs.Sound.{IsSound}
+use Rattle.stage_laws.proofs.Sound.{step_sound}
+use Rattle.ring_spec.specs.Sending.{length_by}
+use Rattle.world_spec.specs.Kept.{IsKept}
+use Rattle.world_spec.specs.Rescheduled.{AreRescheduled}
+use Rattle.world_spec.specs.StageOf.{stage_of}
+use Rattle.world_spec.specs.Value.{World, Account, Family, no_account, no_family, is_live, entry_at, instance_at}
+use Rattle.world_spec.proofs.Families.{open-is}
+use Rattle.step_laws.specs.Quiet.{is_quiet}
+use Rattle.step_laws.specs.Stepping.{HasStepped}
+use Rattle.step_laws.proofs.Quiet.{quiet-keeps}
+use Rattle.line_steps.specs.Stepped.{limits_in, IsReady}
+use Rattle.line_steps.proofs.Settling.{cpus_below}
+
+-- What such a line leaves: the keys with their ids and contexts, and all that is counted by account, slot and processor.
+pub record KeepsAll (w x : World) : Type 0 where
+  pub hardware : x.hardware ≡ w.hardware
+  pub live : (k : Key) → is_live x k ≡ is_live w k
+  pub ids : (k : Key) → (instance_at x k).id ≡ (instance_at w k).id
+  pub contexts : (k : Key) → (entry_at x k).context ≡ (entry_at w k).context
+  pub accounts : x.accounts ≡ w.accounts
+  pub families : x.families ≡ w.families
+  pub folded : x.folded ≡ w.folded
+  pub lost : x.lost ≡ w.lost
+  pub running : length x.quiet.running ≡ length w.quiet.running
+  pub clocks : x.quiet.clocks ≡ w.quiet.clocks
+  pub used : x.quiet.used ≡ w.quiet.used
+  pub next_id : x.quiet.next_id ≡ w.quiet.next_id
+
+abbrev account_in : FinMap nat_cmp Account → Key → Account
+account_in a k = unwrap_or (get a k.0) no_account
+
+abbrev family_in : List Family → EventNo → Family
+family_in f e = slice_index_or f e.0 no_family
+
+pub kept-stepped : (w x : World) (step : Step) → IsKept w.hardware w → IsKept x.hardware x → KeepsAll w x → is_quiet step ≡ true → ((e : EventNo) → leaving (stage_of w) step e ≡ [])
+    → ((cpu : CpuNo) → length_by cpu step ≡ 0) → stage_of x ≡ stage_step w.hardware (stage_of w) step → HasStepped w.hardware w x step
+kept-stepped w x step h h_then keeps quiet none still stage = record {
+  stage = stage;
+  drawn = omega (arith, keeps.next_id);
+  old = λ k live before. quiet-keeps w.hardware w x step k h quiet (record {
+    live = sym (keeps.live k) ∙ live;
+    id = keeps.ids k;
+    account = ap (λ a. account_in a k) keeps.accounts;
+  });
+  new = λ k live past.
+      let low : (instance_at w k).id < w.quiet.next_id = (h.numbered.drawn k (sym (keeps.live k) ∙ live)).1 in
+      absurd (omega (arith, low, past, keeps.ids k));
+  slots = λ e current. elim current [
+    | inl opened ↦ inl (open-is w.hardware w e h ∙ (ap (λ f. is_some (family_in f e).original) (sym keeps.families) ∙ (sym (open-is x.hardware x e h_then) ∙ opened)))
+    | inr unused ↦ inr (ap (λ u. list_any (λ s. s.0 == e.0) u) (sym keeps.used) ∙ unused)
+  ];
+  folded = λ e current. (
+    [],
+    record {
+      leaving = none e;
+      live = λ k some. absurd (omega (arith, some));
+      sums = ap (λ f. slice_index_or f e.0 no_sums) keeps.folded ∙ sym (plus-none (slice_index_or w.folded e.0 no_sums));
+    },
+  );
+  lost = λ e. ap (λ l. slice_index_or l e.0 0) keeps.lost;
+  clock = λ cpu. let same : slice_index_or x.quiet.clocks cpu.0 0 ≡ slice_index_or w.quiet.clocks cpu.0 0 = ap (λ l. slice_index_or l cpu.0 0) keeps.clocks in omega (arith, same, still cpu);
+}
+
+pub kept-ready : (w x : World) (step : Step) → IsReady w → IsWithin (limits_in w) step → KeepsAll w x → stage_of x ≡ stage_step w.hardware (stage_of w) step → AreRescheduled w.hardware x → IsReady x
+kept-ready w x step ready within keeps stage rescheduled = record {
+  machine = subst (λ (n : ℕ). IsMachine (record { cpus = n; kinds = length x.hardware.kind_pmus; rings = [] }) x.hardware) (sym keeps.running)
+      (subst (λ (hw : Hardware). IsMachine (record { cpus = length w.quiet.running; kinds = length hw.kind_pmus; rings = [] }) hw) (sym keeps.hardware) ready.machine);
+  sound = subst (λ (hw : Hardware). IsSound hw (stage_of x)) (sym keeps.hardware)
+      (subst (IsSound w.hardware) (sym stage) (step_sound (limits_in w) w.hardware (stage_of w) step ready.machine within ready.sound));
+  rescheduled = subst (λ (hw : Hardware). AreRescheduled hw x) (sym keeps.hardware) rescheduled;
+  homes = λ k cpu live at. let low : cpu.0 < length w.quiet.running = ready.homes k cpu (sym (keeps.live k) ∙ live) (sym (keeps.contexts k) ∙ at) in omega (arith, low, keeps.running);
+}
+
+-- of the processors, one alone
+same-number : (m n : ℕ) → m ≡ n → (m == n) ≡ true
+same-number m n h = grind (arith, nat_tests, h)
+
+other-number : (m n : ℕ) → (m ≡ n → ⊥) → (m == n) ≡ false
+other-number m n h = grind (arith, nat_tests, h)
+
+none-below : (own : CpuNo) (n : ℕ) → n ≤ own.0 → filter (λ cpu. own.0 == cpu.0) (cpus_below n) ≡ []
+none-below own zero low = refl
+none-below own (suc n) low =
+    let cpu : CpuNo = record { 0 = n } in
+    let cpus : cpus_below (suc n) ≡ cpus_below n ++ cpu ∷ [] = map-append (λ k. record { 0 = k }) (numbers_below n) (n ∷ []) in
+    ap (filter (λ c. own.0 == c.0)) cpus
+    ∙ (filter-append (λ c. own.0 == c.0) (cpus_below n) (cpu ∷ [])
+    ∙ (λ i. none-below own n (omega (arith, low)) i ++ cond (other-number own.0 n (λ e. omega (arith, e, low)) i) (cpu ∷ []) []))
+
+pub one-below : (own : CpuNo) (n : ℕ) → own.0 < n → filter (λ cpu. own.0 == cpu.0) (cpus_below n) ≡ own ∷ []
+one-below own zero low = absurd (omega (arith, low))
+one-below own (suc n) low =
+    let cpu : CpuNo = record { 0 = n } in
+    let cpus : cpus_below (suc n) ≡ cpus_below n ++ cpu ∷ [] = map-append (λ k. record { 0 = k }) (numbers_below n) (n ∷ []) in
+    ap (filter (λ c. own.0 == c.0)) cpus
+    ∙ (filter-append (λ c. own.0 == c.0) (cpus_below n) (cpu ∷ [])
+    ∙ elim (cases_eq own.0 n) [
+      | inl e ↦ (λ i. none-below own n (omega (arith, e)) i ++ cond (same-number own.0 n e i) (cpu ∷ []) []) ∙ ap (λ k. record { 0 = k } ∷ []) (sym e)
+      | inr apart ↦
+          (λ i. one-below own n (omega (arith, low, apart)) i ++ cond (other-number own.0 n apart i) (cpu ∷ []) []) ∙ append-nil (own ∷ [])
+    ])

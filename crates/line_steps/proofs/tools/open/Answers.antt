@@ -1,0 +1,51 @@
+use Rattle.event_open.proofs.InPlace.{sound-in_place}
+use Rattle.event_open.specs.Opened.{opened_as, IsOpenedAs}
+use Rattle.line_steps.proofs.Opening.{untouched, is-ready, is-done}
+use Rattle.line_steps.proofs.Refused.{refused-line}
+use Rattle.line_steps.proofs.tools.open.Goals as goal
+
+pub open-requires-clause-placed : goal.open-requires-clause-placed
+open-requires-clause-placed g c = sound-in_place c.args.world.now c.pmus-pmus.ensures.kept c.requires.ready.sound
+
+pub resched_each-requires : goal.resched_each-requires
+resched_each-requires g c =
+    let o : IsOpenedAs c.args.world.now c.open.new.world (opened_as c.args.world.now c.args.slot c.args.attr.now c.args.leader) = c.in-Ok.ensures.world in
+    untouched c.args.world.now c.open.new.world c.in-Ok.set o.key (opened_as c.args.world.now c.args.slot c.args.attr.now c.args.leader) o.world c.requires.ready.rescheduled c.in-Ok.ensures.others
+
+pub returns-in-Err-clause-done : goal.returns-in-Err-clause-done
+returns-in-Err-clause-done g c =
+    refused-line c.args.world.now c.open.new.world _ c.in-Err.reason c.pmus-pmus.ensures.kept c.in-Err.ensures.same c.in-Err.ensures.refused
+
+pub returns-in-Ok-clause-ready : goal.returns-in-Ok-clause-ready
+returns-in-Ok-clause-ready g c =
+    is-ready c.args.world.now c.open.new.world c.resched_each.new.world c.args.slot c.args.attr.now c.args.leader c.in-Ok.set
+    (record {
+      kept = c.pmus-pmus.ensures.kept;
+      ready = c.requires.ready;
+      within = (c.requires.slot, c.requires.attr, c.requires.leader);
+      accepted = c.in-Ok.ensures.accepted;
+      opened_as_newcomer = c.in-Ok.ensures.world;
+      stage = c.in-Ok.ensures.stage;
+      into = λ cpu low there. (c.in-Ok.ensures.processors cpu low).0 there;
+      back = λ cpu low there. (c.in-Ok.ensures.processors cpu low).1 there;
+      settled = c.resched_each.ensures.stage;
+      rest = c.resched_each.ensures.rest;
+      kept_then = c.resched_each.ensures.kept;
+    }) c.resched_each.ensures.rescheduled
+
+pub returns-in-Ok-clause-done : goal.returns-in-Ok-clause-done
+returns-in-Ok-clause-done g c =
+    is-done c.args.world.now c.open.new.world c.resched_each.new.world c.args.slot c.args.attr.now c.args.leader c.in-Ok.set
+    (record {
+      kept = c.pmus-pmus.ensures.kept;
+      ready = c.requires.ready;
+      within = (c.requires.slot, c.requires.attr, c.requires.leader);
+      accepted = c.in-Ok.ensures.accepted;
+      opened_as_newcomer = c.in-Ok.ensures.world;
+      stage = c.in-Ok.ensures.stage;
+      into = λ cpu low there. (c.in-Ok.ensures.processors cpu low).0 there;
+      back = λ cpu low there. (c.in-Ok.ensures.processors cpu low).1 there;
+      settled = c.resched_each.ensures.stage;
+      rest = c.resched_each.ensures.rest;
+      kept_then = c.resched_each.ensures.kept;
+    })

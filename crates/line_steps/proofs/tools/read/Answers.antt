@@ -1,0 +1,14 @@
+use Rattle.std.proofs.Common.{refl, ap}
+use Rattle.perf_base.specs.declared.lines.ToolLine.TheVariants as line
+use Rattle.perf_base.specs.declared.reply.Reply.TheVariants as reply
+use Rattle.line_steps.proofs.Asking.{asked}
+use Rattle.line_steps.proofs.Refused.{refused-line}
+use Rattle.line_steps.proofs.tools.read.Goals as goal
+
+pub returns-in-Err : goal.returns-in-Err
+returns-in-Err c = refused-line c.args.world.now c.args.world.now (line.Read c.args.event c.args.size) c.in-Err.reason c.pmus-pmus.ensures.kept refl c.in-Err.ensures.refused
+
+pub returns-in-Ok : goal.returns-in-Ok
+returns-in-Ok c =
+    asked c.args.world.now (line.Read c.args.event c.args.size) (reply.Read c.in-Ok.words) c.pmus-pmus.ensures.kept c.requires.ready refl c.in-Ok.ensures.accepted (λ s. refl)
+    (ap reply.Read c.in-Ok.ensures.words)

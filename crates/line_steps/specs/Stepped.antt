@@ -1,0 +1,33 @@
+-- What a machine's world keeps between lines, and what it is to have done a line. This project's own profile.
+use Rattle.std.specs.Prelude.{◌≡◌, ◌<◌, true, [], length}
+use Rattle.perf_base.specs.declared.numbers.CpuNo.{CpuNo}
+use Rattle.perf_base.specs.declared.numbers.Key.{Key}
+use Rattle.perf_base.specs.declared.reply.Reply.{Reply}
+use Rattle.perf_base.specs.declared.standing.Context.TheVariants as context
+use Rattle.stage_spec.specs.History.{Step}
+use Rattle.stage_spec.specs.Limits.{Limits, IsMachine}
+use Rattle.stage_laws.specs.Sound.{IsSound}
+use Rattle.ring_spec.specs.Running.{Running, IsAnswerBy, record_after}
+use Rattle.world_spec.specs.Agreement.{AgreesWith}
+use Rattle.world_spec.specs.Rescheduled.{AreRescheduled}
+use Rattle.world_spec.specs.StageOf.{stage_of}
+use Rattle.world_spec.specs.Value.{World, is_live, entry_at}
+
+-- the limits of a world, of which no line speaks of a ring
+abbrev pub limits_in : World → Limits
+limits_in w = record { cpus = length w.quiet.running; kinds = length w.hardware.kind_pmus; rings = [] }
+
+-- Between lines the stage is sound, each processor stands as rescheduling leaves it, and each event that counts a processor counts one that the machine has.
+pub record IsReady (w : World) : Type 0 where
+  pub machine : IsMachine (limits_in w) w.hardware
+  pub sound : IsSound w.hardware (stage_of w)
+  pub rescheduled : AreRescheduled w.hardware w
+  pub homes : (k : Key) (cpu : CpuNo) → is_live w k ≡ true → (entry_at w k).context ≡ context.Processor cpu → cpu.0 < length w.quiet.running
+
+-- A line is done: whatever record the world agreed with, the answer is the one by that record, and the world agrees with the record after the line.
+pub record IsDoneBy (x : Step) (w after : World) (reply : Reply) (r : Running) : Type 0 where
+  pub answer : IsAnswerBy w.hardware r x reply
+  pub agrees : AgreesWith after (record_after w.hardware r x)
+
+abbrev pub IsDone : Step → World → World → Reply → Type 0
+IsDone x w after reply = (r : Running) → AgreesWith w r → IsDoneBy x w after reply r

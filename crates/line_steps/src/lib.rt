@@ -1,0 +1,10 @@
+//! One given line of a tool or of a processor, done to a world. Its model is the record of a step: where the world agrees with a record, it agrees with the
+//! record after the line, and the answer is the definitions'. It serves the machine.
+#![tactic(auto)]
+
+mod processors;
+mod rescheduling;
+mod tools;
+
+pub use processors::tick;
+pub use tools::{open, read, seats, why};
