@@ -30,7 +30,7 @@ use Rattle.line_steps.proofs.Refused.{tools-lose_none}
 use Rattle.line_steps.proofs.Settling.{cpus_below, settle-parts}
 
 -- settling settled processors changes nothing
-settled-below : (hw : Hardware) (n : ℕ) (s : Stage) → ((cpu : CpuNo) → cpu.0 < n → IsSettled hw cpu s) → settle_each hw (cpus_below n) s ≡ s
+pub settled-below : (hw : Hardware) (n : ℕ) (s : Stage) → ((cpu : CpuNo) → cpu.0 < n → IsSettled hw cpu s) → settle_each hw (cpus_below n) s ≡ s
 unfolding settle_each
 settled-below hw zero s h = refl
 settled-below hw (suc n) s h =

@@ -1,5 +1,5 @@
 -- A quiet line after which all events are there that were, with their accounts.
-use Rattle.std.specs.Prelude.{◌≡◌, ℕ, zero, suc, ◌<◌, ◌≤◌, ◌==◌, true, false, cond, is_some, List, [], ◌∷◌, ◌++◌, length, filter, slice_index_or}
+use Rattle.std.specs.Prelude.{◌≡◌, ℕ, zero, suc, ◌<◌, ◌≤◌, ◌==◌, true, false, cond, is_some, List, [], ◌∷◌, ◌++◌, length, filter, flat_map, slice_index_or}
 use Rattle.std.specs.FinMap.{FinMap, get}
 use Rattle.std.specs.List.{list_any}
 use Rattle.std.specs.Option.{unwrap_or}
@@ -9,18 +9,21 @@ use Rattle.std.proofs.lemmas.Bool.{cases_eq}
 use Rattle.std.proofs.lemmas.Bool.Decides.{nat_tests}
 use Rattle.std.proofs.lemmas.List.{append-nil, map-append}
 use Rattle.std.proofs.lemmas.List.Elements.{filter-append}
+use Rattle.perf_base.specs.declared.lines.CpuLine.{CpuLine}
 use Rattle.perf_base.specs.declared.numbers.CpuNo.{CpuNo}
 use Rattle.perf_base.specs.declared.numbers.EventNo.{EventNo}
 use Rattle.perf_base.specs.declared.numbers.Key.{Key}
 use Rattle.stage_spec.specs.Families.{leaving}
 use Rattle.stage_spec.specs.Hardware.{Hardware}
-use Rattle.stage_spec.specs.History.{Step, stage_step}
+use Rattle.stage_spec.specs.History.{Step, CpuStep, stage_step}
 use Rattle.stage_spec.specs.Limits.{IsMachine, IsWithin}
 use Rattle.stage_spec.specs.Numbers.{numbers_below}
 use Rattle.stage_spec.specs.Shares.{no_sums}
 use Rattle.stage_spec.proofs.Recurrence.{plus-none}
 use Rattle.stage_laws.specs.Sound.{IsSound}
 use Rattle.stage_laws.proofs.Sound.{step_sound}
+use Rattle.ring_spec.specs.Agreement.{IsCurrentSlot}
+use Rattle.ring_spec.specs.Running.{RingAccount, losses_on}
 use Rattle.ring_spec.specs.Sending.{length_by}
 use Rattle.world_spec.specs.Kept.{IsKept}
 use Rattle.world_spec.specs.Rescheduled.{AreRescheduled}
@@ -54,6 +57,19 @@ account_in a k = unwrap_or (get a k.0) no_account
 abbrev family_in : List Family → EventNo → Family
 family_in f e = slice_index_or f e.0 no_family
 
+-- a line of a processor that sends no record loses none
+pub none-lost : (cpu : CpuNo) (l : CpuLine) (rings : List RingAccount) → flat_map (losses_on (CpuStep cpu l) []) rings ≡ []
+none-lost cpu l [] = refl
+none-lost cpu l (a ∷ rings) = none-lost cpu l rings
+
+-- the slots that are current are those that were
+pub slots-current : (w x : World) → IsKept w.hardware w → IsKept x.hardware x → x.families ≡ w.families → x.quiet.used ≡ w.quiet.used → (e : EventNo)
+    → IsCurrentSlot (stage_of x) e → IsCurrentSlot (stage_of w) e
+slots-current w x h h_then families used e current = elim current [
+  | inl opened ↦ inl (open-is w.hardware w e h ∙ (ap (λ f. is_some (family_in f e).original) (sym families) ∙ (sym (open-is x.hardware x e h_then) ∙ opened)))
+  | inr unused ↦ inr (ap (λ u. list_any (λ s. s.0 == e.0) u) (sym used) ∙ unused)
+]
+
 pub kept-stepped : (w x : World) (step : Step) → IsKept w.hardware w → IsKept x.hardware x → KeepsAll w x → is_quiet step ≡ true → ((e : EventNo) → leaving (stage_of w) step e ≡ [])
     → ((cpu : CpuNo) → length_by cpu step ≡ 0) → stage_of x ≡ stage_step w.hardware (stage_of w) step → HasStepped w.hardware w x step
 kept-stepped w x step h h_then keeps quiet none still stage = record {
@@ -67,10 +83,7 @@ kept-stepped w x step h h_then keeps quiet none still stage = record {
   new = λ k live past.
       let low : (instance_at w k).id < w.quiet.next_id = (h.numbered.drawn k (sym (keeps.live k) ∙ live)).1 in
       absurd (omega (arith, low, past, keeps.ids k));
-  slots = λ e current. elim current [
-    | inl opened ↦ inl (open-is w.hardware w e h ∙ (ap (λ f. is_some (family_in f e).original) (sym keeps.families) ∙ (sym (open-is x.hardware x e h_then) ∙ opened)))
-    | inr unused ↦ inr (ap (λ u. list_any (λ s. s.0 == e.0) u) (sym keeps.used) ∙ unused)
-  ];
+  slots = slots-current w x h h_then keeps.families keeps.used;
   folded = λ e current. (
     [],
     record {

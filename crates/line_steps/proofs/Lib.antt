@@ -3,4 +3,7 @@ pub mod Keeping
 pub mod Opening
 pub mod Refused
 pub mod Settling
+pub mod TaskChange
 pub mod Ticking
+pub mod Unswitched
+pub mod Working

@@ -1,5 +1,5 @@
 -- A tick.
-use Rattle.std.specs.Prelude.{◌≡◌, ℕ, ◌<◌, ◌≢◌, List, [], ◌∷◌, length, flat_map, Option, Some, None}
+use Rattle.std.specs.Prelude.{◌≡◌, ℕ, ◌<◌, ◌≢◌, [], ◌∷◌, length, Option, Some, None}
 use Rattle.std.proofs.Common.{arith, refl, sym, ap, subst, ◌∙◌, inl, inr}
 use Rattle.std.proofs.lemmas.Bool.{cases_eq}
 use Rattle.perf_base.specs.declared.lines.CpuLine.TheVariants as line
@@ -14,7 +14,6 @@ use Rattle.stage_spec.specs.Settle.{settle, settle_each}
 use Rattle.stage_spec.specs.Stage.{Stage, task_on}
 use Rattle.stage_laws.specs.Narrowing.{IsNarrow}
 use Rattle.stage_laws.proofs.Narrow.{narrows}
-use Rattle.ring_spec.specs.Running.{RingAccount, losses_on}
 use Rattle.world_spec.specs.Kept.{IsKept}
 use Rattle.world_spec.specs.Rescheduled.{IsRescheduled}
 use Rattle.world_spec.specs.StageOf.{stage_of}
@@ -24,7 +23,7 @@ use Rattle.task_moves.specs.Turning.{turn_in, turn_of_task, turned_world}
 use Rattle.step_laws.proofs.Stepping.{stepped}
 use Rattle.line_steps.specs.Stepped.{limits_in, IsReady}
 use Rattle.line_steps.specs.Stepped as stepped_line
-use Rattle.line_steps.proofs.Keeping.{KeepsAll, kept-stepped, kept-ready, one-below}
+use Rattle.line_steps.proofs.Keeping.{none-lost, KeepsAll, kept-stepped, kept-ready, one-below}
 
 -- What is told of a tick: the worlds before it, after the groups took turns, and after the processor was rescheduled.
 pub record Course (w v x : World) (cpu : CpuNo) : Type 0 where
@@ -81,18 +80,13 @@ tick-stage w v x cpu c =
     ∙ (sym (one-settled hw cpu (rotated hw cpu (stage_of w)))
     ∙ (ap (λ cs. settle_each hw cs (rotated hw cpu (stage_of w))) (sym (one-below cpu (length w.quiet.running) c.low)) ∙ sym narrow.stage)))
 
--- a tick sends no record
-none-lost : (cpu : CpuNo) (rings : List RingAccount) → flat_map (losses_on (CpuStep cpu line.Tick) []) rings ≡ []
-none-lost cpu [] = refl
-none-lost cpu (a ∷ rings) = none-lost cpu rings
-
 pub tick-done : (w v x : World) (cpu : CpuNo) → Course w v x cpu → stepped_line.IsDone (CpuStep cpu line.Tick) w x reply.Ok
 tick-done w v x cpu c by agrees =
     let keeps : KeepsAll w x = tick-keeps w v x cpu c in
     record {
       answer = refl;
       agrees = stepped w.hardware w x by (CpuStep cpu line.Tick) c.kept (subst (λ (hw : Hardware). IsKept hw x) keeps.hardware c.kept_then) agrees
-          (kept-stepped w x (CpuStep cpu line.Tick) c.kept c.kept_then keeps refl (λ e. refl) (λ own. refl) (tick-stage w v x cpu c)) (none-lost cpu by.rings);
+          (kept-stepped w x (CpuStep cpu line.Tick) c.kept c.kept_then keeps refl (λ e. refl) (λ own. refl) (tick-stage w v x cpu c)) (none-lost cpu line.Tick by.rings);
     }
 
 pub tick-ready : (w v x : World) (cpu : CpuNo) → Course w v x cpu → IsRescheduled v.hardware x cpu

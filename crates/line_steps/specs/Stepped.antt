@@ -11,6 +11,7 @@ use Rattle.ring_spec.specs.Running.{Running, IsAnswerBy, record_after}
 use Rattle.world_spec.specs.Agreement.{AgreesWith}
 use Rattle.world_spec.specs.Rescheduled.{AreRescheduled}
 use Rattle.world_spec.specs.StageOf.{stage_of}
+use Rattle.step_laws.specs.Stepping.{LosesNone}
 use Rattle.world_spec.specs.Value.{World, is_live, entry_at}
 
 -- the limits of a world, of which no line speaks of a ring
@@ -31,3 +32,7 @@ pub record IsDoneBy (x : Step) (w after : World) (reply : Reply) (r : Running) :
 
 abbrev pub IsDone : Step → World → World → Reply → Type 0
 IsDone x w after reply = (r : Running) → AgreesWith w r → IsDoneBy x w after reply r
+
+-- So where the line loses no record.
+abbrev pub IsDoneUnlost : Step → World → World → Reply → Type 0
+IsDoneUnlost x w after reply = (r : Running) → AgreesWith w r → LosesNone w.hardware r x → IsDoneBy x w after reply r

@@ -4,7 +4,9 @@
 
 mod processors;
 mod rescheduling;
+mod switching;
 mod tools;
 
-pub use processors::tick;
+pub use processors::{tick, work};
+pub use switching::switch;
 pub use tools::{open, read, seats, why};

@@ -1,15 +1,15 @@
 //! Lines of processors.
 
-ghost use Rattle.std.specs.Prelude.{◌≡◌, ◌<◌, ◌≤◌, length};
+ghost use Rattle.std.specs.Prelude.{◌+◌, ◌^◌, ◌<◌, ◌≤◌, length, slice_index_or};
+ghost use Rattle.perf_base.specs.Scripts.{IsCpuLine};
 ghost use Rattle.perf_base.specs.declared.lines.CpuLine.TheVariants as line;
 ghost use Rattle.stage_spec.specs.History.{CpuStep};
-ghost use Rattle.world_spec.specs.Rescheduled.{AreRescheduled};
-ghost use Rattle.perf_world.specs.Seen.{IsWorld};
-ghost use Rattle.cpu_sched.specs.Resched.{StaysBut};
-ghost use Rattle.line_steps.specs.Stepped.{IsReady, IsDone};
+ghost use Rattle.stage_laws.specs.Bounds.{most_of_line};
+ghost use Rattle.work_account.specs.Shares.{HaveRoom};
+ghost use Rattle.line_steps.specs.Stepped.{IsReady, IsDone, IsDoneUnlost};
 
 use cpu_sched::resched;
-use perf_base::{CpuNo, Reply, Steps};
+use perf_base::{CpuNo, Reply, Steps, Work};
 use perf_world::World;
 use std::sync::ledger::Ledger;
 use task_moves::rotate;
@@ -26,6 +26,23 @@ pub fn tick<L: Ledger>(world: &mut World, cpu: CpuNo, tests: &mut Steps<L>) -> R
     let _before = world.pmus();
     rotate(world, cpu);
     resched(world, cpu, tests);
+    let _after = world.pmus();
+    Reply::Ok
+}
+
+/// A stretch of work on a processor. No record of it may be lost; while no event has a ring there is none.
+pub fn work(world: &mut World, cpu: CpuNo, work: &Work) -> Reply
+    requires ready { IsReady world.old }
+    requires cpu { cpu.0 < length world.old.quiet.running }
+    requires line { IsCpuLine (length world.old.hardware.kind_pmus) (line.Work work.now) }
+    requires room { HaveRoom world.old (most_of_line (line.Work work.now)) }
+    requires clock { slice_index_or world.old.quiet.clocks cpu.0 0 + work.now.length < 2 ^ 63 }
+    ensures ready { IsReady world.new }
+    ensures done { IsDoneUnlost (CpuStep cpu (line.Work work.now)) world.old world.new result }
+{
+    // A reader tells what always holds of a world.
+    let _before = world.pmus();
+    work_account::work(world, cpu, work);
     let _after = world.pmus();
     Reply::Ok
 }

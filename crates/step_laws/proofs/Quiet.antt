@@ -42,7 +42,7 @@ record GivesNothing (hw : Hardware) (s : Stage) (x : Step) (id : ℕ) : Type 0 w
   resets : resets s x id ≡ false
   period : new_period s x id ≡ None
 
-none-after : (period left : ℕ) → left_after 0 period left ≡ left
+pub none-after : (period left : ℕ) → left_after 0 period left ≡ left
 unfolding left_after
 none-after period left = refl
 

@@ -1,0 +1,117 @@
+-- A stretch of work.
+use Rattle.std.specs.Prelude.{◌≡◌, ℕ, ◌+◌, ◌<◌, ◌==◌, true, false, List, [], length, slice_index_or, slice_set, if◌then◌else◌}
+use Rattle.std.proofs.Common.{arith, refl, sym, ap, subst, ◌∙◌, inl, inr}
+use Rattle.std.proofs.lemmas.Bool.{cases_eq}
+use Rattle.std.proofs.lemmas.Bool.Decides.{nat_tests}
+use Rattle.std.proofs.lemmas.List.{get_or-set_same, get_or-set_other}
+use Rattle.perf_base.specs.declared.lines.CpuLine.TheVariants as line
+use Rattle.perf_base.specs.declared.lines.Work.{Work}
+use Rattle.perf_base.specs.declared.numbers.CpuNo.{CpuNo}
+use Rattle.perf_base.specs.declared.numbers.Key.{Key}
+use Rattle.perf_base.specs.declared.reply.Reply.TheVariants as reply
+use Rattle.stage_spec.specs.Hardware.{Hardware}
+use Rattle.stage_spec.specs.Limits.{IsMachine}
+use Rattle.stage_spec.specs.History.{CpuStep, stage_step}
+use Rattle.stage_spec.specs.Remainders.{left_by_hits}
+use Rattle.stage_spec.specs.Settle.{settle_all}
+use Rattle.stage_spec.specs.Shares.{no_sums}
+use Rattle.stage_spec.proofs.Recurrence.{plus-none}
+use Rattle.stage_laws.specs.Sound.{IsSound}
+use Rattle.ring_spec.specs.Agreement.{IsCurrentSlot}
+use Rattle.world_spec.specs.Changes.{pass_time}
+use Rattle.world_spec.specs.Kept.{IsKept}
+use Rattle.world_spec.specs.Rescheduled.{AreRescheduled, IsRescheduled}
+use Rattle.world_spec.specs.StageOf.{stage_of}
+use Rattle.world_spec.specs.Value.{World, is_live, entry_at, instance_at, account_at}
+use Rattle.work_account.specs.Shares.{HaveShares, with_share, work_shares}
+use Rattle.step_laws.specs.Stepping.{HasStepped, HasItsShare}
+use Rattle.step_laws.proofs.Stepping.{stepped, instance-found}
+use Rattle.line_steps.specs.Stepped.{limits_in, IsReady}
+use Rattle.line_steps.specs.Stepped as stepped_line
+use Rattle.line_steps.proofs.Asking.{settled-below}
+
+-- What is told of a stretch of work: the worlds before and after it.
+pub record Course (w x : World) (cpu : CpuNo) (work : Work) : Type 0 where
+  pub kept : IsKept w.hardware w
+  pub ready : IsReady w
+  pub low : cpu.0 < length w.quiet.running
+  pub shares : HaveShares w x (work_shares w cpu work)
+  pub stage : stage_of x ≡ stage_of w
+  pub rest : x ≡ pass_time cpu work.length (record w { accounts = x.accounts })
+  pub rescheduled : (other : CpuNo) → IsRescheduled w.hardware w other → IsRescheduled w.hardware x other
+  pub kept_then : IsKept x.hardware x
+
+work-stage : (w : World) (cpu : CpuNo) (work : Work) → IsReady w → stage_of w ≡ stage_step w.hardware (stage_of w) (CpuStep cpu (line.Work work))
+unfolding stage_step settle_all
+work-stage w cpu work h = sym (settled-below w.hardware (length w.quiet.running) (stage_of w) (λ own low. (h.rescheduled own low).settled))
+
+clock-by : (clocks : List ℕ) (cpu other : CpuNo) (n : ℕ) → cpu.0 < length clocks
+    → slice_index_or (slice_set clocks cpu.0 (slice_index_or clocks cpu.0 0 + n)) other.0 0 ≡ slice_index_or clocks other.0 0 + (if cpu.0 == other.0 then n else 0)
+clock-by clocks cpu other n low = elim (cases_eq other.0 cpu.0) [
+  | inl e ↦
+      let same : (cpu.0 == other.0) ≡ true = grind (arith, nat_tests, e) in
+      ap (λ k. slice_index_or (slice_set clocks cpu.0 (slice_index_or clocks cpu.0 0 + n)) k 0) e
+      ∙ (get_or-set_same clocks cpu.0 (slice_index_or clocks cpu.0 0 + n) 0 low
+      ∙ (λ i. slice_index_or clocks (sym e i) 0 + (if sym same i then n else 0)))
+  | inr apart ↦
+      let off : (cpu.0 == other.0) ≡ false = grind (arith, nat_tests, apart) in
+      let none : slice_index_or clocks other.0 0 ≡ slice_index_or clocks other.0 0 + 0 = omega arith in
+      get_or-set_other clocks cpu.0 other.0 (slice_index_or clocks cpu.0 0 + n) 0 apart
+      ∙ (none ∙ ap (λ b. slice_index_or clocks other.0 0 + (if b then n else 0)) (sym off))
+]
+
+work-share : (w x : World) (cpu : CpuNo) (work : Work) (k : Key) → Course w x cpu work → is_live x k ≡ true → HasItsShare w.hardware w x (CpuStep cpu (line.Work work)) k
+work-share w x cpu work k c live_then =
+    let live : is_live w k ≡ true = sym (ap (λ (y : World). is_live y k) c.rest) ∙ live_then in
+    let id : ℕ = (instance_at w k).id in
+    let account : account_at x k ≡ with_share (instance_at w k) (work_shares w cpu work id) (account_at w k) = c.shares.accounts k live in
+    record {
+      live = live;
+      id = ap (λ (y : World). (instance_at y k).id) c.rest;
+      sums = ap (λ a. a.sums) account;
+      left = ap (λ a. a.left) account
+          ∙ ap (λ o. left_by_hits w.hardware (stage_of w) (CpuStep cpu (line.Work work)) id o (account_at w k).left) (sym (instance-found w.hardware w k c.kept live));
+    }
+
+work-stepped : (w x : World) (cpu : CpuNo) (work : Work) → Course w x cpu work → HasStepped w.hardware w x (CpuStep cpu (line.Work work))
+work-stepped w x cpu work c =
+    let next : x.quiet.next_id ≡ w.quiet.next_id = ap (λ (y : World). y.quiet.next_id) c.rest in
+    record {
+      stage = c.stage ∙ work-stage w cpu work c.ready;
+      drawn = omega (arith, next);
+      old = λ k live before. work-share w x cpu work k c live;
+      new = λ k live past.
+          let low : (instance_at w k).id < w.quiet.next_id = (c.kept.numbered.drawn k (sym (ap (λ (y : World). is_live y k) c.rest) ∙ live)).1 in
+          absurd (omega (arith, low, past, ap (λ (y : World). (instance_at y k).id) c.rest));
+      slots = λ e current. subst (λ s. IsCurrentSlot s e) c.stage current;
+      folded = λ e current. (
+        [],
+        record {
+          leaving = refl;
+          live = λ k some. absurd (omega (arith, some));
+          sums = ap (λ (y : World). slice_index_or y.folded e.0 no_sums) c.rest ∙ sym (plus-none (slice_index_or w.folded e.0 no_sums));
+        },
+      );
+      lost = λ e. ap (λ (y : World). slice_index_or y.lost e.0 0) c.rest;
+      clock = λ other. ap (λ (y : World). slice_index_or y.quiet.clocks other.0 0) c.rest ∙ clock-by w.quiet.clocks cpu other work.length (omega (arith, c.low, c.kept.tables.clocks));
+    }
+
+pub work-done : (w x : World) (cpu : CpuNo) (work : Work) → Course w x cpu work → stepped_line.IsDoneUnlost (CpuStep cpu (line.Work work)) w x reply.Ok
+work-done w x cpu work c by agrees none = record {
+  answer = refl;
+  agrees = stepped w.hardware w x by (CpuStep cpu (line.Work work)) c.kept (subst (λ (hw : Hardware). IsKept hw x) (ap (λ (y : World). y.hardware) c.rest) c.kept_then) agrees (work-stepped w x cpu work c) none;
+}
+
+pub work-ready : (w x : World) (cpu : CpuNo) (work : Work) → Course w x cpu work → IsReady x
+work-ready w x cpu work c =
+    let hardware : x.hardware ≡ w.hardware = ap (λ (y : World). y.hardware) c.rest in
+    let running : length x.quiet.running ≡ length w.quiet.running = ap (λ (y : World). length y.quiet.running) c.rest in
+    record {
+      machine = subst (λ (n : ℕ). IsMachine (record { cpus = n; kinds = length x.hardware.kind_pmus; rings = [] }) x.hardware) (sym running)
+          (subst (λ (hw : Hardware). IsMachine (record { cpus = length w.quiet.running; kinds = length hw.kind_pmus; rings = [] }) hw) (sym hardware) c.ready.machine);
+      sound = subst (λ (hw : Hardware). IsSound hw (stage_of x)) (sym hardware) (subst (IsSound w.hardware) (sym c.stage) c.ready.sound);
+      rescheduled = subst (λ (hw : Hardware). AreRescheduled hw x) (sym hardware) (λ other low. c.rescheduled other (c.ready.rescheduled other (omega (arith, low, running))));
+      homes = λ k own live at.
+          let low : own.0 < length w.quiet.running = c.ready.homes k own (sym (ap (λ (y : World). is_live y k) c.rest) ∙ live) (sym (ap (λ (y : World). (entry_at y k).context) c.rest) ∙ at) in
+          omega (arith, low, running);
+    }

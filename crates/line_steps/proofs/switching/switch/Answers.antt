@@ -1,0 +1,14 @@
+use Rattle.std.proofs.Common.{sym, ◌∙◌}
+use Rattle.line_steps.proofs.Unswitched.{runs-there, unswitched-refused, unswitched-still}
+use Rattle.line_steps.proofs.switching.switch.Goals as goal
+
+pub returns-in-Err-clause-done : goal.returns-in-Err-clause-done
+returns-in-Err-clause-done g c = unswitched-refused c.args.world.now c.args.cpu c.args.to c.in-Err.reason c.pmus-pmus.ensures.kept c.in-Err.ensures.refused
+
+pub returns-in-Ok-false-clause-done : goal.returns-in-Ok-false-clause-done
+returns-in-Ok-false-clause-done g c = unswitched-still c.args.world.now c.args.cpu c.args.to (record {
+  kept = c.pmus-pmus.ensures.kept;
+  ready = c.requires.ready;
+  accepted = c.in-Ok-false.ensures.accepted;
+  runs = runs-there _ (sym c.in-Ok-false.ensures.changes ∙ c.in-Ok-false.field-0-test);
+})
