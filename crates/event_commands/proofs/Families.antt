@@ -1,0 +1,289 @@
+-- The copies of an original go one after the other, and then the original: what is left of the family, and that processors that do not reach it stand as
+-- they stood.
+use Rattle.std.specs.Prelude.{◌≡◌, ℕ, ◌+◌, ◌<◌, ◌≤◌, ◌==◌, Bool, true, false, ◌&&◌, suc, List, [], ◌∷◌, ◌++◌, count_by, length, map, take, drop, Some, None, slice_index_or, slice_set}
+use Rattle.std.specs.List.{list_any}
+use Rattle.std.proofs.Common.{arith, refl, sym, ap, subst, ◌∙◌, inl, inr, take_all}
+use Rattle.std.proofs.Math.ListN.{drop_of_length-le}
+use Rattle.std.proofs.Math.Seq.{take-suc, drop-cons}
+use Rattle.std.proofs.lemmas.Bool.{cases_eq, cases_Bool, false≢true}
+use Rattle.std.proofs.lemmas.Bool.Decides.{nat_tests}
+use Rattle.std.proofs.lemmas.List.{map-append, get_or-set_same}
+use Rattle.perf_base.specs.declared.numbers.CpuNo.{CpuNo}
+use Rattle.perf_base.specs.declared.numbers.EventNo.{EventNo}
+use Rattle.perf_base.specs.declared.numbers.Key.{Key}
+use Rattle.stage_spec.specs.Closing.{closed}
+use Rattle.stage_spec.specs.Hardware.{Hardware}
+use Rattle.stage_spec.specs.Stage.{is_of_family}
+use Rattle.stage_laws.specs.Narrowing.{has_context, reaches}
+use Rattle.stage_laws.specs.OneByOne.{drop_one}
+use Rattle.stage_laws.specs.Sound.{IsSound}
+use Rattle.stage_laws.specs.Standings.{briefs}
+use Rattle.stage_laws.proofs.Counts.{count-append}
+use Rattle.stage_laws.proofs.EachSettled.{briefs-of_passes}
+use Rattle.stage_laws.proofs.OneByOne.{map-none}
+use Rattle.stage_laws.proofs.OneByOneDrops.{closed_one_by_one}
+use Rattle.stage_laws.proofs.Others.{passes-same}
+use Rattle.stage_laws.proofs.Untouched.{close-reaches}
+use Rattle.world_spec.specs.Value.{World, no_family, is_live, entry_at, instance_at, seats_at, family_of, is_key, times}
+use Rattle.world_spec.specs.StageOf.{stage_of}
+use Rattle.world_spec.specs.Kept.{in_option, is_copy_in, is_original_in, once_if, post_at, IsKept}
+use Rattle.world_spec.specs.Changes.{all_but}
+use Rattle.world_spec.specs.Adding.{drop_instance, out_of_family}
+use Rattle.world_spec.specs.Goings.{MayGo}
+use Rattle.world_spec.specs.Rescheduled.{IsRescheduled}
+use Rattle.world_spec.proofs.Coming.{number_true, three}
+use Rattle.world_spec.proofs.Copies.{times-at}
+use Rattle.world_spec.proofs.Counting.{any-there}
+use Rattle.world_spec.proofs.Families.{family-ids}
+use Rattle.world_spec.proofs.Keys.{all_but-cons, all_but-none, is_key-same, once-true, times-cons}
+use Rattle.world_spec.proofs.Listings.{is-numbered}
+use Rattle.world_spec.proofs.Moving.{leads-parts}
+use Rattle.world_spec.proofs.Standing.{left-rescheduled}
+use Rattle.event_commands.specs.Changing.{family_keys, keys_named}
+use Rattle.event_commands.specs.Closing.{HaveGone, IsClosed}
+use Rattle.event_commands.specs.Reaching.{reaches_key}
+use Rattle.event_commands.proofs.Going.{drop-families, one-key, none-gone, one-gone, both-gone}
+use Rattle.event_commands.proofs.Named.{in-family, at-family}
+use Rattle.event_commands.proofs.Reached.{reaches-are}
+use Rattle.event_commands.proofs.Targets.{original-in}
+
+-- a copy of an original
+once-both : (b : Bool) → 1 ≤ once_if b → b ≡ true
+once-both true h = refl
+once-both false h = absurd (omega (arith, h))
+
+record IsCopyAt (w : World) (e : EventNo) (k : Key) : Type 0 where
+  live : is_live w k ≡ true
+  event : (instance_at w k).event ≡ e
+  copy : (instance_at w k).copy ≡ true
+
+copy-at : (hw : Hardware) (w : World) (e : EventNo) (k : Key) → IsKept hw w → 1 ≤ times k (family_of w e).copies → IsCopyAt w e k
+copy-at hw w e k h some =
+    let test : is_copy_in (post_at w) e.0 k ≡ true = once-both (is_copy_in (post_at w) e.0 k) (omega (arith, some, h.linked.copies k e.0)) in
+    let first = leads-parts (is_live w k && (instance_at w k).event.0 == e.0) (instance_at w k).copy test in
+    let second = leads-parts (is_live w k) ((instance_at w k).event.0 == e.0) first.0 in
+    record { live = second.0; event = λ i. record { 0 = number_true (instance_at w k).event.0 e.0 second.1 i }; copy = first.1 }
+
+copy-once : (hw : Hardware) (w : World) (e : EventNo) (k : Key) → IsKept hw w → times k (family_of w e).copies ≤ 1
+copy-once hw w e k h = at-most-one (is_copy_in (post_at w) e.0 k) (h.linked.copies k e.0)
+  where
+    at-most-one : (b : Bool) → times k (family_of w e).copies ≡ once_if b → times k (family_of w e).copies ≤ 1
+    at-most-one true is = omega (arith, is)
+    at-most-one false is = omega (arith, is)
+
+-- the family after one went
+family-after : (hw : Hardware) (w new : World) (e : EventNo) (k : Key) → IsKept hw w → MayGo w k → e.0 < 256 → (instance_at w k).event ≡ e → new ≡ drop_instance k w
+    → family_of new e ≡ out_of_family (instance_at w k).copy k (family_of w e)
+family-after hw w new e k h may low is dropped =
+    ap (λ (x : World). family_of x e) dropped
+    ∙ (ap (λ fs. slice_index_or fs e.0 no_family) (drop-families hw w k h may)
+    ∙ (ap (λ (x : EventNo). slice_index_or (slice_set w.families x.0 (out_of_family (instance_at w k).copy k (family_of w x))) e.0 no_family) is
+    ∙ get_or-set_same w.families e.0 (out_of_family (instance_at w k).copy k (family_of w e)) no_family (omega (arith, low, h.tables.families))))
+
+-- the first copy of those that are left
+first-left : (copies keys : List Key) (n : ℕ) (d : Key) → keys ≡ drop n copies → n < length copies → keys ≡ slice_index_or copies n d ∷ drop (suc n) copies
+first-left copies keys n d is low = is ∙ drop-cons copies n d low
+
+all_but_first : (k : Key) (keys : List Key) → times k keys ≡ 0 → all_but k (k ∷ keys) ≡ keys
+all_but_first k keys none = all_but-cons k k keys true (is_key-same k k refl) ∙ all_but-none k keys none
+
+-- how far the copies have gone
+pub record CopiesGone (e : EventNo) (n : ℕ) (w now : World) : Type 0 where
+  pub gone : HaveGone e (take n (family_of w e).copies) w now
+  pub left : family_of now e ≡ record (family_of w e) { copies = drop n (family_of w e).copies }
+
+pub copies-left : (e : EventNo) (n : ℕ) (w now : World) (keys : List Key) → CopiesGone e n w now → keys ≡ (family_of now e).copies → keys ≡ drop n (family_of w e).copies
+copies-left e n w now keys g told = told ∙ ap (λ f. f.copies) g.left
+
+pub some-left : (e : EventNo) (n : ℕ) (w now : World) (keys : List Key) → CopiesGone e n w now → keys ≡ (family_of now e).copies → n < length (family_of w e).copies → 0 < length keys
+some-left e n w now keys g told low =
+    omega (arith, ap length (first-left (family_of w e).copies keys n (record { 0 = 0 }) (copies-left e n w now keys g told) low))
+
+first-is : (e : EventNo) (n : ℕ) (w now : World) (keys : List Key) (d : Key) → CopiesGone e n w now → keys ≡ (family_of now e).copies → n < length (family_of w e).copies
+    → slice_index_or keys 0 d ≡ slice_index_or (family_of w e).copies n d
+first-is e n w now keys d g told low = ap (λ ks. slice_index_or ks 0 d) (first-left (family_of w e).copies keys n d (copies-left e n w now keys g told) low)
+
+first-copy : (hw : Hardware) (e : EventNo) (w : World) (keys : List Key) (d : Key) → IsKept hw w → keys ≡ (family_of w e).copies → 0 < length keys → IsCopyAt w e (slice_index_or keys 0 d)
+first-copy hw e w keys d h told some =
+    copy-at hw w e (slice_index_or keys 0 d) h (omega (arith, times-at keys 0 d some, ap (times (slice_index_or keys 0 d)) told))
+
+pub copy-may_go : (hw : Hardware) (e : EventNo) (w : World) (keys : List Key) (d : Key) → IsKept hw w → keys ≡ (family_of w e).copies → 0 < length keys → MayGo w (slice_index_or keys 0 d)
+copy-may_go hw e w keys d h told some =
+    let c : IsCopyAt w e (slice_index_or keys 0 d) = first-copy hw e w keys d h told some in
+    record { live = c.live; last = λ first. absurd (false≢true (sym first ∙ c.copy)) }
+
+pub none-yet : (e : EventNo) (w : World) → CopiesGone e 0 w w
+none-yet e w = record { gone = none-gone e w; left = refl }
+
+pub one-more : (hw : Hardware) (e : EventNo) (n : ℕ) (w now new : World) (keys : List Key) (d : Key) → IsKept hw now → e.0 < 256 → CopiesGone e n w now → keys ≡ (family_of now e).copies
+    → n < length (family_of w e).copies → new ≡ drop_instance (slice_index_or keys 0 d) now
+    → stage_of new ≡ drop_one (instance_at now (slice_index_or keys 0 d)).id (stage_of now) → CopiesGone e (n + 1) w new
+one-more hw e n w now new keys d h small g told low dropped stage =
+    let copies : List Key = (family_of w e).copies in
+    let k : Key = slice_index_or keys 0 d in
+    let some : 0 < length keys = some-left e n w now keys g told low in
+    let c : IsCopyAt now e k = first-copy hw e now keys d h told some in
+    let may : MayGo now k = copy-may_go hw e now keys d h told some in
+    let one : n + 1 ≡ suc n = omega arith in
+    let k_is : k ≡ slice_index_or copies n d = first-is e n w now keys d g told low in
+    let rest : (family_of now e).copies ≡ k ∷ drop (suc n) copies =
+    sym told ∙ (first-left copies keys n d (copies-left e n w now keys g told) low ∙ ap (λ x. x ∷ drop (suc n) copies) (sym k_is)) in
+    let once : times k (drop (suc n) copies) ≡ 0 =
+    omega (arith, copy-once hw now e k h, ap (times k) rest, times-cons k k (drop (suc n) copies), once-true (is_key k k) (is_key-same k k refl)) in
+    let fewer : all_but k (family_of now e).copies ≡ drop (n + 1) copies =
+    ap (all_but k) rest
+    ∙ (all_but_first k (drop (suc n) copies) once ∙ ap (λ m. drop m copies) (sym one)) in
+    record {
+      gone = subst (λ ks. HaveGone e ks w new)
+          (ap (λ x. take n copies ++ x ∷ []) k_is ∙ sym (ap (λ m. take m copies) one ∙ take-suc copies n d low))
+          (both-gone e (take n copies) (k ∷ []) w now new g.gone (one-gone hw now new e k h may c.event dropped stage)
+          (λ j there. elim (cases_eq (times j (take n copies)) 0) [
+            | inl none ↦ none
+            | inr more ↦
+                let is : j ≡ k = one-key j k there in
+                absurd (false≢true (sym (g.gone.dead j (omega (arith, more))) ∙ (ap (is_live now) is ∙ c.live)))
+          ]));
+      left = family-after hw now new e k h may small c.event dropped
+          ∙ (ap (λ b. out_of_family b k (family_of now e)) c.copy ∙ ((λ i. record (g.left i) { copies = fewer i })));
+    }
+
+pub all-gone : (e : EventNo) (n : ℕ) (w now : World) → CopiesGone e n w now → length (family_of w e).copies ≤ n → HaveGone e (family_of w e).copies w now
+all-gone e n w now g past = subst (λ ks. HaveGone e ks w now) (take_all n (family_of w e).copies past) g.gone
+
+pub none-left : (e : EventNo) (n : ℕ) (w now : World) → CopiesGone e n w now → length (family_of w e).copies ≤ n → family_of now e ≡ record (family_of w e) { copies = [] }
+none-left e n w now g past = g.left ∙ ap (λ ks. record (family_of w e) { copies = ks }) (drop_of_length-le (family_of w e).copies past)
+
+-- the original goes last
+pub original-may_go : (hw : Hardware) (w : World) (e : EventNo) (k : Key) → IsKept hw w → (family_of w e).original ≡ Some k → (family_of w e).copies ≡ [] → MayGo w k
+original-may_go hw w e k h is none =
+    let here = original-in hw w e k h is in
+    record {
+      live = here.0;
+      last = λ first j. elim (cases_Bool (is_copy_in (post_at w) (instance_at w k).event.0 j)) [
+        | inl passes ↦
+            let mine : is_copy_in (post_at w) e.0 j ≡ true = ap (λ (x : EventNo). is_copy_in (post_at w) x.0 j) (sym here.1) ∙ passes in
+            absurd (omega (arith, ap (times j) none, h.linked.copies j e.0, once-true (is_copy_in (post_at w) e.0 j) mine))
+        | inr fails ↦ fails
+      ];
+    }
+
+not-copy : (hw : Hardware) (w : World) (e : EventNo) (k : Key) → IsKept hw w → (family_of w e).original ≡ Some k → (instance_at w k).copy ≡ false
+not-copy hw w e k h is =
+    let one : times k (in_option (family_of w e).original) ≡ 1 = ap (λ o. times k (in_option o)) is ∙ omega (arith, times-cons k k [], once-true (is_key k k) (is_key-same k k refl)) in
+    let test : is_original_in (post_at w) e.0 k ≡ true = once-both (is_original_in (post_at w) e.0 k) (omega (arith, one, h.linked.originals k e.0)) in
+    (three (is_live w k) ((instance_at w k).event.0 == e.0) (instance_at w k).copy test).2
+
+pub original-gone : (hw : Hardware) (w new : World) (e : EventNo) (k : Key) → IsKept hw w → (family_of w e).original ≡ Some k → (family_of w e).copies ≡ [] → new ≡ drop_instance k w
+    → stage_of new ≡ drop_one (instance_at w k).id (stage_of w) → HaveGone e (in_option (family_of w e).original) w new
+original-gone hw w new e k h is none dropped stage =
+    subst (λ o. HaveGone e (in_option o) w new) (sym is) (one-gone hw w new e k h (original-may_go hw w e k h is none) (original-in hw w e k h is).1 dropped stage)
+
+pub family-gone : (hw : Hardware) (w new : World) (e : EventNo) (k : Key) → IsKept hw w → e.0 < 256 → (family_of w e).original ≡ Some k → (family_of w e).copies ≡ [] → new ≡ drop_instance k w
+    → family_of new e ≡ no_family
+family-gone hw w new e k h low is none dropped =
+    family-after hw w new e k h (original-may_go hw w e k h is none) low (original-in hw w e k h is).1 dropped
+    ∙ (ap (λ b. out_of_family b k (family_of w e)) (not-copy hw w e k h is) ∙ ap (λ ks. record { original = None; copies = ks }) none)
+
+pub no-original_gone : (e : EventNo) (w : World) → (family_of w e).original ≡ None → HaveGone e (in_option (family_of w e).original) w w
+no-original_gone e w is = subst (λ o. HaveGone e (in_option o) w w) (sym is) (none-gone e w)
+
+pub no-family_left : (e : EventNo) (w : World) → (family_of w e).original ≡ None → (family_of w e).copies ≡ [] → family_of w e ≡ no_family
+no-family_left e w is none = λ i. record { original = is i; copies = none i }
+
+-- the whole family
+pub whole-gone : (hw : Hardware) (e : EventNo) (w mid new : World) → IsKept hw mid → HaveGone e (family_of w e).copies w mid → family_of mid e ≡ record (family_of w e) { copies = [] }
+    → HaveGone e (in_option (family_of mid e).original) mid new → HaveGone e ((family_of w e).copies ++ in_option (family_of w e).original) w new
+whole-gone hw e w mid new h first left second =
+    let same : (family_of mid e).original ≡ (family_of w e).original = ap (λ f. f.original) left in
+    both-gone e (family_of w e).copies (in_option (family_of w e).original) w mid new first (subst (λ o. HaveGone e (in_option o) mid new) same second)
+    (λ k some. elim (cases_eq (times k (family_of w e).copies) 0) [
+      | inl none ↦ none
+      | inr more ↦
+          let here = in-family hw mid e k h
+          (omega (arith, some, ap (λ o. times k (in_option o)) same, count-append (is_key k) (in_option (family_of mid e).original) (family_of mid e).copies)) in
+          absurd (false≢true (sym (first.dead k (omega (arith, more))) ∙ here.0))
+    ])
+
+-- on the stage
+swapped-ids : (w : World) (e : EventNo) (n : ℕ) → count_by (λ id. n == id) (map (λ k. (instance_at w k).id) ((family_of w e).copies ++ in_option (family_of w e).original))
+    ≡ count_by (λ id. n == id) (map (λ k. (instance_at w k).id) (family_keys w e))
+swapped-ids w e n =
+    let id : Key → ℕ = λ k. (instance_at w k).id in
+    let xs : List Key = (family_of w e).copies in
+    let ys : List Key = in_option (family_of w e).original in
+    omega (
+      arith,
+      ap (count_by (λ i. n == i)) (map-append id xs ys),
+      ap (count_by (λ i. n == i)) (map-append id ys xs),
+      count-append (λ i. n == i) (map id xs) (map id ys),
+      count-append (λ i. n == i) (map id ys) (map id xs),
+    )
+
+pub closed-stage : (hw : Hardware) (w new : World) (e : EventNo) → IsKept hw w → IsSound hw (stage_of w) → HaveGone e ((family_of w e).copies ++ in_option (family_of w e).original) w new
+    → stage_of new ≡ closed e (stage_of w)
+closed-stage hw w new e h sound g =
+    g.stage
+    ∙ closed_one_by_one e (stage_of w) (map (λ k. (instance_at w k).id) ((family_of w e).copies ++ in_option (family_of w e).original)) (is-numbered hw w h) sound.placed
+    (λ n. swapped-ids w e n ∙ family-ids hw w e h n)
+
+-- key by key
+done-times : (w : World) (e : EventNo) (k : Key) → times k ((family_of w e).copies ++ in_option (family_of w e).original) ≡ times k (family_keys w e)
+done-times w e k =
+    omega (
+      arith,
+      count-append (is_key k) (family_of w e).copies (in_option (family_of w e).original),
+      count-append (is_key k) (in_option (family_of w e).original) (family_of w e).copies,
+    )
+
+same-number : (m n : ℕ) → m ≡ n → (m == n) ≡ true
+same-number m n e = grind (arith, nat_tests, e)
+
+not-done : (hw : Hardware) (w : World) (e : EventNo) (k : Key) → IsKept hw w → is_of_family e (instance_at w k) ≡ false → times k ((family_of w e).copies ++ in_option (family_of w e).original) ≡ 0
+not-done hw w e k h off = elim (cases_eq (times k (family_keys w e)) 0) [
+  | inl none ↦ done-times w e k ∙ none
+  | inr more ↦
+      let here = in-family hw w e k h (omega (arith, more)) in
+      absurd (false≢true (sym off ∙ same-number (instance_at w k).event.0 e.0 here.1))
+]
+
+pub is-closed : (hw : Hardware) (w new : World) (e : EventNo) → IsKept hw w → HaveGone e ((family_of w e).copies ++ in_option (family_of w e).original) w new → family_of new e ≡ no_family → IsClosed e w new
+is-closed hw w new e h g left = record {
+  world = g.world;
+  gone = λ k live is. g.dead k (omega (arith, at-family hw w e k h live is, done-times w e k));
+  live = λ k off. g.live k (not-done hw w e k h off);
+  instances = λ k off. g.instances k (not-done hw w e k h off);
+  contexts = λ k off. g.contexts k (not-done hw w e k h off);
+  accounts = λ k off. g.accounts k (not-done hw w e k h off);
+  family = left;
+  families = g.families;
+}
+
+-- processors that do not reach the family
+none-there : (p : Key → Bool) (keys : List Key) (k : Key) → list_any p keys ≡ false → 1 ≤ times k keys → p k ≡ false
+none-there p keys k none some = elim (cases_Bool (p k)) [
+  | inr off ↦ off
+  | inl passes ↦ absurd (false≢true (sym none ∙ (ap (list_any p) (sym (map-none keys)) ∙ any-there p (λ q. q) k keys some passes)))
+]
+
+pub closed-others : (hw : Hardware) (w new : World) (e : EventNo) (cpu : CpuNo) → IsKept hw w → HaveGone e ((family_of w e).copies ++ in_option (family_of w e).original) w new
+    → stage_of new ≡ closed e (stage_of w) → cpu.0 < 8 → reaches (stage_of w) (e ∷ []) cpu ≡ false → IsRescheduled hw w cpu → IsRescheduled hw new cpu
+closed-others hw w new e cpu h g stage low off before =
+    let done : List Key = (family_of w e).copies ++ in_option (family_of w e).original in
+    let away : (k : Key) → 1 ≤ times k done → reaches_key w cpu k ≡ false = λ k some.
+    none-there (reaches_key w cpu) (keys_named w (e ∷ [])) k (sym (reaches-are hw w (e ∷ []) cpu h) ∙ off)
+    (omega (arith, some, done-times w e k, count-append (is_key k) (family_keys w e) [])) in
+    let running : new.quiet ≡ w.quiet = ap (λ (x : World). x.quiet) g.world in
+    left-rescheduled hw w new cpu low (record {
+      briefs = ap (λ s. briefs hw s cpu) stage
+          ∙ briefs-of_passes hw cpu (stage_of w) (closed e (stage_of w)) (passes-same (stage_of w) (closed e (stage_of w)) cpu (close-reaches e (stage_of w) cpu off));
+      seats = ap (λ (x : World). seats_at x cpu) g.world;
+      groups = λ q lead has.
+          let there : has_context (stage_of w) cpu (entry_at new q).context ≡ true = ap (λ y. has_context (stage_of (record w { quiet = y })) cpu (entry_at new q).context) (sym running) ∙ has in
+          let stood = g.groups q lead (λ k some is. false≢true (sym (away k some) ∙ (ap (has_context (stage_of w) cpu) (sym is) ∙ there))) in
+          let live : is_live new q ≡ true = (leads-parts (is_live new q) (is_key q (entry_at new q).leader) lead).0 in
+          let stays : times q done ≡ 0 = (elim (cases_eq (times q done) 0) [
+            | inl none ↦ none
+            | inr more ↦ absurd (false≢true (sym (g.dead q (omega (arith, more))) ∙ live))
+          ]) in
+          (stood.0, ap (has_context (stage_of w) cpu) (sym (g.contexts q stays)) ∙ there, ap (λ i. i.id) (g.instances q stays), stood.1);
+    }) before

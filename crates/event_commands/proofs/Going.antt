@@ -1,0 +1,191 @@
+-- Instances that go one after the other: what each leaves, and what all leave.
+use Rattle.std.specs.Prelude.{◌≡◌, ◌+◌, ◌≤◌, true, false, ◌&&◌, List, [], ◌∷◌, ◌++◌, map, slice_set}
+use Rattle.std.specs.FinMap.{FinMap, get}
+use Rattle.std.specs.List.{fold}
+use Rattle.std.specs.Option.{unwrap_or}
+use Rattle.std.specs.Ordering.{nat_cmp}
+use Rattle.std.proofs.Common.{arith, refl, sym, ap, subst, ◌∙◌, inl, inr}
+use Rattle.std.proofs.lemmas.Bool.{cases_eq, cases_Bool, false≢true}
+use Rattle.std.proofs.lemmas.List.{map-append}
+use Rattle.std.proofs.lemmas.List.Sums.{fold-append}
+use Rattle.perf_base.specs.declared.numbers.EventNo.{EventNo}
+use Rattle.perf_base.specs.declared.numbers.Key.{Key}
+use Rattle.perf_base.specs.declared.standing.Standing.{Standing}
+use Rattle.perf_base.specs.declared.standing.Standing.TheVariants as standing
+use Rattle.stage_spec.specs.Hardware.{Hardware}
+use Rattle.stage_laws.specs.OneByOne.{drop_one, drop_ones}
+use Rattle.stage_laws.proofs.Counts.{count-append}
+use Rattle.world_spec.specs.Value.{World, is_live, entry_at, instance_at, standing_at, family_of, is_key, times}
+use Rattle.world_spec.specs.StageOf.{after_first, stage_of}
+use Rattle.world_spec.specs.Kept.{is_member_of, leads, post_at, IsKept}
+use Rattle.world_spec.specs.Adding.{drop_instance, leave_group, out_of_family, taken_out}
+use Rattle.world_spec.specs.Goings.{MayGo}
+use Rattle.world_spec.specs.Staying.{HasGone}
+use Rattle.world_spec.proofs.Disbanding.{AreSiblings, Disbands, member-led, member-live}
+use Rattle.world_spec.proofs.Dropping.{it-leads}
+use Rattle.world_spec.proofs.Gone.{get-left, left-goes, left_world}
+use Rattle.world_spec.proofs.GoneLeader.{AreFreed, dropped-leader, entries_freed, freed_standings, led-disbands, led_world, siblings-stand, standings_freed, tables-freed}
+use Rattle.world_spec.proofs.GoneLeaderStage.{map-within}
+use Rattle.world_spec.proofs.Keys.{key-is, is_key-same, is_key-other, once-true, once-false, times-cons}
+use Rattle.world_spec.proofs.Moving.{leads-parts}
+use Rattle.world_spec.proofs.Staying.{go-stays}
+use Rattle.world_spec.proofs.Tables.{get-there}
+use Rattle.event_commands.specs.Closing.{HaveGone, IsThinned}
+
+-- groups that stand where they stood
+abbrev Stands : World → World → Key → Type 0
+Stands w after q = (leads (post_at w) q ≡ true) × (standing_at after q ≡ standing_at w q)
+
+apart-live : (after : World) (k q : Key) → is_live after k ≡ false → is_live after q ≡ true → q.0 ≡ k.0 → ⊥
+apart-live after k q dead live same = false≢true (sym dead ∙ (ap (is_live after) (sym (key-is q k same)) ∙ live))
+
+-- standings of keys that were not freed
+not-freed_standing : (keys : List Key) (m : FinMap nat_cmp Standing) (q : Key) → times q keys ≡ 0 → get (fold freed_standings m keys) q.0 ≡ get m q.0
+not-freed_standing [] m q none = refl
+not-freed_standing (k ∷ keys) m q none = elim (cases_eq q.0 k.0) [
+  | inl e ↦ absurd (omega (arith, none, times-cons q k keys, once-true (is_key q k) (is_key-same q k (sym e))))
+  | inr apart ↦ not-freed_standing keys (freed_standings m k) q (omega (arith, none, times-cons q k keys)) ∙ get-there m k.0 standing.Out q.0 apart
+]
+
+-- a leader that goes: its siblings are in its context, and all others stand where they stood
+leader-groups : (hw : Hardware) (w : World) (k q : Key) → IsKept hw w → leads (post_at w) k ≡ true → (q.0 ≡ k.0 → ⊥)
+    → leads (post_at (led_world w k (entries_freed w k) (standings_freed w k))) q ≡ true
+    → ((entry_at (led_world w k (entries_freed w k) (standings_freed w k)) q).context ≡ (entry_at w k).context → ⊥)
+    → Stands w (led_world w k (entries_freed w k) (standings_freed w k)) q
+leader-groups hw w k q h lead apart leads_now away =
+    let t : World = led_world w k (entries_freed w k) (standings_freed w k) in
+    let f : AreFreed w k (entries_freed w k) (standings_freed w k) = tables-freed hw w k h lead in
+    let d : Disbands (post_at w) (post_at t) k = led-disbands w k (entries_freed w k) (standings_freed w k) lead f in
+    let keys : List Key = after_first (entry_at w k).members in
+    let sib : AreSiblings (post_at w) k keys = siblings-stand hw w k h lead in
+    elim (cases_Bool (is_member_of (post_at w) k q)) [
+      | inl is ↦
+          let there : (entry_at w k).context ≡ (entry_at w q).context = ap (λ m. (entry_at w m).context) (sym (member-led (post_at w) k q is)) ∙ h.grouped.together q (member-live (post_at w) k q is) in
+          absurd (away (ap (λ p. p.context) (d.freed q apart is) ∙ sym there))
+      | inr off ↦ (
+        ap (λ p. p.live && is_key q p.leader) (sym (d.others q apart off)) ∙ leads_now,
+        ap (λ o. unwrap_or o standing.Out) (get-left (standings_freed w k) k.0 q.0 apart ∙ not-freed_standing keys w.standings q (sib.others q apart ∙ once-false (is_member_of (post_at w) k q) off)),
+      )
+    ]
+
+-- a sibling that goes
+sibling-groups : (hw : Hardware) (w : World) (k q : Key) → IsKept hw w → is_live w k ≡ true → (q.0 ≡ k.0 → ⊥) → leads (post_at (left_world w k)) q ≡ true → Stands w (left_world w k) q
+sibling-groups hw w k q h live apart leads_now = (
+  ap (λ p. p.live && is_key q p.leader) (sym ((left-goes hw w k h live).same q apart)) ∙ leads_now,
+  ap (λ o. unwrap_or o standing.Out) (get-left w.standings k.0 q.0 apart),
+)
+
+-- an instance that goes, with the tables that it leaves
+record Drops (w after : World) (k : Key) : Type 0 where
+  world : IsThinned w after
+  families : after.families ≡ slice_set w.families (instance_at w k).event.0 (out_of_family (instance_at w k).copy k (family_of w (instance_at w k).event))
+  groups : (q : Key) → (q.0 ≡ k.0 → ⊥) → leads (post_at after) q ≡ true → ((entry_at after q).context ≡ (entry_at w k).context → ⊥) → Stands w after q
+
+one-drops : (hw : Hardware) (w : World) (k : Key) → IsKept hw w → MayGo w k → Drops w (drop_instance k w) k
+one-drops hw w k h may = elim (cases_Bool (is_key k (entry_at w k).leader)) [
+  | inl own ↦ subst (λ x. Drops w x k) (sym (dropped-leader w k own)) (record {
+    world = refl;
+    families = refl;
+    groups = λ q apart leads_now away. leader-groups hw w k q h (it-leads w k may own) apart leads_now away;
+  })
+  | inr sibling ↦ subst (λ b. Drops w (taken_out k (instance_at w k) (leave_group k b w)) k) (sym sibling) (record {
+    world = refl;
+    families = refl;
+    groups = λ q apart leads_now away. sibling-groups hw w k q h may.live apart leads_now;
+  })
+]
+
+pub drop-families : (hw : Hardware) (w : World) (k : Key) → IsKept hw w → MayGo w k
+    → (drop_instance k w).families ≡ slice_set w.families (instance_at w k).event.0 (out_of_family (instance_at w k).copy k (family_of w (instance_at w k).event))
+drop-families hw w k h may = (one-drops hw w k h may).families
+
+-- one that went
+pub one-key : (j k : Key) → 1 ≤ times j (k ∷ []) → j ≡ k
+one-key j k some = elim (cases_eq j.0 k.0) [
+  | inl same ↦ key-is j k same
+  | inr apart ↦ absurd (omega (arith, some, times-cons j k [], once-false (is_key j k) (is_key-other j k (λ e. apart (sym e)))))
+]
+
+other-key : (j k : Key) → times j (k ∷ []) ≡ 0 → j.0 ≡ k.0 → ⊥
+other-key j k none same = omega (arith, none, times-cons j k [], once-true (is_key j k) (is_key-same j k (sym same)))
+
+itself : (k : Key) → 1 ≤ times k (k ∷ [])
+itself k = omega (arith, times-cons k k [], once-true (is_key k k) (is_key-same k k refl))
+
+one-by : (hw : Hardware) (w : World) (e : EventNo) (k : Key) → IsKept hw w → MayGo w k → (instance_at w k).event ≡ e
+    → stage_of (drop_instance k w) ≡ drop_one (instance_at w k).id (stage_of w) → HaveGone e (k ∷ []) w (drop_instance k w)
+one-by hw w e k h may is stage =
+    let g : HasGone w (drop_instance k w) k = go-stays hw w k h may in
+    let d : Drops w (drop_instance k w) k = one-drops hw w k h may in
+    record {
+      world = d.world;
+      stage = stage;
+      dead = λ j some. ap (is_live (drop_instance k w)) (one-key j k some) ∙ g.dead;
+      live = λ j none. g.others.live j (other-key j k none);
+      instances = λ j none. g.others.instances j (other-key j k none);
+      contexts = λ j none. g.others.contexts j (other-key j k none);
+      accounts = λ j none. g.others.accounts j (other-key j k none);
+      families = λ other apart. g.families other (λ same. apart (same ∙ ap (λ x. x.0) is));
+      groups = λ q lead away.
+          let live : is_live (drop_instance k w) q ≡ true = (leads-parts (is_live (drop_instance k w) q) (is_key q (entry_at (drop_instance k w) q).leader) lead).0 in
+          d.groups q (apart-live (drop_instance k w) k q g.dead live) lead (away k (itself k));
+    }
+
+pub one-gone : (hw : Hardware) (w new : World) (e : EventNo) (k : Key) → IsKept hw w → MayGo w k → (instance_at w k).event ≡ e → new ≡ drop_instance k w
+    → stage_of new ≡ drop_one (instance_at w k).id (stage_of w) → HaveGone e (k ∷ []) w new
+one-gone hw w new e k h may is dropped stage = subst (HaveGone e (k ∷ []) w) (sym dropped) (one-by hw w e k h may is (ap stage_of (sym dropped) ∙ stage))
+
+-- none
+pub none-gone : (e : EventNo) (w : World) → HaveGone e [] w w
+none-gone e w = record {
+  world = refl;
+  stage = refl;
+  dead = λ k some. absurd (omega (arith, some));
+  live = λ k none. refl;
+  instances = λ k none. refl;
+  contexts = λ k none. refl;
+  accounts = λ k none. refl;
+  families = λ other apart. refl;
+  groups = λ q lead away. (lead, refl);
+}
+
+-- some after others
+thinned-twice : (w m n : World) → IsThinned w m → IsThinned m n → IsThinned w n
+thinned-twice w m n first second =
+    second
+    ∙ ap (λ (x : World). record x { entries = n.entries; accounts = n.accounts; standings = n.standings; contexts = n.contexts; families = n.families }) first
+
+split : (k : Key) (xs ys : List Key) → times k (xs ++ ys) ≡ times k xs + times k ys
+split k xs ys = count-append (is_key k) xs ys
+
+pub both-gone : (e : EventNo) (xs ys : List Key) (w m n : World) → HaveGone e xs w m → HaveGone e ys m n → ((k : Key) → 1 ≤ times k ys → times k xs ≡ 0) → HaveGone e (xs ++ ys) w n
+both-gone e xs ys w m n first second apart =
+    let ids : map (λ k. (instance_at m k).id) ys ≡ map (λ k. (instance_at w k).id) ys =
+    map-within (λ k. (instance_at m k).id) (λ k. (instance_at w k).id) ys (λ k some. ap (λ i. i.id) (first.instances k (apart k some))) in
+    let xs_none : (k : Key) → times k (xs ++ ys) ≡ 0 → times k xs ≡ 0 = λ k none. omega (arith, none, split k xs ys) in
+    let ys_none : (k : Key) → times k (xs ++ ys) ≡ 0 → times k ys ≡ 0 = λ k none. omega (arith, none, split k xs ys) in
+    record {
+      world = thinned-twice w m n first.world second.world;
+      stage = second.stage
+          ∙ ((λ i. drop_ones (ids i) (first.stage i))
+          ∙ (sym (fold-append (λ t id. drop_one id t) (stage_of w) (map (λ k. (instance_at w k).id) xs) (map (λ k. (instance_at w k).id) ys))
+          ∙ ap (λ ns. drop_ones ns (stage_of w)) (sym (map-append (λ k. (instance_at w k).id) xs ys))));
+      dead = λ k some. elim (cases_eq (times k ys) 0) [
+        | inl none ↦ second.live k none ∙ first.dead k (omega (arith, some, none, split k xs ys))
+        | inr more ↦ second.dead k (omega (arith, more))
+      ];
+      live = λ k none. second.live k (ys_none k none) ∙ first.live k (xs_none k none);
+      instances = λ k none. second.instances k (ys_none k none) ∙ first.instances k (xs_none k none);
+      contexts = λ k none. second.contexts k (ys_none k none) ∙ first.contexts k (xs_none k none);
+      accounts = λ k none. second.accounts k (ys_none k none) ∙ first.accounts k (xs_none k none);
+      families = λ other far. second.families other far ∙ first.families other far;
+      groups = λ q lead away.
+          let live : is_live n q ≡ true = (leads-parts (is_live n q) (is_key q (entry_at n q).leader) lead).0 in
+          let stays : times q ys ≡ 0 = (elim (cases_eq (times q ys) 0) [
+            | inl none ↦ none
+            | inr more ↦ absurd (false≢true (sym (second.dead q (omega (arith, more))) ∙ live))
+          ]) in
+          let mid = second.groups q lead (λ k some is. away k (omega (arith, some, split k xs ys)) (is ∙ first.contexts k (apart k some))) in
+          let old = first.groups q mid.0 (λ k some is. away k (omega (arith, some, split k xs ys)) (second.contexts q stays ∙ is)) in
+          (old.0, mid.1 ∙ old.1);
+    }

@@ -1,0 +1,10 @@
+pub mod Families
+pub mod Going
+pub mod InTurn
+pub mod Named
+pub mod Periods
+pub mod Processors
+pub mod Reached
+pub mod Resetting
+pub mod States
+pub mod Targets

@@ -1,0 +1,78 @@
+-- The keys of a family and of some families are those of the instances that are reached.
+use Rattle.std.specs.Prelude.{◌≡◌, ℕ, ◌+◌, ◌≤◌, ◌==◌, Bool, true, false, not, ◌&&◌, ◌||◌, List, [], ◌∷◌}
+use Rattle.std.proofs.Common.{arith, refl, sym, ap, ◌∙◌, inl, inr}
+use Rattle.std.proofs.lemmas.Bool.{cases_Bool, cases_eq, false≢true}
+use Rattle.std.proofs.lemmas.Bool.Decides.{nat_tests}
+use Rattle.perf_base.specs.declared.numbers.EventNo.{EventNo}
+use Rattle.perf_base.specs.declared.numbers.Key.{Key}
+use Rattle.stage_spec.specs.Commands.{is_reached}
+use Rattle.stage_spec.specs.Hardware.{Hardware}
+use Rattle.stage_laws.proofs.Counts.{count-append}
+use Rattle.world_spec.specs.Value.{World, is_live, instance_at, is_key, times}
+use Rattle.world_spec.specs.Kept.{once_if, IsKept}
+use Rattle.world_spec.proofs.Accounts.{family-times}
+use Rattle.world_spec.proofs.Coming.{number_true}
+use Rattle.world_spec.proofs.Keys.{once-true}
+use Rattle.world_spec.proofs.Moving.{leads-parts}
+use Rattle.event_commands.specs.Changing.{family_keys, keys_named}
+
+both-kinds : (a b c : Bool) → once_if (a && b && not c) + once_if (a && b && c) ≡ once_if (a && b)
+both-kinds true true true = refl
+both-kinds true true false = refl
+both-kinds true false c = refl
+both-kinds false b c = refl
+
+-- a key stands in a family once where it lives in its slot
+family-count : (hw : Hardware) (w : World) (e : EventNo) (k : Key) → IsKept hw w → times k (family_keys w e) ≡ once_if (is_live w k && (instance_at w k).event.0 == e.0)
+family-count hw w e k h = family-times w h.linked k e.0 ∙ both-kinds (is_live w k) ((instance_at w k).event.0 == e.0) (instance_at w k).copy
+
+some-once : (b : Bool) → 1 ≤ once_if b → b ≡ true
+some-once true h = refl
+some-once false h = absurd (omega (arith, h))
+
+pub in-family : (hw : Hardware) (w : World) (e : EventNo) (k : Key) → IsKept hw w → 1 ≤ times k (family_keys w e) → (is_live w k ≡ true) × ((instance_at w k).event.0 ≡ e.0)
+in-family hw w e k h some =
+    let both : (is_live w k && (instance_at w k).event.0 == e.0) ≡ true = some-once (is_live w k && (instance_at w k).event.0 == e.0) (omega (arith, some, family-count hw w e k h)) in
+    let parts = leads-parts (is_live w k) ((instance_at w k).event.0 == e.0) both in
+    (parts.0, number_true (instance_at w k).event.0 e.0 parts.1)
+
+pub at-family : (hw : Hardware) (w : World) (e : EventNo) (k : Key) → IsKept hw w → is_live w k ≡ true → ((instance_at w k).event.0 == e.0) ≡ true → 1 ≤ times k (family_keys w e)
+at-family hw w e k h live same =
+    omega (arith, family-count hw w e k h, once-true (is_live w k && (instance_at w k).event.0 == e.0) (ap (λ b. b && (instance_at w k).event.0 == e.0) live ∙ same))
+
+-- and in some families where it is reached
+first-or : (a b : Bool) → a ≡ true → (a || b) ≡ true
+first-or true b h = refl
+first-or false b h = absurd (false≢true h)
+
+second-or : (a b : Bool) → b ≡ true → (a || b) ≡ true
+second-or true b h = refl
+second-or false b h = h
+
+either-or : (a b : Bool) → a ≡ false → (a || b) ≡ true → b ≡ true
+either-or true b off h = absurd (false≢true (sym off))
+either-or false b off h = h
+
+same-number : (m n : ℕ) → m ≡ n → (m == n) ≡ true
+same-number m n e = grind (arith, nat_tests, e)
+
+pub named-reached : (hw : Hardware) (w : World) (events : List EventNo) (k : Key) → IsKept hw w → 1 ≤ times k (keys_named w events)
+    → (is_live w k ≡ true) × (is_reached events (instance_at w k) ≡ true)
+named-reached hw w [] k h some = absurd (omega (arith, some))
+named-reached hw w (e ∷ events) k h some = elim (cases_eq (times k (family_keys w e)) 0) [
+  | inl none ↦
+      let rest = named-reached hw w events k h (omega (arith, some, none, count-append (is_key k) (family_keys w e) (keys_named w events))) in
+      (rest.0, second-or ((instance_at w k).event.0 == e.0) (is_reached events (instance_at w k)) rest.1)
+  | inr more ↦
+      let here = in-family hw w e k h (omega (arith, more)) in
+      (here.0, first-or ((instance_at w k).event.0 == e.0) (is_reached events (instance_at w k)) (same-number (instance_at w k).event.0 e.0 here.1))
+]
+
+pub reached-named : (hw : Hardware) (w : World) (events : List EventNo) (k : Key) → IsKept hw w → is_live w k ≡ true → is_reached events (instance_at w k) ≡ true → 1 ≤ times k (keys_named w events)
+reached-named hw w [] k h live reached = absurd (false≢true reached)
+reached-named hw w (e ∷ events) k h live reached = elim (cases_Bool ((instance_at w k).event.0 == e.0)) [
+  | inl same ↦ omega (arith, at-family hw w e k h live same, count-append (is_key k) (family_keys w e) (keys_named w events))
+  | inr apart ↦
+      let rest = reached-named hw w events k h live (either-or ((instance_at w k).event.0 == e.0) (is_reached events (instance_at w k)) apart reached) in
+      omega (arith, rest, count-append (is_key k) (family_keys w e) (keys_named w events))
+]

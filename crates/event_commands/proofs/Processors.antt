@@ -1,0 +1,116 @@
+-- Sets to which the processors that reach some keys are added, and that these processors are those that reach the families on the stage.
+use Rattle.std.specs.Prelude.{◌≡◌, ℕ, ◌+◌, ◌^◌, ◌<◌, ◌≤◌, ◌==◌, suc, max, Bool, true, false, ◌||◌, bit_or, List, [], ◌∷◌, ◌++◌, length, take, Option, Some, None, slice_index_or}
+use Rattle.std.specs.Int.{bit_at}
+use Rattle.std.specs.List.{list_any}
+use Rattle.std.proofs.Common.{arith, refl, sym, ap, ◌∙◌, inl, inr, take_all}
+use Rattle.std.proofs.Math.Seq.{take-suc}
+use Rattle.std.proofs.lemmas.Bool.{cases_eq, cases_Bool}
+use Rattle.std.proofs.lemmas.Bool.Decides.{nat_tests}
+use Rattle.std.proofs.lemmas.Grind.{flat_map-append}
+use Rattle.std.proofs.lemmas.List.{append-nil}
+use Rattle.std.proofs.lemmas.List.Folds.{list_any-append}
+use Rattle.std.proofs.lemmas.Nat.Bits.{bit_at_or, bit_at-zero, bit_at-lt, bit_at-pow_same, bit_at-pow_other}
+use Rattle.perf_base.specs.declared.numbers.CpuNo.{CpuNo}
+use Rattle.perf_base.specs.declared.numbers.CpuSet.{CpuSet}
+use Rattle.perf_base.specs.declared.numbers.EventNo.{EventNo}
+use Rattle.perf_base.specs.declared.numbers.Key.{Key}
+use Rattle.stage_spec.specs.Hardware.{has_cpu}
+use Rattle.world_spec.specs.Value.{World}
+use Rattle.world_spec.specs.Kept.{in_option}
+use Rattle.event_commands.specs.Changing.{family_keys, keys_named}
+use Rattle.event_commands.specs.Reaching.{reaches_key, AreReaching, AddsReaching}
+
+-- one processor more
+one-more : (b n : ℕ) → n ≡ max b 1 → b < 2 → (n == 1) ≡ true
+one-more b n is low = grind (arith, nat_tests, is, low)
+
+no-more : (b n : ℕ) → n ≡ max b 0 → n ≡ b
+no-more b n is = grind (arith, is)
+
+pub inserted : (w : World) (k : Key) (set now : CpuSet) (c : CpuNo) → reaches_key w c k ≡ true → ((cpu : CpuNo) → reaches_key w cpu k ≡ true → cpu.0 ≡ c.0)
+    → now.0 ≡ bit_or set.0 (2 ^ c.0) → AddsReaching w (k ∷ []) set now
+inserted w k set now c has only is cpu = elim (cases_eq cpu.0 c.0) [
+  | inl same ↦
+      let there : has_cpu cpu.0 now ≡ true =
+      one-more (bit_at set.0 cpu.0) (bit_at now.0 cpu.0)
+      (ap (λ n. bit_at n cpu.0) is ∙ (bit_at_or set.0 (2 ^ c.0) cpu.0 ∙ ap (max (bit_at set.0 cpu.0)) (ap (bit_at (2 ^ c.0)) same ∙ bit_at-pow_same c.0))) (bit_at-lt set.0 cpu.0) in
+      let mine : reaches_key w cpu k ≡ true = ap (λ n. reaches_key w (record { 0 = n }) k) same ∙ has in
+      there ∙ sym (ap (λ b. (b || false) || has_cpu cpu.0 set) mine)
+  | inr apart ↦
+      let kept : bit_at now.0 cpu.0 ≡ bit_at set.0 cpu.0 =
+      no-more (bit_at set.0 cpu.0) (bit_at now.0 cpu.0)
+      (ap (λ n. bit_at n cpu.0) is ∙ (bit_at_or set.0 (2 ^ c.0) cpu.0 ∙ ap (max (bit_at set.0 cpu.0)) (bit_at-pow_other c.0 cpu.0 apart))) in
+      elim (cases_Bool (reaches_key w cpu k)) [
+        | inl mine ↦ absurd (apart (only cpu mine))
+        | inr off ↦ ap (λ n. n == 1) kept ∙ sym (ap (λ b. (b || false) || has_cpu cpu.0 set) off)
+      ]
+]
+
+pub same-cpu : (o : Option CpuNo) (cpu c : CpuNo) → o ≡ Some cpu → o ≡ Some c → cpu.0 ≡ c.0
+same-cpu o cpu c first second = ap (number-or cpu) (sym first ∙ second)
+  where
+    number-or : CpuNo → Option CpuNo → ℕ
+    number-or d None = d.0
+    number-or d (Some x) = x.0
+
+-- none, and some after others
+pub adds-none : (w : World) (set : CpuSet) → AddsReaching w [] set set
+adds-none w set cpu = refl
+
+three-ways : (x y a : Bool) → (y || (x || a)) ≡ ((x || y) || a)
+three-ways true true a = refl
+three-ways true false a = refl
+three-ways false true a = refl
+three-ways false false a = refl
+
+pub adds-append : (w : World) (xs ys : List Key) (a b c : CpuSet) → AddsReaching w xs a b → AddsReaching w ys b c → AddsReaching w (xs ++ ys) a c
+adds-append w xs ys a b c first second cpu =
+    second cpu
+    ∙ (ap (λ t. list_any (reaches_key w cpu) ys || t) (first cpu)
+    ∙ (three-ways (list_any (reaches_key w cpu) xs) (list_any (reaches_key w cpu) ys) (has_cpu cpu.0 a)
+    ∙ sym (ap (λ t. t || has_cpu cpu.0 a) (list_any-append (reaches_key w cpu) xs ys))))
+
+pub adds-same : (w : World) (xs ys : List Key) (a b : CpuSet) → xs ≡ ys → AddsReaching w xs a b → AddsReaching w ys a b
+adds-same w xs ys a b same h cpu = h cpu ∙ ap (λ keys. list_any (reaches_key w cpu) keys || has_cpu cpu.0 a) same
+
+pub next-adds : (w : World) (keys : List Key) (place : ℕ) (d : Key) (a b c : CpuSet) → place < length keys → AddsReaching w (take place keys) a b
+    → AddsReaching w (slice_index_or keys place d ∷ []) b c → AddsReaching w (take (place + 1) keys) a c
+next-adds w keys place d a b c low first second =
+    let one : place + 1 ≡ suc place = omega arith in
+    adds-same w (take place keys ++ slice_index_or keys place d ∷ []) (take (place + 1) keys) a c (sym (ap (λ n. take n keys) one ∙ take-suc keys place d low))
+    (adds-append w (take place keys) (slice_index_or keys place d ∷ []) a b c first second)
+
+pub all-adds : (w : World) (keys : List Key) (place : ℕ) (a b : CpuSet) → length keys ≤ place → AddsReaching w (take place keys) a b → AddsReaching w keys a b
+all-adds w keys place a b past h = adds-same w (take place keys) keys a b (take_all place keys past) h
+
+-- the original in a slot
+pub adds-option : (w : World) (o : Option Key) (k : Key) (a b : CpuSet) → o ≡ Some k → AddsReaching w (k ∷ []) a b → AddsReaching w (in_option o) a b
+adds-option w o k a b is h = adds-same w (k ∷ []) (in_option o) a b (sym (ap in_option is)) h
+
+pub adds-no_option : (w : World) (o : Option Key) (a : CpuSet) → o ≡ None → AddsReaching w (in_option o) a a
+adds-no_option w o a is = adds-same w [] (in_option o) a a (sym (ap in_option is)) (adds-none w a)
+
+-- families
+pub next-added : (w : World) (events : List EventNo) (place : ℕ) (d : EventNo) (a b c : CpuSet) → place < length events → AddsReaching w (keys_named w (take place events)) a b
+    → AddsReaching w (family_keys w (slice_index_or events place d)) b c → AddsReaching w (keys_named w (take (place + 1) events)) a c
+next-added w events place d a b c low first second =
+    let one : place + 1 ≡ suc place = omega arith in
+    let e : EventNo = slice_index_or events place d in
+    let done : List Key = keys_named w (take place events) in
+    adds-same w (done ++ family_keys w e) (keys_named w (take (place + 1) events)) a c
+    (sym (ap (λ n. keys_named w (take n events)) one ∙ (ap (keys_named w) (take-suc events place d low)
+    ∙ (flat_map-append (family_keys w) (take place events) (e ∷ []) ∙ ap (λ keys. done ++ keys) (append-nil (family_keys w e))))))
+    (adds-append w done (family_keys w e) a b c first second)
+
+or-none : (b : Bool) → (b || false) ≡ b
+or-none true = refl
+or-none false = refl
+
+no-cpu : (cpu n : ℕ) → n ≡ 0 → (bit_at n cpu == 1) ≡ false
+no-cpu cpu n none =
+    let zero : bit_at n cpu ≡ 0 = ap (λ m. bit_at m cpu) none ∙ bit_at-zero cpu in
+    ap (λ m. m == 1) zero
+
+pub all-added : (w : World) (events : List EventNo) (place : ℕ) (a b : CpuSet) → length events ≤ place → a.0 ≡ 0 → AddsReaching w (keys_named w (take place events)) a b → AreReaching w (keys_named w events) b
+all-added w events place a b past none h cpu =
+    h cpu ∙ ((λ i. list_any (reaches_key w cpu) (keys_named w (take_all place events past i)) || no-cpu cpu.0 a.0 none i) ∙ or-none (list_any (reaches_key w cpu) (keys_named w events)))

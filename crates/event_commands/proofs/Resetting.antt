@@ -1,0 +1,70 @@
+-- Counts that are cleared one after the other, and that processors stand as they stood.
+use Rattle.std.specs.Prelude.{◌≡◌, List, [], ◌∷◌, if◌then◌else◌}
+use Rattle.std.specs.FinMap.{FinMap, contains_key}
+use Rattle.std.specs.Option.{unwrap_or}
+use Rattle.std.specs.Ordering.{nat_cmp}
+use Rattle.std.proofs.Common.{arith, refl, sym, ap, subst, ◌∙◌, inl, inr}
+use Rattle.std.proofs.lemmas.Bool.{cases_eq, cases_Bool, false≢true}
+use Rattle.perf_base.specs.declared.numbers.CpuNo.{CpuNo}
+use Rattle.perf_base.specs.declared.numbers.EventNo.{EventNo}
+use Rattle.perf_base.specs.declared.numbers.Key.{Key}
+use Rattle.stage_spec.specs.Commands.{is_reached}
+use Rattle.stage_spec.specs.Hardware.{Hardware}
+use Rattle.world_spec.specs.Value.{World, Account, no_account, instance_at, account_at, times}
+use Rattle.world_spec.specs.StageOf.{stage_of}
+use Rattle.world_spec.specs.Kept.{IsKept}
+use Rattle.world_spec.specs.Changes.{reset_count}
+use Rattle.world_spec.specs.Rescheduled.{IsRescheduled}
+use Rattle.world_spec.proofs.Tables.{get-here, get-there, keys-written}
+use Rattle.event_commands.specs.declared.changing.Command.TheVariants as command
+use Rattle.event_commands.specs.Changing.{changed, keys_named}
+use Rattle.event_commands.specs.Commands.{from_zero, IsReset}
+use Rattle.event_commands.proofs.InTurn.{Updates, updates-in, updates-out, keys-stay}
+use Rattle.event_commands.proofs.Named.{named-reached, reached-named}
+
+-- accounts alone change
+reset-shape : (keys : List Key) (w : World) → changed command.Reset keys w ≡ record w { accounts = (changed command.Reset keys w).accounts }
+unfolding changed
+reset-shape [] w = refl
+reset-shape (k ∷ keys) w = reset-shape keys (reset_count k w)
+
+-- one account
+reset-updates : Updates Account command.Reset account_at from_zero
+reset-updates = record {
+  own = λ w k. ap (λ o. unwrap_or o no_account) (get-here w.accounts k.0 (from_zero (account_at w k)) k.0 refl);
+  other = λ w k q apart. ap (λ o. unwrap_or o no_account) (get-there w.accounts k.0 (from_zero (account_at w k)) q.0 apart);
+  twice = λ a. refl;
+}
+
+-- those of some keys, and no others
+all-reset : (hw : Hardware) (w : World) (events : List EventNo) → IsKept hw w → IsReset events w (changed command.Reset (keys_named w events) w)
+all-reset hw w events h =
+    let keys : List Key = keys_named w events in
+    record {
+      world = reset-shape keys w;
+      keys = keys-stay command.Reset (λ v k. contains_key v.accounts k.0) (λ v k there q. keys-written v.accounts k.0 (from_zero (account_at v k)) there q.0) keys w (λ q some. h.tables.accounts q ∙ (named-reached hw w events q h some).0);
+      accounts = λ k live. elim (cases_Bool (is_reached events (instance_at w k))) [
+        | inl reached ↦
+            updates-in command.Reset account_at from_zero reset-updates k keys w (reached-named hw w events k h live reached) ∙ sym (ap (λ b. if b then from_zero (account_at w k) else account_at w k) reached)
+        | inr off ↦ elim (cases_eq (times k keys) 0) [
+          | inl none ↦ updates-out command.Reset account_at from_zero reset-updates k keys w none ∙ sym (ap (λ b. if b then from_zero (account_at w k) else account_at w k) off)
+          | inr more ↦ absurd (false≢true (sym off ∙ (named-reached hw w events k h (omega (arith, more))).1))
+        ]
+      ];
+    }
+
+pub is-reset : (hw : Hardware) (w new : World) (events named : List EventNo) → IsKept hw w → events ≡ named → new ≡ changed command.Reset (keys_named w events) w → IsReset named w new
+is-reset hw w new events named h same is = subst (λ v. IsReset named w v) (sym (is ∙ ap (λ es. changed command.Reset (keys_named w es) w) same)) (all-reset hw w named h)
+
+pub reset-stage : (w new : World) (events : List EventNo) → IsReset events w new → stage_of new ≡ stage_of w
+reset-stage w new events h = ap stage_of h.world
+
+-- processors do not see accounts
+pub accounts-unseen : (hw : Hardware) (w : World) (accounts : FinMap nat_cmp Account) (cpu : CpuNo) → IsRescheduled hw w cpu → IsRescheduled hw (record w { accounts = accounts }) cpu
+accounts-unseen hw w accounts cpu h = record {
+  settled = h.settled;
+  judged = record { standings = h.judged.standings; served = record { events = h.judged.served.events; assigned = h.judged.served.assigned } };
+}
+
+pub reset-others : (hw : Hardware) (w new : World) (events : List EventNo) (cpu : CpuNo) → IsReset events w new → IsRescheduled hw w cpu → IsRescheduled hw new cpu
+reset-others hw w new events cpu is h = subst (λ v. IsRescheduled hw v cpu) (sym is.world) (accounts-unseen hw w new.accounts cpu h)

@@ -1,0 +1,4 @@
+pub mod Changing
+pub mod Closing
+pub mod Commands
+pub mod Reaching

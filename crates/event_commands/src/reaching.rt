@@ -1,0 +1,89 @@
+//! The processors that reach some families.
+
+ghost use Rattle.std.specs.Prelude.{◌≡◌, ◌<◌, ◌≤◌, [], ◌∷◌, All, IfSome, Some, true, length};
+ghost use Rattle.perf_base.specs.declared.numbers.CpuNo.{CpuNo as Cpu};
+ghost use Rattle.stage_spec.specs.Stage.{place_of};
+ghost use Rattle.stage_laws.specs.Narrowing.{has_context};
+ghost use Rattle.world_spec.specs.Kept.{in_option};
+ghost use Rattle.world_spec.specs.StageOf.{stage_of};
+ghost use Rattle.world_spec.specs.Value.{is_live, family_of};
+ghost use Rattle.perf_world.specs.Seen.{IsWorld};
+ghost use Rattle.event_commands.specs.Changing.{family_keys, keys_named};
+ghost use Rattle.event_commands.specs.Reaching.{AddsReaching, AreReaching};
+
+use perf_base::{Context, CpuNo, CpuSet, EventNo, Key};
+use perf_world::World;
+
+/// The processor that has a context: its own one, or the one that runs its task.
+fn cpu_with(world: &World, context: Context) -> Option<CpuNo>
+    requires kept { IsWorld world.now }
+    requires few { length world.now.quiet.running ≤ 8 }
+    requires place { place_of context < 72 }
+    ensures low { IfSome result (λ cpu. cpu.0 < 8) }
+    ensures has { IfSome result (λ cpu. has_context (stage_of world.now) cpu context ≡ true) }
+    ensures only { (cpu : Cpu) → has_context (stage_of world.now) cpu context ≡ true → result ≡ Some cpu }
+{
+    match context {
+        Context::Processor(cpu) => Some(cpu),
+        Context::Task(task) => world.cpu_of(task),
+    }
+}
+
+/// Adds the processor that reaches an instance, if there is one.
+fn add_cpu(world: &World, key: Key, cpus: &mut CpuSet)
+    requires live { is_live world.now key ≡ true }
+    requires kept { IsWorld world.now }
+    requires few { length world.now.quiet.running ≤ 8 }
+    ensures { AddsReaching world.now (key ∷ []) cpus.old cpus.new }
+{
+    if let Some(cpu) = cpu_with(world, world.context_of(key)) {
+        cpus.insert(cpu);
+    }
+}
+
+/// Adds the processor that reaches the original of a slot.
+fn add_original(world: &World, event: EventNo, cpus: &mut CpuSet)
+    requires few { length world.now.quiet.running ≤ 8 }
+    ensures { AddsReaching world.now (in_option (family_of world.now event).original) cpus.old cpus.new }
+{
+    if let Some(original) = world.key_of(event) {
+        add_cpu(world, original, cpus);
+    }
+}
+
+/// Adds the processors that reach the copies of an original.
+fn add_copies(world: &World, event: EventNo, cpus: &mut CpuSet)
+    requires slot { event.0 < 256 }
+    requires few { length world.now.quiet.running ≤ 8 }
+    ensures { AddsReaching world.now (family_of world.now event).copies cpus.old cpus.new }
+{
+    for copy in world.copies_of(event) {
+        add_cpu(world, *copy, cpus);
+    }
+}
+
+/// Adds the processors that reach the original of a slot or its copies.
+fn add_family(world: &World, event: EventNo, cpus: &mut CpuSet)
+    requires slot { event.0 < 256 }
+    requires few { length world.now.quiet.running ≤ 8 }
+    ensures { AddsReaching world.now (family_keys world.now event) cpus.old cpus.new }
+{
+    add_original(world, event, cpus);
+    add_copies(world, event, cpus);
+}
+
+/// The processors that reach the families of some slots. A machine has at most 8 processors.
+pub fn cpus_reaching(world: &World, slots: &[EventNo]) -> CpuSet
+    requires { All (λ event. event.0 < 256) slots.now }
+    ensures reaching { AreReaching world.now (keys_named world.now slots.now) result }
+    ensures few { length world.now.quiet.running ≤ 8 }
+    ensures kept { IsWorld world.now }
+{
+    // A reader tells what always holds of a world.
+    let _few = world.pmus().cpus();
+    let mut cpus = CpuSet::new();
+    for slot in slots {
+        add_family(world, *slot, &mut cpus);
+    }
+    cpus
+}
