@@ -1,0 +1,107 @@
+-- What a ring that an original is given makes of a world and its stage, and that processors stand as they stood.
+use Rattle.std.specs.Prelude.{◌≡◌, ◌==◌, ◌<◌, ◌≤◌, Bool, true, false, List, [], ◌∷◌, ◌++◌, length, Some, None, if◌then◌else◌}
+use Rattle.std.specs.List.{list_any}
+use Rattle.std.proofs.Common.{arith, refl, sym, ap, subst, ◌∙◌}
+use Rattle.perf_base.specs.declared.numbers.CpuNo.{CpuNo}
+use Rattle.perf_base.specs.declared.numbers.EventNo.{EventNo}
+use Rattle.perf_base.specs.declared.numbers.Key.{Key}
+use Rattle.perf_base.specs.declared.numbers.RingNo.{RingNo}
+use Rattle.stage_spec.specs.Hardware.{Hardware}
+use Rattle.stage_spec.specs.Mapping.{mapped_to, map_refusal, output_to, ring_of, set_ring}
+use Rattle.stage_spec.specs.Stage.{Stage}
+use Rattle.stage_laws.specs.Narrowing.{has_context}
+use Rattle.stage_laws.specs.OneByOne.{change_one}
+use Rattle.stage_laws.specs.Standings.{briefs}
+use Rattle.stage_laws.proofs.OneByOne.{ring-one}
+use Rattle.stage_laws.proofs.Untouched.{map-briefs, output-briefs}
+use Rattle.world_spec.specs.Value.{World, Entry, is_live, entry_at, instance_at, standing_at, seats_at, family_of}
+use Rattle.world_spec.specs.StageOf.{stage_of}
+use Rattle.world_spec.specs.Kept.{leads, post_at}
+use Rattle.world_spec.specs.Changes.{remember}
+use Rattle.world_spec.specs.Changes as change
+use Rattle.world_spec.specs.Laws.{remembered}
+use Rattle.world_spec.specs.Rescheduled.{IsRescheduled}
+use Rattle.world_spec.proofs.Listings.{is-numbered}
+use Rattle.world_spec.proofs.Standing.{left-rescheduled}
+use Rattle.world_spec.proofs.Tables.{entry-here, entry-there, live-written, posts-same}
+use Rattle.perf_world.specs.Seen.{IsWorld}
+use Rattle.ring_table.specs.Rings.{HasRing, with_ring}
+use Rattle.ring_table.proofs.Refusing.{not-busy, original-named}
+
+-- a ring that is new is remembered last
+remembers : (ring : RingNo) (mapped : List RingNo) → list_any (λ r. r.0 == ring.0) mapped ≡ false → remember ring mapped ≡ mapped ++ ring ∷ []
+remembers ring mapped new = ap {B = List RingNo} (λ b. if b then mapped else mapped ++ ring ∷ []) new
+
+has-ring : (w new : World) (e : EventNo) (ring : RingNo) (owner : Bool) (mapped : List RingNo) (k : Key) → is_live w k ≡ true → (family_of w e).original ≡ Some k
+    → new ≡ change.set_ring k ring owner w → (if owner then remember ring w.quiet.mapped else w.quiet.mapped) ≡ mapped → HasRing e (Some ring) owner mapped w new
+has-ring w new e ring owner mapped k live is changed those =
+    let x : Entry = with_ring (Some ring) owner (entry_at w k) in
+    subst (HasRing e (Some ring) owner mapped w) (sym changed) (record {
+      original = k;
+      named = is;
+      world = ap {B = World} (λ (m : List RingNo). record w { entries = (change.set_ring k ring owner w).entries; quiet = record w.quiet { mapped = m } }) those;
+      keys = live-written w k x live;
+      entry = entry-here w k x k refl;
+      others = entry-there w k x;
+    })
+
+pub map-rest : (w new : World) (e : EventNo) (ring : RingNo) (k : Key) → is_live w k ≡ true → (family_of w e).original ≡ Some k → map_refusal (stage_of w) e ring ≡ None
+    → new ≡ change.set_ring k ring true w → HasRing e (Some ring) true (w.quiet.mapped ++ ring ∷ []) w new
+map-rest w new e ring k live is free changed =
+    has-ring w new e ring true (w.quiet.mapped ++ ring ∷ []) k live is changed (remembers ring w.quiet.mapped (not-busy w e ring free))
+
+pub output-rest : (w new : World) (e f : EventNo) (ring : RingNo) (k : Key) → is_live w k ≡ true → (family_of w e).original ≡ Some k → ring_of (stage_of w) f ≡ Some ring
+    → new ≡ change.set_ring k ring false w → HasRing e (ring_of (stage_of w) f) false w.quiet.mapped w new
+output-rest w new e f ring k live is to changed =
+    subst (λ o. HasRing e o false w.quiet.mapped w new) (sym to) (has-ring w new e ring false w.quiet.mapped k live is changed refl)
+
+-- on the stage one instance is changed
+ring-stage : (w new : World) (e : EventNo) (ring : RingNo) (owner : Bool) (k : Key) → IsWorld w → (family_of w e).original ≡ Some k
+    → stage_of new ≡ remembered ring owner (change_one (λ i. record i { ring = Some ring; mapped = owner }) (instance_at w k).id (stage_of w))
+    → stage_of new ≡ remembered ring owner (set_ring e (Some ring) owner (stage_of w))
+ring-stage w new e ring owner k h is changed =
+    changed ∙ ap (remembered ring owner) (ring-one e (Some ring) owner (stage_of w) (instance_at w k) (is-numbered w.hardware w h) (original-named w e (Some k) h is))
+
+pub map-stage : (w new : World) (e : EventNo) (ring : RingNo) (k : Key) → IsWorld w → (family_of w e).original ≡ Some k → map_refusal (stage_of w) e ring ≡ None
+    → stage_of new ≡ remembered ring true (change_one (λ i. record i { ring = Some ring; mapped = true }) (instance_at w k).id (stage_of w))
+    → stage_of new ≡ mapped_to e ring (stage_of w)
+unfolding mapped_to
+map-stage w new e ring k h is free changed =
+    ring-stage w new e ring true k h is changed
+    ∙ ap {B = Stage} (λ (m : List RingNo). record (set_ring e (Some ring) true (stage_of w)) { mapped = m }) (remembers ring w.quiet.mapped (not-busy w e ring free))
+
+pub output-stage : (w new : World) (e f : EventNo) (ring : RingNo) (k : Key) → IsWorld w → (family_of w e).original ≡ Some k → ring_of (stage_of w) f ≡ Some ring
+    → stage_of new ≡ remembered ring false (change_one (λ i. record i { ring = Some ring; mapped = false }) (instance_at w k).id (stage_of w))
+    → stage_of new ≡ output_to e f (stage_of w)
+unfolding output_to
+output-stage w new e f ring k h is to changed = ring-stage w new e ring false k h is changed ∙ ap (λ o. set_ring e o false (stage_of w)) (sym to)
+
+-- processors see no ring
+stays : (w new : World) (ring : RingNo) (owner : Bool) (k : Key) (cpu : CpuNo) → is_live w k ≡ true → new ≡ change.set_ring k ring owner w → cpu.0 < 8
+    → briefs w.hardware (stage_of new) cpu ≡ briefs w.hardware (stage_of w) cpu → IsRescheduled w.hardware w cpu → IsRescheduled w.hardware new cpu
+stays w new ring owner k cpu live changed low same before =
+    let posts : post_at new ≡ post_at w = ap post_at changed ∙ posts-same (λ i. record i { ring = Some ring; mapped = owner }) (λ there x. refl) w k live in
+    left-rescheduled w.hardware w new cpu low (record {
+      briefs = same;
+      seats = ap (λ (x : World). seats_at x cpu) changed;
+      groups = λ q lead has. (
+        ap (λ at. leads at q) (sym posts) ∙ lead,
+        sym (λ t. has_context (stage_of (record w { quiet = (changed t).quiet })) cpu (posts t q).context) ∙ has,
+        ap (λ at. (at q).id) posts,
+        ap (λ (x : World). standing_at x q) changed,
+      );
+    }) before
+
+pub map-stays : (w new : World) (e : EventNo) (ring : RingNo) (k : Key) (cpu : CpuNo) → is_live w k ≡ true → new ≡ change.set_ring k ring true w
+    → stage_of new ≡ mapped_to e ring (stage_of w) → cpu.0 < 8 → IsRescheduled w.hardware w cpu → IsRescheduled w.hardware new cpu
+map-stays w new e ring k cpu live changed stage low before =
+    stays w new ring true k cpu live changed low (ap (λ s. briefs w.hardware s cpu) stage ∙ map-briefs w.hardware e ring (stage_of w) cpu) before
+
+pub output-stays : (w new : World) (e f : EventNo) (ring : RingNo) (k : Key) (cpu : CpuNo) → is_live w k ≡ true → new ≡ change.set_ring k ring false w
+    → stage_of new ≡ output_to e f (stage_of w) → cpu.0 < 8 → IsRescheduled w.hardware w cpu → IsRescheduled w.hardware new cpu
+output-stays w new e f ring k cpu live changed stage low before =
+    stays w new ring false k cpu live changed low (ap (λ s. briefs w.hardware s cpu) stage ∙ output-briefs w.hardware e f (stage_of w) cpu) before
+
+-- a machine has eight processors at most
+pub few-cpus : (pmus : Hardware) (w : World) (cpu : CpuNo) → IsWorld w → pmus ≡ w.hardware → length pmus.cpu_pmus ≤ 8 → cpu.0 < length w.quiet.running → cpu.0 < 8
+few-cpus pmus w cpu h same few low = omega (arith, low, h.shape.running, few, ap (λ (x : Hardware). length x.cpu_pmus) same)

@@ -1,0 +1,51 @@
+//! A ring for an event.
+
+ghost use Rattle.std.specs.Prelude.{◌≡◌, ◌<◌, ◌++◌, ◌∷◌, [], OnOk, OnErr, IfErr, None, Some, true, false, length};
+ghost use Rattle.perf_base.specs.declared.numbers.CpuNo.{CpuNo as Cpu};
+ghost use Rattle.stage_spec.specs.Mapping.{map_refusal, mapped_to, output_refusal, output_to, ring_of};
+ghost use Rattle.world_spec.specs.Rescheduled.{IsRescheduled};
+ghost use Rattle.world_spec.specs.StageOf.{stage_of};
+ghost use Rattle.ring_table.specs.Rings.{HasRing};
+
+use crate::refusals::{check_map, check_output};
+use perf_base::{EventNo, Reason, RingNo};
+use perf_world::World;
+
+/// Gives an event a ring by a mapping of its own, after mmap. Its copies write there too. All else stays, and so do processors. It fails
+/// with `NoEvent` where the event is not open, with `Inherit` where it is inherited and counts on any processor, with `HasRing` where it has a
+/// ring, and with `Busy` where the ring was mapped before; the first that holds counts, and then nothing changes.
+pub fn map(world: &mut World, event: EventNo, ring: RingNo) -> Result<(), Reason>
+    ensures refused { IfErr result (λ reason. map_refusal (stage_of world.old) event ring ≡ Some reason) }
+    ensures accepted { OnOk result (map_refusal (stage_of world.old) event ring ≡ None) }
+    ensures same { OnErr result (world.new ≡ world.old) }
+    ensures stage { OnOk result (stage_of world.new ≡ mapped_to event ring (stage_of world.old)) }
+    ensures rest { OnOk result (HasRing event (Some ring) true (world.old.quiet.mapped ++ ring ∷ []) world.old world.new) }
+    ensures rescheduled { (cpu : Cpu) → cpu.0 < length world.old.quiet.running
+        → IsRescheduled world.old.hardware world.old cpu → IsRescheduled world.old.hardware world.new cpu }
+{
+    // A reader tells what always holds of a world.
+    let _cpus = world.pmus().cpus();
+    let key = check_map(world, event, ring)?;
+    world.set_ring(key, ring, true);
+    Ok(())
+}
+
+/// Redirects the output of an event to the ring of another one, after the ioctl SET_OUTPUT. An earlier output is replaced. All else stays,
+/// and so do processors. It fails with `NoEvent` where one of the two is not open, with `SameEvent` where they are one, with `OtherCpu` where they
+/// name different processors, with `OtherContext` where they count different tasks on any processor, with `HasRing` where the event has a
+/// mapping of its own, and with `NoRing` where the other one has no ring; the first that holds counts, and then nothing changes.
+pub fn output(world: &mut World, event: EventNo, target: EventNo) -> Result<(), Reason>
+    ensures refused { IfErr result (λ reason. output_refusal (stage_of world.old) event target ≡ Some reason) }
+    ensures accepted { OnOk result (output_refusal (stage_of world.old) event target ≡ None) }
+    ensures same { OnErr result (world.new ≡ world.old) }
+    ensures stage { OnOk result (stage_of world.new ≡ output_to event target (stage_of world.old)) }
+    ensures rest { OnOk result (HasRing event (ring_of (stage_of world.old) target) false world.old.quiet.mapped world.old world.new) }
+    ensures rescheduled { (cpu : Cpu) → cpu.0 < length world.old.quiet.running
+        → IsRescheduled world.old.hardware world.old cpu → IsRescheduled world.old.hardware world.new cpu }
+{
+    // A reader tells what always holds of a world.
+    let _cpus = world.pmus().cpus();
+    let (key, ring) = check_output(world, event, target)?;
+    world.set_ring(key, ring, false);
+    Ok(())
+}
