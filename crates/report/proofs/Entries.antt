@@ -1,0 +1,41 @@
+-- Lists of a report that are written entry by entry, and the parts of its text.
+use Rattle.std.specs.Prelude.{◌≡◌, ℕ, List, [], ◌∷◌, ◌++◌, map, flat_map, codes, decimal}
+use Rattle.std.proofs.Common.{refl, sym, ap, append_assoc}
+use Rattle.perf_base.specs.declared.acts.Act.{Act}
+use Rattle.perf_base.specs.declared.acts.Actor.{Actor}
+use Rattle.perf_base.specs.declared.numbers.EventNo.{EventNo}
+use Rattle.perf_base.specs.declared.reply.Reply.{Reply}
+use Rattle.perf_base.specs.Scripts.{Scripted}
+use Rattle.report_spec.specs.Report.{answer_line, answer_lines, answer_text, numbers_text, report, slots_text}
+use Rattle.script_spec.specs.Acts.{acts_text}
+use Rattle.script_print.proofs.Loops.{IsText}
+use Rattle.stage_spec.specs.Replies.{Answered}
+use Rattle.report.specs.Said.{answered, seat_text}
+
+pub numbers_each : IsText numbers_text (λ n. 32 ∷ decimal n)
+numbers_each = record { nil = refl; cons = λ n numbers. refl }
+
+pub slots_each : IsText slots_text (λ e. 32 ∷ decimal e.0)
+slots_each = record { nil = refl; cons = λ e slots. refl }
+
+-- a seat is a slot and then a counter
+pub seat-parts : (s : EventNo × ℕ) → (32 ∷ decimal s.0.0) ++ (61 ∷ decimal s.1) ≡ seat_text s
+seat-parts s = ap (λ t. 32 ∷ t) (sym (append_assoc (decimal s.0.0) (61 ∷ []) (decimal s.1)))
+
+pub seats_each : IsText (flat_map seat_text) seat_text
+seats_each = record { nil = refl; cons = λ s seats. refl }
+
+abbrev pub kept_line : Scripted → Actor × ℕ × Reply → List ℕ
+kept_line s a = answer_line s a.0 a.1 (answer_text a.2)
+
+abbrev pub kept_lines : Scripted → List (Actor × ℕ × Reply) → List ℕ
+kept_lines s answers = answer_lines s (map answered answers)
+
+pub answers_each : (s : Scripted) → IsText (kept_lines s) (kept_line s)
+answers_each s = record { nil = refl; cons = λ a answers. refl }
+
+-- the whole, in its parts
+pub report-parts : (s : Scripted) (order : List Act) (answers : List Answered)
+    → (codes "order" ++ (acts_text order ++ 10 ∷ [])) ++ (answer_lines s answers ++ codes "end\n") ≡ report s order answers []
+unfolding report
+report-parts s order answers = simp append_assoc

@@ -1,0 +1,10 @@
+use Rattle.std.proofs.Common.{◌≡◌, Ok, take}
+use Rattle.perf_io.specs.Wrote.{Wrote}
+use Rattle.report_spec.specs.Report.{slots_text}
+use Rattle.report.proofs.said.put_slots.Given as goal
+
+abbrev pub invariant-loop-slot : goal.invariant-loop-slot
+invariant-loop-slot g l = record {
+  wrote : Wrote g.K.Sink.held g.K.Sink.faults g.K.Sink.last_fault l.fn.sink l.sink (Ok tt) (slots_text (take l.slot-index l.slots));
+  flushed : g.K.Sink.flushed l.sink ≡ g.K.Sink.flushed l.fn.sink;
+}

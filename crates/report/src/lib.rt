@@ -1,0 +1,13 @@
+//! The report of a run as text, but for its rings: the order, a line for each answer but a plain Ok, and the end. Contracts see the text of the definitions
+//! and what a sink holds. It takes no memory, and serves the programs that run a script.
+#![tactic(auto)]
+
+mod answers;
+mod line_words;
+mod reports;
+mod said;
+#[cfg(test)]
+mod tests;
+
+pub use answers::{write_answer, write_answers};
+pub use reports::{write_order, write_report};

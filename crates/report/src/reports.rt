@@ -1,0 +1,60 @@
+//! Writing a report.
+
+ghost use Rattle.std.specs.Prelude.{◌≡◌, [], ◌∷◌, ◌++◌, codes, map};
+ghost use Rattle.perf_io.specs.Wrote.{Wrote};
+ghost use Rattle.report_spec.specs.Report.{answer_lines, report};
+ghost use Rattle.script_spec.specs.Acts.{act_text, acts_text};
+ghost use Rattle.report.specs.Said.{answered};
+
+use crate::answers::write_answers;
+use order_text::write_act;
+use perf_base::{Act, Actor, Script, StoredReply};
+use perf_io::{Failed, Sink, write_all};
+
+/// Writes an act with a space before it.
+#[tactic(auto, using(perf_io::proofs::Wrote::writes))]
+fn put_act<K: Sink>(sink: &mut K, act: &Act) -> Result<(), Failed>
+    ensures wrote { Wrote K.held K.faults K.last_fault sink.old sink.new result (32 ∷ act_text act.now) }
+    ensures flushed { K.flushed sink.new ≡ K.flushed sink.old }
+{
+    write_all(sink, b" ")?;
+    write_act(act, sink)
+}
+
+/// Writes acts with a space before each.
+fn put_acts<K: Sink>(sink: &mut K, acts: &[Act]) -> Result<(), Failed>
+    ensures wrote { Wrote K.held K.faults K.last_fault sink.old sink.new result (acts_text acts.now) }
+    ensures flushed { K.flushed sink.new ≡ K.flushed sink.old }
+{
+    for act in acts {
+        put_act(sink, act)?;
+    }
+    Ok(())
+}
+
+/// Writes the line of an order. Where a call of the sink fails, some front of the line stays added.
+#[tactic(auto, using(perf_io::proofs::Wrote::writes))]
+pub fn write_order<K: Sink>(sink: &mut K, order: &[Act]) -> Result<(), Failed>
+    ensures wrote { Wrote K.held K.faults K.last_fault sink.old sink.new result (codes "order" ++ (acts_text order.now ++ 10 ∷ [])) }
+    ensures flushed { K.flushed sink.new ≡ K.flushed sink.old }
+{
+    write_all(sink, b"order")?;
+    put_acts(sink, order)?;
+    write_all(sink, b"\n")
+}
+
+/// Writes the report of a run of a script, but for its rings: the order in which its lines were done, the lines of the answers, each kept with the actor and
+/// the number of the line that it answers, and the end. Where a call of the sink fails, some front of the report stays added.
+pub fn write_report<K: Sink>(
+    sink: &mut K,
+    script: &Script,
+    order: &[Act],
+    answers: &[(Actor, u32, StoredReply)],
+) -> Result<(), Failed>
+    ensures wrote { Wrote K.held K.faults K.last_fault sink.old sink.new result (report script.now order.now (map answered answers.now) []) }
+    ensures flushed { K.flushed sink.new ≡ K.flushed sink.old }
+{
+    write_order(sink, order)?;
+    write_answers(sink, script, answers)?;
+    write_all(sink, b"end\n")
+}
