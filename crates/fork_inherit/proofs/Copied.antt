@@ -1,10 +1,11 @@
 -- The copies of some instances, one after the other.
-use Rattle.std.specs.Prelude.{◌≡◌, ℕ, ◌+◌, true, false, List, [], ◌∷◌, ◌++◌, length, map, Option, Some, None, slice_index_or, slice_set}
+use Rattle.std.specs.Prelude.{◌≡◌, ℕ, ◌+◌, ◌<◌, true, false, List, [], ◌∷◌, ◌++◌, length, map, Option, Some, None, slice_index_or, slice_set}
 use Rattle.std.specs.Option.{unwrap_or}
 use Rattle.std.proofs.Common.{arith, refl, sym, ap, subst, ◌∙◌, inl, inr}
 use Rattle.std.proofs.lemmas.Bool.{cases_eq, false≢true}
-use Rattle.std.proofs.lemmas.List.{length-append, map-append, get_or-set_other}
+use Rattle.std.proofs.lemmas.List.{length-append, map-append, get_or-set_same, get_or-set_other}
 use Rattle.std.proofs.lemmas.List.Sums.{fold-append, sum_by-set}
+use Rattle.perf_base.specs.declared.numbers.EventNo.{EventNo}
 use Rattle.perf_base.specs.declared.numbers.Key.{Key}
 use Rattle.perf_base.specs.declared.numbers.TaskNo.{TaskNo}
 use Rattle.perf_base.specs.declared.standing.Context.TheVariants as context
@@ -66,12 +67,24 @@ copied-none child v h = record {
   standings = λ k live. refl;
   fresh = λ k dead live. absurd (false≢true (sym dead ∙ live));
   contexts = λ p apart. refl;
+  originals = λ e. refl;
   folded = refl;
   lost = refl;
   hardware = refl;
   quiet = (let n : v.quiet.next_id ≡ v.quiet.next_id + 0 = omega arith in λ i. record v.quiet { next_id = n i });
   few = omega arith;
 }
+
+-- a copy that joins a family leaves the originals of all
+original-there : (w : World) (k : Key) (event e : EventNo) → event.0 < length w.families
+    → (slice_index_or (slice_set w.families event.0 (in_family true k (family_of w event))) e.0 no_family).original ≡ (family_of w e).original
+original-there w k event e low = elim (cases_eq e.0 event.0) [
+  | inl same ↦
+      ap (λ n. (slice_index_or (slice_set w.families event.0 (in_family true k (family_of w event))) n no_family).original) same
+      ∙ (ap (λ (f : Family). f.original) (get_or-set_same w.families event.0 (in_family true k (family_of w event)) no_family low)
+      ∙ ap (λ n. (slice_index_or w.families n no_family).original) (sym same))
+  | inr apart ↦ ap (λ (f : Family). f.original) (get_or-set_other w.families event.0 e.0 (in_family true k (family_of w event)) no_family apart)
+]
 
 -- one more
 pub next-copied : (child : TaskNo) (v w : World) (done : List Key) (q k : Key) (leader : Option Key) → AreCopied child v w done → is_live v q ≡ true → is_live w k ≡ false
@@ -110,6 +123,7 @@ next-copied child v w done q k leader f live_q dead may follows outside =
               copy = ap (λ x. x.instance.copy) here ∙ ap (λ x. x.copy) c.instance;
               context = ap (λ x. x.context) here ∙ c.context;
               account = c.account ∙ (λ x. record { sums = no_sums; left = sym (ap (λ y. y.instance.attr.period) here ∙ ap (λ y. y.attr.period) c.instance) x });
+              later = omega (arith, ap (λ x. x.instance.id) here, ap (λ x. x.id) c.instance, ap (λ x. x.next_id) f.quiet);
               parent = (q, omega (arith, times-push q done q, once-true (is_key q q) (is_key-same q q refl)), ap (λ x. x.instance.event) here ∙ ap (λ x. x.event) c.instance);
             })
         | inr off ↦
@@ -120,10 +134,12 @@ next-copied child v w done q k leader f live_q dead may follows outside =
               copy = ap (λ y. y.copy) same ∙ x.copy;
               context = ap (λ y. y.context) (there j off) ∙ (c.others.contexts j off ∙ x.context);
               account = c.others.accounts j off ∙ (x.account ∙ (λ y. record { sums = no_sums; left = (sym same y).attr.period }));
+              later = omega (arith, x.later, ap (λ y. y.id) same);
               parent = (x.parent.0, omega (arith, x.parent.1, count-append (is_key x.parent.0) done (q ∷ [])), ap (λ y. y.event) same ∙ x.parent.2);
             }
       ];
       contexts = λ p off. b.contexts p off ∙ f.contexts p off;
+      originals = λ e. ap (λ (fs : List Family). (slice_index_or fs e.0 no_family).original) b.families ∙ (original-there w k n.event e (omega (arith, may.slot, h.tables.families)) ∙ f.originals e);
       folded = c.folded ∙ f.folded;
       lost = c.others.lost ∙ f.lost;
       hardware = b.hardware ∙ f.hardware;

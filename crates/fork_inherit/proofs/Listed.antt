@@ -63,6 +63,7 @@ copied-then child v w t done more h f g lives =
               copy = ap (λ e. e.instance.copy) (g.entries k there) ∙ x.copy;
               context = ap (λ e. e.context) (g.entries k there) ∙ x.context;
               account = g.accounts k there ∙ (x.account ∙ (λ i. record { sums = no_sums; left = (sym (g.entries k there) i).instance.attr.period }));
+              later = omega (arith, x.later, ap (λ e. e.instance.id) (g.entries k there));
               parent = (x.parent.0, omega (arith, x.parent.1, count-append (is_key x.parent.0) done more), ap (λ e. e.instance.event) (g.entries k there) ∙ x.parent.2);
             }
         | inr new ↦
@@ -71,6 +72,7 @@ copied-then child v w t done more h f g lives =
               copy = x.copy;
               context = x.context;
               account = x.account;
+              later = omega (arith, x.later, ap (λ q. q.next_id) f.quiet);
               parent = (
                 x.parent.0,
                 omega (arith, x.parent.1, count-append (is_key x.parent.0) done more),
@@ -79,6 +81,7 @@ copied-then child v w t done more h f g lives =
             }
       ];
       contexts = λ p off. g.contexts p off ∙ f.contexts p off;
+      originals = λ e. g.originals e ∙ f.originals e;
       folded = g.folded ∙ f.folded;
       lost = g.lost ∙ f.lost;
       hardware = g.hardware ∙ f.hardware;

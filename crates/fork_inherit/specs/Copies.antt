@@ -1,6 +1,7 @@
 -- The copies that a fork makes of the groups of a world. After inherit_group and inherit_event of kernel/events/core.c.
 use Rattle.std.specs.Prelude.{◌≡◌, ℕ, ◌+◌, ◌^◌, ◌<◌, ◌≤◌, Bool, true, false, List, [], length, map, flat_map, slice_index_or, if◌then◌else◌}
 use Rattle.std.specs.List.{sum_by}
+use Rattle.perf_base.specs.declared.numbers.EventNo.{EventNo}
 use Rattle.perf_base.specs.declared.numbers.Key.{Key}
 use Rattle.perf_base.specs.declared.numbers.TaskNo.{TaskNo}
 use Rattle.perf_base.specs.declared.standing.Context.TheVariants as context
@@ -11,7 +12,7 @@ use Rattle.stage_laws.specs.OneByOne.{Parent, add_copies}
 use Rattle.world_spec.specs.Kept.{post_at, leads, is_of_task, copies_in, IsKept}
 use Rattle.world_spec.specs.Copying.{leaders_in}
 use Rattle.world_spec.specs.StageOf.{stage_of}
-use Rattle.world_spec.specs.Value.{World, no_leaders, leaders_of, is_live, entry_at, instance_at, account_at, standing_at, is_key, times}
+use Rattle.world_spec.specs.Value.{World, no_leaders, leaders_of, is_live, entry_at, instance_at, account_at, standing_at, family_of, is_key, times}
 
 -- how many copies a leader's group gets: one of each member where it is inherited; and so those of some leaders
 abbrev pub copies_of : World → Key → ℕ
@@ -24,11 +25,13 @@ copies_of_all w keys = sum_by (copies_of w) keys
 abbrev pub parent_of : World → Key → Parent
 parent_of w k = record { instance = instance_at w k; leads = is_key k (entry_at w k).leader; pinned = (entry_at w (entry_at w k).leader).pinned }
 
--- A key that is new names a copy in the child's context, of the event of one of some instances, with nothing counted and a whole period left.
+-- A key that is new names a copy in the child's context, of the event of one of some instances, with an id that was not drawn before, nothing counted and a whole
+-- period left.
 pub record IsNewCopy (child : TaskNo) (w after : World) (parents : List Key) (k : Key) : Type 0 where
   pub copy : (instance_at after k).copy ≡ true
   pub context : (entry_at after k).context ≡ context.Task child
   pub account : account_at after k ≡ record { sums = no_sums; left = (instance_at after k).attr.period }
+  pub later : w.quiet.next_id ≤ (instance_at after k).id
   pub parent : (q : Key) × (1 ≤ times q parents) × ((instance_at after k).event ≡ (instance_at w q).event)
 
 -- Copies of some instances were added to the child's groups, one after the other. Each key that was there has what it had.
@@ -41,6 +44,7 @@ pub record AreCopied (child : TaskNo) (w after : World) (parents : List Key) : T
   pub standings : (k : Key) → is_live w k ≡ true → standing_at after k ≡ standing_at w k
   pub fresh : (k : Key) → is_live w k ≡ false → is_live after k ≡ true → IsNewCopy child w after parents k
   pub contexts : (place : ℕ) → (place ≡ place_of (context.Task child) → ⊥) → slice_index_or after.contexts place no_leaders ≡ slice_index_or w.contexts place no_leaders
+  pub originals : (e : EventNo) → (family_of after e).original ≡ (family_of w e).original
   pub folded : after.folded ≡ w.folded
   pub lost : after.lost ≡ w.lost
   pub hardware : after.hardware ≡ w.hardware
@@ -79,8 +83,8 @@ pub record MayCopyList (child parent : TaskNo) (pinned : Bool) (w : World) : Typ
   pub ids : w.quiet.next_id + length (inherited_keys w (leaders_from w parent pinned)) < 2 ^ 63
   pub few : copies_in w.families + length (inherited_keys w (leaders_from w parent pinned)) ≤ 4096
 
--- What a fork leaves: each key that was there has what it had, and each new one names a copy in the child's context that has counted nothing and has a whole
--- period left. Folded sums, lost counts, clocks, seats, slots and rings are as before.
+-- What a fork leaves: each key that was there has what it had, and each new one names a copy in the child's context with an id that was not drawn before, which
+-- has counted nothing and has a whole period left. Each event has the original that it had. Folded sums, lost counts, clocks, seats, slots and rings are as before.
 pub record HasForked (child : TaskNo) (w after : World) : Type 0 where
   pub live : (k : Key) → is_live w k ≡ true → is_live after k ≡ true
   pub entries : (k : Key) → is_live w k ≡ true → entry_at after k ≡ entry_at w k
@@ -89,6 +93,9 @@ pub record HasForked (child : TaskNo) (w after : World) : Type 0 where
   pub copies : (k : Key) → is_live w k ≡ false → is_live after k ≡ true → (instance_at after k).copy ≡ true
   pub places : (k : Key) → is_live w k ≡ false → is_live after k ≡ true → (entry_at after k).context ≡ context.Task child
   pub fresh : (k : Key) → is_live w k ≡ false → is_live after k ≡ true → account_at after k ≡ record { sums = no_sums; left = (instance_at after k).attr.period }
+  pub ids : (k : Key) → is_live w k ≡ false → is_live after k ≡ true → w.quiet.next_id ≤ (instance_at after k).id
+  pub drawn : w.quiet.next_id ≤ after.quiet.next_id
+  pub originals : (e : EventNo) → (family_of after e).original ≡ (family_of w e).original
   pub folded : after.folded ≡ w.folded
   pub lost : after.lost ≡ w.lost
   pub hardware : after.hardware ≡ w.hardware
