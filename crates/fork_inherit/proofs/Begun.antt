@@ -200,3 +200,19 @@ still-leads child v w leader first done may b =
 pub same-members : (child : TaskNo) (v w : World) (leader first : Key) (done : List Key) → MayCopy child v leader → IsBegun child v w leader first done → (entry_at w leader).members ≡ (entry_at v leader).members
 same-members child v w leader first done may b =
     ap (λ e. e.members) (b.copied.entries leader (leads-parts (is_live v leader) (is_key leader (entry_at v leader).leader) may.leads).0)
+
+-- a turn of the loop over the siblings
+pub record IsHere (child : TaskNo) (v w : World) (leader first q : Key) (m : ℕ) (keys : List Key) : Type 0 where
+  pub low : m < length keys
+  pub at : IsAt child v w leader first q m
+
+pub ends-are : (child : TaskNo) (v u : World) (leader first : Key) (ends : List Key) → IsKept v.hardware v → MayCopy child v leader → is_live v first ≡ false → u ≡ copy_comes first child (instance_at v leader) None v
+    → ends ≡ (entry_at u leader).members → ends ≡ (entry_at v leader).members
+ends-are child v u leader first ends h may dead is ended = ended ∙ same-members child v u leader first (take 1 (entry_at v leader).members) may (leader-at child v u leader first h may dead is)
+
+pub sibling-here : (child : TaskNo) (v w : World) (leader first : Key) (m : ℕ) (ends keys : List Key) (d : Key) → IsKept v.hardware v → MayCopy child v leader → ends ≡ (entry_at v leader).members → m < length ends
+    → IsBegun child v w leader first (take m (entry_at v leader).members) → keys ≡ (entry_at w leader).members → IsHere child v w leader first (slice_index_or keys m d) m keys
+sibling-here child v w leader first m ends keys d h may ended below b is =
+    let same : keys ≡ (entry_at v leader).members = is ∙ same-members child v w leader first (take m (entry_at v leader).members) may b in
+    let low : m < length keys = omega (arith, below, ap length ended, ap length same) in
+    record { low = low; at = sibling-at child v w leader first m keys d h may b is low }

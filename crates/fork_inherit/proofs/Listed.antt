@@ -21,7 +21,7 @@ use Rattle.stage_laws.proofs.Others.{place-cases}
 use Rattle.world_spec.specs.Copying.{leaders_in}
 use Rattle.world_spec.specs.Kept.{post_at, leads, leads_in, is_of_task, once_if, IsKept}
 use Rattle.world_spec.specs.StageOf.{stage_of}
-use Rattle.world_spec.specs.Value.{World, Leaders, is_live, entry_at, instance_at, is_key, times}
+use Rattle.world_spec.specs.Value.{World, Leaders, leaders_of, is_live, entry_at, instance_at, is_key, times}
 use Rattle.world_spec.proofs.GoneLeaderStage.{map-within}
 use Rattle.world_spec.proofs.Keys.{key-is, is_key-same, is_key-true, times-cons, once-true, once-false}
 use Rattle.world_spec.proofs.Moving.{leads-parts}
@@ -262,3 +262,18 @@ list-at child parent pinned v w place keys d h may f is low =
 pub as-picked : (pinned : Bool) (l : Leaders) → picked pinned l ≡ leaders_in pinned l
 as-picked true l = refl
 as-picked false l = refl
+
+-- a turn of the loop over the leaders
+pub record IsListHere (child parent : TaskNo) (pinned : Bool) (v w : World) (place : ℕ) (q : Key) (keys : List Key) : Type 0 where
+  pub low : place < length keys
+  pub at : IsListAt child parent pinned v w place q
+
+pub list-here : (child parent : TaskNo) (pinned : Bool) (v w : World) (place : ℕ) (ends keys : List Key) (d : Key) → IsKept v.hardware v → MayCopyList child parent pinned v
+    → AreCopied child v w (inherited_keys v (take place (leaders_from v parent pinned))) → ends ≡ picked pinned (leaders_of v (context.Task parent)) → place < length ends
+    → keys ≡ picked pinned (leaders_of w (context.Task parent)) → IsListHere child parent pinned v w place (slice_index_or keys place d) keys
+list-here child parent pinned v w place ends keys d h may f ended below is =
+    let end : ends ≡ leaders_from v parent pinned = ended ∙ as-picked pinned (leaders_of v (context.Task parent)) in
+    let same : keys ≡ leaders_from v parent pinned =
+    is ∙ (as-picked pinned (leaders_of w (context.Task parent)) ∙ same-list child parent pinned v w (inherited_keys v (take place (leaders_from v parent pinned))) may.numbers.2 f) in
+    let low : place < length keys = omega (arith, below, ap length end, ap length same) in
+    record { low = low; at = list-at child parent pinned v w place keys d h may f same low }

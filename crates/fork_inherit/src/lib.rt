@@ -6,5 +6,4 @@ mod checks;
 mod copying;
 mod forks;
 
-pub use checks::check_fork;
 pub use forks::fork;

@@ -1,11 +1,11 @@
-use Rattle.std.proofs.Common.{arith, ◌≡◌, ◌∙◌, ◌<◌, List, length, ap, subst, take}
+use Rattle.std.proofs.Common.{arith, ◌≡◌, ◌∙◌, List, length, ap, subst}
 use Rattle.std.proofs.lemmas.List.{take_all}
 use Rattle.perf_base.specs.declared.numbers.Key.{Key}
 use Rattle.perf_base.specs.declared.standing.Context.TheVariants as context
 use Rattle.world_spec.specs.Value.{leaders_of}
 use Rattle.fork_inherit.specs.Copies.{AreCopied, inherited_keys, leaders_from}
 use Rattle.fork_inherit.proofs.Copied.{copied-none}
-use Rattle.fork_inherit.proofs.Listed.{same-list, list-at, as-picked}
+use Rattle.fork_inherit.proofs.Listed.{list-here, as-picked}
 use Rattle.fork_inherit.proofs.copying.inherit_list.Goals as goal
 
 pub loop-place-init : goal.loop-place-init
@@ -13,47 +13,23 @@ loop-place-init c = copied-none c.args.child c.args.world.now c.pmus-pmus.ensure
 
 pub bounds-list-place : goal.bounds-list-place
 bounds-list-place c =
-    let end : c.list-place-end.result.now ≡ leaders_from c.args.world.now c.args.parent c.args.pinned =
-    c.list-place-end.ensures.list ∙ as-picked c.args.pinned (leaders_of c.args.world.now (context.Task c.args.parent)) in
-    let same : c.list.result.now ≡ leaders_from c.args.world.now c.args.parent c.args.pinned =
-    c.list.ensures.list
-    ∙ (as-picked c.args.pinned (leaders_of c.loop-place.world (context.Task c.args.parent))
-    ∙ same-list c.args.child c.args.parent c.args.pinned c.args.world.now c.loop-place.world (inherited_keys c.args.world.now (take c.loop-place.place (leaders_from c.args.world.now c.args.parent c.args.pinned))) c.requires.may.numbers.2 c.loop-place.invariant) in
-    let low : c.loop-place.place < length c.list.result.now = omega (arith, c.loop-place-test.true, ap length end, ap length same) in
-    low
+    (list-here c.args.child c.args.parent c.args.pinned c.args.world.now c.loop-place.world c.loop-place.place c.list-place-end.result.now c.list.result.now (record { 0 = 0 })
+    c.pmus-pmus.ensures.kept c.requires.may c.loop-place.invariant c.list-place-end.ensures.list c.loop-place-test.true c.list.ensures.list).low
 
 pub inherit_if_wanted-requires-clause-live : goal.inherit_if_wanted-requires-clause-live
 inherit_if_wanted-requires-clause-live c =
-    let end : c.list-place-end.result.now ≡ leaders_from c.args.world.now c.args.parent c.args.pinned =
-    c.list-place-end.ensures.list ∙ as-picked c.args.pinned (leaders_of c.args.world.now (context.Task c.args.parent)) in
-    let same : c.list.result.now ≡ leaders_from c.args.world.now c.args.parent c.args.pinned =
-    c.list.ensures.list
-    ∙ (as-picked c.args.pinned (leaders_of c.loop-place.world (context.Task c.args.parent))
-    ∙ same-list c.args.child c.args.parent c.args.pinned c.args.world.now c.loop-place.world (inherited_keys c.args.world.now (take c.loop-place.place (leaders_from c.args.world.now c.args.parent c.args.pinned))) c.requires.may.numbers.2 c.loop-place.invariant) in
-    let low : c.loop-place.place < length c.list.result.now = omega (arith, c.loop-place-test.true, ap length end, ap length same) in
-    (list-at c.args.child c.args.parent c.args.pinned c.args.world.now c.loop-place.world c.loop-place.place c.list.result.now (record { 0 = 0 }) c.pmus-pmus.ensures.kept c.requires.may c.loop-place.invariant same low).live
+    (list-here c.args.child c.args.parent c.args.pinned c.args.world.now c.loop-place.world c.loop-place.place c.list-place-end.result.now c.list.result.now (record { 0 = 0 })
+    c.pmus-pmus.ensures.kept c.requires.may c.loop-place.invariant c.list-place-end.ensures.list c.loop-place-test.true c.list.ensures.list).at.live
 
 pub inherit_if_wanted-requires-clause-may : goal.inherit_if_wanted-requires-clause-may
 inherit_if_wanted-requires-clause-may c =
-    let end : c.list-place-end.result.now ≡ leaders_from c.args.world.now c.args.parent c.args.pinned =
-    c.list-place-end.ensures.list ∙ as-picked c.args.pinned (leaders_of c.args.world.now (context.Task c.args.parent)) in
-    let same : c.list.result.now ≡ leaders_from c.args.world.now c.args.parent c.args.pinned =
-    c.list.ensures.list
-    ∙ (as-picked c.args.pinned (leaders_of c.loop-place.world (context.Task c.args.parent))
-    ∙ same-list c.args.child c.args.parent c.args.pinned c.args.world.now c.loop-place.world (inherited_keys c.args.world.now (take c.loop-place.place (leaders_from c.args.world.now c.args.parent c.args.pinned))) c.requires.may.numbers.2 c.loop-place.invariant) in
-    let low : c.loop-place.place < length c.list.result.now = omega (arith, c.loop-place-test.true, ap length end, ap length same) in
-    (list-at c.args.child c.args.parent c.args.pinned c.args.world.now c.loop-place.world c.loop-place.place c.list.result.now (record { 0 = 0 }) c.pmus-pmus.ensures.kept c.requires.may c.loop-place.invariant same low).may
+    (list-here c.args.child c.args.parent c.args.pinned c.args.world.now c.loop-place.world c.loop-place.place c.list-place-end.result.now c.list.result.now (record { 0 = 0 })
+    c.pmus-pmus.ensures.kept c.requires.may c.loop-place.invariant c.list-place-end.ensures.list c.loop-place-test.true c.list.ensures.list).at.may
 
 pub loop-place-preserved : goal.loop-place-preserved
 loop-place-preserved c =
-    let end : c.list-place-end.result.now ≡ leaders_from c.args.world.now c.args.parent c.args.pinned =
-    c.list-place-end.ensures.list ∙ as-picked c.args.pinned (leaders_of c.args.world.now (context.Task c.args.parent)) in
-    let same : c.list.result.now ≡ leaders_from c.args.world.now c.args.parent c.args.pinned =
-    c.list.ensures.list
-    ∙ (as-picked c.args.pinned (leaders_of c.loop-place.world (context.Task c.args.parent))
-    ∙ same-list c.args.child c.args.parent c.args.pinned c.args.world.now c.loop-place.world (inherited_keys c.args.world.now (take c.loop-place.place (leaders_from c.args.world.now c.args.parent c.args.pinned))) c.requires.may.numbers.2 c.loop-place.invariant) in
-    let low : c.loop-place.place < length c.list.result.now = omega (arith, c.loop-place-test.true, ap length end, ap length same) in
-    (list-at c.args.child c.args.parent c.args.pinned c.args.world.now c.loop-place.world c.loop-place.place c.list.result.now (record { 0 = 0 }) c.pmus-pmus.ensures.kept c.requires.may c.loop-place.invariant same low).next c.inherit_if_wanted.new.world c.inherit_if_wanted.ensures.copied
+    (list-here c.args.child c.args.parent c.args.pinned c.args.world.now c.loop-place.world c.loop-place.place c.list-place-end.result.now c.list.result.now (record { 0 = 0 })
+    c.pmus-pmus.ensures.kept c.requires.may c.loop-place.invariant c.list-place-end.ensures.list c.loop-place-test.true c.list.ensures.list).at.next c.inherit_if_wanted.new.world c.inherit_if_wanted.ensures.copied
 
 pub returns : goal.returns
 returns c =

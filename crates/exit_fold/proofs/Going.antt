@@ -1,0 +1,118 @@
+-- What a copy that is folded leaves: keys in other contexts, its family, and its folded sums.
+use Rattle.std.specs.Prelude.{◌≡◌, true, false, List, [], ◌∷◌, is_some, slice_index_or, slice_set}
+use Rattle.std.specs.FinMap.{FinMap, get, insert, remove}
+use Rattle.std.specs.List.{fold}
+use Rattle.std.specs.Option.{unwrap_or}
+use Rattle.std.specs.Ordering.{nat_cmp}
+use Rattle.std.proofs.Common.{arith, refl, sym, ap, subst, ◌∙◌, inl, inr, get_or-set_same}
+use Rattle.std.proofs.lemmas.Bool.{cases_eq, cases_Bool}
+use Rattle.perf_base.specs.declared.numbers.Key.{Key}
+use Rattle.perf_base.specs.declared.standing.Standing.{Standing}
+use Rattle.perf_base.specs.declared.standing.Standing.TheVariants as standing
+use Rattle.stage_spec.specs.Families.{plus}
+use Rattle.stage_spec.specs.Hardware.{Hardware}
+use Rattle.stage_spec.specs.Shares.{no_sums}
+use Rattle.world_spec.specs.Value.{World, Family, no_entry, no_family, is_live, entry_at, instance_at, account_at, standing_at, family_of, is_key, times}
+use Rattle.world_spec.specs.StageOf.{after_first}
+use Rattle.world_spec.specs.Kept.{leads, post_at, is_member_of, IsKept}
+use Rattle.world_spec.specs.Changes.{all_but}
+use Rattle.world_spec.specs.Adding.{out_of_family, leave_group, taken_out, drop_instance, folded_away}
+use Rattle.world_spec.proofs.Disbanding.{Disbands}
+use Rattle.world_spec.proofs.Dropping.{it-leads}
+use Rattle.world_spec.proofs.Folding.{folded-is, copy-may}
+use Rattle.world_spec.proofs.Gone.{fewer_entry, left_world, get-left}
+use Rattle.world_spec.proofs.GoneLeader.{freed_standings, entries_freed, standings_freed, led_world, dropped-leader, tables-freed, led-disbands, siblings-stand}
+use Rattle.world_spec.proofs.Keys.{key-is, is_key-same, is_key-true, times-cons, once-true, once-false}
+use Rattle.world_spec.proofs.Moving.{leads-parts}
+use Rattle.world_spec.proofs.Tables.{post_of, get-there}
+
+-- standings of keys that are not freed
+standing-unfreed : (keys : List Key) (m : FinMap nat_cmp Standing) (q : Key) → times q keys ≡ 0 → get (fold freed_standings m keys) q.0 ≡ get m q.0
+standing-unfreed [] m q none = refl
+standing-unfreed (k ∷ keys) m q none = elim (cases_eq q.0 k.0) [
+  | inl e ↦ absurd (omega (arith, none, times-cons q k keys, once-true (is_key q k) (is_key-same q k (sym e))))
+  | inr apart ↦ standing-unfreed keys (freed_standings m k) q (omega (arith, none, times-cons q k keys)) ∙ get-there m k.0 standing.Out q.0 apart
+]
+
+-- a key in another context has the post and the standing that it had
+pub IsUntouched : World → World → Key → Type 0
+IsUntouched w after j = (post_at after j ≡ post_at w j) × (standing_at after j ≡ standing_at w j)
+
+not-member : (hw : Hardware) (w : World) (k j : Key) → IsKept hw w → ((entry_at w j).context ≡ (entry_at w k).context → ⊥) → is_member_of (post_at w) k j ≡ false
+not-member hw w k j h off = elim (cases_Bool (is_member_of (post_at w) k j)) [
+  | inl is ↦
+      let parts : (is_live w j ≡ true) × (is_key k (entry_at w j).leader ≡ true) = leads-parts (is_live w j) (is_key k (entry_at w j).leader) is in
+      let leader : (entry_at w j).leader ≡ k = key-is (entry_at w j).leader k (is_key-true k (entry_at w j).leader parts.1) in
+      absurd (off (sym (h.grouped.together j parts.0) ∙ ap (λ q. (entry_at w q).context) leader))
+  | inr not ↦ not
+]
+
+leader-untouched : (hw : Hardware) (w : World) (k j : Key) → IsKept hw w → leads (post_at w) k ≡ true → (j.0 ≡ k.0 → ⊥) → is_member_of (post_at w) k j ≡ false
+    → IsUntouched w (led_world w k (entries_freed w k) (standings_freed w k)) j
+unfolding IsUntouched
+leader-untouched hw w k j h lead apart off =
+    let keys : List Key = after_first (entry_at w k).members in
+    let d : Disbands (post_at w) (post_at (led_world w k (entries_freed w k) (standings_freed w k))) k =
+    led-disbands w k (entries_freed w k) (standings_freed w k) lead (tables-freed hw w k h lead) in
+    let none : times j keys ≡ 0 = (siblings-stand hw w k h lead).others j apart ∙ once-false (is_member_of (post_at w) k j) off in
+    (d.others j apart off, ap (λ o. unwrap_or o standing.Out) (get-left (standings_freed w k) k.0 j.0 apart ∙ standing-unfreed keys w.standings j none))
+
+sibling-untouched : (w : World) (k j : Key) → (j.0 ≡ k.0 → ⊥) → (j.0 ≡ (entry_at w k).leader.0 → ⊥) → IsUntouched w (left_world w k) j
+unfolding IsUntouched
+sibling-untouched w k j apart below =
+    let first : Key = (entry_at w k).leader in
+    let e : get (remove (insert w.entries first.0 (fewer_entry w k)) k.0) j.0 ≡ get w.entries j.0 =
+    get-left (insert w.entries first.0 (fewer_entry w k)) k.0 j.0 apart ∙ get-there w.entries first.0 (fewer_entry w k) j.0 below in
+    ((λ i. post_of (is_some (e i)) (unwrap_or (e i) no_entry)), ap (λ o. unwrap_or o standing.Out) (get-left w.standings k.0 j.0 apart))
+
+dropped-untouched : (hw : Hardware) (w : World) (k j : Key) → IsKept hw w → is_live w k ≡ true → (instance_at w k).copy ≡ true → ((entry_at w j).context ≡ (entry_at w k).context → ⊥)
+    → IsUntouched w (drop_instance k w) j
+dropped-untouched hw w k j h live copy off =
+    let apart : j.0 ≡ k.0 → ⊥ = λ e. off (ap (λ q. (entry_at w q).context) (key-is j k e)) in
+    elim (cases_Bool (is_key k (entry_at w k).leader)) [
+      | inl own ↦
+          subst (λ x. IsUntouched w x j) (sym (dropped-leader w k own))
+          (leader-untouched hw w k j h (it-leads w k (copy-may w k live copy) own) apart (not-member hw w k j h off))
+      | inr sibling ↦
+          subst (λ b. IsUntouched w (taken_out k (instance_at w k) (leave_group k b w)) j) (sym sibling)
+          (sibling-untouched w k j apart (λ e. off (ap (λ q. (entry_at w q).context) (key-is j (entry_at w k).leader e) ∙ h.grouped.together k live)))
+    ]
+
+pub folded-untouched : (hw : Hardware) (w : World) (k j : Key) → IsKept hw w → is_live w k ≡ true → (instance_at w k).copy ≡ true → ((entry_at w j).context ≡ (entry_at w k).context → ⊥)
+    → (post_at (folded_away k w) j ≡ post_at w j) × (standing_at (folded_away k w) j ≡ standing_at w j)
+unfolding IsUntouched
+folded-untouched hw w k j h live copy off =
+    let d : IsUntouched w (drop_instance k w) j = dropped-untouched hw w k j h live copy off in
+    subst (λ x. (post_at x j ≡ post_at w j) × (standing_at x j ≡ standing_at w j)) (sym (folded-is w k)) (d.0, d.1)
+
+-- the copy's own family and folded sums, and the machine's counters
+dropped-families : (w : World) (k : Key)
+    → (drop_instance k w).families ≡ slice_set w.families (instance_at w k).event.0 (out_of_family (instance_at w k).copy k (family_of w (instance_at w k).event))
+dropped-families w k = elim (cases_Bool (is_key k (entry_at w k).leader)) [
+  | inl own ↦ ap (λ x. x.families) (dropped-leader w k own)
+  | inr sibling ↦ ap {B = List Family} (λ b. (taken_out k (instance_at w k) (leave_group k b w)).families) sibling
+]
+
+dropped-hardware : (w : World) (k : Key) → (drop_instance k w).hardware ≡ w.hardware
+dropped-hardware w k = elim (cases_Bool (is_key k (entry_at w k).leader)) [
+  | inl own ↦ ap (λ x. x.hardware) (dropped-leader w k own)
+  | inr sibling ↦ ap {B = Hardware} (λ b. (taken_out k (instance_at w k) (leave_group k b w)).hardware) sibling
+]
+
+pub own-family : (hw : Hardware) (w : World) (k : Key) → IsKept hw w → is_live w k ≡ true → (instance_at w k).copy ≡ true
+    → family_of (folded_away k w) (instance_at w k).event ≡ record (family_of w (instance_at w k).event) { copies = all_but k (family_of w (instance_at w k).event).copies }
+own-family hw w k h live copy =
+    let event : _ = (instance_at w k).event in
+    ap (λ x. family_of x event) (folded-is w k)
+    ∙ (ap (λ fs. slice_index_or fs event.0 no_family) (dropped-families w k)
+    ∙ (get_or-set_same w.families event.0 (out_of_family (instance_at w k).copy k (family_of w event)) no_family (omega (arith, h.numbered.slots k live, h.tables.families))
+    ∙ ap (λ c. out_of_family c k (family_of w event)) copy))
+
+pub own-folded : (hw : Hardware) (w : World) (k : Key) → IsKept hw w → is_live w k ≡ true
+    → slice_index_or (folded_away k w).folded (instance_at w k).event.0 no_sums ≡ plus (slice_index_or w.folded (instance_at w k).event.0 no_sums) (account_at w k).sums
+own-folded hw w k h live =
+    ap (λ x. slice_index_or x.folded (instance_at w k).event.0 no_sums) (folded-is w k)
+    ∙ get_or-set_same w.folded (instance_at w k).event.0 _ no_sums (omega (arith, h.numbered.slots k live, h.tables.folded))
+
+pub same-hardware : (w : World) (k : Key) → (folded_away k w).hardware ≡ w.hardware
+same-hardware w k = ap (λ x. x.hardware) (folded-is w k) ∙ dropped-hardware w k

@@ -1,0 +1,6 @@
+pub mod Below
+pub mod Exited
+pub mod Found
+pub mod Going
+pub mod Leaving
+pub mod Whole
