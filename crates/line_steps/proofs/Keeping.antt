@@ -28,7 +28,7 @@ use Rattle.ring_spec.specs.Sending.{length_by}
 use Rattle.world_spec.specs.Kept.{IsKept}
 use Rattle.world_spec.specs.Rescheduled.{AreRescheduled}
 use Rattle.world_spec.specs.StageOf.{stage_of}
-use Rattle.world_spec.specs.Value.{World, Account, Family, no_account, no_family, is_live, entry_at, instance_at}
+use Rattle.world_spec.specs.Value.{World, Account, Family, no_account, no_family, is_live, entry_at, instance_at, family_of}
 use Rattle.world_spec.proofs.Families.{open-is}
 use Rattle.step_laws.specs.Quiet.{is_quiet}
 use Rattle.step_laws.specs.Stepping.{HasStepped}
@@ -63,12 +63,16 @@ none-lost cpu l [] = refl
 none-lost cpu l (a ∷ rings) = none-lost cpu l rings
 
 -- the slots that are current are those that were
-pub slots-current : (w x : World) → IsKept w.hardware w → IsKept x.hardware x → x.families ≡ w.families → x.quiet.used ≡ w.quiet.used → (e : EventNo)
-    → IsCurrentSlot (stage_of x) e → IsCurrentSlot (stage_of w) e
-slots-current w x h h_then families used e current = elim current [
-  | inl opened ↦ inl (open-is w.hardware w e h ∙ (ap (λ f. is_some (family_in f e).original) (sym families) ∙ (sym (open-is x.hardware x e h_then) ∙ opened)))
+pub slots-same : (w x : World) → IsKept w.hardware w → IsKept x.hardware x → ((e : EventNo) → (family_of x e).original ≡ (family_of w e).original)
+    → x.quiet.used ≡ w.quiet.used → (e : EventNo) → IsCurrentSlot (stage_of x) e → IsCurrentSlot (stage_of w) e
+slots-same w x h h_then originals used e current = elim current [
+  | inl opened ↦ inl (open-is w.hardware w e h ∙ (ap is_some (sym (originals e)) ∙ (sym (open-is x.hardware x e h_then) ∙ opened)))
   | inr unused ↦ inr (ap (λ u. list_any (λ s. s.0 == e.0) u) (sym used) ∙ unused)
 ]
+
+pub slots-current : (w x : World) → IsKept w.hardware w → IsKept x.hardware x → x.families ≡ w.families → x.quiet.used ≡ w.quiet.used → (e : EventNo)
+    → IsCurrentSlot (stage_of x) e → IsCurrentSlot (stage_of w) e
+slots-current w x h h_then families used = slots-same w x h h_then (λ e. ap (λ f. (family_in f e).original) families) used
 
 pub kept-stepped : (w x : World) (step : Step) → IsKept w.hardware w → IsKept x.hardware x → KeepsAll w x → is_quiet step ≡ true → ((e : EventNo) → leaving (stage_of w) step e ≡ [])
     → ((cpu : CpuNo) → length_by cpu step ≡ 0) → stage_of x ≡ stage_step w.hardware (stage_of w) step → HasStepped w.hardware w x step

@@ -1,4 +1,5 @@
 pub mod Asking
+pub mod Forks
 pub mod Keeping
 pub mod Opening
 pub mod Refused

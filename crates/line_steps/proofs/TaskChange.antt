@@ -17,7 +17,6 @@ use Rattle.stage_spec.specs.History.{Step, CpuStep, stage_step}
 use Rattle.stage_spec.specs.Limits.{IsMachine, IsWithin}
 use Rattle.stage_spec.specs.Occurrences.{left_after, left_after_one}
 use Rattle.stage_spec.specs.Remainders.{left_by_hits}
-use Rattle.stage_spec.specs.Replies.{UnlessRefused}
 use Rattle.stage_spec.specs.Settle.{settle, settle_each}
 use Rattle.stage_spec.specs.Shares.{share, no_sums, of_instance, migration_share, switch_share, changes_task}
 use Rattle.stage_spec.specs.Stage.{Stage, all_cpus, task_on}
@@ -29,8 +28,6 @@ use Rattle.stage_laws.specs.Bounds.{AreAtMost}
 use Rattle.stage_laws.specs.Sound.{IsSound}
 use Rattle.stage_laws.proofs.Narrow.{narrows}
 use Rattle.stage_laws.proofs.Sound.{step_sound}
-use Rattle.ring_spec.specs.Running.{Running, IsAnswerBy}
-use Rattle.world_spec.specs.Agreement.{AgreesWith}
 use Rattle.world_spec.specs.Changes.{place}
 use Rattle.world_spec.specs.Kept.{IsKept, family_sums}
 use Rattle.world_spec.specs.Rescheduled.{AreRescheduled, IsRescheduled}
@@ -44,6 +41,7 @@ use Rattle.step_laws.proofs.Stepping.{stepped, instance-found}
 use Rattle.line_steps.specs.Stepped.{limits_in, IsReady}
 use Rattle.line_steps.specs.Stepped as stepped_line
 use Rattle.line_steps.specs.Switched.{migration_shares, two_hits}
+use Rattle.line_steps.proofs.Refused.{accepted-cpu}
 use Rattle.line_steps.proofs.Keeping.{none-lost, one-below, slots-current}
 
 -- no migration leaves the accounts
@@ -145,7 +143,7 @@ one-settled hw cpu s = refl
 hardware-then : (w a b x : World) (cpu : CpuNo) (to : Option TaskNo) (m : Bool) → Course w a b x cpu to m → b.hardware ≡ w.hardware
 hardware-then w a b x cpu to m c = (keeps-counts w a b x cpu to m c).hardware ∙ ap (λ (y : World). y.hardware) c.first_rest
 
-filter-alike : (p q : CpuNo → Bool) (xs : List CpuNo) → ((cpu : CpuNo) → p cpu ≡ q cpu) → filter p xs ≡ filter q xs
+pub filter-alike : (p q : CpuNo → Bool) (xs : List CpuNo) → ((cpu : CpuNo) → p cpu ≡ q cpu) → filter p xs ≡ filter q xs
 filter-alike p q [] same = refl
 filter-alike p q (x ∷ xs) same = λ i. cond (same x i) (x ∷ filter-alike p q xs same i) (filter-alike p q xs same i)
 
@@ -290,12 +288,9 @@ switch-stepped w a b x d cpu to m e =
       clock = λ own. let same : slice_index_or d.quiet.clocks own.0 0 ≡ slice_index_or w.quiet.clocks own.0 0 = ap (λ l. slice_index_or l own.0 0) keeps.clocks in omega (arith, same);
     }
 
-pub accepted-answer : (w : World) (by : Running) (cpu : CpuNo) (to : Option TaskNo) → switch_refusal (stage_of w) cpu to ≡ None → AgreesWith w by → IsAnswerBy w.hardware by (CpuStep cpu (line.Switch to)) reply.Ok
-accepted-answer w by cpu to accepted agrees = subst (λ o. UnlessRefused o reply.Ok (reply.Ok ≡ reply.Ok)) (sym (ap (λ s. switch_refusal s cpu to) agrees.stage ∙ accepted)) refl
-
 pub switch-done : (w a b x d : World) (cpu : CpuNo) (to : Option TaskNo) (m : Bool) → End w a b x d cpu to m → stepped_line.IsDone (CpuStep cpu (line.Switch to)) w d reply.Ok
 switch-done w a b x d cpu to m e by agrees = record {
-  answer = accepted-answer w by cpu to e.course.accepted agrees;
+  answer = accepted-cpu w by cpu (line.Switch to) e.course.accepted agrees;
   agrees = stepped w.hardware w d by (CpuStep cpu (line.Switch to)) e.course.kept (subst (λ (hw : Hardware). IsKept hw d) (slots-kept w a b x d cpu to m e).hardware e.kept_then) agrees
       (switch-stepped w a b x d cpu to m e) (none-lost cpu (line.Switch to) by.rings);
 }

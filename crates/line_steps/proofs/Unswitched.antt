@@ -1,16 +1,14 @@
--- A switch that is refused, or to what already runs.
-use Rattle.std.specs.Prelude.{◌≡◌, ℕ, ◌<◌, Bool, true, false, not, length, [], Option, Some, None, slice_index_or}
-use Rattle.std.proofs.Common.{arith, refl, sym, ap, subst, ◌∙◌}
+-- A switch to what already runs.
+use Rattle.std.specs.Prelude.{◌≡◌, ℕ, ◌<◌, Bool, true, false, not, length, [], Option, None, slice_index_or}
+use Rattle.std.proofs.Common.{arith, refl, sym, ap, ◌∙◌}
 use Rattle.perf_base.specs.declared.lines.CpuLine.TheVariants as line
 use Rattle.perf_base.specs.declared.numbers.CpuNo.{CpuNo}
 use Rattle.perf_base.specs.declared.numbers.Key.{Key}
 use Rattle.perf_base.specs.declared.numbers.TaskNo.{TaskNo}
-use Rattle.perf_base.specs.declared.reasons.Reason.{Reason}
 use Rattle.perf_base.specs.declared.reply.Reply.TheVariants as reply
 use Rattle.perf_base.specs.declared.reply.Sums.{Sums}
 use Rattle.stage_spec.specs.History.{CpuStep, stage_step, unless_refused}
 use Rattle.stage_spec.specs.Remainders.{left_by_hits}
-use Rattle.stage_spec.specs.Replies.{UnlessRefused}
 use Rattle.stage_spec.specs.Settle.{settle_all}
 use Rattle.stage_spec.specs.Shares.{share, no_sums, switch_share, changes_task}
 use Rattle.stage_spec.specs.Stage.{Stage, task_on}
@@ -21,20 +19,13 @@ use Rattle.world_spec.specs.StageOf.{stage_of}
 use Rattle.world_spec.specs.Value.{World, is_live, instance_at, account_at}
 use Rattle.work_account.specs.Shares.{with_share}
 use Rattle.step_laws.specs.Stepping.{HasStepped, HasItsShare}
-use Rattle.step_laws.proofs.Quiet.{refused-steps}
 use Rattle.step_laws.proofs.Stepping.{stepped, instance-found}
 use Rattle.line_steps.specs.Stepped.{IsReady}
 use Rattle.line_steps.specs.Stepped as stepped_line
 use Rattle.line_steps.proofs.Asking.{settled-below}
+use Rattle.line_steps.proofs.Refused.{accepted-cpu}
 use Rattle.line_steps.proofs.Keeping.{none-lost}
-use Rattle.line_steps.proofs.TaskChange.{none-given, accepted-answer}
-
-pub unswitched-refused : (w : World) (cpu : CpuNo) (to : Option TaskNo) (r : Reason) → IsKept w.hardware w → switch_refusal (stage_of w) cpu to ≡ Some r
-    → stepped_line.IsDone (CpuStep cpu (line.Switch to)) w w (reply.Refused r)
-unswitched-refused w cpu to r h refused by agrees = record {
-  answer = subst (λ o. UnlessRefused o (reply.Refused r) (reply.Refused r ≡ reply.Ok)) (sym (ap (λ s. switch_refusal s cpu to) agrees.stage ∙ refused)) refl;
-  agrees = stepped w.hardware w w by (CpuStep cpu (line.Switch to)) h h agrees (refused-steps w.hardware w (CpuStep cpu (line.Switch to)) r h refused) (none-lost cpu (line.Switch to) by.rings);
-}
+use Rattle.line_steps.proofs.TaskChange.{none-given}
 
 pub runs-there : (b : Bool) → not b ≡ false → b ≡ true
 runs-there true h = refl
@@ -94,6 +85,6 @@ still-stepped w cpu to c = record {
 
 pub unswitched-still : (w : World) (cpu : CpuNo) (to : Option TaskNo) → Still w cpu to → stepped_line.IsDone (CpuStep cpu (line.Switch to)) w w reply.Ok
 unswitched-still w cpu to c by agrees = record {
-  answer = accepted-answer w by cpu to c.accepted agrees;
+  answer = accepted-cpu w by cpu (line.Switch to) c.accepted agrees;
   agrees = stepped w.hardware w w by (CpuStep cpu (line.Switch to)) c.kept c.kept agrees (still-stepped w cpu to c) (none-lost cpu (line.Switch to) by.rings);
 }

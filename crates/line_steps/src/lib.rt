@@ -7,6 +7,6 @@ mod rescheduling;
 mod switching;
 mod tools;
 
-pub use processors::{tick, work};
+pub use processors::{fork, tick, work};
 pub use switching::switch;
 pub use tools::{open, read, seats, why};

@@ -9,7 +9,7 @@ ghost use Rattle.work_account.specs.Shares.{HaveRoom};
 ghost use Rattle.line_steps.specs.Stepped.{IsReady, IsDone, IsDoneUnlost};
 
 use cpu_sched::resched;
-use perf_base::{CpuNo, Reply, Steps, Work};
+use perf_base::{CpuNo, Reply, Steps, TaskNo, Work};
 use perf_world::World;
 use std::sync::ledger::Ledger;
 use task_moves::rotate;
@@ -45,4 +45,24 @@ pub fn work(world: &mut World, cpu: CpuNo, work: &Work) -> Reply
     work_account::work(world, cpu, work);
     let _after = world.pmus();
     Reply::Ok
+}
+
+/// A fork of the task on a processor to a child of a number, 0 to 63. Refused with Idle where no task is on, with Exists where there was a task of that
+/// number, and with CopiesFull where there would be more than 4,096 copies.
+pub fn fork(world: &mut World, cpu: CpuNo, child: TaskNo) -> Reply
+    requires ready { IsReady world.old }
+    requires cpu { cpu.0 < length world.old.quiet.running }
+    requires child { child.0 < 64 }
+    requires room { world.old.quiet.next_id + 4097 < 2 ^ 63 }
+    ensures ready { IsReady world.new }
+    ensures done { IsDone (CpuStep cpu (line.Fork child)) world.old world.new result }
+{
+    // A reader tells what always holds of a world.
+    let _before = world.pmus();
+    let answer = fork_inherit::fork(world, cpu, child);
+    let _after = world.pmus();
+    match answer {
+        Err(reason) => Reply::Refused(reason),
+        Ok(()) => Reply::Ok,
+    }
 }

@@ -1,9 +1,11 @@
-use Rattle.std.proofs.Common.{sym, ◌∙◌}
-use Rattle.line_steps.proofs.Unswitched.{runs-there, unswitched-refused, unswitched-still}
+use Rattle.std.proofs.Common.{refl, sym, ◌∙◌}
+use Rattle.perf_base.specs.declared.lines.CpuLine.TheVariants as line
+use Rattle.line_steps.proofs.Refused.{refused-cpu}
+use Rattle.line_steps.proofs.Unswitched.{runs-there, unswitched-still}
 use Rattle.line_steps.proofs.switching.switch.Goals as goal
 
 pub returns-in-Err-clause-done : goal.returns-in-Err-clause-done
-returns-in-Err-clause-done g c = unswitched-refused c.args.world.now c.args.cpu c.args.to c.in-Err.reason c.pmus-pmus.ensures.kept c.in-Err.ensures.refused
+returns-in-Err-clause-done g c = refused-cpu c.args.world.now c.args.world.now c.args.cpu (line.Switch c.args.to) c.in-Err.reason c.pmus-pmus.ensures.kept refl c.in-Err.ensures.refused
 
 pub returns-in-Ok-false-clause-done : goal.returns-in-Ok-false-clause-done
 returns-in-Ok-false-clause-done g c = unswitched-still c.args.world.now c.args.cpu c.args.to (record {
