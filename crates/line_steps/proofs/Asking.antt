@@ -41,7 +41,7 @@ settled-below hw (suc n) s h =
     ∙ (ap (λ t. settle hw cpu t) (settled-below hw n s (λ c low. h c (omega (arith, low)))) ∙ h cpu (omega arith)))
 
 -- a line that asks
-asks-stage : (w : World) (l : ToolLine) → IsReady w → tool_refusal w.hardware (stage_of w) l ≡ None → ((s : Stage) → tool_changed l s ≡ s)
+pub asks-stage : (w : World) (l : ToolLine) → IsReady w → tool_refusal w.hardware (stage_of w) l ≡ None → ((s : Stage) → tool_changed l s ≡ s)
     → stage_of w ≡ stage_step w.hardware (stage_of w) (ToolStep l)
 unfolding stage_step settle_all
 asks-stage w l h accepted same =

@@ -1,40 +1,48 @@
 -- A quiet line after which all events are there that were, with their accounts.
-use Rattle.std.specs.Prelude.{◌≡◌, ℕ, zero, suc, ◌<◌, ◌≤◌, ◌==◌, true, false, cond, is_some, List, [], ◌∷◌, ◌++◌, length, filter, flat_map, slice_index_or}
+use Rattle.std.specs.Prelude.{◌≡◌, ℕ, zero, suc, ◌<◌, ◌≤◌, ◌==◌, Bool, true, false, cond, is_some, List, [], ◌∷◌, ◌++◌, length, filter, flat_map, slice_index_or, None}
 use Rattle.std.specs.FinMap.{FinMap, get}
 use Rattle.std.specs.List.{list_any}
 use Rattle.std.specs.Option.{unwrap_or}
 use Rattle.std.specs.Ordering.{nat_cmp}
 use Rattle.std.proofs.Common.{arith, refl, sym, ap, subst, ◌∙◌, inl, inr}
-use Rattle.std.proofs.lemmas.Bool.{cases_eq}
+use Rattle.std.proofs.lemmas.Bool.{cases_eq, cases_Bool, false≢true}
 use Rattle.std.proofs.lemmas.Bool.Decides.{nat_tests}
 use Rattle.std.proofs.lemmas.List.{append-nil, map-append}
 use Rattle.std.proofs.lemmas.List.Elements.{filter-append}
+use Rattle.perf_base.specs.Cpus.{HasCpu}
 use Rattle.perf_base.specs.declared.lines.CpuLine.{CpuLine}
+use Rattle.perf_base.specs.declared.lines.ToolLine.{ToolLine}
 use Rattle.perf_base.specs.declared.numbers.CpuNo.{CpuNo}
+use Rattle.perf_base.specs.declared.numbers.CpuSet.{CpuSet}
 use Rattle.perf_base.specs.declared.numbers.EventNo.{EventNo}
 use Rattle.perf_base.specs.declared.numbers.Key.{Key}
 use Rattle.stage_spec.specs.Families.{leaving}
 use Rattle.stage_spec.specs.Hardware.{Hardware}
-use Rattle.stage_spec.specs.History.{Step, CpuStep, stage_step}
+use Rattle.stage_spec.specs.History.{Step, CpuStep, ToolStep, tool_refusal, tool_changed, stage_step}
 use Rattle.stage_spec.specs.Limits.{IsMachine, IsWithin}
 use Rattle.stage_spec.specs.Numbers.{numbers_below}
+use Rattle.stage_spec.specs.Settle.{settle_each}
 use Rattle.stage_spec.specs.Shares.{no_sums}
+use Rattle.stage_spec.specs.Stage.{Stage, all_cpus}
+use Rattle.stage_laws.specs.Narrowing.{touches, tool_touches, changed, unless_no, unless_left, AreSettled, IsNarrow}
 use Rattle.stage_spec.proofs.Recurrence.{plus-none}
 use Rattle.stage_laws.specs.Sound.{IsSound}
+use Rattle.stage_laws.proofs.Narrow.{narrows}
 use Rattle.stage_laws.proofs.Sound.{step_sound}
 use Rattle.ring_spec.specs.Agreement.{IsCurrentSlot}
 use Rattle.ring_spec.specs.Running.{RingAccount, losses_on}
 use Rattle.ring_spec.specs.Sending.{length_by}
 use Rattle.world_spec.specs.Kept.{IsKept}
-use Rattle.world_spec.specs.Rescheduled.{AreRescheduled}
+use Rattle.world_spec.specs.Rescheduled.{AreRescheduled, IsRescheduled}
 use Rattle.world_spec.specs.StageOf.{stage_of}
 use Rattle.world_spec.specs.Value.{World, Account, Family, no_account, no_family, is_live, entry_at, instance_at, family_of}
 use Rattle.world_spec.proofs.Families.{open-is}
 use Rattle.step_laws.specs.Quiet.{is_quiet}
 use Rattle.step_laws.specs.Stepping.{HasStepped}
 use Rattle.step_laws.proofs.Quiet.{quiet-keeps}
+use Rattle.line_steps.specs.Settled.{is_in}
 use Rattle.line_steps.specs.Stepped.{limits_in, IsReady}
-use Rattle.line_steps.proofs.Settling.{cpus_below}
+use Rattle.line_steps.proofs.Settling.{cpus_below, is-in_set}
 
 -- What such a line leaves: the keys with their ids and contexts, and all that is counted by account, slot and processor.
 pub record KeepsAll (w x : World) : Type 0 where
@@ -138,3 +146,58 @@ one-below own (suc n) low =
       | inr apart ↦
           (λ i. one-below own n (omega (arith, low, apart)) i ++ cond (other-number own.0 n apart i) (cpu ∷ []) []) ∙ append-nil (own ∷ [])
     ])
+
+-- the processors that are touched are those of the set
+filter-below : (p q : CpuNo → Bool) (n : ℕ) → ((cpu : CpuNo) → cpu.0 < n → p cpu ≡ q cpu) → filter p (cpus_below n) ≡ filter q (cpus_below n)
+filter-below p q zero same = refl
+filter-below p q (suc n) same =
+    let cpu : CpuNo = record { 0 = n } in
+    let cpus : cpus_below (suc n) ≡ cpus_below n ++ cpu ∷ [] = map-append (λ k. record { 0 = k }) (numbers_below n) (n ∷ []) in
+    let rest : filter p (cpus_below n) ≡ filter q (cpus_below n) = filter-below p q n (λ c low. same c (omega (arith, low))) in
+    ap (filter p) cpus
+    ∙ (filter-append p (cpus_below n) (cpu ∷ [])
+    ∙ ((λ i. rest i ++ cond (same cpu (omega arith) i) (cpu ∷ []) []) ∙ (sym (filter-append q (cpus_below n) (cpu ∷ [])) ∙ ap (filter q) (sym cpus))))
+
+in-by : (set : CpuSet) (cpu : CpuNo) (b : Bool) → (HasCpu set cpu → b ≡ true) → (b ≡ true → HasCpu set cpu) → is_in set cpu ≡ b
+in-by set cpu true there back = is-in_set set cpu (back refl)
+in-by set cpu false there back = elim (cases_Bool (is_in set cpu)) [
+  | inl in_it ↦ absurd (false≢true (there (let h : HasCpu set cpu = grind (arith, nat_tests, in_it) in h)))
+  | inr out ↦ out
+]
+
+settled-all : (hw : Hardware) (w : World) → AreRescheduled hw w → AreSettled hw (stage_of w)
+settled-all hw w h cpu low = (h cpu low).settled
+
+-- What is told of a line of a tool that is accepted: the world after it, and a set of the processors that it touches.
+pub record Touched (w v : World) (l : ToolLine) (set : CpuSet) : Type 0 where
+  pub ready : IsReady w
+  pub within : IsWithin (limits_in w) (ToolStep l)
+  pub accepted : tool_refusal w.hardware (stage_of w) l ≡ None
+  pub hardware : v.hardware ≡ w.hardware
+  pub running : length v.quiet.running ≡ length w.quiet.running
+  pub stage : stage_of v ≡ tool_changed l (stage_of w)
+  pub into : (cpu : CpuNo) → cpu.0 < length w.quiet.running → HasCpu set cpu → tool_touches (stage_of w) l cpu ≡ true
+  pub back : (cpu : CpuNo) → cpu.0 < length w.quiet.running → tool_touches (stage_of w) l cpu ≡ true → HasCpu set cpu
+
+-- settling those of the set is the line's step
+pub narrowed-step : (w v x : World) (l : ToolLine) (set : CpuSet) → Touched w v l set
+    → stage_of x ≡ settle_each v.hardware (filter (is_in set) (all_cpus (stage_of v))) (stage_of v) → stage_of x ≡ stage_step w.hardware (stage_of w) (ToolStep l)
+narrowed-step w v x l set c settled =
+    let hw : Hardware = w.hardware in
+    let s : Stage = stage_of w in
+    let step : Step = ToolStep l in
+    let narrow : IsNarrow hw s step = narrows (limits_in w) hw s step c.ready.machine c.within c.ready.sound (settled-all hw w c.ready.rescheduled) in
+    let touched : (cpu : CpuNo) → cpu.0 < length w.quiet.running → is_in set cpu ≡ touches hw s step cpu = λ cpu low.
+    in-by set cpu (tool_touches s l cpu) (c.into cpu low) (c.back cpu low) ∙ sym (ap (λ o. unless_no o (tool_touches s l cpu)) c.accepted) in
+    let made : stage_of v ≡ changed hw s step = c.stage ∙ sym (ap (λ o. unless_left o (tool_changed l) s) c.accepted) in
+    settled
+    ∙ ((λ i. settle_each (c.hardware i) (filter (is_in set) (cpus_below (c.running i))) (made i))
+    ∙ (ap (λ cs. settle_each hw cs (changed hw s step)) (filter-below (is_in set) (touches hw s step) (length w.quiet.running) touched) ∙ sym narrow.stage))
+
+-- a processor that is not in the set stands as it stood
+pub left-rescheduled : (w v : World) (set : CpuSet) → v.hardware ≡ w.hardware → length v.quiet.running ≡ length w.quiet.running → AreRescheduled w.hardware w
+    → ((cpu : CpuNo) → cpu.0 < length w.quiet.running → (HasCpu set cpu → ⊥) → IsRescheduled w.hardware w cpu → IsRescheduled w.hardware v cpu)
+    → (cpu : CpuNo) → cpu.0 < length v.quiet.running → (HasCpu set cpu → ⊥) → IsRescheduled v.hardware v cpu
+left-rescheduled w v set hardware running before others cpu low out =
+    let within : cpu.0 < length w.quiet.running = omega (arith, low, running) in
+    subst (λ (hw : Hardware). IsRescheduled hw v cpu) (sym hardware) (others cpu within out (before cpu within))

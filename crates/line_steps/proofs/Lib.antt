@@ -1,8 +1,11 @@
 pub mod Asking
+pub mod Clearing
+pub mod CommandLines
 pub mod Forks
 pub mod Keeping
 pub mod Opening
 pub mod Refused
+pub mod Restarting
 pub mod Settling
 pub mod TaskChange
 pub mod Ticking

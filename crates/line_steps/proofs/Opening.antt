@@ -1,11 +1,8 @@
 -- A line that opens an event.
-use Rattle.std.specs.Prelude.{◌≡◌, ℕ, zero, suc, ◌+◌, ◌<◌, ◌≤◌, ◌==◌, Bool, true, false, ◌||◌, cond, is_some, List, [], ◌∷◌, ◌++◌, length, filter, Option, Some, None, slice_index_or, if◌then◌else◌}
+use Rattle.std.specs.Prelude.{◌≡◌, ℕ, ◌+◌, ◌<◌, ◌≤◌, ◌==◌, Bool, true, false, ◌||◌, is_some, List, [], ◌∷◌, ◌++◌, length, filter, Option, Some, None, slice_index_or, if◌then◌else◌}
 use Rattle.std.specs.List.{list_any}
 use Rattle.std.proofs.Common.{arith, refl, sym, ap, subst, ◌∙◌, inl, inr}
-use Rattle.std.proofs.lemmas.Bool.{cases_eq, cases_Bool, false≢true}
-use Rattle.std.proofs.lemmas.Bool.Decides.{nat_tests}
-use Rattle.std.proofs.lemmas.List.{map-append}
-use Rattle.std.proofs.lemmas.List.Elements.{filter-append}
+use Rattle.std.proofs.lemmas.Bool.{cases_eq, false≢true}
 use Rattle.std.proofs.lemmas.List.Folds.{list_any-append}
 use Rattle.perf_base.specs.Cpus.{HasCpu}
 use Rattle.perf_base.specs.Scripts.{IsCpuSel}
@@ -26,14 +23,13 @@ use Rattle.perf_base.specs.declared.standing.Context.TheVariants as context
 use Rattle.stage_spec.specs.Hardware.{Hardware}
 use Rattle.stage_spec.specs.History.{Step, ToolStep, stage_step}
 use Rattle.stage_spec.specs.Limits.{IsMachine, IsWithin}
-use Rattle.stage_spec.specs.Numbers.{numbers_below}
 use Rattle.stage_spec.specs.Opening.{open_refusal, opened, is_used}
 use Rattle.stage_spec.specs.Places.{context_of, context_by}
 use Rattle.stage_spec.specs.Replies.{UnlessRefused}
 use Rattle.stage_spec.specs.Settle.{settle_each}
 use Rattle.stage_spec.specs.Shares.{no_sums}
 use Rattle.stage_spec.specs.Stage.{Stage, all_cpus}
-use Rattle.stage_laws.specs.Narrowing.{has_context, touches, changed, unless_no, unless_left, AreSettled, IsNarrow}
+use Rattle.stage_laws.specs.Narrowing.{has_context}
 use Rattle.stage_laws.specs.Sound.{IsSound}
 use Rattle.world_spec.specs.Adding.{Newcomer, add}
 use Rattle.world_spec.specs.Kept.{IsKept}
@@ -41,7 +37,6 @@ use Rattle.world_spec.specs.Rescheduled.{AreRescheduled, IsRescheduled}
 use Rattle.world_spec.specs.Staying.{HasCome}
 use Rattle.world_spec.specs.StageOf.{stage_of}
 use Rattle.world_spec.specs.Value.{World, is_live, entry_at, instance_at, account_at, family_of}
-use Rattle.stage_laws.proofs.Narrow.{narrows}
 use Rattle.stage_laws.proofs.Sound.{step_sound}
 use Rattle.world_spec.proofs.Families.{open-is}
 use Rattle.world_spec.proofs.Keys.{key-is}
@@ -54,29 +49,8 @@ use Rattle.step_laws.proofs.Stepping.{stepped}
 use Rattle.line_steps.specs.Settled.{OnlyRescheduled, is_in}
 use Rattle.line_steps.specs.Stepped.{limits_in, IsReady}
 use Rattle.line_steps.specs.Stepped as stepped_line
+use Rattle.line_steps.proofs.Keeping.{narrowed-step, left-rescheduled}
 use Rattle.line_steps.proofs.Refused.{tools-lose_none}
-use Rattle.line_steps.proofs.Settling.{cpus_below, is-in_set}
-
--- the processors that are touched are those of the set
-filter-below : (p q : CpuNo → Bool) (n : ℕ) → ((cpu : CpuNo) → cpu.0 < n → p cpu ≡ q cpu) → filter p (cpus_below n) ≡ filter q (cpus_below n)
-filter-below p q zero same = refl
-filter-below p q (suc n) same =
-    let cpu : CpuNo = record { 0 = n } in
-    let cpus : cpus_below (suc n) ≡ cpus_below n ++ cpu ∷ [] = map-append (λ k. record { 0 = k }) (numbers_below n) (n ∷ []) in
-    let rest : filter p (cpus_below n) ≡ filter q (cpus_below n) = filter-below p q n (λ c low. same c (omega (arith, low))) in
-    ap (filter p) cpus
-    ∙ (filter-append p (cpus_below n) (cpu ∷ [])
-    ∙ ((λ i. rest i ++ cond (same cpu (omega arith) i) (cpu ∷ []) []) ∙ (sym (filter-append q (cpus_below n) (cpu ∷ [])) ∙ ap (filter q) (sym cpus))))
-
-in-by : (set : CpuSet) (cpu : CpuNo) (b : Bool) → (HasCpu set cpu → b ≡ true) → (b ≡ true → HasCpu set cpu) → is_in set cpu ≡ b
-in-by set cpu true there back = is-in_set set cpu (back refl)
-in-by set cpu false there back = elim (cases_Bool (is_in set cpu)) [
-  | inl in_it ↦ absurd (false≢true (there (let h : HasCpu set cpu = grind (arith, nat_tests, in_it) in h)))
-  | inr out ↦ out
-]
-
-settled-all : (hw : Hardware) (w : World) → AreRescheduled hw w → AreSettled hw (stage_of w)
-settled-all hw w h cpu low = (h cpu low).settled
 
 -- What is told of an open: the worlds before it, after it, and after the processors were rescheduled.
 pub record Course (w v x : World) (slot : EventNo) (a : Attr) (leader : Option EventNo) (set : CpuSet) : Type 0 where
@@ -109,19 +83,16 @@ running-stays w v key n is = ap (λ (y : World). y.quiet.running) is ∙ added-r
 
 pub is-step : (w v x : World) (slot : EventNo) (a : Attr) (leader : Option EventNo) (set : CpuSet) → Course w v x slot a leader set
     → stage_of x ≡ stage_step w.hardware (stage_of w) (ToolStep (line.Open slot a leader))
-is-step w v x slot a leader set c =
-    let hw : Hardware = w.hardware in
-    let s : Stage = stage_of w in
-    let step : Step = ToolStep (line.Open slot a leader) in
-    let narrow : IsNarrow hw s step = narrows (limits_in w) hw s step c.ready.machine c.within c.ready.sound (settled-all hw w c.ready.rescheduled) in
-    let same_hw : v.hardware ≡ hw = hardware-stays w v c.opened_as_newcomer.key (opened_as w slot a leader) c.opened_as_newcomer.world in
-    let size : length v.quiet.running ≡ length w.quiet.running = ap length (running-stays w v c.opened_as_newcomer.key (opened_as w slot a leader) c.opened_as_newcomer.world) in
-    let touched : (cpu : CpuNo) → cpu.0 < length w.quiet.running → is_in set cpu ≡ touches hw s step cpu = λ cpu low.
-    in-by set cpu (has_context s cpu (context_of a)) (c.into cpu low) (c.back cpu low) ∙ sym (ap (λ o. unless_no o (has_context s cpu (context_of a))) c.accepted) in
-    let made : stage_of v ≡ changed hw s step = c.stage ∙ sym (ap (λ o. unless_left o (λ t. opened t slot a leader) s) c.accepted) in
-    c.settled
-    ∙ ((λ i. settle_each (same_hw i) (filter (is_in set) (cpus_below (size i))) (made i))
-    ∙ (ap (λ cs. settle_each hw cs (changed hw s step)) (filter-below (is_in set) (touches hw s step) (length w.quiet.running) touched) ∙ sym narrow.stage))
+is-step w v x slot a leader set c = narrowed-step w v x (line.Open slot a leader) set (record {
+  ready = c.ready;
+  within = c.within;
+  accepted = c.accepted;
+  hardware = hardware-stays w v c.opened_as_newcomer.key (opened_as w slot a leader) c.opened_as_newcomer.world;
+  running = ap length (running-stays w v c.opened_as_newcomer.key (opened_as w slot a leader) c.opened_as_newcomer.world);
+  stage = c.stage;
+  into = c.into;
+  back = c.back;
+}) c.settled
 
 -- what a newcomer draws and uses up
 added-next : (w : World) (key : Key) (n : Newcomer) (leader : Option Key) → (add key (record n { leader = leader }) w).quiet.next_id ≡ w.quiet.next_id + 1
@@ -214,9 +185,7 @@ has-stepped w v x slot a leader set c =
 pub untouched : (w v : World) (set : CpuSet) (key : Key) (n : Newcomer) → v ≡ add key n w → AreRescheduled w.hardware w
     → ((cpu : CpuNo) → cpu.0 < length w.quiet.running → (HasCpu set cpu → ⊥) → IsRescheduled w.hardware w cpu → IsRescheduled w.hardware v cpu)
     → (cpu : CpuNo) → cpu.0 < length v.quiet.running → (HasCpu set cpu → ⊥) → IsRescheduled v.hardware v cpu
-untouched w v set key n is before others cpu low out =
-    let within : cpu.0 < length w.quiet.running = omega (arith, low, ap length (running-stays w v key n is)) in
-    subst (λ (hw : Hardware). IsRescheduled hw v cpu) (sym (hardware-stays w v key n is)) (others cpu within out (before cpu within))
+untouched w v set key n is before others = left-rescheduled w v set (hardware-stays w v key n is) (ap length (running-stays w v key n is)) before others
 
 -- the processor that an attribute within the limits names
 processor-in : Context → ℕ

@@ -2,11 +2,13 @@
 //! record after the line, and the answer is the definitions'. It serves the machine.
 #![tactic(auto)]
 
+mod commands;
 mod processors;
 mod rescheduling;
 mod switching;
 mod tools;
 
+pub use commands::{disable, enable, period, reset};
 pub use processors::{fork, tick, work};
 pub use switching::switch;
 pub use tools::{open, read, seats, why};

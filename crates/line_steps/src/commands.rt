@@ -1,0 +1,101 @@
+//! Lines of tools that command an open event.
+
+ghost use Rattle.std.specs.Prelude.{◌<◌, ◌≤◌};
+ghost use Rattle.perf_base.specs.Scripts.{IsSlot};
+ghost use Rattle.perf_base.specs.declared.lines.ToolLine.TheVariants as line;
+ghost use Rattle.stage_spec.specs.History.{ToolStep};
+ghost use Rattle.line_steps.specs.Stepped.{IsReady, IsDone};
+
+use crate::rescheduling::resched_each;
+use perf_base::{EventNo, Reply, Steps};
+use perf_world::World;
+use std::sync::ledger::Ledger;
+
+/// Makes an event, or each member of its group, ready, and its copies; the processors that reach them are rescheduled. Refused with NoEvent
+/// where the event is not open.
+pub fn enable<L: Ledger>(
+    world: &mut World,
+    event: EventNo,
+    group: bool,
+    tests: &mut Steps<L>,
+) -> Reply
+    requires ready { IsReady world.old }
+    requires slot { IsSlot event }
+    ensures ready { IsReady world.new }
+    ensures done { IsDone (ToolStep (line.Enable event group)) world.old world.new result }
+    ensures counted { tests.old ≤ tests.new }
+{
+    // A reader tells what always holds of a world.
+    let _pmus = world.pmus();
+    match event_commands::enable(world, event, group) {
+        Err(reason) => Reply::Refused(reason),
+        Ok(set) => {
+            resched_each(world, set, tests);
+            Reply::Ok
+        }
+    }
+}
+
+/// Takes an event, or each member of its group, off, and its copies; the processors that reach them are rescheduled. Refused with NoEvent where
+/// the event is not open.
+pub fn disable<L: Ledger>(
+    world: &mut World,
+    event: EventNo,
+    group: bool,
+    tests: &mut Steps<L>,
+) -> Reply
+    requires ready { IsReady world.old }
+    requires slot { IsSlot event }
+    ensures ready { IsReady world.new }
+    ensures done { IsDone (ToolStep (line.Disable event group)) world.old world.new result }
+    ensures counted { tests.old ≤ tests.new }
+{
+    // A reader tells what always holds of a world.
+    let _pmus = world.pmus();
+    match event_commands::disable(world, event, group) {
+        Err(reason) => Reply::Refused(reason),
+        Ok(set) => {
+            resched_each(world, set, tests);
+            Reply::Ok
+        }
+    }
+}
+
+/// Clears the count of an event, or of each member of its group, and those of its copies. Times stay, and so do processors. Refused with NoEvent
+/// where the event is not open.
+pub fn reset(world: &mut World, event: EventNo, group: bool) -> Reply
+    requires ready { IsReady world.old }
+    requires slot { IsSlot event }
+    ensures ready { IsReady world.new }
+    ensures done { IsDone (ToolStep (line.Reset event group)) world.old world.new result }
+{
+    // A reader tells what always holds of a world.
+    let _before = world.pmus();
+    match event_commands::reset(world, event, group) {
+        Err(reason) => Reply::Refused(reason),
+        Ok(()) => {
+            let _after = world.pmus();
+            Reply::Ok
+        }
+    }
+}
+
+/// Gives an event another period, in occurrences, of which a whole one is left then. Its copies that are there keep theirs, and processors stay.
+/// Refused with NoEvent where the event is not open, with NotSampling where it has no period, and with ZeroPeriod where the new one is 0 or has its highest
+/// bit set.
+pub fn period(world: &mut World, event: EventNo, period: u64) -> Reply
+    requires ready { IsReady world.old }
+    requires slot { IsSlot event }
+    ensures ready { IsReady world.new }
+    ensures done { IsDone (ToolStep (line.Period event period)) world.old world.new result }
+{
+    // A reader tells what always holds of a world.
+    let _before = world.pmus();
+    match event_commands::period(world, event, period) {
+        Err(reason) => Reply::Refused(reason),
+        Ok(()) => {
+            let _after = world.pmus();
+            Reply::Ok
+        }
+    }
+}
