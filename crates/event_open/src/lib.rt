@@ -6,6 +6,8 @@ mod checking;
 mod demands;
 mod laws;
 mod leading;
+#[cfg(test)]
+mod neighbours;
 mod opening;
 mod placing;
 #[cfg(test)]

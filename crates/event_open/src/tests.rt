@@ -2,6 +2,7 @@
 
 ghost use Rattle.std.specs.Prelude.{◌≡◌, ◌+◌, ◌^◌, ◌<◌, ◌≤◌, IfOk, true, length};
 ghost use Rattle.perf_base.specs.Scripts.{IsAttr};
+ghost use Rattle.stage_spec.specs.Limits.{AreTaskNumbers};
 ghost use Rattle.event_open.specs.Opened.{AreInPlace};
 
 use crate::open;
@@ -16,74 +17,82 @@ use std::test::Fail;
 
 /// What is counted, and the period, sample and format bits. Both counters of the first PMU can count the first, its first counter
 /// alone can count the second, and the counter of the second PMU can count the third.
-type What = (Kind, u64, u64, u64);
+pub type What = (Kind, u64, u64, u64);
 
-const WIDE: What = (Kind::Hard(0), 0, 0, 0);
+pub const WIDE: What = (Kind::Hard(0), 0, 0, 0);
 
-const FIRST: What = (Kind::Hard(1), 0, 0, 0);
+pub const FIRST: What = (Kind::Hard(1), 0, 0, 0);
 
-const OTHER: What = (Kind::Hard(2), 0, 0, 0);
+pub const OTHER: What = (Kind::Hard(2), 0, 0, 0);
 
-const HIGH: What = (Kind::Hard(0), 1 << 63, 8, 0);
+pub const HIGH: What = (Kind::Hard(0), 1 << 63, 8, 0);
 
-const SAMPLE: What = (Kind::Dummy, 5, 8, 32);
+pub const LONG: What = (Kind::Hard(0), 1 << 63, 0, 0);
 
-const FORMAT: What = (Kind::Dummy, 5, 0, 32);
+pub const SAMPLED: What = (Kind::Hard(0), 0, 8, 0);
 
-const DUMMY: What = (Kind::Dummy, 0, 0, 0);
+pub const FORMATTED: What = (Kind::Hard(0), 0, 0, 32);
 
-const CLOCK: What = (Kind::TaskClock, 0, 0, 0);
+pub const SAMPLE: What = (Kind::Dummy, 5, 8, 32);
 
-const MOVES: What = (Kind::CpuMigrations, 0, 0, 0);
+pub const FORMAT: What = (Kind::Dummy, 5, 0, 32);
 
-const SWITCHES: What = (Kind::ContextSwitches, 0, 0, 0);
+pub const DUMMY: What = (Kind::Dummy, 0, 0, 0);
 
-const SOFT: What = (Kind::Dummy, 5, 0, 0);
+pub const CLOCK: What = (Kind::TaskClock, 0, 0, 0);
 
-/// The task and the processor. One task is on the second processor, one is on none, and one there never was.
-type Place = (TaskSel, CpuSel);
+pub const MOVES: What = (Kind::CpuMigrations, 0, 0, 0);
 
-const NOWHERE: Place = (TaskSel::All, CpuSel::Any);
+pub const SWITCHES: What = (Kind::ContextSwitches, 0, 0, 0);
 
-const CPU_0: Place = (TaskSel::All, CpuSel::One(CpuNo(0)));
+pub const SOFT: What = (Kind::Dummy, 5, 0, 0);
 
-const CPU_1: Place = (TaskSel::All, CpuSel::One(CpuNo(1)));
+/// The task and the processor. One task is on the second processor, one is on none, one has exited, and one there never was.
+pub type Place = (TaskSel, CpuSel);
 
-const CPU_2: Place = (TaskSel::All, CpuSel::One(CpuNo(2)));
+pub const NOWHERE: Place = (TaskSel::All, CpuSel::Any);
 
-const TASK: Place = (TaskSel::One(TaskNo(5)), CpuSel::Any);
+pub const CPU_0: Place = (TaskSel::All, CpuSel::One(CpuNo(0)));
 
-const TASK_0: Place = (TaskSel::One(TaskNo(5)), CpuSel::One(CpuNo(0)));
+pub const CPU_1: Place = (TaskSel::All, CpuSel::One(CpuNo(1)));
 
-const IDLE: Place = (TaskSel::One(TaskNo(6)), CpuSel::Any);
+pub const CPU_2: Place = (TaskSel::All, CpuSel::One(CpuNo(2)));
 
-const NOBODY: Place = (TaskSel::One(TaskNo(9)), CpuSel::Any);
+pub const TASK: Place = (TaskSel::One(TaskNo(5)), CpuSel::Any);
 
-const NOBODY_0: Place = (TaskSel::One(TaskNo(9)), CpuSel::One(CpuNo(0)));
+pub const TASK_0: Place = (TaskSel::One(TaskNo(5)), CpuSel::One(CpuNo(0)));
 
-const NONE: AttrFlags = AttrFlags(0);
+pub const IDLE: Place = (TaskSel::One(TaskNo(6)), CpuSel::Any);
 
-const OFF: AttrFlags = AttrFlags::DISABLED;
+pub const GONE: Place = (TaskSel::One(TaskNo(7)), CpuSel::Any);
 
-const INHERIT: AttrFlags = AttrFlags::INHERIT;
+pub const NOBODY: Place = (TaskSel::One(TaskNo(9)), CpuSel::Any);
 
-const PINNED: AttrFlags = AttrFlags::PINNED;
+pub const NOBODY_0: Place = (TaskSel::One(TaskNo(9)), CpuSel::One(CpuNo(0)));
 
-const BOTH: AttrFlags = AttrFlags(INHERIT.0 | PINNED.0);
+pub const NONE: AttrFlags = AttrFlags(0);
 
-const EXCLUSIVE: AttrFlags = AttrFlags::EXCLUSIVE;
+pub const OFF: AttrFlags = AttrFlags::DISABLED;
 
-const SIBLING_FLAGS: Result<u8, Reason> = Err(Reason::SiblingFlags);
+pub const INHERIT: AttrFlags = AttrFlags::INHERIT;
+
+pub const PINNED: AttrFlags = AttrFlags::PINNED;
+
+pub const BOTH: AttrFlags = AttrFlags(INHERIT.0 | PINNED.0);
+
+pub const EXCLUSIVE: AttrFlags = AttrFlags::EXCLUSIVE;
+
+pub const SIBLING_FLAGS: Result<u8, Reason> = Err(Reason::SiblingFlags);
 
 /// The slot, what is counted, where, the flags, the leader's slot; and then the answer, with the processors by their bits.
-type Call = (u16, What, Place, AttrFlags, Option<u16>, Result<u8, Reason>);
+pub type Call = (u16, What, Place, AttrFlags, Option<u16>, Result<u8, Reason>);
 
-/// Whether an attribute may be asked for on this machine.
-fn is_asked(attr: &Attr) -> bool
-    ensures { result ≡ true → IsAttr 3 3 attr.now }
+/// Whether an attribute may be asked for on a machine of so many processors and kinds.
+fn is_asked(cpus: u8, kinds: u8, attr: &Attr) -> bool
+    ensures { result ≡ true → IsAttr cpus kinds attr.now }
 {
     let kind = match attr.kind {
-        Kind::Hard(kind) => kind < 3,
+        Kind::Hard(kind) => kind < kinds,
         _ => true,
     };
     let task = match attr.task {
@@ -91,13 +100,13 @@ fn is_asked(attr: &Attr) -> bool
         TaskSel::All => true,
     };
     let cpu = match attr.cpu {
-        CpuSel::One(cpu) => cpu.0 < 3,
+        CpuSel::One(cpu) => cpu.0 < cpus,
         CpuSel::Any => true,
     };
     kind && task && cpu && attr.flags.0 < 128
 }
 
-fn slots(list: &[u16]) -> Tight
+pub fn slots(list: &[u16]) -> Tight
     requires { length list.now ≤ 17 }
 {
     let mut set = Tight::new();
@@ -107,10 +116,47 @@ fn slots(list: &[u16]) -> Tight
     set
 }
 
-/// Two processors of a PMU with two counters and one of a PMU with one, and two tasks, one of them on the second processor.
-fn machine(alloc: Global) -> Result<World, NoMemory>
+/// A machine before its first line.
+fn machine(alloc: Global, pmus: Pmus, tasks: &[TaskNo]) -> Result<World, NoMemory>
+    requires { AreTaskNumbers tasks.now }
     ensures placed { IfOk result (λ w. AreInPlace w) }
-    ensures cpus { IfOk result (λ w. length w.quiet.running ≡ 3) }
+    ensures hardware { IfOk result (λ w. w.hardware ≡ pmus) }
+    ensures ids { IfOk result (λ w. w.quiet.next_id ≡ 1) }
+{
+    World::new(alloc, pmus, tasks)
+}
+
+/// A task that is there and on no processor comes onto one.
+fn switch_to(world: &mut World, cpu: CpuNo, task: TaskNo)
+    requires placed { AreInPlace world.old }
+    requires task { task.0 < 64 }
+    ensures placed { AreInPlace world.new }
+    ensures hardware { world.new.hardware ≡ world.old.hardware }
+    ensures ids { world.new.quiet.next_id ≡ world.old.quiet.next_id }
+{
+    let there = cpu.0 < world.pmus().cpus();
+    if let (true, TaskState::Live, None) = (there, world.task_state(task), world.cpu_of(task)) {
+        world.place(cpu, Some(task));
+    }
+}
+
+/// A task that is there and on no processor exits.
+fn exit(world: &mut World, task: TaskNo)
+    requires placed { AreInPlace world.old }
+    requires task { task.0 < 64 }
+    ensures placed { AreInPlace world.new }
+    ensures hardware { world.new.hardware ≡ world.old.hardware }
+    ensures ids { world.new.quiet.next_id ≡ world.old.quiet.next_id }
+{
+    if let (TaskState::Live, None) = (world.task_state(task), world.cpu_of(task)) {
+        world.end_task(task);
+    }
+}
+
+/// Two processors of a PMU with two counters and one of a PMU with one, and three tasks: one on the second processor, one on none,
+/// one that has exited.
+pub fn three_processors(alloc: Global) -> Result<World, NoMemory>
+    ensures placed { IfOk result (λ w. AreInPlace w) }
     ensures kinds { IfOk result (λ w. length w.hardware.kind_pmus ≡ 3) }
     ensures ids { IfOk result (λ w. w.quiet.next_id ≡ 1) }
 {
@@ -122,10 +168,9 @@ fn machine(alloc: Global) -> Result<World, NoMemory>
         [0, 0, 1, 0, 0, 0, 0, 0, 0, 0, 0, 0, 0, 0, 0, 0],
         [3, 1, 1, 0, 0, 0, 0, 0, 0, 0, 0, 0, 0, 0, 0, 0],
     );
-    let mut world = World::new(alloc, pmus, &[TaskNo(5), TaskNo(6)])?;
-    if let (TaskState::Live, None) = (world.task_state(TaskNo(5)), world.cpu_of(TaskNo(5))) {
-        world.place(CpuNo(1), Some(TaskNo(5)));
-    }
+    let mut world = machine(alloc, pmus, &[TaskNo(5), TaskNo(6), TaskNo(7)])?;
+    switch_to(&mut world, CpuNo(1), TaskNo(5));
+    exit(&mut world, TaskNo(7));
     Ok(world)
 }
 
@@ -139,14 +184,12 @@ fn is_answer(answer: &Result<CpuSet, Reason>, want: &Result<u8, Reason>) -> bool
 }
 
 /// Whether an open of an event answers so. The world is of the same machine afterwards, and at most one id was drawn.
-fn answers(world: &mut World, call: &Call) -> bool
+fn answers(world: &mut World, kinds: u8, call: &Call) -> bool
     requires placed { AreInPlace world.old }
-    requires cpus { length world.old.quiet.running ≡ 3 }
-    requires kinds { length world.old.hardware.kind_pmus ≡ 3 }
+    requires kinds { length world.old.hardware.kind_pmus ≡ kinds }
     requires room { world.old.quiet.next_id + 1 < 2 ^ 63 }
     ensures placed { AreInPlace world.new }
-    ensures cpus { length world.new.quiet.running ≡ 3 }
-    ensures kinds { length world.new.hardware.kind_pmus ≡ 3 }
+    ensures kinds { length world.new.hardware.kind_pmus ≡ kinds }
     ensures drawn { world.new.quiet.next_id ≤ world.old.quiet.next_id + 1 }
 {
     let (slot, (kind, period, sample, format), (task, cpu), flags, leader, want) = *call;
@@ -159,7 +202,7 @@ fn answers(world: &mut World, call: &Call) -> bool
         format,
         flags,
     };
-    if slot >= 256 || !is_asked(&attr) {
+    if slot >= 256 || !is_asked(world.pmus().cpus(), kinds, &attr) {
         return false;
     }
     let answer = open(world, EventNo(slot), &attr, leader.map(EventNo));
@@ -167,14 +210,13 @@ fn answers(world: &mut World, call: &Call) -> bool
 }
 
 /// The place of the first call that is answered otherwise.
-fn first_wrong(world: &mut World, calls: &[Call]) -> Option<usize>
+pub fn first_wrong(world: &mut World, kinds: u8, calls: &[Call]) -> Option<usize>
     requires placed { AreInPlace world.old }
-    requires cpus { length world.old.quiet.running ≡ 3 }
-    requires kinds { length world.old.hardware.kind_pmus ≡ 3 }
+    requires kinds { length world.old.hardware.kind_pmus ≡ kinds }
     requires room { world.old.quiet.next_id + length calls.now < 2 ^ 63 }
 {
     for place in 0..calls.len() {
-        if !answers(world, &calls[place]) {
+        if !answers(world, kinds, &calls[place]) {
             return Some(place);
         }
     }
@@ -183,7 +225,7 @@ fn first_wrong(world: &mut World, calls: &[Call]) -> Option<usize>
 
 #[test]
 fn the_first_reason_decides(rt: HostRuntime) -> Result<(), Fail> {
-    let mut world = machine(rt.alloc())?;
+    let mut world = three_processors(rt.alloc())?;
     // Three events on two counters: the answer names all three, and the one that is off too.
     let three = Err(Reason::NoAssignment(slots(&[0, 2, 3])));
     let calls = [
@@ -217,13 +259,13 @@ fn the_first_reason_decides(rt: HostRuntime) -> Result<(), Fail> {
         (8, WIDE, TASK, NONE, Some(0), Err(Reason::GroupFull)),
         (8, DUMMY, TASK, NONE, Some(0), Err(Reason::GroupFull)),
     ];
-    assert_eq!(rt; first_wrong(&mut world, &calls), None);
+    assert_eq!(rt; first_wrong(&mut world, 3, &calls), None);
     Ok(())
 }
 
 #[test]
 fn processors_that_have_the_context(rt: HostRuntime) -> Result<(), Fail> {
-    let mut world = machine(rt.alloc())?;
+    let mut world = three_processors(rt.alloc())?;
     let pair = Err(Reason::NoAssignment(slots(&[1, 2])));
     let idle_pair = Err(Reason::NoAssignment(slots(&[3, 4])));
     let calls = [
@@ -235,12 +277,98 @@ fn processors_that_have_the_context(rt: HostRuntime) -> Result<(), Fail> {
         (4, FIRST, IDLE, NONE, Some(3), idle_pair),
         (5, FIRST, TASK_0, NONE, None, Ok(2)),
     ];
-    assert_eq!(rt; first_wrong(&mut world, &calls), None);
+    assert_eq!(rt; first_wrong(&mut world, 3, &calls), None);
     // A refused open draws no id.
     let fifth = match world.key_of(EventNo(5)) {
         None => 0,
         Some(key) => world.id(key),
     };
     assert_eq!(rt; fifth, 5);
+    Ok(())
+}
+
+#[test]
+fn each_reason_for_one_task(rt: HostRuntime) -> Result<(), Fail> {
+    let pmus = Pmus::new(
+        2,
+        [0, 0, 0, 0, 0, 0, 0, 0],
+        [1, 0, 0, 0],
+        1,
+        [0, 0, 0, 0, 0, 0, 0, 0, 0, 0, 0, 0, 0, 0, 0, 0],
+        [1, 0, 0, 0, 0, 0, 0, 0, 0, 0, 0, 0, 0, 0, 0, 0],
+    );
+    let mut world = machine(rt.alloc(), pmus, &[TaskNo(0)])?;
+    let one: Place = (TaskSel::One(TaskNo(0)), CpuSel::Any);
+    let one_0: Place = (TaskSel::One(TaskNo(0)), CpuSel::One(CpuNo(0)));
+    let other: Place = (TaskSel::One(TaskNo(7)), CpuSel::Any);
+    let pair = Err(Reason::NoAssignment(slots(&[0, 1])));
+    let calls = [
+        (0, WIDE, one, NONE, None, Ok(0)),
+        (0, WIDE, one, NONE, None, Err(Reason::Exists)),
+        (1, WIDE, NOWHERE, NONE, None, Err(Reason::NoPlace)),
+        (1, LONG, one, NONE, None, Err(Reason::BadPeriod)),
+        (1, SAMPLED, one, NONE, None, Err(Reason::BadSampleBits)),
+        (1, FORMATTED, one, NONE, None, Err(Reason::BadFormatBits)),
+        (1, SOFT, one, NONE, None, Err(Reason::SoftPeriod)),
+        (1, WIDE, other, NONE, None, Err(Reason::NoTask)),
+        (1, WIDE, one, NONE, Some(9), Err(Reason::NoEvent)),
+        (1, WIDE, one_0, NONE, Some(0), Err(Reason::OtherContext)),
+        (1, WIDE, one, PINNED, Some(0), SIBLING_FLAGS),
+        (1, WIDE, one, INHERIT, Some(0), Err(Reason::Inherit)),
+        (1, WIDE, one, NONE, Some(0), pair),
+        (1, DUMMY, one, NONE, Some(0), Ok(0)),
+        (2, DUMMY, one, NONE, Some(1), Err(Reason::NotLeader)),
+    ];
+    assert_eq!(rt; first_wrong(&mut world, 1, &calls), None);
+    Ok(())
+}
+
+#[test]
+fn a_ninth_member_is_refused(rt: HostRuntime) -> Result<(), Fail> {
+    let pmus = Pmus::new(
+        1,
+        [0, 0, 0, 0, 0, 0, 0, 0],
+        [1, 0, 0, 0],
+        0,
+        [0, 0, 0, 0, 0, 0, 0, 0, 0, 0, 0, 0, 0, 0, 0, 0],
+        [0, 0, 0, 0, 0, 0, 0, 0, 0, 0, 0, 0, 0, 0, 0, 0],
+    );
+    let mut world = machine(rt.alloc(), pmus, &[])?;
+    let calls = [
+        (0, DUMMY, CPU_0, NONE, None, Ok(1)),
+        (1, DUMMY, CPU_0, NONE, Some(0), Ok(1)),
+        (2, DUMMY, CPU_0, NONE, Some(0), Ok(1)),
+        (3, DUMMY, CPU_0, NONE, Some(0), Ok(1)),
+        (4, DUMMY, CPU_0, NONE, Some(0), Ok(1)),
+        (5, DUMMY, CPU_0, NONE, Some(0), Ok(1)),
+        (6, DUMMY, CPU_0, NONE, Some(0), Ok(1)),
+        (7, DUMMY, CPU_0, NONE, Some(0), Ok(1)),
+        (8, DUMMY, CPU_0, NONE, Some(0), Err(Reason::GroupFull)),
+    ];
+    assert_eq!(rt; first_wrong(&mut world, 0, &calls), None);
+    Ok(())
+}
+
+#[test]
+fn processors_of_two_makes(rt: HostRuntime) -> Result<(), Fail> {
+    let pmus = Pmus::new(
+        2,
+        [0, 1, 0, 0, 0, 0, 0, 0],
+        [1, 2, 0, 0],
+        2,
+        [0, 1, 0, 0, 0, 0, 0, 0, 0, 0, 0, 0, 0, 0, 0, 0],
+        [1, 3, 0, 0, 0, 0, 0, 0, 0, 0, 0, 0, 0, 0, 0, 0],
+    );
+    let mut world = machine(rt.alloc(), pmus, &[TaskNo(0)])?;
+    let one: Place = (TaskSel::One(TaskNo(0)), CpuSel::Any);
+    let core: What = (Kind::Hard(0), 0, 0, 0);
+    let atom: What = (Kind::Hard(1), 0, 0, 0);
+    let calls = [
+        (0, (Kind::Hard(0), 0, 0, 3), one, NONE, None, Ok(0)),
+        (1, (Kind::Hard(1), 0, 0, 3), one, NONE, None, Ok(0)),
+        (2, core, CPU_1, NONE, None, Err(Reason::NoDevice)),
+        (2, atom, one, NONE, Some(0), Err(Reason::OtherPmu)),
+    ];
+    assert_eq!(rt; first_wrong(&mut world, 2, &calls), None);
     Ok(())
 }

@@ -5,7 +5,6 @@ use Rattle.event_open.proofs.tests.first_wrong.Given as goal
 abbrev pub invariant-loop-place : goal.invariant-loop-place
 invariant-loop-place l = record {
   placed : AreInPlace l.world;
-  cpus : length l.world.quiet.running ≡ 3;
-  kinds : length l.world.hardware.kind_pmus ≡ 3;
+  kinds : length l.world.hardware.kind_pmus ≡ l.fn.kinds;
   drawn : l.world.quiet.next_id ≤ l.fn.world.quiet.next_id + l.place;
 }
