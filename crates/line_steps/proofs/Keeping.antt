@@ -19,7 +19,7 @@ use Rattle.perf_base.specs.declared.numbers.Key.{Key}
 use Rattle.stage_spec.specs.Families.{leaving}
 use Rattle.stage_spec.specs.Hardware.{Hardware}
 use Rattle.stage_spec.specs.History.{Step, CpuStep, ToolStep, tool_refusal, tool_changed, stage_step}
-use Rattle.stage_spec.specs.Limits.{IsMachine, IsWithin}
+use Rattle.stage_spec.specs.Limits.{Limits, IsMachine, IsWithin}
 use Rattle.stage_spec.specs.Numbers.{numbers_below}
 use Rattle.stage_spec.specs.Settle.{settle_each}
 use Rattle.stage_spec.specs.Shares.{no_sums}
@@ -108,15 +108,19 @@ kept-stepped w x step h h_then keeps quiet none still stage = record {
   clock = λ cpu. let same : slice_index_or x.quiet.clocks cpu.0 0 ≡ slice_index_or w.quiet.clocks cpu.0 0 = ap (λ l. slice_index_or l cpu.0 0) keeps.clocks in omega (arith, same, still cpu);
 }
 
-pub kept-ready : (w x : World) (step : Step) → IsReady w → IsWithin (limits_in w) step → KeepsAll w x → stage_of x ≡ stage_step w.hardware (stage_of w) step → AreRescheduled w.hardware x → IsReady x
-kept-ready w x step ready within keeps stage rescheduled = record {
+pub kept-ready-by : (l : Limits) (w x : World) (step : Step) → IsReady w → IsMachine l w.hardware → IsWithin l step → KeepsAll w x → stage_of x ≡ stage_step w.hardware (stage_of w) step
+    → AreRescheduled w.hardware x → IsReady x
+kept-ready-by l w x step ready machine within keeps stage rescheduled = record {
   machine = subst (λ (n : ℕ). IsMachine (record { cpus = n; kinds = length x.hardware.kind_pmus; rings = [] }) x.hardware) (sym keeps.running)
       (subst (λ (hw : Hardware). IsMachine (record { cpus = length w.quiet.running; kinds = length hw.kind_pmus; rings = [] }) hw) (sym keeps.hardware) ready.machine);
   sound = subst (λ (hw : Hardware). IsSound hw (stage_of x)) (sym keeps.hardware)
-      (subst (IsSound w.hardware) (sym stage) (step_sound (limits_in w) w.hardware (stage_of w) step ready.machine within ready.sound));
+      (subst (IsSound w.hardware) (sym stage) (step_sound l w.hardware (stage_of w) step machine within ready.sound));
   rescheduled = subst (λ (hw : Hardware). AreRescheduled hw x) (sym keeps.hardware) rescheduled;
   homes = λ k cpu live at. let low : cpu.0 < length w.quiet.running = ready.homes k cpu (sym (keeps.live k) ∙ live) (sym (keeps.contexts k) ∙ at) in omega (arith, low, keeps.running);
 }
+
+pub kept-ready : (w x : World) (step : Step) → IsReady w → IsWithin (limits_in w) step → KeepsAll w x → stage_of x ≡ stage_step w.hardware (stage_of w) step → AreRescheduled w.hardware x → IsReady x
+kept-ready w x step ready = kept-ready-by (limits_in w) w x step ready ready.machine
 
 -- of the processors, one alone
 same-number : (m n : ℕ) → m ≡ n → (m == n) ≡ true
@@ -165,7 +169,7 @@ in-by set cpu false there back = elim (cases_Bool (is_in set cpu)) [
   | inr out ↦ out
 ]
 
-settled-all : (hw : Hardware) (w : World) → AreRescheduled hw w → AreSettled hw (stage_of w)
+pub settled-all : (hw : Hardware) (w : World) → AreRescheduled hw w → AreSettled hw (stage_of w)
 settled-all hw w h cpu low = (h cpu low).settled
 
 -- What is told of a line of a tool that is accepted: the world after it, and a set of the processors that it touches.

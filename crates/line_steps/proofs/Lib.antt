@@ -6,6 +6,7 @@ pub mod Keeping
 pub mod Opening
 pub mod Refused
 pub mod Restarting
+pub mod RingLines
 pub mod Settling
 pub mod TaskChange
 pub mod Ticking

@@ -53,7 +53,7 @@ pub record Course (w x : World) (event : EventNo) (period : ℕ) : Type 0 where
   pub kept_then : IsKept x.hardware x
 
 -- it touches no processor
-takes-none : (p : CpuNo → Bool) (cpus : List CpuNo) → ((cpu : CpuNo) → p cpu ≡ false) → filter p cpus ≡ []
+pub takes-none : (p : CpuNo → Bool) (cpus : List CpuNo) → ((cpu : CpuNo) → p cpu ≡ false) → filter p cpus ≡ []
 takes-none p [] none = refl
 takes-none p (cpu ∷ cpus) none = (λ i. cond (none cpu i) (cpu ∷ filter p cpus) (filter p cpus)) ∙ takes-none p cpus none
 

@@ -5,10 +5,12 @@
 mod commands;
 mod processors;
 mod rescheduling;
+mod rings;
 mod switching;
 mod tools;
 
 pub use commands::{disable, enable, period, reset};
 pub use processors::{fork, tick, work};
+pub use rings::{map, output};
 pub use switching::switch;
 pub use tools::{open, read, seats, why};
