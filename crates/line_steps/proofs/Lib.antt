@@ -1,5 +1,6 @@
 pub mod Asking
 pub mod Clearing
+pub mod Closes
 pub mod CommandLines
 pub mod Forks
 pub mod Keeping

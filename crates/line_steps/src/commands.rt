@@ -99,3 +99,23 @@ pub fn period(world: &mut World, event: EventNo, period: u64) -> Reply
         }
     }
 }
+
+/// Closes an event: its copies go with it, and the siblings of a leader become groups of their own. The processors that reach the event are rescheduled.
+/// Refused with NoEvent where the event is not open.
+pub fn close<L: Ledger>(world: &mut World, event: EventNo, tests: &mut Steps<L>) -> Reply
+    requires ready { IsReady world.old }
+    requires slot { IsSlot event }
+    ensures ready { IsReady world.new }
+    ensures done { IsDone (ToolStep (line.Close event)) world.old world.new result }
+    ensures counted { tests.old ≤ tests.new }
+{
+    // A reader tells what always holds of a world.
+    let _pmus = world.pmus();
+    match event_commands::close(world, event) {
+        Err(reason) => Reply::Refused(reason),
+        Ok(set) => {
+            resched_each(world, set, tests);
+            Reply::Ok
+        }
+    }
+}

@@ -9,7 +9,7 @@ mod rings;
 mod switching;
 mod tools;
 
-pub use commands::{disable, enable, period, reset};
+pub use commands::{close, disable, enable, period, reset};
 pub use processors::{fork, tick, work};
 pub use rings::{map, output};
 pub use switching::switch;

@@ -1,0 +1,48 @@
+use Rattle.std.proofs.Common.{ap, length}
+use Rattle.perf_base.specs.declared.lines.ToolLine.TheVariants as line
+use Rattle.world_spec.specs.Value.{World}
+use Rattle.line_steps.proofs.Closes.{close-ready, close-done}
+use Rattle.line_steps.proofs.Keeping.{left-rescheduled}
+use Rattle.line_steps.proofs.Refused.{refused-line}
+use Rattle.line_steps.proofs.commands.close.Goals as goal
+
+pub resched_each-requires : goal.resched_each-requires
+resched_each-requires g c =
+    left-rescheduled c.args.world.now c.close.new.world c.in-Ok.set (ap (λ (y : World). y.hardware) c.in-Ok.ensures.closed.world) (ap (λ (y : World). length y.quiet.running) c.in-Ok.ensures.closed.world)
+    c.requires.ready.rescheduled c.in-Ok.ensures.others
+
+pub returns-in-Err-clause-done : goal.returns-in-Err-clause-done
+returns-in-Err-clause-done g c =
+    refused-line c.args.world.now c.close.new.world (line.Close c.args.event) c.in-Err.reason c.pmus-pmus.ensures.kept c.in-Err.ensures.same c.in-Err.ensures.refused
+
+pub returns-in-Ok-clause-ready : goal.returns-in-Ok-clause-ready
+returns-in-Ok-clause-ready g c =
+    close-ready c.args.world.now c.close.new.world c.resched_each.new.world c.args.event c.in-Ok.set (record {
+      kept = c.pmus-pmus.ensures.kept;
+      ready = c.requires.ready;
+      slot = c.requires.slot;
+      accepted = c.in-Ok.ensures.accepted;
+      gone = c.in-Ok.ensures.closed;
+      stage = c.in-Ok.ensures.stage;
+      into = λ cpu low there. (c.in-Ok.ensures.processors cpu low).0 there;
+      back = λ cpu low there. (c.in-Ok.ensures.processors cpu low).1 there;
+      settled = c.resched_each.ensures.stage;
+      rest = c.resched_each.ensures.rest;
+      kept_then = c.resched_each.ensures.kept;
+    }) c.resched_each.ensures.rescheduled
+
+pub returns-in-Ok-clause-done : goal.returns-in-Ok-clause-done
+returns-in-Ok-clause-done g c =
+    close-done c.args.world.now c.close.new.world c.resched_each.new.world c.args.event c.in-Ok.set (record {
+      kept = c.pmus-pmus.ensures.kept;
+      ready = c.requires.ready;
+      slot = c.requires.slot;
+      accepted = c.in-Ok.ensures.accepted;
+      gone = c.in-Ok.ensures.closed;
+      stage = c.in-Ok.ensures.stage;
+      into = λ cpu low there. (c.in-Ok.ensures.processors cpu low).0 there;
+      back = λ cpu low there. (c.in-Ok.ensures.processors cpu low).1 there;
+      settled = c.resched_each.ensures.stage;
+      rest = c.resched_each.ensures.rest;
+      kept_then = c.resched_each.ensures.kept;
+    })
