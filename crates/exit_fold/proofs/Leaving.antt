@@ -32,7 +32,7 @@ sums-total : (p : Sums → ℕ) → IsSum p → (s : Key → Sums) (keys : List 
 sums-total p is s [] = is.none ∙ sym (total-nil (λ k. p (s k)))
 sums-total p is s (q ∷ keys) = omega (arith, is.both (s q) (plus_keys s keys), sums-total p is s keys, total-cons (λ k. p (s k)) q keys)
 
-same-sums : (s : Key → Sums) (xs ys : List Key) → AreSameKeys xs ys → plus_keys s xs ≡ plus_keys s ys
+pub same-sums : (s : Key → Sums) (xs ys : List Key) → AreSameKeys xs ys → plus_keys s xs ≡ plus_keys s ys
 same-sums s xs ys h =
     let each : (p : Sums → ℕ) → IsSum p → p (plus_keys s xs) ≡ p (plus_keys s ys) = λ p is. sums-total p is s xs ∙ (same-total (λ k. p (s k)) xs ys h ∙ sym (sums-total p is s ys)) in
     λ i. record {
@@ -61,10 +61,11 @@ same-one false true true of = refl
 same-one false true false of = refl
 same-one false false copy of = refl
 
-abbrev of_event : World → EventNo → Key → Bool
+-- the keys of an event's copies in a context
+abbrev pub of_event : World → EventNo → Key → Bool
 of_event w e k = is_of_family e (instance_at w k) && (instance_at w k).copy
 
-same-keys : (hw : Hardware) (w : World) (task : TaskNo) (e : EventNo) → IsKept hw w → task.0 < 64 → AreSameKeys (filter (of_event w e) (keys_in w (context.Task task))) (leaving_copies w (Some task) e)
+pub same-keys : (hw : Hardware) (w : World) (task : TaskNo) (e : EventNo) → IsKept hw w → task.0 < 64 → AreSameKeys (filter (of_event w e) (keys_in w (context.Task task))) (leaving_copies w (Some task) e)
 same-keys hw w task e h low k =
     times-filter k (of_event w e) (keys_in w (context.Task task))
     ∙ (ap (λ n. cond (of_event w e k) n 0) (keys-at hw w h k (8 + task.0))
@@ -72,14 +73,19 @@ same-keys hw w task e h low k =
     ∙ (same-one (is_live w k) (is_of_family e (instance_at w k)) (instance_at w k).copy (is_of_task task (entry_at w k).context)
     ∙ sym (leaving-times hw w task e h k))))
 
+pub leaving-mapped : (hw : Hardware) (w : World) (task : TaskNo) (e : EventNo) → IsKept hw w
+    → filter (λ i. is_of_family e i && i.copy) (members (groups_in (task_lists (stage_of w) (Some task)))) ≡ map (instance_at w) (filter (of_event w e) (keys_in w (context.Task task)))
+leaving-mapped hw w task e h =
+    ap (filter (λ i. is_of_family e i && i.copy)) (context-is hw w (context.Task task) h)
+    ∙ filter-map (λ i. is_of_family e i && i.copy) (of_event w e) (instance_at w) (λ k. refl) (keys_in w (context.Task task))
+
 leaving-by : (hw : Hardware) (w : World) (cpu : CpuNo) (e : EventNo) (f : Instance → Sums) (o : Option TaskNo) → IsKept hw w → task_on (stage_of w) cpu ≡ o
     → plus_each f (filter (λ i. is_of_family e i && i.copy) (members (groups_in (task_lists (stage_of w) o)))) ≡ plus_keys (λ k. f (instance_at w k)) (leaving_copies w o e)
 leaving-by hw w cpu e f None h on = ap (plus_keys (λ k. f (instance_at w k))) (sym (none-leave (family_of w e).copies))
 leaving-by hw w cpu e f (Some task) h on =
-    ap (λ is. plus_each f (filter (λ i. is_of_family e i && i.copy) is)) (context-is hw w (context.Task task) h)
-    ∙ (ap (plus_each f) (filter-map (λ i. is_of_family e i && i.copy) (of_event w e) (instance_at w) (λ k. refl) (keys_in w (context.Task task)))
+    ap (plus_each f) (leaving-mapped hw w task e h)
     ∙ (sums-by_keys f w (filter (of_event w e) (keys_in w (context.Task task)))
-    ∙ same-sums (λ k. f (instance_at w k)) (filter (of_event w e) (keys_in w (context.Task task))) (leaving_copies w (Some task) e) (same-keys hw w task e h (task-low hw w cpu task h on))))
+    ∙ same-sums (λ k. f (instance_at w k)) (filter (of_event w e) (keys_in w (context.Task task))) (leaving_copies w (Some task) e) (same-keys hw w task e h (task-low hw w cpu task h on)))
 
 pub leaving-is : LeavingLaw
 leaving-is hw w cpu e f h = leaving-by hw w cpu e f (task_on (stage_of w) cpu) h refl
