@@ -2,6 +2,7 @@ pub mod Asking
 pub mod Clearing
 pub mod Closes
 pub mod CommandLines
+pub mod Exits
 pub mod Forks
 pub mod Keeping
 pub mod Opening

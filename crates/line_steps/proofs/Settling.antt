@@ -36,6 +36,10 @@ only-then v w x first second = record {
 abbrev pub cpus_below : ℕ → List CpuNo
 cpus_below n = map (λ k. record { 0 = k }) (numbers_below n)
 
+pub one-settled : (hw : Hardware) (cpu : CpuNo) (s : Stage) → settle_each hw (cpu ∷ []) s ≡ settle hw cpu s
+unfolding settle_each
+one-settled hw cpu s = refl
+
 pub settle-parts : (hw : Hardware) (xs ys : List CpuNo) (s : Stage) → settle_each hw (xs ++ ys) s ≡ settle_each hw ys (settle_each hw xs s)
 unfolding settle_each
 settle-parts hw [] ys s = refl

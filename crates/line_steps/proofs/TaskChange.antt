@@ -43,6 +43,7 @@ use Rattle.line_steps.specs.Stepped as stepped_line
 use Rattle.line_steps.specs.Switched.{migration_shares, two_hits}
 use Rattle.line_steps.proofs.Refused.{accepted-cpu}
 use Rattle.line_steps.proofs.Keeping.{none-lost, one-below, slots-current}
+use Rattle.line_steps.proofs.Settling.{one-settled}
 
 -- no migration leaves the accounts
 pub none-given : (w : World) (cpu : CpuNo) → HaveShares w w (migration_shares false w cpu)
@@ -136,10 +137,6 @@ room-then w a b x cpu to m c room =
     }
 
 -- the stage after the switch
-one-settled : (hw : Hardware) (cpu : CpuNo) (s : Stage) → settle_each hw (cpu ∷ []) s ≡ settle hw cpu s
-unfolding settle_each
-one-settled hw cpu s = refl
-
 hardware-then : (w a b x : World) (cpu : CpuNo) (to : Option TaskNo) (m : Bool) → Course w a b x cpu to m → b.hardware ≡ w.hardware
 hardware-then w a b x cpu to m c = (keeps-counts w a b x cpu to m c).hardware ∙ ap (λ (y : World). y.hardware) c.first_rest
 

@@ -1,5 +1,5 @@
 -- A tick.
-use Rattle.std.specs.Prelude.{◌≡◌, ℕ, ◌<◌, ◌≢◌, [], ◌∷◌, length, Option, Some, None}
+use Rattle.std.specs.Prelude.{◌≡◌, ℕ, ◌<◌, ◌≢◌, length, Option, Some, None}
 use Rattle.std.proofs.Common.{arith, refl, sym, ap, subst, ◌∙◌, inl, inr}
 use Rattle.std.proofs.lemmas.Bool.{cases_eq}
 use Rattle.perf_base.specs.declared.lines.CpuLine.TheVariants as line
@@ -11,7 +11,7 @@ use Rattle.stage_spec.specs.Hardware.{Hardware}
 use Rattle.stage_spec.specs.History.{CpuStep, stage_step}
 use Rattle.stage_spec.specs.Rotation.{rotated}
 use Rattle.stage_spec.specs.Settle.{settle, settle_each}
-use Rattle.stage_spec.specs.Stage.{Stage, task_on}
+use Rattle.stage_spec.specs.Stage.{task_on}
 use Rattle.stage_laws.specs.Narrowing.{IsNarrow}
 use Rattle.stage_laws.proofs.Narrow.{narrows}
 use Rattle.world_spec.specs.Kept.{IsKept}
@@ -24,6 +24,7 @@ use Rattle.step_laws.proofs.Stepping.{stepped}
 use Rattle.line_steps.specs.Stepped.{limits_in, IsReady}
 use Rattle.line_steps.specs.Stepped as stepped_line
 use Rattle.line_steps.proofs.Keeping.{none-lost, KeepsAll, kept-stepped, kept-ready, one-below}
+use Rattle.line_steps.proofs.Settling.{one-settled}
 
 -- What is told of a tick: the worlds before it, after the groups took turns, and after the processor was rescheduled.
 pub record Course (w v x : World) (cpu : CpuNo) : Type 0 where
@@ -64,10 +65,6 @@ tick-keeps w v x cpu c =
       used = ap (λ (y : World). y.quiet.used) c.rest.world ∙ ap (λ (y : World). y.quiet.used) lists;
       next_id = ap (λ (y : World). y.quiet.next_id) c.rest.world ∙ ap (λ (y : World). y.quiet.next_id) lists;
     }
-
-one-settled : (hw : Hardware) (cpu : CpuNo) (s : Stage) → settle_each hw (cpu ∷ []) s ≡ settle hw cpu s
-unfolding settle_each
-one-settled hw cpu s = refl
 
 tick-stage : (w v x : World) (cpu : CpuNo) → Course w v x cpu → stage_of x ≡ stage_step w.hardware (stage_of w) (CpuStep cpu line.Tick)
 tick-stage w v x cpu c =

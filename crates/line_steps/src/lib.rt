@@ -10,7 +10,7 @@ mod switching;
 mod tools;
 
 pub use commands::{close, disable, enable, period, reset};
-pub use processors::{fork, tick, work};
+pub use processors::{exit, fork, tick, work};
 pub use rings::{map, output};
 pub use switching::switch;
 pub use tools::{open, read, seats, why};

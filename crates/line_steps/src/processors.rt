@@ -66,3 +66,24 @@ pub fn fork(world: &mut World, cpu: CpuNo, child: TaskNo) -> Reply
         Ok(()) => Reply::Ok,
     }
 }
+
+/// The exit of the task on a processor: its copies go, what they have counted stays with their originals, and the processor is idle and rescheduled. Refused
+/// with Idle where no task is on.
+pub fn exit<L: Ledger>(world: &mut World, cpu: CpuNo, tests: &mut Steps<L>) -> Reply
+    requires ready { IsReady world.old }
+    requires cpu { cpu.0 < length world.old.quiet.running }
+    ensures ready { IsReady world.new }
+    ensures done { IsDone (CpuStep cpu line.Exit) world.old world.new result }
+    ensures counted { tests.old ≤ tests.new }
+{
+    // A reader tells what always holds of a world.
+    let _before = world.pmus();
+    match exit_fold::exit(world, cpu) {
+        Err(reason) => Reply::Refused(reason),
+        Ok(()) => {
+            resched(world, cpu, tests);
+            let _after = world.pmus();
+            Reply::Ok
+        }
+    }
+}
