@@ -27,7 +27,7 @@ use Rattle.world_spec.specs.Rescheduled.{IsRescheduled}
 use Rattle.world_spec.proofs.Moving.{leads-parts}
 use Rattle.world_spec.proofs.Standing.{left-rescheduled}
 use Rattle.exit_fold.specs.Leaving.{is_of_task, IsFolded}
-use Rattle.exit_fold.proofs.Below.{same-number}
+use Rattle.exit_fold.proofs.Copies.{same-number}
 
 -- the task on a processor has a number, and is there
 pub task-low : (hw : Hardware) (w : World) (cpu : CpuNo) (task : TaskNo) → IsKept hw w → task_on (stage_of w) cpu ≡ Some task → task.0 < 64

@@ -1,6 +1,6 @@
 -- The copies that go are the stage's.
-use Rattle.std.specs.Prelude.{◌≡◌, ℕ, ◌+◌, ◌<◌, Bool, true, false, ◌&&◌, cond, List, [], ◌∷◌, map, filter, Option, Some, None}
-use Rattle.std.proofs.Common.{arith, refl, sym, ap, ◌∙◌}
+use Rattle.std.specs.Prelude.{◌≡◌, ◌+◌, ◌<◌, Bool, true, false, ◌&&◌, cond, List, [], ◌∷◌, map, filter, Option, Some, None}
+use Rattle.std.proofs.Common.{refl, sym, ap, ◌∙◌}
 use Rattle.perf_base.specs.declared.numbers.CpuNo.{CpuNo}
 use Rattle.perf_base.specs.declared.numbers.EventNo.{EventNo}
 use Rattle.perf_base.specs.declared.numbers.Key.{Key}
@@ -13,43 +13,23 @@ use Rattle.stage_spec.specs.Hardware.{Hardware}
 use Rattle.stage_spec.specs.Stage.{members, groups_in, is_of_family, task_on}
 use Rattle.stage_spec.specs.Verdict.{task_lists}
 use Rattle.stage_laws.proofs.Images.{filter-map}
-use Rattle.stage_laws.proofs.Totals.{total, total-nil, total-cons}
 use Rattle.world_spec.specs.Value.{World, is_live, entry_at, instance_at, family_of}
 use Rattle.world_spec.specs.StageOf.{stage_of}
 use Rattle.world_spec.specs.Kept.{once_if, plus_keys, IsKept}
 use Rattle.world_spec.specs.Listings.{keys_in}
-use Rattle.world_spec.proofs.Accounts.{IsSum, counts_are_sums, times_are_sums}
-use Rattle.world_spec.proofs.Counting.{times-filter, AreSameKeys, same-total}
-use Rattle.world_spec.proofs.Folding.{run_times_are_sums}
+use Rattle.world_spec.proofs.Counting.{times-filter, AreSameKeys}
 use Rattle.world_spec.proofs.Listings.{context-is}
 use Rattle.exit_fold.specs.Leaving.{is_of_task, leaving_copies, LeavingLaw}
-use Rattle.exit_fold.proofs.Below.{leaving-times}
+use Rattle.exit_fold.proofs.Contexts.{by-place, keys-at}
+use Rattle.exit_fold.proofs.Copies.{leaving-times, no-one, same-sums}
 use Rattle.exit_fold.proofs.Exited.{task-low}
-use Rattle.exit_fold.proofs.Whole.{keys-at, by-place}
 
 -- sums by the keys
-sums-total : (p : Sums → ℕ) → IsSum p → (s : Key → Sums) (keys : List Key) → p (plus_keys s keys) ≡ total (λ k. p (s k)) keys
-sums-total p is s [] = is.none ∙ sym (total-nil (λ k. p (s k)))
-sums-total p is s (q ∷ keys) = omega (arith, is.both (s q) (plus_keys s keys), sums-total p is s keys, total-cons (λ k. p (s k)) q keys)
-
-pub same-sums : (s : Key → Sums) (xs ys : List Key) → AreSameKeys xs ys → plus_keys s xs ≡ plus_keys s ys
-same-sums s xs ys h =
-    let each : (p : Sums → ℕ) → IsSum p → p (plus_keys s xs) ≡ p (plus_keys s ys) = λ p is. sums-total p is s xs ∙ (same-total (λ k. p (s k)) xs ys h ∙ sym (sums-total p is s ys)) in
-    λ i. record {
-      count = each (λ x. x.count) counts_are_sums i;
-      enabled = each (λ x. x.enabled) times_are_sums i;
-      running = each (λ x. x.running) run_times_are_sums i;
-    }
-
 sums-by_keys : (f : Instance → Sums) (w : World) (keys : List Key) → plus_each f (map (instance_at w) keys) ≡ plus_keys (λ k. f (instance_at w k)) keys
 sums-by_keys f w [] = refl
 sums-by_keys f w (q ∷ keys) = ap (plus (f (instance_at w q))) (sums-by_keys f w keys)
 
 -- where no task is on, and where one is
-none-leave : (keys : List Key) → filter (λ k. false) keys ≡ []
-none-leave [] = refl
-none-leave (q ∷ keys) = none-leave keys
-
 same-one : (live family copy of : Bool) → cond (family && copy) (once_if (live && of)) 0 ≡ once_if (live && ((copy && of) && family))
 same-one true true true true = refl
 same-one true true true false = refl
@@ -81,7 +61,7 @@ leaving-mapped hw w task e h =
 
 leaving-by : (hw : Hardware) (w : World) (cpu : CpuNo) (e : EventNo) (f : Instance → Sums) (o : Option TaskNo) → IsKept hw w → task_on (stage_of w) cpu ≡ o
     → plus_each f (filter (λ i. is_of_family e i && i.copy) (members (groups_in (task_lists (stage_of w) o)))) ≡ plus_keys (λ k. f (instance_at w k)) (leaving_copies w o e)
-leaving-by hw w cpu e f None h on = ap (plus_keys (λ k. f (instance_at w k))) (sym (none-leave (family_of w e).copies))
+leaving-by hw w cpu e f None h on = ap (plus_keys (λ k. f (instance_at w k))) (sym (no-one (family_of w e).copies))
 leaving-by hw w cpu e f (Some task) h on =
     ap (plus_each f) (leaving-mapped hw w task e h)
     ∙ (sums-by_keys f w (filter (of_event w e) (keys_in w (context.Task task)))

@@ -1,6 +1,8 @@
-pub mod Below
+pub mod Contexts
+pub mod Copies
 pub mod Exited
-pub mod Found
 pub mod Going
+pub mod Leaders
 pub mod Leaving
+pub mod Walked
 pub mod Whole

@@ -1,5 +1,5 @@
 -- Which instances go when a task exits, and what stays then. After perf_event_exit_task_context and sync_child_event of kernel/events/core.c.
-use Rattle.std.specs.Prelude.{◌≡◌, ℕ, ◌==◌, Bool, true, false, not, ◌&&◌, List, filter, find, Option, Some, None, slice_index_or}
+use Rattle.std.specs.Prelude.{◌≡◌, ℕ, ◌==◌, Bool, true, false, not, ◌&&◌, List, ◌++◌, filter, Option, Some, None, slice_index_or}
 use Rattle.perf_base.specs.declared.lines.CpuLine.TheVariants as cpu_line
 use Rattle.perf_base.specs.declared.numbers.CpuNo.{CpuNo}
 use Rattle.perf_base.specs.declared.numbers.EventNo.{EventNo}
@@ -14,7 +14,7 @@ use Rattle.stage_spec.specs.Families.{plus, plus_each, leaving_by}
 use Rattle.stage_spec.specs.Hardware.{Hardware}
 use Rattle.stage_spec.specs.Shares.{no_sums}
 use Rattle.stage_spec.specs.Stage.{is_copy, task_on, change_context}
-use Rattle.world_spec.specs.Value.{World, is_live, entry_at, instance_at, account_at, standing_at, family_of}
+use Rattle.world_spec.specs.Value.{World, is_live, entry_at, instance_at, account_at, standing_at, family_of, leaders_of}
 use Rattle.world_spec.specs.StageOf.{stage_of}
 use Rattle.world_spec.specs.Kept.{post_at, plus_keys, family_sums, IsKept}
 use Rattle.world_spec.specs.Adding.{folded_away}
@@ -60,13 +60,14 @@ pub record HasExited (w after : World) (to : Option TaskNo) : Type 0 where
   pub gone : HaveGone w after to
   pub quiet : after.quiet ≡ record w.quiet { tasks = after.quiet.tasks; running = after.quiet.running }
 
--- the copy of an event in the context of a task, where it is first found, folded into its original
-abbrev pub fold_found : Option Key → World → World
-fold_found None w = w
-fold_found (Some k) w = folded_away k w
+-- the leaders of a task's groups, the pinned ones first
+abbrev pub leaders_in : World → TaskNo → List Key
+leaders_in w task = (leaders_of w (context.Task task)).pinned ++ (leaders_of w (context.Task task)).flexible
 
-abbrev pub fold_copy : TaskNo → World → EventNo → World
-fold_copy task w e = fold_found (find (λ k. is_of_task task (entry_at w k).context) (family_of w e).copies) w
+-- a copy is folded into its original, and any other instance stays
+abbrev pub fold_copy : Bool → Key → World → World
+fold_copy true k w = folded_away k w
+fold_copy false k w = w
 
 -- The copies of an event that go with the task on a processor are those that the definitions take away by an exit: whatever is summed up of them is the same.
 abbrev pub LeavingLaw : Type 0

@@ -1,5 +1,5 @@
 -- An exit.
-use Rattle.std.specs.Prelude.{◌≡◌, ◌≢◌, ℕ, ◌<◌, ◌≤◌, ◌&&◌, ◌==◌, Bool, true, false, not, List, [], ◌∷◌, length, map, filter, Option, Some, None, slice_index_or}
+use Rattle.std.specs.Prelude.{◌≡◌, ◌≢◌, ℕ, ◌<◌, ◌≤◌, ◌&&◌, ◌==◌, Bool, true, false, not, List, [], length, map, filter, Option, Some, None, slice_index_or}
 use Rattle.std.proofs.Common.{arith, refl, sym, ap, subst, ◌∙◌, inl, inr}
 use Rattle.std.proofs.lemmas.Bool.{cases_eq}
 use Rattle.std.proofs.lemmas.List.{length-set}
@@ -31,9 +31,9 @@ use Rattle.world_spec.specs.Value.{World, is_live, entry_at, instance_at, accoun
 use Rattle.world_spec.proofs.Moving.{leads-parts}
 use Rattle.cpu_sched.specs.Resched.{StaysBut}
 use Rattle.exit_fold.specs.Leaving.{leaves, leaving_copies, leaving_sums, HasExited}
-use Rattle.exit_fold.proofs.Below.{leaving-times}
+use Rattle.exit_fold.proofs.Copies.{leaving-times, no-one, same-sums}
 use Rattle.exit_fold.proofs.Exited.{task-low}
-use Rattle.exit_fold.proofs.Leaving.{of_event, leaving-mapped, same-keys, same-sums}
+use Rattle.exit_fold.proofs.Leaving.{of_event, leaving-mapped, same-keys}
 use Rattle.step_laws.specs.Quiet.{KeepsAccount}
 use Rattle.step_laws.specs.Stepping.{HasStepped, HasFolded}
 use Rattle.step_laws.proofs.Quiet.{quiet-keeps}
@@ -126,10 +126,6 @@ abbrev gone_keys : World → Option TaskNo → EventNo → List Key
 gone_keys w None e = []
 gone_keys w (Some task) e = filter (of_event w e) (keys_in w (context.Task task))
 
-none-leave : (keys : List Key) → filter (λ k. false) keys ≡ []
-none-leave [] = refl
-none-leave (q ∷ keys) = none-leave keys
-
 gone-mapped : (w : World) (o : Option TaskNo) (e : EventNo) → IsKept w.hardware w
     → filter (λ i. is_of_family e i && i.copy) (members (groups_in (task_lists (stage_of w) o))) ≡ map (instance_at w) (gone_keys w o e)
 gone-mapped w None e h = refl
@@ -147,7 +143,7 @@ gone-live w (Some task) e k h low some =
 
 gone-sums : (w : World) (o : Option TaskNo) (e : EventNo) → IsKept w.hardware w → ((task : TaskNo) → o ≡ Some task → task.0 < 64)
     → leaving_sums w o e ≡ plus_keys (λ k. (account_at w k).sums) (gone_keys w o e)
-gone-sums w None e h low = ap (plus_keys (λ k. (account_at w k).sums)) (none-leave (family_of w e).copies)
+gone-sums w None e h low = ap (plus_keys (λ k. (account_at w k).sums)) (no-one (family_of w e).copies)
 gone-sums w (Some task) e h low =
     sym (same-sums (λ k. (account_at w k).sums) (gone_keys w (Some task) e) (leaving_copies w (Some task) e) (same-keys w.hardware w task e h (low task refl)))
 

@@ -1,21 +1,30 @@
-use Rattle.std.proofs.Common.{arith, ◌≡◌, ◌+◌, subst, sym}
-use Rattle.world_spec.specs.Value.{World}
-use Rattle.exit_fold.proofs.Below.{AreFoldedBelow, folded-none, next-folded}
+use Rattle.std.proofs.Common.{sym, ◌∙◌}
+use Rattle.exit_fold.proofs.Leaders.{walked-none, walked-then, less-then, leader-live, none-left}
 use Rattle.exit_fold.proofs.Whole.{whole-folded}
 use Rattle.exit_fold.proofs.folding.fold_copies.Goals as goal
 
-pub loop-slot-init : goal.loop-slot-init
-loop-slot-init c = folded-none c.args.world.now.hardware c.args.task c.args.world.now c.pmus-pmus.ensures.kept
+pub loop-leader-init : goal.loop-leader-init
+loop-leader-init c = walked-none c.args.world.now.hardware c.args.task c.args.world.now c.pmus-pmus.ensures.kept c.requires.grouped
 
-pub loop-slot-preserved : goal.loop-slot-preserved
-loop-slot-preserved c =
-    subst (λ (w : World). AreFoldedBelow c.args.world.now.hardware c.args.task c.args.world.now w (c.loop-slot.slot + 1)) (sym c.fold_one.ensures.world)
-    (next-folded c.args.world.now.hardware c.args.task c.args.world.now c.loop-slot.world c.loop-slot.slot c.pmus-pmus.ensures.kept c.loop-slot.invariant)
+pub fold_or_pass-passed-requires-clause-live : goal.fold_or_pass-passed-requires-clause-live
+fold_or_pass-passed-requires-clause-live c =
+    leader-live c.args.world.now.hardware c.loop-leader.world c.args.task c.in-Some.leader c.loop-leader.passed c.loop-leader.invariant.folding.kept
+    (sym c.leader_at.ensures.leader ∙ c.in-Some.is)
+
+pub loop-leader-preserved : goal.loop-leader-preserved
+loop-leader-preserved c =
+    walked-then c.args.world.now.hardware c.args.task c.args.world.now c.loop-leader.world c.fold_or_pass-passed.new.world c.in-Some.leader c.loop-leader.passed c.fold_or_pass-passed.result
+    c.pmus-pmus.ensures.kept c.requires.task c.loop-leader.invariant (sym c.leader_at.ensures.leader ∙ c.in-Some.is) c.fold_or_pass-passed.ensures.world c.fold_or_pass-passed.ensures.passed
+
+pub loop-leader-smaller : goal.loop-leader-smaller
+loop-leader-smaller c =
+    less-then c.args.world.now.hardware c.args.task c.loop-leader.world c.fold_or_pass-passed.new.world c.in-Some.leader c.loop-leader.passed c.fold_or_pass-passed.result
+    c.loop-leader.invariant.folding.kept c.requires.task (sym c.leader_at.ensures.leader ∙ c.in-Some.is) c.fold_or_pass-passed.ensures.world c.fold_or_pass-passed.ensures.passed
 
 pub returns : goal.returns
-returns c =
-    let end : c.loop-slot.slot ≡ 256 = omega (arith, c.loop-slot.auto.slot-end, c.loop-slot-test.false) in
-    record {
-      folded = whole-folded c.args.world.now.hardware c.args.task c.args.world.now c.loop-slot.world c.pmus-pmus.ensures.kept c.requires.grouped c.requires.task
-          (subst (AreFoldedBelow c.args.world.now.hardware c.args.task c.args.world.now c.loop-slot.world) end c.loop-slot.invariant);
-    }
+returns c = record {
+  folded = whole-folded c.args.world.now.hardware c.args.task c.args.world.now c.loop-leader.world c.pmus-pmus.ensures.kept c.requires.grouped c.requires.task
+      c.loop-leader.invariant.folding
+      (none-left c.args.world.now.hardware c.args.task c.args.world.now c.loop-leader.world c.loop-leader.passed c.requires.task c.loop-leader.invariant
+      (sym c.leader_at.ensures.leader ∙ c.in_default.is));
+}

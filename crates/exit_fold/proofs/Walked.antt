@@ -1,0 +1,293 @@
+-- A world while the copies of a task are folded one by one, each of which leads a group when it goes.
+use Rattle.std.specs.Prelude.{◌≡◌, ℕ, ◌≤◌, ◌==◌, Bool, true, false, not, ◌&&◌, cond, List, [], ◌∷◌, ◌++◌, map, filter, Some, slice_index_or}
+use Rattle.std.proofs.Common.{arith, refl, sym, ap, subst, ◌∙◌, inl, inr}
+use Rattle.std.proofs.lemmas.Bool.{cases_eq, cases_Bool, false≢true}
+use Rattle.std.proofs.lemmas.Bool.Decides.{nat_tests}
+use Rattle.std.proofs.lemmas.List.{map-append}
+use Rattle.std.proofs.lemmas.List.Sums.{fold-append}
+use Rattle.perf_base.specs.declared.numbers.EventNo.{EventNo}
+use Rattle.perf_base.specs.declared.numbers.Key.{Key}
+use Rattle.perf_base.specs.declared.numbers.TaskNo.{TaskNo}
+use Rattle.perf_base.specs.declared.reply.Sums.{Sums}
+use Rattle.stage_spec.specs.Families.{plus}
+use Rattle.stage_spec.specs.Hardware.{Hardware}
+use Rattle.stage_spec.specs.Shares.{no_sums}
+use Rattle.stage_spec.proofs.Recurrence.{plus-assoc, plus-none}
+use Rattle.stage_laws.specs.OneByOne.{drop_one, drop_ones}
+use Rattle.world_spec.specs.Value.{World, is_live, entry_at, instance_at, account_at, standing_at, family_of, is_key, times}
+use Rattle.world_spec.specs.StageOf.{stage_of}
+use Rattle.world_spec.specs.Kept.{post_at, leads, once_if, is_member_of, plus_keys, family_sums, IsKept}
+use Rattle.world_spec.specs.Adding.{drop_instance, folded_away}
+use Rattle.world_spec.specs.Changes.{all_but}
+use Rattle.world_spec.specs.Staying.{HasGone}
+use Rattle.world_spec.proofs.Counting.{times-filter, AreSameKeys}
+use Rattle.world_spec.proofs.Disbanding.{Disbands}
+use Rattle.world_spec.proofs.Folding.{fold-stage, fold-sums, fold-kept, folded-is}
+use Rattle.world_spec.proofs.GoneLeader.{entries_freed, standings_freed, dropped-leader, tables-freed, led-disbands}
+use Rattle.world_spec.proofs.Keys.{key-is, is_key-same, is_key-other, all_but-none, times-cons, times-push, once-true, once-false}
+use Rattle.world_spec.proofs.Moving.{leads-parts}
+use Rattle.world_spec.proofs.Staying.{fold-stays}
+use Rattle.exit_fold.specs.Leaving.{is_of_task, leaves}
+use Rattle.exit_fold.proofs.Copies.{copy-there, same-number, filter-within, filter-all, filter-none, filter-twice, same-sums, plus-turned}
+use Rattle.exit_fold.proofs.Going.{folded-untouched, own-family, own-folded, same-hardware}
+
+-- what the copies of an event that went had counted
+abbrev pub sums_gone : World → World → EventNo → Sums
+sums_gone v w e = plus_keys (λ k. (account_at v k).sums) (filter (λ k. not (is_live w k)) (family_of v e).copies)
+
+pub record AreFolding (hw : Hardware) (task : TaskNo) (v w : World) : Type 0 where
+  pub kept : IsKept hw w
+  pub live : (k : Key) → is_live w k ≡ true → is_live v k ≡ true
+  pub gone : (k : Key) → is_live v k ≡ true → is_live w k ≡ false → leaves v (Some task) k ≡ true
+  pub instances : (k : Key) → is_live w k ≡ true → instance_at w k ≡ instance_at v k
+  pub contexts : (k : Key) → is_live w k ≡ true → (entry_at w k).context ≡ (entry_at v k).context
+  pub accounts : (k : Key) → is_live w k ≡ true → account_at w k ≡ account_at v k
+  pub alike : (k : Key) → is_live w k ≡ true → is_of_task task (entry_at w k).context ≡ true → (instance_at w (entry_at w k).leader).copy ≡ (instance_at w k).copy
+  pub away : (k : Key) → is_of_task task (entry_at v k).context ≡ false → (post_at w k ≡ post_at v k) × (standing_at w k ≡ standing_at v k)
+  pub families : (e : EventNo) → family_of w e ≡ record (family_of v e) { copies = filter (is_live w) (family_of v e).copies }
+  pub folded : (e : EventNo) → slice_index_or w.folded e.0 no_sums ≡ plus (slice_index_or v.folded e.0 no_sums) (sums_gone v w e)
+  pub taken : List Key
+  pub taken_times : (k : Key) → times k taken ≡ once_if (is_live v k && not (is_live w k))
+  pub stage : stage_of w ≡ drop_ones (map (λ k. (instance_at v k).id) taken) (stage_of v)
+  pub sums : (slot : ℕ) → family_sums w slot ≡ family_sums v slot
+  pub lost : w.lost ≡ v.lost
+  pub hardware : w.hardware ≡ v.hardware
+  pub quiet : w.quiet ≡ v.quiet
+
+-- at first
+never-both : (b : Bool) → ◌≡◌ {A = ℕ} 0 (once_if (b && not b))
+never-both true = refl
+never-both false = refl
+
+pub folding-none : (hw : Hardware) (task : TaskNo) (v : World) → IsKept hw v
+    → ((k : Key) → is_live v k ≡ true → is_of_task task (entry_at v k).context ≡ true → (instance_at v (entry_at v k).leader).copy ≡ (instance_at v k).copy) → AreFolding hw task v v
+folding-none hw task v h alike = record {
+  kept = h;
+  live = λ k live. live;
+  gone = λ k live dead. absurd (false≢true (sym dead ∙ live));
+  instances = λ k live. refl;
+  contexts = λ k live. refl;
+  accounts = λ k live. refl;
+  alike = alike;
+  away = λ k off. (refl, refl);
+  families = λ e.
+      let all : filter (is_live v) (family_of v e).copies ≡ (family_of v e).copies = filter-all (is_live v) (family_of v e).copies (λ k some. (copy-there hw v k e h some).0) in
+      λ i. record (family_of v e) { copies = sym all i };
+  folded = λ e.
+      let none : filter (λ k. not (is_live v k)) (family_of v e).copies ≡ [] =
+      filter-none (λ k. not (is_live v k)) (family_of v e).copies (λ k some. ap not (copy-there hw v k e h some).0) in
+      sym (ap (λ ks. plus (slice_index_or v.folded e.0 no_sums) (plus_keys (λ k. (account_at v k).sums) ks)) none ∙ plus-none (slice_index_or v.folded e.0 no_sums));
+  taken = [];
+  taken_times = λ k. never-both (is_live v k);
+  stage = refl;
+  sums = λ slot. refl;
+  lost = refl;
+  hardware = refl;
+  quiet = refl;
+}
+
+-- a copy that leads a group in the task's context
+pub record IsNext (w : World) (task : TaskNo) (q : Key) : Type 0 where
+  pub lead : leads (post_at w) q ≡ true
+  pub copy : (instance_at w q).copy ≡ true
+  pub there : is_of_task task (entry_at w q).context ≡ true
+
+pub next-live : (w : World) (task : TaskNo) (q : Key) → IsNext w task q → is_live w q ≡ true
+next-live w task q x = (leads-parts (is_live w q) (is_key q (entry_at w q).leader) x.lead).0
+
+pub next-gone : (hw : Hardware) (w : World) (task : TaskNo) (q : Key) → IsKept hw w → IsNext w task q → HasGone w (folded_away q w) q
+next-gone hw w task q h x = fold-stays hw w q h (next-live w task q x) x.copy
+
+-- which keys are there then
+and-no : (b : Bool) → (b && false) ≡ false
+and-no true = refl
+and-no false = refl
+
+and-yes : (b : Bool) → (b && true) ≡ b
+and-yes true = refl
+and-yes false = refl
+
+live-then : (w t : World) (q k : Key) → HasGone w t q → is_live t k ≡ (is_live w k && not (is_key q k))
+live-then w t q k g = elim (cases_eq k.0 q.0) [
+  | inl is ↦ ap (is_live t) (key-is k q is) ∙ (g.dead ∙ sym (ap (λ b. is_live w k && not b) (is_key-same q k is) ∙ and-no (is_live w k)))
+  | inr off ↦ g.others.live k off ∙ sym (ap (λ b. is_live w k && not b) (is_key-other q k off) ∙ and-yes (is_live w k))
+]
+
+live-but : (w t : World) (q : Key) (keys : List Key) → HasGone w t q → filter (is_live t) keys ≡ all_but q (filter (is_live w) keys)
+live-but w t q keys g = filter-within (is_live t) (λ k. is_live w k && not (is_key q k)) keys (λ k some. live-then w t q k g) ∙ sym (filter-twice (is_live w) (λ k. not (is_key q k)) keys)
+
+-- it is a copy of its own event alone, once
+absent : (hw : Hardware) (v : World) (q : Key) (e : EventNo) → IsKept hw v → (e.0 ≡ (instance_at v q).event.0 → ⊥) → times q (family_of v e).copies ≡ 0
+absent hw v q e h off = elim (cases_eq (times q (family_of v e).copies) 0) [
+  | inl none ↦ none
+  | inr some ↦ absurd (off (sym (same-number (instance_at v q).event.0 e.0 (copy-there hw v q e h (omega (arith, some))).1)))
+]
+
+only-copy : (live same copy : Bool) → live ≡ true → same ≡ true → copy ≡ true → once_if (live && same && copy) ≡ 1
+only-copy live same copy a b c = λ i. once_if (a i && b i && c i)
+
+own-number : (n : ℕ) → (n == n) ≡ true
+own-number n = grind (arith, nat_tests)
+
+present : (hw : Hardware) (v : World) (q : Key) → IsKept hw v → is_live v q ≡ true → (instance_at v q).copy ≡ true → times q (family_of v (instance_at v q).event).copies ≡ 1
+present hw v q h live copy =
+    let slot : ℕ = (instance_at v q).event.0 in
+    h.linked.copies q slot ∙ only-copy (is_live v q) (slot == slot) (instance_at v q).copy live (own-number slot) copy
+
+-- the copies of an event that went
+gone-sums : (hw : Hardware) (v w t : World) (q : Key) (slot : EventNo) → is_live w q ≡ true → HasGone w t q → times q (family_of v slot).copies ≡ 1
+    → plus (sums_gone v w slot) (account_at v q).sums ≡ sums_gone v t slot
+gone-sums hw v w t q slot live g one =
+    let sums : Key → Sums = λ k. (account_at v k).sums in
+    let keys : List Key = (family_of v slot).copies in
+    let before : Key → Bool = λ k. not (is_live w k) in
+    let after : Key → Bool = λ k. not (is_live t k) in
+    let same : AreSameKeys (q ∷ filter before keys) (filter after keys) = λ k. elim (cases_eq k.0 q.0) [
+      | inl is ↦
+          let none : times q (filter before keys) ≡ 0 = times-filter q before keys ∙ ap (λ b. cond (not b) (times q keys) 0) live in
+          let all : times q (filter after keys) ≡ times q keys = times-filter q after keys ∙ ap (λ b. cond (not b) (times q keys) 0) g.dead in
+          subst (λ j. times j (q ∷ filter before keys) ≡ times j (filter after keys)) (sym (key-is k q is))
+          (omega (arith, times-cons q q (filter before keys), once-true (is_key q q) (is_key-same q q refl), none, all, one))
+      | inr off ↦
+          let other : times k (filter before keys) ≡ times k (filter after keys) =
+          times-filter k before keys ∙ (ap (λ b. cond (not b) (times k keys) 0) (sym (g.others.live k off)) ∙ sym (times-filter k after keys)) in
+          omega (arith, times-cons k q (filter before keys), once-false (is_key k q) (is_key-other k q (λ e. off (sym e))), other)
+    ] in
+    plus-turned (plus_keys sums (filter before keys)) (sums q) ∙ same-sums sums (q ∷ filter before keys) (filter after keys) same
+
+-- what is left of an event's family, and its folded sums
+families-then : (hw : Hardware) (task : TaskNo) (v w : World) (q : Key) (e : EventNo) → IsKept hw v → AreFolding hw task v w → IsNext w task q
+    → family_of (folded_away q w) e ≡ record (family_of v e) { copies = filter (is_live (folded_away q w)) (family_of v e).copies }
+families-then hw task v w q e h f x =
+    let t : World = folded_away q w in
+    let g : HasGone w t q = next-gone hw w task q f.kept x in
+    let live : is_live w q ≡ true = next-live w task q x in
+    let slot : EventNo = (instance_at w q).event in
+    let left : filter (is_live t) (family_of v e).copies ≡ all_but q (filter (is_live w) (family_of v e).copies) = live-but w t q (family_of v e).copies g in
+    elim (cases_eq e.0 slot.0) [
+      | inl is ↦
+          let event : slot ≡ e = (let number : slot.0 ≡ e.0 = sym is in λ i. record { 0 = number i }) in
+          subst (λ y. family_of t y ≡ record (family_of w y) { copies = all_but q (family_of w y).copies }) event (own-family hw w q f.kept live x.copy)
+          ∙ ((λ i. record (f.families e i) { copies = all_but q (f.families e i).copies }) ∙ (λ i. record (family_of v e) { copies = sym left i }))
+      | inr off ↦
+          let none : times q (filter (is_live w) (family_of v e).copies) ≡ 0 =
+          times-filter q (is_live w) (family_of v e).copies ∙ (ap (λ b. cond b (times q (family_of v e).copies) 0) live
+          ∙ absent hw v q e h (λ same. off (same ∙ sym (ap (λ i. i.event.0) (f.instances q live))))) in
+          g.families e off ∙ (f.families e ∙ (λ i. record (family_of v e) { copies = sym (left ∙ all_but-none q (filter (is_live w) (family_of v e).copies) none) i }))
+    ]
+
+folded-then : (hw : Hardware) (task : TaskNo) (v w : World) (q : Key) (e : EventNo) → IsKept hw v → AreFolding hw task v w → IsNext w task q
+    → slice_index_or (folded_away q w).folded e.0 no_sums ≡ plus (slice_index_or v.folded e.0 no_sums) (sums_gone v (folded_away q w) e)
+folded-then hw task v w q e h f x =
+    let t : World = folded_away q w in
+    let g : HasGone w t q = next-gone hw w task q f.kept x in
+    let live : is_live w q ≡ true = next-live w task q x in
+    let slot : EventNo = (instance_at w q).event in
+    let before : Sums = slice_index_or v.folded e.0 no_sums in
+    let same : (instance_at w q).event ≡ (instance_at v q).event = ap (λ i. i.event) (f.instances q live) in
+    elim (cases_eq e.0 slot.0) [
+      | inl is ↦
+          let event : slot ≡ e = (let number : slot.0 ≡ e.0 = sym is in λ i. record { 0 = number i }) in
+          let one : times q (family_of v e).copies ≡ 1 =
+          subst (λ y. times q (family_of v y).copies ≡ 1) (sym same ∙ event) (present hw v q h (f.live q live) (ap (λ i. i.copy) (sym (f.instances q live)) ∙ x.copy)) in
+          subst (λ y. slice_index_or t.folded y.0 no_sums ≡ plus (slice_index_or w.folded y.0 no_sums) (account_at w q).sums) event (own-folded hw w q f.kept live)
+          ∙ ((λ i. plus (f.folded e i) (f.accounts q live i).sums)
+          ∙ (plus-assoc before (sums_gone v w e) (account_at v q).sums ∙ ap (plus before) (gone-sums hw v w t q e live g one)))
+      | inr off ↦
+          let none : times q (family_of v e).copies ≡ 0 = absent hw v q e h (λ is. off (is ∙ sym (ap (λ y. y.0) same))) in
+          let apart : (k : Key) → 1 ≤ times k (family_of v e).copies → k.0 ≡ q.0 → ⊥ = λ k some is.
+          omega (arith, some, none, ap (λ j. times j (family_of v e).copies) (key-is k q is)) in
+          g.folded e.0 off ∙ (f.folded e
+          ∙ ap (λ ks. plus before (plus_keys (λ k. (account_at v k).sums) ks))
+          (filter-within (λ k. not (is_live w k)) (λ k. not (is_live t k)) (family_of v e).copies (λ k some. ap not (sym (g.others.live k (apart k some))))))
+    ]
+
+-- members of a group stay alike
+disbands : (hw : Hardware) (w : World) (task : TaskNo) (q : Key) → IsKept hw w → IsNext w task q → Disbands (post_at w) (post_at (folded_away q w)) q
+disbands hw w task q h x =
+    let own : is_key q (entry_at w q).leader ≡ true = (leads-parts (is_live w q) (is_key q (entry_at w q).leader) x.lead).1 in
+    let dropped : Disbands (post_at w) (post_at (drop_instance q w)) q =
+    subst (λ y. Disbands (post_at w) (post_at y) q) (sym (dropped-leader w q own))
+    (led-disbands w q (entries_freed w q) (standings_freed w q) x.lead (tables-freed hw w q h x.lead)) in
+    subst (λ y. Disbands (post_at w) (post_at y) q) (sym (folded-is w q)) (record {
+      live = dropped.live;
+      own = dropped.own;
+      gone = dropped.gone;
+      none = dropped.none;
+      freed = dropped.freed;
+      others = dropped.others;
+    })
+
+alike-then : (hw : Hardware) (task : TaskNo) (v w : World) (q j : Key) → AreFolding hw task v w → IsNext w task q → is_live (folded_away q w) j ≡ true
+    → is_of_task task (entry_at (folded_away q w) j).context ≡ true → (j.0 ≡ q.0 → ⊥)
+    → (instance_at (folded_away q w) (entry_at (folded_away q w) j).leader).copy ≡ (instance_at (folded_away q w) j).copy
+alike-then hw task v w q j f x live there apart =
+    let t : World = folded_away q w in
+    let g : HasGone w t q = next-gone hw w task q f.kept x in
+    let d : Disbands (post_at w) (post_at t) q = disbands hw w task q f.kept x in
+    let was : is_live w j ≡ true = sym (g.others.live j apart) ∙ live in
+    elim (cases_Bool (is_member_of (post_at w) q j)) [
+      | inl is ↦ ap (λ p. (instance_at t p.leader).copy) (d.freed j apart is)
+      | inr off ↦
+          let m : Key = (entry_at w j).leader in
+          let other : m.0 ≡ q.0 → ⊥ = λ same. false≢true (sym off ∙ (ap (λ b. b && is_key q m) was ∙ is_key-same q m same)) in
+          ap (λ p. (instance_at t p.leader).copy) (d.others j apart off)
+          ∙ (ap (λ i. i.copy) (g.others.instances m other)
+          ∙ (f.alike j was (ap (is_of_task task) (sym (g.others.contexts j apart)) ∙ there) ∙ ap (λ i. i.copy) (sym (g.others.instances j apart))))
+    ]
+
+-- the keys that went
+taken-then : (v w t : World) (q k : Key) (taken : List Key) → is_live v q ≡ true → is_live w q ≡ true → HasGone w t q → ((j : Key) → times j taken ≡ once_if (is_live v j && not (is_live w j)))
+    → times k (taken ++ q ∷ []) ≡ once_if (is_live v k && not (is_live t k))
+taken-then v w t q k taken there live g before = elim (cases_eq k.0 q.0) [
+  | inl is ↦
+      let none : once_if (is_live v q && not (is_live w q)) ≡ 0 = λ i. once_if (there i && not (live i)) in
+      let one : once_if (is_live v q && not (is_live t q)) ≡ 1 = λ i. once_if (there i && not (g.dead i)) in
+      subst (λ j. times j (taken ++ q ∷ []) ≡ once_if (is_live v j && not (is_live t j))) (sym (key-is k q is))
+      (omega (arith, times-push q taken q, before q, none, one, once-true (is_key q q) (is_key-same q q refl)))
+  | inr off ↦
+      let same : once_if (is_live v k && not (is_live w k)) ≡ once_if (is_live v k && not (is_live t k)) = ap (λ b. once_if (is_live v k && not b)) (sym (g.others.live k off)) in
+      omega (arith, times-push k taken q, before k, same, once-false (is_key k q) (is_key-other k q (λ e. off (sym e))))
+]
+
+-- one copy more
+pub folding-more : (hw : Hardware) (task : TaskNo) (v w : World) (q : Key) → IsKept hw v → AreFolding hw task v w → IsNext w task q → AreFolding hw task v (folded_away q w)
+folding-more hw task v w q h f x =
+    let t : World = folded_away q w in
+    let g : HasGone w t q = next-gone hw w task q f.kept x in
+    let there : is_live w q ≡ true = next-live w task q x in
+    let apart : (k : Key) → is_live t k ≡ true → k.0 ≡ q.0 → ⊥ = λ k live is. false≢true (sym g.dead ∙ (ap (is_live t) (sym (key-is k q is)) ∙ live)) in
+    let was : (k : Key) → is_live t k ≡ true → is_live w k ≡ true = λ k live. sym (g.others.live k (apart k live)) ∙ live in
+    record {
+      kept = fold-kept hw w q there x.copy f.kept;
+      live = λ k live. f.live k (was k live);
+      gone = λ k live dead. elim (cases_eq k.0 q.0) [
+        | inl is ↦
+            subst (λ j. leaves v (Some task) j ≡ true) (sym (key-is k q is))
+            (λ i. (ap (λ y. y.copy) (sym (f.instances q there)) ∙ x.copy) i && (ap (is_of_task task) (sym (f.contexts q there)) ∙ x.there) i)
+        | inr off ↦ f.gone k live (sym (g.others.live k off) ∙ dead)
+      ];
+      instances = λ k live. g.others.instances k (apart k live) ∙ f.instances k (was k live);
+      contexts = λ k live. g.others.contexts k (apart k live) ∙ f.contexts k (was k live);
+      accounts = λ k live. g.others.accounts k (apart k live) ∙ f.accounts k (was k live);
+      alike = λ k live on. alike-then hw task v w q k f x live on (apart k live);
+      away = λ k off.
+          let differ : (entry_at w k).context ≡ (entry_at w q).context → ⊥ = λ same.
+          false≢true (sym (ap (λ p. is_of_task task p.context) (f.away k off).0 ∙ off) ∙ (ap (is_of_task task) same ∙ x.there)) in
+          let u : (post_at t k ≡ post_at w k) × (standing_at t k ≡ standing_at w k) = folded-untouched hw w q k f.kept there x.copy differ in
+          (u.0 ∙ (f.away k off).0, u.1 ∙ (f.away k off).1);
+      families = λ e. families-then hw task v w q e h f x;
+      folded = λ e. folded-then hw task v w q e h f x;
+      taken = f.taken ++ q ∷ [];
+      taken_times = λ k. taken-then v w t q k f.taken (f.live q there) there g f.taken_times;
+      stage =
+          let id : Key → ℕ = λ k. (instance_at v k).id in
+          fold-stage hw w q f.kept there x.copy
+          ∙ ((λ i. drop_one (f.instances q there i).id (f.stage i))
+          ∙ (sym (fold-append (λ s number. drop_one number s) (stage_of v) (map id f.taken) (id q ∷ []))
+          ∙ ap (λ ids. drop_ones ids (stage_of v)) (sym (map-append id f.taken (q ∷ [])))));
+      sums = λ number. fold-sums hw w q f.kept there x.copy number ∙ f.sums number;
+      lost = g.others.lost ∙ f.lost;
+      hardware = same-hardware w q ∙ f.hardware;
+      quiet = g.quiet ∙ f.quiet;
+    }
