@@ -1,0 +1,5 @@
+use Rattle.buffered_sink.proofs.Rooms.{Grew-more}
+use Rattle.buffered_sink.proofs.room.BufferedSink.send.Goals as goal
+
+pub invariant_of-self-2-clause-grew : goal.invariant_of-self-2-clause-grew
+invariant_of-self-2-clause-grew g c = Grew-more _ _ _ _ c.args.self.now.grew c.in_ok-count.ensures.added

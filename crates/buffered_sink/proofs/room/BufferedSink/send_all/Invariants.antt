@@ -1,0 +1,18 @@
+use Rattle.std.proofs.Common.{◌≡◌, ◌≤◌, length}
+use Rattle.buffered_sink.specs.Rooms.{with_room}
+use Rattle.buffered_sink.proofs.room.BufferedSink.send_all.Given as goal
+
+abbrev pub invariant-loop-self : goal.invariant-loop-self
+invariant-loop-self g l =
+    let K = g.K.Sink in
+    let now = l.self.sink.now in
+    let before = l.initial.self.sink.now in
+    record {
+      same_reference : l.self.sink.ghost_name ≡ l.initial.self.sink.ghost_name;
+      count : K.faults before ≤ K.faults now;
+      held : with_room g.B.Behind.start (K.held now) l.self.room ≡ with_room g.B.Behind.start (K.held before) l.initial.self.room;
+      flushed : K.flushed now ≡ K.flushed before;
+    }
+
+abbrev pub decreases-loop-self : goal.decreases-loop-self
+decreases-loop-self g l = length l.self.room
