@@ -63,7 +63,8 @@ fn few_calls_write_many_pieces(rt: HostRuntime) -> Result<(), Fail> {
         let mut sink = MemSink::new(rt.alloc(), piece, vec![in rt.alloc(); fails]?, room)?;
         let answer = write_slow(&mut sink, &bytes);
         assert_eq!(rt; answer.is_ok(), come == 9000);
-        assert!(rt; sink.bytes() == &bytes[..come], "{come} bytes come");
+        assert_eq!(rt; sink.bytes().len(), come);
+        assert!(rt; bytes.starts_with(sink.bytes()));
     }
     Ok(())
 }

@@ -1,0 +1,15 @@
+use Rattle.std.proofs.Common.{◌≡◌, ◌≤◌, ◌-◌, length, take, Ok}
+use Rattle.perf_io.specs.Wrote.{Wrote}
+use Rattle.buffered_sink.proofs.tests.SlowWritten.write_to.Given as goal
+
+abbrev pub invariant-loop-done : goal.invariant-loop-done
+invariant-loop-done g l =
+    let K = g.K.Sink in
+    record {
+      within : l.done ≤ length l.bytes;
+      wrote : Wrote K.held K.faults K.last_fault l.initial.sink l.sink (Ok tt) (take l.done l.bytes);
+      flushed : K.flushed l.sink ≡ K.flushed l.initial.sink;
+    }
+
+abbrev pub decreases-loop-done : goal.decreases-loop-done
+decreases-loop-done g l = length l.bytes - l.done
