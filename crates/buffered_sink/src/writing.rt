@@ -49,8 +49,8 @@ fn write_behind<'a, K: Sink, B: Behind, W: Written>(
     (buffered.into_inner(), answer)
 }
 
-/// Writes the text by calls of the sink that each but the last are given 4,096 bytes, however small the pieces are in which the text comes.
-/// It takes no memory. Where a call of the sink fails, some front of the text stays added.
+/// Writes the text. However small the pieces are in which it comes, the sink is given 4,096 bytes at a call, and what is left at the end. It takes no
+/// memory. Where a call of the sink fails, some front of the text stays added.
 pub fn write_buffered<K: Sink, W: Written>(sink: &mut K, text: &W) -> Result<(), Failed>
     ensures wrote { Wrote K.held K.faults K.last_fault sink.old sink.new result (W.text text.now) }
     ensures flushed { K.flushed sink.new ≡ K.flushed sink.old }

@@ -1,4 +1,4 @@
-use Rattle.std.proofs.Common.{◌≡◌, ◌+◌, ◌≤◌, ◌∙◌, drop, length, min, arith}
+use Rattle.std.proofs.Common.{◌≤◌, ◌∙◌, drop, arith}
 use Rattle.perf_io.proofs.Wrote.{wrote_then, wrote_exit, wrote_text}
 use Rattle.buffered_sink.proofs.Pieces.{front_and_piece, front_piece_rest}
 use Rattle.buffered_sink.proofs.tests.SlowWritten.write_to.Goals as goal
