@@ -5,9 +5,11 @@
 mod answers;
 mod line_words;
 mod reports;
+mod rings;
 mod said;
 #[cfg(test)]
 mod tests;
 
 pub use answers::{write_answer, write_answers};
 pub use reports::{write_order, write_report};
+pub use rings::write_ring;

@@ -1,0 +1,53 @@
+-- What is written of a ring by its numbers and its words alone. This project's own profile.
+use Rattle.std.specs.Prelude.{◌≡◌, ℕ, zero, suc, ◌+◌, ◌-◌, ◌*◌, ◌/◌, nat_le, Bool, List, [], ◌∷◌, ◌++◌, All, codes, decimal, drop, flat_map, length, take}
+use Rattle.perf_base.specs.declared.numbers.RingNo.{RingNo}
+use Rattle.sample_ring.specs.declared.sent.RingNumbers.{RingNumbers}
+use Rattle.ring_spec.specs.Account.{Account, head_of}
+use Rattle.ring_spec.specs.Records.{IsRecord, words_of}
+use Rattle.ring_spec.specs.Whole.{size_field}
+use Rattle.report_spec.specs.Report.{fate_text, hexadecimal}
+
+-- words of sixteen hexadecimal digits, a space before each
+abbrev pub words_text : List ℕ → List ℕ
+words_text words = flat_map (λ word. 32 ∷ hexadecimal 16 word) words
+
+-- the line of a record, taken or left, with these words
+abbrev pub words_line : (taken : Bool) → List ℕ → List ℕ
+words_line taken words = fate_text taken ++ (words_text words ++ 10 ∷ [])
+
+-- how many words stand behind the first word of a record, by its size field in bytes
+abbrev pub words_behind : ℕ → ℕ
+words_behind first = size_field first / 8 - 1
+
+-- words cut into at most so many records: each is a first word and as many more as its size field says, or as there are
+unfoldable pub cut : (most : ℕ) → List ℕ → List (List ℕ)
+cut zero words = []
+cut (suc most) [] = []
+cut (suc most) (first ∷ others) = (first ∷ take (words_behind first) others) ∷ cut most (drop (words_behind first) others)
+
+-- the words of each record
+abbrev pub records_in : List ℕ → List (List ℕ)
+records_in words = cut (length words) words
+
+-- the lines of records with these words, from a place on: one that ends at or before the tail was taken
+unfoldable pub cut_lines : (tail place : ℕ) → List (List ℕ) → List ℕ
+cut_lines tail place [] = []
+cut_lines tail place (words ∷ records) = words_line (nat_le (place + 8 * length words) tail) words ++ cut_lines tail (place + 8 * length words) records
+
+-- the line of a ring
+abbrev pub numbers_line : RingNo → RingNumbers → List ℕ
+numbers_line ring n = (codes "ring " ++ decimal ring.0) ++ ((codes " head=" ++ decimal n.head) ++ ((codes " tail=" ++ decimal n.tail)
+    ++ ((codes " lost=" ++ decimal n.lost) ++ ((codes " pending=" ++ decimal n.pending) ++ 10 ∷ []))))
+
+-- what a ring came to, and the records that were written on it
+abbrev pub told_lines : RingNo → RingNumbers → List ℕ → List ℕ
+told_lines ring numbers words = numbers_line ring numbers ++ cut_lines numbers.tail 0 (records_in words)
+
+-- These are the numbers of an account and the words of the records that it has written.
+pub record IsTold (numbers : RingNumbers) (words : List ℕ) (a : Account) : Type 0 where
+  pub head : numbers.head ≡ head_of a
+  pub tail : numbers.tail ≡ a.tail
+  pub lost : numbers.lost ≡ length a.lost
+  pub pending : numbers.pending ≡ a.pending
+  pub lawful : All IsRecord a.written
+  pub written : words ≡ words_of a.written
