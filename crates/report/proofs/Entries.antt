@@ -6,11 +6,14 @@ use Rattle.perf_base.specs.declared.acts.Actor.{Actor}
 use Rattle.perf_base.specs.declared.numbers.EventNo.{EventNo}
 use Rattle.perf_base.specs.declared.reply.Reply.{Reply}
 use Rattle.perf_base.specs.Scripts.{Scripted}
-use Rattle.report_spec.specs.Report.{answer_line, answer_lines, answer_text, numbers_text, report, slots_text}
+use Rattle.report_spec.specs.Report.{answer_line, answer_lines, answer_text, numbers_text, slots_text}
 use Rattle.script_spec.specs.Acts.{acts_text}
 use Rattle.script_print.proofs.Loops.{IsText}
 use Rattle.stage_spec.specs.Replies.{Answered}
 use Rattle.report.specs.Said.{answered, seat_text}
+use Rattle.report.specs.Told.{all_told, told_report}
+use Rattle.sample_ring.specs.declared.sent.RingNumbers.{RingNumbers}
+use Rattle.perf_base.specs.declared.numbers.RingNo.{RingNo}
 
 pub numbers_each : IsText numbers_text (λ n. 32 ∷ decimal n)
 numbers_each = record { nil = refl; cons = λ n numbers. refl }
@@ -34,8 +37,10 @@ kept_lines s answers = answer_lines s (map answered answers)
 pub answers_each : (s : Scripted) → IsText (kept_lines s) (kept_line s)
 answers_each s = record { nil = refl; cons = λ a answers. refl }
 
+in_a_row : (a b c d e f g : List ℕ) → (a ++ (b ++ c)) ++ (d ++ (e ++ (f ++ g))) ≡ a ++ b ++ c ++ d ++ e ++ f ++ g
+in_a_row a b c d e f g = simp append_assoc
+
 -- the whole, in its parts
-pub report-parts : (s : Scripted) (order : List Act) (answers : List Answered)
-    → (codes "order" ++ (acts_text order ++ 10 ∷ [])) ++ (answer_lines s answers ++ codes "end\n") ≡ report s order answers []
-unfolding report
-report-parts s order answers = simp append_assoc
+pub report-parts : (s : Scripted) (order : List Act) (answers : List Answered) (rings : List (RingNo × RingNumbers × List ℕ))
+    → (codes "order" ++ (acts_text order ++ 10 ∷ [])) ++ (answer_lines s answers ++ (all_told rings ++ codes "end\n")) ≡ told_report s order answers rings
+report-parts s order answers rings = in_a_row (codes "order") (acts_text order) (10 ∷ []) (answer_lines s answers) (all_told rings) (codes "end") (10 ∷ [])

@@ -1,18 +1,22 @@
 -- The words of a ring, cut into its records, and the lines that tell them.
-use Rattle.std.specs.Prelude.{◌≡◌, ℕ, zero, suc, ◌+◌, ◌-◌, ◌*◌, ◌/◌, ◌<◌, ◌≤◌, nat_le, max, min, List, [], ◌∷◌, ◌++◌, All, codes, decimal, drop, length, map, take}
+use Rattle.std.specs.Prelude.{◌≡◌, ℕ, zero, suc, ◌+◌, ◌-◌, ◌*◌, ◌/◌, ◌<◌, ◌≤◌, nat_le, max, min, List, [], ◌∷◌, ◌++◌, All, codes, decimal, drop, flat_map, length, map, take}
 use Rattle.std.proofs.Common.{arith, refl, sym, ap, ◌∙◌, append_assoc, length-append, get_or}
 use Rattle.std.proofs.lemmas.List.{length-drop, take_min, drop_min}
 use Rattle.std.proofs.lemmas.List.Concat.{flat_map-cons}
 use Rattle.std.proofs.lemmas.List.Elements.{All-tail}
 use Rattle.std.proofs.Math.Seq.{drop-append_seam, take-append_seam}
+use Rattle.perf_base.specs.declared.acts.Act.{Act}
 use Rattle.perf_base.specs.declared.numbers.RingNo.{RingNo}
+use Rattle.perf_base.specs.Scripts.{Scripted}
 use Rattle.sample_ring.specs.declared.sent.RingNumbers.{RingNumbers}
 use Rattle.ring_spec.specs.Account.{Account, head_of}
 use Rattle.ring_spec.specs.Records.{Record, IsRecord, record_words, size_of, words_of}
 use Rattle.ring_spec.specs.Whole.{IsBlock, size_field}
 use Rattle.ring_spec.proofs.Cutting.{block-of}
-use Rattle.report_spec.specs.Report.{hexadecimal, record_lines, ring_lines}
-use Rattle.report.specs.Told.{IsTold, cut, cut_lines, records_in, told_lines, words_behind, words_line, words_text}
+use Rattle.report_spec.specs.Report.{answer_lines, hexadecimal, record_lines, report, ring_lines}
+use Rattle.script_spec.specs.Acts.{acts_text}
+use Rattle.stage_spec.specs.Replies.{Answered}
+use Rattle.report.specs.Told.{AreTold, IsTold, all_told, cut, cut_lines, records_in, ring_lent, told_lines, told_report, words_behind, words_line, words_text}
 use Rattle.script_print.proofs.Loops.{IsText}
 
 pub words_each : IsText words_text (λ word. 32 ∷ hexadecimal 16 word)
@@ -104,3 +108,20 @@ told_account ring numbers words a h =
     rw (h.head, h.tail, h.lost, h.pending, lines)
         (in_a_row (codes "ring ") (decimal ring.0) (codes " head=") (decimal (head_of a)) (codes " tail=") (decimal a.tail) (codes " lost=") (decimal (length a.lost))
         (codes " pending=") (decimal a.pending) (10 ∷ []) (record_lines a.tail 0 a.written))
+
+pub rings_each : IsText (λ rings. all_told (map ring_lent rings)) (λ r. told_lines r.0 r.1 r.2.now)
+rings_each = record { nil = refl; cons = λ r rings. refl }
+
+pub told_accounts : (rings : List (RingNo × RingNumbers × List ℕ)) (accounts : List (RingNo × Account)) → AreTold rings accounts → all_told rings ≡ flat_map ring_lines accounts
+told_accounts [] [] h = refl
+told_accounts [] (a ∷ accounts) h = absurd h
+told_accounts (r ∷ rings) [] h = absurd h
+told_accounts (r ∷ rings) (a ∷ accounts) h =
+    ap (λ t. t ++ all_told rings) (ap (λ number. told_lines number r.1 r.2) h.0 ∙ told_account a.0 r.1 r.2 a.1 h.1) ∙ ap (λ t. ring_lines a ++ t) (told_accounts rings accounts h.2)
+
+-- the report with its rings
+pub told_whole : (s : Scripted) (order : List Act) (answers : List Answered) (rings : List (RingNo × RingNumbers × List ℕ)) (accounts : List (RingNo × Account))
+    → AreTold rings accounts → told_report s order answers rings ≡ report s order answers accounts
+unfolding report
+told_whole s order answers rings accounts h =
+    ap (λ t. codes "order" ++ acts_text order ++ 10 ∷ [] ++ answer_lines s answers ++ t ++ codes "end" ++ 10 ∷ []) (told_accounts rings accounts h)

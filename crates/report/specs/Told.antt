@@ -1,11 +1,16 @@
 -- What is written of a ring by its numbers and its words alone. This project's own profile.
-use Rattle.std.specs.Prelude.{◌≡◌, ℕ, zero, suc, ◌+◌, ◌-◌, ◌*◌, ◌/◌, nat_le, Bool, List, [], ◌∷◌, ◌++◌, All, codes, decimal, drop, flat_map, length, take}
+use Rattle.std.specs.Prelude.{◌≡◌, ℕ, zero, suc, ◌+◌, ◌-◌, ◌*◌, ◌/◌, ⊤, nat_le, Bool, List, [], ◌∷◌, ◌++◌, All, codes, decimal, drop, flat_map, length, take}
+use Rattle.std.specs.Borrow.{Bor}
+use Rattle.perf_base.specs.declared.acts.Act.{Act}
 use Rattle.perf_base.specs.declared.numbers.RingNo.{RingNo}
+use Rattle.perf_base.specs.Scripts.{Scripted}
 use Rattle.sample_ring.specs.declared.sent.RingNumbers.{RingNumbers}
 use Rattle.ring_spec.specs.Account.{Account, head_of}
 use Rattle.ring_spec.specs.Records.{IsRecord, words_of}
 use Rattle.ring_spec.specs.Whole.{size_field}
-use Rattle.report_spec.specs.Report.{fate_text, hexadecimal}
+use Rattle.report_spec.specs.Report.{answer_lines, fate_text, hexadecimal}
+use Rattle.script_spec.specs.Acts.{acts_text}
+use Rattle.stage_spec.specs.Replies.{Answered}
 
 -- words of sixteen hexadecimal digits, a space before each
 abbrev pub words_text : List ℕ → List ℕ
@@ -51,3 +56,22 @@ pub record IsTold (numbers : RingNumbers) (words : List ℕ) (a : Account) : Typ
   pub pending : numbers.pending ≡ a.pending
   pub lawful : All IsRecord a.written
   pub written : words ≡ words_of a.written
+
+-- a ring that is lent: which it is, its numbers, and its words
+abbrev pub ring_lent : RingNo × RingNumbers × Bor (List ℕ) → RingNo × RingNumbers × List ℕ
+ring_lent r = (r.0, r.1, r.2.now)
+
+-- the same of rings
+abbrev pub all_told : List (RingNo × RingNumbers × List ℕ) → List ℕ
+all_told rings = flat_map (λ r. told_lines r.0 r.1 r.2) rings
+
+-- These are the numbers and the words of these accounts, ring by ring.
+abbrev pub AreTold : List (RingNo × RingNumbers × List ℕ) → List (RingNo × Account) → Type 0
+AreTold [] [] = ⊤
+AreTold [] (a ∷ accounts) = ⊥
+AreTold (r ∷ rings) [] = ⊥
+AreTold (r ∷ rings) (a ∷ accounts) = (r.0 ≡ a.0) × IsTold r.1 r.2 a.1 × AreTold rings accounts
+
+-- the report of a run by the numbers and the words of its rings
+abbrev pub told_report : Scripted → List Act → List Answered → List (RingNo × RingNumbers × List ℕ) → List ℕ
+told_report s order answers rings = codes "order" ++ acts_text order ++ 10 ∷ [] ++ answer_lines s answers ++ all_told rings ++ codes "end" ++ 10 ∷ []

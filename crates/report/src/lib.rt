@@ -11,5 +11,5 @@ mod said;
 mod tests;
 
 pub use answers::{write_answer, write_answers};
-pub use reports::{write_order, write_report};
-pub use rings::write_ring;
+pub use reports::{write_end, write_order, write_report, write_whole_report};
+pub use rings::{write_ring, write_rings};

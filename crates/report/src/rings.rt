@@ -1,11 +1,12 @@
 //! Writing what rings came to.
 
-ghost use Rattle.std.specs.Prelude.{◌≡◌, ◌+◌, ◌<◌, ◌≤◌, [], ◌∷◌, ◌++◌, codes, decimal, drop, false, flat_map, length, take};
+ghost use Rattle.std.specs.Prelude.{◌≡◌, ◌<◌, ◌≤◌, List, ◌∷◌, ◌++◌, codes, decimal, drop, false, flat_map, length, map, take};
 ghost use Rattle.std.specs.Fmt.{digit_glyph};
+ghost use Rattle.perf_base.specs.declared.numbers.RingNo.{RingNo};
 ghost use Rattle.perf_io.specs.Wrote.{Wrote};
 ghost use Rattle.report_spec.specs.Report.{fate_text, hexadecimal, ring_lines};
 ghost use Rattle.ring_spec.specs.Account.{Account};
-ghost use Rattle.report.specs.Told.{IsTold, cut_lines, numbers_line, records_in, told_lines, words_line, words_text};
+ghost use Rattle.report.specs.Told.{AreTold, IsTold, all_told, cut_lines, numbers_line, records_in, ring_lent, told_lines, words_line, words_text};
 
 use perf_base::RingNo;
 use perf_io::{Failed, Sink, write_all, write_numbered};
@@ -124,4 +125,20 @@ pub fn write_ring<K: Sink>(
 {
     put_numbers(sink, ring, numbers)?;
     put_records(sink, numbers.tail, words)
+}
+
+/// Writes what rings came to, in their order: for each ring its numbers and all words that were written on it. Where a call of the sink fails,
+/// some front of the lines stays added.
+pub fn write_rings<K: Sink>(
+    sink: &mut K,
+    rings: &[(RingNo, RingNumbers, &[u64])],
+) -> Result<(), Failed>
+    ensures wrote { Wrote K.held K.faults K.last_fault sink.old sink.new result (all_told (map ring_lent rings.now)) }
+    ensures accounts { (accounts : List (RingNo × Account)) → AreTold (map ring_lent rings.now) accounts → Wrote K.held K.faults K.last_fault sink.old sink.new result (flat_map ring_lines accounts) }
+    ensures flushed { K.flushed sink.new ≡ K.flushed sink.old }
+{
+    for (ring, numbers, words) in rings {
+        write_ring(sink, *ring, numbers, words)?;
+    }
+    Ok(())
 }
