@@ -24,9 +24,9 @@ space_stays text done glyph more h =
     let here : 16 - done ≡ suc (16 - (done + 1)) = omega (arith, more) in
     rw here (first_stays text (16 - (done + 1)) glyph ∙ h)
   where
-  first_stays : (text : List ℕ) (k x : ℕ) → take 1 (set text (suc k) x) ≡ take 1 text
-  first_stays [] k x = refl
-  first_stays (y ∷ text) k x = refl
+    first_stays : (text : List ℕ) (k x : ℕ) → take 1 (set text (suc k) x) ≡ take 1 text
+    first_stays [] k x = refl
+    first_stays (y ∷ text) k x = refl
 
 -- all digits were set
 pub digits_end : (text : List ℕ) (left word : ℕ) → take 1 text ≡ 32 ∷ [] → hexadecimal 0 left ++ drop 1 text ≡ hexadecimal 16 word → text ≡ 32 ∷ hexadecimal 16 word

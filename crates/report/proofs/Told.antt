@@ -106,8 +106,8 @@ told_account ring numbers words a h =
     let same : records_in words ≡ map record_words a.written = ap records_in h.written ∙ cut_words (length (words_of a.written)) a.written h.lawful (omega arith) in
     let lines : cut_lines a.tail 0 (records_in words) ≡ record_lines a.tail 0 a.written = ap (cut_lines a.tail 0) same ∙ lines_by_words a.tail 0 a.written in
     rw (h.head, h.tail, h.lost, h.pending, lines)
-        (in_a_row (codes "ring ") (decimal ring.0) (codes " head=") (decimal (head_of a)) (codes " tail=") (decimal a.tail) (codes " lost=") (decimal (length a.lost))
-        (codes " pending=") (decimal a.pending) (10 ∷ []) (record_lines a.tail 0 a.written))
+    (in_a_row (codes "ring ") (decimal ring.0) (codes " head=") (decimal (head_of a)) (codes " tail=") (decimal a.tail) (codes " lost=") (decimal (length a.lost))
+    (codes " pending=") (decimal a.pending) (10 ∷ []) (record_lines a.tail 0 a.written))
 
 pub rings_each : IsText (λ rings. all_told (map ring_lent rings)) (λ r. told_lines r.0 r.1 r.2.now)
 rings_each = record { nil = refl; cons = λ r rings. refl }

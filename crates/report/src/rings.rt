@@ -110,9 +110,9 @@ fn put_numbers<K: Sink>(sink: &mut K, ring: RingNo, numbers: &RingNumbers) -> Re
     write_all(sink, b"\n")
 }
 
-/// Writes what a ring came to, and the records written on it. `words` are all words that were written on the ring. A record is a first word and as many
-/// more as its size field says: none where the field is 0, and those that there are where the field says more. Where a call of the sink fails,
-/// some front of the lines stays added.
+/// Writes what a ring came to, and the records written on it. `words` are all words that were written on the ring. The size field of a record's first word
+/// says how many words the record has; where it says none, the record is that word, and where it says more than there are, the words that there are. Where a
+/// call of the sink fails, some front of the lines stays added.
 pub fn write_ring<K: Sink>(
     sink: &mut K,
     ring: RingNo,

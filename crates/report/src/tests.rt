@@ -1,14 +1,16 @@
-//! A report, and one whose writing fails.
+//! A report, the lines of rings, and writing that fails.
 
 ghost use Rattle.std.specs.Prelude.{◌≡◌, ◌≤◌, [], length};
 ghost use Rattle.perf_base.specs.Scripts.{IsToolLine};
 
-use crate::write_report;
+use crate::{write_report, write_ring, write_whole_report};
 use perf_base::{
     Act, Actor, Attr, AttrFlags, Cause, CpuLine, CpuNo, CpuSel, EventNo, Kind, NoMemory, Reason,
-    Reply, Script, SeatList, StoredReply, TaskNo, TaskSel, Tight, ToolLine, ToolNo, Why, Words,
+    Reply, RingNo, Script, SeatList, StoredReply, TaskNo, TaskSel, Tight, ToolLine, ToolNo, Why,
+    Words,
 };
 use perf_io::MemSink;
+use sample_ring::RingNumbers;
 use std::alloc::Global;
 use std::test::Fail;
 
@@ -115,5 +117,84 @@ fn failing_write(rt: HostRuntime) -> Result<(), Fail> {
     let mut sink = MemSink::new(rt.alloc(), 7, vec![in rt.alloc(); 999u64]?, 14)?;
     assert!(rt; write_report(&mut sink, &script, &[TOOL], &answers).is_err());
     assert_eq!(rt; sink.bytes(), b"order t0\nt0.1 ".as_slice());
+    Ok(())
+}
+
+/// The words of two samples, and of a LOST record with a trailer before the second one.
+const LOSING: &[u64] = &[
+    0x0018_0002_0000_0009,
+    5,
+    1,
+    0x0020_0000_0000_0002,
+    1,
+    1,
+    2,
+    0x0018_0002_0000_0009,
+    6,
+    0xfedc_ba98_7654_3210,
+];
+
+const LOSING_LINES: &[u8] = b"ring 15 head=80 tail=24 lost=4 pending=3
+taken 0018000200000009 0000000000000005 0000000000000001
+left 0020000000000002 0000000000000001 0000000000000001 0000000000000002
+left 0018000200000009 0000000000000006 fedcba9876543210
+";
+
+/// Words that are no records: a size of 0, and a size of 64 bytes before one word.
+const BROKEN: &[u64] = &[0, 0x0040_0000_0000_0009, 7];
+
+const BROKEN_LINES: &[u8] = b"ring 15 head=24 tail=8 lost=0 pending=0
+taken 0000000000000000
+left 0040000000000009 0000000000000007
+";
+
+/// What a ring came to.
+fn numbers(head: u64, tail: u64, lost: u64, pending: u64) -> RingNumbers {
+    RingNumbers {
+        head,
+        tail,
+        lost,
+        pending,
+    }
+}
+
+#[test]
+fn each_record_of_a_ring_has_a_line(rt: HostRuntime) -> Result<(), Fail> {
+    let none: &[u64] = &[];
+    let no_lines: &[u8] = b"ring 15 head=0 tail=0 lost=2 pending=2\n";
+    let table = [
+        (numbers(0, 0, 2, 2), none, no_lines),
+        (numbers(80, 24, 4, 3), LOSING, LOSING_LINES),
+        (numbers(24, 8, 0, 0), BROKEN, BROKEN_LINES),
+    ];
+    for (told, words, lines) in table {
+        let mut sink = MemSink::new(rt.alloc(), 7, vec![in rt.alloc(); 999u64]?, 400)?;
+        assert!(rt; write_ring(&mut sink, RingNo(15), &told, words).is_ok());
+        assert_eq!(rt; sink.bytes(), lines);
+    }
+    Ok(())
+}
+
+const WHOLE: &[u8] = b"order t0
+t0.1 read 7
+ring 0 head=16 tail=0 lost=0 pending=0
+left 0010000200000009 0000000000000007
+ring 1 head=0 tail=0 lost=0 pending=0
+end
+";
+
+#[test]
+fn rings_stand_before_the_end(rt: HostRuntime) -> Result<(), Fail> {
+    let script = script(rt.alloc())?;
+    let answers = [told(1, Reply::Read(words(&[7])))];
+    let written: &[u64] = &[0x0010_0002_0000_0009, 7];
+    let none: &[u64] = &[];
+    let rings = [
+        (RingNo(0), numbers(16, 0, 0, 0), written),
+        (RingNo(1), numbers(0, 0, 0, 0), none),
+    ];
+    let mut sink = MemSink::new(rt.alloc(), 7, vec![in rt.alloc(); 999u64]?, 200)?;
+    assert!(rt; write_whole_report(&mut sink, &script, &[TOOL], &answers, &rings).is_ok());
+    assert_eq!(rt; sink.bytes(), WHOLE);
     Ok(())
 }
