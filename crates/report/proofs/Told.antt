@@ -1,6 +1,6 @@
 -- The words of a ring, cut into its records, and the lines that tell them.
 use Rattle.std.specs.Prelude.{◌≡◌, ℕ, zero, suc, ◌+◌, ◌-◌, ◌*◌, ◌/◌, ◌<◌, ◌≤◌, nat_le, max, min, List, [], ◌∷◌, ◌++◌, All, codes, decimal, drop, flat_map, length, map, take}
-use Rattle.std.proofs.Common.{arith, refl, sym, ap, ◌∙◌, append_assoc, length-append, get_or}
+use Rattle.std.proofs.Common.{arith, refl, ap, ◌∙◌, append_assoc, length-append, get_or}
 use Rattle.std.proofs.lemmas.List.{length-drop, take_min, drop_min}
 use Rattle.std.proofs.lemmas.List.Concat.{flat_map-cons}
 use Rattle.std.proofs.lemmas.List.Elements.{All-tail}

@@ -1,4 +1,4 @@
-use Rattle.std.proofs.Common.{◌≡◌, ◌+◌, ◌*◌, Ok, Result, length}
+use Rattle.std.proofs.Common.{◌≡◌, ◌+◌, ◌*◌, Result, length}
 use Rattle.perf_io.specs.Wrote.{Wrote}
 use Rattle.perf_io.specs.declared.outside.Failed.{Failed}
 use Rattle.report.specs.Told.{cut_lines, records_in}

@@ -1,4 +1,4 @@
-use Rattle.script_print.proofs.Loops.{loop_exit, loop_more}
+use Rattle.script_print.proofs.Loops.{loop_exit}
 use Rattle.perf_io.proofs.Wrote.{wrote_text}
 use Rattle.report.proofs.Told.{words_each}
 use Rattle.report.proofs.rings.put_words.Goals as goal

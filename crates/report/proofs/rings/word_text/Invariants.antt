@@ -1,4 +1,4 @@
-use Rattle.std.proofs.Common.{◌≡◌, ◌+◌, ◌-◌, ◌++◌, [], ◌∷◌, drop, length, take}
+use Rattle.std.proofs.Common.{◌≡◌, ◌-◌, ◌++◌, [], ◌∷◌, drop, length, take}
 use Rattle.report_spec.specs.Report.{hexadecimal}
 use Rattle.report.proofs.rings.word_text.Given as goal
 
