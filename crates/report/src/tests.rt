@@ -148,13 +148,13 @@ taken 0000000000000000
 left 0040000000000009 0000000000000007
 ";
 
-/// What a ring came to.
-fn numbers(head: u64, tail: u64, lost: u64, pending: u64) -> RingNumbers {
+/// The head, the tail, the records lost and those pending.
+fn came_to(ring: [u64; 4]) -> RingNumbers {
     RingNumbers {
-        head,
-        tail,
-        lost,
-        pending,
+        head: ring[0],
+        tail: ring[1],
+        lost: ring[2],
+        pending: ring[3],
     }
 }
 
@@ -163,9 +163,9 @@ fn each_record_of_a_ring_has_a_line(rt: HostRuntime) -> Result<(), Fail> {
     let none: &[u64] = &[];
     let no_lines: &[u8] = b"ring 15 head=0 tail=0 lost=2 pending=2\n";
     let table = [
-        (numbers(0, 0, 2, 2), none, no_lines),
-        (numbers(80, 24, 4, 3), LOSING, LOSING_LINES),
-        (numbers(24, 8, 0, 0), BROKEN, BROKEN_LINES),
+        (came_to([0, 0, 2, 2]), none, no_lines),
+        (came_to([80, 24, 4, 3]), LOSING, LOSING_LINES),
+        (came_to([24, 8, 0, 0]), BROKEN, BROKEN_LINES),
     ];
     for (told, words, lines) in table {
         let mut sink = MemSink::new(rt.alloc(), 7, vec![in rt.alloc(); 999u64]?, 400)?;
@@ -190,8 +190,8 @@ fn rings_stand_before_the_end(rt: HostRuntime) -> Result<(), Fail> {
     let written: &[u64] = &[0x0010_0002_0000_0009, 7];
     let none: &[u64] = &[];
     let rings = [
-        (RingNo(0), numbers(16, 0, 0, 0), written),
-        (RingNo(1), numbers(0, 0, 0, 0), none),
+        (RingNo(0), came_to([16, 0, 0, 0]), written),
+        (RingNo(1), came_to([0, 0, 0, 0]), none),
     ];
     let mut sink = MemSink::new(rt.alloc(), 7, vec![in rt.alloc(); 999u64]?, 200)?;
     assert!(rt; write_whole_report(&mut sink, &script, &[TOOL], &answers, &rings).is_ok());

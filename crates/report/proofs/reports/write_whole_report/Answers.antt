@@ -15,38 +15,27 @@ returns-in_err-write_order-clause-wrote g c =
     (wrote_exit (answer_lines c.args.script.now answers ++ (all_told rings ++ codes "end\n")) c.from_residual.ensures.0 c.in_err-write_order.ensures.wrote)
 
 pub returns-in_err-write_order-clause-accounts : goal.returns-in_err-write_order-clause-accounts
-returns-in_err-write_order-clause-accounts g c accounts h =
-    wrote_text (told_whole c.args.script.now c.args.order.now (map answered c.args.answers.now) (map ring_lent c.args.rings.now) accounts h) (returns-in_err-write_order-clause-wrote g c)
+returns-in_err-write_order-clause-accounts g c accounts h = wrote_text (told_whole _ _ _ _ accounts h) (returns-in_err-write_order-clause-wrote g c)
 
 pub returns-in_err-write_answers-clause-wrote : goal.returns-in_err-write_answers-clause-wrote
-returns-in_err-write_answers-clause-wrote g c =
-    let answers = map answered c.args.answers.now in
-    let rings = map ring_lent c.args.rings.now in
-    wrote_text (report-parts c.args.script.now c.args.order.now answers rings)
-    (wrote_then c.in_ok-write_order.ensures.wrote (wrote_exit (all_told rings ++ codes "end\n") c.from_residual-in_err-write_answers.ensures.0 c.in_err-write_answers.ensures.wrote))
+returns-in_err-write_answers-clause-wrote g c = wrote_text (report-parts c.args.script.now c.args.order.now (map answered c.args.answers.now) (map ring_lent c.args.rings.now))
+    (wrote_then c.in_ok-write_order.ensures.wrote
+    (wrote_exit (all_told (map ring_lent c.args.rings.now) ++ codes "end\n") c.from_residual-in_err-write_answers.ensures.0 c.in_err-write_answers.ensures.wrote))
 
 pub returns-in_err-write_answers-clause-accounts : goal.returns-in_err-write_answers-clause-accounts
-returns-in_err-write_answers-clause-accounts g c accounts h =
-    wrote_text (told_whole c.args.script.now c.args.order.now (map answered c.args.answers.now) (map ring_lent c.args.rings.now) accounts h) (returns-in_err-write_answers-clause-wrote g c)
+returns-in_err-write_answers-clause-accounts g c accounts h = wrote_text (told_whole _ _ _ _ accounts h) (returns-in_err-write_answers-clause-wrote g c)
 
 pub returns-in_err-write_rings-clause-wrote : goal.returns-in_err-write_rings-clause-wrote
-returns-in_err-write_rings-clause-wrote g c =
-    let answers = map answered c.args.answers.now in
-    let rings = map ring_lent c.args.rings.now in
-    wrote_text (report-parts c.args.script.now c.args.order.now answers rings)
-    (wrote_then c.in_ok-write_order.ensures.wrote (wrote_then c.in_ok-write_answers.ensures.wrote (wrote_exit (codes "end\n") c.from_residual-in_err-write_rings.ensures.0 c.in_err-write_rings.ensures.wrote)))
+returns-in_err-write_rings-clause-wrote g c = wrote_text (report-parts c.args.script.now c.args.order.now (map answered c.args.answers.now) (map ring_lent c.args.rings.now))
+    (wrote_then c.in_ok-write_order.ensures.wrote (wrote_then c.in_ok-write_answers.ensures.wrote
+    (wrote_exit (codes "end\n") c.from_residual-in_err-write_rings.ensures.0 c.in_err-write_rings.ensures.wrote)))
 
 pub returns-in_err-write_rings-clause-accounts : goal.returns-in_err-write_rings-clause-accounts
-returns-in_err-write_rings-clause-accounts g c accounts h =
-    wrote_text (told_whole c.args.script.now c.args.order.now (map answered c.args.answers.now) (map ring_lent c.args.rings.now) accounts h) (returns-in_err-write_rings-clause-wrote g c)
+returns-in_err-write_rings-clause-accounts g c accounts h = wrote_text (told_whole _ _ _ _ accounts h) (returns-in_err-write_rings-clause-wrote g c)
 
 pub returns-clause-wrote : goal.returns-clause-wrote
-returns-clause-wrote g c =
-    let answers = map answered c.args.answers.now in
-    let rings = map ring_lent c.args.rings.now in
-    wrote_text (report-parts c.args.script.now c.args.order.now answers rings)
+returns-clause-wrote g c = wrote_text (report-parts c.args.script.now c.args.order.now (map answered c.args.answers.now) (map ring_lent c.args.rings.now))
     (wrote_then c.in_ok-write_order.ensures.wrote (wrote_then c.in_ok-write_answers.ensures.wrote (wrote_then c.in_ok-write_rings.ensures.wrote c.write_end.ensures.wrote)))
 
 pub returns-clause-accounts : goal.returns-clause-accounts
-returns-clause-accounts g c accounts h =
-    wrote_text (told_whole c.args.script.now c.args.order.now (map answered c.args.answers.now) (map ring_lent c.args.rings.now) accounts h) (returns-clause-wrote g c)
+returns-clause-accounts g c accounts h = wrote_text (told_whole _ _ _ _ accounts h) (returns-clause-wrote g c)
