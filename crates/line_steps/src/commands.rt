@@ -1,6 +1,6 @@
 //! Lines of tools that command an open event.
 
-ghost use Rattle.std.specs.Prelude.{◌<◌, ◌≤◌};
+ghost use Rattle.std.specs.Prelude.{◌≡◌, ◌<◌, ◌≤◌};
 ghost use Rattle.perf_base.specs.Scripts.{IsSlot};
 ghost use Rattle.perf_base.specs.declared.lines.ToolLine.TheVariants as line;
 ghost use Rattle.stage_spec.specs.History.{ToolStep};
@@ -23,6 +23,7 @@ pub fn enable<L: Ledger>(
     requires slot { IsSlot event }
     ensures ready { IsReady world.new }
     ensures done { IsDone (ToolStep (line.Enable event group)) world.old world.new result }
+    ensures hardware { world.new.hardware ≡ world.old.hardware }
     ensures counted { tests.old ≤ tests.new }
 {
     // A reader tells what always holds of a world.
@@ -48,6 +49,7 @@ pub fn disable<L: Ledger>(
     requires slot { IsSlot event }
     ensures ready { IsReady world.new }
     ensures done { IsDone (ToolStep (line.Disable event group)) world.old world.new result }
+    ensures hardware { world.new.hardware ≡ world.old.hardware }
     ensures counted { tests.old ≤ tests.new }
 {
     // A reader tells what always holds of a world.
@@ -68,6 +70,7 @@ pub fn reset(world: &mut World, event: EventNo, group: bool) -> Reply
     requires slot { IsSlot event }
     ensures ready { IsReady world.new }
     ensures done { IsDone (ToolStep (line.Reset event group)) world.old world.new result }
+    ensures hardware { world.new.hardware ≡ world.old.hardware }
 {
     // A reader tells what always holds of a world.
     let _before = world.pmus();
@@ -88,6 +91,7 @@ pub fn period(world: &mut World, event: EventNo, period: u64) -> Reply
     requires slot { IsSlot event }
     ensures ready { IsReady world.new }
     ensures done { IsDone (ToolStep (line.Period event period)) world.old world.new result }
+    ensures hardware { world.new.hardware ≡ world.old.hardware }
 {
     // A reader tells what always holds of a world.
     let _before = world.pmus();
@@ -107,6 +111,7 @@ pub fn close<L: Ledger>(world: &mut World, event: EventNo, tests: &mut Steps<L>)
     requires slot { IsSlot event }
     ensures ready { IsReady world.new }
     ensures done { IsDone (ToolStep (line.Close event)) world.old world.new result }
+    ensures hardware { world.new.hardware ≡ world.old.hardware }
     ensures counted { tests.old ≤ tests.new }
 {
     // A reader tells what always holds of a world.

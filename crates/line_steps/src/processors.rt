@@ -1,6 +1,6 @@
 //! Lines of processors.
 
-ghost use Rattle.std.specs.Prelude.{◌+◌, ◌^◌, ◌<◌, ◌≤◌, length, slice_index_or};
+ghost use Rattle.std.specs.Prelude.{◌≡◌, ◌+◌, ◌^◌, ◌<◌, ◌≤◌, length, slice_index_or};
 ghost use Rattle.perf_base.specs.Scripts.{IsCpuLine};
 ghost use Rattle.perf_base.specs.declared.lines.CpuLine.TheVariants as line;
 ghost use Rattle.stage_spec.specs.History.{CpuStep};
@@ -20,6 +20,7 @@ pub fn tick<L: Ledger>(world: &mut World, cpu: CpuNo, tests: &mut Steps<L>) -> R
     requires cpu { cpu.0 < length world.old.quiet.running }
     ensures ready { IsReady world.new }
     ensures done { IsDone (CpuStep cpu line.Tick) world.old world.new result }
+    ensures hardware { world.new.hardware ≡ world.old.hardware }
     ensures counted { tests.old ≤ tests.new }
 {
     // A reader tells what always holds of a world.
@@ -39,6 +40,7 @@ pub fn work(world: &mut World, cpu: CpuNo, work: &Work) -> Reply
     requires clock { slice_index_or world.old.quiet.clocks cpu.0 0 + work.now.length < 2 ^ 63 }
     ensures ready { IsReady world.new }
     ensures done { IsDoneUnlost (CpuStep cpu (line.Work work.now)) world.old world.new result }
+    ensures hardware { world.new.hardware ≡ world.old.hardware }
 {
     // A reader tells what always holds of a world.
     let _before = world.pmus();
@@ -56,6 +58,7 @@ pub fn fork(world: &mut World, cpu: CpuNo, child: TaskNo) -> Reply
     requires room { world.old.quiet.next_id + 4097 < 2 ^ 63 }
     ensures ready { IsReady world.new }
     ensures done { IsDone (CpuStep cpu (line.Fork child)) world.old world.new result }
+    ensures hardware { world.new.hardware ≡ world.old.hardware }
 {
     // A reader tells what always holds of a world.
     let _before = world.pmus();
@@ -74,6 +77,7 @@ pub fn exit<L: Ledger>(world: &mut World, cpu: CpuNo, tests: &mut Steps<L>) -> R
     requires cpu { cpu.0 < length world.old.quiet.running }
     ensures ready { IsReady world.new }
     ensures done { IsDone (CpuStep cpu line.Exit) world.old world.new result }
+    ensures hardware { world.new.hardware ≡ world.old.hardware }
     ensures counted { tests.old ≤ tests.new }
 {
     // A reader tells what always holds of a world.

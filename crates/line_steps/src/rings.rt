@@ -1,6 +1,6 @@
 //! Lines of tools that give an event a ring.
 
-ghost use Rattle.std.specs.Prelude.{◌<◌};
+ghost use Rattle.std.specs.Prelude.{◌≡◌, ◌<◌};
 ghost use Rattle.perf_base.specs.Scripts.{IsSlot};
 ghost use Rattle.perf_base.specs.declared.lines.ToolLine.TheVariants as line;
 ghost use Rattle.stage_spec.specs.History.{ToolStep};
@@ -16,6 +16,7 @@ pub fn map(world: &mut World, event: EventNo, ring: RingNo) -> Reply
     requires slot { IsSlot event }
     ensures ready { IsReady world.new }
     ensures done { IsDone (ToolStep (line.Map event ring)) world.old world.new result }
+    ensures hardware { world.new.hardware ≡ world.old.hardware }
 {
     // A reader tells what always holds of a world.
     let _before = world.pmus();
@@ -37,6 +38,7 @@ pub fn output(world: &mut World, event: EventNo, target: EventNo) -> Reply
     requires target { IsSlot target }
     ensures ready { IsReady world.new }
     ensures done { IsDone (ToolStep (line.Output event target)) world.old world.new result }
+    ensures hardware { world.new.hardware ≡ world.old.hardware }
 {
     // A reader tells what always holds of a world.
     let _before = world.pmus();

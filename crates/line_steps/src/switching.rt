@@ -46,6 +46,7 @@ fn change_task<L: Ledger>(world: &mut World, cpu: CpuNo, to: Option<TaskNo>, tes
     requires room { HaveRoom world.old two_hits }
     ensures ready { IsReady world.new }
     ensures done { IsDone (CpuStep cpu (line.Switch to)) world.old world.new reply.Ok }
+    ensures hardware { world.new.hardware ≡ world.old.hardware }
     ensures counted { tests.old ≤ tests.new }
 {
     // A reader tells what always holds of a world.
@@ -71,6 +72,7 @@ pub fn switch<L: Ledger>(
     requires room { HaveRoom world.old two_hits }
     ensures ready { IsReady world.new }
     ensures done { IsDone (CpuStep cpu (line.Switch to)) world.old world.new result }
+    ensures hardware { world.new.hardware ≡ world.old.hardware }
     ensures counted { tests.old ≤ tests.new }
 {
     // A reader tells what always holds of a world.

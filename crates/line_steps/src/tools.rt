@@ -26,6 +26,7 @@ pub fn open<L: Ledger>(
     requires room { world.old.quiet.next_id + 1 < 2 ^ 63 }
     ensures ready { IsReady world.new }
     ensures done { IsDone (ToolStep (line.Open slot attr.now leader)) world.old world.new result }
+    ensures hardware { world.new.hardware ≡ world.old.hardware }
     ensures counted { tests.old ≤ tests.new }
 {
     // A reader tells what always holds of a world.
