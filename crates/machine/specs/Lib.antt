@@ -1,5 +1,4 @@
-pub mod FirstCounting
-pub mod FirstProgress
-pub mod FirstReplies
-pub mod FirstSteps
-pub mod Kept
+pub mod Codes
+pub mod Ended
+pub mod Leading
+pub mod Room

@@ -1,8 +1,12 @@
-// The machine: it does one line of a processor or of a tool at a time, for scripts of the first form, and
-// answers it. Contracts see how many lines each actor has done and the event's sums. It serves the top call.
+//! The machine: it does the lines of a script one at a time, each with every rescheduling that it makes necessary, and answers it. Its model is how many lines
+//! each processor and tool has done, and the world of its events; the acts of a script that lead there are the history that it stands for. It serves
+//! whoever goes through an order.
 #![tactic(auto)]
 
+mod counters;
+mod ended;
+mod given;
 mod machine;
-mod shares;
 
+pub use ended::Ended;
 pub use machine::Machine;

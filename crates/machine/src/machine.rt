@@ -1,55 +1,52 @@
 //! The machine and its one step.
 
-ghost use Rattle.std.specs.Prelude.{◌≡◌, ◌+◌, ◌<◌, ◌↔◌, List, [], ◌∷◌, ◌++◌, length, slice_get, slice_index, Some, IfOk, IsTrue};
+ghost use Rattle.std.specs.Prelude.{◌≡◌, ◌<◌, ◌↔◌, List, [], ◌∷◌, ◌++◌, IfOk, IsTrue};
 ghost use Rattle.perf_base.specs.declared.acts.Act.{Act};
 ghost use Rattle.perf_base.specs.declared.acts.Act.TheVariants as act;
-ghost use Rattle.perf_base.specs.Scripts.{lines_of_tool};
-ghost use Rattle.machine.specs.FirstCounting.{IsFirstForm};
-ghost use Rattle.machine.specs.FirstProgress.{IsAfter, HasLine};
-ghost use Rattle.machine.specs.FirstReplies.{reply_of};
-ghost use Rattle.machine.specs.FirstSteps.{act_of, after_work, after_tool, answer_now};
+ghost use Rattle.perf_base.specs.Scripts.{IsCovered};
+ghost use Rattle.machine.specs.Leading.{HasLine, IsOf, IsReplyTo, LeadTo, act_of, done_by};
 
-use crate::shares::added;
-use perf_base::{Actor, CpuNo, NoMemory, Reply, Script, ToolLine, ToolNo, Words};
+use crate::counters::pmus_of;
+use crate::given::{cpu_line, tool_line};
+use perf_base::{Actor, CpuNo, NoMemory, Reply, Script, ToolNo};
+use perf_world::World;
 use std::alloc::Global;
-use std::marker::Model;
+use std::marker::{Brand, Model};
+use std::sync::ledger::Blank;
 
-/// A machine that has done some lines of a script of the first form: one processor with one counter, and
-/// one event that counts everything there from its open on.
+/// A machine that has done some lines of a script. Between two lines every processor stands as rescheduling leaves it, seats included.
 #[derive(Drop)]
 pub struct Machine {
     cpus: [u32; 8],
     tools: [u32; 4],
-    count: u64,
-    enabled: u64,
-    running: u64,
+    world: World,
 }
 
 impl Model for Machine {
-    ghost use Rattle.machine.specs.FirstProgress.{Progress};
+    ghost use Rattle.machine.specs.Leading.{Kept, IsWhole};
+    ghost use Rattle.machine.specs.Codes.{kept_code};
 
-    ghost Value = { Progress };
+    ghost Value = { Kept };
 
-    ghost use Rattle.machine.specs.Kept.{kept, IsKept};
+    ghost coded = { kept_code };
 
-    ghost view = { kept };
+    ghost view = { λ m. record { cpus = m.cpus; tools = m.tools; world = m.world } };
 
-    ghost invariant = { IsKept };
+    ghost invariant = { λ m. IsWhole (record { cpus = m.cpus; tools = m.tools; world = m.world }) };
 }
 
 impl Machine {
-    /// A machine that has done nothing. All memory that a run needs is taken here; scripts of the first
-    /// form need none.
-    pub fn new(_alloc: Global, script: &Script) -> Result<Machine, NoMemory>
-        requires { IsFirstForm script.now }
-        ensures { IfOk result (λ m. IsAfter script.now [] m) }
+    /// A machine that has done no line of a script, each of whose processors is of a PMU, and which has no ring. It takes all memory that its lines need,
+    /// and fails only where there is not so much.
+    pub fn new(alloc: Global, script: &Script) -> Result<Machine, NoMemory>
+        requires covered { IsCovered script.now }
+        requires rings { script.now.rings ≡ [] }
+        ensures { IfOk result (λ m. LeadTo script.now [] m) }
     {
         Ok(Machine {
             cpus: [0; 8],
             tools: [0; 4],
-            count: 0,
-            enabled: 0,
-            running: 0,
+            world: World::new(alloc, pmus_of(script), script.tasks())?,
         })
     }
 
@@ -57,6 +54,8 @@ impl Machine {
     pub fn has_line(&self, script: &Script, actor: Actor) -> bool
         ensures { IsTrue result ↔ HasLine script.now self.now actor }
     {
+        // A reader tells what always holds of a script.
+        let _cpus = script.cpus();
         match actor {
             Actor::Processor(cpu) => {
                 cpu.0 < 8 && (self.cpus[cpu.0 as usize] as usize) < script.cpu_lines(cpu).len()
@@ -68,65 +67,66 @@ impl Machine {
         }
     }
 
-    /// Does the next line of a processor.
-    fn work(&mut self, script: &Script, cpu: CpuNo)
-        requires { HasLine script.now self.old (Actor.Processor cpu) }
-        ensures done { self.new ≡ after_work script.now self.old cpu }
-        ensures sized { length self.old.cpus ≡ 8 }
+    /// How many lines an actor has done. A reader has none.
+    pub fn done(&self, actor: Actor) -> u32
+        ensures { result ≡ done_by actor self.now }
     {
-        let lines = script.cpu_lines(cpu);
-        let done = self.cpus[cpu.0 as usize];
-        let share = added(self.tools[0] > 0, &lines[done as usize]);
-        self.cpus[cpu.0 as usize] = done + 1;
-        self.count += share.hits;
-        self.enabled += share.length;
-        self.running += share.length;
-    }
-
-    /// What a line of a tool answers.
-    fn answer(&self, line: &ToolLine) -> Reply
-        ensures { result ≡ answer_now self.now (Some line.now) }
-    {
-        match line {
-            ToolLine::Read { .. } => {
-                let mut words = Words::new();
-                words.push(self.count);
-                words.push(self.enabled);
-                words.push(self.running);
-                Reply::Read(words)
-            }
-            _ => Reply::Ok,
+        match actor {
+            Actor::Processor(cpu) if cpu.0 < 8 => self.cpus[cpu.0 as usize],
+            Actor::Tool(tool) if tool.0 < 4 => self.tools[tool.0 as usize],
+            _ => 0,
         }
     }
 
-    /// Does the next line of a tool.
-    fn tool_line(&mut self, script: &Script, tool: ToolNo) -> Reply
-        requires { HasLine script.now self.old (Actor.Tool tool) }
-        ensures reply { result ≡ answer_now self.old (slice_get (lines_of_tool script.now tool) (slice_index self.old.tools tool.0)) }
-        ensures done { self.new ≡ after_tool self.old tool }
-        ensures sized { length self.old.tools ≡ 4 }
+    /// Does the next line of a processor.
+    fn next_cpu_line(&mut self, script: &Script, cpu: CpuNo) -> Reply
+        requires covered { IsCovered script.now }
+        requires rings { script.now.rings ≡ [] }
+        requires script { IsOf script.now self.old }
+        requires line { HasLine script.now self.old (Actor.Processor cpu) }
+        ensures reply { (acts : List Act) → LeadTo script.now acts self.old → IsReplyTo script.now acts (act.Processor cpu) result }
+        ensures done { (acts : List Act) → LeadTo script.now acts self.old → LeadTo script.now (acts ++ act.Processor cpu ∷ []) self.new }
     {
-        let lines = script.tool_lines(tool);
-        let done = self.tools[tool.0 as usize];
-        let reply = self.answer(&lines[done as usize]);
-        self.tools[tool.0 as usize] = done + 1;
-        reply
+        // Readers tell what always holds of a script and of a world.
+        let _cpus = script.cpus();
+        let _pmus = self.world.pmus();
+        let done = self.cpus[cpu.0 as usize];
+        let line = &script.cpu_lines(cpu)[done as usize];
+        self.cpus[cpu.0 as usize] = done + 1;
+        cpu_line::<Brand>(&mut self.world, cpu, line, Blank::new(1))
     }
 
-    /// Does the actor's next line, and answers it.
+    /// Does the next line of a tool.
+    fn next_tool_line(&mut self, script: &Script, tool: ToolNo) -> Reply
+        requires covered { IsCovered script.now }
+        requires rings { script.now.rings ≡ [] }
+        requires script { IsOf script.now self.old }
+        requires line { HasLine script.now self.old (Actor.Tool tool) }
+        ensures reply { (acts : List Act) → LeadTo script.now acts self.old → IsReplyTo script.now acts (act.Tool tool) result }
+        ensures done { (acts : List Act) → LeadTo script.now acts self.old → LeadTo script.now (acts ++ act.Tool tool ∷ []) self.new }
+    {
+        // Readers tell what always holds of a script and of a world.
+        let _cpus = script.cpus();
+        let _pmus = self.world.pmus();
+        let done = self.tools[tool.0 as usize];
+        let line = &script.tool_lines(tool)[done as usize];
+        self.tools[tool.0 as usize] = done + 1;
+        tool_line::<Brand>(&mut self.world, line, Blank::new(1))
+    }
+
+    /// Does the actor's next line, then every rescheduling that it makes necessary, and answers it. The script is the one that the machine was made for.
     pub fn line(&mut self, script: &Script, actor: Actor) -> Reply
-        requires form { IsFirstForm script.now }
+        requires covered { IsCovered script.now }
+        requires rings { script.now.rings ≡ [] }
+        requires script { IsOf script.now self.old }
         requires line { HasLine script.now self.old actor }
-        // After any acts that lead here, the answer is the one to the act that does this line.
-        ensures reply { (acts : List Act) → IsAfter script.now acts self.old → result ≡ reply_of script.now acts (act_of actor) }
-        ensures done { (acts : List Act) → IsAfter script.now acts self.old → IsAfter script.now (acts ++ act_of actor ∷ []) self.new }
+        // After any acts that lead here, the answer is the reply to the act that does this line, and with that act they lead to the machine then.
+        ensures reply { (acts : List Act) → LeadTo script.now acts self.old → IsReplyTo script.now acts (act_of actor) result }
+        ensures done { (acts : List Act) → LeadTo script.now acts self.old → LeadTo script.now (acts ++ act_of actor ∷ []) self.new }
     {
         match actor {
-            Actor::Processor(cpu) => {
-                self.work(script, cpu);
-                Reply::Ok
-            }
-            Actor::Tool(tool) => self.tool_line(script, tool),
+            Actor::Processor(cpu) => self.next_cpu_line(script, cpu),
+            Actor::Tool(tool) => self.next_tool_line(script, tool),
             Actor::Reader(_) => unreachable!(),
         }
     }

@@ -1,9 +1,7 @@
 mod Words
-pub mod Acts
 pub mod Commands
 pub mod Ends
 pub mod Filling
 pub mod LineCounts
 pub mod Lines
 pub mod Rooms
-pub mod Writing

@@ -1,7 +1,5 @@
 mod Stops
 pub mod Attributes
-pub mod FirstAnswers
-pub mod Lines
 pub mod Notes
 pub mod Outcome
 pub mod Served

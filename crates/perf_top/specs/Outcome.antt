@@ -1,16 +1,17 @@
 -- What a call of the program reads, does and leaves. This project's own profile.
-use Rattle.std.specs.Prelude.{◌≡◌, ℕ, ◌≤◌, ◌⊎◌, List, [], ◌∷◌, length, Option, Result, codes}
-use Rattle.perf_base.specs.declared.reply.Reply.{Reply}
+use Rattle.std.specs.Prelude.{◌≡◌, ℕ, ◌≤◌, ◌⊎◌, List, [], ◌∷◌, length, map, Option, Result, codes}
 use Rattle.perf_base.specs.Scripts.{Scripted}
 use Rattle.stage_spec.specs.Order.{IsComplete}
-use Rattle.stage_spec.specs.Replies.{answers_to}
+use Rattle.stage_spec.specs.Replies.{Answered}
 use Rattle.perf_base.specs.declared.reasons.SReason.{SReason}
 use Rattle.perf_base.specs.declared.reasons.SReason.TheVariants as s_reason
 use Rattle.script_spec.specs.Lines.{lines_of}
 use Rattle.script_spec.specs.Texts.{StandsFor, IsRefused}
 use Rattle.perf_top.specs.Attributes.{IsAttr, IsLineOf}
-use Rattle.perf_top.specs.FirstAnswers.{IsAnswered}
-use Rattle.report_spec.specs.Report.{report}
+use Rattle.machine.specs.Ended.{Ran}
+use Rattle.report.specs.Said.{answered}
+use Rattle.report_spec.specs.Answers.{IsAnswered}
+use Rattle.report_spec.specs.Report.{report, rings_after}
 use Rattle.perf_top.specs.Served.{IsServed}
 use Rattle.perf_io.specs.Outside.{Takes, IsAtEnd}
 use Rattle.perf_io.specs.Wrote.{Wrote}
@@ -30,11 +31,15 @@ pub record Gave (before after : Option (List ℕ)) (text : List ℕ) : Type 0 wh
   pub taken : Takes before after text
   pub ended : IsAtEnd after
 
--- These bytes are the report of a script's own order, with replies that answer it.
+-- These bytes are the report of a script's own order, with answers to it.
 pub record IsReported (script : Scripted) (out : List ℕ) : Type 0 where
-  pub replies : List Reply
-  pub answered : IsAnswered script script.order replies
-  pub is : out ≡ report script script.order (answers_to script.order replies) []
+  pub answers : List Answered
+  pub answered : IsAnswered script script.order answers
+  pub is : out ≡ report script script.order answers (rings_after script script.order)
+
+-- the report of a run that has ended, of a script without rings
+abbrev pub report_by : Ran → List ℕ
+report_by r = report r.script r.order (map answered r.answers) []
 
 -- The text stands for a script that is served, the script's order is complete, and these bytes are its report.
 pub record IsRun (text out : List ℕ) : Type 0 where

@@ -1,40 +1,25 @@
 -- Which scripts the program does today. This project's own profile.
-use Rattle.std.specs.Prelude.{◌≡◌, ◌<◌, ◌≤◌, List, [], length, drop, All, IfSome, slice_get}
-use Rattle.perf_base.specs.declared.numbers.CpuNo.{CpuNo}
-use Rattle.perf_base.specs.declared.numbers.ToolNo.{ToolNo}
+use Rattle.std.specs.Prelude.{◌≡◌, ◌<◌, Bool, true, false, All, []}
 use Rattle.perf_base.specs.declared.lines.ToolLine.{ToolLine}
-use Rattle.perf_base.specs.declared.acts.Act.{Act}
-use Rattle.perf_base.specs.declared.acts.Act.TheVariants as act
-use Rattle.perf_base.specs.Scripts.{Scripted, lines_of_cpu, lines_of_tool}
-use Rattle.machine.specs.FirstCounting.{IsFirstForm, IsWorkLine, counting_open, counting_read}
+use Rattle.perf_base.specs.declared.lines.ToolLine.TheVariants as line
+use Rattle.perf_base.specs.declared.numbers.ToolNo.{ToolNo}
+use Rattle.perf_base.specs.Scripts.{Scripted, lines_of_tool}
 
--- one processor with one counter, at most one kind, no task and no ring
-pub record IsSmall (s : Scripted) : Type 0 where
-  pub cpus : s.cpus ≡ 1
-  pub pmus : length s.pmus ≡ 1
-  pub counters : All (λ p. p.counters ≡ 1) s.pmus
-  pub kinds : length s.kinds ≤ 1
-  pub tasks : s.tasks ≡ []
-  pub rings : s.rings ≡ []
+-- whether a line redirects the output of an event to another one's ring
+abbrev pub is_redirection : ToolLine → Bool
+is_redirection (line.Open slot attr leader) = false
+is_redirection (line.Enable event group) = false
+is_redirection (line.Disable event group) = false
+is_redirection (line.Reset event group) = false
+is_redirection (line.Period event period) = false
+is_redirection (line.Read event size) = false
+is_redirection (line.Map event ring) = false
+is_redirection (line.Output event target) = true
+is_redirection (line.Close event) = false
+is_redirection (line.Why event) = false
+is_redirection (line.Seats cpu) = false
 
--- Such a script, with work on its processor, and one event of tool 0 that is opened on the first kind and then read.
+-- A script without rings, and in which no line redirects an output.
 pub record IsServed (s : Scripted) : Type 0 where
-  pub small : IsSmall s
-  pub form : IsFirstForm s
-
--- the lines of each processor are work, and no tool but tool 0 has lines
-abbrev pub CpusWork : Scripted → Type 0
-CpusWork s = (cpu : CpuNo) → cpu.0 < 8 → All IsWorkLine (lines_of_cpu s cpu)
-
-abbrev pub OthersIdle : Scripted → Type 0
-OthersIdle s = (tool : ToolNo) → 0 < tool.0 → tool.0 < 4 → lines_of_tool s tool ≡ []
-
--- the first line, if there is one, opens the event, and the others read it
-abbrev pub OpensAndReads : List ToolLine → Type 0
-OpensAndReads lines = IfSome (slice_get lines 0) (λ line. line ≡ counting_open) × All (λ line. line ≡ counting_read) (drop 1 lines)
-
--- an act of processor 0 or of tool 0: such a script has no other
-abbrev pub IsFormAct : Act → Type 0
-IsFormAct (act.Processor cpu) = cpu.0 ≡ 0
-IsFormAct (act.Tool tool) = tool.0 ≡ 0
-IsFormAct (act.Seen ring place) = ⊥
+  pub rings : s.rings ≡ []
+  pub lines : (tool : ToolNo) → tool.0 < 4 → All (λ l. is_redirection l ≡ false) (lines_of_tool s tool)

@@ -86,6 +86,6 @@ pub fn print_attr<K: Sink>(sink: &mut K, word: &[u8]) -> Status
     let mut room = [0; MOST_BYTES];
     match read_bytes(word, &mut room) {
         None => Status::Usage,
-        Some(count) => send(sink, line_of(&room[..count]).as_bytes()),
+        Some(count) => send(sink, &line_of(&room[..count])),
     }
 }

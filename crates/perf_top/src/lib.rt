@@ -14,7 +14,6 @@ mod attr;
 mod line;
 mod notes;
 mod replay;
-mod report;
 mod run;
 mod served;
 mod status;

@@ -2,8 +2,9 @@
 
 ghost use Rattle.std.specs.Prelude.{◌≡◌, ◌-◌, ◌≤◌, [], ◌++◌, length};
 
+use buffered_sink::Written;
 use perf_base::ShortList;
-use perf_io::{Failed, Sink};
+use perf_io::{Failed, Sink, write_all};
 
 /// How many bytes a line has room for.
 const ROOM: usize = 512;
@@ -69,5 +70,13 @@ impl Sink for Line {
     fn flush(&mut self) -> Result<(), Failed> {
         self.flushed = self.text.len();
         Ok(())
+    }
+}
+
+impl Written for Line {
+    ghost text = { λ line. line.text };
+
+    fn write_to<K: Sink>(&self, sink: &mut K) -> Result<(), Failed> {
+        write_all(sink, self.as_bytes())
     }
 }

@@ -1,20 +1,22 @@
 //! From the source's bytes to the report, and from the report to the sink.
 
-ghost use Rattle.std.specs.Prelude.{◌≡◌, ℕ, ◌≤◌, ◌<◌, ◌⊎◌, ◌==◌, List, length, count_by, All, IfOk, IfErr, IfSome, Err};
+ghost use Rattle.std.specs.Prelude.{◌≡◌, ℕ, ◌≤◌, ◌<◌, ◌⊎◌, ◌==◌, List, length, count_by, IfOk, IfErr, IfSome, Err};
 ghost use Rattle.perf_io.specs.Outside.{Adds, Rose};
 ghost use Rattle.perf_io.specs.Wrote.{WroteFront};
 ghost use Rattle.perf_top.specs.Stops.{status_of};
-ghost use Rattle.stage_spec.specs.Order.{IsComplete};
+ghost use Rattle.perf_base.specs.Scripts.{IsCovered};
 ghost use Rattle.script_spec.specs.Lines.{lines_of};
 ghost use Rattle.script_spec.specs.Texts.{StandsFor};
-ghost use Rattle.perf_top.specs.Served.{IsFormAct, IsServed};
-ghost use Rattle.perf_top.specs.Outcome.{Gave, ReadNoneOrAll, IsReported, IsRun, IsBadScript, HasOpenOrder, IsUnserved};
+ghost use Rattle.perf_top.specs.Outcome.{Gave, ReadNoneOrAll, IsRun, IsBadScript, HasOpenOrder, IsUnserved, report_by};
 
 use crate::status::Status;
 use crate::text::{self, TextStop};
-use crate::{replay, report, served};
+use crate::{replay, served};
+use buffered_sink::{Written, write_buffered};
+use machine::Ended;
 use perf_base::{RingNo, SReason, Script};
-use perf_io::{Sink, Source, write_all};
+use perf_io::{Failed, Sink, Source};
+use report::write_report;
 use script_read::{ScriptFault, order_complete, read_script};
 use std::alloc::Global;
 
@@ -42,6 +44,23 @@ impl RunStop {
     }
 }
 
+/// The report of a run that has ended.
+#[derive(Drop)]
+struct Report<'a> {
+    ended: &'a Ended,
+}
+
+impl Written for Report<'_> {
+    ghost use Rattle.perf_top.specs.Outcome.{report_by};
+
+    ghost text = { λ r. report_by r.ended.now };
+
+    fn write_to<K: Sink>(&self, sink: &mut K) -> Result<(), Failed> {
+        let ended = self.ended;
+        write_report(sink, ended.script(), ended.order(), ended.answers())
+    }
+}
+
 /// How many LFs a text has.
 fn lf_count(text: &[u8]) -> usize
     ensures { result ≡ count_by (λ byte. byte == 10) text.now }
@@ -57,46 +76,33 @@ fn last_line(text: &[u8]) -> u32
     lf_count(text) as u32
 }
 
-/// The report of a script that is served.
-fn report_of_order(alloc: Global, script: &Script) -> Result<Vec<u8>, RunStop>
-    requires served { IsServed script.now }
-    requires acts { All IsFormAct script.now.order }
-    requires complete { IsComplete script.now script.now.order }
-    ensures ok { IfOk result (λ out. IsReported script.now out.items) }
-    ensures err { IfErr result (λ stop. stop ≡ RunStop.NoMemory) }
-{
-    match replay::answers(alloc, script) {
-        Err(_) => Err(RunStop::NoMemory),
-        Ok(replies) => match report::report(alloc, script, &replies) {
-            Err(_) => Err(RunStop::NoMemory),
-            Ok(out) => Ok(out),
-        },
-    }
-}
-
-/// The report of a script that was read from a text.
-fn report_of_script(alloc: Global, text: &[u8], script: &Script) -> Result<Vec<u8>, RunStop>
+/// What is left of a script that was read from a text, once its order was done.
+fn run_of_script(alloc: Global, text: &[u8], script: Script) -> Result<Ended, RunStop>
     requires short { length text.now ≤ 4194304 }
-    requires stands { StandsFor text.now script.now }
-    ensures ok { IfOk result (λ out. IsRun text.now out.items) }
+    requires stands { StandsFor text.now script }
+    requires covered { IsCovered script }
+    ensures ok { IfOk result (λ e. IsRun text.now (report_by e)) }
     ensures bad { (line : ℕ) → (reason : SReason) → result ≡ Err (RunStop.Bad line reason) → HasOpenOrder text.now line reason }
     ensures unbuilt { result ≡ Err RunStop.Unbuilt → IsUnserved text.now }
     ensures fault { result ≡ Err RunStop.ReadFault → ⊥ }
     ensures long { result ≡ Err RunStop.TooLong → ⊥ }
 {
-    if !order_complete(script) {
+    if !order_complete(&script) {
         return Err(RunStop::Bad(last_line(text), SReason::Order));
     }
-    if !served::is_served(script) {
+    if !served::is_served(&script) {
         return Err(RunStop::Unbuilt);
     }
-    report_of_order(alloc, script)
+    match replay::replay(alloc, script) {
+        Err(_) => Err(RunStop::NoMemory),
+        Ok(ended) => Ok(ended),
+    }
 }
 
-/// The report of a text.
-fn report_of(alloc: Global, text: &[u8]) -> Result<Vec<u8>, RunStop>
+/// What is left of the script that a text stands for.
+fn run_of(alloc: Global, text: &[u8]) -> Result<Ended, RunStop>
     requires short { length text.now ≤ 4194304 }
-    ensures ok { IfOk result (λ out. IsRun text.now out.items) }
+    ensures ok { IfOk result (λ e. IsRun text.now (report_by e)) }
     ensures bad { (line : ℕ) → (reason : SReason) → result ≡ Err (RunStop.Bad line reason) → IsBadScript text.now line reason }
     ensures unbuilt { result ≡ Err RunStop.Unbuilt → IsUnserved text.now }
     ensures fault { result ≡ Err RunStop.ReadFault → ⊥ }
@@ -105,14 +111,14 @@ fn report_of(alloc: Global, text: &[u8]) -> Result<Vec<u8>, RunStop>
     match read_script(alloc, text) {
         Err(ScriptFault::NoMemory) => Err(RunStop::NoMemory),
         Err(ScriptFault::Bad { line, reason }) => Err(RunStop::Bad(line, reason)),
-        Ok(script) => report_of_script(alloc, text, &script),
+        Ok(script) => run_of_script(alloc, text, script),
     }
 }
 
-/// The report of what a source has left. All memory is taken here.
-fn prepare<S: Source>(alloc: Global, source: &mut S) -> Result<Vec<u8>, RunStop>
+/// What is left of the script that a source has left. All memory is taken here, before the first act.
+fn prepare<S: Source>(alloc: Global, source: &mut S) -> Result<Ended, RunStop>
     ensures count { S.faults source.old ≤ S.faults source.new }
-    ensures ok { IfOk result (λ out. (bytes : List ℕ) × Gave (S.left source.old) (S.left source.new) bytes × IsRun bytes out.items) }
+    ensures ok { IfOk result (λ e. (bytes : List ℕ) × Gave (S.left source.old) (S.left source.new) bytes × IsRun bytes (report_by e)) }
     ensures bad { (line : ℕ) → (reason : SReason) → result ≡ Err (RunStop.Bad line reason) →
         (bytes : List ℕ) × Gave (S.left source.old) (S.left source.new) bytes × IsBadScript bytes line reason }
     ensures unbuilt { result ≡ Err RunStop.Unbuilt → (bytes : List ℕ) × Gave (S.left source.old) (S.left source.new) bytes × IsUnserved bytes }
@@ -124,18 +130,18 @@ fn prepare<S: Source>(alloc: Global, source: &mut S) -> Result<Vec<u8>, RunStop>
         Err(TextStop::NoMemory) => Err(RunStop::NoMemory),
         Err(TextStop::ReadFault) => Err(RunStop::ReadFault),
         Err(TextStop::TooLong) => Err(RunStop::TooLong),
-        Ok(text) => report_of(alloc, &text),
+        Ok(text) => run_of(alloc, &text),
     }
 }
 
-/// Writes a report or a line and flushes.
-pub fn send<K: Sink>(sink: &mut K, out: &[u8]) -> Status
+/// Writes a text and flushes.
+pub fn send<K: Sink, W: Written>(sink: &mut K, text: &W) -> Status
     ensures count { K.faults sink.old ≤ K.faults sink.new }
     ensures only { (result ≡ Status.Done) ⊎ (result ≡ Status.WriteFault) }
-    ensures done { result ≡ Status.Done → Adds (K.held sink.old) (K.held sink.new) out.now × IfSome (K.held sink.new) (λ bytes. K.flushed sink.new ≡ length bytes) }
-    ensures fault { result ≡ Status.WriteFault → WroteFront K.held K.faults K.last_fault sink.old sink.new out.now }
+    ensures done { result ≡ Status.Done → Adds (K.held sink.old) (K.held sink.new) (W.text text.now) × IfSome (K.held sink.new) (λ bytes. K.flushed sink.new ≡ length bytes) }
+    ensures fault { result ≡ Status.WriteFault → WroteFront K.held K.faults K.last_fault sink.old sink.new (W.text text.now) }
 {
-    match write_all(sink, out) {
+    match write_buffered(sink, text) {
         Err(_) => Status::WriteFault,
         Ok(()) => match sink.flush() {
             Err(_) => Status::WriteFault,
@@ -163,6 +169,6 @@ pub fn replay_all<S: Source, K: Sink>(alloc: Global, source: &mut S, sink: &mut 
 {
     match prepare(alloc, source) {
         Err(stop) => stop.status(),
-        Ok(out) => send(sink, &out),
+        Ok(ended) => send(sink, &Report { ended: &ended }),
     }
 }

@@ -1,121 +1,43 @@
 //! Which scripts the program does today.
 
-ghost use Rattle.std.specs.Prelude.{◌≡◌, ◌↔◌, [], IsTrue, All};
-ghost use Rattle.machine.specs.FirstCounting as counting;
-ghost use Rattle.machine.specs.FirstCounting.{IsFirstForm, IsWorkLine};
-ghost use Rattle.perf_base.specs.Scripts.{IsScript};
-ghost use Rattle.perf_top.specs.Served.{IsFormAct, IsServed, IsSmall, CpusWork, OpensAndReads, OthersIdle};
+ghost use Rattle.std.specs.Prelude.{◌≡◌, ◌<◌, ◌↔◌, IsTrue, All, false};
+ghost use Rattle.perf_base.specs.declared.numbers.ToolNo.{ToolNo as Tool};
+ghost use Rattle.perf_base.specs.Scripts.{IsScript, lines_of_tool};
+ghost use Rattle.perf_top.specs.Served.{IsServed};
+ghost use Rattle.perf_top.specs.Served as spec;
 
-use perf_base::{
-    Attr, AttrFlags, CpuLine, CpuNo, CpuSel, EventNo, Kind, Script, TaskSel, ToolLine, ToolNo,
-};
+use perf_base::{Script, ToolLine, ToolNo};
 
-/// The open of the one event: slot 0, on the first kind, for everything on processor 0, with both times.
-fn counting_open() -> ToolLine
-    ensures { result ≡ counting.counting_open }
+/// Whether a line redirects the output of an event.
+fn is_redirection(line: &ToolLine) -> bool
+    ensures { result ≡ spec.is_redirection line.now }
 {
-    ToolLine::Open {
-        slot: EventNo(0),
-        attr: Attr {
-            kind: Kind::Hard(0),
-            task: TaskSel::All,
-            cpu: CpuSel::One(CpuNo(0)),
-            period: 0,
-            sample: 0,
-            format: 3,
-            flags: AttrFlags(0),
-        },
-        leader: None,
-    }
+    matches!(line, ToolLine::Output { .. })
 }
 
-/// A read of it.
-fn counting_read() -> ToolLine
-    ensures { result ≡ counting.counting_read }
+/// Whether none of some lines does.
+fn redirect_none(lines: &[ToolLine]) -> bool
+    ensures { IsTrue result ↔ All (λ l. spec.is_redirection l ≡ false) lines.now }
 {
-    ToolLine::Read {
-        event: EventNo(0),
-        size: None,
-    }
+    lines.iter().all(|line| !is_redirection(line))
 }
 
-fn is_work(line: &CpuLine) -> bool
-    ensures { IsTrue result ↔ IsWorkLine line.now }
+/// Whether no line of a tool does.
+fn tools_redirect_none(script: &Script) -> bool
+    ensures { IsTrue result ↔ ((tool : Tool) → tool.0 < 4 → All (λ l. spec.is_redirection l ≡ false) (lines_of_tool script.now tool)) }
 {
-    matches!(line, CpuLine::Work(_))
-}
-
-/// Whether all lines are work.
-fn all_work(lines: &[CpuLine]) -> bool
-    ensures { IsTrue result ↔ All IsWorkLine lines.now }
-{
-    lines.iter().all(is_work)
-}
-
-fn is_read(line: &ToolLine) -> bool
-    ensures { IsTrue result ↔ line.now ≡ counting.counting_read }
-{
-    *line == counting_read()
-}
-
-/// Whether the first line, if there is one, opens the event, and the others read it.
-fn opens_and_reads(lines: &[ToolLine]) -> bool
-    ensures { IsTrue result ↔ OpensAndReads lines.now }
-{
-    match lines.split_first() {
-        None => true,
-        Some((first, others)) => *first == counting_open() && others.iter().all(is_read),
-    }
-}
-
-/// Whether the lines of each processor are work.
-fn cpus_work(script: &Script) -> bool
-    ensures { IsTrue result ↔ CpusWork script.now }
-{
-    for cpu in 0..8 {
-        if !all_work(script.cpu_lines(CpuNo(cpu))) {
+    for tool in 0..4 {
+        if !redirect_none(script.tool_lines(ToolNo(tool))) {
             return false;
         }
     }
     true
-}
-
-/// Whether no tool but tool 0 has lines.
-fn others_idle(script: &Script) -> bool
-    ensures { IsTrue result ↔ OthersIdle script.now }
-{
-    for tool in 1..4 {
-        if !script.tool_lines(ToolNo(tool)).is_empty() {
-            return false;
-        }
-    }
-    true
-}
-
-/// Whether there is one processor with one counter, at most one kind, no task and no ring.
-fn is_small(script: &Script) -> bool
-    ensures small { IsTrue result ↔ IsSmall script.now }
-    ensures sound { IsScript script.now }
-{
-    script.cpus() == 1
-        && script.pmus() == 1
-        && script.counters(0) == 1
-        && script.kinds() <= 1
-        && script.tasks().is_empty()
-        && script.rings().is_empty()
-}
-
-/// Whether the lines are those of the first form: work, and one event that is opened and then read.
-fn is_first_form(script: &Script) -> bool
-    ensures { IsTrue result ↔ IsFirstForm script.now }
-{
-    cpus_work(script) && opens_and_reads(script.tool_lines(ToolNo(0))) && others_idle(script)
 }
 
 /// Whether the program does a script.
 pub fn is_served(script: &Script) -> bool
-    ensures all { IsTrue result ↔ IsServed script.now }
-    ensures acts { IsTrue result → All IsFormAct script.now.order }
+    ensures served { IsTrue result ↔ IsServed script.now }
+    ensures sound { IsScript script.now }
 {
-    is_small(script) && is_first_form(script)
+    script.rings().is_empty() && tools_redirect_none(script)
 }

@@ -14,7 +14,16 @@ const REPORT: &str = "order t0 p0 t0\nt0.1 read 500 100 100\nend\n";
 const OPEN_ORDER: &str =
     "perf 1\nmachine cpus=1 counters=1\nprocessor 0\nwork 1 user\norder\nend\n";
 
-const WITH_TASK: &str = "perf 1\nmachine cpus=1 counters=1\ntask 0\nend\n";
+const WITH_RING: &str = "perf 1\nmachine cpus=1 counters=1\nring 0 bytes=64\nend\n";
+
+/// A switch, two events of one counter, and a fork, an exit and a close of what the task has.
+const WITH_TASK: &str =
+    "perf 1\nmachine cpus=1 counters=1\nkind a mask=1\ntask 0\nprocessor 0\nswitch 0\nfork 1\n\
+    work 10 user a=4\nexit\ntool 0\nopen 0 kind=a task=0 cpu=any format=3 flags=inherit\n\
+    open 1 kind=a task=all cpu=any\nread 0\nclose 0\nread 0\norder t0 t0 p0 p0 p0 p0 t0 t0 t0\nend\n";
+
+const TASK_REPORT: &str =
+    "order t0 t0 p0 p0 p0 p0 t0 t0 t0\nt0.1 open ENOPLACE\nt0.2 read 4 10 10\nt0.4 read EBADF\nend\n";
 
 const EMPTY: &str = "perf 1\nmachine cpus=1 counters=1\nend\n";
 
@@ -39,7 +48,7 @@ type Row = (
     &'static str,
 );
 
-const ROWS: [Row; 14] = [
+const ROWS: [Row; 15] = [
     ("replay", SCRIPT, 9, [CALM, CALM], Status::Done, REPORT, ""),
     ("replay", SCRIPT, 1, [CALM, CALM], Status::Done, REPORT, ""),
     (
@@ -134,12 +143,21 @@ const ROWS: [Row; 14] = [
     ),
     (
         "replay",
-        WITH_TASK,
+        WITH_RING,
         9,
         [CALM, CALM],
         Status::Unbuilt,
         "",
         "perf_run: not built\n",
+    ),
+    (
+        "replay",
+        WITH_TASK,
+        9,
+        [CALM, CALM],
+        Status::Done,
+        TASK_REPORT,
+        "",
     ),
     (
         "replay now",

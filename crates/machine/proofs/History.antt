@@ -1,0 +1,75 @@
+-- The history of an order with one act more, its record, and how many lines each actor has done then.
+use Rattle.std.specs.Prelude.{◌≡◌, ℕ, ◌+◌, ◌<◌, ◌≤◌, ◌==◌, List, [], ◌∷◌, ◌++◌, fold, length}
+use Rattle.std.proofs.Common.{arith, refl, sym, ap, ◌∙◌, cond, get_or, set, append_assoc, append-nil, inl, inr}
+use Rattle.std.proofs.lemmas.Bool.{cases_eq}
+use Rattle.std.proofs.lemmas.Bool.Decides.{nat_tests}
+use Rattle.std.proofs.lemmas.Grind.{get_or-set_at}
+use Rattle.std.proofs.lemmas.List.{get_or-set_other}
+use Rattle.std.proofs.lemmas.List.Sums.{sum_by_push}
+use Rattle.perf_base.specs.declared.acts.Act.{Act}
+use Rattle.perf_base.specs.declared.acts.Act.TheVariants as act
+use Rattle.perf_base.specs.declared.numbers.CpuNo.{CpuNo}
+use Rattle.perf_base.specs.declared.numbers.ToolNo.{ToolNo}
+use Rattle.perf_base.specs.Scripts.{Scripted}
+use Rattle.stage_spec.specs.Hardware.{hardware_of}
+use Rattle.stage_spec.specs.History.{Step, steps_of, steps_from, history, opening_stage}
+use Rattle.stage_spec.specs.Order.{is_of_cpu, is_of_tool, done_by_cpu, done_by_tool}
+use Rattle.ring_spec.specs.Running.{first_record, record_after, record_of}
+use Rattle.machine.specs.Leading.{record_in}
+
+steps-push : (s : Scripted) (before acts : List Act) (a : Act) → steps_from s before (acts ++ a ∷ []) ≡ steps_from s before acts ++ steps_of s (before ++ acts) a
+unfolding steps_from
+steps-push s before [] a = append-nil (steps_of s before a) ∙ ap (λ bs. steps_of s bs a) (sym (append-nil before))
+steps-push s before (b ∷ acts) a =
+    ap (λ xs. steps_of s before b ++ xs) (steps-push s (before ++ b ∷ []) acts a)
+    ∙ (ap (λ bs. steps_of s before b ++ (steps_from s (before ++ b ∷ []) acts ++ steps_of s bs a)) (append_assoc before (b ∷ []) acts)
+    ∙ sym (append_assoc (steps_of s before b) (steps_from s (before ++ b ∷ []) acts) (steps_of s (before ++ b ∷ acts) a)))
+
+pub history-grows : (s : Scripted) (acts : List Act) (a : Act) → history s (acts ++ a ∷ []) ≡ history s acts ++ steps_of s acts a
+history-grows s acts a = steps-push s [] acts a
+
+pub history-push : (s : Scripted) (acts : List Act) (a : Act) (x : Step) → steps_of s acts a ≡ x ∷ [] → history s (acts ++ a ∷ []) ≡ history s acts ++ x ∷ []
+history-push s acts a x e = history-grows s acts a ∙ ap (λ xs. history s acts ++ xs) e
+
+fold-push : {X Y : Type 0} (f : Y → X → Y) (y : Y) (xs : List X) (x : X) → fold f y (xs ++ x ∷ []) ≡ f (fold f y xs) x
+fold-push f y [] x = refl
+fold-push f y (z ∷ xs) x = fold-push f (f y z) xs x
+
+-- the record with one act more is the one after that act's step
+pub record-push : (s : Scripted) (acts : List Act) (a : Act) (x : Step) → steps_of s acts a ≡ x ∷ [] → record_in s (acts ++ a ∷ []) ≡ record_after (hardware_of s) (record_in s acts) x
+unfolding record_of
+record-push s acts a x e =
+    ap (fold (record_after (hardware_of s)) (first_record (opening_stage s) s.rings)) (history-push s acts a x e)
+    ∙ fold-push (record_after (hardware_of s)) (first_record (opening_stage s) s.rings) (history s acts) x
+
+-- one of the counts in a list rises
+pub raised : (counts : List ℕ) (i j : ℕ) → i < length counts → get_or (set counts i (get_or counts i 0 + 1)) j 0 ≡ get_or counts j 0 + cond (i == j) 1 0
+raised counts i j l = grind (arith, get_or-set_at, get_or-set_other, nat_tests)
+
+pub cpu-push : (acts : List Act) (cpu own : CpuNo) → done_by_cpu own (acts ++ act.Processor cpu ∷ []) ≡ done_by_cpu own acts + cond (cpu.0 == own.0) 1 0
+cpu-push acts cpu own = sum_by_push (λ a. cond (is_of_cpu own a) 1 0) acts (act.Processor cpu)
+
+pub cpu-other : (acts : List Act) (tool : ToolNo) (own : CpuNo) → done_by_cpu own (acts ++ act.Tool tool ∷ []) ≡ done_by_cpu own acts
+cpu-other acts tool own = sum_by_push (λ a. cond (is_of_cpu own a) 1 0) acts (act.Tool tool) ∙ omega arith
+
+pub tool-push : (acts : List Act) (tool own : ToolNo) → done_by_tool own (acts ++ act.Tool tool ∷ []) ≡ done_by_tool own acts + cond (tool.0 == own.0) 1 0
+tool-push acts tool own = sum_by_push (λ a. cond (is_of_tool own a) 1 0) acts (act.Tool tool)
+
+pub tool-other : (acts : List Act) (cpu : CpuNo) (own : ToolNo) → done_by_tool own (acts ++ act.Processor cpu ∷ []) ≡ done_by_tool own acts
+tool-other acts cpu own = sum_by_push (λ a. cond (is_of_tool own a) 1 0) acts (act.Processor cpu) ∙ omega arith
+
+-- an actor that has a line may have one act more
+pub counted-push : (done lines other own : ℕ) → (other ≡ own → done < lines) → done ≤ lines → done + cond (other == own) 1 0 ≤ lines
+counted-push done lines other own has within = elim (cases_eq other own) [
+  | inl e ↦ omega (arith, has e, one-more other own)
+  | inr apart ↦ grind (arith, nat_tests, apart, within)
+]
+  where
+    one-more : (other own : ℕ) → cond (other == own) 1 0 ≤ 1
+    one-more other own = grind (arith, nat_tests)
+
+pub cpu-is : (cpu own : CpuNo) → cpu.0 ≡ own.0 → cpu ≡ own
+cpu-is cpu own e = λ i. record { 0 = e i }
+
+pub tool-is : (tool own : ToolNo) → tool.0 ≡ own.0 → tool ≡ own
+tool-is tool own e = λ i. record { 0 = e i }

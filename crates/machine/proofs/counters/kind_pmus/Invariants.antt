@@ -1,0 +1,12 @@
+use Rattle.std.specs.Prelude.{◌≡◌, ℕ, ◌<◌, ◌≤◌, length, slice_index}
+use Rattle.std.proofs.Common.{get_or}
+use Rattle.machine.proofs.Declared.{no_kind}
+use Rattle.machine.proofs.counters.kind_pmus.Given as goal
+
+abbrev pub invariant-loop-kind : goal.invariant-loop-kind
+invariant-loop-kind l = record {
+  end : l.kind-end ≡ length l.script.kinds;
+  few : length l.script.kinds ≤ 16;
+  long : length l.pmus ≡ 16;
+  each : (kind : ℕ) → kind < l.kind → slice_index l.pmus kind ≡ (get_or l.script.kinds kind no_kind).pmu;
+}

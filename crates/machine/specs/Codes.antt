@@ -1,0 +1,11 @@
+-- How the value of a machine is stored: as the tuple of its parts.
+use Rattle.std.specs.Prelude.{ℕ, List, refl}
+use Rattle.std.specs.Coded.{Coded, code_by, coded×, coded_ℕ, coded_list}
+use Rattle.perf_world.specs.Codes.{world_code}
+use Rattle.world_spec.specs.Value.{World}
+use Rattle.machine.specs.Leading.{Kept}
+
+abbrev pub kept_code : Coded Kept
+kept_code =
+    code_by (List ℕ × (List ℕ × World)) (coded× (coded_list coded_ℕ) (coded× (coded_list coded_ℕ) world_code))
+    (λ m. (m.cpus, (m.tools, m.world))) (λ p. record { cpus = p.0; tools = p.1.0; world = p.1.1 }) (λ _. refl)

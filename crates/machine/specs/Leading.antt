@@ -1,0 +1,71 @@
+-- What a machine keeps, which acts of a script lead to it, and what an act answers after them. This project's own profile.
+use Rattle.std.specs.Prelude.{◌≡◌, ℕ, ◌<◌, List, [], ◌∷◌, length, slice_index_or}
+use Rattle.perf_base.specs.declared.acts.Act.{Act}
+use Rattle.perf_base.specs.declared.acts.Act.TheVariants as act
+use Rattle.perf_base.specs.declared.acts.Actor.{Actor}
+use Rattle.perf_base.specs.declared.acts.Actor.TheVariants as actor
+use Rattle.perf_base.specs.declared.numbers.CpuNo.{CpuNo}
+use Rattle.perf_base.specs.declared.numbers.ToolNo.{ToolNo}
+use Rattle.perf_base.specs.declared.reply.Reply.{Reply}
+use Rattle.perf_base.specs.Scripts.{Scripted, lines_of_cpu, lines_of_tool}
+use Rattle.stage_spec.specs.Hardware.{hardware_of}
+use Rattle.stage_spec.specs.History.{steps_of, history, opening_stage}
+use Rattle.stage_spec.specs.Order.{IsCounted, done_by_cpu, done_by_tool}
+use Rattle.stage_spec.specs.Replies.{AreReplies}
+use Rattle.ring_spec.specs.Rings.{lost_count}
+use Rattle.ring_spec.specs.Running.{Running, record_of}
+use Rattle.world_spec.specs.Agreement.{AgreesWith}
+use Rattle.world_spec.specs.Value.{World}
+use Rattle.line_steps.specs.Stepped.{IsReady}
+
+-- how many lines each processor and each tool has done, and the events with what they have counted
+pub record Kept : Type 0 where
+  pub cpus : List ℕ
+  pub tools : List ℕ
+  pub world : World
+
+-- It has a count for each of eight processors and four tools, and its world is ready for a line.
+pub record IsWhole (m : Kept) : Type 0 where
+  pub cpus : length m.cpus ≡ 8
+  pub tools : length m.tools ≡ 4
+  pub ready : IsReady m.world
+
+-- the record of a script's acts: the stage that they leave, and what each event has counted
+abbrev pub record_in : Scripted → List Act → Running
+record_in s acts = record_of (hardware_of s) (opening_stage s) s.rings (history s acts)
+
+-- These acts of a script lead to a machine: no actor did more lines than it has, the machine knows how many each did, and its world agrees with their
+-- record.
+pub record LeadTo (s : Scripted) (acts : List Act) (m : Kept) : Type 0 where
+  pub counted : IsCounted s acts
+  pub cpus : (cpu : CpuNo) → slice_index_or m.cpus cpu.0 0 ≡ done_by_cpu cpu acts
+  pub tools : (tool : ToolNo) → slice_index_or m.tools tool.0 0 ≡ done_by_tool tool acts
+  pub hardware : m.world.hardware ≡ hardware_of s
+  pub agrees : AgreesWith m.world (record_in s acts)
+
+-- the machine was made for this script: some of its acts lead there
+abbrev pub IsOf : Scripted → Kept → Type 0
+IsOf s m = (acts : List Act) × LeadTo s acts m
+
+-- how many lines an actor has done
+abbrev pub done_by : Actor → Kept → ℕ
+done_by (actor.Processor cpu) m = slice_index_or m.cpus cpu.0 0
+done_by (actor.Tool tool) m = slice_index_or m.tools tool.0 0
+done_by (actor.Reader ring) m = 0
+
+-- The actor is a processor or a tool that has done fewer lines than the script gives it.
+abbrev pub HasLine : Scripted → Kept → Actor → Type 0
+HasLine s m (actor.Processor cpu) = slice_index_or m.cpus cpu.0 0 < length (lines_of_cpu s cpu)
+HasLine s m (actor.Tool tool) = slice_index_or m.tools tool.0 0 < length (lines_of_tool s tool)
+HasLine s m (actor.Reader ring) = ⊥
+
+-- the act that does an actor's next line; a reader has none
+abbrev pub act_of : Actor → Act
+act_of (actor.Processor cpu) = act.Processor cpu
+act_of (actor.Tool tool) = act.Tool tool
+act_of (actor.Reader ring) = act.Seen ring 0
+
+-- This is the reply to an act after the acts before it, by what a script's rings have lost until then.
+abbrev pub IsReplyTo : Scripted → List Act → Act → Reply → Type 0
+IsReplyTo s acts a reply =
+    AreReplies (hardware_of s) (opening_stage s) (lost_count (hardware_of s) (opening_stage s) s.rings) (history s acts) (steps_of s acts a) (reply ∷ [])

@@ -1,0 +1,91 @@
+//! What is left of a run.
+
+ghost use Rattle.std.specs.Prelude.{◌≡◌, ◌<◌, ◌≤◌, [], count_by, length, map, take};
+ghost use Rattle.stage_spec.specs.Order.{IsCounted};
+ghost use Rattle.stage_spec.specs.Replies.{lines_from};
+ghost use Rattle.machine.specs.Ended as spec;
+
+use perf_base::{Act, Actor, Reply, Script, StoredReply};
+use std::marker::Model;
+
+/// A run that has ended: its script, the order in which its lines were done, and the answer to each line, with the actor whose line it is and the line's number
+/// among that actor's lines, from 0.
+#[derive(Drop)]
+pub struct Ended {
+    script: Script,
+    order: Vec<Act>,
+    answers: Vec<(Actor, u32, StoredReply)>,
+}
+
+impl Model for Ended {
+    ghost use Rattle.machine.specs.Ended.{Ran, IsRan};
+
+    ghost Value = { Ran };
+
+    ghost view = { λ e. record { script = e.script; order = e.order.items; answers = e.answers.items } };
+
+    ghost invariant = { λ e. IsRan (record { script = e.script; order = e.order.items; answers = e.answers.items }) };
+}
+
+/// Whether an act does a line.
+fn does_line(act: &Act) -> bool
+    ensures { result ≡ spec.does_line act.now }
+{
+    !matches!(act, Act::Seen(..))
+}
+
+/// How many acts before one of some do a line.
+fn lines_before(acts: &[Act], act: usize) -> usize
+    requires { act ≤ length acts.now }
+    ensures { result ≡ count_by spec.does_line (take act acts.now) }
+{
+    acts[..act].iter().filter(|act| does_line(act)).count()
+}
+
+impl Ended {
+    /// A run of a script that has ended.
+    pub fn new(script: Script, order: Vec<Act>, answers: Vec<(Actor, u32, StoredReply)>) -> Ended
+        requires counted { IsCounted script order.items }
+        requires lines { map (λ a. (a.0, a.1)) answers.items ≡ lines_from [] order.items }
+        ensures { result ≡ record { script = script; order = order.items; answers = answers.items } }
+    {
+        Ended {
+            script,
+            order,
+            answers,
+        }
+    }
+
+    /// Its script.
+    pub fn script(&self) -> &Script
+        ensures { result.now ≡ self.now.script }
+    {
+        &self.script
+    }
+
+    /// The order in which its lines were done, with the looks at rings between them.
+    pub fn order(&self) -> &[Act]
+        ensures { result.now ≡ self.now.order }
+    {
+        self.order.as_slice()
+    }
+
+    /// The answers, one to each line that was done, in their order.
+    pub fn answers(&self) -> &[(Actor, u32, StoredReply)]
+        ensures { result.now ≡ self.now.answers }
+    {
+        self.answers.as_slice()
+    }
+
+    /// The answer to the line of an act of the order, from 0. A look at a ring has none.
+    pub fn reply(&self, act: usize) -> Option<(Actor, u32, Reply)>
+        requires { act < length self.now.order }
+        ensures { result ≡ spec.answer_at self.now act }
+    {
+        if !does_line(&self.order[act]) {
+            return None;
+        }
+        let (actor, number, reply) = &self.answers[lines_before(&self.order, act)];
+        Some((*actor, *number, reply.reply()))
+    }
+}
