@@ -9,7 +9,8 @@ Usage: perf_rows.py
        perf_rows.py folder NAME FOLDER
            takes the cases of a folder of scripts into the group NAME, in the place of those that the group had; then
            as above. Beside NNN.script there is NNN.note, what standard error must hold, or NNN.report, what standard
-           output must hold
+           output must hold. The report is taken where the program does the script by now: where it has no line `ring`
+           and no line `output`
        perf_rows.py served NAME FOLDER
            as `folder`, for scripts that the program does by now: the reports are taken too
 
@@ -111,10 +112,16 @@ def case_of_row(folder):
     return ["refused" if note.startswith("perf_run: line ") else "unlawful", name, note]
 
 
+def is_served(text):
+    """Whether the program does a script by now."""
+    return not any(line.startswith(("ring ", "output ")) for line in text.splitlines())
+
+
 def case_of_script(group, stem, served):
     """The case of the script STEM.script."""
     name = f"{group}/{os.path.basename(stem)}"
     copy(stem + ".script", name + ".script")
+    served = served or is_served(read(stem + ".script"))
     if os.path.exists(stem + ".note"):
         note = note_of(read(stem + ".note"))
         refused = served or note.startswith("perf_run: line ")
