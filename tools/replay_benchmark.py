@@ -1,0 +1,104 @@
+#!/usr/bin/env python3
+"""Measures how long the program takes for a whole replay beside reading the same text alone, and its peak memory.
+
+A script is read alone where its order is one act short: the program reads all of the text, finds that, and answers ORDER at the last line.
+
+Usage: replay_benchmark.py PROGRAM
+  PROGRAM  the built program, crates/perf_run/out/perf_run; `rt run` in crates/perf_run leaves it there
+"""
+
+import os
+import subprocess
+import sys
+import tempfile
+import time
+
+RUNS = 5
+LINES = 16000
+
+
+def in_lines(acts):
+    """Order lines of some acts, 500 a line."""
+    return "".join("order " + " ".join(acts[i : i + 500]) + "\n" for i in range(0, len(acts), 500))
+
+
+def script_of(head, cpus, tool, order):
+    """A script with these lines of each processor and of tool 0, in this order."""
+    text = head
+    for cpu, lines in sorted(cpus.items()):
+        text += f"processor {cpu}\n" + "".join(line + "\n" for line in lines)
+    text += "tool 0\n" + "".join(line + "\n" for line in tool)
+    return text, order
+
+
+def small():
+    """One processor with two counters, three events in turn, work and ticks."""
+    head = "perf 1\nmachine cpus=1 counters=2\nkind cycles mask=3\n"
+    opens = [f"open {e} kind=cycles task=all cpu=0 format=3" for e in range(3)]
+    reads = [f"read {e}" for e in range(3)]
+    count = LINES - len(opens) - len(reads)
+    lines = ["tick" if i % 4 == 3 else "work 100 user cycles=50" for i in range(count)]
+    return script_of(head, {0: lines}, opens + reads, ["t0"] * len(opens) + ["p0"] * count + ["t0"] * len(reads))
+
+
+def large():
+    """Eight processors, 64 tasks, 200 events, work with ticks and switches."""
+    head = "perf 1\nmachine cpus=8 counters=4\nkind cycles mask=f\nkind misses mask=3\n"
+    head += "".join(f"task {t}\n" for t in range(64))
+    opens = [f"open {e} kind={'misses' if e % 3 else 'cycles'} task={e % 64} cpu=any format=3" for e in range(168)]
+    opens += [f"open {168 + e} kind=cycles task=all cpu={e % 8} format=3" for e in range(32)]
+    reads = [f"read {e}" for e in range(200)]
+    each = (LINES - len(opens) - len(reads)) // 8
+    cpus, order = {cpu: [] for cpu in range(8)}, ["t0"] * len(opens)
+    for i in range(each):
+        for cpu in range(8):
+            if i % 8 == 0:
+                cpus[cpu].append(f"switch {cpu * 8 + (i // 8) % 8}")
+            elif i % 8 == 4:
+                cpus[cpu].append("tick")
+            else:
+                cpus[cpu].append("work 100 user cycles=50 misses=5")
+            order.append(f"p{cpu}")
+    return script_of(head, cpus, opens + reads, order + ["t0"] * len(reads))
+
+
+def copies():
+    """Tasks that fork, work and exit, until 4,000 copies were made."""
+    head = "perf 1\nmachine cpus=1 counters=4\nkind cycles mask=f\ntask 0\n"
+    opens = [f"open {e} kind=cycles task=0 cpu=any format=3 flags=inherit" for e in range(64)]
+    reads = [f"read {e}" for e in range(64)]
+    lines = ["switch 0"] + [f"fork {t}" for t in range(1, 63)]
+    for t in range(1, 63):
+        lines += [f"switch {t}", "work 100 user cycles=50", "exit"]
+    return script_of(head, {0: lines}, opens + reads, ["t0"] * len(opens) + ["p0"] * len(lines) + ["t0"] * len(reads))
+
+
+def measured(program, text, status):
+    """The seconds of a run and its peak memory in bytes."""
+    with tempfile.TemporaryFile() as given:
+        given.write(text.encode())
+        given.seek(0)
+        begin = time.monotonic()
+        run = subprocess.Popen([program, "replay"], stdin=given, stdout=subprocess.DEVNULL, stderr=subprocess.DEVNULL)
+        _, code, usage = os.wait4(run.pid, 0)
+        seconds = time.monotonic() - begin
+    if os.waitstatus_to_exitcode(code) != status:
+        raise ValueError(f"status {os.waitstatus_to_exitcode(code)} in place of {status}")
+    return seconds, usage.ru_maxrss * 1024
+
+
+def best(program, text, status):
+    runs = [measured(program, text, status) for _ in range(RUNS)]
+    return min(seconds for seconds, _ in runs), max(peak for _, peak in runs)
+
+
+def main(program):
+    for name, (text, order) in (("1 processor, 3 events", small()), ("8 processors, 200 events", large()), ("4,000 copies", copies())):
+        read, _ = best(program, text + in_lines(order[:-1]) + "end\n", 1)
+        whole, peak = best(program, text + in_lines(order) + "end\n", 0)
+        print(f"{name}: {len(order)} lines; reading {1000 * read:.1f} ms, replay {1000 * whole:.1f} ms, {whole / read:.1f} times; {peak / 2**20:.1f} MiB; the best of {RUNS}")
+
+
+if len(sys.argv) != 2:
+    sys.exit(__doc__)
+main(sys.argv[1])
