@@ -62,15 +62,24 @@ def large():
     return script_of(head, cpus, opens + reads, order + ["t0"] * len(reads))
 
 
-def copies():
-    """Tasks that fork, work and exit, until 4,000 copies were made."""
+def copies(tasks):
+    """Tasks that are forked, work and exit: so many, with 64 copies each."""
     head = "perf 1\nmachine cpus=1 counters=4\nkind cycles mask=f\ntask 0\n"
     opens = [f"open {e} kind=cycles task=0 cpu=any format=3 flags=inherit" for e in range(64)]
     reads = [f"read {e}" for e in range(64)]
-    lines = ["switch 0"] + [f"fork {t}" for t in range(1, 63)]
-    for t in range(1, 63):
+    lines = ["switch 0"] + [f"fork {t}" for t in range(1, tasks + 1)]
+    for t in range(1, tasks + 1):
         lines += [f"switch {t}", "work 100 user cycles=50", "exit"]
     return script_of(head, {0: lines}, opens + reads, ["t0"] * len(opens) + ["p0"] * len(lines) + ["t0"] * len(reads))
+
+
+def stored(name):
+    """A worked case, and its order."""
+    path = os.path.join(os.path.dirname(os.path.abspath(__file__)), "..", "crates", "perf_rows", "data", name + ".script")
+    with open(path) as file:
+        lines = file.read().splitlines()
+    order = [act for line in lines if line.startswith("order") for act in line.split()[1:]]
+    return "".join(line + "\n" for line in lines[:-1] if not line.startswith("order")), order
 
 
 def measured(program, text, status):
@@ -93,7 +102,8 @@ def best(program, text, status):
 
 
 def main(program):
-    for name, (text, order) in (("1 processor, 3 events", small()), ("8 processors, 200 events", large()), ("4,000 copies", copies())):
+    table = (("1 processor, 3 events", small()), ("8 processors, 200 events", large()), ("2,000 copies", copies(31)), ("4,000 copies", copies(62)), ("copies-full", stored("rows/copies-full")))
+    for name, (text, order) in table:
         read, _ = best(program, text + in_lines(order[:-1]) + "end\n", 1)
         whole, peak = best(program, text + in_lines(order) + "end\n", 0)
         print(f"{name}: {len(order)} lines; reading {1000 * read:.1f} ms, replay {1000 * whole:.1f} ms, {whole / read:.1f} times; {peak / 2**20:.1f} MiB; the best of {RUNS}")
