@@ -1,3 +1,4 @@
+pub mod Accounts
 pub mod Passing
 pub mod Going
 pub mod Ahead
