@@ -1,4 +1,6 @@
 pub mod Accounts
+pub mod Sends
+pub mod Space
 pub mod Passing
 pub mod Going
 pub mod Ahead

@@ -8,6 +8,8 @@ use Rattle.ring_spec.specs.Sending.{Sent}
 use Rattle.ring_words.specs.Ends.{place_of}
 use Rattle.sample_ring.specs.OutEnds.{OutEnd, HasAccount}
 use Rattle.sample_ring.specs.RingLists.{RingList, OutList}
+use Rattle.sample_ring.specs.declared.sent.Sent.{Sent as Answer}
+use Rattle.sample_ring.specs.declared.sent.Sent.TheVariants as answer
 use Rattle.sample_ring.specs.Sends.{Request, request_of, sent_to, fits}
 
 -- the ends that send, and of each slot how many of its records were lost
@@ -26,6 +28,11 @@ abbrev pub loses_among : (numbers : List RingNo) → List OutEnd → RingNo → 
 loses_among [] outs ring q = false
 loses_among (n ∷ numbers) [] ring q = false
 loses_among (n ∷ numbers) (o ∷ outs) ring q = if n.0 == ring.0 then not (fits o q) else loses_among numbers outs ring q
+
+-- what the end that sends answers
+abbrev pub is_lost : Answer → Bool
+is_lost answer.Written = false
+is_lost (answer.Lost head tail need) = true
 
 -- one more of a slot, where the record was lost
 abbrev pub count_lost : Bool → EventNo → List ℕ → List ℕ

@@ -1,3 +1,4 @@
 pub mod Ends
+pub mod Sampling
 pub mod Shares
 pub mod Visits

@@ -4,6 +4,8 @@
 
 mod account;
 mod happening;
+mod samples;
+mod sending;
 #[cfg(test)]
 mod tests;
 mod visits;

@@ -1,0 +1,80 @@
+-- A send to the end of a ring among those that there are.
+use Rattle.std.specs.Prelude.{◌≡◌, ℕ, suc, ◌+◌, ◌*◌, ◌^◌, ◌<◌, ◌==◌, Bool, true, false, not, All, List, [], ◌∷◌, slice_get, slice_set, cond, Some, if◌then◌else◌}
+use Rattle.std.proofs.Common.{arith, refl, sym, ap, subst, ◌∙◌, inl, inr}
+use Rattle.std.proofs.lemmas.Bool.{cases_eq}
+use Rattle.std.proofs.lemmas.Bool.Decides.{nat_tests}
+use Rattle.std.proofs.lemmas.List.Elements.{All-get_or}
+use Rattle.std.proofs.lemmas.Option.{slice_get_within, get_or_from_slice_get, same_Some}
+use Rattle.perf_base.specs.declared.numbers.RingNo.{RingNo}
+use Rattle.ring_words.specs.Ends as words
+use Rattle.sample_ring.specs.OutEnds.{OutEnd}
+use Rattle.sample_ring.specs.RingLists.{place_of, HasRing}
+use Rattle.sample_ring.specs.Sends.{Request, need_for, sent_to, answer_to, fits}
+use Rattle.sample_ring.specs.declared.sent.Sent.{Sent as Answer}
+use Rattle.sample_ring.specs.declared.sent.Sent.TheVariants as answer
+use Rattle.sample_ring.proofs.Sending.{head_bounded, lost_bounded}
+use Rattle.work_account.specs.Ends.{Ends, sent_among, loses_among, is_lost, HaveSpace}
+
+-- what is found at a place, and what the lists have there
+pub at-place : (P : OutEnd → Type 0) (outs : List OutEnd) (i : ℕ) (o : OutEnd) → slice_get outs i ≡ Some o → All P outs → P o
+at-place P outs i o at all = subst P (get_or_from_slice_get outs i o o at) (All-get_or P outs i o (slice_get_within outs i o at) all)
+
+place-here : (n ring : RingNo) (numbers : List RingNo) → n.0 ≡ ring.0 → place_of (n ∷ numbers) ring ≡ 0
+place-here n ring numbers e = let its : (n.0 == ring.0) ≡ true = grind (arith, nat_tests, e) in ap (λ (b : Bool). cond (not b) (1 + place_of numbers ring) 0) its
+
+place-later : (n ring : RingNo) (numbers : List RingNo) → (n.0 ≡ ring.0 → ⊥) → place_of (n ∷ numbers) ring ≡ suc (place_of numbers ring)
+place-later n ring numbers off =
+    let other : (n.0 == ring.0) ≡ false = grind (arith, nat_tests, off) in
+    let one : 1 + place_of numbers ring ≡ suc (place_of numbers ring) = omega arith in
+    ap (λ (b : Bool). cond (not b) (1 + place_of numbers ring) 0) other ∙ one
+
+pub sent-is : (numbers : List RingNo) (outs : List OutEnd) (ring : RingNo) (q : Request) (o : OutEnd) → HasRing numbers ring → slice_get outs (place_of numbers ring) ≡ Some o
+    → slice_set outs (place_of numbers ring) (sent_to o q) ≡ sent_among numbers outs ring q
+sent-is [] outs ring q o there at = absurd (omega (arith, there))
+sent-is (n ∷ numbers) [] ring q o there at = absurd (cc (at))
+sent-is (n ∷ numbers) (p ∷ outs) ring q o there at = elim (cases_eq n.0 ring.0) [
+  | inl e ↦
+      let its : (n.0 == ring.0) ≡ true = grind (arith, nat_tests, e) in
+      let same : p ≡ o = same_Some p o (ap (slice_get (p ∷ outs)) (sym (place-here n ring numbers e)) ∙ at) in
+      ap (λ (i : ℕ). slice_set (p ∷ outs) i (sent_to o q)) (place-here n ring numbers e)
+      ∙ (ap (λ (x : OutEnd). sent_to x q ∷ outs) (sym same)
+      ∙ ap (λ (b : Bool). if b then sent_to p q ∷ outs else p ∷ sent_among numbers outs ring q) (sym its))
+  | inr off ↦
+      let other : (n.0 == ring.0) ≡ false = grind (arith, nat_tests, off) in
+      let later : place_of (n ∷ numbers) ring ≡ suc (place_of numbers ring) = place-later n ring numbers off in
+      ap (λ (i : ℕ). slice_set (p ∷ outs) i (sent_to o q)) later
+      ∙ (ap (λ (l : List OutEnd). p ∷ l) (sent-is numbers outs ring q o (omega (arith, there, later)) (ap (slice_get (p ∷ outs)) (sym later) ∙ at))
+      ∙ ap (λ (b : Bool). if b then sent_to p q ∷ outs else p ∷ sent_among numbers outs ring q) (sym other))
+]
+
+loses-is : (numbers : List RingNo) (outs : List OutEnd) (ring : RingNo) (q : Request) (o : OutEnd) → HasRing numbers ring → slice_get outs (place_of numbers ring) ≡ Some o
+    → loses_among numbers outs ring q ≡ not (fits o q)
+loses-is [] outs ring q o there at = absurd (omega (arith, there))
+loses-is (n ∷ numbers) [] ring q o there at = absurd (cc (at))
+loses-is (n ∷ numbers) (p ∷ outs) ring q o there at = elim (cases_eq n.0 ring.0) [
+  | inl e ↦
+      let its : (n.0 == ring.0) ≡ true = grind (arith, nat_tests, e) in
+      let same : p ≡ o = same_Some p o (ap (slice_get (p ∷ outs)) (sym (place-here n ring numbers e)) ∙ at) in
+      ap (λ (b : Bool). if b then not (fits p q) else loses_among numbers outs ring q) its ∙ ap (λ (x : OutEnd). not (fits x q)) same
+  | inr off ↦
+      let other : (n.0 == ring.0) ≡ false = grind (arith, nat_tests, off) in
+      let later : place_of (n ∷ numbers) ring ≡ suc (place_of numbers ring) = place-later n ring numbers off in
+      ap (λ (b : Bool). if b then not (fits p q) else loses_among numbers outs ring q) other
+      ∙ loses-is numbers outs ring q o (omega (arith, there, later)) (ap (slice_get (p ∷ outs)) (sym later) ∙ at)
+]
+
+pub lost-answer : (numbers : List RingNo) (outs : List OutEnd) (ring : RingNo) (q : Request) (o : OutEnd) (a : Answer) → HasRing numbers ring
+    → slice_get outs (place_of numbers ring) ≡ Some o → a ≡ answer_to o q → is_lost a ≡ loses_among numbers outs ring q
+lost-answer numbers outs ring q o a there at is = ap is_lost is ∙ (one (fits o q) ∙ sym (loses-is numbers outs ring q o there at))
+  where
+    one : (b : Bool) → is_lost (elim b as (λ _. Answer) [ true ↦ answer.Written | false ↦ answer.Lost (words.place_of o.producer) o.producer.last_tail (need_for o q) ]) ≡ not b
+    one true = refl
+    one false = refl
+
+-- there is space for one record
+pub head-fits : (x : Ends) (i : ℕ) (o : OutEnd) (q : Request) → HaveSpace 1 x → slice_get x.outs.outs i ≡ Some o → words.place_of (sent_to o q).producer < 2 ^ 63
+head-fits x i o q h at =
+    omega (arith, head_bounded o q, at-place (λ (p : OutEnd). words.place_of p.producer + 1 * p.producer.ring.bytes < 2 ^ 63) x.outs.outs i o at h.heads)
+
+pub lost-fits : (x : Ends) (i : ℕ) (o : OutEnd) (q : Request) → HaveSpace 1 x → slice_get x.outs.outs i ≡ Some o → (sent_to o q).lost < 2 ^ 63
+lost-fits x i o q h at = omega (arith, lost_bounded o q, at-place (λ (p : OutEnd). p.lost + 1 < 2 ^ 63) x.outs.outs i o at h.losses)

@@ -1,0 +1,74 @@
+//! How records are sent to the ends of the rings, and those lost are counted.
+
+ghost use Rattle.std.specs.Prelude.{◌≡◌, ℕ, ◌+◌, ◌^◌, ◌<◌, true, [], slice_index_or};
+ghost use Rattle.ring_spec.specs.Records.{IsRecord};
+ghost use Rattle.sample_records.specs.Seen.{seen};
+ghost use Rattle.sample_ring.specs.RingLists.{HasRing};
+ghost use Rattle.world_spec.specs.Value.{is_live, instance_at};
+ghost use Rattle.work_account.specs.Ends as ends;
+ghost use Rattle.work_account.specs.Ends.{AreTogether, HaveSpace};
+ghost use Rattle.work_account.specs.Sampling.{asks, ends_of, send_times};
+
+use crate::samples::Sample;
+use perf_base::Key;
+use perf_world::World;
+use sample_ring::{Outs, Rings, Sent};
+
+/// Sends a sample to its ring, which is there.
+fn send(sample: &Sample, rings: &Rings, outs: &mut Outs) -> Sent
+    requires lawful { IsRecord (seen sample.now.sent) }
+    requires together { AreTogether rings.now outs.old }
+    requires ring { HasRing outs.old.numbers sample.now.ring }
+    requires heads { HaveSpace 1 (record { outs = outs.old; lost = [] }) }
+    ensures outs { outs.new ≡ record outs.old { outs = ends.sent_among outs.old.numbers outs.old.outs sample.now.ring (asks sample.now) } }
+    ensures answer { ends.is_lost result ≡ ends.loses_among outs.old.numbers outs.old.outs sample.now.ring (asks sample.now) }
+{
+    outs.out(sample.ring).send(
+        rings.table(sample.ring),
+        &sample.sent,
+        sample.id,
+        &sample.trailer,
+    )
+}
+
+/// One more record of an event is lost, where the answer to a send says so.
+fn count_lost(world: &mut World, origin: Key, answer: Sent)
+    requires live { is_live world.old origin ≡ true }
+    requires fits { slice_index_or world.old.lost (instance_at world.old origin).event.0 0 + 1 < 2 ^ 63 }
+    ensures { world.new ≡ record world.old { lost = ends.count_lost (ends.is_lost answer) (instance_at world.old origin).event world.old.lost } }
+{
+    match answer {
+        Sent::Written => {}
+        Sent::Lost { .. } => world.add_lost(origin),
+    }
+}
+
+/// Sends a sample to its ring, which is there. Where it is lost, one more record of its event is.
+fn send_one(world: &mut World, sample: &Sample, rings: &Rings, outs: &mut Outs)
+    requires live { is_live world.old sample.now.origin ≡ true }
+    requires lawful { IsRecord (seen sample.now.sent) }
+    requires together { AreTogether rings.now outs.old }
+    requires ring { HasRing outs.old.numbers sample.now.ring }
+    requires space { HaveSpace 1 (ends_of outs.old world.old) }
+    ensures ends { ends_of outs.new world.new ≡ ends.send_one (ends_of outs.old world.old) (instance_at world.old sample.now.origin).event sample.now.ring (asks sample.now) }
+    ensures rest { world.new ≡ record world.old { lost = world.new.lost } }
+{
+    let answer = send(sample, rings, outs);
+    count_lost(world, sample.origin, answer);
+}
+
+/// Sends a sample so many times: once for each overflow of a burst.
+pub fn send_burst(world: &mut World, sample: &Sample, count: u64, rings: &Rings, outs: &mut Outs)
+    requires live { is_live world.old sample.now.origin ≡ true }
+    requires lawful { IsRecord (seen sample.now.sent) }
+    requires together { AreTogether rings.now outs.old }
+    requires ring { HasRing outs.old.numbers sample.now.ring }
+    requires space { HaveSpace count (ends_of outs.old world.old) }
+    ensures ends { ends_of outs.new world.new
+        ≡ send_times count (instance_at world.old sample.now.origin).event sample.now.ring (asks sample.now) (ends_of outs.old world.old) }
+    ensures rest { world.new ≡ record world.old { lost = world.new.lost } }
+{
+    for _ in 0..count {
+        send_one(world, sample, rings, outs);
+    }
+}
