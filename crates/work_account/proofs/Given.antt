@@ -81,12 +81,18 @@ measure-out hw w h f keys k lives live none =
     (λ q there same. omega (arith, there, none, ap (λ j. times j keys) (key-is q k (by-id hw w h q k (lives q there) live same))))))
 
 -- and one of those of a list that pass a test
-chosen-some : (p : Key → Bool) (keys : List Key) (q : Key) → 1 ≤ times q (filter p keys) → 1 ≤ times q keys
+pub chosen-some : (p : Key → Bool) (keys : List Key) (q : Key) → 1 ≤ times q (filter p keys) → 1 ≤ times q keys
 chosen-some p keys q some = at-most (p q) (omega (arith, some, times-filter q p keys))
   where
     at-most : (b : Bool) → 1 ≤ cond b (times q keys) 0 → 1 ≤ times q keys
     at-most true h = h
     at-most false h = absurd (omega (arith, h))
+
+pub chosen-passes : (p : Key → Bool) (keys : List Key) (q : Key) → 1 ≤ times q (filter p keys) → p q ≡ true
+chosen-passes p keys q some = elim (cases_Bool (p q)) [
+  | inl e ↦ e
+  | inr e ↦ absurd (omega (arith, some, times-filter q p keys, ap (λ b. cond b (times q keys) 0) e))
+]
 
 pub chosen-measure : (hw : Hardware) (w : World) → IsKept hw w → (f : Instance → ℕ) (p : Key → Bool) (keys : List Key) (k : Key)
     → ((q : Key) → 1 ≤ times q keys → is_live w q ≡ true) → is_live w k ≡ true → 1 ≤ times k keys

@@ -9,4 +9,5 @@ pub mod Given
 pub mod Shared
 pub mod Growing
 pub mod Processor
+pub mod Noting
 pub mod Left

@@ -10,7 +10,7 @@ use Rattle.perf_base.specs.declared.attr.Kind.TheVariants as kind
 use Rattle.perf_base.specs.declared.numbers.Key.{Key}
 use Rattle.perf_base.specs.declared.reply.Sums.{Sums}
 use Rattle.stage_spec.specs.Families.{plus}
-use Rattle.stage_spec.specs.Occurrences.{left_after}
+use Rattle.stage_spec.specs.Occurrences.{left_after, overflows}
 use Rattle.stage_spec.specs.Shares.{no_sums}
 use Rattle.stage_laws.proofs.Counts.{count-cons, count-append}
 use Rattle.world_spec.specs.Value.{World, Account, no_account, no_family, is_live, instance_at, account_at, is_key, times}
@@ -20,7 +20,7 @@ use Rattle.world_spec.proofs.Accounts.{IsSum, counts_are_sums, family-other}
 use Rattle.world_spec.proofs.Keys.{key-is, is_key-same, is_key-other, times-cons, once-true, once-false}
 use Rattle.world_spec.proofs.Tables.{get-here, get-there}
 use Rattle.work_account.specs.declared.happening.Happening.{Happening}
-use Rattle.work_account.specs.Visits.{lasts, occurs, is_effective, is_on, counted, visit, visited, is_in, MayVisit}
+use Rattle.work_account.specs.Visits.{lasts, occurs, is_effective, is_on, counted, overflow_at, visit, visited, is_in, MayVisit}
 
 -- an account after a write
 pub account-here : (f : Account → Account) (w : World) (k q : Key) → q.0 ≡ k.0 → account_at (with_account f k w) q ≡ f (account_at w k)
@@ -51,11 +51,27 @@ timed n ready on a = record a { sums = record a.sums { enabled = a.sums.enabled 
 abbrev pub after_hits : ℕ → ℕ → Account → Account
 after_hits n period a = record a { sums = record a.sums { count = a.sums.count + n }; left = left_after n period a.left }
 
+pub left-passed : (w : World) (k : Key) (n : ℕ) (ready on : Bool) → (account_at (pass k n ready on w) k).left ≡ (account_at w k).left
+left-passed w k n ready on = ap (λ a. a.left) (account-here (timed n ready on) w k k refl)
+
 count-passed : (w : World) (k : Key) (n : ℕ) (ready on : Bool) (q : Key) → (account_at (pass k n ready on w) q).sums.count ≡ (account_at w q).sums.count
 count-passed w k n ready on q = elim (cases_eq q.0 k.0) [
   | inl same ↦ ap (λ a. a.sums.count) (account-here (timed n ready on) w k q same) ∙ ap (λ x. (account_at w x).sums.count) (sym (key-is q k same))
   | inr apart ↦ ap (λ a. a.sums.count) (account-there (timed n ready on) w k q apart)
 ]
+
+-- what a visit answers
+pub noted-at : (x : Happening) (w passed : World) (k : Key) (n found count : ℕ) (ready on : Bool) → passed ≡ pass k n ready on w → on ≡ is_on w k
+    → found ≡ (if on then occurs x (instance_at w k) else 0) → count ≡ overflows found (instance_at passed k).attr.period (account_at passed k).left
+    → record { key = k; count = count } ≡ overflow_at x w k
+noted-at x w passed k n found count ready on is same hits over =
+    let period : ℕ = (instance_at w k).attr.period in
+    let all : count ≡ overflows (counted x w k) period (account_at w k).left =
+    over
+    ∙ (ap (λ (v : World). overflows found (instance_at v k).attr.period (account_at v k).left) is
+    ∙ (ap (overflows found period) (left-passed w k n ready on)
+    ∙ ap (λ (m : ℕ). overflows m period (account_at w k).left) (hits ∙ ap (λ (b : Bool). if b then occurs x (instance_at w k) else 0) same))) in
+    λ i. record { key = k; count = all i }
 
 pub counts-passed : (w : World) (k : Key) (n : ℕ) (ready on : Bool) (slot : ℕ) → (family_sums (pass k n ready on w) slot).count ≡ (family_sums w slot).count
 counts-passed w k n ready on slot =
@@ -113,7 +129,7 @@ times-least p k passes (q ∷ keys) = elim (cases_eq q.0 k.0) [
       omega (arith, times-least p k passes keys, times-cons k q keys, once-false (is_key k q) (is_key-other k q apart), count-cons p q keys)
 ]
 
-stands-first : (k : Key) (keys : List Key) → 1 ≤ times k (k ∷ keys)
+pub stands-first : (k : Key) (keys : List Key) → 1 ≤ times k (k ∷ keys)
 stands-first k keys = omega (arith, times-cons k k keys, once-true (is_key k k) (is_key-same k k refl))
 
 -- what a key needs to be visited

@@ -22,9 +22,8 @@ use Rattle.world_spec.specs.Rescheduled.{IsJudged}
 use Rattle.work_account.specs.declared.happening.Happening.{Happening}
 use Rattle.work_account.specs.declared.happening.Happening.TheVariants as happening
 use Rattle.work_account.specs.Shares.{soft_hits, HaveRoom, HaveShares}
-use Rattle.work_account.specs.Visits.{lasts, occurs, shares_of, most_given, is_effective, is_on, visited, MayVisit}
+use Rattle.work_account.specs.Visits.{lasts, occurs, shares_of, most_given, is_effective, is_on, visited, pass_keys, MayVisit}
 use Rattle.work_account.proofs.Passing.{cond-most}
-use Rattle.work_account.proofs.Ahead.{pass_keys}
 use Rattle.work_account.proofs.Reached.{members-live, one-each, on-keys, ready-keys}
 use Rattle.work_account.proofs.Given.{given_at, chosen-measure, chosen-none, times-once, shares-are}
 

@@ -1,6 +1,6 @@
 -- How the keys that a processor reaches are gone over, one after the other, and what each is given. After perf_event_update_time and
 -- perf_swevent_event of kernel/events/core.c; the order is this project's own profile.
-use Rattle.std.specs.Prelude.{◌≡◌, ℕ, ◌+◌, ◌^◌, ◌<◌, ◌≤◌, ◌==◌, Bool, true, ◌&&◌, List, length, flat_map, count_by, Option, if◌then◌else◌}
+use Rattle.std.specs.Prelude.{◌≡◌, ℕ, ◌+◌, ◌^◌, ◌<◌, ◌≤◌, ◌==◌, Bool, true, ◌&&◌, List, [], ◌∷◌, length, flat_map, count_by, Option, if◌then◌else◌}
 use Rattle.std.specs.List.{fold}
 use Rattle.perf_base.specs.declared.lines.CpuLine.TheVariants as cpu_line
 use Rattle.perf_base.specs.declared.numbers.CpuNo.{CpuNo}
@@ -10,16 +10,19 @@ use Rattle.perf_base.specs.declared.reply.Sums.{Sums}
 use Rattle.perf_base.specs.declared.standing.Context.TheVariants as context
 use Rattle.stage_spec.specs.declared.instance.Instance.{Instance}
 use Rattle.stage_spec.specs.Effective.{effective, is_ready}
+use Rattle.stage_spec.specs.Occurrences.{overflows}
 use Rattle.stage_spec.specs.Shares.{work_hits}
 use Rattle.stage_spec.specs.Verdict.{stands_on}
 use Rattle.stage_laws.specs.Bounds.{most_of_line}
-use Rattle.world_spec.specs.Value.{World, is_live, entry_at, instance_at, standing_at, leaders_of, times}
+use Rattle.world_spec.specs.Value.{World, is_live, entry_at, instance_at, account_at, standing_at, leaders_of, times}
 use Rattle.world_spec.specs.Kept.{family_sums}
 use Rattle.world_spec.specs.Changes.{hit, pass}
 use Rattle.world_spec.specs.Listings.{task_leaders}
+use Rattle.world_spec.specs.Working.{leaders_by_pass}
 use Rattle.world_tables.specs.Places.{picked}
 use Rattle.work_account.specs.declared.happening.Happening.{Happening}
 use Rattle.work_account.specs.declared.happening.Happening.TheVariants as happening
+use Rattle.work_account.specs.declared.overflowing.Overflow.{Overflow}
 use Rattle.work_account.specs.Shares.{work_shares, soft_hits, soft_shares, one_hit}
 
 -- how long what happens takes, and what an instance that is on counts of it
@@ -57,6 +60,14 @@ visit x w k = hit k (counted x w k) (pass k (lasts x) (is_effective w k) (is_on 
 unfoldable pub visited : Happening → List Key → World → World
 visited x keys w = fold (visit x) w keys
 
+-- how often a key's period is over by what it is given, and so of some keys that are gone over one after the other
+abbrev pub overflow_at : Happening → World → Key → Overflow
+overflow_at x w k = record { key = k; count = overflows (counted x w k) (instance_at w k).attr.period (account_at w k).left }
+
+unfoldable pub noted : Happening → List Key → World → List Overflow
+noted x [] w = []
+noted x (k ∷ keys) w = overflow_at x w k ∷ noted x keys (visit x w k)
+
 -- the members of some groups, group by group
 abbrev pub members_at : World → Key → List Key
 members_at w k = (entry_at w k).members
@@ -70,6 +81,10 @@ own_keys w cpu pinned = all_members w (picked pinned (leaders_of w (context.Proc
 
 abbrev pub task_keys : World → Option TaskNo → (pinned : Bool) → List Key
 task_keys w task pinned = all_members w (picked pinned (task_leaders w task))
+
+-- all that a processor reaches, in pass order
+abbrev pub pass_keys : World → CpuNo → List Key
+pass_keys w cpu = all_members w (leaders_by_pass w cpu)
 
 -- whether an instance is of the family of a slot
 abbrev pub is_in : World → ℕ → Key → Bool

@@ -4,6 +4,7 @@
 
 mod account;
 mod happening;
+mod overflowing;
 mod samples;
 mod sending;
 #[cfg(test)]

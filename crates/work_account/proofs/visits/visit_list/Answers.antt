@@ -1,11 +1,12 @@
-use Rattle.std.proofs.Common.{arith, ◌≡◌, ◌+◌, ◌≤◌, ◌<◌, ◌∙◌, List, ap, sym, subst, drop, length, slice_index_or}
+use Rattle.std.proofs.Common.{arith, ◌≡◌, ◌+◌, ◌≤◌, ◌<◌, ◌∙◌, List, ◌++◌, ap, sym, subst, drop, length, slice_index_or}
 use Rattle.perf_base.specs.declared.numbers.Key.{Key}
 use Rattle.world_spec.specs.Value.{World, leaders_of, times}
 use Rattle.world_spec.proofs.Copies.{times-at}
 use Rattle.world_tables.specs.Places.{picked}
 use Rattle.work_account.specs.Visits as spec
 use Rattle.work_account.proofs.Passing.{front-may, visited-rest}
-use Rattle.work_account.proofs.Going.{group-front, group-left, group-next, no-group-left, but-after, listed-leads}
+use Rattle.work_account.proofs.Going.{group-front, group-left, group-noted, group-fits, group-next, no-group-left, no-group-noted, but-after, listed-leads}
+use Rattle.work_account.proofs.Noting.{room-left}
 use Rattle.work_account.proofs.visits.visit_list.Goals as goal
 
 pub visit_group-requires-clause-leads : goal.visit_group-requires-clause-leads
@@ -32,6 +33,24 @@ visit_group-requires-clause-may c =
     (front-may c.args.what.now now (spec.members_at first q) (spec.all_members first (drop (at + 1) all))
     (group-front c.args.what.now first now c.list.result.now all at d same (omega (arith, c.loop-group-test.true, c.loop-group.invariant.count)) c.loop-group.invariant.may))
 
+pub visit_group-requires-clause-room : goal.visit_group-requires-clause-room
+visit_group-requires-clause-room c =
+    let first : World = c.args.world.now in
+    let now : World = c.loop-group.world in
+    let inv = c.loop-group.invariant in
+    let all : List Key = picked c.args.pinned (leaders_of first c.args.context) in
+    let at = c.loop-group.group in
+    let d : Key = record { 0 = 0 } in
+    let q : Key = slice_index_or c.list.result.now at d in
+    let same : c.list.result.now ≡ all = c.list.ensures.list ∙ ap (λ (w : World). picked c.args.pinned (leaders_of w c.args.context)) inv.rest in
+    omega (
+      arith,
+      c.requires.room,
+      ap (λ (w : World). length (spec.members_at w q)) inv.rest,
+      group-fits first c.list.result.now all at d same (omega (arith, c.loop-group-test.true, inv.count)),
+      room-left c.args.what.now now first c.args.found.now c.loop-group.found (spec.all_members first (drop at all)) (spec.all_members first all) inv.noting,
+    )
+
 pub loop-group-preserved : goal.loop-group-preserved
 loop-group-preserved c =
     let first : World = c.args.world.now in
@@ -44,7 +63,7 @@ loop-group-preserved c =
     let same : c.list.result.now ≡ all = c.list.ensures.list ∙ ap (λ (w : World). picked c.args.pinned (leaders_of w c.args.context)) inv.rest in
     let low : at < length all = omega (arith, c.loop-group-test.true, inv.count) in
     let is : c.visit_group.new.world ≡ spec.visited c.args.what.now (spec.members_at first q) now =
-    c.visit_group.ensures ∙ ap (λ (w : World). spec.visited c.args.what.now (spec.members_at w q) now) inv.rest in
+    c.visit_group.ensures.world ∙ ap (λ (w : World). spec.visited c.args.what.now (spec.members_at w q) now) inv.rest in
     record {
       rest = but-after first now (spec.visited c.args.what.now (spec.members_at first q) now) c.visit_group.new.world inv.rest
           (visited-rest c.args.what.now (spec.members_at first q) now) is;
@@ -52,10 +71,19 @@ loop-group-preserved c =
       may = group-next c.args.what.now first now c.visit_group.new.world q (spec.all_members first (drop (at + 1) all)) c.list.ensures.kept.linked is
           (group-front c.args.what.now first now c.list.result.now all at d same low inv.may);
       left = group-left c.args.what.now first now c.visit_group.new.world c.list.result.now all at d same low is ∙ inv.left;
+      noting = group-noted c.args.what.now first now c.visit_group.new.world c.loop-group.found c.visit_group.new.found c.list.result.now all at d same low is
+          (c.visit_group.ensures.found ∙ ap (λ (w : World). c.loop-group.found ++ spec.noted c.args.what.now (spec.members_at w q) now) inv.rest)
+          ∙ inv.noting;
     }
 
-pub returns : goal.returns
-returns c =
+pub returns-clause-world : goal.returns-clause-world
+returns-clause-world c =
     let all : List Key = picked c.args.pinned (leaders_of c.args.world.now c.args.context) in
     sym (no-group-left c.args.what.now c.args.world.now c.loop-group.world all c.loop-group.group (omega (arith, c.loop-group-test.false, c.loop-group.invariant.count)))
     ∙ c.loop-group.invariant.left
+
+pub returns-clause-found : goal.returns-clause-found
+returns-clause-found c =
+    let all : List Key = picked c.args.pinned (leaders_of c.args.world.now c.args.context) in
+    no-group-noted c.args.what.now c.args.world.now c.loop-group.world c.loop-group.found all c.loop-group.group (omega (arith, c.loop-group-test.false, c.loop-group.invariant.count))
+    ∙ c.loop-group.invariant.noting

@@ -1,4 +1,4 @@
-use Rattle.std.proofs.Common.{◌≡◌, drop, length}
+use Rattle.std.proofs.Common.{◌≡◌, ◌++◌, drop, length}
 use Rattle.world_spec.specs.Value.{leaders_of}
 use Rattle.world_tables.specs.Places.{picked}
 use Rattle.work_account.specs.Visits as spec
@@ -11,4 +11,6 @@ invariant-loop-group l = record {
   may : spec.MayVisit l.what l.world (spec.all_members l.fn.world (drop l.group (picked l.pinned (leaders_of l.fn.world l.context))));
   left : spec.visited l.what (spec.all_members l.fn.world (drop l.group (picked l.pinned (leaders_of l.fn.world l.context)))) l.world
       ≡ spec.visited l.what (spec.all_members l.fn.world (picked l.pinned (leaders_of l.fn.world l.context))) l.fn.world;
+  noting : l.found ++ spec.noted l.what (spec.all_members l.fn.world (drop l.group (picked l.pinned (leaders_of l.fn.world l.context)))) l.world
+      ≡ l.fn.found ++ spec.noted l.what (spec.all_members l.fn.world (picked l.pinned (leaders_of l.fn.world l.context))) l.fn.world;
 }
