@@ -10,4 +10,5 @@ pub mod Shared
 pub mod Growing
 pub mod Processor
 pub mod Noting
+pub mod Sequences
 pub mod Left

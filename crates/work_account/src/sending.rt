@@ -1,15 +1,18 @@
 //! How records are sent to the ends of the rings, and those lost are counted.
 
-ghost use Rattle.std.specs.Prelude.{◌≡◌, ℕ, ◌+◌, ◌^◌, ◌<◌, true, [], slice_index_or};
+ghost use Rattle.std.specs.Prelude.{◌≡◌, ℕ, ◌+◌, ◌^◌, ◌<◌, true, [], All, Some, length, slice_index_or};
 ghost use Rattle.ring_spec.specs.Records.{IsRecord};
+ghost use Rattle.ring_spec.specs.Sending.{sent_by_family};
 ghost use Rattle.sample_records.specs.Seen.{seen};
 ghost use Rattle.sample_ring.specs.RingLists.{HasRing};
 ghost use Rattle.world_spec.specs.Value.{is_live, instance_at};
+ghost use Rattle.world_spec.specs.StageOf.{stage_of};
 ghost use Rattle.work_account.specs.Ends as ends;
 ghost use Rattle.work_account.specs.Ends.{AreTogether, HaveSpace};
-ghost use Rattle.work_account.specs.Sampling.{asks, ends_of, send_times};
+ghost use Rattle.work_account.specs.Sampling.{asks, ends_of, send_times, sents_of, sents_all, HaveRings};
 
-use crate::samples::Sample;
+use crate::overflowing::{Overflow, Overflows};
+use crate::samples::{Sample, Stretch, sample_of};
 use perf_base::Key;
 use perf_world::World;
 use sample_ring::{Outs, Rings, Sent};
@@ -70,5 +73,51 @@ pub fn send_burst(world: &mut World, sample: &Sample, count: u64, rings: &Rings,
 {
     for _ in 0..count {
         send_one(world, sample, rings, outs);
+    }
+}
+
+/// Sends a sample of an instance for each of its overflows, by its original: none where that has no ring.
+fn send_by(world: &mut World, stretch: &Stretch, origin: Key, overflow: Overflow, rings: &Rings, outs: &mut Outs)
+    requires origin { is_live world.old origin ≡ true }
+    requires live { is_live world.old overflow.key ≡ true }
+    requires together { AreTogether rings.now outs.old }
+    requires rings { HaveRings world.old outs.old.numbers }
+    requires space { HaveSpace (length (sent_by_family (Some (instance_at world.old origin)) (stage_of world.old) stretch.now.cpu stretch.now.work stretch.now.clock
+        overflow.count (instance_at world.old overflow.key))) (ends_of outs.old world.old) }
+    ensures ends { ends_of outs.new world.new ≡ ends.send_all (ends_of outs.old world.old) (sent_by_family (Some (instance_at world.old origin)) (stage_of world.old)
+        stretch.now.cpu stretch.now.work stretch.now.clock overflow.count (instance_at world.old overflow.key)) }
+    ensures rest { world.new ≡ record world.old { lost = world.new.lost } }
+{
+    if let Some(ring) = world.instance(origin).ring {
+        let sample = sample_of(world, stretch, ring, origin, overflow.key);
+        send_burst(world, &sample, overflow.count, rings, outs);
+    }
+}
+
+/// Sends a sample of an instance for each of its overflows.
+fn send_overflow(world: &mut World, stretch: &Stretch, overflow: Overflow, rings: &Rings, outs: &mut Outs)
+    requires live { is_live world.old overflow.key ≡ true }
+    requires together { AreTogether rings.now outs.old }
+    requires rings { HaveRings world.old outs.old.numbers }
+    requires space { HaveSpace (length (sents_of world.old stretch.now overflow)) (ends_of outs.old world.old) }
+    ensures ends { ends_of outs.new world.new ≡ ends.send_all (ends_of outs.old world.old) (sents_of world.old stretch.now overflow) }
+    ensures rest { world.new ≡ record world.old { lost = world.new.lost } }
+{
+    if let Some(origin) = world.key_of(world.event_of(overflow.key)) {
+        send_by(world, stretch, origin, overflow, rings, outs);
+    }
+}
+
+/// Sends the samples of all overflows, those of one instance before those of the next.
+pub fn send_overflows(world: &mut World, stretch: &Stretch, found: &Overflows, rings: &Rings, outs: &mut Outs)
+    requires live { All (λ o. is_live world.old o.key ≡ true) found.now }
+    requires together { AreTogether rings.now outs.old }
+    requires rings { HaveRings world.old outs.old.numbers }
+    requires space { HaveSpace (length (sents_all world.old stretch.now found.now)) (ends_of outs.old world.old) }
+    ensures ends { ends_of outs.new world.new ≡ ends.send_all (ends_of outs.old world.old) (sents_all world.old stretch.now found.now) }
+    ensures rest { world.new ≡ record world.old { lost = world.new.lost } }
+{
+    for place in 0..found.len() {
+        send_overflow(world, stretch, found.get(place), rings, outs);
     }
 }
