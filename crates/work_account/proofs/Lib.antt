@@ -11,4 +11,6 @@ pub mod Growing
 pub mod Processor
 pub mod Noting
 pub mod Sequences
+pub mod Sized
+pub mod Sampled
 pub mod Left

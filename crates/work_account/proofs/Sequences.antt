@@ -1,13 +1,12 @@
 -- Records that are sent one after the other, and the space for those to come.
-use Rattle.std.specs.Prelude.{◌≡◌, ℕ, zero, suc, ◌+◌, ◌<◌, ◌≤◌, List, [], ◌∷◌, ◌++◌, length, drop, replicate, flat_map, slice_get, slice_index_or, Option, Some, None}
+use Rattle.std.specs.Prelude.{◌≡◌, ℕ, zero, suc, ◌+◌, ◌<◌, ◌≤◌, List, [], ◌∷◌, ◌++◌, length, drop, replicate, slice_get, slice_index_or, Option, Some, None}
 use Rattle.std.proofs.Common.{arith, refl, sym, ap, subst, ◌∙◌}
 use Rattle.std.proofs.Math.Seq.{drop-cons}
-use Rattle.std.proofs.lemmas.List.{drop_all, length-append, length-replicate}
+use Rattle.std.proofs.lemmas.List.{drop_all, length-append}
 use Rattle.std.proofs.lemmas.List.Sums.{fold-append}
 use Rattle.std.proofs.lemmas.Option.{slice_get_within, get_or_from_slice_get}
 use Rattle.perf_base.specs.declared.lines.Work.{Work}
 use Rattle.perf_base.specs.declared.numbers.CpuNo.{CpuNo}
-use Rattle.perf_base.specs.declared.numbers.EventNo.{EventNo}
 use Rattle.perf_base.specs.declared.numbers.RingNo.{RingNo}
 use Rattle.stage_spec.specs.declared.instance.Instance.{Instance}
 use Rattle.stage_spec.specs.Stage.{Stage}

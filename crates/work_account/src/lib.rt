@@ -6,9 +6,11 @@ mod account;
 mod happening;
 mod overflowing;
 mod samples;
+mod sampling;
 mod sending;
 #[cfg(test)]
 mod tests;
 mod visits;
 
 pub use account::{soft, work};
+pub use sampling::work_sampled;

@@ -77,7 +77,14 @@ pub fn send_burst(world: &mut World, sample: &Sample, count: u64, rings: &Rings,
 }
 
 /// Sends a sample of an instance for each of its overflows, by its original: none where that has no ring.
-fn send_by(world: &mut World, stretch: &Stretch, origin: Key, overflow: Overflow, rings: &Rings, outs: &mut Outs)
+fn send_by(
+    world: &mut World,
+    stretch: &Stretch,
+    origin: Key,
+    overflow: Overflow,
+    rings: &Rings,
+    outs: &mut Outs,
+)
     requires origin { is_live world.old origin ≡ true }
     requires live { is_live world.old overflow.key ≡ true }
     requires together { AreTogether rings.now outs.old }
@@ -95,7 +102,13 @@ fn send_by(world: &mut World, stretch: &Stretch, origin: Key, overflow: Overflow
 }
 
 /// Sends a sample of an instance for each of its overflows.
-fn send_overflow(world: &mut World, stretch: &Stretch, overflow: Overflow, rings: &Rings, outs: &mut Outs)
+fn send_overflow(
+    world: &mut World,
+    stretch: &Stretch,
+    overflow: Overflow,
+    rings: &Rings,
+    outs: &mut Outs,
+)
     requires live { is_live world.old overflow.key ≡ true }
     requires together { AreTogether rings.now outs.old }
     requires rings { HaveRings world.old outs.old.numbers }
@@ -109,7 +122,13 @@ fn send_overflow(world: &mut World, stretch: &Stretch, overflow: Overflow, rings
 }
 
 /// Sends the samples of all overflows, those of one instance before those of the next.
-pub fn send_overflows(world: &mut World, stretch: &Stretch, found: &Overflows, rings: &Rings, outs: &mut Outs)
+pub fn send_overflows(
+    world: &mut World,
+    stretch: &Stretch,
+    found: &Overflows,
+    rings: &Rings,
+    outs: &mut Outs,
+)
     requires live { All (λ o. is_live world.old o.key ≡ true) found.now }
     requires together { AreTogether rings.now outs.old }
     requires rings { HaveRings world.old outs.old.numbers }

@@ -175,6 +175,7 @@ pub fn visit_processor(world: &mut World, what: &Happening, cpu: CpuNo) -> Overf
     ensures shares { HaveShares world.old world.new (spec.shares_of what.now world.old cpu) }
     ensures grown { (slot : ℕ) → AreAtMost (family_sums world.new slot) (plus (family_sums world.old slot) (spec.most_given what.now)) }
     ensures rest { world.new ≡ record world.old { accounts = world.new.accounts } }
+    ensures kept { IsWorld world.old }
     ensures overflows { result ≡ map (spec.overflow_at what.now world.old) (spec.pass_keys world.old cpu) }
 {
     // A machine has 8 processors at most.

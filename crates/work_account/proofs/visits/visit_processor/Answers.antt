@@ -81,5 +81,6 @@ returns c =
       shares = end-shares x first c.visit_both-2.new.world c.args.cpu c.pmus.ensures.kept c.requires.judged done;
       grown = end-grown x first c.visit_both-2.new.world c.args.cpu c.pmus.ensures.kept done;
       rest = flexible.but;
+      kept = c.pmus.ensures.kept;
       overflows = end-noted x first c.args.cpu c.visit_both-2.new.found c.pmus.ensures.kept (ahead-noted x first (pass_keys first c.args.cpu) [] c.visit_both-2.new.world c.visit_both-2.new.found flexible);
     }

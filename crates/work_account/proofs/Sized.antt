@@ -1,0 +1,60 @@
+-- The records that a stretch of work sends have lawful sizes.
+use Rattle.std.specs.Prelude.{ℕ, zero, suc, ◌+◌, ◌≤◌, ◌==◌, bit_and, Bool, true, false, List, [], ◌∷◌, ◌++◌, length, replicate, flat_map, Option, Some, None, if◌then◌else◌}
+use Rattle.std.proofs.Common.{arith, length-append}
+use Rattle.perf_base.specs.declared.lines.Work.{Work}
+use Rattle.perf_base.specs.declared.numbers.CpuNo.{CpuNo}
+use Rattle.perf_base.specs.declared.numbers.RingNo.{RingNo}
+use Rattle.stage_spec.specs.declared.instance.Instance.{Instance}
+use Rattle.stage_spec.specs.Stage.{Stage, original_of}
+use Rattle.stage_spec.proofs.Each.{none-Each, cons-Each, append-Each}
+use Rattle.ring_spec.specs.declared.fields.Fields.{Fields}
+use Rattle.ring_spec.specs.Records.{field, thread_word, body_of}
+use Rattle.ring_spec.specs.Sending.{Sent, fields_of, has_trailer, trailer_if, sent_of, to_ring, sent_by_family, overflows_by}
+use Rattle.work_account.proofs.Accounts.{IsSized, AreSized}
+
+-- a field is a word or none
+one-word : (bit sample word : ℕ) → length (field bit sample word) ≤ 1
+one-word bit sample word = either (bit_and sample bit == 0)
+  where
+    either : (b : Bool) → length (if b then [] else word ∷ []) ≤ 1
+    either true = omega arith
+    either false = omega arith
+
+last-field : (words : List ℕ) (n bit sample word : ℕ) → length words ≤ n → length (words ++ field bit sample word) ≤ n + 1
+last-field words n bit sample word h = omega (arith, h, one-word bit sample word, length-append words (field bit sample word))
+
+body-small : (sample : ℕ) (f : Fields) → length (body_of sample f) ≤ 8
+body-small sample f =
+    last-field _ 7 256 sample f.period (last-field _ 6 128 sample f.cpu (last-field _ 5 512 sample f.stream_id (last-field _ 4 64 sample f.id
+    (last-field _ 3 4 sample f.time (last-field _ 2 2 sample (thread_word f) (last-field _ 1 1 sample f.ip (one-word 65536 sample f.identifier)))))))
+
+trailer-small : (b : Bool) (sample : ℕ) (f : Fields) → length (trailer_if b sample f) ≤ 6
+trailer-small false sample f = omega arith
+trailer-small true sample f =
+    last-field _ 5 65536 sample f.identifier (last-field _ 4 128 sample f.cpu (last-field _ 3 512 sample f.stream_id (last-field _ 2 64 sample f.id
+    (last-field _ 1 4 sample f.time (one-word 2 sample (thread_word f))))))
+
+-- so each record sent is
+module _ (s : Stage) (cpu : CpuNo) (work : Work) (clock : ℕ) where
+  times-sized : (n : ℕ) (sent : RingNo × Sent) → IsSized sent.1 → AreSized (replicate n sent)
+  times-sized zero sent h = none-Each (λ (t : RingNo × Sent). IsSized t.1)
+  times-sized (suc n) sent h = cons-Each (λ (t : RingNo × Sent). IsSized t.1) sent (replicate n sent) h (times-sized n sent h)
+
+  ring-sized : (o : Option RingNo) (n : ℕ) (sent : Sent) → IsSized sent → AreSized (to_ring o n sent)
+  ring-sized None n sent h = none-Each (λ (t : RingNo × Sent). IsSized t.1)
+  ring-sized (Some ring) n sent h = times-sized n (ring, sent) h
+
+  by-sized : (o : Option Instance) (n : ℕ) (i : Instance) → AreSized (sent_by_family o s cpu work clock n i)
+  by-sized None n i = none-Each (λ (t : RingNo × Sent). IsSized t.1)
+  by-sized (Some original) n i =
+      let f : Fields = fields_of s cpu work clock original.id i in
+      ring-sized original.ring n (sent_of original work i f)
+      (body-small i.attr.sample f, trailer-small (has_trailer original.attr) original.attr.sample (record f { stream_id = original.id }))
+
+  pub all-sized : (left : ℕ → ℕ) (instances : List Instance)
+      → AreSized (flat_map (λ i. sent_by_family (original_of s i.event) s cpu work clock (overflows_by work (left i.id) i) i) instances)
+  all-sized left [] = none-Each (λ (t : RingNo × Sent). IsSized t.1)
+  all-sized left (i ∷ instances) =
+      append-Each (λ (t : RingNo × Sent). IsSized t.1) (sent_by_family (original_of s i.event) s cpu work clock (overflows_by work (left i.id) i) i)
+      (flat_map (λ j. sent_by_family (original_of s j.event) s cpu work clock (overflows_by work (left j.id) j) j) instances)
+      (by-sized (original_of s i.event) (overflows_by work (left i.id) i) i) (all-sized left instances)

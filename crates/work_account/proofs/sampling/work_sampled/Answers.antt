@@ -1,0 +1,93 @@
+use Rattle.std.proofs.Common.{◌+◌, ◌<◌, ◌^◌, length, slice_index_or, sym, subst}
+use Rattle.world_spec.specs.Value.{World}
+use Rattle.work_account.proofs.Left.{work-grown, work-rest, work-stays}
+use Rattle.work_account.proofs.Sampled.{timed-by, ends-are, live-found, space-there, accounts-are, lost-are, sampled-stage, sampled-grown, sampled-stays}
+use Rattle.work_account.proofs.sampling.work_sampled.Goals as goal
+
+pub pass_time-requires-clause-cpu : goal.pass_time-requires-clause-cpu
+pass_time-requires-clause-cpu c = subst (λ (w : World). c.args.cpu.0 < length w.quiet.running) (sym c.visit_processor-found.ensures.rest) c.requires.cpu
+
+pub pass_time-requires-clause-fits : goal.pass_time-requires-clause-fits
+pass_time-requires-clause-fits c =
+    subst (λ (w : World). slice_index_or w.quiet.clocks c.args.cpu.0 0 + c.args.work.now.length < 2 ^ 63) (sym c.visit_processor-found.ensures.rest) c.requires.clock
+
+pub send_overflows-requires-clause-live : goal.send_overflows-requires-clause-live
+send_overflows-requires-clause-live c =
+    let w : World = c.args.world.now in
+    let cpu = c.args.cpu in
+    let work = c.args.work.now in
+    let visited = c.visit_processor-found in
+    let timed : World = c.pass_time.new.self in
+    let t = timed-by w visited.new.world timed cpu work visited.result c.clock.result visited.ensures.kept c.requires.cpu visited.ensures.rest c.pass_time.ensures.world visited.ensures.overflows c.clock.ensures.clock in
+    live-found w timed cpu work visited.result c.clock.result t
+
+pub send_overflows-requires-clause-space : goal.send_overflows-requires-clause-space
+send_overflows-requires-clause-space c =
+    let w : World = c.args.world.now in
+    let cpu = c.args.cpu in
+    let work = c.args.work.now in
+    let visited = c.visit_processor-found in
+    let timed : World = c.pass_time.new.self in
+    let t = timed-by w visited.new.world timed cpu work visited.result c.clock.result visited.ensures.kept c.requires.cpu visited.ensures.rest c.pass_time.ensures.world visited.ensures.overflows c.clock.ensures.clock in
+    space-there w timed cpu work visited.result c.clock.result t c.args.outs.now c.requires.judged c.requires.space
+
+pub returns-clause-stage : goal.returns-clause-stage
+returns-clause-stage c =
+    let w : World = c.args.world.now in
+    let visited = c.visit_processor-found in
+    let timed : World = c.pass_time.new.self in
+    let n = c.args.work.now.length in
+    let is = work-rest w visited.new.world timed c.args.cpu n visited.ensures.rest c.pass_time.ensures.world in
+    sampled-stage w timed c.send_overflows.new.world c.args.cpu n is c.send_overflows.ensures.rest
+
+pub returns-clause-grown : goal.returns-clause-grown
+returns-clause-grown c = λ slot.
+    (let w : World = c.args.world.now in
+    let visited = c.visit_processor-found in
+    let timed : World = c.pass_time.new.self in
+    let n = c.args.work.now.length in
+    let is = work-rest w visited.new.world timed c.args.cpu n visited.ensures.rest c.pass_time.ensures.world in
+    sampled-grown w timed c.send_overflows.new.world c.args.cpu n is c.send_overflows.ensures.rest slot _
+    (work-grown w visited.new.world timed c.args.cpu n slot _ c.pass_time.ensures.world (visited.ensures.grown slot)))
+
+pub returns-clause-rescheduled : goal.returns-clause-rescheduled
+returns-clause-rescheduled c = λ other h.
+    (let w : World = c.args.world.now in
+    let visited = c.visit_processor-found in
+    let timed : World = c.pass_time.new.self in
+    let n = c.args.work.now.length in
+    let is = work-rest w visited.new.world timed c.args.cpu n visited.ensures.rest c.pass_time.ensures.world in
+    sampled-stays w timed c.send_overflows.new.world c.args.cpu n is c.send_overflows.ensures.rest w.hardware other
+    (work-stays w.hardware w visited.new.world timed c.args.cpu n other visited.ensures.rest c.pass_time.ensures.world h))
+
+pub returns-clause-sent : goal.returns-clause-sent
+returns-clause-sent c = λ left are.
+    (let w : World = c.args.world.now in
+    let cpu = c.args.cpu in
+    let work = c.args.work.now in
+    let visited = c.visit_processor-found in
+    let timed : World = c.pass_time.new.self in
+    let t = timed-by w visited.new.world timed cpu work visited.result c.clock.result visited.ensures.kept c.requires.cpu visited.ensures.rest c.pass_time.ensures.world visited.ensures.overflows c.clock.ensures.clock in
+    ends-are w timed cpu work visited.result c.clock.result t c.args.outs.now c.send_overflows.new.outs c.send_overflows.new.world c.requires.judged left are c.send_overflows.ensures.ends)
+
+pub returns-clause-accounts : goal.returns-clause-accounts
+returns-clause-accounts c = λ left accounts are h.
+    (let w : World = c.args.world.now in
+    let cpu = c.args.cpu in
+    let work = c.args.work.now in
+    let visited = c.visit_processor-found in
+    let timed : World = c.pass_time.new.self in
+    let t = timed-by w visited.new.world timed cpu work visited.result c.clock.result visited.ensures.kept c.requires.cpu visited.ensures.rest c.pass_time.ensures.world visited.ensures.overflows c.clock.ensures.clock in
+    let is = ends-are w timed cpu work visited.result c.clock.result t c.args.outs.now c.send_overflows.new.outs c.send_overflows.new.world c.requires.judged left are c.send_overflows.ensures.ends in
+    accounts-are w c.send_overflows.new.world cpu work left c.args.outs.now c.send_overflows.new.outs accounts is h)
+
+pub returns-clause-lost : goal.returns-clause-lost
+returns-clause-lost c = λ left accounts are h e low.
+    (let w : World = c.args.world.now in
+    let cpu = c.args.cpu in
+    let work = c.args.work.now in
+    let visited = c.visit_processor-found in
+    let timed : World = c.pass_time.new.self in
+    let t = timed-by w visited.new.world timed cpu work visited.result c.clock.result visited.ensures.kept c.requires.cpu visited.ensures.rest c.pass_time.ensures.world visited.ensures.overflows c.clock.ensures.clock in
+    let is = ends-are w timed cpu work visited.result c.clock.result t c.args.outs.now c.send_overflows.new.outs c.send_overflows.new.world c.requires.judged left are c.send_overflows.ensures.ends in
+    lost-are w c.send_overflows.new.world cpu work left c.args.outs.now c.send_overflows.new.outs accounts is h visited.ensures.kept e low)
