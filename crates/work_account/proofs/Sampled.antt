@@ -22,7 +22,7 @@ use Rattle.stage_spec.specs.Verdict.{on_instances}
 use Rattle.stage_laws.specs.Bounds.{AreAtMost}
 use Rattle.ring_spec.specs.Running.{RingAccount, ring_after, losses_on, more_lost}
 use Rattle.ring_spec.specs.Sending.{Sent, to_ring, sent_by_family, overflows_by}
-use Rattle.sample_ring.specs.RingLists.{OutList}
+use Rattle.sample_ring.specs.RingLists.{RingList, OutList}
 use Rattle.world_spec.specs.Value.{World, is_live, instance_at, account_at, is_key, times}
 use Rattle.world_spec.specs.StageOf.{stage_of}
 use Rattle.world_spec.specs.Kept.{family_sums, IsKept}
@@ -32,14 +32,15 @@ use Rattle.world_spec.proofs.Keys.{is_key-same, times-cons, once-true}
 use Rattle.work_account.specs.declared.happening.Happening.TheVariants as happening
 use Rattle.work_account.specs.declared.overflowing.Overflow.{Overflow}
 use Rattle.work_account.specs.declared.samples.Stretch.{Stretch}
-use Rattle.work_account.specs.Ends.{Ends, HaveAccounts, HaveSpace, send_all}
-use Rattle.work_account.specs.Sampling.{AreLeft, HaveRings, HaveSpaceToSend, ends_of, sent_by, sents_of, sents_all}
+use Rattle.work_account.specs.Ends.{Ends, AreTogether, HaveAccounts, HaveSpace, send_all}
+use Rattle.work_account.specs.Sampling.{AreLeft, HasInstance, HaveRings, HaveSpaceToSend, ends_of, sent_by, sents_of, sents_all}
 use Rattle.work_account.specs.Shares.{HaveShares}
 use Rattle.work_account.specs.Visits.{is_on, overflow_at, pass_keys}
 use Rattle.work_account.proofs.Accounts.{AreSized, accounts-after, lost-after}
 use Rattle.work_account.proofs.Going.{IsButAccounts}
 use Rattle.work_account.proofs.Left.{work-rest}
 use Rattle.work_account.proofs.Reached.{members-live, on-keys}
+use Rattle.work_account.proofs.Sequences.{together-after}
 use Rattle.work_account.proofs.Sized.{all-sized}
 
 -- no occurrence gives no overflow, and no overflow sends nothing
@@ -156,10 +157,10 @@ module _ (w timed : World) (cpu : CpuNo) (work : Work) (found : List Overflow) (
   rings-there numbers h = subst (λ (v : World). HaveRings v numbers) (sym t.world) h
 
   pub space-there : (outs : OutList) → IsJudged w.hardware w cpu → HaveSpaceToSend w (ends_of outs w) cpu work
-      → HaveSpace (length (sents_all timed (record { cpu = cpu; work = work; clock = clock }) found)) (ends_of outs timed)
+      → HaveSpace (HasInstance timed) (length (sents_all timed (record { cpu = cpu; work = work; clock = clock }) found)) (ends_of outs timed)
   space-there outs judged h =
-      subst (HaveSpace (length (sents_all timed (record { cpu = cpu; work = work; clock = clock }) found))) (sym (ends-same outs))
-      (subst (λ (l : List (RingNo × Sent)). HaveSpace (length l) (ends_of outs w)) (sym (sents-are judged h.left h.are_left)) h.space)
+      subst (λ (v : World). HaveSpace (HasInstance v) (length (sents_all timed (record { cpu = cpu; work = work; clock = clock }) found)) (ends_of outs v)) (sym t.world)
+      (subst (λ (l : List (RingNo × Sent)). HaveSpace (HasInstance w) (length l) (ends_of outs w)) (sym (sents-are judged h.left h.are_left)) h.space)
 
   pub ends-are : (before outs : OutList) (new : World) → IsJudged w.hardware w cpu → (left : ℕ → ℕ) → AreLeft w left
       → ends_of outs new ≡ send_all (ends_of before timed) (sents_all timed (record { cpu = cpu; work = work; clock = clock }) found)
@@ -167,6 +168,11 @@ module _ (w timed : World) (cpu : CpuNo) (work : Work) (found : List Overflow) (
   ends-are before outs new judged left are is =
       is ∙ (ap (λ (x : Ends). send_all x (sents_all timed (record { cpu = cpu; work = work; clock = clock }) found)) (ends-same before)
       ∙ ap (send_all (ends_of before w)) (sents-are judged left are))
+
+pub together-are : (rings : RingList) (w new : World) (cpu : CpuNo) (work : Work) (left : ℕ → ℕ) (before outs : OutList)
+    → ends_of outs new ≡ send_all (ends_of before w) (sent_by w left cpu work) → AreTogether rings before → AreTogether rings outs
+together-are rings w new cpu work left before outs is h =
+    subst (λ (x : Ends). AreTogether rings x.outs) (sym is) (together-after rings (sent_by w left cpu work) (ends_of before w) h)
 
 -- the accounts of the ends, and the counts, after that
 sized : (w : World) (left : ℕ → ℕ) (cpu : CpuNo) (work : Work) → AreSized (sent_by w left cpu work)

@@ -1,5 +1,5 @@
 -- A send to the end of a ring among those that there are.
-use Rattle.std.specs.Prelude.{◌≡◌, ℕ, suc, ◌+◌, ◌*◌, ◌^◌, ◌<◌, ◌==◌, Bool, true, false, not, All, List, [], ◌∷◌, slice_get, slice_set, cond, Some, if◌then◌else◌}
+use Rattle.std.specs.Prelude.{◌≡◌, ℕ, suc, ◌+◌, ◌^◌, ◌<◌, ◌==◌, Bool, true, false, not, All, List, [], ◌∷◌, slice_get, slice_set, cond, Some, if◌then◌else◌}
 use Rattle.std.proofs.Common.{arith, refl, sym, ap, subst, ◌∙◌, inl, inr}
 use Rattle.std.proofs.lemmas.Bool.{cases_eq}
 use Rattle.std.proofs.lemmas.Bool.Decides.{nat_tests}
@@ -13,7 +13,7 @@ use Rattle.sample_ring.specs.Sends.{Request, need_for, sent_to, answer_to, fits}
 use Rattle.sample_ring.specs.declared.sent.Sent.{Sent as Answer}
 use Rattle.sample_ring.specs.declared.sent.Sent.TheVariants as answer
 use Rattle.sample_ring.proofs.Sending.{head_bounded, lost_bounded}
-use Rattle.work_account.specs.Ends.{Ends, sent_among, loses_among, is_lost, HaveSpace}
+use Rattle.work_account.specs.Ends.{sent_among, loses_among, is_lost}
 
 -- what is found at a place, and what the lists have there
 pub at-place : (P : OutEnd → Type 0) (outs : List OutEnd) (i : ℕ) (o : OutEnd) → slice_get outs i ≡ Some o → All P outs → P o
@@ -72,9 +72,9 @@ lost-answer numbers outs ring q o a there at is = ap is_lost is ∙ (one (fits o
     one false = refl
 
 -- there is space for one record
-pub head-fits : (x : Ends) (i : ℕ) (o : OutEnd) (q : Request) → HaveSpace 1 x → slice_get x.outs.outs i ≡ Some o → words.place_of (sent_to o q).producer < 2 ^ 63
-head-fits x i o q h at =
-    omega (arith, head_bounded o q, at-place (λ (p : OutEnd). words.place_of p.producer + 1 * p.producer.ring.bytes < 2 ^ 63) x.outs.outs i o at h.heads)
+pub head-fits : (outs : List OutEnd) (i : ℕ) (o : OutEnd) (q : Request) → All (λ p. words.place_of p.producer + p.producer.ring.bytes < 2 ^ 63) outs → slice_get outs i ≡ Some o
+    → words.place_of (sent_to o q).producer < 2 ^ 63
+head-fits outs i o q h at = omega (arith, head_bounded o q, at-place (λ (p : OutEnd). words.place_of p.producer + p.producer.ring.bytes < 2 ^ 63) outs i o at h)
 
-pub lost-fits : (x : Ends) (i : ℕ) (o : OutEnd) (q : Request) → HaveSpace 1 x → slice_get x.outs.outs i ≡ Some o → (sent_to o q).lost < 2 ^ 63
-lost-fits x i o q h at = omega (arith, lost_bounded o q, at-place (λ (p : OutEnd). p.lost + 1 < 2 ^ 63) x.outs.outs i o at h.losses)
+pub lost-fits : (outs : List OutEnd) (i : ℕ) (o : OutEnd) (q : Request) → All (λ p. p.lost + 1 < 2 ^ 63) outs → slice_get outs i ≡ Some o → (sent_to o q).lost < 2 ^ 63
+lost-fits outs i o q h at = omega (arith, lost_bounded o q, at-place (λ (p : OutEnd). p.lost + 1 < 2 ^ 63) outs i o at h)

@@ -2,7 +2,7 @@
 use Rattle.std.specs.Prelude.{◌≡◌, ℕ, zero, suc, ◌+◌, ◌<◌, ◌≤◌, List, [], ◌∷◌, ◌++◌, length, drop, replicate, slice_get, slice_index_or, Option, Some, None}
 use Rattle.std.proofs.Common.{arith, refl, sym, ap, subst, ◌∙◌}
 use Rattle.std.proofs.Math.Seq.{drop-cons}
-use Rattle.std.proofs.lemmas.List.{drop_all, length-append}
+use Rattle.std.proofs.lemmas.List.{drop_all, length-append, length-replicate}
 use Rattle.std.proofs.lemmas.List.Sums.{fold-append}
 use Rattle.std.proofs.lemmas.Option.{slice_get_within, get_or_from_slice_get}
 use Rattle.perf_base.specs.declared.lines.Work.{Work}
@@ -39,13 +39,13 @@ unfolding send_all
 together-after rings [] x h = h
 together-after rings (p ∷ sents) x h = together-after rings sents (send_next x p) (together-next rings x p.1.event p.0 (request_of p.1) h)
 
-pub space-after : (front rest : List (RingNo × Sent)) (x : Ends) → HaveSpace (length (front ++ rest)) x → HaveSpace (length rest) (send_all x front)
+pub space-after : (S : ℕ → Type 0) (front rest : List (RingNo × Sent)) (x : Ends) → HaveSpace S (length (front ++ rest)) x → HaveSpace S (length rest) (send_all x front)
 unfolding send_all
-space-after [] rest x h = h
-space-after (p ∷ front) rest x h = space-after front rest (send_next x p) (space-next (length (front ++ rest)) x p.1.event p.0 (request_of p.1) h)
+space-after S [] rest x h = h
+space-after S (p ∷ front) rest x h = space-after S front rest (send_next x p) (space-next S (length (front ++ rest)) x p.1.event p.0 (request_of p.1) h)
 
-pub space-front : (front rest : List (RingNo × Sent)) (x : Ends) → HaveSpace (length (front ++ rest)) x → HaveSpace (length front) x
-space-front front rest x h = space-less (length front) (length rest) x (subst (λ n. HaveSpace n x) (length-append front rest) h)
+pub space-front : (S : ℕ → Type 0) (front rest : List (RingNo × Sent)) (x : Ends) → HaveSpace S (length (front ++ rest)) x → HaveSpace S (length front) x
+space-front S front rest x h = space-less S (length front) (length rest) x (subst (λ n. HaveSpace S n x) (length-append front rest) h)
 
 -- a record that is sent so many times
 times-all : (n : ℕ) (ring : RingNo) (s : Sent) (x : Ends) → send_times n s.event ring (request_of s) x ≡ send_all x (replicate n (ring, s))
@@ -67,6 +67,11 @@ module _ (st : Stage) (cpu : CpuNo) (work : Work) (clock count : ℕ) (original 
       ∙ (times-all count ring says x
       ∙ ap (λ (o : Option RingNo). send_all x (to_ring o count says)) e)))
 
+  pub ring-space : (S : ℕ → Type 0) (ring : RingNo) (x : Ends) → Some ring ≡ original.ring → HaveSpace S (length (sent_by_family (Some original) st cpu work clock count i)) x
+      → HaveSpace S count x
+  ring-space S ring x e h =
+      subst (λ n. HaveSpace S n x) (ap (λ (o : Option RingNo). length (to_ring o count says)) (sym e) ∙ length-replicate count (ring, says)) h
+
   pub no-ring : (x : Ends) → original.ring ≡ None → x ≡ send_all x (sent_by_family (Some original) st cpu work clock count i)
   no-ring x e = sym (send_all-none x) ∙ ap (λ (o : Option RingNo). send_all x (to_ring o count says)) (sym e)
 
@@ -85,14 +90,14 @@ module _ (w : World) (line : Stretch) (found : List Overflow) (i : ℕ) (o : Ove
   front-split : sents_all w line (drop i found) ≡ sents_of w line o ++ sents_all w line (drop (i + 1) found)
   front-split = ap (sents_all w line) (next-overflow found i o at)
 
-  pub front-space : (x : Ends) → HaveSpace (length (sents_all w line (drop i found))) x → HaveSpace (length (sents_of w line o)) x
-  front-space x h = space-front (sents_of w line o) (sents_all w line (drop (i + 1) found)) x (subst (λ l. HaveSpace (length l) x) front-split h)
+  pub front-space : (S : ℕ → Type 0) (x : Ends) → HaveSpace S (length (sents_all w line (drop i found))) x → HaveSpace S (length (sents_of w line o)) x
+  front-space S x h = space-front S (sents_of w line o) (sents_all w line (drop (i + 1) found)) x (subst (λ l. HaveSpace S (length l) x) front-split h)
 
-  pub rest-space : (x after : Ends) → after ≡ send_all x (sents_of w line o) → HaveSpace (length (sents_all w line (drop i found))) x
-      → HaveSpace (length (sents_all w line (drop (i + 1) found))) after
-  rest-space x after is h =
-      subst (HaveSpace (length (sents_all w line (drop (i + 1) found)))) (sym is)
-      (space-after (sents_of w line o) (sents_all w line (drop (i + 1) found)) x (subst (λ l. HaveSpace (length l) x) front-split h))
+  pub rest-space : (S : ℕ → Type 0) (x after : Ends) → after ≡ send_all x (sents_of w line o) → HaveSpace S (length (sents_all w line (drop i found))) x
+      → HaveSpace S (length (sents_all w line (drop (i + 1) found))) after
+  rest-space S x after is h =
+      subst (HaveSpace S (length (sents_all w line (drop (i + 1) found)))) (sym is)
+      (space-after S (sents_of w line o) (sents_all w line (drop (i + 1) found)) x (subst (λ l. HaveSpace S (length l) x) front-split h))
 
   pub rest-sends : (x after : Ends) → after ≡ send_all x (sents_of w line o) → send_all after (sents_all w line (drop (i + 1) found)) ≡ send_all x (sents_all w line (drop i found))
   rest-sends x after is =

@@ -54,21 +54,21 @@ count-next true e lost slot =
       ]
     ]
 
-pub space-next : (n : ℕ) (x : Ends) (e : EventNo) (ring : RingNo) (q : Request) → HaveSpace (suc n) x → HaveSpace n (send_one x e ring q)
-space-next n x e ring q h = record {
+pub space-next : (S : ℕ → Type 0) (n : ℕ) (x : Ends) (e : EventNo) (ring : RingNo) (q : Request) → HaveSpace S (suc n) x → HaveSpace S n (send_one x e ring q)
+space-next S n x e ring q h = record {
   heads = all-sent (λ (o : OutEnd). place_of o.producer + suc n * o.producer.ring.bytes < 2 ^ 63) (λ (o : OutEnd). place_of o.producer + n * o.producer.ring.bytes < 2 ^ 63) q
       (λ o a. omega (arith, a, times-more n o.producer.ring.bytes)) (head-next n q) x.outs.numbers x.outs.outs ring h.heads;
   losses = all-sent (λ (o : OutEnd). o.lost + suc n < 2 ^ 63) (λ (o : OutEnd). o.lost + n < 2 ^ 63) q
       (λ o a. omega (arith, a)) (λ o a. omega (arith, a, lost_bounded o q)) x.outs.numbers x.outs.outs ring h.losses;
-  lost = λ slot. omega (arith, h.lost slot, count-next (loses_among x.outs.numbers x.outs.outs ring q) e x.lost slot);
+  lost = λ slot its. omega (arith, h.lost slot its, count-next (loses_among x.outs.numbers x.outs.outs ring q) e x.lost slot);
 }
 
 -- space for some records is space for fewer
-pub space-less : (m n : ℕ) (x : Ends) → HaveSpace (m + n) x → HaveSpace m x
-space-less m n x h = record {
+pub space-less : (S : ℕ → Type 0) (m n : ℕ) (x : Ends) → HaveSpace S (m + n) x → HaveSpace S m x
+space-less S m n x h = record {
   heads = λ k d inside. omega (arith, h.heads k d inside, more (slice_index_or x.outs.outs k d).producer.ring.bytes);
   losses = λ k d inside. omega (arith, h.losses k d inside);
-  lost = λ slot. omega (arith, h.lost slot);
+  lost = λ slot its. omega (arith, h.lost slot its);
 }
   where
     more : (b : ℕ) → m * b ≤ (m + n) * b

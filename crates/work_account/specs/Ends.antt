@@ -57,11 +57,11 @@ pub record AreTogether (rings : RingList) (outs : OutList) : Type 0 where
   pub numbers : rings.numbers ≡ outs.numbers
   pub tables : map (λ o. o.producer.ring) outs.outs ≡ rings.tables
 
--- So many records more leave heads and counts below 2^63: each moves one head by at most its ring's size, and may be lost.
-pub record HaveSpace (n : ℕ) (x : Ends) : Type 0 where
+-- So many records more, of events in some slots, leave heads and counts below 2^63: each moves one head by at most its ring's size, and may be lost.
+pub record HaveSpace (Slots : ℕ → Type 0) (n : ℕ) (x : Ends) : Type 0 where
   pub heads : All (λ o. place_of o.producer + n * o.producer.ring.bytes < 2 ^ 63) x.outs.outs
   pub losses : All (λ o. o.lost + n < 2 ^ 63) x.outs.outs
-  pub lost : (slot : ℕ) → slice_index_or x.lost slot 0 + n < 2 ^ 63
+  pub lost : (slot : ℕ) → Slots slot → slice_index_or x.lost slot 0 + n < 2 ^ 63
 
 -- An end between two calls has an account, which is of its ring; and so have some ends, ring by ring.
 pub record IsAccountOf (n : RingNo) (o : OutEnd) (a : RingAccount) : Type 0 where

@@ -36,6 +36,10 @@ sents_of w line o = sent_by_family (original_of (stage_of w) (instance_at w o.ke
 abbrev pub sents_all : World → Stretch → List Overflow → List (RingNo × Sent)
 sents_all w line found = flat_map (sents_of w line) found
 
+-- a slot that some instance is of
+abbrev pub HasInstance : World → ℕ → Type 0
+HasInstance w slot = (k : Key) × (is_live w k ≡ true) × ((instance_at w k).event.0 ≡ slot)
+
 -- each instance's ring is there
 abbrev pub HaveRings : World → List RingNo → Type 0
 HaveRings w numbers = (k : Key) → is_live w k ≡ true → (ring : RingNo) → (instance_at w k).ring ≡ Some ring → HasRing numbers ring
@@ -48,8 +52,8 @@ AreLeft w left = (k : Key) → is_live w k ≡ true → left (instance_at w k).i
 abbrev pub sent_by : World → (ℕ → ℕ) → CpuNo → Work → List (RingNo × Sent)
 sent_by w left cpu work = sent_at w.hardware (stage_of w) left (slice_index_or w.quiet.clocks cpu.0 0 + work.length) cpu work
 
--- there is space for all of them
+-- There is space for all of them, whose events have instances.
 pub record HaveSpaceToSend (w : World) (x : Ends) (cpu : CpuNo) (work : Work) : Type 0 where
   pub left : ℕ → ℕ
   pub are_left : AreLeft w left
-  pub space : HaveSpace (length (sent_by w left cpu work)) x
+  pub space : HaveSpace (HasInstance w) (length (sent_by w left cpu work)) x

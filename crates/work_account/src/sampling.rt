@@ -40,6 +40,7 @@ pub fn work_sampled(world: &mut World, cpu: CpuNo, work: &Work, rings: &Rings, o
     ensures grown { (slot : ℕ) → AreAtMost (family_sums world.new slot) (plus (family_sums world.old slot) (most_of_line (cpu_line.Work work.now))) }
     ensures rest { world.new ≡ pass_time cpu work.now.length (record world.old { accounts = world.new.accounts; lost = world.new.lost }) }
     ensures rescheduled { (other : Cpu) → IsRescheduled world.old.hardware world.old other → IsRescheduled world.old.hardware world.new other }
+    ensures together { AreTogether rings.now outs.new }
 
     // The ends and the counts of lost records are what the records of the definitions make of them, whatever function gives the remainders.
     ensures sent { (left : ℕ → ℕ) → AreLeft world.old left → ends_of outs.new world.new ≡ send_all (ends_of outs.old world.old) (sent_by world.old left cpu work.now) }

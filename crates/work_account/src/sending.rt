@@ -1,15 +1,16 @@
 //! How records are sent to the ends of the rings, and those lost are counted.
 
-ghost use Rattle.std.specs.Prelude.{◌≡◌, ℕ, ◌+◌, ◌^◌, ◌<◌, true, [], All, Some, length, slice_index_or};
+ghost use Rattle.std.specs.Prelude.{◌≡◌, ℕ, ◌+◌, ◌^◌, ◌<◌, true, All, Some, length, slice_index_or};
 ghost use Rattle.ring_spec.specs.Records.{IsRecord};
 ghost use Rattle.ring_spec.specs.Sending.{sent_by_family};
+ghost use Rattle.ring_words.specs.Ends.{place_of};
 ghost use Rattle.sample_records.specs.Seen.{seen};
 ghost use Rattle.sample_ring.specs.RingLists.{HasRing};
 ghost use Rattle.world_spec.specs.Value.{is_live, instance_at};
 ghost use Rattle.world_spec.specs.StageOf.{stage_of};
 ghost use Rattle.work_account.specs.Ends as ends;
 ghost use Rattle.work_account.specs.Ends.{AreTogether, HaveSpace};
-ghost use Rattle.work_account.specs.Sampling.{asks, ends_of, send_times, sents_of, sents_all, HaveRings};
+ghost use Rattle.work_account.specs.Sampling.{asks, ends_of, send_times, sents_of, sents_all, HasInstance, HaveRings};
 
 use crate::overflowing::{Overflow, Overflows};
 use crate::samples::{Sample, Stretch, sample_of};
@@ -22,7 +23,8 @@ fn send(sample: &Sample, rings: &Rings, outs: &mut Outs) -> Sent
     requires lawful { IsRecord (seen sample.now.sent) }
     requires together { AreTogether rings.now outs.old }
     requires ring { HasRing outs.old.numbers sample.now.ring }
-    requires heads { HaveSpace 1 (record { outs = outs.old; lost = [] }) }
+    requires heads { All (λ o. place_of o.producer + o.producer.ring.bytes < 2 ^ 63) outs.old.outs }
+    requires losses { All (λ o. o.lost + 1 < 2 ^ 63) outs.old.outs }
     ensures outs { outs.new ≡ record outs.old { outs = ends.sent_among outs.old.numbers outs.old.outs sample.now.ring (asks sample.now) } }
     ensures answer { ends.is_lost result ≡ ends.loses_among outs.old.numbers outs.old.outs sample.now.ring (asks sample.now) }
 {
@@ -52,7 +54,7 @@ fn send_one(world: &mut World, sample: &Sample, rings: &Rings, outs: &mut Outs)
     requires lawful { IsRecord (seen sample.now.sent) }
     requires together { AreTogether rings.now outs.old }
     requires ring { HasRing outs.old.numbers sample.now.ring }
-    requires space { HaveSpace 1 (ends_of outs.old world.old) }
+    requires space { HaveSpace (HasInstance world.old) 1 (ends_of outs.old world.old) }
     ensures ends { ends_of outs.new world.new ≡ ends.send_one (ends_of outs.old world.old) (instance_at world.old sample.now.origin).event sample.now.ring (asks sample.now) }
     ensures rest { world.new ≡ record world.old { lost = world.new.lost } }
 {
@@ -66,7 +68,7 @@ pub fn send_burst(world: &mut World, sample: &Sample, count: u64, rings: &Rings,
     requires lawful { IsRecord (seen sample.now.sent) }
     requires together { AreTogether rings.now outs.old }
     requires ring { HasRing outs.old.numbers sample.now.ring }
-    requires space { HaveSpace count (ends_of outs.old world.old) }
+    requires space { HaveSpace (HasInstance world.old) count (ends_of outs.old world.old) }
     ensures ends { ends_of outs.new world.new
         ≡ send_times count (instance_at world.old sample.now.origin).event sample.now.ring (asks sample.now) (ends_of outs.old world.old) }
     ensures rest { world.new ≡ record world.old { lost = world.new.lost } }
@@ -89,7 +91,7 @@ fn send_by(
     requires live { is_live world.old overflow.key ≡ true }
     requires together { AreTogether rings.now outs.old }
     requires rings { HaveRings world.old outs.old.numbers }
-    requires space { HaveSpace (length (sent_by_family (Some (instance_at world.old origin)) (stage_of world.old) stretch.now.cpu stretch.now.work stretch.now.clock
+    requires space { HaveSpace (HasInstance world.old) (length (sent_by_family (Some (instance_at world.old origin)) (stage_of world.old) stretch.now.cpu stretch.now.work stretch.now.clock
         overflow.count (instance_at world.old overflow.key))) (ends_of outs.old world.old) }
     ensures ends { ends_of outs.new world.new ≡ ends.send_all (ends_of outs.old world.old) (sent_by_family (Some (instance_at world.old origin)) (stage_of world.old)
         stretch.now.cpu stretch.now.work stretch.now.clock overflow.count (instance_at world.old overflow.key)) }
@@ -112,7 +114,7 @@ fn send_overflow(
     requires live { is_live world.old overflow.key ≡ true }
     requires together { AreTogether rings.now outs.old }
     requires rings { HaveRings world.old outs.old.numbers }
-    requires space { HaveSpace (length (sents_of world.old stretch.now overflow)) (ends_of outs.old world.old) }
+    requires space { HaveSpace (HasInstance world.old) (length (sents_of world.old stretch.now overflow)) (ends_of outs.old world.old) }
     ensures ends { ends_of outs.new world.new ≡ ends.send_all (ends_of outs.old world.old) (sents_of world.old stretch.now overflow) }
     ensures rest { world.new ≡ record world.old { lost = world.new.lost } }
 {
@@ -132,7 +134,7 @@ pub fn send_overflows(
     requires live { All (λ o. is_live world.old o.key ≡ true) found.now }
     requires together { AreTogether rings.now outs.old }
     requires rings { HaveRings world.old outs.old.numbers }
-    requires space { HaveSpace (length (sents_all world.old stretch.now found.now)) (ends_of outs.old world.old) }
+    requires space { HaveSpace (HasInstance world.old) (length (sents_all world.old stretch.now found.now)) (ends_of outs.old world.old) }
     ensures ends { ends_of outs.new world.new ≡ ends.send_all (ends_of outs.old world.old) (sents_all world.old stretch.now found.now) }
     ensures rest { world.new ≡ record world.old { lost = world.new.lost } }
 {

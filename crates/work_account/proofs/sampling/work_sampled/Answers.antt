@@ -1,7 +1,7 @@
 use Rattle.std.proofs.Common.{◌+◌, ◌<◌, ◌^◌, length, slice_index_or, sym, subst}
 use Rattle.world_spec.specs.Value.{World}
 use Rattle.work_account.proofs.Left.{work-grown, work-rest, work-stays}
-use Rattle.work_account.proofs.Sampled.{timed-by, ends-are, live-found, space-there, accounts-are, lost-are, sampled-stage, sampled-grown, sampled-stays}
+use Rattle.work_account.proofs.Sampled.{timed-by, ends-are, live-found, space-there, together-are, accounts-are, lost-are, sampled-stage, sampled-grown, sampled-stays}
 use Rattle.work_account.proofs.sampling.work_sampled.Goals as goal
 
 pub pass_time-requires-clause-cpu : goal.pass_time-requires-clause-cpu
@@ -59,6 +59,17 @@ returns-clause-rescheduled c = λ other h.
     let is = work-rest w visited.new.world timed c.args.cpu n visited.ensures.rest c.pass_time.ensures.world in
     sampled-stays w timed c.send_overflows.new.world c.args.cpu n is c.send_overflows.ensures.rest w.hardware other
     (work-stays w.hardware w visited.new.world timed c.args.cpu n other visited.ensures.rest c.pass_time.ensures.world h))
+
+pub returns-clause-together : goal.returns-clause-together
+returns-clause-together c =
+    let w : World = c.args.world.now in
+    let cpu = c.args.cpu in
+    let work = c.args.work.now in
+    let visited = c.visit_processor-found in
+    let timed : World = c.pass_time.new.self in
+    let t = timed-by w visited.new.world timed cpu work visited.result c.clock.result visited.ensures.kept c.requires.cpu visited.ensures.rest c.pass_time.ensures.world visited.ensures.overflows c.clock.ensures.clock in
+    let is = ends-are w timed cpu work visited.result c.clock.result t c.args.outs.now c.send_overflows.new.outs c.send_overflows.new.world c.requires.judged c.requires.space.left c.requires.space.are_left c.send_overflows.ensures.ends in
+    together-are c.args.rings.now w c.send_overflows.new.world cpu work c.requires.space.left c.args.outs.now c.send_overflows.new.outs is c.requires.together
 
 pub returns-clause-sent : goal.returns-clause-sent
 returns-clause-sent c = λ left are.

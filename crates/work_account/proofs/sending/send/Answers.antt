@@ -1,4 +1,4 @@
-use Rattle.std.proofs.Common.{[], ap, ◌∙◌, slice_set}
+use Rattle.std.proofs.Common.{ap, ◌∙◌, slice_set}
 use Rattle.sample_ring.specs.RingLists.{place_of}
 use Rattle.work_account.specs.Sampling.{asks}
 use Rattle.work_account.proofs.Sends.{sent-is, lost-answer, head-fits, lost-fits}
@@ -6,11 +6,11 @@ use Rattle.work_account.proofs.sending.send.Goals as goal
 
 pub send-requires-clause-head : goal.send-requires-clause-head
 send-requires-clause-head c =
-    head-fits (record { outs = c.args.outs.now; lost = [] }) (place_of c.args.outs.now.numbers c.args.sample.now.ring) c.out.result.now (asks c.args.sample.now) c.requires.heads c.out.ensures.value
+    head-fits c.args.outs.now.outs (place_of c.args.outs.now.numbers c.args.sample.now.ring) c.out.result.now (asks c.args.sample.now) c.requires.heads c.out.ensures.value
 
 pub send-requires-clause-lost : goal.send-requires-clause-lost
 send-requires-clause-lost c =
-    lost-fits (record { outs = c.args.outs.now; lost = [] }) (place_of c.args.outs.now.numbers c.args.sample.now.ring) c.out.result.now (asks c.args.sample.now) c.requires.heads c.out.ensures.value
+    lost-fits c.args.outs.now.outs (place_of c.args.outs.now.numbers c.args.sample.now.ring) c.out.result.now (asks c.args.sample.now) c.requires.losses c.out.ensures.value
 
 pub returns-clause-outs : goal.returns-clause-outs
 returns-clause-outs c =

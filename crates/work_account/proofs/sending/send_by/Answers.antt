@@ -3,9 +3,17 @@ use Rattle.stage_spec.specs.declared.instance.Instance.{Instance}
 use Rattle.perf_base.specs.declared.numbers.Key.{Key}
 use Rattle.world_spec.specs.Value.{World, instance_at}
 use Rattle.world_spec.specs.StageOf.{stage_of}
-use Rattle.work_account.specs.Sampling.{asks, ends_of, send_times}
-use Rattle.work_account.proofs.Sequences.{ring-sends, no-ring}
+use Rattle.work_account.specs.Sampling.{HasInstance, asks, ends_of, send_times}
+use Rattle.work_account.proofs.Sequences.{ring-sends, ring-space, no-ring}
 use Rattle.work_account.proofs.sending.send_by.Goals as goal
+
+pub send_burst-requires-clause-space : goal.send_burst-requires-clause-space
+send_burst-requires-clause-space c =
+    let w : World = c.args.world.now in
+    let line = c.args.stretch.now in
+    let o = c.args.overflow in
+    ring-space (stage_of w) line.cpu line.work line.clock o.count (instance_at w c.args.origin) (instance_at w o.key) (HasInstance w) c.in-Some.ring (ends_of c.args.outs.now w)
+    (sym c.in-Some.is ∙ ap (λ (i : Instance). i.ring) c.instance.ensures.instance) c.requires.space
 
 pub returns-in-Some-clause-ends : goal.returns-in-Some-clause-ends
 returns-in-Some-clause-ends c =

@@ -2,7 +2,7 @@ use Rattle.std.proofs.Common.{arith, ◌≡◌, ◌∙◌, length, ap, subst, sy
 use Rattle.world_spec.specs.Value.{World}
 use Rattle.work_account.specs.declared.overflowing.Overflow.{Overflow}
 use Rattle.work_account.specs.Ends.{Ends, AreTogether, HaveSpace, send_all}
-use Rattle.work_account.specs.Sampling.{ends_of, sents_of}
+use Rattle.work_account.specs.Sampling.{HasInstance, ends_of, sents_of}
 use Rattle.work_account.proofs.Sequences.{numbers-after, together-after, front-space, rest-space, rest-sends, none-to-send}
 use Rattle.work_account.proofs.sending.send_overflows.Goals as goal
 
@@ -11,8 +11,8 @@ send_overflow-requires-clause-space c =
     let inv = c.loop-place.invariant in
     let line = c.args.stretch.now in
     let x : Ends = ends_of c.loop-place.outs c.loop-place.world in
-    subst (λ l. HaveSpace (length l) x) (ap (λ (w : World). sents_of w line c.get.result) (sym inv.rest))
-    (front-space c.args.world.now line c.args.found.now c.loop-place.place c.get.result c.get.ensures x inv.space)
+    subst (λ (v : World). HaveSpace (HasInstance v) (length (sents_of v line c.get.result)) x) (sym inv.rest)
+    (front-space c.args.world.now line c.args.found.now c.loop-place.place c.get.result c.get.ensures (HasInstance c.args.world.now) x inv.space)
 
 pub loop-place-preserved : goal.loop-place-preserved
 loop-place-preserved c =
@@ -29,7 +29,7 @@ loop-place-preserved c =
       rest = c.send_overflow.ensures.rest ∙ ap {A = World} {B = World} (λ w. record w { lost = c.send_overflow.new.world.lost }) inv.rest;
       numbers = ap (λ (y : Ends). y.outs.numbers) is ∙ (numbers-after (sents_of first line o) x ∙ inv.numbers);
       together = subst (λ (y : Ends). AreTogether c.args.rings.now y.outs) (sym is) (together-after c.args.rings.now (sents_of first line o) x inv.together);
-      space = rest-space first line found at o c.get.ensures x after is inv.space;
+      space = rest-space first line found at o c.get.ensures (HasInstance first) x after is inv.space;
       left = rest-sends first line found at o c.get.ensures x after is ∙ inv.left;
     }
 
