@@ -14,7 +14,7 @@ use Rattle.world_tables.specs.Places.{picked}
 use Rattle.work_account.specs.declared.happening.Happening.{Happening}
 use Rattle.work_account.specs.declared.overflowing.Overflow.{Overflow}
 use Rattle.work_account.specs.Visits.{visit, visited, overflow_at, noted, members_at, all_members, MayVisit}
-use Rattle.work_account.proofs.Noting.{noted-one, noted-next, noted-all}
+use Rattle.work_account.proofs.Noting.{noted-one, noted-next, noted-all, room-left}
 use Rattle.work_account.proofs.Passing.{MayTake, first-may, rest-may}
 
 -- a list from a place on
@@ -108,7 +108,7 @@ group-noted x first w new was found leaders all i d same low is more =
     (group-split first leaders all i d same low) is more
 
 -- the members of the next group are among those left
-pub group-fits : (first : World) (leaders all : List Key) (i : ℕ) (d : Key) → leaders ≡ all → i < length all
+group-fits : (first : World) (leaders all : List Key) (i : ℕ) (d : Key) → leaders ≡ all → i < length all
     → length (members_at first (slice_index_or leaders i d)) ≤ length (all_members first (drop i all))
 group-fits first leaders all i d same low =
     omega (
@@ -130,6 +130,18 @@ no-group-left x first w all i past = ap (λ ks. visited x (all_members first ks)
 
 pub no-group-noted : (x : Happening) (first w : World) (found : List Overflow) (all : List Key) (i : ℕ) → length all ≤ i → found ≡ found ++ noted x (all_members first (drop i all)) w
 no-group-noted x first w found all i past = noted-all x w found ∙ ap (λ ks. found ++ noted x (all_members first ks) w) (sym (drop_all i all past))
+
+pub group-room : (x : Happening) (first now : World) (was found : List Overflow) (leaders all : List Key) (i : ℕ) (d : Key) → leaders ≡ all → i < length all → IsButAccounts first now
+    → found ++ noted x (all_members first (drop i all)) now ≡ was ++ noted x (all_members first all) first → length was + length (all_members first all) ≤ 256
+    → length found + length (members_at now (slice_index_or leaders i d)) ≤ 256
+group-room x first now was found leaders all i d same low rest noting room =
+    omega (
+      arith,
+      room,
+      ap (λ v. length (members_at v (slice_index_or leaders i d))) rest,
+      group-fits first leaders all i d same low,
+      room-left x now first was found (all_members first (drop i all)) (all_members first all) noting,
+    )
 
 -- who stands in a list of a context leads
 leads-where : (lead other third : Bool) → 1 ≤ once_if (lead && other && third) → lead ≡ true

@@ -28,44 +28,33 @@ place-later n ring numbers off =
     let one : 1 + place_of numbers ring ≡ suc (place_of numbers ring) = omega arith in
     ap (λ (b : Bool). cond (not b) (1 + place_of numbers ring) 0) other ∙ one
 
-pub sent-is : (numbers : List RingNo) (outs : List OutEnd) (ring : RingNo) (q : Request) (o : OutEnd) → HasRing numbers ring → slice_get outs (place_of numbers ring) ≡ Some o
-    → slice_set outs (place_of numbers ring) (sent_to o q) ≡ sent_among numbers outs ring q
-sent-is [] outs ring q o there at = absurd (omega (arith, there))
-sent-is (n ∷ numbers) [] ring q o there at = absurd (cc (at))
-sent-is (n ∷ numbers) (p ∷ outs) ring q o there at = elim (cases_eq n.0 ring.0) [
-  | inl e ↦
-      let its : (n.0 == ring.0) ≡ true = grind (arith, nat_tests, e) in
-      let same : p ≡ o = same_Some p o (ap (slice_get (p ∷ outs)) (sym (place-here n ring numbers e)) ∙ at) in
-      ap (λ (i : ℕ). slice_set (p ∷ outs) i (sent_to o q)) (place-here n ring numbers e)
-      ∙ (ap (λ (x : OutEnd). sent_to x q ∷ outs) (sym same)
-      ∙ ap (λ (b : Bool). if b then sent_to p q ∷ outs else p ∷ sent_among numbers outs ring q) (sym its))
-  | inr off ↦
-      let other : (n.0 == ring.0) ≡ false = grind (arith, nat_tests, off) in
-      let later : place_of (n ∷ numbers) ring ≡ suc (place_of numbers ring) = place-later n ring numbers off in
-      ap (λ (i : ℕ). slice_set (p ∷ outs) i (sent_to o q)) later
-      ∙ (ap (λ (l : List OutEnd). p ∷ l) (sent-is numbers outs ring q o (omega (arith, there, later)) (ap (slice_get (p ∷ outs)) (sym later) ∙ at))
-      ∙ ap (λ (b : Bool). if b then sent_to p q ∷ outs else p ∷ sent_among numbers outs ring q) (sym other))
-]
-
-loses-is : (numbers : List RingNo) (outs : List OutEnd) (ring : RingNo) (q : Request) (o : OutEnd) → HasRing numbers ring → slice_get outs (place_of numbers ring) ≡ Some o
-    → loses_among numbers outs ring q ≡ not (fits o q)
-loses-is [] outs ring q o there at = absurd (omega (arith, there))
-loses-is (n ∷ numbers) [] ring q o there at = absurd (cc (at))
-loses-is (n ∷ numbers) (p ∷ outs) ring q o there at = elim (cases_eq n.0 ring.0) [
-  | inl e ↦
-      let its : (n.0 == ring.0) ≡ true = grind (arith, nat_tests, e) in
-      let same : p ≡ o = same_Some p o (ap (slice_get (p ∷ outs)) (sym (place-here n ring numbers e)) ∙ at) in
-      ap (λ (b : Bool). if b then not (fits p q) else loses_among numbers outs ring q) its ∙ ap (λ (x : OutEnd). not (fits x q)) same
-  | inr off ↦
-      let other : (n.0 == ring.0) ≡ false = grind (arith, nat_tests, off) in
-      let later : place_of (n ∷ numbers) ring ≡ suc (place_of numbers ring) = place-later n ring numbers off in
-      ap (λ (b : Bool). if b then not (fits p q) else loses_among numbers outs ring q) other
-      ∙ loses-is numbers outs ring q o (omega (arith, there, later)) (ap (slice_get (p ∷ outs)) (sym later) ∙ at)
-]
+pub found-is : (numbers : List RingNo) (outs : List OutEnd) (ring : RingNo) (q : Request) (o : OutEnd) → HasRing numbers ring → slice_get outs (place_of numbers ring) ≡ Some o
+    → (slice_set outs (place_of numbers ring) (sent_to o q) ≡ sent_among numbers outs ring q) × (loses_among numbers outs ring q ≡ not (fits o q))
+found-is [] outs ring q o there at = absurd (omega (arith, there))
+found-is (n ∷ numbers) [] ring q o there at = absurd (cc (at))
+found-is (n ∷ numbers) (p ∷ outs) ring q o there at =
+    let sent : Bool → List OutEnd = λ b. if b then sent_to p q ∷ outs else p ∷ sent_among numbers outs ring q in
+    let lost : Bool → Bool = λ b. if b then not (fits p q) else loses_among numbers outs ring q in
+    elim (cases_eq n.0 ring.0) [
+      | inl e ↦
+          let its : (n.0 == ring.0) ≡ true = grind (arith, nat_tests, e) in
+          let first : place_of (n ∷ numbers) ring ≡ 0 = place-here n ring numbers e in
+          let same : p ≡ o = same_Some p o (ap (slice_get (p ∷ outs)) (sym first) ∙ at) in (
+            ap (λ (i : ℕ). slice_set (p ∷ outs) i (sent_to o q)) first ∙ (ap (λ (x : OutEnd). sent_to x q ∷ outs) (sym same) ∙ ap sent (sym its)),
+            ap lost its ∙ ap (λ (x : OutEnd). not (fits x q)) same,
+          )
+      | inr off ↦
+          let other : (n.0 == ring.0) ≡ false = grind (arith, nat_tests, off) in
+          let later : place_of (n ∷ numbers) ring ≡ suc (place_of numbers ring) = place-later n ring numbers off in
+          let rest = found-is numbers outs ring q o (omega (arith, there, later)) (ap (slice_get (p ∷ outs)) (sym later) ∙ at) in (
+            ap (λ (i : ℕ). slice_set (p ∷ outs) i (sent_to o q)) later ∙ (ap (λ (l : List OutEnd). p ∷ l) rest.0 ∙ ap sent (sym other)),
+            ap lost other ∙ rest.1,
+          )
+    ]
 
 pub lost-answer : (numbers : List RingNo) (outs : List OutEnd) (ring : RingNo) (q : Request) (o : OutEnd) (a : Answer) → HasRing numbers ring
     → slice_get outs (place_of numbers ring) ≡ Some o → a ≡ answer_to o q → is_lost a ≡ loses_among numbers outs ring q
-lost-answer numbers outs ring q o a there at is = ap is_lost is ∙ (one (fits o q) ∙ sym (loses-is numbers outs ring q o there at))
+lost-answer numbers outs ring q o a there at is = ap is_lost is ∙ (one (fits o q) ∙ sym (found-is numbers outs ring q o there at).1)
   where
     one : (b : Bool) → is_lost (elim b as (λ _. Answer) [ true ↦ answer.Written | false ↦ answer.Lost (words.place_of o.producer) o.producer.last_tail (need_for o q) ]) ≡ not b
     one true = refl

@@ -1,7 +1,7 @@
 use Rattle.std.proofs.Common.{ap, ◌∙◌, slice_set}
 use Rattle.sample_ring.specs.RingLists.{place_of}
 use Rattle.work_account.specs.Sampling.{asks}
-use Rattle.work_account.proofs.Sends.{sent-is, lost-answer, head-fits, lost-fits}
+use Rattle.work_account.proofs.Sends.{found-is, lost-answer, head-fits, lost-fits}
 use Rattle.work_account.proofs.sending.send.Goals as goal
 
 pub send-requires-clause-head : goal.send-requires-clause-head
@@ -18,7 +18,7 @@ returns-clause-outs c =
     let outs = c.args.outs.now.outs in
     ap (λ l. record { numbers = numbers; outs = l })
     (ap (slice_set outs (place_of numbers c.args.sample.now.ring)) c.send.ensures.end
-    ∙ sent-is numbers outs c.args.sample.now.ring (asks c.args.sample.now) c.out.result.now c.requires.ring c.out.ensures.value)
+    ∙ (found-is numbers outs c.args.sample.now.ring (asks c.args.sample.now) c.out.result.now c.requires.ring c.out.ensures.value).0)
 
 pub returns-clause-answer : goal.returns-clause-answer
 returns-clause-answer c =

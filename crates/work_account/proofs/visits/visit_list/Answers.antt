@@ -5,8 +5,7 @@ use Rattle.world_spec.proofs.Copies.{times-at}
 use Rattle.world_tables.specs.Places.{picked}
 use Rattle.work_account.specs.Visits as spec
 use Rattle.work_account.proofs.Passing.{front-may, visited-rest}
-use Rattle.work_account.proofs.Going.{group-front, group-left, group-noted, group-fits, group-next, no-group-left, no-group-noted, but-after, listed-leads}
-use Rattle.work_account.proofs.Noting.{room-left}
+use Rattle.work_account.proofs.Going.{group-front, group-left, group-noted, group-room, group-next, no-group-left, no-group-noted, but-after, listed-leads}
 use Rattle.work_account.proofs.visits.visit_list.Goals as goal
 
 pub visit_group-requires-clause-leads : goal.visit_group-requires-clause-leads
@@ -35,21 +34,10 @@ visit_group-requires-clause-may c =
 
 pub visit_group-requires-clause-room : goal.visit_group-requires-clause-room
 visit_group-requires-clause-room c =
-    let first : World = c.args.world.now in
-    let now : World = c.loop-group.world in
-    let inv = c.loop-group.invariant in
-    let all : List Key = picked c.args.pinned (leaders_of first c.args.context) in
-    let at = c.loop-group.group in
-    let d : Key = record { 0 = 0 } in
-    let q : Key = slice_index_or c.list.result.now at d in
-    let same : c.list.result.now ≡ all = c.list.ensures.list ∙ ap (λ (w : World). picked c.args.pinned (leaders_of w c.args.context)) inv.rest in
-    omega (
-      arith,
-      c.requires.room,
-      ap (λ (w : World). length (spec.members_at w q)) inv.rest,
-      group-fits first c.list.result.now all at d same (omega (arith, c.loop-group-test.true, inv.count)),
-      room-left c.args.what.now now first c.args.found.now c.loop-group.found (spec.all_members first (drop at all)) (spec.all_members first all) inv.noting,
-    )
+    group-room c.args.what.now c.args.world.now c.loop-group.world c.args.found.now c.loop-group.found c.list.result.now (picked c.args.pinned (leaders_of c.args.world.now c.args.context))
+    c.loop-group.group (record { 0 = 0 })
+    (c.list.ensures.list ∙ ap (λ (w : World). picked c.args.pinned (leaders_of w c.args.context)) c.loop-group.invariant.rest)
+    (omega (arith, c.loop-group-test.true, c.loop-group.invariant.count)) c.loop-group.invariant.rest c.loop-group.invariant.noting c.requires.room
 
 pub loop-group-preserved : goal.loop-group-preserved
 loop-group-preserved c =
