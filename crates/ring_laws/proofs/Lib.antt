@@ -6,3 +6,4 @@ pub mod Orders
 pub mod Reached
 pub mod Sampling
 pub mod Small
+pub mod Tails

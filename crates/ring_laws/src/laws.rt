@@ -4,6 +4,7 @@ ghost use Rattle.ring_laws.specs.Clocks.{ClockLaw, SmallClockLaw, SmallClockOfSc
 ghost use Rattle.ring_laws.specs.Families.{FamiliesOpenLaw};
 ghost use Rattle.ring_laws.specs.Few.{FewSentLaw, FewOfScriptLaw, FewWordsLaw};
 ghost use Rattle.ring_laws.specs.Losses.{FewLostLaw, FewLostOfScriptLaw, HeadsLaw, SmallHeadsLaw};
+ghost use Rattle.ring_laws.specs.Tails.{TailLaw};
 
 /// No more records are sent than the steps weigh.
 pub fn few_records_are_sent()
@@ -63,4 +64,9 @@ pub fn heads_are_bounded_by_weight()
 /// Over an order of a script of a weight of at most 65,536 a ring's head stays below 2 to the 23.
 pub fn heads_are_small()
     ensures { SmallHeadsLaw }
+{}
+
+/// A ring's account over an order of a script has as its tail the place that the order's last look saw.
+pub fn tails_are_seen_last()
+    ensures { TailLaw }
 {}

@@ -9,5 +9,5 @@ pub use laws::{
     clocks_are_small, clocks_go_by_work, few_records_are_lost, few_records_are_sent,
     heads_are_bounded_by_weight, heads_are_small, orders_count_little, orders_lose_few_records,
     orders_send_few_records, orders_take_little_time, orders_write_few_words,
-    sound_stages_have_open_families,
+    sound_stages_have_open_families, tails_are_seen_last,
 };

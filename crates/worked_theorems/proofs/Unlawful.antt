@@ -16,7 +16,8 @@ use Rattle.ring_spec.specs.Account.{Account, head_of}
 use Rattle.ring_spec.specs.Rings.{account_of, account_in, bytes_of, bytes_in, sizes_in, IsLawfulOrder}
 use Rattle.ring_spec.specs.Running.{RingAccount, Running, first_record, record_after}
 use Rattle.ring_spec.proofs.Running.{IsKept, kept-first, kept-step, in_account}
-use Rattle.worked_theorems.proofs.Answered.{is_behind, looks_lawful, is_ring, look_ok, declared, LawfulFrom, sum-cons, seen-tail, lawful_acts, lawful_by, find-passes, found_ring}
+use Rattle.ring_laws.proofs.Tails.{seen_tail}
+use Rattle.worked_theorems.proofs.Answered.{is_behind, looks_lawful, is_ring, look_ok, declared, LawfulFrom, sum-cons, lawful_acts, lawful_by, find-passes, found_ring}
 
 -- The act of this number is a look at this ring's tail at the place given. The acts before it are lawful, and it is not: the
 -- ring's tail was seen last at `last`, and its head is `head`.
@@ -115,7 +116,7 @@ unlawful_look s number ring last head given look g =
     (kept-first (hardware_of s) (opening_stage s) s.rings) (history s before) g in
     let fails : FailsAt (account_in s before (ring, bytes_of s ring)) last head given =
     kept_fails (hardware_of s) (opening_stage s) s.rings (history s before) h.last ring last head given h.keeps h.said in
-    let seen : (account_in s before (ring, bytes_of s ring)).tail ≡ last_seen ring before = seen-tail s before ring (bytes_of s ring) in
+    let seen : (account_in s before (ring, bytes_of s ring)).tail ≡ last_seen ring before = seen_tail s before ring (bytes_of s ring) in
     record {
       look = look;
       lawful_before = lawful_looks s before h.lawful;
