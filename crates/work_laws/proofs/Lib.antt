@@ -1,0 +1,5 @@
+pub mod Mapped
+pub mod Rings
+pub mod Sent
+pub mod Shown
+pub mod Space
