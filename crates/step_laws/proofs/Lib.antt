@@ -1,3 +1,4 @@
 pub mod Asking
 pub mod Quiet
+pub mod Slots
 pub mod Stepping

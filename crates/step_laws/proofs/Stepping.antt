@@ -1,11 +1,13 @@
 -- That a world that a step leads to agrees with the record after the step.
 use Rattle.std.specs.Prelude.{◌≡◌, ℕ, ◌+◌, ◌<◌, ◌≤◌, ◌==◌, Bool, true, false, ◌&&◌, ◌||◌, List, [], ◌∷◌, map, find, count_by, Option, Some, None, slice_index_or}
 use Rattle.std.specs.List.{list_any}
-use Rattle.std.proofs.Common.{arith, refl, sym, ap, ◌∙◌, inl, inr}
+use Rattle.std.proofs.Common.{arith, refl, sym, ap, subst, ◌∙◌, inl, inr}
 use Rattle.std.proofs.lemmas.Bool.{cases_Bool, cases_lt, false≢true}
 use Rattle.std.proofs.lemmas.Bool.Decides.{nat_tests}
+use Rattle.std.proofs.lemmas.List.{get_or_past}
 use Rattle.perf_base.specs.declared.lines.ToolLine.{ToolLine}
 use Rattle.perf_base.specs.declared.lines.ToolLine.TheVariants as tool_line
+use Rattle.perf_base.specs.declared.numbers.EventNo.{EventNo}
 use Rattle.perf_base.specs.declared.numbers.Key.{Key}
 use Rattle.perf_base.specs.declared.reasons.Reason.{Reason}
 use Rattle.stage_spec.specs.declared.instance.Instance.{Instance}
@@ -26,6 +28,7 @@ use Rattle.stage_spec.proofs.Present.{each_at}
 use Rattle.stage_laws.specs.Sound.{IsNumbered}
 use Rattle.stage_laws.proofs.Leaders.{find-first, find-later}
 use Rattle.ring_spec.specs.Account.{is_event}
+use Rattle.ring_spec.specs.Agreement.{IsCurrentSlot}
 use Rattle.ring_spec.specs.Running.{Running, record_after}
 use Rattle.ring_spec.specs.Sending.{length_by}
 use Rattle.world_spec.specs.Agreement.{AgreesWith}
@@ -35,7 +38,8 @@ use Rattle.world_spec.specs.Value.{World, is_live, instance_at, account_at, is_k
 use Rattle.world_spec.proofs.Families.{all_keys, times-keys, instances-are, key-lives}
 use Rattle.world_spec.proofs.Keys.{key-is, is_key-same, is_key-other, times-cons, once-true, once-false}
 use Rattle.world_spec.proofs.Listings.{is-numbered}
-use Rattle.step_laws.specs.Stepping.{HasItsShare, HasFolded, SteppedLaw}
+use Rattle.step_laws.proofs.Slots.{past-none}
+use Rattle.step_laws.specs.Stepping.{HasItsShare, HasFolded, HasStepped, LosingLaw, SteppedLaw, losses_by}
 
 -- no instance has an id that was not drawn
 each-below : (hw : Hardware) (w : World) (id : ℕ) → IsKept hw w → w.quiet.next_id ≤ id → Each (IdBelow id) (all_instances (stage_of w))
@@ -144,12 +148,14 @@ gone-sums w r (k ∷ gone) a live =
 zero-more : (n : ℕ) → n + 0 ≡ n
 zero-more n = omega arith
 
-pub stepped : SteppedLaw
-stepped hw w after r x h h_after a y none = record {
+-- what holds of all but the counts of records lost
+agrees-with : (hw : Hardware) (w after : World) (r : Running) (x : Step) → IsKept hw w → IsKept hw after → AgreesWith w r → HasStepped hw w (record after { lost = w.lost }) x
+    → ((e : EventNo) → IsCurrentSlot (stage_of after) e → (record_after hw r x).lost e ≡ slice_index_or after.lost e.0 0) → AgreesWith after (record_after hw r x)
+agrees-with hw w after r x h h_after a y lost = record {
   stage = ap (λ s. stage_step hw s x) a.stage ∙ sym y.stage;
   sums = λ k live. elim (cases_lt (instance_at after k).id w.quiet.next_id) [
     | inl before ↦
-        let o : HasItsShare hw w after x k = y.old k live before in
+        let o : HasItsShare hw w (record after { lost = w.lost }) x k = y.old k live before in
         (λ i. plus (after_reset (resets (a.stage i) x (o.id i)) (r.sums (o.id i))) (share hw (a.stage i) x (o.id i)))
         ∙ (ap (λ s. plus (after_reset (resets (stage_of w) x (instance_at w k).id) s) (share hw (stage_of w) x (instance_at w k).id)) (a.sums k o.live) ∙ sym o.sums)
     | inr past ↦ fresh-sums hw w r x (instance_at after k).id h a past ∙ sym (y.new k live past).sums
@@ -157,18 +163,47 @@ stepped hw w after r x h h_after a y none = record {
   fresh = λ id past. fresh-sums hw w r x id h a (omega (arith, past, y.drawn));
   left = λ k live. elim (cases_lt (instance_at after k).id w.quiet.next_id) [
     | inl before ↦
-        let o : HasItsShare hw w after x k = y.old k live before in
+        let o : HasItsShare hw w (record after { lost = w.lost }) x k = y.old k live before in
         (λ i. left_by hw (a.stage i) x (o.id i) (r.left (o.id i))) ∙ (ap (left_by hw (stage_of w) x (instance_at w k).id) (a.left k o.live) ∙ sym o.left)
     | inr past ↦
         ap (λ s. left_by hw s x (instance_at after k).id (r.left (instance_at after k).id)) a.stage
         ∙ (born-left hw w after x k (r.left (instance_at after k).id) h h_after y.stage live past ∙ sym (y.new k live past).left)
   ];
   folded = λ e current.
-      let g : (gone : List Key) × HasFolded w after x e gone = y.folded e current in
+      let g : (gone : List Key) × HasFolded w (record after { lost = w.lost }) x e gone = y.folded e current in
       (λ i. plus (a.folded e (y.slots e current) i) (plus_each (λ j. r.sums j.id) (leaving (a.stage i) x e)))
       ∙ (ap (λ js. plus (slice_index_or w.folded e.0 no_sums) (plus_each (λ j. r.sums j.id) js)) g.1.leaving
       ∙ (ap (plus (slice_index_or w.folded e.0 no_sums)) (gone-sums w r g.0 a g.1.live) ∙ sym g.1.sums));
-  lost = λ e current.
-      ap (λ losses. r.lost e + count_by (is_event e) losses) none ∙ (zero-more (r.lost e) ∙ (a.lost e (y.slots e current) ∙ sym (y.lost e)));
+  lost = lost;
   clock = λ cpu. ap (λ n. n + length_by cpu x) (a.clock cpu) ∙ sym (y.clock cpu);
 }
+
+-- a step that loses none, but for the counts of records lost
+unlost : (hw : Hardware) (w after : World) (x : Step) → HasStepped hw w after x → HasStepped hw w (record after { lost = w.lost }) x
+unlost hw w after x y = record {
+  stage = y.stage;
+  drawn = y.drawn;
+  old = λ k live before. let o : HasItsShare hw w after x k = y.old k live before in record { live = o.live; id = o.id; sums = o.sums; left = o.left };
+  new = λ k live past. record { sums = (y.new k live past).sums; left = (y.new k live past).left };
+  slots = y.slots;
+  folded = λ e current.
+      let g : (gone : List Key) × HasFolded w after x e gone = y.folded e current in
+      (g.0, record { leaving = g.1.leaving; live = g.1.live; sums = g.1.sums });
+  lost = λ e. refl;
+  clock = y.clock;
+}
+
+pub stepped : SteppedLaw
+stepped hw w after r x h h_after a y none =
+    agrees-with hw w after r x h h_after a (unlost hw w after x y)
+    (λ e current. ap (λ losses. r.lost e + count_by (is_event e) losses) none ∙ (zero-more (r.lost e) ∙ (a.lost e (y.slots e current) ∙ sym (y.lost e))))
+
+pub stepped-losing : LosingLaw
+stepped-losing hw w after r x h h_after a y =
+    agrees-with hw w after r x h h_after a y.stepped (λ e current. elim (cases_lt e.0 256) [
+      | inl low ↦ ap (λ n. n + count_by (is_event e) (losses_by hw r x)) (a.lost e (y.stepped.slots e current)) ∙ sym (y.lost e low)
+      | inr past ↦
+          let before : r.lost e ≡ 0 = a.lost e (y.stepped.slots e current) ∙ get_or_past w.lost e.0 0 (omega (arith, past, h.tables.lost)) in
+          let slots : Each (λ i. i.event.0 < 256) (all_instances r.stage) = subst (λ s. Each (λ i. i.event.0 < 256) (all_instances s)) (sym a.stage) (each_at (λ i. i.event.0 < 256) (all_instances (stage_of w)) (is-numbered hw w h).slots) in
+          omega (arith, before, past-none hw r x e slots past, get_or_past after.lost e.0 0 (omega (arith, past, h_after.tables.lost)))
+    ])

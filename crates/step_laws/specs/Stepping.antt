@@ -12,7 +12,7 @@ use Rattle.stage_spec.specs.Remainders.{left_by}
 use Rattle.stage_spec.specs.Shares.{share, no_sums}
 use Rattle.stage_spec.specs.Sums.{resets}
 use Rattle.ring_spec.specs.Agreement.{IsCurrentSlot}
-use Rattle.ring_spec.specs.Running.{Running, losses_on, record_after}
+use Rattle.ring_spec.specs.Running.{Running, losses_on, more_lost, record_after}
 use Rattle.ring_spec.specs.Sending.{sent_by_step, length_by}
 use Rattle.world_spec.specs.Agreement.{AgreesWith}
 use Rattle.world_spec.specs.Kept.{IsKept, plus_keys}
@@ -48,11 +48,25 @@ pub record HasStepped (hw : Hardware) (w after : World) (x : Step) : Type 0 wher
   pub lost : (e : EventNo) → slice_index_or after.lost e.0 0 ≡ slice_index_or w.lost e.0 0
   pub clock : (cpu : CpuNo) → slice_index_or after.quiet.clocks cpu.0 0 ≡ slice_index_or w.quiet.clocks cpu.0 0 + length_by cpu x
 
+-- the events whose records the rings lose by a step
+abbrev pub losses_by : Hardware → Running → Step → List EventNo
+losses_by hw r x = flat_map (losses_on x (sent_by_step hw r.stage r.left r.clock x)) r.rings
+
 -- a step by which no ring loses a record
 abbrev pub LosesNone : Hardware → Running → Step → Type 0
-LosesNone hw r x = flat_map (losses_on x (sent_by_step hw r.stage r.left r.clock x)) r.rings ≡ []
+LosesNone hw r x = losses_by hw r x ≡ []
 
 -- A world that agrees with a record leads by a step that loses none to one that agrees with the record after it.
 abbrev pub SteppedLaw : Type 0
 SteppedLaw = (hw : Hardware) (w after : World) (r : Running) (x : Step) → IsKept hw w → IsKept hw after → AgreesWith w r → HasStepped hw w after x → LosesNone hw r x
+    → AgreesWith after (record_after hw r x)
+
+-- A step that loses records of these events: but for their counts it is one that loses none.
+pub record HasLost (hw : Hardware) (w after : World) (x : Step) (losses : List EventNo) : Type 0 where
+  pub stepped : HasStepped hw w (record after { lost = w.lost }) x
+  pub lost : (e : EventNo) → e.0 < 256 → slice_index_or after.lost e.0 0 ≡ more_lost (λ f. slice_index_or w.lost f.0 0) losses e
+
+-- It leads to a world that agrees with the record after it where these are the losses by the record.
+abbrev pub LosingLaw : Type 0
+LosingLaw = (hw : Hardware) (w after : World) (r : Running) (x : Step) → IsKept hw w → IsKept hw after → AgreesWith w r → HasLost hw w after x (losses_by hw r x)
     → AgreesWith after (record_after hw r x)

@@ -5,6 +5,6 @@
 mod laws;
 
 pub use laws::{
-    quiet_steps_leave_accounts, refused_steps_leave_worlds, steps_lead_to_records,
-    worlds_answer_by_records,
+    losing_steps_lead_to_records, quiet_steps_leave_accounts, refused_steps_leave_worlds,
+    steps_lead_to_records, worlds_answer_by_records,
 };
