@@ -1,5 +1,5 @@
 -- What a machine's world keeps between lines, and what it is to have done a line. This project's own profile.
-use Rattle.std.specs.Prelude.{◌≡◌, ◌<◌, true, [], length}
+use Rattle.std.specs.Prelude.{◌≡◌, ℕ, ◌<◌, true, List, [], length, map}
 use Rattle.perf_base.specs.declared.numbers.CpuNo.{CpuNo}
 use Rattle.perf_base.specs.declared.numbers.Key.{Key}
 use Rattle.perf_base.specs.declared.reply.Reply.{Reply}
@@ -11,7 +11,8 @@ use Rattle.ring_spec.specs.Running.{Running, IsAnswerBy, record_after}
 use Rattle.world_spec.specs.Agreement.{AgreesWith}
 use Rattle.world_spec.specs.Rescheduled.{AreRescheduled}
 use Rattle.world_spec.specs.StageOf.{stage_of}
-use Rattle.step_laws.specs.Stepping.{LosesNone}
+use Rattle.sample_ring.specs.RingLists.{OutList}
+use Rattle.work_account.specs.Ends.{HaveAccounts}
 use Rattle.world_spec.specs.Value.{World, is_live, entry_at}
 
 -- the limits of a world, of which no line speaks of a ring
@@ -33,6 +34,14 @@ pub record IsDoneBy (x : Step) (w after : World) (reply : Reply) (r : Running) :
 abbrev pub IsDone : Step → World → World → Reply → Type 0
 IsDone x w after reply = (r : Running) → AgreesWith w r → IsDoneBy x w after reply r
 
--- So where the line loses no record.
-abbrev pub IsDoneUnlost : Step → World → World → Reply → Type 0
-IsDoneUnlost x w after reply = (r : Running) → AgreesWith w r → LosesNone w.hardware r x → IsDoneBy x w after reply r
+-- A line that may send records: whatever record the world agreed with, whose rings' accounts the ends had, they have the accounts of its rings after the line.
+pub record IsDoneSending (x : Step) (w after : World) (sent : OutList) (reply : Reply) (r : Running) : Type 0 where
+  pub done : IsDoneBy x w after reply r
+  pub ends : HaveAccounts sent (record_after w.hardware r x).rings
+
+abbrev pub IsDoneWith : Step → (w after : World) → (outs sent : OutList) → Reply → Type 0
+IsDoneWith x w after outs sent reply = (r : Running) → AgreesWith w r → HaveAccounts outs r.rings → IsDoneSending x w after sent reply r
+
+-- what each end that sends knows of its reader: the last tail that it has seen, and how often it looked
+abbrev pub seen_of : OutList → List (ℕ × ℕ)
+seen_of outs = map (λ o. (o.producer.last_tail, o.producer.loads)) outs.outs

@@ -5,14 +5,18 @@ ghost use Rattle.perf_base.specs.Scripts.{IsCpuLine};
 ghost use Rattle.perf_base.specs.declared.lines.CpuLine.TheVariants as line;
 ghost use Rattle.stage_spec.specs.History.{CpuStep};
 ghost use Rattle.stage_laws.specs.Bounds.{most_of_line};
+ghost use Rattle.work_account.specs.Ends.{AreTogether};
+ghost use Rattle.work_account.specs.Sampling.{HaveRings, HaveSpaceToSend, ends_of};
 ghost use Rattle.work_account.specs.Shares.{HaveRoom};
-ghost use Rattle.line_steps.specs.Stepped.{IsReady, IsDone, IsDoneUnlost};
+ghost use Rattle.line_steps.specs.Stepped.{IsReady, IsDone, IsDoneWith, seen_of};
 
 use cpu_sched::resched;
 use perf_base::{CpuNo, Reply, Steps, TaskNo, Work};
 use perf_world::World;
+use sample_ring::{Outs, Rings};
 use std::sync::ledger::Ledger;
 use task_moves::rotate;
+use work_account::work_sampled;
 
 /// A tick of a processor: the groups of its two contexts take turns, and it is rescheduled.
 pub fn tick<L: Ledger>(world: &mut World, cpu: CpuNo, tests: &mut Steps<L>) -> Reply
@@ -31,20 +35,25 @@ pub fn tick<L: Ledger>(world: &mut World, cpu: CpuNo, tests: &mut Steps<L>) -> R
     Reply::Ok
 }
 
-/// A stretch of work on a processor. No record of it may be lost; while no event has a ring there is none.
-pub fn work(world: &mut World, cpu: CpuNo, work: &Work) -> Reply
+/// A stretch of work on a processor, with the records that it sends. No tail is loaded.
+pub fn work(world: &mut World, cpu: CpuNo, work: &Work, rings: &Rings, outs: &mut Outs) -> Reply
     requires ready { IsReady world.old }
     requires cpu { cpu.0 < length world.old.quiet.running }
     requires line { IsCpuLine (length world.old.hardware.kind_pmus) (line.Work work.now) }
     requires room { HaveRoom world.old (most_of_line (line.Work work.now)) }
     requires clock { slice_index_or world.old.quiet.clocks cpu.0 0 + work.now.length < 2 ^ 63 }
+    requires together { AreTogether rings.now outs.old }
+    requires rings { HaveRings world.old outs.old.numbers }
+    requires space { HaveSpaceToSend world.old (ends_of outs.old world.old) cpu work.now }
     ensures ready { IsReady world.new }
-    ensures done { IsDoneUnlost (CpuStep cpu (line.Work work.now)) world.old world.new result }
+    ensures done { IsDoneWith (CpuStep cpu (line.Work work.now)) world.old world.new outs.old outs.new result }
     ensures hardware { world.new.hardware ≡ world.old.hardware }
+    ensures together { AreTogether rings.now outs.new }
+    ensures seen { seen_of outs.new ≡ seen_of outs.old }
 {
     // A reader tells what always holds of a world.
     let _before = world.pmus();
-    work_account::work(world, cpu, work);
+    work_sampled(world, cpu, work, rings, outs);
     let _after = world.pmus();
     Reply::Ok
 }

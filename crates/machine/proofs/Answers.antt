@@ -3,7 +3,9 @@ use Rattle.std.specs.Prelude.{◌≡◌, ℕ, List, [], ◌∷◌, ◌++◌, map
 use Rattle.std.proofs.Common.{refl, sym, ap, subst, ◌∙◌, append_assoc, append-nil}
 use Rattle.std.proofs.lemmas.List.{map-append}
 use Rattle.perf_base.specs.declared.acts.Act.{Act}
+use Rattle.perf_base.specs.declared.acts.Act.TheVariants as act
 use Rattle.perf_base.specs.declared.numbers.EventNo.{EventNo}
+use Rattle.perf_base.specs.declared.numbers.RingNo.{RingNo}
 use Rattle.perf_base.specs.declared.reply.Reply.{Reply}
 use Rattle.perf_base.specs.Scripts.{Scripted}
 use Rattle.stage_spec.specs.Hardware.{Hardware, hardware_of}
@@ -52,6 +54,17 @@ answers-push s lost acts a answers answer h line reply = record {
   replies = subst (λ steps. AreReplies (hardware_of s) (opening_stage s) lost [] steps (map (λ x. x.reply) (answers ++ answer ∷ []))) (sym (history-grows s acts a))
       (subst (AreReplies (hardware_of s) (opening_stage s) lost [] (history s acts ++ steps_of s acts a)) (sym (map-append (λ x. x.reply) answers (answer ∷ [])))
       (replies-append (hardware_of s) (opening_stage s) lost [] (history s acts) (steps_of s acts a) (map (λ x. x.reply) answers) (answer.reply ∷ []) h.replies reply));
+}
+
+-- A look is no line and has no answer.
+pub answers-look : (s : Scripted) (lost : List Step → EventNo → ℕ) (acts : List Act) (ring : RingNo) (place : ℕ) (answers : List Answered) → AnswerOrder s lost acts answers
+    → AnswerOrder s lost (acts ++ act.Seen ring place ∷ []) answers
+unfolding AreReplies
+answers-look s lost acts ring place answers h = record {
+  lines = h.lines ∙ (sym (append-nil (lines_from [] acts)) ∙ sym (lines-push [] acts (act.Seen ring place)));
+  replies = subst (λ steps. AreReplies (hardware_of s) (opening_stage s) lost [] steps (map (λ x. x.reply) answers)) (sym (history-grows s acts (act.Seen ring place)))
+      (subst (AreReplies (hardware_of s) (opening_stage s) lost [] (history s acts ++ SeenStep ring place ∷ [])) (append-nil (map (λ x. x.reply) answers))
+      (replies-append (hardware_of s) (opening_stage s) lost [] (history s acts) (SeenStep ring place ∷ []) (map (λ x. x.reply) answers) [] h.replies tt));
 }
 
 pub no-answers : (s : Scripted) (lost : List Step → EventNo → ℕ) → AnswerOrder s lost [] []

@@ -1,9 +1,9 @@
 -- The first world of a script stands ready.
-use Rattle.std.specs.Prelude.{◌≡◌, ℕ, ◌<◌, List, [], length, map, replicate, Option, Some, None, slice_index, slice_index_or}
+use Rattle.std.specs.Prelude.{◌≡◌, ℕ, ◌<◌, List, [], ◌∷◌, length, map, replicate, Option, Some, None, slice_index, slice_index_or}
 use Rattle.std.proofs.Common.{arith, refl, sym, ap, subst, ◌∙◌, inl, inr}
 use Rattle.std.proofs.lemmas.Bool.{cases_lt, false≢true}
 use Rattle.std.proofs.lemmas.List.Elements.{All-nil}
-use Rattle.std.proofs.lemmas.List.{length-map, length-replicate, get_or-map, get_or_past}
+use Rattle.std.proofs.lemmas.List.{length-append, length-map, length-replicate, get_or-map, get_or_past}
 use Rattle.perf_base.specs.declared.numbers.CpuNo.{CpuNo}
 use Rattle.perf_base.specs.declared.numbers.TaskNo.{TaskNo}
 use Rattle.perf_base.specs.declared.standing.Context.{Context}
@@ -21,7 +21,9 @@ use Rattle.stage_laws.specs.Sound.{IsSound}
 use Rattle.stage_laws.proofs.ReachedSettled.{reached_settled}
 use Rattle.stage_laws.proofs.Sound.{first_sound}
 use Rattle.counter_match.specs.Seating.{Seated, empty_seating}
-use Rattle.ring_spec.specs.Running.{first_record, record_of}
+use Rattle.ring_spec.specs.Running.{empty_ring, first_record, record_of}
+use Rattle.sample_ring.specs.RingLists.{OutList}
+use Rattle.work_account.specs.Ends.{HaveAccounts}
 use Rattle.world_spec.specs.Agreement.{AgreesWith}
 use Rattle.world_spec.specs.First.{first_world}
 use Rattle.world_spec.specs.Rescheduled.{AreServed, IsRescheduled}
@@ -103,23 +105,25 @@ first-ready l hw declared h tasks =
       homes = λ k cpu live. absurd (false≢true (sym (none-live hw declared k) ∙ live));
     }
 
-pub first-whole : (l : Limits) (hw : Hardware) (declared : List TaskNo) → IsMachine l hw → AreTaskNumbers declared
-    → IsWhole (record { cpus = replicate 8 0; tools = replicate 4 0; world = first_world hw declared })
-first-whole l hw declared h tasks = record { cpus = refl; tools = refl; ready = first-ready l hw declared h tasks }
+pub first-whole : (l : Limits) (hw : Hardware) (declared : List TaskNo) → IsMachine l hw → (outs : OutList) → AreTaskNumbers declared
+    → IsWhole (record { cpus = replicate 8 0; tools = replicate 4 0; world = first_world hw declared; outs = outs })
+first-whole l hw declared h outs tasks = record { cpus = refl; tools = refl; ready = first-ready l hw declared h tasks }
 
 -- No act leads to a machine that has done nothing.
 none-done : (n i : ℕ) → ◌≡◌ {A = ℕ} (slice_index_or (replicate n 0) i 0) 0
 none-done n i = replicated {X = ℕ} n i 0
 
-pub first-led : (s : Scripted) → IsScript s → IsCovered s
-    → LeadTo s [] (record { cpus = replicate 8 0; tools = replicate 4 0; world = first_world (hardware_of s) s.tasks })
+pub first-led : (s : Scripted) (outs : OutList) → IsScript s → IsCovered s → HaveAccounts outs (map empty_ring s.rings)
+    → LeadTo s [] (record { cpus = replicate 8 0; tools = replicate 4 0; world = first_world (hardware_of s) s.tasks; outs = outs })
 unfolding record_of steps_from
-first-led s h covered =
+first-led s outs h covered ends =
     let machine : IsMachine (limits_of s) (hardware_of s) = script_machine s h covered in
     record {
       counted = record { cpus = λ cpu. omega arith; tools = λ tool. omega arith };
+      lawful = λ before after a e. absurd (omega (arith, ap length e, length-append before (a ∷ after)));
       cpus = λ cpu. none-done 8 cpu.0;
       tools = λ tool. none-done 4 tool.0;
       hardware = refl;
       agrees = subst (λ n. AgreesWith (first_world (hardware_of s) s.tasks) (first_record (first_stage n s.tasks) s.rings)) machine.cpus (first-agrees (hardware_of s) s.tasks s.rings);
+      ends = ends;
     }

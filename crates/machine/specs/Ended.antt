@@ -1,5 +1,5 @@
 -- What is left of a run. This project's own profile.
-use Rattle.std.specs.Prelude.{◌≡◌, ℕ, Bool, true, false, List, [], count_by, map, take, Option, Some, None, slice_get}
+use Rattle.std.specs.Prelude.{◌≡◌, ℕ, ◌*◌, Bool, true, false, All, List, [], count_by, length, map, take, Option, Some, None, slice_get}
 use Rattle.perf_base.specs.declared.acts.Act.{Act}
 use Rattle.perf_base.specs.declared.acts.Act.TheVariants as act
 use Rattle.perf_base.specs.declared.acts.Actor.{Actor}
@@ -7,17 +7,30 @@ use Rattle.perf_base.specs.declared.reply.Reply.{Reply}
 use Rattle.perf_base.specs.Scripts.{Scripted}
 use Rattle.stage_spec.specs.Order.{IsCounted}
 use Rattle.stage_spec.specs.Replies.{lines_from}
+use Rattle.sample_ring.specs.RingLists.{InList, HasReader}
+use Rattle.machine.specs.declared.ending.RingEnd.{RingEnd}
+use Rattle.machine.specs.Readers.{words_in}
 
--- its script, the order in which its lines were done, and the answers to them
+-- its script, the order in which its lines were done, the answers to them, what each ring came to, and the rings' readers
 pub record Ran : Type 0 where
   pub script : Scripted
   pub order : List Act
   pub answers : List (Actor × ℕ × Reply)
+  pub ends : List RingEnd
+  pub ins : InList
 
--- No actor did more lines than the script gives it, and each line that was done has its answer, in their order.
+-- The reader of a ring is there, and has taken all words up to the ring's head.
+pub record HasTakenAll (ins : InList) (e : RingEnd) : Type 0 where
+  pub there : HasReader ins e.ring
+  pub words : 8 * length (words_in ins e.ring) ≡ e.numbers.head
+
+-- No actor did more lines than the script gives it, each line that was done has its answer, in their order, and each ring of the script has its end, all of
+-- whose words were taken.
 pub record IsRan (r : Ran) : Type 0 where
   pub counted : IsCounted r.script r.order
   pub lines : map (λ a. (a.0, a.1)) r.answers ≡ lines_from [] r.order
+  pub rings : map (λ e. e.ring) r.ends ≡ map (λ s. s.0) r.script.rings
+  pub taken : All (HasTakenAll r.ins) r.ends
 
 -- whether an act does a line; a look at a ring does none
 abbrev pub does_line : Act → Bool

@@ -12,17 +12,20 @@ use Rattle.stage_spec.specs.Hardware.{hardware_of}
 use Rattle.stage_spec.specs.History.{steps_of, history, opening_stage}
 use Rattle.stage_spec.specs.Order.{IsCounted, done_by_cpu, done_by_tool}
 use Rattle.stage_spec.specs.Replies.{AreReplies}
-use Rattle.ring_spec.specs.Rings.{lost_count}
+use Rattle.ring_spec.specs.Rings.{IsLawfulOrder, lost_count}
 use Rattle.ring_spec.specs.Running.{Running, record_of}
+use Rattle.sample_ring.specs.RingLists.{OutList}
+use Rattle.work_account.specs.Ends.{HaveAccounts}
 use Rattle.world_spec.specs.Agreement.{AgreesWith}
 use Rattle.world_spec.specs.Value.{World}
 use Rattle.line_steps.specs.Stepped.{IsReady}
 
--- how many lines each processor and each tool has done, and the events with what they have counted
+-- how many lines each processor and each tool has done, the events with what they have counted, and the ends of the rings that send
 pub record Kept : Type 0 where
   pub cpus : List ℕ
   pub tools : List ℕ
   pub world : World
+  pub outs : OutList
 
 -- It has a count for each of eight processors and four tools, and its world is ready for a line.
 pub record IsWhole (m : Kept) : Type 0 where
@@ -34,14 +37,16 @@ pub record IsWhole (m : Kept) : Type 0 where
 abbrev pub record_in : Scripted → List Act → Running
 record_in s acts = record_of (hardware_of s) (opening_stage s) s.rings (history s acts)
 
--- These acts of a script lead to a machine: no actor did more lines than it has, the machine knows how many each did, and its world agrees with their
--- record.
+-- These acts of a script lead to a machine: no actor did more lines than it has and each look at a ring is lawful, the machine knows how many lines each
+-- did, its world agrees with their record, and its ends have the accounts of the record's rings.
 pub record LeadTo (s : Scripted) (acts : List Act) (m : Kept) : Type 0 where
   pub counted : IsCounted s acts
+  pub lawful : IsLawfulOrder s acts
   pub cpus : (cpu : CpuNo) → slice_index_or m.cpus cpu.0 0 ≡ done_by_cpu cpu acts
   pub tools : (tool : ToolNo) → slice_index_or m.tools tool.0 0 ≡ done_by_tool tool acts
   pub hardware : m.world.hardware ≡ hardware_of s
   pub agrees : AgreesWith m.world (record_in s acts)
+  pub ends : HaveAccounts m.outs (record_in s acts).rings
 
 -- the machine was made for this script: some of its acts lead there
 abbrev pub IsOf : Scripted → Kept → Type 0

@@ -1,4 +1,6 @@
 pub mod Codes
 pub mod Ended
 pub mod Leading
+pub mod Readers
 pub mod Room
+pub mod Stepping

@@ -1,20 +1,27 @@
 //! What is left of a run.
 
-ghost use Rattle.std.specs.Prelude.{◌≡◌, ◌<◌, ◌≤◌, [], count_by, length, map, take};
+ghost use Rattle.std.specs.Prelude.{◌≡◌, ◌<◌, ◌≤◌, [], All, count_by, length, map, take};
 ghost use Rattle.stage_spec.specs.Order.{IsCounted};
 ghost use Rattle.stage_spec.specs.Replies.{lines_from};
+ghost use Rattle.sample_ring.specs.RingLists.{HasReader};
 ghost use Rattle.machine.specs.Ended as spec;
+ghost use Rattle.machine.specs.Ended.{HasTakenAll, IsRan};
+ghost use Rattle.machine.specs.Readers.{words_in};
 
-use perf_base::{Act, Actor, Reply, Script, StoredReply};
+use crate::ending::RingEnd;
+use perf_base::{Act, Actor, Reply, RingNo, Script, StoredReply};
+use sample_ring::Ins;
 use std::marker::Model;
 
-/// A run that has ended: its script, the order in which its lines were done, and the answer to each line, with the actor whose line it is and the line's number
-/// among that actor's lines, from 0.
+/// A run that has ended: its script, the order in which its lines were done, the answer to each line, with the actor whose line it is and the line's number
+/// among that actor's lines, from 0, what each ring came to, and the rings' readers, which have taken all that was written.
 #[derive(Drop)]
 pub struct Ended {
     script: Script,
     order: Vec<Act>,
     answers: Vec<(Actor, u32, StoredReply)>,
+    ends: Vec<RingEnd>,
+    ins: Ins,
 }
 
 impl Model for Ended {
@@ -22,9 +29,9 @@ impl Model for Ended {
 
     ghost Value = { Ran };
 
-    ghost view = { λ e. record { script = e.script; order = e.order.items; answers = e.answers.items } };
+    ghost view = { λ e. record { script = e.script; order = e.order.items; answers = e.answers.items; ends = e.ends.items; ins = e.ins } };
 
-    ghost invariant = { λ e. IsRan (record { script = e.script; order = e.order.items; answers = e.answers.items }) };
+    ghost invariant = { λ e. IsRan (record { script = e.script; order = e.order.items; answers = e.answers.items; ends = e.ends.items; ins = e.ins }) };
 }
 
 /// Whether an act does a line.
@@ -44,15 +51,25 @@ fn lines_before(acts: &[Act], act: usize) -> usize
 
 impl Ended {
     /// A run of a script that has ended.
-    pub fn new(script: Script, order: Vec<Act>, answers: Vec<(Actor, u32, StoredReply)>) -> Ended
+    pub fn new(
+        script: Script,
+        order: Vec<Act>,
+        answers: Vec<(Actor, u32, StoredReply)>,
+        ends: Vec<RingEnd>,
+        ins: Ins,
+    ) -> Ended
         requires counted { IsCounted script order.items }
         requires lines { map (λ a. (a.0, a.1)) answers.items ≡ lines_from [] order.items }
-        ensures { result ≡ record { script = script; order = order.items; answers = answers.items } }
+        requires rings { map (λ e. e.ring) ends.items ≡ map (λ r. r.0) script.rings }
+        requires taken { All (HasTakenAll ins) ends.items }
+        ensures { result ≡ record { script = script; order = order.items; answers = answers.items; ends = ends.items; ins = ins } }
     {
         Ended {
             script,
             order,
             answers,
+            ends,
+            ins,
         }
     }
 
@@ -75,6 +92,22 @@ impl Ended {
         ensures { result.now ≡ self.now.answers }
     {
         self.answers.as_slice()
+    }
+
+    /// What the rings came to, by rising number.
+    pub fn ring_ends(&self) -> &[RingEnd]
+        ensures ends { result.now ≡ self.now.ends }
+        ensures sound { IsRan self.now }
+    {
+        self.ends.as_slice()
+    }
+
+    /// All words that were written on a ring whose reader is there.
+    pub fn words(&self, ring: RingNo) -> &[u64]
+        requires { HasReader self.now.ins ring }
+        ensures { result.now ≡ words_in self.now.ins ring }
+    {
+        self.ins.lent(ring).words()
     }
 
     /// The answer to the line of an act of the order, from 0. A look at a ring has none.

@@ -3,15 +3,27 @@
 ghost use Rattle.std.specs.Prelude.{◌≡◌, ◌<◌, length};
 ghost use Rattle.perf_base.specs.Scripts.{IsCpuLine};
 ghost use Rattle.stage_spec.specs.History.{CpuStep, ToolStep};
-ghost use Rattle.line_steps.specs.Stepped.{IsReady, IsDone, IsDoneUnlost};
+ghost use Rattle.perf_base.specs.declared.lines.CpuLine.TheVariants as cpu_line;
+ghost use Rattle.perf_base.specs.declared.lines.Work.{Work as Stretch};
+ghost use Rattle.line_steps.specs.Stepped.{IsReady, IsDone, IsDoneWith, seen_of};
+ghost use Rattle.work_account.specs.Ends.{AreTogether};
+ghost use Rattle.work_account.specs.Sampling.{HaveRings, HaveSpaceToSend, ends_of};
 ghost use Rattle.machine.specs.Room.{HasRoom, IsLineFor};
 
 use perf_base::{CpuLine, CpuNo, Reply, Steps, ToolLine};
 use perf_world::World;
+use sample_ring::{Outs, Rings};
 use std::sync::ledger::{Blank, Ledger};
 
-/// Does a given line of a processor, and every rescheduling that it makes necessary. No record of it may be lost; while no event has a ring there is none.
-pub fn cpu_line<L: Ledger>(world: &mut World, cpu: CpuNo, line: &CpuLine, blank: Blank) -> Reply
+/// Does a given line of a processor, with the records that it sends, and every rescheduling that it makes necessary.
+pub fn cpu_line<L: Ledger>(
+    world: &mut World,
+    cpu: CpuNo,
+    line: &CpuLine,
+    rings: &Rings,
+    outs: &mut Outs,
+    blank: Blank,
+) -> Reply
     requires name { blank.name ≡ L.name }
     requires parts { blank.parts ≡ L.parts }
     requires some { 0 < blank.parts }
@@ -19,14 +31,19 @@ pub fn cpu_line<L: Ledger>(world: &mut World, cpu: CpuNo, line: &CpuLine, blank:
     requires cpu { cpu.0 < length world.old.quiet.running }
     requires line { IsCpuLine (length world.old.hardware.kind_pmus) line.now }
     requires room { HasRoom world.old }
+    requires together { AreTogether rings.now outs.old }
+    requires rings { HaveRings world.old outs.old.numbers }
+    requires space { (work : Stretch) → line.now ≡ cpu_line.Work work → HaveSpaceToSend world.old (ends_of outs.old world.old) cpu work }
     ensures ready { IsReady world.new }
-    ensures done { IsDoneUnlost (CpuStep cpu line.now) world.old world.new result }
+    ensures done { IsDoneWith (CpuStep cpu line.now) world.old world.new outs.old outs.new result }
     ensures hardware { world.new.hardware ≡ world.old.hardware }
+    ensures together { AreTogether rings.now outs.new }
+    ensures seen { seen_of outs.new ≡ seen_of outs.old }
 {
     let mut tests = Steps::<L>::new(blank);
     match line {
         CpuLine::Switch(to) => line_steps::switch(world, cpu, *to, &mut tests),
-        CpuLine::Work(work) => line_steps::work(world, cpu, work),
+        CpuLine::Work(work) => line_steps::work(world, cpu, work, rings, outs),
         CpuLine::Tick => line_steps::tick(world, cpu, &mut tests),
         CpuLine::Fork(child) => line_steps::fork(world, cpu, *child),
         CpuLine::Exit => line_steps::exit(world, cpu, &mut tests),

@@ -5,8 +5,13 @@
 
 mod counters;
 mod ended;
+mod ending;
 mod given;
+mod looking;
 mod machine;
+mod stepping;
 
 pub use ended::Ended;
+pub use ending::RingEnd;
 pub use machine::Machine;
+pub use stepping::OrderFault;

@@ -1,15 +1,20 @@
 //! The machine and its one step.
 
-ghost use Rattle.std.specs.Prelude.{◌≡◌, ◌<◌, ◌↔◌, List, [], ◌∷◌, ◌++◌, IfOk, IsTrue};
+ghost use Rattle.std.specs.Prelude.{◌≡◌, ◌<◌, ◌≤◌, ◌↔◌, List, [], ◌∷◌, ◌++◌, IfOk, IsTrue, map};
 ghost use Rattle.perf_base.specs.declared.acts.Act.{Act};
 ghost use Rattle.perf_base.specs.declared.acts.Act.TheVariants as act;
 ghost use Rattle.perf_base.specs.Scripts.{IsCovered};
+ghost use Rattle.perf_base.specs.Weight.{weight};
+ghost use Rattle.ring_spec.specs.Running.{empty_ring};
+ghost use Rattle.line_steps.specs.Stepped.{seen_of};
+ghost use Rattle.work_account.specs.Ends.{AreTogether, HaveAccounts};
 ghost use Rattle.machine.specs.Leading.{HasLine, IsOf, IsReplyTo, LeadTo, act_of, done_by};
 
 use crate::counters::pmus_of;
 use crate::given::{cpu_line, tool_line};
 use perf_base::{Actor, CpuNo, NoMemory, Reply, Script, ToolNo};
 use perf_world::World;
+use sample_ring::{Outs, Rings};
 use std::alloc::Global;
 use std::marker::{Brand, Model};
 use std::sync::ledger::Blank;
@@ -17,9 +22,10 @@ use std::sync::ledger::Blank;
 /// A machine that has done some lines of a script. Between two lines every processor stands as rescheduling leaves it, seats included.
 #[derive(Drop)]
 pub struct Machine {
-    cpus: [u32; 8],
-    tools: [u32; 4],
-    world: World,
+    pub(crate) cpus: [u32; 8],
+    pub(crate) tools: [u32; 4],
+    pub(crate) world: World,
+    pub(crate) outs: Outs,
 }
 
 impl Model for Machine {
@@ -30,23 +36,25 @@ impl Model for Machine {
 
     ghost coded = { kept_code };
 
-    ghost view = { λ m. record { cpus = m.cpus; tools = m.tools; world = m.world } };
+    ghost view = { λ m. record { cpus = m.cpus; tools = m.tools; world = m.world; outs = m.outs } };
 
-    ghost invariant = { λ m. IsWhole (record { cpus = m.cpus; tools = m.tools; world = m.world }) };
+    ghost invariant = { λ m. IsWhole (record { cpus = m.cpus; tools = m.tools; world = m.world; outs = m.outs }) };
 }
 
 impl Machine {
-    /// A machine that has done no line of a script, each of whose processors is of a PMU, and which has no ring. It takes all memory that its lines need,
-    /// and fails only where there is not so much.
-    pub fn new(alloc: Global, script: &Script) -> Result<Machine, NoMemory>
+    /// A machine that has done no line of a script, each of whose processors is of a PMU, given the ends that send of the script's rings, which are new. It
+    /// takes all memory that its lines need, and fails only where there is not so much.
+    pub fn new(alloc: Global, script: &Script, outs: Outs) -> Result<Machine, NoMemory>
         requires covered { IsCovered script.now }
-        requires rings { script.now.rings ≡ [] }
-        ensures { IfOk result (λ m. LeadTo script.now [] m) }
+        requires ends { HaveAccounts outs (map empty_ring script.now.rings) }
+        ensures led { IfOk result (λ m. LeadTo script.now [] m) }
+        ensures outs { IfOk result (λ m. m.outs ≡ outs) }
     {
         Ok(Machine {
             cpus: [0; 8],
             tools: [0; 4],
             world: World::new(alloc, pmus_of(script), script.tasks())?,
+            outs,
         })
     }
 
@@ -79,13 +87,16 @@ impl Machine {
     }
 
     /// Does the next line of a processor.
-    fn next_cpu_line(&mut self, script: &Script, cpu: CpuNo) -> Reply
+    fn next_cpu_line(&mut self, script: &Script, rings: &Rings, cpu: CpuNo) -> Reply
         requires covered { IsCovered script.now }
-        requires rings { script.now.rings ≡ [] }
+        requires light { weight script.now ≤ 65536 }
+        requires together { AreTogether rings.now self.old.outs }
         requires script { IsOf script.now self.old }
         requires line { HasLine script.now self.old (Actor.Processor cpu) }
         ensures reply { (acts : List Act) → LeadTo script.now acts self.old → IsReplyTo script.now acts (act.Processor cpu) result }
         ensures done { (acts : List Act) → LeadTo script.now acts self.old → LeadTo script.now (acts ++ act.Processor cpu ∷ []) self.new }
+        ensures together { AreTogether rings.now self.new.outs }
+        ensures seen { seen_of self.new.outs ≡ seen_of self.old.outs }
     {
         // Readers tell what always holds of a script and of a world.
         let _cpus = script.cpus();
@@ -93,17 +104,24 @@ impl Machine {
         let done = self.cpus[cpu.0 as usize];
         let line = &script.cpu_lines(cpu)[done as usize];
         self.cpus[cpu.0 as usize] = done + 1;
-        cpu_line::<Brand>(&mut self.world, cpu, line, Blank::new(1))
+        cpu_line::<Brand>(
+            &mut self.world,
+            cpu,
+            line,
+            rings,
+            &mut self.outs,
+            Blank::new(1),
+        )
     }
 
     /// Does the next line of a tool.
     fn next_tool_line(&mut self, script: &Script, tool: ToolNo) -> Reply
         requires covered { IsCovered script.now }
-        requires rings { script.now.rings ≡ [] }
         requires script { IsOf script.now self.old }
         requires line { HasLine script.now self.old (Actor.Tool tool) }
         ensures reply { (acts : List Act) → LeadTo script.now acts self.old → IsReplyTo script.now acts (act.Tool tool) result }
         ensures done { (acts : List Act) → LeadTo script.now acts self.old → LeadTo script.now (acts ++ act.Tool tool ∷ []) self.new }
+        ensures outs { self.new.outs ≡ self.old.outs }
     {
         // Readers tell what always holds of a script and of a world.
         let _cpus = script.cpus();
@@ -114,18 +132,22 @@ impl Machine {
         tool_line::<Brand>(&mut self.world, line, Blank::new(1))
     }
 
-    /// Does the actor's next line, then every rescheduling that it makes necessary, and answers it. The script is the one that the machine was made for.
-    pub fn line(&mut self, script: &Script, actor: Actor) -> Reply
+    /// Does the actor's next line, with the records that it sends, then every rescheduling that it makes necessary, and answers it. The script is the one that
+    /// the machine was made for, of a weight of at most 65,536, and the rings are those of its ends. No tail is loaded.
+    pub fn line(&mut self, script: &Script, rings: &Rings, actor: Actor) -> Reply
         requires covered { IsCovered script.now }
-        requires rings { script.now.rings ≡ [] }
+        requires light { weight script.now ≤ 65536 }
+        requires together { AreTogether rings.now self.old.outs }
         requires script { IsOf script.now self.old }
         requires line { HasLine script.now self.old actor }
         // After any acts that lead here, the answer is the reply to the act that does this line, and with that act they lead to the machine then.
         ensures reply { (acts : List Act) → LeadTo script.now acts self.old → IsReplyTo script.now acts (act_of actor) result }
         ensures done { (acts : List Act) → LeadTo script.now acts self.old → LeadTo script.now (acts ++ act_of actor ∷ []) self.new }
+        ensures together { AreTogether rings.now self.new.outs }
+        ensures seen { seen_of self.new.outs ≡ seen_of self.old.outs }
     {
         match actor {
-            Actor::Processor(cpu) => self.next_cpu_line(script, cpu),
+            Actor::Processor(cpu) => self.next_cpu_line(script, rings, cpu),
             Actor::Tool(tool) => self.next_tool_line(script, tool),
             Actor::Reader(_) => unreachable!(),
         }

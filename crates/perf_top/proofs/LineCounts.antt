@@ -9,7 +9,7 @@ length-put true b ps some = omega arith
 length-put false b [] some = absurd (omega (arith, some))
 length-put false b (p ∷ ps) some = omega arith
 
-length-pieces : (c : ℕ) (bytes : List ℕ) → length (pieces c bytes) ≡ count_by (λ b. b == c) bytes + 1
+pub length-pieces : (c : ℕ) (bytes : List ℕ) → length (pieces c bytes) ≡ count_by (λ b. b == c) bytes + 1
 unfolding pieces
 length-pieces c [] = refl
 length-pieces c (b ∷ bytes) =

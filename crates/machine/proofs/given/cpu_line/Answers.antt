@@ -1,10 +1,10 @@
-use Rattle.std.proofs.Common.{length, sym, subst}
+use Rattle.std.proofs.Common.{length, refl, sym, subst}
 use Rattle.perf_base.specs.Scripts.{IsCpuLine}
 use Rattle.perf_base.specs.declared.lines.CpuLine.TheVariants as line
 use Rattle.stage_spec.specs.History.{CpuStep}
-use Rattle.line_steps.specs.Stepped.{IsDoneUnlost}
+use Rattle.line_steps.specs.Stepped.{IsDoneWith}
 use Rattle.machine.proofs.Lines.{work-room}
-use Rattle.machine.proofs.Stepped.{unlost}
+use Rattle.machine.proofs.Stepped.{cpu-sends}
 use Rattle.machine.proofs.given.cpu_line.Goals as goal
 
 pub work-requires-clause-room : goal.work-requires-clause-room
@@ -12,11 +12,29 @@ work-requires-clause-room g c =
     work-room c.args.world.now (length c.args.world.now.hardware.kind_pmus) c.in-Work.work c.requires.room
     (subst (IsCpuLine (length c.args.world.now.hardware.kind_pmus)) c.in-Work.is c.requires.line)
 
+pub work-requires-clause-space : goal.work-requires-clause-space
+work-requires-clause-space g c = c.requires.space c.in-Work.work c.in-Work.is
+
+pub returns-in-Switch-clause-done : goal.returns-in-Switch-clause-done
+returns-in-Switch-clause-done g c =
+    subst (λ l. IsDoneWith (CpuStep c.args.cpu l) c.args.world.now c.switch.new.world c.args.outs.now c.args.outs.now c.switch.result) (sym c.in-Switch.is)
+    (cpu-sends c.args.world.now c.switch.new.world c.args.cpu (line.Switch c.in-Switch.to) c.args.outs.now c.switch.result (λ r. refl) c.switch.ensures.done)
+
 pub returns-in-Work-clause-done : goal.returns-in-Work-clause-done
 returns-in-Work-clause-done g c =
-    subst (λ l. IsDoneUnlost (CpuStep c.args.cpu l) c.args.world.now c.work.new.world c.work.result) (sym c.in-Work.is) c.work.ensures.done
+    subst (λ l. IsDoneWith (CpuStep c.args.cpu l) c.args.world.now c.work.new.world c.args.outs.now c.work.new.outs c.work.result) (sym c.in-Work.is) c.work.ensures.done
 
 pub returns-in-Tick-clause-done : goal.returns-in-Tick-clause-done
 returns-in-Tick-clause-done g c =
-    subst (λ l. IsDoneUnlost (CpuStep c.args.cpu l) c.args.world.now c.tick.new.world c.tick.result) (sym c.in-Tick.is)
-    (unlost (CpuStep c.args.cpu line.Tick) c.args.world.now c.tick.new.world c.tick.result c.tick.ensures.done)
+    subst (λ l. IsDoneWith (CpuStep c.args.cpu l) c.args.world.now c.tick.new.world c.args.outs.now c.args.outs.now c.tick.result) (sym c.in-Tick.is)
+    (cpu-sends c.args.world.now c.tick.new.world c.args.cpu line.Tick c.args.outs.now c.tick.result (λ r. refl) c.tick.ensures.done)
+
+pub returns-in-Fork-clause-done : goal.returns-in-Fork-clause-done
+returns-in-Fork-clause-done g c =
+    subst (λ l. IsDoneWith (CpuStep c.args.cpu l) c.args.world.now c.fork.new.world c.args.outs.now c.args.outs.now c.fork.result) (sym c.in-Fork.is)
+    (cpu-sends c.args.world.now c.fork.new.world c.args.cpu (line.Fork c.in-Fork.child) c.args.outs.now c.fork.result (λ r. refl) c.fork.ensures.done)
+
+pub returns-clause-done : goal.returns-clause-done
+returns-clause-done g c =
+    subst (λ l. IsDoneWith (CpuStep c.args.cpu l) c.args.world.now c.exit.new.world c.args.outs.now c.args.outs.now c.exit.result) (sym c.in-Exit.is)
+    (cpu-sends c.args.world.now c.exit.new.world c.args.cpu line.Exit c.args.outs.now c.exit.result (λ r. refl) c.exit.ensures.done)

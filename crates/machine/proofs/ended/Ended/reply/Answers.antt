@@ -6,7 +6,7 @@ use Rattle.machine.proofs.ended.Ended.reply.Goals as goal
 
 pub index-requires-2 : goal.index-requires-2
 index-requires-2 c =
-    let r : Ran = record { script = c.self.inside.script; order = c.self.inside.order.items; answers = c.self.inside.answers.items } in
+    let r : Ran = record { script = c.self.inside.script; order = c.self.inside.order.items; answers = c.self.inside.answers.items; ends = c.self.inside.ends.items; ins = c.self.inside.ins } in
     let low : c.args.act < length r.order = omega (arith, c.requires, ap (λ q. length q.order) c.self.view_is) in
     let does : does_line (get_or r.order c.args.act c.index.result.now) ≡ true = ap does_line (sym c.index.ensures) ∙ (sym c.does_line.ensures ∙ c.if-not-does_line.false) in
     omega (
@@ -18,7 +18,7 @@ index-requires-2 c =
 
 pub returns : goal.returns
 returns c =
-    let r : Ran = record { script = c.self.inside.script; order = c.self.inside.order.items; answers = c.self.inside.answers.items } in
+    let r : Ran = record { script = c.self.inside.script; order = c.self.inside.order.items; answers = c.self.inside.answers.items; ends = c.self.inside.ends.items; ins = c.self.inside.ins } in
     let low : c.args.act < length r.order = omega (arith, c.requires, ap (λ q. length q.order) c.self.view_is) in
     let does : does_line (get_or r.order c.args.act c.index.result.now) ≡ true = ap does_line (sym c.index.ensures) ∙ (sym c.does_line.ensures ∙ c.if-not-does_line.false) in
     let place : c.lines_before.result ≡ count_by does_line (take c.args.act r.order) = c.lines_before.ensures ∙ ap (λ acts. count_by does_line (take c.args.act acts)) c.deref.ensures.value in

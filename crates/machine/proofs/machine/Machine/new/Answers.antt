@@ -12,12 +12,12 @@ pub invariant_of-result : goal.invariant_of-result
 invariant_of-result c =
     let same : c.in_ok-new.field-0 ≡ first_world (hardware_of c.args.script.now) c.args.script.now.tasks =
     c.in_ok-new.ensures.world ∙ (ap (λ hw. first_world hw c.tasks.result.now) c.pmus_of.ensures ∙ ap (first_world (hardware_of c.args.script.now)) c.tasks.ensures.tasks) in
-    subst (λ w. IsWhole (record { cpus = replicate 8 0; tools = replicate 4 0; world = w })) (sym same)
-    (first-whole (limits_of c.args.script.now) (hardware_of c.args.script.now) c.args.script.now.tasks (script_machine c.args.script.now c.tasks.ensures.sound c.requires.covered) c.tasks.ensures.sound.tasks)
+    subst (λ w. IsWhole (record { cpus = replicate 8 0; tools = replicate 4 0; world = w; outs = c.args.outs })) (sym same)
+    (first-whole (limits_of c.args.script.now) (hardware_of c.args.script.now) c.args.script.now.tasks (script_machine c.args.script.now c.tasks.ensures.sound c.requires.covered) c.args.outs c.tasks.ensures.sound.tasks)
 
-pub returns : goal.returns
-returns c =
+pub returns-clause-led : goal.returns-clause-led
+returns-clause-led c =
     let same : c.in_ok-new.field-0 ≡ first_world (hardware_of c.args.script.now) c.args.script.now.tasks =
     c.in_ok-new.ensures.world ∙ (ap (λ hw. first_world hw c.tasks.result.now) c.pmus_of.ensures ∙ ap (first_world (hardware_of c.args.script.now)) c.tasks.ensures.tasks) in
-    subst (λ w. LeadTo c.args.script.now [] (record { cpus = replicate 8 0; tools = replicate 4 0; world = w })) (sym same)
-    (first-led c.args.script.now c.tasks.ensures.sound c.requires.covered)
+    subst (λ w. LeadTo c.args.script.now [] (record { cpus = replicate 8 0; tools = replicate 4 0; world = w; outs = c.args.outs })) (sym same)
+    (first-led c.args.script.now c.args.outs c.tasks.ensures.sound c.requires.covered c.requires.ends)

@@ -1,0 +1,23 @@
+use Rattle.std.proofs.Common.{sym, subst, ◌∙◌}
+use Rattle.ring_spec.specs.Rings.{account_in, bytes_of}
+use Rattle.ring_spec.proofs.Running.{in_account}
+use Rattle.sample_ring.specs.RingLists.{HasRing}
+use Rattle.work_laws.specs.Shown.{ShowsAccount}
+use Rattle.work_laws.proofs.Shown.{shown}
+use Rattle.machine.specs.Leading.{Kept, LeadTo}
+use Rattle.machine.proofs.Seen.{end-account}
+use Rattle.machine.proofs.machine.Machine.ring_end.Goals as goal
+
+pub returns-clause-shown : goal.returns-clause-shown
+returns-clause-shown c = λ s acts led.
+    let m : Kept = record { cpus = c.self.inside.cpus; tools = c.self.inside.tools; world = c.self.inside.world; outs = c.self.inside.outs } in
+    let there : HasRing m.outs.numbers c.args.ring = subst (λ k. HasRing k.outs.numbers c.args.ring) (sym c.self.view_is) c.requires in
+    let shows : ShowsAccount c.lent.result.now (account_in s acts (c.args.ring, bytes_of s c.args.ring)) =
+    shown c.args.ring c.lent.result.now (in_account (account_in s acts) (c.args.ring, bytes_of s c.args.ring))
+    (end-account s acts m c.args.ring c.lent.result.now (subst (LeadTo s acts) (sym c.self.view_is) led) there c.lent.ensures) in
+    record {
+      head = c.numbers.ensures.head ∙ sym shows.head;
+      tail = c.numbers.ensures.tail ∙ sym shows.tail;
+      lost = c.numbers.ensures.lost ∙ sym shows.lost;
+      pending = c.numbers.ensures.pending ∙ sym shows.pending;
+    }

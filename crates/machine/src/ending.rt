@@ -1,0 +1,69 @@
+//! What the rings came to, and what is left on them.
+
+ghost use Rattle.std.specs.Prelude.{◌≡◌, ◌*◌, ◌≤◌, List};
+ghost use Rattle.perf_base.specs.declared.acts.Act.{Act};
+ghost use Rattle.perf_base.specs.Scripts.{IsCovered, Scripted};
+ghost use Rattle.perf_base.specs.Weight.{weight};
+ghost use Rattle.ring_spec.specs.Rings.{account_in, bytes_of};
+ghost use Rattle.sample_ring.specs.RingLists as lists;
+ghost use Rattle.work_account.specs.Ends.{AreTogether};
+ghost use Rattle.machine.specs.Leading.{IsOf, LeadTo};
+ghost use Rattle.machine.specs.Readers.{AreFollowing, AreTrailing, HasTaken, HaveTaken, IsShown};
+
+use crate::machine::Machine;
+use perf_base::{RingNo, Script};
+use ring_taking::take_all;
+use sample_ring::{Ins, RingNumbers, Rings};
+
+/// What a ring came to: which it is, and where its head and the last tail seen are, in bytes from the start of the stream, how many of its records were
+/// lost in all, and how many of them no LOST record has told.
+#[derive(Clone, Copy, PartialEq, Eq, Debug)]
+pub struct RingEnd {
+    pub ring: RingNo,
+    pub numbers: RingNumbers,
+}
+
+impl Machine {
+    /// What a ring of the machine's has come to.
+    pub fn ring_end(&self, ring: RingNo) -> RingEnd
+        requires { lists.HasRing self.now.outs.numbers ring }
+        ensures ring { result.ring ≡ ring }
+        ensures shown { (s : Scripted) (acts : List Act) → LeadTo s acts self.now → IsShown result.numbers (account_in s acts (ring, bytes_of s ring)) }
+    {
+        RingEnd {
+            ring,
+            numbers: self.outs.lent(ring).numbers(),
+        }
+    }
+
+    /// The reader of a ring takes all that is left there, and releases none of it. What was seen of the ring stays.
+    fn take_ring(&mut self, rings: &Rings, ins: &mut Ins, ring: RingNo)
+        requires ring { lists.HasRing self.old.outs.numbers ring }
+        requires together { AreTogether rings.now self.old.outs }
+        requires trailing { AreTrailing self.old.outs ins.old }
+        ensures led { (s : Scripted) (acts : List Act) → LeadTo s acts self.old → LeadTo s acts self.new }
+        ensures taken { (s : Scripted) (acts : List Act) → LeadTo s acts self.old → HasTaken s acts ins.new ring }
+        ensures others { (s : Scripted) (acts : List Act) (other : RingNo) → LeadTo s acts self.old → HasTaken s acts ins.old other → HasTaken s acts ins.new other }
+        ensures together { AreTogether rings.now self.new.outs }
+        ensures trailing { AreTrailing self.new.outs ins.new }
+    {
+        take_all(rings.table(ring), self.outs.out(ring), ins.reader(ring));
+    }
+
+    /// The reader of each ring takes all that is left there, and releases none of it. What was seen of the rings stays. It takes no memory.
+    pub fn take_rest(&mut self, script: &Script, rings: &Rings, ins: &mut Ins)
+        requires covered { IsCovered script.now }
+        requires script { IsOf script.now self.old }
+        requires together { AreTogether rings.now self.old.outs }
+        requires following { AreFollowing (9 * weight script.now) self.old.outs ins.old }
+        ensures led { (acts : List Act) → LeadTo script.now acts self.old → LeadTo script.now acts self.new }
+        ensures taken { (acts : List Act) → LeadTo script.now acts self.old → HaveTaken script.now acts ins.new }
+        ensures together { AreTogether rings.now self.new.outs }
+        // Each reader has released what stands before the last tail seen, and no more.
+        ensures trailing { AreTrailing self.new.outs ins.new }
+    {
+        for (ring, _) in script.rings() {
+            self.take_ring(rings, ins, *ring);
+        }
+    }
+}

@@ -1,0 +1,157 @@
+//! The acts of a replay.
+
+ghost use Rattle.std.specs.Prelude.{◌≡◌, ℕ, ◌*◌, ◌≤◌, ◌↔◌, List, [], ◌∷◌, ◌++◌, Err, IfOk, OnErr, OnOk, slice_get, Some};
+ghost use Rattle.perf_base.specs.declared.acts.Act.{Act as ActNo};
+ghost use Rattle.perf_base.specs.declared.numbers.RingNo.{RingNo as Ring};
+ghost use Rattle.perf_base.specs.Scripts.{IsCovered, HasRing};
+ghost use Rattle.perf_base.specs.Weight.{weight};
+ghost use Rattle.ring_words.specs.Ends.{IsStop, place_of as head_place};
+ghost use Rattle.work_account.specs.Ends.{AreTogether};
+ghost use Rattle.machine.specs.Leading.{HasLine, IsOf, IsReplyTo, LeadTo, act_of};
+ghost use Rattle.machine.specs.Readers.{AreFollowing};
+ghost use Rattle.machine.specs.Stepping.{HasNoLine, IsAnswerTo, IsUnlawful, NamesRing};
+
+use crate::machine::Machine;
+use perf_base::{Act, Actor, Reply, RingNo, Script};
+use ring_taking::take_to;
+use sample_ring::{Ins, Out, Outs, Rings};
+
+/// Why an act can't be done.
+#[derive(Clone, Copy, PartialEq, Eq, Debug)]
+pub enum OrderFault {
+    /// Its processor or tool has no line left.
+    NoLine,
+    /// The tail of a ring can't have been seen at the place given: it is below the last place seen, above the head or not the end of a record. Places are in
+    /// bytes from the start of the stream.
+    BadSeen {
+        ring: RingNo,
+        last: u64,
+        head: u64,
+        given: u64,
+    },
+}
+
+/// Whether the tail of a ring may be seen at a place: not below the last one seen, and where a record ends.
+fn check_seen(out: &Out, ring: RingNo, given: u64) -> Result<(), OrderFault>
+    ensures accepted { OnOk result ((out.now.producer.last_tail ≤ given) × IsStop out.now.producer.published given) }
+    ensures refused { OnErr result (result ≡ Err (OrderFault.BadSeen ring out.now.producer.last_tail (head_place out.now.producer) given)) }
+    ensures unlawful { OnErr result ((out.now.producer.last_tail ≤ given) × IsStop out.now.producer.published given → ⊥) }
+{
+    let numbers = out.numbers();
+    if numbers.tail <= given && out.ends_record(given) {
+        return Ok(());
+    }
+    Err(OrderFault::BadSeen {
+        ring,
+        last: numbers.tail,
+        head: numbers.head,
+        given,
+    })
+}
+
+impl Machine {
+    /// Does the next line of an actor, if it has one.
+    fn line_if(
+        &mut self,
+        script: &Script,
+        rings: &Rings,
+        ins: &Ins,
+        actor: Actor,
+    ) -> Result<Reply, OrderFault>
+        requires covered { IsCovered script.now }
+        requires light { weight script.now ≤ 65536 }
+        requires script { IsOf script.now self.old }
+        requires together { AreTogether rings.now self.old.outs }
+        requires following { AreFollowing (9 * weight script.now) self.old.outs ins.now }
+        ensures no_line { result ≡ Err OrderFault.NoLine ↔ (HasLine script.now self.old actor → ⊥) }
+        ensures refused { OnErr result (result ≡ Err OrderFault.NoLine) }
+        ensures same { OnErr result (self.new ≡ self.old) }
+        ensures reply { IfOk result (λ reply. (acts : List ActNo) → LeadTo script.now acts self.old → IsReplyTo script.now acts (act_of actor) reply) }
+        ensures done { OnOk result ((acts : List ActNo) → LeadTo script.now acts self.old → LeadTo script.now (acts ++ act_of actor ∷ []) self.new) }
+        ensures together { AreTogether rings.now self.new.outs }
+        ensures following { AreFollowing (9 * weight script.now) self.new.outs ins.now }
+    {
+        if !self.has_line(script, actor) {
+            return Err(OrderFault::NoLine);
+        }
+        Ok(self.line(script, rings, actor))
+    }
+
+    /// Sees the tail of a ring at a place, if that is lawful: its reader takes what stands before it.
+    fn seen(
+        &mut self,
+        script: &Script,
+        rings: &Rings,
+        ins: &mut Ins,
+        ring: RingNo,
+        place: u64,
+    ) -> Result<(), OrderFault>
+        requires covered { IsCovered script.now }
+        requires light { weight script.now ≤ 65536 }
+        requires script { IsOf script.now self.old }
+        requires together { AreTogether rings.now self.old.outs }
+        requires following { AreFollowing (9 * weight script.now) self.old.outs ins.old }
+        requires ring { HasRing script.now.rings ring }
+        ensures unlawful { (other : Ring) (last head given : ℕ) → result ≡ Err (OrderFault.BadSeen other last head given) → (other ≡ ring) × (given ≡ place)
+            × ((acts : List ActNo) → LeadTo script.now acts self.old → IsUnlawful script.now acts ring last head given) }
+        ensures line { result ≡ Err OrderFault.NoLine → ⊥ }
+        ensures same { OnErr result ((self.new ≡ self.old) × (ins.new ≡ ins.old)) }
+        ensures done { OnOk result ((acts : List ActNo) → LeadTo script.now acts self.old → LeadTo script.now (acts ++ Act.Seen ring place ∷ []) self.new) }
+        ensures together { AreTogether rings.now self.new.outs }
+        ensures following { AreFollowing (9 * weight script.now) self.new.outs ins.new }
+    {
+        // Readers tell what always holds of a script and of a world.
+        let _cpus = script.cpus();
+        let _pmus = self.world.pmus();
+        match check_seen(self.outs.lent(ring), ring, place) {
+            Err(fault) => Err(fault),
+            Ok(()) => {
+                take_to(
+                    rings.table(ring),
+                    self.outs.out(ring),
+                    ins.reader(ring),
+                    place,
+                );
+                Ok(())
+            }
+        }
+    }
+
+    /// Does one act of a replay. A processor or a tool does its next line, which is answered. A look at a ring, which is one of the script's, is answered with Ok
+    /// where the tail may be seen at its place: then the ring's reader takes the records before that place, and the place is the last tail seen. Each
+    /// reader has room for 9 words for each unit of the script's weight. It takes no memory.
+    ///
+    /// It fails with `NoLine` exactly where the actor has no line left, and with `BadSeen` exactly where the place is below the last one seen, above
+    /// the head or not the end of a record; then nothing changes.
+    pub fn step(
+        &mut self,
+        script: &Script,
+        rings: &Rings,
+        ins: &mut Ins,
+        act: Act,
+    ) -> Result<Reply, OrderFault>
+        requires covered { IsCovered script.now }
+        requires light { weight script.now ≤ 65536 }
+        requires script { IsOf script.now self.old }
+        requires together { AreTogether rings.now self.old.outs }
+        requires following { AreFollowing (9 * weight script.now) self.old.outs ins.old }
+        requires ring { NamesRing script.now act }
+        ensures no_line { result ≡ Err OrderFault.NoLine ↔ HasNoLine script.now self.old act }
+        ensures unlawful { (ring : Ring) (last head given : ℕ) → result ≡ Err (OrderFault.BadSeen ring last head given) → (act ≡ Act.Seen ring given)
+            × ((acts : List ActNo) → LeadTo script.now acts self.old → IsUnlawful script.now acts ring last head given) }
+        ensures same { OnErr result ((self.new ≡ self.old) × (ins.new ≡ ins.old)) }
+        ensures reply { IfOk result (λ reply. (acts : List ActNo) → LeadTo script.now acts self.old → IsAnswerTo script.now acts act reply) }
+        ensures done { OnOk result ((acts : List ActNo) → LeadTo script.now acts self.old → LeadTo script.now (acts ++ act ∷ []) self.new) }
+        ensures together { AreTogether rings.now self.new.outs }
+        ensures following { AreFollowing (9 * weight script.now) self.new.outs ins.new }
+    {
+        match act {
+            Act::Processor(cpu) => self.line_if(script, rings, ins, Actor::Processor(cpu)),
+            Act::Tool(tool) => self.line_if(script, rings, ins, Actor::Tool(tool)),
+            Act::Seen(ring, place) => {
+                self.seen(script, rings, ins, ring, place)?;
+                Ok(Reply::Ok)
+            }
+        }
+    }
+}
