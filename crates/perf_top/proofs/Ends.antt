@@ -2,8 +2,8 @@
 use Rattle.std.proofs.Common.{◌≡◌, ℕ, Result, Ok, Err, IfOk, ap}
 use Rattle.perf_base.specs.declared.reasons.SReason.{SReason}
 use Rattle.perf_base.specs.declared.reasons.SReason.TheVariants as s_reason
-use Rattle.perf_top.specs.declared.run.RunStop.{RunStop}
-use Rattle.perf_top.specs.declared.run.RunStop.TheVariants as stop
+use Rattle.perf_top.specs.declared.stop.RunStop.{RunStop}
+use Rattle.perf_top.specs.declared.stop.RunStop.TheVariants as stop
 
 line_in : RunStop → ℕ
 line_in (stop.Bad line reason) = line

@@ -4,4 +4,6 @@ pub mod Ends
 pub mod Filling
 pub mod LineCounts
 pub mod Lines
+pub mod OrderLength
 pub mod Rooms
+pub mod Told

@@ -1,6 +1,6 @@
 mod Stops
 pub mod Attributes
+pub mod Keeping
 pub mod Notes
 pub mod Outcome
-pub mod Served
 pub mod Rooms

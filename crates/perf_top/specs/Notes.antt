@@ -14,7 +14,6 @@ number_of status.ReadFault = 2
 number_of status.WriteFault = 3
 number_of status.NoMemory = 4
 number_of status.Usage = 5
-number_of status.Unbuilt = 6
 
 -- the two halves of the note of an order that can't be
 abbrev pub act_note : ℕ → ℕ → ℕ → List ℕ
@@ -33,4 +32,3 @@ note_of status.ReadFault = codes "perf_run: read fault\n"
 note_of status.WriteFault = codes "perf_run: write fault\n"
 note_of status.NoMemory = codes "perf_run: no memory\n"
 note_of status.Usage = codes "perf_run: usage: run, replay, make N, make N script\n"
-note_of status.Unbuilt = codes "perf_run: not built\n"

@@ -1,7 +1,12 @@
 -- What a call of the program reads, does and leaves. This project's own profile.
-use Rattle.std.specs.Prelude.{◌≡◌, ℕ, ◌≤◌, ◌⊎◌, List, [], ◌∷◌, length, map, Option, Result, codes}
+use Rattle.std.specs.Prelude.{◌≡◌, ℕ, ◌≤◌, ◌⊎◌, List, [], ◌∷◌, length, map, take, Option, Some, Result, codes, slice_get}
+use Rattle.perf_base.specs.declared.acts.Act.TheVariants as act
+use Rattle.perf_base.specs.declared.numbers.RingNo.{RingNo}
 use Rattle.perf_base.specs.Scripts.{Scripted}
-use Rattle.stage_spec.specs.Order.{IsComplete}
+use Rattle.ring_spec.specs.Account.{head_of}
+use Rattle.ring_spec.specs.Rings.{IsLawfulOrder, account_in, bytes_of, sizes_in}
+use Rattle.sample_ring.specs.declared.sent.RingNumbers.{RingNumbers}
+use Rattle.stage_spec.specs.Order.{IsComplete, IsLawfulSeen, last_seen}
 use Rattle.stage_spec.specs.Replies.{Answered}
 use Rattle.perf_base.specs.declared.reasons.SReason.{SReason}
 use Rattle.perf_base.specs.declared.reasons.SReason.TheVariants as s_reason
@@ -9,10 +14,11 @@ use Rattle.script_spec.specs.Lines.{lines_of}
 use Rattle.script_spec.specs.Texts.{StandsFor, IsRefused}
 use Rattle.perf_top.specs.Attributes.{IsAttr, IsLineOf}
 use Rattle.machine.specs.Ended.{Ran}
+use Rattle.machine.specs.Readers.{words_in}
 use Rattle.report.specs.Said.{answered}
+use Rattle.report.specs.Told.{told_report}
 use Rattle.report_spec.specs.Answers.{IsAnswered}
 use Rattle.report_spec.specs.Report.{report, rings_after}
-use Rattle.perf_top.specs.Served.{IsServed}
 use Rattle.perf_io.specs.Outside.{Takes, IsAtEnd}
 use Rattle.perf_io.specs.Wrote.{Wrote}
 use Rattle.perf_io.specs.declared.outside.Failed.{Failed}
@@ -37,17 +43,36 @@ pub record IsReported (script : Scripted) (out : List ℕ) : Type 0 where
   pub answered : IsAnswered script script.order answers
   pub is : out ≡ report script script.order answers (rings_after script script.order)
 
--- the report of a run that has ended, of a script without rings
-abbrev pub report_by : Ran → List ℕ
-report_by r = report r.script r.order (map answered r.answers) []
+-- the rings of a run that has ended: which they are, their numbers, and the words that were written on them
+abbrev pub rings_of : Ran → List (RingNo × RingNumbers × List ℕ)
+rings_of r = map (λ e. (e.ring, e.numbers, words_in r.ins e.ring)) r.ends
 
--- The text stands for a script that is served, the script's order is complete, and these bytes are its report.
+-- the report of a run that has ended
+abbrev pub report_by : Ran → List ℕ
+report_by r = told_report r.script r.order (map answered r.answers) (rings_of r)
+
+-- The text stands for a script whose order is complete, and these bytes are its report.
 pub record IsRun (text out : List ℕ) : Type 0 where
   pub script : Scripted
   pub stands : StandsFor text script
   pub complete : IsComplete script script.order
-  pub served : IsServed script
   pub reported : IsReported script out
+
+-- The act of this number, from 0, is the first look of a script's own order that is not lawful: the acts before it leave the ring's tail seen last at `last`, and its
+-- head at `head`, and there it can't be seen at the place given.
+pub record HasBadLook (s : Scripted) (index : ℕ) (ring : RingNo) (last head given : ℕ) : Type 0 where
+  pub look : slice_get s.order index ≡ Some (act.Seen ring given)
+  pub before : IsLawfulOrder s (take index s.order)
+  pub seen_last : last ≡ last_seen ring (take index s.order)
+  pub headed : head ≡ head_of (account_in s (take index s.order) (ring, bytes_of s ring))
+  pub unlawful : IsLawfulSeen (sizes_in s (take index s.order) ring) last given → ⊥
+
+-- The text stands for a script whose order is complete and has such a look.
+pub record IsBadOrder (text : List ℕ) (index : ℕ) (ring : RingNo) (last head given : ℕ) : Type 0 where
+  pub script : Scripted
+  pub stands : StandsFor text script
+  pub complete : IsComplete script script.order
+  pub bad : HasBadLook script index ring last head given
 
 -- The text stands for a script whose order is not complete. The line is that of its `end`.
 pub record HasOpenOrder (text : List ℕ) (line : ℕ) (reason : SReason) : Type 0 where
@@ -60,13 +85,6 @@ pub record HasOpenOrder (text : List ℕ) (line : ℕ) (reason : SReason) : Type
 -- The text is no script, by its first faulty line, or one whose order is not complete.
 abbrev pub IsBadScript : List ℕ → ℕ → SReason → Type 0
 IsBadScript text line reason = IsRefused text line reason ⊎ HasOpenOrder text line reason
-
--- The text stands for a script with a complete order that is not served yet.
-pub record IsUnserved (text : List ℕ) : Type 0 where
-  pub script : Scripted
-  pub stands : StandsFor text script
-  pub complete : IsComplete script script.order
-  pub unserved : IsServed script → ⊥
 
 -- What the words have written: under `replay` the report of the text that the source gave, to its end, and under `attr` the line
 -- of the bytes that the second word spells, for which no source is read.

@@ -8,15 +8,15 @@ ghost use Rattle.perf_io.specs.Outside.{Adds, Rose};
 ghost use Rattle.perf_io.specs.Wrote.{WroteFront};
 ghost use Rattle.perf_top.specs.Attributes.{IsAttr};
 ghost use Rattle.perf_top.specs.Notes.{note_of};
-ghost use Rattle.perf_top.specs.Outcome.{AreKnown, IsReplay, IsOutput, Noted, Gave, ReadNoneOrAll, IsBadScript, IsUnserved};
+ghost use Rattle.perf_top.specs.Outcome.{AreKnown, IsReplay, IsOutput, Noted, Gave, ReadNoneOrAll, IsBadOrder, IsBadScript};
 
 mod attr;
 mod line;
 mod notes;
 mod replay;
 mod run;
-mod served;
 mod status;
+mod stop;
 #[cfg(test)]
 mod tests;
 mod text;
@@ -80,12 +80,12 @@ pub fn perf_main<S: Source, K: Sink, N: Sink>(
     ensures unread { (IsReplay (map string_bytes words.now) → ⊥) → source.new ≡ source.old }
     // Under `attr` all is written or the sink failed: memory never runs out there.
     ensures attr { (bytes : List ℕ) → IsAttr (map string_bytes words.now) bytes → (result ≡ Status.Done) ⊎ (result ≡ Status.WriteFault) }
-    ensures order { (index : ℕ) → (ring : RingNo) → (last : ℕ) → (head : ℕ) → (given : ℕ) → result ≡ Status.BadOrder index ring last head given → ⊥ }
+    ensures bad_order { (index : ℕ) → (ring : RingNo) → (last : ℕ) → (head : ℕ) → (given : ℕ) → result ≡ Status.BadOrder index ring last head given →
+        (text : List ℕ) × Gave (S.left source.old) (S.left source.new) text × IsBadOrder text index ring last head given }
     ensures read_fault { result ≡ Status.ReadFault → Rose S.last_fault (S.faults source.old) (S.faults source.new) }
     ensures too_long { result ≡ Status.TooLong → IfSome (S.left source.old) (λ bytes. 4194304 < length bytes) }
     ensures bad_script { (line : ℕ) → (reason : SReason) → result ≡ Status.BadScript line reason →
         (text : List ℕ) × Gave (S.left source.old) (S.left source.new) text × IsBadScript text line reason }
-    ensures unbuilt { result ≡ Status.Unbuilt → (text : List ℕ) × Gave (S.left source.old) (S.left source.new) text × IsUnserved text }
     ensures done { result ≡ Status.Done → (out : List ℕ) × IsOutput (map string_bytes words.now) (S.left source.old) (S.left source.new) out
         × Adds (K.held sink.old) (K.held sink.new) out × IfSome (K.held sink.new) (λ bytes. K.flushed sink.new ≡ length bytes) × (notes.new ≡ notes.old) }
     ensures write_fault { result ≡ Status.WriteFault → (out : List ℕ) × IsOutput (map string_bytes words.now) (S.left source.old) (S.left source.new) out

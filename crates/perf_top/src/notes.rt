@@ -130,6 +130,5 @@ pub fn put_note<N: Sink>(notes: &mut N, status: &Status) -> Result<(), Failed>
             notes,
             b"perf_run: usage: run, replay, make N, make N script\n",
         ),
-        Status::Unbuilt => write_all(notes, b"perf_run: not built\n"),
     }
 }

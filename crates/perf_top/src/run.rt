@@ -2,46 +2,46 @@
 
 ghost use Rattle.std.specs.Prelude.{◌≡◌, ℕ, ◌≤◌, ◌<◌, ◌⊎◌, ◌==◌, List, length, count_by, IfOk, IfErr, IfSome, Err};
 ghost use Rattle.perf_io.specs.Outside.{Adds, Rose};
-ghost use Rattle.perf_io.specs.Wrote.{WroteFront};
-ghost use Rattle.perf_top.specs.Stops.{status_of};
+ghost use Rattle.perf_base.specs.Weight.{weight};
+ghost use Rattle.perf_io.specs.Wrote.{Wrote, WroteFront};
+ghost use Rattle.report.specs.Told.{all_told};
 ghost use Rattle.perf_base.specs.Scripts.{IsCovered};
 ghost use Rattle.script_spec.specs.Lines.{lines_of};
 ghost use Rattle.script_spec.specs.Texts.{StandsFor};
-ghost use Rattle.perf_top.specs.Outcome.{Gave, ReadNoneOrAll, IsRun, IsBadScript, HasOpenOrder, IsUnserved, report_by};
+ghost use Rattle.perf_top.specs.Outcome.{Gave, ReadNoneOrAll, IsRun, IsBadScript, HasOpenOrder, IsBadOrder, report_by, rings_of};
 
+use crate::replay;
 use crate::status::Status;
+use crate::stop::{BadLook, RunStop};
 use crate::text::{self, TextStop};
-use crate::{replay, served};
 use buffered_sink::{Written, write_buffered};
 use machine::Ended;
 use perf_base::{RingNo, SReason, Script};
 use perf_io::{Failed, Sink, Source};
-use report::write_report;
+use report::{write_answers, write_end, write_order, write_ring};
 use script_read::{ScriptFault, order_complete, read_script};
 use std::alloc::Global;
 
-/// Why there is no report.
-#[derive(Clone, Copy, PartialEq, Eq, Debug)]
-enum RunStop {
-    NoMemory,
-    ReadFault,
-    TooLong,
-    Bad(u32, SReason),
-    Unbuilt,
+/// Writes what the rings of a run came to.
+fn put_rings<K: Sink>(sink: &mut K, ended: &Ended) -> Result<(), Failed>
+    ensures wrote { Wrote K.held K.faults K.last_fault sink.old sink.new result (all_told (rings_of ended.now)) }
+    ensures flushed { K.flushed sink.new ≡ K.flushed sink.old }
+{
+    for end in ended.ring_ends() {
+        write_ring(sink, end.ring, &end.numbers, ended.words(end.ring))?;
+    }
+    Ok(())
 }
 
-impl RunStop {
-    fn status(self) -> Status
-        ensures { result ≡ status_of self }
-    {
-        match self {
-            RunStop::NoMemory => Status::NoMemory,
-            RunStop::ReadFault => Status::ReadFault,
-            RunStop::TooLong => Status::TooLong,
-            RunStop::Bad(line, reason) => Status::BadScript { line, reason },
-            RunStop::Unbuilt => Status::Unbuilt,
-        }
-    }
+/// Writes the report of a run.
+fn put_report<K: Sink>(sink: &mut K, ended: &Ended) -> Result<(), Failed>
+    ensures wrote { Wrote K.held K.faults K.last_fault sink.old sink.new result (report_by ended.now) }
+    ensures flushed { K.flushed sink.new ≡ K.flushed sink.old }
+{
+    write_order(sink, ended.order())?;
+    write_answers(sink, ended.script(), ended.answers())?;
+    put_rings(sink, ended)?;
+    write_end(sink)
 }
 
 /// The report of a run that has ended.
@@ -56,8 +56,7 @@ impl Written for Report<'_> {
     ghost text = { λ r. report_by r.ended.now };
 
     fn write_to<K: Sink>(&self, sink: &mut K) -> Result<(), Failed> {
-        let ended = self.ended;
-        write_report(sink, ended.script(), ended.order(), ended.answers())
+        put_report(sink, self.ended)
     }
 }
 
@@ -81,22 +80,17 @@ fn run_of_script(alloc: Global, text: &[u8], script: Script) -> Result<Ended, Ru
     requires short { length text.now ≤ 4194304 }
     requires stands { StandsFor text.now script }
     requires covered { IsCovered script }
+    requires light { weight script ≤ 65536 }
     ensures ok { IfOk result (λ e. IsRun text.now (report_by e)) }
     ensures bad { (line : ℕ) → (reason : SReason) → result ≡ Err (RunStop.Bad line reason) → HasOpenOrder text.now line reason }
-    ensures unbuilt { result ≡ Err RunStop.Unbuilt → IsUnserved text.now }
+    ensures order { (b : BadLook) → result ≡ Err (RunStop.BadOrder b) → IsBadOrder text.now b.index b.ring b.last b.head b.given }
     ensures fault { result ≡ Err RunStop.ReadFault → ⊥ }
     ensures long { result ≡ Err RunStop.TooLong → ⊥ }
 {
     if !order_complete(&script) {
         return Err(RunStop::Bad(last_line(text), SReason::Order));
     }
-    if !served::is_served(&script) {
-        return Err(RunStop::Unbuilt);
-    }
-    match replay::replay(alloc, script) {
-        Err(_) => Err(RunStop::NoMemory),
-        Ok(ended) => Ok(ended),
-    }
+    replay::replay(alloc, script)
 }
 
 /// What is left of the script that a text stands for.
@@ -104,7 +98,7 @@ fn run_of(alloc: Global, text: &[u8]) -> Result<Ended, RunStop>
     requires short { length text.now ≤ 4194304 }
     ensures ok { IfOk result (λ e. IsRun text.now (report_by e)) }
     ensures bad { (line : ℕ) → (reason : SReason) → result ≡ Err (RunStop.Bad line reason) → IsBadScript text.now line reason }
-    ensures unbuilt { result ≡ Err RunStop.Unbuilt → IsUnserved text.now }
+    ensures order { (b : BadLook) → result ≡ Err (RunStop.BadOrder b) → IsBadOrder text.now b.index b.ring b.last b.head b.given }
     ensures fault { result ≡ Err RunStop.ReadFault → ⊥ }
     ensures long { result ≡ Err RunStop.TooLong → ⊥ }
 {
@@ -121,7 +115,8 @@ fn prepare<S: Source>(alloc: Global, source: &mut S) -> Result<Ended, RunStop>
     ensures ok { IfOk result (λ e. (bytes : List ℕ) × Gave (S.left source.old) (S.left source.new) bytes × IsRun bytes (report_by e)) }
     ensures bad { (line : ℕ) → (reason : SReason) → result ≡ Err (RunStop.Bad line reason) →
         (bytes : List ℕ) × Gave (S.left source.old) (S.left source.new) bytes × IsBadScript bytes line reason }
-    ensures unbuilt { result ≡ Err RunStop.Unbuilt → (bytes : List ℕ) × Gave (S.left source.old) (S.left source.new) bytes × IsUnserved bytes }
+    ensures order { (b : BadLook) → result ≡ Err (RunStop.BadOrder b) →
+        (bytes : List ℕ) × Gave (S.left source.old) (S.left source.new) bytes × IsBadOrder bytes b.index b.ring b.last b.head b.given }
     ensures no_memory { result ≡ Err RunStop.NoMemory → ReadNoneOrAll S.left source.old source.new }
     ensures fault { result ≡ Err RunStop.ReadFault → Rose S.last_fault (S.faults source.old) (S.faults source.new) }
     ensures long { result ≡ Err RunStop.TooLong → IfSome (S.left source.old) (λ bytes. 4194304 < length bytes) }
@@ -154,12 +149,12 @@ pub fn send<K: Sink, W: Written>(sink: &mut K, text: &W) -> Status
 pub fn replay_all<S: Source, K: Sink>(alloc: Global, source: &mut S, sink: &mut K) -> Status
     ensures counts { (S.faults source.old ≤ S.faults source.new) × (K.faults sink.old ≤ K.faults sink.new) }
     ensures usage { result ≡ Status.Usage → ⊥ }
-    ensures order { (index : ℕ) → (ring : RingNo) → (last : ℕ) → (head : ℕ) → (given : ℕ) → result ≡ Status.BadOrder index ring last head given → ⊥ }
+    ensures order { (index : ℕ) → (ring : RingNo) → (last : ℕ) → (head : ℕ) → (given : ℕ) → result ≡ Status.BadOrder index ring last head given →
+        (text : List ℕ) × Gave (S.left source.old) (S.left source.new) text × IsBadOrder text index ring last head given }
     ensures read_fault { result ≡ Status.ReadFault → Rose S.last_fault (S.faults source.old) (S.faults source.new) }
     ensures too_long { result ≡ Status.TooLong → IfSome (S.left source.old) (λ bytes. 4194304 < length bytes) }
     ensures bad_script { (line : ℕ) → (reason : SReason) → result ≡ Status.BadScript line reason →
         (text : List ℕ) × Gave (S.left source.old) (S.left source.new) text × IsBadScript text line reason }
-    ensures unbuilt { result ≡ Status.Unbuilt → (text : List ℕ) × Gave (S.left source.old) (S.left source.new) text × IsUnserved text }
     ensures done { result ≡ Status.Done → (text : List ℕ) × (out : List ℕ) × Gave (S.left source.old) (S.left source.new) text × IsRun text out
         × Adds (K.held sink.old) (K.held sink.new) out × IfSome (K.held sink.new) (λ bytes. K.flushed sink.new ≡ length bytes) }
     ensures write_fault { result ≡ Status.WriteFault → (text : List ℕ) × (out : List ℕ) × Gave (S.left source.old) (S.left source.new) text × IsRun text out

@@ -33,8 +33,6 @@ pub enum Status {
     NoMemory,
     /// The words are none that the program knows.
     Usage,
-    /// The text is a script with a complete order that the program does not do yet.
-    Unbuilt,
 }
 
 impl Status {
@@ -51,7 +49,6 @@ impl Status {
             Status::WriteFault => 3,
             Status::NoMemory => 4,
             Status::Usage => 5,
-            Status::Unbuilt => 6,
         }
     }
 }

@@ -1,7 +1,7 @@
 //! What no clause says: that each call answers with ample memory, and which answer comes at a fault.
 
 use crate::{Status, perf_main};
-use perf_base::SReason;
+use perf_base::{RingNo, SReason};
 use perf_io::{MemSink, MemSource, Source};
 use std::test::Fail;
 
@@ -14,7 +14,22 @@ const REPORT: &str = "order t0 p0 t0\nt0.1 read 500 100 100\nend\n";
 const OPEN_ORDER: &str =
     "perf 1\nmachine cpus=1 counters=1\nprocessor 0\nwork 1 user\norder\nend\n";
 
-const WITH_RING: &str = "perf 1\nmachine cpus=1 counters=1\nring 0 bytes=64\nend\n";
+/// A ring of 64 bytes that takes three records and loses one; a look at its first record; a record lost, a look at all, and two records more.
+const WITH_RING: &str =
+    "perf 1\nmachine cpus=1 counters=1\nkind a mask=1\nring 0 bytes=64\nprocessor 0\nwork 1 user ip=5 a=4\n\
+    work 1 user ip=5 a=1\nwork 1 user ip=5 a=1\ntool 0\nopen 0 kind=a task=all cpu=0 period=1 sample=1\n\
+    map 0 0\norder t0 t0 p0 s0=16 p0 s0=48 p0\nend\n";
+
+const RING_REPORT: &str =
+    "order t0 t0 p0 s0=16 p0 s0=48 p0\nring 0 head=88 tail=48 lost=2 pending=0\n\
+    taken 0010000200000009 0000000000000005\ntaken 0010000200000009 0000000000000005\n\
+    taken 0010000200000009 0000000000000005\nleft 0018000000000002 0000000000000001 0000000000000002\n\
+    left 0010000200000009 0000000000000005\nend\n";
+
+/// The same up to a look within a record.
+const BAD_LOOK: &str =
+    "perf 1\nmachine cpus=1 counters=1\nkind a mask=1\nring 0 bytes=64\nprocessor 0\nwork 1 user ip=5 a=4\n\
+    tool 0\nopen 0 kind=a task=all cpu=0 period=1 sample=1\nmap 0 0\norder t0 t0 p0 s0=8\nend\n";
 
 /// A switch, two events of one counter, and a fork, an exit and a close of what the task has.
 const WITH_TASK: &str =
@@ -48,7 +63,7 @@ type Row = (
     &'static str,
 );
 
-const ROWS: [Row; 15] = [
+const ROWS: [Row; 16] = [
     ("replay", SCRIPT, 9, [CALM, CALM], Status::Done, REPORT, ""),
     ("replay", SCRIPT, 1, [CALM, CALM], Status::Done, REPORT, ""),
     (
@@ -146,9 +161,24 @@ const ROWS: [Row; 15] = [
         WITH_RING,
         9,
         [CALM, CALM],
-        Status::Unbuilt,
+        Status::Done,
+        RING_REPORT,
         "",
-        "perf_run: not built\n",
+    ),
+    (
+        "replay",
+        BAD_LOOK,
+        9,
+        [CALM, CALM],
+        Status::BadOrder {
+            index: 3,
+            ring: RingNo(0),
+            last: 0,
+            head: 48,
+            given: 8,
+        },
+        "",
+        "perf_run: act 3: ring 0 last 0 head 48 given 8\n",
     ),
     (
         "replay",

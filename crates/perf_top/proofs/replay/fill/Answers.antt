@@ -1,37 +1,38 @@
-use Rattle.std.proofs.Common.{◌∙◌, ap, subst, sym, refl}
-use Rattle.std.specs.Prelude.{◌+◌, [], map, take}
+use Rattle.std.specs.Prelude.{◌≡◌, ℕ, ◌*◌, [], Err, List, Result, map}
+use Rattle.std.proofs.Common.{ap, refl, subst, sym, arith}
+use Rattle.perf_base.specs.declared.acts.Act.{Act}
 use Rattle.stage_spec.specs.Replies.{AnswerOrder}
 use Rattle.report.specs.Said.{answered}
 use Rattle.report_spec.specs.Answers.{lost_in}
+use Rattle.machine.specs.declared.stepping.OrderFault.{OrderFault}
 use Rattle.machine.proofs.Answers.{no-answers}
-use Rattle.perf_top.proofs.Lines.{all-answered, more-answers, step-ready, took-step}
+use Rattle.perf_top.specs.declared.stop.BadLook.{BadLook}
+use Rattle.perf_top.specs.Outcome.{HasBadLook}
+use Rattle.perf_top.proofs.Lines.{bad-look-at, has-line-at}
 use Rattle.perf_top.proofs.replay.fill.Goals as goal
 
-pub loop-act-init : goal.loop-act-init
-loop-act-init c = record {
+pub loop-index-init : goal.loop-index-init
+loop-index-init c = record {
   led = c.requires.led;
   answers = subst (λ items. AnswerOrder c.args.script.now (lost_in c.args.script.now) [] (map answered items)) (sym c.requires.none) (no-answers c.args.script.now (lost_in c.args.script.now));
-  filled = c.requires.empty;
+  together = c.requires.together;
+  following = c.requires.following;
+  filled = omega (arith, c.requires.empty);
   room = refl;
 }
 
-pub answer-requires-clause-line : goal.answer-requires-clause-line
-answer-requires-clause-line c =
-    step-ready c.args.script.now c.order-order.result.now c.loop-act.machine c.loop-act.act-index _ c.actor_of-actor.result c.order-order.ensures.sound c.requires.rings c.requires.complete
-    c.order-order.ensures.order c.loop-act-test.true c.actor_of-actor.ensures c.loop-act.invariant.led
+pub bad_look-requires-clause-line : goal.bad_look-requires-clause-line
+bad_look-requires-clause-line c = λ is.
+    has-line-at c.args.script.now c.order-order.result.now c.loop-index.machine c.loop-index.index _ c.order-order.ensures.order c.loop-index-test.true c.loop-index.invariant.led
+    c.requires.complete (c.in-Err.ensures.no_line (ap Err is))
 
-pub loop-act-preserved : goal.loop-act-preserved
-loop-act-preserved c = record {
-  led = took-step c.args.script.now c.order-order.result.now c.answer.new.machine c.loop-act.act-index _ c.actor_of-actor.result c.loop-act-test.true c.actor_of-actor.ensures
-      (c.answer.ensures.done _ c.loop-act.invariant.led);
-  answers = subst (λ items. AnswerOrder c.args.script.now (lost_in c.args.script.now) (take (c.loop-act.act-index + 1) c.order-order.result.now) (map answered items)) (sym c.push_reserved.ensures.items)
-      (more-answers c.args.script.now c.order-order.result.now c.loop-act.act-index _ c.actor_of-actor.result c.loop-act.answers.items c.answer.result c.loop-act-test.true c.actor_of-actor.ensures
-      c.loop-act.invariant.answers (c.answer.ensures.line _ c.loop-act.invariant.led) (c.answer.ensures.reply _ c.loop-act.invariant.led));
-  filled = c.push_reserved.ensures.len ∙ ap (λ n. n + 1) c.loop-act.invariant.filled;
-  room = c.push_reserved.ensures.capacity ∙ c.loop-act.invariant.room;
-}
-
-pub returns : goal.returns
-returns c =
-    all-answered c.args.script.now c.order-order.result.now c.loop-act.machine c.loop-act.act-index c.loop-act.answers.items c.order-order.ensures.sound c.requires.rings c.order-order.ensures.order
-    c.loop-act-test.false c.loop-act.invariant.led c.loop-act.invariant.answers
+pub returns-in-Err-clause-bad : goal.returns-in-Err-clause-bad
+returns-in-Err-clause-bad c = λ b is.
+    let r : BadLook = c.bad_look.result in
+    let u = c.in-Err.ensures.unlawful r.ring r.last r.head r.given (ap Err c.bad_look.ensures.fault) in
+    let bad : HasBadLook c.args.script.now c.loop-index.index r.ring r.last r.head r.given =
+    bad-look-at c.args.script.now c.order-order.result.now c.loop-index.machine c.loop-index.index _ r.ring r.last r.head r.given c.order-order.ensures.order c.loop-index-test.true
+    c.loop-index.invariant.led u.0 u.1 in
+    let same : r ≡ b = cc in
+    subst (λ (x : BadLook). HasBadLook c.args.script.now x.index x.ring x.last x.head x.given) same
+    (subst (λ n. HasBadLook c.args.script.now n r.ring r.last r.head r.given) (sym c.bad_look.ensures.index) bad)
