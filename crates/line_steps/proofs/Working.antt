@@ -35,7 +35,7 @@ use Rattle.work_account.specs.Ends.{Ends, HaveAccounts, send_all, send_next, sen
 use Rattle.work_account.specs.Sampling.{AreLeft, ends_of, sent_by}
 use Rattle.step_laws.specs.Stepping.{HasStepped, HasItsShare}
 use Rattle.step_laws.proofs.Stepping.{stepped-losing, instance-found}
-use Rattle.line_steps.specs.Stepped.{limits_in, IsReady, IsDoneWith, seen_of}
+use Rattle.line_steps.specs.Stepped.{IsReady, IsDoneWith, seen_of}
 use Rattle.world_spec.specs.Agreement.{AgreesWith}
 use Rattle.line_steps.proofs.Asking.{settled-below}
 

@@ -1,5 +1,6 @@
 mod Words
 pub mod Commands
+pub mod Conserved
 pub mod Ends
 pub mod Filling
 pub mod LineCounts

@@ -1,5 +1,5 @@
 -- What the rings of a replay came to is what the definitions say.
-use Rattle.std.specs.Prelude.{◌≡◌, ℕ, zero, suc, ◌+◌, ◌*◌, ◌<◌, ◌==◌, true, false, All, AllPairs, List, [], ◌∷◌, find, length, map, Some}
+use Rattle.std.specs.Prelude.{◌≡◌, ℕ, zero, suc, ◌*◌, ◌<◌, ◌==◌, false, All, AllPairs, List, [], ◌∷◌, find, length, map, Some}
 use Rattle.std.proofs.Common.{arith, refl, sym, ap, subst, ◌∙◌, get_or}
 use Rattle.std.proofs.lemmas.Bool.Decides.{nat_tests}
 use Rattle.std.proofs.lemmas.List.Elements.{All-cons, All-head, All-nil, All-tail}
@@ -8,7 +8,6 @@ use Rattle.perf_base.specs.declared.numbers.RingNo.{RingNo}
 use Rattle.perf_base.specs.Scripts.{Scripted, IsScript}
 use Rattle.stage_spec.specs.Hardware.{hardware_of}
 use Rattle.stage_spec.specs.History.{history, opening_stage}
-use Rattle.stage_spec.specs.Replies.{Answered}
 use Rattle.stage_laws.proofs.Leaders.{find-first, find-later}
 use Rattle.ring_spec.specs.Account.{Account, head_of}
 use Rattle.ring_spec.specs.Records.{words_of}

@@ -1,10 +1,14 @@
 -- What a call of the program reads, does and leaves. This project's own profile.
-use Rattle.std.specs.Prelude.{◌≡◌, ℕ, ◌≤◌, ◌⊎◌, List, [], ◌∷◌, length, map, take, Option, Some, Result, codes, slice_get}
+use Rattle.std.specs.Prelude.{◌≡◌, ℕ, ◌+◌, ◌≤◌, ◌⊎◌, All, List, [], ◌∷◌, count_by, length, map, sum_by, take, Option, Some, Result, codes, slice_get}
+use Rattle.perf_base.specs.declared.acts.Act.{Act}
 use Rattle.perf_base.specs.declared.acts.Act.TheVariants as act
 use Rattle.perf_base.specs.declared.numbers.RingNo.{RingNo}
 use Rattle.perf_base.specs.Scripts.{Scripted}
-use Rattle.ring_spec.specs.Account.{head_of}
-use Rattle.ring_spec.specs.Rings.{IsLawfulOrder, account_in, bytes_of, sizes_in}
+use Rattle.ring_spec.specs.Account.{head_of, is_sample, losses_in}
+use Rattle.ring_spec.specs.Rings.{IsLawfulOrder, account_in, bytes_of, is_to, sizes_in}
+use Rattle.ring_spec.specs.Sending.{sent_by_steps}
+use Rattle.stage_spec.specs.Hardware.{hardware_of}
+use Rattle.stage_spec.specs.History.{history, opening_stage}
 use Rattle.sample_ring.specs.declared.sent.RingNumbers.{RingNumbers}
 use Rattle.stage_spec.specs.Order.{IsComplete, IsLawfulSeen, last_seen}
 use Rattle.stage_spec.specs.Replies.{Answered}
@@ -37,10 +41,18 @@ pub record Gave (before after : Option (List ℕ)) (text : List ℕ) : Type 0 wh
   pub taken : Takes before after text
   pub ended : IsAtEnd after
 
--- These bytes are the report of a script's own order, with answers to it.
+-- Over an order of a script the records that are sent to a ring are the samples written on it and those that it lost, and those lost are told by LOST records or
+-- pending.
+pub record IsConserved (s : Scripted) (order : List Act) (ring : RingNo × ℕ) : Type 0 where
+  pub sent : count_by (is_to ring.0) (sent_by_steps (hardware_of s) (opening_stage s) (history s order))
+      ≡ count_by is_sample (account_in s order ring).written + length (account_in s order ring).lost
+  pub told : length (account_in s order ring).lost ≡ sum_by losses_in (account_in s order ring).written + (account_in s order ring).pending
+
+-- These bytes are the report of a script's own order, with answers to it, and on each ring of it records are conserved.
 pub record IsReported (script : Scripted) (out : List ℕ) : Type 0 where
   pub answers : List Answered
   pub answered : IsAnswered script script.order answers
+  pub conserved : All (IsConserved script script.order) script.rings
   pub is : out ≡ report script script.order answers (rings_after script script.order)
 
 -- the rings of a run that has ended: which they are, their numbers, and the words that were written on them

@@ -1,4 +1,4 @@
-use Rattle.line_steps.proofs.Working.{Sending, work-done, work-seen, work-ready}
+use Rattle.line_steps.proofs.Working.{work-done, work-seen, work-ready}
 use Rattle.line_steps.proofs.processors.work.Goals as goal
 
 pub work_sampled-requires-clause-judged : goal.work_sampled-requires-clause-judged

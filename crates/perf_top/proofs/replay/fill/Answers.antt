@@ -1,10 +1,8 @@
-use Rattle.std.specs.Prelude.{◌≡◌, ℕ, ◌*◌, [], Err, List, Result, map}
+use Rattle.std.specs.Prelude.{◌≡◌, [], Err, map}
 use Rattle.std.proofs.Common.{ap, refl, subst, sym, arith}
-use Rattle.perf_base.specs.declared.acts.Act.{Act}
 use Rattle.stage_spec.specs.Replies.{AnswerOrder}
 use Rattle.report.specs.Said.{answered}
 use Rattle.report_spec.specs.Answers.{lost_in}
-use Rattle.machine.specs.declared.stepping.OrderFault.{OrderFault}
 use Rattle.machine.proofs.Answers.{no-answers}
 use Rattle.perf_top.specs.declared.stop.BadLook.{BadLook}
 use Rattle.perf_top.specs.Outcome.{HasBadLook}

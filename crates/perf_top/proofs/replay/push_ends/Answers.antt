@@ -1,4 +1,4 @@
-use Rattle.std.specs.Prelude.{◌≡◌, ℕ, List}
+use Rattle.std.specs.Prelude.{ℕ, List}
 use Rattle.std.proofs.Common.{get_or, refl, subst}
 use Rattle.std.proofs.lemmas.List.{get_or_default}
 use Rattle.perf_base.specs.declared.numbers.RingNo.{RingNo}

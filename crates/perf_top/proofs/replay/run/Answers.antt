@@ -8,6 +8,7 @@ use Rattle.report.specs.Said.{answered}
 use Rattle.report.proofs.Told.{told_whole}
 use Rattle.report_spec.specs.Report.{rings_after}
 use Rattle.perf_top.specs.Outcome.{IsReported, report_by, rings_of}
+use Rattle.perf_top.proofs.Conserved.{all-conserved}
 use Rattle.perf_top.proofs.Told.{all-taken, are-told}
 use Rattle.perf_top.proofs.replay.run.Goals as goal
 
@@ -36,6 +37,7 @@ returns-clause-reported c =
     subst (λ (e : Ran). IsReported c.args.script (report_by e)) (sym c.new.ensures) (record {
       answers = map answered c.fill.new.answers.items;
       answered = c.in_default.ensures.answered;
+      conserved = all-conserved c.args.script c.args.script.order;
       is = ap (λ order. report_by (record r { order = order })) c.requires.order
           ∙ told_whole c.args.script c.args.script.order (map answered c.fill.new.answers.items) (rings_of r) (rings_after c.args.script c.args.script.order) told;
     })

@@ -1,4 +1,4 @@
-use Rattle.std.specs.Prelude.{ℕ, List, [], ◌∷◌, ◌++◌, codes, map}
+use Rattle.std.specs.Prelude.{[], ◌∷◌, ◌++◌, codes, map}
 use Rattle.std.proofs.Common.{ap}
 use Rattle.perf_io.proofs.Wrote.{wrote_exit, wrote_text, wrote_then}
 use Rattle.script_spec.specs.Acts.{acts_text}
