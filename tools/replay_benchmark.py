@@ -73,6 +73,20 @@ def copies(tasks):
     return script_of(head, {0: lines}, opens + reads, ["t0"] * len(opens) + ["p0"] * len(lines) + ["t0"] * len(reads))
 
 
+def sampling():
+    """Four processors with a ring and an event each; each stretch of work sends a record, and before each eighth the ring's tail is seen at its head."""
+    head = "perf 1\nmachine cpus=4 counters=2\nkind cycles mask=3\n" + "".join(f"ring {cpu} bytes=4096\n" for cpu in range(4))
+    tool = [line for cpu in range(4) for line in (f"open {cpu} kind=cycles task=all cpu={cpu} period=1000 sample=7", f"map {cpu} {cpu}")]
+    each = LINES // 4
+    cpus, order = {cpu: ["work 100 user ip=401000 cycles=1000"] * each for cpu in range(4)}, ["t0"] * len(tool)
+    for i in range(each):
+        for cpu in range(4):
+            if i % 8 == 0:
+                order.append(f"s{cpu}={32 * i}")
+            order.append(f"p{cpu}")
+    return script_of(head, cpus, tool, order)
+
+
 def stored(name):
     """A worked case, and its order."""
     path = os.path.join(os.path.dirname(os.path.abspath(__file__)), "..", "crates", "perf_rows", "data", name + ".script")
@@ -102,11 +116,11 @@ def best(program, text, status):
 
 
 def main(program):
-    table = (("1 processor, 3 events", small()), ("8 processors, 200 events", large()), ("2,000 copies", copies(31)), ("4,000 copies", copies(62)), ("copies-full", stored("rows/copies-full")))
+    table = (("1 processor, 3 events", small()), ("8 processors, 200 events", large()), ("2,000 copies", copies(31)), ("4,000 copies", copies(62)), ("copies-full", stored("rows/copies-full")), ("16,000 records", sampling()))
     for name, (text, order) in table:
         read, _ = best(program, text + in_lines(order[:-1]) + "end\n", 1)
         whole, peak = best(program, text + in_lines(order) + "end\n", 0)
-        print(f"{name}: {len(order)} lines; reading {1000 * read:.1f} ms, replay {1000 * whole:.1f} ms, {whole / read:.1f} times; {peak / 2**20:.1f} MiB; the best of {RUNS}")
+        print(f"{name}: {len(order)} acts; reading {1000 * read:.1f} ms, replay {1000 * whole:.1f} ms, {whole / read:.1f} times; {peak / 2**20:.1f} MiB; the best of {RUNS}")
 
 
 if len(sys.argv) != 2:
