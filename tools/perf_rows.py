@@ -8,11 +8,8 @@ Usage: perf_rows.py
            perf_run; then as above
        perf_rows.py folder NAME FOLDER
            takes the cases of a folder of scripts into the group NAME, in the place of those that the group had; then
-           as above. Beside NNN.script there is NNN.note, what standard error must hold, or NNN.report, what standard
-           output must hold. The report is taken where the program does the script by now: where it has no line `ring`
-           and no line `output`
-       perf_rows.py served NAME FOLDER
-           as `folder`, for scripts that the program does by now: the reports are taken too
+           as above. Beside NNN.script there is NNN.report, what standard output must hold, or NNN.note, what standard
+           error must hold
 
 The words of the list are told at its head. What a case expects is taken from the folders alone: nothing here asks the
 program.
@@ -30,15 +27,13 @@ LIST = os.path.join(DATA, "cases")
 HEAD = """\
 # The cases of perf_rows, one a line: KIND NAME, and for some a note. The text of a case is NAME.script beside this list. A
 # case of words has no text: NAME.words has the words, one a line.
-# done NAME           all is done: status 0, standard output is NAME.report, no note
-# refused NAME NOTE   status 1, nothing on standard output, this note
-# read NAME           the text is a script: status 0 and no note, or status 6 and the note that it is not built
-# unlawful NAME NOTE  the text is a script whose order can't be: status 1 and this note, or status 6 as above
-# words NAME          all is done: status 0, standard output is NAME.report, no note
-# usage NAME          the words are not known: status 5, nothing on standard output, the note of usage
+# done NAME          all is done: status 0, standard output is NAME.report, no note
+# refused NAME NOTE  status 1, nothing on standard output, this note
+# words NAME         all is done: status 0, standard output is NAME.report, no note
+# usage NAME         the words are not known: status 5, nothing on standard output, the note of usage
 """
 
-STATUS = {"done": "0", "refused": "1", "read": "0 or 6", "unlawful": "1 or 6", "words": "0", "usage": "5"}
+STATUS = {"done": "0", "refused": "1", "words": "0", "usage": "5"}
 USAGE = "perf_run: usage: run, replay, make N, make N script"
 
 
@@ -63,7 +58,7 @@ def write_list(all_cases):
 
 def has_script(kind, note):
     """Whether the text stands for a script, which is then printed, and the printed text run too."""
-    return kind in ("done", "read", "unlawful") or note.endswith(": ORDER")
+    return kind == "done" or note.endswith(": ORDER") or note.startswith("perf_run: act ")
 
 
 def write_stdout(all_cases):
@@ -108,51 +103,44 @@ def case_of_row(folder):
         return ["done", name, ""]
     if status != "1" or read(os.path.join(folder, "stdout")):
         raise ValueError(f"{folder}: status {status}")
-    note = note_of(read(os.path.join(folder, "stderr")))
-    return ["refused" if note.startswith("perf_run: line ") else "unlawful", name, note]
+    return ["refused", name, note_of(read(os.path.join(folder, "stderr")))]
 
 
-def is_served(text):
-    """Whether the program does a script by now."""
-    return not any(line.startswith(("ring ", "output ")) for line in text.splitlines())
-
-
-def case_of_script(group, stem, served):
+def case_of_script(group, stem):
     """The case of the script STEM.script."""
     name = f"{group}/{os.path.basename(stem)}"
     copy(stem + ".script", name + ".script")
-    served = served or is_served(read(stem + ".script"))
     if os.path.exists(stem + ".note"):
-        note = note_of(read(stem + ".note"))
-        refused = served or note.startswith("perf_run: line ")
-        return ["refused" if refused else "unlawful", name, note]
-    if served:
-        copy(stem + ".report", name + ".report")
-    return ["done" if served else "read", name, ""]
+        return ["refused", name, note_of(read(stem + ".note"))]
+    copy(stem + ".report", name + ".report")
+    return ["done", name, ""]
 
 
-def cases_of_folder(group, folder, served):
+def cases_of_folder(group, folder):
     shutil.rmtree(os.path.join(DATA, group), ignore_errors=True)
     stems = sorted(name[: -len(".script")] for name in os.listdir(folder) if name.endswith(".script"))
-    return [case_of_script(group, os.path.join(folder, stem), served) for stem in stems]
+    return [case_of_script(group, os.path.join(folder, stem)) for stem in stems]
+
+
+def replaced(old, new, group):
+    """The old cases, and the new ones in the place of those that they replace: those of the same names or in the group."""
+    names = {name for _, name, _ in new}
+    gone = [name in names or name.split("/")[0] == group for _, name, _ in old]
+    place = gone.index(True) if True in gone else len(old)
+    return old[:place] + new + [case for case, is_gone in zip(old[place:], gone[place:]) if not is_gone]
 
 
 def main(words):
     os.makedirs(DATA, exist_ok=True)
-    old = cases()
+    all_cases = cases()
     if words[:1] == ["row"]:
-        new = [case_of_row(folder) for folder in words[1:]]
-        names = {name for _, name, _ in new}
-        old = [case for case in old if case[1] not in names]
-    elif words[:1] in (["folder"], ["served"]) and len(words) == 3:
-        new = cases_of_folder(words[1], words[2], words[0] == "served")
-        old = [case for case in old if not case[1].startswith(words[1] + "/")]
-    elif not words:
-        new = []
-    else:
+        all_cases = replaced(all_cases, [case_of_row(folder) for folder in words[1:]], None)
+    elif words[:1] == ["folder"] and len(words) == 3:
+        all_cases = replaced(all_cases, cases_of_folder(words[1], words[2]), words[1])
+    elif words:
         sys.exit(__doc__)
-    write_list(old + new)
-    write_stdout(old + new)
+    write_list(all_cases)
+    write_stdout(all_cases)
 
 
 main(sys.argv[1:])

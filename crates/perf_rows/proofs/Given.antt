@@ -6,7 +6,7 @@ use Rattle.perf_io.specs.Outside.{Takes, Adds, IsAtEnd}
 use Rattle.perf_top.specs.declared.status.Status.{Status}
 use Rattle.perf_top.specs.declared.status.Status.TheVariants as status
 use Rattle.perf_top.specs.Notes.{number_of}
-use Rattle.perf_top.specs.Outcome.{Gave, IsRun, IsBadScript, AreKnown, IsOutput}
+use Rattle.perf_top.specs.Outcome.{Gave, IsRun, AreKnown, IsOutput}
 use Rattle.perf_rows.specs.declared.case.Expected.{Expected}
 use Rattle.perf_rows.specs.declared.again.Again.{Again}
 use Rattle.perf_rows.specs.declared.again.Again.TheVariants as again
@@ -22,10 +22,10 @@ given_is : (left : List ℕ) (after : Option (List ℕ)) (text : List ℕ) → T
 given_is left None text t e = absurd t
 given_is left (Some rest) text t e = sym (t ∙ (ap (λ r. text ++ r) e ∙ append-nil text))
 
--- the source had a text that is refused
-pub bad_of : (had left : List ℕ) (after : Option (List ℕ)) (text : List ℕ) (line : ℕ) (reason : SReason)
-    → left ≡ had → Gave (Some left) after text → IsBadScript text line reason → IsBadScript had line reason
-bad_of had left after text line reason e gave bad = subst (λ t. IsBadScript t line reason) (given_is left after text gave.taken gave.ended ∙ e) bad
+-- what holds of the text that the source gave holds of what it had
+pub of_all : (P : List ℕ → Type 0) (had left : List ℕ) (after : Option (List ℕ)) (text : List ℕ)
+    → left ≡ had → Gave (Some left) after text → P text → P had
+of_all P had left after text e gave p = subst P (given_is left after text gave.taken gave.ended ∙ e) p
 
 -- the sink was empty, and holds what the words have written beside what the source had
 pub output_of : (words : List (List ℕ)) (had left : List ℕ) (after : Option (List ℕ)) (before held out : List ℕ)

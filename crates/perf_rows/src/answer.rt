@@ -2,10 +2,10 @@
 
 ghost use Rattle.std.specs.Prelude.{◌≡◌, ◌↔◌, ℕ, List, [], map, Option, Some, IfOk, string_bytes};
 ghost use Rattle.perf_top.specs.Notes.{number_of};
-ghost use Rattle.perf_top.specs.Outcome.{AreKnown, IsOutput, IsRun, IsBadScript, IsUnserved};
+ghost use Rattle.perf_top.specs.Outcome.{AreKnown, IsOutput, IsRun, IsBadOrder, IsBadScript};
 
 use crate::verdict::Ending;
-use perf_base::{NoMemory, SReason};
+use perf_base::{NoMemory, RingNo, SReason};
 use perf_io::{MemSink, MemSource};
 use perf_top::{Status, perf_main};
 use std::alloc::Global;
@@ -48,7 +48,7 @@ pub fn sink(alloc: Global) -> Result<MemSink, NoMemory>
 fn answer_of(alloc: Global, words: &[String], text: Vec<u8>) -> Result<Answer, NoMemory>
     ensures done { IfOk result (λ answer. answer.status ≡ Status.Done → (left : Option (List ℕ)) × IsOutput (map string_bytes words.now) (Some text.items) left answer.out.held) }
     ensures bad_script { IfOk result (λ answer. (line : ℕ) → (reason : SReason) → answer.status ≡ Status.BadScript line reason → IsBadScript text.items line reason) }
-    ensures unbuilt { IfOk result (λ answer. answer.status ≡ Status.Unbuilt → IsUnserved text.items) }
+    ensures bad_order { IfOk result (λ answer. (index : ℕ) → (ring : RingNo) → (last : ℕ) → (head : ℕ) → (given : ℕ) → answer.status ≡ Status.BadOrder index ring last head given → IsBadOrder text.items index ring last head given) }
     ensures usage { IfOk result (λ answer. answer.status ≡ Status.Usage ↔ (AreKnown (map string_bytes words.now) → ⊥)) }
 {
     let mut source = MemSource::new(text, PIECE, Vec::new(alloc));
@@ -62,7 +62,7 @@ fn answer_of(alloc: Global, words: &[String], text: Vec<u8>) -> Result<Answer, N
 pub fn answer_to(alloc: Global, text: Vec<u8>) -> Result<Answer, NoMemory>
     ensures done { IfOk result (λ answer. answer.status ≡ Status.Done → IsRun text.items answer.out.held) }
     ensures bad_script { IfOk result (λ answer. (line : ℕ) → (reason : SReason) → answer.status ≡ Status.BadScript line reason → IsBadScript text.items line reason) }
-    ensures unbuilt { IfOk result (λ answer. answer.status ≡ Status.Unbuilt → IsUnserved text.items) }
+    ensures bad_order { IfOk result (λ answer. (index : ℕ) → (ring : RingNo) → (last : ℕ) → (head : ℕ) → (given : ℕ) → answer.status ≡ Status.BadOrder index ring last head given → IsBadOrder text.items index ring last head given) }
 {
     let mut words = Vec::new(alloc);
     words.push(String::from_str(alloc, "replay")?)?;

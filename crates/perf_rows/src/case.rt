@@ -1,9 +1,16 @@
 //! A case, as a line of the list says it.
 
 ghost use Rattle.std.specs.Prelude.{◌≡◌, ◌↔◌, IsTrue, IfOk, IfSome, None, slice_get};
-ghost use Rattle.perf_rows.specs.Expectations.{IsStated, IsCaseOf, numbers_allowed, has_script, first_word, behind_word};
+ghost use Rattle.perf_rows.specs.Expectations.{IsStated, IsCaseOf, number_allowed, is_of_order, has_script, first_word, behind_word};
 
 use std::alloc::{AllocError, Global};
+
+/// Whether a note says that a script's order is at fault.
+fn is_of_order(note: &[u8]) -> bool
+    ensures { result ≡ is_of_order note.now }
+{
+    note.ends_with(b": ORDER\n") || note.starts_with(b"perf_run: act ")
+}
 
 /// What a case expects of the answer.
 #[derive(Drop)]
@@ -12,10 +19,6 @@ pub enum Expected {
     Done,
     /// The text is refused with this note, whose LF is with it, and nothing is written.
     Refused(String),
-    /// The text is a script: it is done, or not built yet.
-    Read,
-    /// The text is a script whose order can't be: it is refused with this note, or not built yet.
-    Unlawful(String),
     /// There is no text, but words, which are in a file: all is done, and the output is in a file.
     Words,
     /// There is no text, but words, which are in a file and are none that the program knows.
@@ -27,26 +30,25 @@ pub enum Expected {
 impl Expected {
     /// The status that is expected.
     pub fn status(&self) -> &'static str
-        ensures { result.now ≡ numbers_allowed self.now }
+        ensures { result.now ≡ number_allowed self.now }
     {
         match self {
             Expected::Done => "0",
             Expected::Refused(_) => "1",
-            Expected::Read => "0 or 6",
-            Expected::Unlawful(_) => "1 or 6",
             Expected::Words => "0",
             Expected::Usage => "5",
             Expected::Unknown => "unknown",
         }
     }
 
-    /// Whether there is a text that stands for a script: one that is refused does so only where its order is at fault.
+    /// Whether there is a text that stands for a script: one that is refused does so only where its order is at fault,
+    /// as a whole or at one act.
     pub fn has_script(&self) -> bool
         ensures { result ≡ has_script self.now }
     {
         match self {
-            Expected::Done | Expected::Read | Expected::Unlawful(_) => true,
-            Expected::Refused(note) => note.as_bytes().ends_with(b": ORDER\n"),
+            Expected::Done => true,
+            Expected::Refused(note) => is_of_order(note.as_bytes()),
             Expected::Words | Expected::Usage | Expected::Unknown => false,
         }
     }
@@ -86,7 +88,6 @@ fn parse_expected(alloc: Global, kind: &str, note: &str) -> Result<Expected, All
     if note.is_empty() {
         return Ok(match kind {
             "done" => Expected::Done,
-            "read" => Expected::Read,
             "words" => Expected::Words,
             "usage" => Expected::Usage,
             _ => Expected::Unknown,
@@ -94,7 +95,6 @@ fn parse_expected(alloc: Global, kind: &str, note: &str) -> Result<Expected, All
     }
     match kind {
         "refused" => Ok(Expected::Refused(format!(in alloc; "{note}\n")?)),
-        "unlawful" => Ok(Expected::Unlawful(format!(in alloc; "{note}\n")?)),
         _ => Ok(Expected::Unknown),
     }
 }

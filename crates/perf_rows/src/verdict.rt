@@ -1,7 +1,7 @@
 //! Whether an answer is what a case expects.
 
 ghost use Rattle.std.specs.Prelude.{◌≡◌, ◌↔◌, IsTrue, IfOk};
-ghost use Rattle.perf_rows.specs.Expectations.{IsUnbuilt, Allows};
+ghost use Rattle.perf_rows.specs.Expectations.{Allows};
 
 use crate::case::Expected;
 use std::alloc::{AllocError, Global};
@@ -22,8 +22,6 @@ pub struct Ending<'a> {
     pub note: &'a [u8],
 }
 
-const UNBUILT: &str = "perf_run: not built\n";
-
 const USAGE: &str = "perf_run: usage: run, replay, make N, make N script\n";
 
 /// Whether a call ended with this number, and wrote and noted this.
@@ -33,13 +31,6 @@ fn is_ending(ending: Ending<'_>, number: u8, out: &[u8], note: &[u8]) -> bool
     ending.number == number && ending.out == out && ending.note == note
 }
 
-/// Whether a call ended so that the script is not built yet.
-fn is_unbuilt(ending: Ending<'_>) -> bool
-    ensures { IsTrue result ↔ IsUnbuilt ending.entry.number ending.entry.out.now ending.entry.note.now }
-{
-    is_ending(ending, 6, b"", UNBUILT.as_bytes())
-}
-
 /// Whether a call ended as a case expects. The report is what an expectation of `Done` or `Words` names.
 fn is_expected(expected: &Expected, report: &[u8], ending: Ending<'_>) -> bool
     ensures { IsTrue result ↔ Allows expected.now report.now ending.entry.number ending.entry.out.now ending.entry.note.now }
@@ -47,10 +38,6 @@ fn is_expected(expected: &Expected, report: &[u8], ending: Ending<'_>) -> bool
     match expected {
         Expected::Done | Expected::Words => is_ending(ending, 0, report, b""),
         Expected::Refused(note) => is_ending(ending, 1, b"", note.as_bytes()),
-        Expected::Read => (ending.number == 0 && ending.note.is_empty()) || is_unbuilt(ending),
-        Expected::Unlawful(note) => {
-            is_ending(ending, 1, b"", note.as_bytes()) || is_unbuilt(ending)
-        }
         Expected::Usage => is_ending(ending, 5, b"", USAGE.as_bytes()),
         Expected::Unknown => false,
     }
@@ -83,7 +70,7 @@ fn as_text(note: &[u8]) -> &str {
 /// What is wanted on standard error.
 fn wanted_note(expected: &Expected) -> &str {
     match expected {
-        Expected::Refused(note) | Expected::Unlawful(note) => note.as_str().trim_end(),
+        Expected::Refused(note) => note.as_str().trim_end(),
         Expected::Usage => USAGE.trim_end(),
         _ => "",
     }
