@@ -63,7 +63,7 @@ type Row = (
     &'static str,
 );
 
-const ROWS: [Row; 16] = [
+const ROWS: [Row; 14] = [
     ("replay", SCRIPT, 9, [CALM, CALM], Status::Done, REPORT, ""),
     ("replay", SCRIPT, 1, [CALM, CALM], Status::Done, REPORT, ""),
     (
@@ -158,30 +158,6 @@ const ROWS: [Row; 16] = [
     ),
     (
         "replay",
-        WITH_RING,
-        9,
-        [CALM, CALM],
-        Status::Done,
-        RING_REPORT,
-        "",
-    ),
-    (
-        "replay",
-        BAD_LOOK,
-        9,
-        [CALM, CALM],
-        Status::BadOrder {
-            index: 3,
-            ring: RingNo(0),
-            last: 0,
-            head: 48,
-            given: 8,
-        },
-        "",
-        "perf_run: act 3: ring 0 last 0 head 48 given 8\n",
-    ),
-    (
-        "replay",
         WITH_TASK,
         9,
         [CALM, CALM],
@@ -232,6 +208,38 @@ fn each_answer_comes_with_its_bytes_and_its_note(rt: HostRuntime) -> Result<(), 
         if status == Status::Usage {
             assert_eq!(rt; source.read(&mut [0; 9]).ok(), Some(9));
         }
+    }
+    Ok(())
+}
+
+#[test]
+fn rings_and_looks_are_told(rt: HostRuntime) -> Result<(), Fail> {
+    let bad_look = Status::BadOrder {
+        index: 3,
+        ring: RingNo(0),
+        last: 0,
+        head: 48,
+        given: 8,
+    };
+    let table = [
+        (WITH_RING, Status::Done, RING_REPORT, ""),
+        (
+            BAD_LOOK,
+            bad_look,
+            "",
+            "perf_run: act 3: ring 0 last 0 head 48 given 8\n",
+        ),
+    ];
+    for (text, answer, report, note) in table {
+        let words = vec![in rt.alloc(); String::from_str(rt.alloc(), "replay")?]?;
+        let bytes = Vec::from_slice(rt.alloc(), text.as_bytes())?;
+        let mut source = MemSource::new(bytes, 9, Vec::new(rt.alloc()));
+        let mut sink = MemSink::new(rt.alloc(), 9, Vec::new(rt.alloc()), 1000)?;
+        let mut notes = MemSink::new(rt.alloc(), 9, Vec::new(rt.alloc()), 1000)?;
+        let status = perf_main(rt.alloc(), &words, &mut source, &mut sink, &mut notes);
+        assert_eq!(rt; status, answer);
+        assert_eq!(rt; sink.bytes(), report.as_bytes());
+        assert_eq!(rt; notes.bytes(), note.as_bytes());
     }
     Ok(())
 }
