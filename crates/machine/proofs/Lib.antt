@@ -1,4 +1,5 @@
 pub mod Answers
+pub mod Behind
 pub mod Beginning
 pub mod Declared
 pub mod Following

@@ -19,7 +19,7 @@ use Rattle.sample_ring.specs.RingLists.{HasRing, InList, OutList, place_of, with
 use Rattle.work_account.specs.Ends.{AreAccounts}
 use Rattle.work_laws.proofs.Rings.{recorded}
 use Rattle.machine.specs.Leading.{Kept, LeadTo}
-use Rattle.machine.specs.Readers.{AreFollowing, AreTrailing, HasTaken, Trails, words_of_slot}
+use Rattle.machine.specs.Readers.{AreBehind, AreTrailing, HasTaken, Trails, words_of_slot}
 use Rattle.machine.proofs.Pairs.{paired-set}
 use Rattle.machine.proofs.Places.{place-here, place-later, ring-is, set-here, set-other}
 
@@ -82,15 +82,15 @@ few-published s acts (n ∷ numbers) (q ∷ outs) (r ∷ rings) zero o script co
     omega (arith, ap (λ (x : OutEnd). length x.producer.published) (same_Some q o at), ap length h.0.has.written, few_words s acts r script covered)
 few-published s acts (n ∷ numbers) (q ∷ outs) (r ∷ rings) (suc place) o script covered h at = few-published s acts numbers outs rings place o script covered h.1 at
 
--- readers that follow the ends trail them
-pub following-trails : (s : Scripted) (acts : List Act) (m : Kept) (ins : InList) → IsScript s → IsCovered s → LeadTo s acts m → AreFollowing (9 * weight s) m.outs ins → AreTrailing m.outs ins
-following-trails s acts m ins script covered led h =
+-- readers that are behind the ends trail them
+pub behind-trails : (s : Scripted) (acts : List Act) (m : Kept) (ins : InList) → IsScript s → IsCovered s → LeadTo s acts m → AreBehind (9 * weight s) m.outs ins → AreTrailing m.outs ins
+behind-trails s acts m ins script covered led h =
     let accounts : AreAccounts m.outs.numbers m.outs.outs (map (in_account (account_in s acts)) s.rings) =
     subst (AreAccounts m.outs.numbers m.outs.outs) (recorded s acts).rings led.ends.each in
     record {
       numbers = h.numbers;
       each = λ place o at.
-          let f = h.each place o at in
+          let b = h.each place o at in
           let few : length o.producer.published ≤ 9 * weight s = few-published s acts m.outs.numbers m.outs.outs s.rings place o script covered accounts at in
-          (f.0, f.1, record { ring = f.2.ring; released = omega (arith, f.2.up_to.released, f.2.up_to.words); room = omega (arith, f.2.room, few) });
+          (b.0, b.1, record { ring = b.2.ring; released = b.2.released; room = omega (arith, b.2.room, few) });
     }

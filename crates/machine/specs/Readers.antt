@@ -1,5 +1,5 @@
 -- The readers of a replay, each of which has taken what the last look at its ring saw. This project's own profile.
-use Rattle.std.specs.Prelude.{◌≡◌, ℕ, ◌+◌, ◌*◌, ◌≤◌, All, List, [], length, map, Option, Some, None, slice_get}
+use Rattle.std.specs.Prelude.{◌≡◌, ℕ, ◌+◌, ◌*◌, ◌<◌, ◌≤◌, All, List, [], length, map, Option, Some, None, slice_get}
 use Rattle.perf_base.specs.declared.acts.Act.{Act}
 use Rattle.perf_base.specs.declared.numbers.RingNo.{RingNo}
 use Rattle.perf_base.specs.Scripts.{Scripted}
@@ -23,6 +23,33 @@ pub record Follows (words : ℕ) (o : OutEnd) (i : InEnd) : Type 0 where
 pub record AreFollowing (words : ℕ) (outs : OutList) (ins : InList) : Type 0 where
   pub numbers : ins.numbers ≡ outs.numbers
   pub each : (place : ℕ) (o : OutEnd) → slice_get outs.outs place ≡ Some o → (i : InEnd) × (slice_get ins.readers place ≡ Some (Some i)) × Follows words o i
+
+-- A reader is of the ring of an end that sends, has released all that it has taken, and has room for so many words. The end may have seen less.
+pub record IsReaderOf (words : ℕ) (o : OutEnd) (i : InEnd) : Type 0 where
+  pub ring : i.consumer.ring ≡ o.producer.ring
+  pub released : i.consumer.released ≡ length i.words
+  pub room : words ≤ i.room
+
+-- So is the reader of each ring, none of which is out.
+pub record AreReaders (words : ℕ) (outs : OutList) (ins : InList) : Type 0 where
+  pub numbers : ins.numbers ≡ outs.numbers
+  pub each : (place : ℕ) (o : OutEnd) → slice_get outs.outs place ≡ Some o → (i : InEnd) × (slice_get ins.readers place ≡ Some (Some i)) × IsReaderOf words o i
+
+-- A reader is of the ring of an end that sends, has released just what stands before the last tail that this end has seen, and has room for so many words. It may
+-- have taken more than it has released.
+pub record IsBehind (words : ℕ) (o : OutEnd) (i : InEnd) : Type 0 where
+  pub ring : i.consumer.ring ≡ o.producer.ring
+  pub released : 8 * i.consumer.released ≡ o.producer.last_tail
+  pub room : words ≤ i.room
+
+-- So is the reader of each ring, none of which is out; and the reader of each of the first rings alone.
+pub record AreBehind (words : ℕ) (outs : OutList) (ins : InList) : Type 0 where
+  pub numbers : ins.numbers ≡ outs.numbers
+  pub each : (place : ℕ) (o : OutEnd) → slice_get outs.outs place ≡ Some o → (i : InEnd) × (slice_get ins.readers place ≡ Some (Some i)) × IsBehind words o i
+
+abbrev pub BehindTo : (few words : ℕ) → OutList → InList → Type 0
+BehindTo few words outs ins =
+    (place : ℕ) (o : OutEnd) → place < few → slice_get outs.outs place ≡ Some o → (i : InEnd) × (slice_get ins.readers place ≡ Some (Some i)) × IsBehind words o i
 
 -- A reader is of the ring of an end that sends, has released just what stands before the last tail that this end has seen, and has room for all words sent. It may
 -- have taken more than it has released.

@@ -8,7 +8,7 @@ ghost use Rattle.ring_spec.specs.Rings.{account_in, bytes_of};
 ghost use Rattle.sample_ring.specs.RingLists as lists;
 ghost use Rattle.work_account.specs.Ends.{AreTogether};
 ghost use Rattle.machine.specs.Leading.{IsOf, LeadTo};
-ghost use Rattle.machine.specs.Readers.{AreFollowing, AreTrailing, HasTaken, HaveTaken, IsShown};
+ghost use Rattle.machine.specs.Readers.{AreBehind, AreTrailing, HasTaken, HaveTaken, IsShown};
 
 use crate::machine::Machine;
 use perf_base::{RingNo, Script};
@@ -50,12 +50,13 @@ impl Machine {
         take_all(rings.table(ring), self.outs.out(ring), ins.reader(ring));
     }
 
-    /// The reader of each ring takes all that is left there, and releases none of it. What was seen of the rings stays. It takes no memory.
+    /// The reader of each ring takes all that is left there, and releases none of it. What was seen of the rings stays. It takes no memory. Each reader has
+    /// released just what stands before the last tail seen of its ring, whatever it has taken, and has room for 9 words for each unit of the script's weight.
     pub fn take_rest(&mut self, script: &Script, rings: &Rings, ins: &mut Ins)
         requires covered { IsCovered script.now }
         requires script { IsOf script.now self.old }
         requires together { AreTogether rings.now self.old.outs }
-        requires following { AreFollowing (9 * weight script.now) self.old.outs ins.old }
+        requires behind { AreBehind (9 * weight script.now) self.old.outs ins.old }
         ensures led { (acts : List Act) → LeadTo script.now acts self.old → LeadTo script.now acts self.new }
         ensures taken { (acts : List Act) → LeadTo script.now acts self.old → HaveTaken script.now acts ins.new }
         ensures together { AreTogether rings.now self.new.outs }

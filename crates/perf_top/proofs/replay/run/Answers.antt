@@ -1,9 +1,11 @@
-use Rattle.std.specs.Prelude.{[], map}
+use Rattle.std.specs.Prelude.{◌*◌, [], map}
 use Rattle.std.proofs.Common.{◌∙◌, ap, subst, sym}
 use Rattle.perf_base.specs.Scripts.{IsScript}
+use Rattle.perf_base.specs.Weight.{weight}
 use Rattle.ring_spec.proofs.Running.{map-map}
 use Rattle.stage_spec.specs.Replies.{lines_from}
 use Rattle.machine.specs.Ended.{Ran}
+use Rattle.machine.proofs.Behind.{following-behind}
 use Rattle.report.specs.Said.{answered}
 use Rattle.report.proofs.Told.{told_whole}
 use Rattle.report_spec.specs.Report.{rings_after}
@@ -11,6 +13,9 @@ use Rattle.perf_top.specs.Outcome.{IsReported, report_by, rings_of}
 use Rattle.perf_top.proofs.Conserved.{all-conserved}
 use Rattle.perf_top.proofs.Told.{all-taken, are-told}
 use Rattle.perf_top.proofs.replay.run.Goals as goal
+
+pub take_rest-requires-clause-behind : goal.take_rest-requires-clause-behind
+take_rest-requires-clause-behind c = following-behind (9 * weight c.args.script) c.fill.new.machine.outs c.fill.new.ins c.fill.ensures.following
 
 pub new-requires-clause-lines : goal.new-requires-clause-lines
 new-requires-clause-lines c =

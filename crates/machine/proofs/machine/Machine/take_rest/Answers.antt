@@ -5,7 +5,7 @@ use Rattle.std.proofs.lemmas.List.Elements.{All-more}
 use Rattle.perf_base.specs.declared.numbers.RingNo.{RingNo}
 use Rattle.perf_base.specs.Scripts.{Scripted}
 use Rattle.machine.specs.Readers.{HasTaken}
-use Rattle.machine.proofs.Rest.{following-trails}
+use Rattle.machine.proofs.Rest.{behind-trails}
 use Rattle.machine.proofs.Unlawful.{ring-there}
 use Rattle.machine.proofs.machine.Machine.take_rest.Goals as goal
 
@@ -17,7 +17,7 @@ loop-ring-init c = record {
   led = λ acts led. led;
   taken = λ acts led k d low. absurd (omega (arith, low));
   together = c.requires.together;
-  trailing = following-trails c.args.script.now c.requires.script.0 c.args.self.now c.args.ins.now c.rings-ring-items.ensures.sound c.requires.covered c.requires.script.1 c.requires.following;
+  trailing = behind-trails c.args.script.now c.requires.script.0 c.args.self.now c.args.ins.now c.rings-ring-items.ensures.sound c.requires.covered c.requires.script.1 c.requires.behind;
 }
 
 pub take_ring-requires-clause-ring : goal.take_ring-requires-clause-ring
