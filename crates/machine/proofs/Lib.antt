@@ -7,6 +7,7 @@ pub mod History
 pub mod Lines
 pub mod Looks
 pub mod New
+pub mod Opened
 pub mod Pairs
 pub mod Places
 pub mod Replies

@@ -49,13 +49,19 @@ slot-open hw w k h live =
     let origin = origin-is hw w k h live in
     open-is hw w (instance_at w k).event h ∙ ap is_some origin.1.named
 
+-- what a world has of an open event is what the definitions over the history say, and its stage is the one after it
+pub family-then : (s : Scripted) (acts : List Act) (m : Kept) (e : EventNo) → LeadTo s acts m → IsKept m.world.hardware m.world → is_open (stage_of m.world) e ≡ true
+    → family_sums m.world e.0 ≡ family_over (hardware_of s) (opening_stage s) (history s acts) e
+family-then s acts m e led kept there = sym (family-agrees m.world.hardware m.world (record_in s acts) e kept led.agrees there) ∙ family-is s acts e
+
+pub stage-then : (s : Scripted) (acts : List Act) (m : Kept) → LeadTo s acts m → stage_of m.world ≡ stage_after (hardware_of s) (opening_stage s) (history s acts)
+stage-then s acts m led = sym led.agrees.stage ∙ (record_law (hardware_of s) (opening_stage s) s.rings (history s acts)).stage
+
 small-sums : (s : Scripted) (acts : List Act) (m : Kept) (k : Key) → IsScript s → IsCovered s → LeadTo s acts m → IsKept m.world.hardware m.world → is_live m.world k ≡ true
     → AreSmall (family_sums m.world (instance_at m.world k).event.0)
 small-sums s acts m k h covered led kept live =
     let e : EventNo = (instance_at m.world k).event in
-    let same : family_sums m.world e.0 ≡ family_over (hardware_of s) (opening_stage s) (history s acts) e =
-    sym (family-agrees m.world.hardware m.world (record_in s acts) e kept led.agrees (slot-open m.world.hardware m.world k kept live)) ∙ family-is s acts e in
-    subst AreSmall (sym same) (sums_of_script s acts e h covered)
+    subst AreSmall (sym (family-then s acts m e led kept (slot-open m.world.hardware m.world k kept live))) (sums_of_script s acts e h covered)
 
 -- clocks
 small-clock : (s : Scripted) (acts : List Act) (m : Kept) (cpu : CpuNo) → IsScript s → LeadTo s acts m → slice_index_or m.world.quiet.clocks cpu.0 0 < 2 ^ 44

@@ -6,6 +6,7 @@
 mod counters;
 mod ended;
 mod ending;
+mod events;
 mod given;
 mod looking;
 mod machine;

@@ -1,0 +1,19 @@
+use Rattle.std.specs.Prelude.{Some}
+use Rattle.std.proofs.Common.{ap, sym, ◌∙◌}
+use Rattle.perf_base.specs.declared.attr.Attr.{Attr}
+use Rattle.perf_base.specs.declared.numbers.Key.{Key}
+use Rattle.stage_spec.specs.Stage.{Stage}
+use Rattle.world_spec.specs.Value.{World, instance_at}
+use Rattle.machine.specs.Events.{kind_in}
+use Rattle.machine.specs.Leading.{Kept}
+use Rattle.machine.proofs.Opened.{kind-by}
+use Rattle.machine.proofs.Roomy.{stage-then}
+use Rattle.machine.proofs.machine.Machine.kind.Goals as goal
+
+pub returns : goal.returns
+returns c = λ s acts led.
+    let w : World = c.args.self.now.world in
+    let key : Key = c.original.result in
+    ap (λ (st : Stage). kind_in st c.args.event) (sym (stage-then s acts c.args.self.now led))
+    ∙ (kind-by w.hardware w c.args.event key c.original.ensures.kept c.original.ensures.original
+    ∙ ap (λ (a : Attr). Some a.kind) (ap (λ (m : Kept). (instance_at m.world key).attr) (sym c.self.view_is) ∙ sym c.attr.ensures))
