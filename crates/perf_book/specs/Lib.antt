@@ -1,0 +1,4 @@
+pub mod Book
+pub mod Codes
+pub mod Ending
+pub mod Keeping

@@ -1,0 +1,164 @@
+//! The book.
+
+ghost use Rattle.std.specs.Prelude.{◌≡◌, ℕ, ◌+◌, ◌*◌, ◌<◌, ◌≤◌, ◌↔◌, IsTrue, List, [], ◌∷◌, ◌++◌, Err, IfOk, OnErr, OnOk, count_by, length, map};
+ghost use Rattle.perf_base.specs.declared.acts.Act.{Act as ActNo};
+ghost use Rattle.perf_base.specs.declared.numbers.RingNo.{RingNo as Ring};
+ghost use Rattle.perf_base.specs.declared.reply.Reply.{Reply as ReplyOf};
+ghost use Rattle.perf_base.specs.Scripts.{IsCovered};
+ghost use Rattle.perf_base.specs.Weight.{weight};
+ghost use Rattle.ring_spec.specs.Running.{empty_ring};
+ghost use Rattle.work_account.specs.Ends.{AreTogether, HaveAccounts};
+ghost use Rattle.machine.specs.Leading.{HasLine, act_of, done_by};
+ghost use Rattle.machine.specs.Readers.{AreFollowing, loads_of};
+ghost use Rattle.machine.specs.Stepping.{HasNoLine, IsUnlawful, NamesRing};
+ghost use Rattle.perf_book.specs.Book.{AreLooksOf, Booked, IsBooked, loads_by};
+ghost use Rattle.perf_book.specs.Keeping.{kept, next_line};
+ghost use Rattle.run_laws.specs.Growing.{is_look};
+
+use crate::doing::{Answer, do_act, do_line};
+use crate::looking::look_before;
+use crate::making::{count_acts, count_lines};
+use machine::{Machine, OrderFault, RingEnd};
+use perf_base::{Act, Actor, NoMemory, Script};
+use sample_ring::{Ins, Outs, Rings};
+use std::alloc::Global;
+use std::marker::Model;
+
+/// A script, the machine that does its lines, the order in which they were done, with the looks at rings between them, and the answers to them. It has room for
+/// all acts of a run.
+#[derive(Drop)]
+pub struct Book {
+    pub(crate) script: Script,
+    pub(crate) machine: Machine,
+    pub(crate) order: Vec<Act>,
+    pub(crate) answers: Vec<Answer>,
+    pub(crate) ends: Vec<RingEnd>,
+}
+
+impl Model for Book {
+    ghost use Rattle.std.specs.Prelude.{◌≡◌, [], vec_capacity, vec_len};
+    ghost use Rattle.perf_book.specs.Book.{Booked, HasRoomFor, IsBooked};
+    ghost use Rattle.perf_book.specs.Codes.{booked_code};
+
+    ghost Value = { Booked };
+
+    ghost coded = { booked_code };
+
+    ghost view = { λ b. record { script = b.script; machine = b.machine; order = b.order.items; answers = b.answers.items } };
+
+    ghost invariant = { λ b. IsBooked (record { script = b.script; machine = b.machine; order = b.order.items; answers = b.answers.items })
+        × HasRoomFor b.script (vec_capacity b.order) (vec_capacity b.answers) (vec_capacity b.ends) × (b.ends.items ≡ []) };
+}
+
+impl Book {
+    /// A book of which no line was done, of a script each of whose processors is of a PMU, of a weight of at most 65,536 and with at most 4,194,304 acts in its
+    /// order, and of the ends that send of the script's rings, which are new. It takes all memory that any run of the script needs, and fails only where
+    /// there is not so much; then script and ends are gone.
+    pub fn new(alloc: Global, script: Script, outs: Outs) -> Result<Book, NoMemory>
+        requires covered { IsCovered script }
+        requires light { weight script ≤ 65536 }
+        requires short { length script.order ≤ 4194304 }
+        requires ends { HaveAccounts outs (map empty_ring script.rings) }
+        ensures script { IfOk result (λ b. b.script ≡ script) }
+        ensures outs { IfOk result (λ b. b.machine.outs ≡ outs) }
+        ensures empty { IfOk result (λ b. (b.order ≡ []) × (b.answers ≡ [])) }
+    {
+        let machine = Machine::new(alloc, &script, outs)?;
+        let order = Vec::with_capacity(alloc, count_acts(&script))?;
+        let answers = Vec::with_capacity(alloc, count_lines(&script) + 1)?;
+        let ends = Vec::with_capacity(alloc, script.rings().len())?;
+        Ok(Book {
+            script,
+            machine,
+            order,
+            answers,
+            ends,
+        })
+    }
+
+    /// The script.
+    pub fn script(&self) -> &Script
+        ensures script { result.now ≡ self.now.script }
+        ensures sound { IsBooked self.now }
+    {
+        &self.script
+    }
+
+    /// The machine that the acts lead to.
+    pub fn machine(&self) -> &Machine
+        ensures machine { result.now ≡ self.now.machine }
+        ensures sound { IsBooked self.now }
+    {
+        &self.machine
+    }
+
+    /// Whether the actor is a processor or a tool that has done fewer lines than the script gives it.
+    pub fn has_line(&self, actor: Actor) -> bool
+        ensures line { IsTrue result ↔ HasLine self.now.script self.now.machine actor }
+        ensures sound { IsBooked self.now }
+    {
+        self.machine.has_line(&self.script, actor)
+    }
+
+    /// What an actor does that has a line left. A processor first loads the tail of each ring once, by rising number, and keeps each that it saw further than the
+    /// last look did as an act. Then the line is done, and kept as an act with its answer. It takes no memory.
+    pub fn advance(&mut self, rings: &Rings, actor: Actor)
+        requires together { AreTogether rings.now self.old.machine.outs }
+        requires line { HasLine self.old.script self.old.machine actor }
+        ensures script { self.new.script ≡ self.old.script }
+        ensures order { (looks : List ActNo) × AreLooksOf actor self.old.order looks × (self.new.order ≡ self.old.order ++ (looks ++ act_of actor ∷ [])) }
+        ensures answer { (reply : ReplyOf) × (self.new.answers ≡ self.old.answers ++ (actor, done_by actor self.old.machine, reply) ∷ []) }
+        ensures loads { loads_of self.new.machine.outs ≡ map (λ n. n + loads_by actor) (loads_of self.old.machine.outs) }
+        ensures together { AreTogether rings.now self.new.machine.outs }
+        ensures sound { IsBooked self.new }
+    {
+        look_before(
+            &mut self.machine,
+            &self.script,
+            rings,
+            &mut self.order,
+            actor,
+        );
+        do_line(
+            &mut self.machine,
+            &self.script,
+            rings,
+            &mut self.order,
+            &mut self.answers,
+            actor,
+        );
+    }
+
+    /// Does one act of a given order. A processor or a tool does its next line. A look at a ring, which is one of the script's, is done where the tail may be seen
+    /// at its place: then the ring's reader takes the records before that place. The act is kept, with the answer to its line. There are fewer looks so far
+    /// than acts in the script's own order, and each reader has room for 9 words for each unit of the script's weight. It takes no memory.
+    ///
+    /// It fails with `NoLine` exactly where the actor has no line left, and with `BadSeen` exactly where the place is below the last one seen, above the head or not
+    /// the end of a record; then nothing changes.
+    pub fn act(&mut self, rings: &Rings, ins: &mut Ins, act: Act) -> Result<(), OrderFault>
+        requires together { AreTogether rings.now self.old.machine.outs }
+        requires following { AreFollowing (9 * weight self.old.script) self.old.machine.outs ins.old }
+        requires ring { NamesRing self.old.script act }
+        requires looks { count_by is_look self.old.order < length self.old.script.order }
+        ensures no_line { result ≡ Err OrderFault.NoLine ↔ HasNoLine self.old.script self.old.machine act }
+        ensures unlawful { (ring : Ring) (last head given : ℕ) → result ≡ Err (OrderFault.BadSeen ring last head given) → (act ≡ Act.Seen ring given)
+            × IsUnlawful self.old.script self.old.order ring last head given }
+        ensures same { OnErr result ((self.new ≡ self.old) × (ins.new ≡ ins.old)) }
+        ensures script { self.new.script ≡ self.old.script }
+        ensures order { OnOk result (self.new.order ≡ self.old.order ++ act ∷ []) }
+        ensures answer { OnOk result ((reply : ReplyOf) × (self.new.answers ≡ self.old.answers ++ kept (next_line self.old.machine act) reply)) }
+        ensures together { AreTogether rings.now self.new.machine.outs }
+        ensures following { AreFollowing (9 * weight self.new.script) self.new.machine.outs ins.new }
+        ensures sound { IsBooked self.new }
+    {
+        do_act(
+            &mut self.machine,
+            &self.script,
+            rings,
+            ins,
+            &mut self.order,
+            &mut self.answers,
+            act,
+        )
+    }
+}
