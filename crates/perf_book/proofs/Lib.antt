@@ -1,8 +1,12 @@
 pub mod Answering
 pub mod Declared
+pub mod Left
 pub mod Loads
 pub mod Looked
 pub mod Parts
+pub mod Reading
+pub mod Ready
 pub mod Rooms
 pub mod Taken
+pub mod UnderWay
 pub mod Visits

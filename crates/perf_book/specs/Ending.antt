@@ -1,7 +1,7 @@
 -- What is left of a book that was finished. This project's own profile.
 use Rattle.std.specs.Prelude.{◌≡◌, ◌≤◌, All, List, length, map}
 use Rattle.perf_base.specs.declared.acts.Act.{Act}
-use Rattle.perf_base.specs.Scripts.{Scripted}
+use Rattle.perf_base.specs.Scripts.{Scripted, IsScript}
 use Rattle.ring_spec.specs.Rings.{account_in, bytes_of}
 use Rattle.stage_spec.specs.Order.{last_seen}
 use Rattle.sample_ring.specs.RingLists.{InList}
@@ -10,8 +10,9 @@ use Rattle.machine.specs.Readers.{HaveTaken, IsShown, records_in, released_in}
 use Rattle.report.specs.Said.{answered}
 use Rattle.report_spec.specs.Answers.{IsAnswered, taken_of}
 
--- Its answers are those to its order, each ring came to what its account over that order says, and the readers have all words that were written.
+-- It is of a script, its answers are those to its order, each ring came to what its account over that order says, and the readers have all words that were written.
 pub record IsEnd (e : Ran) : Type 0 where
+  pub script : IsScript e.script
   pub answered : IsAnswered e.script e.order (map answered e.answers)
   pub rings : map (λ r. r.ring) e.ends ≡ map (λ r. r.0) e.script.rings
   pub shown : All (λ r. IsShown r.numbers (account_in e.script e.order (r.ring, bytes_of e.script r.ring))) e.ends

@@ -2,3 +2,5 @@ pub mod Book
 pub mod Codes
 pub mod Ending
 pub mod Keeping
+pub mod Plans
+pub mod Running

@@ -5,8 +5,17 @@
 mod book;
 mod doing;
 mod ending;
+mod gate;
 mod looking;
 mod making;
+mod named;
+mod running;
+mod workers;
 
 pub use book::Book;
+pub use gate::{Gate, OpenGate};
 pub use machine::OrderFault;
+pub use running::run_all;
+
+#[cfg(test)]
+mod tests;

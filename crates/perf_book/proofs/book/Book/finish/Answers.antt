@@ -56,6 +56,7 @@ returns-clause-ended c =
     let led = c.take_rest.ensures.led c.meet_all.new.order.items c.meet_all.ensures.led in
     subst IsEnd (sym c.new.ensures)
     (record {
+      script = c.self.invariant.0.script;
       answered = record {
         counted = c.meet_all.ensures.led.counted;
         lawful = c.meet_all.ensures.led.lawful;

@@ -1,0 +1,5 @@
+use Rattle.perf_book.proofs.running.run_all.Given as goal
+
+-- the run of the book that is given
+abbrev pub ghosts-run_named : goal.ghosts-run_named
+ghosts-run_named g a = record { script = a.book.script; rings = a.rings.now }

@@ -1,0 +1,51 @@
+-- What threads make of a book: the order that they leave, and what the readers do. This project's own profile.
+use Rattle.std.specs.Prelude.{◌≡◌, ◌+◌, ◌*◌, ◌≤◌, ◌==◌, All, List, find, length, slice_get, Option, Some, MatchOption}
+use Rattle.perf_base.specs.declared.acts.Act.{Act}
+use Rattle.perf_base.specs.declared.lines.ReaderLine.{ReaderLine}
+use Rattle.perf_base.specs.declared.numbers.RingNo.{RingNo}
+use Rattle.perf_base.specs.Scripts.{Scripted}
+use Rattle.sample_ring.specs.InEnds.{InEnd}
+use Rattle.sample_ring.specs.RingLists.{HasRing, InList, RingList, place_of}
+use Rattle.report_spec.specs.Answers.{IsRunShaped, reader_of}
+use Rattle.run_laws.specs.Growing.{EndsWithLine}
+
+-- the order of a run between two of its lines: each look is one that a run makes, and the last act, if there is one, is a line
+abbrev pub IsUnderWay : List Act → Type 0
+IsUnderWay order = IsRunShaped order × EndsWithLine order
+
+-- The reader has loaded the head once for each try of its line, taken no more records than the line allows, and released all that it has taken.
+pub record HasRead (line : ReaderLine) (i j : InEnd) : Type 0 where
+  pub ring : j.consumer.ring ≡ i.consumer.ring
+  pub room : j.room ≡ i.room
+  pub loads : j.consumer.loads ≡ i.consumer.loads + line.tries
+  pub records : j.records ≤ i.records + line.tries * line.batch
+  pub released : j.consumer.released ≡ length j.words
+
+-- what stands in the place of a ring's reader
+abbrev pub slot_of : InList → RingNo → Option (Option InEnd)
+slot_of ins ring = slice_get ins.readers (place_of ins.numbers ring)
+
+-- The reader of a ring has done its line, where it has one; else it is as it was.
+abbrev pub IsReadBy : Option ReaderLine → (before after : InList) → RingNo → Type 0
+IsReadBy line before after ring =
+    MatchOption line (slot_of after ring ≡ slot_of before ring)
+    (λ line. (i : InEnd) × (j : InEnd) × (slot_of before ring ≡ Some (Some i)) × (slot_of after ring ≡ Some (Some j)) × HasRead line i j)
+
+abbrev pub IsRead : Scripted → (before after : InList) → RingNo → Type 0
+IsRead s before after ring = IsReadBy (reader_of s ring) before after ring
+
+-- the line of a ring's reader among some lines
+abbrev pub line_for : List ReaderLine → RingNo → Option ReaderLine
+line_for lines ring = find (λ line. line.ring.0 == ring.0) lines
+
+-- The reader of a ring is there, takes from the ring of that number, and has released all that it has taken.
+pub record IsReady (rings : RingList) (ins : InList) (ring : RingNo) : Type 0 where
+  pub known : HasRing rings.numbers ring
+  pub listed : HasRing ins.numbers ring
+  pub reader : InEnd
+  pub there : slot_of ins ring ≡ Some (Some reader)
+  pub same : slice_get rings.tables (place_of rings.numbers ring) ≡ Some reader.consumer.ring
+  pub released : reader.consumer.released ≡ length reader.words
+
+abbrev pub AreReady : RingList → InList → List ReaderLine → Type 0
+AreReady rings ins lines = All (λ line. IsReady rings ins line.ring) lines

@@ -1,0 +1,127 @@
+//! What each thread of a run does.
+
+ghost use Rattle.std.specs.Prelude.{◌≡◌, ◌<◌, ◌∷◌, AllPairs, None, Some, length, slice_get};
+ghost use Rattle.std.specs.Thread.{IsSend, IsSync};
+ghost use Rattle.perf_base.specs.declared.numbers.RingNo.{RingNo as Ring};
+ghost use Rattle.sample_ring.specs.RingLists.{HasRing, place_of, with_slot};
+ghost use Rattle.perf_book.specs.Running.{AreReady, HasRead, IsReadBy, line_for, slot_of};
+
+use crate::gate::Gate;
+use crate::named::{Named, Naming};
+use perf_base::{Actor, ReaderLine};
+use sample_ring::{In, Ins, Rings};
+use std::sync::{Mutex, Wait};
+use std::thread::{Threads, join};
+
+/// The tries of a ring's reader. It takes no lock and waits for nobody.
+fn read<G: Gate>(rings: &Rings, mut reader: In, line: ReaderLine, gate: &G) -> In
+    requires ring { HasRing rings.now.numbers line.ring }
+    requires same { slice_get rings.now.tables (place_of rings.now.numbers line.ring) ≡ Some reader.consumer.ring }
+    requires released { reader.consumer.released ≡ length reader.words }
+    ensures { HasRead line reader result }
+{
+    for attempt in 0..line.tries {
+        gate.before(Actor::Reader(line.ring), attempt);
+        reader.take(rings.table(line.ring), line.batch);
+    }
+    reader
+}
+
+/// The lines of a processor or tool. The lock is held in a line alone.
+fn act<J: Naming, R: Wait, G: Gate>(
+    rt: &R,
+    shared: &Mutex<Named<J>>,
+    rings: &Rings,
+    actor: Actor,
+    lines: u32,
+    gate: &G,
+)
+    requires { rings.now ≡ J.rings }
+{
+    for line in 0..lines {
+        gate.before(actor, line);
+        shared.lock(rt).advance_if(rings, actor);
+    }
+}
+
+/// A thread for each processor and tool that has lines, of which the second part says how many.
+fn run_actors<J: Naming + Send + Sync, R: Threads + Wait + Sync, G: Gate + Sync>(
+    rt: &R,
+    shared: &Mutex<Named<J>>,
+    rings: &Rings,
+    turns: &[(Actor, u32)],
+    gate: &G,
+)
+    requires { rings.now ≡ J.rings }
+{
+    let Some(((actor, lines), rest)) = turns.split_first() else {
+        return;
+    };
+    let (actor, lines) = (*actor, *lines);
+    if lines == 0 {
+        return run_actors::<J, R, G>(rt, shared, rings, rest, gate);
+    }
+    join(
+        rt,
+        ||
+            requires { rings.now ≡ J.rings }
+        { act::<J, R, G>(rt, shared, rings, actor, lines, gate) },
+        ||
+            requires { IsSend J.row × IsSync J.row × IsSync R.row × IsSync G.row × (rings.now ≡ J.rings) }
+        { run_actors::<J, R, G>(rt, shared, rings, rest, gate) },
+    );
+}
+
+/// Moves out the reader of the first of some lines.
+fn take_out(ins: &mut Ins, rings: &Rings, line: ReaderLine, rest: &[ReaderLine]) -> In
+    requires rise { AllPairs (λ q r. q.ring.0 < r.ring.0) (line ∷ rest.now) }
+    requires ready { AreReady rings.now ins.old (line ∷ rest.now) }
+    ensures reader { slot_of ins.old line.ring ≡ Some (Some result) }
+    ensures end { ins.new ≡ with_slot ins.old (place_of ins.old.numbers line.ring) None }
+    ensures listed { HasRing ins.old.numbers line.ring }
+    ensures known { HasRing rings.now.numbers line.ring }
+    ensures same { slice_get rings.now.tables (place_of rings.now.numbers line.ring) ≡ Some result.consumer.ring }
+    ensures released { result.consumer.released ≡ length result.words }
+    ensures rise { AllPairs (λ q r. q.ring.0 < r.ring.0) rest.now }
+    ensures ready { AreReady rings.now ins.new rest.now }
+{
+    ins.take_reader(line.ring)
+}
+
+/// A thread for each reader that has a line, beside those of the processors and tools. The readers come back.
+pub fn run_readers<J: Naming + Send + Sync, R: Threads + Wait + Sync, G: Gate + Sync>(
+    rt: &R,
+    shared: &Mutex<Named<J>>,
+    rings: &Rings,
+    mut ins: Ins,
+    lines: &[ReaderLine],
+    turns: &[(Actor, u32)],
+    gate: &G,
+) -> Ins
+    requires rings { rings.now ≡ J.rings }
+    requires rise { AllPairs (λ q r. q.ring.0 < r.ring.0) lines.now }
+    requires ready { AreReady rings.now ins lines.now }
+    ensures numbers { result.numbers ≡ ins.numbers }
+    ensures read { (ring : Ring) → IsReadBy (line_for lines.now ring) ins result ring }
+{
+    let Some((line, rest)) = lines.split_first() else {
+        run_actors::<J, R, G>(rt, shared, rings, turns, gate);
+        return ins;
+    };
+    let line = *line;
+    let reader = take_out(&mut ins, rings, line, rest);
+    let (reader, mut ins) = join(
+        rt,
+        || -> In
+            requires { HasRing rings.now.numbers line.ring × (slice_get rings.now.tables (place_of rings.now.numbers line.ring) ≡ Some reader.consumer.ring)
+                × (reader.consumer.released ≡ length reader.words) }
+            ensures { HasRead line reader result }
+        { read(rings, reader, line, gate) },
+        || -> Ins
+            requires { IsSend J.row × IsSync J.row × IsSync R.row × IsSync G.row × (rings.now ≡ J.rings) × AllPairs (λ q r. q.ring.0 < r.ring.0) rest.now × AreReady rings.now ins rest.now }
+            ensures { (result.numbers ≡ ins.numbers) × ((ring : Ring) → IsReadBy (line_for rest.entry.now ring) ins result ring) }
+        { run_readers::<J, R, G>(rt, shared, rings, ins, rest, turns, gate) },
+    );
+    ins.give_reader(line.ring, reader);
+    ins
+}
