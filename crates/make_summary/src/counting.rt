@@ -1,0 +1,41 @@
+//! How many lines a script has.
+
+ghost use Rattle.std.specs.Prelude.{◌≡◌, length, sum_by};
+ghost use Rattle.perf_base.specs.Scripts.{line_count};
+
+use perf_base::{CpuNo, Script, ToolNo};
+
+/// How many lines the processors of a script have.
+fn cpu_line_count(script: &Script) -> usize
+    ensures { result ≡ sum_by length script.now.cpu_lines }
+{
+    // A reader tells what always holds of a script.
+    let _cpus = script.cpus();
+    let mut count = 0;
+    for cpu in 0..8 {
+        count += script.cpu_lines(CpuNo(cpu)).len();
+    }
+    count
+}
+
+/// How many lines the tools of a script have.
+fn tool_line_count(script: &Script) -> usize
+    ensures { result ≡ sum_by length script.now.tool_lines }
+{
+    // A reader tells what always holds of a script.
+    let _cpus = script.cpus();
+    let mut count = 0;
+    for tool in 0..4 {
+        count += script.tool_lines(ToolNo(tool)).len();
+    }
+    count
+}
+
+/// How many lines a script has.
+pub fn count_lines(script: &Script) -> usize
+    ensures { result ≡ line_count script.now }
+{
+    // A reader tells what always holds of a script.
+    let _cpus = script.cpus();
+    cpu_line_count(script) + tool_line_count(script)
+}
