@@ -1,1 +1,2 @@
+pub mod MadeOrder
 pub mod SummedUp

@@ -10,6 +10,6 @@ mod summary;
 mod tests;
 mod writing;
 
-pub use laws::made_totals;
+pub use laws::{made_has_no_look, made_is_complete, made_totals};
 pub use summary::{Summary, Totals, summary_of};
 pub use writing::write_summary;
