@@ -1,0 +1,4 @@
+pub mod Filling
+pub mod Rising
+pub mod Sound
+pub mod There
