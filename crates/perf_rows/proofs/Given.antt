@@ -6,7 +6,7 @@ use Rattle.perf_io.specs.Outside.{Takes, Adds, IsAtEnd}
 use Rattle.perf_top.specs.declared.status.Status.{Status}
 use Rattle.perf_top.specs.declared.status.Status.TheVariants as status
 use Rattle.perf_top.specs.Notes.{number_of}
-use Rattle.perf_top.specs.Outcome.{Gave, IsRun, AreKnown, IsOutput}
+use Rattle.perf_top.specs.Outcome.{Gave, IsReplayed, AreKnown, IsOutput}
 use Rattle.perf_rows.specs.declared.case.Expected.{Expected}
 use Rattle.perf_rows.specs.declared.again.Again.{Again}
 use Rattle.perf_rows.specs.declared.again.Again.TheVariants as again
@@ -67,7 +67,7 @@ pub not_memory : (line : ℕ) (reason : SReason) → fault.Bad line reason ≡ f
 not_memory line reason e = cc
 
 same_report : (e : Expected) (number : ℕ) (out : List ℕ) (p : Printed) (a : Again) → IsRunOf p a → AllowsAgain e number out a → HasSameReport e number out p
-same_report e number out (printed.Text bytes) (again.Ran answer) r h = (h.0, λ z. subst (λ o. IsRun bytes.items o) (sym h.2) (r (sym h.1 ∙ z)))
+same_report e number out (printed.Text bytes) (again.Ran answer) r h = (h.0, λ z. subst (λ o. IsReplayed bytes.items o) (sym h.2) (r (sym h.1 ∙ z)))
 same_report e number out printed.NoScript again.NoScript r h = h
 same_report e number out printed.NoScript (again.Ran answer) r h = absurd r
 same_report e number out printed.NoScript again.NoRoom r h = absurd r
@@ -81,7 +81,7 @@ same_report e number out (printed.Text bytes) again.NoScript r h = absurd r
 same_report e number out (printed.Text bytes) again.NoRoom r h = absurd r
 
 pub as_expected : (v : Verdict) (e : Expected) (report text : List ℕ) (number : ℕ) (out note : List ℕ) (print : Printed) (a : Again)
-    → (v ≡ verdict.AsExpected → Allows e report number out note × AllowsAgain e number out a) → (number ≡ 0 → IsRun text out) → IsPrintedOf text print → IsRunOf print a
+    → (v ≡ verdict.AsExpected → Allows e report number out note × AllowsAgain e number out a) → (number ≡ 0 → IsReplayed text out) → IsPrintedOf text print → IsRunOf print a
     → v ≡ verdict.AsExpected → IsAsExpected e report text
 as_expected v e report text number out note print a h run is ran expected =
     let both = h expected in

@@ -4,7 +4,7 @@ use Rattle.perf_base.specs.Scripts.{Scripted}
 use Rattle.script_spec.specs.Texts.{StandsFor}
 use Rattle.script_spec.specs.Printing as printing
 use Rattle.perf_top.specs.Notes.{number_of}
-use Rattle.perf_top.specs.Outcome.{IsRun}
+use Rattle.perf_top.specs.Outcome.{IsReplayed}
 use Rattle.perf_rows.specs.Expectations.{Allows, has_script}
 use Rattle.perf_rows.specs.declared.case.Expected.{Expected}
 use Rattle.perf_rows.specs.declared.again.Again.{Again}
@@ -25,7 +25,7 @@ IsPrintedOf text other = (s : Scripted) × StandsFor text s × IsPrintOf s other
 
 -- what became of what was printed: a text was run, and what it wrote under 0 is its report
 abbrev pub IsRunOf : Printed → Again → Type 0
-IsRunOf (printed.Text bytes) (again.Ran answer) = number_of answer.status ≡ 0 → IsRun bytes.items answer.out.held
+IsRunOf (printed.Text bytes) (again.Ran answer) = number_of answer.status ≡ 0 → IsReplayed bytes.items answer.out.held
 IsRunOf printed.NoScript again.NoScript = ⊤
 IsRunOf printed.NoRoom again.NoRoom = ⊤
 IsRunOf p other = ⊥
@@ -39,7 +39,7 @@ AllowsAgain e number out again.NoRoom = ⊥
 
 -- so its report, where it has one, is that of the printed text too
 abbrev pub HasSameReport : Expected → ℕ → List ℕ → Printed → Type 0
-HasSameReport e number out (printed.Text bytes) = IsTrue (has_script e) × (number ≡ 0 → IsRun bytes.items out)
+HasSameReport e number out (printed.Text bytes) = IsTrue (has_script e) × (number ≡ 0 → IsReplayed bytes.items out)
 HasSameReport e number out printed.NoScript = IsTrue (has_script e) → ⊥
 HasSameReport e number out printed.NoRoom = ⊥
 
@@ -51,6 +51,6 @@ pub record IsAsExpected (e : Expected) (report text : List ℕ) : Type 0 where
   pub note : List ℕ
   pub print : Printed
   pub allowed : Allows e report number out note
-  pub run : number ≡ 0 → IsRun text out
+  pub run : number ≡ 0 → IsReplayed text out
   pub printed : IsPrintedOf text print
   pub same : HasSameReport e number out print

@@ -11,6 +11,8 @@ use crate::printed::Printed;
 use crate::verdict::{Ending, Verdict, compare, judge};
 use perf_base::NoMemory;
 use std::alloc::{AllocError, Global};
+use std::sync::Wait;
+use std::thread::Threads;
 
 /// What became of the printed text.
 #[derive(Drop)]
@@ -24,11 +26,15 @@ pub enum Again {
 }
 
 /// Runs a printed text, where there is one.
-pub fn run_printed(alloc: Global, printed: Printed) -> Result<Again, NoMemory>
+pub fn run_printed<R: Threads + Wait + Sync>(
+    rt: &R,
+    alloc: Global,
+    printed: Printed,
+) -> Result<Again, NoMemory>
     ensures { IfOk result (IsRunOf printed) }
 {
     match printed {
-        Printed::Text(text) => Ok(Again::Ran(answer_to(alloc, text)?)),
+        Printed::Text(text) => Ok(Again::Ran(answer_to(rt, alloc, text)?)),
         Printed::NoScript => Ok(Again::NoScript),
         Printed::NoRoom => Ok(Again::NoRoom),
     }

@@ -1,14 +1,16 @@
 //! The top call over memory.
 
-ghost use Rattle.std.specs.Prelude.{◌≡◌, ◌↔◌, ℕ, List, [], map, Option, Some, IfOk, string_bytes};
+ghost use Rattle.std.specs.Prelude.{◌≡◌, ◌↔◌, ℕ, List, [], ◌∷◌, codes, map, Option, Some, IfOk, string_bytes};
 ghost use Rattle.perf_top.specs.Notes.{number_of};
-ghost use Rattle.perf_top.specs.Outcome.{AreKnown, IsOutput, IsRun, IsBadOrder, IsBadScript};
+ghost use Rattle.perf_top.specs.Outcome.{AreKnown, IsOutput, IsReplayed, IsBadOrder, IsBadScript};
 
 use crate::verdict::Ending;
 use perf_base::{NoMemory, RingNo, SReason};
 use perf_io::{MemSink, MemSource};
-use perf_top::{Status, perf_main};
+use perf_top::{OpenGate, Status, perf_main};
 use std::alloc::Global;
+use std::sync::Wait;
+use std::thread::Threads;
 
 /// How many bytes a read gives and a write takes at most, so that a text comes in several pieces.
 const PIECE: usize = 512;
@@ -45,34 +47,55 @@ pub fn sink(alloc: Global) -> Result<MemSink, NoMemory>
 }
 
 /// The answer to words, beside a source that has these bytes.
-fn answer_of(alloc: Global, words: &[String], text: Vec<u8>) -> Result<Answer, NoMemory>
+fn answer_of<R: Threads + Wait + Sync>(
+    rt: &R,
+    alloc: Global,
+    words: &[String],
+    text: Vec<u8>,
+) -> Result<Answer, NoMemory>
     ensures done { IfOk result (λ answer. answer.status ≡ Status.Done → (left : Option (List ℕ)) × IsOutput (map string_bytes words.now) (Some text.items) left answer.out.held) }
-    ensures bad_script { IfOk result (λ answer. (line : ℕ) → (reason : SReason) → answer.status ≡ Status.BadScript line reason → IsBadScript text.items line reason) }
+    ensures bad_script { IfOk result (λ answer. (line : ℕ) → (reason : SReason) → answer.status ≡ Status.BadScript line reason → IsBadScript (map string_bytes words.now) text.items line reason) }
     ensures bad_order { IfOk result (λ answer. (index : ℕ) → (ring : RingNo) → (last : ℕ) → (head : ℕ) → (given : ℕ) → answer.status ≡ Status.BadOrder index ring last head given → IsBadOrder text.items index ring last head given) }
     ensures usage { IfOk result (λ answer. answer.status ≡ Status.Usage ↔ (AreKnown (map string_bytes words.now) → ⊥)) }
 {
     let mut source = MemSource::new(text, PIECE, Vec::new(alloc));
     let mut out = sink(alloc)?;
     let mut notes = sink(alloc)?;
-    let status = perf_main(alloc, words, &mut source, &mut out, &mut notes);
+    let status = perf_main(
+        rt,
+        alloc,
+        words,
+        &mut source,
+        &mut out,
+        &mut notes,
+        &OpenGate,
+    );
     Ok(Answer { status, out, notes })
 }
 
 /// The answer of a replay of the text.
-pub fn answer_to(alloc: Global, text: Vec<u8>) -> Result<Answer, NoMemory>
-    ensures done { IfOk result (λ answer. answer.status ≡ Status.Done → IsRun text.items answer.out.held) }
-    ensures bad_script { IfOk result (λ answer. (line : ℕ) → (reason : SReason) → answer.status ≡ Status.BadScript line reason → IsBadScript text.items line reason) }
+pub fn answer_to<R: Threads + Wait + Sync>(
+    rt: &R,
+    alloc: Global,
+    text: Vec<u8>,
+) -> Result<Answer, NoMemory>
+    ensures done { IfOk result (λ answer. answer.status ≡ Status.Done → IsReplayed text.items answer.out.held) }
+    ensures bad_script { IfOk result (λ answer. (line : ℕ) → (reason : SReason) → answer.status ≡ Status.BadScript line reason → IsBadScript (codes "replay" ∷ []) text.items line reason) }
     ensures bad_order { IfOk result (λ answer. (index : ℕ) → (ring : RingNo) → (last : ℕ) → (head : ℕ) → (given : ℕ) → answer.status ≡ Status.BadOrder index ring last head given → IsBadOrder text.items index ring last head given) }
 {
     let mut words = Vec::new(alloc);
     words.push(String::from_str(alloc, "replay")?)?;
-    answer_of(alloc, &words, text)
+    answer_of(rt, alloc, &words, text)
 }
 
 /// The answer to words, beside a source that has nothing.
-pub fn answer_to_words(alloc: Global, words: &[String]) -> Result<Answer, NoMemory>
+pub fn answer_to_words<R: Threads + Wait + Sync>(
+    rt: &R,
+    alloc: Global,
+    words: &[String],
+) -> Result<Answer, NoMemory>
     ensures done { IfOk result (λ answer. answer.status ≡ Status.Done → (left : Option (List ℕ)) × IsOutput (map string_bytes words.now) (Some []) left answer.out.held) }
     ensures usage { IfOk result (λ answer. answer.status ≡ Status.Usage ↔ (AreKnown (map string_bytes words.now) → ⊥)) }
 {
-    answer_of(alloc, words, Vec::new(alloc))
+    answer_of(rt, alloc, words, Vec::new(alloc))
 }

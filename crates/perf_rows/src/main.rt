@@ -22,6 +22,8 @@ use perf_base::NoMemory;
 use printed::printed_text;
 use std::alloc::Global;
 use std::process::ExitCode;
+use std::sync::Wait;
+use std::thread::Threads;
 use std::{env, fs, io};
 use verdict::{Verdict, judge};
 
@@ -72,7 +74,8 @@ fn read_report(rt: &HostRuntime, folder: &str, case: &Case) -> io::Result<Vec<u8
 }
 
 /// How a text went, and then how the printed text of its script went.
-fn run_text(
+fn run_text<R: Threads + Wait + Sync>(
+    rt: &R,
     alloc: Global,
     expected: &Expected,
     report: &[u8],
@@ -81,13 +84,14 @@ fn run_text(
     ensures { IfOk result (λ verdict. verdict ≡ Verdict.AsExpected → IsAsExpected expected.now report.now text.items) }
 {
     let printed = printed_text(alloc, &text)?;
-    let answer = answer_to(alloc, text)?;
-    let again = run_printed(alloc, printed)?;
+    let answer = answer_to(rt, alloc, text)?;
+    let again = run_printed(rt, alloc, printed)?;
     Ok(judge_both(alloc, expected, report, answer.ending(), &again)?)
 }
 
 /// How words went.
-fn run_words(
+fn run_words<R: Threads + Wait + Sync>(
+    rt: &R,
     alloc: Global,
     expected: &Expected,
     report: &[u8],
@@ -95,7 +99,7 @@ fn run_words(
 ) -> Result<Verdict, NoMemory>
     ensures { IfOk result (λ verdict. verdict ≡ Verdict.AsExpected → AreAsExpected expected.now report.now (map string_bytes words.now)) }
 {
-    let answer = answer_to_words(alloc, words)?;
+    let answer = answer_to_words(rt, alloc, words)?;
     Ok(judge(alloc, expected, report, answer.ending())?)
 }
 
@@ -111,8 +115,9 @@ fn read_words(rt: &HostRuntime, folder: &str, case: &Case) -> io::Result<Vec<Str
 }
 
 /// Runs the words or the text of a case.
-fn run_given(
+fn run_given<R: Threads + Wait + Sync>(
     rt: &HostRuntime,
+    threads: &R,
     folder: &str,
     case: &Case,
     report: &[u8],
@@ -120,27 +125,43 @@ fn run_given(
     match case.expected {
         Expected::Words | Expected::Usage => {
             let words = read_words(rt, folder, case)?;
-            Ok(run_words(rt.alloc(), &case.expected, report, &words))
+            Ok(run_words(
+                threads,
+                rt.alloc(),
+                &case.expected,
+                report,
+                &words,
+            ))
         }
         _ => {
             let text = read_part(rt, folder, case.name.as_str(), "script")?;
-            Ok(run_text(rt.alloc(), &case.expected, report, text))
+            Ok(run_text(threads, rt.alloc(), &case.expected, report, text))
         }
     }
 }
 
 /// Runs a case, and says how it went.
-fn run_case(rt: &HostRuntime, folder: &str, case: &Case) -> io::Result<Verdict> {
+fn run_case<R: Threads + Wait + Sync>(
+    rt: &HostRuntime,
+    threads: &R,
+    folder: &str,
+    case: &Case,
+) -> io::Result<Verdict> {
     let report = read_report(rt, folder, case)?;
-    match run_given(rt, folder, case, &report)? {
+    match run_given(rt, threads, folder, case, &report)? {
         Err(NoMemory) => Err(io::ErrorKind::OutOfMemory.into()),
         Ok(verdict) => Ok(verdict),
     }
 }
 
 /// How a case went; one that could not be run differs.
-fn verdict_of(rt: &HostRuntime, folder: &str, case: &Case) -> io::Result<Verdict> {
-    match run_case(rt, folder, case) {
+fn verdict_of<R: Threads + Wait + Sync>(
+    rt: &HostRuntime,
+    threads: &R,
+    folder: &str,
+    case: &Case,
+) -> io::Result<Verdict> {
+    match run_case(rt, threads, folder, case) {
         Ok(verdict) => Ok(verdict),
         Err(error) => Ok(Verdict::Differs(format!(in rt.alloc(); "not run: {error}")?)),
     }
@@ -171,11 +192,17 @@ fn print_verdict(rt: &HostRuntime, case: &Case, verdict: &Verdict) -> io::Result
 }
 
 /// Runs the case of a line of the list, if it is one.
-fn run_line(rt: &HostRuntime, folder: &str, line: &str, tally: Tally) -> io::Result<Tally> {
+fn run_line<R: Threads + Wait + Sync>(
+    rt: &HostRuntime,
+    threads: &R,
+    folder: &str,
+    line: &str,
+    tally: Tally,
+) -> io::Result<Tally> {
     match parse_case(rt.alloc(), line)? {
         None => Ok(tally),
         Some(case) => {
-            let verdict = verdict_of(rt, folder, &case)?;
+            let verdict = verdict_of(rt, threads, folder, &case)?;
             print_verdict(rt, &case, &verdict)?;
             Ok(tally.with(&verdict))
         }
@@ -183,14 +210,18 @@ fn run_line(rt: &HostRuntime, folder: &str, line: &str, tally: Tally) -> io::Res
 }
 
 /// Runs the cases of the list.
-fn run_list(rt: &HostRuntime, folder: &str) -> io::Result<Tally> {
+fn run_list<R: Threads + Wait + Sync>(
+    rt: &HostRuntime,
+    threads: &R,
+    folder: &str,
+) -> io::Result<Tally> {
     let list = fs::read_to_string(rt, format!(in rt.alloc(); "{folder}/cases")?)?;
     let mut tally = Tally {
         cases: 0,
         failures: 0,
     };
     for line in list.as_str().lines() {
-        tally = run_line(rt, folder, line, tally)?;
+        tally = run_line(rt, threads, folder, line, tally)?;
     }
     println!(rt; "{} cases, {} failures", tally.cases, tally.failures)?;
     Ok(tally)
@@ -198,7 +229,7 @@ fn run_list(rt: &HostRuntime, folder: &str) -> io::Result<Tally> {
 
 fn main(rt: HostRuntime) -> io::Result<ExitCode> {
     let folder = list_folder(&rt)?;
-    let tally = run_list(&rt, folder.as_str())?;
+    let tally = run_list(&rt, &rt, folder.as_str())?;
     if tally.failures == 0 {
         Ok(ExitCode::SUCCESS)
     } else {

@@ -1,4 +1,4 @@
-//! Replays a script of tasks, processor work and counter commands. It collects the words, makes the standard
+//! Replays or runs a script of tasks, processor work and counter commands. It collects the words, makes the standard
 //! streams, calls `perf_main`, and ends with the answer's number.
 #![tactic(auto)]
 
@@ -8,7 +8,7 @@ ghost use Rattle.std.specs.declared.io.ErrorKind.TheVariants.{OutOfMemory};
 ghost use Rattle.perf_top.specs.declared.status.Status.TheVariants as status;
 
 use perf_io::{StdNotes, StdSink, StdSource};
-use perf_top::{Status, perf_main, put_note};
+use perf_top::{OpenGate, Status, perf_main, put_note};
 use std::process::ExitCode;
 use std::{env, io};
 
@@ -42,7 +42,15 @@ fn main(rt: HostRuntime) -> ExitCode {
         Ok(words) => {
             let mut source = StdSource::new(rt.stdin());
             let mut sink = StdSink::new(rt.stdout());
-            perf_main(rt.alloc(), &words, &mut source, &mut sink, &mut notes)
+            perf_main(
+                &rt,
+                rt.alloc(),
+                &words,
+                &mut source,
+                &mut sink,
+                &mut notes,
+                &OpenGate,
+            )
         }
         Err(status) => match put_note(&mut notes, &status) {
             Ok(()) | Err(_) => status,

@@ -6,5 +6,7 @@ pub mod Filling
 pub mod LineCounts
 pub mod Lines
 pub mod OrderLength
+pub mod Parts
+pub mod Reported
 pub mod Rooms
 pub mod Told

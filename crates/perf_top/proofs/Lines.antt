@@ -20,7 +20,6 @@ use Rattle.report_spec.specs.Answers.{IsAnswered, lost_in}
 use Rattle.machine.specs.Leading.{Kept, LeadTo, done_by}
 use Rattle.machine.specs.Stepping.{HasNoLine, IsAnswerTo, IsUnlawful, NamesRing}
 use Rattle.machine.proofs.Answers.{answers-look, answers-push}
-use Rattle.perf_top.specs.Keeping.{kept, line_in}
 use Rattle.perf_top.specs.Outcome.{HasBadLook}
 
 -- fewer are counted before an element that counts than in all
@@ -50,31 +49,6 @@ ring-named s i (act.Processor cpu) h l e = tt
 ring-named s i (act.Tool tool) h l e = tt
 ring-named s i (act.Seen ring place) h l e = subst (IsAct s) e (h.order i (act.Seen ring place) l)
 
--- one act more, and its answer
-pub took-step : (order : List Act) (i : ℕ) (a : Act) → i < length order → get_or order i a ≡ a → take (i + 1) order ≡ take i order ++ a ∷ []
-took-step order i a l at = take_more order i a l ∙ ap (λ b. take i order ++ b ∷ []) at
-
-pub answered-then : (s : Scripted) (acts : List Act) (a : Act) (line : Option (Actor × ℕ)) (reply : Reply) (answers : List (Actor × ℕ × Reply)) → lines_of_act acts a ≡ line_in line
-    → IsAnswerTo s acts a reply → AnswerOrder s (lost_in s) acts (map answered answers) → AnswerOrder s (lost_in s) (acts ++ a ∷ []) (map answered (answers ++ kept line reply))
-answered-then s acts (act.Processor cpu) None reply answers is r h = absurd (omega (arith, ap length is))
-answered-then s acts (act.Processor cpu) (Some line) reply answers is r h =
-    rw (map-append answered answers ((line.0, line.1, reply) ∷ [])) (answers-push s (lost_in s) acts (act.Processor cpu) (map answered answers) (answered (line.0, line.1, reply)) h is r)
-answered-then s acts (act.Tool tool) None reply answers is r h = absurd (omega (arith, ap length is))
-answered-then s acts (act.Tool tool) (Some line) reply answers is r h =
-    rw (map-append answered answers ((line.0, line.1, reply) ∷ [])) (answers-push s (lost_in s) acts (act.Tool tool) (map answered answers) (answered (line.0, line.1, reply)) h is r)
-answered-then s acts (act.Seen ring place) None reply answers is r h =
-    subst (λ xs. AnswerOrder s (lost_in s) (acts ++ act.Seen ring place ∷ []) (map answered xs)) (sym (append-nil answers)) (answers-look s (lost_in s) acts ring place (map answered answers) h)
-answered-then s acts (act.Seen ring place) (Some line) reply answers is r h = absurd (omega (arith, ap length is))
-
--- whose line an act does
-pub line-of-cpu : (s : Scripted) (acts : List Act) (m : Kept) (cpu : CpuNo) (n : ℕ) → LeadTo s acts m → n ≡ done_by (actor.Processor cpu) m
-    → lines_of_act acts (act.Processor cpu) ≡ (actor.Processor cpu, n) ∷ []
-line-of-cpu s acts m cpu n led e = ap (λ k. (actor.Processor cpu, k) ∷ []) (sym (e ∙ led.cpus cpu))
-
-pub line-of-tool : (s : Scripted) (acts : List Act) (m : Kept) (tool : ToolNo) (n : ℕ) → LeadTo s acts m → n ≡ done_by (actor.Tool tool) m
-    → lines_of_act acts (act.Tool tool) ≡ (actor.Tool tool, n) ∷ []
-line-of-tool s acts m tool n led e = ap (λ k. (actor.Tool tool, k) ∷ []) (sym (e ∙ led.tools tool))
-
 -- the first look that is not lawful
 pub bad-look : (s : Scripted) (m : Kept) (i : ℕ) (a : Act) (ring : RingNo) (last head given : ℕ) → i < length s.order → get_or s.order i a ≡ a → LeadTo s (take i s.order) m
     → a ≡ act.Seen ring given → IsUnlawful s (take i s.order) ring last head given → HasBadLook s i ring last head given
@@ -99,26 +73,9 @@ ring-named-at s order i d h e =
     (λ low. ring-named s i (get_or s.order i d) h low (get_or_default s.order i (get_or s.order i d) d low))
 
 pub bad-look-at : (s : Scripted) (order : List Act) (m : Kept) (i : ℕ) (d : Act) (ring : RingNo) (last head given : ℕ) → order ≡ s.order → i < length order → LeadTo s (take i order) m
-    → get_or order i d ≡ act.Seen ring given → ((acts : List Act) → LeadTo s acts m → IsUnlawful s acts ring last head given) → HasBadLook s i ring last head given
+    → get_or order i d ≡ act.Seen ring given → IsUnlawful s (take i s.order) ring last head given → HasBadLook s i ring last head given
 bad-look-at s order m i d ring last head given e =
-    subst (λ (o : List Act). i < length o → LeadTo s (take i o) m → get_or o i d ≡ act.Seen ring given → ((acts : List Act) → LeadTo s acts m → IsUnlawful s acts ring last head given)
+    subst (λ (o : List Act). i < length o → LeadTo s (take i o) m → get_or o i d ≡ act.Seen ring given → IsUnlawful s (take i s.order) ring last head given
     → HasBadLook s i ring last head given) (sym e)
     (λ low led is u.
-    bad-look s m i (get_or s.order i d) ring last head given low (get_or_default s.order i (get_or s.order i d) d low) led is (u (take i s.order) led))
-
-pub took-at : (order : List Act) (i : ℕ) (d : Act) → i < length order → take (i + 1) order ≡ take i order ++ get_or order i d ∷ []
-took-at order i d low = took-step order i (get_or order i d) low (get_or_default order i (get_or order i d) d low)
-
--- the whole order
-pub all-answered : (s : Scripted) (m : Kept) (i : ℕ) (answers : List (Actor × ℕ × Reply)) → length s.order ≤ i → LeadTo s (take i s.order) m
-    → AnswerOrder s (lost_in s) (take i s.order) (map answered answers) → LeadTo s s.order m × IsAnswered s s.order (map answered answers)
-all-answered s m i answers past led h =
-    let whole : take i s.order ≡ s.order = take_all i s.order past in
-    let end : LeadTo s s.order m = subst (λ acts. LeadTo s acts m) whole led in (
-      end,
-      record {
-        counted = end.counted;
-        lawful = end.lawful;
-        answered = subst (λ acts. AnswerOrder s (lost_in s) acts (map answered answers)) whole h;
-      },
-    )
+    bad-look s m i (get_or s.order i d) ring last head given low (get_or_default s.order i (get_or s.order i d) d low) led is u)

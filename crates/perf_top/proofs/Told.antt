@@ -17,30 +17,12 @@ use Rattle.sample_ring.specs.RingLists.{InList}
 use Rattle.sample_ring.specs.declared.sent.RingNumbers.{RingNumbers}
 use Rattle.sample_ring.proofs.Sending.{size-words}
 use Rattle.machine.specs.declared.ending.RingEnd.{RingEnd}
-use Rattle.machine.specs.Ended.{HasTakenAll}
 use Rattle.machine.specs.Readers.{HasTaken, HaveTaken, IsShown, words_in}
+use Rattle.perf_book.proofs.Declared.{IsDeclared, all-declared}
+use Rattle.perf_book.proofs.Taken.{first-is, others-are}
 use Rattle.report.specs.Told.{AreTold, IsTold, all_told, told_lines}
 use Rattle.script_print.proofs.Loops.{IsText}
 use Rattle.report_spec.specs.Report.{rings_after}
-
--- the ring of a place among rings that rise is the one that its number finds
-found-own : (rings : List (RingNo × ℕ)) (i : ℕ) (d : RingNo × ℕ) → AllPairs (λ (q r : RingNo × ℕ). q.0.0 < r.0.0) rings → i < length rings
-    → find (λ (q : RingNo × ℕ). q.0.0 == (get_or rings i d).0.0) rings ≡ Some (get_or rings i d)
-found-own [] i d h low = absurd (omega (arith, low))
-found-own (r ∷ rings) zero d h low = find-first (λ (q : RingNo × ℕ). q.0.0 == r.0.0) r rings (grind (arith, nat_tests))
-found-own (r ∷ rings) (suc i) d h low =
-    let few : i < length rings = omega (arith, low) in
-    let less : r.0.0 < (get_or rings i d).0.0 = h 0 (suc i) d (omega arith) low in
-    let off : (r.0.0 == (get_or rings i d).0.0) ≡ false = grind (arith, nat_tests, less) in
-    find-later (λ (q : RingNo × ℕ). q.0.0 == (get_or rings i d).0.0) r rings off
-    ∙ found-own rings i d (λ j k e below inside. h (suc j) (suc k) e (omega (arith, below)) (omega (arith, inside))) few
-
--- so each ring has its declared size
-abbrev IsDeclared : Scripted → RingNo × ℕ → Type 0
-IsDeclared s r = bytes_of s r.0 ≡ r.1
-
-all-declared : (s : Scripted) → IsScript s → All (IsDeclared s) s.rings
-all-declared s h = λ i d low. ap bytes_in (found-own s.rings i d h.rings_rise low)
 
 -- the numbers and the words of one ring
 told-one : (s : Scripted) (order : List Act) (ins : InList) (e : RingEnd) (r : RingNo × ℕ) → e.ring ≡ r.0 → IsDeclared s r → IsShown e.numbers (account_in s order (e.ring, bytes_of s e.ring))
@@ -56,12 +38,6 @@ told-one s order ins e r same bytes shown taken =
       lawful = sizes_law (hardware_of s) (opening_stage s) (history s order) r;
       written = ap (words_in ins) same ∙ (taken.words ∙ ap (λ n. words_of (account_in s order (r.0, n)).written) bytes);
     }
-
-first-is : (m n : RingNo) (ms ns : List RingNo) → ◌≡◌ {A = List RingNo} (m ∷ ms) (n ∷ ns) → m ≡ n
-first-is m n ms ns e = cc
-
-others-are : (m n : RingNo) (ms ns : List RingNo) → ◌≡◌ {A = List RingNo} (m ∷ ms) (n ∷ ns) → ms ≡ ns
-others-are m n ms ns e = cc
 
 told-each : (s : Scripted) (order : List Act) (ins : InList) (ends : List RingEnd) (rings : List (RingNo × ℕ)) → map (λ (e : RingEnd). e.ring) ends ≡ map (λ (r : RingNo × ℕ). r.0) rings
     → All (IsDeclared s) rings → All (λ (e : RingEnd). IsShown e.numbers (account_in s order (e.ring, bytes_of s e.ring))) ends → All (λ (r : RingNo × ℕ). HasTaken s order ins r.0) rings
@@ -84,26 +60,6 @@ pub are-told : (s : Scripted) (order : List Act) (ins : InList) (ends : List Rin
     → All (λ (e : RingEnd). IsShown e.numbers (account_in s order (e.ring, bytes_of s e.ring))) ends → HaveTaken s order ins
     → AreTold (map (λ (e : RingEnd). (e.ring, e.numbers, words_in ins e.ring)) ends) (rings_after s order)
 are-told s order ins ends h same shown taken = told-each s order ins ends s.rings same (all-declared s h) shown taken
-
--- and the readers have all words up to the heads
-taken-each : (s : Scripted) (order : List Act) (ins : InList) (ends : List RingEnd) (rings : List (RingNo × ℕ)) → map (λ (e : RingEnd). e.ring) ends ≡ map (λ (r : RingNo × ℕ). r.0) rings
-    → All (λ (e : RingEnd). IsShown e.numbers (account_in s order (e.ring, bytes_of s e.ring))) ends → All (λ (r : RingNo × ℕ). HasTaken s order ins r.0) rings → All (HasTakenAll ins) ends
-taken-each s order ins [] rings same shown taken = All-nil (HasTakenAll ins)
-taken-each s order ins (e ∷ ends) [] same shown taken = absurd (omega (arith, ap length same))
-taken-each s order ins (e ∷ ends) (r ∷ rings) same shown taken =
-    let numbers : List RingNo = map (λ (x : RingEnd). x.ring) ends in
-    let others : List RingNo = map (λ (q : RingNo × ℕ). q.0) rings in
-    let here : e.ring ≡ r.0 = first-is e.ring r.0 numbers others same in
-    let its : HasTaken s order ins e.ring = subst (HasTaken s order ins) (sym here) (All-head (λ (q : RingNo × ℕ). HasTaken s order ins q.0) r rings taken) in
-    let a : Account = account_in s order (e.ring, bytes_of s e.ring) in
-    let head : e.numbers.head ≡ head_of a = (All-head (λ (x : RingEnd). IsShown x.numbers (account_in s order (x.ring, bytes_of s x.ring))) e ends shown).head in
-    All-cons (HasTakenAll ins) e ends (record { there = its.there; words = ap (λ (words : List ℕ). 8 * length words) its.words ∙ (sym (size-words a.written) ∙ sym head) })
-    (taken-each s order ins ends rings (others-are e.ring r.0 numbers others same)
-    (All-tail (λ (x : RingEnd). IsShown x.numbers (account_in s order (x.ring, bytes_of s x.ring))) e ends shown) (All-tail (λ (q : RingNo × ℕ). HasTaken s order ins q.0) r rings taken))
-
-pub all-taken : (s : Scripted) (order : List Act) (ins : InList) (ends : List RingEnd) → map (λ (e : RingEnd). e.ring) ends ≡ map (λ (r : RingNo × ℕ). r.0) s.rings
-    → All (λ (e : RingEnd). IsShown e.numbers (account_in s order (e.ring, bytes_of s e.ring))) ends → HaveTaken s order ins → All (HasTakenAll ins) ends
-all-taken s order ins ends same shown taken = taken-each s order ins ends s.rings same shown taken
 
 -- the lines of the rings, one after the other
 abbrev pub end_told : InList → RingEnd → RingNo × RingNumbers × List ℕ

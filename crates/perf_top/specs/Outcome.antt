@@ -21,19 +21,26 @@ use Rattle.machine.specs.Ended.{Ran}
 use Rattle.machine.specs.Readers.{words_in}
 use Rattle.report.specs.Said.{answered}
 use Rattle.report.specs.Told.{told_report}
-use Rattle.report_spec.specs.Answers.{IsAnswered}
+use Rattle.report_spec.specs.Answers.{AreReadersParts, IsAnswered, IsRunShaped}
 use Rattle.report_spec.specs.Report.{report, rings_after}
 use Rattle.perf_io.specs.Outside.{Takes, IsAtEnd}
 use Rattle.perf_io.specs.Wrote.{Wrote}
 use Rattle.perf_io.specs.declared.outside.Failed.{Failed}
 
--- the words that have the script's own order done
+-- the words that have the script's own order done, and those that have the script run by threads
 abbrev pub IsReplay : List (List ℕ) → Type 0
 IsReplay words = words ≡ codes "replay" ∷ []
 
+abbrev pub IsRun : List (List ℕ) → Type 0
+IsRun words = words ≡ codes "run" ∷ []
+
+-- the words for which a script is read
+abbrev pub ReadsScript : List (List ℕ) → Type 0
+ReadsScript words = IsReplay words ⊎ IsRun words
+
 -- the words that the program knows
 abbrev pub AreKnown : List (List ℕ) → Type 0
-AreKnown words = IsReplay words ⊎ ((bytes : List ℕ) × IsAttr words bytes)
+AreKnown words = ReadsScript words ⊎ ((bytes : List ℕ) × IsAttr words bytes)
 
 -- The source was read to its end, and this is all that it gave.
 pub record Gave (before after : Option (List ℕ)) (text : List ℕ) : Type 0 where
@@ -48,12 +55,12 @@ pub record IsConserved (s : Scripted) (order : List Act) (ring : RingNo × ℕ) 
       ≡ count_by is_sample (account_in s order ring).written + length (account_in s order ring).lost
   pub told : length (account_in s order ring).lost ≡ sum_by losses_in (account_in s order ring).written + (account_in s order ring).pending
 
--- These bytes are the report of a script's own order, with answers to it, and on each ring of it records are conserved.
-pub record IsReported (script : Scripted) (out : List ℕ) : Type 0 where
+-- These bytes are the report of an order of a script, with answers to it, and on each ring of it records are conserved.
+pub record IsReported (script : Scripted) (order : List Act) (out : List ℕ) : Type 0 where
   pub answers : List Answered
-  pub answered : IsAnswered script script.order answers
-  pub conserved : All (IsConserved script script.order) script.rings
-  pub is : out ≡ report script script.order answers (rings_after script script.order)
+  pub answered : IsAnswered script order answers
+  pub conserved : All (IsConserved script order) script.rings
+  pub is : out ≡ report script order answers (rings_after script order)
 
 -- the rings of a run that has ended: which they are, their numbers, and the words that were written on them
 abbrev pub rings_of : Ran → List (RingNo × RingNumbers × List ℕ)
@@ -63,12 +70,23 @@ rings_of r = map (λ e. (e.ring, e.numbers, words_in r.ins e.ring)) r.ends
 abbrev pub report_by : Ran → List ℕ
 report_by r = told_report r.script r.order (map answered r.answers) (rings_of r)
 
--- The text stands for a script whose order is complete, and these bytes are its report.
-pub record IsRun (text out : List ℕ) : Type 0 where
+-- The text stands for a script whose order is complete, and these bytes are the report of that order.
+pub record IsReplayed (text out : List ℕ) : Type 0 where
   pub script : Scripted
   pub stands : StandsFor text script
   pub complete : IsComplete script script.order
-  pub reported : IsReported script out
+  pub reported : IsReported script script.order out
+
+-- The text stands for a script, and these bytes are the report of a complete order that a run may leave: looks at rings stand before a processor's line or at the
+-- end, by rising rings, each further than the last one, and each reader took no more records than its tries allow.
+pub record IsRunOf (text out : List ℕ) : Type 0 where
+  pub script : Scripted
+  pub order : List Act
+  pub stands : StandsFor text script
+  pub complete : IsComplete script order
+  pub shaped : IsRunShaped order
+  pub parts : AreReadersParts script order
+  pub reported : IsReported script order out
 
 -- The act of this number, from 0, is the first look of a script's own order that is not lawful: the acts before it leave the ring's tail seen last at `last`, and its
 -- head at `head`, and there it can't be seen at the place given.
@@ -94,16 +112,17 @@ pub record HasOpenOrder (text : List ℕ) (line : ℕ) (reason : SReason) : Type
   pub at_end : line ≡ length (lines_of text)
   pub is_order : reason ≡ s_reason.Order
 
--- The text is no script, by its first faulty line, or one whose order is not complete.
-abbrev pub IsBadScript : List ℕ → ℕ → SReason → Type 0
-IsBadScript text line reason = IsRefused text line reason ⊎ HasOpenOrder text line reason
+-- The text is no script, by its first faulty line; or, where the script's own order is to be done, one whose order is not complete.
+abbrev pub IsBadScript : List (List ℕ) → List ℕ → ℕ → SReason → Type 0
+IsBadScript words text line reason = IsRefused text line reason ⊎ (IsReplay words × HasOpenOrder text line reason)
 
--- What the words have written: under `replay` the report of the text that the source gave, to its end, and under `attr` the line
--- of the bytes that the second word spells, for which no source is read.
+-- What the words have written: under `replay` and `run` the report of the text that the source gave, to its end, and under `attr` the
+-- line of the bytes that the second word spells, for which no source is read.
 abbrev pub IsOutput : List (List ℕ) → Option (List ℕ) → Option (List ℕ) → List ℕ → Type 0
 IsOutput words before after out =
-    (IsReplay words × ((text : List ℕ) × Gave before after text × IsRun text out))
-    ⊎ ((bytes : List ℕ) × IsAttr words bytes × IsLineOf bytes out)
+    (IsReplay words × ((text : List ℕ) × Gave before after text × IsReplayed text out))
+    ⊎ ((IsRun words × ((text : List ℕ) × Gave before after text × IsRunOf text out))
+    ⊎ ((bytes : List ℕ) × IsAttr words bytes × IsLineOf bytes out))
 
 -- Nothing was read, or all that the source had left, which is a text that is not too long.
 abbrev pub ReadNoneOrAll : {S : Type 0} → (S → Option (List ℕ)) → S → S → Type 0

@@ -8,10 +8,11 @@ ghost use Rattle.perf_io.specs.Outside.{Adds, Rose};
 ghost use Rattle.perf_io.specs.Wrote.{WroteFront};
 ghost use Rattle.perf_top.specs.Attributes.{IsAttr};
 ghost use Rattle.perf_top.specs.Notes.{note_of};
-ghost use Rattle.perf_top.specs.Outcome.{AreKnown, IsReplay, IsOutput, Noted, Gave, ReadNoneOrAll, IsBadOrder, IsBadScript};
+ghost use Rattle.perf_top.specs.Outcome.{AreKnown, IsReplay, IsRun, IsOutput, Noted, Gave, ReadNoneOrAll, ReadsScript, IsBadOrder, IsBadScript};
 
 mod attr;
 mod line;
+mod load;
 mod notes;
 mod replay;
 mod run;
@@ -20,18 +21,32 @@ mod stop;
 #[cfg(test)]
 mod tests;
 mod text;
+#[cfg(test)]
+mod thread_tests;
+mod threads;
 
 pub use notes::put_note;
 use perf_base::{RingNo, SReason};
+use perf_book::Gate;
+pub use perf_book::OpenGate;
 use perf_io::{Sink, Source};
 pub use status::Status;
 use std::alloc::Global;
+use std::sync::Wait;
+use std::thread::Threads;
 
 /// Whether the words are those of a replay.
 fn is_replay(words: &[String]) -> bool
     ensures { IsTrue result ↔ IsReplay (map string_bytes words.now) }
 {
     words.len() == 1 && words[0].as_str() == "replay"
+}
+
+/// Whether the words are those of a run by threads.
+fn is_run(words: &[String]) -> bool
+    ensures { IsTrue result ↔ IsRun (map string_bytes words.now) }
+{
+    words.len() == 1 && words[0].as_str() == "run"
 }
 
 /// The second of two words of which the first is `attr`.
@@ -63,29 +78,32 @@ fn noted<N: Sink>(notes: &mut N, status: Status) -> Status
 }
 
 /// Does what the words ask for, those behind the program's name. `replay` reads a script from the source to its end, does
-/// its own order, and writes that order and what its lines answered to the sink. A text may have 4194304 bytes. `attr` and
+/// its own order, and writes that order and what its lines answered to the sink. `run` reads a script too, and runs it with a thread for each processor, tool and
+/// reader: it writes the order that came of it, and its report; each worker passes the gate before each line or try. A text may have 4194304 bytes. `attr` and
 /// the bytes of an attribute, two hexadecimal digits each, writes what they say, or their first fault; it reads nothing and
 /// takes no memory. Other words are not known. Each answer but Done is written to the notes as one line. All memory is
 /// taken before the first write, and none between the first read and the last: where it runs out, nothing
 /// was read, or the whole text.
-pub fn perf_main<S: Source, K: Sink, N: Sink>(
+pub fn perf_main<R: Threads + Wait + Sync, S: Source, K: Sink, N: Sink, G: Gate + Sync>(
+    rt: &R,
     alloc: Global,
     words: &[String],
     source: &mut S,
     sink: &mut K,
     notes: &mut N,
+    gate: &G,
 ) -> Status
     ensures counts { (S.faults source.old ≤ S.faults source.new) × (K.faults sink.old ≤ K.faults sink.new) × (N.faults notes.old ≤ N.faults notes.new) }
     ensures usage { result ≡ Status.Usage ↔ (AreKnown (map string_bytes words.now) → ⊥) }
-    ensures unread { (IsReplay (map string_bytes words.now) → ⊥) → source.new ≡ source.old }
+    ensures unread { (ReadsScript (map string_bytes words.now) → ⊥) → source.new ≡ source.old }
     // Under `attr` all is written or the sink failed: memory never runs out there.
     ensures attr { (bytes : List ℕ) → IsAttr (map string_bytes words.now) bytes → (result ≡ Status.Done) ⊎ (result ≡ Status.WriteFault) }
     ensures bad_order { (index : ℕ) → (ring : RingNo) → (last : ℕ) → (head : ℕ) → (given : ℕ) → result ≡ Status.BadOrder index ring last head given →
-        (text : List ℕ) × Gave (S.left source.old) (S.left source.new) text × IsBadOrder text index ring last head given }
+        IsReplay (map string_bytes words.now) × ((text : List ℕ) × Gave (S.left source.old) (S.left source.new) text × IsBadOrder text index ring last head given) }
     ensures read_fault { result ≡ Status.ReadFault → Rose S.last_fault (S.faults source.old) (S.faults source.new) }
     ensures too_long { result ≡ Status.TooLong → IfSome (S.left source.old) (λ bytes. 4194304 < length bytes) }
     ensures bad_script { (line : ℕ) → (reason : SReason) → result ≡ Status.BadScript line reason →
-        (text : List ℕ) × Gave (S.left source.old) (S.left source.new) text × IsBadScript text line reason }
+        (text : List ℕ) × Gave (S.left source.old) (S.left source.new) text × IsBadScript (map string_bytes words.now) text line reason }
     ensures done { result ≡ Status.Done → (out : List ℕ) × IsOutput (map string_bytes words.now) (S.left source.old) (S.left source.new) out
         × Adds (K.held sink.old) (K.held sink.new) out × IfSome (K.held sink.new) (λ bytes. K.flushed sink.new ≡ length bytes) × (notes.new ≡ notes.old) }
     ensures write_fault { result ≡ Status.WriteFault → (out : List ℕ) × IsOutput (map string_bytes words.now) (S.left source.old) (S.left source.new) out
@@ -95,7 +113,13 @@ pub fn perf_main<S: Source, K: Sink, N: Sink>(
     ensures note { (result ≡ Status.Done → ⊥) → Noted N.held N.faults N.last_fault notes.old notes.new (note_of result) }
 {
     if is_replay(words) {
-        return noted(notes, run::replay_all(alloc, source, sink));
+        return noted(notes, replay::replay_all(alloc, source, sink));
+    }
+    if is_run(words) {
+        return noted(
+            notes,
+            threads::run_by_threads::<R, S, K, G>(rt, alloc, source, sink, gate),
+        );
     }
     match attr_word(words) {
         Some(word) => noted(notes, attr::print_attr(sink, word.as_bytes())),

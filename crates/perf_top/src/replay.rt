@@ -1,96 +1,58 @@
 //! Doing the order of a script.
 
-ghost use Rattle.std.specs.Prelude.{◌≡◌, ℕ, ◌+◌, ◌*◌, ◌<◌, ◌≤◌, ◌⊎◌, ◌++◌, ◌∷◌, [], All, Err, List, IfOk, OnErr, OnOk, length, map, vec_capacity, vec_len};
-ghost use Rattle.perf_base.specs.declared.acts.Act.{Act as ActNo};
+ghost use Rattle.std.specs.Prelude.{◌≡◌, ℕ, ◌*◌, ◌<◌, ◌≤◌, ◌⊎◌, List, [], Err, IfOk, IfSome, OnErr, OnOk, length};
 ghost use Rattle.perf_base.specs.declared.numbers.RingNo.{RingNo as Ring};
-ghost use Rattle.perf_base.specs.Scripts.{IsCovered, Scripted};
+ghost use Rattle.perf_base.specs.declared.reasons.SReason.{SReason as Reason};
+ghost use Rattle.perf_base.specs.Scripts.{IsCovered};
 ghost use Rattle.perf_base.specs.Weight.{weight};
-ghost use Rattle.ring_spec.specs.Rings.{account_in, bytes_of};
-ghost use Rattle.sample_ring.specs.RingLists.{InList, OutList, RingList};
+ghost use Rattle.perf_io.specs.Outside.{Adds, Rose};
+ghost use Rattle.perf_io.specs.Wrote.{WroteFront};
+ghost use Rattle.script_spec.specs.Texts.{IsRefused};
 ghost use Rattle.stage_spec.specs.Order.{IsComplete};
-ghost use Rattle.stage_spec.specs.Replies.{AnswerOrder, lines_of_act};
 ghost use Rattle.work_account.specs.Ends.{AreTogether};
-ghost use Rattle.machine.specs.Leading.{Kept, IsOf, LeadTo};
-ghost use Rattle.machine.specs.Readers.{AreFollowing, IsShown};
-ghost use Rattle.machine.specs.Stepping.{HasNoLine, IsUnlawful, NamesRing};
-ghost use Rattle.report.specs.Said.{answered};
-ghost use Rattle.report_spec.specs.Answers.{IsAnswered, lost_in};
-ghost use Rattle.perf_top.specs.Keeping.{kept, line_in};
-ghost use Rattle.perf_top.specs.Outcome.{HasBadLook, IsReported, report_by};
+ghost use Rattle.machine.specs.Readers.{AreFollowing};
+ghost use Rattle.perf_book.specs.Ending.{IsEnd};
+ghost use Rattle.perf_top.specs.Keeping.{AreUnread};
+ghost use Rattle.perf_top.specs.Outcome.{Gave, HasBadLook, HasOpenOrder, IsBadOrder, IsReplayed, ReadNoneOrAll, report_by};
 
+use crate::load::{Loaded, load};
+use crate::run::{Report, send};
+use crate::status::Status;
 use crate::stop::{BadLook, RunStop};
-use machine::{Ended, Machine, OrderFault, RingEnd};
-use perf_base::{Act, Actor, NoMemory, Reply, Script, StoredReply};
+use machine::Ended;
+use perf_base::{NoMemory, SReason, Script};
+use perf_book::{Book, OrderFault};
+use perf_io::{Sink, Source};
 use sample_ring::{Ins, Rings, make_rings};
+use script_read::order_complete;
 use std::alloc::Global;
 
-/// An answer with the actor whose line it answers, and the line's number.
-type Answer = (Actor, u32, StoredReply);
-
-/// Whose line an act does next, and the line's number. A look at a ring does none.
-fn line_of(machine: &Machine, act: Act) -> Option<(Actor, u32)>
-    ensures { (s : Scripted) (acts : List ActNo) → LeadTo s acts machine.now → lines_of_act acts act ≡ line_in result }
-{
-    match act {
-        Act::Processor(cpu) => {
-            let actor = Actor::Processor(cpu);
-            Some((actor, machine.done(actor)))
-        }
-        Act::Tool(tool) => {
-            let actor = Actor::Tool(tool);
-            Some((actor, machine.done(actor)))
-        }
-        Act::Seen(..) => None,
-    }
+/// All that a run needs, taken before its first act.
+#[derive(Drop)]
+pub struct Ready {
+    pub rings: Rings,
+    pub ins: Ins,
+    pub book: Book,
 }
 
-/// Keeps the answer to a line, where an act did one, in a list that has room for it.
-fn keep(answers: &mut Vec<Answer>, line: Option<(Actor, u32)>, reply: Reply)
-    requires { vec_len answers.old < vec_capacity answers.old }
-    ensures items { answers.new.items ≡ answers.old.items ++ kept line reply }
-    ensures filled { vec_len answers.new ≤ vec_len answers.old + 1 }
-    ensures room { vec_capacity answers.new ≡ vec_capacity answers.old }
+/// Takes all memory that a run of a script needs: a ring's reader has room for 18 words for each unit of the script's weight.
+pub fn prepare(alloc: Global, script: Script) -> Result<Ready, NoMemory>
+    requires covered { IsCovered script }
+    requires light { weight script ≤ 65536 }
+    requires short { length script.order ≤ 4194304 }
+    ensures script { IfOk result (λ r. r.book.script ≡ script) }
+    ensures empty { IfOk result (λ r. r.book.order ≡ []) }
+    ensures together { IfOk result (λ r. AreTogether r.rings r.book.machine.outs) }
+    ensures following { IfOk result (λ r. AreFollowing (9 * weight script) r.book.machine.outs r.ins) }
+    ensures unread { IfOk result (λ r. AreUnread r.ins) }
 {
-    if let Some((actor, number)) = line {
-        answers.push_reserved((actor, number, StoredReply::new(reply)));
-    }
-}
-
-/// Does an act, and keeps its answer.
-fn step(
-    machine: &mut Machine,
-    script: &Script,
-    rings: &Rings,
-    ins: &mut Ins,
-    answers: &mut Vec<Answer>,
-    act: Act,
-) -> Result<(), OrderFault>
-    requires covered { IsCovered script.now }
-    requires light { weight script.now ≤ 65536 }
-    requires script { IsOf script.now machine.old }
-    requires together { AreTogether rings.now machine.old.outs }
-    requires following { AreFollowing (9 * weight script.now) machine.old.outs ins.old }
-    requires ring { NamesRing script.now act }
-    requires room { vec_len answers.old < vec_capacity answers.old }
-    ensures no_line { result ≡ Err OrderFault.NoLine → HasNoLine script.now machine.old act }
-    ensures unlawful { (ring : Ring) (last head given : ℕ) → result ≡ Err (OrderFault.BadSeen ring last head given) → (act ≡ Act.Seen ring given)
-        × ((acts : List ActNo) → LeadTo script.now acts machine.old → IsUnlawful script.now acts ring last head given) }
-    ensures done { OnOk result ((acts : List ActNo) → LeadTo script.now acts machine.old → LeadTo script.now (acts ++ act ∷ []) machine.new) }
-    ensures answers { OnOk result ((acts : List ActNo) → LeadTo script.now acts machine.old → AnswerOrder script.now (lost_in script.now) acts (map answered answers.old.items)
-        → AnswerOrder script.now (lost_in script.now) (acts ++ act ∷ []) (map answered answers.new.items)) }
-    ensures together { AreTogether rings.now machine.new.outs }
-    ensures following { AreFollowing (9 * weight script.now) machine.new.outs ins.new }
-    ensures filled { vec_len answers.new ≤ vec_len answers.old + 1 }
-    ensures capacity { vec_capacity answers.new ≡ vec_capacity answers.old }
-{
-    let line = line_of(machine, act);
-    match machine.step(script, rings, ins, act) {
-        Err(fault) => Err(fault),
-        Ok(reply) => {
-            keep(answers, line, reply);
-            Ok(())
-        }
-    }
+    let words = 18 * script.weight() as usize;
+    let (rings, outs, ins) = make_rings(alloc, script.rings(), words)?;
+    Ok(Ready {
+        rings,
+        ins,
+        book: Book::new(alloc, script, outs)?,
+    })
 }
 
 /// The look of this number at a place that is not lawful. Each line of a complete order is there.
@@ -117,116 +79,49 @@ fn bad_look(index: usize, fault: OrderFault) -> BadLook
     }
 }
 
-/// Does the acts of a complete order, one after the other, up to the first look that is not lawful, and keeps their answers in a list that has room for them.
-fn fill(
-    machine: &mut Machine,
-    script: &Script,
-    rings: &Rings,
-    ins: &mut Ins,
-    answers: &mut Vec<Answer>,
-) -> Result<(), BadLook>
-    requires covered { IsCovered script.now }
-    requires light { weight script.now ≤ 65536 }
-    requires short { length script.now.order ≤ 4194304 }
-    requires complete { IsComplete script.now script.now.order }
-    requires led { LeadTo script.now [] machine.old }
-    requires together { AreTogether rings.now machine.old.outs }
-    requires following { AreFollowing (9 * weight script.now) machine.old.outs ins.old }
-    requires none { answers.old.items ≡ [] }
-    requires empty { vec_len answers.old ≡ 0 }
-    requires room { length script.now.order ≤ vec_capacity answers.old }
-    ensures bad { (b : BadLook) → result ≡ Err b → HasBadLook script.now b.index b.ring b.last b.head b.given }
-    ensures answered { OnOk result (IsAnswered script.now script.now.order (map answered answers.new.items)) }
-    ensures led { OnOk result (LeadTo script.now script.now.order machine.new) }
-    ensures together { AreTogether rings.now machine.new.outs }
-    ensures following { AreFollowing (9 * weight script.now) machine.new.outs ins.new }
+/// Does the acts of a complete order, one after the other, up to the first look that is not lawful.
+fn fill(book: &mut Book, rings: &Rings, ins: &mut Ins) -> Result<(), BadLook>
+    requires complete { IsComplete book.old.script book.old.script.order }
+    requires short { length book.old.script.order ≤ 4194304 }
+    requires empty { book.old.order ≡ [] }
+    requires together { AreTogether rings.now book.old.machine.outs }
+    requires following { AreFollowing (9 * weight book.old.script) book.old.machine.outs ins.old }
+    ensures script { book.new.script ≡ book.old.script }
+    ensures bad { (b : BadLook) → result ≡ Err b → HasBadLook book.old.script b.index b.ring b.last b.head b.given }
+    ensures done { OnOk result (book.new.order ≡ book.old.script.order) }
+    ensures together { AreTogether rings.now book.new.machine.outs }
+    ensures following { AreFollowing (9 * weight book.new.script) book.new.machine.outs ins.new }
 {
-    let order = script.order();
-    for (index, act) in order.iter().enumerate() {
-        if let Err(fault) = step(machine, script, rings, ins, answers, *act) {
+    for index in 0..book.script().order().len() {
+        let act = book.script().order()[index];
+        if let Err(fault) = book.act(rings, ins, act) {
             return Err(bad_look(index, fault));
         }
     }
     Ok(())
 }
 
-/// What the rings of a script came to, in a list that has room for them.
-fn push_ends(machine: &Machine, script: &Script, ends: &mut Vec<RingEnd>)
-    requires script { IsOf script.now machine.now }
-    requires none { ends.old.items ≡ [] }
-    requires empty { vec_len ends.old ≡ 0 }
-    requires room { length script.now.rings ≤ vec_capacity ends.old }
-    ensures rings { map (λ e. e.ring) ends.new.items ≡ map (λ r. r.0) script.now.rings }
-    ensures shown { (acts : List ActNo) → LeadTo script.now acts machine.now → All (λ e. IsShown e.numbers (account_in script.now acts (e.ring, bytes_of script.now e.ring))) ends.new.items }
-{
-    for (ring, _) in script.rings() {
-        ends.push_reserved(machine.ring_end(*ring));
-    }
-}
-
-/// All that a replay needs, taken before its first act.
-#[derive(Drop)]
-struct Ready {
-    rings: Rings,
-    ins: Ins,
-    machine: Machine,
-    order: Vec<Act>,
-    answers: Vec<Answer>,
-    ends: Vec<RingEnd>,
-}
-
-/// Takes all memory that the replay of a script needs: a ring's reader has room for 18 words for each unit of the script's weight.
-fn prepare(alloc: Global, script: &Script) -> Result<Ready, NoMemory>
-    requires covered { IsCovered script.now }
-    requires light { weight script.now ≤ 65536 }
-    ensures led { IfOk result (λ r. LeadTo script.now [] r.machine) }
-    ensures together { IfOk result (λ r. AreTogether r.rings r.machine.outs) }
-    ensures following { IfOk result (λ r. AreFollowing (9 * weight script.now) r.machine.outs r.ins) }
-    ensures order { IfOk result (λ r. r.order.items ≡ script.now.order) }
-    ensures answers { IfOk result (λ r. (r.answers.items ≡ []) × (vec_len r.answers ≡ 0) × (length script.now.order ≤ vec_capacity r.answers)) }
-    ensures ends { IfOk result (λ r. (r.ends.items ≡ []) × (vec_len r.ends ≡ 0) × (length script.now.rings ≤ vec_capacity r.ends)) }
-{
-    let words = 18 * script.weight() as usize;
-    let (rings, outs, ins) = make_rings(alloc, script.rings(), words)?;
-    Ok(Ready {
-        rings,
-        ins,
-        machine: Machine::new(alloc, script, outs)?,
-        order: Vec::from_slice(alloc, script.order())?,
-        answers: Vec::with_capacity(alloc, script.order().len())?,
-        ends: Vec::with_capacity(alloc, script.rings().len())?,
-    })
-}
-
 /// Does the whole order of a script, which is complete, up to the first look that is not lawful.
-fn run(script: Script, ready: Ready) -> Result<Ended, BadLook>
-    requires covered { IsCovered script }
-    requires light { weight script ≤ 65536 }
-    requires short { length script.order ≤ 4194304 }
-    requires complete { IsComplete script script.order }
-    requires led { LeadTo script [] ready.machine }
-    requires together { AreTogether ready.rings ready.machine.outs }
-    requires following { AreFollowing (9 * weight script) ready.machine.outs ready.ins }
-    requires order { ready.order.items ≡ script.order }
-    requires answers { (ready.answers.items ≡ []) × (vec_len ready.answers ≡ 0) × (length script.order ≤ vec_capacity ready.answers) }
-    requires ends { (ready.ends.items ≡ []) × (vec_len ready.ends ≡ 0) × (length script.rings ≤ vec_capacity ready.ends) }
-    ensures bad { (b : BadLook) → result ≡ Err b → HasBadLook script b.index b.ring b.last b.head b.given }
-    ensures reported { IfOk result (λ e. IsReported script (report_by e)) }
+fn run(ready: Ready) -> Result<Ended, BadLook>
+    requires complete { IsComplete ready.book.script ready.book.script.order }
+    requires short { length ready.book.script.order ≤ 4194304 }
+    requires empty { ready.book.order ≡ [] }
+    requires together { AreTogether ready.rings ready.book.machine.outs }
+    requires following { AreFollowing (9 * weight ready.book.script) ready.book.machine.outs ready.ins }
+    ensures bad { (b : BadLook) → result ≡ Err b → HasBadLook ready.book.script b.index b.ring b.last b.head b.given }
+    ensures script { IfOk result (λ e. e.script ≡ ready.book.script) }
+    ensures order { IfOk result (λ e. e.order ≡ ready.book.script.order) }
+    ensures ended { IfOk result (λ e. IsEnd e) }
 {
     let Ready {
         rings,
         mut ins,
-        mut machine,
-        order,
-        mut answers,
-        mut ends,
+        mut book,
     } = ready;
-    if let Err(look) = fill(&mut machine, &script, &rings, &mut ins, &mut answers) {
+    if let Err(look) = fill(&mut book, &rings, &mut ins) {
         return Err(look);
     }
-    machine.take_rest(&script, &rings, &mut ins);
-    push_ends(&machine, &script, &mut ends);
-    Ok(Ended::new(script, order, answers, ends, ins))
+    Ok(book.finish(rings, ins))
 }
 
 /// Does the whole order of a script, which is complete. Its memory is taken before the first act.
@@ -235,15 +130,82 @@ pub fn replay(alloc: Global, script: Script) -> Result<Ended, RunStop>
     requires light { weight script ≤ 65536 }
     requires short { length script.order ≤ 4194304 }
     requires complete { IsComplete script script.order }
-    ensures reported { IfOk result (λ e. IsReported script (report_by e)) }
+    ensures script { IfOk result (λ e. e.script ≡ script) }
+    ensures order { IfOk result (λ e. e.order ≡ script.order) }
+    ensures ended { IfOk result (λ e. IsEnd e) }
     ensures bad { (b : BadLook) → result ≡ Err (RunStop.BadOrder b) → HasBadLook script b.index b.ring b.last b.head b.given }
     ensures only { OnErr result ((result ≡ Err RunStop.NoMemory) ⊎ ((b : BadLook) × (result ≡ Err (RunStop.BadOrder b)))) }
 {
-    match prepare(alloc, &script) {
+    match prepare(alloc, script) {
         Err(NoMemory) => Err(RunStop::NoMemory),
-        Ok(ready) => match run(script, ready) {
+        Ok(ready) => match run(ready) {
             Err(look) => Err(RunStop::BadOrder(look)),
             Ok(ended) => Ok(ended),
         },
+    }
+}
+
+/// Does the own order of a script that was read, if that is complete.
+fn replay_loaded(alloc: Global, loaded: Loaded) -> Result<Ended, RunStop>
+    requires covered { IsCovered loaded.script }
+    requires light { weight loaded.script ≤ 65536 }
+    requires short { length loaded.script.order ≤ 4194304 }
+    ensures complete { IfOk result (λ e. IsComplete loaded.script loaded.script.order) }
+    ensures script { IfOk result (λ e. e.script ≡ loaded.script) }
+    ensures order { IfOk result (λ e. e.order ≡ loaded.script.order) }
+    ensures ended { IfOk result (λ e. IsEnd e) }
+    ensures bad { (b : BadLook) → result ≡ Err (RunStop.BadOrder b) → IsComplete loaded.script loaded.script.order × HasBadLook loaded.script b.index b.ring b.last b.head b.given }
+    ensures incomplete { (line : ℕ) → (reason : Reason) → result ≡ Err (RunStop.Bad line reason)
+        → (IsComplete loaded.script loaded.script.order → ⊥) × (line ≡ loaded.last_line) × (reason ≡ SReason.Order) }
+    ensures fault { result ≡ Err RunStop.ReadFault → ⊥ }
+    ensures long { result ≡ Err RunStop.TooLong → ⊥ }
+{
+    if !order_complete(&loaded.script) {
+        return Err(RunStop::Bad(loaded.last_line, SReason::Order));
+    }
+    replay(alloc, loaded.script)
+}
+
+/// What is left of the script that a source has left, once its own order was done. All memory is taken before the first act.
+fn replay_source<S: Source>(alloc: Global, source: &mut S) -> Result<Ended, RunStop>
+    ensures count { S.faults source.old ≤ S.faults source.new }
+    ensures ok { IfOk result (λ e. (bytes : List ℕ) × Gave (S.left source.old) (S.left source.new) bytes × IsReplayed bytes (report_by e)) }
+    ensures bad { (line : ℕ) → (reason : Reason) → result ≡ Err (RunStop.Bad line reason) →
+        (bytes : List ℕ) × Gave (S.left source.old) (S.left source.new) bytes × (IsRefused bytes line reason ⊎ HasOpenOrder bytes line reason) }
+    ensures order { (b : BadLook) → result ≡ Err (RunStop.BadOrder b) →
+        (bytes : List ℕ) × Gave (S.left source.old) (S.left source.new) bytes × IsBadOrder bytes b.index b.ring b.last b.head b.given }
+    ensures no_memory { result ≡ Err RunStop.NoMemory → ReadNoneOrAll S.left source.old source.new }
+    ensures fault { result ≡ Err RunStop.ReadFault → Rose S.last_fault (S.faults source.old) (S.faults source.new) }
+    ensures long { result ≡ Err RunStop.TooLong → IfSome (S.left source.old) (λ bytes. 4194304 < length bytes) }
+{
+    match load(alloc, source) {
+        Err(stop) => Err(stop),
+        Ok(loaded) => match replay_loaded(alloc, loaded) {
+            Err(stop) => Err(stop),
+            Ok(ended) => Ok(ended),
+        },
+    }
+}
+
+/// Reads a script, does its order and writes the report.
+pub fn replay_all<S: Source, K: Sink>(alloc: Global, source: &mut S, sink: &mut K) -> Status
+    ensures counts { (S.faults source.old ≤ S.faults source.new) × (K.faults sink.old ≤ K.faults sink.new) }
+    ensures usage { result ≡ Status.Usage → ⊥ }
+    ensures order { (index : ℕ) → (ring : Ring) → (last : ℕ) → (head : ℕ) → (given : ℕ) → result ≡ Status.BadOrder index ring last head given →
+        (text : List ℕ) × Gave (S.left source.old) (S.left source.new) text × IsBadOrder text index ring last head given }
+    ensures read_fault { result ≡ Status.ReadFault → Rose S.last_fault (S.faults source.old) (S.faults source.new) }
+    ensures too_long { result ≡ Status.TooLong → IfSome (S.left source.old) (λ bytes. 4194304 < length bytes) }
+    ensures bad_script { (line : ℕ) → (reason : Reason) → result ≡ Status.BadScript line reason →
+        (text : List ℕ) × Gave (S.left source.old) (S.left source.new) text × (IsRefused text line reason ⊎ HasOpenOrder text line reason) }
+    ensures done { result ≡ Status.Done → (text : List ℕ) × (out : List ℕ) × Gave (S.left source.old) (S.left source.new) text × IsReplayed text out
+        × Adds (K.held sink.old) (K.held sink.new) out × IfSome (K.held sink.new) (λ bytes. K.flushed sink.new ≡ length bytes) }
+    ensures write_fault { result ≡ Status.WriteFault → (text : List ℕ) × (out : List ℕ) × Gave (S.left source.old) (S.left source.new) text × IsReplayed text out
+        × WroteFront K.held K.faults K.last_fault sink.old sink.new out }
+    ensures no_memory { result ≡ Status.NoMemory → ReadNoneOrAll S.left source.old source.new }
+    ensures unwritten { (result ≡ Status.Done → ⊥) → (result ≡ Status.WriteFault → ⊥) → sink.new ≡ sink.old }
+{
+    match replay_source(alloc, source) {
+        Err(stop) => stop.status(),
+        Ok(ended) => send(sink, &Report { ended: &ended }),
     }
 }

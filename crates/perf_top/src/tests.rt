@@ -1,6 +1,6 @@
 //! What no clause says: that each call answers with ample memory, and which answer comes at a fault.
 
-use crate::{Status, perf_main};
+use crate::{OpenGate, Status, perf_main};
 use perf_base::{RingNo, SReason};
 use perf_io::{MemSink, MemSource, Source};
 use std::test::Fail;
@@ -63,7 +63,7 @@ type Row = (
     &'static str,
 );
 
-const ROWS: [Row; 14] = [
+const ROWS: [Row; 17] = [
     ("replay", SCRIPT, 9, [CALM, CALM], Status::Done, REPORT, ""),
     ("replay", SCRIPT, 1, [CALM, CALM], Status::Done, REPORT, ""),
     (
@@ -166,6 +166,33 @@ const ROWS: [Row; 14] = [
         "",
     ),
     (
+        "run",
+        OPEN_ORDER,
+        9,
+        [CALM, CALM],
+        Status::Done,
+        "order p0\nend\n",
+        "",
+    ),
+    (
+        "run",
+        SCRIPT,
+        1,
+        [40, CALM],
+        Status::ReadFault,
+        "",
+        "perf_run: read fault\n",
+    ),
+    (
+        "run",
+        EMPTY,
+        1,
+        [CALM, 4],
+        Status::WriteFault,
+        "orde",
+        "perf_run: write fault\n",
+    ),
+    (
         "replay now",
         SCRIPT,
         9,
@@ -201,7 +228,15 @@ fn each_answer_comes_with_its_bytes_and_its_note(rt: HostRuntime) -> Result<(), 
             1000,
         )?;
         let mut notes = MemSink::new(rt.alloc(), 7, Vec::new(rt.alloc()), 1000)?;
-        let status = perf_main(rt.alloc(), &words, &mut source, &mut sink, &mut notes);
+        let status = perf_main(
+            &rt,
+            rt.alloc(),
+            &words,
+            &mut source,
+            &mut sink,
+            &mut notes,
+            &OpenGate,
+        );
         assert_eq!(rt; status, answer);
         assert_eq!(rt; sink.bytes(), report.as_bytes());
         assert_eq!(rt; notes.bytes(), note.as_bytes());
@@ -236,7 +271,15 @@ fn rings_and_looks_are_told(rt: HostRuntime) -> Result<(), Fail> {
         let mut source = MemSource::new(bytes, 9, Vec::new(rt.alloc()));
         let mut sink = MemSink::new(rt.alloc(), 9, Vec::new(rt.alloc()), 1000)?;
         let mut notes = MemSink::new(rt.alloc(), 9, Vec::new(rt.alloc()), 1000)?;
-        let status = perf_main(rt.alloc(), &words, &mut source, &mut sink, &mut notes);
+        let status = perf_main(
+            &rt,
+            rt.alloc(),
+            &words,
+            &mut source,
+            &mut sink,
+            &mut notes,
+            &OpenGate,
+        );
         assert_eq!(rt; status, answer);
         assert_eq!(rt; sink.bytes(), report.as_bytes());
         assert_eq!(rt; notes.bytes(), note.as_bytes());
@@ -260,7 +303,15 @@ fn attr_says_what_bytes_are(rt: HostRuntime) -> Result<(), Fail> {
         let mut source = MemSource::new(bytes, 9, Vec::new(rt.alloc()));
         let mut sink = MemSink::new(rt.alloc(), 1000, vec![in rt.alloc(); fails]?, 1000)?;
         let mut notes = MemSink::new(rt.alloc(), 9, Vec::new(rt.alloc()), 1000)?;
-        let status = perf_main(rt.alloc(), &words, &mut source, &mut sink, &mut notes);
+        let status = perf_main(
+            &rt,
+            rt.alloc(),
+            &words,
+            &mut source,
+            &mut sink,
+            &mut notes,
+            &OpenGate,
+        );
         assert_eq!(rt; status, answer);
         assert_eq!(rt; sink.bytes(), line.as_bytes());
         assert_eq!(rt; source.read(&mut [0; 9]).ok(), Some(7));
@@ -291,7 +342,15 @@ fn a_text_may_be_too_long(rt: HostRuntime) -> Result<(), Fail> {
         let mut source = MemSource::new(bytes, 1000000, Vec::new(rt.alloc()));
         let mut sink = MemSink::new(rt.alloc(), 9, Vec::new(rt.alloc()), 9)?;
         let mut notes = MemSink::new(rt.alloc(), 9, Vec::new(rt.alloc()), 1000)?;
-        let status = perf_main(rt.alloc(), &words, &mut source, &mut sink, &mut notes);
+        let status = perf_main(
+            &rt,
+            rt.alloc(),
+            &words,
+            &mut source,
+            &mut sink,
+            &mut notes,
+            &OpenGate,
+        );
         assert_eq!(rt; status, answer);
         assert_eq!(rt; sink.bytes(), b"".as_slice());
         assert_eq!(rt; notes.bytes(), note.as_bytes());

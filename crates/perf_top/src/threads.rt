@@ -1,0 +1,120 @@
+//! Running a script by threads.
+
+ghost use Rattle.std.specs.Prelude.{◌≡◌, ℕ, ◌*◌, ◌<◌, ◌≤◌, List, [], Err, IfOk, IfSome, length};
+ghost use Rattle.perf_base.specs.declared.numbers.RingNo.{RingNo as Ring};
+ghost use Rattle.perf_base.specs.declared.reasons.SReason.{SReason as Reason};
+ghost use Rattle.perf_base.specs.Scripts.{IsCovered};
+ghost use Rattle.perf_base.specs.Weight.{weight};
+ghost use Rattle.perf_io.specs.Outside.{Adds, Rose};
+ghost use Rattle.perf_io.specs.Wrote.{WroteFront};
+ghost use Rattle.report_spec.specs.Answers.{AreReadersParts, IsRunShaped};
+ghost use Rattle.script_spec.specs.Texts.{IsRefused};
+ghost use Rattle.stage_spec.specs.Order.{IsComplete};
+ghost use Rattle.work_account.specs.Ends.{AreTogether};
+ghost use Rattle.machine.specs.Readers.{AreFollowing};
+ghost use Rattle.perf_book.specs.Ending.{IsEnd};
+ghost use Rattle.perf_top.specs.Keeping.{AreUnread};
+ghost use Rattle.perf_top.specs.Outcome.{Gave, IsRunOf, ReadNoneOrAll, report_by};
+
+use crate::load::load;
+use crate::replay::{Ready, prepare};
+use crate::run::{Report, send};
+use crate::status::Status;
+use crate::stop::{BadLook, RunStop};
+use machine::Ended;
+use perf_base::{NoMemory, Script};
+use perf_book::{Gate, run_all};
+use perf_io::{Sink, Source};
+use std::alloc::Global;
+use std::sync::Wait;
+use std::thread::Threads;
+
+/// Runs a script to its end.
+fn run_ready<R: Threads + Wait + Sync, G: Gate + Sync>(rt: &R, ready: Ready, gate: &G) -> Ended
+    requires empty { ready.book.order ≡ [] }
+    requires together { AreTogether ready.rings ready.book.machine.outs }
+    requires following { AreFollowing (9 * weight ready.book.script) ready.book.machine.outs ready.ins }
+    requires unread { AreUnread ready.ins }
+    ensures script { result.script ≡ ready.book.script }
+    ensures ended { IsEnd result }
+    ensures complete { IsComplete result.script result.order }
+    ensures shaped { IsRunShaped result.order }
+    ensures parts { AreReadersParts result.script result.order }
+{
+    let Ready { rings, ins, book } = ready;
+    let (book, ins) = run_all(rt, book, &rings, ins, gate);
+    book.finish(rings, ins)
+}
+
+/// What is left of a script that was run. Its memory is taken before the first act.
+fn run_script<R: Threads + Wait + Sync, G: Gate + Sync>(
+    rt: &R,
+    alloc: Global,
+    script: Script,
+    gate: &G,
+) -> Result<Ended, NoMemory>
+    requires covered { IsCovered script }
+    requires light { weight script ≤ 65536 }
+    requires short { length script.order ≤ 4194304 }
+    ensures script { IfOk result (λ e. e.script ≡ script) }
+    ensures ended { IfOk result (λ e. IsEnd e) }
+    ensures complete { IfOk result (λ e. IsComplete e.script e.order) }
+    ensures shaped { IfOk result (λ e. IsRunShaped e.order) }
+    ensures parts { IfOk result (λ e. AreReadersParts e.script e.order) }
+{
+    let ready = prepare(alloc, script)?;
+    Ok(run_ready::<R, G>(rt, ready, gate))
+}
+
+/// What is left of the script that a source has left, once it was run. All memory is taken before the first act.
+fn run_source<R: Threads + Wait + Sync, S: Source, G: Gate + Sync>(
+    rt: &R,
+    alloc: Global,
+    source: &mut S,
+    gate: &G,
+) -> Result<Ended, RunStop>
+    ensures count { S.faults source.old ≤ S.faults source.new }
+    ensures ok { IfOk result (λ e. (bytes : List ℕ) × Gave (S.left source.old) (S.left source.new) bytes × IsRunOf bytes (report_by e)) }
+    ensures bad { (line : ℕ) → (reason : Reason) → result ≡ Err (RunStop.Bad line reason) →
+        (bytes : List ℕ) × Gave (S.left source.old) (S.left source.new) bytes × IsRefused bytes line reason }
+    ensures order { (b : BadLook) → result ≡ Err (RunStop.BadOrder b) → ⊥ }
+    ensures no_memory { result ≡ Err RunStop.NoMemory → ReadNoneOrAll S.left source.old source.new }
+    ensures fault { result ≡ Err RunStop.ReadFault → Rose S.last_fault (S.faults source.old) (S.faults source.new) }
+    ensures long { result ≡ Err RunStop.TooLong → IfSome (S.left source.old) (λ bytes. 4194304 < length bytes) }
+{
+    match load(alloc, source) {
+        Err(stop) => Err(stop),
+        Ok(loaded) => match run_script::<R, G>(rt, alloc, loaded.script, gate) {
+            Err(NoMemory) => Err(RunStop::NoMemory),
+            Ok(ended) => Ok(ended),
+        },
+    }
+}
+
+/// Reads a script, runs it with a thread for each processor, tool and reader, and writes the report.
+pub fn run_by_threads<R: Threads + Wait + Sync, S: Source, K: Sink, G: Gate + Sync>(
+    rt: &R,
+    alloc: Global,
+    source: &mut S,
+    sink: &mut K,
+    gate: &G,
+) -> Status
+    ensures counts { (S.faults source.old ≤ S.faults source.new) × (K.faults sink.old ≤ K.faults sink.new) }
+    ensures usage { result ≡ Status.Usage → ⊥ }
+    ensures order { (index : ℕ) → (ring : Ring) → (last : ℕ) → (head : ℕ) → (given : ℕ) → result ≡ Status.BadOrder index ring last head given → ⊥ }
+    ensures read_fault { result ≡ Status.ReadFault → Rose S.last_fault (S.faults source.old) (S.faults source.new) }
+    ensures too_long { result ≡ Status.TooLong → IfSome (S.left source.old) (λ bytes. 4194304 < length bytes) }
+    ensures bad_script { (line : ℕ) → (reason : Reason) → result ≡ Status.BadScript line reason →
+        (text : List ℕ) × Gave (S.left source.old) (S.left source.new) text × IsRefused text line reason }
+    ensures done { result ≡ Status.Done → (text : List ℕ) × (out : List ℕ) × Gave (S.left source.old) (S.left source.new) text × IsRunOf text out
+        × Adds (K.held sink.old) (K.held sink.new) out × IfSome (K.held sink.new) (λ bytes. K.flushed sink.new ≡ length bytes) }
+    ensures write_fault { result ≡ Status.WriteFault → (text : List ℕ) × (out : List ℕ) × Gave (S.left source.old) (S.left source.new) text × IsRunOf text out
+        × WroteFront K.held K.faults K.last_fault sink.old sink.new out }
+    ensures no_memory { result ≡ Status.NoMemory → ReadNoneOrAll S.left source.old source.new }
+    ensures unwritten { (result ≡ Status.Done → ⊥) → (result ≡ Status.WriteFault → ⊥) → sink.new ≡ sink.old }
+{
+    match run_source::<R, S, G>(rt, alloc, source, gate) {
+        Err(stop) => stop.status(),
+        Ok(ended) => send(sink, &Report { ended: &ended }),
+    }
+}
