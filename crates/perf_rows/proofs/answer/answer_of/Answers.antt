@@ -1,3 +1,4 @@
+use Rattle.std.specs.Prelude.{map, string_bytes}
 use Rattle.std.proofs.Common.{ap}
 use Rattle.perf_top.specs.Outcome.{IsBadOrder, IsBadScript}
 use Rattle.perf_rows.proofs.Given.{of_all, output_of}
@@ -11,7 +12,7 @@ returns-clause-done g c = λ e.
 pub returns-clause-bad_script : goal.returns-clause-bad_script
 returns-clause-bad_script g c = λ line reason e.
     let h = c.perf_main-status.ensures.bad_script line reason e in
-    of_all (λ t. IsBadScript _ t line reason) _ _ _ h.0 (ap (λ s. s.left) c.new-source.ensures) h.1 h.2
+    of_all (λ t. IsBadScript (map string_bytes c.args.words.now) t line reason) _ _ _ h.0 (ap (λ s. s.left) c.new-source.ensures) h.1 h.2
 
 pub returns-clause-bad_order : goal.returns-clause-bad_order
 returns-clause-bad_order g c = λ index ring last head given e.
