@@ -125,13 +125,7 @@ fn run_given<R: Threads + Wait + Sync>(
     match case.expected {
         Expected::Words | Expected::Usage => {
             let words = read_words(rt, folder, case)?;
-            Ok(run_words(
-                threads,
-                rt.alloc(),
-                &case.expected,
-                report,
-                &words,
-            ))
+            Ok(run_words(threads, rt.alloc(), &case.expected, report, &words))
         }
         _ => {
             let text = read_part(rt, folder, case.name.as_str(), "script")?;
