@@ -1,0 +1,110 @@
+-- What a change leaves of a steady world.
+use Rattle.std.specs.Prelude.{◌≡◌, ℕ, ◌+◌, ◌<◌, ◌≤◌, IfOk, IfSome, List, [], ◌∷◌, length, Option, Some, None, Result, Ok, Err}
+use Rattle.std.proofs.Common.{arith, refl, sym, ap, subst, ◌∙◌}
+use Rattle.std.proofs.lemmas.List.Elements.{All-cons, All-nil}
+use Rattle.perf_base.specs.Scripts.{IsAttr}
+use Rattle.perf_base.specs.declared.attr.Attr.{Attr}
+use Rattle.perf_base.specs.declared.lines.CpuLine.{CpuLine}
+use Rattle.perf_base.specs.declared.lines.ToolLine.{ToolLine}
+use Rattle.perf_base.specs.declared.numbers.CpuNo.{CpuNo}
+use Rattle.perf_base.specs.declared.numbers.Key.{Key}
+use Rattle.perf_base.specs.declared.numbers.NoMemory.{NoMemory}
+use Rattle.perf_base.specs.declared.numbers.TaskNo.{TaskNo}
+use Rattle.stage_spec.specs.Forks.{fork_refusal, forked}
+use Rattle.stage_spec.specs.Hardware.{Hardware}
+use Rattle.stage_spec.specs.History.{CpuStep, ToolStep, cpu_refusal, tool_refusal, cpu_changed, tool_changed}
+use Rattle.stage_spec.specs.Limits.{IsMachine, IsWithin, AreTaskNumbers}
+use Rattle.stage_spec.specs.Settle.{settle}
+use Rattle.stage_spec.specs.Stage.{Stage, first_stage}
+use Rattle.stage_laws.specs.Narrowing.{unless_left}
+use Rattle.stage_laws.specs.Sound.{IsSound}
+use Rattle.stage_laws.proofs.Numbered.{room_for_copies}
+use Rattle.stage_laws.proofs.Sound.{first_sound}
+use Rattle.stage_laws.proofs.SoundLike.{changed_sound, settle_sound}
+use Rattle.world_spec.specs.Adding.{Newcomer, add}
+use Rattle.world_spec.specs.Changes.{place}
+use Rattle.world_spec.specs.First.{first_world}
+use Rattle.world_spec.specs.StageOf.{stage_of}
+use Rattle.world_spec.specs.Value.{World}
+use Rattle.world_spec.proofs.First.{first-stage}
+use Rattle.world_tests.specs.Steady.{IsSteady, three_processors}
+
+-- a world of the same machine whose stage is sound, or is the same
+pub sound-steady : (w x : World) → IsSteady w → x.hardware ≡ w.hardware → IsSound w.hardware (stage_of x) → IsSteady x
+sound-steady w x steady hardware sound = record {
+  machine = subst (IsMachine three_processors) (sym hardware) steady.machine;
+  sound = subst (λ (hw : Hardware). IsSound hw (stage_of x)) (sym hardware) sound;
+}
+
+pub same-steady : (w x : World) → IsSteady w → x.hardware ≡ w.hardware → stage_of x ≡ stage_of w → IsSteady x
+same-steady w x steady hardware stage = sound-steady w x steady hardware (subst (IsSound w.hardware) (sym stage) steady.sound)
+
+-- it is what a line that is not refused makes of it, or what settling a processor does
+pub tool-steady : (w x : World) (line : ToolLine) → IsSteady w → IsWithin three_processors (ToolStep line) → tool_refusal w.hardware (stage_of w) line ≡ None
+    → x.hardware ≡ w.hardware → stage_of x ≡ tool_changed line (stage_of w) → IsSteady x
+tool-steady w x line steady within accepted hardware stage =
+    sound-steady w x steady hardware
+    (subst (IsSound w.hardware) (ap (λ o. unless_left o (tool_changed line) (stage_of w)) accepted ∙ sym stage)
+    (changed_sound three_processors w.hardware (stage_of w) (ToolStep line) steady.machine within steady.sound))
+
+pub cpu-steady : (w x : World) (cpu : CpuNo) (line : CpuLine) → IsSteady w → IsWithin three_processors (CpuStep cpu line) → cpu_refusal (stage_of w) cpu line ≡ None
+    → x.hardware ≡ w.hardware → stage_of x ≡ cpu_changed w.hardware cpu line (stage_of w) → IsSteady x
+cpu-steady w x cpu line steady within accepted hardware stage =
+    sound-steady w x steady hardware
+    (subst (IsSound w.hardware) (ap (λ o. unless_left o (cpu_changed w.hardware cpu line) (stage_of w)) accepted ∙ sym stage)
+    (changed_sound three_processors w.hardware (stage_of w) (CpuStep cpu line) steady.machine within steady.sound))
+
+pub settled-steady : (w x : World) (cpu : CpuNo) → IsSteady w → x.hardware ≡ w.hardware → stage_of x ≡ settle w.hardware cpu (stage_of w) → IsSteady x
+settled-steady w x cpu steady hardware stage = sound-steady w x steady hardware (subst (IsSound w.hardware) (sym stage) (settle_sound w.hardware cpu (stage_of w) steady.sound))
+
+-- what may be asked for on the machine, and its processors
+pub asked : (w : World) (a : Attr) → IsSteady w → IsAttr 3 3 a → IsAttr (length w.quiet.running) (length w.hardware.kind_pmus) a
+asked w a steady may =
+    subst (λ n. IsAttr n (length w.hardware.kind_pmus) a) (sym (steady.sound.shape.running ∙ steady.machine.cpus)) (subst (λ n. IsAttr 3 n a) (sym steady.machine.kinds.0) may)
+
+pub below-three : (w : World) (hw : Hardware) (n : ℕ) (cpu : CpuNo) → IsSteady w → hw ≡ w.hardware → n ≡ length hw.cpu_pmus → cpu.0 < n → cpu.0 < 3
+below-three w hw n cpu steady same number low = omega (arith, low, number, ap (λ (h : Hardware). length h.cpu_pmus) same, steady.machine.cpus)
+
+-- an open draws an id, and a fork 4,096 at most
+came-hardware : (w : World) (key : Key) (n : Newcomer) (leader : Option Key) → (add key (record n { leader = leader }) w).hardware ≡ w.hardware
+came-hardware w key n None = refl
+came-hardware w key n (Some leader) = refl
+
+pub come-hardware : (w x : World) (key : Key) (n : Newcomer) → x ≡ add key n w → x.hardware ≡ w.hardware
+come-hardware w x key n is = ap (λ (y : World). y.hardware) is ∙ came-hardware w key n n.leader
+
+pub fork-draws : (cpu : CpuNo) (child : TaskNo) (s : Stage) → fork_refusal s cpu child ≡ None → (forked cpu child s).next_id ≤ s.next_id + 4096
+unfolding forked
+fork-draws cpu child s accepted = omega (arith, room_for_copies cpu child s accepted)
+
+-- what runs on a processor does not change the machine
+placed-hardware : (w : World) (cpu : CpuNo) (to : Option TaskNo) → (place cpu to w).hardware ≡ w.hardware
+placed-hardware w cpu None = refl
+placed-hardware w cpu (Some task) = refl
+
+pub place-hardware : (w x : World) (cpu : CpuNo) (to : Option TaskNo) → x ≡ place cpu to w → x.hardware ≡ w.hardware
+place-hardware w x cpu to is = ap (λ (y : World). y.hardware) is ∙ placed-hardware w cpu to
+
+pub task-within : (to : Option TaskNo) → ((t : TaskNo) → to ≡ Some t → t.0 < 64) → IfSome to (λ t. t.0 < 64)
+task-within None low = tt
+task-within (Some task) low = low task refl
+
+-- the world before the first line
+pub first-steady : (hw : Hardware) (declared : List TaskNo) (w : World) → IsMachine three_processors hw → AreTaskNumbers declared → w ≡ first_world hw declared → IsSteady w
+first-steady hw declared w machine tasks is =
+    let stage : stage_of (first_world hw declared) ≡ first_stage 3 declared = first-stage hw declared ∙ ap (λ n. first_stage n declared) machine.cpus in
+    subst IsSteady (sym is) (record { machine = machine; sound = subst (IsSound hw) (sym stage) (first_sound three_processors hw declared machine tasks) })
+
+pub first-made : (hw : Hardware) (declared : List TaskNo) (r : Result World NoMemory) → IsMachine three_processors hw → AreTaskNumbers declared
+    → IfOk r (λ w. w ≡ first_world hw declared) → IfOk r (λ w. IsSteady w)
+first-made hw declared (Ok w) machine tasks is = first-steady hw declared w machine tasks is
+first-made hw declared (Err e) machine tasks is = tt
+
+-- the tasks of the tests
+abbrev IsLow : TaskNo → Type 0
+IsLow task = task.0 < 64
+
+pub first-tasks : AreTaskNumbers (record { 0 = 5 } ∷ record { 0 = 6 } ∷ record { 0 = 7 } ∷ [])
+first-tasks =
+    All-cons IsLow (record { 0 = 5 }) (record { 0 = 6 } ∷ record { 0 = 7 } ∷ []) (omega arith)
+    (All-cons IsLow (record { 0 = 6 }) (record { 0 = 7 } ∷ []) (omega arith) (All-cons IsLow (record { 0 = 7 }) [] (omega arith) (All-nil IsLow)))

@@ -1,0 +1,10 @@
+use Rattle.std.proofs.Common.{ap}
+use Rattle.perf_base.specs.declared.lines.ToolLine.TheVariants as line
+use Rattle.world_spec.specs.Value.{World}
+use Rattle.world_tests.proofs.Steady.{tool-steady}
+use Rattle.world_tests.proofs.driving.close_event.Goals as goal
+
+pub returns-in-Ok-clause-steady : goal.returns-in-Ok-clause-steady
+returns-in-Ok-clause-steady c =
+    tool-steady c.args.world.now c.close.new.world (line.Close c.args.event) c.requires.steady c.if-event-ge256.false c.in-Ok.ensures.accepted
+    (ap (λ (y : World). y.hardware) c.in-Ok.ensures.closed.world) c.in-Ok.ensures.stage
