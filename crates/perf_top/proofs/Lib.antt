@@ -5,6 +5,7 @@ pub mod Ends
 pub mod Filling
 pub mod LineCounts
 pub mod Lines
+pub mod Made
 pub mod OrderLength
 pub mod Parts
 pub mod Reported

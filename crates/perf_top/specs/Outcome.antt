@@ -1,5 +1,5 @@
 -- What a call of the program reads, does and leaves. This project's own profile.
-use Rattle.std.specs.Prelude.{◌≡◌, ℕ, ◌+◌, ◌≤◌, ◌⊎◌, All, List, [], ◌∷◌, count_by, length, map, sum_by, take, Option, Some, Result, codes, slice_get}
+use Rattle.std.specs.Prelude.{◌≡◌, ℕ, ◌+◌, ◌≤◌, ◌⊎◌, All, List, [], ◌∷◌, count_by, length, map, sum_by, take, Option, Some, Result, codes, decimal, slice_get}
 use Rattle.perf_base.specs.declared.acts.Act.{Act}
 use Rattle.perf_base.specs.declared.acts.Act.TheVariants as act
 use Rattle.perf_base.specs.declared.numbers.RingNo.{RingNo}
@@ -15,7 +15,10 @@ use Rattle.stage_spec.specs.Replies.{Answered}
 use Rattle.perf_base.specs.declared.reasons.SReason.{SReason}
 use Rattle.perf_base.specs.declared.reasons.SReason.TheVariants as s_reason
 use Rattle.script_spec.specs.Lines.{lines_of}
+use Rattle.script_spec.specs.Printing.{printed}
 use Rattle.script_spec.specs.Texts.{StandsFor, IsRefused}
+use Rattle.make_spec.specs.Rounds.{script_of_rounds}
+use Rattle.make_summary.specs.Summary.{summary_text, totals_of}
 use Rattle.perf_top.specs.Attributes.{IsAttr, IsLineOf}
 use Rattle.machine.specs.Ended.{Ran}
 use Rattle.machine.specs.Readers.{words_in}
@@ -38,9 +41,21 @@ IsRun words = words ≡ codes "run" ∷ []
 abbrev pub ReadsScript : List (List ℕ) → Type 0
 ReadsScript words = IsReplay words ⊎ IsRun words
 
+-- the words that have the script of so many rounds made and its own order done, and those that have it made and printed: from 1 round to 1000, in decimal without
+-- leading zeros
+abbrev pub IsMake : List (List ℕ) → ℕ → Type 0
+IsMake words n = (1 ≤ n) × (n ≤ 1000) × (words ≡ codes "make" ∷ decimal n ∷ [])
+
+abbrev pub IsMakeScript : List (List ℕ) → ℕ → Type 0
+IsMakeScript words n = (1 ≤ n) × (n ≤ 1000) × (words ≡ codes "make" ∷ decimal n ∷ codes "script" ∷ [])
+
+-- the words for which the script of so many rounds is made
+abbrev pub MakesScript : List (List ℕ) → ℕ → Type 0
+MakesScript words n = IsMake words n ⊎ IsMakeScript words n
+
 -- the words that the program knows
 abbrev pub AreKnown : List (List ℕ) → Type 0
-AreKnown words = ReadsScript words ⊎ ((bytes : List ℕ) × IsAttr words bytes)
+AreKnown words = ReadsScript words ⊎ (((n : ℕ) × MakesScript words n) ⊎ ((bytes : List ℕ) × IsAttr words bytes))
 
 -- The source was read to its end, and this is all that it gave.
 pub record Gave (before after : Option (List ℕ)) (text : List ℕ) : Type 0 where
@@ -116,13 +131,24 @@ pub record HasOpenOrder (text : List ℕ) (line : ℕ) (reason : SReason) : Type
 abbrev pub IsBadScript : List (List ℕ) → List ℕ → ℕ → SReason → Type 0
 IsBadScript words text line reason = IsRefused text line reason ⊎ (IsReplay words × HasOpenOrder text line reason)
 
--- What the words have written: under `replay` and `run` the report of the text that the source gave, to its end, and under `attr` the
--- line of the bytes that the second word spells, for which no source is read.
+-- These bytes are the summary of the script of so many rounds: of answers to its own order, and of what its rings came to over that order.
+pub record IsSummary (n : ℕ) (out : List ℕ) : Type 0 where
+  pub answers : List Answered
+  pub answered : IsAnswered (script_of_rounds n) (script_of_rounds n).order answers
+  pub is : out ≡ summary_text n (totals_of (script_of_rounds n) answers (rings_after (script_of_rounds n) (script_of_rounds n).order))
+
+-- What the words have written of the script of so many rounds: its summary, or its text.
+abbrev pub IsMade : List (List ℕ) → ℕ → List ℕ → Type 0
+IsMade words n out = (IsMake words n × IsSummary n out) ⊎ (IsMakeScript words n × (out ≡ printed (script_of_rounds n)))
+
+-- What the words have written: under `replay` and `run` the report of the text that the source gave, to its end; under `make` the summary or the text of a made
+-- script, and under `attr` the line of the bytes that the second word spells, for which no source is read.
 abbrev pub IsOutput : List (List ℕ) → Option (List ℕ) → Option (List ℕ) → List ℕ → Type 0
 IsOutput words before after out =
     (IsReplay words × ((text : List ℕ) × Gave before after text × IsReplayed text out))
     ⊎ ((IsRun words × ((text : List ℕ) × Gave before after text × IsRunOf text out))
-    ⊎ ((bytes : List ℕ) × IsAttr words bytes × IsLineOf bytes out))
+    ⊎ (((n : ℕ) × IsMade words n out)
+    ⊎ ((bytes : List ℕ) × IsAttr words bytes × IsLineOf bytes out)))
 
 -- Nothing was read, or all that the source had left, which is a text that is not too long.
 abbrev pub ReadNoneOrAll : {S : Type 0} → (S → Option (List ℕ)) → S → S → Type 0

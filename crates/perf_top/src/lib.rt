@@ -1,5 +1,5 @@
-// The top call: it reads a script to its end, does its order, and writes the report; or it writes what the bytes of an
-// attribute say. Its contract speaks of the bytes that the source had left and of those that the sink and the notes hold.
+// The top call: it reads a script to its end, does its order, and writes the report; or it makes a script and writes what its report sums up to, or the script
+// itself; or it writes what the bytes of an attribute say. Its contract speaks of the bytes that the source had left and of those that the sink and the notes hold.
 // It serves the program.
 #![tactic(auto)]
 
@@ -8,11 +8,14 @@ ghost use Rattle.perf_io.specs.Outside.{Adds, Rose};
 ghost use Rattle.perf_io.specs.Wrote.{WroteFront};
 ghost use Rattle.perf_top.specs.Attributes.{IsAttr};
 ghost use Rattle.perf_top.specs.Notes.{note_of};
-ghost use Rattle.perf_top.specs.Outcome.{AreKnown, IsReplay, IsRun, IsOutput, Noted, Gave, ReadNoneOrAll, ReadsScript, IsBadOrder, IsBadScript};
+ghost use Rattle.perf_top.specs.Outcome.{AreKnown, IsReplay, IsRun, IsOutput, MakesScript, Noted, Gave, ReadNoneOrAll, ReadsScript, IsBadOrder, IsBadScript};
 
 mod attr;
 mod line;
 mod load;
+mod make;
+#[cfg(test)]
+mod make_tests;
 mod notes;
 mod replay;
 mod run;
@@ -79,7 +82,9 @@ fn noted<N: Sink>(notes: &mut N, status: Status) -> Status
 
 /// Does what the words ask for, those behind the program's name. `replay` reads a script from the source to its end, does
 /// its own order, and writes that order and what its lines answered to the sink. `run` reads a script too, and runs it with a thread for each processor, tool and
-/// reader: it writes the order that came of it, and its report; each worker passes the gate before each line or try. A text may have 4194304 bytes. `attr` and
+/// reader: it writes the order that came of it, and its report; each worker passes the gate before each line or try. A text may have 4194304 bytes. `make` and a number of
+/// rounds, 1 to 1000 in decimal, has the script of so many rounds made and its own order done, and writes six lines that sum up its report; with `script` behind, it
+/// writes that script. It reads nothing. `attr` and
 /// the bytes of an attribute, two hexadecimal digits each, writes what they say, or their first fault; it reads nothing and
 /// takes no memory. Other words are not known. Each answer but Done is written to the notes as one line. All memory is
 /// taken before the first write, and none between the first read and the last: where it runs out, nothing
@@ -96,6 +101,8 @@ pub fn perf_main<R: Threads + Wait + Sync, S: Source, K: Sink, N: Sink, G: Gate 
     ensures counts { (S.faults source.old ≤ S.faults source.new) × (K.faults sink.old ≤ K.faults sink.new) × (N.faults notes.old ≤ N.faults notes.new) }
     ensures usage { result ≡ Status.Usage ↔ (AreKnown (map string_bytes words.now) → ⊥) }
     ensures unread { (ReadsScript (map string_bytes words.now) → ⊥) → source.new ≡ source.old }
+    // Under `make` all is written, or the sink failed, or memory ran out: a made script is never refused.
+    ensures make { (n : ℕ) → MakesScript (map string_bytes words.now) n → (result ≡ Status.Done) ⊎ ((result ≡ Status.WriteFault) ⊎ (result ≡ Status.NoMemory)) }
     // Under `attr` all is written or the sink failed: memory never runs out there.
     ensures attr { (bytes : List ℕ) → IsAttr (map string_bytes words.now) bytes → (result ≡ Status.Done) ⊎ (result ≡ Status.WriteFault) }
     ensures bad_order { (index : ℕ) → (ring : RingNo) → (last : ℕ) → (head : ℕ) → (given : ℕ) → result ≡ Status.BadOrder index ring last head given →
@@ -120,6 +127,12 @@ pub fn perf_main<R: Threads + Wait + Sync, S: Source, K: Sink, N: Sink, G: Gate 
             notes,
             threads::run_by_threads::<R, S, K, G>(rt, alloc, source, sink, gate),
         );
+    }
+    if let Some(rounds) = make::rounds_to_do(words) {
+        return noted(notes, make::print_summary(alloc, rounds, sink));
+    }
+    if let Some(rounds) = make::rounds_to_print(words) {
+        return noted(notes, make::print_made(alloc, rounds, sink));
     }
     match attr_word(words) {
         Some(word) => noted(notes, attr::print_attr(sink, word.as_bytes())),
