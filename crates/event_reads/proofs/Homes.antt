@@ -1,5 +1,5 @@
 -- On which processor a context is, and that a group is out on every other one.
-use Rattle.std.specs.Prelude.{◌≡◌, ℕ, ◌<◌, ◌≤◌, ◌==◌, Bool, true, false, List, [], ◌∷◌, length, map, filter, flat_map, count_by}
+use Rattle.std.specs.Prelude.{◌≡◌, ℕ, ◌≤◌, ◌==◌, Bool, true, false, List, [], ◌∷◌, map, filter, flat_map, count_by}
 use Rattle.std.proofs.Common.{arith, refl, sym, ap, ◌∙◌}
 use Rattle.std.proofs.lemmas.Bool.{false≢true}
 use Rattle.perf_base.specs.declared.numbers.CpuNo.{CpuNo}
@@ -15,17 +15,22 @@ use Rattle.stage_laws.proofs.Counts.{count-append, count-cons, count-filter}
 use Rattle.stage_laws.proofs.Tasks.{is_task-some, runs-within}
 use Rattle.world_spec.specs.Kept.{leads, post_at, IsKept}
 use Rattle.world_spec.specs.Listings.{pass_leaders}
+use Rattle.world_spec.specs.Rescheduled.{IsRescheduled}
 use Rattle.world_spec.specs.StageOf.{group_at, stage_of}
-use Rattle.world_spec.specs.Value.{World, entry_at, instance_at}
+use Rattle.world_spec.specs.Value.{World, entry_at, instance_at, is_live}
+use Rattle.event_reads.specs.Homes.{StandRescheduled}
 use Rattle.world_spec.proofs.Coming.{number_true}
 use Rattle.world_spec.proofs.Listings.{count-none, passes-are, reached_leaders, reached-context, reached-leading}
 use Rattle.world_spec.proofs.Rescheduling.{about-groups, among-none, is_led, same-id}
 use Rattle.world_spec.proofs.Standing.{passes-groups}
 
--- a processor that has a context of one of the machine's, or of a task, is one of the machine's
-pub cpu-low : (s : Stage) (cpu : CpuNo) (c : Context) → ((own : CpuNo) → c ≡ context.Processor own → own.0 < length s.running) → has_context s cpu c ≡ true → cpu.0 < length s.running
-cpu-low s cpu (context.Processor own) low there = omega (arith, low own refl, number_true own.0 cpu.0 there)
-cpu-low s cpu (context.Task task) low there = runs-within s.running cpu.0 task (is_task-some (task_on s cpu) task there)
+-- a processor that has the context of a leader stands as rescheduling leaves it
+pub has-stood : (w : World) (k : Key) (cpu : CpuNo) (c : Context) → StandRescheduled w → is_live w k ≡ true → (entry_at w k).context ≡ c → has_context (stage_of w) cpu c ≡ true
+    → IsRescheduled w.hardware w cpu
+has-stood w k cpu (context.Processor own) stand live at there =
+    let same : own ≡ cpu = ap (λ (n : ℕ). let c : CpuNo = record { 0 = n } in c) (number_true own.0 cpu.0 there) in
+    stand.counted k cpu live (at ∙ ap context.Processor same)
+has-stood w k cpu (context.Task task) stand live at there = stand.machine cpu (runs-within w.quiet.running cpu.0 task (is_task-some (task_on (stage_of w) cpu) task there))
 
 -- of the groups that pass a test those of an id are at most as many as the leaders of that id
 led-by : (w : World) (id : ℕ) (keys : List Key) → count_by (is_led id) (map (group_at w) keys) ≡ count_by (λ q. (instance_at w q).id == id) keys

@@ -7,11 +7,11 @@ ghost use Rattle.stage_spec.specs.Commands.{closed_refusal};
 ghost use Rattle.stage_spec.specs.Effective as effect;
 ghost use Rattle.stage_spec.specs.Replies as replies;
 ghost use Rattle.world_spec.specs.Kept.{leads, post_at};
-ghost use Rattle.world_spec.specs.Rescheduled.{AreRescheduled, IsRescheduled};
+ghost use Rattle.world_spec.specs.Rescheduled.{IsRescheduled};
 ghost use Rattle.world_spec.specs.StageOf.{group_at, stage_of};
 ghost use Rattle.world_spec.specs.Value.{entry_at, instance_at, is_live};
 ghost use Rattle.perf_world.specs.Seen.{IsWorld};
-ghost use Rattle.event_reads.specs.Homes.{HasProcessor};
+ghost use Rattle.event_reads.specs.Homes.{StandRescheduled};
 
 use crate::states::{context_named, cpu_with, standing_on, state_in};
 use perf_base::{Context, CpuNo, EventNo, Key, Own, Reason, SeatList, Standing, Why};
@@ -41,8 +41,7 @@ fn why_standing(standing: Standing) -> Why
 fn why_ready(world: &World, leader: Key, named: Context) -> Why
     requires kept { IsWorld world.now }
     requires leads { leads (post_at world.now) leader ≡ true }
-    requires rescheduled { AreRescheduled world.now.hardware world.now }
-    requires place { (cpu : Cpu) → (entry_at world.now leader).context ≡ context.Processor cpu → cpu.0 < length world.now.quiet.running }
+    requires rescheduled { StandRescheduled world.now }
     ensures { result ≡ replies.why_on world.now.hardware (stage_of world.now) (group_at world.now leader) (replies.cpu_with (stage_of world.now) named) }
 {
     match cpu_with(world, named) {
@@ -56,8 +55,7 @@ fn why_member(world: &World, leader: Key, key: Key) -> Why
     requires kept { IsWorld world.now }
     requires leads { leads (post_at world.now) leader ≡ true }
     requires live { is_live world.now key ≡ true }
-    requires rescheduled { AreRescheduled world.now.hardware world.now }
-    requires place { (cpu : Cpu) → (entry_at world.now leader).context ≡ context.Processor cpu → cpu.0 < length world.now.quiet.running }
+    requires rescheduled { StandRescheduled world.now }
     ensures { result ≡ replies.why_by world.now.hardware (stage_of world.now) (group_at world.now leader) (instance_at world.now key)
         (effect.state_in (group_at world.now leader) (instance_at world.now key)) }
 {
@@ -70,8 +68,7 @@ fn why_member(world: &World, leader: Key, key: Key) -> Why
 
 /// Why an event counts or does not. An event that is not open is refused.
 pub fn why(world: &World, event: EventNo) -> Result<Why, Reason>
-    requires rescheduled { AreRescheduled world.now.hardware world.now }
-    requires place { HasProcessor world.now event }
+    requires rescheduled { StandRescheduled world.now }
     ensures refused { IfErr result (λ reason. closed_refusal (stage_of world.now) event ≡ Some reason) }
     ensures accepted { OnOk result (closed_refusal (stage_of world.now) event ≡ None) }
     ensures why { IfOk result (λ answer. answer ≡ replies.why_of world.now.hardware (stage_of world.now) event) }

@@ -4,7 +4,6 @@ use Rattle.std.proofs.Common.{arith, refl, sym, ap, subst, ◌∙◌}
 use Rattle.std.proofs.lemmas.List.{map-append}
 use Rattle.perf_base.specs.declared.lines.ToolLine.{ToolLine}
 use Rattle.perf_base.specs.declared.numbers.CpuNo.{CpuNo}
-use Rattle.perf_base.specs.declared.numbers.EventNo.{EventNo}
 use Rattle.perf_base.specs.declared.reply.Reply.{Reply}
 use Rattle.stage_spec.specs.Hardware.{Hardware}
 use Rattle.stage_spec.specs.History.{ToolStep, stage_step, unless_refused, tool_refusal, tool_changed}
@@ -17,8 +16,7 @@ use Rattle.stage_spec.proofs.Recurrence.{plus-none}
 use Rattle.world_spec.specs.Kept.{IsKept, family_sums}
 use Rattle.world_spec.specs.StageOf.{stage_of}
 use Rattle.world_spec.specs.Value.{World, instance_at}
-use Rattle.event_open.proofs.Leaders.{slot-original}
-use Rattle.event_reads.specs.Homes.{HasProcessor}
+use Rattle.event_reads.specs.Homes.{StandRescheduled}
 use Rattle.step_laws.specs.Quiet.{is_quiet_call}
 use Rattle.step_laws.specs.Stepping.{HasStepped}
 use Rattle.step_laws.proofs.Asking.{answers-by}
@@ -76,6 +74,6 @@ asked w l a h ready quiet accepted same done by agrees = record {
   agrees = stepped w.hardware w w by (ToolStep l) h h agrees (asks-stepped w l h ready quiet accepted same) (tools-lose_none w.hardware by l);
 }
 
--- the context of an original is of a task, or of a processor that the machine has
-pub has-home : (w : World) (e : EventNo) → IsKept w.hardware w → IsReady w → HasProcessor w e
-has-home w e h ready k cpu named at = ready.homes k cpu (slot-original w e k h named).live at
+-- between lines every processor stands as rescheduling leaves it
+pub all-stand : (w : World) → IsReady w → StandRescheduled w
+all-stand w ready = record { machine = ready.rescheduled; counted = λ k cpu live at. ready.rescheduled cpu (ready.homes k cpu live at) }

@@ -1,12 +1,12 @@
 use Rattle.std.proofs.Common.{refl, ap}
 use Rattle.perf_base.specs.declared.lines.ToolLine.TheVariants as line
 use Rattle.perf_base.specs.declared.reply.Reply.TheVariants as reply
-use Rattle.line_steps.proofs.Asking.{asked, has-home}
+use Rattle.line_steps.proofs.Asking.{all-stand, asked}
 use Rattle.line_steps.proofs.Refused.{refused-line}
 use Rattle.line_steps.proofs.tools.why.Goals as goal
 
-pub why-requires-clause-place : goal.why-requires-clause-place
-why-requires-clause-place c = has-home c.args.world.now c.args.event c.pmus-pmus.ensures.kept c.requires.ready
+pub why-requires : goal.why-requires
+why-requires c = record { rescheduled = all-stand c.args.world.now c.requires.ready }
 
 pub returns-in-Err : goal.returns-in-Err
 returns-in-Err c = refused-line c.args.world.now c.args.world.now (line.Why c.args.event) c.in-Err.reason c.pmus-pmus.ensures.kept refl c.in-Err.ensures.refused
