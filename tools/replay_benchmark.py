@@ -2,6 +2,7 @@
 """Measures how long the program takes for a whole replay beside reading the same text alone, and its peak memory.
 
 A script is read alone where its order is one act short: the program reads all of the text, finds that, and answers ORDER at the last line.
+The script that the program makes of 1,000 rounds is replayed too, and run by threads, beside `make 1000`, which makes it, does its order and sums up its report.
 
 Usage: replay_benchmark.py PROGRAM
   PROGRAM  the built program, crates/perf_run/out/perf_run; `rt run` in crates/perf_run leaves it there
@@ -91,18 +92,28 @@ def stored(name):
     """A worked case, and its order."""
     path = os.path.join(os.path.dirname(os.path.abspath(__file__)), "..", "crates", "perf_rows", "data", name + ".script")
     with open(path) as file:
-        lines = file.read().splitlines()
+        return parted(file.read())
+
+
+def parted(text):
+    """A script without its order and its last line, and the order."""
+    lines = text.splitlines()
     order = [act for line in lines if line.startswith("order") for act in line.split()[1:]]
     return "".join(line + "\n" for line in lines[:-1] if not line.startswith("order")), order
 
 
-def measured(program, text, status):
+def made(program):
+    """The script of 1,000 rounds, and its order."""
+    return parted(subprocess.run([program, "make", "1000", "script"], stdout=subprocess.PIPE, check=True, text=True).stdout)
+
+
+def measured(program, words, text, status):
     """The seconds of a run and its peak memory in bytes."""
     with tempfile.TemporaryFile() as given:
         given.write(text.encode())
         given.seek(0)
         begin = time.monotonic()
-        run = subprocess.Popen([program, "replay"], stdin=given, stdout=subprocess.DEVNULL, stderr=subprocess.DEVNULL)
+        run = subprocess.Popen([program, *words], stdin=given, stdout=subprocess.DEVNULL, stderr=subprocess.DEVNULL)
         _, code, usage = os.wait4(run.pid, 0)
         seconds = time.monotonic() - begin
     if os.waitstatus_to_exitcode(code) != status:
@@ -110,17 +121,33 @@ def measured(program, text, status):
     return seconds, usage.ru_maxrss * 1024
 
 
-def best(program, text, status):
-    runs = [measured(program, text, status) for _ in range(RUNS)]
+def best(program, words, text, status):
+    runs = [measured(program, words, text, status) for _ in range(RUNS)]
     return min(seconds for seconds, _ in runs), max(peak for _, peak in runs)
 
 
+def whole_text(text, order):
+    return text + in_lines(order) + "end\n"
+
+
 def main(program):
-    table = (("1 processor, 3 events", small()), ("8 processors, 200 events", large()), ("2,000 copies", copies(31)), ("4,000 copies", copies(62)), ("copies-full", stored("rows/copies-full")), ("16,000 records", sampling()))
+    table = (
+        ("1 processor, 3 events", small()),
+        ("8 processors, 200 events", large()),
+        ("2,000 copies", copies(31)),
+        ("4,000 copies", copies(62)),
+        ("copies-full", stored("rows/copies-full")),
+        ("16,000 records", sampling()),
+        ("the script of 1,000 rounds", made(program)),
+    )
     for name, (text, order) in table:
-        read, _ = best(program, text + in_lines(order[:-1]) + "end\n", 1)
-        whole, peak = best(program, text + in_lines(order) + "end\n", 0)
+        read, _ = best(program, ["replay"], whole_text(text, order[:-1]), 1)
+        whole, peak = best(program, ["replay"], whole_text(text, order), 0)
         print(f"{name}: {len(order)} acts; reading {1000 * read:.1f} ms, replay {1000 * whole:.1f} ms, {whole / read:.1f} times; {peak / 2**20:.1f} MiB; the best of {RUNS}")
+    run, peak = best(program, ["run"], whole_text(*made(program)), 0)
+    print(f"the script of 1,000 rounds, run by threads: {1000 * run:.1f} ms; {peak / 2**20:.1f} MiB; the best of {RUNS}")
+    summary, peak = best(program, ["make", "1000"], "", 0)
+    print(f"make 1000: {1000 * summary:.1f} ms; {peak / 2**20:.1f} MiB; the best of {RUNS}")
 
 
 if len(sys.argv) != 2:

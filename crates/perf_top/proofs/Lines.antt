@@ -1,25 +1,16 @@
 -- The acts of a complete order of a script, one after the other: each has its line, and its answer.
-use Rattle.std.specs.Prelude.{◌≡◌, ℕ, ◌+◌, ◌<◌, ◌≤◌, Bool, true, List, [], ◌∷◌, ◌++◌, count_by, length, map, take, Option, Some, None}
-use Rattle.std.proofs.Common.{arith, refl, sym, ap, subst, ◌∙◌, append-nil, cond, eqb, eq-eqb, get_or}
-use Rattle.std.proofs.lemmas.List.{get_or_default, map-append, take_all, take_more}
+use Rattle.std.specs.Prelude.{◌≡◌, ℕ, ◌+◌, ◌<◌, ◌≤◌, Bool, true, List, [], ◌∷◌, ◌++◌, count_by, length, take, Some}
+use Rattle.std.proofs.Common.{arith, refl, sym, ap, subst, ◌∙◌, cond, eqb, eq-eqb, get_or}
+use Rattle.std.proofs.lemmas.List.{get_or_default, take_more}
 use Rattle.std.proofs.lemmas.List.Sums.{sum_by-take-le, sum_by_push}
 use Rattle.std.proofs.lemmas.Option.{slice_get-get_or}
 use Rattle.perf_base.specs.declared.acts.Act.{Act}
 use Rattle.perf_base.specs.declared.acts.Act.TheVariants as act
-use Rattle.perf_base.specs.declared.acts.Actor.{Actor}
-use Rattle.perf_base.specs.declared.acts.Actor.TheVariants as actor
-use Rattle.perf_base.specs.declared.numbers.CpuNo.{CpuNo}
 use Rattle.perf_base.specs.declared.numbers.RingNo.{RingNo}
-use Rattle.perf_base.specs.declared.numbers.ToolNo.{ToolNo}
-use Rattle.perf_base.specs.declared.reply.Reply.{Reply}
 use Rattle.perf_base.specs.Scripts.{Scripted, IsAct, IsScript}
 use Rattle.stage_spec.specs.Order.{is_of_cpu, is_of_tool, done_by_cpu, done_by_tool, IsComplete}
-use Rattle.stage_spec.specs.Replies.{AnswerOrder, lines_of_act}
-use Rattle.report.specs.Said.{answered}
-use Rattle.report_spec.specs.Answers.{IsAnswered, lost_in}
-use Rattle.machine.specs.Leading.{Kept, LeadTo, done_by}
-use Rattle.machine.specs.Stepping.{HasNoLine, IsAnswerTo, IsUnlawful, NamesRing}
-use Rattle.machine.proofs.Answers.{answers-look, answers-push}
+use Rattle.machine.specs.Leading.{Kept, LeadTo}
+use Rattle.machine.specs.Stepping.{HasNoLine, IsUnlawful, NamesRing}
 use Rattle.perf_top.specs.Outcome.{HasBadLook}
 
 -- fewer are counted before an element that counts than in all

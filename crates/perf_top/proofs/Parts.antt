@@ -10,7 +10,7 @@ use Rattle.sample_ring.specs.InEnds.{InEnd}
 use Rattle.sample_ring.specs.RingLists.{InList, place_of}
 use Rattle.stage_spec.specs.Order.{last_seen}
 use Rattle.machine.specs.Readers.{records_in, records_of_slot, released_in, released_of_slot}
-use Rattle.report_spec.specs.Answers.{AreReadersParts, IsNoLook, IsReadersPart, IsRunShaped, reader_of, taken_of}
+use Rattle.report_spec.specs.Answers.{AreReadersParts, IsNoLook, IsRunShaped, reader_of, taken_of}
 use Rattle.run_laws.proofs.Taken.{never-seen}
 use Rattle.perf_book.specs.Ending.{AreParts}
 use Rattle.perf_book.specs.Running.{IsRead, IsReadBy}

@@ -1,6 +1,6 @@
 -- What is written of a run that has ended is its report.
-use Rattle.std.specs.Prelude.{◌≡◌, ℕ, List, map}
-use Rattle.std.proofs.Common.{ap, subst, sym, ◌∙◌}
+use Rattle.std.specs.Prelude.{◌≡◌, List, map}
+use Rattle.std.proofs.Common.{subst}
 use Rattle.perf_base.specs.declared.acts.Act.{Act}
 use Rattle.perf_base.specs.Scripts.{Scripted}
 use Rattle.machine.specs.Ended.{Ran}

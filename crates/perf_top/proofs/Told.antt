@@ -1,21 +1,17 @@
 -- What the rings of a replay came to is what the definitions say.
-use Rattle.std.specs.Prelude.{◌≡◌, ℕ, zero, suc, ◌*◌, ◌<◌, ◌==◌, false, All, AllPairs, List, [], ◌∷◌, find, length, map, Some}
-use Rattle.std.proofs.Common.{arith, refl, sym, ap, subst, ◌∙◌, get_or}
-use Rattle.std.proofs.lemmas.Bool.Decides.{nat_tests}
-use Rattle.std.proofs.lemmas.List.Elements.{All-cons, All-head, All-nil, All-tail}
+use Rattle.std.specs.Prelude.{◌≡◌, ℕ, All, List, [], ◌∷◌, length, map}
+use Rattle.std.proofs.Common.{arith, refl, ap, subst, ◌∙◌}
+use Rattle.std.proofs.lemmas.List.Elements.{All-head, All-tail}
 use Rattle.perf_base.specs.declared.acts.Act.{Act}
 use Rattle.perf_base.specs.declared.numbers.RingNo.{RingNo}
 use Rattle.perf_base.specs.Scripts.{Scripted, IsScript}
 use Rattle.stage_spec.specs.Hardware.{hardware_of}
 use Rattle.stage_spec.specs.History.{history, opening_stage}
-use Rattle.stage_laws.proofs.Leaders.{find-first, find-later}
-use Rattle.ring_spec.specs.Account.{Account, head_of}
 use Rattle.ring_spec.specs.Records.{words_of}
-use Rattle.ring_spec.specs.Rings.{account_in, bytes_in, bytes_of}
+use Rattle.ring_spec.specs.Rings.{account_in, bytes_of}
 use Rattle.ring_spec.proofs.Sizes.{sizes_law}
 use Rattle.sample_ring.specs.RingLists.{InList}
 use Rattle.sample_ring.specs.declared.sent.RingNumbers.{RingNumbers}
-use Rattle.sample_ring.proofs.Sending.{size-words}
 use Rattle.machine.specs.declared.ending.RingEnd.{RingEnd}
 use Rattle.machine.specs.Readers.{HasTaken, HaveTaken, IsShown, words_in}
 use Rattle.perf_book.proofs.Declared.{IsDeclared, all-declared}

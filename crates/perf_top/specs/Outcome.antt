@@ -26,6 +26,8 @@ use Rattle.report.specs.Said.{answered}
 use Rattle.report.specs.Told.{told_report}
 use Rattle.report_spec.specs.Answers.{AreReadersParts, IsAnswered, IsRunShaped}
 use Rattle.report_spec.specs.Report.{report, rings_after}
+use Rattle.stat_rows.specs.Rows.{rows_of}
+use Rattle.stat_table.specs.Table.{table_text}
 use Rattle.perf_io.specs.Outside.{Takes, IsAtEnd}
 use Rattle.perf_io.specs.Wrote.{Wrote}
 use Rattle.perf_io.specs.declared.outside.Failed.{Failed}
@@ -37,9 +39,17 @@ IsReplay words = words ≡ codes "replay" ∷ []
 abbrev pub IsRun : List (List ℕ) → Type 0
 IsRun words = words ≡ codes "run" ∷ []
 
+-- the words that have the script's own order done and a table of its events made
+abbrev pub IsStat : List (List ℕ) → Type 0
+IsStat words = words ≡ codes "stat" ∷ []
+
+-- the words for which the script's own order is done
+abbrev pub DoesOrder : List (List ℕ) → Type 0
+DoesOrder words = IsReplay words ⊎ IsStat words
+
 -- the words for which a script is read
 abbrev pub ReadsScript : List (List ℕ) → Type 0
-ReadsScript words = IsReplay words ⊎ IsRun words
+ReadsScript words = DoesOrder words ⊎ IsRun words
 
 -- the words that have the script of so many rounds made and its own order done, and those that have it made and printed: from 1 round to 1000, in decimal without
 -- leading zeros
@@ -103,6 +113,14 @@ pub record IsRunOf (text out : List ℕ) : Type 0 where
   pub parts : AreReadersParts script order
   pub reported : IsReported script order out
 
+-- The text stands for a script whose order is complete and lawful, and these bytes are the table of what its events have counted over that order.
+pub record IsTabled (text out : List ℕ) : Type 0 where
+  pub script : Scripted
+  pub stands : StandsFor text script
+  pub complete : IsComplete script script.order
+  pub lawful : IsLawfulOrder script script.order
+  pub is : out ≡ table_text (rows_of script script.order)
+
 -- The act of this number, from 0, is the first look of a script's own order that is not lawful: the acts before it leave the ring's tail seen last at `last`, and its
 -- head at `head`, and there it can't be seen at the place given.
 pub record HasBadLook (s : Scripted) (index : ℕ) (ring : RingNo) (last head given : ℕ) : Type 0 where
@@ -129,7 +147,7 @@ pub record HasOpenOrder (text : List ℕ) (line : ℕ) (reason : SReason) : Type
 
 -- The text is no script, by its first faulty line; or, where the script's own order is to be done, one whose order is not complete.
 abbrev pub IsBadScript : List (List ℕ) → List ℕ → ℕ → SReason → Type 0
-IsBadScript words text line reason = IsRefused text line reason ⊎ (IsReplay words × HasOpenOrder text line reason)
+IsBadScript words text line reason = IsRefused text line reason ⊎ (DoesOrder words × HasOpenOrder text line reason)
 
 -- These bytes are the summary of the script of so many rounds: of answers to its own order, and of what its rings came to over that order.
 pub record IsSummary (n : ℕ) (out : List ℕ) : Type 0 where
@@ -141,14 +159,15 @@ pub record IsSummary (n : ℕ) (out : List ℕ) : Type 0 where
 abbrev pub IsMade : List (List ℕ) → ℕ → List ℕ → Type 0
 IsMade words n out = (IsMake words n × IsSummary n out) ⊎ (IsMakeScript words n × (out ≡ printed (script_of_rounds n)))
 
--- What the words have written: under `replay` and `run` the report of the text that the source gave, to its end; under `make` the summary or the text of a made
--- script, and under `attr` the line of the bytes that the second word spells, for which no source is read.
+-- What the words have written: under `replay` and `run` the report of the text that the source gave, to its end, and under `stat` its table; under `make` the summary
+-- or the text of a made script, and under `attr` the line of the bytes that the second word spells, for which no source is read.
 abbrev pub IsOutput : List (List ℕ) → Option (List ℕ) → Option (List ℕ) → List ℕ → Type 0
 IsOutput words before after out =
     (IsReplay words × ((text : List ℕ) × Gave before after text × IsReplayed text out))
     ⊎ ((IsRun words × ((text : List ℕ) × Gave before after text × IsRunOf text out))
+    ⊎ ((IsStat words × ((text : List ℕ) × Gave before after text × IsTabled text out))
     ⊎ (((n : ℕ) × IsMade words n out)
-    ⊎ ((bytes : List ℕ) × IsAttr words bytes × IsLineOf bytes out)))
+    ⊎ ((bytes : List ℕ) × IsAttr words bytes × IsLineOf bytes out))))
 
 -- Nothing was read, or all that the source had left, which is a text that is not too long.
 abbrev pub ReadNoneOrAll : {S : Type 0} → (S → Option (List ℕ)) → S → S → Type 0

@@ -1,5 +1,5 @@
-// The top call: it reads a script to its end, does its order, and writes the report; or it makes a script and writes what its report sums up to, or the script
-// itself; or it writes what the bytes of an attribute say. Its contract speaks of the bytes that the source had left and of those that the sink and the notes hold.
+// The top call: it reads a script to its end, does its order, and writes the report, or the table of what its events have counted; or it makes a script and writes
+// what its report sums up to, or the script itself; or it writes what the bytes of an attribute say. Its contract speaks of the bytes that the source had left and of those that the sink and the notes hold.
 // It serves the program.
 #![tactic(auto)]
 
@@ -8,9 +8,11 @@ ghost use Rattle.perf_io.specs.Outside.{Adds, Rose};
 ghost use Rattle.perf_io.specs.Wrote.{WroteFront};
 ghost use Rattle.perf_top.specs.Attributes.{IsAttr};
 ghost use Rattle.perf_top.specs.Notes.{note_of};
-ghost use Rattle.perf_top.specs.Outcome.{AreKnown, IsReplay, IsRun, IsOutput, MakesScript, Noted, Gave, ReadNoneOrAll, ReadsScript, IsBadOrder, IsBadScript};
+ghost use Rattle.perf_top.specs.Outcome.{AreKnown, DoesOrder, IsReplay, IsRun, IsStat, IsOutput, MakesScript, Noted, Gave, ReadNoneOrAll, ReadsScript, IsBadOrder, IsBadScript};
 
 mod attr;
+#[cfg(test)]
+mod calling;
 mod line;
 mod load;
 mod make;
@@ -19,6 +21,7 @@ mod make_tests;
 mod notes;
 mod replay;
 mod run;
+mod stat;
 mod status;
 mod stop;
 #[cfg(test)]
@@ -52,6 +55,13 @@ fn is_run(words: &[String]) -> bool
     words.len() == 1 && words[0].as_str() == "run"
 }
 
+/// Whether the words are those of a table.
+fn is_stat(words: &[String]) -> bool
+    ensures { IsTrue result ↔ IsStat (map string_bytes words.now) }
+{
+    words.len() == 1 && words[0].as_str() == "stat"
+}
+
 /// The second of two words of which the first is `attr`.
 fn attr_word(words: &[String]) -> Option<&str>
     ensures { MatchOption result
@@ -81,7 +91,8 @@ fn noted<N: Sink>(notes: &mut N, status: Status) -> Status
 }
 
 /// Does what the words ask for, those behind the program's name. `replay` reads a script from the source to its end, does
-/// its own order, and writes that order and what its lines answered to the sink. `run` reads a script too, and runs it with a thread for each processor, tool and
+/// its own order, and writes that order and what its lines answered to the sink. `stat` does the same, and writes a table with a row for each event that is open then, by
+/// its slot, as perf stat does. `run` reads a script too, and runs it with a thread for each processor, tool and
 /// reader: it writes the order that came of it, and its report; each worker passes the gate before each line or try. A text may have 4194304 bytes. `make` and a number of
 /// rounds, 1 to 1000 in decimal, has the script of so many rounds made and its own order done, and writes six lines that sum up its report; with `script` behind, it
 /// writes that script. It reads nothing. `attr` and
@@ -106,7 +117,7 @@ pub fn perf_main<R: Threads + Wait + Sync, S: Source, K: Sink, N: Sink, G: Gate 
     // Under `attr` all is written or the sink failed: memory never runs out there.
     ensures attr { (bytes : List ℕ) → IsAttr (map string_bytes words.now) bytes → (result ≡ Status.Done) ⊎ (result ≡ Status.WriteFault) }
     ensures bad_order { (index : ℕ) → (ring : RingNo) → (last : ℕ) → (head : ℕ) → (given : ℕ) → result ≡ Status.BadOrder index ring last head given →
-        IsReplay (map string_bytes words.now) × ((text : List ℕ) × Gave (S.left source.old) (S.left source.new) text × IsBadOrder text index ring last head given) }
+        DoesOrder (map string_bytes words.now) × ((text : List ℕ) × Gave (S.left source.old) (S.left source.new) text × IsBadOrder text index ring last head given) }
     ensures read_fault { result ≡ Status.ReadFault → Rose S.last_fault (S.faults source.old) (S.faults source.new) }
     ensures too_long { result ≡ Status.TooLong → IfSome (S.left source.old) (λ bytes. 4194304 < length bytes) }
     ensures bad_script { (line : ℕ) → (reason : SReason) → result ≡ Status.BadScript line reason →
@@ -127,6 +138,9 @@ pub fn perf_main<R: Threads + Wait + Sync, S: Source, K: Sink, N: Sink, G: Gate 
             notes,
             threads::run_by_threads::<R, S, K, G>(rt, alloc, source, sink, gate),
         );
+    }
+    if is_stat(words) {
+        return noted(notes, stat::tabulate_all(alloc, source, sink));
     }
     if let Some(rounds) = make::rounds_to_do(words) {
         return noted(notes, make::print_summary(alloc, rounds, sink));

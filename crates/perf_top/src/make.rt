@@ -10,7 +10,7 @@ ghost use Rattle.make_summary.specs.Summary.{summary_text};
 ghost use Rattle.perf_book.specs.Ending.{IsEnd};
 ghost use Rattle.perf_top.specs.Outcome.{IsMake, IsMakeScript, IsSummary};
 
-use crate::replay::replay;
+use crate::replay::replay_script;
 use crate::run::send;
 use crate::status::Status;
 use crate::stop::RunStop;
@@ -87,7 +87,7 @@ fn replay_made(alloc: Global, rounds: u32) -> Result<Ended, RunStop>
 {
     match make(alloc, rounds) {
         Err(NoMemory) => Err(RunStop::NoMemory),
-        Ok(script) => replay(alloc, script),
+        Ok(script) => replay_script(alloc, script),
     }
 }
 

@@ -1,9 +1,8 @@
 //! What no clause says of made scripts: that each call answers with ample memory, and the bytes that it writes.
 
-use crate::{OpenGate, Status, perf_main};
+use crate::Status;
+use crate::calling::{call, sink_of, source_of};
 use perf_io::{MemSink, MemSource, Source};
-use std::alloc::Global;
-use std::collections::TryReserveError;
 use std::test::Fail;
 
 const USAGE: &str = "perf_run: usage: run, replay, make N, make N script\n";
@@ -13,15 +12,6 @@ const SUMMARY: &str = "make 1\nlines 52\nsum 25800\nrecords 0\nlost 0\nend\n";
 /// How the script of one round begins.
 const HEAD: &[u8] =
     b"perf 1\nmachine cpus=4 counters=3\nkind cycles mask=7\nkind instructions mask=7\nkind branches mask=3\nkind misses mask=4\n";
-
-/// The words of a text, at one space each.
-fn words_of(alloc: Global, said: &str) -> Result<Vec<String>, TryReserveError> {
-    let mut words = Vec::new(alloc);
-    for word in said.split_whitespace() {
-        words.push(String::from_str(alloc, word)?)?;
-    }
-    Ok(words)
-}
 
 #[test]
 fn each_answer_comes_with_its_bytes_and_its_note(rt: HostRuntime) -> Result<(), Fail> {
@@ -52,20 +42,9 @@ fn each_answer_comes_with_its_bytes_and_its_note(rt: HostRuntime) -> Result<(), 
         ("make 1 script now", 1000, Status::Usage, "", USAGE),
     ];
     for (said, calls, answer, written, note) in table {
-        let words = words_of(rt.alloc(), said)?;
-        let bytes = Vec::from_slice(rt.alloc(), b"perf 1\n".as_slice())?;
-        let mut source = MemSource::new(bytes, 9, Vec::new(rt.alloc()));
+        let mut source = source_of(rt.alloc(), "perf 1\n", 9)?;
         let mut sink = MemSink::new(rt.alloc(), 9, vec![in rt.alloc(); calls]?, 1000)?;
-        let mut notes = MemSink::new(rt.alloc(), 9, Vec::new(rt.alloc()), 1000)?;
-        let status = perf_main(
-            &rt,
-            rt.alloc(),
-            &words,
-            &mut source,
-            &mut sink,
-            &mut notes,
-            &OpenGate,
-        );
+        let (status, notes) = call(&rt, rt.alloc(), said, &mut source, &mut sink)?;
         assert_eq!(rt; status, answer, "{said}");
         assert_eq!(rt; sink.bytes(), written.as_bytes());
         assert_eq!(rt; notes.bytes(), note.as_bytes());
@@ -76,35 +55,16 @@ fn each_answer_comes_with_its_bytes_and_its_note(rt: HostRuntime) -> Result<(), 
 
 #[test]
 fn made_script_is_printed_and_can_be_replayed(rt: HostRuntime) -> Result<(), Fail> {
-    let words = words_of(rt.alloc(), "make 1 script")?;
-    let mut source = MemSource::new(Vec::new(rt.alloc()), 9, Vec::new(rt.alloc()));
-    let mut sink = MemSink::new(rt.alloc(), 5000, Vec::new(rt.alloc()), 20000)?;
-    let mut notes = MemSink::new(rt.alloc(), 9, Vec::new(rt.alloc()), 1000)?;
-    let status = perf_main(
-        &rt,
-        rt.alloc(),
-        &words,
-        &mut source,
-        &mut sink,
-        &mut notes,
-        &OpenGate,
-    );
+    let mut nothing = source_of(rt.alloc(), "", 9)?;
+    let mut made = sink_of(rt.alloc(), 5000)?;
+    let (status, _) = call(&rt, rt.alloc(), "make 1 script", &mut nothing, &mut made)?;
     assert_eq!(rt; status, Status::Done);
-    assert!(rt; sink.bytes().starts_with(HEAD));
-    assert!(rt; sink.bytes().ends_with(b"\nend\n"));
-    let text = Vec::from_slice(rt.alloc(), sink.bytes())?;
-    let words = words_of(rt.alloc(), "replay")?;
+    assert!(rt; made.bytes().starts_with(HEAD));
+    assert!(rt; made.bytes().ends_with(b"\nend\n"));
+    let text = Vec::from_slice(rt.alloc(), made.bytes())?;
     let mut source = MemSource::new(text, 5000, Vec::new(rt.alloc()));
-    let mut report = MemSink::new(rt.alloc(), 5000, Vec::new(rt.alloc()), 20000)?;
-    let status = perf_main(
-        &rt,
-        rt.alloc(),
-        &words,
-        &mut source,
-        &mut report,
-        &mut notes,
-        &OpenGate,
-    );
+    let mut report = sink_of(rt.alloc(), 5000)?;
+    let (status, notes) = call(&rt, rt.alloc(), "replay", &mut source, &mut report)?;
     assert_eq!(rt; status, Status::Done);
     assert!(rt; report.bytes().ends_with(b"\nend\n"));
     assert_eq!(rt; notes.bytes(), b"".as_slice());

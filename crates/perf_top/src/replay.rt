@@ -7,13 +7,13 @@ ghost use Rattle.perf_base.specs.Scripts.{IsCovered};
 ghost use Rattle.perf_base.specs.Weight.{weight};
 ghost use Rattle.perf_io.specs.Outside.{Adds, Rose};
 ghost use Rattle.perf_io.specs.Wrote.{WroteFront};
-ghost use Rattle.script_spec.specs.Texts.{IsRefused};
+ghost use Rattle.script_spec.specs.Texts.{IsRefused, StandsFor};
 ghost use Rattle.stage_spec.specs.Order.{IsComplete};
 ghost use Rattle.work_account.specs.Ends.{AreTogether};
 ghost use Rattle.machine.specs.Readers.{AreFollowing};
 ghost use Rattle.perf_book.specs.Ending.{IsEnd};
-ghost use Rattle.perf_top.specs.Keeping.{AreUnread};
-ghost use Rattle.perf_top.specs.Outcome.{Gave, HasBadLook, HasOpenOrder, IsBadOrder, IsReplayed, ReadNoneOrAll, report_by};
+ghost use Rattle.perf_top.specs.Keeping.{AreUnread, IsFilled};
+ghost use Rattle.perf_top.specs.Outcome.{Gave, HasBadLook, HasOpenOrder, IsBadOrder, IsReplayed, ReadNoneOrAll};
 
 use crate::load::{Loaded, load};
 use crate::run::{Report, send};
@@ -102,16 +102,15 @@ fn fill(book: &mut Book, rings: &Rings, ins: &mut Ins) -> Result<(), BadLook>
 }
 
 /// Does the whole order of a script, which is complete, up to the first look that is not lawful.
-fn run(ready: Ready) -> Result<Ended, BadLook>
+fn run(ready: Ready) -> Result<Ready, BadLook>
     requires complete { IsComplete ready.book.script ready.book.script.order }
     requires short { length ready.book.script.order ≤ 4194304 }
     requires empty { ready.book.order ≡ [] }
     requires together { AreTogether ready.rings ready.book.machine.outs }
     requires following { AreFollowing (9 * weight ready.book.script) ready.book.machine.outs ready.ins }
     ensures bad { (b : BadLook) → result ≡ Err b → HasBadLook ready.book.script b.index b.ring b.last b.head b.given }
-    ensures script { IfOk result (λ e. e.script ≡ ready.book.script) }
-    ensures order { IfOk result (λ e. e.order ≡ ready.book.script.order) }
-    ensures ended { IfOk result (λ e. IsEnd e) }
+    ensures script { IfOk result (λ r. r.book.script ≡ ready.book.script) }
+    ensures filled { IfOk result (λ r. IsFilled r) }
 {
     let Ready {
         rings,
@@ -121,11 +120,42 @@ fn run(ready: Ready) -> Result<Ended, BadLook>
     if let Err(look) = fill(&mut book, &rings, &mut ins) {
         return Err(look);
     }
-    Ok(book.finish(rings, ins))
+    Ok(Ready { rings, ins, book })
 }
 
 /// Does the whole order of a script, which is complete. Its memory is taken before the first act.
-pub fn replay(alloc: Global, script: Script) -> Result<Ended, RunStop>
+fn replay(alloc: Global, script: Script) -> Result<Ready, RunStop>
+    requires covered { IsCovered script }
+    requires light { weight script ≤ 65536 }
+    requires short { length script.order ≤ 4194304 }
+    requires complete { IsComplete script script.order }
+    ensures script { IfOk result (λ r. r.book.script ≡ script) }
+    ensures filled { IfOk result (λ r. IsFilled r) }
+    ensures bad { (b : BadLook) → result ≡ Err (RunStop.BadOrder b) → HasBadLook script b.index b.ring b.last b.head b.given }
+    ensures only { OnErr result ((result ≡ Err RunStop.NoMemory) ⊎ ((b : BadLook) × (result ≡ Err (RunStop.BadOrder b)))) }
+{
+    match prepare(alloc, script) {
+        Err(NoMemory) => Err(RunStop::NoMemory),
+        Ok(ready) => match run(ready) {
+            Err(look) => Err(RunStop::BadOrder(look)),
+            Ok(filled) => Ok(filled),
+        },
+    }
+}
+
+/// What is left of a run of which the whole order was done.
+fn finish(ready: Ready) -> Ended
+    requires filled { IsFilled ready }
+    ensures script { result.script ≡ ready.book.script }
+    ensures order { result.order ≡ ready.book.script.order }
+    ensures ended { IsEnd result }
+{
+    let Ready { rings, ins, book } = ready;
+    book.finish(rings, ins)
+}
+
+/// What is left of a script, which is complete, once its whole order was done.
+pub fn replay_script(alloc: Global, script: Script) -> Result<Ended, RunStop>
     requires covered { IsCovered script }
     requires light { weight script ≤ 65536 }
     requires short { length script.order ≤ 4194304 }
@@ -136,24 +166,20 @@ pub fn replay(alloc: Global, script: Script) -> Result<Ended, RunStop>
     ensures bad { (b : BadLook) → result ≡ Err (RunStop.BadOrder b) → HasBadLook script b.index b.ring b.last b.head b.given }
     ensures only { OnErr result ((result ≡ Err RunStop.NoMemory) ⊎ ((b : BadLook) × (result ≡ Err (RunStop.BadOrder b)))) }
 {
-    match prepare(alloc, script) {
-        Err(NoMemory) => Err(RunStop::NoMemory),
-        Ok(ready) => match run(ready) {
-            Err(look) => Err(RunStop::BadOrder(look)),
-            Ok(ended) => Ok(ended),
-        },
+    match replay(alloc, script) {
+        Err(stop) => Err(stop),
+        Ok(ready) => Ok(finish(ready)),
     }
 }
 
 /// Does the own order of a script that was read, if that is complete.
-fn replay_loaded(alloc: Global, loaded: Loaded) -> Result<Ended, RunStop>
+fn replay_loaded(alloc: Global, loaded: Loaded) -> Result<Ready, RunStop>
     requires covered { IsCovered loaded.script }
     requires light { weight loaded.script ≤ 65536 }
     requires short { length loaded.script.order ≤ 4194304 }
-    ensures complete { IfOk result (λ e. IsComplete loaded.script loaded.script.order) }
-    ensures script { IfOk result (λ e. e.script ≡ loaded.script) }
-    ensures order { IfOk result (λ e. e.order ≡ loaded.script.order) }
-    ensures ended { IfOk result (λ e. IsEnd e) }
+    ensures complete { IfOk result (λ r. IsComplete loaded.script loaded.script.order) }
+    ensures script { IfOk result (λ r. r.book.script ≡ loaded.script) }
+    ensures filled { IfOk result (λ r. IsFilled r) }
     ensures bad { (b : BadLook) → result ≡ Err (RunStop.BadOrder b) → IsComplete loaded.script loaded.script.order × HasBadLook loaded.script b.index b.ring b.last b.head b.given }
     ensures incomplete { (line : ℕ) → (reason : Reason) → result ≡ Err (RunStop.Bad line reason)
         → (IsComplete loaded.script loaded.script.order → ⊥) × (line ≡ loaded.last_line) × (reason ≡ SReason.Order) }
@@ -166,10 +192,12 @@ fn replay_loaded(alloc: Global, loaded: Loaded) -> Result<Ended, RunStop>
     replay(alloc, loaded.script)
 }
 
-/// What is left of the script that a source has left, once its own order was done. All memory is taken before the first act.
-fn replay_source<S: Source>(alloc: Global, source: &mut S) -> Result<Ended, RunStop>
+/// Reads the script that a source has left and does its own order. All memory is taken before the first act.
+pub fn replay_source<S: Source>(alloc: Global, source: &mut S) -> Result<Ready, RunStop>
     ensures count { S.faults source.old ≤ S.faults source.new }
-    ensures ok { IfOk result (λ e. (bytes : List ℕ) × Gave (S.left source.old) (S.left source.new) bytes × IsReplayed bytes (report_by e)) }
+    ensures ok { IfOk result (λ r. (bytes : List ℕ) × Gave (S.left source.old) (S.left source.new) bytes × StandsFor bytes r.book.script
+        × IsComplete r.book.script r.book.script.order) }
+    ensures filled { IfOk result (λ r. IsFilled r) }
     ensures bad { (line : ℕ) → (reason : Reason) → result ≡ Err (RunStop.Bad line reason) →
         (bytes : List ℕ) × Gave (S.left source.old) (S.left source.new) bytes × (IsRefused bytes line reason ⊎ HasOpenOrder bytes line reason) }
     ensures order { (b : BadLook) → result ≡ Err (RunStop.BadOrder b) →
@@ -182,7 +210,7 @@ fn replay_source<S: Source>(alloc: Global, source: &mut S) -> Result<Ended, RunS
         Err(stop) => Err(stop),
         Ok(loaded) => match replay_loaded(alloc, loaded) {
             Err(stop) => Err(stop),
-            Ok(ended) => Ok(ended),
+            Ok(ready) => Ok(ready),
         },
     }
 }
@@ -206,6 +234,9 @@ pub fn replay_all<S: Source, K: Sink>(alloc: Global, source: &mut S, sink: &mut 
 {
     match replay_source(alloc, source) {
         Err(stop) => stop.status(),
-        Ok(ended) => send(sink, &Report { ended: &ended }),
+        Ok(ready) => {
+            let ended = finish(ready);
+            send(sink, &Report { ended: &ended })
+        }
     }
 }

@@ -1,6 +1,7 @@
 //! What no clause says: that each call answers with ample memory, and which answer comes at a fault.
 
-use crate::{OpenGate, Status, perf_main};
+use crate::Status;
+use crate::calling::{call, sink_of, source_of};
 use perf_base::{RingNo, SReason};
 use perf_io::{MemSink, MemSource, Source};
 use std::test::Fail;
@@ -31,6 +32,16 @@ const BAD_LOOK: &str =
     "perf 1\nmachine cpus=1 counters=1\nkind a mask=1\nring 0 bytes=64\nprocessor 0\nwork 1 user ip=5 a=4\n\
     tool 0\nopen 0 kind=a task=all cpu=0 period=1 sample=1\nmap 0 0\norder t0 t0 p0 s0=8\nend\n";
 
+const BAD_LOOK_ANSWER: Status = Status::BadOrder {
+    index: 3,
+    ring: RingNo(0),
+    last: 0,
+    head: 48,
+    given: 8,
+};
+
+const BAD_LOOK_NOTE: &str = "perf_run: act 3: ring 0 last 0 head 48 given 8\n";
+
 /// A switch, two events of one counter, and a fork, an exit and a close of what the task has.
 const WITH_TASK: &str =
     "perf 1\nmachine cpus=1 counters=1\nkind a mask=1\ntask 0\nprocessor 0\nswitch 0\nfork 1\n\
@@ -40,10 +51,14 @@ const WITH_TASK: &str =
 const TASK_REPORT: &str =
     "order t0 t0 p0 p0 p0 p0 t0 t0 t0\nt0.1 open ENOPLACE\nt0.2 read 4 10 10\nt0.4 read EBADF\nend\n";
 
+/// The table of the first script.
+const TABLE: &str =
+    "stat 1\n  0 cycles                                     500            100            100                         500 100.00%\nend\n";
+
 const EMPTY: &str = "perf 1\nmachine cpus=1 counters=1\nend\n";
 
-/// The bytes of a `struct perf_event_attr` of the smallest size.
-const ATTR: &str = "04000000400000000100000000000000e803000000000000070000000000000003\
+/// The word `attr` and the bytes of a `struct perf_event_attr` of the smallest size.
+const ATTR: &str = "attr 04000000400000000100000000000000e803000000000000070000000000000003\
     00000000000000030000000000000000000000000000000000000000000000";
 
 const ATTR_LINE: &str =
@@ -215,10 +230,6 @@ const ROWS: [Row; 17] = [
 #[test]
 fn each_answer_comes_with_its_bytes_and_its_note(rt: HostRuntime) -> Result<(), Fail> {
     for (said, text, piece, fails, answer, report, note) in ROWS {
-        let mut words = Vec::new(rt.alloc());
-        for word in said.split_whitespace() {
-            words.push(String::from_str(rt.alloc(), word)?)?;
-        }
         let bytes = Vec::from_slice(rt.alloc(), text.as_bytes())?;
         let mut source = MemSource::new(bytes, piece.max(1), vec![in rt.alloc(); fails[0]]?);
         let mut sink = MemSink::new(
@@ -227,16 +238,7 @@ fn each_answer_comes_with_its_bytes_and_its_note(rt: HostRuntime) -> Result<(), 
             vec![in rt.alloc(); fails[1]]?,
             1000,
         )?;
-        let mut notes = MemSink::new(rt.alloc(), 7, Vec::new(rt.alloc()), 1000)?;
-        let status = perf_main(
-            &rt,
-            rt.alloc(),
-            &words,
-            &mut source,
-            &mut sink,
-            &mut notes,
-            &OpenGate,
-        );
+        let (status, notes) = call(&rt, rt.alloc(), said, &mut source, &mut sink)?;
         assert_eq!(rt; status, answer);
         assert_eq!(rt; sink.bytes(), report.as_bytes());
         assert_eq!(rt; notes.bytes(), note.as_bytes());
@@ -249,39 +251,45 @@ fn each_answer_comes_with_its_bytes_and_its_note(rt: HostRuntime) -> Result<(), 
 
 #[test]
 fn rings_and_looks_are_told(rt: HostRuntime) -> Result<(), Fail> {
-    let bad_look = Status::BadOrder {
-        index: 3,
-        ring: RingNo(0),
-        last: 0,
-        head: 48,
-        given: 8,
-    };
     let table = [
         (WITH_RING, Status::Done, RING_REPORT, ""),
-        (
-            BAD_LOOK,
-            bad_look,
-            "",
-            "perf_run: act 3: ring 0 last 0 head 48 given 8\n",
-        ),
+        (BAD_LOOK, BAD_LOOK_ANSWER, "", BAD_LOOK_NOTE),
     ];
     for (text, answer, report, note) in table {
-        let words = vec![in rt.alloc(); String::from_str(rt.alloc(), "replay")?]?;
-        let bytes = Vec::from_slice(rt.alloc(), text.as_bytes())?;
-        let mut source = MemSource::new(bytes, 9, Vec::new(rt.alloc()));
-        let mut sink = MemSink::new(rt.alloc(), 9, Vec::new(rt.alloc()), 1000)?;
-        let mut notes = MemSink::new(rt.alloc(), 9, Vec::new(rt.alloc()), 1000)?;
-        let status = perf_main(
-            &rt,
-            rt.alloc(),
-            &words,
-            &mut source,
-            &mut sink,
-            &mut notes,
-            &OpenGate,
-        );
+        let mut source = source_of(rt.alloc(), text, 9)?;
+        let mut sink = sink_of(rt.alloc(), 9)?;
+        let (status, notes) = call(&rt, rt.alloc(), "replay", &mut source, &mut sink)?;
         assert_eq!(rt; status, answer);
         assert_eq!(rt; sink.bytes(), report.as_bytes());
+        assert_eq!(rt; notes.bytes(), note.as_bytes());
+    }
+    Ok(())
+}
+
+#[test]
+fn stat_writes_a_table(rt: HostRuntime) -> Result<(), Fail> {
+    let table = [
+        (SCRIPT, 1000, Status::Done, TABLE, ""),
+        (EMPTY, 1000, Status::Done, "stat 0\nend\n", ""),
+        (
+            OPEN_ORDER,
+            1000,
+            Status::BadScript {
+                line: 6,
+                reason: SReason::Order,
+            },
+            "",
+            "perf_run: line 6: ORDER\n",
+        ),
+        (BAD_LOOK, 1000, BAD_LOOK_ANSWER, "", BAD_LOOK_NOTE),
+        (SCRIPT, 0, Status::WriteFault, "", "perf_run: write fault\n"),
+    ];
+    for (text, calls, answer, written, note) in table {
+        let mut source = source_of(rt.alloc(), text, 9)?;
+        let mut sink = MemSink::new(rt.alloc(), 9, vec![in rt.alloc(); calls]?, 1000)?;
+        let (status, notes) = call(&rt, rt.alloc(), "stat", &mut source, &mut sink)?;
+        assert_eq!(rt; status, answer);
+        assert_eq!(rt; sink.bytes(), written.as_bytes());
         assert_eq!(rt; notes.bytes(), note.as_bytes());
     }
     Ok(())
@@ -291,27 +299,15 @@ fn rings_and_looks_are_told(rt: HostRuntime) -> Result<(), Fail> {
 fn attr_says_what_bytes_are(rt: HostRuntime) -> Result<(), Fail> {
     let table = [
         (ATTR, CALM, Status::Done, ATTR_LINE),
-        ("04000000", CALM, Status::Done, "attr ESHORT\n"),
+        ("attr 04000000", CALM, Status::Done, "attr ESHORT\n"),
         (ATTR, 0, Status::WriteFault, ""),
         (ATTR, 1, Status::WriteFault, ATTR_LINE),
-        ("0", CALM, Status::Usage, ""),
+        ("attr 0", CALM, Status::Usage, ""),
     ];
-    for (word, fails, answer, line) in table {
-        let mut words = vec![in rt.alloc(); String::from_str(rt.alloc(), "attr")?]?;
-        words.push(String::from_str(rt.alloc(), word)?)?;
-        let bytes = Vec::from_slice(rt.alloc(), b"perf 1\n".as_slice())?;
-        let mut source = MemSource::new(bytes, 9, Vec::new(rt.alloc()));
+    for (said, fails, answer, line) in table {
+        let mut source = source_of(rt.alloc(), "perf 1\n", 9)?;
         let mut sink = MemSink::new(rt.alloc(), 1000, vec![in rt.alloc(); fails]?, 1000)?;
-        let mut notes = MemSink::new(rt.alloc(), 9, Vec::new(rt.alloc()), 1000)?;
-        let status = perf_main(
-            &rt,
-            rt.alloc(),
-            &words,
-            &mut source,
-            &mut sink,
-            &mut notes,
-            &OpenGate,
-        );
+        let (status, _) = call(&rt, rt.alloc(), said, &mut source, &mut sink)?;
         assert_eq!(rt; status, answer);
         assert_eq!(rt; sink.bytes(), line.as_bytes());
         assert_eq!(rt; source.read(&mut [0; 9]).ok(), Some(7));
@@ -337,20 +333,10 @@ fn a_text_may_be_too_long(rt: HostRuntime) -> Result<(), Fail> {
         ),
     ];
     for (length, answer, note) in table {
-        let words = vec![in rt.alloc(); String::from_str(rt.alloc(), "replay")?]?;
         let bytes = vec![in rt.alloc(); b'a'; length]?;
         let mut source = MemSource::new(bytes, 1000000, Vec::new(rt.alloc()));
-        let mut sink = MemSink::new(rt.alloc(), 9, Vec::new(rt.alloc()), 9)?;
-        let mut notes = MemSink::new(rt.alloc(), 9, Vec::new(rt.alloc()), 1000)?;
-        let status = perf_main(
-            &rt,
-            rt.alloc(),
-            &words,
-            &mut source,
-            &mut sink,
-            &mut notes,
-            &OpenGate,
-        );
+        let mut sink = sink_of(rt.alloc(), 9)?;
+        let (status, notes) = call(&rt, rt.alloc(), "replay", &mut source, &mut sink)?;
         assert_eq!(rt; status, answer);
         assert_eq!(rt; sink.bytes(), b"".as_slice());
         assert_eq!(rt; notes.bytes(), note.as_bytes());

@@ -1,17 +1,12 @@
-use Rattle.std.specs.Prelude.{◌≡◌, ℕ, ◌+◌, ◌<◌, List, [], ◌∷◌, ◌++◌, Err, length, take}
-use Rattle.std.proofs.Common.{arith, ap, get_or, sym, subst, ◌∙◌}
-use Rattle.std.proofs.lemmas.List.{length-take-le, take_all}
-use Rattle.std.proofs.lemmas.List.Sums.{count_by-le-length}
-use Rattle.perf_base.specs.declared.acts.Act.{Act}
-use Rattle.perf_base.specs.declared.acts.Act.TheVariants as act
+use Rattle.std.specs.Prelude.{◌≡◌, Err, length, take}
+use Rattle.std.proofs.Common.{arith, ap, sym, subst, ◌∙◌}
 use Rattle.perf_base.specs.Scripts.{Scripted}
 use Rattle.machine.specs.Leading.{LeadTo}
 use Rattle.machine.specs.Stepping.{IsUnlawful}
 use Rattle.stage_spec.specs.Order.{IsComplete}
-use Rattle.run_laws.specs.Growing.{is_look}
 use Rattle.perf_top.specs.declared.stop.BadLook.{BadLook}
 use Rattle.perf_top.specs.Outcome.{HasBadLook}
-use Rattle.perf_top.proofs.Lines.{bad-look-at, has-line-at, ring-named-at}
+use Rattle.perf_top.proofs.Lines.{bad-look-at, has-line-at}
 use Rattle.perf_top.proofs.replay.fill.Goals as goal
 
 pub bad_look-requires-clause-line : goal.bad_look-requires-clause-line

@@ -2,7 +2,7 @@ use Rattle.std.specs.Prelude.{◌≡◌, ℕ, ◌*◌, ◌<◌, List, length, ma
 use Rattle.std.proofs.Common.{arith, ap, get_or, subst, sym, ◌∙◌}
 use Rattle.std.proofs.lemmas.Option.{none-some, same_Some, slice_get-map}
 use Rattle.perf_base.specs.declared.numbers.RingNo.{RingNo}
-use Rattle.perf_base.specs.Scripts.{Scripted, IsRingSize, IsScript}
+use Rattle.perf_base.specs.Scripts.{IsRingSize, IsScript}
 use Rattle.perf_base.specs.Weight.{weight}
 use Rattle.ring_words.specs.Ends.{Ring}
 use Rattle.sample_ring.specs.InEnds.{InEnd, new_in}

@@ -1,6 +1,7 @@
-use Rattle.std.specs.Prelude.{◌≡◌, ◌⊎◌, ℕ, Err, length}
-use Rattle.std.proofs.Common.{ap, inl, inr, refl, subst, sym, ◌∙◌}
-use Rattle.perf_top.proofs.Reported.{reported-as}
+use Rattle.std.proofs.Common.{inr, subst, sym, ◌∙◌}
+use Rattle.perf_base.specs.Scripts.{Scripted}
+use Rattle.script_spec.specs.Texts.{StandsFor}
+use Rattle.stage_spec.specs.Order.{IsComplete}
 use Rattle.perf_top.proofs.replay.replay_source.Goals as goal
 
 pub returns-in-Err-replay_loaded-clause-bad : goal.returns-in-Err-replay_loaded-clause-bad
@@ -21,10 +22,6 @@ returns-in-Ok-replay_loaded-clause-ok g c =
     let h = c.in-Ok-replay_loaded.ensures in (
       loaded.0,
       loaded.1,
-      record {
-        script = c.in-Ok.loaded.script;
-        stands = loaded.2;
-        complete = h.complete;
-        reported = reported-as c.in-Ok.loaded.script c.in-Ok.loaded.script.order c.in-Ok-replay_loaded.ended h.script h.order h.ended;
-      },
+      subst (λ (s : Scripted). StandsFor loaded.0 s) (sym h.script) loaded.2,
+      subst (λ (s : Scripted). IsComplete s s.order) (sym h.script) h.complete,
     )

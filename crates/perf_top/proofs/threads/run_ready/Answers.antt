@@ -1,6 +1,5 @@
-use Rattle.std.specs.Prelude.{◌≡◌, ℕ, ◌*◌, All, List, ◌++◌}
-use Rattle.std.proofs.Common.{sym, ap, subst, ◌∙◌}
-use Rattle.perf_base.specs.declared.acts.Act.{Act}
+use Rattle.std.specs.Prelude.{◌≡◌, ℕ, ◌*◌, All}
+use Rattle.std.proofs.Common.{sym, subst, ◌∙◌}
 use Rattle.perf_base.specs.declared.numbers.RingNo.{RingNo}
 use Rattle.perf_base.specs.Scripts.{Scripted}
 use Rattle.perf_base.specs.Weight.{weight}

@@ -1,4 +1,4 @@
-use Rattle.std.proofs.Common.{sym, subst, refl}
+use Rattle.std.proofs.Common.{sym, subst}
 use Rattle.perf_base.specs.Scripts.{Scripted}
 use Rattle.script_spec.specs.Texts.{StandsFor}
 use Rattle.perf_top.proofs.Reported.{end-reported}
