@@ -90,7 +90,7 @@ def sampling():
 
 def stored(name):
     """A worked case, and its order."""
-    path = os.path.join(os.path.dirname(os.path.abspath(__file__)), "..", "crates", "perf_rows", "data", name + ".script")
+    path = os.path.join(os.path.dirname(os.path.abspath(__file__)), "..", "crates", "worked_cases", "data", name + ".script")
     with open(path) as file:
         return parted(file.read())
 
@@ -136,7 +136,7 @@ def main(program):
         ("8 processors, 200 events", large()),
         ("2,000 copies", copies(31)),
         ("4,000 copies", copies(62)),
-        ("copies-full", stored("rows/copies-full")),
+        ("copies-full", stored("tasks-and-copies/copies-full")),
         ("16,000 records", sampling()),
         ("the script of 1,000 rounds", made(program)),
     )

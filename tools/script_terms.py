@@ -1,28 +1,33 @@
 #!/usr/bin/env python3
 """Turns script texts and their reports into antt files of worked cases.
 
-Each case is a pair NAME.script and NAME.report. What comes out is, for each case, the script as a term of the type
+The cases are those that crates/worked_cases/data/theorems lists, each a pair NAME.script and NAME.report there. Where there
+is NAME.other-seats it is taken for the report: it is the same but for the counters that `seats` names, which are others than
+the program's and right too. What comes out is, for each case, the script as a term of the type
 `Scripted`, the replies to all lines of its order as a list of terms, and a theorem that these replies are the answers that
 the definitions of crates/stage_spec/specs give. The theorem is proved by computation, so it fails where the definitions
 answer anything else than the report says.
 
-With the word `whole` the report's text comes out too, and the theorem says that it is the report, by the definitions of
-crates/report_spec/specs, with what became of each ring. There a case may also be a pair NAME.script and NAME.note, the
-note of an order with an unlawful look at a tail; the theorem is then that this look, with the note's numbers, is the
-first that is not lawful.
+For the cases listed as `reports/..` the report's text comes out too, and the theorem says that it is the report, by the
+definitions of crates/report_spec/specs, with what became of each ring. There a case may also be a script whose order has an
+unlawful look at a tail, with the note that crates/worked_cases/data/cases gives for it; the theorem is then that this look,
+with the note's numbers, is the first that is not lawful.
 
 No proof rests on this program: what it writes is checked by `rt check` like any other file. A slip here could only
 state another case than the text says, which is why the terms are written to be read beside the text.
 
-Usage: script_terms.py CASES OUT [whole]
-  CASES  a folder of folders of cases, as tools/cases; with `whole`, as tools/report_cases
-  OUT    the folder of the antt files, as crates/worked_theorems/proofs/answers; with `whole`, .../reports.
-         Files that it wrote before are replaced, and the list of the folder's modules, as answers.antt beside it
+Usage: script_terms.py
+  Writes crates/worked_theorems/proofs/answers and .../reports anew: files that it wrote before are replaced, and the list of
+  each folder's modules, as answers.antt beside it
 """
 
 import os
 import re
 import sys
+
+CRATES = os.path.join(os.path.dirname(os.path.abspath(__file__)), "..", "crates")
+DATA = os.path.join(CRATES, "worked_cases", "data")
+PROOFS = os.path.join(CRATES, "worked_theorems", "proofs")
 
 CPUS = 8
 TOOLS = 4
@@ -492,43 +497,60 @@ def imports(lines, modules):
     return out
 
 
-def write_files(out, folder, cases, terms_of, modules):
-    """Writes the cases of a folder into files that are not too long, and returns the names of the files."""
-    title = "".join(word.capitalize() for word in folder.split("_"))
+def write_files(out, title, cases, terms_of, modules):
+    """Writes cases into files that are not too long."""
     parts = [[]]
     for case in cases:
         terms = terms_of(case)
         if parts[-1] and sum(len(it) + 1 for it in parts[-1]) + len(terms) + len(modules) + 3 > LINES_PER_FILE:
             parts.append([])
         parts[-1].append(terms)
-    names = []
     for number, part in enumerate(parts, 1):
         body = [line for terms in part for line in ["", *terms]]
         name = f"{title}{number}"
         head = ["-- Worked cases, written by tools/script_terms.py from texts and their reports.", *imports(body, modules)]
         with open(os.path.join(out, f"{name}.antt"), "w", encoding="utf-8") as file:
             file.write("\n".join([*head, *body]) + "\n")
-        names.append(name)
-    return names
 
 
-def read_cases(folder):
-    cases = []
-    for file in sorted(os.listdir(folder)):
-        name, dot, ending = file.rpartition(".")
-        if ending != "script":
-            continue
-        label = f"{os.path.basename(folder)}_{name}" if name.isdigit() else name
-        case = Case(label)
-        with open(os.path.join(folder, file), encoding="ascii") as text:
-            read_script(case, text.read())
-        for ending, read in (("report", read_report), ("note", read_note)):
-            path = os.path.join(folder, f"{name}.{ending}")
-            if os.path.exists(path):
-                with open(path, encoding="ascii") as text:
-                    read(case, text.read())
-        cases.append(case)
-    return cases
+def read(path):
+    with open(path, encoding="ascii") as file:
+        return file.read()
+
+
+def read_case(file, name):
+    """The case NAME of the data, whose theorem stands in files of the name FILE."""
+    last = os.path.basename(name)
+    case = Case(f"{file.lower()}_{last}" if last.isdigit() else last)
+    path = os.path.join(DATA, name)
+    read_script(case, read(path + ".script"))
+    seated = path + ".other-seats"
+    if os.path.exists(seated):
+        read_report(case, read(seated))
+    elif os.path.exists(path + ".report"):
+        read_report(case, read(path + ".report"))
+    else:
+        read_note(case, note_of(name))
+    return case
+
+
+def note_of(name):
+    """The note of a refused case, which the list of cases has."""
+    for line in read(os.path.join(DATA, "cases")).splitlines():
+        if line.startswith(f"refused {name} "):
+            return line.split(" ", 2)[2] + "\n"
+    raise ValueError(f"{name}: no note")
+
+
+def listed():
+    """The cases of each file of theorems, as the list has them."""
+    files = {}
+    for line in read(os.path.join(DATA, "theorems")).splitlines():
+        if not line.startswith("#"):
+            place, name = line.split(" ")
+            folder, file = place.split("/")
+            files.setdefault(folder, {}).setdefault(file, []).append(read_case(file, name))
+    return files
 
 
 # the modules of the folder that are written by hand
@@ -540,20 +562,25 @@ def is_written(path):
         return "written by tools/script_terms.py" in file.readline()
 
 
-def main(arguments):
-    if len(arguments) not in (2, 3) or arguments[2:] not in ([], ["whole"]):
-        sys.exit(__doc__)
-    cases, out = arguments[:2]
-    terms_of, modules = (whole_terms, IMPORTS + WHOLE_IMPORTS) if arguments[2:] else (answers_terms, IMPORTS + ANSWERS_IMPORTS)
+def write_folder(out, files, terms_of, modules):
+    """Writes the theorems of a folder, in the place of those that were written before, and the list of its modules."""
     for file in os.listdir(out):
         path = os.path.join(out, file)
         if file.endswith(".antt") and is_written(path):
             os.remove(path)
-    for folder in sorted(os.listdir(cases)):
-        write_files(out, folder, read_cases(os.path.join(cases, folder)), terms_of, modules)
+    for file, cases in files.items():
+        write_files(out, file, cases, terms_of, modules)
     names = sorted(file[: -len(".antt")] for file in os.listdir(out) if file.endswith(".antt"))
     with open(f"{out}.antt", "w", encoding="utf-8") as file:
         file.write("".join(f"{'pub ' if name in BY_HAND else ''}mod {name}\n" for name in names))
+
+
+def main(arguments):
+    if arguments:
+        sys.exit(__doc__)
+    files = listed()
+    write_folder(os.path.join(PROOFS, "answers"), files["answers"], answers_terms, IMPORTS + ANSWERS_IMPORTS)
+    write_folder(os.path.join(PROOFS, "reports"), files["reports"], whole_terms, IMPORTS + WHOLE_IMPORTS)
 
 
 if __name__ == "__main__":

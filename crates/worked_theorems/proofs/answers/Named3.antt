@@ -112,8 +112,8 @@ earlier_refusal-answers : Answers earlier_refusal earlier_refusal_replies
 unfolding Computed earlier_refusal earlier_refusal_replies
 earlier_refusal-answers = computed earlier_refusal earlier_refusal_replies (refl, (refl, (refl, (refl, (refl, tt)))))
 
-empty : Scripted
-empty = record {
+nothing_to_do : Scripted
+nothing_to_do = record {
   cpus = 1;
   pmus = pmu 1 1 ∷ [];
   kinds = [];
@@ -125,12 +125,12 @@ empty = record {
   order = [];
 }
 
-empty_replies : List Reply
-empty_replies = []
+nothing_to_do_replies : List Reply
+nothing_to_do_replies = []
 
-empty-answers : Answers empty empty_replies
-unfolding Computed empty empty_replies
-empty-answers = computed empty empty_replies tt
+nothing_to_do-answers : Answers nothing_to_do nothing_to_do_replies
+unfolding Computed nothing_to_do nothing_to_do_replies
+nothing_to_do-answers = computed nothing_to_do nothing_to_do_replies tt
 
 exclusive_software : Scripted
 exclusive_software = record {

@@ -192,8 +192,8 @@ pinned_and_exclusive-answers : Answers pinned_and_exclusive pinned_and_exclusive
 unfolding Computed pinned_and_exclusive pinned_and_exclusive_replies
 pinned_and_exclusive-answers = computed pinned_and_exclusive pinned_and_exclusive_replies (refl, (refl, (refl, (refl, (refl, (refl, (refl, (refl, (refl, (refl, (refl, (refl, (refl, (refl, (refl, (refl, (refl, tt)))))))))))))))))
 
-realistic : Scripted
-realistic = record {
+six_inherited_events_on_four_counters : Scripted
+six_inherited_events_on_four_counters = record {
   cpus = 2;
   pmus = pmu 4 3 ∷ [];
   kinds = kind_line (codes "cycles") 0 15 ∷ kind_line (codes "instructions") 0 15 ∷ kind_line (codes "branches") 0 15 ∷
@@ -232,15 +232,15 @@ realistic = record {
       by_cpu 0 ∷ by_cpu 1 ∷ by_cpu 0 ∷ by_cpu 0 ∷ by_tool 0 ∷ by_tool 0 ∷ by_tool 0 ∷ by_tool 0 ∷ by_tool 0 ∷ by_tool 0 ∷ [];
 }
 
-realistic_replies : List Reply
-realistic_replies = reply.Ok ∷ reply.Ok ∷ reply.Ok ∷ reply.Ok ∷ reply.Ok ∷ reply.Ok ∷ reply.Ok ∷ reply.Ok ∷ reply.Ok ∷ reply.Ok ∷ reply.Ok ∷
-    reply.Ok ∷ reply.Ok ∷ reply.Ok ∷ reply.Ok ∷ reply.Ok ∷ reply.Read (24000000 ∷ 16000000 ∷ 8000000 ∷ []) ∷
+six_inherited_events_on_four_counters_replies : List Reply
+six_inherited_events_on_four_counters_replies = reply.Ok ∷ reply.Ok ∷ reply.Ok ∷ reply.Ok ∷ reply.Ok ∷ reply.Ok ∷ reply.Ok ∷ reply.Ok ∷ reply.Ok ∷
+    reply.Ok ∷ reply.Ok ∷ reply.Ok ∷ reply.Ok ∷ reply.Ok ∷ reply.Ok ∷ reply.Ok ∷ reply.Read (24000000 ∷ 16000000 ∷ 8000000 ∷ []) ∷
     reply.Read (27000000 ∷ 16000000 ∷ 12000000 ∷ []) ∷ reply.Read (8000000 ∷ 16000000 ∷ 16000000 ∷ []) ∷
     reply.Read (160000 ∷ 16000000 ∷ 16000000 ∷ []) ∷ reply.Read (160000 ∷ 16000000 ∷ 8000000 ∷ []) ∷ reply.Read (8000 ∷ 16000000 ∷ 4000000 ∷ []) ∷ []
 
-realistic-answers : Answers realistic realistic_replies
-unfolding Computed realistic realistic_replies
-realistic-answers = computed realistic realistic_replies (refl, (refl, (refl, (refl, (refl, (refl, (refl, (refl, (refl, (refl, (refl, (refl, (refl, (refl, (refl, (refl, (refl, (refl, (refl, (refl, (refl, (refl, tt))))))))))))))))))))))
+six_inherited_events_on_four_counters-answers : Answers six_inherited_events_on_four_counters six_inherited_events_on_four_counters_replies
+unfolding Computed six_inherited_events_on_four_counters six_inherited_events_on_four_counters_replies
+six_inherited_events_on_four_counters-answers = computed six_inherited_events_on_four_counters six_inherited_events_on_four_counters_replies (refl, (refl, (refl, (refl, (refl, (refl, (refl, (refl, (refl, (refl, (refl, (refl, (refl, (refl, (refl, (refl, (refl, (refl, (refl, (refl, (refl, (refl, tt))))))))))))))))))))))
 
 refusals_in_order : Scripted
 refusals_in_order = record {

@@ -121,8 +121,8 @@ sibling_off-answers : Answers sibling_off sibling_off_replies
 unfolding Computed sibling_off sibling_off_replies
 sibling_off-answers = computed sibling_off sibling_off_replies (refl, (refl, (refl, (refl, (refl, (refl, (refl, tt)))))))
 
-smallest_path : Scripted
-smallest_path = record {
+one_event_read : Scripted
+one_event_read = record {
   cpus = 1;
   pmus = pmu 1 1 ∷ [];
   kinds = kind_line (codes "cycles") 0 1 ∷ [];
@@ -139,12 +139,12 @@ smallest_path = record {
   order = by_tool 0 ∷ by_cpu 0 ∷ by_tool 0 ∷ [];
 }
 
-smallest_path_replies : List Reply
-smallest_path_replies = reply.Ok ∷ reply.Ok ∷ reply.Read (500 ∷ 100 ∷ 100 ∷ []) ∷ []
+one_event_read_replies : List Reply
+one_event_read_replies = reply.Ok ∷ reply.Ok ∷ reply.Read (500 ∷ 100 ∷ 100 ∷ []) ∷ []
 
-smallest_path-answers : Answers smallest_path smallest_path_replies
-unfolding Computed smallest_path smallest_path_replies
-smallest_path-answers = computed smallest_path smallest_path_replies (refl, (refl, (refl, tt)))
+one_event_read-answers : Answers one_event_read one_event_read_replies
+unfolding Computed one_event_read one_event_read_replies
+one_event_read-answers = computed one_event_read one_event_read_replies (refl, (refl, (refl, tt)))
 
 software_kinds : Scripted
 software_kinds = record {

@@ -291,8 +291,8 @@ unlawful_016-unlawful : IsUnlawfulLook unlawful_016 22 (ring 8) 112 112 0
 unfolding Walked unlawful_016
 unlawful_016-unlawful = looked unlawful_016 22 (ring 8) 112 112 0 refl (refl, (refl, (refl, (refl, (refl, (refl, (refl, (refl, (refl, (refl, (refl, (refl, (refl, (refl, (refl, (refl, (refl, (refl, (refl, (refl, (refl, (refl, (refl, refl, refl)))))))))))))))))))))))
 
-unlawful_seen : Scripted
-unlawful_seen = record {
+look_inside_a_record : Scripted
+look_inside_a_record = record {
   cpus = 1;
   pmus = pmu 1 1 ∷ [];
   kinds = kind_line (codes "a") 0 1 ∷ [];
@@ -311,6 +311,6 @@ unlawful_seen = record {
   order = by_tool 0 ∷ by_tool 0 ∷ by_cpu 0 ∷ seen 0 8 ∷ by_cpu 0 ∷ seen 0 48 ∷ by_cpu 0 ∷ [];
 }
 
-unlawful_seen-unlawful : IsUnlawfulLook unlawful_seen 3 (ring 0) 0 48 8
-unfolding Walked unlawful_seen
-unlawful_seen-unlawful = looked unlawful_seen 3 (ring 0) 0 48 8 refl (refl, (refl, (refl, (refl, refl, refl))))
+look_inside_a_record-unlawful : IsUnlawfulLook look_inside_a_record 3 (ring 0) 0 48 8
+unfolding Walked look_inside_a_record
+look_inside_a_record-unlawful = looked look_inside_a_record 3 (ring 0) 0 48 8 refl (refl, (refl, (refl, (refl, refl, refl))))

@@ -1,0 +1,232 @@
+//! Runs the top call on worked cases, and says where its answer is not what a case expects. What a text stands for
+//! is then printed, and the printed text has to end as the text did. A case may also be words without a text. The cases
+//! are those of the list `cases` in the folder that the first word names, or else in the folder where it runs; each text,
+//! and the words of each other case, are a file beside the list.
+#![tactic(auto)]
+
+ghost use Rattle.std.specs.Prelude.{◌≡◌, ◌<◌, ◌≤◌, map, IfOk, string_bytes};
+ghost use Rattle.worked_cases.specs.Expectations.{has_script, words_if_printed};
+ghost use Rattle.worked_cases.specs.Printed.{IsAsExpected};
+ghost use Rattle.worked_cases.specs.Words.{AreAsExpected};
+
+mod again;
+mod answer;
+mod case;
+mod printed;
+mod verdict;
+
+use again::{judge_both, run_printed};
+use answer::{answer_to, answer_to_words};
+use case::{Case, Expected, parse_case};
+use perf_base::NoMemory;
+use printed::printed_text;
+use std::alloc::Global;
+use std::process::ExitCode;
+use std::sync::Wait;
+use std::thread::Threads;
+use std::{env, fs, io};
+use verdict::{Verdict, judge};
+
+/// How many cases there were, and in how many the answer was not what was expected.
+#[derive(Clone, Copy)]
+struct Tally {
+    cases: u64,
+    failures: u64,
+}
+
+impl Tally {
+    /// The tally with one case more.
+    fn with(self, verdict: &Verdict) -> Tally
+        ensures kept { verdict.now ≡ Verdict.AsExpected → result.failures ≡ self.failures }
+        ensures none_lost { self.failures ≤ result.failures }
+        ensures failed { (verdict.now ≡ Verdict.AsExpected → ⊥) → 0 < result.failures }
+    {
+        let failed = match verdict {
+            Verdict::AsExpected => 0,
+            Verdict::Differs(_) => 1,
+        };
+        Tally {
+            cases: self.cases.saturating_add(1),
+            failures: self.failures.saturating_add(failed),
+        }
+    }
+}
+
+/// The folder of the list.
+fn list_folder(rt: &HostRuntime) -> io::Result<String> {
+    match env::args(rt)?.nth(1) {
+        Some(folder) => Ok(folder),
+        None => Ok(String::from_str(rt.alloc(), ".")?),
+    }
+}
+
+/// The bytes of the file of a case with this ending.
+fn read_part(rt: &HostRuntime, folder: &str, name: &str, ending: &str) -> io::Result<Vec<u8>> {
+    fs::read(rt, format!(in rt.alloc(); "{folder}/{name}.{ending}")?)
+}
+
+/// What a case expects on standard output, where it says.
+fn read_report(rt: &HostRuntime, folder: &str, case: &Case) -> io::Result<Vec<u8>> {
+    match case.expected {
+        Expected::Done | Expected::Words => read_part(rt, folder, case.name.as_str(), "report"),
+        _ => Ok(Vec::new(rt.alloc())),
+    }
+}
+
+/// How a text went, and then how the printed text of its script went.
+fn run_text<R: Threads + Wait + Sync>(
+    rt: &R,
+    alloc: Global,
+    expected: &Expected,
+    report: &[u8],
+    text: Vec<u8>,
+) -> Result<Verdict, NoMemory>
+    ensures { IfOk result (λ verdict. verdict ≡ Verdict.AsExpected → IsAsExpected expected.now report.now text.items) }
+{
+    let printed = printed_text(alloc, &text)?;
+    let answer = answer_to(rt, alloc, text)?;
+    let again = run_printed(rt, alloc, printed)?;
+    Ok(judge_both(alloc, expected, report, answer.ending(), &again)?)
+}
+
+/// How words went.
+fn run_words<R: Threads + Wait + Sync>(
+    rt: &R,
+    alloc: Global,
+    expected: &Expected,
+    report: &[u8],
+    words: &[String],
+) -> Result<Verdict, NoMemory>
+    ensures { IfOk result (λ verdict. verdict ≡ Verdict.AsExpected → AreAsExpected expected.now report.now (map string_bytes words.now)) }
+{
+    let answer = answer_to_words(rt, alloc, words)?;
+    Ok(judge(alloc, expected, report, answer.ending())?)
+}
+
+/// The words of a case, which stand in a file, one a line.
+fn read_words(rt: &HostRuntime, folder: &str, case: &Case) -> io::Result<Vec<String>> {
+    let name = case.name.as_str();
+    let text = fs::read_to_string(rt, format!(in rt.alloc(); "{folder}/{name}.words")?)?;
+    let mut words = Vec::new(rt.alloc());
+    for line in text.as_str().lines() {
+        words.push(String::from_str(rt.alloc(), line)?)?;
+    }
+    Ok(words)
+}
+
+/// Runs the words or the text of a case.
+fn run_given<R: Threads + Wait + Sync>(
+    rt: &HostRuntime,
+    threads: &R,
+    folder: &str,
+    case: &Case,
+    report: &[u8],
+) -> io::Result<Result<Verdict, NoMemory>> {
+    match case.expected {
+        Expected::Words | Expected::Usage => {
+            let words = read_words(rt, folder, case)?;
+            Ok(run_words(threads, rt.alloc(), &case.expected, report, &words))
+        }
+        _ => {
+            let text = read_part(rt, folder, case.name.as_str(), "script")?;
+            Ok(run_text(threads, rt.alloc(), &case.expected, report, text))
+        }
+    }
+}
+
+/// Runs a case, and says how it went.
+fn run_case<R: Threads + Wait + Sync>(
+    rt: &HostRuntime,
+    threads: &R,
+    folder: &str,
+    case: &Case,
+) -> io::Result<Verdict> {
+    let report = read_report(rt, folder, case)?;
+    match run_given(rt, threads, folder, case, &report)? {
+        Err(NoMemory) => Err(io::ErrorKind::OutOfMemory.into()),
+        Ok(verdict) => Ok(verdict),
+    }
+}
+
+/// How a case went; one that could not be run differs.
+fn verdict_of<R: Threads + Wait + Sync>(
+    rt: &HostRuntime,
+    threads: &R,
+    folder: &str,
+    case: &Case,
+) -> io::Result<Verdict> {
+    match run_case(rt, threads, folder, case) {
+        Ok(verdict) => Ok(verdict),
+        Err(error) => Ok(Verdict::Differs(format!(in rt.alloc(); "not run: {error}")?)),
+    }
+}
+
+/// What the line of a case says of its printed text.
+fn printed_too(expected: &Expected) -> &'static str
+    ensures { result.now ≡ words_if_printed (has_script expected.now) }
+{
+    if expected.has_script() {
+        ", printed too"
+    } else {
+        ""
+    }
+}
+
+/// Prints the line of a case.
+fn print_verdict(rt: &HostRuntime, case: &Case, verdict: &Verdict) -> io::Result<()> {
+    let name = case.name.as_str();
+    match verdict {
+        Verdict::AsExpected => println!(rt;
+            "{name}: {}, as expected{}",
+            case.expected.status(),
+            printed_too(&case.expected)
+        ),
+        Verdict::Differs(how) => println!(rt; "{name}: {how}"),
+    }
+}
+
+/// Runs the case of a line of the list, if it is one.
+fn run_line<R: Threads + Wait + Sync>(
+    rt: &HostRuntime,
+    threads: &R,
+    folder: &str,
+    line: &str,
+    tally: Tally,
+) -> io::Result<Tally> {
+    match parse_case(rt.alloc(), line)? {
+        None => Ok(tally),
+        Some(case) => {
+            let verdict = verdict_of(rt, threads, folder, &case)?;
+            print_verdict(rt, &case, &verdict)?;
+            Ok(tally.with(&verdict))
+        }
+    }
+}
+
+/// Runs the cases of the list.
+fn run_list<R: Threads + Wait + Sync>(
+    rt: &HostRuntime,
+    threads: &R,
+    folder: &str,
+) -> io::Result<Tally> {
+    let list = fs::read_to_string(rt, format!(in rt.alloc(); "{folder}/cases")?)?;
+    let mut tally = Tally {
+        cases: 0,
+        failures: 0,
+    };
+    for line in list.as_str().lines() {
+        tally = run_line(rt, threads, folder, line, tally)?;
+    }
+    println!(rt; "{} cases, {} failures", tally.cases, tally.failures)?;
+    Ok(tally)
+}
+
+fn main(rt: HostRuntime) -> io::Result<ExitCode> {
+    let folder = list_folder(&rt)?;
+    let tally = run_list(&rt, &rt, folder.as_str())?;
+    if tally.failures == 0 {
+        Ok(ExitCode::SUCCESS)
+    } else {
+        Ok(ExitCode::FAILURE)
+    }
+}
