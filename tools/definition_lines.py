@@ -1,8 +1,9 @@
 #!/usr/bin/env python3
-"""Writes into docs/DEFINITIONS.md the line at which each definition stands.
+"""Writes into docs/DEFINITIONS.md and docs/RULES.md the line at which each definition stands.
 
-The page names a definition as `NAME`, `crates/FILE:LINE`. This looks NAME up in FILE and writes its line. It is run by
-hand after definitions moved, from the top of the repository, and says which names it did not find.
+The pages name a definition as `NAME`, `crates/FILE:LINE`. This looks NAME up in FILE and writes its line. It is run by
+hand after definitions moved, from the top of the repository, and says which names it did not find. It also says which worked
+cases the rows of docs/RULES.md name that are not there.
 
 Usage: definition_lines.py [--check]    with --check nothing is written, and the status is 1 where a line is wrong
 """
@@ -11,8 +12,10 @@ import os
 import re
 import sys
 
-PAGE = "docs/DEFINITIONS.md"
+PAGES = ("docs/DEFINITIONS.md", "docs/RULES.md")
+CASES = "crates/worked_cases/data"
 PLACE = re.compile(r"`([^`]+)`, `(crates/[^`:]+):(\d+)`")
+CASE = re.compile(r"\| `([a-z-]+/[a-z0-9-]+)` \|$", re.MULTILINE)
 
 
 def line_of(path, name):
@@ -28,8 +31,8 @@ def line_of(path, name):
     return None
 
 
-def main():
-    page = open(PAGE).read()
+def with_lines(page):
+    """A page with the line of each definition, and the names that were not found."""
     missing = []
 
     def placed(match):
@@ -40,14 +43,24 @@ def main():
             return match.group(0)
         return f"`{name}`, `{path}:{number}`"
 
-    written = PLACE.sub(placed, page)
-    for name in missing:
-        print(f"not found: {name}", file=sys.stderr)
-    if "--check" in sys.argv:
-        return 1 if missing or written != page else 0
-    open(PAGE, "w").write(written)
-    return 1 if missing else 0
+    return PLACE.sub(placed, page), missing
+
+
+def main(is_check):
+    faults = 0
+    for path in PAGES:
+        with open(path) as file:
+            page = file.read()
+        written, missing = with_lines(page)
+        missing += [f"case {name}" for name in CASE.findall(page) if not os.path.exists(f"{CASES}/{name}.script")]
+        for name in missing:
+            print(f"{path}: not found: {name}", file=sys.stderr)
+        faults += len(missing) + (is_check and written != page)
+        if not is_check:
+            with open(path, "w") as file:
+                file.write(written)
+    return 1 if faults else 0
 
 
 if __name__ == "__main__":
-    sys.exit(main())
+    sys.exit(main("--check" in sys.argv))
