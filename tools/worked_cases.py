@@ -33,9 +33,10 @@ HEAD = """\
 # refused NAME NOTE  status 1, nothing on standard output, this note
 # words NAME         all is done: status 0, standard output is NAME.report, no note
 # usage NAME         the words are not known: status 5, nothing on standard output, the note of usage
+# table NAME         the order of NAME.script is done under stat: status 0, standard output is NAME.table, no note
 """
 
-STATUS = {"done": "0", "refused": "1", "words": "0", "usage": "5"}
+STATUS = {"done": "0", "refused": "1", "words": "0", "usage": "5", "table": "0"}
 USAGE = "perf_run: usage: run, replay, make N, make N script"
 
 
@@ -83,8 +84,27 @@ def note_of(text):
     return text[:-1]
 
 
+def name_of_text(text, name):
+    """The name of a script that has this text, if there is one; else the name given, for which it is kept."""
+    for _, other, _ in cases():
+        path = os.path.join(DATA, other + ".script")
+        if os.path.exists(path) and read(path) == text:
+            return other
+    return name
+
+
+def case_of_table(folder, name, status):
+    """The case of the word `stat`. Its table stands beside the script, which another case may have too."""
+    if status != "0" or read(os.path.join(folder, "stderr")):
+        raise ValueError(f"{folder}: status {status}")
+    name = name_of_text(read(os.path.join(folder, "stdin")), name)
+    copy(os.path.join(folder, "stdin"), name + ".script")
+    copy(os.path.join(folder, "stdout"), name + ".table")
+    return ["table", name, ""]
+
+
 def case_of_words(folder, name, status):
-    """The case of words other than `replay`."""
+    """The case of words other than `replay` and `stat`."""
     copy(os.path.join(folder, "args"), name + ".words")
     if status == "0" and not read(os.path.join(folder, "stderr")):
         copy(os.path.join(folder, "stdout"), name + ".report")
@@ -97,7 +117,10 @@ def case_of_words(folder, name, status):
 def case_of_call(group, folder):
     name = f"{group}/{os.path.basename(os.path.normpath(folder))}"
     status = read(os.path.join(folder, "status")).strip()
-    if read(os.path.join(folder, "args")).split() != ["replay"]:
+    words = read(os.path.join(folder, "args")).split()
+    if words == ["stat"]:
+        return case_of_table(folder, name, status)
+    if words != ["replay"]:
         return case_of_words(folder, name, status)
     copy(os.path.join(folder, "stdin"), name + ".script")
     if status == "0":
@@ -125,9 +148,9 @@ def cases_of_folder(group, folder):
 
 
 def replaced(old, new, group):
-    """The old cases, and the new ones in the place of those that they replace: those of the same names or in the group."""
-    names = {name for _, name, _ in new}
-    gone = [name in names or name.split("/")[0] == group for _, name, _ in old]
+    """The old cases, and the new ones in the place of those that they replace: those of the same names or in the group. A table is a case of its own."""
+    names = {(kind == "table", name) for kind, name, _ in new}
+    gone = [(kind == "table", name) in names or name.split("/")[0] == group for kind, name, _ in old]
     place = gone.index(True) if True in gone else len(old)
     return old[:place] + new + [case for case, is_gone in zip(old[place:], gone[place:]) if not is_gone]
 
@@ -135,7 +158,8 @@ def replaced(old, new, group):
 def files_of(kind, name):
     """The files of a case: what is given, and what must come of it where the list does not say it."""
     given = ".words" if kind in ("words", "usage") else ".script"
-    return [name + given] + [name + ".report"] * (kind in ("done", "words"))
+    wanted = {"done": [".report"], "words": [".report"], "table": [".table"]}
+    return [name + given] + [name + ending for ending in wanted.get(kind, [])]
 
 
 def strays(all_cases):
@@ -155,7 +179,7 @@ def copies(all_cases):
     for kind, name, _ in all_cases:
         given = files_of(kind, name)[0]
         with open(os.path.join(DATA, given), "rb") as file:
-            key = (given.rpartition(".")[2], file.read())
+            key = (given.rpartition(".")[2], kind == "table", file.read())
         if first.setdefault(key, name) != name:
             found.append(f"{name} is a copy of {first[key]}")
     return found

@@ -47,12 +47,12 @@ is_usage other e = absurd (omega (arith, e))
 usage_number : (s : Status) → s ≡ status.Usage → number_of s ≡ 5
 usage_number s e = ap number_of e
 
-pub words_as_expected : (v : Verdict) (e : Expected) (report : List ℕ) (words : List (List ℕ)) (s : Status) (number : ℕ) (out held note : List ℕ)
+pub words_as_expected : (v : Verdict) (e : Expected) (report : List ℕ) (words : List (List ℕ)) (text : List ℕ) (s : Status) (number : ℕ) (out held note : List ℕ)
     → (v ≡ verdict.AsExpected → Allows e report number out note) → number ≡ number_of s → out ≡ held
-    → (s ≡ status.Done → (left : Option (List ℕ)) × IsOutput words (Some []) left held) → (s ≡ status.Usage ↔ (AreKnown words → ⊥))
-    → v ≡ verdict.AsExpected → AreAsExpected e report words
-words_as_expected v e report words s number out held note h n o done usage expected =
-    let written : number ≡ 0 → (left : Option (List ℕ)) × IsOutput words (Some []) left out = λ z. let d = done (is_done s (sym n ∙ z)) in (d.0, subst (λ t. IsOutput words (Some []) d.0 t) (sym o) d.1) in
+    → (s ≡ status.Done → (left : Option (List ℕ)) × IsOutput words (Some text) left held) → (s ≡ status.Usage ↔ (AreKnown words → ⊥))
+    → v ≡ verdict.AsExpected → AreAsExpected e report words text
+words_as_expected v e report words text s number out held note h n o done usage expected =
+    let written : number ≡ 0 → (left : Option (List ℕ)) × IsOutput words (Some text) left out = λ z. let d = done (is_done s (sym n ∙ z)) in (d.0, subst (λ t. IsOutput words (Some text) d.0 t) (sym o) d.1) in
     record {
       number = number;
       out = out;

@@ -1,15 +1,15 @@
--- How the words of a worked case went. This project's own profile.
-use Rattle.std.specs.Prelude.{◌≡◌, ◌↔◌, ℕ, List, [], Option, Some}
+-- How the words of a worked case went, with the text that was given to them. This project's own profile.
+use Rattle.std.specs.Prelude.{◌≡◌, ◌↔◌, ℕ, List, Option, Some}
 use Rattle.perf_top.specs.Outcome.{AreKnown, IsOutput}
 use Rattle.worked_cases.specs.Expectations.{Allows}
 use Rattle.worked_cases.specs.declared.case.Expected.{Expected}
 
--- The words ended as the case allows, beside a source that had nothing: what was written under 0 is what they have written,
+-- The words ended as the case allows, beside a source that had the text: what was written under 0 is what they have written,
 -- and 5 came exactly where they are none that the program knows.
-pub record AreAsExpected (e : Expected) (report : List ℕ) (words : List (List ℕ)) : Type 0 where
+pub record AreAsExpected (e : Expected) (report : List ℕ) (words : List (List ℕ)) (text : List ℕ) : Type 0 where
   pub number : ℕ
   pub out : List ℕ
   pub note : List ℕ
   pub allowed : Allows e report number out note
-  pub written : number ≡ 0 → (left : Option (List ℕ)) × IsOutput words (Some []) left out
+  pub written : number ≡ 0 → (left : Option (List ℕ)) × IsOutput words (Some text) left out
   pub unknown : number ≡ 5 ↔ (AreKnown words → ⊥)

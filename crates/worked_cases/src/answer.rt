@@ -47,7 +47,7 @@ pub fn sink(alloc: Global) -> Result<MemSink, NoMemory>
 }
 
 /// The answer to words, beside a source that has these bytes.
-fn answer_of<R: Threads + Wait + Sync>(
+pub fn answer_of<R: Threads + Wait + Sync>(
     rt: &R,
     alloc: Global,
     words: &[String],
@@ -86,16 +86,4 @@ pub fn answer_to<R: Threads + Wait + Sync>(
     let mut words = Vec::new(alloc);
     words.push(String::from_str(alloc, "replay")?)?;
     answer_of(rt, alloc, &words, text)
-}
-
-/// The answer to words, beside a source that has nothing.
-pub fn answer_to_words<R: Threads + Wait + Sync>(
-    rt: &R,
-    alloc: Global,
-    words: &[String],
-) -> Result<Answer, NoMemory>
-    ensures done { IfOk result (λ answer. answer.status ≡ Status.Done → (left : Option (List ℕ)) × IsOutput (map string_bytes words.now) (Some []) left answer.out.held) }
-    ensures usage { IfOk result (λ answer. answer.status ≡ Status.Usage ↔ (AreKnown (map string_bytes words.now) → ⊥)) }
-{
-    answer_of(rt, alloc, words, Vec::new(alloc))
 }

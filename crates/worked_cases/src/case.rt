@@ -23,6 +23,8 @@ pub enum Expected {
     Words,
     /// There is no text, but words, which are in a file and are none that the program knows.
     Usage,
+    /// The order of the text is done under `stat`: the table is in a file.
+    Table,
     /// The list does not say it in a way that is known.
     Unknown,
 }
@@ -37,11 +39,12 @@ impl Expected {
             Expected::Refused(_) => "1",
             Expected::Words => "0",
             Expected::Usage => "5",
+            Expected::Table => "0",
             Expected::Unknown => "unknown",
         }
     }
 
-    /// Whether there is a text that stands for a script: one that is refused does so only where its order is at fault,
+    /// Whether there is a text that is replayed and stands for a script: one that is refused does so only where its order is at fault,
     /// as a whole or at one act.
     pub fn has_script(&self) -> bool
         ensures { result ≡ has_script self.now }
@@ -49,7 +52,7 @@ impl Expected {
         match self {
             Expected::Done => true,
             Expected::Refused(note) => is_of_order(note.as_bytes()),
-            Expected::Words | Expected::Usage | Expected::Unknown => false,
+            Expected::Words | Expected::Usage | Expected::Table | Expected::Unknown => false,
         }
     }
 }
@@ -90,6 +93,7 @@ fn parse_expected(alloc: Global, kind: &str, note: &str) -> Result<Expected, All
             "done" => Expected::Done,
             "words" => Expected::Words,
             "usage" => Expected::Usage,
+            "table" => Expected::Table,
             _ => Expected::Unknown,
         });
     }

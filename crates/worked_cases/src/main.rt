@@ -16,7 +16,7 @@ mod printed;
 mod verdict;
 
 use again::{judge_both, run_printed};
-use answer::{answer_to, answer_to_words};
+use answer::{answer_of, answer_to};
 use case::{Case, Expected, parse_case};
 use perf_base::NoMemory;
 use printed::printed_text;
@@ -69,6 +69,7 @@ fn read_part(rt: &HostRuntime, folder: &str, name: &str, ending: &str) -> io::Re
 fn read_report(rt: &HostRuntime, folder: &str, case: &Case) -> io::Result<Vec<u8>> {
     match case.expected {
         Expected::Done | Expected::Words => read_part(rt, folder, case.name.as_str(), "report"),
+        Expected::Table => read_part(rt, folder, case.name.as_str(), "table"),
         _ => Ok(Vec::new(rt.alloc())),
     }
 }
@@ -89,17 +90,18 @@ fn run_text<R: Threads + Wait + Sync>(
     Ok(judge_both(alloc, expected, report, answer.ending(), &again)?)
 }
 
-/// How words went.
+/// How words went, beside a source that has these bytes.
 fn run_words<R: Threads + Wait + Sync>(
     rt: &R,
     alloc: Global,
     expected: &Expected,
     report: &[u8],
     words: &[String],
+    text: Vec<u8>,
 ) -> Result<Verdict, NoMemory>
-    ensures { IfOk result (λ verdict. verdict ≡ Verdict.AsExpected → AreAsExpected expected.now report.now (map string_bytes words.now)) }
+    ensures { IfOk result (λ verdict. verdict ≡ Verdict.AsExpected → AreAsExpected expected.now report.now (map string_bytes words.now) text.items) }
 {
-    let answer = answer_to_words(rt, alloc, words)?;
+    let answer = answer_of(rt, alloc, words, text)?;
     Ok(judge(alloc, expected, report, answer.ending())?)
 }
 
@@ -125,7 +127,13 @@ fn run_given<R: Threads + Wait + Sync>(
     match case.expected {
         Expected::Words | Expected::Usage => {
             let words = read_words(rt, folder, case)?;
-            Ok(run_words(threads, rt.alloc(), &case.expected, report, &words))
+            let nothing = Vec::new(rt.alloc());
+            Ok(run_words(threads, rt.alloc(), &case.expected, report, &words, nothing))
+        }
+        Expected::Table => {
+            let words = vec![in rt.alloc(); String::from_str(rt.alloc(), "stat")?]?;
+            let text = read_part(rt, folder, case.name.as_str(), "script")?;
+            Ok(run_words(threads, rt.alloc(), &case.expected, report, &words, text))
         }
         _ => {
             let text = read_part(rt, folder, case.name.as_str(), "script")?;

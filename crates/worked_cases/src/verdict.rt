@@ -31,12 +31,12 @@ fn is_ending(ending: Ending<'_>, number: u8, out: &[u8], note: &[u8]) -> bool
     ending.number == number && ending.out == out && ending.note == note
 }
 
-/// Whether a call ended as a case expects. The report is what an expectation of `Done` or `Words` names.
+/// Whether a call ended as a case expects. The report is what an expectation of `Done`, `Words` or `Table` names.
 fn is_expected(expected: &Expected, report: &[u8], ending: Ending<'_>) -> bool
     ensures { IsTrue result ↔ Allows expected.now report.now ending.entry.number ending.entry.out.now ending.entry.note.now }
 {
     match expected {
-        Expected::Done | Expected::Words => is_ending(ending, 0, report, b""),
+        Expected::Done | Expected::Words | Expected::Table => is_ending(ending, 0, report, b""),
         Expected::Refused(note) => is_ending(ending, 1, b"", note.as_bytes()),
         Expected::Usage => is_ending(ending, 5, b"", USAGE.as_bytes()),
         Expected::Unknown => false,
