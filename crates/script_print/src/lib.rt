@@ -1,5 +1,6 @@
-// The printed text of a script, and lines of words, written without memory. Contracts see the text and what a sink
-// holds. It serves the commands that give out scripts or lines.
+//! The printed text of a script, and lines of words, written without memory. Contracts see the text and what a sink
+//! holds. It serves the commands that give out scripts or lines.
+
 #![tactic(auto)]
 
 mod cpu_lines;

@@ -1,7 +1,9 @@
 //! Printing a script.
 
-ghost use Rattle.std.specs.Prelude.{◌≡◌, ◌++◌, ◌∷◌, length, map, flat_map};
+ghost use Rattle.std.specs.Prelude.{◌≡◌, ◌≤◌, ◌++◌, ◌∷◌, length, map, flat_map};
 ghost use Rattle.perf_base.specs.Scripts.{IsCovered};
+ghost use Rattle.perf_base.specs.Weight.{weight};
+ghost use Rattle.script_spec.specs.Texts.{StandsFor};
 ghost use Rattle.script_spec.specs.Acts.{act_text, acts_text};
 ghost use Rattle.script_spec.specs.Forms as form;
 ghost use Rattle.script_spec.specs.Printing.{head_forms, kind_form, task_form, ring_form, reader_form, order_forms, all_processor_forms, all_tool_forms, line_text, printed};
@@ -91,8 +93,11 @@ pub fn print_script<K: Sink>(script: &Script, sink: &mut K) -> Result<(), Failed
     requires { IsCovered script.now }
     ensures wrote { Wrote K.held K.faults K.last_fault sink.old sink.new result (printed script.now) }
     ensures flushed { K.flushed sink.new ≡ K.flushed sink.old }
+    // The text stands for the script, unless it is too heavy to be read.
+    ensures stands { weight script.now ≤ 65536 → StandsFor (printed script.now) script.now }
 {
+    let order = script.order();
     put_declared(sink, script)?;
     put_lines(sink, script)?;
-    put_last(sink, script.order())
+    put_last(sink, order)
 }
