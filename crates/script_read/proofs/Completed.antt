@@ -1,8 +1,10 @@
 -- An order that does each line.
-use Rattle.std.proofs.Common.{◌≡◌, ℕ, ◌<◌, ◌≤◌, ◌↔◌, Bool, false, All, List, [], ◌∷◌, length, get_or, inl, inr, refl, sym, ap, ◌∙◌, arith}
+use Rattle.std.proofs.Common.{◌≡◌, ℕ, ◌+◌, ◌<◌, ◌≤◌, ◌↔◌, Bool, false, eqb, All, List, [], ◌∷◌, length, get_or, set, take, inl, inr, refl, sym, ap, ◌∙◌, arith}
 use Rattle.std.specs.Prelude.{IsTrue, count_by}
-use Rattle.std.proofs.lemmas.Bool.{cases_lt, ne_eqb}
-use Rattle.std.proofs.lemmas.List.{get_or_past}
+use Rattle.std.proofs.lemmas.Bool.{cases_lt, cases_order, eq-eqb, ne_eqb}
+use Rattle.std.proofs.lemmas.List.{get_or_past, get_or-set_other}
+use Rattle.std.proofs.lemmas.List.Sums.{count_by_more_yes, count_by_more_no}
+use Rattle.std.proofs.lemmas.Grind.{get_or-set_at}
 use Rattle.std.proofs.lemmas.List.Elements.{All-head, All-tail}
 use Rattle.perf_base.specs.declared.numbers.CpuNo.{CpuNo}
 use Rattle.perf_base.specs.declared.numbers.ToolNo.{ToolNo}
@@ -57,3 +59,31 @@ complete_iff s b h cpus tools = (λ t. record { cpus = all_cpus; tools = all_too
           let l : length s.tool_lines ≤ tool.0 = omega (arith, h.tools) in
           none_counted (is_of_tool tool) s s.order (λ a i. other_tool s tool a l i) h.order ∙ sym (past_none s.tool_lines tool.0 l)
     ]
+
+-- ---- counting, act by act
+
+-- the act that is passed is of one number
+pub one_counted : (is_of : ℕ → Act → Bool) (counts : List ℕ) (acts : List Act) (i p n : ℕ) (d : Act) → i < length acts → p < length counts → ((m : ℕ) → is_of m (get_or acts i d) ≡ eqb p m)
+    → ((m : ℕ) → m < n → get_or counts m 0 ≡ count_by (is_of m) (take i acts)) → (m : ℕ) → m < n → get_or (set counts p (get_or counts p 0 + 1)) m 0 ≡ count_by (is_of m) (take (i + 1) acts)
+one_counted is_of counts acts i p n d l w is so_far m low = elim (cases_order p m) [
+  | inl same ↦
+      get_or-set_at counts p m (get_or counts p 0 + 1) 0 (sym same) w
+      ∙ (ap (λ k. get_or counts k 0 + 1) same ∙ (ap (λ k. k + 1) (so_far m low) ∙ sym (count_by_more_yes (is_of m) acts i d l (is m ∙ eq-eqb p m same))))
+  | inr (inl less) ↦ not_counted (λ e. omega (arith, e, less))
+  | inr (inr more) ↦ not_counted (λ e. omega (arith, e, more))
+]
+  where
+    not_counted : (p ≡ m → ⊥) → get_or (set counts p (get_or counts p 0 + 1)) m 0 ≡ count_by (is_of m) (take (i + 1) acts)
+    not_counted ne = get_or-set_other counts p m (get_or counts p 0 + 1) 0 (λ e. ne (sym e)) ∙ (so_far m low ∙ sym (count_by_more_no (is_of m) acts i d l (is m ∙ ne_eqb p m ne)))
+
+-- the act that is passed is of none
+pub none_counted_more : (is_of : ℕ → Act → Bool) (counts : List ℕ) (acts : List Act) (i n : ℕ) (d : Act) → i < length acts → ((m : ℕ) → is_of m (get_or acts i d) ≡ false)
+    → ((m : ℕ) → m < n → get_or counts m 0 ≡ count_by (is_of m) (take i acts)) → (m : ℕ) → m < n → get_or counts m 0 ≡ count_by (is_of m) (take (i + 1) acts)
+none_counted_more is_of counts acts i n d l is so_far m low = so_far m low ∙ sym (count_by_more_no (is_of m) acts i d l (is m))
+
+-- a processor or tool with lines is one that there can be
+pub cpu_low : (s : Scripted) (p : CpuNo) → length s.cpu_lines ≡ 8 → IsAct s (act.Processor p) → p.0 < 8
+cpu_low s p eight h = elim (cases_lt p.0 8) [ inl less ↦ less | inr past ↦ absurd (omega (arith, h, past_none s.cpu_lines p.0 (omega (arith, past, eight)))) ]
+
+pub tool_low : (s : Scripted) (t : ToolNo) → length s.tool_lines ≡ 4 → IsAct s (act.Tool t) → t.0 < 4
+tool_low s t four h = elim (cases_lt t.0 4) [ inl less ↦ less | inr past ↦ absurd (omega (arith, h, past_none s.tool_lines t.0 (omega (arith, past, four)))) ]

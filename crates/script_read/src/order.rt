@@ -1,69 +1,61 @@
 //! Whether an order does each line once.
 
-ghost use Rattle.std.specs.Prelude.{◌≡◌, ◌<◌, ◌↔◌, IsTrue};
+ghost use Rattle.std.specs.Prelude.{◌≡◌, ◌<◌, ◌↔◌, IsTrue, All, slice_index};
 ghost use Rattle.perf_base.specs.declared.numbers.CpuNo.{CpuNo};
 ghost use Rattle.perf_base.specs.declared.numbers.ToolNo.{ToolNo};
-ghost use Rattle.stage_spec.specs.Order as says;
-ghost use Rattle.stage_spec.specs.Order.{IsComplete};
+ghost use Rattle.perf_base.specs.Scripts.{IsScript, IsAct};
+ghost use Rattle.stage_spec.specs.Order.{IsComplete, done_by_cpu, done_by_tool};
 ghost use Rattle.script_read.specs.Completing.{IsCpuDone, IsToolDone};
 
 use perf_base::{Act, CpuNo, Script, ToolNo};
 
-fn done_by_cpu(order: &[Act], cpu: u8) -> usize
-    ensures { result ≡ says.done_by_cpu (record { 0 = cpu }) order.now }
+/// How many lines of each processor and of each tool the acts of the script's order do.
+fn lines_done(script: &Script, order: &[Act]) -> ([usize; 8], [usize; 4])
+    requires script { IsScript script.now }
+    requires acts { All (IsAct script.now) order.now }
+    ensures cpus { (cpu : CpuNo) → cpu.0 < 8 → slice_index result.0 cpu.0 ≡ done_by_cpu cpu order.now }
+    ensures tools { (tool : ToolNo) → tool.0 < 4 → slice_index result.1 tool.0 ≡ done_by_tool tool order.now }
 {
-    order.iter().filter(|act| act.is_of_cpu(CpuNo(cpu))).count()
+    let mut cpus = [0; 8];
+    let mut tools = [0; 4];
+    for act in order {
+        match act {
+            Act::Processor(cpu) => cpus[usize::from(cpu.0)] += 1,
+            Act::Tool(tool) => tools[usize::from(tool.0)] += 1,
+            Act::Seen(..) => {}
+        }
+    }
+    (cpus, tools)
 }
 
-fn done_by_tool(order: &[Act], tool: u8) -> usize
-    ensures { result ≡ says.done_by_tool (record { 0 = tool }) order.now }
-{
-    order
-        .iter()
-        .filter(|act| act.is_of_tool(ToolNo(tool)))
-        .count()
-}
-
-fn is_cpu_done(script: &Script, order: &[Act], cpu: u8) -> bool
-    requires { cpu < 8 }
-    ensures { IsTrue result ↔ IsCpuDone script.now order.now (record { 0 = cpu }) }
-{
-    done_by_cpu(order, cpu) == script.cpu_lines(CpuNo(cpu)).len()
-}
-
-fn is_tool_done(script: &Script, order: &[Act], tool: u8) -> bool
-    requires { tool < 4 }
-    ensures { IsTrue result ↔ IsToolDone script.now order.now (record { 0 = tool }) }
-{
-    done_by_tool(order, tool) == script.tool_lines(ToolNo(tool)).len()
-}
-
-fn are_cpus_done(script: &Script, order: &[Act]) -> bool
-    ensures { IsTrue result ↔ ((cpu : CpuNo) → cpu.0 < 8 → IsCpuDone script.now order.now cpu) }
+fn are_cpus_done(script: &Script, done: &[usize; 8]) -> bool
+    requires { (cpu : CpuNo) → cpu.0 < 8 → slice_index done.now cpu.0 ≡ done_by_cpu cpu script.now.order }
+    ensures { IsTrue result ↔ ((cpu : CpuNo) → cpu.0 < 8 → IsCpuDone script.now script.now.order cpu) }
 {
     for cpu in 0..8 {
-        if !is_cpu_done(script, order, cpu) {
+        if done[usize::from(cpu)] != script.cpu_lines(CpuNo(cpu)).len() {
             return false;
         }
     }
     true
 }
 
-fn are_tools_done(script: &Script, order: &[Act]) -> bool
-    ensures { IsTrue result ↔ ((tool : ToolNo) → tool.0 < 4 → IsToolDone script.now order.now tool) }
+fn are_tools_done(script: &Script, done: &[usize; 4]) -> bool
+    requires { (tool : ToolNo) → tool.0 < 4 → slice_index done.now tool.0 ≡ done_by_tool tool script.now.order }
+    ensures { IsTrue result ↔ ((tool : ToolNo) → tool.0 < 4 → IsToolDone script.now script.now.order tool) }
 {
     for tool in 0..4 {
-        if !is_tool_done(script, order, tool) {
+        if done[usize::from(tool)] != script.tool_lines(ToolNo(tool)).len() {
             return false;
         }
     }
     true
 }
 
-/// Whether each processor and each tool has as many acts in the order as lines.
+/// Whether each processor and each tool has as many acts in the order as lines. It passes over the order once.
 pub fn order_complete(script: &Script) -> bool
     ensures { IsTrue result ↔ IsComplete script.now script.now.order }
 {
-    let order = script.order();
-    are_cpus_done(script, order) && are_tools_done(script, order)
+    let (cpus, tools) = lines_done(script, script.order());
+    are_cpus_done(script, &cpus) && are_tools_done(script, &tools)
 }

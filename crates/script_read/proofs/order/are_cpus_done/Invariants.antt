@@ -4,4 +4,4 @@ use Rattle.script_read.specs.Completing.{IsCpuDone}
 use Rattle.script_read.proofs.order.are_cpus_done.Given as goal
 
 abbrev pub invariant-loop-cpu : goal.invariant-loop-cpu
-invariant-loop-cpu l = (x : CpuNo) → x.0 < l.cpu → IsCpuDone l.script l.order x
+invariant-loop-cpu l = (x : CpuNo) → x.0 < l.cpu → IsCpuDone l.script l.script.order x

@@ -4,4 +4,4 @@ use Rattle.script_read.specs.Completing.{IsToolDone}
 use Rattle.script_read.proofs.order.are_tools_done.Given as goal
 
 abbrev pub invariant-loop-tool : goal.invariant-loop-tool
-invariant-loop-tool l = (x : ToolNo) → x.0 < l.tool → IsToolDone l.script l.order x
+invariant-loop-tool l = (x : ToolNo) → x.0 < l.tool → IsToolDone l.script l.script.order x
