@@ -2,6 +2,7 @@ pub mod Adding
 pub mod Checks
 pub mod Completing
 pub mod Finishing
+pub mod Laws
 pub mod Lines
 pub mod Naming
 pub mod Progressing

@@ -1,11 +1,13 @@
-// The reader of scripts. Contracts say by the definitions of the language which text stands for which script,
-// and which line of another text is refused for which reason. It serves the top call.
+//! The reader of scripts. Contracts say by the definitions of the language which text stands for which script,
+//! and which line of another text is refused for which reason. It serves the top call.
+
 #![tactic(auto)]
 
 mod adding;
 mod fault;
 mod judging;
 mod kinds;
+mod laws;
 mod lines;
 mod names;
 mod order;
@@ -18,5 +20,6 @@ mod state;
 mod tests;
 
 pub use fault::ScriptFault;
+pub use laws::each_text_has_one_answer;
 pub use order::order_complete;
 pub use reading::read_script;

@@ -49,33 +49,34 @@ clash v lines forms before r all l front bad =
     let s = subst (λ fs. IsSound v fs (get_or lines (length before) []) (get_or forms (length before) form.End)) (sym same) (all.each (length before) l) in
     bad.broken (s.keeps r)
 
+-- the reason at a rank
+abbrev pub ranked : ℕ → SReason
+ranked zero = reason.End
+ranked (suc zero) = reason.Ascii
+ranked (suc (suc zero)) = reason.Form
+ranked (suc (suc (suc zero))) = reason.Place
+ranked (suc (suc (suc (suc zero)))) = reason.Range
+ranked (suc (suc (suc (suc (suc zero))))) = reason.Attr
+ranked (suc (suc (suc (suc (suc (suc zero)))))) = reason.Name
+ranked (suc (suc (suc (suc (suc (suc (suc zero))))))) = reason.Limit
+ranked (suc (suc (suc (suc (suc (suc (suc (suc zero)))))))) = reason.Weight
+ranked other = reason.Order
+
+pub ranked_back : (r : SReason) → ranked (rank r) ≡ r
+ranked_back reason.End = refl
+ranked_back reason.Ascii = refl
+ranked_back reason.Form = refl
+ranked_back reason.Place = refl
+ranked_back reason.Range = refl
+ranked_back reason.Attr = refl
+ranked_back reason.Name = refl
+ranked_back reason.Limit = refl
+ranked_back reason.Weight = refl
+ranked_back reason.Order = refl
+
 -- the ranks are all different
 rank_one : (r q : SReason) → rank r ≡ rank q → r ≡ q
-rank_one r q e = sym (by_rank r) ∙ (ap back e ∙ by_rank q)
-  where
-    back : ℕ → SReason
-    back zero = reason.End
-    back (suc zero) = reason.Ascii
-    back (suc (suc zero)) = reason.Form
-    back (suc (suc (suc zero))) = reason.Place
-    back (suc (suc (suc (suc zero)))) = reason.Range
-    back (suc (suc (suc (suc (suc zero))))) = reason.Attr
-    back (suc (suc (suc (suc (suc (suc zero)))))) = reason.Name
-    back (suc (suc (suc (suc (suc (suc (suc zero))))))) = reason.Limit
-    back (suc (suc (suc (suc (suc (suc (suc (suc zero)))))))) = reason.Weight
-    back other = reason.Order
-
-    by_rank : (x : SReason) → back (rank x) ≡ x
-    by_rank reason.End = refl
-    by_rank reason.Ascii = refl
-    by_rank reason.Form = refl
-    by_rank reason.Place = refl
-    by_rank reason.Range = refl
-    by_rank reason.Attr = refl
-    by_rank reason.Name = refl
-    by_rank reason.Limit = refl
-    by_rank reason.Weight = refl
-    by_rank reason.Order = refl
+rank_one r q e = sym (ranked_back r) ∙ (ap ranked e ∙ ranked_back q)
 
 -- a line is refused for one reason
 reason_one : (v : Version) (before : List Form) (line : List ℕ) (r q : SReason) → IsFaulty v before line r → IsFaulty v before line q → r ≡ q
