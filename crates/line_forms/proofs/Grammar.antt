@@ -1,5 +1,5 @@
 -- The forms, one by one: what is read is of the form, and what is of the form is read.
-use Rattle.std.proofs.Common.{◌≡◌, ℕ, Bool, true, false, cond, List, [], ◌∷◌, ◌++◌, map, Option, Some, None, inl, inr, refl, sym, ap, subst, ◌∙◌, arith}
+use Rattle.std.proofs.Common.{◌≡◌, ℕ, List, [], ◌∷◌, ◌++◌, map, Option, Some, None, inl, inr, refl, sym, ap, subst, ◌∙◌, arith}
 use Rattle.std.proofs.lemmas.Option.{same_Some, none-some}
 use Rattle.std.specs.Prelude.{codes, decimal, IfSome}
 use Rattle.std.specs.Str.{bytes_eq}
@@ -7,9 +7,10 @@ use Rattle.std.proofs.lemmas.Bool.{cases_Bool}
 use Rattle.perf_base.specs.declared.lines.Mode.{Mode}
 use Rattle.perf_base.specs.declared.lines.Mode.TheVariants as mode
 use Rattle.script_spec.specs.Forms as form
-use Rattle.script_spec.specs.Forms.{Version, Working, CpuForm, Opening, Asked, ToolForm, Form}
+use Rattle.script_spec.specs.Forms.{Version, Working, CpuForm, Form}
 use Rattle.line_forms.specs.Leaves.{number, number_at, number_if}
 use Rattle.line_forms.specs.Bodies.{perf_at, machine_at, machine_of_pmus_at, pmu_at, kind_at, kind_of_pmu_at, ring_at, reader_at, each_word, hit_in, mode_in, stretch_at, work_at, switch_at}
+use Rattle.line_forms.proofs.Spelling.{guard_some}
 use Rattle.line_forms.proofs.Singles.{number_at-takes, bind_some, bytes_eq-true, bytes_eq_self, name_at-again, decimal_or-again}
 use Rattle.line_forms.proofs.Optionals.{number_at-none, number_if-none, number_if-takes, number_if-again}
 use Rattle.line_forms.proofs.Sequences.{each-takes, each-again, hit-takes, hit-again}
@@ -20,10 +21,6 @@ abbrev pub IsSpelled : List ℕ → List (List ℕ) → Form → Type 0
 IsSpelled word ws f = form.IsSpelling f × (word ∷ ws ≡ form.form_words f)
 
 -- ---- what is declared
-
-guard_some : {A : Type 0} (b : Bool) (x y : A) → cond b (Some x) None ≡ Some y → (b ≡ true) × (x ≡ y)
-guard_some true x y e = (refl, cc)
-guard_some false x y e = absurd cc
 
 pub perf-takes : (v : Version) (ws : List (List ℕ)) (f : Form) → perf_at v ws ≡ Some f → form.IsOfVersion v f × IsSpelled (codes "perf") ws f
 unfolding perf_at
@@ -252,18 +249,18 @@ no_ip_of : (ip : Option ℕ) (hits : List form.Hit) → form.HasIpFirst ip hits 
 no_ip_of (Some n) hits h e = absurd cc
 no_ip_of None hits h e = no_ip_first hits h
 
-pub work-takes : (ws : List (List ℕ)) (y : Working) → work_at ws ≡ Some y → IsCpuSpelled (codes "work") ws (form.Work y)
+pub work-takes : (ws : List (List ℕ)) (f : CpuForm) → work_at ws ≡ Some f → IsCpuSpelled (codes "work") ws f
 unfolding work_at
-work-takes ws y e =
-    let s = bind_some (stretch_at ws) _ y e in
-    let hs = bind_some (each_word hit_in s.0.1) _ y s.2 in
+work-takes ws f e =
+    let s = bind_some (stretch_at ws) _ f e in
+    let hs = bind_some (each_word hit_in s.0.1) _ f s.2 in
     let t = stretch-takes ws s.0 s.1 in
     let h = each-takes hit_in form.IsHit form.hit_text hit-takes s.0.1 hs.0 hs.1 in
     let words : ws ≡ decimal s.0.0.0 ∷ form.mode_text s.0.0.1 ∷ (form.word_if s.0.0.2 form.ip_text ++ map form.hit_text hs.0) = t.words ∙ ap (λ (r : List (List ℕ)). decimal s.0.0.0 ∷ form.mode_text s.0.0.1 ∷ (form.word_if s.0.0.2 form.ip_text ++ r)) h.1 in
     let none : s.0.0.2 ≡ None → number_at (codes "ip=") 16 16 (map form.hit_text hs.0) ≡ None = λ n. ap (number_at (codes "ip=") 16 16) (sym h.1) ∙ t.no_ip n in
-    subst (λ w. IsCpuSpelled (codes "work") ws (form.Work w)) (same_Some _ y hs.2) (record { length = t.length; ip = ip_first s.0.0.2 hs.0 t.ip none; hits = h.0 }, more (codes "work") ws _ words)
+    subst (IsCpuSpelled (codes "work") ws) (same_Some _ f hs.2) (record { length = t.length; ip = ip_first s.0.0.2 hs.0 t.ip none; hits = h.0 }, more (codes "work") ws _ words)
 
-pub work-again : (w : Working) → form.IsWorking w → work_at (decimal w.length ∷ form.mode_text w.mode ∷ (form.word_if w.ip form.ip_text ++ map form.hit_text w.hits)) ≡ Some w
+pub work-again : (w : Working) → form.IsWorking w → work_at (decimal w.length ∷ form.mode_text w.mode ∷ (form.word_if w.ip form.ip_text ++ map form.hit_text w.hits)) ≡ Some (form.Work w)
 unfolding work_at
 work-again w h =
     rw (

@@ -9,14 +9,14 @@ use Rattle.script_spec.specs.Forms as form
 use Rattle.script_spec.specs.Forms.{Version, CpuForm, ToolForm, Form, IsOfForm}
 use Rattle.line_forms.specs.declared.keyword.Keyword.{Keyword}
 use Rattle.line_forms.specs.declared.keyword.Keyword.TheVariants as keyword
-use Rattle.line_forms.specs.Keywords.{looked_up, declaring_table, processor_table, tool_table, keyword_of}
-use Rattle.line_forms.specs.Bodies.{at_end, first_or, one_number, two_numbers, each_word, act_in, work_at, command_at}
-use Rattle.line_forms.specs.Reading.{versioned, short_cpu_form_at, cpu_form_at, short_tool_form_at, tool_form_at, command_form, pair_form, single_form, numbered_form, declared_at, body_at, form_at}
+use Rattle.line_forms.specs.Keyword.{looked_up, keywords, keyword_of}
+use Rattle.line_forms.specs.Bodies.{at_end, one_number, two_numbers, slot_and_group, each_word, act_in, switch_at, work_at, tick_at, fork_at, exit_at, open_at, enable_at, disable_at, reset_at, period_at, read_at, map_at, output_at, close_at, why_at, seats_at, order_at, end_at}
+use Rattle.line_forms.specs.Reading.{body_at, form_at}
 use Rattle.line_forms.proofs.Singles.{bind_some, bytes_eq-true}
 use Rattle.line_forms.proofs.Sequences.{each-takes, each-again, act-takes, act-again}
 use Rattle.line_forms.proofs.Steps.{end_then, next_then, more, one-takes, one-again, two-takes, two-again}
 use Rattle.line_forms.proofs.Grammar.{IsSpelled, IsCpuSpelled, perf-takes, perf-again, machine-takes, machine-again, machine_of_pmus-takes, machine_of_pmus-again, pmu-takes, pmu-again, kind-takes, kind-again, kind_of_pmu-takes, kind_of_pmu-again, ring-takes, ring-again, reader-takes, reader-again, switch-takes, switch-again, work-takes, work-again}
-use Rattle.line_forms.proofs.Tools.{IsToolSpelled, open-takes, open-again_kind, open-again_attr, command-takes, command-again, read-takes, read-again}
+use Rattle.line_forms.proofs.Tools.{IsToolSpelled, open-takes, open-again_kind, open-again_attr, slot_and_group-takes, slot_and_group-again, read-takes, read-again}
 
 -- ---- first words
 
@@ -61,26 +61,12 @@ looked-takes (entry ∷ table) word k right e = elim (cases_Bool (bytes_eq word 
   | inr f ↦ looked-takes table word k right.1 (rw f at e)
 ]
 
-declaring_right : IsRight declaring_table
+keywords_right : IsRight keywords
 unfolding keyword_text
-declaring_right = (refl, (refl, (refl, (refl, (refl, (refl, (refl, (refl, (refl, (refl, (refl, tt)))))))))))
-
-processor_right : IsRight processor_table
-unfolding keyword_text
-processor_right = (refl, (refl, (refl, (refl, (refl, tt)))))
-
-tool_right : IsRight tool_table
-unfolding keyword_text
-tool_right = (refl, (refl, (refl, (refl, (refl, (refl, (refl, (refl, (refl, (refl, (refl, tt)))))))))))
-
-either : {A : Type 0} (a b : Option A) (x : A) (P : Type 0) → first_or a b ≡ Some x → (a ≡ Some x → P) → (b ≡ Some x → P) → P
-either (Some y) b x P e f g = f e
-either None b x P e f g = g e
+keywords_right = (refl, (refl, (refl, (refl, (refl, (refl, (refl, (refl, (refl, (refl, (refl, (refl, (refl, (refl, (refl, (refl, (refl, (refl, (refl, (refl, (refl, (refl, (refl, (refl, (refl, (refl, (refl, tt)))))))))))))))))))))))))))
 
 keyword-takes : (word : List ℕ) (k : Keyword) → keyword_of word ≡ Some k → word ≡ keyword_text k
-keyword-takes word k e =
-    either (looked_up processor_table word) _ k _ e (looked-takes processor_table word k processor_right) (λ h.
-    either (looked_up tool_table word) (looked_up declaring_table word) k _ h (looked-takes tool_table word k tool_right) (looked-takes declaring_table word k declaring_right))
+keyword-takes word k e = looked-takes keywords word k keywords_right e
 
 -- ---- the words behind them
 
@@ -94,260 +80,64 @@ made_of : {A B : Type 0} (make : A → B) (read : Option A) (y : B) → option_m
 made_of make (Some x) y e = record { x = x; was = refl; is = same_Some (make x) y e }
 made_of make None y e = absurd (none-some y e)
 
-alone-takes : {A : Type 0} (ws : List (List ℕ)) (a b : A) → at_end ws a ≡ Some b → (ws ≡ []) × (a ≡ b)
-alone-takes ws a b e = let z = end_then ws (λ _. Some a) b e in (z.words, same_Some a b z.then)
+-- no word behind the first
+alone-takes : {A : Type 0} (IsSpelling : A → Type 0) (words_of : A → List (List ℕ)) (made : A) (word : List ℕ) (ws : List (List ℕ)) (f : A)
+    → IsSpelling made → words_of made ≡ word ∷ [] → at_end ws made ≡ Some f → IsSpelling f × (word ∷ ws ≡ words_of f)
+alone-takes IsSpelling words_of made word ws f is words e =
+    let z = end_then ws (λ _. Some made) f e in
+    subst (λ g. IsSpelling g × (word ∷ ws ≡ words_of g)) (same_Some made f z.then) (is, more word ws [] z.words ∙ sym words)
 
-short_cpu-takes : (k : Keyword) (ws : List (List ℕ)) (f : CpuForm) → short_cpu_form_at k ws ≡ Some f → IsCpuSpelled (keyword_text k) ws f
-unfolding short_cpu_form_at keyword_text
-short_cpu-takes keyword.Switch ws f e = switch-takes ws f e
-short_cpu-takes keyword.Tick ws f e = let z = alone-takes ws form.Tick f e in subst (IsCpuSpelled (codes "tick") ws) z.1 (tt, more (codes "tick") ws [] z.0)
-short_cpu-takes keyword.Fork ws f e =
-    let m = made_of form.Fork (one_number ws) f e in
+-- one number behind the first word, two numbers, and a slot and its group
+single-takes : {A : Type 0} (IsSpelling : A → Type 0) (words_of : A → List (List ℕ)) (make : ℕ → A) (word : List ℕ) (ws : List (List ℕ)) (f : A)
+    → ((n : ℕ) → form.IsNumber n → IsSpelling (make n)) → ((n : ℕ) → words_of (make n) ≡ word ∷ decimal n ∷ [])
+    → option_map make (one_number ws) ≡ Some f → IsSpelling f × (word ∷ ws ≡ words_of f)
+single-takes IsSpelling words_of make word ws f fits words e =
+    let m = made_of make (one_number ws) f e in
     let t = one-takes ws m.x m.was in
-    subst (IsCpuSpelled (codes "fork") ws) m.is (t.0, more (codes "fork") ws _ t.1)
-short_cpu-takes keyword.Exit ws f e = let z = alone-takes ws form.Exit f e in subst (IsCpuSpelled (codes "exit") ws) z.1 (tt, more (codes "exit") ws [] z.0)
-short_cpu-takes keyword.Perf ws f e = absurd (none-some f e)
-short_cpu-takes keyword.Machine ws f e = absurd (none-some f e)
-short_cpu-takes keyword.Pmu ws f e = absurd (none-some f e)
-short_cpu-takes keyword.Kind ws f e = absurd (none-some f e)
-short_cpu-takes keyword.Task ws f e = absurd (none-some f e)
-short_cpu-takes keyword.Ring ws f e = absurd (none-some f e)
-short_cpu-takes keyword.Processor ws f e = absurd (none-some f e)
-short_cpu-takes keyword.Work ws f e = absurd (none-some f e)
-short_cpu-takes keyword.Tool ws f e = absurd (none-some f e)
-short_cpu-takes keyword.Open ws f e = absurd (none-some f e)
-short_cpu-takes keyword.Enable ws f e = absurd (none-some f e)
-short_cpu-takes keyword.Disable ws f e = absurd (none-some f e)
-short_cpu-takes keyword.Reset ws f e = absurd (none-some f e)
-short_cpu-takes keyword.Period ws f e = absurd (none-some f e)
-short_cpu-takes keyword.Read ws f e = absurd (none-some f e)
-short_cpu-takes keyword.Map ws f e = absurd (none-some f e)
-short_cpu-takes keyword.Output ws f e = absurd (none-some f e)
-short_cpu-takes keyword.Close ws f e = absurd (none-some f e)
-short_cpu-takes keyword.Why ws f e = absurd (none-some f e)
-short_cpu-takes keyword.Seats ws f e = absurd (none-some f e)
-short_cpu-takes keyword.Reader ws f e = absurd (none-some f e)
-short_cpu-takes keyword.Order ws f e = absurd (none-some f e)
-short_cpu-takes keyword.End ws f e = absurd (none-some f e)
+    subst (λ g. IsSpelling g × (word ∷ ws ≡ words_of g)) m.is (fits m.x t.0, more word ws _ t.1 ∙ sym (words m.x))
 
-cpu-takes : (k : Keyword) (ws : List (List ℕ)) (f : CpuForm) → cpu_form_at k ws ≡ Some f → IsCpuSpelled (keyword_text k) ws f
-unfolding cpu_form_at keyword_text
-cpu-takes keyword.Work ws f e =
-    let m = made_of form.Work (work_at ws) f e in
-    subst (IsCpuSpelled (codes "work") ws) m.is (work-takes ws m.x m.was)
-cpu-takes keyword.Perf ws f e = short_cpu-takes keyword.Perf ws f e
-cpu-takes keyword.Machine ws f e = short_cpu-takes keyword.Machine ws f e
-cpu-takes keyword.Pmu ws f e = short_cpu-takes keyword.Pmu ws f e
-cpu-takes keyword.Kind ws f e = short_cpu-takes keyword.Kind ws f e
-cpu-takes keyword.Task ws f e = short_cpu-takes keyword.Task ws f e
-cpu-takes keyword.Ring ws f e = short_cpu-takes keyword.Ring ws f e
-cpu-takes keyword.Processor ws f e = short_cpu-takes keyword.Processor ws f e
-cpu-takes keyword.Switch ws f e = short_cpu-takes keyword.Switch ws f e
-cpu-takes keyword.Tick ws f e = short_cpu-takes keyword.Tick ws f e
-cpu-takes keyword.Fork ws f e = short_cpu-takes keyword.Fork ws f e
-cpu-takes keyword.Exit ws f e = short_cpu-takes keyword.Exit ws f e
-cpu-takes keyword.Tool ws f e = short_cpu-takes keyword.Tool ws f e
-cpu-takes keyword.Open ws f e = short_cpu-takes keyword.Open ws f e
-cpu-takes keyword.Enable ws f e = short_cpu-takes keyword.Enable ws f e
-cpu-takes keyword.Disable ws f e = short_cpu-takes keyword.Disable ws f e
-cpu-takes keyword.Reset ws f e = short_cpu-takes keyword.Reset ws f e
-cpu-takes keyword.Period ws f e = short_cpu-takes keyword.Period ws f e
-cpu-takes keyword.Read ws f e = short_cpu-takes keyword.Read ws f e
-cpu-takes keyword.Map ws f e = short_cpu-takes keyword.Map ws f e
-cpu-takes keyword.Output ws f e = short_cpu-takes keyword.Output ws f e
-cpu-takes keyword.Close ws f e = short_cpu-takes keyword.Close ws f e
-cpu-takes keyword.Why ws f e = short_cpu-takes keyword.Why ws f e
-cpu-takes keyword.Seats ws f e = short_cpu-takes keyword.Seats ws f e
-cpu-takes keyword.Reader ws f e = short_cpu-takes keyword.Reader ws f e
-cpu-takes keyword.Order ws f e = short_cpu-takes keyword.Order ws f e
-cpu-takes keyword.End ws f e = short_cpu-takes keyword.End ws f e
+paired-takes : (make : ℕ → ℕ → ToolForm) (word : List ℕ) (ws : List (List ℕ)) (f : ToolForm)
+    → ((n m : ℕ) → form.IsNumber n → form.IsNumber m → form.IsToolSpelling (make n m)) → ((n m : ℕ) → form.tool_words (make n m) ≡ word ∷ decimal n ∷ decimal m ∷ [])
+    → option_map (λ x. make x.0 x.1) (two_numbers ws) ≡ Some f → IsToolSpelled word ws f
+paired-takes make word ws f fits words e =
+    let m = made_of (λ (x : ℕ × ℕ). make x.0 x.1) (two_numbers ws) f e in
+    let t = two-takes ws m.x m.was in
+    subst (IsToolSpelled word ws) m.is (fits m.x.0 m.x.1 t.0 t.1, more word ws _ t.2 ∙ sym (words m.x.0 m.x.1))
 
--- one more word is a command's, its number and its group
-commanded-takes : (k : Keyword) (ws : List (List ℕ)) (f : ToolForm) (x : ℕ × Bool) → command_at ws ≡ Some x → (make : ℕ → Bool → ToolForm) → (word : List ℕ)
-    → ((n : ℕ) (g : Bool) → form.IsNumber n → form.IsToolSpelling (make n g)) → ((n : ℕ) (g : Bool) → form.tool_words (make n g) ≡ word ∷ decimal n ∷ form.group_words g) → make x.0 x.1 ≡ f → IsToolSpelled word ws f
-commanded-takes k ws f x e make word fits words is =
-    let t = command-takes ws x e in
-    subst (IsToolSpelled word ws) is (fits x.0 x.1 t.0, more word ws _ t.1 ∙ sym (words x.0 x.1))
+command-takes : (make : ℕ → Bool → ToolForm) (word : List ℕ) (ws : List (List ℕ)) (f : ToolForm)
+    → ((n : ℕ) (g : Bool) → form.IsNumber n → form.IsToolSpelling (make n g)) → ((n : ℕ) (g : Bool) → form.tool_words (make n g) ≡ word ∷ decimal n ∷ form.group_words g)
+    → option_map (λ x. make x.0 x.1) (slot_and_group ws) ≡ Some f → IsToolSpelled word ws f
+command-takes make word ws f fits words e =
+    let m = made_of (λ (x : ℕ × Bool). make x.0 x.1) (slot_and_group ws) f e in
+    let t = slot_and_group-takes ws m.x m.was in
+    subst (IsToolSpelled word ws) m.is (fits m.x.0 m.x.1 t.0, more word ws _ t.1 ∙ sym (words m.x.0 m.x.1))
 
-paired-takes : (ws : List (List ℕ)) (f : ToolForm) (x : ℕ × ℕ) → two_numbers ws ≡ Some x → (make : ℕ → ℕ → ToolForm) → (word : List ℕ)
-    → ((n m : ℕ) → form.IsNumber n → form.IsNumber m → form.IsToolSpelling (make n m)) → ((n m : ℕ) → form.tool_words (make n m) ≡ word ∷ decimal n ∷ decimal m ∷ []) → make x.0 x.1 ≡ f → IsToolSpelled word ws f
-paired-takes ws f x e make word fits words is =
-    let t = two-takes ws x e in
-    subst (IsToolSpelled word ws) is (fits x.0 x.1 t.0 t.1, more word ws _ t.2 ∙ sym (words x.0 x.1))
+declared-takes : (v : Version) (make : ℕ → Form) (word : List ℕ) (ws : List (List ℕ)) (f : Form)
+    → ((n : ℕ) → form.IsNumber n → form.IsOfVersion v (make n) × form.IsSpelling (make n)) → ((n : ℕ) → form.form_words (make n) ≡ word ∷ decimal n ∷ [])
+    → option_map make (one_number ws) ≡ Some f → form.IsOfVersion v f × IsSpelled word ws f
+declared-takes v make word ws f fits words e =
+    let t = single-takes (λ g. form.IsOfVersion v g × form.IsSpelling g) form.form_words make word ws f fits words e in
+    (t.0.0, (t.0.1, t.1))
 
-single-takes : (ws : List (List ℕ)) (f : ToolForm) (n : ℕ) → one_number ws ≡ Some n → (make : ℕ → ToolForm) → (word : List ℕ)
-    → ((n : ℕ) → form.IsNumber n → form.IsToolSpelling (make n)) → ((n : ℕ) → form.tool_words (make n) ≡ word ∷ decimal n ∷ []) → make n ≡ f → IsToolSpelled word ws f
-single-takes ws f n e make word fits words is =
-    let t = one-takes ws n e in
-    subst (IsToolSpelled word ws) is (fits n t.0, more word ws _ t.1 ∙ sym (words n))
+-- what is read under a processor, and under a tool
+on_processor-takes : (v : Version) (word : List ℕ) (ws : List (List ℕ)) (read : Option CpuForm) (f : Form)
+    → ((g : CpuForm) → read ≡ Some g → IsCpuSpelled word ws g) → option_map form.OnProcessor read ≡ Some f → form.IsOfVersion v f × IsSpelled word ws f
+on_processor-takes v word ws read f takes e =
+    let m = made_of form.OnProcessor read f e in
+    subst (λ g. form.IsOfVersion v g × IsSpelled word ws g) m.is (tt, takes m.x m.was)
 
-short_tool-takes : (k : Keyword) (ws : List (List ℕ)) (f : ToolForm) → short_tool_form_at k ws ≡ Some f → IsToolSpelled (keyword_text k) ws f
-unfolding short_tool_form_at keyword_text
-short_tool-takes keyword.Enable ws f e = let b = bind_some (command_at ws) (command_form keyword.Enable) f e in commanded-takes keyword.Enable ws f b.0 b.1 form.Enable (codes "enable") (λ n g h. h) (λ n g. refl) (same_Some _ f b.2)
-short_tool-takes keyword.Disable ws f e = let b = bind_some (command_at ws) (command_form keyword.Disable) f e in commanded-takes keyword.Disable ws f b.0 b.1 form.Disable (codes "disable") (λ n g h. h) (λ n g. refl) (same_Some _ f b.2)
-short_tool-takes keyword.Reset ws f e = let b = bind_some (command_at ws) (command_form keyword.Reset) f e in commanded-takes keyword.Reset ws f b.0 b.1 form.Reset (codes "reset") (λ n g h. h) (λ n g. refl) (same_Some _ f b.2)
-short_tool-takes keyword.Period ws f e = let b = bind_some (two_numbers ws) (pair_form keyword.Period) f e in paired-takes ws f b.0 b.1 form.Period (codes "period") (λ n m h i. (h, i)) (λ n m. refl) (same_Some _ f b.2)
-short_tool-takes keyword.Map ws f e = let b = bind_some (two_numbers ws) (pair_form keyword.Map) f e in paired-takes ws f b.0 b.1 form.Map (codes "map") (λ n m h i. (h, i)) (λ n m. refl) (same_Some _ f b.2)
-short_tool-takes keyword.Output ws f e = let b = bind_some (two_numbers ws) (pair_form keyword.Output) f e in paired-takes ws f b.0 b.1 form.Output (codes "output") (λ n m h i. (h, i)) (λ n m. refl) (same_Some _ f b.2)
-short_tool-takes keyword.Close ws f e = let b = bind_some (one_number ws) (single_form keyword.Close) f e in single-takes ws f b.0 b.1 form.Close (codes "close") (λ n h. h) (λ n. refl) (same_Some _ f b.2)
-short_tool-takes keyword.Why ws f e = let b = bind_some (one_number ws) (single_form keyword.Why) f e in single-takes ws f b.0 b.1 form.Why (codes "why") (λ n h. h) (λ n. refl) (same_Some _ f b.2)
-short_tool-takes keyword.Seats ws f e = let b = bind_some (one_number ws) (single_form keyword.Seats) f e in single-takes ws f b.0 b.1 form.Seats (codes "seats") (λ n h. h) (λ n. refl) (same_Some _ f b.2)
-short_tool-takes keyword.Read ws f e = read-takes ws f e
-short_tool-takes keyword.Perf ws f e = absurd (none-some f e)
-short_tool-takes keyword.Machine ws f e = absurd (none-some f e)
-short_tool-takes keyword.Pmu ws f e = absurd (none-some f e)
-short_tool-takes keyword.Kind ws f e = absurd (none-some f e)
-short_tool-takes keyword.Task ws f e = absurd (none-some f e)
-short_tool-takes keyword.Ring ws f e = absurd (none-some f e)
-short_tool-takes keyword.Processor ws f e = absurd (none-some f e)
-short_tool-takes keyword.Switch ws f e = absurd (none-some f e)
-short_tool-takes keyword.Work ws f e = absurd (none-some f e)
-short_tool-takes keyword.Tick ws f e = absurd (none-some f e)
-short_tool-takes keyword.Fork ws f e = absurd (none-some f e)
-short_tool-takes keyword.Exit ws f e = absurd (none-some f e)
-short_tool-takes keyword.Tool ws f e = absurd (none-some f e)
-short_tool-takes keyword.Open ws f e = absurd (none-some f e)
-short_tool-takes keyword.Reader ws f e = absurd (none-some f e)
-short_tool-takes keyword.Order ws f e = absurd (none-some f e)
-short_tool-takes keyword.End ws f e = absurd (none-some f e)
+on_tool-takes : (v : Version) (word : List ℕ) (ws : List (List ℕ)) (read : Option ToolForm) (f : Form)
+    → ((g : ToolForm) → read ≡ Some g → IsToolSpelled word ws g) → option_map form.OnTool read ≡ Some f → form.IsOfVersion v f × IsSpelled word ws f
+on_tool-takes v word ws read f takes e =
+    let m = made_of form.OnTool read f e in
+    subst (λ g. form.IsOfVersion v g × IsSpelled word ws g) m.is (tt, takes m.x m.was)
 
-tool-takes : (k : Keyword) (ws : List (List ℕ)) (f : ToolForm) → tool_form_at k ws ≡ Some f → IsToolSpelled (keyword_text k) ws f
-unfolding tool_form_at keyword_text
-tool-takes keyword.Open ws f e = open-takes ws f e
-tool-takes keyword.Perf ws f e = short_tool-takes keyword.Perf ws f e
-tool-takes keyword.Machine ws f e = short_tool-takes keyword.Machine ws f e
-tool-takes keyword.Pmu ws f e = short_tool-takes keyword.Pmu ws f e
-tool-takes keyword.Kind ws f e = short_tool-takes keyword.Kind ws f e
-tool-takes keyword.Task ws f e = short_tool-takes keyword.Task ws f e
-tool-takes keyword.Ring ws f e = short_tool-takes keyword.Ring ws f e
-tool-takes keyword.Processor ws f e = short_tool-takes keyword.Processor ws f e
-tool-takes keyword.Switch ws f e = short_tool-takes keyword.Switch ws f e
-tool-takes keyword.Work ws f e = short_tool-takes keyword.Work ws f e
-tool-takes keyword.Tick ws f e = short_tool-takes keyword.Tick ws f e
-tool-takes keyword.Fork ws f e = short_tool-takes keyword.Fork ws f e
-tool-takes keyword.Exit ws f e = short_tool-takes keyword.Exit ws f e
-tool-takes keyword.Tool ws f e = short_tool-takes keyword.Tool ws f e
-tool-takes keyword.Enable ws f e = short_tool-takes keyword.Enable ws f e
-tool-takes keyword.Disable ws f e = short_tool-takes keyword.Disable ws f e
-tool-takes keyword.Reset ws f e = short_tool-takes keyword.Reset ws f e
-tool-takes keyword.Period ws f e = short_tool-takes keyword.Period ws f e
-tool-takes keyword.Read ws f e = short_tool-takes keyword.Read ws f e
-tool-takes keyword.Map ws f e = short_tool-takes keyword.Map ws f e
-tool-takes keyword.Output ws f e = short_tool-takes keyword.Output ws f e
-tool-takes keyword.Close ws f e = short_tool-takes keyword.Close ws f e
-tool-takes keyword.Why ws f e = short_tool-takes keyword.Why ws f e
-tool-takes keyword.Seats ws f e = short_tool-takes keyword.Seats ws f e
-tool-takes keyword.Reader ws f e = short_tool-takes keyword.Reader ws f e
-tool-takes keyword.Order ws f e = short_tool-takes keyword.Order ws f e
-tool-takes keyword.End ws f e = short_tool-takes keyword.End ws f e
+end-takes : (v : Version) (ws : List (List ℕ)) (f : Form) → end_at ws ≡ Some f → form.IsOfVersion v f × IsSpelled (codes "end") ws f
+end-takes v ws f e =
+    let t = alone-takes (λ g. form.IsOfVersion v g × form.IsSpelling g) form.form_words form.End (codes "end") ws f (tt, tt) refl e in
+    (t.0.0, (t.0.1, t.1))
 
-versioned-takes : (v : Version) (k : Keyword) (ws : List (List ℕ)) (f : Form) → versioned v k ws ≡ Some f → form.IsOfVersion v f × IsSpelled (keyword_text k) ws f
-unfolding versioned keyword_text
-versioned-takes form.One keyword.Machine ws f e = machine-takes ws f e
-versioned-takes form.One keyword.Kind ws f e = kind-takes ws f e
-versioned-takes form.Two keyword.Machine ws f e = machine_of_pmus-takes ws f e
-versioned-takes form.Two keyword.Kind ws f e = kind_of_pmu-takes ws f e
-versioned-takes form.Two keyword.Pmu ws f e = pmu-takes ws f e
-versioned-takes form.One keyword.Perf ws f e = absurd (none-some f e)
-versioned-takes form.One keyword.Pmu ws f e = absurd (none-some f e)
-versioned-takes form.One keyword.Task ws f e = absurd (none-some f e)
-versioned-takes form.One keyword.Ring ws f e = absurd (none-some f e)
-versioned-takes form.One keyword.Processor ws f e = absurd (none-some f e)
-versioned-takes form.One keyword.Switch ws f e = absurd (none-some f e)
-versioned-takes form.One keyword.Work ws f e = absurd (none-some f e)
-versioned-takes form.One keyword.Tick ws f e = absurd (none-some f e)
-versioned-takes form.One keyword.Fork ws f e = absurd (none-some f e)
-versioned-takes form.One keyword.Exit ws f e = absurd (none-some f e)
-versioned-takes form.One keyword.Tool ws f e = absurd (none-some f e)
-versioned-takes form.One keyword.Open ws f e = absurd (none-some f e)
-versioned-takes form.One keyword.Enable ws f e = absurd (none-some f e)
-versioned-takes form.One keyword.Disable ws f e = absurd (none-some f e)
-versioned-takes form.One keyword.Reset ws f e = absurd (none-some f e)
-versioned-takes form.One keyword.Period ws f e = absurd (none-some f e)
-versioned-takes form.One keyword.Read ws f e = absurd (none-some f e)
-versioned-takes form.One keyword.Map ws f e = absurd (none-some f e)
-versioned-takes form.One keyword.Output ws f e = absurd (none-some f e)
-versioned-takes form.One keyword.Close ws f e = absurd (none-some f e)
-versioned-takes form.One keyword.Why ws f e = absurd (none-some f e)
-versioned-takes form.One keyword.Seats ws f e = absurd (none-some f e)
-versioned-takes form.One keyword.Reader ws f e = absurd (none-some f e)
-versioned-takes form.One keyword.Order ws f e = absurd (none-some f e)
-versioned-takes form.One keyword.End ws f e = absurd (none-some f e)
-versioned-takes form.Two keyword.Perf ws f e = absurd (none-some f e)
-versioned-takes form.Two keyword.Task ws f e = absurd (none-some f e)
-versioned-takes form.Two keyword.Ring ws f e = absurd (none-some f e)
-versioned-takes form.Two keyword.Processor ws f e = absurd (none-some f e)
-versioned-takes form.Two keyword.Switch ws f e = absurd (none-some f e)
-versioned-takes form.Two keyword.Work ws f e = absurd (none-some f e)
-versioned-takes form.Two keyword.Tick ws f e = absurd (none-some f e)
-versioned-takes form.Two keyword.Fork ws f e = absurd (none-some f e)
-versioned-takes form.Two keyword.Exit ws f e = absurd (none-some f e)
-versioned-takes form.Two keyword.Tool ws f e = absurd (none-some f e)
-versioned-takes form.Two keyword.Open ws f e = absurd (none-some f e)
-versioned-takes form.Two keyword.Enable ws f e = absurd (none-some f e)
-versioned-takes form.Two keyword.Disable ws f e = absurd (none-some f e)
-versioned-takes form.Two keyword.Reset ws f e = absurd (none-some f e)
-versioned-takes form.Two keyword.Period ws f e = absurd (none-some f e)
-versioned-takes form.Two keyword.Read ws f e = absurd (none-some f e)
-versioned-takes form.Two keyword.Map ws f e = absurd (none-some f e)
-versioned-takes form.Two keyword.Output ws f e = absurd (none-some f e)
-versioned-takes form.Two keyword.Close ws f e = absurd (none-some f e)
-versioned-takes form.Two keyword.Why ws f e = absurd (none-some f e)
-versioned-takes form.Two keyword.Seats ws f e = absurd (none-some f e)
-versioned-takes form.Two keyword.Reader ws f e = absurd (none-some f e)
-versioned-takes form.Two keyword.Order ws f e = absurd (none-some f e)
-versioned-takes form.Two keyword.End ws f e = absurd (none-some f e)
-
-numbered-takes : (v : Version) (ws : List (List ℕ)) (f : Form) (n : ℕ) → one_number ws ≡ Some n → (make : ℕ → Form) → (word : List ℕ)
-    → ((n : ℕ) → form.IsNumber n → form.IsOfVersion v (make n) × form.IsSpelling (make n)) → ((n : ℕ) → form.form_words (make n) ≡ word ∷ decimal n ∷ []) → make n ≡ f → form.IsOfVersion v f × IsSpelled word ws f
-numbered-takes v ws f n e make word fits words is =
-    let t = one-takes ws n e in
-    let h = fits n t.0 in
-    subst (λ g. form.IsOfVersion v g × IsSpelled word ws g) is (h.0, (h.1, more word ws _ t.1 ∙ sym (words n)))
-
-declared-takes : (v : Version) (k : Keyword) (ws : List (List ℕ)) (f : Form) → declared_at v k ws ≡ Some f → form.IsOfVersion v f × IsSpelled (keyword_text k) ws f
-unfolding declared_at keyword_text
-declared-takes v keyword.Perf ws f e = perf-takes v ws f e
-declared-takes v keyword.Ring ws f e = ring-takes v ws f e
-declared-takes v keyword.Reader ws f e = reader-takes v ws f e
-declared-takes v keyword.End ws f e =
-    let z = alone-takes ws form.End f e in
-    subst (λ g. form.IsOfVersion v g × IsSpelled (codes "end") ws g) z.1 (tt, (tt, more (codes "end") ws [] z.0))
-declared-takes v keyword.Task ws f e = let b = bind_some (one_number ws) (numbered_form keyword.Task) f e in numbered-takes v ws f b.0 b.1 form.Task (codes "task") (λ n h. (tt, h)) (λ n. refl) (same_Some _ f b.2)
-declared-takes v keyword.Processor ws f e = let b = bind_some (one_number ws) (numbered_form keyword.Processor) f e in numbered-takes v ws f b.0 b.1 form.Processor (codes "processor") (λ n h. (tt, h)) (λ n. refl) (same_Some _ f b.2)
-declared-takes v keyword.Tool ws f e = let b = bind_some (one_number ws) (numbered_form keyword.Tool) f e in numbered-takes v ws f b.0 b.1 form.Tool (codes "tool") (λ n h. (tt, h)) (λ n. refl) (same_Some _ f b.2)
-declared-takes v keyword.Machine ws f e = versioned-takes v keyword.Machine ws f e
-declared-takes v keyword.Pmu ws f e = versioned-takes v keyword.Pmu ws f e
-declared-takes v keyword.Kind ws f e = versioned-takes v keyword.Kind ws f e
-declared-takes v keyword.Switch ws f e = versioned-takes v keyword.Switch ws f e
-declared-takes v keyword.Work ws f e = versioned-takes v keyword.Work ws f e
-declared-takes v keyword.Tick ws f e = versioned-takes v keyword.Tick ws f e
-declared-takes v keyword.Fork ws f e = versioned-takes v keyword.Fork ws f e
-declared-takes v keyword.Exit ws f e = versioned-takes v keyword.Exit ws f e
-declared-takes v keyword.Open ws f e = versioned-takes v keyword.Open ws f e
-declared-takes v keyword.Enable ws f e = versioned-takes v keyword.Enable ws f e
-declared-takes v keyword.Disable ws f e = versioned-takes v keyword.Disable ws f e
-declared-takes v keyword.Reset ws f e = versioned-takes v keyword.Reset ws f e
-declared-takes v keyword.Period ws f e = versioned-takes v keyword.Period ws f e
-declared-takes v keyword.Read ws f e = versioned-takes v keyword.Read ws f e
-declared-takes v keyword.Map ws f e = versioned-takes v keyword.Map ws f e
-declared-takes v keyword.Output ws f e = versioned-takes v keyword.Output ws f e
-declared-takes v keyword.Close ws f e = versioned-takes v keyword.Close ws f e
-declared-takes v keyword.Why ws f e = versioned-takes v keyword.Why ws f e
-declared-takes v keyword.Seats ws f e = versioned-takes v keyword.Seats ws f e
-declared-takes v keyword.Order ws f e = versioned-takes v keyword.Order ws f e
-
-on_processor-takes : (v : Version) (k : Keyword) (ws : List (List ℕ)) (f : Form) → option_map form.OnProcessor (cpu_form_at k ws) ≡ Some f → form.IsOfVersion v f × IsSpelled (keyword_text k) ws f
-on_processor-takes v k ws f e =
-    let m = made_of form.OnProcessor (cpu_form_at k ws) f e in
-    subst (λ g. form.IsOfVersion v g × IsSpelled (keyword_text k) ws g) m.is (tt, cpu-takes k ws m.x m.was)
-
-on_tool-takes : (v : Version) (k : Keyword) (ws : List (List ℕ)) (f : Form) → option_map form.OnTool (tool_form_at k ws) ≡ Some f → form.IsOfVersion v f × IsSpelled (keyword_text k) ws f
-on_tool-takes v k ws f e =
-    let m = made_of form.OnTool (tool_form_at k ws) f e in
-    subst (λ g. form.IsOfVersion v g × IsSpelled (keyword_text k) ws g) m.is (tt, tool-takes k ws m.x m.was)
-
-order-takes : (v : Version) (ws : List (List ℕ)) (f : Form) → option_map form.Order (each_word act_in ws) ≡ Some f → form.IsOfVersion v f × IsSpelled (codes "order") ws f
+order-takes : (v : Version) (ws : List (List ℕ)) (f : Form) → order_at ws ≡ Some f → form.IsOfVersion v f × IsSpelled (codes "order") ws f
 order-takes v ws f e =
     let m = made_of form.Order (each_word act_in ws) f e in
     let t = each-takes act_in form.IsActSpelling act_text act-takes ws m.x m.was in
@@ -355,33 +145,36 @@ order-takes v ws f e =
 
 body-takes : (v : Version) (k : Keyword) (ws : List (List ℕ)) (f : Form) → body_at v k ws ≡ Some f → form.IsOfVersion v f × IsSpelled (keyword_text k) ws f
 unfolding body_at keyword_text
-body-takes v keyword.Perf ws f e = declared-takes v keyword.Perf ws f e
-body-takes v keyword.Machine ws f e = declared-takes v keyword.Machine ws f e
-body-takes v keyword.Pmu ws f e = declared-takes v keyword.Pmu ws f e
-body-takes v keyword.Kind ws f e = declared-takes v keyword.Kind ws f e
-body-takes v keyword.Task ws f e = declared-takes v keyword.Task ws f e
-body-takes v keyword.Ring ws f e = declared-takes v keyword.Ring ws f e
-body-takes v keyword.Processor ws f e = declared-takes v keyword.Processor ws f e
-body-takes v keyword.Switch ws f e = on_processor-takes v keyword.Switch ws f e
-body-takes v keyword.Work ws f e = on_processor-takes v keyword.Work ws f e
-body-takes v keyword.Tick ws f e = on_processor-takes v keyword.Tick ws f e
-body-takes v keyword.Fork ws f e = on_processor-takes v keyword.Fork ws f e
-body-takes v keyword.Exit ws f e = on_processor-takes v keyword.Exit ws f e
-body-takes v keyword.Tool ws f e = declared-takes v keyword.Tool ws f e
-body-takes v keyword.Open ws f e = on_tool-takes v keyword.Open ws f e
-body-takes v keyword.Enable ws f e = on_tool-takes v keyword.Enable ws f e
-body-takes v keyword.Disable ws f e = on_tool-takes v keyword.Disable ws f e
-body-takes v keyword.Reset ws f e = on_tool-takes v keyword.Reset ws f e
-body-takes v keyword.Period ws f e = on_tool-takes v keyword.Period ws f e
-body-takes v keyword.Read ws f e = on_tool-takes v keyword.Read ws f e
-body-takes v keyword.Map ws f e = on_tool-takes v keyword.Map ws f e
-body-takes v keyword.Output ws f e = on_tool-takes v keyword.Output ws f e
-body-takes v keyword.Close ws f e = on_tool-takes v keyword.Close ws f e
-body-takes v keyword.Why ws f e = on_tool-takes v keyword.Why ws f e
-body-takes v keyword.Seats ws f e = on_tool-takes v keyword.Seats ws f e
-body-takes v keyword.Reader ws f e = declared-takes v keyword.Reader ws f e
+body-takes v keyword.Perf ws f e = perf-takes v ws f e
+body-takes form.One keyword.Machine ws f e = machine-takes ws f e
+body-takes form.Two keyword.Machine ws f e = machine_of_pmus-takes ws f e
+body-takes form.One keyword.Pmu ws f e = absurd (none-some f e)
+body-takes form.Two keyword.Pmu ws f e = pmu-takes ws f e
+body-takes form.One keyword.Kind ws f e = kind-takes ws f e
+body-takes form.Two keyword.Kind ws f e = kind_of_pmu-takes ws f e
+body-takes v keyword.Task ws f e = declared-takes v form.Task (codes "task") ws f (λ n h. (tt, h)) (λ n. refl) e
+body-takes v keyword.Ring ws f e = ring-takes v ws f e
+body-takes v keyword.Processor ws f e = declared-takes v form.Processor (codes "processor") ws f (λ n h. (tt, h)) (λ n. refl) e
+body-takes v keyword.Switch ws f e = on_processor-takes v (codes "switch") ws (switch_at ws) f (switch-takes ws) e
+body-takes v keyword.Work ws f e = on_processor-takes v (codes "work") ws (work_at ws) f (work-takes ws) e
+body-takes v keyword.Tick ws f e = on_processor-takes v (codes "tick") ws (tick_at ws) f (λ g. alone-takes form.IsCpuSpelling form.cpu_words form.Tick (codes "tick") ws g tt refl) e
+body-takes v keyword.Fork ws f e = on_processor-takes v (codes "fork") ws (fork_at ws) f (λ g. single-takes form.IsCpuSpelling form.cpu_words form.Fork (codes "fork") ws g (λ n h. h) (λ n. refl)) e
+body-takes v keyword.Exit ws f e = on_processor-takes v (codes "exit") ws (exit_at ws) f (λ g. alone-takes form.IsCpuSpelling form.cpu_words form.Exit (codes "exit") ws g tt refl) e
+body-takes v keyword.Tool ws f e = declared-takes v form.Tool (codes "tool") ws f (λ n h. (tt, h)) (λ n. refl) e
+body-takes v keyword.Open ws f e = on_tool-takes v (codes "open") ws (open_at ws) f (open-takes ws) e
+body-takes v keyword.Enable ws f e = on_tool-takes v (codes "enable") ws (enable_at ws) f (λ g. command-takes form.Enable (codes "enable") ws g (λ n b h. h) (λ n b. refl)) e
+body-takes v keyword.Disable ws f e = on_tool-takes v (codes "disable") ws (disable_at ws) f (λ g. command-takes form.Disable (codes "disable") ws g (λ n b h. h) (λ n b. refl)) e
+body-takes v keyword.Reset ws f e = on_tool-takes v (codes "reset") ws (reset_at ws) f (λ g. command-takes form.Reset (codes "reset") ws g (λ n b h. h) (λ n b. refl)) e
+body-takes v keyword.Period ws f e = on_tool-takes v (codes "period") ws (period_at ws) f (λ g. paired-takes form.Period (codes "period") ws g (λ n m h i. (h, i)) (λ n m. refl)) e
+body-takes v keyword.Read ws f e = on_tool-takes v (codes "read") ws (read_at ws) f (read-takes ws) e
+body-takes v keyword.Map ws f e = on_tool-takes v (codes "map") ws (map_at ws) f (λ g. paired-takes form.Map (codes "map") ws g (λ n m h i. (h, i)) (λ n m. refl)) e
+body-takes v keyword.Output ws f e = on_tool-takes v (codes "output") ws (output_at ws) f (λ g. paired-takes form.Output (codes "output") ws g (λ n m h i. (h, i)) (λ n m. refl)) e
+body-takes v keyword.Close ws f e = on_tool-takes v (codes "close") ws (close_at ws) f (λ g. single-takes form.IsToolSpelling form.tool_words form.Close (codes "close") ws g (λ n h. h) (λ n. refl)) e
+body-takes v keyword.Why ws f e = on_tool-takes v (codes "why") ws (why_at ws) f (λ g. single-takes form.IsToolSpelling form.tool_words form.Why (codes "why") ws g (λ n h. h) (λ n. refl)) e
+body-takes v keyword.Seats ws f e = on_tool-takes v (codes "seats") ws (seats_at ws) f (λ g. single-takes form.IsToolSpelling form.tool_words form.Seats (codes "seats") ws g (λ n h. h) (λ n. refl)) e
+body-takes v keyword.Reader ws f e = reader-takes v ws f e
 body-takes v keyword.Order ws f e = order-takes v ws f e
-body-takes v keyword.End ws f e = declared-takes v keyword.End ws f e
+body-takes v keyword.End ws f e = end-takes v ws f e
 
 -- what was read is of the form
 pub form-takes : (v : Version) (ws : List (List ℕ)) (f : Form) → form_at v ws ≡ Some f → IsOfForm v ws f
@@ -395,7 +188,7 @@ form-takes v ws f e =
 -- ---- what is of the form is read
 
 cpu-again : (v : Version) (f : CpuForm) → form.IsCpuSpelling f → form_at v (form.cpu_words f) ≡ Some (form.OnProcessor f)
-unfolding form_at body_at cpu_form_at short_cpu_form_at
+unfolding form_at body_at
 cpu-again v (form.Switch task) h = rw (switch-again task h) refl
 cpu-again v (form.Work w) h = rw (work-again w h) refl
 cpu-again v form.Tick h = refl
@@ -403,12 +196,12 @@ cpu-again v (form.Fork task) h = rw (one-again task h) refl
 cpu-again v form.Exit h = refl
 
 tool-again : (v : Version) (f : ToolForm) → form.IsToolSpelling f → form_at v (form.tool_words f) ≡ Some (form.OnTool f)
-unfolding form_at body_at tool_form_at short_tool_form_at
+unfolding form_at body_at
 tool-again v (form.OpenKind p n a) h = ap (option_map form.OnTool) (open-again_kind p n a h.0 h.1 h.2)
 tool-again v (form.OpenAttr p bytes) h = ap (option_map form.OnTool) (open-again_attr p bytes h.0 h.1)
-tool-again v (form.Enable slot group) h = rw (command-again slot group h) refl
-tool-again v (form.Disable slot group) h = rw (command-again slot group h) refl
-tool-again v (form.Reset slot group) h = rw (command-again slot group h) refl
+tool-again v (form.Enable slot group) h = rw (slot_and_group-again slot group h) refl
+tool-again v (form.Disable slot group) h = rw (slot_and_group-again slot group h) refl
+tool-again v (form.Reset slot group) h = rw (slot_and_group-again slot group h) refl
 tool-again v (form.Period slot other) h = rw (two-again slot other h.0 h.1) refl
 tool-again v (form.Map slot other) h = rw (two-again slot other h.0 h.1) refl
 tool-again v (form.Output slot other) h = rw (two-again slot other h.0 h.1) refl
@@ -418,7 +211,7 @@ tool-again v (form.Seats n) h = rw (one-again n h) refl
 tool-again v (form.Read slot size) h = rw (read-again slot size h.0 h.1) refl
 
 spelled-again : (v : Version) (f : Form) → form.IsOfVersion v f → form.IsSpelling f → form_at v (form.form_words f) ≡ Some f
-unfolding form_at body_at declared_at versioned
+unfolding form_at body_at
 spelled-again v (form.Perf own) o h = subst (λ u. form_at u (form.form_words (form.Perf own)) ≡ Some (form.Perf own)) o (perf-again own)
 spelled-again v (form.Machine cpus counters) o h = subst (λ u. form_at u (form.form_words (form.Machine cpus counters)) ≡ Some (form.Machine cpus counters)) (sym o) (machine-again cpus counters h.0 h.1)
 spelled-again v (form.MachineOfPmus cpus) o h = subst (λ u. form_at u (form.form_words (form.MachineOfPmus cpus)) ≡ Some (form.MachineOfPmus cpus)) (sym o) (machine_of_pmus-again cpus h)

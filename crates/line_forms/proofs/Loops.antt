@@ -1,12 +1,17 @@
 -- Reading one word after the other, as a loop does.
-use Rattle.std.proofs.Common.{◌≡◌, ℕ, ◌+◌, ◌*◌, ◌-◌, ◌<◌, ◌≤◌, List, [], ◌∷◌, ◌++◌, length, get_or, take, drop, Option, Some, None, refl, sym, ap, ◌∙◌, append_assoc, arith, length-take, length-drop}
+use Rattle.std.proofs.Common.{◌≡◌, ℕ, ◌+◌, ◌*◌, ◌-◌, ◌<◌, ◌≤◌, true, false, Bor, List, [], ◌∷◌, ◌++◌, map, length, get_or, take, drop, Option, Some, None, refl, sym, ap, ◌∙◌, append_assoc, arith, length-take, length-drop}
 use Rattle.std.proofs.Math.Seq.{take-length}
 use Rattle.std.proofs.lemmas.List.{append-nil}
+use Rattle.std.specs.Str.{bytes_eq}
+use Rattle.std.proofs.lemmas.List.{drop_more}
+use Rattle.std.proofs.Math.ListN.{drop_of_length-le}
+use Rattle.line_forms.specs.declared.keyword.Keyword.{Keyword}
+use Rattle.line_forms.specs.Keyword.{looked_up}
 use Rattle.line_forms.specs.declared.stop.LineStop.{LineStop}
 use Rattle.line_forms.specs.declared.stop.LineStop.TheVariants as stop
 use Rattle.line_forms.specs.Words.{◌>>=◌, next_of}
 use Rattle.line_forms.specs.Bodies.{each_word, pair_of, pairs_in}
-use Rattle.line_forms.specs.Stops.{Stops}
+use Rattle.line_forms.specs.Stop.{Stops}
 
 -- what was read before, and what is still read
 abbrev pub with_front : {A : Type 0} → List A → Option (List A) → Option (List A)
@@ -27,15 +32,15 @@ regroup : {A : Type 0} (front : List A) (x : A) (read : Option (List A)) → wit
 regroup front x (Some xs) = ap Some (sym (append_assoc front (x ∷ []) xs))
 regroup front x None = refl
 
-pub each_go_on : {A : Type 0} (f : List ℕ → Option A) (front : List A) (w : List ℕ) (ws xs : List (List ℕ)) (x : A) (whole : Option (List A))
+pub each_step : {A : Type 0} (f : List ℕ → Option A) (front : List A) (w : List ℕ) (ws xs : List (List ℕ)) (x : A) (whole : Option (List A))
     → Some (w, ws) ≡ next_of xs → f w ≡ Some x → with_front front (each_word f xs) ≡ whole → with_front (front ++ x ∷ []) (each_word f ws) ≡ whole
 unfolding each_word
-each_go_on f front w ws xs x whole n h so_far =
+each_step f front w ws xs x whole n h so_far =
     let one : with_front front (each_word f (w ∷ ws)) ≡ with_front (front ++ x ∷ []) (each_word f ws) = rw h (regroup front x (each_word f ws)) in
     sym one ∙ (ap (λ (ys : List (List ℕ)). with_front front (each_word f ys)) (sym (next_cons w ws xs n)) ∙ so_far)
 
 pub each_fail : {A : Type 0} (e : LineStop) (f : List ℕ → Option A) (front : List A) (w : List ℕ) (ws xs : List (List ℕ)) (whole : Option (List A))
-    → Some (w, ws) ≡ next_of xs → Stops e (f w) → with_front front (each_word f xs) ≡ whole → Stops e whole
+    → Some (w, ws) ≡ next_of xs → f w ≡ None → with_front front (each_word f xs) ≡ whole → Stops e whole
 unfolding each_word
 each_fail stop.Memory f front w ws xs whole n h so_far = tt
 each_fail stop.NoForm f front w ws xs whole n h so_far =
@@ -50,12 +55,12 @@ each_end f front xs whole n so_far =
     sym so_far ∙ (ap (λ (ys : List (List ℕ)). with_front front (each_word f ys)) (next_nil xs n) ∙ one)
 
 -- pairs of digits
-pub pairs_go_on : (bytes rest whole : List ℕ) → 2 ≤ length rest → bytes ++ pairs_in rest ≡ whole
+pub pairs_step : (bytes rest whole : List ℕ) → 2 ≤ length rest → bytes ++ pairs_in rest ≡ whole
     → (bytes ++ pair_of (get_or rest 0 0) (get_or rest 1 0) ∷ []) ++ pairs_in (take (length rest - 2) (drop 2 rest)) ≡ whole
 unfolding pairs_in
-pairs_go_on bytes [] whole l e = absurd (omega (arith, l))
-pairs_go_on bytes (x ∷ []) whole l e = absurd (omega (arith, l))
-pairs_go_on bytes (x ∷ y ∷ rest) whole l e =
+pairs_step bytes [] whole l e = absurd (omega (arith, l))
+pairs_step bytes (x ∷ []) whole l e = absurd (omega (arith, l))
+pairs_step bytes (x ∷ y ∷ rest) whole l e =
     let n : length (x ∷ y ∷ rest) - 2 ≡ length rest = omega arith in
     let all : take (length (x ∷ y ∷ rest) - 2) rest ≡ rest = rw n (take-length rest) in
     rw all (append_assoc bytes (pair_of x y ∷ []) (pairs_in rest) ∙ e)
@@ -68,3 +73,32 @@ unfolding pairs_in
 pairs_end bytes [] whole l e = sym (append-nil bytes) ∙ e
 pairs_end bytes (x ∷ []) whole l e = sym (append-nil bytes) ∙ e
 pairs_end bytes (x ∷ y ∷ rest) whole l e = absurd (omega (arith, l))
+
+-- an entry of the table of keywords
+abbrev pub entry_of : Bor (List ℕ) × Keyword → List ℕ × Keyword
+entry_of e = (e.0.now, e.1)
+
+from_here : (table : List (Bor (List ℕ) × Keyword)) (i : ℕ) (d : Bor (List ℕ) × Keyword) → i < length table
+    → map entry_of (drop i table) ≡ entry_of (get_or table i d) ∷ map entry_of (drop (i + 1) table)
+from_here table i d l = ap (λ (es : List (Bor (List ℕ) × Keyword)). map entry_of es) (drop_more table i d l)
+
+-- the entry here is the word's
+pub looked_here : (table : List (Bor (List ℕ) × Keyword)) (i : ℕ) (d : Bor (List ℕ) × Keyword) (word : List ℕ) (found : Option Keyword)
+    → i < length table → bytes_eq word (get_or table i d).0.now ≡ true → looked_up (map entry_of (drop i table)) word ≡ found → Some (get_or table i d).1 ≡ found
+looked_here table i d word found l t h =
+    let e : looked_up (map entry_of (drop i table)) word ≡ Some (get_or table i d).1 = rw (from_here table i d l, t) refl in
+    sym e ∙ h
+
+-- it is not, and the word is looked up behind it
+pub looked_behind : (table : List (Bor (List ℕ) × Keyword)) (i : ℕ) (d : Bor (List ℕ) × Keyword) (word : List ℕ) (found : Option Keyword)
+    → i < length table → bytes_eq word (get_or table i d).0.now ≡ false → looked_up (map entry_of (drop i table)) word ≡ found → looked_up (map entry_of (drop (i + 1) table)) word ≡ found
+looked_behind table i d word found l f h =
+    let e : looked_up (map entry_of (drop i table)) word ≡ looked_up (map entry_of (drop (i + 1) table)) word = rw (from_here table i d l, f) refl in
+    sym e ∙ h
+
+-- no entry is left
+pub looked_through : (table : List (Bor (List ℕ) × Keyword)) (i : ℕ) (word : List ℕ) (found : Option Keyword)
+    → length table ≤ i → looked_up (map entry_of (drop i table)) word ≡ found → None ≡ found
+looked_through table i word found l h =
+    let e : looked_up (map entry_of (drop i table)) word ≡ None = rw (drop_of_length-le table l) refl in
+    sym e ∙ h

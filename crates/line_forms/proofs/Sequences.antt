@@ -1,5 +1,5 @@
 -- Occurrences, acts and bytes: what is read is what is spelled so, and what is spelled so is read.
-use Rattle.std.proofs.Common.{◌≡◌, ℕ, ◌+◌, ◌*◌, ◌/◌, ◌%◌, ◌<◌, ◌≤◌, Bool, true, false, ◌&&◌, cond, eqb, leb, ltb, List, [], ◌∷◌, ◌++◌, map, take, length, All, Option, Some, None, option_map, inl, inr, refl, sym, ap, subst, ◌∙◌, arith, append_assoc}
+use Rattle.std.proofs.Common.{◌≡◌, ℕ, ◌+◌, ◌*◌, ◌/◌, ◌%◌, ◌<◌, ◌≤◌, true, false, ◌&&◌, eqb, leb, ltb, List, [], ◌∷◌, ◌++◌, map, take, length, All, Option, Some, None, option_map, inl, inr, refl, sym, ap, subst, ◌∙◌, arith, append_assoc}
 use Rattle.std.proofs.lemmas.Option.{same_Some, none-some}
 use Rattle.std.specs.Prelude.{decimal, IfSome}
 use Rattle.std.specs.List.{list_all, flat_map}
@@ -17,7 +17,7 @@ use Rattle.line_forms.specs.Words.{◌>>=◌, cut}
 use Rattle.line_forms.specs.Leaves.{digit_of, number, name}
 use Rattle.line_forms.specs.Bodies.{each_word, hit_in, seen_in, act_in, processor_in, tool_in, is_bytes, pair_of, pairs_in, bytes_in}
 use Rattle.line_forms.proofs.Cuts.{cut_here, cut_later, cut_nothing}
-use Rattle.line_forms.proofs.Spelling.{number_takes, number_again, decimal_below, digit_of-glyph, glyph-digit_of}
+use Rattle.line_forms.proofs.Spelling.{guard_some, number_takes, number_again, decimal_below, digit_of-glyph, glyph-digit_of}
 use Rattle.line_forms.proofs.Singles.{bind_some, name_takes, name_again}
 
 All-none : {A : Type 0} (P : A → Type 0) → All P []
@@ -221,10 +221,6 @@ pairs-takes (high ∷ low ∷ rest) e h =
       bytes = All-cons (λ b. b < 256) (pair_of high low) (pairs_in rest) (pair_is high low a b).0 ih.bytes;
     }
 
-guard_some : {A : Type 0} (b : Bool) (x y : A) → cond b (Some x) None ≡ Some y → (b ≡ true) × (x ≡ y)
-guard_some true x y e = (refl, cc)
-guard_some false x y e = absurd cc
-
 pub bytes-takes : (text bytes : List ℕ) → bytes_in text ≡ Some bytes → form.AreBytes bytes × (text ≡ flat_map form.byte_text bytes)
 unfolding bytes_in
 bytes-takes text bytes e =
@@ -276,7 +272,7 @@ bytes-again bytes h =
     rw (a, b, c, w.below) (ap Some w.pairs)
 
 -- what was put into the front of a room is what the text says
-pub said_in_room : (count : Option ℕ) (room text : List ℕ) → option_map (λ n. take n room) count ≡ bytes_in text
+pub bytes_in_room : (count : Option ℕ) (room text : List ℕ) → option_map (λ n. take n room) count ≡ bytes_in text
     → IfSome count (λ n. form.AreBytes (take n room) × (text ≡ flat_map form.byte_text (take n room)))
-said_in_room None room text e = tt
-said_in_room (Some n) room text e = bytes-takes text (take n room) (sym e)
+bytes_in_room None room text e = tt
+bytes_in_room (Some n) room text e = bytes-takes text (take n room) (sym e)

@@ -1,5 +1,5 @@
 -- Single words: what is read is what is spelled so, and what is spelled so is read.
-use Rattle.std.proofs.Common.{◌≡◌, ℕ, ◌^◌, ◌<◌, ◌≤◌, Bool, true, false, ◌&&◌, ◌||◌, cond, eqb, leb, List, [], ◌∷◌, ◌++◌, length, take, drop, All, Option, Some, None, inl, inr, refl, sym, ap, subst, ◌∙◌, arith}
+use Rattle.std.proofs.Common.{◌≡◌, ℕ, ◌^◌, ◌<◌, ◌≤◌, true, false, ◌&&◌, ◌||◌, eqb, leb, List, [], ◌∷◌, ◌++◌, length, take, drop, All, Option, Some, None, inl, inr, refl, sym, ap, subst, ◌∙◌, arith}
 use Rattle.std.proofs.lemmas.Option.{same_Some, none-some}
 use Rattle.std.specs.Prelude.{nat_eq, decimal, IfSome}
 use Rattle.std.specs.List.{starts_with, list_all}
@@ -16,17 +16,13 @@ use Rattle.perf_base.specs.Scripts.{IsLetter, IsNameByte}
 use Rattle.script_spec.specs.Forms as form
 use Rattle.line_forms.specs.Words.{◌>>=◌, strip, next_of, end_of}
 use Rattle.line_forms.specs.Leaves.{is_letter, is_name_byte, is_name, number, name, number_at, name_at, other_or, decimal_or}
-use Rattle.line_forms.proofs.Spelling.{number_takes, number_again}
+use Rattle.line_forms.proofs.Spelling.{guard_some, number_takes, number_again}
 
 -- ---- steps
 
 pub bind_some : {A B : Type 0} (r : Option A) (f : A → Option B) (y : B) → (r >>= f) ≡ Some y → (x : A) × (r ≡ Some x) × (f x ≡ Some y)
 bind_some (Some x) f y e = (x, refl, e)
 bind_some None f y e = absurd cc
-
-guard_some : {A : Type 0} (b : Bool) (x y : A) → cond b (Some x) None ≡ Some y → (b ≡ true) × (x ≡ y)
-guard_some true x y e = (refl, cc)
-guard_some false x y e = absurd cc
 
 pub next_takes : (ws : List (List ℕ)) (x : List ℕ × List (List ℕ)) → next_of ws ≡ Some x → ws ≡ x.0 ∷ x.1
 next_takes [] x e = absurd cc

@@ -186,7 +186,8 @@ written b (c ∷ e ∷ cs) low high h =
     let k : 64 ≡ suc (63 - length (e ∷ cs)) + length (e ∷ cs) = omega arith in
     ap (λ n. digits_onto 64 b false (value_after b n (e ∷ cs)) []) z ∙ written_from b (63 - length (e ∷ cs)) 64 c (e ∷ cs) low high some h.below k
 
-guard_some : {A : Type 0} (b : Bool) (x y : A) → cond b (Some x) None ≡ Some y → (b ≡ true) × (x ≡ y)
+-- what is given under a test
+pub guard_some : {A : Type 0} (b : Bool) (x y : A) → cond b (Some x) None ≡ Some y → (b ≡ true) × (x ≡ y)
 guard_some true x y e = (refl, cc)
 guard_some false x y e = absurd cc
 

@@ -8,58 +8,42 @@ use Rattle.line_forms.specs.Leaves.{decimal_at, hexadecimal_at, name_at, decimal
 use Rattle.line_forms.specs.Bodies.{one_number, two_numbers}
 use Rattle.line_forms.proofs.Singles.{bind_some, next_takes, end_takes, number_at-takes, number_at-again, name_at-takes, decimal_or-takes}
 
--- a decimal number was read, and then the rest
-pub record Decimal {B : Type 0} (key : List ℕ) (ws : List (List ℕ)) (f : ℕ × List (List ℕ) → Option B) (y : B) : Type 0 where
-  pub n : ℕ
+-- a word was read, what it spells fits, and then the rest was read
+pub record Step {X B : Type 0} (Fits : X → Type 0) (word : X → List ℕ) (ws : List (List ℕ)) (f : X × List (List ℕ) → Option B) (y : B) : Type 0 where
+  pub n : X
   pub rest : List (List ℕ)
-  pub fits : form.IsNumber n
-  pub words : ws ≡ (key ++ decimal n) ∷ rest
+  pub fits : Fits n
+  pub words : ws ≡ word n ∷ rest
   pub then : f (n, rest) ≡ Some y
 
-pub decimal_then : {B : Type 0} (key : List ℕ) (ws : List (List ℕ)) (f : ℕ × List (List ℕ) → Option B) (y : B) → (decimal_at key ws >>= f) ≡ Some y → Decimal key ws f y
+pub decimal_then : {B : Type 0} (key : List ℕ) (ws : List (List ℕ)) (f : ℕ × List (List ℕ) → Option B) (y : B) → (decimal_at key ws >>= f) ≡ Some y → Step form.IsNumber (λ n. key ++ decimal n) ws f y
 decimal_then key ws f y e =
     let x = bind_some (decimal_at key ws) f y e in
     let t = number_at-takes key 10 20 ws x.0 (omega arith) (omega arith) (omega arith) x.1 in
     record { n = x.0.0; rest = x.0.1; fits = t.0; words = t.1; then = x.2 }
 
-pub record Hexadecimal {B : Type 0} (key : List ℕ) (ws : List (List ℕ)) (f : ℕ × List (List ℕ) → Option B) (y : B) : Type 0 where
-  pub n : ℕ
-  pub rest : List (List ℕ)
-  pub fits : form.IsHexadecimal n
-  pub words : ws ≡ (key ++ form.hexadecimal n) ∷ rest
-  pub then : f (n, rest) ≡ Some y
-
-pub hexadecimal_then : {B : Type 0} (key : List ℕ) (ws : List (List ℕ)) (f : ℕ × List (List ℕ) → Option B) (y : B) → (hexadecimal_at key ws >>= f) ≡ Some y → Hexadecimal key ws f y
+pub hexadecimal_then : {B : Type 0} (key : List ℕ) (ws : List (List ℕ)) (f : ℕ × List (List ℕ) → Option B) (y : B) → (hexadecimal_at key ws >>= f) ≡ Some y → Step form.IsHexadecimal (λ n. key ++ form.hexadecimal n) ws f y
 hexadecimal_then key ws f y e =
     let x = bind_some (hexadecimal_at key ws) f y e in
     let t = number_at-takes key 16 16 ws x.0 (omega arith) (omega arith) (omega arith) x.1 in
     record { n = x.0.0; rest = x.0.1; fits = t.0; words = t.1; then = x.2 }
 
-pub record Named {B : Type 0} (key : List ℕ) (ws : List (List ℕ)) (f : List ℕ × List (List ℕ) → Option B) (y : B) : Type 0 where
-  pub n : List ℕ
-  pub rest : List (List ℕ)
-  pub fits : form.IsWord n
-  pub words : ws ≡ (key ++ n) ∷ rest
-  pub then : f (n, rest) ≡ Some y
-
-pub name_then : {B : Type 0} (key : List ℕ) (ws : List (List ℕ)) (f : List ℕ × List (List ℕ) → Option B) (y : B) → (name_at key ws >>= f) ≡ Some y → Named key ws f y
+pub name_then : {B : Type 0} (key : List ℕ) (ws : List (List ℕ)) (f : List ℕ × List (List ℕ) → Option B) (y : B) → (name_at key ws >>= f) ≡ Some y → Step form.IsWord (λ n. key ++ n) ws f y
 name_then key ws f y e =
     let x = bind_some (name_at key ws) f y e in
     let t = name_at-takes key ws x.0 x.1 in
     record { n = x.0.0; rest = x.0.1; fits = t.0; words = t.1; then = x.2 }
 
-pub record Other {B : Type 0} (key other : List ℕ) (ws : List (List ℕ)) (f : Option ℕ × List (List ℕ) → Option B) (y : B) : Type 0 where
-  pub n : Option ℕ
-  pub rest : List (List ℕ)
-  pub fits : IfSome n form.IsNumber
-  pub words : ws ≡ (key ++ form.number_or other n) ∷ rest
-  pub then : f (n, rest) ≡ Some y
-
-pub other_then : {B : Type 0} (key other : List ℕ) (ws : List (List ℕ)) (f : Option ℕ × List (List ℕ) → Option B) (y : B) → (decimal_or key other ws >>= f) ≡ Some y → Other key other ws f y
+pub other_then : {B : Type 0} (key other : List ℕ) (ws : List (List ℕ)) (f : Option ℕ × List (List ℕ) → Option B) (y : B) → (decimal_or key other ws >>= f) ≡ Some y → Step (λ n. IfSome n form.IsNumber) (λ n. key ++ form.number_or other n) ws f y
 other_then key other ws f y e =
     let x = bind_some (decimal_or key other ws) f y e in
     let t = decimal_or-takes key other ws x.0 x.1 in
     record { n = x.0.0; rest = x.0.1; fits = t.0; words = t.1; then = x.2 }
+
+pub next_then : {B : Type 0} (ws : List (List ℕ)) (f : List ℕ × List (List ℕ) → Option B) (y : B) → (next_of ws >>= f) ≡ Some y → Step (λ n. Unit {0}) (λ n. n) ws f y
+next_then ws f y e =
+    let x = bind_some (next_of ws) f y e in
+    record { n = x.0.0; rest = x.0.1; fits = tt; words = next_takes ws x.0 x.1; then = x.2 }
 
 -- nothing was left
 pub record Ended {B : Type 0} (ws : List (List ℕ)) (f : Unit {0} → Option B) (y : B) : Type 0 where
@@ -70,17 +54,6 @@ pub end_then : {B : Type 0} (ws : List (List ℕ)) (f : Unit {0} → Option B) (
 end_then ws f y e =
     let x = bind_some (end_of ws) f y e in
     record { words = end_takes ws x.0 x.1; then = x.2 }
-
-pub record Next {B : Type 0} (ws : List (List ℕ)) (f : List ℕ × List (List ℕ) → Option B) (y : B) : Type 0 where
-  pub n : List ℕ
-  pub rest : List (List ℕ)
-  pub words : ws ≡ n ∷ rest
-  pub then : f (n, rest) ≡ Some y
-
-pub next_then : {B : Type 0} (ws : List (List ℕ)) (f : List ℕ × List (List ℕ) → Option B) (y : B) → (next_of ws >>= f) ≡ Some y → Next ws f y
-next_then ws f y e =
-    let x = bind_some (next_of ws) f y e in
-    record { n = x.0.0; rest = x.0.1; words = next_takes ws x.0 x.1; then = x.2 }
 
 -- a word more in front
 pub more : (w : List ℕ) (xs ys : List (List ℕ)) → xs ≡ ys → w ∷ xs ≡ w ∷ ys

@@ -8,7 +8,7 @@ use Rattle.script_spec.specs.Forms as form
 use Rattle.script_spec.specs.Forms.{Opening, Asked, ToolForm}
 use Rattle.line_forms.specs.Words.{strip}
 use Rattle.line_forms.specs.Leaves.{name_at, number_at, number_if, word_if, flags_if}
-use Rattle.line_forms.specs.Bodies.{bytes_in, place_at, asked_at, open_kind_at, attr_place_at, open_attr_at, first_or, open_at, command_at, read_at}
+use Rattle.line_forms.specs.Bodies.{bytes_in, place_at, asked_at, open_kind_at, attr_place_at, open_attr_at, first_or, open_at, slot_and_group, read_at}
 use Rattle.line_forms.proofs.Singles.{bind_some, strip_takes, strip_again, name_at-again, decimal_or-again}
 use Rattle.line_forms.proofs.Optionals.{IsNotKeyed, number_at-none, not_keyed_if, number_if-takes, number_if-again, word_where, word_if-takes, flags_if-takes, flags_if-again}
 use Rattle.line_forms.proofs.Sequences.{bytes-takes, bytes-again}
@@ -195,9 +195,9 @@ group_is : (b : Bool) → word_where b (codes "group") ≡ form.group_words b
 group_is true = refl
 group_is false = refl
 
-pub command-takes : (ws : List (List ℕ)) (x : ℕ × Bool) → command_at ws ≡ Some x → form.IsNumber x.0 × (ws ≡ decimal x.0 ∷ form.group_words x.1)
-unfolding command_at
-command-takes ws x e =
+pub slot_and_group-takes : (ws : List (List ℕ)) (x : ℕ × Bool) → slot_and_group ws ≡ Some x → form.IsNumber x.0 × (ws ≡ decimal x.0 ∷ form.group_words x.1)
+unfolding slot_and_group
+slot_and_group-takes ws x e =
     let s = decimal_then [] ws _ x e in
     let g = word_if (codes "group") s.rest in
     let z = end_then g.1 _ x s.then in
@@ -209,9 +209,9 @@ unfolding word_if
 group-again true = refl
 group-again false = refl
 
-pub command-again : (slot : ℕ) (group : Bool) → form.IsNumber slot → command_at (decimal slot ∷ form.group_words group) ≡ Some (slot, group)
-unfolding command_at
-command-again slot group h = rw (decimal-again [] slot (form.group_words group) h, group-again group) refl
+pub slot_and_group-again : (slot : ℕ) (group : Bool) → form.IsNumber slot → slot_and_group (decimal slot ∷ form.group_words group) ≡ Some (slot, group)
+unfolding slot_and_group
+slot_and_group-again slot group h = rw (decimal-again [] slot (form.group_words group) h, group-again group) refl
 
 pub read-takes : (ws : List (List ℕ)) (f : ToolForm) → read_at ws ≡ Some f → IsToolSpelled (codes "read") ws f
 unfolding read_at

@@ -7,7 +7,7 @@ use Rattle.perf_base.specs.declared.lines.Mode.TheVariants as mode
 use Rattle.perf_base.specs.declared.acts.Act.{Act}
 use Rattle.perf_base.specs.declared.acts.Act.TheVariants as act
 use Rattle.script_spec.specs.Forms as form
-use Rattle.script_spec.specs.Forms.{Version, Hit, Working, CpuForm, Opening, Asked, ToolForm, Form, version_text}
+use Rattle.script_spec.specs.Forms.{Version, Hit, CpuForm, Opening, Asked, ToolForm, Form, version_text}
 use Rattle.line_forms.specs.Words.{◌>>=◌, cut, strip, next_of, end_of}
 use Rattle.line_forms.specs.Leaves.{digit_of, number, name, decimal_at, hexadecimal_at, name_at, decimal_or, number_if, word_if, flags_if}
 
@@ -26,6 +26,12 @@ two_numbers words = do
   n ← decimal_at [] words
   m ← decimal_at [] n.1
   at_end m.1 (n.0, m.0)
+
+-- a slot, and whether its group is meant
+unfoldable pub slot_and_group : List (List ℕ) → Option (ℕ × Bool)
+slot_and_group words = do
+  slot ← decimal_at [] words
+  at_end (word_if (codes "group") slot.1).1 (slot.0, (word_if (codes "group") slot.1).0)
 
 -- ---- what is declared
 
@@ -66,11 +72,20 @@ kind_of_pmu_at words = do
   mask ← hexadecimal_at (codes "mask=") pmu.1
   at_end mask.1 (form.KindOfPmu n.0 pmu.0 mask.0)
 
+abbrev pub task_at : List (List ℕ) → Option Form
+task_at words = option_map form.Task (one_number words)
+
 unfoldable pub ring_at : List (List ℕ) → Option Form
 ring_at words = do
   n ← decimal_at [] words
   bytes ← decimal_at (codes "bytes=") n.1
   at_end bytes.1 (form.Ring n.0 bytes.0)
+
+abbrev pub processor_at : List (List ℕ) → Option Form
+processor_at words = option_map form.Processor (one_number words)
+
+abbrev pub tool_at : List (List ℕ) → Option Form
+tool_at words = option_map form.Tool (one_number words)
 
 unfoldable pub reader_at : List (List ℕ) → Option Form
 reader_at words = do
@@ -78,6 +93,9 @@ reader_at words = do
   tries ← decimal_at (codes "tries=") ring.1
   batch ← decimal_at (codes "batch=") tries.1
   at_end batch.1 (form.Reader ring.0 tries.0 batch.0)
+
+abbrev pub end_at : List (List ℕ) → Option Form
+end_at words = at_end words form.End
 
 -- ---- lists of words
 
@@ -113,6 +131,9 @@ act_in (letter ∷ text) =
     if letter == 116 then tool_in text else
     if letter == 115 then seen_in text else None
 
+abbrev pub order_at : List (List ℕ) → Option Form
+order_at words = option_map form.Order (each_word act_in words)
+
 -- bytes, each as two hexadecimal digits
 abbrev pub is_bytes : List ℕ → Bool
 is_bytes text = nat_lt 0 (length text) && (nat_le (length text) 8192 && (length text % 2 == 0 && list_all (λ b. nat_lt (digit_of b) 16) text))
@@ -141,16 +162,25 @@ stretch_at words = do
   m ← mode_in word.0
   Some ((length.0, m, (number_if (codes "ip=") 16 16 word.1).0), (number_if (codes "ip=") 16 16 word.1).1)
 
-unfoldable pub work_at : List (List ℕ) → Option Working
+unfoldable pub work_at : List (List ℕ) → Option CpuForm
 work_at words = do
   s ← stretch_at words
   hits ← each_word hit_in s.1
-  Some (record { length = s.0.0; mode = s.0.1; ip = s.0.2; hits = hits })
+  Some (form.Work (record { length = s.0.0; mode = s.0.1; ip = s.0.2; hits = hits }))
 
 unfoldable pub switch_at : List (List ℕ) → Option CpuForm
 switch_at words = do
   task ← decimal_or [] (codes "idle") words
   at_end task.1 (form.Switch task.0)
+
+abbrev pub tick_at : List (List ℕ) → Option CpuForm
+tick_at words = at_end words form.Tick
+
+abbrev pub fork_at : List (List ℕ) → Option CpuForm
+fork_at words = option_map form.Fork (one_number words)
+
+abbrev pub exit_at : List (List ℕ) → Option CpuForm
+exit_at words = at_end words form.Exit
 
 -- ---- lines of tools
 
@@ -200,12 +230,34 @@ first_or None other = other
 abbrev pub open_at : List (List ℕ) → Option ToolForm
 open_at words = first_or (open_kind_at words) (open_attr_at words)
 
-unfoldable pub command_at : List (List ℕ) → Option (ℕ × Bool)
-command_at words = do
-  slot ← decimal_at [] words
-  at_end (word_if (codes "group") slot.1).1 (slot.0, (word_if (codes "group") slot.1).0)
+abbrev pub enable_at : List (List ℕ) → Option ToolForm
+enable_at words = option_map (λ x. form.Enable x.0 x.1) (slot_and_group words)
+
+abbrev pub disable_at : List (List ℕ) → Option ToolForm
+disable_at words = option_map (λ x. form.Disable x.0 x.1) (slot_and_group words)
+
+abbrev pub reset_at : List (List ℕ) → Option ToolForm
+reset_at words = option_map (λ x. form.Reset x.0 x.1) (slot_and_group words)
+
+abbrev pub period_at : List (List ℕ) → Option ToolForm
+period_at words = option_map (λ x. form.Period x.0 x.1) (two_numbers words)
 
 unfoldable pub read_at : List (List ℕ) → Option ToolForm
 read_at words = do
   slot ← decimal_at [] words
   at_end (number_if (codes "size=") 10 20 slot.1).1 (form.Read slot.0 (number_if (codes "size=") 10 20 slot.1).0)
+
+abbrev pub map_at : List (List ℕ) → Option ToolForm
+map_at words = option_map (λ x. form.Map x.0 x.1) (two_numbers words)
+
+abbrev pub output_at : List (List ℕ) → Option ToolForm
+output_at words = option_map (λ x. form.Output x.0 x.1) (two_numbers words)
+
+abbrev pub close_at : List (List ℕ) → Option ToolForm
+close_at words = option_map form.Close (one_number words)
+
+abbrev pub why_at : List (List ℕ) → Option ToolForm
+why_at words = option_map form.Why (one_number words)
+
+abbrev pub seats_at : List (List ℕ) → Option ToolForm
+seats_at words = option_map form.Seats (one_number words)

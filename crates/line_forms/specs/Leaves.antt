@@ -17,7 +17,7 @@ abbrev pub value_after : ℕ → ℕ → List ℕ → ℕ
 value_after radix n [] = n
 value_after radix n (c ∷ cs) = value_after radix (n * radix + digit_of c) cs
 
--- digits of a radix, at most so many, without a zero too many in front
+-- digits of a radix, no more of them than most, without a zero too many in front
 abbrev pub is_number : ℕ → ℕ → List ℕ → Bool
 is_number radix most text =
     nat_lt 0 (length text)

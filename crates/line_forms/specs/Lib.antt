@@ -1,7 +1,7 @@
 pub mod Bodies
-pub mod Keywords
+pub mod Keyword
 pub mod Leaves
 pub mod Reading
 pub mod Seen
-pub mod Stops
+pub mod Stop
 pub mod Words

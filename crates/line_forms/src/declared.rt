@@ -5,32 +5,16 @@ ghost use Rattle.std.specs.Option.{option_map};
 ghost use Rattle.script_spec.specs.Forms as text;
 ghost use Rattle.line_forms.specs.Words.{left};
 ghost use Rattle.line_forms.specs.Bodies as says;
+ghost use Rattle.line_forms.specs.Stop.{Gives};
 ghost use Rattle.line_forms.specs.Seen.{form_of, version_of};
 
 use crate::forms::{Form, Version};
 use crate::leaves::{decimal_at, hexadecimal_at, name_at, same};
+use crate::lists::acts;
+use crate::shapes::{at_end, one_number};
+use crate::stop::LineStop;
 use crate::words::Words;
-
-/// One number, and no word behind it.
-#[tactic(auto, unfolding(crate::specs::Bodies::one_number))]
-pub fn one_number(words: Words<'_>) -> Option<u128>
-    ensures { result ≡ says.one_number (left words.entry) }
-{
-    let (n, words) = decimal_at(words, b"")?;
-    words.end()?;
-    Some(n)
-}
-
-/// Two numbers, and no word behind them.
-#[tactic(auto, unfolding(crate::specs::Bodies::two_numbers))]
-pub fn two_numbers(words: Words<'_>) -> Option<(u128, u128)>
-    ensures { result ≡ says.two_numbers (left words.entry) }
-{
-    let (n, words) = decimal_at(words, b"")?;
-    let (m, words) = decimal_at(words, b"")?;
-    words.end()?;
-    Some((n, m))
-}
+use std::alloc::Global;
 
 fn version_text(version: Version) -> &'static [u8]
     ensures { result.now ≡ text.version_text (version_of version) }
@@ -92,29 +76,32 @@ pub fn pmu(words: Words<'_>) -> Option<Form>
 pub fn kind(words: Words<'_>) -> Option<Form>
     ensures { option_map form_of result ≡ says.kind_at (left words.entry) }
 {
-    match name_at(words, b"") {
-        None => None,
-        Some((name, words)) => {
-            let (mask, words) = hexadecimal_at(words, b"mask=")?;
-            words.end()?;
-            Some(Form::Kind { name, mask })
-        }
-    }
+    let Some((name, words)) = name_at(words, b"") else {
+        return None;
+    };
+    let (mask, words) = hexadecimal_at(words, b"mask=")?;
+    words.end()?;
+    Some(Form::Kind { name, mask })
 }
 
 #[tactic(auto, unfolding(crate::specs::Bodies::kind_of_pmu_at))]
 pub fn kind_of_pmu(words: Words<'_>) -> Option<Form>
     ensures { option_map form_of result ≡ says.kind_of_pmu_at (left words.entry) }
 {
-    match name_at(words, b"") {
-        None => None,
-        Some((name, words)) => {
-            let (pmu, words) = decimal_at(words, b"pmu=")?;
-            let (mask, words) = hexadecimal_at(words, b"mask=")?;
-            words.end()?;
-            Some(Form::KindOfPmu { name, pmu, mask })
-        }
-    }
+    let Some((name, words)) = name_at(words, b"") else {
+        return None;
+    };
+    let (pmu, words) = decimal_at(words, b"pmu=")?;
+    let (mask, words) = hexadecimal_at(words, b"mask=")?;
+    words.end()?;
+    Some(Form::KindOfPmu { name, pmu, mask })
+}
+
+pub fn task(words: Words<'_>) -> Option<Form>
+    ensures { option_map form_of result ≡ says.task_at (left words.entry) }
+{
+    let number = one_number(words)?;
+    Some(Form::Task { number })
 }
 
 #[tactic(auto, unfolding(crate::specs::Bodies::ring_at))]
@@ -127,6 +114,20 @@ pub fn ring(words: Words<'_>) -> Option<Form>
     Some(Form::Ring { number, bytes })
 }
 
+pub fn processor(words: Words<'_>) -> Option<Form>
+    ensures { option_map form_of result ≡ says.processor_at (left words.entry) }
+{
+    let number = one_number(words)?;
+    Some(Form::Processor { number })
+}
+
+pub fn tool(words: Words<'_>) -> Option<Form>
+    ensures { option_map form_of result ≡ says.tool_at (left words.entry) }
+{
+    let number = one_number(words)?;
+    Some(Form::Tool { number })
+}
+
 #[tactic(auto, unfolding(crate::specs::Bodies::reader_at))]
 pub fn reader(words: Words<'_>) -> Option<Form>
     ensures { option_map form_of result ≡ says.reader_at (left words.entry) }
@@ -136,4 +137,16 @@ pub fn reader(words: Words<'_>) -> Option<Form>
     let (batch, words) = decimal_at(words, b"batch=")?;
     words.end()?;
     Some(Form::Reader { ring, tries, batch })
+}
+
+pub fn order(alloc: Global, words: Words<'_>) -> Result<Form, LineStop>
+    ensures { Gives form_of result (says.order_at (left words.entry)) }
+{
+    Ok(Form::Order(acts(alloc, words)?))
+}
+
+pub fn end(words: Words<'_>) -> Option<Form>
+    ensures { option_map form_of result ≡ says.end_at (left words.entry) }
+{
+    at_end(words, Form::End)
 }

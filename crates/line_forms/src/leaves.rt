@@ -1,6 +1,6 @@
 //! Numbers, names and other single words.
 
-ghost use Rattle.std.specs.Prelude.{◌≡◌, ℕ, ◌≤◌, ◌+◌, nat_lt, length};
+ghost use Rattle.std.specs.Prelude.{◌≡◌, ◌≤◌, ◌+◌, nat_lt, length};
 ghost use Rattle.std.specs.List.{list_all};
 ghost use Rattle.std.specs.Option.{option_map};
 ghost use Rattle.std.specs.Str.{bytes_eq};
@@ -11,14 +11,18 @@ ghost use Rattle.line_forms.specs.Leaves.{digit_of, value_after};
 use crate::words::{Words, skip};
 use perf_base::{AttrFlags, Name};
 
-/// The radix of decimal and of hexadecimal numbers, and how many digits they may have.
+/// The radix of decimal numbers, and the most digits that one has.
 const DECIMAL: u8 = 10;
 
 const MOST_DECIMAL: usize = 20;
 
-const HEXADECIMAL: u8 = 16;
+/// The radix of hexadecimal numbers, and the most digits that one has.
+pub const HEXADECIMAL: u8 = 16;
 
 const MOST_HEXADECIMAL: usize = 16;
+
+/// The most bytes of a name.
+const MOST_OF_NAME: usize = 31;
 
 /// Whether two texts are the same.
 pub fn same(left: &[u8], right: &[u8]) -> bool
@@ -33,13 +37,14 @@ pub fn digit(byte: u8) -> u8
     ensures most { result ≤ 16 }
 {
     match byte {
-        48..=57 => byte - 48,
-        97..=102 => byte - 87,
-        _ => 16,
+        b'0'..=b'9' => byte - b'0',
+        b'a'..=b'f' => byte - b'a' + DECIMAL,
+        _ => HEXADECIMAL,
     }
 }
 
-fn are_digits(text: &[u8], radix: u8) -> bool
+/// Whether each byte is a digit of a radix.
+pub fn are_digits(text: &[u8], radix: u8) -> bool
     ensures { result ≡ list_all (λ b. nat_lt (digit_of b) radix) text.now }
 {
     text.iter().all(|byte| digit(*byte) < radix)
@@ -58,18 +63,19 @@ fn value(text: &[u8], radix: u8) -> u128
     value
 }
 
+/// Whether a text is a number of a radix that has no more digits than `most`.
 fn is_number(text: &[u8], radix: u8, most: usize) -> bool
     ensures { result ≡ says.is_number radix most text.now }
 {
     !text.is_empty()
         && text.len() <= most
-        && (text[0] != 48 || text.len() == 1)
+        && (text[0] != b'0' || text.len() == 1)
         && are_digits(text, radix)
 }
 
-/// A number of at most so many digits, without a zero too many in front.
+/// A number of a radix that has no more digits than `most`, without a zero too many in front.
 #[tactic(auto, unfolding(crate::specs::Leaves::number))]
-pub fn number(text: &[u8], radix: u8, most: usize) -> Option<u128>
+fn number(text: &[u8], radix: u8, most: usize) -> Option<u128>
     requires radix { radix ≤ 16 }
     requires most { most ≤ 20 }
     ensures { result ≡ says.number radix most text.now }
@@ -91,13 +97,13 @@ pub fn decimal(text: &[u8]) -> Option<u128>
 fn is_letter(byte: u8) -> bool
     ensures { result ≡ says.is_letter byte }
 {
-    97 <= byte && byte <= 122
+    matches!(byte, b'a'..=b'z')
 }
 
 fn is_name_byte(byte: u8) -> bool
     ensures { result ≡ says.is_name_byte byte }
 {
-    is_letter(byte) || (48 <= byte && byte <= 57) || byte == 45
+    is_letter(byte) || matches!(byte, b'0'..=b'9' | b'-')
 }
 
 fn are_name_bytes(text: &[u8]) -> bool
@@ -111,7 +117,9 @@ fn is_name(text: &[u8]) -> bool
 {
     match text {
         [] => false,
-        [first, rest @ ..] => is_letter(*first) && rest.len() <= 30 && are_name_bytes(rest),
+        [first, rest @ ..] => is_letter(*first)
+            && rest.len() <= MOST_OF_NAME - 1
+            && are_name_bytes(rest),
     }
 }
 
@@ -147,8 +155,8 @@ fn number_at<'a>(words: Words<'a>, key: &[u8], radix: u8, most: usize) -> Option
 {
     let (word, words) = words.next()?;
     let text = skip(word, key)?;
-    let n = number(text, radix, most)?;
-    Some((n, words))
+    let number = number(text, radix, most)?;
+    Some((number, words))
 }
 
 /// A decimal number behind a literal in the next word.
@@ -172,8 +180,8 @@ pub fn name_at<'a>(words: Words<'a>, key: &[u8]) -> Option<(Name, Words<'a>)>
 {
     let (word, words) = words.next()?;
     let text = skip(word, key)?;
-    let n = name(text)?;
-    Some((n, words))
+    let name = name(text)?;
+    Some((name, words))
 }
 
 /// A decimal number, or another word in its place.
@@ -183,10 +191,7 @@ fn other_or(text: &[u8], other: &[u8]) -> Option<Option<u128>>
     if same(text, other) {
         return Some(None);
     }
-    match decimal(text) {
-        Some(n) => Some(Some(n)),
-        None => None,
-    }
+    Some(Some(decimal(text)?))
 }
 
 /// A decimal number behind a literal in the next word, or another text in its place.
@@ -200,8 +205,8 @@ pub fn decimal_or<'a>(
 {
     let (word, words) = words.next()?;
     let text = skip(word, key)?;
-    let n = other_or(text, other)?;
-    Some((n, words))
+    let number = other_or(text, other)?;
+    Some((number, words))
 }
 
 #[tactic(auto, unfolding(crate::specs::Leaves::number_if))]
@@ -211,7 +216,7 @@ fn number_if<'a>(words: Words<'a>, key: &[u8], radix: u8, most: usize) -> (Optio
     ensures { (result.0, left result.1) ≡ says.number_if key.now radix most (left words.entry) }
 {
     match number_at(words, key, radix, most) {
-        Some((n, rest)) => (Some(n), rest),
+        Some((number, rest)) => (Some(number), rest),
         None => (None, words),
     }
 }
@@ -236,14 +241,8 @@ pub fn word_if<'a>(words: Words<'a>, word: &[u8]) -> (bool, Words<'a>)
     ensures { (result.0, left result.1) ≡ says.word_if word.now (left words.entry) }
 {
     match words.next() {
-        None => (false, words),
-        Some((next, rest)) => {
-            if same(next, word) {
-                (true, rest)
-            } else {
-                (false, words)
-            }
-        }
+        Some((next, rest)) if same(next, word) => (true, rest),
+        _ => (false, words),
     }
 }
 
@@ -282,8 +281,8 @@ fn flags_at(words: Words<'_>) -> Option<(u128, Words<'_>)>
 {
     let (word, words) = words.next()?;
     let text = skip(word, b"flags=")?;
-    let n = flags(text)?;
-    Some((n, words))
+    let bits = flags(text)?;
+    Some((bits, words))
 }
 
 /// Flags, where they are in the next word.
@@ -292,7 +291,7 @@ pub fn flags_if(words: Words<'_>) -> (Option<u128>, Words<'_>)
     ensures { (result.0, left result.1) ≡ says.flags_if (left words.entry) }
 {
     match flags_at(words) {
-        Some((n, rest)) => (Some(n), rest),
+        Some((bits, rest)) => (Some(bits), rest),
         None => (None, words),
     }
 }

@@ -1,18 +1,21 @@
-// The form of a line of a script. Contracts see a line as its words, and a form as what the definitions of the
-// language call so, with numbers of any size that can be spelled. It serves the reader of scripts, and whoever reads
-// bytes from their digits.
+//! The form of a line of a script. Contracts see a line as its words, and a form as what the definitions of the
+//! language call so, with numbers of any size that can be spelled. It serves the reader of scripts, and whoever reads
+//! bytes from their digits.
+
 #![tactic(auto)]
 
+mod cpu_forms;
 mod declared;
 mod forms;
 mod keyword;
 mod leaves;
 mod lists;
 mod reading;
+mod shapes;
 mod stop;
 #[cfg(test)]
 mod tests;
-mod under;
+mod tool_forms;
 mod words;
 
 pub use forms::{Asked, CpuForm, Form, Hit, Opening, SpelledAct, ToolForm, Version, Working};

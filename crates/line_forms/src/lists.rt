@@ -1,18 +1,16 @@
 //! Words that hold lists: occurrences, acts, and bytes.
 
-ghost use Rattle.std.specs.Prelude.{◌≡◌, ℕ, ◌≤◌, ◌+◌, List, map, flat_map, take, length, nat_lt, IfSome, Some, None, Result, Ok, Err};
-ghost use Rattle.std.specs.List.{list_all};
+ghost use Rattle.std.specs.Prelude.{◌≡◌, ℕ, ◌≤◌, ◌+◌, List, map, flat_map, take, length, IfSome, Some, None, Result, Ok};
 ghost use Rattle.std.specs.Option.{option_map};
 ghost use Rattle.script_spec.specs.Forms.{AreBytes, byte_text};
 ghost use Rattle.line_forms.specs.Words.{left};
-ghost use Rattle.line_forms.specs.Leaves.{digit_of};
 ghost use Rattle.line_forms.specs.Bodies as says;
 ghost use Rattle.line_forms.specs.Bodies.{each_word, hit_in, act_in};
-ghost use Rattle.line_forms.specs.Stops.{Gives};
+ghost use Rattle.line_forms.specs.Stop.{Gives};
 ghost use Rattle.line_forms.specs.Seen.{act_of, hit_of};
 
 use crate::forms::{Hit, SpelledAct};
-use crate::leaves::{decimal, digit, name};
+use crate::leaves::{HEXADECIMAL, are_digits, decimal, digit, name};
 use crate::stop::LineStop;
 use crate::words::{Words, cut};
 use std::alloc::Global;
@@ -23,33 +21,20 @@ fn hit(word: &[u8]) -> Option<Hit>
     ensures { option_map hit_of result ≡ hit_in word.now }
 {
     let (front, back) = cut(word, b'=');
-    let text = back?;
-    match name(front) {
-        None => None,
-        Some(name) => {
-            let times = decimal(text)?;
-            Some(Hit { name, times })
-        }
-    }
+    let back = back?;
+    let name = name(front)?;
+    let times = decimal(back)?;
+    Some(Hit { name, times })
 }
 
-fn hit_there(word: &[u8]) -> Result<Hit, LineStop>
-    ensures { Gives hit_of result (hit_in word.now) }
-{
-    match hit(word) {
-        Some(hit) => Ok(hit),
-        None => Err(LineStop::NoForm),
-    }
-}
-
-/// The occurrences that the words say.
+/// The occurrences that the words spell.
 pub fn hits(alloc: Global, words: Words<'_>) -> Result<Vec<Hit>, LineStop>
     ensures { Gives (λ v. map hit_of v.items) result (each_word hit_in (left words.entry)) }
 {
     let mut hits = Vec::new(alloc);
     let mut rest = words;
     while let Some((word, more)) = rest.next() {
-        let hit = hit_there(word)?;
+        let hit = hit(word).ok_or(LineStop::NoForm)?;
         hits.push(hit)?;
         rest = more;
     }
@@ -71,19 +56,13 @@ fn seen(text: &[u8]) -> Option<SpelledAct>
 fn processor(text: &[u8]) -> Option<SpelledAct>
     ensures { option_map act_of result ≡ says.processor_in text.now }
 {
-    match decimal(text) {
-        Some(n) => Some(SpelledAct::Processor(n)),
-        None => None,
-    }
+    Some(SpelledAct::Processor(decimal(text)?))
 }
 
 fn tool(text: &[u8]) -> Option<SpelledAct>
     ensures { option_map act_of result ≡ says.tool_in text.now }
 {
-    match decimal(text) {
-        Some(n) => Some(SpelledAct::Tool(n)),
-        None => None,
-    }
+    Some(SpelledAct::Tool(decimal(text)?))
 }
 
 /// An act: a letter, and its numbers.
@@ -93,60 +72,45 @@ fn act(word: &[u8]) -> Option<SpelledAct>
 {
     match word {
         [] => None,
-        [letter, text @ ..] => {
-            if *letter == b'p' {
-                processor(text)
-            } else if *letter == b't' {
-                tool(text)
-            } else if *letter == b's' {
-                seen(text)
-            } else {
-                None
-            }
-        }
+        [letter, text @ ..] => match *letter {
+            b'p' => processor(text),
+            b't' => tool(text),
+            b's' => seen(text),
+            _ => None,
+        },
     }
 }
 
-fn act_there(word: &[u8]) -> Result<SpelledAct, LineStop>
-    ensures { Gives act_of result (act_in word.now) }
-{
-    match act(word) {
-        Some(act) => Ok(act),
-        None => Err(LineStop::NoForm),
-    }
-}
-
-/// The acts that the words say.
+/// The acts that the words spell.
 pub fn acts(alloc: Global, words: Words<'_>) -> Result<Vec<SpelledAct>, LineStop>
     ensures { Gives (λ v. map act_of v.items) result (each_word act_in (left words.entry)) }
 {
     let mut acts = Vec::new(alloc);
     let mut rest = words;
     while let Some((word, more)) = rest.next() {
-        let act = act_there(word)?;
+        let act = act(word).ok_or(LineStop::NoForm)?;
         acts.push(act)?;
         rest = more;
     }
     Ok(acts)
 }
 
-fn are_hexadecimal(text: &[u8]) -> bool
-    ensures { result ≡ list_all (λ b. nat_lt (digit_of b) 16) text.now }
-{
-    text.iter().all(|byte| digit(*byte) < 16)
-}
-
 fn is_bytes(text: &[u8]) -> bool
     ensures { result ≡ says.is_bytes text.now }
 {
-    !text.is_empty() && text.len() <= 8192 && text.len() % 2 == 0 && are_hexadecimal(text)
+    !text.is_empty()
+        && text.len() <= 2 * MOST_BYTES
+        && text.len() % 2 == 0
+        && are_digits(text, HEXADECIMAL)
 }
 
 /// The byte of two digits.
 fn pair(high: u8, low: u8) -> u8
     ensures { result ≡ says.pair_of high low }
 {
-    digit(high).wrapping_mul(16).wrapping_add(digit(low))
+    digit(high)
+        .wrapping_mul(HEXADECIMAL)
+        .wrapping_add(digit(low))
 }
 
 /// The most bytes that a word says, two digits each.
@@ -199,11 +163,6 @@ pub fn bytes(alloc: Global, text: &[u8]) -> Result<Vec<u8>, LineStop>
     ensures { Gives (λ v. v.items) result (says.bytes_in text.now) }
 {
     let mut room = [0; MOST_BYTES];
-    match put_bytes(text, &mut room) {
-        None => Err(LineStop::NoForm),
-        Some(count) => match Vec::from_slice(alloc, &room[..count]) {
-            Err(_) => Err(LineStop::Memory),
-            Ok(bytes) => Ok(bytes),
-        },
-    }
+    let count = put_bytes(text, &mut room).ok_or(LineStop::NoForm)?;
+    Vec::from_slice(alloc, &room[..count]).map_err(|_| LineStop::Memory)
 }

@@ -20,9 +20,9 @@ fn length_before(text: &[u8], by: u8) -> usize
 pub fn cut(text: &[u8], by: u8) -> (&[u8], Option<&[u8]>)
     ensures { (result.0.now, option_map (λ t. t.now) result.1) ≡ says.cut by text.now }
 {
-    let n = length_before(text, by);
-    if n < text.len() {
-        (&text[..n], Some(&text[n + 1..]))
+    let length = length_before(text, by);
+    if length < text.len() {
+        (&text[..length], Some(&text[length + 1..]))
     } else {
         (text, None)
     }
@@ -62,13 +62,8 @@ impl<'a> Words<'a> {
     pub fn next(self) -> Option<(&'a [u8], Words<'a>)>
         ensures { option_map (λ x. (x.0.now, left x.1)) result ≡ next_of (left self.entry) }
     {
-        match self.rest {
-            None => None,
-            Some(text) => {
-                let (word, rest) = cut(text, self.by);
-                Some((word, Words { rest, by: self.by }))
-            }
-        }
+        let (word, rest) = cut(self.rest?, self.by);
+        Some((word, Words { rest, by: self.by }))
     }
 
     /// Some exactly where no word is left.

@@ -1,5 +1,6 @@
-// The acts of an order as text, both ways. Contracts see the text of an act and what a sink holds. It serves
-// the readers and printers of scripts and the report.
+//! The acts of an order as text, both ways. Contracts see the text of an act and what a sink holds. It serves
+//! the readers and printers of scripts and the report.
+
 #![tactic(auto)]
 
 mod reading;

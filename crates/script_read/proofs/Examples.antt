@@ -15,7 +15,7 @@ use Rattle.script_spec.specs.Forms.{Version, Form, IsOfForm}
 use Rattle.script_spec.specs.Faults.{IsInOrder, IsPrintable, IsNoEnd, IsFaulty, IsSound, AreCovered, IsUnder, IsBehindPmus, section, rank}
 use Rattle.script_spec.specs.Meaning.{pmus_in, script_of}
 use Rattle.script_spec.specs.Texts.{version_of, AreSound, IsRefused}
-use Rattle.line_forms.specs.Reading.{form_at, body_at, versioned, declared_at}
+use Rattle.line_forms.specs.Reading.{form_at, body_at}
 use Rattle.line_forms.specs.Bodies.{perf_at, machine_at, kind_at}
 use Rattle.line_forms.specs.Leaves.{number, number_at, name, name_at}
 use Rattle.line_forms.specs.Words.{strip}
@@ -76,11 +76,11 @@ first_line text line r within v is h = (
 )
 
 two_spaces : IsRefused (codes "perf  1\n") 1 reason.Form
-unfolding pieces form_at body_at versioned declared_at perf_at strip
+unfolding pieces form_at body_at perf_at strip
 two_spaces = first_line (codes "perf  1\n") (codes "perf  1") reason.Form (omega arith) refl refl (formless form.One [] (codes "perf  1") (no_lines IsNoEnd) refl refl)
 
 unknown_version : IsRefused (codes "perf 3\n") 1 reason.Form
-unfolding pieces form_at body_at versioned declared_at perf_at strip
+unfolding pieces form_at body_at perf_at strip
 unknown_version = first_line (codes "perf 3\n") (codes "perf 3") reason.Form (omega arith) refl refl (formless form.One [] (codes "perf 3") (no_lines IsNoEnd) refl refl)
 
 tab_in_line : IsRefused (codes "perf\t1\n") 1 reason.Ascii
@@ -130,7 +130,7 @@ unfolding pieces
 without_end = (one_processor, inr (inr (record { sound = both_sound; ended = refl; no_end = no_end; number = refl; is_end = refl })))
 
 leading_zero : IsRefused (codes "perf 1\nmachine cpus=01 counters=1\n") 2 reason.Form
-unfolding pieces form_at body_at versioned declared_at machine_at number_at number strip
+unfolding pieces form_at body_at machine_at number_at number strip
 leading_zero = (
   form.Perf form.One ∷ [],
   inl (record {
@@ -186,7 +186,7 @@ behind f l under = record {
 }
 
 mask_is : IsOfForm form.One (words_of (codes "kind a mask=2")) (form.Kind (codes "a") 2)
-unfolding pieces form_at body_at versioned declared_at kind_at name_at name number_at number strip
+unfolding pieces form_at body_at kind_at name_at name number_at number strip
 mask_is = form-takes form.One (words_of (codes "kind a mask=2")) (form.Kind (codes "a") 2) refl
 
 mask_out_of_range : IsRefused (codes "perf 1\nmachine cpus=1 counters=1\nkind a mask=2\n") 3 reason.Range
@@ -203,7 +203,7 @@ mask_out_of_range = (
 )
 
 dummy_is : IsOfForm form.One (words_of (codes "kind dummy mask=1")) (form.Kind (codes "dummy") 1)
-unfolding pieces form_at body_at versioned declared_at kind_at name_at name number_at number strip
+unfolding pieces form_at body_at kind_at name_at name number_at number strip
 dummy_is = form-takes form.One (words_of (codes "kind dummy mask=1")) (form.Kind (codes "dummy") 1) refl
 
 dummy_first : IsFirstOf one_processor (form.Kind (codes "dummy") 1) reason.Name

@@ -1,17 +1,19 @@
+use Rattle.std.proofs.Common.{ap, sym, ◌∙◌}
+use Rattle.std.specs.Option.{option_map}
 use Rattle.std.proofs.lemmas.List.{map_push}
 use Rattle.std.proofs.lemmas.Result.{err_from_is_err_and}
 use Rattle.line_forms.specs.Seen.{act_of}
 use Rattle.line_forms.specs.Bodies.{act_in}
-use Rattle.line_forms.proofs.Loops.{each_go_on, each_fail, each_end}
+use Rattle.line_forms.proofs.Loops.{each_step, each_fail, each_end}
 use Rattle.line_forms.proofs.lists.acts.Goals as goal
 
 pub returns-in_err-act : goal.returns-in_err-act
 returns-in_err-act c =
     let p = err_from_is_err_and c.from_residual.result c.from_residual.ensures.1 in
-    rw (p.1, p.2) (each_fail _ act_in _ _ _ _ _ c.in-Some.ensures c.in_err-act.ensures c.loop-word.invariant)
+    rw (p.1, p.2) (each_fail _ act_in _ _ _ _ _ c.in-Some.ensures (sym c.act.ensures ∙ ap (option_map act_of) c.in_err-act.ensures.ok_part) c.loop-word.invariant)
 
 pub loop-word-preserved : goal.loop-word-preserved
-loop-word-preserved c = rw (c.in_ok-push.ensures.items, map_push act_of) (each_go_on act_in _ _ _ _ _ _ c.in-Some.ensures c.in_ok-act.ensures c.loop-word.invariant)
+loop-word-preserved c = rw (c.in_ok-push.ensures.items, map_push act_of) (each_step act_in _ _ _ _ _ _ c.in-Some.ensures (sym c.act.ensures ∙ ap (option_map act_of) c.in_ok-act.ensures.ok_part) c.loop-word.invariant)
 
 pub returns : goal.returns
 returns c = each_end act_in _ _ _ c.in_default.ensures c.loop-word.invariant
