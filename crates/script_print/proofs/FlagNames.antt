@@ -1,11 +1,12 @@
 -- Names of flags, parted by commas.
-use Rattle.std.proofs.Common.{◌≡◌, ℕ, zero, suc, ◌+◌, ◌<◌, ◌≢◌, Bool, true, false, eqb, add-one, List, [], ◌∷◌, ◌++◌, map, filter, take, drop, refl, sym, ap, ◌∙◌, arith, append_assoc}
+use Rattle.std.proofs.Common.{◌≡◌, ◌≢◌, ℕ, ◌+◌, ◌<◌, Bool, true, false, cond, eqb, List, [], ◌∷◌, ◌++◌, get_or, take, map, filter, inl, inr, refl, ap, ◌∙◌, add-one}
 use Rattle.std.specs.Int.{bit_at}
 use Rattle.std.specs.List.{join_with_byte}
-use Rattle.std.proofs.lemmas.Bool.{eq-eqb, ne_eqb}
-use Rattle.std.proofs.lemmas.List.{append-nil, map-append}
-use Rattle.std.proofs.lemmas.List.Elements.{filter-append}
+use Rattle.std.proofs.lemmas.Bool.{cases_Bool, eq-eqb, ne_eqb}
+use Rattle.std.proofs.lemmas.List.{append-nil}
 use Rattle.script_spec.specs.Forms.{flag_name, flags_text}
+use Rattle.script_print.proofs.Lists.{number_at}
+use Rattle.script_print.proofs.Loops.{IsTextFrom, behind, behind_more}
 
 -- the seven flags
 abbrev pub all_flags : List ℕ
@@ -14,92 +15,69 @@ all_flags = 0 ∷ 1 ∷ 2 ∷ 3 ∷ 4 ∷ 5 ∷ 6 ∷ []
 abbrev pub is_set : ℕ → ℕ → Bool
 is_set flags n = eqb (bit_at flags n) 1
 
--- the names of those of the first i flags that are set
-unfoldable pub names_before : ℕ → ℕ → List (List ℕ)
-names_before flags i = map flag_name (filter (is_set flags) (take i all_flags))
+-- a comma behind some name
+abbrev pub comma : Bool → List ℕ
+comma some = cond some (44 ∷ []) []
 
--- what stands before the next name
-abbrev pub comma_after : List (List ℕ) → List ℕ
-comma_after [] = []
-comma_after (x ∷ xs) = 44 ∷ []
+-- whether there is some name behind a flag
+abbrev pub some_name : ℕ → Bool → ℕ → Bool
+some_name flags some n = cond (is_set flags n) true some
 
--- the rest behind a name
-abbrev pub behind : List (List ℕ) → List ℕ
-behind [] = []
-behind (x ∷ xs) = 44 ∷ join_with_byte 44 (x ∷ xs)
+-- what a flag writes
+abbrev pub name_piece : ℕ → Bool → ℕ → List ℕ
+name_piece flags some n = cond (is_set flags n) (comma some ++ flag_name n) []
 
-pub join_at : (xs : List (List ℕ)) (x : List ℕ) (ys : List (List ℕ)) → join_with_byte 44 (xs ++ x ∷ ys) ≡ join_with_byte 44 xs ++ ((comma_after xs ++ x) ++ behind ys)
-join_at [] x [] = sym (append-nil x)
-join_at [] x (y ∷ ys) = refl
-join_at (w ∷ []) x ys = ap (λ (t : List ℕ). w ++ (44 ∷ t)) (join_at [] x ys)
-join_at (w ∷ v ∷ xs) x ys =
-    ap (λ (t : List ℕ). w ++ (44 ∷ t)) (join_at (v ∷ xs) x ys) ∙ sym (append_assoc w (44 ∷ join_with_byte 44 (v ∷ xs)) ((44 ∷ x) ++ behind ys))
+-- what flags write
+unfoldable pub names_text : ℕ → Bool → List ℕ → List ℕ
+names_text flags some [] = []
+names_text flags some (n ∷ ns) = name_piece flags some n ++ names_text flags (some_name flags some n) ns
 
-record Splits (i : ℕ) : Type 0 where
-  front : take (suc i) all_flags ≡ take i all_flags ++ i ∷ []
-  whole : all_flags ≡ take i all_flags ++ i ∷ drop (suc i) all_flags
+pub names_each : (flags : ℕ) → IsTextFrom (some_name flags) (names_text flags) (name_piece flags)
+unfolding names_text
+names_each flags = record { nil = λ some. refl; cons = λ some n ns. refl }
 
-splits : (i : ℕ) → i < 7 → Splits i
-splits zero l = record { front = refl; whole = refl }
-splits (suc zero) l = record { front = refl; whole = refl }
-splits (suc (suc zero)) l = record { front = refl; whole = refl }
-splits (suc (suc (suc zero))) l = record { front = refl; whole = refl }
-splits (suc (suc (suc (suc zero)))) l = record { front = refl; whole = refl }
-splits (suc (suc (suc (suc (suc zero))))) l = record { front = refl; whole = refl }
-splits (suc (suc (suc (suc (suc (suc zero)))))) l = record { front = refl; whole = refl }
-splits (suc (suc (suc (suc (suc (suc (suc i))))))) l = absurd (omega (arith, l))
+-- names with commas between them, and before the first if there is some name before it
+abbrev commas : Bool → List (List ℕ) → List ℕ
+commas false ws = join_with_byte 44 ws
+commas true [] = []
+commas true (w ∷ ws) = 44 ∷ join_with_byte 44 (w ∷ ws)
 
-abbrev names : ℕ → List ℕ → List (List ℕ)
-names flags ns = map flag_name (filter (is_set flags) ns)
+commas_cons : (some : Bool) (w : List ℕ) (ws : List (List ℕ)) → (comma some ++ w) ++ commas true ws ≡ commas some (w ∷ ws)
+commas_cons true w [] = append-nil (44 ∷ w)
+commas_cons false w [] = append-nil w
+commas_cons true w (v ∷ ws) = refl
+commas_cons false w (v ∷ ws) = refl
 
-names_append : (flags : ℕ) (xs ys : List ℕ) → names flags (xs ++ ys) ≡ names flags xs ++ names flags ys
-names_append flags xs ys = ap (map flag_name) (filter-append (is_set flags) xs ys) ∙ map-append flag_name (filter (is_set flags) xs) (filter (is_set flags) ys)
-
--- a flag that is set
-pub names_set : (flags i : ℕ) → i < 7 → bit_at flags i ≡ 1 → names_before flags (i + 1) ≡ names_before flags i ++ flag_name i ∷ []
-unfolding names_before
-names_set flags i l b =
-    let t : is_set flags i ≡ true = eq-eqb _ _ b in
-    let one : names flags (i ∷ []) ≡ flag_name i ∷ [] = rw t refl in
-    rw add-one (ap (names flags) (splits i l).front ∙ (names_append flags (take i all_flags) (i ∷ []) ∙ ap (λ (t : List (List ℕ)). names flags (take i all_flags) ++ t) one))
-
-pub names_unset : (flags i : ℕ) → i < 7 → bit_at flags i ≢ 1 → names_before flags (i + 1) ≡ names_before flags i
-unfolding names_before
-names_unset flags i l b =
-    let f : is_set flags i ≡ false = ne_eqb _ _ b in
-    let none : names flags (i ∷ []) ≡ [] = rw f refl in
-    rw add-one (ap (names flags) (splits i l).front ∙ (names_append flags (take i all_flags) (i ∷ []) ∙ (ap (λ (t : List (List ℕ)). names flags (take i all_flags) ++ t) none ∙ append-nil (names flags (take i all_flags)))))
+names_are : (flags : ℕ) (some : Bool) (ns : List ℕ) → names_text flags some ns ≡ commas some (map flag_name (filter (is_set flags) ns))
+unfolding names_text
+names_are flags true [] = refl
+names_are flags false [] = refl
+names_are flags some (n ∷ ns) = elim (cases_Bool (is_set flags n)) [
+  | inl t ↦ rw (t, names_are flags true ns) (commas_cons some (flag_name n) (map flag_name (filter (is_set flags) ns)))
+  | inr f ↦ rw f (names_are flags some ns)
+]
 
 -- the names of all flags that are set
-pub all_names : (flags : ℕ) → join_with_byte 44 (names_before flags 7) ≡ flags_text flags
-unfolding names_before
-all_names flags = refl
+pub all_names : (flags : ℕ) → names_text flags false all_flags ≡ flags_text flags
+all_names flags = names_are flags false all_flags
 
-names_behind : ℕ → ℕ → List (List ℕ)
-names_behind flags i = names flags (drop (suc i) all_flags)
+-- ---- the flag at a place
 
-pub rest_behind : ℕ → ℕ → List ℕ
-rest_behind flags i = behind (names_behind flags i)
+piece_at : (flags : ℕ) (some : Bool) (i : ℕ) → i < 7 → name_piece flags some (get_or all_flags i i) ≡ name_piece flags some i
+piece_at flags some i l = ap (name_piece flags some) (number_at 7 i i l)
 
-pub text_at : (flags i : ℕ) → i < 7 → bit_at flags i ≡ 1
-    → flags_text flags ≡ join_with_byte 44 (names_before flags i) ++ ((comma_after (names_before flags i) ++ flag_name i) ++ rest_behind flags i)
-unfolding names_before names_behind rest_behind
-text_at flags i l b =
-    let t : is_set flags i ≡ true = eq-eqb _ _ b in
-    let others = drop (suc i) all_flags in
-    let one : names flags (i ∷ others) ≡ flag_name i ∷ names flags others = rw t refl in
-    ap (λ ns. join_with_byte 44 (names flags ns)) (splits i l).whole
-    ∙ (ap (join_with_byte 44) (names_append flags (take i all_flags) (i ∷ others) ∙ ap (λ (t : List (List ℕ)). names flags (take i all_flags) ++ t) one)
-    ∙ join_at (names flags (take i all_flags)) (flag_name i) (names flags others))
+some_at : (flags i : ℕ) → i < 7 → behind (some_name flags) false (take (i + 1) all_flags) ≡ some_name flags (behind (some_name flags) false (take i all_flags)) i
+some_at flags i l = rw add-one (behind_more (some_name flags) false all_flags i i l ∙ ap (some_name flags (behind (some_name flags) false (take i all_flags))) (number_at 7 i i l))
 
--- a comma stands before the next name
-pub comma_set : (xs : List (List ℕ)) (x : List ℕ) → comma_after (xs ++ x ∷ []) ≡ 44 ∷ []
-comma_set [] x = refl
-comma_set (w ∷ xs) x = refl
+-- a flag that is set
+pub piece_set : (flags : ℕ) (some : Bool) (i : ℕ) (before name : List ℕ) → i < 7 → bit_at flags i ≡ 1 → before ≡ comma some → name ≡ flag_name i → before ++ name ≡ name_piece flags some (get_or all_flags i i)
+piece_set flags some i before name l b p q = let t : is_set flags i ≡ true = eq-eqb _ _ b in rw (piece_at flags some i l, t, p, q) refl
 
-pub join_set : (xs : List (List ℕ)) (x : List ℕ) → join_with_byte 44 (xs ++ x ∷ []) ≡ join_with_byte 44 xs ++ (comma_after xs ++ x)
-join_set xs x = join_at xs x [] ∙ ap (λ (t : List ℕ). join_with_byte 44 xs ++ t) (append-nil (comma_after xs ++ x))
+pub some_set : (flags i : ℕ) → i < 7 → bit_at flags i ≡ 1 → behind (some_name flags) false (take (i + 1) all_flags) ≡ true
+some_set flags i l b = let t : is_set flags i ≡ true = eq-eqb _ _ b in rw (some_at flags i l, t) refl
 
-pub no_names : (flags : ℕ) → names_before flags 0 ≡ []
-unfolding names_before
-no_names flags = refl
+pub piece_unset : (flags : ℕ) (some : Bool) (i : ℕ) → i < 7 → bit_at flags i ≢ 1 → [] ≡ name_piece flags some (get_or all_flags i i)
+piece_unset flags some i l b = let f : is_set flags i ≡ false = ne_eqb _ _ b in rw (piece_at flags some i l, f) refl
+
+pub some_unset : (flags i : ℕ) → i < 7 → bit_at flags i ≢ 1 → behind (some_name flags) false (take (i + 1) all_flags) ≡ behind (some_name flags) false (take i all_flags)
+some_unset flags i l b = let f : is_set flags i ≡ false = ne_eqb _ _ b in rw (some_at flags i l, f) refl

@@ -1,60 +1,49 @@
 -- The kinds of a work line, one after the other.
-use Rattle.std.proofs.Common.{◌≡◌, ℕ, zero, suc, ◌≤◌, eqb, List, [], ◌∷◌, ◌++◌, length, get_or, take, drop, map, Some, inl, inr, refl, sym, ap, ◌∙◌, arith, append_assoc}
+use Rattle.std.proofs.Common.{◌≡◌, ℕ, zero, suc, ◌<◌, eqb, List, [], ◌∷◌, ◌++◌, length, get_or, take, drop, map, inl, inr, refl, sym, ap, ◌∙◌, arith, append_assoc}
 use Rattle.std.specs.Prelude.{codes}
-use Rattle.std.specs.List.{slice_get, join_with_byte}
+use Rattle.std.specs.List.{join_with_byte}
 use Rattle.std.proofs.lemmas.Bool.{cases_Bool}
-use Rattle.std.proofs.lemmas.List.{append-nil}
+use Rattle.std.proofs.Math.Numerals.{one-add}
+use Rattle.std.proofs.lemmas.Grind.{flat_map-append}
+use Rattle.std.proofs.lemmas.List.{append-nil, get_or-drop}
 use Rattle.perf_base.specs.declared.lines.KindLine.{KindLine}
 use Rattle.script_spec.specs.Forms.{hit_text}
 use Rattle.script_spec.specs.Printing.{hits_of}
 use Rattle.script_print.specs.Words.{spaced, hit_piece}
-use Rattle.script_print.proofs.Lines.{flat-append, join_spaced}
+use Rattle.script_print.proofs.Loops.{join_spaced, IsTextFrom, behind}
 
 -- the kinds of a work line, a space before each
 abbrev pub hits_text : List KindLine → List ℕ → List ℕ
 hits_text kinds ns = spaced (map hit_text (hits_of kinds ns))
 
-pub hits_cons : (k : KindLine) (kinds : List KindLine) (n : ℕ) (ns : List ℕ) → hits_text (k ∷ kinds) (n ∷ ns) ≡ hit_piece k.name n ++ hits_text kinds ns
-hits_cons k kinds n ns = elim (cases_Bool (eqb n 0)) [
+hits_cons : (ns : List ℕ) (k : KindLine) (kinds : List KindLine) → hits_text (k ∷ kinds) ns ≡ hit_piece k.name (get_or ns 0 0) ++ hits_text kinds (drop 1 ns)
+hits_cons [] k [] = refl
+hits_cons [] k (j ∷ kinds) = refl
+hits_cons (n ∷ ns) k kinds = elim (cases_Bool (eqb n 0)) [
   | inl t ↦ rw t refl
   | inr f ↦ rw f refl
 ]
 
-hits_nil : (ns : List ℕ) → hits_text [] ns ≡ []
-hits_nil ns = refl
+-- the occurrences behind a kind
+abbrev pub behind_kind : List ℕ → KindLine → List ℕ
+behind_kind ns k = drop 1 ns
 
-pub hits_more : (kinds : List KindLine) (ns : List ℕ) (i : ℕ) (k : KindLine) → slice_get kinds i ≡ Some k → length kinds ≤ length ns
-    → hits_text (take (suc i) kinds) ns ≡ hits_text (take i kinds) ns ++ hit_piece k.name (get_or ns i 0)
-hits_more [] ns i k e l = absurd cc
-hits_more (j ∷ kinds) [] i k e l = absurd (omega (arith, l))
-hits_more (j ∷ kinds) (n ∷ ns) zero k e l =
-    let same : j ≡ k = cc in
-    hits_cons j [] n ns ∙ (append-nil (hit_piece j.name n) ∙ ap (λ (z : KindLine). hit_piece z.name n) same)
-hits_more (j ∷ kinds) (n ∷ ns) (suc i) k e l =
-    hits_cons j (take (suc i) kinds) n ns ∙ (ap (λ t. hit_piece j.name n ++ t) (hits_more kinds ns i k e (omega (arith, l)))
-    ∙ (sym (append_assoc (hit_piece j.name n) (hits_text (take i kinds) ns) (hit_piece k.name (get_or ns i 0))) ∙ ap (λ t. t ++ hit_piece k.name (get_or ns i 0)) (sym (hits_cons j (take i kinds) n ns))))
+pub hits_each : IsTextFrom behind_kind (λ ns kinds. hits_text kinds ns) (λ ns k. hit_piece k.name (get_or ns 0 0))
+hits_each = record { nil = λ ns. refl; cons = hits_cons }
 
-pub hits_split : (kinds : List KindLine) (ns : List ℕ) (i : ℕ) (k : KindLine) → slice_get kinds i ≡ Some k → length kinds ≤ length ns
-    → hits_text kinds ns ≡ hits_text (take i kinds) ns ++ (hit_piece k.name (get_or ns i 0) ++ hits_text (drop (suc i) kinds) (drop (suc i) ns))
-hits_split [] ns i k e l = absurd cc
-hits_split (j ∷ kinds) [] i k e l = absurd (omega (arith, l))
-hits_split (j ∷ kinds) (n ∷ ns) zero k e l =
-    let same : j ≡ k = cc in
-    hits_cons j kinds n ns ∙ ap (λ (z : KindLine). hit_piece z.name n ++ hits_text kinds ns) same
-hits_split (j ∷ kinds) (n ∷ ns) (suc i) k e l =
-    let rest = hit_piece k.name (get_or ns i 0) ++ hits_text (drop (suc i) kinds) (drop (suc i) ns) in
-    hits_cons j kinds n ns ∙ (ap (λ t. hit_piece j.name n ++ t) (hits_split kinds ns i k e (omega (arith, l)))
-    ∙ (sym (append_assoc (hit_piece j.name n) (hits_text (take i kinds) ns) rest) ∙ ap (λ t. t ++ rest) (sym (hits_cons j (take i kinds) n ns))))
+pub hit_at : (kinds : List KindLine) (ns : List ℕ) (i : ℕ) (k : KindLine) → i < length kinds → k ≡ get_or kinds i k → hit_piece k.name (get_or ns i 0) ≡ hit_piece (get_or kinds i k).name (get_or (behind behind_kind ns (take i kinds)) 0 0)
+hit_at kinds ns i k l e = rw (sym e, front kinds ns i l) refl
+  where
+    front : (kinds : List KindLine) (ns : List ℕ) (i : ℕ) → i < length kinds → get_or (behind behind_kind ns (take i kinds)) 0 0 ≡ get_or ns i 0
+    front [] ns i l = absurd (omega (arith, l))
+    front (k ∷ kinds) ns zero l = refl
+    front (k ∷ kinds) ns (suc i) l = front kinds (drop 1 ns) i (omega (arith, l)) ∙ (get_or-drop 1 ns i 0 ∙ ap (λ j. get_or ns j 0) (one-add i))
 
--- more words at the end of a line
-pub join_more : (w : List ℕ) (xs ys : List (List ℕ)) → join_with_byte 32 (w ∷ (xs ++ ys)) ≡ join_with_byte 32 (w ∷ xs) ++ spaced ys
-join_more w xs ys =
-    join_spaced w (xs ++ ys) ∙ (ap (λ t. w ++ t) (flat-append (λ v. 32 ∷ v) xs ys) ∙ (sym (append_assoc w (spaced xs) (spaced ys)) ∙ ap (λ t. t ++ spaced ys) (sym (join_spaced w xs))))
+-- a line with more words behind its first
+line_more : (w : List ℕ) (xs ys : List (List ℕ)) → join_with_byte 32 (w ∷ (xs ++ ys)) ++ 10 ∷ [] ≡ (w ++ spaced xs) ++ (spaced ys ++ 10 ∷ [])
+line_more w xs ys = rw (join_spaced w (xs ++ ys), flat_map-append (λ v. 32 ∷ v) xs ys) (simp append_assoc)
 
 -- a work line: its first words, its kinds and the end
-pub work_line : (length mode : List ℕ) (ip hits : List (List ℕ))
-    → join_with_byte 32 (codes "work" ∷ length ∷ mode ∷ (ip ++ hits)) ++ 10 ∷ [] ≡ join_with_byte 32 (codes "work" ∷ length ∷ mode ∷ (ip ++ [])) ++ (spaced hits ++ 10 ∷ [])
-work_line length mode ip hits =
-    ap (λ t. t ++ 10 ∷ []) (join_more (codes "work") (length ∷ mode ∷ ip) hits)
-    ∙ (append_assoc (join_with_byte 32 (codes "work" ∷ length ∷ mode ∷ ip)) (spaced hits) (10 ∷ [])
-    ∙ ap (λ ws. join_with_byte 32 (codes "work" ∷ length ∷ mode ∷ ws) ++ (spaced hits ++ 10 ∷ [])) (sym (append-nil ip)))
+pub work_line : (long mode : List ℕ) (ip hits : List (List ℕ))
+    → join_with_byte 32 (codes "work" ∷ long ∷ mode ∷ (ip ++ hits)) ++ 10 ∷ [] ≡ (codes "work" ++ spaced (long ∷ mode ∷ (ip ++ []))) ++ (spaced hits ++ 10 ∷ [])
+work_line long mode ip hits = rw (append-nil ip) (line_more (codes "work") (long ∷ mode ∷ ip) hits)

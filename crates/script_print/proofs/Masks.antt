@@ -1,10 +1,10 @@
 -- The processors of a PMU, gathered one after the other.
-use Rattle.std.proofs.Common.{◌≡◌, ◌≢◌, ℕ, ◌+◌, ◌^◌, ◌<◌, ◌≤◌, List, length, get_or, map, Some, inl, inr, sym, ap, subst, ◌∙◌, arith}
+use Rattle.std.proofs.Common.{◌≡◌, ◌≢◌, ℕ, ◌+◌, ◌^◌, ◌<◌, ◌≤◌, List, length, get_or, map, Some, inl, inr, refl, sym, ap, subst, ◌∙◌, arith}
 use Rattle.std.specs.Prelude.{bit_or, AllPairs, IfSome, slice_get}
 use Rattle.std.specs.Int.{bit_at}
 use Rattle.std.specs.Option.{option_map}
 use Rattle.std.proofs.lemmas.Bool.{cases_lt, cases_eq}
-use Rattle.std.proofs.lemmas.Nat.Bits.{bit_at_or, bit_at-zero, bit_at-lt, bit_at-pow_same, bit_at-pow_other, bit_at_above, same_from_bits}
+use Rattle.std.proofs.lemmas.Nat.Bits.{bit_at_or, bit_at-lt, bit_at-pow_same, bit_at-pow_other, bit_at_above, same_from_bits}
 use Rattle.std.proofs.lemmas.Option.{slice_get-get_or, slice_get-map}
 use Rattle.perf_base.specs.declared.numbers.CpuNo.{CpuNo}
 use Rattle.perf_base.specs.declared.numbers.CpuSet.{CpuSet}
@@ -37,26 +37,22 @@ other_bit pmus k pmu i apart l m ne h = elim (cases_lt k pmu) [
   | inr behind ↦ omega (arith, h, apart_bits (mask_at pmus pmu) (mask_at pmus k) (apart pmu k no_pmu (omega (arith, ne, behind)) l) i)
 ]
 
-pub IsGathered-none : (pmus : List PmuLine) (pmu : ℕ) → IsGathered pmus pmu 0 0
-IsGathered-none pmus pmu = record { below = λ i l. absurd (omega (arith, l)); above = λ i l. bit_at-zero i }
+-- a set that has the bit of the PMU's mask at the next processor, and the bits of the old set elsewhere
+gathered_next : (pmus : List PmuLine) (pmu n set next : ℕ) → IsGathered pmus pmu n set → bit_at next n ≡ bit_at (mask_at pmus pmu) n → ((i : ℕ) → i ≢ n → bit_at next i ≡ bit_at set i) → IsGathered pmus pmu (n + 1) next
+gathered_next pmus pmu n set next g here others = record {
+  below = λ i l. elim (cases_eq i n) [
+    | inl e ↦ rw e here
+    | inr ne ↦ others i ne ∙ g.below i (omega (arith, l, ne))
+  ];
+  above = λ i l. others i (λ e. omega (arith, l, e)) ∙ g.above i (omega (arith, l));
+}
 
 pub IsGathered-other : (pmus : List PmuLine) (pmu n set : ℕ) → IsGathered pmus pmu n set → bit_at (mask_at pmus pmu) n ≡ 0 → IsGathered pmus pmu (n + 1) set
-IsGathered-other pmus pmu n set g z = record {
-  below = λ i l. elim (cases_eq i n) [
-    | inl e ↦ rw e (g.above n (omega arith) ∙ sym z)
-    | inr ne ↦ g.below i (omega (arith, l, ne))
-  ];
-  above = λ i l. g.above i (omega (arith, l));
-}
+IsGathered-other pmus pmu n set g z = gathered_next pmus pmu n set set g (g.above n (omega arith) ∙ sym z) (λ i ne. refl)
 
 pub IsGathered-own : (pmus : List PmuLine) (pmu n set : ℕ) → IsGathered pmus pmu n set → bit_at (mask_at pmus pmu) n ≡ 1 → IsGathered pmus pmu (n + 1) (bit_or set (2 ^ n))
-IsGathered-own pmus pmu n set g one = record {
-  below = λ i l. elim (cases_eq i n) [
-    | inl e ↦ rw e (omega (arith, one, bit_at_or set (2 ^ n) n, bit_at-pow_same n, bit_at-lt set n))
-    | inr ne ↦ omega (arith, bit_at_or set (2 ^ n) i, bit_at-pow_other n i ne, g.below i (omega (arith, l, ne)))
-  ];
-  above = λ i l. omega (arith, bit_at_or set (2 ^ n) i, bit_at-pow_other n i (λ e. omega (arith, l, e)), g.above i (omega (arith, l)));
-}
+IsGathered-own pmus pmu n set g one =
+    gathered_next pmus pmu n set (bit_or set (2 ^ n)) g (omega (arith, one, bit_at_or set (2 ^ n) n, bit_at-pow_same n, bit_at-lt set n)) (λ i ne. omega (arith, bit_at_or set (2 ^ n) i, bit_at-pow_other n i ne))
 
 set_of : ℕ → CpuSet
 set_of n = record { 0 = n }

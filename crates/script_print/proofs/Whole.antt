@@ -1,19 +1,87 @@
--- The parts of a printed script.
-use Rattle.std.proofs.Common.{◌≡◌, ℕ, ◌<◌, List, [], ◌∷◌, ◌++◌, length, refl, ap, ◌∙◌, arith, append_assoc, map}
-use Rattle.std.specs.Prelude.{flat_map, codes}
+-- The texts of the parts of a printed script.
+use Rattle.std.proofs.Common.{◌≡◌, ◌≢◌, ℕ, zero, suc, ◌+◌, ◌<◌, List, [], ◌∷◌, ◌++◌, length, get_or, take, drop, refl, sym, ap, ◌∙◌, arith, append_assoc}
+use Rattle.std.specs.Prelude.{flat_map, map, codes, IfSome}
+use Rattle.std.specs.List.{slice_get}
+use Rattle.std.proofs.lemmas.Grind.{flat_map-append}
 use Rattle.std.proofs.lemmas.List.{append-nil}
 use Rattle.perf_base.specs.declared.acts.Act.{Act}
+use Rattle.perf_base.specs.declared.lines.PmuLine.{PmuLine}
+use Rattle.perf_base.specs.declared.lines.KindLine.{KindLine}
+use Rattle.perf_base.specs.declared.lines.CpuLine.{CpuLine}
+use Rattle.perf_base.specs.declared.lines.ToolLine.{ToolLine}
 use Rattle.perf_base.specs.Scripts.{Scripted}
 use Rattle.script_spec.specs.Acts.{act_text, acts_text}
 use Rattle.script_spec.specs.Forms as form
 use Rattle.script_spec.specs.Forms.{Form}
-use Rattle.script_spec.specs.Printing.{head_forms, kind_form, task_form, ring_form, reader_form, order_forms, all_processor_forms, all_tool_forms, line_text, printed_forms, printed}
-use Rattle.script_print.specs.Words.{spaced}
-use Rattle.script_print.proofs.Lines.{flat-append, join_spaced}
-use Rattle.script_print.proofs.Loops.{IsText}
+use Rattle.script_spec.specs.Printing.{head_forms, pmu_forms, cpu_form, processor_forms, tool_form, tool_forms, order_forms, line_text, printed_forms, printed}
+use Rattle.script_print.specs.Words.{spaced, text, declared_text, lines_text, last_text}
+use Rattle.script_print.proofs.Loops.{join_spaced, IsText, IsTextFrom, behind}
 
-abbrev pub text : List Form → List ℕ
-text forms = flat_map line_text forms
+-- ---- the first lines
+
+pub head_one : (n counters : ℕ) (pmus : List PmuLine) → length pmus ≡ 1 → IfSome (slice_get pmus 0) (λ p. counters ≡ p.counters)
+    → flat_map line_text (head_forms n pmus) ≡ line_text (form.Perf form.One) ++ line_text (form.Machine n counters)
+head_one n counters [] l h = absurd (omega (arith, l))
+head_one n counters (p ∷ []) l h = ap (λ c. line_text (form.Perf form.One) ++ (line_text (form.Machine n c) ++ [])) (sym h) ∙ ap (λ t. line_text (form.Perf form.One) ++ t) (append-nil (line_text (form.Machine n counters)))
+head_one n counters (p ∷ q ∷ pmus) l h = absurd (omega (arith, l))
+
+pub head_several : (n : ℕ) (pmus : List PmuLine) → length pmus ≢ 1
+    → flat_map line_text (head_forms n pmus) ≡ line_text (form.Perf form.Two) ++ (line_text (form.MachineOfPmus n) ++ flat_map line_text (pmu_forms 0 pmus))
+head_several n [] l = refl
+head_several n (p ∷ []) l = let one : length (p ∷ []) ≡ 1 = refl in absurd (l one)
+head_several n (p ∷ q ∷ pmus) l = refl
+
+-- the number of the next PMU
+abbrev pub next_pmu : ℕ → PmuLine → ℕ
+next_pmu n p = n + 1
+
+pub pmus_each : IsTextFrom next_pmu (λ n pmus. flat_map line_text (pmu_forms n pmus)) (λ n p. line_text (form.Pmu n p.counters p.cpus.0))
+pmus_each = record { nil = λ n. refl; cons = λ n p pmus. refl }
+
+pub pmu_at : (pmus : List PmuLine) (i : ℕ) (p : PmuLine) → i < length pmus → p ≡ get_or pmus i p
+    → line_text (form.Pmu i p.counters p.cpus.0) ≡ line_text (form.Pmu (behind next_pmu 0 (take i pmus)) (get_or pmus i p).counters (get_or pmus i p).cpus.0)
+pmu_at pmus i p l e =
+    let number : behind next_pmu 0 (take i pmus) ≡ i = front pmus 0 i l ∙ omega arith in
+    rw (sym e, number) refl
+  where
+    front : (pmus : List PmuLine) (n i : ℕ) → i < length pmus → behind next_pmu n (take i pmus) ≡ n + i
+    front [] n i l = absurd (omega (arith, l))
+    front (p ∷ pmus) n zero l = omega arith
+    front (p ∷ pmus) n (suc i) l = let others = front pmus (n + 1) i (omega (arith, l)) in omega (arith, others)
+
+-- a line for each entry
+pub each_text : {X : Type 0} (f : X → Form) → IsText (λ xs. flat_map line_text (map f xs)) (λ x. line_text (f x))
+each_text f = record { nil = refl; cons = λ x xs. refl }
+
+pub head_one_front : (n : ℕ) (pmus : List PmuLine) → length pmus ≡ 1 → flat_map line_text (head_forms n pmus) ≡ line_text (form.Perf form.One) ++ flat_map line_text (drop 1 (head_forms n pmus))
+head_one_front n [] l = absurd (omega (arith, l))
+head_one_front n (p ∷ []) l = refl
+head_one_front n (p ∷ q ∷ pmus) l = absurd (omega (arith, l))
+
+-- ---- processors and tools
+
+-- forms for each entry
+pub all_text : {X : Type 0} (f : X → List Form) → IsText (λ xs. flat_map line_text (flat_map f xs)) (λ x. flat_map line_text (f x))
+all_text f = record { nil = refl; cons = λ x xs. flat_map-append line_text (f x) (flat_map f xs) }
+
+pub processor_text : (kinds : List KindLine) (n : ℕ) (lines : List CpuLine) → 0 < length lines
+    → flat_map line_text (processor_forms kinds n lines) ≡ line_text (form.Processor n) ++ flat_map line_text (map (cpu_form kinds) lines)
+processor_text kinds n [] l = absurd (omega (arith, l))
+processor_text kinds n (line ∷ lines) l = refl
+
+pub tool_text : (kinds : List KindLine) (n : ℕ) (lines : List ToolLine) → 0 < length lines
+    → flat_map line_text (tool_forms kinds n lines) ≡ line_text (form.Tool n) ++ flat_map line_text (map (tool_form kinds) lines)
+tool_text kinds n [] l = absurd (omega (arith, l))
+tool_text kinds n (line ∷ lines) l = refl
+
+-- the numbers of all processors, and of all tools
+abbrev pub all_cpus : List ℕ
+all_cpus = 0 ∷ 1 ∷ 2 ∷ 3 ∷ 4 ∷ 5 ∷ 6 ∷ 7 ∷ []
+
+abbrev pub all_tools : List ℕ
+all_tools = 0 ∷ 1 ∷ 2 ∷ 3 ∷ []
+
+-- ---- the order and the whole
 
 spaced_acts : (acts : List Act) → spaced (map act_text acts) ≡ acts_text acts
 spaced_acts [] = refl
@@ -29,16 +97,6 @@ order_text (a ∷ acts) l =
 pub acts_each : IsText acts_text (λ a. 32 ∷ act_text a)
 acts_each = record { nil = refl; cons = λ a acts. refl }
 
--- all parts, three by three
-abbrev pub declared_text : Scripted → List ℕ
-declared_text s = text (head_forms s.cpus s.pmus) ++ (text (map (kind_form (length s.pmus)) s.kinds) ++ (text (map task_form s.tasks) ++ text (map ring_form s.rings)))
-
-abbrev pub lines_text : Scripted → List ℕ
-lines_text s = text (all_processor_forms s) ++ (text (all_tool_forms s) ++ text (map reader_form s.readers))
-
-abbrev pub last_text : Scripted → List ℕ
-last_text s = text (order_forms s.order) ++ line_text form.End
-
-pub whole_text : (s : Scripted) → printed s ≡ declared_text s ++ (lines_text s ++ last_text s)
-unfolding printed printed_forms
-whole_text s = simp (flat-append, append_assoc)
+pub whole_text : (s : Scripted) → printed s ≡ declared_text s ++ (lines_text s ++ last_text s.order)
+unfolding printed printed_forms declared_text lines_text last_text
+whole_text s = simp (flat_map-append, append_assoc)

@@ -1,6 +1,10 @@
--- What the words of a line write. This project's own profile.
-use Rattle.std.specs.Prelude.{ℕ, List, [], ◌∷◌, ◌++◌, flat_map, codes, decimal, ◌==◌, if◌then◌else◌}
-use Rattle.script_spec.specs.Forms.{hexadecimal, flags_text}
+-- What the words of a line write, and the parts of a printed text. This project's own profile.
+use Rattle.std.specs.Prelude.{ℕ, List, [], ◌∷◌, ◌++◌, length, map, flat_map, codes, decimal, ◌==◌, if◌then◌else◌}
+use Rattle.perf_base.specs.declared.acts.Act.{Act}
+use Rattle.perf_base.specs.Scripts.{Scripted}
+use Rattle.script_spec.specs.Forms as form
+use Rattle.script_spec.specs.Forms.{Form, hexadecimal, flags_text}
+use Rattle.script_spec.specs.Printing.{head_forms, kind_form, task_form, ring_form, reader_form, order_forms, all_processor_forms, all_tool_forms, line_text}
 use Rattle.script_print.specs.declared.words.Word.{Word}
 use Rattle.script_print.specs.declared.words.Word.TheVariants as word
 
@@ -23,3 +27,20 @@ spaced words = flat_map (λ w. 32 ∷ w) words
 -- a kind of a work line with a space before it, and nothing where it does not occur
 abbrev pub hit_piece : List ℕ → ℕ → List ℕ
 hit_piece name times = if times == 0 then [] else (32 ∷ (name ++ codes "=" ++ decimal times))
+
+-- ---- parts
+
+abbrev pub text : List Form → List ℕ
+text forms = flat_map line_text forms
+
+-- the version, the machine, the PMUs, kinds, tasks and rings
+unfoldable pub declared_text : Scripted → List ℕ
+declared_text s = text (head_forms s.cpus s.pmus) ++ (text (map (kind_form (length s.pmus)) s.kinds) ++ (text (map task_form s.tasks) ++ text (map ring_form s.rings)))
+
+-- processors, tools and readers
+unfoldable pub lines_text : Scripted → List ℕ
+lines_text s = text (all_processor_forms s) ++ (text (all_tool_forms s) ++ text (map reader_form s.readers))
+
+-- the order and the end
+unfoldable pub last_text : List Act → List ℕ
+last_text acts = text (order_forms acts) ++ line_text form.End

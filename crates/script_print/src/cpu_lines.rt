@@ -5,7 +5,7 @@ ghost use Rattle.script_spec.specs.Forms.{hit_text, mode_text};
 ghost use Rattle.script_spec.specs.Printing.{hits_of, cpu_form, processor_forms, all_processor_forms, line_text};
 ghost use Rattle.perf_io.specs.Wrote.{Wrote};
 ghost use Rattle.perf_base.specs.Scripts.{lines_of_cpu};
-ghost use Rattle.script_print.specs.Words.{spaced, hit_piece};
+ghost use Rattle.script_print.specs.Words.{all_said, spaced, hit_piece};
 ghost use Rattle.perf_base.specs.declared.lines.CpuLine.TheVariants as cpu_line;
 
 use crate::words::{Word, put_line, put_start};
@@ -66,23 +66,36 @@ fn put_hits<K: Sink>(sink: &mut K, script: &Script, hits: &[u64; 16]) -> Result<
     Ok(())
 }
 
+/// Writes a line of words and of how often each kind occurs.
+#[tactic(auto, using(perf_io::proofs::Wrote::writes))]
+fn put_hits_line<K: Sink>(
+    sink: &mut K,
+    first: &[u8],
+    words: &[Word],
+    script: &Script,
+    hits: &[u64; 16],
+) -> Result<(), Failed>
+    requires { length script.now.kinds ≤ 16 }
+    ensures wrote { Wrote K.held K.faults K.last_fault sink.old sink.new result ((first.now ++ spaced (all_said words.now)) ++ (spaced (map hit_text (hits_of script.now.kinds hits.now)) ++ 10 ∷ [])) }
+    ensures flushed { K.flushed sink.new ≡ K.flushed sink.old }
+{
+    put_start(sink, first, words)?;
+    put_hits(sink, script, hits)?;
+    write_all(sink, b"\n")
+}
+
 /// Writes a stretch of work.
 fn put_work<K: Sink>(sink: &mut K, script: &Script, work: &Work) -> Result<(), Failed>
     requires { length script.now.kinds ≤ 16 }
     ensures wrote { Wrote K.held K.faults K.last_fault sink.old sink.new result (line_text (cpu_form script.now.kinds (cpu_line.Work work.now))) }
     ensures flushed { K.flushed sink.new ≡ K.flushed sink.old }
 {
-    put_start(
-        sink,
-        b"work",
-        &[
-            Word::Decimal(b"", work.length),
-            Word::Plain(mode_name(work.mode)),
-            Word::hexadecimal_if(b"ip=", work.ip),
-        ],
-    )?;
-    put_hits(sink, script, &work.hits)?;
-    write_all(sink, b"\n")
+    let words = [
+        Word::Decimal(b"", work.length),
+        Word::Plain(mode_name(work.mode)),
+        Word::hexadecimal_if(b"ip=", work.ip),
+    ];
+    put_hits_line(sink, b"work", &words, script, &work.hits)
 }
 
 /// Writes a line of a processor.

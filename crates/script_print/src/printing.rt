@@ -1,13 +1,13 @@
 //! Printing a script.
 
-ghost use Rattle.std.specs.Prelude.{◌≡◌, ◌≤◌, ◌++◌, ◌∷◌, length, map, flat_map};
+ghost use Rattle.std.specs.Prelude.{◌≡◌, ◌≤◌, ◌++◌, ◌∷◌, []};
 ghost use Rattle.perf_base.specs.Scripts.{IsCovered};
 ghost use Rattle.perf_base.specs.Weight.{weight};
 ghost use Rattle.script_spec.specs.Texts.{StandsFor};
 ghost use Rattle.script_spec.specs.Acts.{act_text, acts_text};
-ghost use Rattle.script_spec.specs.Forms as form;
-ghost use Rattle.script_spec.specs.Printing.{head_forms, kind_form, task_form, ring_form, reader_form, order_forms, all_processor_forms, all_tool_forms, line_text, printed};
+ghost use Rattle.script_spec.specs.Printing.{order_forms, printed};
 ghost use Rattle.perf_io.specs.Wrote.{Wrote};
+ghost use Rattle.script_print.specs.Words.{text, declared_text, lines_text, last_text};
 
 use crate::cpu_lines::put_processors;
 use crate::declared::{put_head, put_kinds, put_readers, put_rings, put_tasks};
@@ -18,11 +18,10 @@ use perf_base::{Act, Script};
 use perf_io::{Failed, Sink, write_all};
 
 /// Writes what a script declares.
-#[tactic(auto, using(perf_io::proofs::Wrote::writes))]
+#[tactic(auto, using(perf_io::proofs::Wrote::writes), unfolding(crate::specs::Words::declared_text))]
 fn put_declared<K: Sink>(sink: &mut K, script: &Script) -> Result<(), Failed>
     requires { IsCovered script.now }
-    ensures wrote { Wrote K.held K.faults K.last_fault sink.old sink.new result (flat_map line_text (head_forms script.now.cpus script.now.pmus) ++ (flat_map line_text (map (kind_form (length script.now.pmus)) script.now.kinds)
-        ++ (flat_map line_text (map task_form script.now.tasks) ++ flat_map line_text (map ring_form script.now.rings)))) }
+    ensures wrote { Wrote K.held K.faults K.last_fault sink.old sink.new result (declared_text script.now) }
     ensures flushed { K.flushed sink.new ≡ K.flushed sink.old }
 {
     put_head(sink, script)?;
@@ -32,9 +31,9 @@ fn put_declared<K: Sink>(sink: &mut K, script: &Script) -> Result<(), Failed>
 }
 
 /// Writes the lines of processors, tools and readers.
-#[tactic(auto, using(perf_io::proofs::Wrote::writes))]
+#[tactic(auto, using(perf_io::proofs::Wrote::writes), unfolding(crate::specs::Words::lines_text))]
 fn put_lines<K: Sink>(sink: &mut K, script: &Script) -> Result<(), Failed>
-    ensures wrote { Wrote K.held K.faults K.last_fault sink.old sink.new result (flat_map line_text (all_processor_forms script.now) ++ (flat_map line_text (all_tool_forms script.now) ++ flat_map line_text (map reader_form script.now.readers))) }
+    ensures wrote { Wrote K.held K.faults K.last_fault sink.old sink.new result (lines_text script.now) }
     ensures flushed { K.flushed sink.new ≡ K.flushed sink.old }
 {
     put_processors(sink, script)?;
@@ -63,32 +62,54 @@ fn put_acts<K: Sink>(sink: &mut K, acts: &[Act]) -> Result<(), Failed>
     Ok(())
 }
 
+/// Writes a line of a word and acts.
+#[tactic(auto, using(perf_io::proofs::Wrote::writes))]
+fn put_acts_line<K: Sink>(sink: &mut K, first: &[u8], acts: &[Act]) -> Result<(), Failed>
+    ensures wrote { Wrote K.held K.faults K.last_fault sink.old sink.new result (first.now ++ (acts_text acts.now ++ 10 ∷ [])) }
+    ensures flushed { K.flushed sink.new ≡ K.flushed sink.old }
+{
+    write_all(sink, first)?;
+    put_acts(sink, acts)?;
+    write_all(sink, b"\n")
+}
+
 /// Writes the order line, or nothing where the order is empty.
 fn put_order<K: Sink>(sink: &mut K, acts: &[Act]) -> Result<(), Failed>
-    ensures wrote { Wrote K.held K.faults K.last_fault sink.old sink.new result (flat_map line_text (order_forms acts.now)) }
+    ensures wrote { Wrote K.held K.faults K.last_fault sink.old sink.new result (text (order_forms acts.now)) }
     ensures flushed { K.flushed sink.new ≡ K.flushed sink.old }
 {
     if acts.is_empty() {
         return Ok(());
     }
-    write_all(sink, b"order")?;
-    put_acts(sink, acts)?;
-    write_all(sink, b"\n")
+    put_acts_line(sink, b"order", acts)
 }
 
 /// Writes the order and the end.
-#[tactic(auto, using(perf_io::proofs::Wrote::writes))]
+#[tactic(auto, using(perf_io::proofs::Wrote::writes), unfolding(crate::specs::Words::last_text))]
 fn put_last<K: Sink>(sink: &mut K, acts: &[Act]) -> Result<(), Failed>
-    ensures wrote { Wrote K.held K.faults K.last_fault sink.old sink.new result (flat_map line_text (order_forms acts.now) ++ line_text form.End) }
+    ensures wrote { Wrote K.held K.faults K.last_fault sink.old sink.new result (last_text acts.now) }
     ensures flushed { K.flushed sink.new ≡ K.flushed sink.old }
 {
     put_order(sink, acts)?;
     put_line(sink, b"end", &[])
 }
 
+/// Writes all parts of a script, with these acts as its order.
+#[tactic(auto, using(perf_io::proofs::Wrote::writes))]
+fn put_parts<K: Sink>(sink: &mut K, script: &Script, acts: &[Act]) -> Result<(), Failed>
+    requires { IsCovered script.now }
+    ensures wrote { Wrote K.held K.faults K.last_fault sink.old sink.new result (declared_text script.now ++ (lines_text script.now ++ last_text acts.now)) }
+    ensures flushed { K.flushed sink.new ≡ K.flushed sink.old }
+{
+    put_declared(sink, script)?;
+    put_lines(sink, script)?;
+    put_last(sink, acts)
+}
+
 /// Writes the printed text of a script: missing values, kinds that do not occur and processors and tools
 /// without lines are left out, and the order stands on one line. Each processor of the script's machine has
 /// to be of a PMU. It takes no memory. Where a call of the sink fails, some front of the text stays added.
+#[tactic(auto, using(crate::proofs::Stands::printed_stands))]
 pub fn print_script<K: Sink>(script: &Script, sink: &mut K) -> Result<(), Failed>
     requires { IsCovered script.now }
     ensures wrote { Wrote K.held K.faults K.last_fault sink.old sink.new result (printed script.now) }
@@ -97,7 +118,5 @@ pub fn print_script<K: Sink>(script: &Script, sink: &mut K) -> Result<(), Failed
     ensures stands { weight script.now ≤ 65536 → StandsFor (printed script.now) script.now }
 {
     let order = script.order();
-    put_declared(sink, script)?;
-    put_lines(sink, script)?;
-    put_last(sink, order)
+    put_parts(sink, script, order)
 }

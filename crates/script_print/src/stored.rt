@@ -10,6 +10,7 @@ use perf_base::Script;
 
 /// The printed text of a script stands for that script. Each of its processors has to be of a PMU, and its
 /// weight at most 65536.
+#[tactic(auto, using(crate::proofs::Stands::printed_stands))]
 pub fn printed_text_stands_for(script: &Script)
     requires covered { IsCovered script.now }
     requires light { weight script.now ≤ 65536 }

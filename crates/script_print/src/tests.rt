@@ -17,6 +17,14 @@ fn room(alloc: Global, failing: u64) -> Result<MemSink, NoMemory> {
     MemSink::new(alloc, 7, vec![in alloc; failing]?, 2000)
 }
 
+/// Whether a script was printed. Each of its processors has to be of a PMU.
+fn is_printed(script: &Script, sink: &mut MemSink) -> bool {
+    if !script.is_covered() {
+        return false;
+    }
+    print_script(script, sink).is_ok()
+}
+
 fn name(byte: u8) -> Name
     ensures { result ≡ byte ∷ [] }
 {
@@ -25,7 +33,7 @@ fn name(byte: u8) -> Name
     name
 }
 
-/// A stretch of work in which the first two kinds occur so often.
+/// A stretch of work, with how often each of the first two kinds occurs.
 fn work(ip: u64, first: u64, second: u64) -> CpuLine
     requires { (first ≤ 1000) × (second ≤ 1000) }
     ensures { IsCpuLine 2 result }
@@ -81,7 +89,7 @@ fn smallest_script(rt: HostRuntime) -> Result<(), Fail> {
     let mut script = Script::new(rt.alloc(), 1);
     script.add_pmu(1, 1)?;
     let mut sink = room(rt.alloc(), 999)?;
-    assert!(rt; print_script(&script, &mut sink).is_ok());
+    assert!(rt; is_printed(&script, &mut sink));
     assert_eq!(rt;
         sink.bytes(),
         b"perf 1\nmachine cpus=1 counters=1\nend\n".as_slice()
@@ -104,7 +112,7 @@ fn two_pmus(rt: HostRuntime) -> Result<(), Fail> {
     script.add_pmu(16, 2)?;
     script.add_kind(name(b'a'), 1, 0xff)?;
     let mut sink = room(rt.alloc(), 999)?;
-    assert!(rt; print_script(&script, &mut sink).is_ok());
+    assert!(rt; is_printed(&script, &mut sink));
     assert_eq!(rt; sink.bytes(), TWO_PMUS);
     Ok(())
 }
@@ -134,7 +142,7 @@ fn processor(rt: HostRuntime) -> Result<(), Fail> {
     script.add_cpu_line(CpuNo(1), CpuLine::Switch(None))?;
     script.add_act(Act::Processor(CpuNo(1)))?;
     let mut sink = room(rt.alloc(), 999)?;
-    assert!(rt; print_script(&script, &mut sink).is_ok());
+    assert!(rt; is_printed(&script, &mut sink));
     assert_eq!(rt; sink.bytes(), PROCESSOR);
     Ok(())
 }
@@ -169,7 +177,7 @@ fn tool(rt: HostRuntime) -> Result<(), Fail> {
     )?;
     script.add_tool_line(ToolNo(2), ToolLine::Read { event, size: None })?;
     let mut sink = room(rt.alloc(), 999)?;
-    assert!(rt; print_script(&script, &mut sink).is_ok());
+    assert!(rt; is_printed(&script, &mut sink));
     assert_eq!(rt; sink.bytes(), TOOL);
     Ok(())
 }
@@ -196,7 +204,7 @@ fn ring(rt: HostRuntime) -> Result<(), Fail> {
     })?;
     script.add_act(Act::Seen(RingNo(3), 0))?;
     let mut sink = room(rt.alloc(), 999)?;
-    assert!(rt; print_script(&script, &mut sink).is_ok());
+    assert!(rt; is_printed(&script, &mut sink));
     assert_eq!(rt; sink.bytes(), RING);
     Ok(())
 }
@@ -206,7 +214,7 @@ fn failing_write(rt: HostRuntime) -> Result<(), Fail> {
     let mut script = Script::new(rt.alloc(), 1);
     script.add_pmu(1, 1)?;
     let mut sink = room(rt.alloc(), 5)?;
-    assert!(rt; print_script(&script, &mut sink).is_err());
+    assert!(rt; !is_printed(&script, &mut sink));
     assert_eq!(rt; sink.bytes(), b"perf 1\nmachine".as_slice());
     Ok(())
 }

@@ -127,9 +127,9 @@ pub fn put_words<K: Sink>(sink: &mut K, words: &[Word]) -> Result<(), Failed>
 }
 
 /// Writes the first words of a line.
-#[tactic(auto, using(perf_io::proofs::Wrote::writes, crate::proofs::Lines::join_spaced))]
+#[tactic(auto, using(perf_io::proofs::Wrote::writes))]
 pub fn put_start<K: Sink>(sink: &mut K, first: &[u8], words: &[Word]) -> Result<(), Failed>
-    ensures wrote { Wrote K.held K.faults K.last_fault sink.old sink.new result (join_with_byte 32 (first.now ∷ all_said words.now)) }
+    ensures wrote { Wrote K.held K.faults K.last_fault sink.old sink.new result (first.now ++ spaced (all_said words.now)) }
     ensures flushed { K.flushed sink.new ≡ K.flushed sink.old }
 {
     write_all(sink, first)?;
@@ -137,7 +137,7 @@ pub fn put_start<K: Sink>(sink: &mut K, first: &[u8], words: &[Word]) -> Result<
 }
 
 /// Writes a line.
-#[tactic(auto, using(perf_io::proofs::Wrote::writes))]
+#[tactic(auto, using(perf_io::proofs::Wrote::writes, crate::proofs::Loops::join_spaced))]
 pub fn put_line<K: Sink>(sink: &mut K, first: &[u8], words: &[Word]) -> Result<(), Failed>
     ensures wrote { Wrote K.held K.faults K.last_fault sink.old sink.new result (join_with_byte 32 (first.now ∷ all_said words.now) ++ 10 ∷ []) }
     ensures flushed { K.flushed sink.new ≡ K.flushed sink.old }

@@ -1,5 +1,5 @@
 use Rattle.script_spec.specs.Printing.{cpu_form}
-use Rattle.script_print.proofs.Heads.{each_text}
+use Rattle.script_print.proofs.Whole.{each_text}
 use Rattle.script_print.proofs.Loops.{loop_exit}
 use Rattle.script_print.proofs.cpu_lines.put_cpu_lines.Goals as goal
 

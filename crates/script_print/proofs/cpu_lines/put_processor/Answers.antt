@@ -2,7 +2,7 @@ use Rattle.std.proofs.Common.{◌<◌, length, sym, ap, ◌∙◌, map, rules}
 use Rattle.std.specs.Prelude.{flat_map}
 use Rattle.script_spec.specs.Forms as form
 use Rattle.script_spec.specs.Printing.{cpu_form, processor_forms, line_text}
-use Rattle.script_print.proofs.Actors.{processor_text}
+use Rattle.script_print.proofs.Whole.{processor_text}
 use Rattle.perf_io.proofs.Wrote.{wrote_then, wrote_exit, wrote_text}
 use Rattle.script_print.proofs.cpu_lines.put_processor.Goals as goal
 

@@ -2,7 +2,7 @@ use Rattle.std.proofs.Common.{sym, ap, drop}
 use Rattle.std.specs.Prelude.{flat_map}
 use Rattle.script_spec.specs.Forms as form
 use Rattle.script_spec.specs.Printing.{line_text, head_forms}
-use Rattle.script_print.proofs.Heads.{head_one, head_one_front}
+use Rattle.script_print.proofs.Whole.{head_one, head_one_front}
 use Rattle.perf_io.proofs.Wrote.{wrote_then, wrote_exit, wrote_text}
 use Rattle.script_print.proofs.declared.put_one_pmu.Goals as goal
 

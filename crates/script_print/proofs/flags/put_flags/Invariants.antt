@@ -1,12 +1,10 @@
-use Rattle.std.proofs.Common.{◌≡◌, Ok}
-use Rattle.std.specs.List.{join_with_byte}
-use Rattle.perf_io.specs.Wrote.{Wrote}
-use Rattle.script_print.proofs.FlagNames.{names_before, comma_after}
+use Rattle.std.proofs.Common.{◌≡◌, take, false}
+use Rattle.script_print.proofs.FlagNames.{all_flags, names_text, comma, some_name}
+use Rattle.script_print.proofs.Loops.{IsWritten, behind}
 use Rattle.script_print.proofs.flags.put_flags.Given as goal
 
 abbrev pub invariant-loop-flag : goal.invariant-loop-flag
 invariant-loop-flag g l = record {
-  wrote : Wrote g.K.Sink.held g.K.Sink.faults g.K.Sink.last_fault l.fn.sink l.sink (Ok tt) (join_with_byte 44 (names_before l.flags.0 l.flag));
-  comma : l.comma ≡ comma_after (names_before l.flags.0 l.flag);
-  flushed : g.K.Sink.flushed l.sink ≡ g.K.Sink.flushed l.fn.sink;
+  written : IsWritten g.K.Sink.held g.K.Sink.faults g.K.Sink.last_fault g.K.Sink.flushed l.fn.sink l.sink (names_text l.flags.0 false (take l.flag all_flags));
+  comma : l.comma ≡ comma (behind (some_name l.flags.0) false (take l.flag all_flags));
 }

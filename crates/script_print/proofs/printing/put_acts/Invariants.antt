@@ -1,10 +1,7 @@
-use Rattle.std.proofs.Common.{◌≡◌, Ok, take}
+use Rattle.std.proofs.Common.{take}
 use Rattle.script_spec.specs.Acts.{acts_text}
-use Rattle.perf_io.specs.Wrote.{Wrote}
+use Rattle.script_print.proofs.Loops.{IsWritten}
 use Rattle.script_print.proofs.printing.put_acts.Given as goal
 
 abbrev pub invariant-loop-act : goal.invariant-loop-act
-invariant-loop-act g l = record {
-  wrote : Wrote g.K.Sink.held g.K.Sink.faults g.K.Sink.last_fault l.fn.sink l.sink (Ok tt) (acts_text (take l.act-index l.acts));
-  flushed : g.K.Sink.flushed l.sink ≡ g.K.Sink.flushed l.fn.sink;
-}
+invariant-loop-act g l = IsWritten g.K.Sink.held g.K.Sink.faults g.K.Sink.last_fault g.K.Sink.flushed l.fn.sink l.sink (acts_text (take l.act-index l.acts))

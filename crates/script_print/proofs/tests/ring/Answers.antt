@@ -1,6 +1,5 @@
 use Rattle.std.proofs.Common.{◌≡◌, refl, arith}
 use Rattle.std.proofs.lemmas.List.Quantifiers.{Any-push}
-use Rattle.script_print.proofs.Covered.{one_covered}
 use Rattle.script_print.proofs.tests.ring.Goals as goal
 
 pub add_ring-requires-clause-line : goal.add_ring-requires-clause-line
@@ -14,6 +13,3 @@ add_reader-requires-clause-line g c =
 pub add_act-requires : goal.add_act-requires
 add_act-requires g c =
     rw c.in_ok-add_reader.ensures.ok (rw c.in_ok-add_ring.ensures.ok (Any-push (λ r. r.0 ≡ record { 0 = 3 }) c.add_task.new.self.rings (record { 0 = 3 }, 64) refl))
-
-pub print_script-requires : goal.print_script-requires
-print_script-requires g c = rw (c.in_ok-add_act.ensures.ok, c.in_ok-add_reader.ensures.ok, c.in_ok-add_ring.ensures.ok, c.in_ok-add_task.ensures.ok, c.in_ok-add_pmu.ensures.ok, c.new-script.ensures) (λ cpu l. one_covered 1 cpu.0 l)

@@ -2,7 +2,7 @@ use Rattle.std.proofs.Common.{◌<◌, length, sym, ap, ◌∙◌, map, rules}
 use Rattle.std.specs.Prelude.{flat_map}
 use Rattle.script_spec.specs.Forms as form
 use Rattle.script_spec.specs.Printing.{tool_form, tool_forms, line_text}
-use Rattle.script_print.proofs.Actors.{tool_text}
+use Rattle.script_print.proofs.Whole.{tool_text}
 use Rattle.perf_io.proofs.Wrote.{wrote_then, wrote_exit, wrote_text}
 use Rattle.script_print.proofs.tool_lines.put_tool.Goals as goal
 

@@ -1,12 +1,9 @@
-use Rattle.std.proofs.Common.{◌≡◌, Ok, take, []}
+use Rattle.std.proofs.Common.{take, []}
 use Rattle.std.specs.Prelude.{flat_map, slice_index_or}
 use Rattle.script_spec.specs.Printing.{tool_forms, line_text}
-use Rattle.script_print.proofs.Actors.{all_tools}
-use Rattle.perf_io.specs.Wrote.{Wrote}
+use Rattle.script_print.proofs.Whole.{all_tools}
+use Rattle.script_print.proofs.Loops.{IsWritten}
 use Rattle.script_print.proofs.tool_lines.put_tools.Given as goal
 
 abbrev pub invariant-loop-tool : goal.invariant-loop-tool
-invariant-loop-tool g l = record {
-  wrote : Wrote g.K.Sink.held g.K.Sink.faults g.K.Sink.last_fault l.fn.sink l.sink (Ok tt) (flat_map line_text (flat_map (λ p. tool_forms l.script.kinds p (slice_index_or l.script.tool_lines p [])) (take l.tool all_tools)));
-  flushed : g.K.Sink.flushed l.sink ≡ g.K.Sink.flushed l.fn.sink;
-}
+invariant-loop-tool g l = IsWritten g.K.Sink.held g.K.Sink.faults g.K.Sink.last_fault g.K.Sink.flushed l.fn.sink l.sink (flat_map line_text (flat_map (λ p. tool_forms l.script.kinds p (slice_index_or l.script.tool_lines p [])) (take l.tool all_tools)))

@@ -1,6 +1,5 @@
 use Rattle.std.proofs.Common.{rules}
-use Rattle.script_print.proofs.Lines.{words_text}
-use Rattle.script_print.proofs.Loops.{loop_more_is, loop_exit_is}
+use Rattle.script_print.proofs.Loops.{words_text, loop_more_is, loop_exit_is}
 use Rattle.script_print.proofs.words.put_words.Goals as goal
 
 pub returns-in_err-put_word-clause-wrote : goal.returns-in_err-put_word-clause-wrote

@@ -1,10 +1,7 @@
-use Rattle.std.proofs.Common.{◌≡◌, Ok, take}
-use Rattle.perf_io.specs.Wrote.{Wrote}
+use Rattle.std.proofs.Common.{take}
 use Rattle.script_print.specs.Words.{all_said, spaced}
+use Rattle.script_print.proofs.Loops.{IsWritten}
 use Rattle.script_print.proofs.words.put_words.Given as goal
 
 abbrev pub invariant-loop-word : goal.invariant-loop-word
-invariant-loop-word g l = record {
-  wrote : Wrote g.K.Sink.held g.K.Sink.faults g.K.Sink.last_fault l.fn.sink l.sink (Ok tt) (spaced (all_said (take l.word-index l.words)));
-  flushed : g.K.Sink.flushed l.sink ≡ g.K.Sink.flushed l.fn.sink;
-}
+invariant-loop-word g l = IsWritten g.K.Sink.held g.K.Sink.faults g.K.Sink.last_fault g.K.Sink.flushed l.fn.sink l.sink (spaced (all_said (take l.word-index l.words)))
