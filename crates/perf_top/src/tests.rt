@@ -4,7 +4,10 @@ use crate::Status;
 use crate::calling::{call, sink_of, source_of};
 use perf_base::{RingNo, SReason};
 use perf_io::{MemSink, MemSource, Source};
+use std::alloc::Global;
+use std::sync::Wait;
 use std::test::Fail;
+use std::thread::Threads;
 
 const SCRIPT: &str = "perf 1\nmachine cpus=1 counters=1\nkind cycles mask=1\nprocessor 0\n\
     work 100 user cycles=500\ntool 0\nopen 0 kind=cycles task=all cpu=0 format=3\nread 0\n\
@@ -78,7 +81,7 @@ type Row = (
     &'static str,
 );
 
-const ROWS: [Row; 17] = [
+const ROWS: [Row; 14] = [
     ("replay", SCRIPT, 9, [CALM, CALM], Status::Done, REPORT, ""),
     ("replay", SCRIPT, 1, [CALM, CALM], Status::Done, REPORT, ""),
     (
@@ -181,33 +184,6 @@ const ROWS: [Row; 17] = [
         "",
     ),
     (
-        "run",
-        OPEN_ORDER,
-        9,
-        [CALM, CALM],
-        Status::Done,
-        "order p0\nend\n",
-        "",
-    ),
-    (
-        "run",
-        SCRIPT,
-        1,
-        [40, CALM],
-        Status::ReadFault,
-        "",
-        "perf_run: read fault\n",
-    ),
-    (
-        "run",
-        EMPTY,
-        1,
-        [CALM, 4],
-        Status::WriteFault,
-        "orde",
-        "perf_run: write fault\n",
-    ),
-    (
         "replay now",
         SCRIPT,
         9,
@@ -227,25 +203,151 @@ const ROWS: [Row; 17] = [
     ),
 ];
 
+/// The same by threads, and the flush that fails.
+const RUN_ROWS: [Row; 8] = [
+    (
+        "run",
+        OPEN_ORDER,
+        9,
+        [CALM, CALM],
+        Status::Done,
+        "order p0\nend\n",
+        "",
+    ),
+    (
+        "run",
+        EMPTY,
+        9,
+        [CALM, CALM],
+        Status::Done,
+        "order\nend\n",
+        "",
+    ),
+    (
+        "run",
+        SCRIPT,
+        9,
+        [0, CALM],
+        Status::ReadFault,
+        "",
+        "perf_run: read fault\n",
+    ),
+    (
+        "run",
+        SCRIPT,
+        1,
+        [40, CALM],
+        Status::ReadFault,
+        "",
+        "perf_run: read fault\n",
+    ),
+    (
+        "run",
+        EMPTY,
+        1,
+        [CALM, 0],
+        Status::WriteFault,
+        "",
+        "perf_run: write fault\n",
+    ),
+    (
+        "run",
+        EMPTY,
+        1,
+        [CALM, 4],
+        Status::WriteFault,
+        "orde",
+        "perf_run: write fault\n",
+    ),
+    (
+        "run",
+        EMPTY,
+        1,
+        [CALM, 10],
+        Status::WriteFault,
+        "order\nend\n",
+        "perf_run: write fault\n",
+    ),
+    (
+        "replay",
+        EMPTY,
+        1,
+        [CALM, 10],
+        Status::WriteFault,
+        "order\nend\n",
+        "perf_run: write fault\n",
+    ),
+];
+
+/// Calls the program on a text, with how much a read or a write takes and the calls of the source and of the sink that fail. Gives its answer, what was written and
+/// noted, and how many bytes of the next nine the source still has.
+fn call_with<R: Threads + Wait + Sync>(
+    rt: &R,
+    alloc: Global,
+    said: &str,
+    text: &str,
+    piece: usize,
+    fails: [u64; 2],
+) -> Result<(Status, MemSink, MemSink, Option<usize>), Fail> {
+    let bytes = Vec::from_slice(alloc, text.as_bytes())?;
+    let mut source = MemSource::new(bytes, piece.max(1), vec![in alloc; fails[0]]?);
+    let mut sink = MemSink::new(alloc, piece.max(1), vec![in alloc; fails[1]]?, 1000)?;
+    let (status, notes) = call(rt, alloc, said, &mut source, &mut sink)?;
+    Ok((status, sink, notes, source.read(&mut [0; 9]).ok()))
+}
+
 #[test]
 fn each_answer_comes_with_its_bytes_and_its_note(rt: HostRuntime) -> Result<(), Fail> {
     for (said, text, piece, fails, answer, report, note) in ROWS {
-        let bytes = Vec::from_slice(rt.alloc(), text.as_bytes())?;
-        let mut source = MemSource::new(bytes, piece.max(1), vec![in rt.alloc(); fails[0]]?);
-        let mut sink = MemSink::new(
-            rt.alloc(),
-            piece.max(1),
-            vec![in rt.alloc(); fails[1]]?,
-            1000,
-        )?;
-        let (status, notes) = call(&rt, rt.alloc(), said, &mut source, &mut sink)?;
+        let (status, sink, notes, rest) = call_with(&rt, rt.alloc(), said, text, piece, fails)?;
         assert_eq!(rt; status, answer);
         assert_eq!(rt; sink.bytes(), report.as_bytes());
         assert_eq!(rt; notes.bytes(), note.as_bytes());
         if status == Status::Usage {
-            assert_eq!(rt; source.read(&mut [0; 9]).ok(), Some(9));
+            assert_eq!(rt; rest, Some(9));
         }
     }
+    Ok(())
+}
+
+#[test]
+fn faults_come_under_run_too(rt: HostRuntime) -> Result<(), Fail> {
+    for (said, text, piece, fails, answer, report, note) in RUN_ROWS {
+        let (status, sink, notes, _) = call_with(&rt, rt.alloc(), said, text, piece, fails)?;
+        assert_eq!(rt; status, answer);
+        assert_eq!(rt; sink.bytes(), report.as_bytes());
+        assert_eq!(rt; notes.bytes(), note.as_bytes());
+    }
+    Ok(())
+}
+
+/// Whether each read of the first script but for the last, one byte a read, may be the one that fails.
+fn each_read_may_fail<R: Threads + Wait + Sync>(
+    rt: &R,
+    alloc: Global,
+    said: &str,
+) -> Result<bool, Fail> {
+    for failing in 0..SCRIPT.len() as u64 {
+        let (status, sink, notes, _) = call_with(rt, alloc, said, SCRIPT, 1, [failing, CALM])?;
+        if status != Status::ReadFault
+            || !sink.bytes().is_empty()
+            || notes.bytes() != b"perf_run: read fault\n".as_slice()
+        {
+            return Ok(false);
+        }
+    }
+    Ok(true)
+}
+
+#[test]
+fn each_read_of_a_replay_may_fail(rt: HostRuntime) -> Result<(), Fail> {
+    assert!(rt; each_read_may_fail(&rt, rt.alloc(), "replay")?);
+    Ok(())
+}
+
+#[test]
+fn each_read_of_a_run_may_fail(rt: HostRuntime) -> Result<(), Fail> {
+    assert!(rt; each_read_may_fail(&rt, rt.alloc(), "run")?);
     Ok(())
 }
 
@@ -319,6 +421,7 @@ fn attr_says_what_bytes_are(rt: HostRuntime) -> Result<(), Fail> {
 fn a_text_may_be_too_long(rt: HostRuntime) -> Result<(), Fail> {
     let table = [
         (
+            "replay",
             4194304,
             Status::BadScript {
                 line: 1,
@@ -327,16 +430,23 @@ fn a_text_may_be_too_long(rt: HostRuntime) -> Result<(), Fail> {
             "perf_run: line 1: END\n",
         ),
         (
+            "replay",
+            4194305,
+            Status::TooLong,
+            "perf_run: script longer than 4194304 bytes\n",
+        ),
+        (
+            "run",
             4194305,
             Status::TooLong,
             "perf_run: script longer than 4194304 bytes\n",
         ),
     ];
-    for (length, answer, note) in table {
+    for (said, length, answer, note) in table {
         let bytes = vec![in rt.alloc(); b'a'; length]?;
         let mut source = MemSource::new(bytes, 1000000, Vec::new(rt.alloc()));
         let mut sink = sink_of(rt.alloc(), 9)?;
-        let (status, notes) = call(&rt, rt.alloc(), "replay", &mut source, &mut sink)?;
+        let (status, notes) = call(&rt, rt.alloc(), said, &mut source, &mut sink)?;
         assert_eq!(rt; status, answer);
         assert_eq!(rt; sink.bytes(), b"".as_slice());
         assert_eq!(rt; notes.bytes(), note.as_bytes());

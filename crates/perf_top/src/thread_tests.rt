@@ -1,6 +1,6 @@
 //! What threads alone show: that processors, tools and readers work at one time, and that each look is a new one.
 
-use crate::{Status, perf_main};
+use crate::{OpenGate, Status, perf_main};
 use perf_base::{Actor, CpuNo, RingNo, ToolNo};
 use perf_book::Gate;
 use perf_io::{MemSink, MemSource};
@@ -112,13 +112,26 @@ impl Gate for TakeTurns {
     }
 }
 
-/// Two processors that work for a task and its child, and a tool that counts both.
+/// Two processors that work for a task and its child, and a tool that counts six inherited events of both on four counters.
 const TWO_PROCESSORS: &str =
-    "perf 1\nmachine cpus=2 counters=4\nkind cycles mask=f\nkind instructions mask=f\ntask 0\nprocessor 0\n\
-    switch 0\nwork 4000000 user cycles=12000000 instructions=9000000\nfork 1\ntick\nprocessor 1\nswitch 1\n\
-    work 4000000 user cycles=12000000 instructions=9000000\nexit\ntool 0\n\
+    "perf 1\nmachine cpus=2 counters=4\nkind cycles mask=f\nkind instructions mask=f\nkind branches mask=f\n\
+    kind branch-misses mask=f\nkind cache-references mask=f\nkind cache-misses mask=f\ntask 0\n\
+    processor 0\nswitch 0\n\
+    work 4000000 user cycles=12000000 instructions=9000000 branches=2000000 branch-misses=40000 \
+    cache-references=80000 cache-misses=8000\nfork 1\ntick\n\
+    work 4000000 user cycles=12000000 instructions=9000000 branches=2000000 branch-misses=40000 \
+    cache-references=80000 cache-misses=8000\ntick\n\
+    work 4000000 user cycles=12000000 instructions=9000000 branches=2000000 branch-misses=40000 \
+    cache-references=80000 cache-misses=8000\nprocessor 1\nswitch 1\n\
+    work 4000000 user cycles=12000000 instructions=9000000 branches=2000000 branch-misses=40000 \
+    cache-references=80000 cache-misses=8000\nexit\ntool 0\n\
     open 0 kind=cycles task=0 cpu=any format=3 flags=inherit\n\
-    open 1 kind=instructions task=0 cpu=any format=3 flags=inherit\nread 0\nread 1\nend\n";
+    open 1 kind=instructions task=0 cpu=any format=3 flags=inherit\n\
+    open 2 kind=branches task=0 cpu=any format=3 flags=inherit\n\
+    open 3 kind=branch-misses task=0 cpu=any format=3 flags=inherit\n\
+    open 4 kind=cache-references task=0 cpu=any format=3 flags=inherit\n\
+    open 5 kind=cache-misses task=0 cpu=any format=3 flags=inherit\n\
+    read 0\nread 1\nread 2\nread 3\nread 4\nread 5\nend\n";
 
 /// A burst over several periods, whose reader tries once.
 const BURST: &str =
@@ -136,6 +149,18 @@ const FULL_RING: &str =
     work 1 user ip=5 a=1\nwork 1 user ip=5 a=1\ntool 0\nopen 0 kind=a task=all cpu=0 period=1 sample=1\n\
     map 0 0\nwhy 0\nreader 0 tries=2 batch=1\nend\n";
 
+/// One event, a stretch of work and a read, in no order of their own.
+const NO_ORDER: &str =
+    "perf 1\nmachine cpus=1 counters=1\nkind cycles mask=1\nprocessor 0\nwork 100 user cycles=500\n\
+    tool 0\nopen 0 kind=cycles task=all cpu=0 format=3\nread 0\nend\n";
+
+/// The reports of the three orders that a run of it may have.
+const OF_EACH_ORDER: [&[u8]; 3] = [
+    b"order t0 p0 t0\nt0.1 read 500 100 100\nend\n",
+    b"order t0 t0 p0\nt0.1 read 0 0 0\nend\n",
+    b"order p0 t0 t0\nt0.1 read 0 0 0\nend\n",
+];
+
 /// What a run of a text writes, with its answer.
 fn run<R: Threads + Wait + Sync, G: Gate + Sync>(
     rt: &R,
@@ -150,6 +175,14 @@ fn run<R: Threads + Wait + Sync, G: Gate + Sync>(
     let mut notes = MemSink::new(alloc, 9, Vec::new(alloc), 1000)?;
     let status = perf_main(rt, alloc, &words, &mut source, &mut sink, &mut notes, gate);
     Ok((status, sink))
+}
+
+#[test]
+fn a_script_without_order_is_run(rt: HostRuntime) -> Result<(), Fail> {
+    let (status, sink) = run(&rt, rt.alloc(), NO_ORDER, &OpenGate)?;
+    assert_eq!(rt; status, Status::Done);
+    assert!(rt; OF_EACH_ORDER.iter().any(|report| sink.bytes() == *report));
+    Ok(())
 }
 
 #[test]
