@@ -56,7 +56,7 @@ def blocks(text, names):
     """The lines of a source file, each with whether it is of something that the crate hands out."""
     block, is_public = None, False
     for line in text.splitlines():
-        if line and not line[0].isspace():
+        if line and not line[0].isspace() and line[0] not in ")}{":
             opened = BLOCK.match(line)
             block = opened[1] if opened else None
             is_public = block in names

@@ -27,12 +27,14 @@ class Script:
     """The lines of a script, by actor, and its order."""
 
     def __init__(self, text):
-        self.head, self.lines, self.order, actor = [], {}, [], None
+        self.head, self.lines, self.readers, self.order, actor = [], {}, [], [], None
         for line in text.splitlines():
             word, *rest = line.split(" ")
             if word in ("processor", "tool"):
                 actor = word[0] + rest[0]
                 self.lines[actor] = []
+            elif word == "reader":
+                self.readers.append(line)
             elif word == "order":
                 self.order += rest
             elif word != "end" and actor is None:
@@ -55,6 +57,7 @@ class Script:
         blocks = [*self.head]
         for actor in sorted(self.lines):
             blocks += [("processor " if actor[0] == "p" else "tool ") + actor[1:], *self.lines[actor]]
+        blocks += self.readers
         blocks += ["order " + " ".join(self.order[i : i + 200]) for i in range(0, len(self.order), 200)]
         return "\n".join([*blocks, "end"]) + "\n"
 
@@ -67,6 +70,9 @@ def with_questions(script):
     asker, done, opened, order, before = free[0], {}, set(), [], []
     script.lines[asker] = []
     for number, act in enumerate(script.order):
+        if act[0] == "s":
+            order.append(act)
+            continue
         line = script.lines[act][done.get(act, 0)]
         done[act] = done.get(act, 0) + 1
         if act[0] == "p" and line.startswith("work "):
@@ -99,6 +105,8 @@ def stretches(script, acts, asker, before, told):
         asked.setdefault(before[number], []).append((line.split(" "), told.get(f"{asker}.{number}", [])))
     done, clock, tasks, contexts, found = {}, {}, {}, {}, []
     for number, act in enumerate(acts):
+        if act[0] == "s":
+            continue
         place = done.get(act, 0)
         line, answer = script.lines[act][place].split(" "), told.get(f"{act}.{place}")
         done[act] = place + 1
