@@ -10,7 +10,9 @@ use Rattle.line_forms.specs.Keyword.{looked_up}
 use Rattle.line_forms.specs.declared.stop.LineStop.{LineStop}
 use Rattle.line_forms.specs.declared.stop.LineStop.TheVariants as stop
 use Rattle.line_forms.specs.Words.{◌>>=◌, next_of}
-use Rattle.line_forms.specs.Bodies.{each_word, pair_of, pairs_in}
+use Rattle.perf_base.specs.declared.acts.Act.{Act}
+use Rattle.line_forms.specs.Bodies.{each_word, act_in, pair_of, pairs_in}
+use Rattle.line_forms.specs.Lists.{acts_in}
 use Rattle.line_forms.specs.Stop.{Stops}
 
 -- what was read before, and what is still read
@@ -53,6 +55,22 @@ unfolding each_word
 each_end f front xs whole n so_far =
     let one : with_front front (each_word f []) ≡ Some front = ap Some (append-nil front) in
     sym so_far ∙ (ap (λ (ys : List (List ℕ)). with_front front (each_word f ys)) (next_nil xs n) ∙ one)
+
+pub nothing_read : {A : Type 0} (read : Option (List A)) → with_front [] read ≡ read
+nothing_read (Some xs) = refl
+nothing_read None = refl
+
+-- where each word says an act, the acts from the left are all
+pub all_acts : (words : List (List ℕ)) (acts : List Act) → each_word act_in words ≡ Some acts → acts_in words ≡ acts
+unfolding each_word
+all_acts [] acts e = cc
+all_acts (word ∷ words) acts e = by_first (act_in word) (each_word act_in words) refl (λ rest m. all_acts words rest m) e
+  where
+    by_first : (first : Option Act) (more : Option (List Act)) → each_word act_in words ≡ more → ((rest : List Act) → each_word act_in words ≡ Some rest → acts_in words ≡ rest)
+        → (first >>= λ a. more >>= λ rest. Some (a ∷ rest)) ≡ Some acts → elim first as (λ _. List Act) [ Some a ↦ a ∷ acts_in words | None ↦ [] ] ≡ acts
+    by_first None more m again e = absurd cc
+    by_first (Some a) None m again e = absurd cc
+    by_first (Some a) (Some rest) m again e = rw (again rest m) cc
 
 -- pairs of digits
 pub pairs_step : (bytes rest whole : List ℕ) → 2 ≤ length rest → bytes ++ pairs_in rest ≡ whole

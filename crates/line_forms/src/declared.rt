@@ -5,16 +5,13 @@ ghost use Rattle.std.specs.Option.{option_map};
 ghost use Rattle.script_spec.specs.Forms as text;
 ghost use Rattle.line_forms.specs.Words.{left};
 ghost use Rattle.line_forms.specs.Bodies as says;
-ghost use Rattle.line_forms.specs.Stop.{Gives};
 ghost use Rattle.line_forms.specs.Seen.{form_of, version_of};
 
 use crate::forms::{Form, Version};
 use crate::leaves::{decimal_at, hexadecimal_at, name_at, same};
-use crate::lists::acts;
+use crate::lists::order_acts;
 use crate::shapes::{at_end, one_number};
-use crate::stop::LineStop;
 use crate::words::Words;
-use std::alloc::Global;
 
 fn version_text(version: Version) -> &'static [u8]
     ensures { result.now ≡ text.version_text (version_of version) }
@@ -26,7 +23,7 @@ fn version_text(version: Version) -> &'static [u8]
 }
 
 #[tactic(auto, unfolding(crate::specs::Bodies::perf_at))]
-pub fn perf(version: Version, words: Words<'_>) -> Option<Form>
+pub fn perf(version: Version, words: Words<'_>) -> Option<Form<'_>>
     ensures { option_map form_of result ≡ says.perf_at (version_of version) (left words.entry) }
 {
     let (word, words) = words.next()?;
@@ -39,7 +36,7 @@ pub fn perf(version: Version, words: Words<'_>) -> Option<Form>
 }
 
 #[tactic(auto, unfolding(crate::specs::Bodies::machine_at))]
-pub fn machine(words: Words<'_>) -> Option<Form>
+pub fn machine(words: Words<'_>) -> Option<Form<'_>>
     ensures { option_map form_of result ≡ says.machine_at (left words.entry) }
 {
     let (cpus, words) = decimal_at(words, b"cpus=")?;
@@ -49,7 +46,7 @@ pub fn machine(words: Words<'_>) -> Option<Form>
 }
 
 #[tactic(auto, unfolding(crate::specs::Bodies::machine_of_pmus_at))]
-pub fn machine_of_pmus(words: Words<'_>) -> Option<Form>
+pub fn machine_of_pmus(words: Words<'_>) -> Option<Form<'_>>
     ensures { option_map form_of result ≡ says.machine_of_pmus_at (left words.entry) }
 {
     let (cpus, words) = decimal_at(words, b"cpus=")?;
@@ -58,7 +55,7 @@ pub fn machine_of_pmus(words: Words<'_>) -> Option<Form>
 }
 
 #[tactic(auto, unfolding(crate::specs::Bodies::pmu_at))]
-pub fn pmu(words: Words<'_>) -> Option<Form>
+pub fn pmu(words: Words<'_>) -> Option<Form<'_>>
     ensures { option_map form_of result ≡ says.pmu_at (left words.entry) }
 {
     let (number, words) = decimal_at(words, b"")?;
@@ -73,7 +70,7 @@ pub fn pmu(words: Words<'_>) -> Option<Form>
 }
 
 #[tactic(auto, unfolding(crate::specs::Bodies::kind_at))]
-pub fn kind(words: Words<'_>) -> Option<Form>
+pub fn kind(words: Words<'_>) -> Option<Form<'_>>
     ensures { option_map form_of result ≡ says.kind_at (left words.entry) }
 {
     let Some((name, words)) = name_at(words, b"") else {
@@ -85,7 +82,7 @@ pub fn kind(words: Words<'_>) -> Option<Form>
 }
 
 #[tactic(auto, unfolding(crate::specs::Bodies::kind_of_pmu_at))]
-pub fn kind_of_pmu(words: Words<'_>) -> Option<Form>
+pub fn kind_of_pmu(words: Words<'_>) -> Option<Form<'_>>
     ensures { option_map form_of result ≡ says.kind_of_pmu_at (left words.entry) }
 {
     let Some((name, words)) = name_at(words, b"") else {
@@ -97,7 +94,7 @@ pub fn kind_of_pmu(words: Words<'_>) -> Option<Form>
     Some(Form::KindOfPmu { name, pmu, mask })
 }
 
-pub fn task(words: Words<'_>) -> Option<Form>
+pub fn task(words: Words<'_>) -> Option<Form<'_>>
     ensures { option_map form_of result ≡ says.task_at (left words.entry) }
 {
     let number = one_number(words)?;
@@ -105,7 +102,7 @@ pub fn task(words: Words<'_>) -> Option<Form>
 }
 
 #[tactic(auto, unfolding(crate::specs::Bodies::ring_at))]
-pub fn ring(words: Words<'_>) -> Option<Form>
+pub fn ring(words: Words<'_>) -> Option<Form<'_>>
     ensures { option_map form_of result ≡ says.ring_at (left words.entry) }
 {
     let (number, words) = decimal_at(words, b"")?;
@@ -114,14 +111,14 @@ pub fn ring(words: Words<'_>) -> Option<Form>
     Some(Form::Ring { number, bytes })
 }
 
-pub fn processor(words: Words<'_>) -> Option<Form>
+pub fn processor(words: Words<'_>) -> Option<Form<'_>>
     ensures { option_map form_of result ≡ says.processor_at (left words.entry) }
 {
     let number = one_number(words)?;
     Some(Form::Processor { number })
 }
 
-pub fn tool(words: Words<'_>) -> Option<Form>
+pub fn tool(words: Words<'_>) -> Option<Form<'_>>
     ensures { option_map form_of result ≡ says.tool_at (left words.entry) }
 {
     let number = one_number(words)?;
@@ -129,7 +126,7 @@ pub fn tool(words: Words<'_>) -> Option<Form>
 }
 
 #[tactic(auto, unfolding(crate::specs::Bodies::reader_at))]
-pub fn reader(words: Words<'_>) -> Option<Form>
+pub fn reader(words: Words<'_>) -> Option<Form<'_>>
     ensures { option_map form_of result ≡ says.reader_at (left words.entry) }
 {
     let (ring, words) = decimal_at(words, b"")?;
@@ -139,13 +136,13 @@ pub fn reader(words: Words<'_>) -> Option<Form>
     Some(Form::Reader { ring, tries, batch })
 }
 
-pub fn order(alloc: Global, words: Words<'_>) -> Result<Form, LineStop>
-    ensures { Gives form_of result (says.order_at (left words.entry)) }
+pub fn order(words: Words<'_>) -> Option<Form<'_>>
+    ensures { option_map form_of result ≡ says.order_at (left words.entry) }
 {
-    Ok(Form::Order(acts(alloc, words)?))
+    Some(Form::Order(order_acts(words)?))
 }
 
-pub fn end(words: Words<'_>) -> Option<Form>
+pub fn end(words: Words<'_>) -> Option<Form<'_>>
     ensures { option_map form_of result ≡ says.end_at (left words.entry) }
 {
     at_end(words, Form::End)

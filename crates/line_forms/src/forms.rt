@@ -1,5 +1,6 @@
 //! The forms of a line, with their numbers as they are spelled.
 
+use crate::lists::Acts;
 use perf_base::{Mode, Name};
 
 /// The version of a text: one PMU on all processors, or PMUs of their own.
@@ -112,9 +113,9 @@ pub enum SpelledAct {
     Seen(u128, u128),
 }
 
-/// The forms of a line.
+/// The forms of a line. The acts of an order stay in the line.
 #[derive(Drop)]
-pub enum Form {
+pub enum Form<'a> {
     Perf(Version),
     Machine {
         cpus: u128,
@@ -157,6 +158,6 @@ pub enum Form {
         tries: u128,
         batch: u128,
     },
-    Order(Vec<SpelledAct>),
+    Order(Acts<'a>),
     End,
 }

@@ -72,9 +72,9 @@ const KEYWORDS: [(&[u8], Keyword); 27] = [
 pub fn keyword_of(word: &[u8]) -> Option<Keyword>
     ensures { result ≡ says.keyword_of word.now }
 {
-    for (text, keyword) in KEYWORDS {
+    for (text, keyword) in &KEYWORDS {
         if same(word, text) {
-            return Some(keyword);
+            return Some(*keyword);
         }
     }
     None

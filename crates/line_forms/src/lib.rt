@@ -19,7 +19,7 @@ mod tool_forms;
 mod words;
 
 pub use forms::{Asked, CpuForm, Form, Hit, Opening, SpelledAct, ToolForm, Version, Working};
-pub use lists::{MOST_BYTES, read_bytes};
+pub use lists::{Acts, MOST_BYTES, read_bytes};
 pub use reading::read_form;
 pub use stop::LineStop;
 pub use words::cut;

@@ -7,7 +7,8 @@ ghost use Rattle.line_forms.specs.Words.{left};
 ghost use Rattle.line_forms.specs.Bodies as says;
 ghost use Rattle.line_forms.specs.Bodies.{each_word, hit_in, act_in};
 ghost use Rattle.line_forms.specs.Stop.{Gives};
-ghost use Rattle.line_forms.specs.Seen.{act_of, hit_of};
+ghost use Rattle.line_forms.specs.Lists.{first_act};
+ghost use Rattle.line_forms.specs.Seen.{act_of, acts_of, hit_of};
 
 use crate::forms::{Hit, SpelledAct};
 use crate::leaves::{HEXADECIMAL, are_digits, decimal, digit, name};
@@ -81,18 +82,33 @@ fn act(word: &[u8]) -> Option<SpelledAct>
     }
 }
 
+/// The acts that words of a line say, from the left. They take no memory: each is read again whenever it is looked at.
+#[derive(Clone, Copy)]
+pub struct Acts<'a> {
+    words: Words<'a>,
+}
+
+impl<'a> Acts<'a> {
+    /// The first act, and those behind it. None where none is left.
+    pub fn next(self) -> Option<(SpelledAct, Acts<'a>)>
+        ensures { option_map (λ x. (act_of x.0, acts_of x.1)) result ≡ first_act (acts_of self.entry) }
+    {
+        let (word, words) = self.words.next()?;
+        let act = act(word)?;
+        Some((act, Acts { words }))
+    }
+}
+
 /// The acts that the words spell.
-pub fn acts(alloc: Global, words: Words<'_>) -> Result<Vec<SpelledAct>, LineStop>
-    ensures { Gives (λ v. map act_of v.items) result (each_word act_in (left words.entry)) }
+pub fn order_acts(words: Words<'_>) -> Option<Acts<'_>>
+    ensures { option_map acts_of result ≡ each_word act_in (left words.entry) }
 {
-    let mut acts = Vec::new(alloc);
     let mut rest = words;
     while let Some((word, more)) = rest.next() {
-        let act = act(word).ok_or(LineStop::NoForm)?;
-        acts.push(act)?;
+        let _ = act(word)?;
         rest = more;
     }
-    Ok(acts)
+    Some(Acts { words })
 }
 
 fn is_bytes(text: &[u8]) -> bool

@@ -25,21 +25,21 @@ use crate::words::Words;
 use std::alloc::Global;
 
 /// A form that declares something, if there is one.
-fn declared(found: Option<Form>) -> Result<Form, LineStop>
-    ensures { Gives form_of result (option_map form_of found) }
+fn declared(found: Option<Form<'_>>) -> Result<Form<'_>, LineStop>
+    ensures { Gives form_of result (option_map form_of found.entry) }
 {
     found.ok_or(LineStop::NoForm)
 }
 
 /// A form under a processor, if there is one.
-fn on_processor(found: Option<CpuForm>) -> Result<Form, LineStop>
+fn on_processor(found: Option<CpuForm>) -> Result<Form<'static>, LineStop>
     ensures { Gives form_of result (option_map form.OnProcessor (option_map cpu_form_of found)) }
 {
     Ok(Form::OnProcessor(found.ok_or(LineStop::NoForm)?))
 }
 
 /// A form under a tool, if there is one.
-fn on_tool(found: Option<ToolForm>) -> Result<Form, LineStop>
+fn on_tool(found: Option<ToolForm>) -> Result<Form<'static>, LineStop>
     ensures { Gives form_of result (option_map form.OnTool (option_map tool_form_of found)) }
 {
     Ok(Form::OnTool(found.ok_or(LineStop::NoForm)?))
@@ -52,7 +52,7 @@ fn body(
     version: Version,
     keyword: Keyword,
     words: Words<'_>,
-) -> Result<Form, LineStop>
+) -> Result<Form<'_>, LineStop>
     ensures { Gives form_of result (body_at (version_of version) keyword (left words.entry)) }
 {
     match (version, keyword) {
@@ -84,14 +84,14 @@ fn body(
         (_, Keyword::Why) => on_tool(why(words)),
         (_, Keyword::Seats) => on_tool(seats(words)),
         (_, Keyword::Reader) => declared(reader(words)),
-        (_, Keyword::Order) => order(alloc, words),
+        (_, Keyword::Order) => declared(order(words)),
         (_, Keyword::End) => declared(end(words)),
     }
 }
 
 /// The form of a line by its words.
 #[tactic(auto, unfolding(crate::specs::Reading::form_at))]
-fn form_of_words(alloc: Global, version: Version, words: Words<'_>) -> Result<Form, LineStop>
+fn form_of_words(alloc: Global, version: Version, words: Words<'_>) -> Result<Form<'_>, LineStop>
     ensures { Gives form_of result (form_at (version_of version) (left words.entry)) }
 {
     let (word, words) = words.next().ok_or(LineStop::NoForm)?;
@@ -100,8 +100,8 @@ fn form_of_words(alloc: Global, version: Version, words: Words<'_>) -> Result<Fo
 }
 
 /// The form of a line, in a text of a version. NoForm exactly where it is of none; a line is of at most one.
-/// Memory is taken for what a work line, an order and bytes hold, in proportion to the line.
-pub fn read_form(alloc: Global, version: Version, line: &[u8]) -> Result<Form, LineStop>
+/// Memory is taken for what a work line and bytes hold, in proportion to the line.
+pub fn read_form(alloc: Global, version: Version, line: &[u8]) -> Result<Form<'_>, LineStop>
     ensures ok { IfOk result (λ f. IsOfForm (version_of version) (words_of line.now) (form_of f)) }
     ensures one { IfOk result (λ f. (g : form.Form) → IsOfForm (version_of version) (words_of line.now) g → g ≡ form_of f) }
     ensures none { result ≡ Err LineStop.NoForm → (g : form.Form) → IsOfForm (version_of version) (words_of line.now) g → ⊥ }

@@ -1,6 +1,6 @@
 //! Lines that are of a form, and lines that are of none.
 
-use crate::{Form, LineStop, MOST_BYTES, Version, read_bytes, read_form};
+use crate::{Acts, Form, LineStop, MOST_BYTES, SpelledAct, Version, read_bytes, read_form};
 use std::alloc::Global;
 use std::test::Fail;
 
@@ -97,6 +97,37 @@ fn mask_of(alloc: Global, line: &[u8]) -> Option<u128> {
 fn masks_are_read(rt: HostRuntime) -> Result<(), Fail> {
     assert_eq!(rt; mask_of(rt.alloc(), b"kind cycles mask=1f"), Some(31));
     assert_eq!(rt; mask_of(rt.alloc(), b"kind a mask=0"), Some(0));
+    Ok(())
+}
+
+/// The act behind as many others.
+fn act_behind(count: usize, acts: Acts<'_>) -> Option<SpelledAct> {
+    let mut rest = acts;
+    for _ in 0..count {
+        let (_, more) = rest.next()?;
+        rest = more;
+    }
+    let (act, _) = rest.next()?;
+    Some(act)
+}
+
+/// The act of an order line behind as many others.
+fn act_of(alloc: Global, line: &[u8], count: usize) -> Option<SpelledAct> {
+    match read_form(alloc, Version::One, line) {
+        Ok(Form::Order(acts)) => act_behind(count, acts),
+        _ => None,
+    }
+}
+
+#[test]
+fn acts_are_read_from_the_left(rt: HostRuntime) -> Result<(), Fail> {
+    let line = b"order p0 t3 s15=18446744073709551616";
+    let seen = SpelledAct::Seen(15, 18446744073709551616);
+    assert_eq!(rt; act_of(rt.alloc(), line, 0), Some(SpelledAct::Processor(0)));
+    assert_eq!(rt; act_of(rt.alloc(), line, 1), Some(SpelledAct::Tool(3)));
+    assert_eq!(rt; act_of(rt.alloc(), line, 2), Some(seen));
+    assert_eq!(rt; act_of(rt.alloc(), line, 3), None);
+    assert_eq!(rt; act_of(rt.alloc(), b"order", 0), None);
     Ok(())
 }
 

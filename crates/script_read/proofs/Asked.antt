@@ -22,7 +22,7 @@ use Rattle.script_spec.specs.Forms as form
 use Rattle.script_spec.specs.Forms.{Hit, Working, CpuForm, Opening, ToolForm, Form}
 use Rattle.script_spec.specs.Faults.{IsPrintable, IsNoEnd, section, IsInOrder, AreCovered, IsUnder, IsBehindPmus, IsPlaced, IsBetween, IsTaskNumber, IsSlotNumber, IsAmount, IsNextPmu, IsCpuFormInRange, IsOpeningInRange, IsToolFormInRange, IsInRange, HasAttr, IsNewName, AreKinds, IsCpuFormNamed, IsToolFormNamed, IsNamed, IsWithinLimits, IsLight, IsWide}
 use Rattle.script_spec.specs.Meaning.{cpus_in, pmus_in, kinds_in, tasks_in, rings_in, processors_in, tools_in, readers_in, kind_named, kind_of_bytes, last_of, script_of}
-use Rattle.script_read.specs.Progressing.{AsksOf}
+use Rattle.script_read.specs.Progress.{AsksOf}
 use Rattle.script_read.proofs.Known.{Known, Yes, No, known_as, both, all_three, all_four, known_not, below, at_most, same_number, same_text, known_empty, known_missing, known_some, known_if_some, known_all, known_any, known_pairs, known_below, some_below}
 
 pub known_printable : (line : List ℕ) → Known (All IsPrintable line)

@@ -17,14 +17,14 @@ use Rattle.script_read.specs.declared.state.State.{State}
 use Rattle.script_read.specs.declared.state.Section.TheVariants as part
 use Rattle.script_read.specs.declared.progress.Progress.{Progress}
 use Rattle.script_read.specs.declared.progress.Progress.TheVariants as progress
-use Rattle.script_read.specs.States.{rank_of, union_of, cpu_number, tool_number, Follows}
-use Rattle.script_read.specs.Adding.{Asks, IsKept, IsSoundState}
-use Rattle.script_read.specs.Progressing.{Behind, AsksOf, IsFirstOf, IsTaken, ended_of}
+use Rattle.script_read.specs.State.{rank_of, union_of, cpu_number, tool_number, Follows}
+use Rattle.script_read.specs.Adding.{IsSoundState}
+use Rattle.script_read.specs.Progress.{Behind, AsksOf, IsFirstOf, IsTaken, ended_of}
 use Rattle.script_read.proofs.Following.{script_cpus}
 
 -- ---- the first line
 
-pub perf_taken : (v : Version) → IsTaken [] (form.Perf v) progress.Begun
+pub perf_taken : (v : Version) → IsTaken [] (form.Perf v) progress.Version
 perf_taken v = record { asks = asks; behind = (v, refl) }
   where
     asks : (q : SReason) → AsksOf [] (form.Perf v) q
@@ -99,10 +99,10 @@ bare_asks before cpus p r reason.Place = p
 bare_asks before cpus p r reason.Range = r
 bare_asks before cpus p r other = tt
 
-pub machine_taken : (v : Version) (cpus counters : ℕ) (s : State) → IsInRange (form.Perf v ∷ []) (form.Machine cpus counters) → Follows (form.Perf v ∷ form.Machine cpus counters ∷ []) s → IsTaken (form.Perf v ∷ []) (form.Machine cpus counters) (progress.Told s)
+pub machine_taken : (v : Version) (cpus counters : ℕ) (s : State) → IsInRange (form.Perf v ∷ []) (form.Machine cpus counters) → Follows (form.Perf v ∷ form.Machine cpus counters ∷ []) s → IsTaken (form.Perf v ∷ []) (form.Machine cpus counters) (progress.Machine s)
 machine_taken v cpus counters s r h = record { asks = machine_asks (form.Perf v ∷ []) cpus counters refl r; behind = h }
 
-pub bare_taken : (v : Version) (cpus : ℕ) (s : State) → IsInRange (form.Perf v ∷ []) (form.MachineOfPmus cpus) → Follows (form.Perf v ∷ form.MachineOfPmus cpus ∷ []) s → IsTaken (form.Perf v ∷ []) (form.MachineOfPmus cpus) (progress.Told s)
+pub bare_taken : (v : Version) (cpus : ℕ) (s : State) → IsInRange (form.Perf v ∷ []) (form.MachineOfPmus cpus) → Follows (form.Perf v ∷ form.MachineOfPmus cpus ∷ []) s → IsTaken (form.Perf v ∷ []) (form.MachineOfPmus cpus) (progress.Machine s)
 bare_taken v cpus s r h = record { asks = bare_asks (form.Perf v ∷ []) cpus refl r; behind = h }
 
 or_none : (n : ℕ) → n ≡ bit_or n 0
@@ -154,9 +154,6 @@ sound_state forms s h = record {
   named = h.named ∙ ap (λ (x : Scripted). union_of x.pmus) (sym h.script);
 }
 
-pub kept_form : (s : State) (f : Form) → ((q : SReason) → Asks s f q) → IsKept s f
-kept_form s f h = record { range = h reason.Range; attr = h reason.Attr; name = h reason.Name; limit = h reason.Limit }
-
 -- ---- the end
 
 end_section : (f : Form) → section f ≡ 10 → IsNoEnd f → ⊥
@@ -172,9 +169,9 @@ low_all : (forms : List Form) (n : ℕ) → n < 10 → All (λ g. section g ≤ 
 low_all forms n l h = λ k d w. low_section (get_or forms k d) (omega (arith, l, h k d w))
 
 pub ended_true : (forms : List Form) (p : Progress) → Behind forms p → ended_of p ≡ true → All IsNoEnd forms → ⊥
-ended_true forms progress.Start b e all = absurd cc
-ended_true forms progress.Begun b e all = absurd cc
-ended_true forms (progress.Told s) h e all =
+ended_true forms progress.Nothing b e all = absurd cc
+ended_true forms progress.Version b e all = absurd cc
+ended_true forms (progress.Machine s) h e all =
     let a = h.reached in
     end_section (get_or forms a.0 a.1) (ap section a.3 ∙ (a.4 ∙ eqb-true _ _ e)) (all a.0 a.1 a.2)
 
@@ -195,9 +192,9 @@ rank_high s = go s.section
     go part.End = omega arith
 
 pub ended_false : (forms : List Form) (p : Progress) → Behind forms p → ended_of p ≡ false → All IsNoEnd forms
-ended_false forms progress.Start b e = rw b (λ k d l. absurd (omega (arith, l)))
-ended_false forms progress.Begun b e = rw b.1 (All-cons IsNoEnd (form.Perf b.0) [] tt (λ k d l. absurd (omega (arith, l))))
-ended_false forms (progress.Told s) h e =
+ended_false forms progress.Nothing b e = rw b (λ k d l. absurd (omega (arith, l)))
+ended_false forms progress.Version b e = rw b.1 (All-cons IsNoEnd (form.Perf b.0) [] tt (λ k d l. absurd (omega (arith, l))))
+ended_false forms (progress.Machine s) h e =
     let ne : rank_of s.section ≢ 10 = eqb-false _ _ e in
     let high = rank_high s in
     low_all forms (rank_of s.section) (omega (arith, ne, high)) h.highest

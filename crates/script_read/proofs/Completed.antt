@@ -12,7 +12,7 @@ use Rattle.perf_base.specs.declared.acts.Act.{Act}
 use Rattle.perf_base.specs.declared.acts.Act.TheVariants as act
 use Rattle.perf_base.specs.Scripts.{Scripted, IsScript, IsAct}
 use Rattle.stage_spec.specs.Order.{is_of_cpu, is_of_tool, IsComplete}
-use Rattle.script_read.specs.Completing.{IsCpuDone, IsToolDone}
+use Rattle.script_read.specs.Order.{IsCpuDone, IsToolDone}
 
 -- a processor or tool that there is not has no line, and so no act
 past_none : {X : Type 0} (lists : List (List X)) (n : ℕ) → length lists ≤ n → length (get_or lists n []) ≡ 0

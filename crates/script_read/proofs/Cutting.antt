@@ -5,7 +5,7 @@ use Rattle.script_spec.specs.Lines.{pieces, all_but_last, last_one}
 use Rattle.line_forms.specs.Words.{cut}
 use Rattle.line_forms.proofs.Cuts.{pieces_cut, pieces_behind}
 use Rattle.line_forms.proofs.Optionals.{join_pieces}
-use Rattle.script_read.specs.Finishing.{IsNextLine, HasNoLine}
+use Rattle.script_read.specs.Reading.{IsNextLine, HasNoLine}
 
 pub no_line : (text front : List ℕ) → (front, None) ≡ cut 10 text → HasNoLine text
 no_line text front e =

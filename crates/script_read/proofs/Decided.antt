@@ -15,7 +15,7 @@ use Rattle.script_spec.specs.Faults.{IsNoEnd, IsPrintable, IsSound, IsFaulty, ra
 use Rattle.script_spec.specs.Texts.{version_of, AreSound, StandsFor, IsRefused}
 use Rattle.line_forms.specs.Reading.{form_at}
 use Rattle.line_forms.proofs.Laws.{form-takes, form-again, one_form}
-use Rattle.script_read.specs.Progressing.{AsksOf, IsFirstOf}
+use Rattle.script_read.specs.Progress.{AsksOf, IsFirstOf}
 use Rattle.script_read.proofs.Begun.{sound_line, faulty_line, form_faulty, ascii_faulty, end_faulty}
 use Rattle.script_read.proofs.Whole.{sound_more}
 use Rattle.script_read.proofs.OneAnswer.{ranked, ranked_back}

@@ -22,7 +22,7 @@ use Rattle.script_spec.specs.Forms as form
 use Rattle.script_spec.specs.Forms.{Hit, CpuForm, ToolForm, Opening, Asked, IsAsked}
 use Rattle.script_spec.specs.Faults.{IsAmount, IsCpuFormInRange, IsToolFormInRange}
 use Rattle.script_spec.specs.Meaning.{number_of, software_kind, kind_named, kind_numbered, kind_of_bytes, times_of, or_zero, cpu_line_of, tool_line_of, task_sel, cpu_sel, slot, open_line, asked_attr, bytes_attr}
-use Rattle.script_read.specs.Naming.{IsToolFormNamedOf}
+use Rattle.script_read.specs.Names.{IsToolFormNamedOf}
 
 -- the order of acts says nothing of who has lines
 pub IsAct_order : (s : Scripted) (order : List Act) (a : Act) → IsAct s a → IsAct (record s { order = order }) a

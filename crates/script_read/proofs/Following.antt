@@ -12,8 +12,9 @@ use Rattle.script_spec.specs.Forms.{Form}
 use Rattle.script_spec.specs.Meaning.{machine_cpus, pmu_said, processor_said, tool_said, cpus_in, pmus_in, processors_in, tools_in, last_of, script_of}
 use Rattle.script_spec.specs.Faults.{section}
 use Rattle.script_read.specs.declared.state.State.{State}
-use Rattle.script_read.specs.States.{rank_of, part_of, cpu_number, tool_number, union_of, IsGreatest, Follows}
-use Rattle.script_read.specs.Checks.{IsPlacedOf, IsInRangeOf}
+use Rattle.script_read.specs.State.{rank_of, part_of, cpu_number, tool_number, union_of, IsGreatest, Follows}
+use Rattle.script_read.specs.Place.{IsPlacedOf}
+use Rattle.script_read.specs.Numbers.{IsInRangeOf}
 use Rattle.script_spec.specs.Saying.{said_by, IsLater}
 use Rattle.script_read.specs.Adding.{next_cpu, next_tool, next_named, IsAdded}
 use Rattle.script_spec.proofs.Snoc.{pushed}

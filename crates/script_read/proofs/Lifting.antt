@@ -12,11 +12,14 @@ use Rattle.script_spec.specs.Forms.{Form, CpuForm, ToolForm}
 use Rattle.script_spec.specs.Meaning.{pmus_in, processors_in, tools_in, last_of, script_of}
 use Rattle.script_spec.specs.Faults.{section, IsInOrder, AreCovered, IsUnder, IsBehindPmus, IsPlaced, IsInRange, IsCpuFormNamed, IsToolFormNamed, IsNamed}
 use Rattle.script_read.specs.declared.state.State.{State}
-use Rattle.script_read.specs.States.{rank_of, cpu_number, tool_number, union_of, IsGreatest, Follows}
-use Rattle.script_read.specs.Checks.{IsCoveredOf, IsUnderOf, IsInOrderOf, IsBehindOf, IsPlacedOf, IsInRangeOf}
-use Rattle.script_read.specs.Naming.{IsCpuFormNamedOf, IsToolFormNamedOf, IsNamedOf, IsWithinLimitsOf, IsLightOf}
-use Rattle.script_read.specs.Adding.{Asks, IsFirst}
-use Rattle.script_read.specs.Progressing.{AsksOf, IsFirstOf}
+use Rattle.script_read.specs.State.{rank_of, cpu_number, tool_number, union_of, IsGreatest, Follows}
+use Rattle.script_read.specs.Place.{IsCoveredOf, IsUnderOf, IsInOrderOf, IsBehindOf, IsPlacedOf}
+use Rattle.script_read.specs.Numbers.{IsInRangeOf}
+use Rattle.script_read.specs.Names.{IsCpuFormNamedOf, IsToolFormNamedOf, IsNamedOf, IsWithinLimitsOf, IsLightOf}
+use Rattle.script_read.specs.declared.fault.LineFault.{LineFault}
+use Rattle.script_read.specs.declared.fault.LineFault.TheVariants as fault
+use Rattle.script_read.specs.Adding.{Asks, IsFirst, Blames}
+use Rattle.script_read.specs.Progress.{AsksOf, IsFirstOf}
 use Rattle.script_read.proofs.Following.{rank_part, none_empty}
 use Rattle.script_read.proofs.Unions.{union_apart, apart_union, covered_any, any_covered}
 
@@ -152,8 +155,12 @@ asks_iff forms s f q h =
     let i = asks_said forms s f q h in
     (λ a. i.0 (subst (λ x. Asks x f q) e a), λ a. subst (λ x. Asks x f q) (sym e) (i.1 a))
 
-pub first_of_iff : (forms : List Form) (s : State) (f : Form) (r : SReason) → Follows forms s → IsFirst s f r → IsFirstOf forms f r
+first_of_iff : (forms : List Form) (s : State) (f : Form) (r : SReason) → Follows forms s → IsFirst s f r → IsFirstOf forms f r
 first_of_iff forms s f r h i = record {
   earlier = λ q l. (asks_iff forms s f q h).0 (i.earlier q l);
   broken = λ a. i.broken ((asks_iff forms s f r h).1 a);
 }
+
+pub blames_more : (forms : List Form) (s : State) (f : Form) (e : LineFault) → Follows forms s → Blames e (IsFirst s f) → Blames e (IsFirstOf forms f)
+blames_more forms s f (fault.Bad r) h first = first_of_iff forms s f r h first
+blames_more forms s f fault.NoMemory h first = tt

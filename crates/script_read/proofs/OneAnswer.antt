@@ -15,7 +15,7 @@ use Rattle.script_spec.specs.Texts.{version_of, AreSound, StandsFor, HasFaultyLi
 use Rattle.line_forms.proofs.Laws.{one_form}
 use Rattle.script_read.specs.declared.fault.ScriptFault.{ScriptFault}
 use Rattle.script_read.specs.declared.fault.ScriptFault.TheVariants as fault
-use Rattle.script_read.specs.Finishing.{IsBlamed}
+use Rattle.script_read.specs.Reading.{IsBlamed}
 
 take_front : {X : Type 0} (k n : ℕ) (xs : List X) → k ≤ n → take k (take n xs) ≡ take k xs
 take_front zero n xs l = refl

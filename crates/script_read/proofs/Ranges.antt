@@ -1,19 +1,18 @@
 -- Numbers, masks and lists in their ranges.
-use Rattle.std.proofs.Common.{◌≡◌, ℕ, ◌↔◌, Bool, false, List, [], ◌∷◌, map, All, Option, Some, None, option_map, subst, arith}
-use Rattle.std.specs.Prelude.{slice_get, MatchOption, IsTrue}
+use Rattle.std.proofs.Common.{◌≡◌, ℕ, ◌↔◌, List, [], ◌∷◌, map, All, Option, Some, None, option_map, subst, arith}
+use Rattle.std.proofs.lemmas.Option.{same_Some}
+use Rattle.std.specs.Prelude.{slice_get, MatchOption}
 use Rattle.std.proofs.lemmas.List.Elements.{All-cons, All-head, All-tail, All-map}
 use Rattle.perf_base.specs.Masks.{IsMask}
 use Rattle.perf_base.specs.declared.lines.PmuLine.{PmuLine}
 use Rattle.perf_base.specs.Scripts.{IsMaskOf}
 
-pub mask_iff : (pmus : List PmuLine) (pmu mask : ℕ) (r : Option ℕ) (b : Bool) → r ≡ option_map (λ p. p.counters) (slice_get pmus pmu)
-    → MatchOption r (b ≡ false) (λ c. IsTrue b ↔ IsMask c mask) → IsTrue b ↔ IsMaskOf pmus pmu mask
-mask_iff pmus pmu mask r b e h = go (slice_get pmus pmu) (subst (λ q. MatchOption q (b ≡ false) (λ c. IsTrue b ↔ IsMask c mask)) e h)
+pub mask_at : (pmus : List PmuLine) (pmu mask counters : ℕ) → Some counters ≡ option_map (λ p. p.counters) (slice_get pmus pmu) → IsMask counters mask → IsMaskOf pmus pmu mask
+mask_at pmus pmu mask counters e h = go (slice_get pmus pmu) e
   where
-    go : (o : Option PmuLine) → MatchOption (option_map (λ p. p.counters) o) (b ≡ false) (λ c. IsTrue b ↔ IsMask c mask)
-        → IsTrue b ↔ MatchOption o ⊥ (λ p. IsMask p.counters mask)
-    go (Some p) h = h
-    go None h = (λ t. absurd cc, λ bad. absurd bad)
+    go : (o : Option PmuLine) → Some counters ≡ option_map (λ p. p.counters) o → MatchOption o ⊥ (λ p. IsMask p.counters mask)
+    go (Some p) is = subst (λ n. IsMask n mask) (same_Some counters p.counters is) h
+    go None is = absurd cc
 
 pub un_map : {X Y : Type 0} (P : X → Type 0) (f : Y → X) (ys : List Y) → All P (map f ys) → All (λ y. P (f y)) ys
 un_map P f [] a = λ k d l. absurd (omega arith)

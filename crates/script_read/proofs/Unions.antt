@@ -10,7 +10,7 @@ use Rattle.perf_base.specs.declared.numbers.CpuNo.{CpuNo}
 use Rattle.perf_base.specs.declared.lines.PmuLine.{PmuLine}
 use Rattle.perf_base.specs.Cpus.{HasCpu}
 use Rattle.perf_base.proofs.Bits.{apart_bits}
-use Rattle.script_read.specs.States.{union_of}
+use Rattle.script_read.specs.State.{union_of}
 
 bits_apart : (a b : ℕ) → ((i : ℕ) → min (bit_at a i) (bit_at b i) ≡ 0) → bit_and a b ≡ 0
 bits_apart a b h = same_from_bits (bit_and a b) 0 (λ i. bit_at_and a b i ∙ (h i ∙ sym (bit_at-zero i)))

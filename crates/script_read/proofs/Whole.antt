@@ -18,8 +18,9 @@ use Rattle.script_read.specs.declared.fault.ScriptFault.{ScriptFault}
 use Rattle.script_read.specs.declared.fault.ScriptFault.TheVariants as fault
 use Rattle.script_read.specs.declared.fault.LineFault.{LineFault}
 use Rattle.script_read.specs.declared.fault.LineFault.TheVariants as line_fault
-use Rattle.script_read.specs.Progressing.{Behind, Blames, ended_of, IsTakenLine}
-use Rattle.script_read.specs.Finishing.{IsNextLine, HasNoLine, IsReading, Says, IsFinished, IsUnfinished, IsBlamed, blamed_of}
+use Rattle.script_read.specs.Adding.{Blames}
+use Rattle.script_read.specs.Progress.{Behind, ended_of, IsTakenLine}
+use Rattle.script_read.specs.Reading.{IsNextLine, HasNoLine, IsReading, Says, IsFinished, IsUnfinished, IsBlamed, blamed_of}
 use Rattle.script_read.proofs.Begun.{ended_false}
 
 get_last : {X : Type 0} (xs : List X) (x d : X) (rest : List X) → get_or (xs ++ x ∷ rest) (length xs) d ≡ x
@@ -54,7 +55,7 @@ split_more all front line more n e l =
 front_length : (text : List ℕ) (p : Progress) (n : ℕ) (left : List ℕ) (r : IsReading text p n left) → length (take n (lines_of text)) ≡ n
 front_length text p n left r = sym r.sound.as_many ∙ r.many
 
-pub reading_start : (text : List ℕ) → IsReading text progress.Start 0 text
+pub reading_start : (text : List ℕ) → IsReading text progress.Nothing 0 text
 reading_start text = record {
   forms = [];
   behind = refl;
@@ -116,16 +117,16 @@ end_form form.End e = refl
 end_form other e = absurd (omega (arith, e))
 
 has_end : (forms : List Form) (p : Progress) → Behind forms p → ended_of p ≡ true → Any (λ f. f ≡ form.End) forms
-has_end forms progress.Start b e = absurd cc
-has_end forms progress.Begun b e = absurd cc
-has_end forms (progress.Told s) h e =
+has_end forms progress.Nothing b e = absurd cc
+has_end forms progress.Version b e = absurd cc
+has_end forms (progress.Machine s) h e =
     let a = h.reached in
     (a.0, a.1, a.2, a.3, end_form a.1 (a.4 ∙ eqb-true _ _ e))
 
 says_script : (forms : List Form) (p : Progress) (s : Scripted) → Behind forms p → Says p s → s ≡ script_of forms
-says_script forms progress.Start s b h = absurd h
-says_script forms progress.Begun s b h = absurd h
-says_script forms (progress.Told t) s b h = h ∙ b.script
+says_script forms progress.Nothing s b h = absurd h
+says_script forms progress.Version s b h = absurd h
+says_script forms (progress.Machine t) s b h = h ∙ b.script
 
 pub stands : (text : List ℕ) (p : Progress) (n : ℕ) (left : List ℕ) (s : Scripted) → IsReading text p n left → HasNoLine left → IsFinished left p s → StandsFor text s
 stands text p n left s r x f =

@@ -1,5 +1,5 @@
 use Rattle.std.proofs.Common.{length}
-use Rattle.script_read.specs.Finishing.{IsReading}
+use Rattle.script_read.specs.Reading.{IsReading}
 use Rattle.script_read.proofs.reading.read.Given as goal
 
 abbrev pub invariant-loop-line : goal.invariant-loop-line

@@ -1,0 +1,7 @@
+use Rattle.std.proofs.Common.{◌≡◌, ◌<◌, ℕ, false}
+use Rattle.std.specs.Prelude.{slice_get, IfSome}
+use Rattle.std.specs.Str.{bytes_eq}
+use Rattle.script_read.proofs.names.number_of.Given as goal
+
+abbrev pub invariant-loop-kind : goal.invariant-loop-kind
+invariant-loop-kind l = (k : ℕ) → k < l.kind → IfSome (slice_get l.script.kinds k) (λ x. bytes_eq x.name l.name ≡ false)

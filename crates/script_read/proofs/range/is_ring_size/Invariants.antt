@@ -1,5 +1,0 @@
-use Rattle.std.proofs.Common.{ℕ, ◌≢◌, ◌≤◌, ◌<◌, ◌^◌}
-use Rattle.script_read.proofs.range.is_ring_size.Given as goal
-
-abbrev pub invariant-loop-exponent : goal.invariant-loop-exponent
-invariant-loop-exponent l = (k : ℕ) → 6 ≤ k → k < l.exponent → l.bytes ≢ 2 ^ k
