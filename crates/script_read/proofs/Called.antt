@@ -36,13 +36,6 @@ number_not_found (x ∷ kinds) name i past before =
     let t : ltb (length (x ∷ kinds)) (length (x ∷ kinds)) ≡ false = le-ltb _ _ (omega arith) in
     rw (n, t) refl
 
-pub one_more_other : (kinds : List KindLine) (name : List ℕ) (i : ℕ) → ((k : ℕ) → k < i → IfSome (slice_get kinds k) (λ y. bytes_eq y.name name ≡ false))
-    → IfSome (slice_get kinds i) (λ y. bytes_eq y.name name ≡ false) → (k : ℕ) → k < i + 1 → IfSome (slice_get kinds k) (λ y. bytes_eq y.name name ≡ false)
-one_more_other kinds name i before here k l = elim (cases_lt k i) [
-  | inl less ↦ before k less
-  | inr at ↦ let is : k ≡ i = omega arith in rw is here
-]
-
 none_within : (xs : List KindLine) (k : ℕ) → k < length xs → slice_get xs k ≡ None → ⊥
 none_within [] k l e = omega (arith, l)
 none_within (x ∷ xs) zero l e = absurd cc

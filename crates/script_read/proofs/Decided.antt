@@ -16,10 +16,10 @@ use Rattle.script_spec.specs.Texts.{version_of, AreSound, StandsFor, IsRefused}
 use Rattle.line_forms.specs.Reading.{form_at}
 use Rattle.line_forms.proofs.Laws.{form-takes, form-again, one_form}
 use Rattle.script_read.specs.Progress.{AsksOf, IsFirstOf}
-use Rattle.script_read.proofs.Begun.{sound_line, faulty_line, form_faulty, ascii_faulty, end_faulty}
+use Rattle.script_read.proofs.Beginning.{sound_line, faulty_line, form_faulty, ascii_faulty, end_faulty}
 use Rattle.script_read.proofs.Whole.{sound_more}
 use Rattle.script_read.proofs.OneAnswer.{ranked, ranked_back}
-use Rattle.script_read.proofs.Known.{Known, Yes, No, any_first, any_later}
+use Rattle.script_read.proofs.Known.{Yes, No, any_first, any_later}
 use Rattle.script_read.proofs.Asked.{known_printable, known_no_end, asked}
 
 -- ---- a form

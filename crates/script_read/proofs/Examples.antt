@@ -21,7 +21,7 @@ use Rattle.line_forms.specs.Leaves.{number, number_at, name, name_at}
 use Rattle.line_forms.specs.Words.{strip}
 use Rattle.line_forms.proofs.Laws.{form-takes, form-again, one_form}
 use Rattle.script_read.specs.Progress.{AsksOf, IsFirstOf}
-use Rattle.script_read.proofs.Begun.{sound_line, faulty_line, form_faulty, ascii_faulty, end_faulty, range_first, perf_taken, machine_asks, bare_asks, early}
+use Rattle.script_read.proofs.Beginning.{sound_line, faulty_line, form_faulty, ascii_faulty, end_faulty, range_first, perf_taken, machine_asks, bare_asks, early}
 use Rattle.script_read.proofs.Whole.{sound_more}
 
 -- ---- what all of them share

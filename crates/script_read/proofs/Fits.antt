@@ -13,22 +13,14 @@ use Rattle.perf_base.specs.declared.attr.Kind.TheVariants as kind
 use Rattle.perf_base.specs.declared.lines.PmuLine.{PmuLine}
 use Rattle.perf_base.specs.declared.lines.KindLine.{KindLine}
 use Rattle.perf_base.specs.declared.lines.ToolLine.{ToolLine}
-use Rattle.perf_base.specs.declared.acts.Act.{Act}
-use Rattle.perf_base.specs.declared.acts.Act.TheVariants as act
-use Rattle.perf_base.specs.Scripts.{Scripted, IsPmuLine, IsMaskOf, IsCpuLine, IsToolLine, IsKind, IsTaskSel, IsCpuSel, IsSlot, IsAct}
+use Rattle.perf_base.specs.Scripts.{Scripted, IsPmuLine, IsMaskOf, IsCpuLine, IsToolLine, IsKind, IsTaskSel, IsCpuSel, IsSlot}
 use Rattle.attr_bytes.proofs.Bits.{AreFlagsOf-word}
 use Rattle.attr_bytes.specs.Layout.{type_in, config_in, flag_word_in}
 use Rattle.script_spec.specs.Forms as form
-use Rattle.script_spec.specs.Forms.{Hit, CpuForm, ToolForm, Opening, Asked, IsAsked}
+use Rattle.script_spec.specs.Forms.{Hit, CpuForm, ToolForm}
 use Rattle.script_spec.specs.Faults.{IsAmount, IsCpuFormInRange, IsToolFormInRange}
 use Rattle.script_spec.specs.Meaning.{number_of, software_kind, kind_named, kind_numbered, kind_of_bytes, times_of, or_zero, cpu_line_of, tool_line_of, task_sel, cpu_sel, slot, open_line, asked_attr, bytes_attr}
 use Rattle.script_read.specs.Names.{IsToolFormNamedOf}
-
--- the order of acts says nothing of who has lines
-pub IsAct_order : (s : Scripted) (order : List Act) (a : Act) → IsAct s a → IsAct (record s { order = order }) a
-IsAct_order s order (act.Processor cpu) h = h
-IsAct_order s order (act.Tool tool) h = h
-IsAct_order s order (act.Seen ring place) h = h
 
 pub mask_small : (pmus : List PmuLine) (n pmu mask : ℕ) → All (IsPmuLine n) pmus → IsMaskOf pmus pmu mask → (pmu < length pmus) × (mask < 2 ^ 16)
 mask_small [] n pmu mask all h = absurd h

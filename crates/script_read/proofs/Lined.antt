@@ -11,14 +11,14 @@ use Rattle.script_read.specs.declared.fault.LineFault.{LineFault}
 use Rattle.script_read.specs.declared.fault.LineFault.TheVariants as fault
 use Rattle.script_read.specs.Adding.{Blames}
 use Rattle.script_read.specs.Progress.{Behind, IsTaken, IsFirstOf, ended_of, IsTakenLine}
-use Rattle.script_read.proofs.Begun.{ended_false, sound_line, faulty_line}
+use Rattle.script_read.proofs.Beginning.{ended_false, sound_line, faulty_line}
 
-begun_taken : (forms : List Form) (f : Form) (q : Progress) → ((v : Version) → IsTaken (form.Perf v ∷ []) f q) → (v : Version) × (forms ≡ form.Perf v ∷ []) → IsTaken forms f q
-begun_taken forms f q h x = subst (λ fs. IsTaken fs f q) (sym x.1) (h x.0)
+version_taken : (forms : List Form) (f : Form) (q : Progress) → ((v : Version) → IsTaken (form.Perf v ∷ []) f q) → (v : Version) × (forms ≡ form.Perf v ∷ []) → IsTaken forms f q
+version_taken forms f q h x = subst (λ fs. IsTaken fs f q) (sym x.1) (h x.0)
 
-pub begun_ok : (r : Result Progress LineFault) (f : Form) (p : Progress) → p ≡ progress.Version → IfOk r (λ q. (v : Version) → IsTaken (form.Perf v ∷ []) f q) → IfOk r (λ q. (forms : List Form) → Behind forms p → IsTaken forms f q)
-begun_ok (Ok q) f p e h = λ forms b. begun_taken forms f q h (subst (Behind forms) e b)
-begun_ok (Err x) f p e h = tt
+pub version_ok : (r : Result Progress LineFault) (f : Form) (p : Progress) → p ≡ progress.Version → IfOk r (λ q. (v : Version) → IsTaken (form.Perf v ∷ []) f q) → IfOk r (λ q. (forms : List Form) → Behind forms p → IsTaken forms f q)
+version_ok (Ok q) f p e h = λ forms b. version_taken forms f q h (subst (Behind forms) e b)
+version_ok (Err x) f p e h = tt
 
 pub line_ok : (r : Result Progress LineFault) (v : Version) (line : List ℕ) (f : Form) (p : Progress) → ended_of p ≡ false → All IsPrintable line → IsOfForm v (words_of line) f → ((g : Form) → IsOfForm v (words_of line) g → g ≡ f)
     → IfOk r (λ q. (forms : List Form) → Behind forms p → IsTaken forms f q) → IfOk r (λ q. (forms : List Form) → Behind forms p → IsTakenLine v forms line q)

@@ -20,8 +20,7 @@ use Rattle.script_read.specs.declared.fault.LineFault.{LineFault}
 use Rattle.script_read.specs.declared.fault.LineFault.TheVariants as line_fault
 use Rattle.script_read.specs.Adding.{Blames}
 use Rattle.script_read.specs.Progress.{Behind, ended_of, IsTakenLine}
-use Rattle.script_read.specs.Reading.{IsNextLine, HasNoLine, IsReading, Says, IsFinished, IsUnfinished, IsBlamed, blamed_of}
-use Rattle.script_read.proofs.Begun.{ended_false}
+use Rattle.script_read.specs.Reading.{IsNextLine, HasNoLine, IsReading, Says, IsFinished, IsBlamed, blamed_of}
 
 get_last : {X : Type 0} (xs : List X) (x d : X) (rest : List X) → get_or (xs ++ x ∷ rest) (length xs) d ≡ x
 get_last [] x d rest = refl
@@ -54,17 +53,6 @@ split_more all front line more n e l =
 
 front_length : (text : List ℕ) (p : Progress) (n : ℕ) (left : List ℕ) (r : IsReading text p n left) → length (take n (lines_of text)) ≡ n
 front_length text p n left r = sym r.sound.as_many ∙ r.many
-
-pub reading_start : (text : List ℕ) → IsReading text progress.Nothing 0 text
-reading_start text = record {
-  forms = [];
-  behind = refl;
-  many = refl;
-  sound = record { as_many = refl; each = λ k l. absurd (omega (arith, l)) };
-  lines = refl;
-  rest = refl;
-  few = omega arith;
-}
 
 pub reading_more : (text : List ℕ) (v : Version) (p q : Progress) (n : ℕ) (left line more : List ℕ) → v ≡ version_of (lines_of text) → IsReading text p n left → IsNextLine left line more
     → ((forms : List Form) → Behind forms p → IsTakenLine v forms line q) → IsReading text q (n + 1) more
@@ -108,9 +96,6 @@ all_read text p n left r x = (sym (r.lines ∙ (ap (λ (ls : List (List ℕ)). t
 sound_all : (text : List ℕ) (p : Progress) (n : ℕ) (left : List ℕ) → (r : IsReading text p n left) → HasNoLine left → AreSound (version_of (lines_of text)) (lines_of text) r.forms
 sound_all text p n left r x = subst (λ ls. AreSound (version_of (lines_of text)) ls r.forms) (all_read text p n left r x).0 r.sound
 
-count_all : (text : List ℕ) (p : Progress) (n : ℕ) (left : List ℕ) → (r : IsReading text p n left) → HasNoLine left → n ≡ length (lines_of text)
-count_all text p n left r x = sym r.many ∙ (sound_all text p n left r x).as_many
-
 end_form : (f : Form) → section f ≡ 10 → f ≡ form.End
 end_form (form.Perf v) e = absurd (omega (arith, e))
 end_form form.End e = refl
@@ -134,29 +119,6 @@ stands text p n left s r x f =
 
 blamed : (text : List ℕ) (e : ScriptFault) (n : ℕ) (r : SReason) → e ≡ fault.Bad n r → IsRefused text n r → IsBlamed text e
 blamed text e n r is h = subst (IsBlamed text) (sym is) h
-
-pub unfinished : (text : List ℕ) (p : Progress) (n : ℕ) (left : List ℕ) (e : ScriptFault) → IsReading text p n left → HasNoLine left → IsUnfinished left p n e → IsBlamed text e
-unfinished text p n left e r x (inl cut) =
-    blamed text e (n + 1) reason.End cut.1 (
-      r.forms,
-      inr (inl (record {
-        sound = sound_all text p n left r x;
-        more = λ none. cut.0 (sym (all_read text p n left r x).1 ∙ none);
-        number = ap (λ k. k + 1) (count_all text p n left r x);
-        is_end = refl;
-      })),
-    )
-unfinished text p n left e r x (inr open_end) =
-    blamed text e n reason.End open_end.2 (
-      r.forms,
-      inr (inr (record {
-        sound = sound_all text p n left r x;
-        ended = (all_read text p n left r x).1 ∙ open_end.0;
-        no_end = ended_false r.forms p r.behind open_end.1;
-        number = count_all text p n left r x;
-        is_end = refl;
-      })),
-    )
 
 pub line_blamed : (text : List ℕ) (v : Version) (p : Progress) (n : ℕ) (left line more : List ℕ) (x : LineFault) → v ≡ version_of (lines_of text) → IsReading text p n left → IsNextLine left line more
     → ((forms : List Form) → Behind forms p → Blames x (λ r. IsFaulty v forms line r)) → IsBlamed text (blamed_of (n + 1) x)

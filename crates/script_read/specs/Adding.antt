@@ -7,9 +7,12 @@ use Rattle.script_spec.specs.Forms.{Form}
 use Rattle.script_spec.specs.Saying.{said_by}
 use Rattle.script_spec.specs.Faults.{HasAttr, rank}
 use Rattle.script_read.specs.declared.state.State.{State}
-use Rattle.script_read.specs.States.{cpu_number, tool_number, union_of}
-use Rattle.script_read.specs.Checks.{IsPlacedOf, IsInRangeOf}
-use Rattle.script_read.specs.Naming.{IsNamedOf, IsWithinLimitsOf, IsLightOf}
+use Rattle.script_read.specs.declared.fault.LineFault.{LineFault}
+use Rattle.script_read.specs.declared.fault.LineFault.TheVariants as fault
+use Rattle.script_read.specs.State.{cpu_number, tool_number, union_of}
+use Rattle.script_read.specs.Place.{IsPlacedOf, HasHeader}
+use Rattle.script_read.specs.Numbers.{IsInRangeOf}
+use Rattle.script_read.specs.Names.{IsNamedOf, IsWithinLimitsOf, IsLightOf}
 
 -- what each reason asks of a form there
 abbrev pub Asks : State → Form → SReason → Type 0
@@ -28,13 +31,6 @@ Asks s f reason.End = Unit {0}
 pub record IsFirst (s : State) (f : Form) (r : SReason) : Type 0 where
   pub earlier : (q : SReason) → rank q < rank r → Asks s f q
   pub broken : Asks s f r → ⊥
-
--- a form keeps all that is asked of what it adds
-pub record IsKept (s : State) (f : Form) : Type 0 where
-  pub range : IsInRangeOf s f
-  pub attr : HasAttr f
-  pub name : IsNamedOf s f
-  pub limit : IsWithinLimitsOf s f
 
 -- the headers that came last are of the machine, and the named processors are those of the PMUs
 pub record IsSoundState (s : State) : Type 0 where
@@ -60,3 +56,22 @@ pub record IsAdded (old new : State) (f : Form) : Type 0 where
   pub cpu : cpu_number new.cpu ≡ next_cpu (cpu_number old.cpu) f
   pub tool : tool_number new.tool ≡ next_tool (tool_number old.tool) f
   pub named : new.named.0 ≡ next_named old.named.0 f
+
+-- the form keeps all that is asked of it but of its section, and the state has what it adds
+abbrev pub IsTakenBy : State → State → Form → Type 0
+IsTakenBy old new f = HasHeader old f × IsInRangeOf old f × HasAttr f × IsNamedOf old f × IsWithinLimitsOf old f × IsLightOf old f × IsAdded old new f
+
+-- the first of these that is not kept
+abbrev pub Refuses : State → Form → SReason → Type 0
+Refuses s f reason.Place = HasHeader s f → ⊥
+Refuses s f reason.Range = HasHeader s f × (IsInRangeOf s f → ⊥)
+Refuses s f reason.Attr = HasHeader s f × IsInRangeOf s f × (HasAttr f → ⊥)
+Refuses s f reason.Name = HasHeader s f × IsInRangeOf s f × HasAttr f × (IsNamedOf s f → ⊥)
+Refuses s f reason.Limit = HasHeader s f × IsInRangeOf s f × HasAttr f × IsNamedOf s f × (IsWithinLimitsOf s f → ⊥)
+Refuses s f reason.Weight = HasHeader s f × IsInRangeOf s f × HasAttr f × IsNamedOf s f × IsWithinLimitsOf s f × (IsLightOf s f → ⊥)
+Refuses s f other = ⊥
+
+-- a fault other than want of memory
+abbrev pub Blames : LineFault → (SReason → Type 0) → Type 0
+Blames (fault.Bad r) P = P r
+Blames fault.NoMemory P = Unit {0}

@@ -1,9 +1,10 @@
 pub mod Adding
-pub mod Checks
-pub mod Completing
-pub mod Finishing
 pub mod Laws
 pub mod Lines
-pub mod Naming
-pub mod Progressing
-pub mod States
+pub mod Names
+pub mod Numbers
+pub mod Order
+pub mod Place
+pub mod Progress
+pub mod Reading
+pub mod State

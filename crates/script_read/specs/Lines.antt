@@ -1,51 +1,32 @@
--- What the making of lines needs, and what it gives.
-use Rattle.std.specs.Prelude.{◌<◌, [], Option, None, IfSome}
-use Rattle.perf_base.specs.declared.attr.Attr.{Attr}
-use Rattle.perf_base.specs.declared.attr.Kind.{Kind}
+-- What the making of a line gives, and for which reasons it is refused.
+use Rattle.std.specs.Prelude.{◌≡◌, List, Some}
+use Rattle.perf_base.specs.declared.lines.CpuLine.{CpuLine}
+use Rattle.perf_base.specs.declared.lines.KindLine.{KindLine}
 use Rattle.perf_base.specs.declared.lines.ToolLine.{ToolLine}
-use Rattle.attr_bytes.specs.declared.raw.RawAttr.{RawAttr}
-use Rattle.script_spec.specs.Forms as form
-use Rattle.script_spec.specs.Forms.{Opening, Asked, ToolForm}
-use Rattle.script_spec.specs.Meaning.{task_sel, cpu_sel, tool_line_of}
-use Rattle.script_spec.specs.Faults.{IsWide, IsSlotNumber, IsTaskNumber}
+use Rattle.perf_base.specs.declared.reasons.SReason.{SReason}
+use Rattle.perf_base.specs.declared.reasons.SReason.TheVariants as reason
+use Rattle.perf_base.specs.Scripts.{Scripted}
+use Rattle.script_spec.specs.Forms.{CpuForm, ToolForm}
+use Rattle.script_spec.specs.Faults.{IsCpuFormInRange, IsToolFormInRange}
+use Rattle.script_spec.specs.Meaning.{cpu_line_of, tool_line_of}
+use Rattle.script_read.specs.Names.{IsCpuFormNamedOf, HasAttrIn, IsToolFormNamedOf}
 
-pub record IsPlaceInRange (p : Opening) : Type 0 where
-  pub slot : IsSlotNumber p.slot
-  pub task : IfSome p.task IsTaskNumber
-  pub cpu : IfSome p.cpu (λ n. n < 256)
-  pub leader : IfSome p.leader IsSlotNumber
+-- the form keeps what is asked of it, and the line is what it says
+abbrev pub MakesCpuLine : List KindLine → CpuForm → CpuLine → Type 0
+MakesCpuLine kinds f line = IsCpuFormInRange f × IsCpuFormNamedOf kinds f × (line ≡ cpu_line_of kinds f)
 
-pub record IsAskedInRange (a : Asked) : Type 0 where
-  pub period : IfSome a.period IsWide
-  pub sample : IfSome a.sample IsWide
-  pub format : IfSome a.format IsWide
-  pub flags : IfSome a.flags IsWide
+abbrev pub MakesToolLine : Scripted → ToolForm → ToolLine → Type 0
+MakesToolLine s f line = IsToolFormInRange s.cpus f × HasAttrIn f × IsToolFormNamedOf s f × (Some line ≡ tool_line_of s.kinds f)
 
--- an attribute, opened so
-abbrev pub attr_by : Opening → RawAttr → Kind → Attr
-attr_by p raw k = record { kind = k; task = task_sel p.task; cpu = cpu_sel p.cpu; period = raw.period; sample = raw.sample; format = raw.format; flags = raw.flags }
+-- the first of three that is not kept: the ranges, the bytes of an attribute, the names
+abbrev pub Fails : (range attr name : Type 0) → SReason → Type 0
+Fails range attr name reason.Range = range → ⊥
+Fails range attr name reason.Attr = range × (attr → ⊥)
+Fails range attr name reason.Name = range × attr × (name → ⊥)
+Fails range attr name other = ⊥
 
-abbrev pub IsPlainInRange : ToolForm → Type 0
-IsPlainInRange (form.OpenKind p name a) = Unit {0}
-IsPlainInRange (form.OpenAttr p bytes) = Unit {0}
-IsPlainInRange (form.Enable slot group) = IsSlotNumber slot
-IsPlainInRange (form.Disable slot group) = IsSlotNumber slot
-IsPlainInRange (form.Reset slot group) = IsSlotNumber slot
-IsPlainInRange (form.Period slot period) = IsSlotNumber slot × IsWide period
-IsPlainInRange (form.Read slot size) = IsSlotNumber slot × IfSome size IsWide
-IsPlainInRange (form.Map slot ring) = IsSlotNumber slot × (ring < 256)
-IsPlainInRange (form.Output slot target) = IsSlotNumber slot × IsSlotNumber target
-IsPlainInRange (form.Close slot) = IsSlotNumber slot
-IsPlainInRange (form.Why slot) = IsSlotNumber slot
-IsPlainInRange (form.Seats cpu) = cpu < 256
+abbrev pub RefusesCpuForm : List KindLine → CpuForm → SReason → Type 0
+RefusesCpuForm kinds f r = Fails (IsCpuFormInRange f) (Unit {0}) (IsCpuFormNamedOf kinds f) r
 
-abbrev pub IsLineInRange : ToolForm → Type 0
-IsLineInRange (form.OpenKind p name a) = IsPlaceInRange p × IsAskedInRange a
-IsLineInRange (form.OpenAttr p bytes) = IsPlaceInRange p
-IsLineInRange other = IsPlainInRange other
-
--- the lines that name no kind
-abbrev pub plain_line_of : ToolForm → Option ToolLine
-plain_line_of (form.OpenKind p name a) = None
-plain_line_of (form.OpenAttr p bytes) = None
-plain_line_of other = tool_line_of [] other
+abbrev pub RefusesToolForm : Scripted → ToolForm → SReason → Type 0
+RefusesToolForm s f r = Fails (IsToolFormInRange s.cpus f) (HasAttrIn f) (IsToolFormNamedOf s f) r

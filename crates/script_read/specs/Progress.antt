@@ -7,15 +7,13 @@ use Rattle.script_spec.specs.Forms.{Version, Form}
 use Rattle.script_spec.specs.Faults.{IsPlaced, IsInRange, HasAttr, IsNamed, IsWithinLimits, IsLight, IsSound, rank}
 use Rattle.script_read.specs.declared.progress.Progress.{Progress}
 use Rattle.script_read.specs.declared.progress.Progress.TheVariants as progress
-use Rattle.script_read.specs.declared.fault.LineFault.{LineFault}
-use Rattle.script_read.specs.declared.fault.LineFault.TheVariants as fault
-use Rattle.script_read.specs.States.{rank_of, Follows}
+use Rattle.script_read.specs.State.{rank_of, Follows}
 
 -- the lines so far are of these forms
 abbrev pub Behind : List Form → Progress → Type 0
-Behind forms progress.Start = forms ≡ []
-Behind forms progress.Begun = (v : Version) × (forms ≡ form.Perf v ∷ [])
-Behind forms (progress.Told s) = Follows forms s
+Behind forms progress.Nothing = forms ≡ []
+Behind forms progress.Version = (v : Version) × (forms ≡ form.Perf v ∷ [])
+Behind forms (progress.Machine s) = Follows forms s
 
 -- what each reason asks of a form behind those before it
 abbrev pub AsksOf : List Form → Form → SReason → Type 0
@@ -39,16 +37,11 @@ pub record IsTaken (before : List Form) (f : Form) (p : Progress) : Type 0 where
   pub asks : (q : SReason) → AsksOf before f q
   pub behind : Behind (before ++ f ∷ []) p
 
--- a fault other than want of memory
-abbrev pub Blames : LineFault → (SReason → Type 0) → Type 0
-Blames (fault.Bad r) P = P r
-Blames fault.NoMemory P = Unit {0}
-
 -- whether the `end` line was read
 abbrev pub ended_of : Progress → Bool
-ended_of progress.Start = false
-ended_of progress.Begun = false
-ended_of (progress.Told s) = rank_of s.section == 10
+ended_of progress.Nothing = false
+ended_of progress.Version = false
+ended_of (progress.Machine s) = rank_of s.section == 10
 
 -- a line is sound behind those before it, and taken
 pub record IsTakenLine (version : Version) (before : List Form) (line : List ℕ) (p : Progress) : Type 0 where

@@ -11,7 +11,7 @@ use Rattle.script_read.specs.declared.fault.ScriptFault.{ScriptFault}
 use Rattle.script_read.specs.declared.fault.ScriptFault.TheVariants as fault
 use Rattle.script_read.specs.declared.fault.LineFault.{LineFault}
 use Rattle.script_read.specs.declared.fault.LineFault.TheVariants as line_fault
-use Rattle.script_read.specs.Progressing.{Behind, ended_of}
+use Rattle.script_read.specs.Progress.{Behind, ended_of}
 
 -- the next line and what is behind it, or nothing but the rest
 pub record IsNextLine (text line more : List ℕ) : Type 0 where
@@ -23,7 +23,7 @@ pub record HasNoLine (text : List ℕ) : Type 0 where
   pub lines : lines_of text ≡ []
   pub rest : rest_of text ≡ text
 
--- so many lines were read, and this is left
+-- n lines were read, and this is left
 pub record IsReading (text : List ℕ) (p : Progress) (n : ℕ) (left : List ℕ) : Type 0 where
   pub forms : List Form
   pub behind : Behind forms p
@@ -33,11 +33,11 @@ pub record IsReading (text : List ℕ) (p : Progress) (n : ℕ) (left : List ℕ
   pub rest : rest_of text ≡ rest_of left
   pub few : n + length left ≤ length text
 
--- the script that was told
+-- the script of the lines that were read
 abbrev pub Says : Progress → Scripted → Type 0
-Says progress.Start s = ⊥
-Says progress.Begun s = ⊥
-Says (progress.Told t) s = s ≡ t.script
+Says progress.Nothing s = ⊥
+Says progress.Version s = ⊥
+Says (progress.Machine t) s = s ≡ t.script
 
 pub record IsFinished (rest : List ℕ) (p : Progress) (s : Scripted) : Type 0 where
   pub nothing : rest ≡ []

@@ -1,177 +1,273 @@
-//! What a form adds to what the lines so far say.
+//! What a form adds to what the lines so far say, or the first reason for which it is refused.
 
-ghost use Rattle.std.specs.Prelude.{◌≡◌, ◌≢◌, ◌<◌, ◌++◌, OnOk, IfSome, All, Any, map, length, bit_or, Some};
-ghost use Rattle.perf_base.specs.Scripts.{IsScript, IsPmuLine, AreApart, IsKindLine, IsMaskOf, IsRingLine, IsCpuLine, IsToolLine, IsReaderLine, HasRing, IsAct, line_count, with_pmu, with_kind, with_task, with_ring, with_cpu_line, with_tool_line, with_reader};
+ghost use Rattle.std.specs.Prelude.{◌≡◌, ◌<◌, ◌++◌, OnOk, IfErr, MatchResult, All, sum_by, length};
+ghost use Rattle.perf_base.specs.declared.reasons.SReason.{SReason};
+ghost use Rattle.perf_base.specs.declared.reasons.SReason.TheVariants as reason;
+ghost use Rattle.perf_base.specs.Scripts as says;
+ghost use Rattle.perf_base.specs.Scripts.{IsScript, IsAct};
 ghost use Rattle.script_spec.specs.Acts.{IsActInRange};
-ghost use Rattle.script_spec.specs.Forms.{IsSpelling, IsCpuSpelling, IsToolSpelling};
-ghost use Rattle.script_spec.specs.Faults.{IsCpuFormInRange, IsToolFormInRange, IsBetween};
-ghost use Rattle.script_spec.specs.Meaning.{cpu_line_of, tool_line_of};
-ghost use Rattle.line_forms.specs.Seen as seen;
-ghost use Rattle.line_forms.specs.Seen.{form_of, cpu_form_of, tool_form_of};
-ghost use Rattle.script_read.specs.States.{cpu_number, tool_number, part_of};
-ghost use Rattle.script_read.specs.Naming.{HasAttrIn, IsCpuFormNamedOf, IsToolFormNamedOf};
-ghost use Rattle.script_spec.specs.Saying.{on_cpu, on_tool};
-ghost use Rattle.script_read.specs.Adding.{IsKept, IsSoundState, IsAdded};
+ghost use Rattle.script_spec.specs.Forms as text;
+ghost use Rattle.script_spec.specs.Forms.{IsWord, IsSpelling, IsCpuSpelling, IsToolSpelling};
+ghost use Rattle.line_forms.specs.Seen.{acts_of, form_of, cpu_form_of, tool_form_of};
+ghost use Rattle.script_read.specs.State.{part_of};
+ghost use Rattle.script_read.specs.Adding.{Asks, IsFirst, IsSoundState, IsAdded, IsTakenBy, Refuses, Blames};
 
+use crate::fault::LineFault;
 use crate::lines::{cpu_line, tool_line};
+use crate::names::{declared_ring, is_act, is_new_name};
+use crate::numbers::{
+    act, are_acts_in_range, counters, cpu, cpu_mask, mask, next_reader, next_ring, next_task, tool,
+};
 use crate::state::{State, section_of};
-use line_forms::{CpuForm, Form, SpelledAct, ToolForm};
-use perf_base::{Act, CpuNo, CpuSet, Name, NoMemory, ReaderLine, RingNo, Script, TaskNo, ToolNo};
+use line_forms::{Acts, CpuForm, Form, ToolForm};
+use perf_base::{CpuNo, CpuSet, Name, ReaderLine, SReason, Script, ToolNo};
 
-fn act_of(act: &SpelledAct) -> Act
-    requires { IsActInRange (seen.act_of act.now) }
-    ensures { result ≡ seen.act_of act.now }
+/// How many kinds a script may have, and how many lines under its processors and tools.
+const MOST_KINDS: usize = 16;
+
+const MOST_LINES: usize = 16384;
+
+/// The greatest weight of a script.
+const MOST_WEIGHT: u64 = 65536;
+
+/// How many PMUs a script may have.
+const MOST_PMUS: u8 = 4;
+
+/// How many lines stand under processors and tools.
+fn lines_of_cpus(script: &Script) -> usize
+    requires { IsScript script.now }
+    ensures { result ≡ sum_by length script.now.cpu_lines }
 {
-    match act {
-        SpelledAct::Processor(cpu) => Act::Processor(CpuNo(*cpu as u8)),
-        SpelledAct::Tool(tool) => Act::Tool(ToolNo(*tool as u8)),
-        SpelledAct::Seen(ring, place) => Act::Seen(RingNo(*ring as u8), *place as u64),
+    let mut count = 0;
+    for cpu in 0..8 {
+        count += script.cpu_lines(CpuNo(cpu)).len();
+    }
+    count
+}
+
+fn lines_of_tools(script: &Script) -> usize
+    requires { IsScript script.now }
+    ensures { result ≡ sum_by length script.now.tool_lines }
+{
+    let mut count = 0;
+    for tool in 0..4 {
+        count += script.tool_lines(ToolNo(tool)).len();
+    }
+    count
+}
+
+/// Whether one more line may stand under a processor or tool.
+fn check_room(script: &Script) -> Result<(), SReason>
+    requires { IsScript script.now }
+    ensures { MatchResult result (λ _. says.line_count script.now < 16384) (λ r. (r ≡ reason.Limit) × (says.line_count script.now < 16384 → ⊥)) }
+{
+    if lines_of_cpus(script) + lines_of_tools(script) < MOST_LINES {
+        Ok(())
+    } else {
+        Err(SReason::Limit)
     }
 }
 
-fn add_acts(script: &mut Script, acts: &[SpelledAct]) -> Result<(), NoMemory>
-    requires range { All IsActInRange (map seen.act_of acts.now) }
-    requires named { All (IsAct script.old) (map seen.act_of acts.now) }
-    ensures { OnOk result (script.new ≡ record script.old { order = script.old.order ++ map seen.act_of acts.now }) }
+/// Adds the acts of an order, all of which are in range, unless the script has not what one is of.
+fn add_acts(script: &mut Script, acts: Acts<'_>) -> Result<(), LineFault>
+    requires range { All IsActInRange (acts_of acts) }
+    ensures ok { OnOk result (All (IsAct script.old) (acts_of acts.entry) × (script.new ≡ record script.old { order = script.old.order ++ acts_of acts.entry })) }
+    ensures bad { IfErr result (λ e. Blames e (λ r. (r ≡ reason.Name) × (All (IsAct script.old) (acts_of acts.entry) → ⊥))) }
 {
-    for act in acts {
-        script.add_act(act_of(act))?;
+    let mut rest = acts;
+    while let Some((spelled, more)) = rest.next() {
+        let act = act(&spelled);
+        if !is_act(script, &act) {
+            return Err(LineFault::Bad(SReason::Name));
+        }
+        script.add_act(act)?;
+        rest = more;
     }
     Ok(())
 }
 
-fn add_pmu(state: &mut State, counters: u128, cpus: u128) -> Result<(), NoMemory>
-    requires line { IsPmuLine state.old.script.cpus (record { counters = counters; cpus = record { 0 = cpus } }) }
-    requires few_cpus { state.old.script.cpus < 9 }
-    requires apart { All (λ q. AreApart q (record { counters = counters; cpus = record { 0 = cpus } })) state.old.script.pmus }
-    requires few { length state.old.script.pmus < 4 }
-    ensures script { OnOk result (state.new.script ≡ with_pmu state.old.script (record { counters = counters; cpus = record { 0 = cpus } })) }
-    ensures named { OnOk result (state.new.named.0 ≡ bit_or state.old.named.0 cpus) }
-    ensures cpu { state.new.cpu ≡ state.old.cpu }
-    ensures tool { state.new.tool ≡ state.old.tool }
-{
-    state.script.add_pmu(counters as u8, cpus as u8)?;
-    state.named = state.named.union(CpuSet(cpus as u8));
-    Ok(())
-}
+impl State {
+    fn pmu(&mut self, number: u128, own_counters: u128, own: u128) -> Result<(), LineFault>
+        requires sound { IsSoundState self.old }
+        requires script { IsScript self.old.script }
+        ensures ok { OnOk result (IsTakenBy self.old self.new (text.Pmu number own_counters own)) }
+        ensures bad { IfErr result (λ e. Blames e (Refuses self.old (text.Pmu number own_counters own))) }
+    {
+        let pmus = self.script.pmus();
+        if number != u128::from(pmus) || pmus >= MOST_PMUS {
+            return Err(LineFault::Bad(SReason::Range));
+        }
+        let counters = counters(own_counters).ok_or(SReason::Range)?;
+        let cpus = cpu_mask(self.script.cpus(), self.named.0, own).ok_or(SReason::Range)?;
+        self.script.add_pmu(counters, cpus)?;
+        self.named = self.named.union(CpuSet(cpus));
+        Ok(())
+    }
 
-fn add_kind(script: &mut Script, name: Name, pmu: u128, mask: u128) -> Result<(), NoMemory>
-    requires script { IsScript script.old }
-    requires line { IsKindLine script.old.pmus (record { name = name; pmu = pmu; mask = mask }) }
-    requires once { All (λ k. k.name ≢ name) script.old.kinds }
-    requires few { length script.old.kinds < 16 }
-    ensures { OnOk result (script.new ≡ with_kind script.old (record { name = name; pmu = pmu; mask = mask })) }
-{
-    script.add_kind(name, pmu as u8, mask as u32)
-}
+    fn kind(&mut self, name: Name, pmu: u128, own: u128) -> Result<(), LineFault>
+        requires script { IsScript self.old.script }
+        requires spelling { IsWord name }
+        ensures ok { OnOk result (IsTakenBy self.old self.new (text.KindOfPmu name pmu own)) }
+        ensures bad { IfErr result (λ e. Blames e (Refuses self.old (text.KindOfPmu name pmu own))) }
+    {
+        let (pmu, mask) = mask(&self.script, pmu, own).ok_or(SReason::Range)?;
+        if !is_new_name(&self.script, name) {
+            return Err(LineFault::Bad(SReason::Name));
+        }
+        if self.script.kinds() >= MOST_KINDS {
+            return Err(LineFault::Bad(SReason::Limit));
+        }
+        self.script.add_kind(name, pmu, mask)?;
+        Ok(())
+    }
 
-fn add_task(script: &mut Script, number: u128) -> Result<(), NoMemory>
-    requires range { number < 64 }
-    requires rises { All (λ t. t.0 < number) script.old.tasks }
-    ensures { OnOk result (script.new ≡ with_task script.old (record { 0 = number })) }
-{
-    script.add_task(TaskNo(number as u8))
-}
+    fn task(&mut self, number: u128) -> Result<(), LineFault>
+        ensures ok { OnOk result (IsTakenBy self.old self.new (text.Task number)) }
+        ensures bad { IfErr result (λ e. Blames e (Refuses self.old (text.Task number))) }
+    {
+        let task = next_task(self.script.tasks(), number).ok_or(SReason::Range)?;
+        self.script.add_task(task)?;
+        Ok(())
+    }
 
-fn add_ring(script: &mut Script, number: u128, bytes: u128) -> Result<(), NoMemory>
-    requires line { IsRingLine (record { 0 = number }, bytes) }
-    requires rises { All (λ r. r.0.0 < number) script.old.rings }
-    ensures { OnOk result (script.new ≡ with_ring script.old (record { 0 = number }, bytes)) }
-{
-    script.add_ring(RingNo(number as u8), bytes as u32)
-}
+    fn ring(&mut self, number: u128, bytes: u128) -> Result<(), LineFault>
+        ensures ok { OnOk result (IsTakenBy self.old self.new (text.Ring number bytes)) }
+        ensures bad { IfErr result (λ e. Blames e (Refuses self.old (text.Ring number bytes))) }
+    {
+        let (ring, bytes) = next_ring(self.script.rings(), number, bytes).ok_or(SReason::Range)?;
+        self.script.add_ring(ring, bytes)?;
+        Ok(())
+    }
 
-fn add_cpu_form(script: &mut Script, cpu: Option<CpuNo>, form: &CpuForm) -> Result<(), NoMemory>
-    requires script { IsScript script.old }
-    requires cpu { IfSome (cpu_number cpu) (λ n. n < script.old.cpus) }
-    requires spelling { IsCpuSpelling (cpu_form_of form.now) }
-    requires range { IsCpuFormInRange (cpu_form_of form.now) }
-    requires few { line_count script.old < 16384 }
-    ensures { OnOk result (script.new ≡ on_cpu script.old (cpu_number cpu) (cpu_line_of script.old.kinds (cpu_form_of form.now))) }
-{
-    match cpu {
-        None => Ok(()),
-        Some(cpu) => {
-            let line = cpu_line(script, form);
-            script.add_cpu_line(cpu, line)
+    fn processor(&mut self, number: u128) -> Result<(), LineFault>
+        ensures ok { OnOk result (IsTakenBy self.old self.new (text.Processor number)) }
+        ensures bad { IfErr result (λ e. Blames e (Refuses self.old (text.Processor number))) }
+    {
+        let next = cpu(self.script.cpus(), number).ok_or(SReason::Range)?;
+        if self.cpu.is_some_and(|last| next.0 <= last.0) {
+            return Err(LineFault::Bad(SReason::Range));
+        }
+        self.cpu = Some(next);
+        Ok(())
+    }
+
+    fn tool(&mut self, number: u128) -> Result<(), LineFault>
+        ensures ok { OnOk result (IsTakenBy self.old self.new (text.Tool number)) }
+        ensures bad { IfErr result (λ e. Blames e (Refuses self.old (text.Tool number))) }
+    {
+        let next = tool(number).ok_or(SReason::Range)?;
+        if self.tool.is_some_and(|last| next.0 <= last.0) {
+            return Err(LineFault::Bad(SReason::Range));
+        }
+        self.tool = Some(next);
+        Ok(())
+    }
+
+    fn on_processor(&mut self, form: &CpuForm) -> Result<(), LineFault>
+        requires sound { IsSoundState self.old }
+        requires script { IsScript self.old.script }
+        requires spelling { IsCpuSpelling (cpu_form_of form.now) }
+        ensures ok { OnOk result (IsTakenBy self.old self.new (text.OnProcessor (cpu_form_of form.now))) }
+        ensures bad { IfErr result (λ e. Blames e (Refuses self.old (text.OnProcessor (cpu_form_of form.now)))) }
+    {
+        let cpu = self.cpu.ok_or(SReason::Place)?;
+        let line = cpu_line(&self.script, form)?;
+        check_room(&self.script)?;
+        self.script.add_cpu_line(cpu, line)?;
+        Ok(())
+    }
+
+    fn on_tool(&mut self, form: &ToolForm) -> Result<(), LineFault>
+        requires sound { IsSoundState self.old }
+        requires script { IsScript self.old.script }
+        requires spelling { IsToolSpelling (tool_form_of form.now) }
+        ensures ok { OnOk result (IsTakenBy self.old self.new (text.OnTool (tool_form_of form.now))) }
+        ensures bad { IfErr result (λ e. Blames e (Refuses self.old (text.OnTool (tool_form_of form.now)))) }
+    {
+        let tool = self.tool.ok_or(SReason::Place)?;
+        let line = tool_line(&self.script, form)?;
+        check_room(&self.script)?;
+        self.script.add_tool_line(tool, line)?;
+        Ok(())
+    }
+
+    fn reader(&mut self, ring: u128, tries: u128, batch: u128) -> Result<(), LineFault>
+        ensures ok { OnOk result (IsTakenBy self.old self.new (text.Reader ring tries batch)) }
+        ensures bad { IfErr result (λ e. Blames e (Refuses self.old (text.Reader ring tries batch))) }
+    {
+        let (ring, tries, batch) = next_reader(self.script.readers(), ring, tries, batch).ok_or(
+            SReason::Range,
+        )?;
+        let ring = declared_ring(self.script.rings(), ring).ok_or(SReason::Name)?;
+        self.script.add_reader(ReaderLine { ring, tries, batch })?;
+        Ok(())
+    }
+
+    fn order(&mut self, acts: Acts<'_>) -> Result<(), LineFault>
+        ensures ok { OnOk result (IsTakenBy self.old self.new (text.Order (acts_of acts.entry))) }
+        ensures bad { IfErr result (λ e. Blames e (Refuses self.old (text.Order (acts_of acts.entry)))) }
+    {
+        if !are_acts_in_range(acts) {
+            return Err(LineFault::Bad(SReason::Range));
+        }
+        add_acts(&mut self.script, acts)
+    }
+
+    fn end(&self) -> Result<(), LineFault>
+        ensures ok { OnOk result (IsTakenBy self.now self.now text.End) }
+        ensures bad { IfErr result (λ e. Blames e (Refuses self.now text.End)) }
+    {
+        if self.script.weight() > MOST_WEIGHT {
+            return Err(LineFault::Bad(SReason::Weight));
+        }
+        Ok(())
+    }
+
+    /// Adds what a form says whose section may come next.
+    fn add(&mut self, form: &Form<'_>) -> Result<(), LineFault>
+        requires sound { IsSoundState self.old }
+        requires script { IsScript self.old.script }
+        requires spelling { IsSpelling (form_of form.now) }
+        ensures ok { OnOk result (IsTakenBy self.old self.new (form_of form.now)) }
+        ensures bad { IfErr result (λ e. Blames e (Refuses self.old (form_of form.now))) }
+    {
+        match form {
+            Form::Perf(_) | Form::Machine { .. } | Form::MachineOfPmus { .. } => {
+                Err(LineFault::Bad(SReason::Place))
+            }
+            Form::Pmu {
+                number,
+                counters,
+                cpus,
+            } => self.pmu(*number, *counters, *cpus),
+            Form::Kind { name, mask } => self.kind(*name, 0, *mask),
+            Form::KindOfPmu { name, pmu, mask } => self.kind(*name, *pmu, *mask),
+            Form::Task { number } => self.task(*number),
+            Form::Ring { number, bytes } => self.ring(*number, *bytes),
+            Form::Processor { number } => self.processor(*number),
+            Form::OnProcessor(line) => self.on_processor(line),
+            Form::Tool { number } => self.tool(*number),
+            Form::OnTool(line) => self.on_tool(line),
+            Form::Reader { ring, tries, batch } => self.reader(*ring, *tries, *batch),
+            Form::Order(acts) => self.order(*acts),
+            Form::End => self.end(),
         }
     }
-}
 
-fn add_tool_form(script: &mut Script, tool: Option<ToolNo>, form: &ToolForm) -> Result<(), NoMemory>
-    requires script { IsScript script.old }
-    requires tool { IfSome (tool_number tool) (λ n. n < 4) }
-    requires spelling { IsToolSpelling (tool_form_of form.now) }
-    requires range { IsToolFormInRange script.old.cpus (tool_form_of form.now) }
-    requires attr { HasAttrIn (tool_form_of form.now) }
-    requires named { IsToolFormNamedOf script.old (tool_form_of form.now) }
-    requires few { line_count script.old < 16384 }
-    ensures { OnOk result (script.new ≡ on_tool script.old (tool_number tool) (tool_line_of script.old.kinds (tool_form_of form.now))) }
-{
-    match tool {
-        None => Ok(()),
-        Some(tool) => match tool_line(script, form) {
-            None => Ok(()),
-            Some(line) => script.add_tool_line(tool, line),
-        },
-    }
-}
-
-fn add_reader(script: &mut Script, ring: u128, tries: u128, batch: u128) -> Result<(), NoMemory>
-    requires script { IsScript script.old }
-    requires ring { HasRing script.old.rings (record { 0 = ring }) }
-    requires tries { IsBetween 1 65536 tries }
-    requires batch { IsBetween 1 1024 batch }
-    requires rises { All (λ r. r.ring.0 < ring) script.old.readers }
-    ensures { OnOk result (script.new ≡ with_reader script.old (record { ring = record { 0 = ring }; tries = tries; batch = batch })) }
-{
-    script.add_reader(ReaderLine {
-        ring: RingNo(ring as u8),
-        tries: tries as u32,
-        batch: batch as u32,
-    })
-}
-
-/// Adds what a form says that keeps all that is asked of it.
-fn add_said(state: &mut State, form: &Form) -> Result<(), NoMemory>
-    requires sound { IsSoundState state.old }
-    requires script { IsScript state.old.script }
-    requires spelling { IsSpelling (form_of form.now) }
-    requires kept { IsKept state.old (form_of form.now) }
-    ensures { OnOk result (IsAdded state.old state.new (form_of form.now)) }
-{
-    match form {
-        Form::Pmu { counters, cpus, .. } => add_pmu(state, *counters, *cpus),
-        Form::Kind { name, mask } => add_kind(&mut state.script, *name, 0, *mask),
-        Form::KindOfPmu { name, pmu, mask } => add_kind(&mut state.script, *name, *pmu, *mask),
-        Form::Task { number } => add_task(&mut state.script, *number),
-        Form::Ring { number, bytes } => add_ring(&mut state.script, *number, *bytes),
-        Form::Processor { number } => {
-            state.cpu = Some(CpuNo(*number as u8));
-            Ok(())
+    /// Takes one form more, or says the first reason for which it is refused.
+    pub fn take(&mut self, form: &Form<'_>) -> Result<(), LineFault>
+        requires sound { IsSoundState self.old }
+        requires spelling { IsSpelling (form_of form.now) }
+        ensures ok { OnOk result (((q : SReason) → Asks self.old (form_of form.now) q) × IsAdded self.old self.new (form_of form.now)) }
+        ensures section { OnOk result (self.new.section ≡ part_of (form_of form.now)) }
+        ensures bad { IfErr result (λ e. Blames e (IsFirst self.old (form_of form.now))) }
+    {
+        let _cpus = self.script.cpus();
+        if !self.reaches(form) {
+            return Err(LineFault::Bad(SReason::Place));
         }
-        Form::OnProcessor(line) => add_cpu_form(&mut state.script, state.cpu, line),
-        Form::Tool { number } => {
-            state.tool = Some(ToolNo(*number as u8));
-            Ok(())
-        }
-        Form::OnTool(line) => add_tool_form(&mut state.script, state.tool, line),
-        Form::Reader { ring, tries, batch } => add_reader(&mut state.script, *ring, *tries, *batch),
-        Form::Order(acts) => add_acts(&mut state.script, acts),
-        Form::Perf(_) | Form::Machine { .. } | Form::MachineOfPmus { .. } | Form::End => Ok(()),
+        self.add(form)?;
+        self.section = section_of(form);
+        Ok(())
     }
-}
-
-/// The same, with the form's section.
-pub fn add(state: &mut State, form: &Form) -> Result<(), NoMemory>
-    requires sound { IsSoundState state.old }
-    requires spelling { IsSpelling (form_of form.now) }
-    requires kept { IsKept state.old (form_of form.now) }
-    ensures added { OnOk result (IsAdded state.old state.new (form_of form.now)) }
-    ensures section { OnOk result (state.new.section ≡ part_of (form_of form.now)) }
-{
-    let _cpus = state.script.cpus();
-    add_said(state, form)?;
-    state.section = section_of(form);
-    Ok(())
 }

@@ -5,15 +5,13 @@
 
 mod adding;
 mod fault;
-mod judging;
-mod kinds;
 mod laws;
 mod lines;
 mod names;
+mod numbers;
 mod order;
 mod place;
 mod progress;
-mod range;
 mod reading;
 mod state;
 #[cfg(test)]

@@ -1,26 +1,97 @@
-//! Whether names are declared, or new.
+//! Kinds and rings by their names.
 
-ghost use Rattle.std.specs.Prelude.{◌≡◌, ◌≢◌, ◌↔◌, IsTrue, All, AllPairs, Any, map};
-ghost use Rattle.perf_base.specs.Scripts.{IsScript, HasRing, IsAct};
+ghost use Rattle.std.specs.Prelude.{◌≡◌, ◌≢◌, ◌↔◌, IsTrue, IfSome, MatchOption, All, AllPairs, Any, map, None};
+ghost use Rattle.std.specs.Str.{bytes_eq};
+ghost use Rattle.perf_base.specs.Scripts.{IsScript, IsFreeName, HasRing, IsAct};
+ghost use Rattle.attr_bytes.specs.Standing.{StandsFor, IsClass};
+ghost use Rattle.attr_bytes.specs.Faults.{fault_of};
 ghost use Rattle.script_spec.specs.Acts.{IsActInRange};
-ghost use Rattle.script_spec.specs.Faults.{HasAttr};
-ghost use Rattle.line_forms.specs.Seen.{hit_of, act_of, cpu_form_of, tool_form_of, form_of};
-ghost use Rattle.script_read.specs.Checks.{IsInRangeOf};
-ghost use Rattle.script_read.specs.Naming.{IsNewIn, AreKindsIn, IsCpuFormNamedOf, HasAttrIn, IsToolFormNamedOf, IsNamedOf};
+ghost use Rattle.script_spec.specs.Meaning as says;
+ghost use Rattle.line_forms.specs.Seen.{hit_of};
+ghost use Rattle.script_read.specs.Names.{IsNewIn, AreKindsIn};
 
-use crate::kinds::{attr_of, is_attr, is_free_name, kind_named, number_of, same_name};
-use crate::state::State;
-use line_forms::{CpuForm, Form, Hit, SpelledAct, ToolForm};
-use perf_base::{CpuNo, Name, RingNo, Script, ToolNo};
+use attr_bytes::{RawAttr, kind_of, read_attr};
+use line_forms::Hit;
+use perf_base::{Act, Kind, Name, RingNo, Script};
 
-/// Whether a form's bytes are those of an attribute.
-pub fn has_attr(form: &Form) -> bool
-    ensures { IsTrue result ↔ HasAttr (form_of form.now) }
+fn is_called(name: Name, text: &[u8]) -> bool
+    ensures { result ≡ bytes_eq name text.now }
 {
-    match form {
-        Form::OnTool(ToolForm::OpenAttr { bytes, .. }) => is_attr(bytes),
-        _ => true,
+    name.as_bytes() == text
+}
+
+/// Whether two names are the same.
+pub fn same_name(left: Name, right: Name) -> bool
+    ensures { result ≡ bytes_eq left right }
+{
+    is_called(left, right.as_bytes())
+}
+
+/// One of the four kinds that every script has, by its name.
+pub fn software_kind(name: Name) -> Option<Kind>
+    ensures { result ≡ says.software_kind name }
+{
+    if is_called(name, b"context-switches") {
+        Some(Kind::ContextSwitches)
+    } else if is_called(name, b"cpu-migrations") {
+        Some(Kind::CpuMigrations)
+    } else if is_called(name, b"task-clock") {
+        Some(Kind::TaskClock)
+    } else if is_called(name, b"dummy") {
+        Some(Kind::Dummy)
+    } else {
+        None
     }
+}
+
+/// Whether a kind may be called so.
+pub fn is_free_name(name: Name) -> bool
+    ensures { IsTrue result ↔ IsFreeName name }
+{
+    !is_called(name, b"ip")
+        && !is_called(name, b"context-switches")
+        && !is_called(name, b"cpu-migrations")
+        && !is_called(name, b"task-clock")
+        && !is_called(name, b"dummy")
+}
+
+/// The number of a declared kind.
+pub fn number_of(script: &Script, name: Name) -> Option<usize>
+    ensures { result ≡ says.number_of script.now.kinds name }
+{
+    for kind in 0..script.kinds() {
+        if same_name(script.name(kind), name) {
+            return Some(kind);
+        }
+    }
+    None
+}
+
+/// The kind that is called so, if one is.
+pub fn kind_named(script: &Script, name: Name) -> Option<Kind>
+    requires { IsScript script.now }
+    ensures { result ≡ says.kind_named script.now.kinds name }
+{
+    match number_of(script, name) {
+        Some(kind) => Some(Kind::Hard(kind as u8)),
+        None => software_kind(name),
+    }
+}
+
+/// The attribute that bytes stand for.
+pub fn raw_of(bytes: &[u8]) -> Option<RawAttr>
+    ensures { MatchOption result (fault_of bytes.now ≡ None → ⊥) (λ raw. StandsFor bytes.now raw × (fault_of bytes.now ≡ None)) }
+{
+    read_attr(bytes).ok()
+}
+
+/// The kind that an attribute names.
+pub fn kind_of_raw(script: &Script, raw: &RawAttr) -> Option<Kind>
+    requires script { IsScript script.now }
+    requires class { IsClass raw.now.class }
+    ensures { result ≡ says.kind_numbered script.now.kinds raw.now.class raw.now.config }
+{
+    kind_of(raw, script.kinds() as u8)
 }
 
 fn is_declared(script: &Script, name: Name) -> bool
@@ -35,28 +106,29 @@ fn is_new(script: &Script, name: Name) -> bool
     number_of(script, name).is_none()
 }
 
-fn is_new_name(script: &Script, name: Name) -> bool
+/// Whether a kind may be called so, and none is yet.
+pub fn is_new_name(script: &Script, name: Name) -> bool
     ensures { IsTrue result ↔ IsNewIn script.now.kinds name }
 {
     is_free_name(name) && is_new(script, name)
 }
 
-fn is_ring(ring: &(RingNo, u32), number: u128) -> bool
+fn is_ring(ring: &(RingNo, u32), number: u64) -> bool
     ensures { IsTrue result ↔ (ring.now.0 ≡ record { 0 = number }) }
 {
-    u128::from(ring.0.0) == number
+    u64::from(ring.0.0) == number
 }
 
-fn is_among(rings: &[(RingNo, u32)], number: u128) -> bool
-    ensures { IsTrue result ↔ HasRing rings.now (record { 0 = number }) }
+/// The declared ring of a number.
+pub fn declared_ring(rings: &[(RingNo, u32)], number: u64) -> Option<RingNo>
+    ensures { MatchOption result (HasRing rings.now (record { 0 = number }) → ⊥) (λ r. HasRing rings.now r × (r ≡ record { 0 = number })) }
 {
-    rings.iter().any(|ring| is_ring(ring, number))
-}
-
-fn has_ring(script: &Script, number: u128) -> bool
-    ensures { IsTrue result ↔ HasRing script.now.rings (record { 0 = number }) }
-{
-    is_among(script.rings(), number)
+    for ring in rings {
+        if is_ring(ring, number) {
+            return Some(ring.0);
+        }
+    }
+    None
 }
 
 fn is_same(left: Name, right: Name) -> bool
@@ -97,71 +169,20 @@ fn are_apart(hits: &[Hit]) -> bool
 }
 
 /// Whether each kind is declared, and stands there once.
-fn are_kinds(script: &Script, hits: &[Hit]) -> bool
+pub fn are_kinds(script: &Script, hits: &[Hit]) -> bool
     ensures { IsTrue result ↔ AreKindsIn script.now.kinds (map hit_of hits.now) }
 {
     are_declared(script, hits) && are_apart(hits)
 }
 
-fn is_cpu_form_named(script: &Script, form: &CpuForm) -> bool
-    ensures { IsTrue result ↔ IsCpuFormNamedOf script.now.kinds (cpu_form_of form.now) }
-{
-    match form {
-        CpuForm::Work(working) => are_kinds(script, &working.hits),
-        _ => true,
-    }
-}
-
-fn is_tool_form_named(script: &Script, form: &ToolForm) -> bool
-    requires script { IsScript script.now }
-    requires attr { HasAttrIn (tool_form_of form.now) }
-    ensures { IsTrue result ↔ IsToolFormNamedOf script.now (tool_form_of form.now) }
-{
-    match form {
-        ToolForm::OpenKind { name, .. } => kind_named(script, *name).is_some(),
-        ToolForm::OpenAttr { bytes, .. } => attr_of(script, bytes).is_some(),
-        ToolForm::Map { ring, .. } => has_ring(script, *ring),
-        _ => true,
-    }
-}
-
-fn is_act_named(script: &Script, act: &SpelledAct) -> bool
-    requires { IsActInRange (act_of act.now) }
-    ensures { IsTrue result ↔ IsAct script.now (act_of act.now) }
+/// Whether the script has what an act is of: lines of its processor or tool, or its ring.
+pub fn is_act(script: &Script, act: &Act) -> bool
+    requires { IsActInRange act.now }
+    ensures { IsTrue result ↔ IsAct script.now act.now }
 {
     match act {
-        SpelledAct::Processor(cpu) => !script.cpu_lines(CpuNo(*cpu as u8)).is_empty(),
-        SpelledAct::Tool(tool) => !script.tool_lines(ToolNo(*tool as u8)).is_empty(),
-        SpelledAct::Seen(ring, _) => has_ring(script, *ring),
-    }
-}
-
-fn are_acts_named(script: &Script, acts: &[SpelledAct]) -> bool
-    requires { All IsActInRange (map act_of acts.now) }
-    ensures { IsTrue result ↔ All (IsAct script.now) (map act_of acts.now) }
-{
-    for act in acts {
-        if !is_act_named(script, act) {
-            return false;
-        }
-    }
-    true
-}
-
-/// Whether the names of a form, whose numbers are in their ranges, are declared, or new.
-pub fn is_named(state: &State, form: &Form) -> bool
-    requires range { IsInRangeOf state.now (form_of form.now) }
-    requires attr { HasAttr (form_of form.now) }
-    ensures { IsTrue result ↔ IsNamedOf state.now (form_of form.now) }
-{
-    let _cpus = state.script.cpus();
-    let script = &state.script;
-    match form {
-        Form::Kind { name, .. } | Form::KindOfPmu { name, .. } => is_new_name(script, *name),
-        Form::OnProcessor(line) => is_cpu_form_named(script, line),
-        Form::OnTool(line) => is_tool_form_named(script, line),
-        Form::Reader { ring, .. } => has_ring(script, *ring),
-        Form::Order(acts) => are_acts_named(script, acts),
-        _ => true,
+        Act::Processor(cpu) => !script.cpu_lines(*cpu).is_empty(),
+        Act::Tool(tool) => !script.tool_lines(*tool).is_empty(),
+        Act::Seen(ring, _) => declared_ring(script.rings(), u64::from(ring.0)).is_some(),
     }
 }

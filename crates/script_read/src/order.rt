@@ -5,7 +5,7 @@ ghost use Rattle.perf_base.specs.declared.numbers.CpuNo.{CpuNo};
 ghost use Rattle.perf_base.specs.declared.numbers.ToolNo.{ToolNo};
 ghost use Rattle.perf_base.specs.Scripts.{IsScript, IsAct};
 ghost use Rattle.stage_spec.specs.Order.{IsComplete, done_by_cpu, done_by_tool};
-ghost use Rattle.script_read.specs.Completing.{IsCpuDone, IsToolDone};
+ghost use Rattle.script_read.specs.Order.{IsCpuDone, IsToolDone};
 
 use perf_base::{Act, CpuNo, Script, ToolNo};
 

@@ -4,13 +4,12 @@ ghost use Rattle.std.specs.Prelude.{◌≡◌, ◌-◌, ◌^◌, ◌≤◌, ◌�
 ghost use Rattle.script_spec.specs.Forms as text;
 ghost use Rattle.script_spec.specs.Faults.{IsPrintable, IsBetween, IsFaulty};
 ghost use Rattle.line_forms.specs.Seen.{form_of, version_of};
-ghost use Rattle.script_read.specs.States.{Follows};
-ghost use Rattle.script_read.specs.Progressing.{Behind, IsTaken, IsFirstOf, Blames, ended_of, IsTakenLine};
+ghost use Rattle.script_read.specs.State.{Follows};
+ghost use Rattle.script_read.specs.Progress.{Behind, IsTaken, IsFirstOf, ended_of, IsTakenLine};
+ghost use Rattle.script_read.specs.Adding.{Blames};
 
-use crate::adding::add;
 use crate::fault::LineFault;
-use crate::judging::judge;
-use crate::range::{are_counters, is_machine};
+use crate::numbers::{counters, cpus};
 use crate::state::{Section, State};
 use line_forms::{Form, LineStop, Version, read_form};
 use perf_base::{CpuSet, NoMemory, SReason, Script};
@@ -19,9 +18,9 @@ use std::alloc::Global;
 /// How far a text is read: not at all, up to its version, or up to its machine and more.
 #[derive(Drop)]
 pub enum Progress {
-    Start,
-    Begun,
-    Told(State),
+    Nothing,
+    Version,
+    Machine(State),
 }
 
 /// Whether all bytes are printable ones of ASCII.
@@ -80,72 +79,62 @@ fn bare_machine(alloc: Global, cpus: u8) -> State
 }
 
 /// The first form of a text.
-fn begin(form: &Form) -> Result<Progress, LineFault>
+fn first_form(form: &Form<'_>) -> Result<Progress, LineFault>
     ensures ok { IfOk result (λ p. IsTaken [] (form_of form.now) p) }
     ensures bad { IfErr result (λ e. Blames e (λ r. IsFirstOf [] (form_of form.now) r)) }
 {
     match form {
-        Form::Perf(_) => Ok(Progress::Begun),
+        Form::Perf(_) => Ok(Progress::Version),
         _ => Err(LineFault::Bad(SReason::Place)),
     }
 }
 
 /// The second form of a text.
-fn build(alloc: Global, form: &Form) -> Result<Progress, LineFault>
+fn second_form(alloc: Global, form: &Form<'_>) -> Result<Progress, LineFault>
     ensures ok { IfOk result (λ p. (v : text.Version) → IsTaken (text.Perf v ∷ []) (form_of form.now) p) }
     ensures bad { IfErr result (λ e. (v : text.Version) → Blames e (λ r. IsFirstOf (text.Perf v ∷ []) (form_of form.now) r)) }
 {
     match form {
-        Form::Machine { cpus, counters } => {
-            if is_machine(*cpus) && are_counters(*counters) {
-                match whole_machine(alloc, *cpus as u8, *counters as u8) {
-                    Ok(state) => Ok(Progress::Told(state)),
-                    Err(NoMemory) => Err(LineFault::NoMemory),
-                }
-            } else {
-                Err(LineFault::Bad(SReason::Range))
-            }
+        Form::Machine {
+            cpus: number,
+            counters: own,
+        } => {
+            let cpus = cpus(*number).ok_or(SReason::Range)?;
+            let counters = counters(*own).ok_or(SReason::Range)?;
+            Ok(Progress::Machine(whole_machine(alloc, cpus, counters)?))
         }
-        Form::MachineOfPmus { cpus } => {
-            if is_machine(*cpus) {
-                Ok(Progress::Told(bare_machine(alloc, *cpus as u8)))
-            } else {
-                Err(LineFault::Bad(SReason::Range))
-            }
+        Form::MachineOfPmus { cpus: number } => {
+            let cpus = cpus(*number).ok_or(SReason::Range)?;
+            Ok(Progress::Machine(bare_machine(alloc, cpus)))
         }
         _ => Err(LineFault::Bad(SReason::Place)),
     }
 }
 
 /// A later form of a text.
-fn go_on(state: State, form: &Form) -> Result<Progress, LineFault>
-    requires told { (forms : List text.Form) × Follows forms state }
+fn later_form(state: State, form: &Form<'_>) -> Result<Progress, LineFault>
+    requires behind { (forms : List text.Form) × Follows forms state }
     requires spelling { text.IsSpelling (form_of form.now) }
     ensures ok { IfOk result (λ p. (forms : List text.Form) → Follows forms state → IsTaken forms (form_of form.now) p) }
     ensures bad { IfErr result (λ e. (forms : List text.Form) → Follows forms state → Blames e (λ r. IsFirstOf forms (form_of form.now) r)) }
 {
     let mut state = state;
     let _cpus = state.script.cpus();
-    match judge(&state, form) {
-        Some(reason) => Err(LineFault::Bad(reason)),
-        None => match add(&mut state, form) {
-            Ok(()) => Ok(Progress::Told(state)),
-            Err(NoMemory) => Err(LineFault::NoMemory),
-        },
-    }
+    state.take(form)?;
+    Ok(Progress::Machine(state))
 }
 
 /// One form more.
-fn take_form(alloc: Global, progress: Progress, form: &Form) -> Result<Progress, LineFault>
-    requires told { (forms : List text.Form) × Behind forms progress }
+fn take_form(alloc: Global, progress: Progress, form: &Form<'_>) -> Result<Progress, LineFault>
+    requires behind { (forms : List text.Form) × Behind forms progress }
     requires spelling { text.IsSpelling (form_of form.now) }
     ensures ok { IfOk result (λ p. (forms : List text.Form) → Behind forms progress → IsTaken forms (form_of form.now) p) }
     ensures bad { IfErr result (λ e. (forms : List text.Form) → Behind forms progress → Blames e (λ r. IsFirstOf forms (form_of form.now) r)) }
 {
     match progress {
-        Progress::Start => begin(form),
-        Progress::Begun => build(alloc, form),
-        Progress::Told(state) => go_on(state, form),
+        Progress::Nothing => first_form(form),
+        Progress::Version => second_form(alloc, form),
+        Progress::Machine(state) => later_form(state, form),
     }
 }
 
@@ -154,7 +143,7 @@ pub fn has_ended(progress: &Progress) -> bool
     ensures { result ≡ ended_of progress.now }
 {
     match progress {
-        Progress::Told(state) => state.section.rank() == 10,
+        Progress::Machine(state) => state.section.rank() == 10,
         _ => false,
     }
 }

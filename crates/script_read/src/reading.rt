@@ -11,7 +11,7 @@ ghost use Rattle.script_spec.specs.Texts as text_version;
 ghost use Rattle.script_spec.specs.Texts.{StandsFor, IsRefused};
 ghost use Rattle.line_forms.specs.Seen as seen;
 ghost use Rattle.script_read.specs.declared.fault.ScriptFault.TheVariants.{Bad, NoMemory};
-ghost use Rattle.script_read.specs.Finishing.{IsNextLine, HasNoLine, IsFinished, IsUnfinished, IsBlamed, blamed_of};
+ghost use Rattle.script_read.specs.Reading.{IsNextLine, HasNoLine, IsFinished, IsUnfinished, IsBlamed, blamed_of};
 
 use crate::fault::{LineFault, ScriptFault};
 use crate::progress::{Progress, has_ended, take_line};
@@ -61,7 +61,7 @@ fn no_end(line: u32) -> ScriptFault
     }
 }
 
-/// What a text gives whose lines were all read, so many.
+/// What a text gives whose lines were all read.
 fn finish(progress: Progress, lines: u32, rest: &[u8]) -> Result<Script, ScriptFault>
     requires { lines ≤ 4194304 }
     ensures ok { IfOk result (λ s. IsFinished rest.now progress s) }
@@ -74,7 +74,7 @@ fn finish(progress: Progress, lines: u32, rest: &[u8]) -> Result<Script, ScriptF
         return Err(no_end(lines));
     }
     match progress {
-        Progress::Told(state) => Ok(state.script),
+        Progress::Machine(state) => Ok(state.script),
         _ => Err(no_end(lines)),
     }
 }
@@ -96,7 +96,7 @@ fn read(alloc: Global, bytes: &[u8]) -> Result<Script, ScriptFault>
     ensures bad { IfErr result (λ e. IsBlamed bytes.now e) }
 {
     let version = version_of(bytes);
-    let mut progress = Progress::Start;
+    let mut progress = Progress::Nothing;
     let mut lines: u32 = 0;
     let mut rest = bytes;
     while let Some((line, more)) = next_line(rest) {

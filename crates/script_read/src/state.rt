@@ -2,7 +2,7 @@
 
 ghost use Rattle.std.specs.Prelude.{◌≡◌};
 ghost use Rattle.line_forms.specs.Seen.{form_of};
-ghost use Rattle.script_read.specs.States.{rank_of, part_of};
+ghost use Rattle.script_read.specs.State.{rank_of, part_of};
 
 use line_forms::Form;
 use perf_base::{CpuNo, CpuSet, Script, ToolNo};
@@ -45,7 +45,7 @@ impl Section {
 }
 
 /// The section that a form belongs to.
-pub fn section_of(form: &Form) -> Section
+pub fn section_of(form: &Form<'_>) -> Section
     ensures { result ≡ part_of (form_of form.now) }
 {
     match form {

@@ -1,5 +1,5 @@
 use Rattle.std.proofs.Common.{refl}
-use Rattle.script_read.proofs.Begun.{follows_bare}
+use Rattle.script_read.proofs.Beginning.{follows_bare}
 use Rattle.script_read.proofs.progress.bare_machine.Goals as goal
 
 pub returns : goal.returns

@@ -1,5 +1,5 @@
 use Rattle.std.proofs.Common.{refl}
-use Rattle.script_read.proofs.Begun.{follows_machine, all_of}
+use Rattle.script_read.proofs.Beginning.{follows_machine, all_of}
 use Rattle.script_read.proofs.progress.whole_machine.Goals as goal
 
 pub add_pmu-requires-clause-line : goal.add_pmu-requires-clause-line

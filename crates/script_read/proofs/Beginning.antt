@@ -1,7 +1,7 @@
 -- The first two lines, and a line as its form.
-use Rattle.std.proofs.Common.{◌≡◌, ◌≢◌, ℕ, ◌-◌, ◌^◌, ◌<◌, ◌≤◌, true, false, All, List, [], ◌∷◌, length, get_or, Option, None, refl, sym, ap, subst, ◌∙◌, arith}
+use Rattle.std.proofs.Common.{◌≡◌, ◌≢◌, ℕ, ◌-◌, ◌^◌, ◌<◌, ◌≤◌, false, All, List, [], ◌∷◌, get_or, Option, None, refl, sym, ap, subst, ◌∙◌, arith}
 use Rattle.std.specs.Prelude.{bit_or, IfSome}
-use Rattle.std.proofs.lemmas.Bool.{eqb-true, eqb-false}
+use Rattle.std.proofs.lemmas.Bool.{eqb-false}
 use Rattle.std.proofs.Math.Nat.{pow-le-pow_right}
 use Rattle.std.proofs.lemmas.Nat.Bits.{bit_at_or, bit_at-zero, same_from_bits}
 use Rattle.std.proofs.lemmas.List.Elements.{All-cons}
@@ -43,36 +43,7 @@ early before f reason.Name l = absurd (omega (arith, l))
 early before f reason.Limit l = absurd (omega (arith, l))
 early before f reason.Weight l = absurd (omega (arith, l))
 
-abbrev IsNoPerf : Form → Type 0
-IsNoPerf (form.Perf v) = ⊥
-IsNoPerf other = Unit {0}
-
-not_first : (f : Form) → IsNoPerf f → IsPlaced [] f → ⊥
-not_first (form.Perf v) n h = n
-not_first (form.Machine cpus counters) n h = omega (arith, h)
-not_first (form.MachineOfPmus cpus) n h = omega (arith, h)
-not_first (form.Pmu number counters cpus) n h = omega (arith, h.behind_machine)
-not_first other n h = omega (arith, h.in_order.behind_machine)
-
-pub place_first : (f : Form) → IsNoPerf f → IsFirstOf [] f reason.Place
-place_first f n = record { earlier = early [] f; broken = not_first f n }
-
 -- ---- the second line
-
-abbrev IsNoMachine : Form → Type 0
-IsNoMachine (form.Machine cpus counters) = ⊥
-IsNoMachine (form.MachineOfPmus cpus) = ⊥
-IsNoMachine other = Unit {0}
-
-not_second : (v : Version) (f : Form) → IsNoMachine f → IsPlaced (form.Perf v ∷ []) f → ⊥
-not_second v (form.Perf w) n h = let z : length (form.Perf v ∷ []) ≡ 0 = ap length h in omega (arith, z)
-not_second v (form.Machine cpus counters) n h = n
-not_second v (form.MachineOfPmus cpus) n h = n
-not_second v (form.Pmu number counters cpus) n h = omega (arith, h.behind_machine)
-not_second v other n h = omega (arith, h.in_order.behind_machine)
-
-pub place_second : (v : Version) (f : Form) → IsNoMachine f → IsFirstOf (form.Perf v ∷ []) f reason.Place
-place_second v f n = record { earlier = early (form.Perf v ∷ []) f; broken = not_second v f n }
 
 early_range : (before : List Form) (f : Form) → IsPlaced before f → (q : SReason) → rank q < 4 → AsksOf before f q
 early_range before f p reason.End l = tt
@@ -156,24 +127,12 @@ sound_state forms s h = record {
 
 -- ---- the end
 
-end_section : (f : Form) → section f ≡ 10 → IsNoEnd f → ⊥
-end_section (form.Perf v) e h = omega (arith, e)
-end_section form.End e h = h
-end_section other e h = omega (arith, e)
-
 low_section : (f : Form) → section f < 10 → IsNoEnd f
 low_section form.End l = omega (arith, l)
 low_section other l = tt
 
 low_all : (forms : List Form) (n : ℕ) → n < 10 → All (λ g. section g ≤ n) forms → All IsNoEnd forms
 low_all forms n l h = λ k d w. low_section (get_or forms k d) (omega (arith, l, h k d w))
-
-pub ended_true : (forms : List Form) (p : Progress) → Behind forms p → ended_of p ≡ true → All IsNoEnd forms → ⊥
-ended_true forms progress.Nothing b e all = absurd cc
-ended_true forms progress.Version b e all = absurd cc
-ended_true forms (progress.Machine s) h e all =
-    let a = h.reached in
-    end_section (get_or forms a.0 a.1) (ap section a.3 ∙ (a.4 ∙ eqb-true _ _ e)) (all a.0 a.1 a.2)
 
 rank_high : (s : State) → rank_of s.section ≤ 10
 rank_high s = go s.section
