@@ -4,38 +4,17 @@ ghost use Rattle.std.specs.Prelude.{◌≡◌, List, [], ◌∷◌, ◌++◌, co
 ghost use Rattle.perf_base.specs.declared.numbers.RingNo.{RingNo};
 ghost use Rattle.perf_io.specs.Wrote.{Wrote};
 ghost use Rattle.report_spec.specs.Report.{answer_lines, report};
-ghost use Rattle.script_spec.specs.Acts.{act_text, acts_text};
+ghost use Rattle.script_spec.specs.Acts.{acts_text};
 ghost use Rattle.ring_spec.specs.Account.{Account};
 ghost use Rattle.report.specs.Said.{answered};
 ghost use Rattle.report.specs.Told.{AreTold, ring_lent, told_report};
 
 use crate::answers::write_answers;
 use crate::rings::write_rings;
-use order_text::write_act;
 use perf_base::{Act, Actor, RingNo, Script, StoredReply};
 use perf_io::{Failed, Sink, write_all};
 use sample_ring::RingNumbers;
-
-/// Writes an act with a space before it.
-#[tactic(auto, using(perf_io::proofs::Wrote::writes))]
-fn put_act<K: Sink>(sink: &mut K, act: &Act) -> Result<(), Failed>
-    ensures wrote { Wrote K.held K.faults K.last_fault sink.old sink.new result (32 ∷ act_text act.now) }
-    ensures flushed { K.flushed sink.new ≡ K.flushed sink.old }
-{
-    write_all(sink, b" ")?;
-    write_act(act, sink)
-}
-
-/// Writes acts with a space before each.
-fn put_acts<K: Sink>(sink: &mut K, acts: &[Act]) -> Result<(), Failed>
-    ensures wrote { Wrote K.held K.faults K.last_fault sink.old sink.new result (acts_text acts.now) }
-    ensures flushed { K.flushed sink.new ≡ K.flushed sink.old }
-{
-    for act in acts {
-        put_act(sink, act)?;
-    }
-    Ok(())
-}
+use script_print::put_acts;
 
 /// Writes the line of an order. Where a call of the sink fails, some front of the line stays added.
 #[tactic(auto, using(perf_io::proofs::Wrote::writes))]

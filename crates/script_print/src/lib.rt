@@ -16,6 +16,6 @@ mod tool_lines;
 mod words;
 
 pub use laws::printed_text_stands;
-pub use printing::print_script;
+pub use printing::{print_script, put_acts};
 pub use stored::printed_text_stands_for;
 pub use words::{Word, put_line};

@@ -51,8 +51,8 @@ fn put_act<K: Sink>(sink: &mut K, act: &Act) -> Result<(), Failed>
     write_act(act, sink)
 }
 
-/// Writes acts with a space before each.
-fn put_acts<K: Sink>(sink: &mut K, acts: &[Act]) -> Result<(), Failed>
+/// Writes acts, a space before each. Where a call of the sink fails, some front of the text stays added.
+pub fn put_acts<K: Sink>(sink: &mut K, acts: &[Act]) -> Result<(), Failed>
     ensures wrote { Wrote K.held K.faults K.last_fault sink.old sink.new result (acts_text acts.now) }
     ensures flushed { K.flushed sink.new ≡ K.flushed sink.old }
 {
