@@ -103,9 +103,9 @@ module _ {v : Version} (s : Scripted) (h : IsScript s) (covered : IsCovered s) w
       let under : IsSome (last_of (processors_in before)) = rw b.processors (rw (last_is qs n) refl) in
       let less = partly_fewer n done s.cpu_lines l (fewer done x rest (get_or s.cpu_lines n []) e) in
       let count : line_count (script_of before) ≡ line_count t = ap line_count b.script in
-      let said : on_cpu t (last_of (qs ++ n ∷ [])) (cpu_line_of s.kinds f.0) ≡ with_cpus s (partly n (done ++ x ∷ []) s.cpu_lines) = rw (last_is qs n, f.1.says) (ap (with_cpus s) (partly_more n done x s.cpu_lines l)) in
+      let next_is : on_cpu t (last_of (qs ++ n ∷ [])) (cpu_line_of s.kinds f.0) ≡ with_cpus s (partly n (done ++ x ∷ []) s.cpu_lines) = rw (last_is qs n, f.1.says) (ap (with_cpus s) (partly_more n done x s.cpu_lines l)) in
       subst (λ g. Run v (before ++ g ∷ []) (with_cpus s (partly n (done ++ x ∷ []) s.cpu_lines)) (qs ++ n ∷ []) [] 6) (sym f.1.is)
-      (push (form.OnProcessor f.0) (omega arith, omega arith) b (entry tt refl refl refl b.low said) (behind_pmus b covered under) (record {
+      (push (form.OnProcessor f.0) (omega arith, omega arith) b (entry tt refl refl refl b.low next_is) (behind_pmus b covered under) (record {
         form = (tt, f.1.spelling);
         range = f.1.range;
         others = (tt, f.1.named before (says b).kinds, omega (arith, less, count, h.lines_few), tt);
@@ -137,9 +137,9 @@ module _ {v : Version} (s : Scripted) (h : IsScript s) (covered : IsCovered s) {
       let under : IsSome (last_of (tools_in before)) = rw b.tools (rw (last_is qs n) refl) in
       let less = partly_fewer n done s.tool_lines l (fewer done x rest (get_or s.tool_lines n []) e) in
       let count : line_count (script_of before) ≡ line_count t = ap line_count b.script in
-      let said : on_tool t (last_of (qs ++ n ∷ [])) (tool_line_of s.kinds f.0) ≡ with_tools s (partly n (done ++ x ∷ []) s.tool_lines) = rw (last_is qs n, f.1.says) (ap (with_tools s) (partly_more n done x s.tool_lines l)) in
+      let next_is : on_tool t (last_of (qs ++ n ∷ [])) (tool_line_of s.kinds f.0) ≡ with_tools s (partly n (done ++ x ∷ []) s.tool_lines) = rw (last_is qs n, f.1.says) (ap (with_tools s) (partly_more n done x s.tool_lines l)) in
       subst (λ g. Run v (before ++ g ∷ []) (with_tools s (partly n (done ++ x ∷ []) s.tool_lines)) ps (qs ++ n ∷ []) 7) (sym f.1.is)
-      (push (form.OnTool f.0) (omega arith, omega arith) b (entry tt refl refl refl b.low said) (behind_pmus b covered under) (record {
+      (push (form.OnTool f.0) (omega arith, omega arith) b (entry tt refl refl refl b.low next_is) (behind_pmus b covered under) (record {
         form = (tt, f.1.spelling);
         range = rw (says b).cpus f.1.range;
         others = (f.1.attr, f.1.named before (says b).kinds (says b).rings, omega (arith, less, count, h.lines_few), tt);

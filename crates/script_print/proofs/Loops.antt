@@ -8,7 +8,7 @@ use Rattle.perf_io.specs.Wrote.{Wrote}
 use Rattle.perf_io.specs.declared.outside.Failed.{Failed}
 use Rattle.perf_io.proofs.Wrote.{wrote_then, wrote_exit, wrote_text}
 use Rattle.std.proofs.lemmas.Grind.{flat_map-append}
-use Rattle.script_print.specs.Words.{said, all_said, spaced}
+use Rattle.script_print.specs.Words.{word_texts, all_word_texts, spaced}
 
 -- a text was written so far, and nothing was flushed
 pub record IsWritten {K : Type 0} (held : K → Option (List ℕ)) (faults : K → ℕ) (last_fault : Option ℕ) (flushed_by : K → ℕ) (first now : K) (text : List ℕ) : Type 0 where
@@ -89,5 +89,5 @@ pub join_spaced : (w : List ℕ) (ws : List (List ℕ)) → join_with_byte 32 (w
 join_spaced w [] = sym (append-nil w)
 join_spaced w (v ∷ ws) = ap (λ (t : List ℕ). w ++ (32 ∷ t)) (join_spaced v ws)
 
-pub words_text : IsText (λ ws. spaced (all_said ws)) (λ w. spaced (said w))
-words_text = record { nil = refl; cons = λ w ws. flat_map-append (λ v. 32 ∷ v) (said w) (all_said ws) }
+pub words_text : IsText (λ ws. spaced (all_word_texts ws)) (λ w. spaced (word_texts w))
+words_text = record { nil = refl; cons = λ w ws. flat_map-append (λ v. 32 ∷ v) (word_texts w) (all_word_texts ws) }

@@ -124,8 +124,8 @@ module _ (s : Scripted) (h : IsScript s) (covered : IsCovered s) where
         | inl t ↦
             let first : k.pmu ≡ 0 = omega (arith, eqb-true (length s.pmus) 1 t, m.0) in
             let b1 : Run form.One before (with_kinds s done) [] [] 3 = rw t at b in
-            let said : with_kinds s (done ++ record { name = k.name; pmu = 0; mask = k.mask } ∷ []) ≡ with_kinds s (done ++ k ∷ []) = ap (λ n. with_kinds s (done ++ record { name = k.name; pmu = n; mask = k.mask } ∷ [])) (sym first) in
-            rw t (push (form.Kind k.name k.mask) (omega arith, omega arith) b1 (entry tt refl refl refl b.low said) (behind_pmus b1 covered tt) (record {
+            let next_is : with_kinds s (done ++ record { name = k.name; pmu = 0; mask = k.mask } ∷ []) ≡ with_kinds s (done ++ k ∷ []) = ap (λ n. with_kinds s (done ++ record { name = k.name; pmu = n; mask = k.mask } ∷ [])) (sym first) in
+            rw t (push (form.Kind k.name k.mask) (omega arith, omega arith) b1 (entry tt refl refl refl b.low next_is) (behind_pmus b1 covered tt) (record {
               form = (refl, ((own.name, own.length), omega (arith, m.1)));
               range = rw (says b).pmus (subst (λ n. IsMaskOf s.pmus n k.mask) first own.mask);
               others = (tt, record { free = own.free; once = once }, few, tt);

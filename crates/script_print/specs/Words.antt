@@ -9,16 +9,16 @@ use Rattle.script_print.specs.declared.words.Word.{Word}
 use Rattle.script_print.specs.declared.words.Word.TheVariants as word
 
 -- no word for what is missing
-abbrev pub said : Word → List (List ℕ)
-said word.Missing = []
-said (word.Plain text) = text.now ∷ []
-said (word.Decimal key n) = (key.now ++ decimal n) ∷ []
-said (word.Hexadecimal key n) = (key.now ++ hexadecimal n) ∷ []
-said (word.Named key name) = (key.now ++ name) ∷ []
-said (word.Flags flags) = (codes "flags=" ++ flags_text flags.0) ∷ []
+abbrev pub word_texts : Word → List (List ℕ)
+word_texts word.Missing = []
+word_texts (word.Plain text) = text.now ∷ []
+word_texts (word.Decimal key n) = (key.now ++ decimal n) ∷ []
+word_texts (word.Hexadecimal key n) = (key.now ++ hexadecimal n) ∷ []
+word_texts (word.Named key name) = (key.now ++ name) ∷ []
+word_texts (word.Flags flags) = (codes "flags=" ++ flags_text flags.0) ∷ []
 
-abbrev pub all_said : List Word → List (List ℕ)
-all_said words = flat_map said words
+abbrev pub all_word_texts : List Word → List (List ℕ)
+all_word_texts words = flat_map word_texts words
 
 -- words in a row, a space before each
 abbrev pub spaced : List (List ℕ) → List ℕ

@@ -5,7 +5,7 @@ ghost use Rattle.script_spec.specs.Forms.{hit_text, mode_text};
 ghost use Rattle.script_spec.specs.Printing.{hits_of, cpu_form, processor_forms, all_processor_forms, line_text};
 ghost use Rattle.perf_io.specs.Wrote.{Wrote};
 ghost use Rattle.perf_base.specs.Scripts.{lines_of_cpu};
-ghost use Rattle.script_print.specs.Words.{all_said, spaced, hit_piece};
+ghost use Rattle.script_print.specs.Words.{all_word_texts, spaced, hit_piece};
 ghost use Rattle.perf_base.specs.declared.lines.CpuLine.TheVariants as cpu_line;
 
 use crate::words::{Word, put_line, put_start};
@@ -76,7 +76,7 @@ fn put_hits_line<K: Sink>(
     hits: &[u64; 16],
 ) -> Result<(), Failed>
     requires { length script.now.kinds ≤ 16 }
-    ensures wrote { Wrote K.held K.faults K.last_fault sink.old sink.new result ((first.now ++ spaced (all_said words.now)) ++ (spaced (map hit_text (hits_of script.now.kinds hits.now)) ++ 10 ∷ [])) }
+    ensures wrote { Wrote K.held K.faults K.last_fault sink.old sink.new result ((first.now ++ spaced (all_word_texts words.now)) ++ (spaced (map hit_text (hits_of script.now.kinds hits.now)) ++ 10 ∷ [])) }
     ensures flushed { K.flushed sink.new ≡ K.flushed sink.old }
 {
     put_start(sink, first, words)?;

@@ -5,7 +5,7 @@ ghost use Rattle.script_spec.specs.Forms.{number_or, word_if, group_words};
 ghost use Rattle.script_spec.specs.Printing.{kind_name, task_number, cpu_number, tool_form, tool_forms, all_tool_forms, line_text};
 ghost use Rattle.perf_io.specs.Wrote.{Wrote};
 ghost use Rattle.perf_base.specs.Scripts.{lines_of_tool, IsToolLine, IsKind};
-ghost use Rattle.script_print.specs.Words.{said};
+ghost use Rattle.script_print.specs.Words.{word_texts};
 ghost use Rattle.perf_base.specs.declared.lines.ToolLine.TheVariants as tool_line;
 
 use crate::words::{Word, put_line};
@@ -14,14 +14,14 @@ use perf_io::{Failed, Sink};
 
 /// The word of a number.
 fn number(n: u64) -> Word<'static>
-    ensures { said result ≡ decimal n ∷ [] }
+    ensures { word_texts result ≡ decimal n ∷ [] }
 {
     Word::Decimal(b"", n)
 }
 
 /// The word of an event's slot.
 fn event_word(event: EventNo) -> Word<'static>
-    ensures { said result ≡ decimal event.0 ∷ [] }
+    ensures { word_texts result ≡ decimal event.0 ∷ [] }
 {
     number(u64::from(event.0))
 }
@@ -29,7 +29,7 @@ fn event_word(event: EventNo) -> Word<'static>
 /// The word of an event's kind.
 fn kind_word(script: &Script, kind: Kind) -> Word<'static>
     requires { IsKind (length script.now.kinds) kind }
-    ensures { said result ≡ (codes "kind=" ++ kind_name script.now.kinds kind) ∷ [] }
+    ensures { word_texts result ≡ (codes "kind=" ++ kind_name script.now.kinds kind) ∷ [] }
 {
     match kind {
         Kind::Hard(n) => Word::Named(b"kind=", script.name(usize::from(n))),
@@ -42,7 +42,7 @@ fn kind_word(script: &Script, kind: Kind) -> Word<'static>
 
 /// The word of the task that an event counts.
 fn task_word(task: TaskSel) -> Word<'static>
-    ensures { said result ≡ (codes "task=" ++ number_or (codes "all") (task_number task)) ∷ [] }
+    ensures { word_texts result ≡ (codes "task=" ++ number_or (codes "all") (task_number task)) ∷ [] }
 {
     match task {
         TaskSel::All => Word::Plain(b"task=all"),
@@ -52,7 +52,7 @@ fn task_word(task: TaskSel) -> Word<'static>
 
 /// The word of the processor on which an event counts.
 fn cpu_word(cpu: CpuSel) -> Word<'static>
-    ensures { said result ≡ (codes "cpu=" ++ number_or (codes "any") (cpu_number cpu)) ∷ [] }
+    ensures { word_texts result ≡ (codes "cpu=" ++ number_or (codes "any") (cpu_number cpu)) ∷ [] }
 {
     match cpu {
         CpuSel::Any => Word::Plain(b"cpu=any"),
@@ -62,7 +62,7 @@ fn cpu_word(cpu: CpuSel) -> Word<'static>
 
 /// The word of an event's leader, missing where it has none.
 fn leader_word(leader: Option<EventNo>) -> Word<'static>
-    ensures { said result ≡ word_if (option_map (λ e. e.0) leader) (λ n. codes "leader=" ++ decimal n) }
+    ensures { word_texts result ≡ word_if (option_map (λ e. e.0) leader) (λ n. codes "leader=" ++ decimal n) }
 {
     match leader {
         None => Word::Missing,
@@ -72,7 +72,7 @@ fn leader_word(leader: Option<EventNo>) -> Word<'static>
 
 /// The word of a read's size, missing where none is given.
 fn size_word(size: Option<u64>) -> Word<'static>
-    ensures { said result ≡ word_if size (λ n. codes "size=" ++ decimal n) }
+    ensures { word_texts result ≡ word_if size (λ n. codes "size=" ++ decimal n) }
 {
     match size {
         None => Word::Missing,
@@ -82,7 +82,7 @@ fn size_word(size: Option<u64>) -> Word<'static>
 
 /// The word of a whole group.
 fn group_word(group: bool) -> Word<'static>
-    ensures { said result ≡ group_words group }
+    ensures { word_texts result ≡ group_words group }
 {
     if group {
         Word::Plain(b"group")

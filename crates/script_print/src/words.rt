@@ -5,7 +5,7 @@ ghost use Rattle.std.specs.List.{join_with_byte};
 ghost use Rattle.script_spec.specs.Forms.{hexadecimal, flags_text, word_if};
 ghost use Rattle.script_spec.specs.Printing.{some_of};
 ghost use Rattle.perf_io.specs.Wrote.{Wrote};
-ghost use Rattle.script_print.specs.Words.{said, all_said, spaced};
+ghost use Rattle.script_print.specs.Words.{word_texts, all_word_texts, spaced};
 
 use crate::flags::put_flags;
 use crate::pieces::{put_hexadecimal, put_two};
@@ -26,7 +26,7 @@ pub enum Word<'a> {
 impl<'a> Word<'a> {
     /// A decimal number that is missing where it is 0.
     pub fn decimal_if(key: &'a [u8], n: u64) -> Word<'a>
-        ensures { said result ≡ word_if (some_of n) (λ m. key.now ++ decimal m) }
+        ensures { word_texts result ≡ word_if (some_of n) (λ m. key.now ++ decimal m) }
     {
         if n == 0 {
             Word::Missing
@@ -37,7 +37,7 @@ impl<'a> Word<'a> {
 
     /// A hexadecimal number that is missing where it is 0.
     pub fn hexadecimal_if(key: &'a [u8], n: u64) -> Word<'a>
-        ensures { said result ≡ word_if (some_of n) (λ m. key.now ++ hexadecimal m) }
+        ensures { word_texts result ≡ word_if (some_of n) (λ m. key.now ++ hexadecimal m) }
     {
         if n == 0 {
             Word::Missing
@@ -48,7 +48,7 @@ impl<'a> Word<'a> {
 
     /// Flags, missing where there are none.
     pub fn flags_if(flags: AttrFlags) -> Word<'a>
-        ensures { said result ≡ word_if (some_of flags.0) (λ m. codes "flags=" ++ flags_text m) }
+        ensures { word_texts result ≡ word_if (some_of flags.0) (λ m. codes "flags=" ++ flags_text m) }
     {
         if flags.0 == 0 {
             Word::Missing
@@ -102,7 +102,7 @@ fn put_flags_word<K: Sink>(sink: &mut K, key: &[u8], flags: AttrFlags) -> Result
 
 /// Writes a word with a space before it, or nothing.
 pub fn put_word<K: Sink>(sink: &mut K, word: &Word) -> Result<(), Failed>
-    ensures wrote { Wrote K.held K.faults K.last_fault sink.old sink.new result (spaced (said word.now)) }
+    ensures wrote { Wrote K.held K.faults K.last_fault sink.old sink.new result (spaced (word_texts word.now)) }
     ensures flushed { K.flushed sink.new ≡ K.flushed sink.old }
 {
     match word {
@@ -117,7 +117,7 @@ pub fn put_word<K: Sink>(sink: &mut K, word: &Word) -> Result<(), Failed>
 
 /// Writes words with a space before each.
 pub fn put_words<K: Sink>(sink: &mut K, words: &[Word]) -> Result<(), Failed>
-    ensures wrote { Wrote K.held K.faults K.last_fault sink.old sink.new result (spaced (all_said words.now)) }
+    ensures wrote { Wrote K.held K.faults K.last_fault sink.old sink.new result (spaced (all_word_texts words.now)) }
     ensures flushed { K.flushed sink.new ≡ K.flushed sink.old }
 {
     for word in words {
@@ -129,7 +129,7 @@ pub fn put_words<K: Sink>(sink: &mut K, words: &[Word]) -> Result<(), Failed>
 /// Writes the first words of a line.
 #[tactic(auto, using(perf_io::proofs::Wrote::writes))]
 pub fn put_start<K: Sink>(sink: &mut K, first: &[u8], words: &[Word]) -> Result<(), Failed>
-    ensures wrote { Wrote K.held K.faults K.last_fault sink.old sink.new result (first.now ++ spaced (all_said words.now)) }
+    ensures wrote { Wrote K.held K.faults K.last_fault sink.old sink.new result (first.now ++ spaced (all_word_texts words.now)) }
     ensures flushed { K.flushed sink.new ≡ K.flushed sink.old }
 {
     write_all(sink, first)?;
@@ -139,7 +139,7 @@ pub fn put_start<K: Sink>(sink: &mut K, first: &[u8], words: &[Word]) -> Result<
 /// Writes a line.
 #[tactic(auto, using(perf_io::proofs::Wrote::writes, crate::proofs::Loops::join_spaced))]
 pub fn put_line<K: Sink>(sink: &mut K, first: &[u8], words: &[Word]) -> Result<(), Failed>
-    ensures wrote { Wrote K.held K.faults K.last_fault sink.old sink.new result (join_with_byte 32 (first.now ∷ all_said words.now) ++ 10 ∷ []) }
+    ensures wrote { Wrote K.held K.faults K.last_fault sink.old sink.new result (join_with_byte 32 (first.now ∷ all_word_texts words.now) ++ 10 ∷ []) }
     ensures flushed { K.flushed sink.new ≡ K.flushed sink.old }
 {
     put_start(sink, first, words)?;

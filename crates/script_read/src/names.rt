@@ -22,7 +22,8 @@ fn is_called(name: Name, text: &[u8]) -> bool
 
 /// Whether two names are the same.
 pub fn same_name(left: Name, right: Name) -> bool
-    ensures { result ≡ bytes_eq left right }
+    ensures bytes { result ≡ bytes_eq left right }
+    ensures same { IsTrue result ↔ (left ≡ right) }
 {
     is_called(left, right.as_bytes())
 }
@@ -131,17 +132,11 @@ pub fn declared_ring(rings: &[(RingNo, u32)], number: u64) -> Option<RingNo>
     None
 }
 
-fn is_same(left: Name, right: Name) -> bool
-    ensures { IsTrue result ↔ (left ≡ right) }
-{
-    same_name(left, right)
-}
-
 /// Whether a name stands there.
 fn stands_there(hits: &[Hit], name: Name) -> bool
     ensures { IsTrue result ↔ Any (λ h. h.name ≡ name) hits.now }
 {
-    hits.iter().any(|hit| is_same(hit.name, name))
+    hits.iter().any(|hit| same_name(hit.name, name))
 }
 
 /// Whether each kind is declared.

@@ -182,6 +182,7 @@ pub fn opening_place(cpus: u8, opening: &Opening) -> Option<Place>
     })
 }
 
+/// `are_amounts`, said of the list as it stands: what a test by an iterator is shown to be.
 fn are_small(hits: &[Hit]) -> bool
     ensures { IsTrue result ↔ All (λ h. IsAmount h.times) hits.now }
 {
