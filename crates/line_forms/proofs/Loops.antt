@@ -12,7 +12,7 @@ use Rattle.line_forms.specs.declared.stop.LineStop.TheVariants as stop
 use Rattle.line_forms.specs.Words.{◌>>=◌, next_of}
 use Rattle.perf_base.specs.declared.acts.Act.{Act}
 use Rattle.line_forms.specs.Bodies.{each_word, act_in, pair_of, pairs_in}
-use Rattle.line_forms.specs.Lists.{acts_in}
+use Rattle.line_forms.specs.Acts.{acts_in}
 use Rattle.line_forms.specs.Stop.{Stops}
 
 -- what was read before, and what is still read
@@ -55,10 +55,6 @@ unfolding each_word
 each_end f front xs whole n so_far =
     let one : with_front front (each_word f []) ≡ Some front = ap Some (append-nil front) in
     sym so_far ∙ (ap (λ (ys : List (List ℕ)). with_front front (each_word f ys)) (next_nil xs n) ∙ one)
-
-pub nothing_read : {A : Type 0} (read : Option (List A)) → with_front [] read ≡ read
-nothing_read (Some xs) = refl
-nothing_read None = refl
 
 -- where each word says an act, the acts from the left are all
 pub all_acts : (words : List (List ℕ)) (acts : List Act) → each_word act_in words ≡ Some acts → acts_in words ≡ acts

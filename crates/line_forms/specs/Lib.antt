@@ -1,7 +1,7 @@
+pub mod Acts
 pub mod Bodies
 pub mod Keyword
 pub mod Leaves
-pub mod Lists
 pub mod Reading
 pub mod Seen
 pub mod Stop

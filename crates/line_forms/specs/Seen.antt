@@ -1,5 +1,5 @@
 -- What the definitions of the language call the forms that the reader gives.
-use Rattle.std.specs.Prelude.{List, map}
+use Rattle.std.specs.Prelude.{map}
 use Rattle.perf_base.specs.declared.acts.Act.{Act}
 use Rattle.perf_base.specs.declared.acts.Act.TheVariants as act
 use Rattle.script_spec.specs.Forms as form
@@ -13,13 +13,10 @@ use Rattle.line_forms.specs.declared.forms.Opening.{Opening}
 use Rattle.line_forms.specs.declared.forms.Asked.{Asked}
 use Rattle.line_forms.specs.declared.forms.ToolForm.{ToolForm}
 use Rattle.line_forms.specs.declared.forms.ToolForm.TheVariants as tool_form
-use Rattle.line_forms.specs.declared.forms.SpelledAct.{SpelledAct}
-use Rattle.line_forms.specs.declared.forms.SpelledAct.TheVariants as spelled
-use Rattle.line_forms.specs.declared.lists.Acts.{Acts}
+use Rattle.line_forms.specs.declared.acts.SpelledAct.{SpelledAct}
+use Rattle.line_forms.specs.declared.acts.SpelledAct.TheVariants as spelled
 use Rattle.line_forms.specs.declared.forms.Form.{Form}
 use Rattle.line_forms.specs.declared.forms.Form.TheVariants as read
-use Rattle.line_forms.specs.Words.{left}
-use Rattle.line_forms.specs.Lists.{acts_in}
 
 abbrev pub version_of : Version → form.Version
 version_of version.One = form.One
@@ -63,9 +60,6 @@ act_of (spelled.Processor n) = act.Processor (record { 0 = n })
 act_of (spelled.Tool n) = act.Tool (record { 0 = n })
 act_of (spelled.Seen ring place) = act.Seen (record { 0 = ring }) place
 
-abbrev pub acts_of : Acts → List Act
-acts_of acts = acts_in (left acts.words)
-
 abbrev pub form_of : Form → form.Form
 form_of (read.Perf v) = form.Perf (version_of v)
 form_of (read.Machine cpus counters) = form.Machine cpus counters
@@ -80,5 +74,5 @@ form_of (read.OnProcessor line) = form.OnProcessor (cpu_form_of line)
 form_of (read.Tool number) = form.Tool number
 form_of (read.OnTool line) = form.OnTool (tool_form_of line)
 form_of (read.Reader ring tries batch) = form.Reader ring tries batch
-form_of (read.Order acts) = form.Order (acts_of acts)
+form_of (read.Order acts) = form.Order acts
 form_of read.End = form.End

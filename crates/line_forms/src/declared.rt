@@ -9,7 +9,6 @@ ghost use Rattle.line_forms.specs.Seen.{form_of, version_of};
 
 use crate::forms::{Form, Version};
 use crate::leaves::{decimal_at, hexadecimal_at, name_at, same};
-use crate::lists::order_acts;
 use crate::shapes::{at_end, one_number};
 use crate::words::Words;
 
@@ -134,12 +133,6 @@ pub fn reader(words: Words<'_>) -> Option<Form<'_>>
     let (batch, words) = decimal_at(words, b"batch=")?;
     words.end()?;
     Some(Form::Reader { ring, tries, batch })
-}
-
-pub fn order(words: Words<'_>) -> Option<Form<'_>>
-    ensures { option_map form_of result ≡ says.order_at (left words.entry) }
-{
-    Some(Form::Order(order_acts(words)?))
 }
 
 pub fn end(words: Words<'_>) -> Option<Form<'_>>

@@ -1,6 +1,6 @@
 //! The forms of a line, with their numbers as they are spelled.
 
-use crate::lists::Acts;
+use crate::acts::Acts;
 use perf_base::{Mode, Name};
 
 /// The version of a text: one PMU on all processors, or PMUs of their own.
@@ -105,15 +105,7 @@ pub enum ToolForm {
     },
 }
 
-/// An act of an order.
-#[derive(Clone, Copy, PartialEq, Eq, Debug)]
-pub enum SpelledAct {
-    Processor(u128),
-    Tool(u128),
-    Seen(u128, u128),
-}
-
-/// The forms of a line. The acts of an order stay in the line.
+/// The forms of a line.
 #[derive(Drop)]
 pub enum Form<'a> {
     Perf(Version),

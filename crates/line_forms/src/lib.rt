@@ -4,6 +4,7 @@
 
 #![tactic(auto)]
 
+mod acts;
 mod cpu_forms;
 mod declared;
 mod forms;
@@ -18,8 +19,9 @@ mod tests;
 mod tool_forms;
 mod words;
 
-pub use forms::{Asked, CpuForm, Form, Hit, Opening, SpelledAct, ToolForm, Version, Working};
-pub use lists::{Acts, MOST_BYTES, read_bytes};
+pub use acts::Acts;
+pub use forms::{Asked, CpuForm, Form, Hit, Opening, ToolForm, Version, Working};
+pub use lists::{MOST_BYTES, read_bytes};
 pub use reading::read_form;
 pub use stop::LineStop;
 pub use words::cut;

@@ -1,16 +1,15 @@
-//! Words that hold lists: occurrences, acts, and bytes.
+//! Words that hold lists: occurrences, and bytes.
 
 ghost use Rattle.std.specs.Prelude.{◌≡◌, ℕ, ◌≤◌, ◌+◌, List, map, flat_map, take, length, IfSome, Some, None, Result, Ok};
 ghost use Rattle.std.specs.Option.{option_map};
 ghost use Rattle.script_spec.specs.Forms.{AreBytes, byte_text};
 ghost use Rattle.line_forms.specs.Words.{left};
 ghost use Rattle.line_forms.specs.Bodies as says;
-ghost use Rattle.line_forms.specs.Bodies.{each_word, hit_in, act_in};
+ghost use Rattle.line_forms.specs.Bodies.{each_word, hit_in};
 ghost use Rattle.line_forms.specs.Stop.{Gives};
-ghost use Rattle.line_forms.specs.Lists.{first_act};
-ghost use Rattle.line_forms.specs.Seen.{act_of, acts_of, hit_of};
+ghost use Rattle.line_forms.specs.Seen.{hit_of};
 
-use crate::forms::{Hit, SpelledAct};
+use crate::forms::Hit;
 use crate::leaves::{HEXADECIMAL, are_digits, decimal, digit, name};
 use crate::stop::LineStop;
 use crate::words::{Words, cut};
@@ -40,75 +39,6 @@ pub fn hits(alloc: Global, words: Words<'_>) -> Result<Vec<Hit>, LineStop>
         rest = more;
     }
     Ok(hits)
-}
-
-/// A tail that was seen, behind its letter.
-#[tactic(auto, unfolding(crate::specs::Bodies::seen_in))]
-fn seen(text: &[u8]) -> Option<SpelledAct>
-    ensures { option_map act_of result ≡ says.seen_in text.now }
-{
-    let (front, back) = cut(text, b'=');
-    let back = back?;
-    let ring = decimal(front)?;
-    let place = decimal(back)?;
-    Some(SpelledAct::Seen(ring, place))
-}
-
-fn processor(text: &[u8]) -> Option<SpelledAct>
-    ensures { option_map act_of result ≡ says.processor_in text.now }
-{
-    Some(SpelledAct::Processor(decimal(text)?))
-}
-
-fn tool(text: &[u8]) -> Option<SpelledAct>
-    ensures { option_map act_of result ≡ says.tool_in text.now }
-{
-    Some(SpelledAct::Tool(decimal(text)?))
-}
-
-/// An act: a letter, and its numbers.
-#[tactic(auto, unfolding(crate::specs::Bodies::act_in))]
-fn act(word: &[u8]) -> Option<SpelledAct>
-    ensures { option_map act_of result ≡ act_in word.now }
-{
-    match word {
-        [] => None,
-        [letter, text @ ..] => match *letter {
-            b'p' => processor(text),
-            b't' => tool(text),
-            b's' => seen(text),
-            _ => None,
-        },
-    }
-}
-
-/// The acts that words of a line say, from the left. They take no memory: each is read again whenever it is looked at.
-#[derive(Clone, Copy)]
-pub struct Acts<'a> {
-    words: Words<'a>,
-}
-
-impl<'a> Acts<'a> {
-    /// The first act, and those behind it. None where none is left.
-    pub fn next(self) -> Option<(SpelledAct, Acts<'a>)>
-        ensures { option_map (λ x. (act_of x.0, acts_of x.1)) result ≡ first_act (acts_of self.entry) }
-    {
-        let (word, words) = self.words.next()?;
-        let act = act(word)?;
-        Some((act, Acts { words }))
-    }
-}
-
-/// The acts that the words spell.
-pub fn order_acts(words: Words<'_>) -> Option<Acts<'_>>
-    ensures { option_map acts_of result ≡ each_word act_in (left words.entry) }
-{
-    let mut rest = words;
-    while let Some((word, more)) = rest.next() {
-        let _ = act(word)?;
-        rest = more;
-    }
-    Some(Acts { words })
 }
 
 fn is_bytes(text: &[u8]) -> bool

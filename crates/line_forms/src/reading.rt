@@ -10,10 +10,11 @@ ghost use Rattle.line_forms.specs.Stop.{Gives};
 ghost use Rattle.line_forms.specs.Reading.{body_at, form_at};
 ghost use Rattle.line_forms.specs.Seen.{form_of, version_of, cpu_form_of, tool_form_of};
 
+use crate::acts::order_acts;
 use crate::cpu_forms::{exit, fork, switch, tick, work};
 use crate::declared::{
-    end, kind, kind_of_pmu, machine, machine_of_pmus, order, perf, pmu, processor, reader, ring,
-    task, tool,
+    end, kind, kind_of_pmu, machine, machine_of_pmus, perf, pmu, processor, reader, ring, task,
+    tool,
 };
 use crate::forms::{CpuForm, Form, ToolForm, Version};
 use crate::keyword::{Keyword, keyword_of};
@@ -84,7 +85,7 @@ fn body(
         (_, Keyword::Why) => on_tool(why(words)),
         (_, Keyword::Seats) => on_tool(seats(words)),
         (_, Keyword::Reader) => declared(reader(words)),
-        (_, Keyword::Order) => declared(order(words)),
+        (_, Keyword::Order) => Ok(Form::Order(order_acts(alloc, words)?)),
         (_, Keyword::End) => declared(end(words)),
     }
 }
@@ -100,7 +101,7 @@ fn form_of_words(alloc: Global, version: Version, words: Words<'_>) -> Result<Fo
 }
 
 /// The form of a line, in a text of a version. NoForm exactly where it is of none; a line is of at most one.
-/// Memory is taken for what a work line and bytes hold, in proportion to the line.
+/// Memory is taken for what work lines, orders and bytes hold, in proportion to the line.
 pub fn read_form(alloc: Global, version: Version, line: &[u8]) -> Result<Form<'_>, LineStop>
     ensures ok { IfOk result (λ f. IsOfForm (version_of version) (words_of line.now) (form_of f)) }
     ensures one { IfOk result (λ f. (g : form.Form) → IsOfForm (version_of version) (words_of line.now) g → g ≡ form_of f) }

@@ -1,6 +1,7 @@
 //! Lines that are of a form, and lines that are of none.
 
-use crate::{Acts, Form, LineStop, MOST_BYTES, SpelledAct, Version, read_bytes, read_form};
+use crate::{Form, LineStop, MOST_BYTES, Version, read_bytes, read_form};
+use perf_base::{Act, CpuNo, RingNo, ToolNo};
 use std::alloc::Global;
 use std::test::Fail;
 
@@ -100,34 +101,38 @@ fn masks_are_read(rt: HostRuntime) -> Result<(), Fail> {
     Ok(())
 }
 
-/// The act behind as many others.
-fn act_behind(count: usize, acts: Acts<'_>) -> Option<SpelledAct> {
-    let mut rest = acts;
-    for _ in 0..count {
-        let (_, more) = rest.next()?;
-        rest = more;
-    }
-    let (act, _) = rest.next()?;
-    Some(act)
-}
-
-/// The act of an order line behind as many others.
-fn act_of(alloc: Global, line: &[u8], count: usize) -> Option<SpelledAct> {
+/// Whether an order line gives these acts, or none where some number is in no range.
+fn gives_acts(alloc: Global, line: &[u8], acts: Option<&[Act]>) -> bool {
     match read_form(alloc, Version::One, line) {
-        Ok(Form::Order(acts)) => act_behind(count, acts),
-        _ => None,
+        Ok(Form::Order(order)) => match (order.in_range(), acts) {
+            (Some(found), Some(acts)) => found == acts,
+            (None, None) => true,
+            _ => false,
+        },
+        _ => false,
     }
 }
 
 #[test]
-fn acts_are_read_from_the_left(rt: HostRuntime) -> Result<(), Fail> {
-    let line = b"order p0 t3 s15=18446744073709551616";
-    let seen = SpelledAct::Seen(15, 18446744073709551616);
-    assert_eq!(rt; act_of(rt.alloc(), line, 0), Some(SpelledAct::Processor(0)));
-    assert_eq!(rt; act_of(rt.alloc(), line, 1), Some(SpelledAct::Tool(3)));
-    assert_eq!(rt; act_of(rt.alloc(), line, 2), Some(seen));
-    assert_eq!(rt; act_of(rt.alloc(), line, 3), None);
-    assert_eq!(rt; act_of(rt.alloc(), b"order", 0), None);
+fn acts_are_read(rt: HostRuntime) -> Result<(), Fail> {
+    let acts = [
+        Act::Processor(CpuNo(0)),
+        Act::Tool(ToolNo(3)),
+        Act::Seen(RingNo(15), 18446744073709551615),
+    ];
+    for (line, acts) in [
+        (b"order".as_slice(), Some([].as_slice())),
+        (
+            b"order p0 t3 s15=18446744073709551615",
+            Some(acts.as_slice()),
+        ),
+        (b"order p0 t3 s15=18446744073709551616", None),
+        (b"order s16=0 p0", None),
+        (b"order p8", None),
+        (b"order p0 t4", None),
+    ] {
+        assert!(rt; gives_acts(rt.alloc(), line, acts));
+    }
     Ok(())
 }
 

@@ -4,7 +4,6 @@ use Rattle.std.specs.Prelude.{Any}
 use Rattle.std.proofs.lemmas.Bool.{cases_lt, eqb-true}
 use Rattle.std.proofs.lemmas.List.{append-nil, length_push, take-append-le, take_at, get_or_append_left}
 use Rattle.perf_base.specs.declared.reasons.SReason.{SReason}
-use Rattle.perf_base.specs.declared.reasons.SReason.TheVariants as reason
 use Rattle.perf_base.specs.Scripts.{Scripted}
 use Rattle.script_spec.specs.Lines.{lines_of, rest_of}
 use Rattle.script_spec.specs.Forms as form

@@ -8,19 +8,17 @@ ghost use Rattle.perf_base.specs.Scripts.{IsScript, IsAct};
 ghost use Rattle.script_spec.specs.Acts.{IsActInRange};
 ghost use Rattle.script_spec.specs.Forms as text;
 ghost use Rattle.script_spec.specs.Forms.{IsWord, IsSpelling, IsCpuSpelling, IsToolSpelling};
-ghost use Rattle.line_forms.specs.Seen.{acts_of, form_of, cpu_form_of, tool_form_of};
+ghost use Rattle.line_forms.specs.Seen.{form_of, cpu_form_of, tool_form_of};
 ghost use Rattle.script_read.specs.State.{part_of};
 ghost use Rattle.script_read.specs.Adding.{Asks, IsFirst, IsSoundState, IsAdded, IsTakenBy, Refuses, Blames};
 
 use crate::fault::LineFault;
 use crate::lines::{cpu_line, tool_line};
 use crate::names::{declared_ring, is_act, is_new_name};
-use crate::numbers::{
-    act, are_acts_in_range, counters, cpu, cpu_mask, mask, next_reader, next_ring, next_task, tool,
-};
+use crate::numbers::{counters, cpu, cpu_mask, mask, next_reader, next_ring, next_task, tool};
 use crate::state::{State, section_of};
 use line_forms::{Acts, CpuForm, Form, ToolForm};
-use perf_base::{CpuNo, CpuSet, Name, ReaderLine, SReason, Script, ToolNo};
+use perf_base::{Act, CpuNo, CpuSet, Name, ReaderLine, SReason, Script, ToolNo};
 
 /// How many kinds a script may have, and how many lines under its processors and tools.
 const MOST_KINDS: usize = 16;
@@ -69,19 +67,16 @@ fn check_room(script: &Script) -> Result<(), SReason>
 }
 
 /// Adds the acts of an order, all of which are in range, unless the script has not what one is of.
-fn add_acts(script: &mut Script, acts: Acts<'_>) -> Result<(), LineFault>
-    requires range { All IsActInRange (acts_of acts) }
-    ensures ok { OnOk result (All (IsAct script.old) (acts_of acts.entry) × (script.new ≡ record script.old { order = script.old.order ++ acts_of acts.entry })) }
-    ensures bad { IfErr result (λ e. Blames e (λ r. (r ≡ reason.Name) × (All (IsAct script.old) (acts_of acts.entry) → ⊥))) }
+fn add_acts(script: &mut Script, acts: &[Act]) -> Result<(), LineFault>
+    requires range { All IsActInRange acts.now }
+    ensures ok { OnOk result (All (IsAct script.old) acts.now × (script.new ≡ record script.old { order = script.old.order ++ acts.now })) }
+    ensures bad { IfErr result (λ e. Blames e (λ r. (r ≡ reason.Name) × (All (IsAct script.old) acts.now → ⊥))) }
 {
-    let mut rest = acts;
-    while let Some((spelled, more)) = rest.next() {
-        let act = act(&spelled);
-        if !is_act(script, &act) {
+    for act in acts {
+        if !is_act(script, act) {
             return Err(LineFault::Bad(SReason::Name));
         }
-        script.add_act(act)?;
-        rest = more;
+        script.add_act(*act)?;
     }
     Ok(())
 }
@@ -203,13 +198,11 @@ impl State {
         Ok(())
     }
 
-    fn order(&mut self, acts: Acts<'_>) -> Result<(), LineFault>
-        ensures ok { OnOk result (IsTakenBy self.old self.new (text.Order (acts_of acts.entry))) }
-        ensures bad { IfErr result (λ e. Blames e (Refuses self.old (text.Order (acts_of acts.entry)))) }
+    fn order(&mut self, acts: &Acts<'_>) -> Result<(), LineFault>
+        ensures ok { OnOk result (IsTakenBy self.old self.new (text.Order acts.now)) }
+        ensures bad { IfErr result (λ e. Blames e (Refuses self.old (text.Order acts.now))) }
     {
-        if !are_acts_in_range(acts) {
-            return Err(LineFault::Bad(SReason::Range));
-        }
+        let acts = acts.in_range().ok_or(SReason::Range)?;
         add_acts(&mut self.script, acts)
     }
 
@@ -249,7 +242,7 @@ impl State {
             Form::Tool { number } => self.tool(*number),
             Form::OnTool(line) => self.on_tool(line),
             Form::Reader { ring, tries, batch } => self.reader(*ring, *tries, *batch),
-            Form::Order(acts) => self.order(*acts),
+            Form::Order(acts) => self.order(acts),
             Form::End => self.end(),
         }
     }

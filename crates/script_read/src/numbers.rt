@@ -1,17 +1,16 @@
 //! Numbers and masks that are in their ranges, in the widths that scripts have for them. Each is None where the
-//! range does not hold it; nothing else narrows a number as it was spelled.
+//! range does not hold it. Nothing else here narrows a number as it was spelled.
 
 ghost use Rattle.std.specs.Prelude.{◌≡◌, ◌<◌, ◌≤◌, ◌↔◌, IsTrue, IfSome, MatchOption, All, map, option_map, slice_get};
 ghost use Rattle.perf_base.specs.Masks.{IsMask};
 ghost use Rattle.perf_base.specs.Scripts.{IsScript, IsMaskOf, IsRingSize};
-ghost use Rattle.script_spec.specs.Acts.{IsActInRange};
 ghost use Rattle.script_spec.specs.Faults.{IsBetween, IsWide, IsTaskNumber, IsSlotNumber, IsAmount, IsOpeningInRange};
 ghost use Rattle.script_spec.specs.Meaning as says;
-ghost use Rattle.line_forms.specs.Seen.{hit_of, act_of, acts_of, opening_of};
+ghost use Rattle.line_forms.specs.Seen.{hit_of, opening_of};
 ghost use Rattle.script_read.specs.Numbers.{place_of, IsNextTask, IsNextRing, IsNextReader, IsFreeMask};
 
-use line_forms::{Acts, Hit, Opening, SpelledAct};
-use perf_base::{Act, CpuNo, CpuSel, EventNo, ReaderLine, RingNo, Script, TaskNo, TaskSel, ToolNo};
+use line_forms::{Hit, Opening};
+use perf_base::{CpuNo, CpuSel, EventNo, ReaderLine, RingNo, Script, TaskNo, TaskSel, ToolNo};
 
 /// The greatest length of a work line, and how often a kind occurs there at most.
 const MOST: u128 = 1000000000;
@@ -182,7 +181,7 @@ pub fn opening_place(cpus: u8, opening: &Opening) -> Option<Place>
     })
 }
 
-/// `are_amounts`, said of the list as it stands: what a test by an iterator is shown to be.
+/// Whether no number is above a kind's most.
 fn are_small(hits: &[Hit]) -> bool
     ensures { IsTrue result ↔ All (λ h. IsAmount h.times) hits.now }
 {
@@ -345,42 +344,5 @@ pub fn cpu_mask(cpus: u8, named: u8, mask: u128) -> Option<u8>
         Some(mask as u8)
     } else {
         None
-    }
-}
-
-/// Whether an act's numbers are those of an actor, or of a ring and a place in it.
-fn is_act_in_range(act: &SpelledAct) -> bool
-    ensures { IsTrue result ↔ IsActInRange (act_of act.now) }
-{
-    match act {
-        SpelledAct::Processor(cpu) => *cpu < 8,
-        SpelledAct::Tool(tool) => *tool < 4,
-        SpelledAct::Seen(ring, place) => *ring < 16 && *place < WIDE,
-    }
-}
-
-/// Whether the numbers of all acts are in their ranges.
-pub fn are_acts_in_range(acts: Acts<'_>) -> bool
-    ensures { IsTrue result ↔ All IsActInRange (acts_of acts.entry) }
-{
-    let mut rest = acts;
-    while let Some((act, more)) = rest.next() {
-        if !is_act_in_range(&act) {
-            return false;
-        }
-        rest = more;
-    }
-    true
-}
-
-/// An act of an order, all of whose acts are in range.
-pub fn act(act: &SpelledAct) -> Act
-    requires { IsActInRange (act_of act.now) }
-    ensures { result ≡ act_of act.now }
-{
-    match act {
-        SpelledAct::Processor(cpu) => Act::Processor(CpuNo(*cpu as u8)),
-        SpelledAct::Tool(tool) => Act::Tool(ToolNo(*tool as u8)),
-        SpelledAct::Seen(ring, place) => Act::Seen(RingNo(*ring as u8), *place as u64),
     }
 }

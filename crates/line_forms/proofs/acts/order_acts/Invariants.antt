@@ -1,12 +1,15 @@
 use Rattle.std.proofs.Common.{◌≡◌, List, length}
+use Rattle.std.specs.Option.{option_map}
 use Rattle.perf_base.specs.declared.acts.Act.{Act}
 use Rattle.line_forms.specs.Words.{left}
 use Rattle.line_forms.specs.Bodies.{each_word, act_in}
+use Rattle.line_forms.specs.Acts.{AreKept}
 use Rattle.line_forms.proofs.Loops.{with_front}
-use Rattle.line_forms.proofs.lists.order_acts.Given as goal
+use Rattle.line_forms.proofs.acts.order_acts.Given as goal
 
+-- the acts before the words that are left
 abbrev pub invariant-loop-word : goal.invariant-loop-word
-invariant-loop-word l = (front : List Act) × (with_front front (each_word act_in (left l.rest)) ≡ each_word act_in (left l.words))
+invariant-loop-word l = (front : List Act) × (with_front front (each_word act_in (left l.rest)) ≡ each_word act_in (left l.words)) × AreKept front (option_map (λ v. v.items) l.kept)
 
 abbrev pub decreases-loop-word : goal.decreases-loop-word
 decreases-loop-word l = length (left l.rest)
