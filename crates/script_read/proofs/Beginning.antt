@@ -31,34 +31,26 @@ perf_taken v = record { asks = asks; behind = (v, refl) }
     asks reason.Place = refl
     asks other = tt
 
-pub early : (before : List Form) (f : Form) (q : SReason) → rank q < 3 → AsksOf before f q
-early before f reason.End l = tt
-early before f reason.Ascii l = tt
-early before f reason.Form l = tt
-early before f reason.Order l = tt
-early before f reason.Place l = absurd (omega (arith, l))
-early before f reason.Range l = absurd (omega (arith, l))
-early before f reason.Attr l = absurd (omega (arith, l))
-early before f reason.Name l = absurd (omega (arith, l))
-early before f reason.Limit l = absurd (omega (arith, l))
-early before f reason.Weight l = absurd (omega (arith, l))
+-- what the reasons before the n-th ask
+pub early : (before : List Form) (f : Form) (n : ℕ) → n ≤ 4 → (4 ≤ n → IsPlaced before f) → (q : SReason) → rank q < n → AsksOf before f q
+early before f n few placed reason.End l = tt
+early before f n few placed reason.Ascii l = tt
+early before f n few placed reason.Form l = tt
+early before f n few placed reason.Order l = tt
+early before f n few placed reason.Place l = placed (omega (arith, l))
+early before f n few placed reason.Range l = absurd (omega (arith, few, l))
+early before f n few placed reason.Attr l = absurd (omega (arith, few, l))
+early before f n few placed reason.Name l = absurd (omega (arith, few, l))
+early before f n few placed reason.Limit l = absurd (omega (arith, few, l))
+early before f n few placed reason.Weight l = absurd (omega (arith, few, l))
+
+pub before_place : (before : List Form) (f : Form) (q : SReason) → rank q < 3 → AsksOf before f q
+before_place before f = early before f 3 (omega arith) (λ l. absurd (omega (arith, l)))
 
 -- ---- the second line
 
-early_range : (before : List Form) (f : Form) → IsPlaced before f → (q : SReason) → rank q < 4 → AsksOf before f q
-early_range before f p reason.End l = tt
-early_range before f p reason.Ascii l = tt
-early_range before f p reason.Form l = tt
-early_range before f p reason.Order l = tt
-early_range before f p reason.Place l = p
-early_range before f p reason.Range l = absurd (omega (arith, l))
-early_range before f p reason.Attr l = absurd (omega (arith, l))
-early_range before f p reason.Name l = absurd (omega (arith, l))
-early_range before f p reason.Limit l = absurd (omega (arith, l))
-early_range before f p reason.Weight l = absurd (omega (arith, l))
-
 pub range_first : (before : List Form) (f : Form) → IsPlaced before f → (IsInRange before f → ⊥) → IsFirstOf before f reason.Range
-range_first before f p b = record { earlier = early_range before f p; broken = b }
+range_first before f p b = record { earlier = early before f 4 (omega arith) (λ _. p); broken = b }
 
 pub machine_asks : (before : List Form) (cpus counters : ℕ) → IsPlaced before (form.Machine cpus counters) → IsInRange before (form.Machine cpus counters) → (q : SReason) → AsksOf before (form.Machine cpus counters) q
 machine_asks before cpus counters p r reason.Place = p
@@ -160,79 +152,56 @@ ended_false forms (progress.Machine s) h e =
 
 -- ---- a line as its form
 
-pub sound_line : (v : Version) (before : List Form) (line : List ℕ) (f : Form) → All IsNoEnd before → All IsPrintable line → IsOfForm v (words_of line) f → ((g : Form) → IsOfForm v (words_of line) g → g ≡ f)
-    → ((q : SReason) → AsksOf before f q) → IsSound v before line f
-sound_line v before line f no_end plain is one asks = record { is = is; keeps = keeps }
-  where
-    keeps : (q : SReason) → Keeps v before line q
-    keeps reason.End = no_end
-    keeps reason.Ascii = plain
-    keeps reason.Form = (f, is)
-    keeps reason.Place = λ g h. subst (λ x. AsksOf before x reason.Place) (sym (one g h)) (asks reason.Place)
-    keeps reason.Range = λ g h. subst (λ x. AsksOf before x reason.Range) (sym (one g h)) (asks reason.Range)
-    keeps reason.Attr = λ g h. subst (λ x. AsksOf before x reason.Attr) (sym (one g h)) (asks reason.Attr)
-    keeps reason.Name = λ g h. subst (λ x. AsksOf before x reason.Name) (sym (one g h)) (asks reason.Name)
-    keeps reason.Limit = λ g h. subst (λ x. AsksOf before x reason.Limit) (sym (one g h)) (asks reason.Limit)
-    keeps reason.Weight = λ g h. subst (λ x. AsksOf before x reason.Weight) (sym (one g h)) (asks reason.Weight)
-    keeps reason.Order = tt
+module _ (v : Version) (before : List Form) (line : List ℕ) (f : Form) (no_end : All IsNoEnd before) (plain : All IsPrintable line) (is : IsOfForm v (words_of line) f)
+    (one : (g : Form) → IsOfForm v (words_of line) g → g ≡ f) where
+  keeps : (q : SReason) → AsksOf before f q → Keeps v before line q
+  keeps reason.End a = no_end
+  keeps reason.Ascii a = plain
+  keeps reason.Form a = (f, is)
+  keeps reason.Place a = λ g h. subst (λ x. AsksOf before x reason.Place) (sym (one g h)) a
+  keeps reason.Range a = λ g h. subst (λ x. AsksOf before x reason.Range) (sym (one g h)) a
+  keeps reason.Attr a = λ g h. subst (λ x. AsksOf before x reason.Attr) (sym (one g h)) a
+  keeps reason.Name a = λ g h. subst (λ x. AsksOf before x reason.Name) (sym (one g h)) a
+  keeps reason.Limit a = λ g h. subst (λ x. AsksOf before x reason.Limit) (sym (one g h)) a
+  keeps reason.Weight a = λ g h. subst (λ x. AsksOf before x reason.Weight) (sym (one g h)) a
+  keeps reason.Order a = tt
 
-pub faulty_line : (v : Version) (before : List Form) (line : List ℕ) (f : Form) (r : SReason) → All IsNoEnd before → All IsPrintable line → IsOfForm v (words_of line) f → ((g : Form) → IsOfForm v (words_of line) g → g ≡ f)
-    → IsFirstOf before f r → IsFaulty v before line r
-faulty_line v before line f r no_end plain is one first = record { earlier = earlier; broken = broken r first.broken }
-  where
-    earlier : (q : SReason) → rank q < rank r → Keeps v before line q
-    earlier reason.End l = no_end
-    earlier reason.Ascii l = plain
-    earlier reason.Form l = (f, is)
-    earlier reason.Place l = λ g h. subst (λ x. AsksOf before x reason.Place) (sym (one g h)) (first.earlier reason.Place l)
-    earlier reason.Range l = λ g h. subst (λ x. AsksOf before x reason.Range) (sym (one g h)) (first.earlier reason.Range l)
-    earlier reason.Attr l = λ g h. subst (λ x. AsksOf before x reason.Attr) (sym (one g h)) (first.earlier reason.Attr l)
-    earlier reason.Name l = λ g h. subst (λ x. AsksOf before x reason.Name) (sym (one g h)) (first.earlier reason.Name l)
-    earlier reason.Limit l = λ g h. subst (λ x. AsksOf before x reason.Limit) (sym (one g h)) (first.earlier reason.Limit l)
-    earlier reason.Weight l = λ g h. subst (λ x. AsksOf before x reason.Weight) (sym (one g h)) (first.earlier reason.Weight l)
-    earlier reason.Order l = tt
+  breaks : (q : SReason) → (AsksOf before f q → ⊥) → Keeps v before line q → ⊥
+  breaks reason.End b k = b tt
+  breaks reason.Ascii b k = b tt
+  breaks reason.Form b k = b tt
+  breaks reason.Place b k = b (k f is)
+  breaks reason.Range b k = b (k f is)
+  breaks reason.Attr b k = b (k f is)
+  breaks reason.Name b k = b (k f is)
+  breaks reason.Limit b k = b (k f is)
+  breaks reason.Weight b k = b (k f is)
+  breaks reason.Order b k = b tt
 
-    broken : (q : SReason) → (AsksOf before f q → ⊥) → Keeps v before line q → ⊥
-    broken reason.End b k = b tt
-    broken reason.Ascii b k = b tt
-    broken reason.Form b k = b tt
-    broken reason.Place b k = b (k f is)
-    broken reason.Range b k = b (k f is)
-    broken reason.Attr b k = b (k f is)
-    broken reason.Name b k = b (k f is)
-    broken reason.Limit b k = b (k f is)
-    broken reason.Weight b k = b (k f is)
-    broken reason.Order b k = b tt
+  pub sound_line : ((q : SReason) → AsksOf before f q) → IsSound v before line f
+  sound_line asks = record { is = is; keeps = λ q. keeps q (asks q) }
+
+  pub faulty_line : (r : SReason) → IsFirstOf before f r → IsFaulty v before line r
+  faulty_line r first = record { earlier = λ q l. keeps q (first.earlier q l); broken = breaks r first.broken }
 
 pub end_faulty : (v : Version) (before : List Form) (line : List ℕ) → (All IsNoEnd before → ⊥) → IsFaulty v before line reason.End
 end_faulty v before line b = record { earlier = λ q l. absurd (omega (arith, l)); broken = b }
 
+-- what the reasons before the n-th ask of a line
+early_keeps : (v : Version) (before : List Form) (line : List ℕ) → All IsNoEnd before → (n : ℕ) → n ≤ 2 → (2 ≤ n → All IsPrintable line) → (q : SReason) → rank q < n → Keeps v before line q
+early_keeps v before line no_end n few plain reason.End l = no_end
+early_keeps v before line no_end n few plain reason.Ascii l = plain (omega (arith, l))
+early_keeps v before line no_end n few plain reason.Form l = absurd (omega (arith, few, l))
+early_keeps v before line no_end n few plain reason.Place l = absurd (omega (arith, few, l))
+early_keeps v before line no_end n few plain reason.Range l = absurd (omega (arith, few, l))
+early_keeps v before line no_end n few plain reason.Attr l = absurd (omega (arith, few, l))
+early_keeps v before line no_end n few plain reason.Name l = absurd (omega (arith, few, l))
+early_keeps v before line no_end n few plain reason.Limit l = absurd (omega (arith, few, l))
+early_keeps v before line no_end n few plain reason.Weight l = absurd (omega (arith, few, l))
+early_keeps v before line no_end n few plain reason.Order l = absurd (omega (arith, few, l))
+
 pub ascii_faulty : (v : Version) (before : List Form) (line : List ℕ) → All IsNoEnd before → (All IsPrintable line → ⊥) → IsFaulty v before line reason.Ascii
-ascii_faulty v before line no_end b = record { earlier = earlier; broken = b }
-  where
-    earlier : (q : SReason) → rank q < 1 → Keeps v before line q
-    earlier reason.End l = no_end
-    earlier reason.Ascii l = absurd (omega (arith, l))
-    earlier reason.Form l = absurd (omega (arith, l))
-    earlier reason.Place l = absurd (omega (arith, l))
-    earlier reason.Range l = absurd (omega (arith, l))
-    earlier reason.Attr l = absurd (omega (arith, l))
-    earlier reason.Name l = absurd (omega (arith, l))
-    earlier reason.Limit l = absurd (omega (arith, l))
-    earlier reason.Weight l = absurd (omega (arith, l))
-    earlier reason.Order l = absurd (omega (arith, l))
+ascii_faulty v before line no_end b = record { earlier = early_keeps v before line no_end 1 (omega arith) (λ l. absurd (omega (arith, l))); broken = b }
 
 pub form_faulty : (v : Version) (before : List Form) (line : List ℕ) → All IsNoEnd before → All IsPrintable line → ((f : Form) → IsOfForm v (words_of line) f → ⊥) → IsFaulty v before line reason.Form
-form_faulty v before line no_end plain b = record { earlier = earlier; broken = λ k. b k.0 k.1 }
-  where
-    earlier : (q : SReason) → rank q < 2 → Keeps v before line q
-    earlier reason.End l = no_end
-    earlier reason.Ascii l = plain
-    earlier reason.Form l = absurd (omega (arith, l))
-    earlier reason.Place l = absurd (omega (arith, l))
-    earlier reason.Range l = absurd (omega (arith, l))
-    earlier reason.Attr l = absurd (omega (arith, l))
-    earlier reason.Name l = absurd (omega (arith, l))
-    earlier reason.Limit l = absurd (omega (arith, l))
-    earlier reason.Weight l = absurd (omega (arith, l))
-    earlier reason.Order l = absurd (omega (arith, l))
+form_faulty v before line no_end plain b = record { earlier = early_keeps v before line no_end 2 (omega arith) (λ _. plain); broken = λ k. b k.0 k.1 }

@@ -90,7 +90,7 @@ line_decided v before line = elim (known_no_end before) [
         let is = form-takes v (words_of line) f e in
         elim (form_decided before f) [
           | inl asks ↦ inl (f, sound_line v before line f no_end plain is (λ g h. one_form v (words_of line) g f h is) asks)
-          | inr first ↦ inr (first.0, faulty_line v before line f first.0 no_end plain is (λ g h. one_form v (words_of line) g f h is) first.1)
+          | inr first ↦ inr (first.0, faulty_line v before line f no_end plain is (λ g h. one_form v (words_of line) g f h is) first.0 first.1)
         ]
 
 -- ---- the lines of a text

@@ -21,7 +21,7 @@ use Rattle.line_forms.specs.Leaves.{number, number_at, name, name_at}
 use Rattle.line_forms.specs.Words.{strip}
 use Rattle.line_forms.proofs.Laws.{form-takes, form-again, one_form}
 use Rattle.script_read.specs.Progress.{AsksOf, IsFirstOf}
-use Rattle.script_read.proofs.Beginning.{sound_line, faulty_line, form_faulty, ascii_faulty, end_faulty, range_first, perf_taken, machine_asks, bare_asks, early}
+use Rattle.script_read.proofs.Beginning.{sound_line, faulty_line, form_faulty, ascii_faulty, end_faulty, range_first, perf_taken, machine_asks, bare_asks, before_place}
 use Rattle.script_read.proofs.Whole.{sound_more}
 
 -- ---- what all of them share
@@ -48,7 +48,7 @@ sound : (v : Version) (before : List Form) (line : List ℕ) (f : Form) → All 
 sound v before line f no_end p is asks = sound_line v before line f no_end (plain line p) is (λ g h. one_form v (words_of line) g f h is) asks
 
 faulty : (v : Version) (before : List Form) (line : List ℕ) (f : Form) (r : SReason) → All IsNoEnd before → is_plain line ≡ true → IsOfForm v (words_of line) f → IsFirstOf before f r → IsFaulty v before line r
-faulty v before line f r no_end p is first = faulty_line v before line f r no_end (plain line p) is (λ g h. one_form v (words_of line) g f h is) first
+faulty v before line f r no_end p is first = faulty_line v before line f no_end (plain line p) is (λ g h. one_form v (words_of line) g f h is) r first
 
 formless : (v : Version) (before : List Form) (line : List ℕ) → All IsNoEnd before → is_plain line ≡ true → form_at v (words_of line) ≡ None → IsFaulty v before line reason.Form
 formless v before line no_end p e = form_faulty v before line no_end (plain line p) (λ f h. let z = sym (form-again v (words_of line) f h) ∙ e in absurd cc)
@@ -162,7 +162,7 @@ tool_line_misplaced = (
     within = omega arith;
     sound = both_sound;
     faulty = faulty form.One one_processor (codes "read 0") (form.OnTool (form.Read 0 None)) reason.Place no_end refl read_is
-        (record { earlier = early one_processor (form.OnTool (form.Read 0 None)); broken = λ h. let z : false ≡ true = h.under in absurd cc });
+        (record { earlier = before_place one_processor (form.OnTool (form.Read 0 None)); broken = λ h. let z : false ≡ true = h.under in absurd cc });
     number = refl;
   }),
 )
@@ -360,7 +360,7 @@ processor_without_pmu = (
     within = omega arith;
     sound = pmu_sound (codes "pmu 0 counters=1 cpus=1") 1 (omega arith) (omega arith) refl one_is;
     faulty = faulty form.Two (with_pmu_on 1) (codes "end") form.End reason.Place (three_no_end 1) refl last_is
-        (record { earlier = early (with_pmu_on 1) form.End; broken = λ h. uncovered h.covered });
+        (record { earlier = before_place (with_pmu_on 1) form.End; broken = λ h. uncovered h.covered });
     number = refl;
   }),
 )

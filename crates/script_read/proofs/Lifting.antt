@@ -18,7 +18,8 @@ use Rattle.script_read.specs.Numbers.{IsInRangeOf}
 use Rattle.script_read.specs.Names.{IsCpuFormNamedOf, IsToolFormNamedOf, IsNamedOf, IsWithinLimitsOf, IsLightOf}
 use Rattle.script_read.specs.declared.fault.LineFault.{LineFault}
 use Rattle.script_read.specs.declared.fault.LineFault.TheVariants as fault
-use Rattle.script_read.specs.Adding.{Asks, IsFirst, Blames}
+use Rattle.script_read.specs.Adding.{Asks, IsFirst}
+use Rattle.script_read.specs.Fault.{Blames}
 use Rattle.script_read.specs.Progress.{AsksOf, IsFirstOf}
 use Rattle.script_read.proofs.Following.{rank_part, none_empty}
 use Rattle.script_read.proofs.Unions.{union_apart, apart_union, covered_any, any_covered}

@@ -9,7 +9,7 @@ use Rattle.script_read.specs.declared.progress.Progress.{Progress}
 use Rattle.script_read.specs.declared.progress.Progress.TheVariants as progress
 use Rattle.script_read.specs.declared.fault.LineFault.{LineFault}
 use Rattle.script_read.specs.declared.fault.LineFault.TheVariants as fault
-use Rattle.script_read.specs.Adding.{Blames}
+use Rattle.script_read.specs.Fault.{Blames}
 use Rattle.script_read.specs.Progress.{Behind, IsTaken, IsFirstOf, ended_of, IsTakenLine}
 use Rattle.script_read.proofs.Beginning.{ended_false, sound_line, faulty_line}
 
@@ -19,6 +19,13 @@ version_taken forms f q h x = subst (λ fs. IsTaken fs f q) (sym x.1) (h x.0)
 pub version_ok : (r : Result Progress LineFault) (f : Form) (p : Progress) → p ≡ progress.Version → IfOk r (λ q. (v : Version) → IsTaken (form.Perf v ∷ []) f q) → IfOk r (λ q. (forms : List Form) → Behind forms p → IsTaken forms f q)
 version_ok (Ok q) f p e h = λ forms b. version_taken forms f q h (subst (Behind forms) e b)
 version_ok (Err x) f p e h = tt
+
+pub version_bad : (r : Result Progress LineFault) (f : Form) (p : Progress) → p ≡ progress.Version → IfErr r (λ x. (v : Version) → Blames x (λ q. IsFirstOf (form.Perf v ∷ []) f q))
+    → IfErr r (λ x. (forms : List Form) → Behind forms p → Blames x (λ q. IsFirstOf forms f q))
+version_bad (Ok q) f p e h = tt
+version_bad (Err x) f p e h = λ forms b.
+    let version : (v : Version) × (forms ≡ form.Perf v ∷ []) = subst (Behind forms) e b in
+    subst (λ fs. Blames x (λ q. IsFirstOf fs f q)) (sym version.1) (h version.0)
 
 pub line_ok : (r : Result Progress LineFault) (v : Version) (line : List ℕ) (f : Form) (p : Progress) → ended_of p ≡ false → All IsPrintable line → IsOfForm v (words_of line) f → ((g : Form) → IsOfForm v (words_of line) g → g ≡ f)
     → IfOk r (λ q. (forms : List Form) → Behind forms p → IsTaken forms f q) → IfOk r (λ q. (forms : List Form) → Behind forms p → IsTakenLine v forms line q)
@@ -30,5 +37,5 @@ line_ok (Err x) v line f p e plain is one h = tt
 pub line_bad : (r : Result Progress LineFault) (v : Version) (line : List ℕ) (f : Form) (p : Progress) → ended_of p ≡ false → All IsPrintable line → IsOfForm v (words_of line) f → ((g : Form) → IsOfForm v (words_of line) g → g ≡ f)
     → IfErr r (λ x. (forms : List Form) → Behind forms p → Blames x (λ q. IsFirstOf forms f q)) → IfErr r (λ x. (forms : List Form) → Behind forms p → Blames x (λ q. IsFaulty v forms line q))
 line_bad (Ok q) v line f p e plain is one h = tt
-line_bad (Err (fault.Bad q)) v line f p e plain is one h = λ forms b. faulty_line v forms line f q (ended_false forms p b e) plain is one (h forms b)
+line_bad (Err (fault.Bad q)) v line f p e plain is one h = λ forms b. faulty_line v forms line f (ended_false forms p b e) plain is one q (h forms b)
 line_bad (Err fault.NoMemory) v line f p e plain is one h = λ forms b. tt

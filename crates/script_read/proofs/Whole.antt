@@ -17,7 +17,7 @@ use Rattle.script_read.specs.declared.fault.ScriptFault.{ScriptFault}
 use Rattle.script_read.specs.declared.fault.ScriptFault.TheVariants as fault
 use Rattle.script_read.specs.declared.fault.LineFault.{LineFault}
 use Rattle.script_read.specs.declared.fault.LineFault.TheVariants as line_fault
-use Rattle.script_read.specs.Adding.{Blames}
+use Rattle.script_read.specs.Fault.{Blames}
 use Rattle.script_read.specs.Progress.{Behind, ended_of, IsTakenLine}
 use Rattle.script_read.specs.Reading.{IsNextLine, HasNoLine, IsReading, Says, IsFinished, IsBlamed, blamed_of}
 

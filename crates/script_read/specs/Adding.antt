@@ -5,32 +5,20 @@ use Rattle.perf_base.specs.declared.reasons.SReason.TheVariants as reason
 use Rattle.script_spec.specs.Forms as form
 use Rattle.script_spec.specs.Forms.{Form}
 use Rattle.script_spec.specs.Saying.{said_by}
-use Rattle.script_spec.specs.Faults.{HasAttr, rank}
+use Rattle.script_spec.specs.Faults.{HasAttr}
 use Rattle.script_read.specs.declared.state.State.{State}
-use Rattle.script_read.specs.declared.fault.LineFault.{LineFault}
-use Rattle.script_read.specs.declared.fault.LineFault.TheVariants as fault
+use Rattle.script_read.specs.Fault.{AsksThese, IsFirstBroken}
 use Rattle.script_read.specs.State.{cpu_number, tool_number, union_of}
 use Rattle.script_read.specs.Place.{IsPlacedOf, HasHeader}
 use Rattle.script_read.specs.Numbers.{IsInRangeOf}
 use Rattle.script_read.specs.Names.{IsNamedOf, IsWithinLimitsOf, IsLightOf}
 
--- what each reason asks of a form there
+-- what each reason asks of a form there, and the first reason for which it is refused
 abbrev pub Asks : State → Form → SReason → Type 0
-Asks s f reason.Place = IsPlacedOf s f
-Asks s f reason.Range = IsInRangeOf s f
-Asks s f reason.Attr = HasAttr f
-Asks s f reason.Name = IsNamedOf s f
-Asks s f reason.Limit = IsWithinLimitsOf s f
-Asks s f reason.Weight = IsLightOf s f
-Asks s f reason.Ascii = Unit {0}
-Asks s f reason.Form = Unit {0}
-Asks s f reason.Order = Unit {0}
-Asks s f reason.End = Unit {0}
+Asks s f = AsksThese (IsPlacedOf s f) (IsInRangeOf s f) (HasAttr f) (IsNamedOf s f) (IsWithinLimitsOf s f) (IsLightOf s f)
 
--- the first reason for which the form is refused there
-pub record IsFirst (s : State) (f : Form) (r : SReason) : Type 0 where
-  pub earlier : (q : SReason) → rank q < rank r → Asks s f q
-  pub broken : Asks s f r → ⊥
+abbrev pub IsFirst : State → Form → SReason → Type 0
+IsFirst s f = IsFirstBroken (Asks s f)
 
 -- the headers that came last are of the machine, and the named processors are those of the PMUs
 pub record IsSoundState (s : State) : Type 0 where
@@ -70,8 +58,3 @@ Refuses s f reason.Name = HasHeader s f × IsInRangeOf s f × HasAttr f × (IsNa
 Refuses s f reason.Limit = HasHeader s f × IsInRangeOf s f × HasAttr f × IsNamedOf s f × (IsWithinLimitsOf s f → ⊥)
 Refuses s f reason.Weight = HasHeader s f × IsInRangeOf s f × HasAttr f × IsNamedOf s f × IsWithinLimitsOf s f × (IsLightOf s f → ⊥)
 Refuses s f other = ⊥
-
--- a fault other than want of memory
-abbrev pub Blames : LineFault → (SReason → Type 0) → Type 0
-Blames (fault.Bad r) P = P r
-Blames fault.NoMemory P = Unit {0}

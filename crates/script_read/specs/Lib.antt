@@ -1,4 +1,5 @@
 pub mod Adding
+pub mod Fault
 pub mod Laws
 pub mod Lines
 pub mod Names

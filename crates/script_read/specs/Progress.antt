@@ -1,12 +1,12 @@
 -- How far a text is read, by the forms of its lines so far.
-use Rattle.std.specs.Prelude.{◌≡◌, ℕ, ◌<◌, List, [], ◌∷◌, ◌++◌, Bool, false, ◌==◌}
+use Rattle.std.specs.Prelude.{◌≡◌, ℕ, List, [], ◌∷◌, ◌++◌, Bool, false, ◌==◌}
 use Rattle.perf_base.specs.declared.reasons.SReason.{SReason}
-use Rattle.perf_base.specs.declared.reasons.SReason.TheVariants as reason
 use Rattle.script_spec.specs.Forms as form
 use Rattle.script_spec.specs.Forms.{Version, Form}
-use Rattle.script_spec.specs.Faults.{IsPlaced, IsInRange, HasAttr, IsNamed, IsWithinLimits, IsLight, IsSound, rank}
+use Rattle.script_spec.specs.Faults.{IsPlaced, IsInRange, HasAttr, IsNamed, IsWithinLimits, IsLight, IsSound}
 use Rattle.script_read.specs.declared.progress.Progress.{Progress}
 use Rattle.script_read.specs.declared.progress.Progress.TheVariants as progress
+use Rattle.script_read.specs.Fault.{AsksThese, IsFirstBroken}
 use Rattle.script_read.specs.State.{rank_of, Follows}
 
 -- the lines so far are of these forms
@@ -15,22 +15,12 @@ Behind forms progress.Nothing = forms ≡ []
 Behind forms progress.Version = (v : Version) × (forms ≡ form.Perf v ∷ [])
 Behind forms (progress.Machine s) = Follows forms s
 
--- what each reason asks of a form behind those before it
+-- what each reason asks of a form behind those before it, and the first reason for which it is refused
 abbrev pub AsksOf : List Form → Form → SReason → Type 0
-AsksOf before f reason.Place = IsPlaced before f
-AsksOf before f reason.Range = IsInRange before f
-AsksOf before f reason.Attr = HasAttr f
-AsksOf before f reason.Name = IsNamed before f
-AsksOf before f reason.Limit = IsWithinLimits before f
-AsksOf before f reason.Weight = IsLight before f
-AsksOf before f reason.Ascii = Unit {0}
-AsksOf before f reason.Form = Unit {0}
-AsksOf before f reason.Order = Unit {0}
-AsksOf before f reason.End = Unit {0}
+AsksOf before f = AsksThese (IsPlaced before f) (IsInRange before f) (HasAttr f) (IsNamed before f) (IsWithinLimits before f) (IsLight before f)
 
-pub record IsFirstOf (before : List Form) (f : Form) (r : SReason) : Type 0 where
-  pub earlier : (q : SReason) → rank q < rank r → AsksOf before f q
-  pub broken : AsksOf before f r → ⊥
+abbrev pub IsFirstOf : List Form → Form → SReason → Type 0
+IsFirstOf before f = IsFirstBroken (AsksOf before f)
 
 -- a form is taken behind those before it
 pub record IsTaken (before : List Form) (f : Form) (p : Progress) : Type 0 where

@@ -6,7 +6,7 @@ ghost use Rattle.script_spec.specs.Faults.{IsPrintable, IsBetween, IsFaulty};
 ghost use Rattle.line_forms.specs.Seen.{form_of, version_of};
 ghost use Rattle.script_read.specs.State.{Follows};
 ghost use Rattle.script_read.specs.Progress.{Behind, IsTaken, IsFirstOf, ended_of, IsTakenLine};
-ghost use Rattle.script_read.specs.Adding.{Blames};
+ghost use Rattle.script_read.specs.Fault.{Blames};
 
 use crate::fault::LineFault;
 use crate::numbers::{counters, cpus};
