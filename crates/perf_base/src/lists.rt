@@ -1,6 +1,6 @@
 //! Short lists that hold no memory. Contracts see each as a list.
 
-ghost use Rattle.std.specs.Prelude.{◌≡◌, ◌+◌, ◌<◌, ◌↔◌, List, [], ◌∷◌, ◌++◌, length, slice_get, IsTrue, Some};
+ghost use Rattle.std.specs.Prelude.{◌≡◌, ◌+◌, ◌<◌, ◌≤◌, ◌↔◌, List, [], ◌∷◌, ◌++◌, length, slice_get, IsTrue, Some};
 
 use crate::numbers::EventNo;
 use std::alloc::AllocError;
@@ -96,6 +96,18 @@ impl<T: Filling, const ROOM: usize> ShortList<T, ROOM> {
             places: [T::filling(); ROOM],
             used: 0,
         }
+    }
+
+    /// The list of so many entries as there is room for.
+    pub fn from_slice(entries: &[T]) -> Self
+        requires { length entries.now ≤ ROOM }
+        ensures { result ≡ entries.now }
+    {
+        let mut list = Self::new();
+        for entry in entries {
+            list.push(*entry);
+        }
+        list
     }
 
     /// Adds an entry at the end.

@@ -1,6 +1,6 @@
 //! A script: what it declares, the lines of its processors, tools and readers, and its order.
 
-ghost use Rattle.std.specs.Prelude.{◌≡◌, ◌≢◌, ℕ, ◌+◌, ◌^◌, ◌<◌, ◌≤◌, List, length, map, All, bit_and, slice_get, IfSome, OnErr, OnOk, Some, Any, IsTrue, ◌↔◌};
+ghost use Rattle.std.specs.Prelude.{◌≡◌, ◌≢◌, ℕ, ◌+◌, ◌^◌, ◌<◌, ◌≤◌, List, length, map, All, bit_and, slice_get, IfSome, OnErr, OnOk, Some, Any, IsTrue, ◌↔◌, sum};
 ghost use Rattle.perf_base.specs.Scripts.{Scripted, IsScript, empty_script, lines_of_cpu, lines_of_tool, line_count, with_pmu, with_kind, with_task, with_ring, with_cpu_line, with_tool_line, with_reader, with_act, IsPmuLine, AreApart, IsKindLine, IsRingLine, IsCpuLine, IsToolLine, IsReaderLine, IsAct, IsCovered};
 ghost use Rattle.perf_base.specs.Cpus.{HasCpu};
 
@@ -53,6 +53,25 @@ fn is_of_any(lines: &[PmuLine], cpu: CpuNo) -> bool
     ensures { IsTrue result ↔ Any (λ line. HasCpu line.cpus cpu) lines.now }
 {
     lines.iter().any(|line| is_of(line, cpu))
+}
+
+/// How many entries each of some lists has.
+fn lengths<T, const LISTS: usize>(lists: &[Vec<T>; LISTS]) -> [usize; LISTS]
+    ensures { result ≡ map (λ list. length list.items) lists.now }
+{
+    let mut lengths = [0; LISTS];
+    for list in 0..LISTS {
+        lengths[list] = lists[list].len();
+    }
+    lengths
+}
+
+/// The sum of some numbers.
+fn total(numbers: &[usize]) -> usize
+    requires { sum numbers.now < 2 ^ 64 }
+    ensures { result ≡ sum numbers.now }
+{
+    numbers.iter().sum()
 }
 
 impl Script {
@@ -325,6 +344,30 @@ impl Script {
         ensures sound { IsScript self.now }
     {
         self.tool_lines[tool.0 as usize].as_slice()
+    }
+
+    /// How many lines each processor has.
+    pub fn lines_of_cpus(&self) -> [usize; 8]
+        ensures counts { result ≡ map length self.now.cpu_lines }
+        ensures sound { IsScript self.now }
+    {
+        lengths(&self.cpu_lines)
+    }
+
+    /// How many lines each tool has.
+    pub fn lines_of_tools(&self) -> [usize; 4]
+        ensures counts { result ≡ map length self.now.tool_lines }
+        ensures sound { IsScript self.now }
+    {
+        lengths(&self.tool_lines)
+    }
+
+    /// How many lines stand under processors and tools, at most 16,384.
+    pub fn line_count(&self) -> usize
+        ensures number { result ≡ line_count self.now }
+        ensures sound { IsScript self.now }
+    {
+        total(&self.lines_of_cpus()) + total(&self.lines_of_tools())
     }
 
     /// The readers, by rising number of their rings.

@@ -15,8 +15,7 @@ use std::marker::Brand;
 
 #[test]
 fn a_script_is_built(rt: HostRuntime) -> Result<(), NoMemory> {
-    let mut name = Name::new();
-    name.push(b'a');
+    let name = Name::from_slice(b"a");
     let mut script = Script::new(rt.alloc(), 1);
     script.add_pmu(1, 1)?;
     script.add_kind(name, 0, 1)?;
@@ -31,6 +30,7 @@ fn a_script_is_built(rt: HostRuntime) -> Result<(), NoMemory> {
     })?;
     script.add_act(Act::Processor(CpuNo(0)))?;
     assert_eq!(rt; script.weight(), 0);
+    assert_eq!(rt; script.line_count(), 2);
     Ok(())
 }
 
@@ -84,8 +84,7 @@ fn open(period: u64) -> ToolLine
 
 /// The weight of a script of six work lines, five opens and a change of the period.
 fn weighed(alloc: Global, times: [u64; 6], opens: [u64; 5], period: u64) -> Result<u64, NoMemory> {
-    let mut name = Name::new();
-    name.push(b'a');
+    let name = Name::from_slice(b"a");
     let mut script = Script::new(alloc, 1);
     script.add_pmu(1, 1)?;
     script.add_kind(name, 0, 1)?;
@@ -163,6 +162,7 @@ fn short_lists_are_read_as_slices(rt: HostRuntime) {
     name.push(b'-');
     name.push(b'0');
     assert_eq!(rt; name.as_bytes(), b"c-0".as_slice());
+    assert_eq!(rt; Name::from_slice(b"c-0"), name);
     let mut seats = SeatList::new();
     seats.push((EventNo(255), 15));
     assert_eq!(rt; seats.as_slice(), [(EventNo(255), 15)].as_slice());

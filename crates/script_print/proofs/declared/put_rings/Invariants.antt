@@ -1,8 +1,0 @@
-use Rattle.std.proofs.Common.{take}
-use Rattle.std.specs.Prelude.{flat_map, map}
-use Rattle.script_spec.specs.Printing.{ring_form, line_text}
-use Rattle.script_print.proofs.Loops.{IsWritten}
-use Rattle.script_print.proofs.declared.put_rings.Given as goal
-
-abbrev pub invariant-loop-ring : goal.invariant-loop-ring
-invariant-loop-ring g l = IsWritten g.K.Sink.held g.K.Sink.faults g.K.Sink.last_fault g.K.Sink.flushed l.fn.sink l.sink (flat_map line_text (map ring_form (take l.ring-index l.rings)))
