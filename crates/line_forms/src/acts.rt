@@ -1,6 +1,6 @@
 //! The acts of an order line.
 
-ghost use Rattle.std.specs.Prelude.{◌≡◌, ◌++◌, List, [], ◌∷◌, All, IfErr, OnOk, MatchOption};
+ghost use Rattle.std.specs.Prelude.{◌≡◌, ◌<◌, ◌^◌, ◌++◌, List, [], ◌∷◌, All, IfErr, OnOk, MatchOption};
 ghost use Rattle.std.specs.Option.{option_map};
 ghost use Rattle.perf_base.specs.declared.acts.Act as script;
 ghost use Rattle.script_spec.specs.Acts.{IsActInRange};
@@ -18,8 +18,22 @@ use perf_base::{Act, CpuNo, RingNo, ToolNo};
 use std::alloc::Global;
 use std::marker::Model;
 
-/// What 64 bits can not hold.
-const WIDE: u128 = 0x1_0000_0000_0000_0000;
+/// The number, where it is below a limit.
+fn below(limit: u8, n: u128) -> Option<u8>
+    ensures { MatchOption result (n < limit → ⊥) (λ r. (n < limit) × (r ≡ n)) }
+{
+    match u8::try_from(n) {
+        Ok(n) if n < limit => Some(n),
+        _ => None,
+    }
+}
+
+/// The number, where 64 bits hold it.
+fn wide(n: u128) -> Option<u64>
+    ensures { MatchOption result (n < 2 ^ 64 → ⊥) (λ r. (n < 2 ^ 64) × (r ≡ n)) }
+{
+    u64::try_from(n).ok()
+}
 
 /// An act with its numbers as they are spelled.
 #[derive(Clone, Copy)]
@@ -35,12 +49,12 @@ impl SpelledAct {
         ensures { MatchOption result (IsActInRange (act_of self) → ⊥) (λ act. IsActInRange (act_of self) × (act ≡ act_of self)) }
     {
         match self {
-            SpelledAct::Processor(cpu) if cpu < 8 => Some(Act::Processor(CpuNo(cpu as u8))),
-            SpelledAct::Tool(tool) if tool < 4 => Some(Act::Tool(ToolNo(tool as u8))),
-            SpelledAct::Seen(ring, place) if ring < 16 && place < WIDE => {
-                Some(Act::Seen(RingNo(ring as u8), place as u64))
+            SpelledAct::Processor(cpu) => Some(Act::Processor(CpuNo(below(8, cpu)?))),
+            SpelledAct::Tool(tool) => Some(Act::Tool(ToolNo(below(4, tool)?))),
+            SpelledAct::Seen(ring, place) => {
+                let ring = RingNo(below(16, ring)?);
+                Some(Act::Seen(ring, wide(place)?))
             }
-            _ => None,
         }
     }
 }

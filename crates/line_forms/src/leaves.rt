@@ -123,25 +123,13 @@ fn is_name(text: &[u8]) -> bool
     }
 }
 
-/// A text of at most 31 bytes as a name.
-fn to_name(text: &[u8]) -> Name
-    requires { length text.now ≤ 31 }
-    ensures { result ≡ text.now }
-{
-    let mut name = Name::new();
-    for byte in text {
-        name.push(*byte);
-    }
-    name
-}
-
 /// A name: 1 to 31 small letters, digits and dashes, the first a letter.
 #[tactic(auto, unfolding(crate::specs::Leaves::name))]
 pub fn name(text: &[u8]) -> Option<Name>
     ensures { result ≡ says.name text.now }
 {
     if is_name(text) {
-        Some(to_name(text))
+        Some(Name::from_slice(text))
     } else {
         None
     }

@@ -12,18 +12,6 @@ use machine::Machine;
 use perf_base::{EventNo, Kind, Name, Script};
 use stat_table::StatRow;
 
-/// A word of at most 31 bytes as a name.
-fn word(text: &[u8]) -> Name
-    requires { length text.now ≤ 31 }
-    ensures { result ≡ text.now }
-{
-    let mut name = Name::new();
-    for byte in text {
-        name.push(*byte);
-    }
-    name
-}
-
 /// The name of a kind, as a script writes it. A hardware kind that the script does not declare has none.
 fn name_of(script: &Script, kind: Kind) -> Name
     ensures { result ≡ kind_name script.now.kinds kind }
@@ -37,10 +25,10 @@ fn name_of(script: &Script, kind: Kind) -> Name
                 Name::new()
             }
         }
-        Kind::ContextSwitches => word(b"context-switches"),
-        Kind::CpuMigrations => word(b"cpu-migrations"),
-        Kind::TaskClock => word(b"task-clock"),
-        Kind::Dummy => word(b"dummy"),
+        Kind::ContextSwitches => Name::from_slice(b"context-switches"),
+        Kind::CpuMigrations => Name::from_slice(b"cpu-migrations"),
+        Kind::TaskClock => Name::from_slice(b"task-clock"),
+        Kind::Dummy => Name::from_slice(b"dummy"),
     }
 }
 

@@ -20,9 +20,7 @@ use std::test::Fail;
 fn name(byte: u8) -> Name
     ensures { result ≡ byte ∷ [] }
 {
-    let mut name = Name::new();
-    name.push(byte);
-    name
+    Name::from_slice(&[byte])
 }
 
 /// A line that opens an event of processor 0, whatever task runs there.

@@ -49,11 +49,9 @@ fn estimates_and_shares(rt: HostRuntime) {
 fn row(slot: u16, count: u64, enabled: u64, running: u32, error: bool) -> StatRow
     ensures { result.sums.running < 2 ^ 44 }
 {
-    let mut name = Name::new();
-    name.push(b'a');
     StatRow {
         event: EventNo(slot),
-        name,
+        name: Name::from_slice(b"a"),
         sums: Sums {
             count,
             enabled,

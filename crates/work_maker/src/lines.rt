@@ -1,24 +1,12 @@
 //! The lines of the script of so many rounds.
 
-ghost use Rattle.std.specs.Prelude.{◌≡◌, ◌<◌, ◌≤◌, length};
+ghost use Rattle.std.specs.Prelude.{◌≡◌, ◌<◌, ◌≤◌};
 ghost use Rattle.make_spec.specs.Rounds as says;
 
 use perf_base::{
-    Attr, AttrFlags, CpuLine, CpuNo, CpuSel, EventNo, Kind, Mode, Name, RingNo, TaskNo, TaskSel,
+    Attr, AttrFlags, CpuLine, CpuNo, CpuSel, EventNo, Kind, Mode, RingNo, TaskNo, TaskSel,
     ToolLine, Work,
 };
-
-/// The name of a kind, of at most 31 bytes.
-pub fn name(text: &[u8]) -> Name
-    requires { length text.now ≤ 31 }
-    ensures { result ≡ text.now }
-{
-    let mut name = Name::new();
-    for byte in text {
-        name.push(*byte);
-    }
-    name
-}
 
 /// How often each kind occurs while a processor works in a round.
 fn hits(cpu: u8, round: u32) -> [u64; 16]

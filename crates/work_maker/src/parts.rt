@@ -6,9 +6,10 @@ ghost use Rattle.make_spec.specs.Rounds as says;
 ghost use Rattle.make_spec.specs.Rounds.{for_each_all, script_of_rounds, first_lines, last_lines, made_order};
 ghost use Rattle.work_maker.specs.Building.{with_cpu_lines, with_first_tool_lines, with_acts, declared, so_far, rounds_below};
 
-use crate::lines::{counting_lines, name, round_lines, sampling_lines};
+use crate::lines::{counting_lines, round_lines, sampling_lines};
 use perf_base::{
-    Act, CpuLine, CpuNo, EventNo, NoMemory, ReaderLine, RingNo, Script, TaskNo, ToolLine, ToolNo,
+    Act, CpuLine, CpuNo, EventNo, Name, NoMemory, ReaderLine, RingNo, Script, TaskNo, ToolLine,
+    ToolNo,
 };
 use std::alloc::Global;
 
@@ -18,10 +19,10 @@ fn machine(alloc: Global) -> Result<Script, NoMemory>
 {
     let mut script = Script::new(alloc, 4);
     script.add_pmu(3, 15)?;
-    script.add_kind(name(b"cycles"), 0, 7)?;
-    script.add_kind(name(b"instructions"), 0, 7)?;
-    script.add_kind(name(b"branches"), 0, 3)?;
-    script.add_kind(name(b"misses"), 0, 4)?;
+    script.add_kind(Name::from_slice(b"cycles"), 0, 7)?;
+    script.add_kind(Name::from_slice(b"instructions"), 0, 7)?;
+    script.add_kind(Name::from_slice(b"branches"), 0, 3)?;
+    script.add_kind(Name::from_slice(b"misses"), 0, 4)?;
     Ok(script)
 }
 
