@@ -1,8 +1,8 @@
 -- An order that does each line.
-use Rattle.std.proofs.Common.{◌≡◌, ℕ, ◌+◌, ◌<◌, ◌≤◌, ◌↔◌, Bool, false, eqb, All, List, [], ◌∷◌, length, get_or, set, take, inl, inr, refl, sym, ap, ◌∙◌, arith}
-use Rattle.std.specs.Prelude.{IsTrue, count_by}
+use Rattle.std.proofs.Common.{◌≡◌, ℕ, ◌+◌, ◌<◌, ◌≤◌, ◌↔◌, Bool, false, eqb, All, List, [], ◌∷◌, length, get_or, map, set, take, inl, inr, refl, sym, ap, ◌∙◌, arith}
+use Rattle.std.specs.Prelude.{count_by}
 use Rattle.std.proofs.lemmas.Bool.{cases_lt, cases_order, eq-eqb, ne_eqb}
-use Rattle.std.proofs.lemmas.List.{get_or_past, get_or-set_other}
+use Rattle.std.proofs.lemmas.List.{ext_get_or, get_or-map, get_or_past, get_or-set_other, length-map}
 use Rattle.std.proofs.lemmas.List.Sums.{count_by_more_yes, count_by_more_no}
 use Rattle.std.proofs.lemmas.Grind.{get_or-set_at}
 use Rattle.std.proofs.lemmas.List.Elements.{All-head, All-tail}
@@ -11,8 +11,7 @@ use Rattle.perf_base.specs.declared.numbers.ToolNo.{ToolNo}
 use Rattle.perf_base.specs.declared.acts.Act.{Act}
 use Rattle.perf_base.specs.declared.acts.Act.TheVariants as act
 use Rattle.perf_base.specs.Scripts.{Scripted, IsScript, IsAct}
-use Rattle.stage_spec.specs.Order.{is_of_cpu, is_of_tool, IsComplete}
-use Rattle.script_read.specs.Order.{IsCpuDone, IsToolDone}
+use Rattle.stage_spec.specs.Order.{is_of_cpu, is_of_tool, done_by_cpu, done_by_tool}
 
 -- a processor or tool that there is not has no line, and so no act
 past_none : {X : Type 0} (lists : List (List X)) (n : ℕ) → length lists ≤ n → length (get_or lists n []) ≡ 0
@@ -41,24 +40,32 @@ none_counted test s (a ∷ order) h all =
     let n : count_by test order ≡ 0 = none_counted test s order h (All-tail (IsAct s) a order all) in
     rw f (omega (arith, n))
 
-pub complete_iff : (s : Scripted) (b : Bool) → IsScript s → ((cpu : CpuNo) → cpu.0 < 8 → IsCpuDone s s.order cpu) → IsTrue b ↔ ((tool : ToolNo) → tool.0 < 4 → IsToolDone s s.order tool) → IsTrue b ↔ IsComplete s s.order
-complete_iff s b h cpus tools = (λ t. record { cpus = all_cpus; tools = all_tools (tools.0 t) }, λ c. tools.1 (λ tool l. c.tools tool))
+-- The counts of the acts of each of so many are those of the lines of each exactly where each has as many acts as lines.
+counts_iff : {X : Type 0} (lists : List (List X)) (counts : List ℕ) (done : ℕ → ℕ) (n : ℕ) → length lists ≡ n → length counts ≡ n → ((m : ℕ) → m < n → get_or counts m 0 ≡ done m) → ((m : ℕ) → n ≤ m → done m ≡ 0)
+    → (counts ≡ map length lists) ↔ ((m : ℕ) → done m ≡ length (get_or lists m []))
+counts_iff lists counts done n many counted is past = (each, λ all. ext_get_or 0 counts (map length lists) (counted ∙ sym (length-map lists length ∙ many)) (λ m l. is m (omega (arith, l, counted)) ∙ (all m ∙ sym (of_map m (omega (arith, l, counted, many))))))
   where
-    all_cpus : (cpu : CpuNo) → IsCpuDone s s.order cpu
-    all_cpus cpu = elim (cases_lt cpu.0 8) [
-      | inl less ↦ cpus cpu less
-      | inr past ↦
-          let l : length s.cpu_lines ≤ cpu.0 = omega (arith, h.processors) in
-          none_counted (is_of_cpu cpu) s s.order (λ a i. other_cpu s cpu a l i) h.order ∙ sym (past_none s.cpu_lines cpu.0 l)
+    of_map : (m : ℕ) → m < length lists → get_or (map length lists) m 0 ≡ length (get_or lists m [])
+    of_map m l = get_or-map length lists m [] 0 l
+
+    each : counts ≡ map length lists → (m : ℕ) → done m ≡ length (get_or lists m [])
+    each e m = elim (cases_lt m n) [
+      | inl less ↦ sym (is m less) ∙ (ap (λ cs. get_or cs m 0) e ∙ of_map m (omega (arith, less, many)))
+      | inr beyond ↦ past m beyond ∙ sym (past_none lists m (omega (arith, beyond, many)))
     ]
 
-    all_tools : ((tool : ToolNo) → tool.0 < 4 → IsToolDone s s.order tool) → (tool : ToolNo) → IsToolDone s s.order tool
-    all_tools own tool = elim (cases_lt tool.0 4) [
-      | inl less ↦ own tool less
-      | inr past ↦
-          let l : length s.tool_lines ≤ tool.0 = omega (arith, h.tools) in
-          none_counted (is_of_tool tool) s s.order (λ a i. other_tool s tool a l i) h.order ∙ sym (past_none s.tool_lines tool.0 l)
-    ]
+module _ (s : Scripted) (h : IsScript s) where
+  pub cpus_iff : (counts : List ℕ) → length counts ≡ 8 → ((cpu : CpuNo) → cpu.0 < 8 → get_or counts cpu.0 0 ≡ done_by_cpu cpu s.order)
+      → (counts ≡ map length s.cpu_lines) ↔ ((m : ℕ) → done_by_cpu (record { 0 = m }) s.order ≡ length (get_or s.cpu_lines m []))
+  cpus_iff counts eight is =
+      counts_iff s.cpu_lines counts (λ m. done_by_cpu (record { 0 = m }) s.order) 8 h.processors eight (λ m. is (record { 0 = m }))
+      (λ m l. none_counted (is_of_cpu (record { 0 = m })) s s.order (λ a i. other_cpu s (record { 0 = m }) a (omega (arith, l, h.processors)) i) h.order)
+
+  pub tools_iff : (counts : List ℕ) → length counts ≡ 4 → ((tool : ToolNo) → tool.0 < 4 → get_or counts tool.0 0 ≡ done_by_tool tool s.order)
+      → (counts ≡ map length s.tool_lines) ↔ ((m : ℕ) → done_by_tool (record { 0 = m }) s.order ≡ length (get_or s.tool_lines m []))
+  tools_iff counts four is =
+      counts_iff s.tool_lines counts (λ m. done_by_tool (record { 0 = m }) s.order) 4 h.tools four (λ m. is (record { 0 = m }))
+      (λ m l. none_counted (is_of_tool (record { 0 = m })) s s.order (λ a i. other_tool s (record { 0 = m }) a (omega (arith, l, h.tools)) i) h.order)
 
 -- ---- counting, act by act
 

@@ -4,7 +4,6 @@ pub mod Laws
 pub mod Lines
 pub mod Names
 pub mod Numbers
-pub mod Order
 pub mod Place
 pub mod Progress
 pub mod Reading

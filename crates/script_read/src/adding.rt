@@ -1,6 +1,6 @@
 //! What a form adds to what the lines so far say, or the first reason for which it is refused.
 
-ghost use Rattle.std.specs.Prelude.{◌≡◌, ◌<◌, ◌++◌, OnOk, IfErr, MatchResult, All, sum_by, length};
+ghost use Rattle.std.specs.Prelude.{◌≡◌, ◌<◌, ◌++◌, OnOk, IfErr, MatchResult, All};
 ghost use Rattle.perf_base.specs.declared.reasons.SReason.{SReason};
 ghost use Rattle.perf_base.specs.declared.reasons.SReason.TheVariants as reason;
 ghost use Rattle.perf_base.specs.Scripts as says;
@@ -19,7 +19,7 @@ use crate::names::{declared_ring, is_act, is_new_name};
 use crate::numbers::{counters, cpu, cpu_mask, mask, next_reader, next_ring, next_task, tool};
 use crate::state::{State, section_of};
 use line_forms::{Acts, CpuForm, Form, ToolForm};
-use perf_base::{Act, CpuNo, CpuSet, Name, ReaderLine, SReason, Script, ToolNo};
+use perf_base::{Act, CpuSet, Name, ReaderLine, SReason, Script};
 
 /// How many kinds a script may have, and how many lines under its processors and tools.
 const MOST_KINDS: usize = 16;
@@ -32,35 +32,11 @@ const MOST_WEIGHT: u64 = 65536;
 /// How many PMUs a script may have.
 const MOST_PMUS: u8 = 4;
 
-/// How many lines stand under processors and tools.
-fn lines_of_cpus(script: &Script) -> usize
-    requires { IsScript script.now }
-    ensures { result ≡ sum_by length script.now.cpu_lines }
-{
-    let mut count = 0;
-    for cpu in 0..8 {
-        count += script.cpu_lines(CpuNo(cpu)).len();
-    }
-    count
-}
-
-fn lines_of_tools(script: &Script) -> usize
-    requires { IsScript script.now }
-    ensures { result ≡ sum_by length script.now.tool_lines }
-{
-    let mut count = 0;
-    for tool in 0..4 {
-        count += script.tool_lines(ToolNo(tool)).len();
-    }
-    count
-}
-
 /// Whether one more line may stand under a processor or tool.
 fn check_room(script: &Script) -> Result<(), SReason>
-    requires { IsScript script.now }
     ensures { MatchResult result (λ _. says.line_count script.now < 16384) (λ r. (r ≡ reason.Limit) × (says.line_count script.now < 16384 → ⊥)) }
 {
-    if lines_of_cpus(script) + lines_of_tools(script) < MOST_LINES {
+    if script.line_count() < MOST_LINES {
         Ok(())
     } else {
         Err(SReason::Limit)

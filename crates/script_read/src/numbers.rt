@@ -24,26 +24,28 @@ fn is_between(low: u128, high: u128, n: u128) -> bool
     low <= n && n <= high
 }
 
+/// The number, where it is from 1 to a greatest one.
+fn at_most(most: u8, n: u128) -> Option<u8>
+    ensures { MatchOption result (IsBetween 1 most n → ⊥) (λ r. IsBetween 1 most n × (r ≡ n)) }
+{
+    match u8::try_from(n) {
+        Ok(n) if 1 <= n && n <= most => Some(n),
+        _ => None,
+    }
+}
+
 /// How many processors a machine has, 1 to 8.
 pub fn cpus(n: u128) -> Option<u8>
     ensures { MatchOption result (IsBetween 1 8 n → ⊥) (λ r. IsBetween 1 8 n × (r ≡ n)) }
 {
-    if is_between(1, 8, n) {
-        Some(n as u8)
-    } else {
-        None
-    }
+    at_most(8, n)
 }
 
 /// How many counters each processor of a PMU has, 1 to 16.
 pub fn counters(n: u128) -> Option<u8>
     ensures { MatchOption result (IsBetween 1 16 n → ⊥) (λ r. IsBetween 1 16 n × (r ≡ n)) }
 {
-    if is_between(1, 16, n) {
-        Some(n as u8)
-    } else {
-        None
-    }
+    at_most(16, n)
 }
 
 pub fn wide(n: u128) -> Option<u64>

@@ -5,9 +5,8 @@ ghost use Rattle.perf_base.specs.declared.numbers.CpuNo.{CpuNo};
 ghost use Rattle.perf_base.specs.declared.numbers.ToolNo.{ToolNo};
 ghost use Rattle.perf_base.specs.Scripts.{IsScript, IsAct};
 ghost use Rattle.stage_spec.specs.Order.{IsComplete, done_by_cpu, done_by_tool};
-ghost use Rattle.script_read.specs.Order.{IsCpuDone, IsToolDone};
 
-use perf_base::{Act, CpuNo, Script, ToolNo};
+use perf_base::{Act, Script};
 
 /// How many lines of each processor and of each tool the acts of the script's order do.
 fn lines_done(script: &Script, order: &[Act]) -> ([usize; 8], [usize; 4])
@@ -28,34 +27,10 @@ fn lines_done(script: &Script, order: &[Act]) -> ([usize; 8], [usize; 4])
     (cpus, tools)
 }
 
-fn are_cpus_done(script: &Script, done: &[usize; 8]) -> bool
-    requires { (cpu : CpuNo) → cpu.0 < 8 → slice_index done.now cpu.0 ≡ done_by_cpu cpu script.now.order }
-    ensures { IsTrue result ↔ ((cpu : CpuNo) → cpu.0 < 8 → IsCpuDone script.now script.now.order cpu) }
-{
-    for cpu in 0..8 {
-        if done[usize::from(cpu)] != script.cpu_lines(CpuNo(cpu)).len() {
-            return false;
-        }
-    }
-    true
-}
-
-fn are_tools_done(script: &Script, done: &[usize; 4]) -> bool
-    requires { (tool : ToolNo) → tool.0 < 4 → slice_index done.now tool.0 ≡ done_by_tool tool script.now.order }
-    ensures { IsTrue result ↔ ((tool : ToolNo) → tool.0 < 4 → IsToolDone script.now script.now.order tool) }
-{
-    for tool in 0..4 {
-        if done[usize::from(tool)] != script.tool_lines(ToolNo(tool)).len() {
-            return false;
-        }
-    }
-    true
-}
-
 /// Whether each processor and each tool has as many acts in the order as lines. It passes over the order once.
 pub fn order_complete(script: &Script) -> bool
     ensures { IsTrue result ↔ IsComplete script.now script.now.order }
 {
     let (cpus, tools) = lines_done(script, script.order());
-    are_cpus_done(script, &cpus) && are_tools_done(script, &tools)
+    cpus == script.lines_of_cpus() && tools == script.lines_of_tools()
 }
