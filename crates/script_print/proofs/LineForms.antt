@@ -16,7 +16,7 @@ use Rattle.perf_base.specs.Scripts.{IsKindLine, IsCpuLine, IsName, IsNameByte, I
 use Rattle.script_spec.specs.Lines.{pieces}
 use Rattle.script_spec.specs.Forms as form
 use Rattle.script_spec.specs.Forms.{Hit, CpuForm, Form, hit_text, ip_text, ToolForm, Opening}
-use Rattle.script_spec.specs.Meaning.{times_of, occurrences, or_zero, cpu_line_of, kinds_in, number_of, software_kind, kind_named, tool_line_of, open_line, asked_attr, task_sel, cpu_sel, slot, rings_in}
+use Rattle.script_spec.specs.Meaning.{times_of, occurrences, or_zero, cpu_line_of, kinds_in, number_of, software_kind, kind_named, tool_line_of, task_sel, cpu_sel, slot, rings_in}
 use Rattle.script_spec.specs.Faults.{IsCpuFormInRange, IsCpuFormNamed, IsToolFormInRange, IsToolFormNamed, IsWide, HasAttr}
 use Rattle.script_spec.specs.Printing.{some_of, hits_of, cpu_form, kind_name, task_number, cpu_number, asked, tool_form}
 use Rattle.line_forms.proofs.Singles.{bytes_eq-true, bytes_eq_self, name_takes}

@@ -1,5 +1,5 @@
 -- The sections of a printed script, each behind those before it: all but those of processors and tools.
-use Rattle.std.proofs.Common.{◌≡◌, ◌≢◌, ℕ, zero, suc, ◌^◌, ◌<◌, ◌≤◌, cond, eqb, All, List, [], ◌∷◌, ◌++◌, map, length, get_or, replicate, inl, inr, refl, sym, ap, subst, ◌∙◌, arith, ◌+◌, ◌-◌, false, append_assoc}
+use Rattle.std.proofs.Common.{◌≡◌, ◌≢◌, ℕ, zero, suc, ◌^◌, ◌<◌, ◌≤◌, cond, eqb, All, List, [], ◌∷◌, ◌++◌, map, length, get_or, replicate, inl, inr, refl, sym, ap, subst, ◌∙◌, arith, ◌-◌, false, append_assoc}
 use Rattle.std.specs.Prelude.{Any}
 use Rattle.std.proofs.Math.Nat.{pow-le-pow_right}
 use Rattle.std.proofs.lemmas.Bool.{cases_Bool, eqb-true, ne_eqb}

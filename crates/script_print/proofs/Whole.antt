@@ -1,7 +1,7 @@
 -- The texts of the parts of a printed script.
 use Rattle.std.proofs.Common.{◌≡◌, ◌≢◌, ℕ, zero, suc, ◌+◌, ◌<◌, List, [], ◌∷◌, ◌++◌, length, get_or, take, drop, refl, sym, ap, ◌∙◌, arith, append_assoc}
-use Rattle.std.specs.Prelude.{flat_map, map, codes, IfSome}
-use Rattle.std.specs.List.{slice_get}
+use Rattle.std.specs.Prelude.{flat_map, map, codes, decimal, IfSome}
+use Rattle.std.specs.List.{slice_get, join_with_byte}
 use Rattle.std.proofs.lemmas.Grind.{flat_map-append}
 use Rattle.std.proofs.lemmas.List.{append-nil}
 use Rattle.perf_base.specs.declared.acts.Act.{Act}
@@ -14,7 +14,7 @@ use Rattle.script_spec.specs.Acts.{act_text, acts_text}
 use Rattle.script_spec.specs.Forms as form
 use Rattle.script_spec.specs.Forms.{Form}
 use Rattle.script_spec.specs.Printing.{head_forms, pmu_forms, cpu_form, processor_forms, tool_form, tool_forms, order_forms, line_text, printed_forms, printed}
-use Rattle.script_print.specs.Words.{spaced, text, declared_text, lines_text, last_text}
+use Rattle.script_print.specs.Words.{spaced, text, section_text, declared_text, lines_text, last_text}
 use Rattle.script_print.proofs.Loops.{join_spaced, IsText, IsTextFrom, behind}
 
 -- ---- the first lines
@@ -64,15 +64,18 @@ head_one_front n (p ∷ q ∷ pmus) l = absurd (omega (arith, l))
 pub all_text : {X : Type 0} (f : X → List Form) → IsText (λ xs. flat_map line_text (flat_map f xs)) (λ x. flat_map line_text (f x))
 all_text f = record { nil = refl; cons = λ x xs. flat_map-append line_text (f x) (flat_map f xs) }
 
-pub processor_text : (kinds : List KindLine) (n : ℕ) (lines : List CpuLine) → 0 < length lines
-    → flat_map line_text (processor_forms kinds n lines) ≡ line_text (form.Processor n) ++ flat_map line_text (map (cpu_form kinds) lines)
-processor_text kinds n [] l = absurd (omega (arith, l))
-processor_text kinds n (line ∷ lines) l = refl
+-- a header and its lines, of which there are some
+pub section_some : (header : List ℕ) (n : ℕ) (forms : List Form) → 0 < length forms → section_text header n forms ≡ (join_with_byte 32 (header ∷ decimal n ∷ []) ++ 10 ∷ []) ++ text forms
+section_some header n [] l = absurd (omega (arith, l))
+section_some header n (f ∷ forms) l = refl
 
-pub tool_text : (kinds : List KindLine) (n : ℕ) (lines : List ToolLine) → 0 < length lines
-    → flat_map line_text (tool_forms kinds n lines) ≡ line_text (form.Tool n) ++ flat_map line_text (map (tool_form kinds) lines)
-tool_text kinds n [] l = absurd (omega (arith, l))
-tool_text kinds n (line ∷ lines) l = refl
+pub processor_text : (kinds : List KindLine) (n : ℕ) (lines : List CpuLine) → section_text (codes "processor") n (map (cpu_form kinds) lines) ≡ text (processor_forms kinds n lines)
+processor_text kinds n [] = refl
+processor_text kinds n (line ∷ lines) = refl
+
+pub tool_text : (kinds : List KindLine) (n : ℕ) (lines : List ToolLine) → section_text (codes "tool") n (map (tool_form kinds) lines) ≡ text (tool_forms kinds n lines)
+tool_text kinds n [] = refl
+tool_text kinds n (line ∷ lines) = refl
 
 -- the numbers of all processors, and of all tools
 abbrev pub all_cpus : List ℕ

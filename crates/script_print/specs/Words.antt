@@ -1,5 +1,6 @@
 -- What the words of a line write, and the parts of a printed text. This project's own profile.
 use Rattle.std.specs.Prelude.{ℕ, List, [], ◌∷◌, ◌++◌, length, map, flat_map, codes, decimal, ◌==◌, if◌then◌else◌}
+use Rattle.std.specs.List.{join_with_byte}
 use Rattle.perf_base.specs.declared.acts.Act.{Act}
 use Rattle.perf_base.specs.Scripts.{Scripted}
 use Rattle.script_spec.specs.Forms as form
@@ -32,6 +33,11 @@ hit_piece name times = if times == 0 then [] else (32 ∷ (name ++ codes "=" ++ 
 
 abbrev pub text : List Form → List ℕ
 text forms = flat_map line_text forms
+
+-- a header with its lines; nothing where there are none
+abbrev pub section_text : List ℕ → ℕ → List Form → List ℕ
+section_text header n [] = []
+section_text header n (f ∷ forms) = (join_with_byte 32 (header ∷ decimal n ∷ []) ++ 10 ∷ []) ++ text (f ∷ forms)
 
 -- the version, the machine, the PMUs, kinds, tasks and rings
 unfoldable pub declared_text : Scripted → List ℕ

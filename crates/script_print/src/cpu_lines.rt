@@ -8,6 +8,7 @@ ghost use Rattle.perf_base.specs.Scripts.{lines_of_cpu};
 ghost use Rattle.script_print.specs.Words.{all_word_texts, spaced, hit_piece};
 ghost use Rattle.perf_base.specs.declared.lines.CpuLine.TheVariants as cpu_line;
 
+use crate::entries::{Entry, put_section};
 use crate::words::{Word, put_line, put_start};
 use perf_base::{CpuLine, CpuNo, Mode, Name, Script, TaskNo, Work};
 use perf_io::{Failed, Sink, write_all, write_numbered};
@@ -56,7 +57,6 @@ fn put_hit<K: Sink>(sink: &mut K, name: &Name, times: u64) -> Result<(), Failed>
 
 /// Writes how often each kind occurs that does, in their declared order.
 fn put_hits<K: Sink>(sink: &mut K, script: &Script, hits: &[u64; 16]) -> Result<(), Failed>
-    requires { length script.now.kinds ≤ 16 }
     ensures wrote { Wrote K.held K.faults K.last_fault sink.old sink.new result (spaced (map hit_text (hits_of script.now.kinds hits.now))) }
     ensures flushed { K.flushed sink.new ≡ K.flushed sink.old }
 {
@@ -75,7 +75,6 @@ fn put_hits_line<K: Sink>(
     script: &Script,
     hits: &[u64; 16],
 ) -> Result<(), Failed>
-    requires { length script.now.kinds ≤ 16 }
     ensures wrote { Wrote K.held K.faults K.last_fault sink.old sink.new result ((first.now ++ spaced (all_word_texts words.now)) ++ (spaced (map hit_text (hits_of script.now.kinds hits.now)) ++ 10 ∷ [])) }
     ensures flushed { K.flushed sink.new ≡ K.flushed sink.old }
 {
@@ -86,7 +85,6 @@ fn put_hits_line<K: Sink>(
 
 /// Writes a stretch of work.
 fn put_work<K: Sink>(sink: &mut K, script: &Script, work: &Work) -> Result<(), Failed>
-    requires { length script.now.kinds ≤ 16 }
     ensures wrote { Wrote K.held K.faults K.last_fault sink.old sink.new result (line_text (cpu_form script.now.kinds (cpu_line.Work work.now))) }
     ensures flushed { K.flushed sink.new ≡ K.flushed sink.old }
 {
@@ -98,45 +96,22 @@ fn put_work<K: Sink>(sink: &mut K, script: &Script, work: &Work) -> Result<(), F
     put_hits_line(sink, b"work", &words, script, &work.hits)
 }
 
-/// Writes a line of a processor.
-fn put_cpu_line<K: Sink>(sink: &mut K, script: &Script, line: &CpuLine) -> Result<(), Failed>
-    requires { length script.now.kinds ≤ 16 }
-    ensures wrote { Wrote K.held K.faults K.last_fault sink.old sink.new result (line_text (cpu_form script.now.kinds line.now)) }
-    ensures flushed { K.flushed sink.new ≡ K.flushed sink.old }
-{
-    match line {
-        CpuLine::Switch(to) => put_switch(sink, *to),
-        CpuLine::Work(work) => put_work(sink, script, work),
-        CpuLine::Tick => put_line(sink, b"tick", &[]),
-        CpuLine::Fork(task) => put_line(sink, b"fork", &[Word::Decimal(b"", u64::from(task.0))]),
-        CpuLine::Exit => put_line(sink, b"exit", &[]),
-    }
-}
+impl Entry for CpuLine {
+    ghost form = { λ script. cpu_form script.kinds };
 
-/// Writes lines of a processor.
-fn put_cpu_lines<K: Sink>(sink: &mut K, script: &Script, lines: &[CpuLine]) -> Result<(), Failed>
-    requires { length script.now.kinds ≤ 16 }
-    ensures wrote { Wrote K.held K.faults K.last_fault sink.old sink.new result (flat_map line_text (map (cpu_form script.now.kinds) lines.now)) }
-    ensures flushed { K.flushed sink.new ≡ K.flushed sink.old }
-{
-    for line in lines {
-        put_cpu_line(sink, script, line)?;
+    fn put<K: Sink>(&self, sink: &mut K, script: &Script) -> Result<(), Failed> {
+        match self {
+            CpuLine::Switch(to) => put_switch(sink, *to),
+            CpuLine::Work(work) => put_work(sink, script, work),
+            CpuLine::Tick => put_line(sink, b"tick", &[]),
+            CpuLine::Fork(task) => put_line(
+                sink,
+                b"fork",
+                &[Word::Decimal(b"", u64::from(task.0))],
+            ),
+            CpuLine::Exit => put_line(sink, b"exit", &[]),
+        }
     }
-    Ok(())
-}
-
-/// Writes a processor with its lines, or nothing where it has none.
-pub fn put_processor<K: Sink>(sink: &mut K, script: &Script, cpu: CpuNo) -> Result<(), Failed>
-    requires { cpu.0 < 8 }
-    ensures wrote { Wrote K.held K.faults K.last_fault sink.old sink.new result (flat_map line_text (processor_forms script.now.kinds cpu.0 (lines_of_cpu script.now cpu))) }
-    ensures flushed { K.flushed sink.new ≡ K.flushed sink.old }
-{
-    let lines = script.cpu_lines(cpu);
-    if lines.is_empty() {
-        return Ok(());
-    }
-    put_line(sink, b"processor", &[Word::Decimal(b"", u64::from(cpu.0))])?;
-    put_cpu_lines(sink, script, lines)
 }
 
 /// Writes all processors that have lines.
@@ -145,7 +120,13 @@ pub fn put_processors<K: Sink>(sink: &mut K, script: &Script) -> Result<(), Fail
     ensures flushed { K.flushed sink.new ≡ K.flushed sink.old }
 {
     for cpu in 0..8 {
-        put_processor(sink, script, CpuNo(cpu))?;
+        put_section(
+            sink,
+            script,
+            b"processor",
+            cpu,
+            script.cpu_lines(CpuNo(cpu)),
+        )?;
     }
     Ok(())
 }

@@ -6,6 +6,7 @@ ghost use Rattle.script_spec.specs.Printing.{head_forms, pmu_forms, kind_form, t
 ghost use Rattle.perf_io.specs.Wrote.{Wrote};
 ghost use Rattle.perf_base.specs.Scripts.{IsScript, IsCovered};
 
+use crate::entries::Entry;
 use crate::words::{Word, put_line};
 use perf_base::{CpuNo, CpuSet, ReaderLine, RingNo, Script, TaskNo};
 use perf_io::{Failed, Sink};
@@ -165,67 +166,42 @@ pub fn put_kinds<K: Sink>(sink: &mut K, script: &Script) -> Result<(), Failed>
     Ok(())
 }
 
-/// Writes all tasks.
-pub fn put_tasks<K: Sink>(sink: &mut K, tasks: &[TaskNo]) -> Result<(), Failed>
-    ensures wrote { Wrote K.held K.faults K.last_fault sink.old sink.new result (flat_map line_text (map task_form tasks.now)) }
-    ensures flushed { K.flushed sink.new ≡ K.flushed sink.old }
-{
-    for task in tasks {
-        put_line(sink, b"task", &[Word::Decimal(b"", u64::from(task.0))])?;
+impl Entry for TaskNo {
+    ghost form = { λ script. task_form };
+
+    fn put<K: Sink>(&self, sink: &mut K, _script: &Script) -> Result<(), Failed> {
+        put_line(sink, b"task", &[Word::Decimal(b"", u64::from(self.0))])
     }
-    Ok(())
 }
 
-/// Writes a ring.
-fn put_ring<K: Sink>(sink: &mut K, ring: &(RingNo, u32)) -> Result<(), Failed>
-    ensures wrote { Wrote K.held K.faults K.last_fault sink.old sink.new result (line_text (ring_form ring.now)) }
-    ensures flushed { K.flushed sink.new ≡ K.flushed sink.old }
-{
-    let (number, bytes) = ring;
-    put_line(
-        sink,
-        b"ring",
-        &[
-            Word::Decimal(b"", u64::from(number.0)),
-            Word::Decimal(b"bytes=", u64::from(*bytes)),
-        ],
-    )
-}
+impl Entry for (RingNo, u32) {
+    ghost form = { λ script. ring_form };
 
-/// Writes all rings.
-pub fn put_rings<K: Sink>(sink: &mut K, rings: &[(RingNo, u32)]) -> Result<(), Failed>
-    ensures wrote { Wrote K.held K.faults K.last_fault sink.old sink.new result (flat_map line_text (map ring_form rings.now)) }
-    ensures flushed { K.flushed sink.new ≡ K.flushed sink.old }
-{
-    for ring in rings {
-        put_ring(sink, ring)?;
+    fn put<K: Sink>(&self, sink: &mut K, _script: &Script) -> Result<(), Failed> {
+        let (number, bytes) = self;
+        put_line(
+            sink,
+            b"ring",
+            &[
+                Word::Decimal(b"", u64::from(number.0)),
+                Word::Decimal(b"bytes=", u64::from(*bytes)),
+            ],
+        )
     }
-    Ok(())
 }
 
-/// Writes a reader.
-fn put_reader<K: Sink>(sink: &mut K, reader: &ReaderLine) -> Result<(), Failed>
-    ensures wrote { Wrote K.held K.faults K.last_fault sink.old sink.new result (line_text (reader_form reader.now)) }
-    ensures flushed { K.flushed sink.new ≡ K.flushed sink.old }
-{
-    put_line(
-        sink,
-        b"reader",
-        &[
-            Word::Decimal(b"", u64::from(reader.ring.0)),
-            Word::Decimal(b"tries=", u64::from(reader.tries)),
-            Word::Decimal(b"batch=", u64::from(reader.batch)),
-        ],
-    )
-}
+impl Entry for ReaderLine {
+    ghost form = { λ script. reader_form };
 
-/// Writes all readers.
-pub fn put_readers<K: Sink>(sink: &mut K, readers: &[ReaderLine]) -> Result<(), Failed>
-    ensures wrote { Wrote K.held K.faults K.last_fault sink.old sink.new result (flat_map line_text (map reader_form readers.now)) }
-    ensures flushed { K.flushed sink.new ≡ K.flushed sink.old }
-{
-    for reader in readers {
-        put_reader(sink, reader)?;
+    fn put<K: Sink>(&self, sink: &mut K, _script: &Script) -> Result<(), Failed> {
+        put_line(
+            sink,
+            b"reader",
+            &[
+                Word::Decimal(b"", u64::from(self.ring.0)),
+                Word::Decimal(b"tries=", u64::from(self.tries)),
+                Word::Decimal(b"batch=", u64::from(self.batch)),
+            ],
+        )
     }
-    Ok(())
 }

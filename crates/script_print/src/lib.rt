@@ -5,6 +5,7 @@
 
 mod cpu_lines;
 mod declared;
+mod entries;
 mod flags;
 mod laws;
 mod pieces;

@@ -10,7 +10,8 @@ ghost use Rattle.perf_io.specs.Wrote.{Wrote};
 ghost use Rattle.script_print.specs.Words.{text, declared_text, lines_text, last_text};
 
 use crate::cpu_lines::put_processors;
-use crate::declared::{put_head, put_kinds, put_readers, put_rings, put_tasks};
+use crate::declared::{put_head, put_kinds};
+use crate::entries::put_entries;
 use crate::tool_lines::put_tools;
 use crate::words::put_line;
 use order_text::write_act;
@@ -26,8 +27,8 @@ fn put_declared<K: Sink>(sink: &mut K, script: &Script) -> Result<(), Failed>
 {
     put_head(sink, script)?;
     put_kinds(sink, script)?;
-    put_tasks(sink, script.tasks())?;
-    put_rings(sink, script.rings())
+    put_entries(sink, script, script.tasks())?;
+    put_entries(sink, script, script.rings())
 }
 
 /// Writes the lines of processors, tools and readers.
@@ -38,7 +39,7 @@ fn put_lines<K: Sink>(sink: &mut K, script: &Script) -> Result<(), Failed>
 {
     put_processors(sink, script)?;
     put_tools(sink, script)?;
-    put_readers(sink, script.readers())
+    put_entries(sink, script, script.readers())
 }
 
 /// Writes an act with a space before it.

@@ -28,9 +28,7 @@ fn is_printed(script: &Script, sink: &mut MemSink) -> bool {
 fn name(byte: u8) -> Name
     ensures { result ≡ byte ∷ [] }
 {
-    let mut name = Name::new();
-    name.push(byte);
-    name
+    Name::from_slice(&[byte])
 }
 
 /// A stretch of work, with how often each of the first two kinds occurs.

@@ -8,6 +8,7 @@ ghost use Rattle.perf_base.specs.Scripts.{lines_of_tool, IsToolLine, IsKind};
 ghost use Rattle.script_print.specs.Words.{word_texts};
 ghost use Rattle.perf_base.specs.declared.lines.ToolLine.TheVariants as tool_line;
 
+use crate::entries::{Entry, put_section};
 use crate::words::{Word, put_line};
 use perf_base::{Attr, CpuSel, EventNo, Kind, Script, TaskSel, ToolLine, ToolNo};
 use perf_io::{Failed, Sink};
@@ -120,79 +121,54 @@ fn put_open<K: Sink>(
     )
 }
 
-/// Writes a line of a tool.
-fn put_tool_line<K: Sink>(sink: &mut K, script: &Script, line: &ToolLine) -> Result<(), Failed>
-    requires { IsToolLine script.now.cpus (length script.now.kinds) script.now.rings line.now }
-    ensures wrote { Wrote K.held K.faults K.last_fault sink.old sink.new result (line_text (tool_form script.now.kinds line.now)) }
-    ensures flushed { K.flushed sink.new ≡ K.flushed sink.old }
-{
-    match line {
-        ToolLine::Open { slot, attr, leader } => put_open(sink, script, *slot, attr, *leader),
-        ToolLine::Enable { event, group } => put_line(
-            sink,
-            b"enable",
-            &[event_word(*event), group_word(*group)],
-        ),
-        ToolLine::Disable { event, group } => put_line(
-            sink,
-            b"disable",
-            &[event_word(*event), group_word(*group)],
-        ),
-        ToolLine::Reset { event, group } => put_line(
-            sink,
-            b"reset",
-            &[event_word(*event), group_word(*group)],
-        ),
-        ToolLine::Period { event, period } => put_line(
-            sink,
-            b"period",
-            &[event_word(*event), number(*period)],
-        ),
-        ToolLine::Read { event, size } => put_line(
-            sink,
-            b"read",
-            &[event_word(*event), size_word(*size)],
-        ),
-        ToolLine::Map { event, ring } => put_line(
-            sink,
-            b"map",
-            &[event_word(*event), number(u64::from(ring.0))],
-        ),
-        ToolLine::Output { event, target } => put_line(
-            sink,
-            b"output",
-            &[event_word(*event), event_word(*target)],
-        ),
-        ToolLine::Close { event } => put_line(sink, b"close", &[event_word(*event)]),
-        ToolLine::Why { event } => put_line(sink, b"why", &[event_word(*event)]),
-        ToolLine::Seats { cpu } => put_line(sink, b"seats", &[number(u64::from(cpu.0))]),
-    }
-}
+impl Entry for ToolLine {
+    ghost fits = { λ script. IsToolLine script.cpus (length script.kinds) script.rings };
 
-/// Writes lines of a tool.
-fn put_tool_lines<K: Sink>(sink: &mut K, script: &Script, lines: &[ToolLine]) -> Result<(), Failed>
-    requires { All (IsToolLine script.now.cpus (length script.now.kinds) script.now.rings) lines.now }
-    ensures wrote { Wrote K.held K.faults K.last_fault sink.old sink.new result (flat_map line_text (map (tool_form script.now.kinds) lines.now)) }
-    ensures flushed { K.flushed sink.new ≡ K.flushed sink.old }
-{
-    for line in lines {
-        put_tool_line(sink, script, line)?;
-    }
-    Ok(())
-}
+    ghost form = { λ script. tool_form script.kinds };
 
-/// Writes a tool with its lines, or nothing where it has none.
-pub fn put_tool<K: Sink>(sink: &mut K, script: &Script, tool: ToolNo) -> Result<(), Failed>
-    requires { tool.0 < 4 }
-    ensures wrote { Wrote K.held K.faults K.last_fault sink.old sink.new result (flat_map line_text (tool_forms script.now.kinds tool.0 (lines_of_tool script.now tool))) }
-    ensures flushed { K.flushed sink.new ≡ K.flushed sink.old }
-{
-    let lines = script.tool_lines(tool);
-    if lines.is_empty() {
-        return Ok(());
+    fn put<K: Sink>(&self, sink: &mut K, script: &Script) -> Result<(), Failed> {
+        match self {
+            ToolLine::Open { slot, attr, leader } => put_open(sink, script, *slot, attr, *leader),
+            ToolLine::Enable { event, group } => put_line(
+                sink,
+                b"enable",
+                &[event_word(*event), group_word(*group)],
+            ),
+            ToolLine::Disable { event, group } => put_line(
+                sink,
+                b"disable",
+                &[event_word(*event), group_word(*group)],
+            ),
+            ToolLine::Reset { event, group } => put_line(
+                sink,
+                b"reset",
+                &[event_word(*event), group_word(*group)],
+            ),
+            ToolLine::Period { event, period } => put_line(
+                sink,
+                b"period",
+                &[event_word(*event), number(*period)],
+            ),
+            ToolLine::Read { event, size } => put_line(
+                sink,
+                b"read",
+                &[event_word(*event), size_word(*size)],
+            ),
+            ToolLine::Map { event, ring } => put_line(
+                sink,
+                b"map",
+                &[event_word(*event), number(u64::from(ring.0))],
+            ),
+            ToolLine::Output { event, target } => put_line(
+                sink,
+                b"output",
+                &[event_word(*event), event_word(*target)],
+            ),
+            ToolLine::Close { event } => put_line(sink, b"close", &[event_word(*event)]),
+            ToolLine::Why { event } => put_line(sink, b"why", &[event_word(*event)]),
+            ToolLine::Seats { cpu } => put_line(sink, b"seats", &[number(u64::from(cpu.0))]),
+        }
     }
-    put_line(sink, b"tool", &[Word::Decimal(b"", u64::from(tool.0))])?;
-    put_tool_lines(sink, script, lines)
 }
 
 /// Writes all tools that have lines.
@@ -201,7 +177,7 @@ pub fn put_tools<K: Sink>(sink: &mut K, script: &Script) -> Result<(), Failed>
     ensures flushed { K.flushed sink.new ≡ K.flushed sink.old }
 {
     for tool in 0..4 {
-        put_tool(sink, script, ToolNo(tool))?;
+        put_section(sink, script, b"tool", tool, script.tool_lines(ToolNo(tool)))?;
     }
     Ok(())
 }

@@ -12,5 +12,5 @@ returns-in_err-put_tools-clause-wrote g c =
 pub returns-clause-wrote : goal.returns-clause-wrote
 unfolding lines_text
 returns-clause-wrote g c =
-    let readers = wrote_text (ap (λ rs. text (map reader_form rs)) c.readers.ensures.readers) c.put_readers.ensures.wrote in
+    let readers = wrote_text (ap (λ rs. text (map reader_form rs)) c.readers.ensures.readers) c.put_entries.ensures.wrote in
     wrote_then c.in_ok-put_processors.ensures.wrote (wrote_then c.in_ok-put_tools.ensures.wrote readers)
