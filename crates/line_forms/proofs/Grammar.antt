@@ -9,7 +9,9 @@ use Rattle.perf_base.specs.declared.lines.Mode.TheVariants as mode
 use Rattle.script_spec.specs.Forms as form
 use Rattle.script_spec.specs.Forms.{Version, Working, CpuForm, Form}
 use Rattle.line_forms.specs.Leaves.{number, number_at, number_if}
-use Rattle.line_forms.specs.Bodies.{perf_at, machine_at, machine_of_pmus_at, pmu_at, kind_at, kind_of_pmu_at, ring_at, reader_at, each_word, hit_in, mode_in, stretch_at, work_at, switch_at}
+use Rattle.line_forms.specs.Lists.{each_word, hit_in}
+use Rattle.line_forms.specs.Declarations.{perf_at, machine_at, machine_of_pmus_at, pmu_at, kind_at, kind_of_pmu_at, ring_at, reader_at}
+use Rattle.line_forms.specs.CpuForms.{mode_in, stretch_at, work_at, switch_at}
 use Rattle.line_forms.proofs.Spelling.{guard_some}
 use Rattle.line_forms.proofs.Singles.{number_at-takes, bind_some, bytes_eq-true, bytes_eq_self, name_at-again, decimal_or-again}
 use Rattle.line_forms.proofs.Optionals.{number_at-none, number_if-none, number_if-takes, number_if-again}

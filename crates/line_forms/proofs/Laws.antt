@@ -10,7 +10,12 @@ use Rattle.script_spec.specs.Forms.{Version, CpuForm, ToolForm, Form, IsOfForm}
 use Rattle.line_forms.specs.declared.keyword.Keyword.{Keyword}
 use Rattle.line_forms.specs.declared.keyword.Keyword.TheVariants as keyword
 use Rattle.line_forms.specs.Keyword.{looked_up, keywords, keyword_of}
-use Rattle.line_forms.specs.Bodies.{at_end, one_number, two_numbers, slot_and_group, each_word, act_in, switch_at, work_at, tick_at, fork_at, exit_at, open_at, enable_at, disable_at, reset_at, period_at, read_at, map_at, output_at, close_at, why_at, seats_at, order_at, end_at}
+use Rattle.line_forms.specs.Shapes.{at_end, one_number, two_numbers, slot_and_group}
+use Rattle.line_forms.specs.Lists.{each_word}
+use Rattle.line_forms.specs.Acts.{act_in, order_at}
+use Rattle.line_forms.specs.Declarations.{end_at}
+use Rattle.line_forms.specs.CpuForms.{switch_at, work_at, tick_at, fork_at, exit_at}
+use Rattle.line_forms.specs.ToolForms.{open_at, enable_at, disable_at, reset_at, period_at, read_at, map_at, output_at, close_at, why_at, seats_at}
 use Rattle.line_forms.specs.Reading.{body_at, form_at}
 use Rattle.line_forms.proofs.Singles.{bind_some, bytes_eq-true}
 use Rattle.line_forms.proofs.Sequences.{each-takes, each-again, act-takes, act-again}

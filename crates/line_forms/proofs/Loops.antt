@@ -11,7 +11,8 @@ use Rattle.line_forms.specs.declared.stop.LineStop.{LineStop}
 use Rattle.line_forms.specs.declared.stop.LineStop.TheVariants as stop
 use Rattle.line_forms.specs.Words.{◌>>=◌, next_of}
 use Rattle.perf_base.specs.declared.acts.Act.{Act}
-use Rattle.line_forms.specs.Bodies.{each_word, act_in, pair_of, pairs_in}
+use Rattle.line_forms.specs.Lists.{each_word, pair_of, pairs_in}
+use Rattle.line_forms.specs.Acts.{act_in}
 use Rattle.line_forms.specs.Acts.{acts_in}
 use Rattle.line_forms.specs.Stop.{Stops}
 

@@ -15,7 +15,8 @@ use Rattle.script_spec.specs.Acts.{act_text}
 use Rattle.script_spec.specs.Forms as form
 use Rattle.line_forms.specs.Words.{◌>>=◌, cut}
 use Rattle.line_forms.specs.Leaves.{digit_of, number, name}
-use Rattle.line_forms.specs.Bodies.{each_word, hit_in, seen_in, act_in, processor_in, tool_in, is_bytes, pair_of, pairs_in, bytes_in}
+use Rattle.line_forms.specs.Lists.{each_word, hit_in, is_bytes, pair_of, pairs_in, bytes_in}
+use Rattle.line_forms.specs.Acts.{seen_in, act_in, processor_in, tool_in}
 use Rattle.line_forms.proofs.Cuts.{cut_here, cut_later, cut_nothing}
 use Rattle.line_forms.proofs.Spelling.{guard_some, number_takes, number_again, decimal_below, digit_of-glyph, glyph-digit_of}
 use Rattle.line_forms.proofs.Singles.{bind_some, name_takes, name_again}

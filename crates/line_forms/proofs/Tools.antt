@@ -8,7 +8,9 @@ use Rattle.script_spec.specs.Forms as form
 use Rattle.script_spec.specs.Forms.{Opening, Asked, ToolForm}
 use Rattle.line_forms.specs.Words.{strip}
 use Rattle.line_forms.specs.Leaves.{name_at, number_at, number_if, word_if, flags_if}
-use Rattle.line_forms.specs.Bodies.{bytes_in, place_at, asked_at, open_kind_at, attr_place_at, open_attr_at, first_or, open_at, slot_and_group, read_at}
+use Rattle.line_forms.specs.Shapes.{slot_and_group}
+use Rattle.line_forms.specs.Lists.{bytes_in}
+use Rattle.line_forms.specs.ToolForms.{place_at, asked_at, open_kind_at, attr_place_at, open_attr_at, first_or, open_at, read_at}
 use Rattle.line_forms.proofs.Singles.{bind_some, strip_takes, strip_again, name_at-again, decimal_or-again}
 use Rattle.line_forms.proofs.Optionals.{IsNotKeyed, number_at-none, not_keyed_if, number_if-takes, number_if-again, word_where, word_if-takes, flags_if-takes, flags_if-again}
 use Rattle.line_forms.proofs.Sequences.{bytes-takes, bytes-again}

@@ -1,8 +1,12 @@
 pub mod Acts
-pub mod Bodies
+pub mod CpuForms
+pub mod Declarations
+pub mod Forms
 pub mod Keyword
 pub mod Leaves
+pub mod Lists
 pub mod Reading
-pub mod Seen
+pub mod Shapes
 pub mod Stop
+pub mod ToolForms
 pub mod Words

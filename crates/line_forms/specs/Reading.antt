@@ -6,7 +6,10 @@ use Rattle.line_forms.specs.declared.keyword.Keyword.{Keyword}
 use Rattle.line_forms.specs.declared.keyword.Keyword.TheVariants as keyword
 use Rattle.line_forms.specs.Words.{◌>>=◌, next_of}
 use Rattle.line_forms.specs.Keyword.{keyword_of}
-use Rattle.line_forms.specs.Bodies.{perf_at, machine_at, machine_of_pmus_at, pmu_at, kind_at, kind_of_pmu_at, task_at, ring_at, processor_at, switch_at, work_at, tick_at, fork_at, exit_at, tool_at, open_at, enable_at, disable_at, reset_at, period_at, read_at, map_at, output_at, close_at, why_at, seats_at, reader_at, order_at, end_at}
+use Rattle.line_forms.specs.Acts.{order_at}
+use Rattle.line_forms.specs.Declarations.{perf_at, machine_at, machine_of_pmus_at, pmu_at, kind_at, kind_of_pmu_at, task_at, ring_at, processor_at, tool_at, reader_at, end_at}
+use Rattle.line_forms.specs.CpuForms.{switch_at, work_at, tick_at, fork_at, exit_at}
+use Rattle.line_forms.specs.ToolForms.{open_at, enable_at, disable_at, reset_at, period_at, read_at, map_at, output_at, close_at, why_at, seats_at}
 
 -- the words behind the first, by the first
 unfoldable pub body_at : Version → Keyword → List (List ℕ) → Option Form

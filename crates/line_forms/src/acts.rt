@@ -5,11 +5,12 @@ ghost use Rattle.std.specs.Option.{option_map};
 ghost use Rattle.perf_base.specs.declared.acts.Act as script;
 ghost use Rattle.script_spec.specs.Acts.{IsActInRange};
 ghost use Rattle.line_forms.specs.Words.{left};
-ghost use Rattle.line_forms.specs.Bodies as says;
+ghost use Rattle.line_forms.specs.Lists.{each_word};
+ghost use Rattle.line_forms.specs.Acts as says;
 ghost use Rattle.line_forms.specs.Stop.{Gives};
 ghost use Rattle.line_forms.specs.declared.stop.LineStop.TheVariants.{Memory};
 ghost use Rattle.line_forms.specs.Acts.{AreKept};
-ghost use Rattle.line_forms.specs.Seen.{act_of};
+ghost use Rattle.line_forms.specs.Forms.{act_of};
 
 use crate::leaves::decimal;
 use crate::stop::LineStop;
@@ -60,7 +61,7 @@ impl SpelledAct {
 }
 
 /// A tail that was seen, behind its letter.
-#[tactic(auto, unfolding(crate::specs::Bodies::seen_in))]
+#[tactic(auto, unfolding(crate::specs::Acts::seen_in))]
 fn seen(text: &[u8]) -> Option<SpelledAct>
     ensures { option_map act_of result ≡ says.seen_in text.now }
 {
@@ -84,7 +85,7 @@ fn tool(text: &[u8]) -> Option<SpelledAct>
 }
 
 /// An act: a letter, and its numbers.
-#[tactic(auto, unfolding(crate::specs::Bodies::act_in))]
+#[tactic(auto, unfolding(crate::specs::Acts::act_in))]
 fn spelled(word: &[u8]) -> Option<SpelledAct>
     ensures { option_map act_of result ≡ says.act_in word.now }
 {
@@ -151,7 +152,7 @@ fn keep(kept: &mut Option<Vec<Act>>, spelled: SpelledAct) -> Result<(), LineStop
 
 /// The acts that the words spell.
 pub fn order_acts(alloc: Global, words: Words<'_>) -> Result<Acts<'_>, LineStop>
-    ensures { Gives (λ acts. acts) result (says.each_word says.act_in (left words.entry)) }
+    ensures { Gives (λ acts. acts) result (each_word says.act_in (left words.entry)) }
 {
     let mut kept = Some(Vec::new(alloc));
     let mut rest = words;

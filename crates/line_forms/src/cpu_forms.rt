@@ -3,9 +3,9 @@
 ghost use Rattle.std.specs.Prelude.{◌≡◌};
 ghost use Rattle.std.specs.Option.{option_map};
 ghost use Rattle.line_forms.specs.Words.{left};
-ghost use Rattle.line_forms.specs.Bodies as says;
+ghost use Rattle.line_forms.specs.CpuForms as says;
 ghost use Rattle.line_forms.specs.Stop.{Gives};
-ghost use Rattle.line_forms.specs.Seen.{cpu_form_of};
+ghost use Rattle.line_forms.specs.Forms.{cpu_form_of};
 
 use crate::forms::{CpuForm, Working};
 use crate::leaves::{decimal_at, decimal_or, hexadecimal_if, same};
@@ -16,7 +16,7 @@ use crate::words::Words;
 use perf_base::Mode;
 use std::alloc::Global;
 
-#[tactic(auto, unfolding(crate::specs::Bodies::switch_at))]
+#[tactic(auto, unfolding(crate::specs::CpuForms::switch_at))]
 pub fn switch(words: Words<'_>) -> Option<CpuForm>
     ensures { option_map cpu_form_of result ≡ says.switch_at (left words.entry) }
 {
@@ -39,7 +39,7 @@ fn mode(word: &[u8]) -> Option<Mode>
 }
 
 /// The length, the mode and the ip of a work line.
-#[tactic(auto, unfolding(crate::specs::Bodies::stretch_at))]
+#[tactic(auto, unfolding(crate::specs::CpuForms::stretch_at))]
 fn stretch(words: Words<'_>) -> Option<((u128, Mode, Option<u128>), Words<'_>)>
     ensures { option_map (λ x. (x.0, left x.1)) result ≡ says.stretch_at (left words.entry) }
 {
@@ -50,7 +50,7 @@ fn stretch(words: Words<'_>) -> Option<((u128, Mode, Option<u128>), Words<'_>)>
     Some(((length, mode, ip), words))
 }
 
-#[tactic(auto, unfolding(crate::specs::Bodies::work_at))]
+#[tactic(auto, unfolding(crate::specs::CpuForms::work_at))]
 pub fn work(alloc: Global, words: Words<'_>) -> Result<CpuForm, LineStop>
     ensures { Gives cpu_form_of result (says.work_at (left words.entry)) }
 {

@@ -6,7 +6,7 @@
 
 mod acts;
 mod cpu_forms;
-mod declared;
+mod declarations;
 mod forms;
 mod keyword;
 mod leaves;

@@ -4,10 +4,10 @@ ghost use Rattle.std.specs.Prelude.{◌≡◌, ℕ, ◌≤◌, ◌+◌, List, ma
 ghost use Rattle.std.specs.Option.{option_map};
 ghost use Rattle.script_spec.specs.Forms.{AreBytes, byte_text};
 ghost use Rattle.line_forms.specs.Words.{left};
-ghost use Rattle.line_forms.specs.Bodies as says;
-ghost use Rattle.line_forms.specs.Bodies.{each_word, hit_in};
+ghost use Rattle.line_forms.specs.Lists as says;
+ghost use Rattle.line_forms.specs.Lists.{each_word, hit_in};
 ghost use Rattle.line_forms.specs.Stop.{Gives};
-ghost use Rattle.line_forms.specs.Seen.{hit_of};
+ghost use Rattle.line_forms.specs.Forms.{hit_of};
 
 use crate::forms::Hit;
 use crate::leaves::{HEXADECIMAL, are_digits, decimal, digit, name};
@@ -16,7 +16,7 @@ use crate::words::{Words, cut};
 use std::alloc::Global;
 
 /// How often a kind occurs: its name and a number, an equals sign between them.
-#[tactic(auto, unfolding(crate::specs::Bodies::hit_in))]
+#[tactic(auto, unfolding(crate::specs::Lists::hit_in))]
 fn hit(word: &[u8]) -> Option<Hit>
     ensures { option_map hit_of result ≡ hit_in word.now }
 {
@@ -79,7 +79,7 @@ fn put_pairs(text: &[u8], room: &mut [u8; MOST_BYTES]) -> usize
 }
 
 /// Puts the bytes that a text says into the front of the room, and answers how many.
-#[tactic(auto, unfolding(crate::specs::Bodies::bytes_in))]
+#[tactic(auto, unfolding(crate::specs::Lists::bytes_in))]
 fn put_bytes(text: &[u8], room: &mut [u8; MOST_BYTES]) -> Option<usize>
     ensures within { IfSome result (λ n. n ≤ 4096) }
     ensures bytes { option_map (λ n. take n room.new) result ≡ says.bytes_in text.now }

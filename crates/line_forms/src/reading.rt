@@ -8,11 +8,11 @@ ghost use Rattle.script_spec.specs.Forms.{IsOfForm};
 ghost use Rattle.line_forms.specs.Words.{left};
 ghost use Rattle.line_forms.specs.Stop.{Gives};
 ghost use Rattle.line_forms.specs.Reading.{body_at, form_at};
-ghost use Rattle.line_forms.specs.Seen.{form_of, version_of, cpu_form_of, tool_form_of};
+ghost use Rattle.line_forms.specs.Forms.{form_of, version_of, cpu_form_of, tool_form_of};
 
 use crate::acts::order_acts;
 use crate::cpu_forms::{exit, fork, switch, tick, work};
-use crate::declared::{
+use crate::declarations::{
     end, kind, kind_of_pmu, machine, machine_of_pmus, perf, pmu, processor, reader, ring, task,
     tool,
 };

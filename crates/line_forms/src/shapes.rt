@@ -2,7 +2,7 @@
 
 ghost use Rattle.std.specs.Prelude.{◌≡◌};
 ghost use Rattle.line_forms.specs.Words.{left};
-ghost use Rattle.line_forms.specs.Bodies as says;
+ghost use Rattle.line_forms.specs.Shapes as says;
 
 use crate::leaves::{decimal_at, word_if};
 use crate::words::Words;
@@ -16,7 +16,7 @@ pub fn at_end<T: Drop>(words: Words<'_>, form: T) -> Option<T>
 }
 
 /// One number, and no word behind it.
-#[tactic(auto, unfolding(crate::specs::Bodies::one_number))]
+#[tactic(auto, unfolding(crate::specs::Shapes::one_number))]
 pub fn one_number(words: Words<'_>) -> Option<u128>
     ensures { result ≡ says.one_number (left words.entry) }
 {
@@ -26,7 +26,7 @@ pub fn one_number(words: Words<'_>) -> Option<u128>
 }
 
 /// Two numbers, and no word behind them.
-#[tactic(auto, unfolding(crate::specs::Bodies::two_numbers))]
+#[tactic(auto, unfolding(crate::specs::Shapes::two_numbers))]
 pub fn two_numbers(words: Words<'_>) -> Option<(u128, u128)>
     ensures { result ≡ says.two_numbers (left words.entry) }
 {
@@ -37,7 +37,7 @@ pub fn two_numbers(words: Words<'_>) -> Option<(u128, u128)>
 }
 
 /// A slot, and whether its group is meant.
-#[tactic(auto, unfolding(crate::specs::Bodies::slot_and_group))]
+#[tactic(auto, unfolding(crate::specs::Shapes::slot_and_group))]
 pub fn slot_and_group(words: Words<'_>) -> Option<(u128, bool)>
     ensures { result ≡ says.slot_and_group (left words.entry) }
 {

@@ -3,9 +3,9 @@
 ghost use Rattle.std.specs.Prelude.{◌≡◌};
 ghost use Rattle.std.specs.Option.{option_map};
 ghost use Rattle.line_forms.specs.Words.{left};
-ghost use Rattle.line_forms.specs.Bodies as says;
+ghost use Rattle.line_forms.specs.ToolForms as says;
 ghost use Rattle.line_forms.specs.Stop.{Gives};
-ghost use Rattle.line_forms.specs.Seen.{tool_form_of, opening_of, asked_of};
+ghost use Rattle.line_forms.specs.Forms.{tool_form_of, opening_of, asked_of};
 
 use crate::forms::{Asked, Opening, ToolForm};
 use crate::leaves::{decimal_at, decimal_if, decimal_or, flags_if, hexadecimal_if, name_at};
@@ -16,7 +16,7 @@ use crate::words::{Words, skip};
 use std::alloc::Global;
 
 /// Where an event is opened, behind the word of its kind.
-#[tactic(auto, unfolding(crate::specs::Bodies::place_at))]
+#[tactic(auto, unfolding(crate::specs::ToolForms::place_at))]
 fn place(slot: u128, words: Words<'_>) -> Option<(Opening, Words<'_>)>
     ensures { option_map (λ x. (opening_of x.0, left x.1)) result ≡ says.place_at slot (left words.entry) }
 {
@@ -33,7 +33,7 @@ fn place(slot: u128, words: Words<'_>) -> Option<(Opening, Words<'_>)>
 }
 
 /// What is asked of an event, in the last words of its line.
-#[tactic(auto, unfolding(crate::specs::Bodies::asked_at))]
+#[tactic(auto, unfolding(crate::specs::ToolForms::asked_at))]
 fn asked(words: Words<'_>) -> Option<Asked>
     ensures { option_map asked_of result ≡ says.asked_at (left words.entry) }
 {
@@ -51,7 +51,7 @@ fn asked(words: Words<'_>) -> Option<Asked>
 }
 
 /// An open by a kind's name.
-#[tactic(auto, unfolding(crate::specs::Bodies::open_kind_at))]
+#[tactic(auto, unfolding(crate::specs::ToolForms::open_kind_at))]
 fn open_kind(words: Words<'_>) -> Option<ToolForm>
     ensures { option_map tool_form_of result ≡ says.open_kind_at (left words.entry) }
 {
@@ -65,7 +65,7 @@ fn open_kind(words: Words<'_>) -> Option<ToolForm>
 }
 
 /// Where an event is opened by bytes, and their digits.
-#[tactic(auto, unfolding(crate::specs::Bodies::attr_place_at))]
+#[tactic(auto, unfolding(crate::specs::ToolForms::attr_place_at))]
 fn attr_place(words: Words<'_>) -> Option<(Opening, &[u8])>
     ensures { option_map (λ x. (opening_of x.0, x.1.now)) result ≡ says.attr_place_at (left words.entry) }
 {
@@ -78,7 +78,7 @@ fn attr_place(words: Words<'_>) -> Option<(Opening, &[u8])>
 }
 
 /// An open by bytes.
-#[tactic(auto, unfolding(crate::specs::Bodies::open_attr_at))]
+#[tactic(auto, unfolding(crate::specs::ToolForms::open_attr_at))]
 fn open_attr(alloc: Global, words: Words<'_>) -> Result<ToolForm, LineStop>
     ensures { Gives tool_form_of result (says.open_attr_at (left words.entry)) }
 {
@@ -125,7 +125,7 @@ pub fn period(words: Words<'_>) -> Option<ToolForm>
     Some(ToolForm::Period { slot, period })
 }
 
-#[tactic(auto, unfolding(crate::specs::Bodies::read_at))]
+#[tactic(auto, unfolding(crate::specs::ToolForms::read_at))]
 pub fn read(words: Words<'_>) -> Option<ToolForm>
     ensures { option_map tool_form_of result ≡ says.read_at (left words.entry) }
 {

@@ -40,7 +40,7 @@ none_counted test s (a ∷ order) h all =
     let n : count_by test order ≡ 0 = none_counted test s order h (All-tail (IsAct s) a order all) in
     rw f (omega (arith, n))
 
--- The counts of the acts of each of so many are those of the lines of each exactly where each has as many acts as lines.
+-- Counts are those of the lines of each exactly where each has as many acts as lines.
 counts_iff : {X : Type 0} (lists : List (List X)) (counts : List ℕ) (done : ℕ → ℕ) (n : ℕ) → length lists ≡ n → length counts ≡ n → ((m : ℕ) → m < n → get_or counts m 0 ≡ done m) → ((m : ℕ) → n ≤ m → done m ≡ 0)
     → (counts ≡ map length lists) ↔ ((m : ℕ) → done m ≡ length (get_or lists m []))
 counts_iff lists counts done n many counted is past = (each, λ all. ext_get_or 0 counts (map length lists) (counted ∙ sym (length-map lists length ∙ many)) (λ m l. is m (omega (arith, l, counted)) ∙ (all m ∙ sym (of_map m (omega (arith, l, counted, many))))))

@@ -16,7 +16,7 @@ use Rattle.script_spec.specs.Faults.{IsInOrder, IsPrintable, IsNoEnd, IsFaulty, 
 use Rattle.script_spec.specs.Meaning.{pmus_in, script_of}
 use Rattle.script_spec.specs.Texts.{version_of, AreSound, IsRefused}
 use Rattle.line_forms.specs.Reading.{form_at, body_at}
-use Rattle.line_forms.specs.Bodies.{perf_at, machine_at, kind_at}
+use Rattle.line_forms.specs.Declarations.{perf_at, machine_at, kind_at}
 use Rattle.line_forms.specs.Leaves.{number, number_at, name, name_at}
 use Rattle.line_forms.specs.Words.{strip}
 use Rattle.line_forms.proofs.Laws.{form-takes, form-again, one_form}

@@ -5,7 +5,7 @@ use Rattle.std.proofs.lemmas.List.Elements.{All-map}
 use Rattle.perf_base.specs.declared.lines.KindLine.{KindLine}
 use Rattle.script_spec.specs.Forms as form
 use Rattle.line_forms.specs.declared.forms.Hit.{Hit}
-use Rattle.line_forms.specs.Seen.{hit_of}
+use Rattle.line_forms.specs.Forms.{hit_of}
 use Rattle.script_read.specs.Names.{AreKindsIn}
 use Rattle.script_read.proofs.Ranges.{un_map}
 use Rattle.script_read.proofs.Called.{apart_map}

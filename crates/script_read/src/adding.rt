@@ -8,7 +8,7 @@ ghost use Rattle.perf_base.specs.Scripts.{IsScript, IsAct};
 ghost use Rattle.script_spec.specs.Acts.{IsActInRange};
 ghost use Rattle.script_spec.specs.Forms as text;
 ghost use Rattle.script_spec.specs.Forms.{IsWord, IsSpelling, IsCpuSpelling, IsToolSpelling};
-ghost use Rattle.line_forms.specs.Seen.{form_of, cpu_form_of, tool_form_of};
+ghost use Rattle.line_forms.specs.Forms.{form_of, cpu_form_of, tool_form_of};
 ghost use Rattle.script_read.specs.State.{part_of};
 ghost use Rattle.script_read.specs.Adding.{Asks, IsFirst, IsSoundState, IsAdded, IsTakenBy, Refuses};
 ghost use Rattle.script_read.specs.Fault.{Blames};

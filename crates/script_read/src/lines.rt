@@ -8,7 +8,7 @@ ghost use Rattle.script_spec.specs.Forms as text;
 ghost use Rattle.script_spec.specs.Forms.{IsWorking, IsAsked, IsCpuSpelling, IsToolSpelling};
 ghost use Rattle.script_spec.specs.Faults.{IsAmount, IsSlotNumber};
 ghost use Rattle.script_spec.specs.Meaning as says;
-ghost use Rattle.line_forms.specs.Seen.{hit_of, working_of, cpu_form_of, opening_of, asked_of, tool_form_of};
+ghost use Rattle.line_forms.specs.Forms.{hit_of, working_of, cpu_form_of, opening_of, asked_of, tool_form_of};
 ghost use Rattle.script_read.specs.Lines.{MakesCpuLine, RefusesCpuForm, MakesToolLine, RefusesToolForm};
 
 use crate::names::{are_kinds, declared_ring, kind_named, kind_of_raw, raw_of, same_name};

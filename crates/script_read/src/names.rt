@@ -7,7 +7,7 @@ ghost use Rattle.attr_bytes.specs.Standing.{StandsFor, IsClass};
 ghost use Rattle.attr_bytes.specs.Faults.{fault_of};
 ghost use Rattle.script_spec.specs.Acts.{IsActInRange};
 ghost use Rattle.script_spec.specs.Meaning as says;
-ghost use Rattle.line_forms.specs.Seen.{hit_of};
+ghost use Rattle.line_forms.specs.Forms.{hit_of};
 ghost use Rattle.script_read.specs.Names.{IsNewIn, AreKindsIn};
 
 use attr_bytes::{RawAttr, kind_of, read_attr};

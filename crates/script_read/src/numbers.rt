@@ -6,7 +6,7 @@ ghost use Rattle.perf_base.specs.Masks.{IsMask};
 ghost use Rattle.perf_base.specs.Scripts.{IsScript, IsMaskOf, IsRingSize};
 ghost use Rattle.script_spec.specs.Faults.{IsBetween, IsWide, IsTaskNumber, IsSlotNumber, IsAmount, IsOpeningInRange};
 ghost use Rattle.script_spec.specs.Meaning as says;
-ghost use Rattle.line_forms.specs.Seen.{hit_of, opening_of};
+ghost use Rattle.line_forms.specs.Forms.{hit_of, opening_of};
 ghost use Rattle.script_read.specs.Numbers.{place_of, IsNextTask, IsNextRing, IsNextReader, IsFreeMask};
 
 use line_forms::{Hit, Opening};

@@ -1,7 +1,7 @@
 //! Whether a form may stand behind the lines so far.
 
 ghost use Rattle.std.specs.Prelude.{◌↔◌, IsTrue};
-ghost use Rattle.line_forms.specs.Seen.{form_of};
+ghost use Rattle.line_forms.specs.Forms.{form_of};
 ghost use Rattle.script_read.specs.Place.{IsCoveredOf, IsInOrderOf, IsReachedOf};
 
 use crate::state::{State, section_of};

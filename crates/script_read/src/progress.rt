@@ -3,7 +3,7 @@
 ghost use Rattle.std.specs.Prelude.{◌≡◌, ◌-◌, ◌^◌, ◌≤◌, ◌↔◌, IsTrue, IfOk, IfErr, All, List, [], ◌∷◌};
 ghost use Rattle.script_spec.specs.Forms as text;
 ghost use Rattle.script_spec.specs.Faults.{IsPrintable, IsBetween, IsFaulty};
-ghost use Rattle.line_forms.specs.Seen.{form_of, version_of};
+ghost use Rattle.line_forms.specs.Forms.{form_of, version_of};
 ghost use Rattle.script_read.specs.State.{Follows};
 ghost use Rattle.script_read.specs.Progress.{Behind, IsTaken, IsFirstOf, ended_of, IsTakenLine};
 ghost use Rattle.script_read.specs.Fault.{Blames};

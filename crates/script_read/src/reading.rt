@@ -9,7 +9,7 @@ ghost use Rattle.perf_base.specs.declared.reasons.SReason.TheVariants.{End};
 ghost use Rattle.script_spec.specs.Lines.{lines_of};
 ghost use Rattle.script_spec.specs.Texts as text_version;
 ghost use Rattle.script_spec.specs.Texts.{StandsFor, IsRefused};
-ghost use Rattle.line_forms.specs.Seen as seen;
+ghost use Rattle.line_forms.specs.Forms as seen;
 ghost use Rattle.script_read.specs.declared.fault.ScriptFault.TheVariants.{Bad, NoMemory};
 ghost use Rattle.script_read.specs.Reading.{IsNextLine, HasNoLine, IsFinished, IsUnfinished, IsBlamed, blamed_of};
 

@@ -1,7 +1,7 @@
 //! What the lines so far say.
 
 ghost use Rattle.std.specs.Prelude.{◌≡◌};
-ghost use Rattle.line_forms.specs.Seen.{form_of};
+ghost use Rattle.line_forms.specs.Forms.{form_of};
 ghost use Rattle.script_read.specs.State.{rank_of, part_of};
 
 use line_forms::Form;

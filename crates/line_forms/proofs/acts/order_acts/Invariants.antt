@@ -2,7 +2,8 @@ use Rattle.std.proofs.Common.{◌≡◌, List, length}
 use Rattle.std.specs.Option.{option_map}
 use Rattle.perf_base.specs.declared.acts.Act.{Act}
 use Rattle.line_forms.specs.Words.{left}
-use Rattle.line_forms.specs.Bodies.{each_word, act_in}
+use Rattle.line_forms.specs.Lists.{each_word}
+use Rattle.line_forms.specs.Acts.{act_in}
 use Rattle.line_forms.specs.Acts.{AreKept}
 use Rattle.line_forms.proofs.Loops.{with_front}
 use Rattle.line_forms.proofs.acts.order_acts.Given as goal

@@ -2,8 +2,8 @@ use Rattle.std.proofs.Common.{ap, sym, ◌∙◌}
 use Rattle.std.specs.Option.{option_map}
 use Rattle.std.proofs.lemmas.List.{map_push}
 use Rattle.std.proofs.lemmas.Result.{err_from_is_err_and}
-use Rattle.line_forms.specs.Seen.{hit_of}
-use Rattle.line_forms.specs.Bodies.{hit_in}
+use Rattle.line_forms.specs.Forms.{hit_of}
+use Rattle.line_forms.specs.Lists.{hit_in}
 use Rattle.line_forms.proofs.Loops.{each_step, each_fail, each_end}
 use Rattle.line_forms.proofs.lists.hits.Goals as goal
 

@@ -1,7 +1,7 @@
 use Rattle.std.proofs.Common.{◌≡◌, length, map}
 use Rattle.line_forms.specs.Words.{left}
-use Rattle.line_forms.specs.Bodies.{each_word, hit_in}
-use Rattle.line_forms.specs.Seen.{hit_of}
+use Rattle.line_forms.specs.Lists.{each_word, hit_in}
+use Rattle.line_forms.specs.Forms.{hit_of}
 use Rattle.line_forms.proofs.Loops.{with_front}
 use Rattle.line_forms.proofs.lists.hits.Given as goal
 

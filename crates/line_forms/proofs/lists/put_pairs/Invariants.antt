@@ -1,5 +1,5 @@
 use Rattle.std.proofs.Common.{◌≡◌, ◌+◌, ◌*◌, ◌++◌, length, take}
-use Rattle.line_forms.specs.Bodies.{pairs_in}
+use Rattle.line_forms.specs.Lists.{pairs_in}
 use Rattle.line_forms.proofs.lists.put_pairs.Given as goal
 
 abbrev pub invariant-loop-rest : goal.invariant-loop-rest

@@ -1,5 +1,5 @@
 use Rattle.std.proofs.Common.{ap, ◌∙◌}
-use Rattle.line_forms.specs.Bodies.{bytes_in}
+use Rattle.line_forms.specs.Lists.{bytes_in}
 use Rattle.line_forms.proofs.Sequences.{bytes_in_room, bytes-again}
 use Rattle.line_forms.proofs.lists.read_bytes.Goals as goal
 

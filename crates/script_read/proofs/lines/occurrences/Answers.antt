@@ -1,6 +1,6 @@
 use Rattle.std.proofs.Common.{arith, map}
 use Rattle.script_spec.specs.Meaning.{times_of}
-use Rattle.line_forms.specs.Seen.{hit_of}
+use Rattle.line_forms.specs.Forms.{hit_of}
 use Rattle.script_read.proofs.Made.{one_more_kind}
 use Rattle.script_read.proofs.lines.occurrences.Goals as goal
 

@@ -1,5 +1,5 @@
 use Rattle.std.proofs.Common.{refl}
-use Rattle.line_forms.specs.Seen.{opening_of}
+use Rattle.line_forms.specs.Forms.{opening_of}
 use Rattle.script_read.proofs.Made.{kind_by_bytes, opened_by_bytes}
 use Rattle.script_read.proofs.lines.open_attr.Goals as goal
 

@@ -1,6 +1,6 @@
 use Rattle.std.proofs.Common.{◌≡◌, drop, map}
 use Rattle.script_spec.specs.Meaning.{times_of}
-use Rattle.line_forms.specs.Seen.{hit_of}
+use Rattle.line_forms.specs.Forms.{hit_of}
 use Rattle.script_read.proofs.lines.times_of.Given as goal
 
 abbrev pub invariant-loop-hit : goal.invariant-loop-hit

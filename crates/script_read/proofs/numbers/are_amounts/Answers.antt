@@ -1,5 +1,5 @@
 use Rattle.std.proofs.Common.{◌≤◌}
-use Rattle.line_forms.specs.Seen.{hit_of}
+use Rattle.line_forms.specs.Forms.{hit_of}
 use Rattle.script_read.proofs.Ranges.{All_map_iff}
 use Rattle.script_read.proofs.numbers.are_amounts.Goals as goal
 

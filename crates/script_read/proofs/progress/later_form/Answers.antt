@@ -1,6 +1,6 @@
 use Rattle.std.proofs.lemmas.Result.{err_from_is_err_and}
 use Rattle.perf_base.specs.declared.reasons.SReason.TheVariants as reason
-use Rattle.line_forms.specs.Seen.{form_of}
+use Rattle.line_forms.specs.Forms.{form_of}
 use Rattle.script_read.proofs.Beginning.{sound_state}
 use Rattle.script_read.proofs.Lifting.{asks_iff, blames_more}
 use Rattle.script_read.proofs.Following.{follows_more}

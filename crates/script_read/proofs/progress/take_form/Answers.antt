@@ -1,4 +1,4 @@
-use Rattle.line_forms.specs.Seen.{form_of}
+use Rattle.line_forms.specs.Forms.{form_of}
 use Rattle.script_read.proofs.Lined.{version_ok, version_bad}
 use Rattle.script_read.proofs.progress.take_form.Goals as goal
 

@@ -1,5 +1,5 @@
 use Rattle.std.proofs.Common.{◌≡◌, ◌∙◌, sym, false}
-use Rattle.line_forms.specs.Seen.{form_of, version_of}
+use Rattle.line_forms.specs.Forms.{form_of, version_of}
 use Rattle.script_read.specs.Progress.{ended_of}
 use Rattle.script_read.proofs.Beginning.{ended_false, ascii_faulty}
 use Rattle.script_read.proofs.Lined.{line_ok, line_bad}

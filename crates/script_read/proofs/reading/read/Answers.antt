@@ -1,4 +1,4 @@
-use Rattle.line_forms.specs.Seen.{version_of}
+use Rattle.line_forms.specs.Forms.{version_of}
 use Rattle.script_read.proofs.Whole.{reading_more, line_blamed}
 use Rattle.script_read.proofs.reading.read.Goals as goal
 

@@ -1,4 +1,4 @@
-use Rattle.line_forms.specs.Seen.{cpu_form_of}
+use Rattle.line_forms.specs.Forms.{cpu_form_of}
 use Rattle.script_read.proofs.Fits.{cpu_line_fits}
 use Rattle.script_read.proofs.state.State.on_processor.Goals as goal
 

@@ -4,8 +4,8 @@ ghost use Rattle.std.specs.Prelude.{◌≡◌};
 ghost use Rattle.std.specs.Option.{option_map};
 ghost use Rattle.script_spec.specs.Forms as text;
 ghost use Rattle.line_forms.specs.Words.{left};
-ghost use Rattle.line_forms.specs.Bodies as says;
-ghost use Rattle.line_forms.specs.Seen.{form_of, version_of};
+ghost use Rattle.line_forms.specs.Declarations as says;
+ghost use Rattle.line_forms.specs.Forms.{form_of, version_of};
 
 use crate::forms::{Form, Version};
 use crate::leaves::{decimal_at, hexadecimal_at, name_at, same};
@@ -21,7 +21,7 @@ fn version_text(version: Version) -> &'static [u8]
     }
 }
 
-#[tactic(auto, unfolding(crate::specs::Bodies::perf_at))]
+#[tactic(auto, unfolding(crate::specs::Declarations::perf_at))]
 pub fn perf(version: Version, words: Words<'_>) -> Option<Form<'_>>
     ensures { option_map form_of result ≡ says.perf_at (version_of version) (left words.entry) }
 {
@@ -34,7 +34,7 @@ pub fn perf(version: Version, words: Words<'_>) -> Option<Form<'_>>
     }
 }
 
-#[tactic(auto, unfolding(crate::specs::Bodies::machine_at))]
+#[tactic(auto, unfolding(crate::specs::Declarations::machine_at))]
 pub fn machine(words: Words<'_>) -> Option<Form<'_>>
     ensures { option_map form_of result ≡ says.machine_at (left words.entry) }
 {
@@ -44,7 +44,7 @@ pub fn machine(words: Words<'_>) -> Option<Form<'_>>
     Some(Form::Machine { cpus, counters })
 }
 
-#[tactic(auto, unfolding(crate::specs::Bodies::machine_of_pmus_at))]
+#[tactic(auto, unfolding(crate::specs::Declarations::machine_of_pmus_at))]
 pub fn machine_of_pmus(words: Words<'_>) -> Option<Form<'_>>
     ensures { option_map form_of result ≡ says.machine_of_pmus_at (left words.entry) }
 {
@@ -53,7 +53,7 @@ pub fn machine_of_pmus(words: Words<'_>) -> Option<Form<'_>>
     Some(Form::MachineOfPmus { cpus })
 }
 
-#[tactic(auto, unfolding(crate::specs::Bodies::pmu_at))]
+#[tactic(auto, unfolding(crate::specs::Declarations::pmu_at))]
 pub fn pmu(words: Words<'_>) -> Option<Form<'_>>
     ensures { option_map form_of result ≡ says.pmu_at (left words.entry) }
 {
@@ -68,7 +68,7 @@ pub fn pmu(words: Words<'_>) -> Option<Form<'_>>
     })
 }
 
-#[tactic(auto, unfolding(crate::specs::Bodies::kind_at))]
+#[tactic(auto, unfolding(crate::specs::Declarations::kind_at))]
 pub fn kind(words: Words<'_>) -> Option<Form<'_>>
     ensures { option_map form_of result ≡ says.kind_at (left words.entry) }
 {
@@ -80,7 +80,7 @@ pub fn kind(words: Words<'_>) -> Option<Form<'_>>
     Some(Form::Kind { name, mask })
 }
 
-#[tactic(auto, unfolding(crate::specs::Bodies::kind_of_pmu_at))]
+#[tactic(auto, unfolding(crate::specs::Declarations::kind_of_pmu_at))]
 pub fn kind_of_pmu(words: Words<'_>) -> Option<Form<'_>>
     ensures { option_map form_of result ≡ says.kind_of_pmu_at (left words.entry) }
 {
@@ -100,7 +100,7 @@ pub fn task(words: Words<'_>) -> Option<Form<'_>>
     Some(Form::Task { number })
 }
 
-#[tactic(auto, unfolding(crate::specs::Bodies::ring_at))]
+#[tactic(auto, unfolding(crate::specs::Declarations::ring_at))]
 pub fn ring(words: Words<'_>) -> Option<Form<'_>>
     ensures { option_map form_of result ≡ says.ring_at (left words.entry) }
 {
@@ -124,7 +124,7 @@ pub fn tool(words: Words<'_>) -> Option<Form<'_>>
     Some(Form::Tool { number })
 }
 
-#[tactic(auto, unfolding(crate::specs::Bodies::reader_at))]
+#[tactic(auto, unfolding(crate::specs::Declarations::reader_at))]
 pub fn reader(words: Words<'_>) -> Option<Form<'_>>
     ensures { option_map form_of result ≡ says.reader_at (left words.entry) }
 {

@@ -1,0 +1,33 @@
+-- What words that hold lists give: occurrences, and bytes.
+use Rattle.std.specs.Prelude.{ℕ, ◌+◌, ◌*◌, ◌%◌, Bool, ◌==◌, ◌&&◌, nat_lt, nat_le, List, [], ◌∷◌, length, Option, Some, None, if◌then◌else◌}
+use Rattle.std.specs.List.{list_all}
+use Rattle.script_spec.specs.Forms.{Hit}
+use Rattle.line_forms.specs.Words.{◌>>=◌, cut}
+use Rattle.line_forms.specs.Leaves.{digit_of, number, name}
+
+-- what each word gives, where each gives something
+unfoldable pub each_word : {A : Type 0} → (List ℕ → Option A) → List (List ℕ) → Option (List A)
+each_word f [] = Some []
+each_word f (word ∷ words) = f word >>= λ x. each_word f words >>= λ xs. Some (x ∷ xs)
+
+unfoldable pub hit_in : List ℕ → Option Hit
+hit_in word = do
+  text ← (cut 61 word).1
+  n ← name (cut 61 word).0
+  times ← number 10 20 text
+  Some (record { name = n; times = times })
+
+-- bytes, each as two hexadecimal digits
+abbrev pub is_bytes : List ℕ → Bool
+is_bytes text = nat_lt 0 (length text) && (nat_le (length text) 8192 && (length text % 2 == 0 && list_all (λ b. nat_lt (digit_of b) 16) text))
+
+abbrev pub pair_of : ℕ → ℕ → ℕ
+pair_of high low = (digit_of high * 16 % 256 + digit_of low) % 256
+
+unfoldable pub pairs_in : List ℕ → List ℕ
+pairs_in [] = []
+pairs_in (high ∷ []) = []
+pairs_in (high ∷ low ∷ rest) = pair_of high low ∷ pairs_in rest
+
+unfoldable pub bytes_in : List ℕ → Option (List ℕ)
+bytes_in text = if is_bytes text then Some (pairs_in text) else None
