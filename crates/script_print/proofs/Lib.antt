@@ -7,6 +7,7 @@ pub mod LineForms
 pub mod Lists
 pub mod Loops
 pub mod Masks
+pub mod Numbered
 pub mod Plain
 pub mod Run
 pub mod Sections
