@@ -47,7 +47,7 @@ fn push_all(text: &mut ShortList<u8, ROOM>, bytes: &[u8])
     }
 }
 
-/// The bytes of the list without so many at its front.
+/// The bytes of the list without the first `count`.
 fn rest_of(room: &ShortList<u8, ROOM>, count: usize) -> ShortList<u8, ROOM>
     requires count { count ≤ length room.now }
     requires fits { length room.now ≤ 4096 }

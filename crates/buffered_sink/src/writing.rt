@@ -18,7 +18,8 @@ pub trait Written {
         ensures flushed { K.flushed sink.new ≡ K.flushed sink.old };
 }
 
-/// Writes the text through the buffered sink, and sends all that waits. Where a call of the sink fails, some front of the text was sent.
+/// Writes the text through the buffered sink, and sends all that waits. Where a call of the sink fails, some front of
+/// the text was sent.
 fn write_and_send<K: Sink, B: Behind, W: Written>(
     buffered: &mut BufferedSink<'_, K, B>,
     text: &W,
@@ -49,8 +50,8 @@ fn write_behind<'a, K: Sink, B: Behind, W: Written>(
     (buffered.into_inner(), answer)
 }
 
-/// Writes the text. However small the pieces are in which it comes, the sink is given 4,096 bytes at a call, and what is left at the end. It takes no
-/// memory. Where a call of the sink fails, some front of the text stays added.
+/// Writes the text. However small the pieces are in which it comes, the sink is given 4,096 bytes at a call, and what
+/// is left at the end. It takes no memory. Where a call of the sink fails, some front of the text stays added.
 pub fn write_buffered<K: Sink, W: Written>(sink: &mut K, text: &W) -> Result<(), Failed>
     ensures wrote { Wrote K.held K.faults K.last_fault sink.old sink.new result (W.text text.now) }
     ensures flushed { K.flushed sink.new ≡ K.flushed sink.old }

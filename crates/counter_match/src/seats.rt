@@ -33,7 +33,7 @@ impl Model for Seats {
 }
 
 impl Seats {
-    /// No events, on so many counters.
+    /// No events yet, on a number of counters.
     pub fn new(counters: u8) -> Self
         requires some { 0 < counters }
         requires most { counters ≤ 16 }

@@ -246,7 +246,7 @@ fn mask_by(counters: u8, number: usize) -> u32
     }
 }
 
-/// The list of so many masks whose numbers are the digits of a number.
+/// The list of `count` masks whose numbers are the digits of a number.
 fn masks_by(
     alloc: Global,
     counters: u8,

@@ -22,7 +22,8 @@ use perf_world::World;
 use sched_rules::{Facts, may_go};
 use std::sync::ledger::Ledger;
 
-/// What the groups that were judged leave to the rules for the next one. Groups are named by the slot of their leader's original.
+/// What the groups that were judged leave to the rules for the next one. Groups are named by the slot of their leader's
+/// original.
 #[derive(Clone, Copy, PartialEq, Eq, Debug)]
 pub struct SoFar {
     /// The exclusive group that is on, if there is one.
@@ -114,7 +115,8 @@ impl SoFar {
     }
 }
 
-/// Judges an eligible group: a rule that refuses it, or else the counters, on which it goes with those that are there where all fit together.
+/// Judges an eligible group: a rule that refuses it, or else the counters, on which it goes with those that are there
+/// where all fit together.
 fn judge<L: Ledger>(
     world: &mut World,
     cpu: CpuNo,

@@ -1,4 +1,5 @@
-//! The four passes over the groups of a processor: its own pinned groups and then its task's, its own flexible groups and then its task's.
+//! The four passes over the groups of a processor: its own pinned groups and then its task's, its own flexible groups
+//! and then its task's.
 
 ghost use Rattle.std.specs.Prelude.{◌≡◌, ◌+◌, ◌<◌, ◌≤◌, false, [], length, take, flat_map, slice_index_or};
 ghost use Rattle.counter_match.specs.Seating.{empty_seating};
@@ -22,7 +23,8 @@ use perf_base::{Context, CpuNo, Key, Steps};
 use perf_world::World;
 use std::sync::ledger::Ledger;
 
-/// A processor's own context. A machine has at most 8 processors. As a reader it also tells what always holds of a world.
+/// A processor's own context. A machine has at most 8 processors. As a reader it also tells what always holds of a
+/// world.
 pub fn own_context(world: &World, cpu: CpuNo) -> Context
     requires { cpu.0 < length world.now.quiet.running }
     ensures context { result ≡ context.Processor cpu }

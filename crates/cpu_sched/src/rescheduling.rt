@@ -13,9 +13,9 @@ use perf_base::{CpuNo, Steps};
 use perf_world::World;
 use std::sync::ledger::Ledger;
 
-/// Reschedules a processor: takes all groups off its counters and judges those of its own context and of its task's anew, in the order
-/// of the four passes. A pinned group that is refused goes to error with its cause. After ctx_resched of kernel/events/core.c. A step of `tests` is one
-/// test of one counter for one event.
+/// Reschedules a processor: takes all groups off its counters and judges those of its own context and of its task's
+/// anew, in the order of the four passes. A pinned group that is refused goes to error with its cause. After
+/// ctx_resched of kernel/events/core.c. A step of `tests` is one test of one counter for one event.
 pub fn resched<L: Ledger>(world: &mut World, cpu: CpuNo, tests: &mut Steps<L>)
     requires { cpu.0 < length world.old.quiet.running }
     ensures stage { stage_of world.new ≡ settle world.old.hardware cpu (stage_of world.old) }

@@ -42,9 +42,10 @@ fn switch(world: &mut World, event: EventNo, group: bool, to: Switch) -> Result<
     Ok(cpus)
 }
 
-/// Makes an event, or each member of its group, ready, and its copies, after the ioctl ENABLE. An event that was in error is ready again. The answer is
-/// the processors that must be rescheduled: those that reach one of these events or a copy of it. The others stand as they stood. It fails with `NoEvent`
-/// where the event is not open, and then nothing changes.
+/// Makes an event, or each member of its group, ready, and its copies, after the ioctl ENABLE. An event that was in
+/// error is ready again. The answer is the processors that must be rescheduled: those that reach one of these events or
+/// a copy of it. The others stand as they stood. It fails with `NoEvent` where the event is not open, and then nothing
+/// changes.
 pub fn enable(world: &mut World, event: EventNo, group: bool) -> Result<CpuSet, Reason>
     ensures refused { IfErr result (λ reason. closed_refusal (stage_of world.old) event ≡ Some reason) }
     ensures accepted { OnOk result (closed_refusal (stage_of world.old) event ≡ None) }
@@ -59,9 +60,10 @@ pub fn enable(world: &mut World, event: EventNo, group: bool) -> Result<CpuSet, 
     switch(world, event, group, Switch::On)
 }
 
-/// Takes an event, or each member of its group, off, and its copies, after the ioctl DISABLE. An event that was in error is off then. The answer is the
-/// processors that must be rescheduled: those that reach one of these events or a copy of it. The others stand as they stood. It fails with `NoEvent`
-/// where the event is not open, and then nothing changes.
+/// Takes an event, or each member of its group, off, and its copies, after the ioctl DISABLE. An event that was in
+/// error is off then. The answer is the processors that must be rescheduled: those that reach one of these events or a
+/// copy of it. The others stand as they stood. It fails with `NoEvent` where the event is not open, and then nothing
+/// changes.
 pub fn disable(world: &mut World, event: EventNo, group: bool) -> Result<CpuSet, Reason>
     ensures refused { IfErr result (λ reason. closed_refusal (stage_of world.old) event ≡ Some reason) }
     ensures accepted { OnOk result (closed_refusal (stage_of world.old) event ≡ None) }
@@ -76,8 +78,8 @@ pub fn disable(world: &mut World, event: EventNo, group: bool) -> Result<CpuSet,
     switch(world, event, group, Switch::Off)
 }
 
-/// Clears the count of an event, or of each member of its group, and those of its copies, after the ioctl RESET. Times stay, and so do
-/// processors. It fails with `NoEvent` where the event is not open, and then nothing changes.
+/// Clears the count of an event, or of each member of its group, and those of its copies, after the ioctl RESET. Times
+/// stay, and so do processors. It fails with `NoEvent` where the event is not open, and then nothing changes.
 pub fn reset(world: &mut World, event: EventNo, group: bool) -> Result<(), Reason>
     ensures refused { IfErr result (λ reason. closed_refusal (stage_of world.old) event ≡ Some reason) }
     ensures accepted { OnOk result (closed_refusal (stage_of world.old) event ≡ None) }
@@ -98,7 +100,8 @@ fn is_no_period(period: u64) -> bool
     period == 0 || period & HIGHEST_BIT != 0
 }
 
-/// The original of an event that may have a new period: it is open and samples, and the period is neither 0 nor has its highest bit set.
+/// The original of an event that may have a new period: it is open and samples, and the period is neither 0 nor has its
+/// highest bit set.
 fn check_period(world: &World, event: EventNo, period: u64) -> Result<Key, Reason>
     ensures refused { IfErr result (λ reason. period_refusal (stage_of world.now) event period ≡ Some reason) }
     ensures accepted { OnOk result (period_refusal (stage_of world.now) event period ≡ None) }
@@ -120,9 +123,10 @@ fn check_period(world: &World, event: EventNo, period: u64) -> Result<Key, Reaso
     Ok(key)
 }
 
-/// Gives an event another period, in occurrences, of which a whole one is left then, after the ioctl PERIOD. Its copies that are there keep theirs. It
-/// fails with `NoEvent` where the event is not open, with `NotSampling` where it has no period, and with `ZeroPeriod` where the new one is 0 or has its
-/// highest bit set; the first that holds counts, and then nothing changes.
+/// Gives an event another period, in occurrences, of which a whole one is left then, after the ioctl PERIOD. Its copies
+/// that are there keep theirs. It fails with `NoEvent` where the event is not open, with `NotSampling` where it has no
+/// period, and with `ZeroPeriod` where the new one is 0 or has its highest bit set; the first that holds counts, and
+/// then nothing changes.
 pub fn period(world: &mut World, event: EventNo, period: u64) -> Result<(), Reason>
     ensures refused { IfErr result (λ reason. period_refusal (stage_of world.old) event period ≡ Some reason) }
     ensures accepted { OnOk result (period_refusal (stage_of world.old) event period ≡ None) }
@@ -138,9 +142,10 @@ pub fn period(world: &mut World, event: EventNo, period: u64) -> Result<(), Reas
     Ok(())
 }
 
-/// Closes an event: its copies go, and then the event. Where it led a group each sibling is a group of its own then, behind the flexible ones. The answer
-/// is the processors that must be rescheduled: those that reach the event or a copy of it. The others stand as they stood. It fails with `NoEvent` where
-/// the event is not open, and then nothing changes.
+/// Closes an event: its copies go, and then the event. Where it led a group each sibling is a group of its own then,
+/// behind the flexible ones. The answer is the processors that must be rescheduled: those that reach the event or a
+/// copy of it. The others stand as they stood. It fails with `NoEvent` where the event is not open, and then nothing
+/// changes.
 pub fn close(world: &mut World, event: EventNo) -> Result<CpuSet, Reason>
     requires { IsSound world.old.hardware (stage_of world.old) }
     ensures refused { IfErr result (λ reason. closed_refusal (stage_of world.old) event ≡ Some reason) }

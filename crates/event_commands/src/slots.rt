@@ -73,8 +73,8 @@ fn slots_of(world: &World, members: &[Key]) -> Slots
     slots
 }
 
-/// The slots of the events whose families a command reaches: the event that is named, or each member of its group. It fails with `NoEvent` where the
-/// event is not open.
+/// The slots of the events whose families a command reaches: the event that is named, or each member of its group. It
+/// fails with `NoEvent` where the event is not open.
 pub fn targets(world: &World, event: EventNo, group: bool) -> Result<Slots, Reason>
     ensures refused { IfErr result (λ reason. commands.closed_refusal (stage_of world.now) event ≡ Some reason) }
     ensures accepted { OnOk result (commands.closed_refusal (stage_of world.now) event ≡ None) }

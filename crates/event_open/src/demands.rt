@@ -68,8 +68,8 @@ impl Demands {
         }
     }
 
-    /// Whether there are counters for all of them, one for each. The error names the tight set of the shortest beginning that does
-    /// not fit.
+    /// Whether there are counters for all of them, one for each. The error names the tight set of the shortest
+    /// beginning that does not fit.
     pub fn check(&self) -> Result<(), Reason>
         requires { AreDistinct self.now }
         ensures ok { OnOk result (unassignable self.now ≡ None) }
@@ -82,7 +82,8 @@ impl Demands {
     }
 }
 
-/// Puts events on 16 free counters. Where they do not fit, the answer is the tight set of the shortest beginning that does not.
+/// Puts events on 16 free counters. Where they do not fit, the answer is the tight set of the shortest beginning that
+/// does not.
 fn seat_alone<L: Ledger>(events: &[(EventNo, u32)], blank: Blank) -> Result<(), Tight>
     requires name { blank.name ≡ L.name }
     requires parts { blank.parts ≡ L.parts }

@@ -89,9 +89,10 @@ fn inherits_otherwise(world: &World, attr: &Attr, leader: EventNo) -> bool
     }
 }
 
-/// Whether an event may join the group of the leader that is given. The error is the first of these that holds: `NoEvent` where the
-/// leader is not open, `NotLeader` where it is a sibling, `OtherContext` where it names another task or processor, `SiblingFlags`
-/// where the event is to be pinned or exclusive, `Inherit` where one of them is inherited and the other is not.
+/// Whether an event may join the group of the leader that is given. The error is the first of these that holds:
+/// `NoEvent` where the leader is not open, `NotLeader` where it is a sibling, `OtherContext` where it names another
+/// task or processor, `SiblingFlags` where the event is to be pinned or exclusive, `Inherit` where one of them is
+/// inherited and the other is not.
 pub fn check_leader(world: &World, attr: &Attr, leader: Option<EventNo>) -> Result<(), Reason>
     ensures ok { OnOk result (first_of (leader_faults (stage_of world.now) attr.now leader) ≡ None) }
     ensures err { IfErr result (λ reason. first_of (leader_faults (stage_of world.now) attr.now leader) ≡ Some reason) }
@@ -161,8 +162,8 @@ fn group_is_full(world: &World, leader: EventNo) -> bool
     }
 }
 
-/// Whether the group of the leader that is given has room for an event. The error is the first of these that holds: `OtherPmu` where
-/// the event and some member are of different PMUs, `GroupFull` where there are eight members.
+/// Whether the group of the leader that is given has room for an event. The error is the first of these that holds:
+/// `OtherPmu` where the event and some member are of different PMUs, `GroupFull` where there are eight members.
 pub fn check_group(world: &World, attr: &Attr, leader: Option<EventNo>) -> Result<(), Reason>
     requires { IsKind (length world.now.hardware.kind_pmus) attr.now.kind }
     ensures ok { OnOk result (first_of (group_faults world.now.hardware (stage_of world.now) attr.now leader) ≡ None) }

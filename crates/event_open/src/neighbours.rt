@@ -1,4 +1,5 @@
-//! Calls of `open` for which two neighbouring reasons hold, or more: the first of them is the answer. The comments name them all.
+//! Calls of `open` for which two neighbouring reasons hold, or more: the first of them is the answer. The comments name
+//! them all.
 
 use crate::tests::{
     BOTH, CLOCK, CPU_0, CPU_1, CPU_2, DUMMY, EXCLUSIVE, FIRST, FORMAT, FORMATTED, GONE, HIGH, IDLE,
@@ -218,7 +219,8 @@ fn neighbours_of_a_full_group(rt: HostRuntime) -> Result<(), Fail> {
         (5, MOVES, CPU_0, NONE, Some(0), Ok(1)),
         (6, DUMMY, CPU_0, NONE, Some(0), Ok(1)),
         (7, DUMMY, CPU_0, NONE, Some(0), Ok(1)),
-        // GroupFull, and before it each of NotLeader, OtherContext, SiblingFlags, Inherit; at last NoAssignment behind it.
+        // GroupFull, and before it each of NotLeader, OtherContext, SiblingFlags, Inherit; at last NoAssignment behind
+        // it.
         (20, DUMMY, CPU_0, NONE, Some(1), Err(Reason::NotLeader)),
         (20, CLOCK, CPU_1, NONE, Some(0), Err(Reason::OtherContext)),
         (20, SWITCHES, CPU_0, PINNED, Some(0), SIBLING_FLAGS),

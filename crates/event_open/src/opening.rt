@@ -78,17 +78,18 @@ fn leader_of(world: &World, leader: Option<EventNo>) -> Option<Key>
     }
 }
 
-/// Opens an event in a slot, as a group of its own or in the group of a leader. It is an original, stands in the context that its
-/// attribute names, and draws the next id. The answer is the processors that must be rescheduled: those that have this context. The
-/// others stand as they stood.
+/// Opens an event in a slot, as a group of its own or in the group of a leader. It is an original, stands in the
+/// context that its attribute names, and draws the next id. The answer is the processors that must be rescheduled:
+/// those that have this context. The others stand as they stood.
 ///
-/// The error is the first of these that holds, and then nothing changes, and no id is drawn: `Exists` where the slot was used; the
-/// reasons of `check_attr`; `NoDevice` for a hardware kind on a processor of another PMU; `NoTask` for a task that is not there or has
-/// exited; then, where a leader is given, `NoEvent` where it is not open, `NotLeader` where it is a sibling, `OtherContext` where it
-/// names another task or processor, `SiblingFlags` where the event is to be pinned or exclusive, `Inherit` where one of them is
-/// inherited and the other is not, `OtherPmu` where the event and a member of the group are of different PMUs, `GroupFull` where the
-/// group has eight members; and last `NoAssignment` where its hardware members, whatever their states, have no assignment by
-/// themselves, with the tight set.
+/// The error is the first of these that holds, and then nothing changes, and no id is drawn: `Exists` where the slot
+/// was used; the reasons of `check_attr`; `NoDevice` for a hardware kind on a processor of another PMU; `NoTask` for a
+/// task that is not there or has exited; then, where a leader is given, `NoEvent` where it is not open, `NotLeader`
+/// where it is a sibling, `OtherContext` where it names another task or processor, `SiblingFlags` where the event is to
+/// be pinned or exclusive, `Inherit` where one of them is inherited and the other is not, `OtherPmu` where the event
+/// and a member of the group are of different PMUs, `GroupFull` where the group has eight members; and last
+/// `NoAssignment` where its hardware members, whatever their states, have no assignment by themselves, with the tight
+/// set.
 pub fn open(
     world: &mut World,
     event: EventNo,

@@ -39,8 +39,8 @@ fn names_no_task(world: &World, attr: &Attr) -> bool
     }
 }
 
-/// Whether an event may count where its attribute says. The error is the first of these that holds: `NoDevice` for a hardware kind
-/// on a processor of another PMU, `NoTask` for a task that is not there or has exited.
+/// Whether an event may count where its attribute says. The error is the first of these that holds: `NoDevice` for a
+/// hardware kind on a processor of another PMU, `NoTask` for a task that is not there or has exited.
 pub fn check_place(world: &World, attr: &Attr) -> Result<(), Reason>
     requires { IsAttr (length world.now.quiet.running) (length world.now.hardware.kind_pmus) attr.now }
     ensures ok { OnOk result (first_of (place_faults world.now.hardware (stage_of world.now) attr.now) ≡ None) }

@@ -15,8 +15,8 @@ use stage_spec::TaskState;
 use std::alloc::Global;
 use std::test::Fail;
 
-/// What is counted, and the period, sample and format bits. Both counters of the first PMU can count the first, its first counter
-/// alone can count the second, and the counter of the second PMU can count the third.
+/// What is counted, and the period, sample and format bits. Both counters of the first PMU can count the first, its
+/// first counter alone can count the second, and the counter of the second PMU can count the third.
 pub type What = (Kind, u64, u64, u64);
 
 pub const WIDE: What = (Kind::Hard(0), 0, 0, 0);
@@ -47,7 +47,8 @@ pub const SWITCHES: What = (Kind::ContextSwitches, 0, 0, 0);
 
 pub const SOFT: What = (Kind::Dummy, 5, 0, 0);
 
-/// The task and the processor. One task is on the second processor, one is on none, one has exited, and one there never was.
+/// The task and the processor. One task is on the second processor, one is on none, one has exited, and one there never
+/// was.
 pub type Place = (TaskSel, CpuSel);
 
 pub const NOWHERE: Place = (TaskSel::All, CpuSel::Any);
@@ -84,7 +85,8 @@ pub const EXCLUSIVE: AttrFlags = AttrFlags::EXCLUSIVE;
 
 pub const SIBLING_FLAGS: Result<u8, Reason> = Err(Reason::SiblingFlags);
 
-/// The slot, what is counted, where, the flags, the leader's slot; and then the answer, with the processors by their bits.
+/// The slot, what is counted, where, the flags, the leader's slot; and then the answer, with the processors by their
+/// bits.
 pub type Call = (u16, What, Place, AttrFlags, Option<u16>, Result<u8, Reason>);
 
 /// Whether an attribute may be asked for on a machine of so many processors and kinds.
@@ -153,8 +155,8 @@ fn exit(world: &mut World, task: TaskNo)
     }
 }
 
-/// Two processors of a PMU with two counters and one of a PMU with one, and three tasks: one on the second processor, one on none,
-/// one that has exited.
+/// Two processors of a PMU with two counters and one of a PMU with one, and three tasks: one on the second processor,
+/// one on none, one that has exited.
 pub fn three_processors(alloc: Global) -> Result<World, NoMemory>
     ensures placed { IfOk result (λ w. AreInPlace w) }
     ensures kinds { IfOk result (λ w. length w.hardware.kind_pmus ≡ 3) }

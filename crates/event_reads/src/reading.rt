@@ -28,8 +28,9 @@ fn words_unless_error(world: &World, leader: Key, key: Key) -> Words
     }
 }
 
-/// The words of a read(2) of an event into a buffer of `size` bytes, or of as many as need be: what its family has counted, and of a group read what the
-/// family of each member has. An event in error gives no word. An event that is not open is refused, and so is a buffer with less than 8 bytes for each word.
+/// The words of a read(2) of an event into a buffer of `size` bytes, or of as many as need be: what its family has
+/// counted, and of a group read what the family of each member has. An event in error gives no word. An event that is
+/// not open is refused, and so is a buffer with less than 8 bytes for each word.
 pub fn read(world: &World, event: EventNo, size: Option<u64>) -> Result<Words, Reason>
     ensures refused { IfErr result (λ reason. reading.read_refusal (stage_of world.now) event size ≡ Some reason) }
     ensures accepted { OnOk result (reading.read_refusal (stage_of world.now) event size ≡ None) }

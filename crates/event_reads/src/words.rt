@@ -124,7 +124,7 @@ pub fn words_in(world: &World, leader: Key, key: Key) -> Words
     }
 }
 
-/// Whether a buffer of so many bytes has no room for some words, 8 bytes for each.
+/// Whether a buffer of `size` bytes has no room for some words, 8 bytes for each.
 pub fn is_short(size: Option<u64>, words: &Words) -> bool
     ensures { result ≡ holds_of (λ bytes. nat_lt bytes (8 * length words.now)) size }
 {

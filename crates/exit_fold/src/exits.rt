@@ -14,9 +14,10 @@ use crate::folding::fold_copies;
 use perf_base::{CpuNo, Reason};
 use perf_world::World;
 
-/// The task on a processor exits: each copy in its context goes, and what it has counted is added to the folded sums of its original. The task's own events
-/// stay. The processor is idle then. After perf_event_exit_task of kernel/events/core.c. It fails with `Idle` where no task is on, and then nothing changes. The
-/// processor must be rescheduled then, and no other one.
+/// The task on a processor exits: each copy in its context goes, and what it has counted is added to the folded sums of
+/// its original. The task's own events stay. The processor is idle then. After perf_event_exit_task of
+/// kernel/events/core.c. It fails with `Idle` where no task is on, and then nothing changes. The processor must be
+/// rescheduled then, and no other one.
 pub fn exit(world: &mut World, cpu: CpuNo) -> Result<(), Reason>
     requires cpu { cpu.0 < length world.old.quiet.running }
     requires sound { IsSound world.old.hardware (stage_of world.old) }

@@ -27,8 +27,8 @@ fn leader_at(world: &World, task: TaskNo, place: usize) -> Option<Key>
         .copied()
 }
 
-/// A copy is folded into its original, and an original is passed. Answers how many leaders were passed then: where a copy went, the next leader stands in
-/// its place, and its siblings lead groups of their own behind all others.
+/// A copy is folded into its original, and an original is passed. Answers how many leaders were passed then: where a
+/// copy went, the next leader stands in its place, and its siblings lead groups of their own behind all others.
 fn fold_or_pass(world: &mut World, leader: Key, passed: usize) -> usize
     requires live { is_live world.old leader ≡ true }
     requires room { passed < 2 ^ 63 }
@@ -42,7 +42,8 @@ fn fold_or_pass(world: &mut World, leader: Key, passed: usize) -> usize
     passed + 1
 }
 
-/// The copies in the context of a task are folded into their originals: its leaders are gone over once. A group is all copies or all originals.
+/// The copies in the context of a task are folded into their originals: its leaders are gone over once. A group is all
+/// copies or all originals.
 pub fn fold_copies(world: &mut World, task: TaskNo)
     requires task { task.0 < 64 }
     requires grouped { IsGrouped world.old.hardware (stage_of world.old) }

@@ -71,8 +71,9 @@ fn has_room(world: &World, parent: TaskNo) -> bool
     }
 }
 
-/// The task on a processor, which may be forked to a child of a number, 0 to 63. `Idle`: no task is on. `Exists`: there was a task of that number. `CopiesFull`: there
-/// would be more than 4,096 copies. The first of these that holds is the answer.
+/// The task on a processor, which may be forked to a child of a number, 0 to 63. `Idle`: no task is on. `Exists`: there
+/// was a task of that number. `CopiesFull`: there would be more than 4,096 copies. The first of these that holds is the
+/// answer.
 pub fn check_fork(world: &World, cpu: CpuNo, child: TaskNo) -> Result<TaskNo, Reason>
     requires { child.0 < 64 }
     ensures refused { IfErr result (λ reason. fork_refusal (stage_of world.now) cpu child ≡ Some reason) }

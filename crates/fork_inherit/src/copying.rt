@@ -23,7 +23,8 @@ fn copied_state(own: Own) -> Own
     }
 }
 
-/// A copy of an instance comes to the context of a child, with the present period of the original: as a group of its own, or last in its leader's group.
+/// A copy of an instance comes to the context of a child, with the present period of the original: as a group of its
+/// own, or last in its leader's group.
 fn inherit(world: &mut World, key: Key, child: TaskNo, leader: Option<Key>) -> Key
     requires live { is_live world.old key ≡ true }
     requires may { MayAdd world.old (copy_from world.old child (instance_at world.old key) leader) }
@@ -42,7 +43,8 @@ fn inherit(world: &mut World, key: Key, child: TaskNo, leader: Option<Key>) -> K
     copy
 }
 
-/// The group of a leader is copied to the context of a child: the copy of the leader leads the copies of the others, which come in their order.
+/// The group of a leader is copied to the context of a child: the copy of the leader leads the copies of the others,
+/// which come in their order.
 fn inherit_group(world: &mut World, leader: Key, child: TaskNo)
     requires may { MayCopy child world.old leader }
     ensures copied { AreCopied child world.old world.new (entry_at world.old leader).members }

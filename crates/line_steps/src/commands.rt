@@ -11,8 +11,8 @@ use perf_base::{EventNo, Reply, Steps};
 use perf_world::World;
 use std::sync::ledger::Ledger;
 
-/// Makes an event, or each member of its group, ready, and its copies; the processors that reach them are rescheduled. Refused with NoEvent
-/// where the event is not open.
+/// Makes an event, or each member of its group, ready, and its copies; the processors that reach them are rescheduled.
+/// Refused with NoEvent where the event is not open.
 pub fn enable<L: Ledger>(
     world: &mut World,
     event: EventNo,
@@ -37,8 +37,8 @@ pub fn enable<L: Ledger>(
     }
 }
 
-/// Takes an event, or each member of its group, off, and its copies; the processors that reach them are rescheduled. Refused with NoEvent where
-/// the event is not open.
+/// Takes an event, or each member of its group, off, and its copies; the processors that reach them are rescheduled.
+/// Refused with NoEvent where the event is not open.
 pub fn disable<L: Ledger>(
     world: &mut World,
     event: EventNo,
@@ -63,8 +63,8 @@ pub fn disable<L: Ledger>(
     }
 }
 
-/// Clears the count of an event, or of each member of its group, and those of its copies. Times stay, and so do processors. Refused with NoEvent
-/// where the event is not open.
+/// Clears the count of an event, or of each member of its group, and those of its copies. Times stay, and so do
+/// processors. Refused with NoEvent where the event is not open.
 pub fn reset(world: &mut World, event: EventNo, group: bool) -> Reply
     requires ready { IsReady world.old }
     requires slot { IsSlot event }
@@ -83,9 +83,9 @@ pub fn reset(world: &mut World, event: EventNo, group: bool) -> Reply
     }
 }
 
-/// Gives an event another period, in occurrences, of which a whole one is left then. Its copies that are there keep theirs, and processors stay.
-/// Refused with NoEvent where the event is not open, with NotSampling where it has no period, and with ZeroPeriod where the new one is 0 or has its highest
-/// bit set.
+/// Gives an event another period, in occurrences, of which a whole one is left then. Its copies that are there keep
+/// theirs, and processors stay. Refused with NoEvent where the event is not open, with NotSampling where it has no
+/// period, and with ZeroPeriod where the new one is 0 or has its highest bit set.
 pub fn period(world: &mut World, event: EventNo, period: u64) -> Reply
     requires ready { IsReady world.old }
     requires slot { IsSlot event }
@@ -104,8 +104,8 @@ pub fn period(world: &mut World, event: EventNo, period: u64) -> Reply
     }
 }
 
-/// Closes an event: its copies go with it, and the siblings of a leader become groups of their own. The processors that reach the event are rescheduled.
-/// Refused with NoEvent where the event is not open.
+/// Closes an event: its copies go with it, and the siblings of a leader become groups of their own. The processors that
+/// reach the event are rescheduled. Refused with NoEvent where the event is not open.
 pub fn close<L: Ledger>(world: &mut World, event: EventNo, tests: &mut Steps<L>) -> Reply
     requires ready { IsReady world.old }
     requires slot { IsSlot event }

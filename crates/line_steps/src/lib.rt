@@ -1,5 +1,6 @@
-//! One given line of a tool or of a processor, done to a world. Its model is the record of a step: where the world agrees with a record, it agrees with the
-//! record after the line, and the answer is the definitions'. It serves the machine.
+//! One given line of a tool or of a processor, done to a world. Its model is the record of a step: where the world
+//! agrees with a record, it agrees with the record after the line, and the answer is the definitions'. It serves the
+//! machine.
 #![tactic(auto)]
 
 mod commands;

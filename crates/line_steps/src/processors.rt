@@ -58,8 +58,8 @@ pub fn work(world: &mut World, cpu: CpuNo, work: &Work, rings: &Rings, outs: &mu
     Reply::Ok
 }
 
-/// A fork of the task on a processor to a child of a number, 0 to 63. Refused with Idle where no task is on, with Exists where there was a task of that
-/// number, and with CopiesFull where there would be more than 4,096 copies.
+/// A fork of the task on a processor to a child of a number, 0 to 63. Refused with Idle where no task is on, with
+/// Exists where there was a task of that number, and with CopiesFull where there would be more than 4,096 copies.
 pub fn fork(world: &mut World, cpu: CpuNo, child: TaskNo) -> Reply
     requires ready { IsReady world.old }
     requires cpu { cpu.0 < length world.old.quiet.running }
@@ -79,8 +79,8 @@ pub fn fork(world: &mut World, cpu: CpuNo, child: TaskNo) -> Reply
     }
 }
 
-/// The exit of the task on a processor: its copies go, what they have counted stays with their originals, and the processor is idle and rescheduled. Refused
-/// with Idle where no task is on.
+/// The exit of the task on a processor: its copies go, what they have counted stays with their originals, and the
+/// processor is idle and rescheduled. Refused with Idle where no task is on.
 pub fn exit<L: Ledger>(world: &mut World, cpu: CpuNo, tests: &mut Steps<L>) -> Reply
     requires ready { IsReady world.old }
     requires cpu { cpu.0 < length world.old.quiet.running }

@@ -9,8 +9,9 @@ ghost use Rattle.line_steps.specs.Stepped.{IsReady, IsDone};
 use perf_base::{EventNo, Reply, RingNo};
 use perf_world::World;
 
-/// Gives an event a ring by a mapping of its own. Refused with NoEvent where the event is not open, with Inherit where it is inherited and counts on any
-/// processor, with HasRing where it has a ring, and with Busy where the ring was mapped before.
+/// Gives an event a ring by a mapping of its own. Refused with NoEvent where the event is not open, with Inherit where
+/// it is inherited and counts on any processor, with HasRing where it has a ring, and with Busy where the ring was
+/// mapped before.
 pub fn map(world: &mut World, event: EventNo, ring: RingNo) -> Reply
     requires ready { IsReady world.old }
     requires slot { IsSlot event }
@@ -29,9 +30,10 @@ pub fn map(world: &mut World, event: EventNo, ring: RingNo) -> Reply
     }
 }
 
-/// Redirects the output of an event to the ring of another one. Refused with NoEvent where one of the two is not open, with SameEvent where they are one, with
-/// OtherCpu where they name different processors, with OtherContext where they count different tasks on any processor, with HasRing where the event has a
-/// mapping of its own, and with NoRing where the other one has no ring.
+/// Redirects the output of an event to the ring of another one. Refused with NoEvent where one of the two is not open,
+/// with SameEvent where they are one, with OtherCpu where they name different processors, with OtherContext where they
+/// count different tasks on any processor, with HasRing where the event has a mapping of its own, and with NoRing where
+/// the other one has no ring.
 pub fn output(world: &mut World, event: EventNo, target: EventNo) -> Reply
     requires ready { IsReady world.old }
     requires slot { IsSlot event }

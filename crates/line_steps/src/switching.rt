@@ -36,7 +36,8 @@ fn migrate_if(world: &mut World, cpu: CpuNo, migrates: bool)
     }
 }
 
-/// A switch that is not refused and changes what runs: it counts for the events on before it, a migration for those on after it.
+/// A switch that is not refused and changes what runs: it counts for the events on before it, a migration for those on
+/// after it.
 fn change_task<L: Ledger>(world: &mut World, cpu: CpuNo, to: Option<TaskNo>, tests: &mut Steps<L>)
     requires ready { IsReady world.old }
     requires cpu { cpu.0 < length world.old.quiet.running }
@@ -58,8 +59,8 @@ fn change_task<L: Ledger>(world: &mut World, cpu: CpuNo, to: Option<TaskNo>, tes
     let _after = world.pmus();
 }
 
-/// A switch of a processor to a task, or to none. A task that is not there or has exited is refused with NoTask, and one that runs on another
-/// processor with Busy; to switch to what already runs changes nothing.
+/// A switch of a processor to a task, or to none. A task that is not there or has exited is refused with NoTask, and
+/// one that runs on another processor with Busy; to switch to what already runs changes nothing.
 pub fn switch<L: Ledger>(
     world: &mut World,
     cpu: CpuNo,

@@ -13,8 +13,9 @@ use perf_base::{Act, Actor, Reply, RingNo, Script, StoredReply};
 use sample_ring::Ins;
 use std::marker::Model;
 
-/// A run that has ended: its script, the order in which its lines were done, the answer to each line, with the actor whose line it is and the line's number
-/// among that actor's lines, from 0, what each ring came to, and the rings' readers, which have taken all that was written.
+/// A run that has ended: its script, the order in which its lines were done, the answer to each line, with the actor
+/// whose line it is and the line's number among that actor's lines, from 0, what each ring came to, and the rings'
+/// readers, which have taken all that was written.
 #[derive(Drop)]
 pub struct Ended {
     script: Script,

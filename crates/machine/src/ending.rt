@@ -15,8 +15,8 @@ use perf_base::{RingNo, Script};
 use ring_taking::take_all;
 use sample_ring::{Ins, RingNumbers, Rings};
 
-/// What a ring came to: which it is, and where its head and the last tail seen are, in bytes from the start of the stream, how many of its records were
-/// lost in all, and how many of them no LOST record has told.
+/// What a ring came to: which it is, and where its head and the last tail seen are, in bytes from the start of the
+/// stream, how many of its records were lost in all, and how many of them no LOST record has told.
 #[derive(Clone, Copy, PartialEq, Eq, Debug)]
 pub struct RingEnd {
     pub ring: RingNo,
@@ -50,8 +50,9 @@ impl Machine {
         take_all(rings.table(ring), self.outs.out(ring), ins.reader(ring));
     }
 
-    /// The reader of each ring takes all that is left there, and releases none of it. What was seen of the rings stays. It takes no memory. Each reader has
-    /// released just what stands before the last tail seen of its ring, whatever it has taken, and has room for 9 words for each unit of the script's weight.
+    /// The reader of each ring takes all that is left there, and releases none of it. What was seen of the rings stays.
+    /// It takes no memory. Each reader has released just what stands before the last tail seen of its ring, whatever it
+    /// has taken, and has room for 9 words for each unit of the script's weight.
     pub fn take_rest(&mut self, script: &Script, rings: &Rings, ins: &mut Ins)
         requires covered { IsCovered script.now }
         requires script { IsOf script.now self.old }

@@ -44,8 +44,8 @@ impl Machine {
         }
     }
 
-    /// What an open event has counted, and the lengths of work for which it was enabled and on a counter: its own and those of its copies, the
-    /// copies that have exited among them.
+    /// What an open event has counted, and the lengths of work for which it was enabled and on a counter: its own and
+    /// those of its copies, the copies that have exited among them.
     pub fn family(&self, event: EventNo) -> Sums
         requires { HasEvent self.now event }
         ensures { (s : Scripted) (acts : List Act) → LeadTo s acts self.now → result ≡ family_in s acts event }
@@ -55,7 +55,8 @@ impl Machine {
         family_sums(&self.world, event)
     }
 
-    /// Whether an open event is in effective error: the leader of its group, which may be itself, is in error. A read of it gives no word.
+    /// Whether an open event is in effective error: the leader of its group, which may be itself, is in error. A read
+    /// of it gives no word.
     pub fn error(&self, event: EventNo) -> bool
         requires { HasEvent self.now event }
         ensures { (s : Scripted) (acts : List Act) → LeadTo s acts self.now → result ≡ in_error (stage_in s acts) event }

@@ -1,6 +1,6 @@
-//! The machine: it does the lines of a script one at a time, each with every rescheduling that it makes necessary, and answers it. Its model is how many lines
-//! each processor and tool has done, and the world of its events; the acts of a script that lead there are the history that it stands for. It serves
-//! whoever goes through an order.
+//! The machine: it does the lines of a script one at a time, each with every rescheduling that it makes necessary, and
+//! answers it. Its model is how many lines each processor and tool has done, and the world of its events; the acts of a
+//! script that lead there are the history that it stands for. It serves whoever goes through an order.
 #![tactic(auto)]
 
 mod counters;

@@ -21,8 +21,9 @@ use perf_base::RingNo;
 use sample_ring::{Ins, Rings, meet};
 
 impl Machine {
-    /// Loads the tail of a ring once and answers it: a place, in bytes from the start of the stream, at which the tail may be seen after whatever acts lead here. Where
-    /// it is the last one seen nothing has happened; else it is an act.
+    /// Loads the tail of a ring once and answers it: a place, in bytes from the start of the stream, at which the tail
+    /// may be seen after whatever acts lead here. Where it is the last one seen nothing has happened; else it is an
+    /// act.
     pub fn look(&mut self, rings: &Rings, ring: RingNo) -> u64
         requires together { AreTogether rings.now self.old.outs }
         requires ring { HasRing self.old.outs.numbers ring }
@@ -40,9 +41,10 @@ impl Machine {
         self.outs.out(ring).look(rings.table(ring))
     }
 
-    /// Each end of a ring learns how far the other is, by one load each: the tail is seen at the place that the reader has released, in bytes from the start of the
-    /// stream. It may be seen there after whatever acts lead here. Where it is the last place seen nothing has happened; else it is an act. The caller has
-    /// both ends, so both stand still meanwhile.
+    /// Each end of a ring learns how far the other is, by one load each: the tail is seen at the place that the reader
+    /// has released, in bytes from the start of the stream. It may be seen there after whatever acts lead here. Where
+    /// it is the last place seen nothing has happened; else it is an act. The caller has both ends, so both stand still
+    /// meanwhile.
     pub fn meet_ring(&mut self, rings: &Rings, ins: &mut Ins, ring: RingNo)
         requires together { AreTogether rings.now self.old.outs }
         requires ring { HasRing self.old.outs.numbers ring }
@@ -51,8 +53,8 @@ impl Machine {
         ensures seen { (s : Scripted) (acts : List Act) → LeadTo s acts self.old → LeadTo s (acts ++ act.Seen ring (released_in ins.old ring) ∷ []) self.new }
         ensures same { (s : Scripted) (acts : List Act) → LeadTo s acts self.old → released_in ins.old ring ≡ last_seen ring acts → LeadTo s acts self.new }
         ensures together { AreTogether rings.now self.new.outs }
-        // Of the machine only the last tail that the ring's end has seen and its number of loads change, and of the readers only the last head that the ring's has seen
-        // and its number of loads.
+        // Of the machine only the last tail that the ring's end has seen and its number of loads change, and of the
+        // readers only the last head that the ring's has seen and its number of loads.
         ensures end { (o : OutEnd) → out_of self.old.outs ring ≡ Some o
             → self.new ≡ record self.old { outs = with_out self.old.outs (place_of self.old.outs.numbers ring) (with_tail o (released_in ins.old ring) (o.producer.loads + 1)) } }
         ensures reader { (o : OutEnd) (i : InEnd) → out_of self.old.outs ring ≡ Some o → slice_get ins.old.readers (place_of ins.old.numbers ring) ≡ Some (Some i)

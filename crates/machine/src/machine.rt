@@ -19,7 +19,8 @@ use std::alloc::Global;
 use std::marker::{Brand, Model};
 use std::sync::ledger::Blank;
 
-/// A machine that has done some lines of a script. Between two lines every processor stands as rescheduling leaves it, seats included.
+/// A machine that has done some lines of a script. Between two lines every processor stands as rescheduling leaves it,
+/// seats included.
 #[derive(Drop)]
 pub struct Machine {
     pub(crate) cpus: [u32; 8],
@@ -42,8 +43,9 @@ impl Model for Machine {
 }
 
 impl Machine {
-    /// A machine that has done no line of a script, each of whose processors is of a PMU, given the ends that send of the script's rings, which are new. It
-    /// takes all memory that its lines need, and fails only where there is not so much.
+    /// A machine that has done no line of a script, each of whose processors is of a PMU, given the ends that send of
+    /// the script's rings, which are new. It takes all memory that its lines need, and fails only where there is not so
+    /// much.
     pub fn new(alloc: Global, script: &Script, outs: Outs) -> Result<Machine, NoMemory>
         requires covered { IsCovered script.now }
         requires ends { HaveAccounts outs (map empty_ring script.now.rings) }
@@ -132,15 +134,17 @@ impl Machine {
         tool_line::<Brand>(&mut self.world, line, Blank::new(1))
     }
 
-    /// Does the actor's next line, with the records that it sends, then every rescheduling that it makes necessary, and answers it. The script is the one that
-    /// the machine was made for, of a weight of at most 65,536, and the rings are those of its ends. No tail is loaded.
+    /// Does the actor's next line, with the records that it sends, then every rescheduling that it makes necessary, and
+    /// answers it. The script is the one that the machine was made for, of a weight of at most 65,536, and the rings
+    /// are those of its ends. No tail is loaded.
     pub fn line(&mut self, script: &Script, rings: &Rings, actor: Actor) -> Reply
         requires covered { IsCovered script.now }
         requires light { weight script.now ≤ 65536 }
         requires together { AreTogether rings.now self.old.outs }
         requires script { IsOf script.now self.old }
         requires line { HasLine script.now self.old actor }
-        // After any acts that lead here, the answer is the reply to the act that does this line, and with that act they lead to the machine then.
+        // After any acts that lead here, the answer is the reply to the act that does this line, and with that act they
+        // lead to the machine then.
         ensures reply { (acts : List Act) → LeadTo script.now acts self.old → IsReplyTo script.now acts (act_of actor) result }
         ensures done { (acts : List Act) → LeadTo script.now acts self.old → LeadTo script.now (acts ++ act_of actor ∷ []) self.new }
         ensures together { AreTogether rings.now self.new.outs }

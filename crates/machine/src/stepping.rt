@@ -21,8 +21,8 @@ use sample_ring::{Ins, Out, Outs, Rings};
 pub enum OrderFault {
     /// Its processor or tool has no line left.
     NoLine,
-    /// The tail of a ring can't have been seen at the place given: it is below the last place seen, above the head or not the end of a record. Places are in
-    /// bytes from the start of the stream.
+    /// The tail of a ring can't have been seen at the place given: it is below the last place seen, above the head or
+    /// not the end of a record. Places are in bytes from the start of the stream.
     BadSeen {
         ring: RingNo,
         last: u64,
@@ -117,12 +117,13 @@ impl Machine {
         }
     }
 
-    /// Does one act of a replay. A processor or a tool does its next line, which is answered. A look at a ring, which is one of the script's, is answered with Ok
-    /// where the tail may be seen at its place: then the ring's reader takes the records before that place, and the place is the last tail seen. Each
-    /// reader has room for 9 words for each unit of the script's weight. It takes no memory.
+    /// Does one act of a replay. A processor or a tool does its next line, which is answered. A look at a ring, which
+    /// is one of the script's, is answered with Ok where the tail may be seen at its place: then the ring's reader
+    /// takes the records before that place, and the place is the last tail seen. Each reader has room for 9 words for
+    /// each unit of the script's weight. It takes no memory.
     ///
-    /// It fails with `NoLine` exactly where the actor has no line left, and with `BadSeen` exactly where the place is below the last one seen, above
-    /// the head or not the end of a record; then nothing changes.
+    /// It fails with `NoLine` exactly where the actor has no line left, and with `BadSeen` exactly where the place is
+    /// below the last one seen, above the head or not the end of a record; then nothing changes.
     pub fn step(
         &mut self,
         script: &Script,

@@ -1,4 +1,4 @@
--- Each line of the script of so many rounds is in its ranges and of its type.
+-- Each line of the script of N rounds is in its ranges and of its type.
 use Rattle.std.proofs.Common.{◌≡◌, ℕ, ◌+◌, ◌*◌, ◌%◌, ◌<◌, ◌≤◌, [], ◌∷◌, ◌++◌, length, All, refl, arith}
 use Rattle.std.specs.Prelude.{replicate}
 use Rattle.std.proofs.lemmas.List.Elements.{All-from_recursion, All-cons, All-replicate, All-append}

@@ -1,4 +1,4 @@
--- The kinds of the script of so many rounds can be declared, one after the other.
+-- The kinds of the script of N rounds can be declared, one after the other.
 use Rattle.std.proofs.Common.{◌≡◌, ◌≢◌, ℕ, ◌<◌, ◌≤◌, List, [], ◌∷◌, length, get_or, All, ap, inl, arith}
 use Rattle.std.specs.Prelude.{AllPairs, codes, take}
 use Rattle.std.specs.List.{AllByRecursion}

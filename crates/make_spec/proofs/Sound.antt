@@ -1,4 +1,4 @@
--- The script of so many rounds can be built, and its machine is covered.
+-- The script of N rounds can be built, and its machine is covered.
 use Rattle.std.proofs.Common.{◌≡◌, ℕ, zero, suc, ◌*◌, ◌<◌, ◌≤◌, List, [], ◌++◌, All, refl, arith}
 use Rattle.std.specs.Prelude.{replicate}
 use Rattle.std.specs.Int.{bit_at}

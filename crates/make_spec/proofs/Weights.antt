@@ -1,4 +1,4 @@
--- The weight of the script of so many rounds: each kind of each work line fills one period, at most.
+-- The weight of the script of N rounds: each kind of each work line fills one period, at most.
 use Rattle.std.proofs.Common.{◌≡◌, ℕ, ◌+◌, ◌*◌, ◌%◌, ◌<◌, arith}
 use Rattle.std.specs.Prelude.{sum_by}
 use Rattle.perf_base.specs.Weight.{shares, line_shares}

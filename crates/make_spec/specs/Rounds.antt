@@ -1,4 +1,4 @@
--- The script of so many rounds: on four processors four tasks take turns and work, while one tool counts and samples
+-- The script of N rounds: on four processors four tasks take turns and work, while one tool counts and samples
 -- them from before the first round to after the last. It is a load to measure by, and this project's own.
 use Rattle.std.specs.Prelude.{ℕ, ◌+◌, ◌*◌, ◌%◌, List, [], ◌∷◌, ◌++◌, map, flat_map, replicate, Some, None, codes}
 use Rattle.std.specs.List.{range_with_len}
@@ -113,7 +113,7 @@ made_order n =
     for_each_all (4 * n) (λ line. all_processors) ++
     replicate 16 (act.Tool (record { 0 = 0 }))
 
--- the script of so many rounds; what is proved of it stands in Laws
+-- the script of N rounds; what is proved of it stands in Laws
 unfoldable pub script_of_rounds : ℕ → Scripted
 script_of_rounds n = record {
   cpus = 4;

@@ -1,4 +1,4 @@
-//! The laws of the script of so many rounds, each as the contract of an empty function.
+//! The laws of the script of N rounds, each as the contract of an empty function.
 
 ghost use Rattle.make_spec.specs.Laws.{MadeIsScriptLaw, MadeIsCoveredLaw, MadeLinesLaw, MadeWeightLaw};
 
@@ -7,17 +7,17 @@ pub fn made_is_script()
     ensures { MadeIsScriptLaw }
 {}
 
-/// Each processor of the script of so many rounds is of its PMU.
+/// Each processor of the script of N rounds is of its PMU.
 pub fn made_is_covered()
     ensures { MadeIsCoveredLaw }
 {}
 
-/// The script of so many rounds has 16 lines a round and 36 more.
+/// The script of N rounds has 16 lines a round and 36 more.
 pub fn made_lines()
     ensures { MadeLinesLaw }
 {}
 
-/// The script of so many rounds weighs 64 a round.
+/// The script of N rounds weighs 64 a round.
 pub fn made_weight()
     ensures { MadeWeightLaw }
 {}

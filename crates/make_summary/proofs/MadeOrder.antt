@@ -1,4 +1,4 @@
--- The order of the script of so many rounds is complete, and no act of it is a look.
+-- The order of the script of N rounds is complete, and no act of it is a look.
 use Rattle.std.specs.Prelude.{◌≡◌, ℕ, zero, suc, ◌+◌, ◌*◌, List, [], ◌++◌, All, flat_map, length, replicate, sum_by, cond, slice_index_or}
 use Rattle.std.specs.List.{range_with_len}
 use Rattle.std.proofs.Common.{◌<◌, ◌≤◌, arith, ap, refl, subst}

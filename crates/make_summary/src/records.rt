@@ -7,7 +7,8 @@ ghost use Rattle.report.specs.Told.{records_in};
 use machine::{Ended, RingEnd};
 use sample_records::header_of;
 
-/// How many records words are cut into: each has as many words as its first word's size field says, but at least that word and at most the words that are left.
+/// How many records words are cut into: each has as many words as its first word's size field says, but at least that
+/// word and at most the words that are left.
 pub fn record_count(words: &[u64]) -> u64
     ensures { result ≡ length (records_in words.now) }
 {

@@ -26,7 +26,7 @@ pub struct Totals {
     pub lost: u128,
 }
 
-/// What the report of the script of so many rounds sums up to.
+/// What the report of the script of N rounds sums up to.
 #[derive(Clone, Copy, PartialEq, Eq, Debug)]
 pub struct Summary {
     pub rounds: u32,
@@ -66,8 +66,9 @@ fn totals_of(ended: &Ended) -> Totals
     }
 }
 
-/// What the run of a script sums up to that was made of so many rounds. The size field of a record's first word says how many words the record has; where it
-/// says none, the record is that word, and where it says more than there are, the words that there are.
+/// What the run of a script sums up to that was made of N rounds. The size field of a record's first word says how many
+/// words the record has; where it says none, the record is that word, and where it says more than there are, the words
+/// that there are.
 pub fn summary_of(rounds: u32, ended: &Ended) -> Summary
     ensures rounds { result.rounds ≡ rounds }
     ensures ran { result.totals ≡ spec.ran_totals ended.now }

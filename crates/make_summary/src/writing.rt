@@ -20,8 +20,9 @@ fn put_line<K: Sink>(sink: &mut K, word: &[u8], number: u128) -> Result<(), Fail
     write_all(sink, b"\n")
 }
 
-/// Writes the lines of a summary: the rounds, the script's lines, the sum of the first words of all reads, the records written and those lost, and the end. It
-/// calls the sink sixteen times where the sink takes all that it is given. Where a call of the sink fails, some front of the lines stays added.
+/// Writes the lines of a summary: the rounds, the script's lines, the sum of the first words of all reads, the records
+/// written and those lost, and the end. It calls the sink sixteen times where the sink takes all that it is given.
+/// Where a call of the sink fails, some front of the lines stays added.
 #[tactic(auto, using(perf_io::proofs::Wrote::writes))]
 pub fn write_summary<K: Sink>(sink: &mut K, summary: &Summary) -> Result<(), Failed>
     ensures wrote { Wrote K.held K.faults K.last_fault sink.old sink.new result (summary_text summary.now.rounds summary.now.totals) }

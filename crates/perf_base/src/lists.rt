@@ -98,7 +98,7 @@ impl<T: Filling, const ROOM: usize> ShortList<T, ROOM> {
         }
     }
 
-    /// The list of so many entries as there is room for.
+    /// The list of the entries of a slice, of which there are at most `ROOM`.
     pub fn from_slice(entries: &[T]) -> Self
         requires { length entries.now ≤ ROOM }
         ensures { result ≡ entries.now }

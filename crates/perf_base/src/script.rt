@@ -75,7 +75,7 @@ fn total(numbers: &[usize]) -> usize
 }
 
 impl Script {
-    /// A script of so many processors, 1 to 8, that says nothing else. It takes no memory.
+    /// A script that says how many processors there are, 1 to 8, and nothing else. It takes no memory.
     pub fn new(alloc: Global, cpus: u8) -> Script
         requires { (1 ≤ cpus) × (cpus ≤ 8) }
         ensures { result ≡ empty_script cpus }
@@ -146,7 +146,7 @@ impl Script {
         Ok(())
     }
 
-    /// Declares a ring of so many bytes, with a number above those declared before.
+    /// Declares a ring of `bytes` bytes, with a number above those declared before.
     pub fn add_ring(&mut self, ring: RingNo, bytes: u32) -> Result<(), NoMemory>
         requires line { IsRingLine (ring, bytes) }
         requires rises { All (λ r. r.0.0 < ring.0) self.old.rings }

@@ -24,8 +24,8 @@ use sample_ring::{Ins, Outs, Rings};
 use std::alloc::Global;
 use std::marker::Model;
 
-/// A script, the machine that does its lines, the order in which they were done, with the looks at rings between them, and the answers to them. It has room for
-/// all acts of a run.
+/// A script, the machine that does its lines, the order in which they were done, with the looks at rings between them,
+/// and the answers to them. It has room for all acts of a run.
 #[derive(Drop)]
 pub struct Book {
     pub(crate) script: Script,
@@ -51,9 +51,10 @@ impl Model for Book {
 }
 
 impl Book {
-    /// A book of which no line was done, of a script each of whose processors is of a PMU, of a weight of at most 65,536 and with at most 4,194,304 acts in its
-    /// order, and of the ends that send of the script's rings, which are new. It takes all memory that any run of the script needs, and fails only where
-    /// there is not so much; then script and ends are gone.
+    /// A book of which no line was done, of a script each of whose processors is of a PMU, of a weight of at most
+    /// 65,536 and with at most 4,194,304 acts in its order, and of the ends that send of the script's rings, which are
+    /// new. It takes all memory that any run of the script needs, and fails only where there is not so much; then
+    /// script and ends are gone.
     pub fn new(alloc: Global, script: Script, outs: Outs) -> Result<Book, NoMemory>
         requires covered { IsCovered script }
         requires light { weight script ≤ 65536 }
@@ -100,8 +101,9 @@ impl Book {
         self.machine.has_line(&self.script, actor)
     }
 
-    /// What an actor does that has a line left. A processor first loads the tail of each ring once, by rising number, and keeps each that it saw further than the
-    /// last look did as an act. Then the line is done, and kept as an act with its answer. It takes no memory.
+    /// What an actor does that has a line left. A processor first loads the tail of each ring once, by rising number,
+    /// and keeps each that it saw further than the last look did as an act. Then the line is done, and kept as an act
+    /// with its answer. It takes no memory.
     pub fn advance(&mut self, rings: &Rings, actor: Actor)
         requires together { AreTogether rings.now self.old.machine.outs }
         requires line { HasLine self.old.script self.old.machine actor }
@@ -129,12 +131,13 @@ impl Book {
         );
     }
 
-    /// Does one act of a given order. A processor or a tool does its next line. A look at a ring, which is one of the script's, is done where the tail may be seen
-    /// at its place: then the ring's reader takes the records before that place. The act is kept, with the answer to its line. There are fewer looks so far
-    /// than acts in the script's own order, and each reader has room for 9 words for each unit of the script's weight. It takes no memory.
+    /// Does one act of a given order. A processor or a tool does its next line. A look at a ring, which is one of the
+    /// script's, is done where the tail may be seen at its place: then the ring's reader takes the records before that
+    /// place. The act is kept, with the answer to its line. There are fewer looks so far than acts in the script's own
+    /// order, and each reader has room for 9 words for each unit of the script's weight. It takes no memory.
     ///
-    /// It fails with `NoLine` exactly where the actor has no line left, and with `BadSeen` exactly where the place is below the last one seen, above the head or not
-    /// the end of a record; then nothing changes.
+    /// It fails with `NoLine` exactly where the actor has no line left, and with `BadSeen` exactly where the place is
+    /// below the last one seen, above the head or not the end of a record; then nothing changes.
     pub fn act(&mut self, rings: &Rings, ins: &mut Ins, act: Act) -> Result<(), OrderFault>
         requires together { AreTogether rings.now self.old.machine.outs }
         requires following { AreFollowing (9 * weight self.old.script) self.old.machine.outs ins.old }

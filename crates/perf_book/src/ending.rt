@@ -24,7 +24,8 @@ use machine::{Ended, Machine, RingEnd};
 use perf_base::{Act, RingNo, Script};
 use sample_ring::{Ins, Rings};
 
-/// The two ends of a ring meet, and the look is kept in a list that has room for it, where the tail was seen further than before.
+/// The two ends of a ring meet, and the look is kept in a list that has room for it, where the tail was seen further
+/// than before.
 fn meet_at(machine: &mut Machine, rings: &Rings, ins: &mut Ins, order: &mut Vec<Act>, ring: RingNo)
     requires together { AreTogether rings.now machine.old.outs }
     requires ring { HasRing machine.old.outs.numbers ring }
@@ -52,7 +53,8 @@ fn meet_at(machine: &mut Machine, rings: &Rings, ins: &mut Ins, order: &mut Vec<
     }
 }
 
-/// The two ends of each ring of a script meet, by rising number, and those looks are kept that saw more than the last one of their ring.
+/// The two ends of each ring of a script meet, by rising number, and those looks are kept that saw more than the last
+/// one of their ring.
 fn meet_all(
     machine: &mut Machine,
     script: &Script,
@@ -90,9 +92,10 @@ fn push_ends(machine: &Machine, script: &Script, ends: &mut Vec<RingEnd>)
 }
 
 impl Book {
-    /// What is left once all is done. The two ends of each ring meet, by rising number, and each look that saw more than the last one of its ring is kept as an act.
-    /// Then each reader takes what is left on its ring. Each reader has released all that it has taken, and has room for 9 words for each unit of the
-    /// script's weight. It takes no memory.
+    /// What is left once all is done. The two ends of each ring meet, by rising number, and each look that saw more
+    /// than the last one of its ring is kept as an act. Then each reader takes what is left on its ring. Each reader
+    /// has released all that it has taken, and has room for 9 words for each unit of the script's weight. It takes no
+    /// memory.
     pub fn finish(mut self, rings: Rings, mut ins: Ins) -> Ended
         requires together { AreTogether rings self.machine.outs }
         requires readers { AreReaders (9 * weight self.script) self.machine.outs ins }
@@ -102,7 +105,8 @@ impl Book {
         // Where each reader has released just what the last look at its ring saw, no look is added.
         ensures still { AreBehind (9 * weight self.script) self.machine.outs ins → result.order ≡ self.order }
         ensures ended { IsEnd result }
-        // The last look at each ring saw all that its reader had released, and no more records stand before it than the reader had taken.
+        // The last look at each ring saw all that its reader had released, and no more records stand before it than the
+        // reader had taken.
         ensures parts { AreParts result.script result.order ins }
     {
         let Book {

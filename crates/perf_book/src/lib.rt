@@ -1,5 +1,6 @@
-//! The book of a run: a script, the machine that does its lines, the order in which they were done, with the looks at rings between them, and the answers.
-//! Its model is these four, and its type keeps that the order leads to the machine and has these answers. It serves the top call, act by act or by threads.
+//! The book of a run: a script, the machine that does its lines, the order in which they were done, with the looks at
+//! rings between them, and the answers. Its model is these four, and its type keeps that the order leads to the machine
+//! and has these answers. It serves the top call, act by act or by threads.
 #![tactic(auto)]
 
 mod book;

@@ -16,7 +16,8 @@ use machine::Machine;
 use perf_base::{Act, Actor, RingNo, Script};
 use sample_ring::Rings;
 
-/// Loads the tail of a ring, and keeps the look in a list that has room for it, where the tail was seen further than before.
+/// Loads the tail of a ring, and keeps the look in a list that has room for it, where the tail was seen further than
+/// before.
 fn look_at(machine: &mut Machine, rings: &Rings, order: &mut Vec<Act>, ring: RingNo)
     requires together { AreTogether rings.now machine.old.outs }
     requires ring { HasRing machine.old.outs.numbers ring }
@@ -36,7 +37,8 @@ fn look_at(machine: &mut Machine, rings: &Rings, order: &mut Vec<Act>, ring: Rin
     }
 }
 
-/// Loads the tail of each ring of a script once, by rising number, and keeps those looks that saw more than the last one of their ring.
+/// Loads the tail of each ring of a script once, by rising number, and keeps those looks that saw more than the last
+/// one of their ring.
 fn look_all(machine: &mut Machine, script: &Script, rings: &Rings, order: &mut Vec<Act>)
     requires led { LeadTo script.now order.old.items machine.old }
     requires together { AreTogether rings.now machine.old.outs }

@@ -41,8 +41,8 @@ pub fn count_lines(script: &Script) -> usize
     cpu_line_count(script) + tool_line_count(script)
 }
 
-/// For how many acts of a script a book makes room: those of the script's own order, a line each and 16 looks for each line of a processor, and 16 looks at the
-/// end.
+/// For how many acts of a script a book makes room: those of the script's own order, a line each and 16 looks for each
+/// line of a processor, and 16 looks at the end.
 pub fn count_acts(script: &Script) -> usize
     requires { length script.now.order ≤ 4194304 }
     ensures { result ≡ most_acts script.now }

@@ -31,7 +31,8 @@ impl Naming for Brand {
     ghost rings = { record { numbers = []; tables = [] } };
 }
 
-/// The book under its lock, by the name of its run. Its type keeps the run's script and rings, and that its order is one that a run makes and ends with a line.
+/// The book under its lock, by the name of its run. Its type keeps the run's script and rings, and that its order is
+/// one that a run makes and ends with a line.
 #[derive(Drop)]
 pub struct Named<J: Naming> {
     book: Book,
@@ -54,7 +55,8 @@ impl<J: Naming> Model for Named<J> {
     ghost invariant = { λ n. (n.book.script ≡ J.script) × AreTogether J.rings n.book.machine.outs × IsUnderWay n.book.order };
 }
 
-/// Does the next line of an actor that has one left, in a book whose order is one that a run makes and ends with a line: so it is then.
+/// Does the next line of an actor that has one left, in a book whose order is one that a run makes and ends with a
+/// line: so it is then.
 pub fn advance_one(book: &mut Book, rings: &Rings, actor: Actor)
     requires together { AreTogether rings.now book.old.machine.outs }
     requires under_way { IsUnderWay book.old.order }

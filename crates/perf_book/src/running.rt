@@ -48,7 +48,8 @@ fn count_of(script: &Script, actor: Actor) -> u32
     count as u32
 }
 
-/// What the threads of a run need of its script: the lines of the readers, and each processor and tool with the number of its lines.
+/// What the threads of a run need of its script: the lines of the readers, and each processor and tool with the number
+/// of its lines.
 #[derive(Drop)]
 struct Plan {
     readers: [ReaderLine; 16],
@@ -156,10 +157,11 @@ fn run_named<J: Naming + Send + Sync, R: Threads + Wait + Sync, G: Gate + Sync>(
     (book, ins)
 }
 
-/// Runs a script to its end by threads: one for each processor and tool that has lines, and one for each reader that has a line. Where a thread can't be started
-/// its work is done by the thread that would have started it. The book is that of a script of which no line was done; it comes back with every line done. A
-/// reader is of the same ring as the end that sends, has released all that it has taken, and has room for 9 words for each unit of the script's weight; it comes
-/// back so. Each worker passes the gate before each line or try. It takes no memory.
+/// Runs a script to its end by threads: one for each processor and tool that has lines, and one for each reader that
+/// has a line. Where a thread can't be started its work is done by the thread that would have started it. The book is
+/// that of a script of which no line was done; it comes back with every line done. A reader is of the same ring as the
+/// end that sends, has released all that it has taken, and has room for 9 words for each unit of the script's weight;
+/// it comes back so. Each worker passes the gate before each line or try. It takes no memory.
 pub fn run_all<R: Threads + Wait + Sync, G: Gate + Sync>(
     rt: &R,
     book: Book,

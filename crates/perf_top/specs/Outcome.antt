@@ -51,7 +51,7 @@ DoesOrder words = IsReplay words ⊎ IsStat words
 abbrev pub ReadsScript : List (List ℕ) → Type 0
 ReadsScript words = DoesOrder words ⊎ IsRun words
 
--- the words that have the script of so many rounds made and its own order done, and those that have it made and printed: from 1 round to 1000, in decimal without
+-- the words that have the script of N rounds made and its own order done, and those that have it made and printed: from 1 round to 1000, in decimal without
 -- leading zeros
 abbrev pub IsMake : List (List ℕ) → ℕ → Type 0
 IsMake words n = (1 ≤ n) × (n ≤ 1000) × (words ≡ codes "make" ∷ decimal n ∷ [])
@@ -59,7 +59,7 @@ IsMake words n = (1 ≤ n) × (n ≤ 1000) × (words ≡ codes "make" ∷ decima
 abbrev pub IsMakeScript : List (List ℕ) → ℕ → Type 0
 IsMakeScript words n = (1 ≤ n) × (n ≤ 1000) × (words ≡ codes "make" ∷ decimal n ∷ codes "script" ∷ [])
 
--- the words for which the script of so many rounds is made
+-- the words for which the script of N rounds is made
 abbrev pub MakesScript : List (List ℕ) → ℕ → Type 0
 MakesScript words n = IsMake words n ⊎ IsMakeScript words n
 
@@ -149,13 +149,13 @@ pub record HasOpenOrder (text : List ℕ) (line : ℕ) (reason : SReason) : Type
 abbrev pub IsBadScript : List (List ℕ) → List ℕ → ℕ → SReason → Type 0
 IsBadScript words text line reason = IsRefused text line reason ⊎ (DoesOrder words × HasOpenOrder text line reason)
 
--- These bytes are the summary of the script of so many rounds: of answers to its own order, and of what its rings came to over that order.
+-- These bytes are the summary of the script of N rounds: of answers to its own order, and of what its rings came to over that order.
 pub record IsSummary (n : ℕ) (out : List ℕ) : Type 0 where
   pub answers : List Answered
   pub answered : IsAnswered (script_of_rounds n) (script_of_rounds n).order answers
   pub is : out ≡ summary_text n (totals_of (script_of_rounds n) answers (rings_after (script_of_rounds n) (script_of_rounds n).order))
 
--- What the words have written of the script of so many rounds: its summary, or its text.
+-- What the words have written of the script of N rounds: its summary, or its text.
 abbrev pub IsMade : List (List ℕ) → ℕ → List ℕ → Type 0
 IsMade words n out = (IsMake words n × IsSummary n out) ⊎ (IsMakeScript words n × (out ≡ printed (script_of_rounds n)))
 

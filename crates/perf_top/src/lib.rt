@@ -1,6 +1,7 @@
-// The top call: it reads a script to its end, does its order, and writes the report, or the table of what its events have counted; or it makes a script and writes
-// what its report sums up to, or the script itself; or it writes what the bytes of an attribute say. Its contract speaks of the bytes that the source had left and of those that the sink and the notes hold.
-// It serves the program.
+// The top call: it reads a script to its end, does its order, and writes the report, or the table of what its events
+// have counted; or it makes a script and writes what its report sums up to, or the script itself; or it writes what the
+// bytes of an attribute say. Its contract speaks of the bytes that the source had left and of those that the sink and
+// the notes hold. It serves the program.
 #![tactic(auto)]
 
 ghost use Rattle.std.specs.Prelude.{◌≡◌, ◌⊎◌, ◌↔◌, ℕ, ◌∷◌, [], ◌≤◌, ◌<◌, List, length, map, codes, IsTrue, IfSome, MatchOption, string_bytes};
@@ -90,16 +91,16 @@ fn noted<N: Sink>(notes: &mut N, status: Status) -> Status
     }
 }
 
-/// Does what the words ask for, those behind the program's name. `replay` reads a script from the source to its end, does
-/// its own order, and writes that order and what its lines answered to the sink. `stat` does the same, and writes a table with a row for each event that is open then, by
-/// its slot, as perf stat does. `run` reads a script too, and runs it with a thread for each processor, tool and
-/// reader: it writes the order that came of it, and its report; each worker passes the gate before each line or try. A text may have 4194304 bytes. `make` and a number of
-/// rounds, 1 to 1000 in decimal, has the script of so many rounds made and its own order done, and writes six lines that sum up its report; with `script` behind, it
-/// writes that script. It reads nothing. `attr` and
-/// the bytes of an attribute, two hexadecimal digits each, writes what they say, or their first fault; it reads nothing and
-/// takes no memory. Other words are not known. Each answer but Done is written to the notes as one line. All memory is
-/// taken before the first write, and none between the first read and the last: where it runs out, nothing
-/// was read, or the whole text.
+/// Does what the words ask for, those behind the program's name. `replay` reads a script from the source to its end,
+/// does its own order, and writes that order and what its lines answered to the sink. `stat` does the same, and writes
+/// a table with a row for each event that is open then, by its slot, as perf stat does. `run` reads a script too, and
+/// runs it with a thread for each processor, tool and reader: it writes the order that came of it, and its report; each
+/// worker passes the gate before each line or try. A text may have 4194304 bytes. `make` and a number of rounds, 1 to
+/// 1000 in decimal, has the script of N rounds made and its own order done, and writes six lines that sum up its
+/// report; with `script` behind, it writes that script. It reads nothing. `attr` and the bytes of an attribute, two
+/// hexadecimal digits each, writes what they say, or their first fault; it reads nothing and takes no memory. Other
+/// words are not known. Each answer but Done is written to the notes as one line. All memory is taken before the first
+/// write, and none between the first read and the last: where it runs out, nothing was read, or the whole text.
 pub fn perf_main<R: Threads + Wait + Sync, S: Source, K: Sink, N: Sink, G: Gate + Sync>(
     rt: &R,
     alloc: Global,

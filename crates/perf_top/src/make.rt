@@ -1,4 +1,4 @@
-//! Making the script of so many rounds, and its summary or its text.
+//! Making the script of N rounds, and its summary or its text.
 
 ghost use Rattle.std.specs.Prelude.{◌≡◌, ◌≤◌, ◌⊎◌, ◌↔◌, ℕ, List, IfErr, IfOk, IsTrue, IfSome, MatchOption, decimal, length, map, string_bytes};
 ghost use Rattle.perf_base.specs.Scripts.{IsCovered};
@@ -37,7 +37,8 @@ fn says(word: &str, number: u32) -> bool
     word == buffer.format(number)
 }
 
-/// The number of rounds that a word says. None exactly where it says no number from 1 to 1000, or one with a zero too many in front.
+/// The number of rounds that a word says. None exactly where it says no number from 1 to 1000, or one with a zero too
+/// many in front.
 fn rounds_of(word: &str) -> Option<u32>
     ensures { MatchOption result
         ((n : ℕ) → 1 ≤ n → n ≤ 1000 → word.now ≡ decimal n → ⊥)
@@ -77,7 +78,8 @@ pub fn rounds_to_print(words: &[String]) -> Option<u32>
     }
 }
 
-/// What is left of the script of so many rounds, once its own order was done. That is complete and has no look, so that it stops only where memory runs out.
+/// What is left of the script of N rounds, once its own order was done. That is complete and has no look, so that it
+/// stops only where memory runs out.
 fn replay_made(alloc: Global, rounds: u32) -> Result<Ended, RunStop>
     requires { (1 ≤ rounds) × (rounds ≤ 1000) }
     ensures script { IfOk result (λ e. e.script ≡ script_of_rounds rounds) }
@@ -91,7 +93,7 @@ fn replay_made(alloc: Global, rounds: u32) -> Result<Ended, RunStop>
     }
 }
 
-/// The summary of the script of so many rounds.
+/// The summary of the script of N rounds.
 fn sum_up(alloc: Global, rounds: u32) -> Result<Summary, RunStop>
     requires { (1 ≤ rounds) × (rounds ≤ 1000) }
     ensures sums { IfOk result (λ s. IsSummary rounds (summary_text s.rounds s.totals)) }
@@ -138,7 +140,7 @@ impl Written for ScriptText {
     }
 }
 
-/// Makes the script of so many rounds, does its own order, and writes its summary.
+/// Makes the script of N rounds, does its own order, and writes its summary.
 pub fn print_summary<K: Sink>(alloc: Global, rounds: u32, sink: &mut K) -> Status
     requires { (1 ≤ rounds) × (rounds ≤ 1000) }
     ensures count { K.faults sink.old ≤ K.faults sink.new }
@@ -154,7 +156,7 @@ pub fn print_summary<K: Sink>(alloc: Global, rounds: u32, sink: &mut K) -> Statu
     }
 }
 
-/// Makes the script of so many rounds, and writes its text.
+/// Makes the script of N rounds, and writes its text.
 pub fn print_made<K: Sink>(alloc: Global, rounds: u32, sink: &mut K) -> Status
     requires { (1 ≤ rounds) × (rounds ≤ 1000) }
     ensures count { K.faults sink.old ≤ K.faults sink.new }

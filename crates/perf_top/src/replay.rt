@@ -35,7 +35,8 @@ pub struct Ready {
     pub book: Book,
 }
 
-/// Takes all memory that a run of a script needs: a ring's reader has room for 18 words for each unit of the script's weight.
+/// Takes all memory that a run of a script needs: a ring's reader has room for 18 words for each unit of the script's
+/// weight.
 pub fn prepare(alloc: Global, script: Script) -> Result<Ready, NoMemory>
     requires covered { IsCovered script }
     requires light { weight script ≤ 65536 }

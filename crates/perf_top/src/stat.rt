@@ -54,7 +54,8 @@ fn tabulate(ready: &Ready, rows: Vec<StatRow>) -> Table
     Table { rows }
 }
 
-/// Reads a script, does its order and writes the table of what its events have counted. The room for the rows is taken before the first read.
+/// Reads a script, does its order and writes the table of what its events have counted. The room for the rows is taken
+/// before the first read.
 pub fn tabulate_all<S: Source, K: Sink>(alloc: Global, source: &mut S, sink: &mut K) -> Status
     ensures counts { (S.faults source.old ≤ S.faults source.new) × (K.faults sink.old ≤ K.faults sink.new) }
     ensures usage { result ≡ Status.Usage → ⊥ }

@@ -6,8 +6,8 @@ ghost use Rattle.perf_top.specs.Stops.{status_of};
 use crate::status::Status;
 use perf_base::{RingNo, SReason};
 
-/// A look at a ring's tail that can't have been made: the number of its act in the order, from 0, the ring, the last place seen, the head and the place given,
-/// in bytes.
+/// A look at a ring's tail that can't have been made: the number of its act in the order, from 0, the ring, the last
+/// place seen, the head and the place given, in bytes.
 #[derive(Clone, Copy, PartialEq, Eq, Debug)]
 pub struct BadLook {
     pub index: u32,

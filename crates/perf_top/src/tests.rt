@@ -18,7 +18,8 @@ const REPORT: &str = "order t0 p0 t0\nt0.1 read 500 100 100\nend\n";
 const OPEN_ORDER: &str =
     "perf 1\nmachine cpus=1 counters=1\nprocessor 0\nwork 1 user\norder\nend\n";
 
-/// A ring of 64 bytes that takes three records and loses one; a look at its first record; a record lost, a look at all, and two records more.
+/// A ring of 64 bytes that takes three records and loses one; a look at its first record; a record lost, a look at all,
+/// and two records more.
 const WITH_RING: &str =
     "perf 1\nmachine cpus=1 counters=1\nkind a mask=1\nring 0 bytes=64\nprocessor 0\nwork 1 user ip=5 a=4\n\
     work 1 user ip=5 a=1\nwork 1 user ip=5 a=1\ntool 0\nopen 0 kind=a task=all cpu=0 period=1 sample=1\n\
@@ -279,8 +280,8 @@ const RUN_ROWS: [Row; 8] = [
     ),
 ];
 
-/// Calls the program on a text, with how much a read or a write takes and the calls of the source and of the sink that fail. Gives its answer, what was written and
-/// noted, and how many bytes of the next nine the source still has.
+/// Calls the program on a text, with how much a read or a write takes and the calls of the source and of the sink that
+/// fail. Gives its answer, what was written and noted, and how many bytes of the next nine the source still has.
 fn call_with<R: Threads + Wait + Sync>(
     rt: &R,
     alloc: Global,

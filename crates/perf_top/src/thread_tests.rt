@@ -82,8 +82,9 @@ impl Gate for ReaderLast {
     }
 }
 
-/// Lets processor 0 and the reader take turns: processor 0's line 0 is held until tool 0's line 2 is announced, the reader's try 0 until processor 0's line 1, processor
-/// 0's line 1 until the reader's try 1, and that until processor 0's line 2.
+/// Lets processor 0 and the reader take turns: processor 0's line 0 is held until tool 0's line 2 is announced, the
+/// reader's try 0 until processor 0's line 1, processor 0's line 1 until the reader's try 1, and that until processor
+/// 0's line 2.
 #[derive(Drop)]
 struct TakeTurns {
     tool: Signal,
@@ -112,7 +113,8 @@ impl Gate for TakeTurns {
     }
 }
 
-/// Two processors that work for a task and its child, and a tool that counts six inherited events of both on four counters.
+/// Two processors that work for a task and its child, and a tool that counts six inherited events of both on four
+/// counters.
 const TWO_PROCESSORS: &str =
     "perf 1\nmachine cpus=2 counters=4\nkind cycles mask=f\nkind instructions mask=f\nkind branches mask=f\n\
     kind branch-misses mask=f\nkind cache-references mask=f\nkind cache-misses mask=f\ntask 0\n\

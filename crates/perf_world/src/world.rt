@@ -49,7 +49,8 @@ use std::marker::Model;
 use std::sync::ledger::Ledger;
 use world_tables::{Contexts, EventTable, Families, MappedRings, Processors, UsedSlots, place_of};
 
-/// The events of a machine, the contexts that they stand in, their families, what each has counted, the tasks and the processors.
+/// The events of a machine, the contexts that they stand in, their families, what each has counted, the tasks and the
+/// processors.
 #[derive(Drop)]
 pub struct World {
     pmus: Pmus,
@@ -226,8 +227,8 @@ impl World {
         are_software(&self.events, self.events.members(leader))
     }
 
-    /// Whether a group may go on on a processor: its leader is ready, its place is any processor or that one, and its hardware
-    /// members are of that processor's PMU.
+    /// Whether a group may go on on a processor: its leader is ready, its place is any processor or that one, and its
+    /// hardware members are of that processor's PMU.
     pub fn eligible(&self, cpu: CpuNo, leader: Key) -> bool
         requires cpu { cpu.0 < length self.now.quiet.running }
         requires leads { leads (post_at self.now) leader ≡ true }
@@ -259,7 +260,8 @@ impl World {
         self.events.leader(key)
     }
 
-    /// The members of the group that an instance leads, itself first and then the siblings in the order in which they joined.
+    /// The members of the group that an instance leads, itself first and then the siblings in the order in which they
+    /// joined.
     pub fn members(&self, leader: Key) -> &[Key]
         requires { leads (post_at self.now) leader ≡ true }
         ensures members { result.now ≡ (entry_at self.now leader).members }
@@ -440,8 +442,8 @@ impl World {
         self.events.hit(key, n)
     }
 
-    /// Adds a stretch of work to the times of an instance: to its enabled time where it is ready, and to its running time where
-    /// it is on.
+    /// Adds a stretch of work to the times of an instance: to its enabled time where it is ready, and to its running
+    /// time where it is on.
     pub fn pass(&mut self, key: Key, duration: u64, ready: bool, on: bool)
         requires live { is_live self.old key ≡ true }
         requires on_is_ready { on ≡ true → ready ≡ true }
@@ -538,8 +540,8 @@ impl World {
         note_last(&mut self.tasks, cpu, task);
     }
 
-    /// A machine before its first line: its processors idle, these tasks there, and no event. It takes all memory that any
-    /// run needs, and fails only where there is not so much.
+    /// A machine before its first line: its processors idle, these tasks there, and no event. It takes all memory that
+    /// any run needs, and fails only where there is not so much.
     pub fn new(alloc: Global, pmus: Pmus, tasks: &[TaskNo]) -> Result<World, NoMemory>
         requires { AreTaskNumbers tasks.now }
         ensures world { IfOk result (λ w. w ≡ first_world pmus tasks.now) }
@@ -564,9 +566,9 @@ impl World {
         })
     }
 
-    /// Puts a group of at most 8 events with their masks on a processor's counters; an event that is there may get another counter. Where they do not fit with
-    /// those that are there nothing changes, and the answer is the tight set of the shortest beginning of the list that does not
-    /// fit. A step is one test of one counter for one event.
+    /// Puts a group of at most 8 events with their masks on a processor's counters; an event that is there may get
+    /// another counter. Where they do not fit with those that are there nothing changes, and the answer is the tight
+    /// set of the shortest beginning of the list that does not fit. A step is one test of one counter for one event.
     pub fn seat<L: Ledger>(
         &mut self,
         cpu: CpuNo,
@@ -592,9 +594,9 @@ impl World {
         self.processors.seat(cpu, group, steps)
     }
 
-    /// An instance comes by a key that named nothing: an original in its slot, or a copy of the original there. It draws the next id, is in the
-    /// state of its attribute, has counted nothing and has a whole period before it. Without a leader it is a group of its own, last in its list
-    /// and Out; else it is the last of its leader's group.
+    /// An instance comes by a key that named nothing: an original in its slot, or a copy of the original there. It
+    /// draws the next id, is in the state of its attribute, has counted nothing and has a whole period before it.
+    /// Without a leader it is a group of its own, last in its list and Out; else it is the last of its leader's group.
     pub fn add(
         &mut self,
         event: EventNo,
@@ -623,7 +625,8 @@ impl World {
         key
     }
 
-    /// An instance goes. The siblings of a leader become groups of their own, Out, behind the flexible ones. An original goes after its copies.
+    /// An instance goes. The siblings of a leader become groups of their own, Out, behind the flexible ones. An
+    /// original goes after its copies.
     pub fn drop_instance(&mut self, key: Key)
         requires { MayGo self.old key }
         ensures world { self.new ≡ drop_instance key self.old }

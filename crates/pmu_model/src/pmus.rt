@@ -43,9 +43,9 @@ pub fn is_software(kind: Kind) -> bool
 }
 
 impl Pmus {
-    /// The PMUs of so many processors, `pmu_of` each, and of so many hardware kinds, `kind_pmu` each. A
-    /// processor of a PMU has so many `counters`, and a kind is counted by those of its mask, bit C for
-    /// counter C. What stands behind the last processor or kind is of no use.
+    /// The PMUs of `cpus` processors, `pmu_of` each, and of the hardware kinds, `kind_pmu` each. `counters` says how
+    /// many counters a processor of each PMU has, and a kind is counted by those of its mask, bit C for counter C. What
+    /// stands behind the last processor or kind is of no use.
     pub fn new(
         cpus: u8,
         pmu_of: [u8; 8],

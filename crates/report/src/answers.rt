@@ -55,7 +55,8 @@ fn put_start<K: Sink>(
     put_word(sink, line_word(script, actor, number))
 }
 
-/// Writes the line of an answer: the actor, a dot, the number of its line, that line's first word, and the answer's words.
+/// Writes the line of an answer: the actor, a dot, the number of its line, that line's first word, and the answer's
+/// words.
 #[tactic(auto, using(perf_io::proofs::Wrote::writes))]
 fn put_line<K: Sink>(
     sink: &mut K,
@@ -72,8 +73,8 @@ fn put_line<K: Sink>(
     write_all(sink, b"\n")
 }
 
-/// Writes the line of the answer to an actor's line of a number, from 0. A plain Ok has no line. Where a call of the sink fails, some front
-/// of the line stays added.
+/// Writes the line of the answer to an actor's line of a number, from 0. A plain Ok has no line. Where a call of the
+/// sink fails, some front of the line stays added.
 pub fn write_answer<K: Sink>(
     sink: &mut K,
     script: &Script,
@@ -103,8 +104,8 @@ fn put_kept<K: Sink>(
     write_answer(sink, script, *actor, *number, &reply.reply())
 }
 
-/// Writes the lines of answers, each kept with the actor and the number of the line that it answers. Where a call of the sink fails, some
-/// front of the lines stays added.
+/// Writes the lines of answers, each kept with the actor and the number of the line that it answers. Where a call of
+/// the sink fails, some front of the lines stays added.
 pub fn write_answers<K: Sink>(
     sink: &mut K,
     script: &Script,

@@ -1,5 +1,6 @@
-//! The report of a run as text: the order, a line for each answer but a plain Ok, what each ring came to with a line for each record, and the end. Contracts see
-//! the text of the definitions and what a sink holds. It takes no memory, and serves the programs that run a script.
+//! The report of a run as text: the order, a line for each answer but a plain Ok, what each ring came to with a line
+//! for each record, and the end. Contracts see the text of the definitions and what a sink holds. It takes no memory,
+//! and serves the programs that run a script.
 #![tactic(auto)]
 
 mod answers;

@@ -35,9 +35,10 @@ pub fn write_end<K: Sink>(sink: &mut K) -> Result<(), Failed>
     write_all(sink, b"end\n")
 }
 
-/// Writes the report of a run of a script: the order in which its lines were done, the lines of the answers, each kept with the actor and the number of
-/// the line that it answers, what the rings came to, and the end. For each ring there are its numbers and all words that were written on it. Where a
-/// call of the sink fails, some front of the report stays added.
+/// Writes the report of a run of a script: the order in which its lines were done, the lines of the answers, each kept
+/// with the actor and the number of the line that it answers, what the rings came to, and the end. For each ring there
+/// are its numbers and all words that were written on it. Where a call of the sink fails, some front of the report
+/// stays added.
 pub fn write_whole_report<K: Sink>(
     sink: &mut K,
     script: &Script,
@@ -55,8 +56,9 @@ pub fn write_whole_report<K: Sink>(
     write_end(sink)
 }
 
-/// Writes the report of a run of a script, but for its rings: the order in which its lines were done, the lines of the answers, each kept with the actor and
-/// the number of the line that it answers, and the end. Where a call of the sink fails, some front of the report stays added.
+/// Writes the report of a run of a script, but for its rings: the order in which its lines were done, the lines of the
+/// answers, each kept with the actor and the number of the line that it answers, and the end. Where a call of the sink
+/// fails, some front of the report stays added.
 pub fn write_report<K: Sink>(
     sink: &mut K,
     script: &Script,

@@ -62,7 +62,8 @@ fn put_record<K: Sink>(sink: &mut K, taken: bool, words: &[u64]) -> Result<(), F
     write_all(sink, b"\n")
 }
 
-/// How many words the first record has: as many as its first word's size field says, but at least that word and at most all words.
+/// How many words the first record has: as many as its first word's size field says, but at least that word and at most
+/// all words.
 fn first_length(words: &[u64]) -> usize
     requires { 0 < length words.now }
     ensures some { 0 < result }
@@ -110,9 +111,10 @@ fn put_numbers<K: Sink>(sink: &mut K, ring: RingNo, numbers: &RingNumbers) -> Re
     write_all(sink, b"\n")
 }
 
-/// Writes what a ring came to, and the records written on it. `words` are all words that were written on the ring. The size field of a record's first word
-/// says how many words the record has; where it says none, the record is that word, and where it says more than there are, the words that there are. Where a
-/// call of the sink fails, some front of the lines stays added.
+/// Writes what a ring came to, and the records written on it. `words` are all words that were written on the ring. The
+/// size field of a record's first word says how many words the record has; where it says none, the record is that word,
+/// and where it says more than there are, the words that there are. Where a call of the sink fails, some front of the
+/// lines stays added.
 pub fn write_ring<K: Sink>(
     sink: &mut K,
     ring: RingNo,
@@ -127,8 +129,8 @@ pub fn write_ring<K: Sink>(
     put_records(sink, numbers.tail, words)
 }
 
-/// Writes what rings came to, in their order: for each ring its numbers and all words that were written on it. Where a call of the sink fails,
-/// some front of the lines stays added.
+/// Writes what rings came to, in their order: for each ring its numbers and all words that were written on it. Where a
+/// call of the sink fails, some front of the lines stays added.
 pub fn write_rings<K: Sink>(
     sink: &mut K,
     rings: &[(RingNo, RingNumbers, &[u64])],

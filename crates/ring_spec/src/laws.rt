@@ -71,7 +71,7 @@ pub fn rings_get_few_words()
     ensures { RingWordsLaw }
 {}
 
-/// Where the first so many words of some records are whole, they end at a record.
+/// Where the first words of some records, however many, are whole, they end at a record.
 pub fn whole_prefixes_end_at_records()
     ensures { PrefixLaw }
 {}

@@ -53,9 +53,9 @@ fn is_other_task_anywhere(attr: &Attr, other: &Attr) -> bool
     is_any_cpu(attr) && is_any_cpu(other) && is_other_task(attr, other)
 }
 
-/// The original of an event that may be given a mapping of a ring. The error is the first of these that holds: `NoEvent` where the
-/// event is not open, `Inherit` where it is inherited and counts on any processor, `HasRing` where it has a ring, `Busy` where the ring
-/// was mapped before.
+/// The original of an event that may be given a mapping of a ring. The error is the first of these that holds:
+/// `NoEvent` where the event is not open, `Inherit` where it is inherited and counts on any processor, `HasRing` where
+/// it has a ring, `Busy` where the ring was mapped before.
 pub fn check_map(world: &World, event: EventNo, ring: RingNo) -> Result<Key, Reason>
     ensures refused { IfErr result (λ reason. map_refusal (stage_of world.now) event ring ≡ Some reason) }
     ensures accepted { OnOk result (map_refusal (stage_of world.now) event ring ≡ None) }
@@ -77,10 +77,10 @@ pub fn check_map(world: &World, event: EventNo, ring: RingNo) -> Result<Key, Rea
     }
 }
 
-/// The original of an event whose output may be redirected to another event's, and the ring that the other has. The error is the first of
-/// these that holds: `NoEvent` where one of them is not open, `SameEvent` where they are one, `OtherCpu` where they name different
-/// processors, `OtherContext` where they count different tasks on any processor, `HasRing` where the event has a mapping of its own,
-/// `NoRing` where the other one has no ring.
+/// The original of an event whose output may be redirected to another event's, and the ring that the other has. The
+/// error is the first of these that holds: `NoEvent` where one of them is not open, `SameEvent` where they are one,
+/// `OtherCpu` where they name different processors, `OtherContext` where they count different tasks on any processor,
+/// `HasRing` where the event has a mapping of its own, `NoRing` where the other one has no ring.
 pub fn check_output(world: &World, event: EventNo, target: EventNo) -> Result<(Key, RingNo), Reason>
     ensures refused { IfErr result (λ reason. output_refusal (stage_of world.now) event target ≡ Some reason) }
     ensures accepted { OnOk result (output_refusal (stage_of world.now) event target ≡ None) }

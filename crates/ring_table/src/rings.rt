@@ -11,9 +11,10 @@ use crate::refusals::{check_map, check_output};
 use perf_base::{EventNo, Reason, RingNo};
 use perf_world::World;
 
-/// Gives an event a ring by a mapping of its own, after mmap. Its copies write there too. All else stays, and so do processors. It fails
-/// with `NoEvent` where the event is not open, with `Inherit` where it is inherited and counts on any processor, with `HasRing` where it has a
-/// ring, and with `Busy` where the ring was mapped before; the first that holds counts, and then nothing changes.
+/// Gives an event a ring by a mapping of its own, after mmap. Its copies write there too. All else stays, and so do
+/// processors. It fails with `NoEvent` where the event is not open, with `Inherit` where it is inherited and counts on
+/// any processor, with `HasRing` where it has a ring, and with `Busy` where the ring was mapped before; the first that
+/// holds counts, and then nothing changes.
 pub fn map(world: &mut World, event: EventNo, ring: RingNo) -> Result<(), Reason>
     ensures refused { IfErr result (λ reason. map_refusal (stage_of world.old) event ring ≡ Some reason) }
     ensures accepted { OnOk result (map_refusal (stage_of world.old) event ring ≡ None) }
@@ -30,10 +31,11 @@ pub fn map(world: &mut World, event: EventNo, ring: RingNo) -> Result<(), Reason
     Ok(())
 }
 
-/// Redirects the output of an event to the ring of another one, after the ioctl SET_OUTPUT. An earlier output is replaced. All else stays,
-/// and so do processors. It fails with `NoEvent` where one of the two is not open, with `SameEvent` where they are one, with `OtherCpu` where they
-/// name different processors, with `OtherContext` where they count different tasks on any processor, with `HasRing` where the event has a
-/// mapping of its own, and with `NoRing` where the other one has no ring; the first that holds counts, and then nothing changes.
+/// Redirects the output of an event to the ring of another one, after the ioctl SET_OUTPUT. An earlier output is
+/// replaced. All else stays, and so do processors. It fails with `NoEvent` where one of the two is not open, with
+/// `SameEvent` where they are one, with `OtherCpu` where they name different processors, with `OtherContext` where they
+/// count different tasks on any processor, with `HasRing` where the event has a mapping of its own, and with `NoRing`
+/// where the other one has no ring; the first that holds counts, and then nothing changes.
 pub fn output(world: &mut World, event: EventNo, target: EventNo) -> Result<(), Reason>
     ensures refused { IfErr result (λ reason. output_refusal (stage_of world.old) event target ≡ Some reason) }
     ensures accepted { OnOk result (output_refusal (stage_of world.old) event target ≡ None) }

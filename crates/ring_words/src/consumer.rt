@@ -30,7 +30,8 @@ impl Model for Consumer {
 }
 
 impl Consumer {
-    /// Loads the head once and answers it: a place that the producer has published, in bytes, not before the last one seen.
+    /// Loads the head once and answers it: a place that the producer has published, in bytes, not before the last one
+    /// seen.
     pub fn look_head(&mut self, table: &RingTable) -> u64
         requires { self.old.ring ≡ table.now }
         ensures end { self.new ≡ record self.old { last_head = result; loads = self.old.loads + 1 } }

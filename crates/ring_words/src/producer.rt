@@ -30,7 +30,8 @@ impl Model for Producer {
 }
 
 impl Producer {
-    /// Loads the tail once and answers it: a place that the consumer has released, in bytes, not before the last one seen.
+    /// Loads the tail once and answers it: a place that the consumer has released, in bytes, not before the last one
+    /// seen.
     pub fn look_tail(&mut self, table: &RingTable) -> u64
         requires { self.old.ring ≡ table.now }
         ensures end { self.new ≡ record self.old { last_tail = result; loads = self.old.loads + 1 } }

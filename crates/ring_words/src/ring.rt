@@ -34,7 +34,8 @@ pub fn make_ring(alloc: Global, bytes: u32) -> Result<(RingTable, Producer, Cons
     ))
 }
 
-/// Each end learns how far the other is, in a few atomic steps. One caller has both ends, so both stand still meanwhile.
+/// Each end learns how far the other is, in a few atomic steps. One caller has both ends, so both stand still
+/// meanwhile.
 pub fn meet(table: &RingTable, producer: &mut Producer, consumer: &mut Consumer)
     requires producer { producer.old.ring ≡ table.now }
     requires consumer { consumer.old.ring ≡ table.now }

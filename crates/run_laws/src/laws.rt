@@ -11,7 +11,8 @@ pub fn empty_orders_are_run_shaped()
     ensures { ShapedNoneLaw }
 {}
 
-/// A run-shaped order that ends with a line stays run-shaped by looks at rising rings, each above the last one of its ring.
+/// A run-shaped order that ends with a line stays run-shaped by looks at rising rings, each above the last one of its
+/// ring.
 pub fn orders_grow_by_looks()
     ensures { ShapedLooksLaw }
 {}

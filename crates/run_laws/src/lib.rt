@@ -1,5 +1,6 @@
-//! Laws of the orders that a run of threads leaves: how such an order grows by looks at tails and by lines, how many lines it can have, and how many records the
-//! readers of its rings took. It has laws alone, each the contract of an empty function. They serve whoever runs a script on threads.
+//! Laws of the orders that a run of threads leaves: how such an order grows by looks at tails and by lines, how many
+//! lines it can have, and how many records the readers of its rings took. It has laws alone, each the contract of an
+//! empty function. They serve whoever runs a script on threads.
 #![tactic(auto)]
 
 mod laws;

@@ -59,7 +59,7 @@ pub fn sample_record(mode: Mode, sample: u64, fields: &Fields) -> Record
     Record::Sample { mode, body }
 }
 
-/// The record that so many records of this id were lost, with the trailer of sample_id_all where that flag is set.
+/// The record that `lost` records of this id were lost, with the trailer of sample_id_all where that flag is set.
 pub fn lost_record(id: u64, lost: u64, trailer: &Trailer) -> Record
     ensures says { seen result ≡ Lost id lost (trailer_if trailer.now.all trailer.now.sample trailer.now.fields) }
     ensures lawful { IsRecord (seen result) }

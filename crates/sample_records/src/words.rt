@@ -39,7 +39,7 @@ fn misc_number(mode: Mode) -> u16
     }
 }
 
-// The first word of a record of so many words.
+// The first word of a record of `words` words.
 fn first_word(kind: u32, misc: u16, words: usize) -> u64
     requires { words ≤ 9 }
     ensures { result ≡ header kind misc words }

@@ -36,7 +36,7 @@ impl Model for In {
     ghost invariant = { λ i. HoldsIn (record { consumer = i.consumer; words = i.words.items; records = i.records; kept = i.kept; room = i.room }) (vec_capacity i.words) i.place };
 }
 
-// Takes so many further words into the store.
+// Takes `count` further words into the store.
 fn take_words(consumer: &mut Consumer, table: &RingTable, words: &mut Vec<u64>, count: usize)
     requires ring { consumer.old.ring ≡ table.now }
     requires same { consumer.old.taken ≡ words.old.items }

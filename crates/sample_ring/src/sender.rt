@@ -36,7 +36,8 @@ impl Model for Out {
 }
 
 impl Out {
-    /// Loads the tail once and answers it: a place that the reader has released, in bytes, not before the last one seen.
+    /// Loads the tail once and answers it: a place that the reader has released, in bytes, not before the last one
+    /// seen.
     pub fn look(&mut self, table: &RingTable) -> u64
         requires { self.old.producer.ring ≡ table.now }
         ensures end { self.new ≡ record self.old { producer = record self.old.producer { last_tail = result; loads = self.old.producer.loads + 1 } } }

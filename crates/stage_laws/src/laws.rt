@@ -37,8 +37,8 @@ pub fn settling_leaves_others()
     ensures { SettleOthersLaw }
 {}
 
-/// After a step that comes at a settled stage only the processors that it touches have to be settled, every processor is
-/// settled then, and those that it does not touch have the standings that they had.
+/// After a step that comes at a settled stage only the processors that it touches have to be settled, every processor
+/// is settled then, and those that it does not touch have the standings that they had.
 pub fn steps_narrow()
     ensures { NarrowLaw }
 {}

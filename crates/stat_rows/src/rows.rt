@@ -50,8 +50,8 @@ fn row(machine: &Machine, script: &Script, event: EventNo) -> StatRow
     }
 }
 
-/// Adds to an empty list the row of each slot that holds an open event, by rising slot. The script is the one that the machine was made for, and the list has room
-/// for 256 rows. It takes no memory.
+/// Adds to an empty list the row of each slot that holds an open event, by rising slot. The script is the one that the
+/// machine was made for, and the list has room for 256 rows. It takes no memory.
 pub fn fill_rows(machine: &Machine, script: &Script, rows: &mut Vec<StatRow>)
     requires covered { IsCovered script.now }
     requires script { IsOf script.now machine.now }

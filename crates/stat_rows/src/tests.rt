@@ -45,7 +45,8 @@ fn open(slot: u16, kind: Kind, flags: AttrFlags) -> ToolLine
     }
 }
 
-/// One processor with one counter, for which two pinned events ask: only the first gets it. An event is closed again, and one is opened after the work.
+/// One processor with one counter, for which two pinned events ask: only the first gets it. An event is closed again,
+/// and one is opened after the work.
 fn script(alloc: Global) -> Result<Script, NoMemory> {
     let mut script = Script::new(alloc, 1);
     script.add_pmu(1, 1)?;

@@ -4,7 +4,8 @@ ghost use Rattle.step_laws.specs.Asking.{AnswerLaw};
 ghost use Rattle.step_laws.specs.Quiet.{QuietLaw, RefusedLaw};
 ghost use Rattle.step_laws.specs.Stepping.{LosingLaw, SteppedLaw};
 
-/// Where a world agrees with a record, a world that a step leads to agrees with the record after that step, if the step loses no record.
+/// Where a world agrees with a record, a world that a step leads to agrees with the record after that step, if the step
+/// loses no record.
 pub fn steps_lead_to_records()
     ensures { SteppedLaw }
 {}
@@ -14,8 +15,8 @@ pub fn losing_steps_lead_to_records()
     ensures { LosingLaw }
 {}
 
-/// A step that is no stretch of work, no switch that is done, no reset and no new period leaves what each instance has counted and what is left of its
-/// period.
+/// A step that is no stretch of work, no switch that is done, no reset and no new period leaves what each instance has
+/// counted and what is left of its period.
 pub fn quiet_steps_leave_accounts()
     ensures { QuietLaw }
 {}

@@ -1,5 +1,6 @@
-//! What a step does to a world, by the record that the definitions keep of a step. It has laws alone, each the contract of an empty
-//! function. They serve whoever shows that the calls that do a line leave a world that agrees with the record of that line.
+//! What a step does to a world, by the record that the definitions keep of a step. It has laws alone, each the contract
+//! of an empty function. They serve whoever shows that the calls that do a line leave a world that agrees with the
+//! record of that line.
 #![tactic(auto)]
 
 mod laws;

@@ -1,5 +1,5 @@
-//! Which task runs on a processor, and whose turn it is there: switches and the rotation of a tick. Its model is the world as one value. It serves whoever does a
-//! line of a processor.
+//! Which task runs on a processor, and whose turn it is there: switches and the rotation of a tick. Its model is the
+//! world as one value. It serves whoever does a line of a processor.
 #![tactic(auto)]
 
 mod rotation;

@@ -122,8 +122,9 @@ fn running(world: &World, cpu: CpuNo) -> Option<TaskNo>
     world.task_on(cpu)
 }
 
-/// A tick of a processor, but for its rescheduling: in each of its two contexts in which some eligible flexible group is not on, the first eligible
-/// flexible hardware group goes last. After perf_rotate_context of kernel/events/core.c. The processor must be rescheduled then, and no other one.
+/// A tick of a processor, but for its rescheduling: in each of its two contexts in which some eligible flexible group
+/// is not on, the first eligible flexible hardware group goes last. After perf_rotate_context of kernel/events/core.c.
+/// The processor must be rescheduled then, and no other one.
 pub fn rotate(world: &mut World, cpu: CpuNo)
     requires cpu { cpu.0 < length world.old.quiet.running }
     requires rescheduled { IsRescheduled world.old.hardware world.old cpu }

@@ -74,8 +74,9 @@ fn check_task(world: &World, cpu: CpuNo, task: TaskNo) -> Result<(), Reason>
     Ok(())
 }
 
-/// Whether a switch of a processor to a task, 0 to 63, or to none changes what runs there: it does not where that runs there already.
-/// `NoTask`: the task is not there or has exited. `Busy`: it is on another processor. The first of these that holds is the answer.
+/// Whether a switch of a processor to a task, 0 to 63, or to none changes what runs there: it does not where that runs
+/// there already. `NoTask`: the task is not there or has exited. `Busy`: it is on another processor. The first of these
+/// that holds is the answer.
 pub fn check_switch(world: &World, cpu: CpuNo, to: Option<TaskNo>) -> Result<bool, Reason>
     requires cpu { cpu.0 < length world.now.quiet.running }
     requires task { (task : Task) → to ≡ Some task → task.0 < 64 }
@@ -89,8 +90,9 @@ pub fn check_switch(world: &World, cpu: CpuNo, to: Option<TaskNo>) -> Result<boo
     Ok(!is_running(world.task_on(cpu), to))
 }
 
-/// Switches a processor to a task, 0 to 63, or to none, which is not refused and changes what runs there. The answer is whether it is a
-/// migration: another processor last switched to the task. The processor must be rescheduled then, and no other one.
+/// Switches a processor to a task, 0 to 63, or to none, which is not refused and changes what runs there. The answer is
+/// whether it is a migration: another processor last switched to the task. The processor must be rescheduled then, and
+/// no other one.
 pub fn move_to(world: &mut World, cpu: CpuNo, to: Option<TaskNo>) -> bool
     requires cpu { cpu.0 < length world.old.quiet.running }
     requires task { (task : Task) → to ≡ Some task → task.0 < 64 }

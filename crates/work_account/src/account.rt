@@ -16,9 +16,9 @@ use crate::visits::visit_processor;
 use perf_base::{CpuNo, Kind, Work};
 use perf_world::World;
 
-/// A stretch of work on a processor: its length is added to the processor's clock, to the enabled time of each event there that is
-/// ready and to the running time of each that is on, and what occurred to what those count. A burst of occurrences takes no
-/// more steps than one.
+/// A stretch of work on a processor: its length is added to the processor's clock, to the enabled time of each event
+/// there that is ready and to the running time of each that is on, and what occurred to what those count. A burst of
+/// occurrences takes no more steps than one.
 pub fn work(world: &mut World, cpu: CpuNo, work: &Work)
     requires cpu { cpu.0 < length world.old.quiet.running }
     requires judged { IsJudged world.old.hardware world.old cpu }
@@ -34,8 +34,8 @@ pub fn work(world: &mut World, cpu: CpuNo, work: &Work)
     world.pass_time(cpu, work.length);
 }
 
-/// One switch or one migration on a processor, in kernel mode: each event there that is on, counts that kind and does not leave out the kernel
-/// counts one more. No other kind occurs by itself, and none changes anything.
+/// One switch or one migration on a processor, in kernel mode: each event there that is on, counts that kind and does
+/// not leave out the kernel counts one more. No other kind occurs by itself, and none changes anything.
 pub fn soft(world: &mut World, cpu: CpuNo, kind: Kind)
     requires cpu { cpu.0 < length world.old.quiet.running }
     requires judged { IsJudged world.old.hardware world.old cpu }

@@ -26,8 +26,8 @@ fn excludes(mode: Mode, attr: &Attr) -> bool
     }
 }
 
-/// What an event that is on counts of a stretch of work: a clock its length, and a hardware kind its occurrences, but for those in
-/// a mode that the event leaves out.
+/// What an event that is on counts of a stretch of work: a clock its length, and a hardware kind its occurrences, but
+/// for those in a mode that the event leaves out.
 fn counted_by(work: &Work, attr: &Attr) -> u64
     requires kind { IsKind 16 attr.now.kind }
     ensures { result ≡ shares.counted_by work.now attr.now attr.now.kind }
@@ -40,7 +40,8 @@ fn counted_by(work: &Work, attr: &Attr) -> u64
     }
 }
 
-/// What an event that is on counts of one occurrence of a software kind: one where it is of that kind and does not leave out the kernel.
+/// What an event that is on counts of one occurrence of a software kind: one where it is of that kind and does not
+/// leave out the kernel.
 fn soft_hits(occurring: Kind, instance: &Instance) -> u64
     ensures { result ≡ soft.soft_hits occurring instance.now }
 {

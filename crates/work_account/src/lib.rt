@@ -1,5 +1,5 @@
-//! What a stretch of work on a processor, and a switch or a migration there, add to the events of a world. It serves the
-//! machine that does the lines of a processor.
+//! What a stretch of work on a processor, and a switch or a migration there, add to the events of a world. It serves
+//! the machine that does the lines of a processor.
 #![tactic(auto)]
 
 mod account;

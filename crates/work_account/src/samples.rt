@@ -23,7 +23,8 @@ pub struct Stretch {
     pub clock: u64,
 }
 
-/// A sample with the ring that it goes to and the original whose it is, and the id and the trailer that a LOST record before it has.
+/// A sample with the ring that it goes to and the original whose it is, and the id and the trailer that a LOST record
+/// before it has.
 #[derive(Clone, Copy)]
 pub struct Sample {
     pub ring: RingNo,

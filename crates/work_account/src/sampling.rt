@@ -24,9 +24,9 @@ use perf_base::{CpuNo, Work};
 use perf_world::World;
 use sample_ring::{Outs, Rings};
 
-/// A stretch of work on a processor, as `work` does it, with the records that it sends: for each overflow of an event there that is on one sample
-/// to the ring of the event's original, if that has one, those of one event before those of the next (kernel/events/core.c). A record that its
-/// ring loses is counted for the original. It takes no memory.
+/// A stretch of work on a processor, as `work` does it, with the records that it sends: for each overflow of an event
+/// there that is on one sample to the ring of the event's original, if that has one, those of one event before those of
+/// the next (kernel/events/core.c). A record that its ring loses is counted for the original. It takes no memory.
 pub fn work_sampled(world: &mut World, cpu: CpuNo, work: &Work, rings: &Rings, outs: &mut Outs)
     requires cpu { cpu.0 < length world.old.quiet.running }
     requires judged { IsJudged world.old.hardware world.old cpu }
@@ -42,7 +42,8 @@ pub fn work_sampled(world: &mut World, cpu: CpuNo, work: &Work, rings: &Rings, o
     ensures rescheduled { (other : Cpu) → IsRescheduled world.old.hardware world.old other → IsRescheduled world.old.hardware world.new other }
     ensures together { AreTogether rings.now outs.new }
 
-    // The ends and the counts of lost records are what the records of the definitions make of them, whatever function gives the remainders.
+    // The ends and the counts of lost records are what the records of the definitions make of them, whatever function
+    // gives the remainders.
     ensures sent { (left : ℕ → ℕ) → AreLeft world.old left → ends_of outs.new world.new ≡ send_all (ends_of outs.old world.old) (sent_by world.old left cpu work.now) }
 
     // So the rings have the accounts after the line, and the counts have grown by the losses that these have.

@@ -62,7 +62,7 @@ fn send_one(world: &mut World, sample: &Sample, rings: &Rings, outs: &mut Outs)
     count_lost(world, sample.origin, answer);
 }
 
-/// Sends a sample so many times: once for each overflow of a burst.
+/// Sends a sample `count` times: once for each overflow of a burst.
 pub fn send_burst(world: &mut World, sample: &Sample, count: u64, rings: &Rings, outs: &mut Outs)
     requires live { is_live world.old sample.now.origin ≡ true }
     requires lawful { IsRecord (seen sample.now.sent) }

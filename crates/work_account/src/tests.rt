@@ -1,4 +1,5 @@
-//! What an event that is on counts, case by case. A world is not tried here: its events come by calls of the crates above.
+//! What an event that is on counts, case by case. A world is not tried here: its events come by calls of the crates
+//! above.
 
 ghost use Rattle.std.specs.Prelude.{◌≡◌, true};
 ghost use Rattle.perf_base.specs.Scripts.{IsKind};

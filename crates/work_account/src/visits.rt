@@ -72,8 +72,8 @@ fn counted(world: &World, what: &Happening, key: Key, on: bool) -> u64
     }
 }
 
-/// An instance is given what happens: the time where it is ready, and where its group stands on, too, what it counts. It answers how often its
-/// period was over.
+/// An instance is given what happens: the time where it is ready, and where its group stands on, too, what it counts.
+/// It answers how often its period was over.
 fn visit(world: &mut World, what: &Happening, key: Key) -> Overflow
     requires kinds { length world.old.hardware.kind_pmus ≤ 16 }
     requires live { is_live world.old key ≡ true }
@@ -166,8 +166,8 @@ fn visit_both(
     visit_task(world, what, task, pinned, found);
 }
 
-/// All groups of a processor, in pass order: the pinned ones and then the flexible ones. It answers how often the period of each member was
-/// over.
+/// All groups of a processor, in pass order: the pinned ones and then the flexible ones. It answers how often the
+/// period of each member was over.
 pub fn visit_processor(world: &mut World, what: &Happening, cpu: CpuNo) -> Overflows
     requires cpu { cpu.0 < length world.old.quiet.running }
     requires judged { IsJudged world.old.hardware world.old cpu }

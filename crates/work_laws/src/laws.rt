@@ -13,7 +13,8 @@ pub fn ends_show_accounts()
     ensures { HeadLaw }
 {}
 
-/// After acts of a script of a weight of at most 65,536 there is space for all records that the next stretch of work sends.
+/// After acts of a script of a weight of at most 65,536 there is space for all records that the next stretch of work
+/// sends.
 pub fn acts_leave_space_for_work()
     ensures { SpaceLaw }
 {}

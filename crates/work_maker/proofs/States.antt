@@ -1,4 +1,4 @@
--- What a script says while the script of so many rounds is built.
+-- What a script says while the script of N rounds is built.
 use Rattle.std.proofs.Common.{◌≡◌, ℕ, zero, suc, ◌+◌, ◌*◌, ◌<◌, ◌≤◌, Bool, true, false, ltb, List, [], ◌∷◌, ◌++◌, length, get_or, set, sym, ap, refl, arith, ◌∙◌}
 use Rattle.std.specs.Prelude.{sum_by, replicate, if◌then◌else◌}
 use Rattle.std.specs.List.{range_with_len}

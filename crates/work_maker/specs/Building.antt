@@ -1,4 +1,4 @@
--- What stands in the script of so many rounds while it is built. It serves the contracts of this crate's own functions.
+-- What stands in the script of N rounds while it is built. It serves the contracts of this crate's own functions.
 use Rattle.std.specs.Prelude.{ℕ, ◌+◌, List, [], ◌∷◌, ◌++◌, slice_set, replicate, nat_lt, if◌then◌else◌}
 use Rattle.perf_base.specs.declared.numbers.CpuNo.{CpuNo}
 use Rattle.perf_base.specs.declared.lines.CpuLine.{CpuLine}

@@ -1,4 +1,4 @@
-//! The lines of the script of so many rounds.
+//! The lines of the script of N rounds.
 
 ghost use Rattle.std.specs.Prelude.{◌≡◌, ◌<◌, ◌≤◌};
 ghost use Rattle.make_spec.specs.Rounds as says;

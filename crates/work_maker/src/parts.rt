@@ -1,4 +1,4 @@
-//! Builds the script of so many rounds, part by part.
+//! Builds the script of N rounds, part by part.
 
 ghost use Rattle.std.specs.Prelude.{◌≡◌, ◌+◌, ◌<◌, ◌≤◌, [], ◌++◌, length, All, OnOk, IfOk};
 ghost use Rattle.perf_base.specs.Scripts.{IsCpuLine, IsToolLine, IsAct, empty_script, line_count};
@@ -166,8 +166,9 @@ fn add_order(script: &mut Script, rounds: u32) -> Result<(), NoMemory>
     repeat_acts(script, 16, &tool)
 }
 
-/// The script of so many rounds, 1 to 1000: on four processors four tasks take turns and work, while one tool counts and
-/// samples them. It has 16 lines a round and 36 more, and its weight is 64 a round. The one error is that memory runs out.
+/// The script of N rounds, 1 to 1000: on four processors four tasks take turns and work, while one tool counts and
+/// samples them. It has 16 lines a round and 36 more, and its weight is 64 a round. The one error is that memory runs
+/// out.
 pub fn make(alloc: Global, rounds: u32) -> Result<Script, NoMemory>
     requires { (1 ≤ rounds) × (rounds ≤ 1000) }
     ensures { IfOk result (λ script. script ≡ script_of_rounds rounds) }

@@ -44,8 +44,8 @@ impl Expected {
         }
     }
 
-    /// Whether there is a text that is replayed and stands for a script: one that is refused does so only where its order is at fault,
-    /// as a whole or at one act.
+    /// Whether there is a text that is replayed and stands for a script: one that is refused does so only where its
+    /// order is at fault, as a whole or at one act.
     pub fn has_script(&self) -> bool
         ensures { result ≡ has_script self.now }
     {

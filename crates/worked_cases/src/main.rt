@@ -1,7 +1,7 @@
-//! Runs the top call on worked cases, and says where its answer is not what a case expects. What a text stands for
-//! is then printed, and the printed text has to end as the text did. A case may also be words without a text. The cases
-//! are those of the list `cases` in the folder that the first word names, or else in the folder where it runs; each text,
-//! and the words of each other case, are a file beside the list.
+//! Runs the top call on worked cases, and says where its answer is not what a case expects. What a text stands for is
+//! then printed, and the printed text has to end as the text did. A case may also be words without a text. The cases
+//! are those of the list `cases` in the folder that the first word names, or else in the folder where it runs; each
+//! text, and the words of each other case, are a file beside the list.
 #![tactic(auto)]
 
 ghost use Rattle.std.specs.Prelude.{◌≡◌, ◌<◌, ◌≤◌, map, IfOk, string_bytes};

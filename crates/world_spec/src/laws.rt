@@ -99,15 +99,16 @@ pub fn groups_go_last()
     ensures kept { MoveKeptLaw }
 {}
 
-/// An instance that comes is the stage's: a group of its own, or a sibling of its leader; of an original it is what an open
-/// makes. The world is kept.
+/// An instance that comes is the stage's: a group of its own, or a sibling of its leader; of an original it is what an
+/// open makes. The world is kept.
 pub fn instances_come()
     ensures stage { AddLaw }
     ensures opened { OpenLaw }
     ensures kept { AddKeptLaw }
 {}
 
-/// An instance that goes, a sibling or a leader, is the stage's, and the world is kept where an original goes after its copies.
+/// An instance that goes, a sibling or a leader, is the stage's, and the world is kept where an original goes after its
+/// copies.
 pub fn instances_go()
     ensures stage { GoLaw }
     ensures kept { GoKeptLaw }
@@ -120,15 +121,15 @@ pub fn copies_fold()
     ensures sums { FoldSumsLaw }
 {}
 
-/// The seats of a processor that stands as rescheduling leaves it are the answer to SEATS. It stands so after a change that leaves
-/// its seats, its groups' standings and what verdicts need of them.
+/// The seats of a processor that stands as rescheduling leaves it are the answer to SEATS. It stands so after a change
+/// that leaves its seats, its groups' standings and what verdicts need of them.
 pub fn processors_stay_rescheduled()
     ensures seats { SeatsAnswerLaw }
     ensures stay { LeftLaw }
 {}
 
-/// Where a processor was judged and its refused pinned groups then go to error, the stage is settled there, the processor stands as
-/// rescheduling leaves it, and the world is kept.
+/// Where a processor was judged and its refused pinned groups then go to error, the stage is settled there, the
+/// processor stands as rescheduling leaves it, and the world is kept.
 pub fn refused_groups_fail()
     ensures stage { FailStageLaw }
     ensures rescheduled { FailLaw }
@@ -148,8 +149,8 @@ pub fn processors_reach_one()
     ensures context { OneInContextLaw }
 {}
 
-/// The groups of the passes, the members of a group and the instances of a context are those of the world's keys, and the stage is
-/// numbered.
+/// The groups of the passes, the members of a group and the instances of a context are those of the world's keys, and
+/// the stage is numbered.
 pub fn stages_are_listed()
     ensures passes { PassesLaw }
     ensures members { MembersLaw }
@@ -163,8 +164,8 @@ pub fn copies_come()
     ensures kept { CopyKeptLaw }
 {}
 
-/// The original in a slot, and its group, are those of the slot's family, and the slot is open where there is one. The original of
-/// each instance is there.
+/// The original in a slot, and its group, are those of the slot's family, and the slot is open where there is one. The
+/// original of each instance is there.
 pub fn originals_are_found()
     ensures original { OriginalLaw }
     ensures opened { OpenSlotLaw }
@@ -179,8 +180,8 @@ pub fn families_are_whole()
     ensures copies { CopiesLaw }
 {}
 
-/// The first world agrees with the record before the first step. Records with which a world agrees are those that agree with
-/// each other, and the sums of a family are the record's.
+/// The first world agrees with the record before the first step. Records with which a world agrees are those that agree
+/// with each other, and the sums of a family are the record's.
 pub fn worlds_agree()
     ensures first { FirstAgreesLaw }
     ensures records { RecordsAgreeLaw }
@@ -188,14 +189,16 @@ pub fn worlds_agree()
     ensures families { FamilyAgreesLaw }
 {}
 
-/// When an instance comes, goes or is folded, all others stay with their contexts and accounts, and so do other families.
+/// When an instance comes, goes or is folded, all others stay with their contexts and accounts, and so do other
+/// families.
 pub fn others_stay()
     ensures come { AddStaysLaw }
     ensures gone { GoStaysLaw }
     ensures folded { FoldStaysLaw }
 {}
 
-/// The instances that are on, and those that are ready, are those of the world's keys by its standings and own states, in pass order.
+/// The instances that are on, and those that are ready, are those of the world's keys by its standings and own states,
+/// in pass order.
 pub fn instances_work()
     ensures on { OnLaw }
     ensures ready { ReadyLaw }

@@ -147,7 +147,8 @@ pub fn place_of(context: Context) -> usize
     }
 }
 
-/// The groups of all contexts: those of the eight processors and then those of the 64 tasks. There is room for 256 groups in each list.
+/// The groups of all contexts: those of the eight processors and then those of the 64 tasks. There is room for 256
+/// groups in each list.
 #[derive(Drop)]
 pub struct Contexts {
     groups: Vec<ContextGroups>,

@@ -17,8 +17,8 @@ use stage_spec::Instance;
 use std::alloc::Global;
 use std::marker::Model;
 
-/// The events, each under the key that it was given, with what each has counted. Contracts see three finite maps by key:
-/// the entries, the accounts and the standings. There is room for 4,352 events: 256 originals and 4,096 copies.
+/// The events, each under the key that it was given, with what each has counted. Contracts see three finite maps by
+/// key: the entries, the accounts and the standings. There is room for 4,352 events: 256 originals and 4,096 copies.
 #[derive(Drop)]
 pub struct EventTable {
     alloc: Global,
@@ -150,7 +150,8 @@ impl EventTable {
         key
     }
 
-    /// An event that is just born comes as a member of a leader's group, which is told of it apart. Its key named nothing.
+    /// An event that is just born comes as a member of a leader's group, which is told of it apart. Its key named
+    /// nothing.
     pub fn insert_sibling(
         &mut self,
         instance: Instance,

@@ -105,7 +105,8 @@ impl Processor {
     }
 }
 
-/// The processors of a machine. Contracts see three lists by processor: the tasks on them, their clocks and their seats.
+/// The processors of a machine. Contracts see three lists by processor: the tasks on them, their clocks and their
+/// seats.
 #[derive(Drop)]
 pub struct Processors {
     rows: Vec<Processor>,

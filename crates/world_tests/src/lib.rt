@@ -1,4 +1,5 @@
-//! Tests of a world of events: it is driven by lines and by its own changes, and read back. Nothing of it is for callers.
+//! Tests of a world of events: it is driven by lines and by its own changes, and read back. Nothing of it is for
+//! callers.
 #![tactic(auto)]
 
 #[cfg(test)]

@@ -11,7 +11,8 @@ use stage_spec::TaskState;
 /// So many names stand in a row, and 0 behind the last.
 pub type Names = [u64; 6];
 
-/// The id of an instance, its own state, its context, whether its group is among the pinned ones, and where that stands.
+/// The id of an instance, its own state, its context, whether its group is among the pinned ones, and where that
+/// stands.
 pub type Post = (u64, Own, Context, bool, Standing);
 
 /// The leader of its group, the original of its family, and the copy with the next greater id.
@@ -31,7 +32,8 @@ pub enum Look {
     Group(Who, Names),
     /// An instance leads no group.
     Sibling(Who),
-    /// Of the group of a leader the mask of the leader, whether all members are of software kinds, and whether it may go on on each of three processors.
+    /// Of the group of a leader the mask of the leader, whether all members are of software kinds, and whether it may
+    /// go on on each of three processors.
     Asks(Who, u32, bool, [bool; 3]),
     /// The ring that an instance writes to, whether it has a mapping of its own, and its period.
     Ring(Who, Option<RingNo>, bool, u64),

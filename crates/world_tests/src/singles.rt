@@ -1,4 +1,5 @@
-//! Changes of one instance, processor or task, each done to a world where it may be. A line does several of them, and a single one may leave a stage that no line leads to.
+//! Changes of one instance, processor or task, each done to a world where it may be. A line does several of them, and a
+//! single one may leave a stage that no line leads to.
 
 ghost use Rattle.std.specs.Prelude.{◌≡◌, true};
 ghost use Rattle.world_spec.specs.Value.{is_live};
