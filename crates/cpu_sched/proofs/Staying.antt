@@ -21,7 +21,7 @@ use Rattle.stage_laws.proofs.Counts.{count-append}
 use Rattle.counter_match.specs.Seating.{empty_seating}
 use Rattle.world_spec.specs.Kept.{post_at, leads, once_if, is_member_of, IsKept}
 use Rattle.world_spec.specs.Listings.{pass_leaders, task_leaders}
-use Rattle.world_spec.specs.Rescheduled.{IsRescheduled, pinned_leaders, fail_by, fail_group, fail_groups}
+use Rattle.world_spec.specs.Rescheduled.{IsUntouched, pinned_leaders, fail_by, fail_group, fail_groups}
 use Rattle.world_spec.specs.StageOf.{after_first, group_at, stage_of}
 use Rattle.world_spec.specs.Value.{World, Leaders, leaders_of, is_live, entry_at, instance_at, standing_at, seats_at, is_key, times}
 use Rattle.world_spec.proofs.Failing.{failed_instance, are-failed, failed-rest, AllLead, failed-posts}
@@ -29,7 +29,7 @@ use Rattle.world_spec.proofs.GoneLeaderStage.{map-within}
 use Rattle.world_spec.proofs.Keys.{key-is, is_key-true, times-cons}
 use Rattle.world_spec.proofs.Listings.{passes-are, reached_leaders, reached-context, reached-leading}
 use Rattle.world_spec.proofs.Moving.{leads-parts}
-use Rattle.world_spec.proofs.Standing.{left-rescheduled}
+use Rattle.world_spec.proofs.Standing.{left-untouched}
 use Rattle.cpu_sched.specs.Judging.{retold}
 use Rattle.cpu_sched.specs.Resched.{StaysBut}
 use Rattle.cpu_sched.proofs.Judged.{same-number}
@@ -192,8 +192,8 @@ group-elsewhere hw v w x cpu other c h apart q lead has =
     instance-away hw v w x cpu c j (not-here hw v cpu other h apart j (sibling-there hw v other q j h lead some has))) in
     λ i. record { leader = leader i; siblings = siblings i }
 
-pub others-stay : (hw : Hardware) (v w x : World) (cpu other : CpuNo) → Course hw v w x cpu → IsKept hw v → other.0 < 8 → other.0 ≢ cpu.0 → IsRescheduled hw v other → IsRescheduled hw x other
-others-stay hw v w x cpu other c h low apart before =
+pub others-stay : (hw : Hardware) (v w x : World) (cpu other : CpuNo) → Course hw v w x cpu → IsKept hw v → other.0 < 8 → other.0 ≢ cpu.0 → IsUntouched hw v x other
+others-stay hw v w x cpu other c h low apart =
     let posts : post_at x ≡ post_at v = posts-stay hw v w x cpu c in
     let running : x.quiet.running ≡ v.quiet.running = ap (λ q. q.running) (quiet-stays hw v w x cpu c) in
     let lists : pass_leaders x other ≡ pass_leaders v other =
@@ -204,7 +204,7 @@ others-stay hw v w x cpu other c h low apart before =
     let same : passes (stage_of x) other ≡ passes (stage_of v) other = passes-are x other ∙ (ap (map (map (group_at x))) lists ∙ (groups ∙ sym (passes-are v other))) in
     let has : (k : Key) → has_context (stage_of x) other (entry_at x k).context ≡ has_context (stage_of v) other (entry_at v k).context =
     λ k. λ i. has_context (stage_of (record v { quiet = record v.quiet { running = running i } })) other (posts i k).context in
-    left-rescheduled hw v x other low (record {
+    left-untouched hw v x other low (record {
       briefs = ap (map (λ pass. map (brief_of hw) (filter (is_eligible hw other) pass))) same;
       seats = seats-stay hw v w x cpu c other apart;
       groups = λ k lead there.
@@ -212,4 +212,4 @@ others-stay hw v w x cpu other c h low apart before =
           let there_before : has_context (stage_of v) other (entry_at v k).context ≡ true = sym (has k) ∙ there in
           let off : has_context (stage_of v) cpu (entry_at v k).context ≡ false = not-here hw v cpu other h apart k there_before in
           (lead_before, there_before, ap (λ i. i.id) (instance-away hw v w x cpu c k off), standing-away hw v w x cpu c k off);
-    }) before
+    })

@@ -3,7 +3,7 @@
 ghost use Rattle.std.specs.Prelude.{◌≡◌, ◌≢◌, ◌<◌, ◌≤◌, length};
 ghost use Rattle.perf_base.specs.declared.numbers.CpuNo.{CpuNo as Cpu};
 ghost use Rattle.stage_spec.specs.Settle.{settle};
-ghost use Rattle.world_spec.specs.Rescheduled.{IsRescheduled};
+ghost use Rattle.world_spec.specs.Rescheduled.{AreUntouchedBut, IsRescheduled};
 ghost use Rattle.world_spec.specs.StageOf.{stage_of};
 ghost use Rattle.cpu_sched.specs.Resched.{StaysBut};
 
@@ -20,8 +20,7 @@ pub fn resched<L: Ledger>(world: &mut World, cpu: CpuNo, tests: &mut Steps<L>)
     requires { cpu.0 < length world.old.quiet.running }
     ensures stage { stage_of world.new ≡ settle world.old.hardware cpu (stage_of world.old) }
     ensures rescheduled { IsRescheduled world.old.hardware world.new cpu }
-    ensures others { (other : Cpu) → other.0 < length world.old.quiet.running → other.0 ≢ cpu.0
-        → IsRescheduled world.old.hardware world.old other → IsRescheduled world.old.hardware world.new other }
+    ensures others { AreUntouchedBut cpu world.old world.new }
     ensures rest { StaysBut cpu world.old world.new }
     ensures counted { tests.old ≤ tests.new }
 {

@@ -30,7 +30,7 @@ use Rattle.world_spec.specs.Kept.{in_option, is_copy_in, is_original_in, once_if
 use Rattle.world_spec.specs.Changes.{all_but}
 use Rattle.world_spec.specs.Adding.{drop_instance, out_of_family}
 use Rattle.world_spec.specs.Goings.{MayGo}
-use Rattle.world_spec.specs.Rescheduled.{IsRescheduled}
+use Rattle.world_spec.specs.Rescheduled.{IsUntouched}
 use Rattle.world_spec.proofs.Coming.{number_true, three}
 use Rattle.world_spec.proofs.Copies.{times-at}
 use Rattle.world_spec.proofs.Counting.{any-there}
@@ -38,7 +38,7 @@ use Rattle.world_spec.proofs.Families.{family-ids}
 use Rattle.world_spec.proofs.Keys.{all_but-cons, all_but-none, is_key-same, once-true, times-cons}
 use Rattle.world_spec.proofs.Listings.{is-numbered}
 use Rattle.world_spec.proofs.Moving.{leads-parts}
-use Rattle.world_spec.proofs.Standing.{left-rescheduled}
+use Rattle.world_spec.proofs.Standing.{left-untouched}
 use Rattle.event_commands.specs.Changing.{family_keys, keys_named}
 use Rattle.event_commands.specs.Closing.{HaveGone, IsClosed}
 use Rattle.event_commands.specs.Reaching.{reaches_key}
@@ -254,6 +254,7 @@ is-closed hw w new e h g left = record {
   instances = λ k off. g.instances k (not-done hw w e k h off);
   contexts = λ k off. g.contexts k (not-done hw w e k h off);
   accounts = λ k off. g.accounts k (not-done hw w e k h off);
+  standings = g.standings;
   family = left;
   families = g.families;
 }
@@ -266,14 +267,14 @@ none-there p keys k none some = elim (cases_Bool (p k)) [
 ]
 
 pub closed-others : (hw : Hardware) (w new : World) (e : EventNo) (cpu : CpuNo) → IsKept hw w → HaveGone e ((family_of w e).copies ++ in_option (family_of w e).original) w new
-    → stage_of new ≡ closed e (stage_of w) → cpu.0 < 8 → reaches (stage_of w) (e ∷ []) cpu ≡ false → IsRescheduled hw w cpu → IsRescheduled hw new cpu
-closed-others hw w new e cpu h g stage low off before =
+    → stage_of new ≡ closed e (stage_of w) → cpu.0 < 8 → reaches (stage_of w) (e ∷ []) cpu ≡ false → IsUntouched hw w new cpu
+closed-others hw w new e cpu h g stage low off =
     let done : List Key = (family_of w e).copies ++ in_option (family_of w e).original in
     let away : (k : Key) → 1 ≤ times k done → reaches_key w cpu k ≡ false = λ k some.
     none-there (reaches_key w cpu) (keys_named w (e ∷ [])) k (sym (reaches-are hw w (e ∷ []) cpu h) ∙ off)
     (omega (arith, some, done-times w e k, count-append (is_key k) (family_keys w e) [])) in
     let running : new.quiet ≡ w.quiet = ap (λ (x : World). x.quiet) g.world in
-    left-rescheduled hw w new cpu low (record {
+    left-untouched hw w new cpu low (record {
       briefs = ap (λ s. briefs hw s cpu) stage
           ∙ briefs-of_passes hw cpu (stage_of w) (closed e (stage_of w)) (passes-same (stage_of w) (closed e (stage_of w)) cpu (close-reaches e (stage_of w) cpu off));
       seats = ap (λ (x : World). seats_at x cpu) g.world;
@@ -286,4 +287,4 @@ closed-others hw w new e cpu h g stage low off before =
             | inr more ↦ absurd (false≢true (sym (g.dead q (omega (arith, more))) ∙ live))
           ]) in
           (stood.0, ap (has_context (stage_of w) cpu) (sym (g.contexts q stays)) ∙ there, ap (λ i. i.id) (g.instances q stays), stood.1);
-    }) before
+    })

@@ -1,5 +1,5 @@
 -- Instances that go one after the other: what each leaves, and what all leave.
-use Rattle.std.specs.Prelude.{◌≡◌, ◌+◌, ◌≤◌, true, false, ◌&&◌, List, [], ◌∷◌, ◌++◌, map, slice_set}
+use Rattle.std.specs.Prelude.{◌≡◌, ◌+◌, ◌≤◌, true, false, ◌&&◌, List, [], ◌∷◌, ◌++◌, map, Some, slice_set, if◌then◌else◌}
 use Rattle.std.specs.FinMap.{FinMap, get}
 use Rattle.std.specs.List.{fold}
 use Rattle.std.specs.Option.{unwrap_or}
@@ -26,11 +26,11 @@ use Rattle.world_spec.proofs.Dropping.{it-leads}
 use Rattle.world_spec.proofs.Gone.{get-left, left-goes, left_world}
 use Rattle.world_spec.proofs.GoneLeader.{AreFreed, dropped-leader, entries_freed, freed_standings, led-disbands, led_world, siblings-stand, standings_freed, tables-freed}
 use Rattle.world_spec.proofs.GoneLeaderStage.{map-within}
-use Rattle.world_spec.proofs.Keys.{key-is, is_key-same, is_key-other, once-true, once-false, times-cons}
+use Rattle.world_spec.proofs.Keys.{key-is, is_key-same, is_key-other, is_key-true, once-true, once-false, times-cons}
 use Rattle.world_spec.proofs.Moving.{leads-parts}
 use Rattle.world_spec.proofs.Staying.{go-stays}
-use Rattle.world_spec.proofs.Tables.{get-there}
-use Rattle.event_commands.specs.Closing.{HaveGone, IsThinned}
+use Rattle.world_spec.proofs.Tables.{get-here, get-there}
+use Rattle.event_commands.specs.Closing.{HaveGone, IsThinned, stood}
 
 -- groups that stand where they stood
 abbrev Stands : World → World → Key → Type 0
@@ -75,11 +75,65 @@ sibling-groups hw w k q h live apart leads_now = (
   ap (λ o. unwrap_or o standing.Out) (get-left w.standings k.0 q.0 apart),
 )
 
+-- those that were freed stand Out
+freed_standing : (keys : List Key) (m : FinMap nat_cmp Standing) (q : Key) → 1 ≤ times q keys → get (fold freed_standings m keys) q.0 ≡ Some standing.Out
+freed_standing [] m q some = absurd (omega (arith, some))
+freed_standing (k ∷ keys) m q some = elim (cases_eq (times q keys) 0) [
+  | inr more ↦ freed_standing keys (freed_standings m k) q (omega (arith, more))
+  | inl none ↦ elim (cases_eq q.0 k.0) [
+    | inl e ↦ not-freed_standing keys (freed_standings m k) q none ∙ get-here m k.0 standing.Out q.0 e
+    | inr apart ↦ absurd (omega (arith, some, none, times-cons q k keys, once-false (is_key q k) (is_key-other q k (λ e. apart (sym e)))))
+  ]
+]
+
+stood-leading : (w : World) (q : Key) → leads (post_at w) q ≡ true → standing_at w q ≡ stood w q
+stood-leading w q lead = sym (ap (λ b. if b then standing_at w q else standing.Out) lead)
+
+stood-new : (w : World) (q : Key) → leads (post_at w) q ≡ false → standing.Out ≡ stood w q
+stood-new w q off = sym (ap (λ b. if b then standing_at w q else standing.Out) off)
+
+-- a leader is in no other one's group
+not-its : (w : World) (k q : Key) → leads (post_at w) q ≡ true → (q.0 ≡ k.0 → ⊥) → is_member_of (post_at w) k q ≡ false
+not-its w k q lead apart =
+    let parts : (is_live w q ≡ true) × (is_key q (entry_at w q).leader ≡ true) = leads-parts (is_live w q) (is_key q (entry_at w q).leader) lead in
+    let own : (entry_at w q).leader ≡ q = key-is (entry_at w q).leader q (is_key-true q (entry_at w q).leader parts.1) in
+    λ i. parts.0 i && (ap (is_key k) own ∙ is_key-other k q apart) i
+
+leader-leading : (hw : Hardware) (w : World) (k q : Key) → IsKept hw w → leads (post_at w) k ≡ true → (q.0 ≡ k.0 → ⊥) → leads (post_at w) q ≡ true
+    → leads (post_at (led_world w k (entries_freed w k) (standings_freed w k))) q ≡ true
+leader-leading hw w k q h lead apart before =
+    let f : AreFreed w k (entries_freed w k) (standings_freed w k) = tables-freed hw w k h lead in
+    let d : Disbands (post_at w) (post_at (led_world w k (entries_freed w k) (standings_freed w k))) k = led-disbands w k (entries_freed w k) (standings_freed w k) lead f in
+    ap (λ p. p.live && is_key q p.leader) (d.others q apart (not-its w k q before apart)) ∙ before
+
+leader-standings : (hw : Hardware) (w : World) (k q : Key) → IsKept hw w → leads (post_at w) k ≡ true → (q.0 ≡ k.0 → ⊥)
+    → leads (post_at (led_world w k (entries_freed w k) (standings_freed w k))) q ≡ true → standing_at (led_world w k (entries_freed w k) (standings_freed w k)) q ≡ stood w q
+leader-standings hw w k q h lead apart leads_now =
+    let t : World = led_world w k (entries_freed w k) (standings_freed w k) in
+    let f : AreFreed w k (entries_freed w k) (standings_freed w k) = tables-freed hw w k h lead in
+    let d : Disbands (post_at w) (post_at t) k = led-disbands w k (entries_freed w k) (standings_freed w k) lead f in
+    let keys : List Key = after_first (entry_at w k).members in
+    let sib : AreSiblings (post_at w) k keys = siblings-stand hw w k h lead in
+    elim (cases_Bool (is_member_of (post_at w) k q)) [
+      | inl is ↦
+          let off : leads (post_at w) q ≡ false =
+          λ i. member-live (post_at w) k q is i && (ap (is_key q) (member-led (post_at w) k q is) ∙ is_key-other q k (λ e. apart (sym e))) i in
+          ap (λ o. unwrap_or o standing.Out)
+          (get-left (standings_freed w k) k.0 q.0 apart ∙ freed_standing keys w.standings q (omega (arith, sib.others q apart, once-true (is_member_of (post_at w) k q) is)))
+          ∙ stood-new w q off
+      | inr off ↦
+          ap (λ o. unwrap_or o standing.Out)
+          (get-left (standings_freed w k) k.0 q.0 apart ∙ not-freed_standing keys w.standings q (sib.others q apart ∙ once-false (is_member_of (post_at w) k q) off))
+          ∙ stood-leading w q (ap (λ p. p.live && is_key q p.leader) (sym (d.others q apart off)) ∙ leads_now)
+    ]
+
 -- an instance that goes, with the tables that it leaves
 record Drops (w after : World) (k : Key) : Type 0 where
   world : IsThinned w after
   families : after.families ≡ slice_set w.families (instance_at w k).event.0 (out_of_family (instance_at w k).copy k (family_of w (instance_at w k).event))
   groups : (q : Key) → (q.0 ≡ k.0 → ⊥) → leads (post_at after) q ≡ true → ((entry_at after q).context ≡ (entry_at w k).context → ⊥) → Stands w after q
+  leading : (q : Key) → (q.0 ≡ k.0 → ⊥) → leads (post_at w) q ≡ true → leads (post_at after) q ≡ true
+  standings : (q : Key) → (q.0 ≡ k.0 → ⊥) → leads (post_at after) q ≡ true → standing_at after q ≡ stood w q
 
 one-drops : (hw : Hardware) (w : World) (k : Key) → IsKept hw w → MayGo w k → Drops w (drop_instance k w) k
 one-drops hw w k h may = elim (cases_Bool (is_key k (entry_at w k).leader)) [
@@ -87,11 +141,17 @@ one-drops hw w k h may = elim (cases_Bool (is_key k (entry_at w k).leader)) [
     world = refl;
     families = refl;
     groups = λ q apart leads_now away. leader-groups hw w k q h (it-leads w k may own) apart leads_now away;
+    leading = λ q apart lead. leader-leading hw w k q h (it-leads w k may own) apart lead;
+    standings = λ q apart leads_now. leader-standings hw w k q h (it-leads w k may own) apart leads_now;
   })
   | inr sibling ↦ subst (λ b. Drops w (taken_out k (instance_at w k) (leave_group k b w)) k) (sym sibling) (record {
     world = refl;
     families = refl;
     groups = λ q apart leads_now away. sibling-groups hw w k q h may.live apart leads_now;
+    leading = λ q apart lead. ap (λ p. p.live && is_key q p.leader) ((left-goes hw w k h may.live).same q apart) ∙ lead;
+    standings = λ q apart leads_now.
+        (let stays = sibling-groups hw w k q h may.live apart leads_now in
+        stays.1 ∙ stood-leading w q stays.0);
   })
 ]
 
@@ -129,6 +189,10 @@ one-by hw w e k h may is stage =
       groups = λ q lead away.
           let live : is_live (drop_instance k w) q ≡ true = (leads-parts (is_live (drop_instance k w) q) (is_key q (entry_at (drop_instance k w) q).leader) lead).0 in
           d.groups q (apart-live (drop_instance k w) k q g.dead live) lead (away k (itself k));
+      leading = λ q lead none. d.leading q (other-key q k none) lead;
+      standings = λ q lead.
+          let live : is_live (drop_instance k w) q ≡ true = (leads-parts (is_live (drop_instance k w) q) (is_key q (entry_at (drop_instance k w) q).leader) lead).0 in
+          d.standings q (apart-live (drop_instance k w) k q g.dead live) lead;
     }
 
 pub one-gone : (hw : Hardware) (w new : World) (e : EventNo) (k : Key) → IsKept hw w → MayGo w k → (instance_at w k).event ≡ e → new ≡ drop_instance k w
@@ -147,9 +211,20 @@ none-gone e w = record {
   accounts = λ k none. refl;
   families = λ other apart. refl;
   groups = λ q lead away. (lead, refl);
+  leading = λ q lead none. lead;
+  standings = λ q lead. stood-leading w q lead;
 }
 
 -- some after others
+stood-then : (w m : World) (q : Key) → (leads (post_at m) q ≡ true → standing_at m q ≡ stood w q) → (leads (post_at w) q ≡ true → leads (post_at m) q ≡ true) → stood m q ≡ stood w q
+stood-then w m q stands still = elim (cases_Bool (leads (post_at m) q)) [
+  | inl lead ↦ sym (stood-leading m q lead) ∙ stands lead
+  | inr off ↦ elim (cases_Bool (leads (post_at w) q)) [
+    | inl before ↦ absurd (false≢true (sym off ∙ still before))
+    | inr never ↦ sym (stood-new m q off) ∙ stood-new w q never
+  ]
+]
+
 thinned-twice : (w m n : World) → IsThinned w m → IsThinned m n → IsThinned w n
 thinned-twice w m n first second =
     second
@@ -188,4 +263,16 @@ both-gone e xs ys w m n first second apart =
           let mid = second.groups q lead (λ k some is. away k (omega (arith, some, split k xs ys)) (is ∙ first.contexts k (apart k some))) in
           let old = first.groups q mid.0 (λ k some is. away k (omega (arith, some, split k xs ys)) (second.contexts q stays ∙ is)) in
           (old.0, mid.1 ∙ old.1);
+      leading = λ q lead none. second.leading q (first.leading q lead (xs_none q none)) (ys_none q none);
+      standings = λ q lead.
+          let live : is_live n q ≡ true = (leads-parts (is_live n q) (is_key q (entry_at n q).leader) lead).0 in
+          let stays : times q ys ≡ 0 = (elim (cases_eq (times q ys) 0) [
+            | inl none ↦ none
+            | inr more ↦ absurd (false≢true (sym (second.dead q (omega (arith, more))) ∙ live))
+          ]) in
+          let stayed : times q xs ≡ 0 = (elim (cases_eq (times q xs) 0) [
+            | inl none ↦ none
+            | inr more ↦ absurd (false≢true (sym (first.dead q (omega (arith, more))) ∙ (sym (second.live q stays) ∙ live)))
+          ]) in
+          second.standings q lead ∙ stood-then w m q (first.standings q) (λ before. first.leading q before stayed);
     }

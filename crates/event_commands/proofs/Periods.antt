@@ -21,10 +21,10 @@ use Rattle.world_spec.specs.Value.{World, no_account, is_live, instance_at, acco
 use Rattle.world_spec.specs.StageOf.{stage_of}
 use Rattle.world_spec.specs.Kept.{leads, post_at, IsKept}
 use Rattle.world_spec.specs.Changes.{set_period}
-use Rattle.world_spec.specs.Rescheduled.{IsRescheduled}
+use Rattle.world_spec.specs.Rescheduled.{IsUntouched}
 use Rattle.world_spec.proofs.Families.{open-is, original-is}
 use Rattle.world_spec.proofs.Listings.{is-numbered}
-use Rattle.world_spec.proofs.Standing.{left-rescheduled}
+use Rattle.world_spec.proofs.Standing.{left-untouched}
 use Rattle.world_spec.proofs.Tables.{get-here, get-there, posts-same}
 use Rattle.event_commands.specs.Commands.{HasPeriod}
 
@@ -87,11 +87,11 @@ period-stage hw w new e period k h is changed =
 
 -- processors see no period
 pub period-others : (hw : Hardware) (w new : World) (e : EventNo) (period : ℕ) (k : Key) (cpu : CpuNo) → IsKept hw w → is_live w k ≡ true → new ≡ set_period k period w
-    → stage_of new ≡ with_period e period (stage_of w) → cpu.0 < 8 → IsRescheduled hw w cpu → IsRescheduled hw new cpu
-period-others hw w new e period k cpu h live changed stage low before =
+    → stage_of new ≡ with_period e period (stage_of w) → cpu.0 < 8 → IsUntouched hw w new cpu
+period-others hw w new e period k cpu h live changed stage low =
     let posts : post_at new ≡ post_at w =
     ap post_at changed ∙ posts-same (λ i. record i { attr = record i.attr { period = period } }) (λ there x. refl) w k live in
-    left-rescheduled hw w new cpu low (record {
+    left-untouched hw w new cpu low (record {
       briefs = ap (λ s. briefs hw s cpu) stage ∙ period-briefs hw e period (stage_of w) cpu;
       seats = ap (λ (x : World). seats_at x cpu) changed;
       groups = λ q lead has. (
@@ -100,7 +100,7 @@ period-others hw w new e period k cpu h live changed stage low before =
         ap (λ at. (at q).id) posts,
         ap (λ (x : World). standing_at x q) changed,
       );
-    }) before
+    })
 
 -- a machine has eight processors at most
 pub few-cpus : (pmus : Hardware) (w : World) (cpu : CpuNo) → IsKept w.hardware w → pmus ≡ w.hardware → length pmus.cpu_pmus ≤ 8 → cpu.0 < length w.quiet.running → cpu.0 < 8

@@ -1,10 +1,10 @@
 -- Sets to which the processors that reach some keys are added, and that these processors are those that reach the families on the stage.
-use Rattle.std.specs.Prelude.{◌≡◌, ℕ, ◌+◌, ◌^◌, ◌<◌, ◌≤◌, ◌==◌, suc, max, Bool, true, false, ◌||◌, bit_or, List, [], ◌∷◌, ◌++◌, length, take, Option, Some, None, slice_index_or}
+use Rattle.std.specs.Prelude.{◌≡◌, ℕ, ◌+◌, ◌^◌, ◌<◌, ◌≤◌, ◌==◌, suc, max, Bool, true, false, ◌&&◌, ◌||◌, bit_or, List, [], ◌∷◌, ◌++◌, length, take, Option, Some, None, slice_index_or, if◌then◌else◌}
 use Rattle.std.specs.Int.{bit_at}
 use Rattle.std.specs.List.{list_any}
 use Rattle.std.proofs.Common.{arith, refl, sym, ap, ◌∙◌, inl, inr, take_all}
 use Rattle.std.proofs.Math.Seq.{take-suc}
-use Rattle.std.proofs.lemmas.Bool.{cases_eq, cases_Bool}
+use Rattle.std.proofs.lemmas.Bool.{cases_eq, cases_Bool, false≢true}
 use Rattle.std.proofs.lemmas.Bool.Decides.{nat_tests}
 use Rattle.std.proofs.lemmas.Grind.{flat_map-append}
 use Rattle.std.proofs.lemmas.List.{append-nil}
@@ -18,7 +18,7 @@ use Rattle.stage_spec.specs.Hardware.{has_cpu}
 use Rattle.world_spec.specs.Value.{World}
 use Rattle.world_spec.specs.Kept.{in_option}
 use Rattle.event_commands.specs.Changing.{family_keys, keys_named}
-use Rattle.event_commands.specs.Reaching.{reaches_key, AreReaching, AddsReaching}
+use Rattle.event_commands.specs.Reaching.{reaches_key, is_there, is_reaching, AreReaching, AddsReaching}
 
 -- one processor more
 one-more : (b n : ℕ) → n ≡ max b 1 → b < 2 → (n == 1) ≡ true
@@ -27,24 +27,45 @@ one-more b n is low = grind (arith, nat_tests, is, low)
 no-more : (b n : ℕ) → n ≡ max b 0 → n ≡ b
 no-more b n is = grind (arith, is)
 
-pub inserted : (w : World) (k : Key) (set now : CpuSet) (c : CpuNo) → reaches_key w c k ≡ true → ((cpu : CpuNo) → reaches_key w cpu k ≡ true → cpu.0 ≡ c.0)
+second : (a b : Bool) → (a && b) ≡ true → b ≡ true
+second true b h = h
+second false b h = absurd (false≢true h)
+
+inserted : (w : World) (k : Key) (set now : CpuSet) (c : CpuNo) → is_reaching w c k ≡ true → ((cpu : CpuNo) → is_reaching w cpu k ≡ true → cpu.0 ≡ c.0)
     → now.0 ≡ bit_or set.0 (2 ^ c.0) → AddsReaching w (k ∷ []) set now
 inserted w k set now c has only is cpu = elim (cases_eq cpu.0 c.0) [
   | inl same ↦
       let there : has_cpu cpu.0 now ≡ true =
       one-more (bit_at set.0 cpu.0) (bit_at now.0 cpu.0)
       (ap (λ n. bit_at n cpu.0) is ∙ (bit_at_or set.0 (2 ^ c.0) cpu.0 ∙ ap (max (bit_at set.0 cpu.0)) (ap (bit_at (2 ^ c.0)) same ∙ bit_at-pow_same c.0))) (bit_at-lt set.0 cpu.0) in
-      let mine : reaches_key w cpu k ≡ true = ap (λ n. reaches_key w (record { 0 = n }) k) same ∙ has in
+      let mine : is_reaching w cpu k ≡ true = ap (λ n. is_reaching w (record { 0 = n }) k) same ∙ has in
       there ∙ sym (ap (λ b. (b || false) || has_cpu cpu.0 set) mine)
   | inr apart ↦
       let kept : bit_at now.0 cpu.0 ≡ bit_at set.0 cpu.0 =
       no-more (bit_at set.0 cpu.0) (bit_at now.0 cpu.0)
       (ap (λ n. bit_at n cpu.0) is ∙ (bit_at_or set.0 (2 ^ c.0) cpu.0 ∙ ap (max (bit_at set.0 cpu.0)) (bit_at-pow_other c.0 cpu.0 apart))) in
-      elim (cases_Bool (reaches_key w cpu k)) [
+      elim (cases_Bool (is_reaching w cpu k)) [
         | inl mine ↦ absurd (apart (only cpu mine))
         | inr off ↦ ap (λ n. n == 1) kept ∙ sym (ap (λ b. (b || false) || has_cpu cpu.0 set) off)
       ]
 ]
+
+-- a processor is added where the machine has it
+added-by : (w : World) (k : Key) (set now : CpuSet) (c : CpuNo) (b : Bool) → is_there w c ≡ b → reaches_key w c k ≡ true → ((cpu : CpuNo) → reaches_key w cpu k ≡ true → cpu.0 ≡ c.0)
+    → now.0 ≡ (if b then bit_or set.0 (2 ^ c.0) else set.0) → AddsReaching w (k ∷ []) set now
+added-by w k set now c true there has only is cpu = inserted w k set now c (λ i. there i && has i) (λ cpu mine. only cpu (second (is_there w cpu) (reaches_key w cpu k) mine)) is cpu
+added-by w k set now c false there has only is cpu =
+    ap (λ n. bit_at n cpu.0 == 1) is
+    ∙ sym (ap (λ b. (b || false) || has_cpu cpu.0 set) (none (is_there w cpu) (reaches_key w cpu k) (λ in_it reached. false≢true (sym there ∙ (ap (λ n. is_there w (record { 0 = n })) (sym (only cpu reached)) ∙ in_it)))))
+  where
+    none : (a b : Bool) → (a ≡ true → b ≡ true → ⊥) → (a && b) ≡ false
+    none true true off = absurd (off refl refl)
+    none true false off = refl
+    none false b off = refl
+
+pub added : (w : World) (k : Key) (set now : CpuSet) (c : CpuNo) → reaches_key w c k ≡ true → ((cpu : CpuNo) → reaches_key w cpu k ≡ true → cpu.0 ≡ c.0)
+    → now.0 ≡ (if is_there w c then bit_or set.0 (2 ^ c.0) else set.0) → AddsReaching w (k ∷ []) set now
+added w k set now c has only is = added-by w k set now c (is_there w c) refl has only is
 
 pub same-cpu : (o : Option CpuNo) (cpu c : CpuNo) → o ≡ Some cpu → o ≡ Some c → cpu.0 ≡ c.0
 same-cpu o cpu c first second = ap (number-or cpu) (sym first ∙ second)
@@ -66,12 +87,12 @@ three-ways false false a = refl
 pub adds-append : (w : World) (xs ys : List Key) (a b c : CpuSet) → AddsReaching w xs a b → AddsReaching w ys b c → AddsReaching w (xs ++ ys) a c
 adds-append w xs ys a b c first second cpu =
     second cpu
-    ∙ (ap (λ t. list_any (reaches_key w cpu) ys || t) (first cpu)
-    ∙ (three-ways (list_any (reaches_key w cpu) xs) (list_any (reaches_key w cpu) ys) (has_cpu cpu.0 a)
-    ∙ sym (ap (λ t. t || has_cpu cpu.0 a) (list_any-append (reaches_key w cpu) xs ys))))
+    ∙ (ap (λ t. list_any (is_reaching w cpu) ys || t) (first cpu)
+    ∙ (three-ways (list_any (is_reaching w cpu) xs) (list_any (is_reaching w cpu) ys) (has_cpu cpu.0 a)
+    ∙ sym (ap (λ t. t || has_cpu cpu.0 a) (list_any-append (is_reaching w cpu) xs ys))))
 
 pub adds-same : (w : World) (xs ys : List Key) (a b : CpuSet) → xs ≡ ys → AddsReaching w xs a b → AddsReaching w ys a b
-adds-same w xs ys a b same h cpu = h cpu ∙ ap (λ keys. list_any (reaches_key w cpu) keys || has_cpu cpu.0 a) same
+adds-same w xs ys a b same h cpu = h cpu ∙ ap (λ keys. list_any (is_reaching w cpu) keys || has_cpu cpu.0 a) same
 
 pub next-adds : (w : World) (keys : List Key) (place : ℕ) (d : Key) (a b c : CpuSet) → place < length keys → AddsReaching w (take place keys) a b
     → AddsReaching w (slice_index_or keys place d ∷ []) b c → AddsReaching w (take (place + 1) keys) a c
@@ -113,4 +134,4 @@ no-cpu cpu n none =
 
 pub all-added : (w : World) (events : List EventNo) (place : ℕ) (a b : CpuSet) → length events ≤ place → a.0 ≡ 0 → AddsReaching w (keys_named w (take place events)) a b → AreReaching w (keys_named w events) b
 all-added w events place a b past none h cpu =
-    h cpu ∙ ((λ i. list_any (reaches_key w cpu) (keys_named w (take_all place events past i)) || no-cpu cpu.0 a.0 none i) ∙ or-none (list_any (reaches_key w cpu) (keys_named w events)))
+    h cpu ∙ ((λ i. list_any (is_reaching w cpu) (keys_named w (take_all place events past i)) || no-cpu cpu.0 a.0 none i) ∙ or-none (list_any (is_reaching w cpu) (keys_named w events)))

@@ -3,7 +3,7 @@ use Rattle.std.specs.Prelude.{◌≡◌, ℕ, ◌+◌, ◌<◌, ◌≤◌, ◌==
 use Rattle.std.specs.Int.{bit_at}
 use Rattle.std.specs.List.{list_any}
 use Rattle.std.proofs.Common.{arith, refl, sym, ap, ◌∙◌, inl, inr}
-use Rattle.std.proofs.lemmas.Bool.{cases_eq, cases_Bool}
+use Rattle.std.proofs.lemmas.Bool.{cases_eq, cases_Bool, false≢true}
 use Rattle.std.proofs.lemmas.Bool.Decides.{nat_tests}
 use Rattle.perf_base.specs.Cpus.{HasCpu}
 use Rattle.perf_base.specs.declared.numbers.CpuNo.{CpuNo}
@@ -32,7 +32,8 @@ use Rattle.world_spec.proofs.Keys.{key-is, is_key-same, is_key-true, once-true, 
 use Rattle.world_spec.proofs.Listings.{passes-are, flat-mapped, reached_leaders, reached-context, reached-leading}
 use Rattle.world_spec.proofs.Moving.{leads-parts}
 use Rattle.event_commands.specs.Changing.{keys_named}
-use Rattle.event_commands.specs.Reaching.{reaches_key, AreReaching}
+use Rattle.event_commands.specs.Commands.{AreReached}
+use Rattle.event_commands.specs.Reaching.{reaches_key, is_there, AreReaching}
 use Rattle.event_commands.proofs.Named.{named-reached, reached-named}
 
 -- the keys that a processor reaches
@@ -153,9 +154,26 @@ reaches-are hw w events cpu h =
     ∙ any-there (is_reached events) (instance_at w) k.0 (reached_keys w cpu) (key-reached hw w cpu k.0 h parts.0 k.2) parts.1)
 
 -- the set that is answered
+any-there_if : (b : Bool) (p : Key → Bool) (keys : List Key) → list_any (λ k. b && p k) keys ≡ (b && list_any p keys)
+any-there_if true p keys = refl
+any-there_if false p keys = none-passes keys
+  where
+    none-passes : (ks : List Key) → list_any (λ (k : Key). false) ks ≡ false
+    none-passes [] = refl
+    none-passes (k ∷ ks) = none-passes ks
+
 set-reaches : (hw : Hardware) (w : World) (events named : List EventNo) (set : CpuSet) (cpu : CpuNo) → IsKept hw w → AreReaching w (keys_named w events) set → events ≡ named
-    → has_cpu cpu.0 set ≡ reaches (stage_of w) named cpu
-set-reaches hw w events named set cpu h are same = are cpu ∙ (sym (reaches-are hw w events cpu h) ∙ ap (λ es. reaches (stage_of w) es cpu) same)
+    → has_cpu cpu.0 set ≡ (is_there w cpu && reaches (stage_of w) named cpu)
+set-reaches hw w events named set cpu h are same =
+    are cpu
+    ∙ (any-there_if (is_there w cpu) (reaches_key w cpu) (keys_named w events)
+    ∙ ap (λ b. is_there w cpu && b) (sym (reaches-are hw w events cpu h) ∙ ap (λ es. reaches (stage_of w) es cpu) same))
+
+is-there : (w : World) (cpu : CpuNo) → cpu.0 < length w.quiet.running → is_there w cpu ≡ true
+is-there w cpu low = grind (arith, nat_tests, low)
+
+there-low : (w : World) (cpu : CpuNo) → is_there w cpu ≡ true → cpu.0 < length w.quiet.running
+there-low w cpu there = grind (arith, nat_tests, there)
 
 one-is : (n : ℕ) → n ≡ 1 → (n == 1) ≡ true
 one-is n e = grind (arith, nat_tests, e)
@@ -167,10 +185,23 @@ out-of_set : (set : CpuSet) (cpu : CpuNo) (b : Bool) → has_cpu cpu.0 set ≡ b
 out-of_set set cpu true is out = absurd (out ((in-set set cpu true is).1 refl))
 out-of_set set cpu false is out = refl
 
-pub answered : (hw : Hardware) (w : World) (events named : List EventNo) (set : CpuSet) → IsKept hw w → AreReaching w (keys_named w events) set → events ≡ named
-    → (cpu : CpuNo) → cpu.0 < length w.quiet.running → HasCpu set cpu ↔ (reaches (stage_of w) named cpu ≡ true)
-answered hw w events named set h are same cpu low = in-set set cpu (reaches (stage_of w) named cpu) (set-reaches hw w events named set cpu h are same)
+first-true : (a b : Bool) → (a && b) ≡ true → a ≡ true
+first-true true b h = refl
+first-true false b h = absurd (false≢true h)
+
+pub answered : (hw : Hardware) (w : World) (events named : List EventNo) (set : CpuSet) → IsKept hw w → AreReaching w (keys_named w events) set → events ≡ named → AreReached named w set
+answered hw w events named set h are same = record {
+  reaching = λ cpu low.
+      in-set set cpu (reaches (stage_of w) named cpu)
+      (set-reaches hw w events named set cpu h are same ∙ ap (λ b. b && reaches (stage_of w) named cpu) (is-there w cpu low));
+  within = λ cpu has.
+      there-low w cpu
+      (first-true (is_there w cpu) (reaches (stage_of w) named cpu)
+      ((in-set set cpu (is_there w cpu && reaches (stage_of w) named cpu) (set-reaches hw w events named set cpu h are same)).0 has));
+}
 
 pub not-answered : (hw : Hardware) (w : World) (events named : List EventNo) (set : CpuSet) (cpu : CpuNo) → IsKept hw w → AreReaching w (keys_named w events) set → events ≡ named
-    → (HasCpu set cpu → ⊥) → reaches (stage_of w) named cpu ≡ false
-not-answered hw w events named set cpu h are same out = out-of_set set cpu (reaches (stage_of w) named cpu) (set-reaches hw w events named set cpu h are same) out
+    → cpu.0 < length w.quiet.running → (HasCpu set cpu → ⊥) → reaches (stage_of w) named cpu ≡ false
+not-answered hw w events named set cpu h are same low out =
+    out-of_set set cpu (reaches (stage_of w) named cpu)
+    (set-reaches hw w events named set cpu h are same ∙ ap (λ b. b && reaches (stage_of w) named cpu) (is-there w cpu low)) out

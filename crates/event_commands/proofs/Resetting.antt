@@ -14,7 +14,7 @@ use Rattle.world_spec.specs.Value.{World, Account, no_account, instance_at, acco
 use Rattle.world_spec.specs.StageOf.{stage_of}
 use Rattle.world_spec.specs.Kept.{IsKept}
 use Rattle.world_spec.specs.Changes.{reset_count}
-use Rattle.world_spec.specs.Rescheduled.{IsRescheduled}
+use Rattle.world_spec.specs.Rescheduled.{IsRescheduled, IsUntouched}
 use Rattle.world_spec.proofs.Tables.{get-here, get-there, keys-written}
 use Rattle.event_commands.specs.declared.changing.Command.TheVariants as command
 use Rattle.event_commands.specs.Changing.{changed, keys_named}
@@ -66,5 +66,6 @@ accounts-unseen hw w accounts cpu h = record {
   judged = record { standings = h.judged.standings; served = record { events = h.judged.served.events; assigned = h.judged.served.assigned } };
 }
 
-pub reset-others : (hw : Hardware) (w new : World) (events : List EventNo) (cpu : CpuNo) → IsReset events w new → IsRescheduled hw w cpu → IsRescheduled hw new cpu
-reset-others hw w new events cpu is h = subst (λ v. IsRescheduled hw v cpu) (sym is.world) (accounts-unseen hw w new.accounts cpu h)
+pub reset-others : (hw : Hardware) (w new : World) (events : List EventNo) (cpu : CpuNo) → IsReset events w new → IsUntouched hw w new cpu
+reset-others hw w new events cpu is =
+    subst (λ v. IsUntouched hw w v cpu) (sym is.world) (record { verdicts = refl; seats = refl; rescheduled = accounts-unseen hw w new.accounts cpu })

@@ -19,9 +19,9 @@ use Rattle.stage_laws.specs.Standings.{briefs}
 use Rattle.world_spec.specs.Value.{World, Entry, no_instance, is_live, entry_at, instance_at, standing_at, seats_at, times}
 use Rattle.world_spec.specs.StageOf.{stage_of}
 use Rattle.world_spec.specs.Kept.{leads, post_at, IsKept}
-use Rattle.world_spec.specs.Rescheduled.{IsRescheduled}
+use Rattle.world_spec.specs.Rescheduled.{IsUntouched}
 use Rattle.world_spec.proofs.Renaming.{dead-entry, renamed-all}
-use Rattle.world_spec.proofs.Standing.{left-rescheduled}
+use Rattle.world_spec.proofs.Standing.{left-untouched}
 use Rattle.world_spec.proofs.Tables.{post_of, entry-here, entry-there, live-written}
 use Rattle.event_commands.specs.declared.changing.Command.TheVariants as command
 use Rattle.event_commands.specs.declared.changing.Switch.{Switch}
@@ -116,10 +116,10 @@ states-posts f w new events h =
     λ i q. each q i
 
 pub states-others : (f : Own → Own) (hw : Hardware) (w new : World) (events : List EventNo) (cpu : CpuNo) → HaveStates f events w new → cpu.0 < 8 → reaches (stage_of w) events cpu ≡ false
-    → IsRescheduled hw w cpu → IsRescheduled hw new cpu
-states-others f hw w new events cpu h low off before =
+    → IsUntouched hw w new cpu
+states-others f hw w new events cpu h low off =
     let posts : post_at new ≡ post_at w = states-posts f w new events h in
-    left-rescheduled hw w new cpu low (record {
+    left-untouched hw w new cpu low (record {
       briefs = ap (λ s. briefs hw s cpu) (states-stage f w new events h)
           ∙ briefs-of_passes hw cpu (stage_of w) (command_each f events (stage_of w))
           (passes-same (stage_of w) (command_each f events (stage_of w)) cpu (command-reaches f events (stage_of w) cpu off));
@@ -130,4 +130,4 @@ states-others f hw w new events cpu h low off before =
         ap (λ at. (at q).id) posts,
         ap (λ (x : World). standing_at x q) h.world,
       );
-    }) before
+    })

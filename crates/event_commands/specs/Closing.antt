@@ -1,8 +1,10 @@
 -- What is left of a world when instances went, key by key. After perf_release, perf_event_release_kernel and perf_group_detach of
 -- kernel/events/core.c; the tables are this project's own profile.
-use Rattle.std.specs.Prelude.{◌≡◌, ◌≢◌, ◌≤◌, true, false, List, map}
+use Rattle.std.specs.Prelude.{◌≡◌, ◌≢◌, ◌≤◌, true, false, List, map, if◌then◌else◌}
 use Rattle.perf_base.specs.declared.numbers.EventNo.{EventNo}
 use Rattle.perf_base.specs.declared.numbers.Key.{Key}
+use Rattle.perf_base.specs.declared.standing.Standing.{Standing}
+use Rattle.perf_base.specs.declared.standing.Standing.TheVariants as standing
 use Rattle.stage_spec.specs.Stage.{is_of_family}
 use Rattle.stage_laws.specs.OneByOne.{drop_ones}
 use Rattle.world_spec.specs.Kept.{leads, post_at}
@@ -19,6 +21,10 @@ IsThinned w after = after ≡ record w {
   families = after.families;
 }
 
+-- where a group stands when some instances went: where it stood, and Out where it is that of a sibling whose leader went
+abbrev pub stood : World → Key → Standing
+stood w q = if leads (post_at w) q then standing_at w q else standing.Out
+
 -- Some instances of a family went. All others stay, in their contexts and with their accounts; and so do other families. A group in a context that none
 -- of them was in stands where it stood.
 pub record HaveGone (e : EventNo) (done : List Key) (w after : World) : Type 0 where
@@ -32,8 +38,10 @@ pub record HaveGone (e : EventNo) (done : List Key) (w after : World) : Type 0 w
   pub families : (other : EventNo) → other.0 ≢ e.0 → family_of after other ≡ family_of w other
   pub groups : (q : Key) → leads (post_at after) q ≡ true → ((k : Key) → 1 ≤ times k done → (entry_at after q).context ≡ (entry_at w k).context → ⊥)
       → (leads (post_at w) q ≡ true) × (standing_at after q ≡ standing_at w q)
+  pub leading : (q : Key) → leads (post_at w) q ≡ true → times q done ≡ 0 → leads (post_at after) q ≡ true
+  pub standings : (q : Key) → leads (post_at after) q ≡ true → standing_at after q ≡ stood w q
 
--- An event is closed: its original and its copies went, and all others stay.
+-- An event is closed: its original and its copies went, and all others stay. Each group stands where it stood, and Out where it is new.
 pub record IsClosed (e : EventNo) (w after : World) : Type 0 where
   pub world : IsThinned w after
   pub gone : (k : Key) → is_live w k ≡ true → is_of_family e (instance_at w k) ≡ true → is_live after k ≡ false
@@ -41,5 +49,6 @@ pub record IsClosed (e : EventNo) (w after : World) : Type 0 where
   pub instances : (k : Key) → is_of_family e (instance_at w k) ≡ false → instance_at after k ≡ instance_at w k
   pub contexts : (k : Key) → is_of_family e (instance_at w k) ≡ false → (entry_at after k).context ≡ (entry_at w k).context
   pub accounts : (k : Key) → is_of_family e (instance_at w k) ≡ false → account_at after k ≡ account_at w k
+  pub standings : (q : Key) → leads (post_at after) q ≡ true → standing_at after q ≡ stood w q
   pub family : family_of after e ≡ no_family
   pub families : (other : EventNo) → other.0 ≢ e.0 → family_of after other ≡ family_of w other

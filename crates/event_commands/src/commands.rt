@@ -1,19 +1,16 @@
 //! The commands of a tool on an open event.
 
-ghost use Rattle.std.specs.Prelude.{◌≡◌, ◌≢◌, ◌<◌, ◌↔◌, ◌^◌, ◌==◌, ◌||◌, bit_and, not, [], ◌∷◌, OnOk, OnErr, IfOk, IfErr, None, Some, true, length};
-ghost use Rattle.perf_base.specs.Cpus.{HasCpu};
-ghost use Rattle.perf_base.specs.declared.numbers.CpuNo.{CpuNo as Cpu};
+ghost use Rattle.std.specs.Prelude.{◌≡◌, ◌≢◌, ◌^◌, ◌==◌, ◌||◌, bit_and, not, [], ◌∷◌, OnOk, OnErr, IfOk, IfErr, None, Some, true};
 ghost use Rattle.stage_spec.specs.Closing.{closed};
 ghost use Rattle.stage_spec.specs.Commands.{closed_refusal, command_each, disabled, enabled, period_refusal, with_period, targets as targeted};
-ghost use Rattle.stage_laws.specs.Narrowing.{reaches};
 ghost use Rattle.stage_laws.specs.Sound.{IsSound};
-ghost use Rattle.world_spec.specs.Rescheduled.{IsRescheduled};
+ghost use Rattle.world_spec.specs.Rescheduled.{AreUntouched, AreUntouchedOutside};
 ghost use Rattle.world_spec.specs.StageOf.{stage_of};
 ghost use Rattle.world_spec.specs.Value.{is_live, instance_at, family_of};
 ghost use Rattle.perf_world.specs.Seen.{IsWorld};
 ghost use Rattle.event_commands.specs.Changing.{switched};
 ghost use Rattle.event_commands.specs.Closing.{IsClosed};
-ghost use Rattle.event_commands.specs.Commands.{HaveStates, IsReset, HasPeriod};
+ghost use Rattle.event_commands.specs.Commands.{AreReached, HaveStates, IsReset, HasPeriod};
 
 use crate::changing::{Command, Switch, change_families};
 use crate::closing::drop_family;
@@ -31,10 +28,8 @@ fn switch(world: &mut World, event: EventNo, group: bool, to: Switch) -> Result<
     ensures same { OnErr result (world.new ≡ world.old) }
     ensures stage { OnOk result (stage_of world.new ≡ command_each (switched to) (targeted (stage_of world.old) event group) (stage_of world.old)) }
     ensures states { OnOk result (HaveStates (switched to) (targeted (stage_of world.old) event group) world.old world.new) }
-    ensures processors { IfOk result (λ set. (cpu : Cpu) → cpu.0 < length world.old.quiet.running
-        → (HasCpu set cpu ↔ (reaches (stage_of world.old) (targeted (stage_of world.old) event group) cpu ≡ true))) }
-    ensures others { IfOk result (λ set. (cpu : Cpu) → cpu.0 < length world.old.quiet.running → (HasCpu set cpu → ⊥)
-        → IsRescheduled world.old.hardware world.old cpu → IsRescheduled world.old.hardware world.new cpu) }
+    ensures processors { IfOk result (AreReached (targeted (stage_of world.old) event group) world.old) }
+    ensures others { IfOk result (λ set. AreUntouchedOutside set world.old world.new) }
 {
     let slots = targets(world, event, group)?;
     let cpus = cpus_reaching(world, slots.as_slice());
@@ -43,37 +38,33 @@ fn switch(world: &mut World, event: EventNo, group: bool, to: Switch) -> Result<
 }
 
 /// Makes an event, or each member of its group, ready, and its copies, after the ioctl ENABLE. An event that was in
-/// error is ready again. The answer is the processors that must be rescheduled: those that reach one of these events or
-/// a copy of it. The others stand as they stood. It fails with `NoEvent` where the event is not open, and then nothing
-/// changes.
+/// error is ready again. The answer is the processors that must be rescheduled: those of the machine that reach one of
+/// these events or a copy of it. The others stand as they stood. It fails with `NoEvent` where the event is not open,
+/// and then nothing changes.
 pub fn enable(world: &mut World, event: EventNo, group: bool) -> Result<CpuSet, Reason>
     ensures refused { IfErr result (λ reason. closed_refusal (stage_of world.old) event ≡ Some reason) }
     ensures accepted { OnOk result (closed_refusal (stage_of world.old) event ≡ None) }
     ensures same { OnErr result (world.new ≡ world.old) }
     ensures stage { OnOk result (stage_of world.new ≡ command_each enabled (targeted (stage_of world.old) event group) (stage_of world.old)) }
     ensures states { OnOk result (HaveStates enabled (targeted (stage_of world.old) event group) world.old world.new) }
-    ensures processors { IfOk result (λ set. (cpu : Cpu) → cpu.0 < length world.old.quiet.running
-        → (HasCpu set cpu ↔ (reaches (stage_of world.old) (targeted (stage_of world.old) event group) cpu ≡ true))) }
-    ensures others { IfOk result (λ set. (cpu : Cpu) → cpu.0 < length world.old.quiet.running → (HasCpu set cpu → ⊥)
-        → IsRescheduled world.old.hardware world.old cpu → IsRescheduled world.old.hardware world.new cpu) }
+    ensures processors { IfOk result (AreReached (targeted (stage_of world.old) event group) world.old) }
+    ensures others { IfOk result (λ set. AreUntouchedOutside set world.old world.new) }
 {
     switch(world, event, group, Switch::On)
 }
 
 /// Takes an event, or each member of its group, off, and its copies, after the ioctl DISABLE. An event that was in
-/// error is off then. The answer is the processors that must be rescheduled: those that reach one of these events or a
-/// copy of it. The others stand as they stood. It fails with `NoEvent` where the event is not open, and then nothing
-/// changes.
+/// error is off then. The answer is the processors that must be rescheduled: those of the machine that reach one of
+/// these events or a copy of it. The others stand as they stood. It fails with `NoEvent` where the event is not open,
+/// and then nothing changes.
 pub fn disable(world: &mut World, event: EventNo, group: bool) -> Result<CpuSet, Reason>
     ensures refused { IfErr result (λ reason. closed_refusal (stage_of world.old) event ≡ Some reason) }
     ensures accepted { OnOk result (closed_refusal (stage_of world.old) event ≡ None) }
     ensures same { OnErr result (world.new ≡ world.old) }
     ensures stage { OnOk result (stage_of world.new ≡ command_each disabled (targeted (stage_of world.old) event group) (stage_of world.old)) }
     ensures states { OnOk result (HaveStates disabled (targeted (stage_of world.old) event group) world.old world.new) }
-    ensures processors { IfOk result (λ set. (cpu : Cpu) → cpu.0 < length world.old.quiet.running
-        → (HasCpu set cpu ↔ (reaches (stage_of world.old) (targeted (stage_of world.old) event group) cpu ≡ true))) }
-    ensures others { IfOk result (λ set. (cpu : Cpu) → cpu.0 < length world.old.quiet.running → (HasCpu set cpu → ⊥)
-        → IsRescheduled world.old.hardware world.old cpu → IsRescheduled world.old.hardware world.new cpu) }
+    ensures processors { IfOk result (AreReached (targeted (stage_of world.old) event group) world.old) }
+    ensures others { IfOk result (λ set. AreUntouchedOutside set world.old world.new) }
 {
     switch(world, event, group, Switch::Off)
 }
@@ -86,7 +77,7 @@ pub fn reset(world: &mut World, event: EventNo, group: bool) -> Result<(), Reaso
     ensures same { OnErr result (world.new ≡ world.old) }
     ensures stage { OnOk result (stage_of world.new ≡ stage_of world.old) }
     ensures counts { OnOk result (IsReset (targeted (stage_of world.old) event group) world.old world.new) }
-    ensures others { (cpu : Cpu) → IsRescheduled world.old.hardware world.old cpu → IsRescheduled world.old.hardware world.new cpu }
+    ensures others { OnOk result (AreUntouched world.old world.new) }
 {
     let slots = targets(world, event, group)?;
     change_families(world, Command::Reset, slots.as_slice());
@@ -133,7 +124,7 @@ pub fn period(world: &mut World, event: EventNo, period: u64) -> Result<(), Reas
     ensures same { OnErr result (world.new ≡ world.old) }
     ensures stage { OnOk result (stage_of world.new ≡ with_period event period (stage_of world.old)) }
     ensures period { OnOk result (HasPeriod event period world.old world.new) }
-    ensures others { (cpu : Cpu) → cpu.0 < length world.old.quiet.running → IsRescheduled world.old.hardware world.old cpu → IsRescheduled world.old.hardware world.new cpu }
+    ensures others { OnOk result (AreUntouched world.old world.new) }
 {
     // A reader tells what always holds of a world.
     let _cpus = world.pmus().cpus();
@@ -143,9 +134,9 @@ pub fn period(world: &mut World, event: EventNo, period: u64) -> Result<(), Reas
 }
 
 /// Closes an event: its copies go, and then the event. Where it led a group each sibling is a group of its own then,
-/// behind the flexible ones. The answer is the processors that must be rescheduled: those that reach the event or a
-/// copy of it. The others stand as they stood. It fails with `NoEvent` where the event is not open, and then nothing
-/// changes.
+/// behind the flexible ones, and stands Out. The answer is the processors that must be rescheduled: those of the machine
+/// that reach the event or a copy of it. The others stand as they stood. It fails with `NoEvent` where the event is not
+/// open, and then nothing changes.
 pub fn close(world: &mut World, event: EventNo) -> Result<CpuSet, Reason>
     requires { IsSound world.old.hardware (stage_of world.old) }
     ensures refused { IfErr result (λ reason. closed_refusal (stage_of world.old) event ≡ Some reason) }
@@ -153,10 +144,8 @@ pub fn close(world: &mut World, event: EventNo) -> Result<CpuSet, Reason>
     ensures same { OnErr result (world.new ≡ world.old) }
     ensures stage { OnOk result (stage_of world.new ≡ closed event (stage_of world.old)) }
     ensures closed { OnOk result (IsClosed event world.old world.new) }
-    ensures processors { IfOk result (λ set. (cpu : Cpu) → cpu.0 < length world.old.quiet.running
-        → (HasCpu set cpu ↔ (reaches (stage_of world.old) (event ∷ []) cpu ≡ true))) }
-    ensures others { IfOk result (λ set. (cpu : Cpu) → cpu.0 < length world.old.quiet.running → (HasCpu set cpu → ⊥)
-        → IsRescheduled world.old.hardware world.old cpu → IsRescheduled world.old.hardware world.new cpu) }
+    ensures processors { IfOk result (AreReached (event ∷ []) world.old) }
+    ensures others { IfOk result (λ set. AreUntouchedOutside set world.old world.new) }
 {
     let slots = targets(world, event, false)?;
     let cpus = cpus_reaching(world, slots.as_slice());

@@ -1,25 +1,21 @@
 //! The processors that reach some families.
 
-ghost use Rattle.std.specs.Prelude.{◌≡◌, ◌<◌, ◌≤◌, [], ◌∷◌, All, IfSome, Some, true, length};
+ghost use Rattle.std.specs.Prelude.{◌≡◌, ◌<◌, ◌≤◌, ◌^◌, bit_or, [], ◌∷◌, All, IfSome, Some, true, length, if◌then◌else◌};
 ghost use Rattle.perf_base.specs.declared.numbers.CpuNo.{CpuNo as Cpu};
-ghost use Rattle.stage_spec.specs.Stage.{place_of};
 ghost use Rattle.stage_laws.specs.Narrowing.{has_context};
 ghost use Rattle.world_spec.specs.Kept.{in_option};
 ghost use Rattle.world_spec.specs.StageOf.{stage_of};
 ghost use Rattle.world_spec.specs.Value.{is_live, family_of};
 ghost use Rattle.perf_world.specs.Seen.{IsWorld};
 ghost use Rattle.event_commands.specs.Changing.{family_keys, keys_named};
-ghost use Rattle.event_commands.specs.Reaching.{AddsReaching, AreReaching};
+ghost use Rattle.event_commands.specs.Reaching.{AddsReaching, AreReaching, is_there};
 
 use perf_base::{Context, CpuNo, CpuSet, EventNo, Key};
 use perf_world::World;
 
-/// The processor that has a context: its own one, or the one that runs its task.
-fn cpu_with(world: &World, context: Context) -> Option<CpuNo>
-    requires kept { IsWorld world.now }
-    requires few { length world.now.quiet.running ≤ 8 }
-    requires place { place_of context < 72 }
-    ensures low { IfSome result (λ cpu. cpu.0 < 8) }
+/// The processor that a context is of: its own one, or the one that runs its task.
+fn cpu_of(world: &World, context: Context) -> Option<CpuNo>
+    requires { IsWorld world.now }
     ensures has { IfSome result (λ cpu. has_context (stage_of world.now) cpu context ≡ true) }
     ensures only { (cpu : Cpu) → has_context (stage_of world.now) cpu context ≡ true → result ≡ Some cpu }
 {
@@ -29,15 +25,25 @@ fn cpu_with(world: &World, context: Context) -> Option<CpuNo>
     }
 }
 
-/// Adds the processor that reaches an instance, if there is one.
+/// Adds a processor, if the machine has it.
+fn add_if_there(world: &World, cpu: CpuNo, cpus: &mut CpuSet)
+    requires { length world.now.quiet.running ≤ 8 }
+    ensures { cpus.new.0 ≡ (if is_there world.now cpu then bit_or cpus.old.0 (2 ^ cpu.0) else cpus.old.0) }
+{
+    if cpu.0 < world.pmus().cpus() {
+        cpus.insert(cpu);
+    }
+}
+
+/// Adds the processor of the machine that reaches an instance, if there is one.
 fn add_cpu(world: &World, key: Key, cpus: &mut CpuSet)
     requires live { is_live world.now key ≡ true }
     requires kept { IsWorld world.now }
     requires few { length world.now.quiet.running ≤ 8 }
     ensures { AddsReaching world.now (key ∷ []) cpus.old cpus.new }
 {
-    if let Some(cpu) = cpu_with(world, world.context_of(key)) {
-        cpus.insert(cpu);
+    if let Some(cpu) = cpu_of(world, world.context_of(key)) {
+        add_if_there(world, cpu, cpus);
     }
 }
 
@@ -72,7 +78,7 @@ fn add_family(world: &World, event: EventNo, cpus: &mut CpuSet)
     add_copies(world, event, cpus);
 }
 
-/// The processors that reach the families of some slots. A machine has at most 8 processors.
+/// The processors of the machine that reach the families of some slots. A machine has at most 8 processors.
 pub fn cpus_reaching(world: &World, slots: &[EventNo]) -> CpuSet
     requires { All (λ event. event.0 < 256) slots.now }
     ensures reaching { AreReaching world.now (keys_named world.now slots.now) result }

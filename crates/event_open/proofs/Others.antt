@@ -28,7 +28,7 @@ use Rattle.world_spec.specs.StageOf.{group_at, stage_of}
 use Rattle.world_spec.specs.Kept.{post_at}
 use Rattle.world_spec.specs.Adding.{Newcomer, add}
 use Rattle.world_spec.specs.Listings.{task_leaders, pass_leaders}
-use Rattle.world_spec.specs.Rescheduled.{IsRescheduled}
+use Rattle.world_spec.specs.Rescheduled.{IsUntouched}
 use Rattle.world_spec.specs.Staying.{HasCome}
 use Rattle.world_spec.proofs.Added.{added, comes-by, joined-members}
 use Rattle.world_spec.proofs.AddedStage.{group-other}
@@ -37,7 +37,7 @@ use Rattle.world_spec.proofs.GoneLeaderStage.{map-within}
 use Rattle.world_spec.proofs.Keys.{key-is}
 use Rattle.world_spec.proofs.Listings.{passes-are, reached_leaders, reached-context, reached-leading}
 use Rattle.world_spec.proofs.Moving.{leads-parts}
-use Rattle.world_spec.proofs.Standing.{left-rescheduled}
+use Rattle.world_spec.proofs.Standing.{left-untouched}
 use Rattle.world_spec.proofs.Staying.{add-stays}
 use Rattle.world_spec.proofs.Tables.{get-there}
 use Rattle.perf_world.specs.Parts.{MayAdd}
@@ -122,13 +122,13 @@ standing-stays w k n (Some first) j apart = ap (λ o. unwrap_or o standing.Out) 
 -- and so the processor is as rescheduling left it
 others-stay : (w : World) (e : EventNo) (a : Attr) (leader : Option EventNo) (k : Key) (cpu : CpuNo) → IsWorld w → AreInPlace w → MayAdd w (opened_as w e a leader)
     → open_refusal w.hardware (stage_of w) e a leader ≡ None → is_live w k ≡ false → cpu.0 < 8 → has_context (stage_of w) cpu (context_of a) ≡ false
-    → IsRescheduled w.hardware w cpu → IsRescheduled w.hardware (add k (opened_as w e a leader) w) cpu
+    → IsUntouched w.hardware w (add k (opened_as w e a leader) w) cpu
 others-stay w e a leader k cpu h placed may free fresh low away =
     let n : Newcomer = opened_as w e a leader in
     let after : World = add k n w in
     let come : HasCome w after k n = add-stays w.hardware w k n h (may-come w n k may fresh) may.group in
     let comes : Comes (post_at w) (post_at after) k _ = comes-by w k n fresh n.leader may.group in
-    left-rescheduled w.hardware w after cpu low (record {
+    left-untouched w.hardware w after cpu low (record {
       briefs = ap (map (λ pass. map (brief_of w.hardware) (filter (is_eligible w.hardware cpu) pass))) (passes-stay w e a leader k cpu h placed may free fresh away);
       seats = seats-stay w k n n.leader cpu;
       groups = λ j lead has. elim (cases_eq j.0 k.0) [
@@ -148,7 +148,7 @@ others-stay w e a leader k cpu h placed may free fresh low away =
 pub record IsOpened (w after : World) (e : EventNo) (a : Attr) (leader : Option EventNo) : Type 0 where
   pub stage : stage_of after ≡ opened (stage_of w) e a leader
   pub placed : AreInPlace after
-  pub others : (cpu : CpuNo) → cpu.0 < 8 → has_context (stage_of w) cpu (context_of a) ≡ false → IsRescheduled w.hardware w cpu → IsRescheduled w.hardware after cpu
+  pub others : (cpu : CpuNo) → cpu.0 < 8 → has_context (stage_of w) cpu (context_of a) ≡ false → IsUntouched w.hardware w after cpu
   pub verdicts : (cpu : CpuNo) → has_context (stage_of w) cpu (context_of a) ≡ false → verdicts w.hardware (stage_of after) cpu ≡ verdicts w.hardware (stage_of w) cpu
 
 pub is-opened : (w after : World) (e : EventNo) (a : Attr) (leader : Option EventNo) (k : Key) → IsWorld w → AreInPlace w → MayAdd w (opened_as w e a leader)
@@ -157,7 +157,7 @@ is-opened w after e a leader k h placed may free fresh is =
     subst (λ v. IsOpened w v e a leader) (sym is) (record {
       stage = stage-opened w e a leader k h placed may free fresh;
       placed = come-in_place w k (opened_as w e a leader) h (may-come w (opened_as w e a leader) k may fresh) may.group refl placed;
-      others = λ cpu low away was. others-stay w e a leader k cpu h placed may free fresh low away was;
+      others = λ cpu low away. others-stay w e a leader k cpu h placed may free fresh low away;
       verdicts = λ cpu away.
           verdicts-stay w.hardware (stage_of w) (stage_of (add k (opened_as w e a leader) w)) cpu (passes-stay w e a leader k cpu h placed may free fresh away);
     })

@@ -8,7 +8,7 @@ ghost use Rattle.stage_spec.specs.Opening.{open_refusal, opened};
 ghost use Rattle.stage_spec.specs.Places as places;
 ghost use Rattle.stage_spec.specs.Verdict.{verdicts};
 ghost use Rattle.stage_laws.specs.Narrowing as narrowing;
-ghost use Rattle.world_spec.specs.Rescheduled.{IsRescheduled};
+ghost use Rattle.world_spec.specs.Rescheduled.{AreUntouchedOutside};
 ghost use Rattle.world_spec.specs.StageOf.{stage_of};
 ghost use Rattle.perf_world.specs.Seen.{IsWorld};
 ghost use Rattle.event_open.specs.Opened.{AreInPlace, IsOpenedAs, leader_key, opened_as};
@@ -109,8 +109,7 @@ pub fn open(
     ensures processors { IfOk result (λ set. (cpu : Cpu) → cpu.0 < length world.old.quiet.running
         → (HasCpu set cpu ↔ (narrowing.has_context (stage_of world.old) cpu (places.context_of attr.now) ≡ true))) }
     ensures within { IfOk result (λ set. (cpu : Cpu) → HasCpu set cpu → cpu.0 < length world.old.quiet.running) }
-    ensures others { IfOk result (λ set. (cpu : Cpu) → cpu.0 < length world.old.quiet.running → (HasCpu set cpu → ⊥)
-        → IsRescheduled world.old.hardware world.old cpu → IsRescheduled world.old.hardware world.new cpu) }
+    ensures others { IfOk result (λ set. AreUntouchedOutside set world.old world.new) }
     ensures verdicts { IfOk result (λ set. (cpu : Cpu) → cpu.0 < length world.old.quiet.running → (HasCpu set cpu → ⊥)
         → verdicts world.old.hardware (stage_of world.new) cpu ≡ verdicts world.old.hardware (stage_of world.old) cpu) }
 {

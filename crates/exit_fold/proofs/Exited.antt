@@ -23,9 +23,9 @@ use Rattle.world_spec.specs.Value.{World, is_live, entry_at, standing_at, is_key
 use Rattle.world_spec.specs.StageOf.{stage_of}
 use Rattle.world_spec.specs.Kept.{post_at, IsKept}
 use Rattle.world_spec.specs.Changes.{place, end_task}
-use Rattle.world_spec.specs.Rescheduled.{IsRescheduled}
+use Rattle.world_spec.specs.Rescheduled.{IsUntouched}
 use Rattle.world_spec.proofs.Moving.{leads-parts}
-use Rattle.world_spec.proofs.Standing.{left-rescheduled}
+use Rattle.world_spec.proofs.Standing.{left-untouched}
 use Rattle.exit_fold.specs.Leaving.{is_of_task, IsFolded}
 use Rattle.exit_fold.proofs.Copies.{same-number}
 
@@ -72,14 +72,14 @@ elsewhere s cpu other task (context.Task here) running on apart has = elim (case
 ]
 
 left-there : (hw : Hardware) (v w : World) (cpu other : CpuNo) (task : TaskNo) → IsKept hw v → task_on (stage_of v) cpu ≡ Some task → IsFolded task v w → other.0 < 8 → other.0 ≢ cpu.0
-    → IsRescheduled hw v other → IsRescheduled hw (end_task task (place cpu None w)) other
-left-there hw v w cpu other task h on f low apart before =
+    → IsUntouched hw v (end_task task (place cpu None w)) other
+left-there hw v w cpu other task h on f low apart =
     let x : World = end_task task (place cpu None w) in
     let r : ReachesSame (stage_of v) (stage_of w) other =
     subst (λ s. ReachesSame (stage_of v) s other) (sym f.stage) (task-changed task other (without is_copy) (stage_of v) h.shape.contexts (tasks-apart (stage_of v) cpu other task h.running apart on)) in
     let runs : task_on (stage_of x) other ≡ task_on (stage_of v) other = get_or-set_other w.quiet.running cpu.0 other.0 None None apart ∙ r.running in
     let reaches : ReachesSame (stage_of v) (stage_of x) other = record { running = runs; own = r.own; task = r.task } in
-    left-rescheduled hw v x other low (record {
+    left-untouched hw v x other low (record {
       briefs = briefs-of_passes hw other (stage_of v) (stage_of x) (passes-same (stage_of v) (stage_of x) other reaches);
       seats = ap (λ q. slice_index_or q.seats other.0 (empty_seating 0)) f.quiet;
       groups = λ k lead has.
@@ -89,9 +89,9 @@ left-there hw v w cpu other task h on f low apart before =
           let same : (post_at w k ≡ post_at v k) × (standing_at w k ≡ standing_at v k) =
           f.away k (elsewhere (stage_of v) cpu other task (entry_at v k).context h.running on apart has_before) in
           (ap (λ p. p.live && is_key k p.leader) (sym same.0) ∙ lead, has_before, ap (λ p. p.id) same.0, same.1);
-    }) before
+    })
 
 pub others-stand : (hw : Hardware) (v w x t : World) (cpu other : CpuNo) (task : TaskNo) → IsKept hw v → task_on (stage_of v) cpu ≡ Some task → IsFolded task v w → x ≡ place cpu None w
-    → t ≡ end_task task x → other.0 < 8 → other.0 ≢ cpu.0 → IsRescheduled hw v other → IsRescheduled hw t other
-others-stand hw v w x t cpu other task h on f placed ended low apart before =
-    subst (λ (y : World). IsRescheduled hw y other) (sym (ended ∙ ap (end_task task) placed)) (left-there hw v w cpu other task h on f low apart before)
+    → t ≡ end_task task x → other.0 < 8 → other.0 ≢ cpu.0 → IsUntouched hw v t other
+others-stand hw v w x t cpu other task h on f placed ended low apart =
+    subst (λ (y : World). IsUntouched hw v y other) (sym (ended ∙ ap (end_task task) placed)) (left-there hw v w cpu other task h on f low apart)

@@ -35,8 +35,8 @@ standing-unfreed (k ∷ keys) m q none = elim (cases_eq q.0 k.0) [
 ]
 
 -- a key in another context has the post and the standing that it had
-pub IsUntouched : World → World → Key → Type 0
-IsUntouched w after j = (post_at after j ≡ post_at w j) × (standing_at after j ≡ standing_at w j)
+pub IsAsBefore : World → World → Key → Type 0
+IsAsBefore w after j = (post_at after j ≡ post_at w j) × (standing_at after j ≡ standing_at w j)
 
 not-member : (hw : Hardware) (w : World) (k j : Key) → IsKept hw w → ((entry_at w j).context ≡ (entry_at w k).context → ⊥) → is_member_of (post_at w) k j ≡ false
 not-member hw w k j h off = elim (cases_Bool (is_member_of (post_at w) k j)) [
@@ -48,8 +48,8 @@ not-member hw w k j h off = elim (cases_Bool (is_member_of (post_at w) k j)) [
 ]
 
 leader-untouched : (hw : Hardware) (w : World) (k j : Key) → IsKept hw w → leads (post_at w) k ≡ true → (j.0 ≡ k.0 → ⊥) → is_member_of (post_at w) k j ≡ false
-    → IsUntouched w (led_world w k (entries_freed w k) (standings_freed w k)) j
-unfolding IsUntouched
+    → IsAsBefore w (led_world w k (entries_freed w k) (standings_freed w k)) j
+unfolding IsAsBefore
 leader-untouched hw w k j h lead apart off =
     let keys : List Key = after_first (entry_at w k).members in
     let d : Disbands (post_at w) (post_at (led_world w k (entries_freed w k) (standings_freed w k))) k =
@@ -57,8 +57,8 @@ leader-untouched hw w k j h lead apart off =
     let none : times j keys ≡ 0 = (siblings-stand hw w k h lead).others j apart ∙ once-false (is_member_of (post_at w) k j) off in
     (d.others j apart off, ap (λ o. unwrap_or o standing.Out) (get-left (standings_freed w k) k.0 j.0 apart ∙ standing-unfreed keys w.standings j none))
 
-sibling-untouched : (w : World) (k j : Key) → (j.0 ≡ k.0 → ⊥) → (j.0 ≡ (entry_at w k).leader.0 → ⊥) → IsUntouched w (left_world w k) j
-unfolding IsUntouched
+sibling-untouched : (w : World) (k j : Key) → (j.0 ≡ k.0 → ⊥) → (j.0 ≡ (entry_at w k).leader.0 → ⊥) → IsAsBefore w (left_world w k) j
+unfolding IsAsBefore
 sibling-untouched w k j apart below =
     let first : Key = (entry_at w k).leader in
     let e : get (remove (insert w.entries first.0 (fewer_entry w k)) k.0) j.0 ≡ get w.entries j.0 =
@@ -66,23 +66,32 @@ sibling-untouched w k j apart below =
     ((λ i. post_of (is_some (e i)) (unwrap_or (e i) no_entry)), ap (λ o. unwrap_or o standing.Out) (get-left w.standings k.0 j.0 apart))
 
 dropped-untouched : (hw : Hardware) (w : World) (k j : Key) → IsKept hw w → is_live w k ≡ true → (instance_at w k).copy ≡ true → ((entry_at w j).context ≡ (entry_at w k).context → ⊥)
-    → IsUntouched w (drop_instance k w) j
+    → IsAsBefore w (drop_instance k w) j
 dropped-untouched hw w k j h live copy off =
     let apart : j.0 ≡ k.0 → ⊥ = λ e. off (ap (λ q. (entry_at w q).context) (key-is j k e)) in
     elim (cases_Bool (is_key k (entry_at w k).leader)) [
       | inl own ↦
-          subst (λ x. IsUntouched w x j) (sym (dropped-leader w k own))
+          subst (λ x. IsAsBefore w x j) (sym (dropped-leader w k own))
           (leader-untouched hw w k j h (it-leads w k (copy-may w k live copy) own) apart (not-member hw w k j h off))
       | inr sibling ↦
-          subst (λ b. IsUntouched w (taken_out k (instance_at w k) (leave_group k b w)) j) (sym sibling)
+          subst (λ b. IsAsBefore w (taken_out k (instance_at w k) (leave_group k b w)) j) (sym sibling)
           (sibling-untouched w k j apart (λ e. off (ap (λ q. (entry_at w q).context) (key-is j (entry_at w k).leader e) ∙ h.grouped.together k live)))
     ]
 
+-- so where the copy leads its group, and the key is of another one
+pub folded-apart : (hw : Hardware) (w : World) (k j : Key) → IsKept hw w → leads (post_at w) k ≡ true → (j.0 ≡ k.0 → ⊥) → is_member_of (post_at w) k j ≡ false
+    → (post_at (folded_away k w) j ≡ post_at w j) × (standing_at (folded_away k w) j ≡ standing_at w j)
+unfolding IsAsBefore
+folded-apart hw w k j h lead apart off =
+    let own : is_key k (entry_at w k).leader ≡ true = (leads-parts (is_live w k) (is_key k (entry_at w k).leader) lead).1 in
+    let d : IsAsBefore w (drop_instance k w) j = subst (λ x. IsAsBefore w x j) (sym (dropped-leader w k own)) (leader-untouched hw w k j h lead apart off) in
+    subst (λ x. (post_at x j ≡ post_at w j) × (standing_at x j ≡ standing_at w j)) (sym (folded-is w k)) (d.0, d.1)
+
 pub folded-untouched : (hw : Hardware) (w : World) (k j : Key) → IsKept hw w → is_live w k ≡ true → (instance_at w k).copy ≡ true → ((entry_at w j).context ≡ (entry_at w k).context → ⊥)
     → (post_at (folded_away k w) j ≡ post_at w j) × (standing_at (folded_away k w) j ≡ standing_at w j)
-unfolding IsUntouched
+unfolding IsAsBefore
 folded-untouched hw w k j h live copy off =
-    let d : IsUntouched w (drop_instance k w) j = dropped-untouched hw w k j h live copy off in
+    let d : IsAsBefore w (drop_instance k w) j = dropped-untouched hw w k j h live copy off in
     subst (λ x. (post_at x j ≡ post_at w j) × (standing_at x j ≡ standing_at w j)) (sym (folded-is w k)) (d.0, d.1)
 
 -- the copy's own family and folded sums, and the machine's counters

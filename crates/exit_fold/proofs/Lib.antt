@@ -1,3 +1,4 @@
+pub mod Alone
 pub mod Contexts
 pub mod Copies
 pub mod Exited

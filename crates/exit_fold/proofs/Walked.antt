@@ -24,12 +24,12 @@ use Rattle.world_spec.proofs.Counting.{times-filter, AreSameKeys}
 use Rattle.world_spec.proofs.Disbanding.{Disbands}
 use Rattle.world_spec.proofs.Folding.{fold-stage, fold-sums, fold-kept, folded-is}
 use Rattle.world_spec.proofs.GoneLeader.{entries_freed, standings_freed, dropped-leader, tables-freed, led-disbands}
-use Rattle.world_spec.proofs.Keys.{key-is, is_key-same, is_key-other, all_but-none, times-cons, times-push, once-true, once-false}
+use Rattle.world_spec.proofs.Keys.{key-is, is_key-same, is_key-other, is_key-true, all_but-none, times-cons, times-push, once-true, once-false}
 use Rattle.world_spec.proofs.Moving.{leads-parts}
 use Rattle.world_spec.proofs.Staying.{fold-stays}
 use Rattle.exit_fold.specs.Leaving.{is_of_task, leaves}
 use Rattle.exit_fold.proofs.Copies.{copy-there, same-number, filter-within, filter-all, filter-none, filter-twice, same-sums, plus-turned}
-use Rattle.exit_fold.proofs.Going.{folded-untouched, own-family, own-folded, same-hardware}
+use Rattle.exit_fold.proofs.Going.{folded-apart, folded-untouched, own-family, own-folded, same-hardware}
 
 -- what the copies of an event that went had counted
 abbrev pub sums_gone : World → World → EventNo → Sums
@@ -44,6 +44,7 @@ pub record AreFolding (hw : Hardware) (task : TaskNo) (v w : World) : Type 0 whe
   pub accounts : (k : Key) → is_live w k ≡ true → account_at w k ≡ account_at v k
   pub alike : (k : Key) → is_live w k ≡ true → is_of_task task (entry_at w k).context ≡ true → (instance_at w (entry_at w k).leader).copy ≡ (instance_at w k).copy
   pub away : (k : Key) → is_of_task task (entry_at v k).context ≡ false → (post_at w k ≡ post_at v k) × (standing_at w k ≡ standing_at v k)
+  pub originals : (k : Key) → is_live w k ≡ true → (instance_at w k).copy ≡ false → (post_at w k ≡ post_at v k) × (standing_at w k ≡ standing_at v k)
   pub families : (e : EventNo) → family_of w e ≡ record (family_of v e) { copies = filter (is_live w) (family_of v e).copies }
   pub folded : (e : EventNo) → slice_index_or w.folded e.0 no_sums ≡ plus (slice_index_or v.folded e.0 no_sums) (sums_gone v w e)
   pub taken : List Key
@@ -70,6 +71,7 @@ folding-none hw task v h alike = record {
   accounts = λ k live. refl;
   alike = alike;
   away = λ k off. (refl, refl);
+  originals = λ k live original. (refl, refl);
   families = λ e.
       let all : filter (is_live v) (family_of v e).copies ≡ (family_of v e).copies = filter-all (is_live v) (family_of v e).copies (λ k some. (copy-there hw v k e h some).0) in
       λ i. record (family_of v e) { copies = sym all i };
@@ -236,6 +238,18 @@ alike-then hw task v w q j f x live there apart =
           ∙ (f.alike j was (ap (is_of_task task) (sym (g.others.contexts j apart)) ∙ there) ∙ ap (λ i. i.copy) (sym (g.others.instances j apart))))
     ]
 
+-- an original is in no copy's group
+original-apart : (hw : Hardware) (task : TaskNo) (v w : World) (q j : Key) → AreFolding hw task v w → IsNext w task q → (instance_at w j).copy ≡ false → is_member_of (post_at w) q j ≡ false
+original-apart hw task v w q j f x original = elim (cases_Bool (is_member_of (post_at w) q j)) [
+  | inl is ↦
+      let parts : (is_live w j ≡ true) × (is_key q (entry_at w j).leader ≡ true) = leads-parts (is_live w j) (is_key q (entry_at w j).leader) is in
+      let leader : (entry_at w j).leader ≡ q = key-is (entry_at w j).leader q (is_key-true q (entry_at w j).leader parts.1) in
+      let on : is_of_task task (entry_at w j).context ≡ true =
+      ap (is_of_task task) (sym (f.kept.grouped.together j parts.0) ∙ ap (λ m. (entry_at w m).context) leader) ∙ x.there in
+      absurd (false≢true (sym original ∙ (sym (f.alike j parts.0 on) ∙ (ap (λ m. (instance_at w m).copy) leader ∙ x.copy))))
+  | inr off ↦ off
+]
+
 -- the keys that went
 taken-then : (v w t : World) (q k : Key) (taken : List Key) → is_live v q ≡ true → is_live w q ≡ true → HasGone w t q → ((j : Key) → times j taken ≡ once_if (is_live v j && not (is_live w j)))
     → times k (taken ++ q ∷ []) ≡ once_if (is_live v k && not (is_live t k))
@@ -276,6 +290,12 @@ folding-more hw task v w q h f x =
           false≢true (sym (ap (λ p. is_of_task task p.context) (f.away k off).0 ∙ off) ∙ (ap (is_of_task task) same ∙ x.there)) in
           let u : (post_at t k ≡ post_at w k) × (standing_at t k ≡ standing_at w k) = folded-untouched hw w q k f.kept there x.copy differ in
           (u.0 ∙ (f.away k off).0, u.1 ∙ (f.away k off).1);
+      originals = λ k live original.
+          let before : (instance_at w k).copy ≡ false = ap (λ i. i.copy) (sym (g.others.instances k (apart k live))) ∙ original in
+          let u : (post_at t k ≡ post_at w k) × (standing_at t k ≡ standing_at w k) =
+          folded-apart hw w q k f.kept x.lead (apart k live) (original-apart hw task v w q k f x before) in
+          let first : (post_at w k ≡ post_at v k) × (standing_at w k ≡ standing_at v k) = f.originals k (was k live) before in
+          (u.0 ∙ first.0, u.1 ∙ first.1);
       families = λ e. families-then hw task v w q e h f x;
       folded = λ e. folded-then hw task v w q e h f x;
       taken = f.taken ++ q ∷ [];

@@ -18,9 +18,9 @@ use Rattle.stage_laws.specs.Sound.{IsGrouped, has_id}
 use Rattle.stage_laws.proofs.Images.{filter-map}
 use Rattle.stage_laws.proofs.OneByOneDrops.{exited_one_by_one}
 use Rattle.stage_laws.proofs.Totals.{one_if, as_number, total-map, total-same, count_by-is-total}
-use Rattle.world_spec.specs.Value.{World, is_live, entry_at, instance_at, account_at, family_of, times}
+use Rattle.world_spec.specs.Value.{World, is_live, entry_at, instance_at, account_at, standing_at, family_of, times}
 use Rattle.world_spec.specs.StageOf.{stage_of}
-use Rattle.world_spec.specs.Kept.{once_if, plus_keys, IsKept}
+use Rattle.world_spec.specs.Kept.{post_at, once_if, plus_keys, IsKept}
 use Rattle.world_spec.specs.Listings.{keys_in}
 use Rattle.world_spec.proofs.Counting.{times-filter, AreSameKeys, same-total}
 use Rattle.world_spec.proofs.Listings.{context-is, is-numbered}
@@ -63,6 +63,13 @@ not-not : (b : Bool) → not (not b) ≡ b
 not-not true = refl
 not-not false = refl
 
+-- what stays is in the group that it was in, which stands where it stood
+group-stays : (hw : Hardware) (task : TaskNo) (v w : World) (k : Key) → AreFolding hw task v w → AreNone task w → is_live w k ≡ true → (post_at w k ≡ post_at v k) × (standing_at w k ≡ standing_at v k)
+group-stays hw task v w k f none live = elim (cases_Bool (is_of_task task (entry_at v k).context)) [
+  | inl on ↦ f.originals k live (none k live (ap (is_of_task task) (f.contexts k live) ∙ on))
+  | inr off ↦ f.away k off
+]
+
 have-gone : (hw : Hardware) (task : TaskNo) (v w : World) → IsKept hw v → AreFolding hw task v w → AreNone task w → HaveGone v w (Some task)
 have-gone hw task v w h f none =
     let left : (e : EventNo) (k : Key) → 1 ≤ times k (family_of v e).copies → is_live w k ≡ not (leaves v (Some task) k) = λ e k some.
@@ -72,6 +79,8 @@ have-gone hw task v w h f none =
       instances = f.instances;
       contexts = f.contexts;
       accounts = f.accounts;
+      groups = λ k live. (group-stays hw task v w k f none live).0;
+      standings = λ k live. (group-stays hw task v w k f none live).1;
       families = λ e.
           let same : filter (is_live w) (family_of v e).copies ≡ filter (λ k. not (leaves v (Some task) k)) (family_of v e).copies =
           filter-within (is_live w) (λ k. not (leaves v (Some task) k)) (family_of v e).copies (left e) in

@@ -36,12 +36,15 @@ leaving_copies w to e = filter (leaves w to) (family_of w e).copies
 abbrev pub leaving_sums : World → Option TaskNo → EventNo → Sums
 leaving_sums w to e = plus_keys (λ k. (account_at w k).sums) (leaving_copies w to e)
 
--- Those instances and no others are gone. Each that stays has what it had; each family has its other copies; and what went is in the folded sums.
+-- Those instances and no others are gone. Each that stays has what it had, is in the group that it was in, and its group stands where it stood; each
+-- family has its other copies; and what went is in the folded sums.
 pub record HaveGone (w after : World) (to : Option TaskNo) : Type 0 where
   pub live : (k : Key) → is_live after k ≡ (is_live w k && not (leaves w to k))
   pub instances : (k : Key) → is_live after k ≡ true → instance_at after k ≡ instance_at w k
   pub contexts : (k : Key) → is_live after k ≡ true → (entry_at after k).context ≡ (entry_at w k).context
   pub accounts : (k : Key) → is_live after k ≡ true → account_at after k ≡ account_at w k
+  pub groups : (k : Key) → is_live after k ≡ true → post_at after k ≡ post_at w k
+  pub standings : (k : Key) → is_live after k ≡ true → standing_at after k ≡ standing_at w k
   pub families : (e : EventNo) → family_of after e ≡ record (family_of w e) { copies = filter (λ k. not (leaves w to k)) (family_of w e).copies }
   pub folded : (e : EventNo) → slice_index_or after.folded e.0 no_sums ≡ plus (slice_index_or w.folded e.0 no_sums) (leaving_sums w to e)
   pub lost : after.lost ≡ w.lost

@@ -24,7 +24,7 @@ use Rattle.world_spec.specs.Copying.{copy_from, copy_comes, FollowsParent}
 use Rattle.world_spec.specs.Staying.{HasCome}
 use Rattle.world_spec.proofs.Copying.{copy-stage, copy-kept}
 use Rattle.world_spec.proofs.Keys.{key-is, is_key-same, times-push, once-true}
-use Rattle.world_spec.proofs.Tables.{get-there, entry-here, entry-there, live-written}
+use Rattle.world_spec.proofs.Tables.{get-here, get-there, entry-here, entry-there, live-written}
 use Rattle.perf_world.specs.Parts.{MayAdd}
 use Rattle.fork_inherit.specs.Copies.{parent_of, IsNewCopy, AreCopied}
 use Rattle.fork_inherit.proofs.Single.{may-come, has-come}
@@ -33,6 +33,7 @@ use Rattle.fork_inherit.proofs.Single.{may-come, has-come}
 record IsBeside (w u : World) (k : Key) (n : Newcomer) (leader : Option Key) : Type 0 where
   entries : (j : Key) → (j.0 ≡ k.0 → ⊥) → ((m : Key) → leader ≡ Some m → j.0 ≡ m.0 → ⊥) → entry_at u j ≡ entry_at w j
   standings : (j : Key) → (j.0 ≡ k.0 → ⊥) → standing_at u j ≡ standing_at w j
+  out : standing_at u k ≡ standing.Out
   contexts : (p : ℕ) → (p ≡ place_of n.context → ⊥) → slice_index_or u.contexts p no_leaders ≡ slice_index_or w.contexts p no_leaders
   quiet : u.quiet ≡ record w.quiet { next_id = w.quiet.next_id + 1 }
   families : u.families ≡ slice_set w.families n.event.0 (in_family true k (family_of w n.event))
@@ -42,6 +43,7 @@ beside : (w : World) (k : Key) (child : TaskNo) (i : Instance) (leader : Option 
 beside w k child i None = record {
   entries = λ j apart off. ap (λ o. unwrap_or o no_entry) (get-there w.entries k.0 _ j.0 apart);
   standings = λ j apart. ap (λ o. unwrap_or o standing.Out) (get-there w.standings k.0 standing.Out j.0 apart);
+  out = ap (λ o. unwrap_or o standing.Out) (get-here w.standings k.0 standing.Out k.0 refl);
   contexts = λ p apart. get_or-set_other w.contexts (place_of (context.Task child)) p _ no_leaders apart;
   quiet = refl;
   families = refl;
@@ -50,6 +52,7 @@ beside w k child i None = record {
 beside w k child i (Some m) = record {
   entries = λ j apart off. ap (λ o. unwrap_or o no_entry) (get-there _ k.0 _ j.0 apart ∙ get-there w.entries m.0 _ j.0 (off m refl));
   standings = λ j apart. ap (λ o. unwrap_or o standing.Out) (get-there w.standings k.0 standing.Out j.0 apart);
+  out = ap (λ o. unwrap_or o standing.Out) (get-here w.standings k.0 standing.Out k.0 refl);
   contexts = λ p apart. refl;
   quiet = refl;
   families = refl;
@@ -123,6 +126,7 @@ next-copied child v w done q k leader f live_q dead may follows outside =
               copy = ap (λ x. x.instance.copy) here ∙ ap (λ x. x.copy) c.instance;
               context = ap (λ x. x.context) here ∙ c.context;
               account = c.account ∙ (λ x. record { sums = no_sums; left = sym (ap (λ y. y.instance.attr.period) here ∙ ap (λ y. y.attr.period) c.instance) x });
+              standing = b.out;
               later = omega (arith, ap (λ x. x.instance.id) here, ap (λ x. x.id) c.instance, ap (λ x. x.next_id) f.quiet);
               parent = (q, omega (arith, times-push q done q, once-true (is_key q q) (is_key-same q q refl)), ap (λ x. x.instance.event) here ∙ ap (λ x. x.event) c.instance);
             })
@@ -134,6 +138,7 @@ next-copied child v w done q k leader f live_q dead may follows outside =
               copy = ap (λ y. y.copy) same ∙ x.copy;
               context = ap (λ y. y.context) (there j off) ∙ (c.others.contexts j off ∙ x.context);
               account = c.others.accounts j off ∙ (x.account ∙ (λ y. record { sums = no_sums; left = (sym same y).attr.period }));
+              standing = b.standings j off ∙ x.standing;
               later = omega (arith, x.later, ap (λ y. y.id) same);
               parent = (x.parent.0, omega (arith, x.parent.1, count-append (is_key x.parent.0) done (q ∷ [])), ap (λ y. y.event) same ∙ x.parent.2);
             }

@@ -24,7 +24,7 @@ use Rattle.stage_laws.proofs.Tasks.{is_task-some}
 use Rattle.counter_match.specs.Seating.{empty_seating}
 use Rattle.world_spec.specs.Changes.{add_task}
 use Rattle.world_spec.specs.Kept.{post_at, leads, IsKept}
-use Rattle.world_spec.specs.Rescheduled.{IsRescheduled}
+use Rattle.world_spec.specs.Rescheduled.{IsUntouched}
 use Rattle.world_spec.specs.StageOf.{after_first, group_at, lists_at, stage_of}
 use Rattle.world_spec.specs.Value.{World, Entry, no_leaders, is_live, entry_at, instance_at, is_key, times}
 use Rattle.world_spec.proofs.GoneLeader.{siblings-stand}
@@ -32,7 +32,7 @@ use Rattle.world_spec.proofs.GoneLeaderStage.{map-within, leading-first, leading
 use Rattle.world_spec.proofs.GoneStage.{AreLeading}
 use Rattle.world_spec.proofs.Keys.{key-is, is_key-same, is_key-other, is_key-true, times-cons, once-true}
 use Rattle.world_spec.proofs.Moving.{leads-parts}
-use Rattle.world_spec.proofs.Standing.{left-rescheduled}
+use Rattle.world_spec.proofs.Standing.{left-untouched}
 use Rattle.fork_inherit.specs.Copies.{parent_of, inherited_members, inherited_keys, leaders_from, IsNewCopy, AreCopied, MayCopyList, HasForked}
 use Rattle.fork_inherit.proofs.Group.{IsMember, member-of}
 use Rattle.fork_inherit.proofs.Listed.{IsInherited, inherited-key, led-place, same-list, copied-then}
@@ -164,6 +164,7 @@ has-forked v t x child parent f is =
       copies = λ k none live. (f.fresh k none live).copy;
       places = λ k none live. (f.fresh k none live).context;
       fresh = λ k none live. (f.fresh k none live).account;
+      out = λ k none live. (f.fresh k none live).standing;
       ids = λ k none live. (f.fresh k none live).later;
       drawn = omega (arith, ap (λ q. q.next_id) f.quiet);
       originals = f.originals;
@@ -186,11 +187,11 @@ fork-reaches v cpu other child parent h free =
     record { running = r.running; own = r.own; task = r.task }
 
 pub fork-others : (v t x : World) (cpu other : CpuNo) (child parent : TaskNo) → IsKept v.hardware v → IsFree v cpu child parent → AreCopied child v t (both_keys v parent) → x ≡ add_task child t
-    → stage_of x ≡ forked cpu child (stage_of v) → other.0 < 8 → IsRescheduled v.hardware v other → IsRescheduled v.hardware x other
-fork-others v t x cpu other child parent h free f is stage low before =
+    → stage_of x ≡ forked cpu child (stage_of v) → other.0 < 8 → IsUntouched v.hardware v x other
+fork-others v t x cpu other child parent h free f is stage low =
     let r : ReachesSame (stage_of v) (stage_of x) other = subst (λ s. ReachesSame (stage_of v) s other) (sym stage) (fork-reaches v cpu other child parent h free) in
     let g : HasForked child v x = has-forked v t x child parent f is in
-    left-rescheduled v.hardware v x other low (record {
+    left-untouched v.hardware v x other low (record {
       briefs = briefs-of_passes v.hardware other (stage_of v) (stage_of x) (passes-same (stage_of v) (stage_of x) other r);
       seats = ap (λ q. slice_index_or q.seats other.0 (empty_seating 0)) g.quiet;
       groups = λ k lead has.
@@ -208,4 +209,4 @@ fork-others v t x cpu other child parent h free f is stage low before =
             ap (λ e. e.instance.id) entry,
             g.standings k was,
           );
-    }) before
+    })

@@ -63,6 +63,7 @@ copied-then child v w t done more h f g lives =
               copy = ap (λ e. e.instance.copy) (g.entries k there) ∙ x.copy;
               context = ap (λ e. e.context) (g.entries k there) ∙ x.context;
               account = g.accounts k there ∙ (x.account ∙ (λ i. record { sums = no_sums; left = (sym (g.entries k there) i).instance.attr.period }));
+              standing = g.standings k there ∙ x.standing;
               later = omega (arith, x.later, ap (λ e. e.instance.id) (g.entries k there));
               parent = (x.parent.0, omega (arith, x.parent.1, count-append (is_key x.parent.0) done more), ap (λ e. e.instance.event) (g.entries k there) ∙ x.parent.2);
             }
@@ -72,6 +73,7 @@ copied-then child v w t done more h f g lives =
               copy = x.copy;
               context = x.context;
               account = x.account;
+              standing = x.standing;
               later = omega (arith, x.later, ap (λ q. q.next_id) f.quiet);
               parent = (
                 x.parent.0,

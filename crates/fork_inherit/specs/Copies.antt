@@ -5,6 +5,7 @@ use Rattle.perf_base.specs.declared.numbers.EventNo.{EventNo}
 use Rattle.perf_base.specs.declared.numbers.Key.{Key}
 use Rattle.perf_base.specs.declared.numbers.TaskNo.{TaskNo}
 use Rattle.perf_base.specs.declared.standing.Context.TheVariants as context
+use Rattle.perf_base.specs.declared.standing.Standing.TheVariants as standing
 use Rattle.stage_spec.specs.Flags.{is_inherited, is_pinned}
 use Rattle.stage_spec.specs.Shares.{no_sums}
 use Rattle.stage_spec.specs.Stage.{place_of}
@@ -26,11 +27,12 @@ abbrev pub parent_of : World → Key → Parent
 parent_of w k = record { instance = instance_at w k; leads = is_key k (entry_at w k).leader; pinned = (entry_at w (entry_at w k).leader).pinned }
 
 -- A key that is new names a copy in the child's context, of the event of one of some instances, with an id that was not drawn before, nothing counted and a whole
--- period left.
+-- period left. It stands Out.
 pub record IsNewCopy (child : TaskNo) (w after : World) (parents : List Key) (k : Key) : Type 0 where
   pub copy : (instance_at after k).copy ≡ true
   pub context : (entry_at after k).context ≡ context.Task child
   pub account : account_at after k ≡ record { sums = no_sums; left = (instance_at after k).attr.period }
+  pub standing : standing_at after k ≡ standing.Out
   pub later : w.quiet.next_id ≤ (instance_at after k).id
   pub parent : (q : Key) × (1 ≤ times q parents) × ((instance_at after k).event ≡ (instance_at w q).event)
 
@@ -84,7 +86,7 @@ pub record MayCopyList (child parent : TaskNo) (pinned : Bool) (w : World) : Typ
   pub few : copies_in w.families + length (inherited_keys w (leaders_from w parent pinned)) ≤ 4096
 
 -- What a fork leaves: each key that was there has what it had, and each new one names a copy in the child's context with an id that was not drawn before, which
--- has counted nothing and has a whole period left. Each event has the original that it had. Folded sums, lost counts, clocks, seats, slots and rings are as before.
+-- has counted nothing, has a whole period left and stands Out. Each event has the original that it had. Folded sums, lost counts, clocks, seats, slots and rings are as before.
 pub record HasForked (child : TaskNo) (w after : World) : Type 0 where
   pub live : (k : Key) → is_live w k ≡ true → is_live after k ≡ true
   pub entries : (k : Key) → is_live w k ≡ true → entry_at after k ≡ entry_at w k
@@ -93,6 +95,7 @@ pub record HasForked (child : TaskNo) (w after : World) : Type 0 where
   pub copies : (k : Key) → is_live w k ≡ false → is_live after k ≡ true → (instance_at after k).copy ≡ true
   pub places : (k : Key) → is_live w k ≡ false → is_live after k ≡ true → (entry_at after k).context ≡ context.Task child
   pub fresh : (k : Key) → is_live w k ≡ false → is_live after k ≡ true → account_at after k ≡ record { sums = no_sums; left = (instance_at after k).attr.period }
+  pub out : (k : Key) → is_live w k ≡ false → is_live after k ≡ true → standing_at after k ≡ standing.Out
   pub ids : (k : Key) → is_live w k ≡ false → is_live after k ≡ true → w.quiet.next_id ≤ (instance_at after k).id
   pub drawn : w.quiet.next_id ≤ after.quiet.next_id
   pub originals : (e : EventNo) → (family_of after e).original ≡ (family_of w e).original

@@ -1,10 +1,9 @@
 //! The fork of a task.
 
 ghost use Rattle.std.specs.Prelude.{◌≡◌, ◌+◌, ◌^◌, ◌<◌, Some, None, OnOk, OnErr, IfErr, length};
-ghost use Rattle.perf_base.specs.declared.numbers.CpuNo.{CpuNo as Cpu};
 ghost use Rattle.stage_spec.specs.Forks.{fork_refusal, forked};
 ghost use Rattle.stage_laws.specs.Sound.{IsSound};
-ghost use Rattle.world_spec.specs.Rescheduled.{IsRescheduled};
+ghost use Rattle.world_spec.specs.Rescheduled.{AreUntouched};
 ghost use Rattle.world_spec.specs.StageOf.{stage_of};
 ghost use Rattle.fork_inherit.specs.Copies.{HasForked};
 
@@ -15,7 +14,7 @@ use perf_world::World;
 
 /// The task on a processor is forked to a child of a number, 0 to 63: each group of the task's that is inherited is
 /// copied to the child's context, the pinned ones first. A copy is of the original, has its present period, is ready
-/// where the instance before it is, and else off, and has counted nothing. After perf_event_init_task of
+/// where the instance before it is, and else off, has counted nothing, and its group stands Out. After perf_event_init_task of
 /// kernel/events/core.c. It fails with `Idle` where no task is on, with `Exists` where there was a task of that number,
 /// and with `CopiesFull` where there would be more than 4,096 copies; the first that holds counts, and then nothing
 /// changes. No processor has to be rescheduled.
@@ -29,8 +28,7 @@ pub fn fork(world: &mut World, cpu: CpuNo, child: TaskNo) -> Result<(), Reason>
     ensures same { OnErr result (world.new ≡ world.old) }
     ensures stage { OnOk result (stage_of world.new ≡ forked cpu child (stage_of world.old)) }
     ensures stays { OnOk result (HasForked child world.old world.new) }
-    ensures others { OnOk result ((other : Cpu) → other.0 < length world.old.quiet.running
-        → IsRescheduled world.old.hardware world.old other → IsRescheduled world.old.hardware world.new other) }
+    ensures others { OnOk result (AreUntouched world.old world.new) }
 {
     // A reader tells what always holds of a world.
     let _cpus = world.pmus().cpus();

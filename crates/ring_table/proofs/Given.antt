@@ -20,9 +20,9 @@ use Rattle.world_spec.specs.Kept.{leads, post_at}
 use Rattle.world_spec.specs.Changes.{remember}
 use Rattle.world_spec.specs.Changes as change
 use Rattle.world_spec.specs.Laws.{remembered}
-use Rattle.world_spec.specs.Rescheduled.{IsRescheduled}
+use Rattle.world_spec.specs.Rescheduled.{IsUntouched}
 use Rattle.world_spec.proofs.Listings.{is-numbered}
-use Rattle.world_spec.proofs.Standing.{left-rescheduled}
+use Rattle.world_spec.proofs.Standing.{left-untouched}
 use Rattle.world_spec.proofs.Tables.{entry-here, entry-there, live-written, posts-same}
 use Rattle.perf_world.specs.Seen.{IsWorld}
 use Rattle.ring_table.specs.Rings.{HasRing, with_ring}
@@ -78,10 +78,10 @@ output-stage w new e f ring k h is to changed = ring-stage w new e ring false k 
 
 -- processors see no ring
 stays : (w new : World) (ring : RingNo) (owner : Bool) (k : Key) (cpu : CpuNo) → is_live w k ≡ true → new ≡ change.set_ring k ring owner w → cpu.0 < 8
-    → briefs w.hardware (stage_of new) cpu ≡ briefs w.hardware (stage_of w) cpu → IsRescheduled w.hardware w cpu → IsRescheduled w.hardware new cpu
-stays w new ring owner k cpu live changed low same before =
+    → briefs w.hardware (stage_of new) cpu ≡ briefs w.hardware (stage_of w) cpu → IsUntouched w.hardware w new cpu
+stays w new ring owner k cpu live changed low same =
     let posts : post_at new ≡ post_at w = ap post_at changed ∙ posts-same (λ i. record i { ring = Some ring; mapped = owner }) (λ there x. refl) w k live in
-    left-rescheduled w.hardware w new cpu low (record {
+    left-untouched w.hardware w new cpu low (record {
       briefs = same;
       seats = ap (λ (x : World). seats_at x cpu) changed;
       groups = λ q lead has. (
@@ -90,17 +90,17 @@ stays w new ring owner k cpu live changed low same before =
         ap (λ at. (at q).id) posts,
         ap (λ (x : World). standing_at x q) changed,
       );
-    }) before
+    })
 
 pub map-stays : (w new : World) (e : EventNo) (ring : RingNo) (k : Key) (cpu : CpuNo) → is_live w k ≡ true → new ≡ change.set_ring k ring true w
-    → stage_of new ≡ mapped_to e ring (stage_of w) → cpu.0 < 8 → IsRescheduled w.hardware w cpu → IsRescheduled w.hardware new cpu
-map-stays w new e ring k cpu live changed stage low before =
-    stays w new ring true k cpu live changed low (ap (λ s. briefs w.hardware s cpu) stage ∙ map-briefs w.hardware e ring (stage_of w) cpu) before
+    → stage_of new ≡ mapped_to e ring (stage_of w) → cpu.0 < 8 → IsUntouched w.hardware w new cpu
+map-stays w new e ring k cpu live changed stage low =
+    stays w new ring true k cpu live changed low (ap (λ s. briefs w.hardware s cpu) stage ∙ map-briefs w.hardware e ring (stage_of w) cpu)
 
 pub output-stays : (w new : World) (e f : EventNo) (ring : RingNo) (k : Key) (cpu : CpuNo) → is_live w k ≡ true → new ≡ change.set_ring k ring false w
-    → stage_of new ≡ output_to e f (stage_of w) → cpu.0 < 8 → IsRescheduled w.hardware w cpu → IsRescheduled w.hardware new cpu
-output-stays w new e f ring k cpu live changed stage low before =
-    stays w new ring false k cpu live changed low (ap (λ s. briefs w.hardware s cpu) stage ∙ output-briefs w.hardware e f (stage_of w) cpu) before
+    → stage_of new ≡ output_to e f (stage_of w) → cpu.0 < 8 → IsUntouched w.hardware w new cpu
+output-stays w new e f ring k cpu live changed stage low =
+    stays w new ring false k cpu live changed low (ap (λ s. briefs w.hardware s cpu) stage ∙ output-briefs w.hardware e f (stage_of w) cpu)
 
 -- a machine has eight processors at most
 pub few-cpus : (pmus : Hardware) (w : World) (cpu : CpuNo) → IsWorld w → pmus ≡ w.hardware → length pmus.cpu_pmus ≤ 8 → cpu.0 < length w.quiet.running → cpu.0 < 8

@@ -1,9 +1,8 @@
 //! A ring for an event.
 
-ghost use Rattle.std.specs.Prelude.{◌≡◌, ◌<◌, ◌++◌, ◌∷◌, [], OnOk, OnErr, IfErr, None, Some, true, false, length};
-ghost use Rattle.perf_base.specs.declared.numbers.CpuNo.{CpuNo as Cpu};
+ghost use Rattle.std.specs.Prelude.{◌≡◌, ◌++◌, ◌∷◌, [], OnOk, OnErr, IfErr, None, Some, true, false};
 ghost use Rattle.stage_spec.specs.Mapping.{map_refusal, mapped_to, output_refusal, output_to, ring_of};
-ghost use Rattle.world_spec.specs.Rescheduled.{IsRescheduled};
+ghost use Rattle.world_spec.specs.Rescheduled.{AreUntouched};
 ghost use Rattle.world_spec.specs.StageOf.{stage_of};
 ghost use Rattle.ring_table.specs.Rings.{HasRing};
 
@@ -21,8 +20,7 @@ pub fn map(world: &mut World, event: EventNo, ring: RingNo) -> Result<(), Reason
     ensures same { OnErr result (world.new ≡ world.old) }
     ensures stage { OnOk result (stage_of world.new ≡ mapped_to event ring (stage_of world.old)) }
     ensures rest { OnOk result (HasRing event (Some ring) true (world.old.quiet.mapped ++ ring ∷ []) world.old world.new) }
-    ensures rescheduled { (cpu : Cpu) → cpu.0 < length world.old.quiet.running
-        → IsRescheduled world.old.hardware world.old cpu → IsRescheduled world.old.hardware world.new cpu }
+    ensures others { OnOk result (AreUntouched world.old world.new) }
 {
     // A reader tells what always holds of a world.
     let _cpus = world.pmus().cpus();
@@ -42,8 +40,7 @@ pub fn output(world: &mut World, event: EventNo, target: EventNo) -> Result<(), 
     ensures same { OnErr result (world.new ≡ world.old) }
     ensures stage { OnOk result (stage_of world.new ≡ output_to event target (stage_of world.old)) }
     ensures rest { OnOk result (HasRing event (ring_of (stage_of world.old) target) false world.old.quiet.mapped world.old world.new) }
-    ensures rescheduled { (cpu : Cpu) → cpu.0 < length world.old.quiet.running
-        → IsRescheduled world.old.hardware world.old cpu → IsRescheduled world.old.hardware world.new cpu }
+    ensures others { OnOk result (AreUntouched world.old world.new) }
 {
     // A reader tells what always holds of a world.
     let _cpus = world.pmus().cpus();

@@ -24,11 +24,11 @@ use Rattle.stage_laws.proofs.Turns.{tick_turns, settle_all-flexible}
 use Rattle.counter_match.specs.Seating.{empty_seating}
 use Rattle.world_spec.specs.Kept.{post_at, leads, IsKept}
 use Rattle.world_spec.specs.Listings.{pass_leaders, task_leaders}
-use Rattle.world_spec.specs.Rescheduled.{IsJudged, IsRescheduled}
+use Rattle.world_spec.specs.Rescheduled.{IsJudged, IsUntouched}
 use Rattle.world_spec.specs.StageOf.{group_at, stage_of}
 use Rattle.world_spec.specs.Value.{World, no_leaders, leaders_of, entry_at, times}
 use Rattle.world_spec.proofs.Listings.{passes-are}
-use Rattle.world_spec.proofs.Standing.{left-rescheduled}
+use Rattle.world_spec.proofs.Standing.{left-untouched}
 use Rattle.task_moves.specs.Turning.{turn_keys, turn_in, turn_of_task, turned_world}
 use Rattle.task_moves.proofs.Turning.{turn-stage, flexible-once, waits-same}
 
@@ -130,8 +130,8 @@ turned-only : (w : World) (cpu : CpuNo) (o : Option TaskNo) → IsTurnedOnly w (
 turned-only w cpu None = record { entries = refl; standings = refl; quiet = refl }
 turned-only w cpu (Some task) = record { entries = refl; standings = refl; quiet = refl }
 
-pub others-stay : (hw : Hardware) (w x : World) (cpu other : CpuNo) → IsKept hw w → x ≡ turned_world cpu w → cpu.0 < 8 → other.0 < 8 → other.0 ≢ cpu.0 → IsRescheduled hw w other → IsRescheduled hw x other
-others-stay hw w x cpu other h is low small apart before =
+pub others-stay : (hw : Hardware) (w x : World) (cpu other : CpuNo) → IsKept hw w → x ≡ turned_world cpu w → cpu.0 < 8 → other.0 < 8 → other.0 ≢ cpu.0 → IsUntouched hw w x other
+others-stay hw w x cpu other h is low small apart =
     let only : IsTurnedOnly w x = subst (IsTurnedOnly w) (sym is) (turned-only w cpu (task_on (stage_of w) cpu)) in
     let lists : pass_leaders x other ≡ pass_leaders w other = ap (λ (y : World). pass_leaders y other) is ∙ passes-elsewhere hw w cpu other h low small apart in
     let groups : group_at x ≡ group_at w = λ i. λ k. group_at (record w { entries = only.entries i }) k in
@@ -139,9 +139,9 @@ others-stay hw w x cpu other h is low small apart before =
     let posts : post_at x ≡ post_at w = λ i. post_at (record w { entries = only.entries i }) in
     let has : (k : Key) → has_context (stage_of x) other (entry_at x k).context ≡ has_context (stage_of w) other (entry_at w k).context =
     λ k. λ i. has_context (stage_of (record w { quiet = only.quiet i })) other (posts i k).context in
-    left-rescheduled hw w x other small (record {
+    left-untouched hw w x other small (record {
       briefs = ap (map (λ pass. map (brief_of hw) (filter (is_eligible hw other) pass))) same;
       seats = ap (λ q. slice_index_or q.seats other.0 (empty_seating 0)) only.quiet;
       groups = λ k lead there.
           (ap (λ at. leads at k) (sym posts) ∙ lead, sym (has k) ∙ there, ap (λ at. (at k).id) posts, ap (λ st. unwrap_or (get st k.0) standing.Out) only.standings);
-    }) before
+    })

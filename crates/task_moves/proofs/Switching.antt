@@ -27,10 +27,10 @@ use Rattle.counter_match.specs.Seating.{empty_seating}
 use Rattle.world_spec.specs.Changes.{place}
 use Rattle.world_spec.specs.Kept.{post_at, leads, IsKept}
 use Rattle.world_spec.specs.Laws.{IsFree}
-use Rattle.world_spec.specs.Rescheduled.{IsRescheduled}
+use Rattle.world_spec.specs.Rescheduled.{IsUntouched}
 use Rattle.world_spec.specs.StageOf.{group_at, stage_of}
 use Rattle.world_spec.specs.Value.{World, entry_at}
-use Rattle.world_spec.proofs.Standing.{left-rescheduled}
+use Rattle.world_spec.proofs.Standing.{left-untouched}
 
 -- of two reasons in their order, neither holds where there is none
 none-first : (r t : Reason) (a b : Bool) → first_of ((r, a) ∷ (t, b) ∷ []) ≡ None → (a ≡ false) × (b ≡ false)
@@ -85,8 +85,8 @@ passes-same w x other only on =
     let both : task_lists (stage_of x) (task_on (stage_of x) other) ≡ task_lists (stage_of w) (task_on (stage_of w) other) = ap (task_lists (stage_of x)) on ∙ task (task_on (stage_of w) other) in
     λ i. (lists (context.Processor other) i).pinned ∷ (both i).pinned ∷ (lists (context.Processor other) i).flexible ∷ (both i).flexible ∷ []
 
-pub others-stay : (hw : Hardware) (w x : World) (cpu other : CpuNo) (to : Option TaskNo) → x ≡ place cpu to w → other.0 < 8 → other.0 ≢ cpu.0 → IsRescheduled hw w other → IsRescheduled hw x other
-others-stay hw w x cpu other to is low apart before =
+pub others-stay : (hw : Hardware) (w x : World) (cpu other : CpuNo) (to : Option TaskNo) → x ≡ place cpu to w → other.0 < 8 → other.0 ≢ cpu.0 → IsUntouched hw w x other
+others-stay hw w x cpu other to is low apart =
     let only : IsPlacedOnly w x = subst (IsPlacedOnly w) (sym is) (placed-only cpu to w) in
     let on : task_on (stage_of x) other ≡ task_on (stage_of w) other =
     ap (λ (y : World). slice_index_or y.quiet.running other.0 None) is
@@ -94,7 +94,7 @@ others-stay hw w x cpu other to is low apart before =
     let groups : (k : Key) → group_at x k ≡ group_at w k = λ k. λ i. group_at (record w { entries = only.entries i }) k in
     let posts : post_at x ≡ post_at w = λ i. post_at (record w { entries = only.entries i }) in
     let same : passes (stage_of x) other ≡ passes (stage_of w) other = passes-same w x other only on in
-    left-rescheduled hw w x other low (record {
+    left-untouched hw w x other low (record {
       briefs = ap (map (λ pass. map (brief_of hw) (filter (is_eligible hw other) pass))) same;
       seats = ap (λ seats. slice_index_or seats other.0 (empty_seating 0)) only.seats;
       groups = λ k lead there. (
@@ -103,4 +103,4 @@ others-stay hw w x cpu other to is low apart before =
         ap (λ at. (at k).id) posts,
         ap (λ st. unwrap_or (get st k.0) standing.Out) only.standings,
       );
-    }) before
+    })

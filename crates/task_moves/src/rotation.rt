@@ -11,7 +11,7 @@ ghost use Rattle.stage_spec.specs.Verdict.{stands_on};
 ghost use Rattle.stage_laws.specs.Narrowing.{has_context};
 ghost use Rattle.stage_laws.specs.Turns.{is_waiting, IsTurned, flexible_of};
 ghost use Rattle.world_spec.specs.Kept.{leads, post_at};
-ghost use Rattle.world_spec.specs.Rescheduled.{IsRescheduled};
+ghost use Rattle.world_spec.specs.Rescheduled.{AreUntouchedBut, IsRescheduled};
 ghost use Rattle.world_spec.specs.StageOf.{group_at, stage_of};
 ghost use Rattle.world_spec.specs.Value.{leaders_of};
 ghost use Rattle.perf_world.specs.Seen.{IsWorld};
@@ -134,8 +134,7 @@ pub fn rotate(world: &mut World, cpu: CpuNo)
         → IsTurned world.old.hardware cpu c (stage_of world.old) (stage_of world.new) }
     ensures still { (c : Place) → has_context (stage_of world.old) cpu c ≡ true → is_waiting world.old.hardware cpu c (stage_of world.old) ≡ false
         → flexible_of (stage_of world.new) c ≡ flexible_of (stage_of world.old) c }
-    ensures others { (other : Cpu) → other.0 < length world.old.quiet.running → other.0 ≢ cpu.0
-        → IsRescheduled world.old.hardware world.old other → IsRescheduled world.old.hardware world.new other }
+    ensures others { AreUntouchedBut cpu world.old world.new }
 {
     let task = running(world, cpu);
     turn(world, cpu, Context::Processor(cpu));

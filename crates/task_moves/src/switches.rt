@@ -8,7 +8,7 @@ ghost use Rattle.stage_spec.specs.Stage.{task_on, cpu_of, status_of};
 ghost use Rattle.stage_spec.specs.Stage as stage;
 ghost use Rattle.stage_spec.specs.Switching as switching;
 ghost use Rattle.world_spec.specs.Changes as change;
-ghost use Rattle.world_spec.specs.Rescheduled.{IsRescheduled};
+ghost use Rattle.world_spec.specs.Rescheduled.{AreUntouchedBut};
 ghost use Rattle.world_spec.specs.StageOf.{stage_of};
 ghost use Rattle.perf_world.specs.Seen.{IsWorld};
 
@@ -101,8 +101,7 @@ pub fn move_to(world: &mut World, cpu: CpuNo, to: Option<TaskNo>) -> bool
     ensures migration { result ≡ switching.is_migration (stage_of world.old) cpu to }
     ensures world { world.new ≡ change.place cpu to world.old }
     ensures stage { stage_of world.new ≡ switching.switched cpu to (stage_of world.old) }
-    ensures others { (other : Cpu) → other.0 < length world.old.quiet.running → other.0 ≢ cpu.0
-        → IsRescheduled world.old.hardware world.old other → IsRescheduled world.old.hardware world.new other }
+    ensures others { AreUntouchedBut cpu world.old world.new }
 {
     let migrates = migrates(world, cpu, to);
     world.place(cpu, to);

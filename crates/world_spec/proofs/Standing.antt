@@ -1,5 +1,5 @@
--- What a processor's seats answer, and that it stays rescheduled where what verdicts need of its groups stays.
-use Rattle.std.specs.Prelude.{◌≡◌, ℕ, ◌==◌, Bool, true, false, ◌&&◌, cond, List, [], ◌∷◌, ◌++◌, length, map, filter, flat_map, if◌then◌else◌}
+-- What a processor's seats answer, and that it is untouched where what verdicts need of its groups stays.
+use Rattle.std.specs.Prelude.{◌≡◌, ℕ, ◌<◌, ◌==◌, Bool, true, false, ◌&&◌, cond, List, [], ◌∷◌, ◌++◌, length, map, filter, flat_map, if◌then◌else◌}
 use Rattle.std.proofs.Common.{refl, sym, ap, subst, ◌∙◌, append_assoc}
 use Rattle.std.proofs.lemmas.List.{append-nil, length-map, map-append}
 use Rattle.std.proofs.lemmas.List.Elements.{filter-append}
@@ -22,8 +22,8 @@ use Rattle.stage_laws.proofs.Briefs.{by_briefs}
 use Rattle.stage_laws.proofs.ByStandings.{settled_by_briefs}
 use Rattle.counter_match.specs.Seating.{Seated, slots_of}
 use Rattle.world_spec.specs.StageOf.{group_at, stage_of}
-use Rattle.world_spec.specs.Value.{seats_at}
-use Rattle.world_spec.specs.Rescheduled.{SeatsAnswerLaw, LeftLaw}
+use Rattle.world_spec.specs.Value.{World, seats_at}
+use Rattle.world_spec.specs.Rescheduled.{IsLeft, IsRescheduled, SeatsAnswerLaw, LeftLaw}
 
 -- the seats as slots and counters
 pub seats-answer : SeatsAnswerLaw
@@ -128,7 +128,7 @@ unfolding standing_by
 standing-is [] g = refl
 standing-is (j ∷ js) g = ap {B = Standing} (λ x. elim (j.group.leader.id == g.leader.id) as (λ b. Standing) [ true ↦ j.standing | false ↦ x ]) (standing-is js g)
 
-pub left-rescheduled : LeftLaw
+left-rescheduled : (hw : Hardware) (w after : World) (cpu : CpuNo) → cpu.0 < 8 → IsLeft hw w after cpu → IsRescheduled hw w cpu → IsRescheduled hw after cpu
 left-rescheduled hw w after cpu low left h =
     let same : standings hw (stage_of after) cpu ≡ standings hw (stage_of w) cpu = by_briefs hw cpu (stage_of after) (stage_of w) left.briefs in
     let events : with_masks hw (seated hw (stage_of after) cpu) ≡ with_masks hw (seated hw (stage_of w) cpu) =
@@ -147,3 +147,10 @@ left-rescheduled hw w after cpu low left h =
         };
       };
     }
+
+pub left-untouched : LeftLaw
+left-untouched hw w after cpu low left = record {
+  verdicts = by_briefs hw cpu (stage_of after) (stage_of w) left.briefs;
+  seats = left.seats;
+  rescheduled = left-rescheduled hw w after cpu low left;
+}

@@ -1,8 +1,10 @@
 -- How a processor stands as rescheduling leaves it: its groups, and the counters that serve its events. After ctx_sched_in and merge_sched_in of
 -- kernel/events/core.c; the tables are this project's own profile.
-use Rattle.std.specs.Prelude.{◌≡◌, ◌<◌, true, List, ◌++◌, length}
+use Rattle.std.specs.Prelude.{◌≡◌, ◌≢◌, ◌<◌, true, List, ◌++◌, length}
 use Rattle.std.specs.List.{fold}
+use Rattle.perf_base.specs.Cpus.{HasCpu}
 use Rattle.perf_base.specs.declared.numbers.CpuNo.{CpuNo}
+use Rattle.perf_base.specs.declared.numbers.CpuSet.{CpuSet}
 use Rattle.perf_base.specs.declared.numbers.Key.{Key}
 use Rattle.perf_base.specs.declared.standing.Context.TheVariants as context
 use Rattle.perf_base.specs.declared.standing.Own.TheVariants as own
@@ -16,7 +18,7 @@ use Rattle.stage_spec.specs.Stage.{task_on}
 use Rattle.stage_spec.specs.Tight.{masks_of}
 use Rattle.stage_spec.specs.Verdict.{standing_of, with_masks}
 use Rattle.stage_laws.specs.Narrowing.{has_context}
-use Rattle.stage_laws.specs.Standings.{briefs}
+use Rattle.stage_laws.specs.Standings.{briefs, standings}
 use Rattle.counter_match.specs.Seating.{seat_list}
 use Rattle.world_spec.specs.Value.{World, entry_at, instance_at, standing_at, seats_at, leaders_of}
 use Rattle.world_spec.specs.StageOf.{group_at, stage_of}
@@ -59,9 +61,26 @@ pub record IsLeft (hw : Hardware) (w after : World) (cpu : CpuNo) : Type 0 where
       → (leads (post_at w) k ≡ true) × (has_context (stage_of w) cpu (entry_at w k).context ≡ true)
       × ((instance_at after k).id ≡ (instance_at w k).id) × (standing_at after k ≡ standing_at w k)
 
--- Such a change leaves the processor rescheduled.
+-- What a call leaves to a processor that it does not name: the verdicts of its eligible groups, each with its cause, and its
+-- seats. Where it stood as rescheduling leaves it, it still does.
+pub record IsUntouched (hw : Hardware) (w after : World) (cpu : CpuNo) : Type 0 where
+  pub verdicts : standings hw (stage_of after) cpu ≡ standings hw (stage_of w) cpu
+  pub seats : seats_at after cpu ≡ seats_at w cpu
+  pub rescheduled : IsRescheduled hw w cpu → IsRescheduled hw after cpu
+
+-- so each processor of the machine; each but one; each that is not in a set
+abbrev pub AreUntouched : World → World → Type 0
+AreUntouched w after = (cpu : CpuNo) → cpu.0 < length w.quiet.running → IsUntouched w.hardware w after cpu
+
+abbrev pub AreUntouchedBut : CpuNo → World → World → Type 0
+AreUntouchedBut own w after = (cpu : CpuNo) → cpu.0 < length w.quiet.running → cpu.0 ≢ own.0 → IsUntouched w.hardware w after cpu
+
+abbrev pub AreUntouchedOutside : CpuSet → World → World → Type 0
+AreUntouchedOutside set w after = (cpu : CpuNo) → cpu.0 < length w.quiet.running → (HasCpu set cpu → ⊥) → IsUntouched w.hardware w after cpu
+
+-- Such a change leaves the processor untouched.
 abbrev pub LeftLaw : Type 0
-LeftLaw = (hw : Hardware) (w after : World) (cpu : CpuNo) → cpu.0 < 8 → IsLeft hw w after cpu → IsRescheduled hw w cpu → IsRescheduled hw after cpu
+LeftLaw = (hw : Hardware) (w after : World) (cpu : CpuNo) → cpu.0 < 8 → IsLeft hw w after cpu → IsUntouched hw w after cpu
 
 -- the leaders of a processor's pinned groups: its own, and then its task's
 abbrev pub pinned_leaders : World → CpuNo → List Key

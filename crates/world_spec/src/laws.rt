@@ -121,8 +121,8 @@ pub fn copies_fold()
     ensures sums { FoldSumsLaw }
 {}
 
-/// The seats of a processor that stands as rescheduling leaves it are the answer to SEATS. It stands so after a change
-/// that leaves its seats, its groups' standings and what verdicts need of them.
+/// The seats of a processor that stands as rescheduling leaves it are the answer to SEATS. A change that leaves its
+/// seats, its groups' standings and what verdicts need of them leaves it untouched.
 pub fn processors_stay_rescheduled()
     ensures seats { SeatsAnswerLaw }
     ensures stay { LeftLaw }

@@ -212,7 +212,7 @@ fn exit_task(world: &mut World, cpu: CpuNo) -> bool
         return false;
     }
     match exit(world, cpu) {
-        Ok(()) => true,
+        Ok(_) => true,
         Err(_) => false,
     }
 }

@@ -30,10 +30,10 @@ returns-clause-others g c =
     let hw : Hardware = c.args.world.now.hardware in
     let w : World = c.judge_all.new.world in
     let kept : IsKept hw w = subst (λ h. IsKept h w) (ap (λ (x : World). x.hardware) c.judge_all.ensures.world) c.judge_all.ensures.kept in
-    λ other low apart before.
+    λ other low apart.
     others-stay hw c.args.world.now w c.fail_refused.new.world c.args.cpu other
     (record { kept = kept; told = c.judge_all.ensures.world; others = c.judge_all.ensures.others; failed = c.fail_refused.ensures })
-    c.own_context-own.ensures.kept (omega (arith, low, c.own_context-own.ensures.kept.shape.running, c.own_context-own.ensures.hardware.cpus)) apart before
+    c.own_context-own.ensures.kept (omega (arith, low, c.own_context-own.ensures.kept.shape.running, c.own_context-own.ensures.hardware.cpus)) apart
 
 pub returns-clause-rest : goal.returns-clause-rest
 returns-clause-rest g c =

@@ -21,4 +21,4 @@ returns-clause-others c = λ cpu low out.
     closed-others c.args.world.now.hardware c.args.world.now c.drop_family.new.world c.args.event cpu c.cpus_reaching-cpus.ensures.kept c.drop_family.ensures.gone
     (returns-clause-stage c) (omega (arith, low, c.cpus_reaching-cpus.ensures.few))
     (not-answered c.args.world.now.hardware c.args.world.now c.as_slice.result.now (c.args.event ∷ []) c.cpus_reaching-cpus.result cpu c.cpus_reaching-cpus.ensures.kept
-    c.cpus_reaching-cpus.ensures.reaching (c.as_slice.ensures.slots ∙ c.in_ok-slots.ensures.slots) out)
+    c.cpus_reaching-cpus.ensures.reaching (c.as_slice.ensures.slots ∙ c.in_ok-slots.ensures.slots) low out)

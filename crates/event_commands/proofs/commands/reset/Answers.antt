@@ -14,5 +14,5 @@ returns-clause-stage c =
     reset-stage c.args.world.now c.change_families.new.world (targets (stage_of c.args.world.now) c.args.event c.args.group) (returns-clause-counts c)
 
 pub returns-clause-others : goal.returns-clause-others
-returns-clause-others c = λ cpu.
+returns-clause-others c = λ cpu low.
     reset-others c.args.world.now.hardware c.args.world.now c.change_families.new.world (targets (stage_of c.args.world.now) c.args.event c.args.group) cpu (returns-clause-counts c)

@@ -25,4 +25,4 @@ returns-clause-others c = λ cpu low out.
     states-others (switched c.args.to) c.args.world.now.hardware c.args.world.now c.change_families.new.world (targets (stage_of c.args.world.now) c.args.event c.args.group) cpu
     (returns-clause-states c) (omega (arith, low, c.cpus_reaching-cpus.ensures.few))
     (not-answered c.args.world.now.hardware c.args.world.now c.as_slice.result.now (targets (stage_of c.args.world.now) c.args.event c.args.group) c.cpus_reaching-cpus.result cpu
-    c.targets.ensures.kept c.cpus_reaching-cpus.ensures.reaching (c.as_slice.ensures.slots ∙ c.in_ok-slots.ensures.slots) out)
+    c.targets.ensures.kept c.cpus_reaching-cpus.ensures.reaching (c.as_slice.ensures.slots ∙ c.in_ok-slots.ensures.slots) low out)

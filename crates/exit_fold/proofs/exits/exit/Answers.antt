@@ -19,7 +19,7 @@ returns-clause-stage c =
 
 pub returns-clause-others : goal.returns-clause-others
 returns-clause-others c =
-    λ other low apart before.
+    λ other low apart.
     others-stand c.args.world.now.hardware c.args.world.now c.fold_copies.new.world c.place.new.self c.end_task.new.self c.args.cpu other c.in-Some.task c.pmus.ensures.kept
     (sym c.task_on.ensures ∙ c.in-Some.is) c.fold_copies.ensures.folded c.place.ensures.world c.end_task.ensures.world
-    (omega (arith, low, c.pmus.ensures.kept.shape.running, ap (λ (hw : Hardware). length hw.cpu_pmus) c.pmus.ensures.pmus, c.cpus-cpus.ensures.sound.cpus.1)) apart before
+    (omega (arith, low, c.pmus.ensures.kept.shape.running, ap (λ (hw : Hardware). length hw.cpu_pmus) c.pmus.ensures.pmus, c.cpus-cpus.ensures.sound.cpus.1)) apart

@@ -11,7 +11,7 @@ returns-clause-rest c =
     output-rest c.args.world.now c.set_ring.new.self c.args.event c.args.target c.in_ok-key.ring c.in_ok-key.key c.in_ok-key.ensures.live c.in_ok-key.ensures.original
     c.in_ok-key.ensures.ring c.set_ring.ensures.world
 
-pub returns-clause-rescheduled : goal.returns-clause-rescheduled
-returns-clause-rescheduled c = λ cpu low.
+pub returns-clause-others : goal.returns-clause-others
+returns-clause-others c = λ cpu low.
     output-stays c.args.world.now c.set_ring.new.self c.args.event c.args.target c.in_ok-key.ring c.in_ok-key.key cpu c.in_ok-key.ensures.live c.set_ring.ensures.world
     (returns-clause-stage c) (few-cpus c.pmus.result.now c.args.world.now cpu c.check_output.ensures.kept c.pmus.ensures.pmus c.cpus-cpus.ensures.sound.cpus.1 low)

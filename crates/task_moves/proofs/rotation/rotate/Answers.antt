@@ -31,7 +31,7 @@ returns-clause-still c =
 
 pub returns-clause-others : goal.returns-clause-others
 returns-clause-others c =
-    λ other low apart before.
+    λ other low apart.
     others-stay c.args.world.now.hardware c.args.world.now c.turn_task.new.world c.args.cpu other c.running-task.ensures.kept
     (c.turn_task.ensures ∙ (λ i. turn_of_task c.args.cpu (c.running-task.ensures.task i) (c.turn.ensures i)))
-    (omega (arith, c.requires.cpu, c.running-task.ensures.cpus)) (omega (arith, low, c.running-task.ensures.cpus)) apart before
+    (omega (arith, c.requires.cpu, c.running-task.ensures.cpus)) (omega (arith, low, c.running-task.ensures.cpus)) apart

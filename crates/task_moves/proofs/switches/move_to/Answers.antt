@@ -11,5 +11,5 @@ returns-clause-stage c = c.place.ensures.stage ∙ switched-on (stage_of c.args.
 
 pub returns-clause-others : goal.returns-clause-others
 returns-clause-others c =
-    λ other low apart before.
-    others-stay c.args.world.now.hardware c.args.world.now c.place.new.self c.args.cpu other c.args.to c.place.ensures.world (omega (arith, low, c.migrates-migrates.ensures.cpus)) apart before
+    λ other low apart.
+    others-stay c.args.world.now.hardware c.args.world.now c.place.new.self c.args.cpu other c.args.to c.place.ensures.world (omega (arith, low, c.migrates-migrates.ensures.cpus)) apart
