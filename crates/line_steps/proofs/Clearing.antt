@@ -25,7 +25,7 @@ use Rattle.stage_spec.specs.Sums.{resets}
 use Rattle.stage_spec.proofs.Recurrence.{plus-none}
 use Rattle.stage_laws.specs.Sound.{IsSound}
 use Rattle.world_spec.specs.Kept.{IsKept}
-use Rattle.world_spec.specs.Rescheduled.{AreRescheduled, IsRescheduled}
+use Rattle.world_spec.specs.Rescheduled.{AreRescheduled, AreUntouched}
 use Rattle.world_spec.specs.StageOf.{stage_of}
 use Rattle.world_spec.specs.Value.{World, Account, is_live, entry_at, instance_at, account_at, times}
 use Rattle.world_spec.proofs.Counting.{any-there, any-key}
@@ -150,13 +150,13 @@ reset-done w x event group c =
     (reset-stepped w x event group c)
 
 -- the world is ready for the next line
-pub reset-ready : (w x : World) (event : EventNo) (group : Bool) → Course w x event group → ((cpu : CpuNo) → IsRescheduled w.hardware w cpu → IsRescheduled w.hardware x cpu) → IsReady x
+pub reset-ready : (w x : World) (event : EventNo) (group : Bool) → Course w x event group → AreUntouched w x → IsReady x
 reset-ready w x event group c others =
     let is : x ≡ record w { accounts = x.accounts } = c.counts.world in
     record {
       machine = subst (λ (y : World). IsMachine (limits_in y) y.hardware) (sym is) c.ready.machine;
       sound = subst (λ (y : World). IsSound y.hardware (stage_of y)) (sym is) c.ready.sound;
       rescheduled = subst (λ (hw : Hardware). AreRescheduled hw x) (sym (ap (λ (y : World). y.hardware) is))
-          (λ cpu low. others cpu (c.ready.rescheduled cpu (omega (arith, low, ap (λ (y : World). length y.quiet.running) is))));
+          (λ cpu low. let within : cpu.0 < length w.quiet.running = omega (arith, low, ap (λ (y : World). length y.quiet.running) is) in (others cpu within).rescheduled (c.ready.rescheduled cpu within));
       homes = subst (λ (y : World). (k : Key) (cpu : CpuNo) → is_live y k ≡ true → (entry_at y k).context ≡ context.Processor cpu → cpu.0 < length y.quiet.running) (sym is) c.ready.homes;
     }

@@ -20,7 +20,7 @@ use Rattle.stage_spec.specs.Stage.{Stage, all_cpus}
 use Rattle.stage_laws.specs.Narrowing.{tool_touches}
 use Rattle.ring_spec.specs.Running.{family_by}
 use Rattle.world_spec.specs.Kept.{IsKept}
-use Rattle.world_spec.specs.Rescheduled.{AreRescheduled, IsRescheduled}
+use Rattle.world_spec.specs.Rescheduled.{AreRescheduled, AreUntouchedOutside, IsRescheduled}
 use Rattle.world_spec.specs.StageOf.{stage_of}
 use Rattle.world_spec.specs.Value.{World, instance_at}
 use Rattle.event_commands.specs.Commands.{HaveStates, commanded}
@@ -82,7 +82,7 @@ switch-stage w v x l f events set c = narrowed-step w v x l set (record {
 
 -- a processor that is not in the set stands as it stood
 pub untouched : (w v : World) (f : Own → Own) (events : List EventNo) (set : CpuSet) → HaveStates f events w v → AreRescheduled w.hardware w
-    → ((cpu : CpuNo) → cpu.0 < length w.quiet.running → (HasCpu set cpu → ⊥) → IsRescheduled w.hardware w cpu → IsRescheduled w.hardware v cpu)
+    → AreUntouchedOutside set w v
     → (cpu : CpuNo) → cpu.0 < length v.quiet.running → (HasCpu set cpu → ⊥) → IsRescheduled v.hardware v cpu
 untouched w v f events set h = left-rescheduled w v set (ap (λ (y : World). y.hardware) h.world) (ap (λ (y : World). length y.quiet.running) h.world)
 

@@ -1,10 +1,12 @@
 -- An exit.
-use Rattle.std.specs.Prelude.{◌≡◌, ◌≢◌, ℕ, ◌<◌, ◌≤◌, ◌&&◌, ◌==◌, Bool, true, false, not, List, [], length, map, filter, Option, Some, None, slice_index_or}
+use Rattle.std.specs.Prelude.{◌≡◌, ◌≢◌, ℕ, ◌<◌, ◌≤◌, ◌↔◌, ◌&&◌, ◌==◌, Bool, true, false, not, List, [], length, map, filter, Option, Some, None, slice_index_or}
 use Rattle.std.proofs.Common.{arith, refl, sym, ap, subst, ◌∙◌, inl, inr}
 use Rattle.std.proofs.lemmas.Bool.{cases_eq}
 use Rattle.std.proofs.lemmas.List.{length-set}
+use Rattle.perf_base.specs.Cpus.{HasCpu}
 use Rattle.perf_base.specs.declared.lines.CpuLine.TheVariants as line
 use Rattle.perf_base.specs.declared.numbers.CpuNo.{CpuNo}
+use Rattle.perf_base.specs.declared.numbers.CpuSet.{CpuSet}
 use Rattle.perf_base.specs.declared.numbers.EventNo.{EventNo}
 use Rattle.perf_base.specs.declared.numbers.Key.{Key}
 use Rattle.perf_base.specs.declared.numbers.TaskNo.{TaskNo}
@@ -25,11 +27,11 @@ use Rattle.stage_laws.proofs.Narrow.{narrows}
 use Rattle.stage_laws.proofs.Sound.{step_sound}
 use Rattle.world_spec.specs.Kept.{once_if, plus_keys, IsKept}
 use Rattle.world_spec.specs.Listings.{keys_in}
-use Rattle.world_spec.specs.Rescheduled.{AreRescheduled, IsRescheduled}
+use Rattle.world_spec.specs.Rescheduled.{AreRescheduled, AreUntouchedBut, IsRescheduled}
 use Rattle.world_spec.specs.StageOf.{stage_of}
 use Rattle.world_spec.specs.Value.{World, is_live, entry_at, instance_at, account_at, family_of, times}
+use Rattle.world_spec.proofs.Coming.{number_true}
 use Rattle.world_spec.proofs.Moving.{leads-parts}
-use Rattle.cpu_sched.specs.Resched.{StaysBut}
 use Rattle.exit_fold.specs.Leaving.{leaves, leaving_copies, leaving_sums, HasExited}
 use Rattle.exit_fold.proofs.Copies.{leaving-times, no-one, same-sums}
 use Rattle.exit_fold.proofs.Exited.{task-low}
@@ -38,9 +40,10 @@ use Rattle.step_laws.specs.Quiet.{KeepsAccount}
 use Rattle.step_laws.specs.Stepping.{HasStepped, HasFolded}
 use Rattle.step_laws.proofs.Quiet.{quiet-keeps}
 use Rattle.step_laws.proofs.Stepping.{stepped}
+use Rattle.line_steps.specs.Settled.{OnlyRescheduled, is_in}
 use Rattle.line_steps.specs.Stepped.{limits_in, IsReady}
 use Rattle.line_steps.specs.Stepped as stepped_line
-use Rattle.line_steps.proofs.Keeping.{none-lost, one-below, slots-same}
+use Rattle.line_steps.proofs.Keeping.{filter-below, in-by, none-lost, one-below, same-number, slots-same}
 use Rattle.line_steps.proofs.Refused.{accepted-cpu}
 use Rattle.line_steps.proofs.Settling.{one-settled}
 use Rattle.line_steps.proofs.TaskChange.{filter-alike}
@@ -54,8 +57,27 @@ pub record Course (w v x : World) (cpu : CpuNo) : Type 0 where
   pub stage : stage_of v ≡ exited cpu (stage_of w)
   pub gone : HasExited w v (task_on (stage_of w) cpu)
   pub settled : stage_of x ≡ settle v.hardware cpu (stage_of v)
-  pub rest : StaysBut cpu v x
+  pub rest : OnlyRescheduled v x
   pub kept_then : IsKept x.hardware x
+
+-- the processors but this one are not in the set, and stand as they stood
+pub exit-untouched : (w v : World) (cpu : CpuNo) (set : CpuSet) → AreRescheduled w.hardware w → v.hardware ≡ w.hardware → length v.quiet.running ≡ length w.quiet.running → AreUntouchedBut cpu w v
+    → ((other : CpuNo) → HasCpu set other ↔ (other.0 ≡ cpu.0)) → (other : CpuNo) → other.0 < length v.quiet.running → (HasCpu set other → ⊥) → IsRescheduled v.hardware v other
+exit-untouched w v cpu set before hardware size others alone other low out =
+    let within : other.0 < length w.quiet.running = omega (arith, low, size) in
+    subst (λ (hw : Hardware). IsRescheduled hw v other) (sym hardware)
+    ((others other within (λ same. out ((alone other).1 same))).rescheduled (before other within))
+
+-- settling those of the set is settling this one
+pub exit-settled : (v x : World) (cpu : CpuNo) (set : CpuSet) → cpu.0 < length v.quiet.running → ((other : CpuNo) → HasCpu set other ↔ (other.0 ≡ cpu.0))
+    → stage_of x ≡ settle_each v.hardware (filter (is_in set) (all_cpus (stage_of v))) (stage_of v) → stage_of x ≡ settle v.hardware cpu (stage_of v)
+exit-settled v x cpu set low alone settled =
+    let same : (other : CpuNo) → other.0 < length v.quiet.running → is_in set other ≡ (cpu.0 == other.0) = λ other within.
+    in-by set other (cpu.0 == other.0) (λ has. same-number cpu.0 other.0 (sym ((alone other).0 has))) (λ is. (alone other).1 (sym (number_true cpu.0 other.0 is))) in
+    settled
+    ∙ (ap (λ cs. settle_each v.hardware cs (stage_of v))
+    (filter-below (is_in set) (λ other. cpu.0 == other.0) (length v.quiet.running) same ∙ one-below cpu (length v.quiet.running) low)
+    ∙ one-settled v.hardware cpu (stage_of v))
 
 -- as many processors stay
 size-by : (cpu : CpuNo) (o : Option TaskNo) (s : Stage) → length (exited_by cpu o s).running ≡ length s.running
@@ -184,33 +206,16 @@ exit-done w v x cpu c by agrees = record {
       (exit-stepped w v x cpu c) (none-lost cpu line.Exit by.rings);
 }
 
--- every processor stands as rescheduling leaves it
-exit-rescheduled : (w v x : World) (cpu : CpuNo) → Course w v x cpu → IsRescheduled v.hardware x cpu
-    → ((other : CpuNo) → other.0 < length w.quiet.running → other.0 ≢ cpu.0 → IsRescheduled w.hardware w other → IsRescheduled w.hardware v other)
-    → ((other : CpuNo) → other.0 < length v.quiet.running → other.0 ≢ cpu.0 → IsRescheduled v.hardware v other → IsRescheduled v.hardware x other) → AreRescheduled w.hardware x
-exit-rescheduled w v x cpu c own left settled other low =
-    let keeps : KeepsRest w x = rest-kept w v x cpu c in
-    let same : v.hardware ≡ w.hardware = c.gone.gone.hardware in
-    let within : other.0 < length w.quiet.running = omega (arith, low, keeps.size) in
-    subst (λ (hw : Hardware). IsRescheduled hw x other) same
-    (elim (cases_eq other.0 cpu.0) [
-      | inl e ↦ subst (λ (n : ℕ). IsRescheduled v.hardware x (record { 0 = n })) (sym e) own
-      | inr apart ↦
-          settled other (omega (arith, within, exit-size w v cpu c.stage)) apart
-          (subst (λ (hw : Hardware). IsRescheduled hw v other) (sym same) (left other within apart (c.ready.rescheduled other within)))
-    ])
-
-pub exit-ready : (w v x : World) (cpu : CpuNo) → Course w v x cpu → IsRescheduled v.hardware x cpu
-    → ((other : CpuNo) → other.0 < length w.quiet.running → other.0 ≢ cpu.0 → IsRescheduled w.hardware w other → IsRescheduled w.hardware v other)
-    → ((other : CpuNo) → other.0 < length v.quiet.running → other.0 ≢ cpu.0 → IsRescheduled v.hardware v other → IsRescheduled v.hardware x other) → IsReady x
-exit-ready w v x cpu c own left settled =
+-- the world is ready for the next line
+pub exit-ready : (w v x : World) (cpu : CpuNo) → Course w v x cpu → AreRescheduled v.hardware x → IsReady x
+exit-ready w v x cpu c rescheduled =
     let keeps : KeepsRest w x = rest-kept w v x cpu c in
     record {
       machine = subst (λ (n : ℕ). IsMachine (record { cpus = n; kinds = length x.hardware.kind_pmus; rings = [] }) x.hardware) (sym keeps.size)
           (subst (λ (hw : Hardware). IsMachine (record { cpus = length w.quiet.running; kinds = length hw.kind_pmus; rings = [] }) hw) (sym keeps.hardware) c.ready.machine);
       sound = subst (λ (hw : Hardware). IsSound hw (stage_of x)) (sym keeps.hardware)
           (subst (IsSound w.hardware) (sym (exit-stage w v x cpu c)) (step_sound (limits_in w) w.hardware (stage_of w) (CpuStep cpu line.Exit) c.ready.machine (c.low, tt) c.ready.sound));
-      rescheduled = subst (λ (hw : Hardware). AreRescheduled hw x) (sym keeps.hardware) (exit-rescheduled w v x cpu c own left settled);
+      rescheduled = subst (λ (hw : Hardware). AreRescheduled hw x) (sym keeps.hardware) (subst (λ (hw : Hardware). AreRescheduled hw x) c.gone.gone.hardware rescheduled);
       homes = λ k place live at.
           let same : Stays w x k = stays w v x cpu k c live in
           let low : place.0 < length w.quiet.running = c.ready.homes k place same.keeps.live (sym same.context ∙ at) in

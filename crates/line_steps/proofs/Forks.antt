@@ -21,7 +21,7 @@ use Rattle.stage_laws.specs.Sound.{IsSound}
 use Rattle.stage_laws.proofs.Narrow.{narrows}
 use Rattle.stage_laws.proofs.Sound.{step_sound}
 use Rattle.world_spec.specs.Kept.{IsKept}
-use Rattle.world_spec.specs.Rescheduled.{AreRescheduled, IsRescheduled}
+use Rattle.world_spec.specs.Rescheduled.{AreRescheduled, AreUntouched}
 use Rattle.world_spec.specs.StageOf.{stage_of}
 use Rattle.world_spec.specs.Value.{World, is_live, instance_at}
 use Rattle.fork_inherit.specs.Copies.{HasForked}
@@ -43,7 +43,7 @@ pub record Course (w x : World) (cpu : CpuNo) (child : TaskNo) : Type 0 where
   pub accepted : fork_refusal (stage_of w) cpu child ≡ None
   pub stage : stage_of x ≡ forked cpu child (stage_of w)
   pub stays : HasForked child w x
-  pub others : (other : CpuNo) → other.0 < length w.quiet.running → IsRescheduled w.hardware w other → IsRescheduled w.hardware x other
+  pub others : AreUntouched w x
   pub kept_then : IsKept x.hardware x
 
 filter-none : (cpus : List CpuNo) → filter (λ own. false) cpus ≡ []
@@ -128,7 +128,7 @@ fork-ready w x cpu child c =
       sound = subst (λ (hw : Hardware). IsSound hw (stage_of x)) (sym c.stays.hardware)
           (subst (IsSound w.hardware) (sym (fork-stage w x cpu child c)) (step_sound (limits_in w) w.hardware (stage_of w) (CpuStep cpu (line.Fork child)) c.ready.machine (c.low, c.number) c.ready.sound));
       rescheduled = subst (λ (hw : Hardware). AreRescheduled hw x) (sym c.stays.hardware)
-          (λ other low. let within : other.0 < length w.quiet.running = omega (arith, low, size) in c.others other within (c.ready.rescheduled other within));
+          (λ other low. let within : other.0 < length w.quiet.running = omega (arith, low, size) in (c.others other within).rescheduled (c.ready.rescheduled other within));
       homes = λ k own live at. elim (cases_Bool (is_live w k)) [
         | inl there ↦
             let low : own.0 < length w.quiet.running = c.ready.homes k own there (sym (ap (λ e. e.context) (c.stays.entries k there)) ∙ at) in

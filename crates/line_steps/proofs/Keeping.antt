@@ -33,7 +33,7 @@ use Rattle.ring_spec.specs.Agreement.{IsCurrentSlot}
 use Rattle.ring_spec.specs.Running.{RingAccount, losses_on}
 use Rattle.ring_spec.specs.Sending.{length_by}
 use Rattle.world_spec.specs.Kept.{IsKept}
-use Rattle.world_spec.specs.Rescheduled.{AreRescheduled, IsRescheduled}
+use Rattle.world_spec.specs.Rescheduled.{AreRescheduled, AreUntouchedOutside, IsRescheduled}
 use Rattle.world_spec.specs.StageOf.{stage_of}
 use Rattle.world_spec.specs.Value.{World, Account, Family, no_account, no_family, is_live, entry_at, instance_at, family_of}
 use Rattle.world_spec.proofs.Families.{open-is}
@@ -123,7 +123,7 @@ pub kept-ready : (w x : World) (step : Step) → IsReady w → IsWithin (limits_
 kept-ready w x step ready = kept-ready-by (limits_in w) w x step ready ready.machine
 
 -- of the processors, one alone
-same-number : (m n : ℕ) → m ≡ n → (m == n) ≡ true
+pub same-number : (m n : ℕ) → m ≡ n → (m == n) ≡ true
 same-number m n h = grind (arith, nat_tests, h)
 
 other-number : (m n : ℕ) → (m ≡ n → ⊥) → (m == n) ≡ false
@@ -152,7 +152,7 @@ one-below own (suc n) low =
     ])
 
 -- the processors that are touched are those of the set
-filter-below : (p q : CpuNo → Bool) (n : ℕ) → ((cpu : CpuNo) → cpu.0 < n → p cpu ≡ q cpu) → filter p (cpus_below n) ≡ filter q (cpus_below n)
+pub filter-below : (p q : CpuNo → Bool) (n : ℕ) → ((cpu : CpuNo) → cpu.0 < n → p cpu ≡ q cpu) → filter p (cpus_below n) ≡ filter q (cpus_below n)
 filter-below p q zero same = refl
 filter-below p q (suc n) same =
     let cpu : CpuNo = record { 0 = n } in
@@ -162,7 +162,7 @@ filter-below p q (suc n) same =
     ∙ (filter-append p (cpus_below n) (cpu ∷ [])
     ∙ ((λ i. rest i ++ cond (same cpu (omega arith) i) (cpu ∷ []) []) ∙ (sym (filter-append q (cpus_below n) (cpu ∷ [])) ∙ ap (filter q) (sym cpus))))
 
-in-by : (set : CpuSet) (cpu : CpuNo) (b : Bool) → (HasCpu set cpu → b ≡ true) → (b ≡ true → HasCpu set cpu) → is_in set cpu ≡ b
+pub in-by : (set : CpuSet) (cpu : CpuNo) (b : Bool) → (HasCpu set cpu → b ≡ true) → (b ≡ true → HasCpu set cpu) → is_in set cpu ≡ b
 in-by set cpu true there back = is-in_set set cpu (back refl)
 in-by set cpu false there back = elim (cases_Bool (is_in set cpu)) [
   | inl in_it ↦ absurd (false≢true (there (let h : HasCpu set cpu = grind (arith, nat_tests, in_it) in h)))
@@ -200,8 +200,8 @@ narrowed-step w v x l set c settled =
 
 -- a processor that is not in the set stands as it stood
 pub left-rescheduled : (w v : World) (set : CpuSet) → v.hardware ≡ w.hardware → length v.quiet.running ≡ length w.quiet.running → AreRescheduled w.hardware w
-    → ((cpu : CpuNo) → cpu.0 < length w.quiet.running → (HasCpu set cpu → ⊥) → IsRescheduled w.hardware w cpu → IsRescheduled w.hardware v cpu)
+    → AreUntouchedOutside set w v
     → (cpu : CpuNo) → cpu.0 < length v.quiet.running → (HasCpu set cpu → ⊥) → IsRescheduled v.hardware v cpu
 left-rescheduled w v set hardware running before others cpu low out =
     let within : cpu.0 < length w.quiet.running = omega (arith, low, running) in
-    subst (λ (hw : Hardware). IsRescheduled hw v cpu) (sym hardware) (others cpu within out (before cpu within))
+    subst (λ (hw : Hardware). IsRescheduled hw v cpu) (sym hardware) ((others cpu within out).rescheduled (before cpu within))

@@ -33,7 +33,7 @@ use Rattle.stage_laws.specs.Narrowing.{has_context}
 use Rattle.stage_laws.specs.Sound.{IsSound}
 use Rattle.world_spec.specs.Adding.{Newcomer, add}
 use Rattle.world_spec.specs.Kept.{IsKept}
-use Rattle.world_spec.specs.Rescheduled.{AreRescheduled, IsRescheduled}
+use Rattle.world_spec.specs.Rescheduled.{AreRescheduled, AreUntouchedOutside, IsRescheduled}
 use Rattle.world_spec.specs.Staying.{HasCome}
 use Rattle.world_spec.specs.StageOf.{stage_of}
 use Rattle.world_spec.specs.Value.{World, is_live, entry_at, instance_at, account_at, family_of}
@@ -183,7 +183,7 @@ has-stepped w v x slot a leader set c =
 
 -- a processor that is not in the set stands as it stood
 pub untouched : (w v : World) (set : CpuSet) (key : Key) (n : Newcomer) → v ≡ add key n w → AreRescheduled w.hardware w
-    → ((cpu : CpuNo) → cpu.0 < length w.quiet.running → (HasCpu set cpu → ⊥) → IsRescheduled w.hardware w cpu → IsRescheduled w.hardware v cpu)
+    → AreUntouchedOutside set w v
     → (cpu : CpuNo) → cpu.0 < length v.quiet.running → (HasCpu set cpu → ⊥) → IsRescheduled v.hardware v cpu
 untouched w v set key n is before others = left-rescheduled w v set (hardware-stays w v key n is) (ap length (running-stays w v key n is)) before others
 

@@ -24,7 +24,7 @@ use Rattle.stage_laws.specs.Sound.{IsSound}
 use Rattle.stage_laws.proofs.Narrow.{narrows}
 use Rattle.stage_laws.proofs.Sound.{step_sound}
 use Rattle.world_spec.specs.Kept.{IsKept, post_at, in_option}
-use Rattle.world_spec.specs.Rescheduled.{AreRescheduled, IsRescheduled}
+use Rattle.world_spec.specs.Rescheduled.{AreRescheduled, AreUntouched}
 use Rattle.world_spec.specs.StageOf.{stage_of}
 use Rattle.world_spec.specs.Value.{World, Account, is_key, is_live, instance_at, account_at, family_of, times}
 use Rattle.world_spec.proofs.Families.{stands-original}
@@ -164,7 +164,7 @@ period-done w x event period c =
 
 -- the world is ready for the next line
 pub period-ready : (w x : World) (event : EventNo) (period : ℕ) → Course w x event period
-    → ((cpu : CpuNo) → cpu.0 < length w.quiet.running → IsRescheduled w.hardware w cpu → IsRescheduled w.hardware x cpu) → IsReady x
+    → AreUntouched w x → IsReady x
 period-ready w x event period c others =
     let hardware : x.hardware ≡ w.hardware = ap (λ (y : World). y.hardware) c.given.world in
     let running : length x.quiet.running ≡ length w.quiet.running = ap (λ (y : World). length y.quiet.running) c.given.world in
@@ -174,7 +174,7 @@ period-ready w x event period c others =
           (subst (IsSound w.hardware) (sym (period-stage w x event period c))
           (step_sound (limits_in w) w.hardware (stage_of w) (ToolStep (line.Period event period)) c.ready.machine c.slot c.ready.sound));
       rescheduled = subst (λ (hw : Hardware). AreRescheduled hw x) (sym hardware)
-          (λ cpu low. let within : cpu.0 < length w.quiet.running = omega (arith, low, running) in others cpu within (c.ready.rescheduled cpu within));
+          (λ cpu low. let within : cpu.0 < length w.quiet.running = omega (arith, low, running) in (others cpu within).rescheduled (c.ready.rescheduled cpu within));
       homes = λ k cpu live named.
           let low : cpu.0 < length w.quiet.running =
           c.ready.homes k cpu (sym (ap (λ at. (at k).live) (posts-stay w x event period c)) ∙ live) (sym (ap (λ at. (at k).context) (posts-stay w x event period c)) ∙ named) in

@@ -19,7 +19,7 @@ use Rattle.stage_spec.specs.Stage.{Stage, all_cpus}
 use Rattle.stage_laws.specs.Narrowing.{IsNarrow, changed, tool_touches, touches, unless_left, unless_no}
 use Rattle.stage_laws.proofs.Narrow.{narrows}
 use Rattle.world_spec.specs.Kept.{IsKept}
-use Rattle.world_spec.specs.Rescheduled.{IsRescheduled}
+use Rattle.world_spec.specs.Rescheduled.{AreUntouched}
 use Rattle.world_spec.specs.StageOf.{stage_of}
 use Rattle.world_spec.specs.Value.{World, Entry, entry_at}
 use Rattle.world_spec.proofs.Keys.{key-is}
@@ -98,8 +98,8 @@ ring-done w x l limits e ring owner mapped c ok =
     (kept-stepped w x (ToolStep l) c.kept c.kept_then keeps c.quiet (λ slot. refl) (λ own. refl) (ring-stage w x l limits e ring owner mapped c))
 
 pub ring-ready : (w x : World) (l : ToolLine) (limits : Limits) (e : EventNo) (ring : Option RingNo) (owner : Bool) (mapped : List RingNo) → Course w x l limits e ring owner mapped
-    → ((cpu : CpuNo) → cpu.0 < length w.quiet.running → IsRescheduled w.hardware w cpu → IsRescheduled w.hardware x cpu) → IsReady x
+    → AreUntouched w x → IsReady x
 ring-ready w x l limits e ring owner mapped c others =
     let keeps : KeepsAll w x = ring-keeps w x e ring owner mapped c.given in
     kept-ready-by limits w x (ToolStep l) c.ready c.machine c.within keeps (ring-stage w x l limits e ring owner mapped c)
-    (λ cpu low. let within : cpu.0 < length w.quiet.running = omega (arith, low, keeps.running) in others cpu within (c.ready.rescheduled cpu within))
+    (λ cpu low. let within : cpu.0 < length w.quiet.running = omega (arith, low, keeps.running) in (others cpu within).rescheduled (c.ready.rescheduled cpu within))

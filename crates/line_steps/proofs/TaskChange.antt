@@ -30,7 +30,7 @@ use Rattle.stage_laws.proofs.Narrow.{narrows}
 use Rattle.stage_laws.proofs.Sound.{step_sound}
 use Rattle.world_spec.specs.Changes.{place}
 use Rattle.world_spec.specs.Kept.{IsKept, family_sums}
-use Rattle.world_spec.specs.Rescheduled.{AreRescheduled, IsRescheduled}
+use Rattle.world_spec.specs.Rescheduled.{AreRescheduled, AreUntouchedBut, IsRescheduled}
 use Rattle.world_spec.specs.StageOf.{stage_of}
 use Rattle.world_spec.specs.Value.{World, Entry, Account, is_live, entry_at, instance_at, account_at}
 use Rattle.cpu_sched.specs.Resched.{StaysBut}
@@ -295,8 +295,8 @@ switch-done w a b x d cpu to m e by agrees = record {
 -- every processor stands as rescheduling leaves it
 pub switch-rescheduled : (w a b x d : World) (cpu : CpuNo) (to : Option TaskNo) (m : Bool) → End w a b x d cpu to m → IsRescheduled b.hardware x cpu
     → ((other : CpuNo) → IsRescheduled w.hardware w other → IsRescheduled w.hardware a other)
-    → ((other : CpuNo) → other.0 < length a.quiet.running → other.0 ≢ cpu.0 → IsRescheduled a.hardware a other → IsRescheduled a.hardware b other)
-    → ((other : CpuNo) → other.0 < length b.quiet.running → other.0 ≢ cpu.0 → IsRescheduled b.hardware b other → IsRescheduled b.hardware x other)
+    → AreUntouchedBut cpu a b
+    → AreUntouchedBut cpu b x
     → ((other : CpuNo) → IsRescheduled x.hardware x other → IsRescheduled x.hardware d other) → AreRescheduled d.hardware d
 switch-rescheduled w a b x d cpu to m e own first moved settled last other low =
     let c : Course w a b x cpu to m = e.course in
@@ -312,8 +312,8 @@ switch-rescheduled w a b x d cpu to m e own first moved settled last other low =
       | inl same ↦ subst (λ (n : ℕ). IsRescheduled b.hardware x (record { 0 = n })) (sym same) own
       | inr apart ↦
           let at_a : IsRescheduled a.hardware a other = subst (λ (hw : Hardware). IsRescheduled hw a other) (sym to_a) (first other (c.ready.rescheduled other within)) in
-          let at_b : IsRescheduled a.hardware b other = moved other (omega (arith, within, size_a)) apart at_a in
-          settled other (omega (arith, within, size_a, k.size)) apart (subst (λ (hw : Hardware). IsRescheduled hw b other) (sym k.hardware) at_b)
+          let at_b : IsRescheduled a.hardware b other = (moved other (omega (arith, within, size_a)) apart).rescheduled at_a in
+          (settled other (omega (arith, within, size_a, k.size)) apart).rescheduled (subst (λ (hw : Hardware). IsRescheduled hw b other) (sym k.hardware) at_b)
     ] in
     subst (λ (hw : Hardware). IsRescheduled hw d other) (sym to_d) (last other (subst (λ (hw : Hardware). IsRescheduled hw x other) (sym to_x) at_x))
 

@@ -15,7 +15,7 @@ use Rattle.stage_spec.specs.Stage.{task_on}
 use Rattle.stage_laws.specs.Narrowing.{IsNarrow}
 use Rattle.stage_laws.proofs.Narrow.{narrows}
 use Rattle.world_spec.specs.Kept.{IsKept}
-use Rattle.world_spec.specs.Rescheduled.{IsRescheduled}
+use Rattle.world_spec.specs.Rescheduled.{AreUntouchedBut, IsRescheduled}
 use Rattle.world_spec.specs.StageOf.{stage_of}
 use Rattle.world_spec.specs.Value.{World, is_live, entry_at, instance_at}
 use Rattle.cpu_sched.specs.Resched.{StaysBut}
@@ -87,8 +87,8 @@ tick-done w v x cpu c by agrees =
     }
 
 pub tick-ready : (w v x : World) (cpu : CpuNo) → Course w v x cpu → IsRescheduled v.hardware x cpu
-    → ((other : CpuNo) → other.0 < length w.quiet.running → other.0 ≢ cpu.0 → IsRescheduled w.hardware w other → IsRescheduled w.hardware v other)
-    → ((other : CpuNo) → other.0 < length v.quiet.running → other.0 ≢ cpu.0 → IsRescheduled v.hardware v other → IsRescheduled v.hardware x other) → IsReady x
+    → AreUntouchedBut cpu w v
+    → AreUntouchedBut cpu v x → IsReady x
 tick-ready w v x cpu c own turned rescheduled =
     let lists : v ≡ record w { contexts = v.contexts } = only-lists cpu w v c.world in
     let same : v.hardware ≡ w.hardware = ap (λ (y : World). y.hardware) lists in
@@ -97,6 +97,6 @@ tick-ready w v x cpu c own turned rescheduled =
       | inl e ↦ subst (λ (hw : Hardware). IsRescheduled hw x other) same (subst (λ (n : ℕ). IsRescheduled v.hardware x (record { 0 = n })) (sym e) own)
       | inr apart ↦
           let within : other.0 < length w.quiet.running = omega (arith, low, keeps.running) in
-          let before : IsRescheduled v.hardware v other = subst (λ (hw : Hardware). IsRescheduled hw v other) (sym same) (turned other within apart (c.ready.rescheduled other within)) in
-          subst (λ (hw : Hardware). IsRescheduled hw x other) same (rescheduled other (omega (arith, within, ap (λ (y : World). length y.quiet.running) lists)) apart before)
+          let before : IsRescheduled v.hardware v other = subst (λ (hw : Hardware). IsRescheduled hw v other) (sym same) ((turned other within apart).rescheduled (c.ready.rescheduled other within)) in
+          subst (λ (hw : Hardware). IsRescheduled hw x other) same ((rescheduled other (omega (arith, within, ap (λ (y : World). length y.quiet.running) lists)) apart).rescheduled before)
     ])

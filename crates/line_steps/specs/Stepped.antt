@@ -3,6 +3,7 @@ use Rattle.std.specs.Prelude.{◌≡◌, ℕ, ◌<◌, true, List, [], length, m
 use Rattle.perf_base.specs.declared.numbers.CpuNo.{CpuNo}
 use Rattle.perf_base.specs.declared.numbers.Key.{Key}
 use Rattle.perf_base.specs.declared.reply.Reply.{Reply}
+use Rattle.perf_base.specs.declared.reply.Reply.TheVariants as reply
 use Rattle.perf_base.specs.declared.standing.Context.TheVariants as context
 use Rattle.stage_spec.specs.History.{Step}
 use Rattle.stage_spec.specs.Limits.{Limits, IsMachine}
@@ -41,6 +42,11 @@ pub record IsDoneSending (x : Step) (w after : World) (sent : OutList) (reply : 
 
 abbrev pub IsDoneWith : Step → (w after : World) → (outs sent : OutList) → Reply → Type 0
 IsDoneWith x w after outs sent reply = (r : Running) → AgreesWith w r → HaveAccounts outs r.rings → IsDoneSending x w after sent reply r
+
+-- A refused line leaves the world as it was, as one value.
+abbrev pub StaysIfRefused : (w after : World) → Reply → Type 0
+StaysIfRefused w after (reply.Refused reason) = after ≡ w
+StaysIfRefused w after _ = Unit {0}
 
 -- what each end that sends knows of its reader: the last tail that it has seen, and how often it looked
 abbrev pub seen_of : OutList → List (ℕ × ℕ)

@@ -4,7 +4,7 @@ ghost use Rattle.std.specs.Prelude.{◌≡◌, ◌<◌, ◌≤◌};
 ghost use Rattle.perf_base.specs.Scripts.{IsSlot};
 ghost use Rattle.perf_base.specs.declared.lines.ToolLine.TheVariants as line;
 ghost use Rattle.stage_spec.specs.History.{ToolStep};
-ghost use Rattle.line_steps.specs.Stepped.{IsReady, IsDone};
+ghost use Rattle.line_steps.specs.Stepped.{IsReady, IsDone, StaysIfRefused};
 
 use crate::rescheduling::resched_each;
 use perf_base::{EventNo, Reply, Steps};
@@ -23,6 +23,7 @@ pub fn enable<L: Ledger>(
     requires slot { IsSlot event }
     ensures ready { IsReady world.new }
     ensures done { IsDone (ToolStep (line.Enable event group)) world.old world.new result }
+    ensures same { StaysIfRefused world.old world.new result }
     ensures hardware { world.new.hardware ≡ world.old.hardware }
     ensures counted { tests.old ≤ tests.new }
 {
@@ -49,6 +50,7 @@ pub fn disable<L: Ledger>(
     requires slot { IsSlot event }
     ensures ready { IsReady world.new }
     ensures done { IsDone (ToolStep (line.Disable event group)) world.old world.new result }
+    ensures same { StaysIfRefused world.old world.new result }
     ensures hardware { world.new.hardware ≡ world.old.hardware }
     ensures counted { tests.old ≤ tests.new }
 {
@@ -70,6 +72,7 @@ pub fn reset(world: &mut World, event: EventNo, group: bool) -> Reply
     requires slot { IsSlot event }
     ensures ready { IsReady world.new }
     ensures done { IsDone (ToolStep (line.Reset event group)) world.old world.new result }
+    ensures same { StaysIfRefused world.old world.new result }
     ensures hardware { world.new.hardware ≡ world.old.hardware }
 {
     // A reader tells what always holds of a world.
@@ -91,6 +94,7 @@ pub fn period(world: &mut World, event: EventNo, period: u64) -> Reply
     requires slot { IsSlot event }
     ensures ready { IsReady world.new }
     ensures done { IsDone (ToolStep (line.Period event period)) world.old world.new result }
+    ensures same { StaysIfRefused world.old world.new result }
     ensures hardware { world.new.hardware ≡ world.old.hardware }
 {
     // A reader tells what always holds of a world.
@@ -111,6 +115,7 @@ pub fn close<L: Ledger>(world: &mut World, event: EventNo, tests: &mut Steps<L>)
     requires slot { IsSlot event }
     ensures ready { IsReady world.new }
     ensures done { IsDone (ToolStep (line.Close event)) world.old world.new result }
+    ensures same { StaysIfRefused world.old world.new result }
     ensures hardware { world.new.hardware ≡ world.old.hardware }
     ensures counted { tests.old ≤ tests.new }
 {

@@ -8,8 +8,9 @@ ghost use Rattle.stage_laws.specs.Bounds.{most_of_line};
 ghost use Rattle.work_account.specs.Ends.{AreTogether};
 ghost use Rattle.work_account.specs.Sampling.{HaveRings, HaveSpaceToSend, ends_of};
 ghost use Rattle.work_account.specs.Shares.{HaveRoom};
-ghost use Rattle.line_steps.specs.Stepped.{IsReady, IsDone, IsDoneWith, seen_of};
+ghost use Rattle.line_steps.specs.Stepped.{IsReady, IsDone, IsDoneWith, StaysIfRefused, seen_of};
 
+use crate::rescheduling::resched_each;
 use cpu_sched::resched;
 use perf_base::{CpuNo, Reply, Steps, TaskNo, Work};
 use perf_world::World;
@@ -24,6 +25,7 @@ pub fn tick<L: Ledger>(world: &mut World, cpu: CpuNo, tests: &mut Steps<L>) -> R
     requires cpu { cpu.0 < length world.old.quiet.running }
     ensures ready { IsReady world.new }
     ensures done { IsDone (CpuStep cpu line.Tick) world.old world.new result }
+    ensures same { StaysIfRefused world.old world.new result }
     ensures hardware { world.new.hardware ≡ world.old.hardware }
     ensures counted { tests.old ≤ tests.new }
 {
@@ -47,6 +49,7 @@ pub fn work(world: &mut World, cpu: CpuNo, work: &Work, rings: &Rings, outs: &mu
     requires space { HaveSpaceToSend world.old (ends_of outs.old world.old) cpu work.now }
     ensures ready { IsReady world.new }
     ensures done { IsDoneWith (CpuStep cpu (line.Work work.now)) world.old world.new outs.old outs.new result }
+    ensures same { StaysIfRefused world.old world.new result }
     ensures hardware { world.new.hardware ≡ world.old.hardware }
     ensures together { AreTogether rings.now outs.new }
     ensures seen { seen_of outs.new ≡ seen_of outs.old }
@@ -67,6 +70,7 @@ pub fn fork(world: &mut World, cpu: CpuNo, child: TaskNo) -> Reply
     requires room { world.old.quiet.next_id + 4097 < 2 ^ 63 }
     ensures ready { IsReady world.new }
     ensures done { IsDone (CpuStep cpu (line.Fork child)) world.old world.new result }
+    ensures same { StaysIfRefused world.old world.new result }
     ensures hardware { world.new.hardware ≡ world.old.hardware }
 {
     // A reader tells what always holds of a world.
@@ -86,6 +90,7 @@ pub fn exit<L: Ledger>(world: &mut World, cpu: CpuNo, tests: &mut Steps<L>) -> R
     requires cpu { cpu.0 < length world.old.quiet.running }
     ensures ready { IsReady world.new }
     ensures done { IsDone (CpuStep cpu line.Exit) world.old world.new result }
+    ensures same { StaysIfRefused world.old world.new result }
     ensures hardware { world.new.hardware ≡ world.old.hardware }
     ensures counted { tests.old ≤ tests.new }
 {
@@ -93,9 +98,8 @@ pub fn exit<L: Ledger>(world: &mut World, cpu: CpuNo, tests: &mut Steps<L>) -> R
     let _before = world.pmus();
     match exit_fold::exit(world, cpu) {
         Err(reason) => Reply::Refused(reason),
-        Ok(()) => {
-            resched(world, cpu, tests);
-            let _after = world.pmus();
+        Ok(set) => {
+            resched_each(world, set, tests);
             Reply::Ok
         }
     }

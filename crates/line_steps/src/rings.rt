@@ -4,7 +4,7 @@ ghost use Rattle.std.specs.Prelude.{◌≡◌, ◌<◌};
 ghost use Rattle.perf_base.specs.Scripts.{IsSlot};
 ghost use Rattle.perf_base.specs.declared.lines.ToolLine.TheVariants as line;
 ghost use Rattle.stage_spec.specs.History.{ToolStep};
-ghost use Rattle.line_steps.specs.Stepped.{IsReady, IsDone};
+ghost use Rattle.line_steps.specs.Stepped.{IsReady, IsDone, StaysIfRefused};
 
 use perf_base::{EventNo, Reply, RingNo};
 use perf_world::World;
@@ -17,6 +17,7 @@ pub fn map(world: &mut World, event: EventNo, ring: RingNo) -> Reply
     requires slot { IsSlot event }
     ensures ready { IsReady world.new }
     ensures done { IsDone (ToolStep (line.Map event ring)) world.old world.new result }
+    ensures same { StaysIfRefused world.old world.new result }
     ensures hardware { world.new.hardware ≡ world.old.hardware }
 {
     // A reader tells what always holds of a world.
@@ -40,6 +41,7 @@ pub fn output(world: &mut World, event: EventNo, target: EventNo) -> Reply
     requires target { IsSlot target }
     ensures ready { IsReady world.new }
     ensures done { IsDone (ToolStep (line.Output event target)) world.old world.new result }
+    ensures same { StaysIfRefused world.old world.new result }
     ensures hardware { world.new.hardware ≡ world.old.hardware }
 {
     // A reader tells what always holds of a world.

@@ -12,7 +12,7 @@ ghost use Rattle.work_account.specs.Shares.{HaveRoom, HaveShares, one_hit};
 ghost use Rattle.world_spec.specs.Rescheduled.{IsJudged, IsRescheduled};
 ghost use Rattle.world_spec.specs.StageOf.{stage_of};
 ghost use Rattle.line_steps.specs.Switched.{migration_shares, two_hits};
-ghost use Rattle.line_steps.specs.Stepped.{IsReady, IsDone};
+ghost use Rattle.line_steps.specs.Stepped.{IsReady, IsDone, StaysIfRefused};
 
 use cpu_sched::resched;
 use perf_base::{CpuNo, Kind, Reply, Steps, TaskNo};
@@ -73,6 +73,7 @@ pub fn switch<L: Ledger>(
     requires room { HaveRoom world.old two_hits }
     ensures ready { IsReady world.new }
     ensures done { IsDone (CpuStep cpu (line.Switch to)) world.old world.new result }
+    ensures same { StaysIfRefused world.old world.new result }
     ensures hardware { world.new.hardware ≡ world.old.hardware }
     ensures counted { tests.old ≤ tests.new }
 {

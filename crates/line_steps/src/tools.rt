@@ -4,7 +4,7 @@ ghost use Rattle.std.specs.Prelude.{◌≡◌, ◌+◌, ◌^◌, ◌<◌, ◌≤
 ghost use Rattle.perf_base.specs.Scripts.{IsAttr, IsSlot};
 ghost use Rattle.perf_base.specs.declared.lines.ToolLine.TheVariants as line;
 ghost use Rattle.stage_spec.specs.History.{ToolStep};
-ghost use Rattle.line_steps.specs.Stepped.{IsReady, IsDone};
+ghost use Rattle.line_steps.specs.Stepped.{IsReady, IsDone, StaysIfRefused};
 
 use crate::rescheduling::resched_each;
 use perf_base::{Attr, CpuNo, EventNo, Reply, Steps};
@@ -26,6 +26,7 @@ pub fn open<L: Ledger>(
     requires room { world.old.quiet.next_id + 1 < 2 ^ 63 }
     ensures ready { IsReady world.new }
     ensures done { IsDone (ToolStep (line.Open slot attr.now leader)) world.old world.new result }
+    ensures same { StaysIfRefused world.old world.new result }
     ensures hardware { world.new.hardware ≡ world.old.hardware }
     ensures counted { tests.old ≤ tests.new }
 {

@@ -17,7 +17,7 @@ returns-in-Ok-clause-ready c =
       stage = c.in-Ok.ensures.stage;
       given = c.in-Ok.ensures.period;
       kept_then = c.pmus-after.ensures.kept;
-    }) c.period.ensures.others
+    }) c.in-Ok.ensures.others
 
 pub returns-in-Ok-clause-done : goal.returns-in-Ok-clause-done
 returns-in-Ok-clause-done c = period-done c.args.world.now c.period.new.world c.args.event c.args.period (record {

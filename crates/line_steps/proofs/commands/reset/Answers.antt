@@ -15,7 +15,7 @@ returns-in-Ok-clause-ready c =
       accepted = c.in-Ok.ensures.accepted;
       counts = c.in-Ok.ensures.counts;
       kept_then = c.pmus-after.ensures.kept;
-    }) c.reset.ensures.others
+    }) c.in-Ok.ensures.others
 
 pub returns-in-Ok-clause-done : goal.returns-in-Ok-clause-done
 returns-in-Ok-clause-done c = reset-done c.args.world.now c.reset.new.world c.args.event c.args.group (record {

@@ -23,7 +23,7 @@ returns-in-Ok-clause-ready c =
       stage = c.in-Ok.ensures.stage;
       given = c.in-Ok.ensures.rest;
       kept_then = c.pmus-after.ensures.kept;
-    }) c.map.ensures.rescheduled
+    }) c.in-Ok.ensures.others
 
 pub returns-in-Ok-clause-done : goal.returns-in-Ok-clause-done
 returns-in-Ok-clause-done c =
