@@ -6,6 +6,7 @@ use Rattle.perf_base.specs.declared.lines.CpuLine.TheVariants as cpu_line
 use Rattle.perf_base.specs.declared.lines.ToolLine.{ToolLine}
 use Rattle.perf_base.specs.declared.numbers.CpuNo.{CpuNo}
 use Rattle.perf_base.specs.declared.reasons.Reason.{Reason}
+use Rattle.perf_base.specs.declared.reply.Reply.{Reply}
 use Rattle.perf_base.specs.declared.reply.Reply.TheVariants as reply
 use Rattle.stage_spec.specs.Hardware.{Hardware}
 use Rattle.stage_spec.specs.History.{CpuStep, ToolStep, cpu_refusal, tool_refusal}
@@ -20,6 +21,14 @@ use Rattle.step_laws.proofs.Quiet.{refused-steps}
 use Rattle.step_laws.proofs.Stepping.{stepped}
 use Rattle.line_steps.specs.Stepped as line
 use Rattle.line_steps.proofs.Keeping.{none-lost}
+
+-- what no line changes stays where it is refused
+pub stays-same : {X : Type 0} (x : X) (r : Reply) → line.StaysIfRefused x x r
+stays-same x reply.Ok = tt
+stays-same x (reply.Read words) = tt
+stays-same x (reply.Why why) = tt
+stays-same x (reply.Seats seats) = tt
+stays-same x (reply.Refused reason) = refl
 
 -- no line of a tool sends a record
 none-sent : (l : ToolLine) (rings : List RingAccount) → flat_map (losses_on (ToolStep l) []) rings ≡ []

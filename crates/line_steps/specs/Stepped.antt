@@ -43,10 +43,10 @@ pub record IsDoneSending (x : Step) (w after : World) (sent : OutList) (reply : 
 abbrev pub IsDoneWith : Step → (w after : World) → (outs sent : OutList) → Reply → Type 0
 IsDoneWith x w after outs sent reply = (r : Running) → AgreesWith w r → HaveAccounts outs r.rings → IsDoneSending x w after sent reply r
 
--- A refused line leaves the world as it was, as one value.
-abbrev pub StaysIfRefused : (w after : World) → Reply → Type 0
-StaysIfRefused w after (reply.Refused reason) = after ≡ w
-StaysIfRefused w after _ = Unit {0}
+-- A refused line leaves what it might have changed as it was, as one value.
+abbrev pub StaysIfRefused : {X : Type 0} → (before after : X) → Reply → Type 0
+StaysIfRefused before after (reply.Refused reason) = after ≡ before
+StaysIfRefused before after _ = Unit {0}
 
 -- what each end that sends knows of its reader: the last tail that it has seen, and how often it looked
 abbrev pub seen_of : OutList → List (ℕ × ℕ)

@@ -50,6 +50,7 @@ pub fn work(world: &mut World, cpu: CpuNo, work: &Work, rings: &Rings, outs: &mu
     ensures ready { IsReady world.new }
     ensures done { IsDoneWith (CpuStep cpu (line.Work work.now)) world.old world.new outs.old outs.new result }
     ensures same { StaysIfRefused world.old world.new result }
+    ensures ends { StaysIfRefused outs.old outs.new result }
     ensures hardware { world.new.hardware ≡ world.old.hardware }
     ensures together { AreTogether rings.now outs.new }
     ensures seen { seen_of outs.new ≡ seen_of outs.old }

@@ -10,6 +10,7 @@ use Rattle.perf_base.specs.Scripts.{Scripted, HasRing}
 use Rattle.ring_spec.specs.Account.{head_of}
 use Rattle.ring_spec.specs.Rings.{account_in, bytes_of, sizes_in}
 use Rattle.stage_spec.specs.Order.{IsLawfulSeen, last_seen}
+use Rattle.sample_ring.specs.RingLists.{InList}
 use Rattle.machine.specs.Leading.{Kept, HasLine, IsReplyTo}
 
 -- a look names a ring of the script
@@ -17,6 +18,12 @@ abbrev pub NamesRing : Scripted → Act → Type 0
 NamesRing s (act.Processor cpu) = ⊤
 NamesRing s (act.Tool tool) = ⊤
 NamesRing s (act.Seen ring place) = HasRing s.rings ring
+
+-- a line leaves the readers as they were
+abbrev pub LeavesReaders : Act → (before after : InList) → Type 0
+LeavesReaders (act.Processor cpu) before after = after ≡ before
+LeavesReaders (act.Tool tool) before after = after ≡ before
+LeavesReaders (act.Seen ring place) before after = ⊤
 
 -- the act is of a processor or a tool that has done all its lines
 abbrev pub HasNoLine : Scripted → Kept → Act → Type 0

@@ -1,6 +1,6 @@
 //! What a table says of the events that are open.
 
-ghost use Rattle.std.specs.Prelude.{◌≡◌, true, List, Some};
+ghost use Rattle.std.specs.Prelude.{◌≡◌, true, false, List, Some, IfSome, IfNone};
 ghost use Rattle.perf_base.specs.declared.acts.Act.{Act};
 ghost use Rattle.perf_base.specs.Scripts.{Scripted};
 ghost use Rattle.stage_spec.specs.Reading as reading;
@@ -8,7 +8,7 @@ ghost use Rattle.stage_spec.specs.Stage as stage;
 ghost use Rattle.world_spec.specs.StageOf.{stage_of};
 ghost use Rattle.world_spec.specs.Value.{family_of, is_live};
 ghost use Rattle.perf_world.specs.Seen.{IsWorld};
-ghost use Rattle.machine.specs.Events.{HasEvent, family_in, in_error, kind_in, stage_in};
+ghost use Rattle.machine.specs.Events.{HasEvent, family_if_open, in_error, kind_in, stage_in};
 ghost use Rattle.machine.specs.Leading.{LeadTo};
 
 use crate::machine::Machine;
@@ -44,15 +44,19 @@ impl Machine {
         }
     }
 
-    /// What an open event has counted, and the lengths of work for which it was enabled and on a counter: its own and
-    /// those of its copies, the copies that have exited among them.
-    pub fn family(&self, event: EventNo) -> Sums
-        requires { HasEvent self.now event }
-        ensures { (s : Scripted) (acts : List Act) → LeadTo s acts self.now → result ≡ family_in s acts event }
+    /// What an event has counted, and the lengths of work for which it was enabled and on a counter: its own and those
+    /// of its copies, the copies that have exited among them. None exactly where the slot is not open.
+    pub fn family(&self, event: EventNo) -> Option<Sums>
+        ensures there { IfSome result (λ sums. HasEvent self.now event) }
+        ensures none { IfNone result (stage.is_open (stage_of self.now.world) event ≡ false) }
+        ensures led { (s : Scripted) (acts : List Act) → LeadTo s acts self.now → result ≡ family_if_open s acts event }
     {
+        if !self.is_open(event) {
+            return None;
+        }
         // It is there, so its slot is one of the 256.
         let _original = self.original(event);
-        family_sums(&self.world, event)
+        Some(family_sums(&self.world, event))
     }
 
     /// Whether an open event is in effective error: the leader of its group, which may be itself, is in error. A read

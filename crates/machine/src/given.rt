@@ -5,7 +5,7 @@ ghost use Rattle.perf_base.specs.Scripts.{IsCpuLine};
 ghost use Rattle.stage_spec.specs.History.{CpuStep, ToolStep};
 ghost use Rattle.perf_base.specs.declared.lines.CpuLine.TheVariants as cpu_line;
 ghost use Rattle.perf_base.specs.declared.lines.Work.{Work as Stretch};
-ghost use Rattle.line_steps.specs.Stepped.{IsReady, IsDone, IsDoneWith, seen_of};
+ghost use Rattle.line_steps.specs.Stepped.{IsReady, IsDone, IsDoneWith, StaysIfRefused, seen_of};
 ghost use Rattle.work_account.specs.Ends.{AreTogether};
 ghost use Rattle.work_account.specs.Sampling.{HaveRings, HaveSpaceToSend, ends_of};
 ghost use Rattle.machine.specs.Room.{HasRoom, IsLineFor};
@@ -36,6 +36,8 @@ pub fn cpu_line<L: Ledger>(
     requires space { (work : Stretch) → line.now ≡ cpu_line.Work work → HaveSpaceToSend world.old (ends_of outs.old world.old) cpu work }
     ensures ready { IsReady world.new }
     ensures done { IsDoneWith (CpuStep cpu line.now) world.old world.new outs.old outs.new result }
+    ensures same { StaysIfRefused world.old world.new result }
+    ensures ends { StaysIfRefused outs.old outs.new result }
     ensures hardware { world.new.hardware ≡ world.old.hardware }
     ensures together { AreTogether rings.now outs.new }
     ensures seen { seen_of outs.new ≡ seen_of outs.old }
@@ -60,6 +62,7 @@ pub fn tool_line<L: Ledger>(world: &mut World, line: &ToolLine, blank: Blank) ->
     requires room { HasRoom world.old }
     ensures ready { IsReady world.new }
     ensures done { IsDone (ToolStep line.now) world.old world.new result }
+    ensures same { StaysIfRefused world.old world.new result }
     ensures hardware { world.new.hardware ≡ world.old.hardware }
 {
     let mut tests = Steps::<L>::new(blank);

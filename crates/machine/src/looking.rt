@@ -31,6 +31,7 @@ impl Machine {
         ensures seen { (s : Scripted) (acts : List Act) → LeadTo s acts self.old → LeadTo s (acts ++ act.Seen ring result ∷ []) self.new }
         ensures same { (s : Scripted) (acts : List Act) → LeadTo s acts self.old → result ≡ last_seen ring acts → LeadTo s acts self.new }
         ensures together { AreTogether rings.now self.new.outs }
+        ensures world { self.new.world ≡ self.old.world }
         // Of the machine only the last tail that the ring's end has seen and its number of loads change.
         ensures end { (o : OutEnd) → out_of self.old.outs ring ≡ Some o
             → self.new ≡ record self.old { outs = with_out self.old.outs (place_of self.old.outs.numbers ring) (with_tail o result (o.producer.loads + 1)) } }
@@ -53,6 +54,7 @@ impl Machine {
         ensures seen { (s : Scripted) (acts : List Act) → LeadTo s acts self.old → LeadTo s (acts ++ act.Seen ring (released_in ins.old ring) ∷ []) self.new }
         ensures same { (s : Scripted) (acts : List Act) → LeadTo s acts self.old → released_in ins.old ring ≡ last_seen ring acts → LeadTo s acts self.new }
         ensures together { AreTogether rings.now self.new.outs }
+        ensures world { self.new.world ≡ self.old.world }
         // Of the machine only the last tail that the ring's end has seen and its number of loads change, and of the
         // readers only the last head that the ring's has seen and its number of loads.
         ensures end { (o : OutEnd) → out_of self.old.outs ring ≡ Some o

@@ -6,7 +6,7 @@ ghost use Rattle.perf_base.specs.declared.acts.Act.TheVariants as act;
 ghost use Rattle.perf_base.specs.Scripts.{IsCovered};
 ghost use Rattle.perf_base.specs.Weight.{weight};
 ghost use Rattle.ring_spec.specs.Running.{empty_ring};
-ghost use Rattle.line_steps.specs.Stepped.{seen_of};
+ghost use Rattle.line_steps.specs.Stepped.{StaysIfRefused, seen_of};
 ghost use Rattle.work_account.specs.Ends.{AreTogether, HaveAccounts};
 ghost use Rattle.machine.specs.Leading.{HasLine, IsOf, IsReplyTo, LeadTo, act_of, done_by};
 
@@ -97,6 +97,8 @@ impl Machine {
         requires line { HasLine script.now self.old (Actor.Processor cpu) }
         ensures reply { (acts : List Act) → LeadTo script.now acts self.old → IsReplyTo script.now acts (act.Processor cpu) result }
         ensures done { (acts : List Act) → LeadTo script.now acts self.old → LeadTo script.now (acts ++ act.Processor cpu ∷ []) self.new }
+        ensures same { StaysIfRefused self.old.world self.new.world result }
+        ensures ends { StaysIfRefused self.old.outs self.new.outs result }
         ensures together { AreTogether rings.now self.new.outs }
         ensures seen { seen_of self.new.outs ≡ seen_of self.old.outs }
     {
@@ -123,6 +125,7 @@ impl Machine {
         requires line { HasLine script.now self.old (Actor.Tool tool) }
         ensures reply { (acts : List Act) → LeadTo script.now acts self.old → IsReplyTo script.now acts (act.Tool tool) result }
         ensures done { (acts : List Act) → LeadTo script.now acts self.old → LeadTo script.now (acts ++ act.Tool tool ∷ []) self.new }
+        ensures same { StaysIfRefused self.old.world self.new.world result }
         ensures outs { self.new.outs ≡ self.old.outs }
     {
         // Readers tell what always holds of a script and of a world.
@@ -136,7 +139,7 @@ impl Machine {
 
     /// Does the actor's next line, with the records that it sends, then every rescheduling that it makes necessary, and
     /// answers it. The script is the one that the machine was made for, of a weight of at most 65,536, and the rings
-    /// are those of its ends. No tail is loaded.
+    /// are those of its ends. No tail is loaded. A line that is refused leaves the world and the ends as they were.
     pub fn line(&mut self, script: &Script, rings: &Rings, actor: Actor) -> Reply
         requires covered { IsCovered script.now }
         requires light { weight script.now ≤ 65536 }
@@ -147,6 +150,8 @@ impl Machine {
         // lead to the machine then.
         ensures reply { (acts : List Act) → LeadTo script.now acts self.old → IsReplyTo script.now acts (act_of actor) result }
         ensures done { (acts : List Act) → LeadTo script.now acts self.old → LeadTo script.now (acts ++ act_of actor ∷ []) self.new }
+        ensures same { StaysIfRefused self.old.world self.new.world result }
+        ensures ends { StaysIfRefused self.old.outs self.new.outs result }
         ensures together { AreTogether rings.now self.new.outs }
         ensures seen { seen_of self.new.outs ≡ seen_of self.old.outs }
     {

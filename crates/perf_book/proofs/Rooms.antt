@@ -23,7 +23,7 @@ use Rattle.report_spec.specs.Answers.{lost_in}
 use Rattle.run_laws.specs.Growing.{AreLooks, does_line, is_cpu_act, is_look}
 use Rattle.run_laws.proofs.Lines.{counted-cpus, counted-lines, lengths, looks-do-nothing}
 use Rattle.run_laws.proofs.Rings.{few-rings}
-use Rattle.perf_book.specs.Book.{AreLooksOf, Booked, IsBooked, HasRoomFor, loads_by}
+use Rattle.perf_book.specs.Book.{AreLooksOf, Booked, IsBooked, HasRoomFor, MayAct, loads_by}
 
 count-push : {X : Type 0} (p : X → Bool) (xs : List X) (x : X) → count_by p (xs ++ x ∷ []) ≡ count_by p xs + cond (p x) 1 0
 count-push p xs x = sum_by_push (λ y. cond (p y) 1 0) xs x
@@ -215,26 +215,28 @@ done-after s acts looks then m n (actor.Tool tool) before after are e =
     after.tools tool ∙ (ap (done_by_tool tool) (e ∙ (ap (λ ls. acts ++ ls) are ∙ append-nil acts)) ∙ sym (before.tools tool))
 done-after s acts looks then m n (actor.Reader ring) before after are e = refl
 
--- an act of an order that has fewer looks than the script's own
-pub room-for-act : (b : Booked) (order_room answer_room end_room : ℕ) → IsBooked b → HasRoomFor b.script order_room answer_room end_room → count_by is_look b.order < length b.script.order
+-- an act of an order
+pub room-for-act : (b : Booked) (order_room answer_room end_room : ℕ) → IsBooked b → HasRoomFor b.script order_room answer_room end_room
     → (length b.order < order_room) × (length b.answers < answer_room)
-room-for-act b order_room answer_room end_room h room few = (
-  omega (arith, lengths b.order, few, counted-lines b.script b.order h.led.counted, room.order),
+room-for-act b order_room answer_room end_room h room = (
+  omega (arith, lengths b.order, h.looks, counted-cpus b.script b.order h.led.counted, counted-lines b.script b.order h.led.counted, room.order),
   omega (arith, answers-count b.script b.order b.answers h.answered.answered, counted-lines b.script b.order h.led.counted, room.answers),
 )
 
-cond-most : (a : Act) → cond {A = ℕ} (is_look a) 1 0 ≤ 1
-cond-most a = cond-least (is_look a)
+looks-then : (b : Booked) (a : Act) → IsBooked b → MayAct a b → count_by is_look (b.order ++ a ∷ []) ≤ length b.script.order + 16 * count_by is_cpu_act (b.order ++ a ∷ [])
+looks-then b (act.Processor cpu) h may = omega (arith, h.looks, count-push is_look b.order (act.Processor cpu), count-push is_cpu_act b.order (act.Processor cpu))
+looks-then b (act.Tool tool) h may = omega (arith, h.looks, count-push is_look b.order (act.Tool tool), count-push is_cpu_act b.order (act.Tool tool))
+looks-then b (act.Seen ring place) h may = omega (arith, may, count-push is_look b.order (act.Seen ring place))
 
-pub booked-act : (b : Booked) (a : Act) (then : List Act) (m : Kept) (answers : List (Actor × ℕ × Reply)) → IsBooked b → count_by is_look b.order < length b.script.order → then ≡ b.order ++ a ∷ []
+pub booked-act : (b : Booked) (a : Act) (then : List Act) (m : Kept) (answers : List (Actor × ℕ × Reply)) → IsBooked b → MayAct a b → then ≡ b.order ++ a ∷ []
     → LeadTo b.script then m → AnswerOrder b.script (lost_in b.script) then (map answered answers) → IsBooked (record { script = b.script; machine = m; order = then; answers = answers })
-booked-act b a then m answers h few e led all = record {
+booked-act b a then m answers h may e led all = record {
   script = h.script;
   covered = h.covered;
   light = h.light;
   led = led;
   answered = record { counted = led.counted; lawful = led.lawful; answered = all };
-  looks = omega (arith, ap (count_by is_look) e, count-push is_look b.order a, cond-most a, few);
+  looks = omega (arith, ap (count_by is_look) e, ap (count_by is_cpu_act) e, looks-then b a h may);
 }
 
 -- a book of which nothing was done

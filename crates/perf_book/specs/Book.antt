@@ -1,7 +1,8 @@
 -- What a book keeps: a script, the acts that were done of it, in their order, with the answers to them, and the machine that they lead to. This project's own
 -- profile.
-use Rattle.std.specs.Prelude.{◌≡◌, ℕ, ◌+◌, ◌*◌, ◌<◌, ◌≤◌, List, [], count_by, length, map, sum_by}
+use Rattle.std.specs.Prelude.{◌≡◌, ℕ, ◌+◌, ◌*◌, ◌<◌, ◌≤◌, ⊤, List, [], count_by, length, map, sum_by}
 use Rattle.perf_base.specs.declared.acts.Act.{Act}
+use Rattle.perf_base.specs.declared.acts.Act.TheVariants as act
 use Rattle.perf_base.specs.declared.acts.Actor.{Actor}
 use Rattle.perf_base.specs.declared.acts.Actor.TheVariants as actor
 use Rattle.perf_base.specs.declared.reply.Reply.{Reply}
@@ -28,6 +29,12 @@ pub record IsBooked (b : Booked) : Type 0 where
   pub led : LeadTo b.script b.order b.machine
   pub answered : IsAnswered b.script b.order (map answered b.answers)
   pub looks : count_by is_look b.order ≤ length b.script.order + 16 * count_by is_cpu_act b.order
+
+-- A look at a ring is one of at most as many as the script's own order has acts. A line asks nothing.
+abbrev pub MayAct : Act → Booked → Type 0
+MayAct (act.Processor cpu) b = ⊤
+MayAct (act.Tool tool) b = ⊤
+MayAct (act.Seen ring place) b = count_by is_look b.order < length b.script.order
 
 -- the room that all acts of a script need: those of its own order, a line each and 16 looks for each line of a processor, and 16 looks at the end
 abbrev pub most_acts : Scripted → ℕ

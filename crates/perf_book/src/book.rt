@@ -1,9 +1,8 @@
 //! The book.
 
-ghost use Rattle.std.specs.Prelude.{◌≡◌, ℕ, ◌+◌, ◌*◌, ◌<◌, ◌≤◌, ◌↔◌, IsTrue, List, [], ◌∷◌, ◌++◌, Err, IfOk, OnErr, OnOk, count_by, length, map};
+ghost use Rattle.std.specs.Prelude.{◌≡◌, ℕ, ◌+◌, ◌*◌, ◌<◌, ◌≤◌, ◌↔◌, IsTrue, List, [], ◌∷◌, ◌++◌, Err, IfOk, OnErr, OnOk, Some, length, map};
 ghost use Rattle.perf_base.specs.declared.acts.Act.{Act as ActNo};
 ghost use Rattle.perf_base.specs.declared.numbers.RingNo.{RingNo as Ring};
-ghost use Rattle.perf_base.specs.declared.reply.Reply.{Reply as ReplyOf};
 ghost use Rattle.perf_base.specs.Scripts.{IsCovered};
 ghost use Rattle.perf_base.specs.Weight.{weight};
 ghost use Rattle.ring_spec.specs.Running.{empty_ring};
@@ -11,9 +10,8 @@ ghost use Rattle.work_account.specs.Ends.{AreTogether, HaveAccounts};
 ghost use Rattle.machine.specs.Leading.{HasLine, act_of, done_by};
 ghost use Rattle.machine.specs.Readers.{AreFollowing, loads_of};
 ghost use Rattle.machine.specs.Stepping.{HasNoLine, IsUnlawful, NamesRing};
-ghost use Rattle.perf_book.specs.Book.{AreLooksOf, Booked, IsBooked, loads_by};
-ghost use Rattle.perf_book.specs.Keeping.{kept, next_line};
-ghost use Rattle.run_laws.specs.Growing.{is_look};
+ghost use Rattle.perf_book.specs.Book.{AreLooksOf, Booked, IsBooked, MayAct, loads_by};
+ghost use Rattle.perf_book.specs.Keeping.{KeepsAnswer, next_line};
 
 use crate::doing::{Answer, do_act, do_line};
 use crate::looking::look_before;
@@ -103,13 +101,13 @@ impl Book {
 
     /// What an actor does that has a line left. A processor first loads the tail of each ring once, by rising number,
     /// and keeps each that it saw further than the last look did as an act. Then the line is done, and kept as an act
-    /// with its answer. It takes no memory.
+    /// with its answer. A line that is refused leaves the machine's world as it was. It takes no memory.
     pub fn advance(&mut self, rings: &Rings, actor: Actor)
         requires together { AreTogether rings.now self.old.machine.outs }
         requires line { HasLine self.old.script self.old.machine actor }
         ensures script { self.new.script ≡ self.old.script }
         ensures order { (looks : List ActNo) × AreLooksOf actor self.old.order looks × (self.new.order ≡ self.old.order ++ (looks ++ act_of actor ∷ [])) }
-        ensures answer { (reply : ReplyOf) × (self.new.answers ≡ self.old.answers ++ (actor, done_by actor self.old.machine, reply) ∷ []) }
+        ensures answer { KeepsAnswer (Some (actor, done_by actor self.old.machine)) self.old.machine self.new.machine self.old.answers self.new.answers }
         ensures loads { loads_of self.new.machine.outs ≡ map (λ n. n + loads_by actor) (loads_of self.old.machine.outs) }
         ensures together { AreTogether rings.now self.new.machine.outs }
         ensures sound { IsBooked self.new }
@@ -133,8 +131,9 @@ impl Book {
 
     /// Does one act of a given order. A processor or a tool does its next line. A look at a ring, which is one of the
     /// script's, is done where the tail may be seen at its place: then the ring's reader takes the records before that
-    /// place. The act is kept, with the answer to its line. There are fewer looks so far than acts in the script's own
-    /// order, and each reader has room for 9 words for each unit of the script's weight. It takes no memory.
+    /// place. The act is kept, with the answer to its line. A line that is refused leaves the machine's world as it was.
+    /// Before a look there are fewer looks than acts in the script's own order, and each reader has room for 9 words for
+    /// each unit of the script's weight. It takes no memory.
     ///
     /// It fails with `NoLine` exactly where the actor has no line left, and with `BadSeen` exactly where the place is
     /// below the last one seen, above the head or not the end of a record; then nothing changes.
@@ -142,14 +141,14 @@ impl Book {
         requires together { AreTogether rings.now self.old.machine.outs }
         requires following { AreFollowing (9 * weight self.old.script) self.old.machine.outs ins.old }
         requires ring { NamesRing self.old.script act }
-        requires looks { count_by is_look self.old.order < length self.old.script.order }
+        requires looks { MayAct act self.old }
         ensures no_line { result ≡ Err OrderFault.NoLine ↔ HasNoLine self.old.script self.old.machine act }
         ensures unlawful { (ring : Ring) (last head given : ℕ) → result ≡ Err (OrderFault.BadSeen ring last head given) → (act ≡ Act.Seen ring given)
             × IsUnlawful self.old.script self.old.order ring last head given }
         ensures same { OnErr result ((self.new ≡ self.old) × (ins.new ≡ ins.old)) }
         ensures script { self.new.script ≡ self.old.script }
         ensures order { OnOk result (self.new.order ≡ self.old.order ++ act ∷ []) }
-        ensures answer { OnOk result ((reply : ReplyOf) × (self.new.answers ≡ self.old.answers ++ kept (next_line self.old.machine act) reply)) }
+        ensures answer { OnOk result (KeepsAnswer (next_line self.old.machine act) self.old.machine self.new.machine self.old.answers self.new.answers) }
         ensures together { AreTogether rings.now self.new.machine.outs }
         ensures following { AreFollowing (9 * weight self.new.script) self.new.machine.outs ins.new }
         ensures sound { IsBooked self.new }

@@ -1,10 +1,9 @@
 //! Lines and acts, with their answers.
 
-ghost use Rattle.std.specs.Prelude.{◌≡◌, ℕ, ◌+◌, ◌*◌, ◌<◌, ◌≤◌, ◌↔◌, List, [], ◌∷◌, ◌++◌, Err, IfOk, OnErr, OnOk, map, vec_capacity, vec_len};
+ghost use Rattle.std.specs.Prelude.{◌≡◌, ℕ, ◌+◌, ◌*◌, ◌<◌, ◌≤◌, ◌↔◌, List, [], ◌∷◌, ◌++◌, Err, IfOk, OnErr, OnOk, Some, map, vec_capacity, vec_len};
 ghost use Rattle.perf_base.specs.declared.acts.Act.{Act as ActNo};
 ghost use Rattle.perf_base.specs.declared.acts.Actor.{Actor as ActorNo};
 ghost use Rattle.perf_base.specs.declared.numbers.RingNo.{RingNo as Ring};
-ghost use Rattle.perf_base.specs.declared.reply.Reply.{Reply as ReplyOf};
 ghost use Rattle.perf_base.specs.Scripts.{IsCovered, Scripted};
 ghost use Rattle.perf_base.specs.Weight.{weight};
 ghost use Rattle.stage_spec.specs.Replies.{AnswerOrder, lines_of_act};
@@ -14,7 +13,7 @@ ghost use Rattle.machine.specs.Readers.{AreFollowing, loads_of};
 ghost use Rattle.machine.specs.Stepping.{HasNoLine, IsUnlawful, NamesRing};
 ghost use Rattle.report.specs.Said.{answered};
 ghost use Rattle.report_spec.specs.Answers.{lost_in};
-ghost use Rattle.perf_book.specs.Keeping.{kept, line_in, next_line};
+ghost use Rattle.perf_book.specs.Keeping.{KeepsAnswer, kept, line_in, next_line};
 
 use machine::{Machine, OrderFault};
 use perf_base::{Act, Actor, Reply, Script, StoredReply};
@@ -52,7 +51,7 @@ pub fn do_line(
     requires order_room { vec_len order.old < vec_capacity order.old }
     requires answer_room { vec_len answers.old < vec_capacity answers.old }
     ensures order { order.new.items ≡ order.old.items ++ act_of actor ∷ [] }
-    ensures answer { (reply : ReplyOf) × (answers.new.items ≡ answers.old.items ++ (actor, done_by actor machine.old, reply) ∷ []) }
+    ensures answer { KeepsAnswer (Some (actor, done_by actor machine.old)) machine.old machine.new answers.old.items answers.new.items }
     ensures led { LeadTo script.now order.new.items machine.new }
     ensures answered { AnswerOrder script.now (lost_in script.now) order.new.items (map answered answers.new.items) }
     ensures loads { loads_of machine.new.outs ≡ loads_of machine.old.outs }
@@ -119,7 +118,7 @@ pub fn do_act(
         × IsUnlawful script.now order.old.items ring last head given }
     ensures same { OnErr result ((machine.new ≡ machine.old) × (ins.new ≡ ins.old) × (order.new ≡ order.old) × (answers.new ≡ answers.old)) }
     ensures order { OnOk result (order.new.items ≡ order.old.items ++ act ∷ []) }
-    ensures answer { OnOk result ((reply : ReplyOf) × (answers.new.items ≡ answers.old.items ++ kept (next_line machine.old act) reply)) }
+    ensures answer { OnOk result (KeepsAnswer (next_line machine.old act) machine.old machine.new answers.old.items answers.new.items) }
     ensures led { OnOk result (LeadTo script.now order.new.items machine.new) }
     ensures answered { OnOk result (AnswerOrder script.now (lost_in script.now) order.new.items (map answered answers.new.items)) }
     ensures together { AreTogether rings.now machine.new.outs }

@@ -27,6 +27,7 @@ fn look_at(machine: &mut Machine, rings: &Rings, order: &mut Vec<Act>, ring: Rin
         ⊎ ((place : ℕ) × (last_seen ring order.old.items < place) × (order.new.items ≡ order.old.items ++ act.Seen ring place ∷ [])) }
     ensures loads { loads_of machine.new.outs ≡ slice_set (loads_of machine.old.outs) (place_of machine.old.outs.numbers ring) (slice_index_or (loads_of machine.old.outs) (place_of machine.old.outs.numbers ring) 0 + 1) }
     ensures together { AreTogether rings.now machine.new.outs }
+    ensures world { machine.new.world ≡ machine.old.world }
     ensures filled { vec_len order.new ≤ vec_len order.old + 1 }
     ensures capacity { vec_capacity order.new ≡ vec_capacity order.old }
 {
@@ -47,6 +48,7 @@ fn look_all(machine: &mut Machine, script: &Script, rings: &Rings, order: &mut V
     ensures looks { (looks : List ActNo) × AreLooks 0 order.old.items looks × (order.new.items ≡ order.old.items ++ looks) × (length looks ≤ length script.now.rings) }
     ensures loads { loads_of machine.new.outs ≡ map (λ n. n + 1) (loads_of machine.old.outs) }
     ensures together { AreTogether rings.now machine.new.outs }
+    ensures world { machine.new.world ≡ machine.old.world }
     ensures filled { vec_len order.new ≤ vec_len order.old + length script.now.rings }
     ensures capacity { vec_capacity order.new ≡ vec_capacity order.old }
 {
@@ -70,6 +72,7 @@ pub fn look_before(
     ensures looks { (looks : List ActNo) × AreLooksOf actor order.old.items looks × (order.new.items ≡ order.old.items ++ looks) × (length looks ≤ loads_by actor * length script.now.rings) }
     ensures loads { loads_of machine.new.outs ≡ map (λ n. n + loads_by actor) (loads_of machine.old.outs) }
     ensures together { AreTogether rings.now machine.new.outs }
+    ensures world { machine.new.world ≡ machine.old.world }
     ensures filled { vec_len order.new ≤ vec_len order.old + length script.now.rings }
     ensures capacity { vec_capacity order.new ≡ vec_capacity order.old }
 {

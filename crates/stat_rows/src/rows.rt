@@ -1,15 +1,16 @@
 //! The rows of the events that are open. They take no memory.
 
-ghost use Rattle.std.specs.Prelude.{◌≡◌, ◌<◌, ◌≤◌, ◌^◌, [], All, List, length, vec_capacity, vec_len};
+ghost use Rattle.std.specs.Prelude.{◌≡◌, ◌+◌, ◌<◌, ◌≤◌, ◌^◌, [], ◌∷◌, ◌++◌, All, List, cond, length, vec_capacity, vec_len};
 ghost use Rattle.perf_base.specs.declared.acts.Act.{Act};
-ghost use Rattle.perf_base.specs.Scripts.{IsCovered};
+ghost use Rattle.perf_base.specs.Scripts.{IsCovered, Scripted};
 ghost use Rattle.script_spec.specs.Printing.{kind_name};
-ghost use Rattle.machine.specs.Events.{HasEvent};
+ghost use Rattle.stage_spec.specs.Stage.{is_open};
+ghost use Rattle.machine.specs.Events.{HasEvent, family_in, stage_in};
 ghost use Rattle.machine.specs.Leading.{IsOf, LeadTo};
 ghost use Rattle.stat_rows.specs.Rows.{row_of, rows_of};
 
 use machine::Machine;
-use perf_base::{EventNo, Kind, Name, Script};
+use perf_base::{EventNo, Kind, Name, Script, Sums};
 use stat_table::StatRow;
 
 /// The name of a kind, as a script writes it. A hardware kind that the script does not declare has none.
@@ -32,11 +33,12 @@ fn name_of(script: &Script, kind: Kind) -> Name
     }
 }
 
-/// The row of an open event.
-fn row(machine: &Machine, script: &Script, event: EventNo) -> StatRow
+/// The row of an open event with what it has counted.
+fn row(machine: &Machine, script: &Script, event: EventNo, sums: Sums) -> StatRow
     requires covered { IsCovered script.now }
     requires script { IsOf script.now machine.now }
     requires there { HasEvent machine.now event }
+    requires sums { (s : Scripted) (acts : List Act) → LeadTo s acts machine.now → sums ≡ family_in s acts event }
     ensures row { (acts : List Act) → LeadTo script.now acts machine.now → result ≡ row_of script.now acts event }
     ensures small { result.sums.running < 2 ^ 44 }
 {
@@ -45,8 +47,24 @@ fn row(machine: &Machine, script: &Script, event: EventNo) -> StatRow
     StatRow {
         event,
         name: name_of(script, machine.kind(event)),
-        sums: machine.family(event),
+        sums,
         error: machine.error(event),
+    }
+}
+
+/// Adds the row of a slot to a list that has room for it, where the slot holds an open event.
+fn add_row(machine: &Machine, script: &Script, event: EventNo, rows: &mut Vec<StatRow>)
+    requires covered { IsCovered script.now }
+    requires script { IsOf script.now machine.now }
+    requires room { vec_len rows.old < vec_capacity rows.old }
+    ensures rows { (acts : List Act) → LeadTo script.now acts machine.now
+        → rows.new.items ≡ rows.old.items ++ cond (is_open (stage_in script.now acts) event) (row_of script.now acts event ∷ []) [] }
+    ensures small { All (λ row. row.sums.running < 2 ^ 44) rows.old.items → All (λ row. row.sums.running < 2 ^ 44) rows.new.items }
+    ensures filled { vec_len rows.new ≤ vec_len rows.old + 1 }
+    ensures capacity { vec_capacity rows.new ≡ vec_capacity rows.old }
+{
+    if let Some(sums) = machine.family(event) {
+        rows.push_reserved(row(machine, script, event, sums));
     }
 }
 
@@ -64,8 +82,6 @@ pub fn fill_rows(machine: &Machine, script: &Script, rows: &mut Vec<StatRow>)
 {
     for slot in 0..256 {
         let event = EventNo(slot);
-        if machine.is_open(event) {
-            rows.push_reserved(row(machine, script, event));
-        }
+        add_row(machine, script, event, rows);
     }
 }

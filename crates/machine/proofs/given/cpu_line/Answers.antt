@@ -3,6 +3,7 @@ use Rattle.perf_base.specs.Scripts.{IsCpuLine}
 use Rattle.perf_base.specs.declared.lines.CpuLine.TheVariants as line
 use Rattle.stage_spec.specs.History.{CpuStep}
 use Rattle.line_steps.specs.Stepped.{IsDoneWith}
+use Rattle.line_steps.proofs.Refused.{stays-same}
 use Rattle.machine.proofs.Lines.{work-room}
 use Rattle.machine.proofs.Stepped.{cpu-sends}
 use Rattle.machine.proofs.given.cpu_line.Goals as goal
@@ -38,3 +39,15 @@ pub returns-clause-done : goal.returns-clause-done
 returns-clause-done g c =
     subst (λ l. IsDoneWith (CpuStep c.args.cpu l) c.args.world.now c.exit.new.world c.args.outs.now c.args.outs.now c.exit.result) (sym c.in-Exit.is)
     (cpu-sends c.args.world.now c.exit.new.world c.args.cpu line.Exit c.args.outs.now c.exit.result (λ r. refl) c.exit.ensures.done)
+
+pub returns-in-Switch-clause-ends : goal.returns-in-Switch-clause-ends
+returns-in-Switch-clause-ends g c = stays-same c.args.outs.now c.switch.result
+
+pub returns-in-Tick-clause-ends : goal.returns-in-Tick-clause-ends
+returns-in-Tick-clause-ends g c = stays-same c.args.outs.now c.tick.result
+
+pub returns-in-Fork-clause-ends : goal.returns-in-Fork-clause-ends
+returns-in-Fork-clause-ends g c = stays-same c.args.outs.now c.fork.result
+
+pub returns-clause-ends : goal.returns-clause-ends
+returns-clause-ends g c = stays-same c.args.outs.now c.exit.result

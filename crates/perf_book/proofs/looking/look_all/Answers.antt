@@ -14,6 +14,7 @@ loop-ring-init c = record {
   looked = looked-none c.args.script.now.rings c.args.order.now.items;
   loads = refl;
   together = c.requires.together;
+  world = refl;
   filled = omega arith;
   capacity = refl;
 }
@@ -39,6 +40,7 @@ loop-ring-preserved c =
           (omega (arith, low, loads-of-rings s before c.args.machine.now c.requires.led)) c.loop-ring.invariant.loads
           (c.look_at.ensures.loads ∙ ap (λ n. slice_set (loads_of c.loop-ring.machine.outs) n (slice_index_or (loads_of c.loop-ring.machine.outs) n 0 + 1)) place);
       together = c.look_at.ensures.together;
+      world = c.look_at.ensures.world ∙ c.loop-ring.invariant.world;
       filled = omega (arith, c.look_at.ensures.filled, c.loop-ring.invariant.filled);
       capacity = c.look_at.ensures.capacity ∙ c.loop-ring.invariant.capacity;
     }

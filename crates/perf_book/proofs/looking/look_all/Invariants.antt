@@ -11,6 +11,7 @@ invariant-loop-ring l = record {
   looked : Looked l.script.rings l.ring-index l.fn.order.items l.order.items;
   loads : loads_of l.machine.outs ≡ map (λ n. n + 1) (take l.ring-index (loads_of l.fn.machine.outs)) ++ drop l.ring-index (loads_of l.fn.machine.outs);
   together : AreTogether l.rings l.machine.outs;
+  world : l.machine.world ≡ l.fn.machine.world;
   filled : vec_len l.order ≤ vec_len l.fn.order + l.ring-index;
   capacity : vec_capacity l.order ≡ vec_capacity l.fn.order;
 }

@@ -24,6 +24,7 @@ returns-in-Tool c =
       looks = ([], none.0, sym (append-nil before), omega arith);
       loads = none.1;
       together = c.requires.together;
+      world = refl;
       filled = omega arith;
       capacity = refl;
     }

@@ -1,9 +1,8 @@
-use Rattle.std.specs.Prelude.{◌*◌, ◌<◌, count_by, length}
+use Rattle.std.specs.Prelude.{◌*◌}
 use Rattle.std.proofs.Common.{arith, sym, subst}
 use Rattle.perf_base.specs.Weight.{weight}
 use Rattle.machine.specs.Readers.{AreFollowing}
 use Rattle.machine.specs.Stepping.{IsUnlawful}
-use Rattle.run_laws.specs.Growing.{is_look}
 use Rattle.perf_book.specs.Book.{Booked}
 use Rattle.perf_book.proofs.Rooms.{room-for-act}
 use Rattle.perf_book.proofs.book.Book.act.Goals as goal
@@ -14,14 +13,12 @@ do_act-requires-clause-following c = subst (λ (k : Booked). AreFollowing (9 * w
 pub do_act-requires-clause-order_room : goal.do_act-requires-clause-order_room
 do_act-requires-clause-order_room c =
     let b : Booked = record { script = c.self.inside.script; machine = c.self.inside.machine; order = c.self.inside.order.items; answers = c.self.inside.answers.items } in
-    let few = subst (λ (k : Booked). count_by is_look k.order < length k.script.order) (sym c.self.view_is) c.requires.looks in
-    omega (arith, (room-for-act b _ _ _ c.self.invariant.0 c.self.invariant.1 few).0, c.self.inside.order.ok.0)
+    omega (arith, (room-for-act b _ _ _ c.self.invariant.0 c.self.invariant.1).0, c.self.inside.order.ok.0)
 
 pub do_act-requires-clause-answer_room : goal.do_act-requires-clause-answer_room
 do_act-requires-clause-answer_room c =
     let b : Booked = record { script = c.self.inside.script; machine = c.self.inside.machine; order = c.self.inside.order.items; answers = c.self.inside.answers.items } in
-    let few = subst (λ (k : Booked). count_by is_look k.order < length k.script.order) (sym c.self.view_is) c.requires.looks in
-    omega (arith, (room-for-act b _ _ _ c.self.invariant.0 c.self.invariant.1 few).1, c.self.inside.answers.ok.0)
+    omega (arith, (room-for-act b _ _ _ c.self.invariant.0 c.self.invariant.1).1, c.self.inside.answers.ok.0)
 
 pub returns-clause-unlawful : goal.returns-clause-unlawful
 returns-clause-unlawful c = λ ring last head given is.

@@ -1,6 +1,7 @@
 use Rattle.std.specs.Prelude.{◌≡◌, List, ◌∷◌, [], ◌++◌, length, map}
 use Rattle.std.proofs.Common.{arith, sym, ap, subst, ◌∙◌, append_assoc, length-append}
 use Rattle.perf_base.specs.declared.acts.Act.{Act}
+use Rattle.line_steps.specs.Stepped.{StaysIfRefused}
 use Rattle.machine.specs.Leading.{HasLine, act_of, done_by}
 use Rattle.report.specs.Said.{answered}
 use Rattle.perf_book.specs.Book.{AreLooksOf, Booked}
@@ -77,6 +78,7 @@ pub returns-clause-answer : goal.returns-clause-answer
 returns-clause-answer c =
     let answer = c.do_line.ensures.answer in
     let looks = c.look_before.ensures.looks in
+    let world : c.look_before.new.machine.world ≡ c.args.self.now.machine.world = c.look_before.ensures.world ∙ ap (λ (k : Booked). k.machine.world) c.self.view_is in
     let same : done_by c.args.actor c.look_before.new.machine ≡ done_by c.args.actor c.self.inside.machine =
     done-after c.self.inside.script c.self.inside.order.items looks.0 c.look_before.new.order.items c.self.inside.machine c.look_before.new.machine c.args.actor c.self.invariant.0.led
     c.look_before.ensures.led looks.1 looks.2 in (
@@ -84,4 +86,5 @@ returns-clause-answer c =
       answer.1
           ∙ (ap (λ n. c.self.inside.answers.items ++ (c.args.actor, n, answer.0) ∷ []) same
           ∙ ap (λ (k : Booked). k.answers ++ (c.args.actor, done_by c.args.actor k.machine, answer.0) ∷ []) c.self.view_is),
+      subst (λ w. StaysIfRefused w c.do_line.new.machine.world answer.0) world answer.2,
     )
