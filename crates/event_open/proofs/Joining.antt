@@ -38,7 +38,7 @@ use Rattle.world_spec.proofs.Moving.{leads-parts}
 use Rattle.perf_world.specs.Parts.{MayAdd}
 use Rattle.perf_world.specs.Seen.{IsWorld}
 use Rattle.event_open.specs.Demanded.{demanded}
-use Rattle.event_open.specs.Opened.{AreInPlace, leader_key, members_with, opened_as}
+use Rattle.event_open.specs.Opened.{leader_key, members_with, opened_as}
 use Rattle.event_open.proofs.Admitting.{led-members, members-with, slot-free}
 use Rattle.event_open.proofs.Demanding.{masks-by_kinds}
 use Rattle.event_open.proofs.Leaders.{IsOriginal, slot-original, closed-is, sibling-is, other-pmu-is, room-is}
@@ -64,9 +64,9 @@ pub record IsLeader (w : World) (a : Attr) (leader : EventNo) (k : Key) : Type 0
 same-context : (t u : TaskSel) (c d : CpuSel) → t ≡ u → c ≡ d → context_by t c ≡ context_by u d
 same-context t u c d e f = λ i. context_by (e i) (f i)
 
-leader-key : (w : World) (e : EventNo) (a : Attr) (leader : EventNo) (k : Key) → IsWorld w → AreInPlace w → IsAccepted w.hardware (stage_of w) e a (Some leader)
+leader-key : (w : World) (e : EventNo) (a : Attr) (leader : EventNo) (k : Key) → IsWorld w → IsAccepted w.hardware (stage_of w) e a (Some leader)
     → (family_of w leader).original ≡ Some k → IsLeader w a leader k
-leader-key w e a leader k h placed fine named =
+leader-key w e a leader k h fine named =
     let o : IsOriginal w leader k = slot-original w leader k h named in
     let m : Key = (entry_at w k).leader in
     let its : leads (post_at w) m ≡ true = h.grouped.led k o.live in
@@ -84,15 +84,15 @@ leader-key w e a leader k h placed fine named =
       original = o;
       leads = lead;
       own = own;
-      context = placed k o.live o.first
+      context = h.lawful.placed k o.live o.first
           ∙ same-context (instance_at w k).attr.task a.task (instance_at w k).attr.cpu a.cpu (same_task (instance_at w k).attr.task a.task both.0) (same_cpu (instance_at w k).attr.cpu a.cpu both.1);
       room = subst (λ q. length (entry_at w q).members < 8) own (room-is w leader k h named fine.room);
     }
 
-pub led-by : (w : World) (e : EventNo) (a : Attr) (leader : EventNo) (o : Option Key) → IsWorld w → AreInPlace w → IsAccepted w.hardware (stage_of w) e a (Some leader)
+pub led-by : (w : World) (e : EventNo) (a : Attr) (leader : EventNo) (o : Option Key) → IsWorld w → IsAccepted w.hardware (stage_of w) e a (Some leader)
     → (family_of w leader).original ≡ o → (k : Key) × IsLeader w a leader k
-led-by w e a leader None h placed fine none = absurd (true≢false (sym (closed-is w leader None h none) ∙ fine.is_open))
-led-by w e a leader (Some k) h placed fine some = (k, leader-key w e a leader k h placed fine some)
+led-by w e a leader None h fine none = absurd (true≢false (sym (closed-is w leader None h none) ∙ fine.is_open))
+led-by w e a leader (Some k) h fine some = (k, leader-key w e a leader k h fine some)
 
 -- the group fits, and is of one PMU
 abbrev other_pmu : (mine other : Option ℕ) → Bool
@@ -149,24 +149,24 @@ fitting-led w e a leader k h fine led =
     }
 
 -- so the world may take it
-pub fitting-new : (w : World) (e : EventNo) (a : Attr) (leader : Option EventNo) → IsWorld w → AreInPlace w → IsAccepted w.hardware (stage_of w) e a leader
+pub fitting-new : (w : World) (e : EventNo) (a : Attr) (leader : Option EventNo) → IsWorld w → IsAccepted w.hardware (stage_of w) e a leader
     → AreFitting w.hardware (new_kinds w (opened_as w e a leader) (leader_key w leader))
-fitting-new w e a None h placed fine = fitting-alone w e a fine
-fitting-new w e a (Some leader) h placed fine =
-    let led = led-by w e a leader (family_of w leader).original h placed fine refl in
+fitting-new w e a None h fine = fitting-alone w e a fine
+fitting-new w e a (Some leader) h fine =
+    let led = led-by w e a leader (family_of w leader).original h fine refl in
     subst (λ o. AreFitting w.hardware (new_kinds w (opened_as w e a (Some leader)) o)) (sym led.1.named) (fitting-led w e a leader led.0 h fine led.1)
 
-pub room-new : (w : World) (e : EventNo) (a : Attr) (leader : Option EventNo) → IsWorld w → AreInPlace w → IsAccepted w.hardware (stage_of w) e a leader
+pub room-new : (w : World) (e : EventNo) (a : Attr) (leader : Option EventNo) → IsWorld w → IsAccepted w.hardware (stage_of w) e a leader
     → HasRoom w (opened_as w e a leader) (leader_key w leader)
-room-new w e a None h placed fine = tt
-room-new w e a (Some leader) h placed fine =
-    let led = led-by w e a leader (family_of w leader).original h placed fine refl in
+room-new w e a None h fine = tt
+room-new w e a (Some leader) h fine =
+    let led = led-by w e a leader (family_of w leader).original h fine refl in
     subst (HasRoom w (opened_as w e a (Some leader))) (sym led.1.named) (led.1.leads, led.1.context, led.1.room)
 
-pub may-add : (w : World) (e : EventNo) (a : Attr) (leader : Option EventNo) → IsWorld w → AreInPlace w → e.0 < 256
+pub may-add : (w : World) (e : EventNo) (a : Attr) (leader : Option EventNo) → IsWorld w → e.0 < 256
     → IsAttr (length w.quiet.running) (length w.hardware.kind_pmus) a → length w.quiet.running ≤ 8 → w.quiet.next_id + 1 < 2 ^ 63
     → open_refusal w.hardware (stage_of w) e a leader ≡ None → MayAdd w (opened_as w e a leader)
-may-add w e a leader h placed slot attr few ids free =
+may-add w e a leader h slot attr few ids free =
     let fine : IsAccepted w.hardware (stage_of w) e a leader = accepted w.hardware (stage_of w) e a leader free in
     record {
       slot = slot;
@@ -174,18 +174,18 @@ may-add w e a leader h placed slot attr few ids free =
       known = (none-holds w.hardware (stage_of w) e a leader (first-free w.hardware (stage_of w) e a leader free)).known;
       kind = attr.kind;
       first_there = λ j live same place. slot-free w e h fine.unused j live same;
-      fitting = fitting-new w e a leader h placed fine;
+      fitting = fitting-new w e a leader h fine;
       ids = ids;
-      original = record { unused = λ first. fine.unused; of_task = λ copy. absurd (false≢true copy); few = λ copy. absurd (false≢true copy); original = λ copy. absurd (false≢true copy) };
-      group = room-new w e a leader h placed fine;
+      original = record { unused = λ first. fine.unused; placed = λ first. refl; of_task = λ copy. absurd (false≢true copy); few = λ copy. absurd (false≢true copy); original = λ copy. absurd (false≢true copy) };
+      group = room-new w e a leader h fine;
     }
 
 -- and the stage is then what the open makes of it
-led-original : (w : World) (e : EventNo) (a : Attr) (leader : Option EventNo) → IsWorld w → AreInPlace w → IsAccepted w.hardware (stage_of w) e a leader
+led-original : (w : World) (e : EventNo) (a : Attr) (leader : Option EventNo) → IsWorld w → IsAccepted w.hardware (stage_of w) e a leader
     → IsLedByOriginal w (leader_key w leader) × (slot_led w (leader_key w leader) ≡ leader)
-led-original w e a None h placed fine = (tt, refl)
-led-original w e a (Some leader) h placed fine =
-    let led = led-by w e a leader (family_of w leader).original h placed fine refl in
+led-original w e a None h fine = (tt, refl)
+led-original w e a (Some leader) h fine =
+    let led = led-by w e a leader (family_of w leader).original h fine refl in
     subst (λ o. IsLedByOriginal w o × (slot_led w o ≡ Some leader)) (sym led.1.named) (led.1.original.first, ap (λ x. Some x) led.1.original.event)
 
 pub may-come : (w : World) (n : Newcomer) (k : Key) → MayAdd w n → is_live w k ≡ false → MayCome w.hardware w k n
@@ -200,9 +200,9 @@ may-come w n k may fresh = record {
   room = may.ids;
 }
 
-pub stage-opened : (w : World) (e : EventNo) (a : Attr) (leader : Option EventNo) (k : Key) → IsWorld w → AreInPlace w → MayAdd w (opened_as w e a leader)
+pub stage-opened : (w : World) (e : EventNo) (a : Attr) (leader : Option EventNo) (k : Key) → IsWorld w → MayAdd w (opened_as w e a leader)
     → open_refusal w.hardware (stage_of w) e a leader ≡ None → is_live w k ≡ false → stage_of (add k (opened_as w e a leader) w) ≡ opened (stage_of w) e a leader
-stage-opened w e a leader k h placed may free fresh =
+stage-opened w e a leader k h may free fresh =
     let n : Newcomer = opened_as w e a leader in
-    let led = led-original w e a leader h placed (accepted w.hardware (stage_of w) e a leader free) in
+    let led = led-original w e a leader h (accepted w.hardware (stage_of w) e a leader free) in
     open-stage w.hardware w k n h (may-come w n k may fresh) may.group refl refl led.0 ∙ ap (opened (stage_of w) e a) led.1

@@ -1,6 +1,5 @@
 pub mod Admitting
 pub mod Demanding
-pub mod InPlace
 pub mod Joining
 pub mod Leaders
 pub mod Others

@@ -42,8 +42,7 @@ use Rattle.world_spec.proofs.Staying.{add-stays}
 use Rattle.world_spec.proofs.Tables.{get-there}
 use Rattle.perf_world.specs.Parts.{MayAdd}
 use Rattle.perf_world.specs.Seen.{IsWorld}
-use Rattle.event_open.specs.Opened.{AreInPlace, opened_as}
-use Rattle.event_open.proofs.InPlace.{come-in_place}
+use Rattle.event_open.specs.Opened.{opened_as}
 use Rattle.event_open.proofs.Joining.{led-by, may-come, stage-opened}
 
 -- the passes of such a processor where the event is a group of its own
@@ -87,14 +86,14 @@ passes-joined w k n first cpu h dead away =
     passes-are t cpu ∙ (ap (λ l. map (map (group_at t)) (four l)) (leaders-stay w k n first (task_on (stage_of w) cpu))
     ∙ (lists-same (group_at t) (group_at w) (pass_leaders w cpu) (groups-stay w k n first cpu h dead away) ∙ sym (passes-are w cpu)))
 
-passes-stay : (w : World) (e : EventNo) (a : Attr) (leader : Option EventNo) (k : Key) (cpu : CpuNo) → IsWorld w → AreInPlace w → MayAdd w (opened_as w e a leader)
+passes-stay : (w : World) (e : EventNo) (a : Attr) (leader : Option EventNo) (k : Key) (cpu : CpuNo) → IsWorld w → MayAdd w (opened_as w e a leader)
     → open_refusal w.hardware (stage_of w) e a leader ≡ None → is_live w k ≡ false → has_context (stage_of w) cpu (context_of a) ≡ false
     → passes (stage_of (add k (opened_as w e a leader) w)) cpu ≡ passes (stage_of w) cpu
-passes-stay w e a None k cpu h placed may free fresh away =
-    ap (λ s. passes s cpu) (stage-opened w e a None k h placed may free fresh)
+passes-stay w e a None k cpu h may free fresh away =
+    ap (λ s. passes s cpu) (stage-opened w e a None k h may free fresh)
     ∙ passes-same (stage_of w) (opened (stage_of w) e a None) cpu (open-alone (stage_of w) e a cpu h.shape.contexts away)
-passes-stay w e a (Some leader) k cpu h placed may free fresh away =
-    let led = led-by w e a leader (family_of w leader).original h placed (accepted w.hardware (stage_of w) e a (Some leader) free) refl in
+passes-stay w e a (Some leader) k cpu h may free fresh away =
+    let led = led-by w e a leader (family_of w leader).original h (accepted w.hardware (stage_of w) e a (Some leader) free) refl in
     let n : Newcomer = opened_as w e a (Some leader) in
     ap (λ o. passes (stage_of (added w k n o)) cpu) led.1.named
     ∙ passes-joined w k n led.0 cpu h fresh (ap (has_context (stage_of w) cpu) led.1.context ∙ away)
@@ -120,16 +119,16 @@ standing-stays w k n None j apart = ap (λ o. unwrap_or o standing.Out) (get-the
 standing-stays w k n (Some first) j apart = ap (λ o. unwrap_or o standing.Out) (get-there w.standings k.0 standing.Out j.0 apart)
 
 -- and so the processor is as rescheduling left it
-others-stay : (w : World) (e : EventNo) (a : Attr) (leader : Option EventNo) (k : Key) (cpu : CpuNo) → IsWorld w → AreInPlace w → MayAdd w (opened_as w e a leader)
+others-stay : (w : World) (e : EventNo) (a : Attr) (leader : Option EventNo) (k : Key) (cpu : CpuNo) → IsWorld w → MayAdd w (opened_as w e a leader)
     → open_refusal w.hardware (stage_of w) e a leader ≡ None → is_live w k ≡ false → cpu.0 < 8 → has_context (stage_of w) cpu (context_of a) ≡ false
     → IsUntouched w.hardware w (add k (opened_as w e a leader) w) cpu
-others-stay w e a leader k cpu h placed may free fresh low away =
+others-stay w e a leader k cpu h may free fresh low away =
     let n : Newcomer = opened_as w e a leader in
     let after : World = add k n w in
     let come : HasCome w after k n = add-stays w.hardware w k n h (may-come w n k may fresh) may.group in
     let comes : Comes (post_at w) (post_at after) k _ = comes-by w k n fresh n.leader may.group in
     left-untouched w.hardware w after cpu low (record {
-      briefs = ap (map (λ pass. map (brief_of w.hardware) (filter (is_eligible w.hardware cpu) pass))) (passes-stay w e a leader k cpu h placed may free fresh away);
+      briefs = ap (map (λ pass. map (brief_of w.hardware) (filter (is_eligible w.hardware cpu) pass))) (passes-stay w e a leader k cpu h may free fresh away);
       seats = seats-stay w k n n.leader cpu;
       groups = λ j lead has. elim (cases_eq j.0 k.0) [
         | inl same ↦
@@ -147,19 +146,17 @@ others-stay w e a leader k cpu h placed may free fresh low away =
 -- all that an open which is not refused makes of a world
 pub record IsOpened (w after : World) (e : EventNo) (a : Attr) (leader : Option EventNo) : Type 0 where
   pub stage : stage_of after ≡ opened (stage_of w) e a leader
-  pub placed : AreInPlace after
   pub others : (cpu : CpuNo) → cpu.0 < 8 → has_context (stage_of w) cpu (context_of a) ≡ false → IsUntouched w.hardware w after cpu
   pub verdicts : (cpu : CpuNo) → has_context (stage_of w) cpu (context_of a) ≡ false → verdicts w.hardware (stage_of after) cpu ≡ verdicts w.hardware (stage_of w) cpu
 
-pub is-opened : (w after : World) (e : EventNo) (a : Attr) (leader : Option EventNo) (k : Key) → IsWorld w → AreInPlace w → MayAdd w (opened_as w e a leader)
+pub is-opened : (w after : World) (e : EventNo) (a : Attr) (leader : Option EventNo) (k : Key) → IsWorld w → MayAdd w (opened_as w e a leader)
     → open_refusal w.hardware (stage_of w) e a leader ≡ None → is_live w k ≡ false → after ≡ add k (opened_as w e a leader) w → IsOpened w after e a leader
-is-opened w after e a leader k h placed may free fresh is =
+is-opened w after e a leader k h may free fresh is =
     subst (λ v. IsOpened w v e a leader) (sym is) (record {
-      stage = stage-opened w e a leader k h placed may free fresh;
-      placed = come-in_place w k (opened_as w e a leader) h (may-come w (opened_as w e a leader) k may fresh) may.group refl placed;
-      others = λ cpu low away. others-stay w e a leader k cpu h placed may free fresh low away;
+      stage = stage-opened w e a leader k h may free fresh;
+      others = λ cpu low away. others-stay w e a leader k cpu h may free fresh low away;
       verdicts = λ cpu away.
-          verdicts-stay w.hardware (stage_of w) (stage_of (add k (opened_as w e a leader) w)) cpu (passes-stay w e a leader k cpu h placed may free fresh away);
+          verdicts-stay w.hardware (stage_of w) (stage_of (add k (opened_as w e a leader) w)) cpu (passes-stay w e a leader k cpu h may free fresh away);
     })
 
 -- a processor that is not among those with a context does not have it

@@ -1,27 +1,17 @@
 -- What an open that is not refused does to a world. After the system call perf_event_open, perf_install_in_context and
 -- perf_group_attach of kernel/events/core.c; the tables are this project's own profile.
-use Rattle.std.specs.Prelude.{◌≡◌, true, false, List, [], Option, Some, None}
+use Rattle.std.specs.Prelude.{◌≡◌, false, List, [], Option, Some, None}
 use Rattle.perf_base.specs.declared.attr.Attr.{Attr}
 use Rattle.perf_base.specs.declared.numbers.EventNo.{EventNo}
 use Rattle.perf_base.specs.declared.numbers.Key.{Key}
-use Rattle.perf_base.specs.declared.numbers.TaskNo.{TaskNo}
 use Rattle.stage_spec.specs.declared.instance.Instance.{Instance}
-use Rattle.stage_spec.specs.Hardware.{Hardware}
 use Rattle.stage_spec.specs.Opening.{group_led, group_with, new_original}
 use Rattle.stage_spec.specs.Places.{context_of}
 use Rattle.stage_spec.specs.Stage.{Stage, Group, members_of}
-use Rattle.stage_laws.specs.Sound.{IsSound}
 use Rattle.world_spec.specs.Adding.{Newcomer, add}
-use Rattle.world_spec.specs.First.{first_world}
-use Rattle.world_spec.specs.StageOf.{stage_of}
 use Rattle.world_spec.specs.Staying.{HasCome}
-use Rattle.world_spec.specs.Value.{World, is_live, entry_at, instance_at, family_of}
+use Rattle.world_spec.specs.Value.{World, is_live, family_of}
 use Rattle.perf_world.specs.Parts.{newcomer}
-use Rattle.perf_world.specs.Seen.{IsWorld}
-
--- Each original stands in the context that its attribute names.
-abbrev pub AreInPlace : World → Type 0
-AreInPlace w = (k : Key) → is_live w k ≡ true → (instance_at w k).copy ≡ false → (entry_at w k).context ≡ context_of (instance_at w k).attr
 
 -- the original in a leader's slot, where a leader is given
 abbrev pub leader_key : World → Option EventNo → Option Key
@@ -39,13 +29,6 @@ members_led (Some g) = members_of g
 
 abbrev pub members_with : Stage → EventNo → Attr → Option EventNo → List Instance
 members_with s e a leader = members_of (group_with (group_led s leader) (new_original s e a))
-
--- Worlds of sound stages are so, and the first world is.
-abbrev pub SoundInPlaceLaw : Type 0
-SoundInPlaceLaw = (w : World) → IsWorld w → IsSound w.hardware (stage_of w) → AreInPlace w
-
-abbrev pub FirstInPlaceLaw : Type 0
-FirstInPlaceLaw = (hw : Hardware) (declared : List TaskNo) → AreInPlace (first_world hw declared)
 
 -- A newcomer came by a key that named nothing, and all others stayed.
 pub record IsOpenedAs (w after : World) (n : Newcomer) : Type 0 where

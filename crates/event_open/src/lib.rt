@@ -5,7 +5,6 @@
 
 mod checking;
 mod demands;
-mod laws;
 mod leading;
 #[cfg(test)]
 mod neighbours;
@@ -14,5 +13,4 @@ mod placing;
 #[cfg(test)]
 mod tests;
 
-pub use laws::originals_are_in_place;
 pub use opening::open;

@@ -11,7 +11,7 @@ ghost use Rattle.stage_laws.specs.Narrowing as narrowing;
 ghost use Rattle.world_spec.specs.Rescheduled.{AreUntouchedOutside};
 ghost use Rattle.world_spec.specs.StageOf.{stage_of};
 ghost use Rattle.perf_world.specs.Seen.{IsWorld};
-ghost use Rattle.event_open.specs.Opened.{AreInPlace, IsOpenedAs, leader_key, opened_as};
+ghost use Rattle.event_open.specs.Opened.{IsOpenedAs, leader_key, opened_as};
 
 use crate::checking::check_open;
 use perf_base::{Attr, Context, CpuNo, CpuSel, CpuSet, EventNo, Key, Reason, TaskSel};
@@ -98,14 +98,12 @@ pub fn open(
 ) -> Result<CpuSet, Reason>
     requires slot { event.0 < 256 }
     requires attr { IsAttr (length world.old.quiet.running) (length world.old.hardware.kind_pmus) attr.now }
-    requires placed { AreInPlace world.old }
     requires room { world.old.quiet.next_id + 1 < 2 ^ 63 }
     ensures accepted { OnOk result (open_refusal world.old.hardware (stage_of world.old) event attr.now leader ≡ None) }
     ensures refused { IfErr result (λ reason. open_refusal world.old.hardware (stage_of world.old) event attr.now leader ≡ Some reason) }
     ensures same { OnErr result (world.new ≡ world.old) }
     ensures world { OnOk result (IsOpenedAs world.old world.new (opened_as world.old event attr.now leader)) }
     ensures stage { OnOk result (stage_of world.new ≡ opened (stage_of world.old) event attr.now leader) }
-    ensures placed { AreInPlace world.new }
     ensures processors { IfOk result (λ set. (cpu : Cpu) → cpu.0 < length world.old.quiet.running
         → (HasCpu set cpu ↔ (narrowing.has_context (stage_of world.old) cpu (places.context_of attr.now) ≡ true))) }
     ensures within { IfOk result (λ set. (cpu : Cpu) → HasCpu set cpu → cpu.0 < length world.old.quiet.running) }

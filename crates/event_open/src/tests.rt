@@ -3,7 +3,6 @@
 ghost use Rattle.std.specs.Prelude.{◌≡◌, ◌+◌, ◌^◌, ◌<◌, ◌≤◌, IfOk, true, length};
 ghost use Rattle.perf_base.specs.Scripts.{IsAttr};
 ghost use Rattle.stage_spec.specs.Limits.{AreTaskNumbers};
-ghost use Rattle.event_open.specs.Opened.{AreInPlace};
 
 use crate::open;
 use perf_base::{
@@ -121,7 +120,6 @@ pub fn slots(list: &[u16]) -> Tight
 /// A machine before its first line.
 fn machine(alloc: Global, pmus: Pmus, tasks: &[TaskNo]) -> Result<World, NoMemory>
     requires { AreTaskNumbers tasks.now }
-    ensures placed { IfOk result (λ w. AreInPlace w) }
     ensures hardware { IfOk result (λ w. w.hardware ≡ pmus) }
     ensures ids { IfOk result (λ w. w.quiet.next_id ≡ 1) }
 {
@@ -130,9 +128,7 @@ fn machine(alloc: Global, pmus: Pmus, tasks: &[TaskNo]) -> Result<World, NoMemor
 
 /// A task that is there and on no processor comes onto one.
 fn switch_to(world: &mut World, cpu: CpuNo, task: TaskNo)
-    requires placed { AreInPlace world.old }
     requires task { task.0 < 64 }
-    ensures placed { AreInPlace world.new }
     ensures hardware { world.new.hardware ≡ world.old.hardware }
     ensures ids { world.new.quiet.next_id ≡ world.old.quiet.next_id }
 {
@@ -144,9 +140,7 @@ fn switch_to(world: &mut World, cpu: CpuNo, task: TaskNo)
 
 /// A task that is there and on no processor exits.
 fn exit(world: &mut World, task: TaskNo)
-    requires placed { AreInPlace world.old }
     requires task { task.0 < 64 }
-    ensures placed { AreInPlace world.new }
     ensures hardware { world.new.hardware ≡ world.old.hardware }
     ensures ids { world.new.quiet.next_id ≡ world.old.quiet.next_id }
 {
@@ -158,7 +152,6 @@ fn exit(world: &mut World, task: TaskNo)
 /// Two processors of a PMU with two counters and one of a PMU with one, and three tasks: one on the second processor,
 /// one on none, one that has exited.
 pub fn three_processors(alloc: Global) -> Result<World, NoMemory>
-    ensures placed { IfOk result (λ w. AreInPlace w) }
     ensures kinds { IfOk result (λ w. length w.hardware.kind_pmus ≡ 3) }
     ensures ids { IfOk result (λ w. w.quiet.next_id ≡ 1) }
 {
@@ -187,10 +180,8 @@ fn is_answer(answer: &Result<CpuSet, Reason>, want: &Result<u8, Reason>) -> bool
 
 /// Whether an open of an event answers so. The world is of the same machine afterwards, and at most one id was drawn.
 fn answers(world: &mut World, kinds: u8, call: &Call) -> bool
-    requires placed { AreInPlace world.old }
     requires kinds { length world.old.hardware.kind_pmus ≡ kinds }
     requires room { world.old.quiet.next_id + 1 < 2 ^ 63 }
-    ensures placed { AreInPlace world.new }
     ensures kinds { length world.new.hardware.kind_pmus ≡ kinds }
     ensures drawn { world.new.quiet.next_id ≤ world.old.quiet.next_id + 1 }
 {
@@ -213,7 +204,6 @@ fn answers(world: &mut World, kinds: u8, call: &Call) -> bool
 
 /// The place of the first call that is answered otherwise.
 pub fn first_wrong(world: &mut World, kinds: u8, calls: &[Call]) -> Option<usize>
-    requires placed { AreInPlace world.old }
     requires kinds { length world.old.hardware.kind_pmus ≡ kinds }
     requires room { world.old.quiet.next_id + length calls.now < 2 ^ 63 }
 {

@@ -149,6 +149,7 @@ may-add child v w leader done q rest first h may next f room kinds =
       ids = omega (arith, ap (λ x. x.next_id) f.quiet, may.ids, size);
       original = record {
         unused = λ no. absurd (false≢true (sym no));
+        placed = λ no. absurd (false≢true (sym no));
         of_task = λ yes. refl;
         few = λ yes. omega (arith, f.few, may.few, size);
         original = λ yes. has-original child v w done q h f m.live (ap is_of_task m.together ∙ may.of_task);

@@ -24,8 +24,9 @@ use Rattle.world_tables.specs.Rows.{fresh_row, leader_entry, sibling_entry, free
 abbrev pub newcomer : EventNo → Attr → Option Key → Option Key → Context → Newcomer
 newcomer e attr leader origin c = record { event = e; attr = attr; copy = is_some origin; context = c; leader = leader }
 
--- An instance may come: its slot and context have places, its sample bits are known and its kind is one of the machine's; the context has none of the family; its group fits
--- with it, of one PMU; ids have room; the slot was not used, or the original is there; and its leader has room.
+-- An instance may come: its slot and context have places, its sample bits are known and its kind is one of the
+-- machine's; the context has none of the family; its group fits with it, of one PMU; ids have room; the slot was not
+-- used and the context is the one that the attribute names, or the original is there; and its leader has room.
 pub record MayAdd (w : World) (n : Newcomer) : Type 0 where
   pub slot : n.event.0 < 256
   pub place : place_of n.context < 72

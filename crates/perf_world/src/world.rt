@@ -594,8 +594,9 @@ impl World {
         self.processors.seat(cpu, group, steps)
     }
 
-    /// An instance comes by a key that named nothing: an original in its slot, or a copy of the original there. It
-    /// draws the next id, is in the state of its attribute, has counted nothing and has a whole period before it.
+    /// An instance comes by a key that named nothing: an original in its slot, or, where the key of the original there
+    /// is given, a copy of it. An original stands in the context that its attribute names. The instance draws the next
+    /// id, is in the state of its attribute, has counted nothing and has a whole period before it.
     /// Without a leader it is a group of its own, last in its list and Out; else it is the last of its leader's group.
     pub fn add(
         &mut self,
@@ -605,7 +606,8 @@ impl World {
         origin: Option<Key>,
         context: Context,
     ) -> Key
-        requires { MayAdd self.old (newcomer event attr.now leader origin context) }
+        requires may { MayAdd self.old (newcomer event attr.now leader origin context) }
+        requires origin { IfSome origin (λ k. (family_of self.old event).original ≡ Some k) }
         ensures fresh { is_live self.old result ≡ false }
         ensures world { self.new ≡ add result (newcomer event attr.now leader origin context) self.old }
         ensures stage { stage_of self.new ≡ counted_in (newcomer event attr.now leader origin context)

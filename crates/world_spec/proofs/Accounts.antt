@@ -145,7 +145,7 @@ account-kept f hw w k n m there count enabled ran room_count room_enabled h = re
   numbered = h.numbered;
   apart = h.apart;
   fitting = h.fitting;
-  lawful = record { errors = h.lawful.errors; samples = h.lawful.samples; kinds = h.lawful.kinds; used = h.lawful.used };
+  lawful = record { errors = h.lawful.errors; samples = h.lawful.samples; kinds = h.lawful.kinds; used = h.lawful.used; placed = h.lawful.placed };
   seated = h.seated;
   small = record {
     counts = family-grows (λ s. s.count) counts_are_sums w h.linked (λ q. (account_at (with_account f k w) q).sums) k n (2 ^ 63)
@@ -200,6 +200,6 @@ pub period-kept : PeriodKeptLaw
 period-kept hw w k period there h =
     let f : Instance → Instance = λ i. record i { attr = record i.attr { period = period } } in
     let t : World = with_instance f k w in
-    let kept : IsKept hw t = instance-kept f (λ live e. refl) hw w k there (h.lawful.errors k there) refl h in
+    let kept : IsKept hw t = instance-kept f (λ live e. refl) hw w k there (h.lawful.errors k there) refl refl h in
     account-kept (λ a. record a { left = period }) hw t k 0 0 (sym (kept.tables.accounts k) ∙ (h.tables.accounts k ∙ there))
     (omega arith) (omega arith) (h.small.ran k) (omega (arith, kept.small.counts (instance_at t k).event.0)) (omega (arith, kept.small.times (instance_at t k).event.0)) kept

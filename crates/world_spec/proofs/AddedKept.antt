@@ -13,6 +13,7 @@ use Rattle.stage_spec.specs.Checks.{has_unknown_sample}
 use Rattle.stage_spec.specs.Flags.{is_disabled}
 use Rattle.stage_spec.specs.Hardware.{Hardware}
 use Rattle.stage_spec.specs.Opening.{is_used}
+use Rattle.stage_spec.specs.Places.{context_of}
 use Rattle.stage_spec.specs.Reading.{is_error}
 use Rattle.stage_spec.specs.Stage.{place_of}
 use Rattle.world_spec.specs.Value.{World, Account, Leaders, no_family, no_leaders, no_account, is_live, entry_at, instance_at, account_at, is_key, times}
@@ -88,10 +89,14 @@ added-hardware : (w : World) (k : Key) (n : Newcomer) (leader : Option Key) → 
 added-hardware w k n None = refl
 added-hardware w k n (Some first) = refl
 
+context-new : (w : World) (k : Key) (n : Newcomer) (leader : Option Key) → (new_entry w k n leader).context ≡ n.context
+context-new w k n None = refl
+context-new w k n (Some first) = refl
+
 lawful-added : (w : World) (k : Key) (n : Newcomer) (leader : Option Key) → Comes (post_at w) (post_at (added w k n leader)) k (arriving w k n leader)
     → (added w k n leader).quiet.used ≡ (if n.copy then w.quiet.used else w.quiet.used ++ n.event ∷ []) → has_unknown_sample n.attr ≡ false
-    → IsKind (length w.hardware.kind_pmus) n.attr.kind → AreLawful w → AreLawful (added w k n leader)
-lawful-added w k n leader c used known kind h =
+    → IsKind (length w.hardware.kind_pmus) n.attr.kind → (n.copy ≡ false → n.context ≡ context_of n.attr) → AreLawful w → AreLawful (added w k n leader)
+lawful-added w k n leader c used known kind placed h =
     let t : World = added w k n leader in
     let mine : instance_at t k ≡ new_instance w n = ap (λ x. x.instance) (new-entry_at w k n leader) ∙ entry-instance w k n leader in
     record {
@@ -113,6 +118,11 @@ lawful-added w k n leader c used known kind h =
           let same : instance_at t j ≡ instance_at w j = other-instance w k n leader j apart in
           ap (λ i. is_used (stage_of t) i.event) same ∙ (ap (λ us. is_used (record (stage_of t) { used = us }) (instance_at w j).event) used
           ∙ used-more n.copy w.quiet.used (instance_at w j).event n.event (h.used j (post-live w k n leader c j apart live) (sym (ap (λ i. i.copy) same) ∙ first))));
+      placed = by_coming (λ j. is_live t j ≡ true → (instance_at t j).copy ≡ false → (entry_at t j).context ≡ context_of (instance_at t j).attr) k
+          (λ live first. ap (λ x. x.context) c.new ∙ (context-new w k n leader ∙ (placed (sym (ap (λ i. i.copy) mine) ∙ first) ∙ sym (ap (λ i. context_of i.attr) mine))))
+          (λ j apart live first.
+          let same : instance_at t j ≡ instance_at w j = other-instance w k n leader j apart in
+          ap (λ x. x.context) (c.others j apart) ∙ (h.placed j (post-live w k n leader c j apart live) (sym (ap (λ i. i.copy) same) ∙ first) ∙ sym (ap (λ i. context_of i.attr) same)));
     }
 
 -- the tables have the new key
@@ -176,7 +186,7 @@ added-kept hw w k n None fits room may of h =
       numbered = comes-numbered (post_at w) (post_at t) k p w.quiet.next_id c refl may.slot may.place h.numbered;
       apart = comes-apart (post_at w) (post_at t) k p c may.first_there of.of_task of.original h.apart;
       fitting = fitting-alone hw (post_at w) (post_at t) k p c refl (alone-members w k n) h.linked.members fits h.fitting;
-      lawful = lawful-added w k n None c refl may.known may.kind h.lawful;
+      lawful = lawful-added w k n None c refl may.known may.kind of.placed h.lawful;
       seated = h.seated;
       small = small-added w k n None (omega (arith, may.slot, h.tables.families)) may.room h.small;
     }
@@ -216,7 +226,7 @@ added-kept hw w k n (Some first) fits room may of h =
       numbered = comes-numbered (post_at w) (post_at t) k p w.quiet.next_id c refl may.slot may.place h.numbered;
       apart = comes-apart (post_at w) (post_at t) k p c may.first_there of.of_task of.original h.apart;
       fitting = fitting-joined hw (post_at w) (post_at t) k first p c refl (ap (λ x. x.members) (dead-entry w k may.fresh)) (grown-members w k n first far) (joined-members w k n first) h.linked.members fits h.fitting;
-      lawful = lawful-added w k n (Some first) c refl may.known may.kind h.lawful;
+      lawful = lawful-added w k n (Some first) c refl may.known may.kind of.placed h.lawful;
       seated = h.seated;
       small = small-added w k n (Some first) (omega (arith, may.slot, h.tables.families)) may.room h.small;
     }

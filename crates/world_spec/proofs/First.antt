@@ -128,6 +128,7 @@ first-kept hw declared hardware =
         samples = λ k live. absurd (clash k live);
         kinds = λ k live. absurd (clash k live);
         used = λ k live first. absurd (clash k live);
+        placed = λ k live first. absurd (clash k live);
       };
       seated = seats-sound hw hardware;
       small = record {

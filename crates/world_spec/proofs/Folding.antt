@@ -192,7 +192,7 @@ fold-kept hw w k live copy h =
       numbered = kept.numbered;
       apart = kept.apart;
       fitting = kept.fitting;
-      lawful = record { errors = kept.lawful.errors; samples = kept.lawful.samples; kinds = kept.lawful.kinds; used = kept.lawful.used };
+      lawful = record { errors = kept.lawful.errors; samples = kept.lawful.samples; kinds = kept.lawful.kinds; used = kept.lawful.used; placed = kept.lawful.placed };
       seated = kept.seated;
       small = record {
         counts = λ slot. subst (λ s. s.count < 2 ^ 63) (sym (stay slot)) (h.small.counts slot);

@@ -19,6 +19,7 @@ use Rattle.stage_spec.specs.Families.{plus}
 use Rattle.stage_spec.specs.Fits.{fits, fits_beside}
 use Rattle.stage_spec.specs.Hardware.{Hardware}
 use Rattle.stage_spec.specs.Opening.{is_used}
+use Rattle.stage_spec.specs.Places.{context_of}
 use Rattle.stage_spec.specs.Reading.{is_error}
 use Rattle.stage_spec.specs.Shares.{no_sums}
 use Rattle.world_spec.specs.Value.{World, Entry, Leaders, Family, no_family, no_leaders, no_entry, no_account, is_live, entry_at, instance_at, account_at, is_key, times}
@@ -219,6 +220,8 @@ lawful-left hw w k h g =
       kinds = λ j live. subst (λ i. IsKind (length w.hardware.kind_pmus) i.attr.kind) (sym (left-instance w k j (far j live))) (h.lawful.kinds j (was j live));
       used = λ j live first. ap (λ i. is_used (stage_of w) i.event) (left-instance w k j (far j live))
           ∙ h.lawful.used j (was j live) (sym (ap (λ i. i.copy) (left-instance w k j (far j live))) ∙ first);
+      placed = λ j live first. ap (λ x. x.context) (g.same j (far j live))
+          ∙ (h.lawful.placed j (was j live) (sym (ap (λ i. i.copy) (left-instance w k j (far j live))) ∙ first) ∙ sym (ap (λ i. context_of i.attr) (left-instance w k j (far j live))));
     }
 
 pub left-kept : (hw : Hardware) (w : World) (k : Key) → SiblingMayGo w k → IsKept hw w → IsKept hw (left_world w k)

@@ -16,6 +16,7 @@ use Rattle.stage_spec.specs.Checks.{has_unknown_sample}
 use Rattle.stage_spec.specs.Fits.{fits, fits_beside}
 use Rattle.stage_spec.specs.Hardware.{Hardware, is_software, mask_of}
 use Rattle.stage_spec.specs.Opening.{is_used}
+use Rattle.stage_spec.specs.Places.{context_of}
 use Rattle.stage_spec.specs.Reading.{is_error}
 use Rattle.stage_spec.specs.Stage.{place_of}
 use Rattle.stage_laws.proofs.Fitting.{fits_beside-others, fits_beside-rest}
@@ -221,6 +222,8 @@ lawful-led hw w k entries standings h f d =
       samples = λ j live. ap (λ i. has_unknown_sample i.attr) (same j live) ∙ h.lawful.samples j (was j live);
       kinds = λ j live. subst (λ i. IsKind (length w.hardware.kind_pmus) i.attr.kind) (sym (same j live)) (h.lawful.kinds j (was j live));
       used = λ j live first. ap (λ i. is_used (stage_of w) i.event) (same j live) ∙ h.lawful.used j (was j live) (sym (ap (λ i. i.copy) (same j live)) ∙ first);
+      placed = λ j live first. ap (λ x. x.context) (g.others j (far j live))
+          ∙ (h.lawful.placed j (was j live) (sym (ap (λ i. i.copy) (same j live)) ∙ first) ∙ sym (ap (λ i. context_of i.attr) (same j live)));
     }
 
 pub led-kept : (hw : Hardware) (w : World) (k : Key) (entries : FinMap nat_cmp Entry) (standings : FinMap nat_cmp Standing) → leads (post_at w) k ≡ true → AreFreed w k entries standings

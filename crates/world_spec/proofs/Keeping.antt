@@ -12,6 +12,7 @@ use Rattle.stage_spec.specs.Checks.{has_unknown_sample}
 use Rattle.stage_spec.specs.Hardware.{Hardware, counters_of}
 use Rattle.stage_spec.specs.Limits.{HasShape}
 use Rattle.stage_spec.specs.Opening.{is_used}
+use Rattle.stage_spec.specs.Places.{context_of}
 use Rattle.stage_spec.specs.Reading.{is_error}
 use Rattle.stage_spec.specs.Stage.{Stage}
 use Rattle.stage_laws.specs.Sound.{AreRunning}
@@ -31,11 +32,12 @@ by_entry P w k e q here there = elim (cases_eq q.0 k.0) [
   | inr apart ↦ subst P (sym (entry-there w k e q apart)) (there apart)
 ]
 
--- a change of an instance that keeps its post, known sample bits, and error to leaders
+-- a change of an instance that keeps its post, known sample bits, the context that its attribute names, and error to leaders
 pub instance-lawful : (f : Instance → Instance) → KeepsPost f → (w : World) (k : Key) → is_live w k ≡ true
     → (is_error (f (instance_at w k)).own ≡ true → is_key k (entry_at w k).leader ≡ true)
-    → has_unknown_sample (f (instance_at w k)).attr ≡ has_unknown_sample (instance_at w k).attr → AreLawful w → AreLawful (with_instance f k w)
-instance-lawful f keeps w k there error sample h =
+    → has_unknown_sample (f (instance_at w k)).attr ≡ has_unknown_sample (instance_at w k).attr
+    → context_of (f (instance_at w k)).attr ≡ context_of (instance_at w k).attr → AreLawful w → AreLawful (with_instance f k w)
+instance-lawful f keeps w k there error sample named h =
     let e : Entry = record (entry_at w k) { instance = f (instance_at w k) } in
     let live : (q : Key) → is_live (with_instance f k w) q ≡ true → is_live w q ≡ true = λ q alive. sym (live-written w k e there q) ∙ alive in
     let posts : post_at (with_instance f k w) ≡ post_at w = posts-same f keeps w k there in
@@ -47,12 +49,15 @@ instance-lawful f keeps w k there error sample h =
       kinds = λ q alive. subst (λ at. IsKind (length w.hardware.kind_pmus) (at q).kind) (sym posts) (h.kinds q (live q alive));
       used = λ q alive first.
           ap (λ at. is_used (stage_of w) (at q).event) posts ∙ h.used q (live q alive) (sym (ap (λ at. (at q).copy) posts) ∙ first);
+      placed = λ q alive. by_entry (λ x. x.instance.copy ≡ false → x.context ≡ context_of x.instance.attr) w k e q
+          (λ same first. h.placed k there (sym (ap (λ p. p.copy) (keeps true (entry_at w k))) ∙ first) ∙ sym named) (λ apart. h.placed q (live q alive));
     }
 
 pub instance-kept : (f : Instance → Instance) → KeepsPost f → (hw : Hardware) (w : World) (k : Key) → is_live w k ≡ true
     → (is_error (f (instance_at w k)).own ≡ true → is_key k (entry_at w k).leader ≡ true)
-    → has_unknown_sample (f (instance_at w k)).attr ≡ has_unknown_sample (instance_at w k).attr → IsKept hw w → IsKept hw (with_instance f k w)
-instance-kept f keeps hw w k there error sample h =
+    → has_unknown_sample (f (instance_at w k)).attr ≡ has_unknown_sample (instance_at w k).attr
+    → context_of (f (instance_at w k)).attr ≡ context_of (instance_at w k).attr → IsKept hw w → IsKept hw (with_instance f k w)
+instance-kept f keeps hw w k there error sample named h =
     let e : Entry = record (entry_at w k) { instance = f (instance_at w k) } in
     let posts : post_at w ≡ post_at (with_instance f k w) = sym (posts-same f keeps w k there) in
     record {
@@ -77,7 +82,7 @@ instance-kept f keeps hw w k there error sample h =
       numbered = subst (λ at. AreNumbered at w.quiet.next_id) posts h.numbered;
       apart = subst AreApart posts h.apart;
       fitting = subst (λ at. (q : Key) → AreFitting hw (kinds_in at q)) posts h.fitting;
-      lawful = instance-lawful f keeps w k there error sample h.lawful;
+      lawful = instance-lawful f keeps w k there error sample named h.lawful;
       seated = h.seated;
       small = record { counts = h.small.counts; times = h.small.times; ran = h.small.ran; folded_ran = h.small.folded_ran; clocks = h.small.clocks; lost = h.small.lost; ids = h.small.ids };
     }
@@ -102,6 +107,7 @@ quiet-kept hw w quiet used next shape running clocks many_clocks many_seats seat
     samples = h.lawful.samples;
     kinds = h.lawful.kinds;
     used = λ q alive first. ap (λ slots. is_used (record (stage_of w) { used = slots }) (instance_at w q).event) used ∙ h.lawful.used q alive first;
+    placed = h.lawful.placed;
   };
   seated = seated;
   small = record { counts = h.small.counts; times = h.small.times; ran = h.small.ran; folded_ran = h.small.folded_ran; clocks = clocks; lost = h.small.lost; ids = subst (λ n. n < 2 ^ 63) (sym next) h.small.ids };
@@ -143,7 +149,7 @@ pub own-stage : OwnLaw
 own-stage hw w k o h there = instance-stage (λ i. record i { own = o }) (λ live e. refl) w k h.numbered there
 
 pub own-kept : OwnKeptLaw
-own-kept hw w k o there error h = instance-kept (λ i. record i { own = o }) (λ live e. refl) hw w k there error refl h
+own-kept hw w k o there error h = instance-kept (λ i. record i { own = o }) (λ live e. refl) hw w k there error refl refl h
 
 -- the laws of quiet fields, standings and lost counts
 pub standing-stage : StandingLaw
@@ -168,7 +174,7 @@ standing-kept hw w k s there h = record {
   numbered = h.numbered;
   apart = h.apart;
   fitting = h.fitting;
-  lawful = record { errors = h.lawful.errors; samples = h.lawful.samples; kinds = h.lawful.kinds; used = h.lawful.used };
+  lawful = record { errors = h.lawful.errors; samples = h.lawful.samples; kinds = h.lawful.kinds; used = h.lawful.used; placed = h.lawful.placed };
   seated = h.seated;
   small = record { counts = h.small.counts; times = h.small.times; ran = h.small.ran; folded_ran = h.small.folded_ran; clocks = h.small.clocks; lost = h.small.lost; ids = h.small.ids };
 }
@@ -215,7 +221,7 @@ lost-kept hw w k low h =
       numbered = h.numbered;
       apart = h.apart;
       fitting = h.fitting;
-      lawful = record { errors = h.lawful.errors; samples = h.lawful.samples; kinds = h.lawful.kinds; used = h.lawful.used };
+      lawful = record { errors = h.lawful.errors; samples = h.lawful.samples; kinds = h.lawful.kinds; used = h.lawful.used; placed = h.lawful.placed };
       seated = h.seated;
       small = record {
         counts = h.small.counts;
@@ -237,7 +243,7 @@ pub ring-kept : RingKeptLaw
 ring-kept hw w k ring owner there h =
     let f : Instance → Instance = λ i. record i { ring = Some ring; mapped = owner } in
     let t : World = with_instance f k w in
-    let kept : IsKept hw t = instance-kept f (λ live e. refl) hw w k there (h.lawful.errors k there) refl h in
+    let kept : IsKept hw t = instance-kept f (λ live e. refl) hw w k there (h.lawful.errors k there) refl refl h in
     quiet-kept hw t (record w.quiet { mapped = if owner then remember ring w.quiet.mapped else w.quiet.mapped }) refl refl
     (record { running = kept.shape.running; tasks = kept.shape.tasks; contexts = kept.shape.contexts })
     (record { live = kept.running.live; once = kept.running.once }) kept.small.clocks kept.tables.clocks kept.tables.seats kept.seated kept

@@ -119,7 +119,7 @@ leaders-kept hw w c f low same h =
       numbered = h.numbered;
       apart = h.apart;
       fitting = h.fitting;
-      lawful = record { errors = h.lawful.errors; samples = h.lawful.samples; kinds = h.lawful.kinds; used = h.lawful.used };
+      lawful = record { errors = h.lawful.errors; samples = h.lawful.samples; kinds = h.lawful.kinds; used = h.lawful.used; placed = h.lawful.placed };
       seated = h.seated;
       small = record {
         counts = h.small.counts;

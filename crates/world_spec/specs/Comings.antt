@@ -35,10 +35,11 @@ pub record MayCome (hw : Hardware) (w : World) (k : Key) (n : Newcomer) : Type 0
   pub fitting : AreFitting hw (new_kinds w n n.leader)
   pub room : w.quiet.next_id + 1 < 2 ^ 63
 
--- The slot of a new original was not used. A copy and its original, which is there, stand in contexts of tasks, and there are fewer than
--- 4,096 copies.
+-- The slot of a new original was not used, and its context is the one that its attribute names. A copy and its
+-- original, which is there, stand in contexts of tasks, and there are fewer than 4,096 copies.
 pub record IsOfOriginal (w : World) (n : Newcomer) : Type 0 where
   pub unused : n.copy ≡ false → is_used (stage_of w) n.event ≡ false
+  pub placed : n.copy ≡ false → n.context ≡ context_of n.attr
   pub of_task : n.copy ≡ true → is_of_task n.context ≡ true
   pub few : n.copy ≡ true → copies_in w.families < 4096
   pub original : n.copy ≡ true → (j : Key) × (is_original_in (post_at w) n.event.0 j ≡ true) × (is_of_task (entry_at w j).context ≡ true)

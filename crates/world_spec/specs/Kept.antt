@@ -17,6 +17,7 @@ use Rattle.stage_spec.specs.Fits.{fits}
 use Rattle.stage_spec.specs.Hardware.{Hardware, is_software, mask_of, counters_of}
 use Rattle.stage_spec.specs.Limits.{HasShape}
 use Rattle.stage_spec.specs.Opening.{is_used, is_other_pmu}
+use Rattle.stage_spec.specs.Places.{context_of}
 use Rattle.stage_spec.specs.Reading.{is_error}
 use Rattle.stage_spec.specs.Shares.{no_sums}
 use Rattle.stage_spec.specs.Stage.{place_of}
@@ -145,12 +146,14 @@ pub record AreSmall (w : World) : Type 0 where
   pub lost : (slot : ℕ) → slice_index_or w.lost slot 0 < 2 ^ 63
   pub ids : w.quiet.next_id < 2 ^ 63
 
--- Only a leader is in error; sample bits are known; a hardware kind is one of the machine's; the slot of an original was used.
+-- Only a leader is in error; sample bits are known; a hardware kind is one of the machine's; the slot of an original
+-- was used; and each original stands in the context that its attribute names.
 pub record AreLawful (w : World) : Type 0 where
   pub errors : (k : Key) → is_live w k ≡ true → is_error (instance_at w k).own ≡ true → is_key k (entry_at w k).leader ≡ true
   pub samples : (k : Key) → is_live w k ≡ true → has_unknown_sample (instance_at w k).attr ≡ false
   pub kinds : (k : Key) → is_live w k ≡ true → IsKind (length w.hardware.kind_pmus) (instance_at w k).attr.kind
   pub used : (k : Key) → is_live w k ≡ true → (instance_at w k).copy ≡ false → is_used (stage_of w) (instance_at w k).event ≡ true
+  pub placed : (k : Key) → is_live w k ≡ true → (instance_at w k).copy ≡ false → (entry_at w k).context ≡ context_of (instance_at w k).attr
 
 -- The copies of a family stand by rising ids, and those of all families are 4,096 at most.
 abbrev pub copies_in : List Family → ℕ

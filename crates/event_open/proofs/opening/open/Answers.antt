@@ -10,20 +10,20 @@ use Rattle.event_open.proofs.Joining.{may-add, may-come}
 use Rattle.event_open.proofs.Others.{IsOpened, is-opened, not-among}
 use Rattle.event_open.proofs.opening.open.Goals as goal
 
-pub add-requires : goal.add-requires
-add-requires c =
+pub add-requires-clause-may : goal.add-requires-clause-may
+add-requires-clause-may c =
     subst (λ n. MayAdd c.args.world.now n) (λ i. newcomer c.args.event c.args.attr.now (sym c.leader_of-first.ensures i) None (sym c.context_of-context.ensures i))
-    (may-add c.args.world.now c.args.event c.args.attr.now c.args.leader c.cpus_with-cpus.ensures.kept c.requires.placed c.requires.slot c.requires.attr c.cpus_with-cpus.ensures.few c.requires.room c.in_ok-check_open.ensures.ok)
+    (may-add c.args.world.now c.args.event c.args.attr.now c.args.leader c.cpus_with-cpus.ensures.kept c.requires.slot c.requires.attr c.cpus_with-cpus.ensures.few c.requires.room c.in_ok-check_open.ensures.ok)
 
 pub returns : goal.returns
 returns c =
     let w : World = c.args.world.now in
     let may : MayAdd w (opened_as w c.args.event c.args.attr.now c.args.leader) =
-    may-add w c.args.event c.args.attr.now c.args.leader c.cpus_with-cpus.ensures.kept c.requires.placed c.requires.slot c.requires.attr c.cpus_with-cpus.ensures.few c.requires.room c.in_ok-check_open.ensures.ok in
+    may-add w c.args.event c.args.attr.now c.args.leader c.cpus_with-cpus.ensures.kept c.requires.slot c.requires.attr c.cpus_with-cpus.ensures.few c.requires.room c.in_ok-check_open.ensures.ok in
     let now : c.add.new.self ≡ add c.add.result (opened_as w c.args.event c.args.attr.now c.args.leader) w =
     c.add.ensures.world ∙ (λ i. add c.add.result (newcomer c.args.event c.args.attr.now (c.leader_of-first.ensures i) None (c.context_of-context.ensures i)) w) in
     let o : IsOpened w c.add.new.self c.args.event c.args.attr.now c.args.leader =
-    is-opened w c.add.new.self c.args.event c.args.attr.now c.args.leader c.add.result c.cpus_with-cpus.ensures.kept c.requires.placed may c.in_ok-check_open.ensures.ok c.add.ensures.fresh now in
+    is-opened w c.add.new.self c.args.event c.args.attr.now c.args.leader c.add.result c.cpus_with-cpus.ensures.kept may c.in_ok-check_open.ensures.ok c.add.ensures.fresh now in
     record {
       accepted = c.in_ok-check_open.ensures.ok;
       refused = search rules;
@@ -37,7 +37,6 @@ returns c =
             (may-come w (opened_as w c.args.event c.args.attr.now c.args.leader) c.add.result may c.add.ensures.fresh) may.group);
       };
       stage = o.stage;
-      placed = o.placed;
       processors = search rules;
       within = search rules;
       others = λ cpu low out. o.others cpu (omega (arith, low, c.cpus_with-cpus.ensures.few)) (not-among w cpu c.context_of-context.result (places.context_of c.args.attr.now) _ (c.cpus_with-cpus.ensures.there cpu) c.context_of-context.ensures low out);

@@ -5,17 +5,20 @@ use Rattle.stage_spec.specs.Forks.{copied_state}
 use Rattle.world_spec.specs.Adding.{Newcomer, add}
 use Rattle.world_spec.specs.Changes.{set_own}
 use Rattle.world_spec.specs.Copying.{copy_from}
-use Rattle.world_spec.specs.Value.{World, is_live, instance_at}
+use Rattle.world_spec.specs.Value.{World, is_live, instance_at, family_of}
 use Rattle.perf_world.specs.Parts.{MayAdd, newcomer}
 use Rattle.fork_inherit.proofs.Single.{same-newcomer, has-come}
 use Rattle.fork_inherit.proofs.copying.inherit.Goals as goal
 
-pub add-copy-requires : goal.add-copy-requires
-add-copy-requires c =
+pub add-copy-requires-clause-may : goal.add-copy-requires-clause-may
+add-copy-requires-clause-may c =
     subst (MayAdd c.args.world.now)
     (sym (same-newcomer c.args.world.now.hardware c.args.world.now (instance_at c.args.world.now c.args.key) c.event_of-event.result c.attr-attr.result c.attr.result.period c.origin-origin.result c.args.child c.args.leader
     c.pmus-pmus.ensures.kept c.event_of-event.ensures c.attr-attr.ensures (ap (λ (a : Attr). a.period) c.attr.ensures) c.origin-origin.ensures.origin))
     c.requires.may
+
+pub add-copy-requires-clause-origin : goal.add-copy-requires-clause-origin
+add-copy-requires-clause-origin c = ap (λ e. (family_of c.args.world.now e).original) c.event_of-event.ensures ∙ c.origin-origin.ensures.origin
 
 pub set_own-requires-clause-live : goal.set_own-requires-clause-live
 set_own-requires-clause-live c =

@@ -1,11 +1,7 @@
-use Rattle.event_open.proofs.InPlace.{sound-in_place}
 use Rattle.event_open.specs.Opened.{opened_as, IsOpenedAs}
 use Rattle.line_steps.proofs.Opening.{untouched, is-ready, is-done}
 use Rattle.line_steps.proofs.Refused.{refused-line}
 use Rattle.line_steps.proofs.tools.open.Goals as goal
-
-pub open-requires-clause-placed : goal.open-requires-clause-placed
-open-requires-clause-placed g c = sound-in_place c.args.world.now c.pmus-pmus.ensures.kept c.requires.ready.sound
 
 pub resched_each-requires : goal.resched_each-requires
 resched_each-requires g c =

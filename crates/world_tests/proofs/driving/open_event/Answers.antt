@@ -1,11 +1,7 @@
 use Rattle.perf_base.specs.declared.lines.ToolLine.TheVariants as line
-use Rattle.event_open.proofs.InPlace.{sound-in_place}
 use Rattle.event_open.specs.Opened.{opened_as}
 use Rattle.world_tests.proofs.Steady.{asked, come-hardware, tool-steady}
 use Rattle.world_tests.proofs.driving.open_event.Goals as goal
-
-pub open-requires-clause-placed : goal.open-requires-clause-placed
-open-requires-clause-placed c = sound-in_place c.args.world.now c.pmus-pmus.ensures.kept c.requires.steady.sound
 
 pub open-requires-clause-attr : goal.open-requires-clause-attr
 open-requires-clause-attr c = asked c.args.world.now c.args.attr.now c.requires.steady (c.is_asked.ensures c.if-not-is_asked.false)

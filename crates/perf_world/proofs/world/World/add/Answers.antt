@@ -18,7 +18,7 @@ use Rattle.perf_world.proofs.world.World.add.Goals as goal
 
 pub join-key-requires-clause-events : goal.join-key-requires-clause-events
 join-key-requires-clause-events c =
-    let h : MayAdd (seen c.self.inside.pmus c.self.inside.events c.self.inside.contexts c.self.inside.families c.self.inside.processors c.self.inside.tasks c.self.inside.used c.self.inside.mapped c.self.inside.next_id) (newcomer c.args.event c.args.attr.now c.args.leader c.args.origin c.args.context) = subst (λ w. MayAdd w (newcomer c.args.event c.args.attr.now c.args.leader c.args.origin c.args.context)) (sym c.self.view_is) c.requires in
+    let h : MayAdd (seen c.self.inside.pmus c.self.inside.events c.self.inside.contexts c.self.inside.families c.self.inside.processors c.self.inside.tasks c.self.inside.used c.self.inside.mapped c.self.inside.next_id) (newcomer c.args.event c.args.attr.now c.args.leader c.args.origin c.args.context) = subst (λ w. MayAdd w (newcomer c.args.event c.args.attr.now c.args.leader c.args.origin c.args.context)) (sym c.self.view_is) c.requires.may in
     elim (cases_Bool (is_some c.args.origin)) [
       | inl copy ↦ room-for-copy c.self.inside.pmus (seen c.self.inside.pmus c.self.inside.events c.self.inside.contexts c.self.inside.families c.self.inside.processors c.self.inside.tasks c.self.inside.used c.self.inside.mapped c.self.inside.next_id) c.self.invariant (h.original.few copy)
       | inr first ↦ room-for-original c.self.inside.pmus (seen c.self.inside.pmus c.self.inside.events c.self.inside.contexts c.self.inside.families c.self.inside.processors c.self.inside.tasks c.self.inside.used c.self.inside.mapped c.self.inside.next_id) c.self.invariant c.args.event h.slot (h.original.unused first)
@@ -29,12 +29,12 @@ join-key-requires-clause-new c k dead = unlisted c.self.inside.pmus (seen c.self
 
 pub join-key-requires-clause-room : goal.join-key-requires-clause-room
 join-key-requires-clause-room c =
-    let h : MayAdd (seen c.self.inside.pmus c.self.inside.events c.self.inside.contexts c.self.inside.families c.self.inside.processors c.self.inside.tasks c.self.inside.used c.self.inside.mapped c.self.inside.next_id) (newcomer c.args.event c.args.attr.now c.args.leader c.args.origin c.args.context) = subst (λ w. MayAdd w (newcomer c.args.event c.args.attr.now c.args.leader c.args.origin c.args.context)) (sym c.self.view_is) c.requires in
+    let h : MayAdd (seen c.self.inside.pmus c.self.inside.events c.self.inside.contexts c.self.inside.families c.self.inside.processors c.self.inside.tasks c.self.inside.used c.self.inside.mapped c.self.inside.next_id) (newcomer c.args.event c.args.attr.now c.args.leader c.args.origin c.args.context) = subst (λ w. MayAdd w (newcomer c.args.event c.args.attr.now c.args.leader c.args.origin c.args.context)) (sym c.self.view_is) c.requires.may in
     list-room c.self.inside.pmus (seen c.self.inside.pmus c.self.inside.events c.self.inside.contexts c.self.inside.families c.self.inside.processors c.self.inside.tasks c.self.inside.used c.self.inside.mapped c.self.inside.next_id) c.self.invariant (is_pinned c.new_instance-instance.result.attr) (place_of c.args.context) c.args.event.0 h.slot h.first_there
 
 pub enter_family-requires-clause-copies : goal.enter_family-requires-clause-copies
 enter_family-requires-clause-copies c copy =
-    let h : MayAdd (seen c.self.inside.pmus c.self.inside.events c.self.inside.contexts c.self.inside.families c.self.inside.processors c.self.inside.tasks c.self.inside.used c.self.inside.mapped c.self.inside.next_id) (newcomer c.args.event c.args.attr.now c.args.leader c.args.origin c.args.context) = subst (λ w. MayAdd w (newcomer c.args.event c.args.attr.now c.args.leader c.args.origin c.args.context)) (sym c.self.view_is) c.requires in
+    let h : MayAdd (seen c.self.inside.pmus c.self.inside.events c.self.inside.contexts c.self.inside.families c.self.inside.processors c.self.inside.tasks c.self.inside.used c.self.inside.mapped c.self.inside.next_id) (newcomer c.args.event c.args.attr.now c.args.leader c.args.origin c.args.context) = subst (λ w. MayAdd w (newcomer c.args.event c.args.attr.now c.args.leader c.args.origin c.args.context)) (sym c.self.view_is) c.requires.may in
     copies-room c.self.inside.pmus (seen c.self.inside.pmus c.self.inside.events c.self.inside.contexts c.self.inside.families c.self.inside.processors c.self.inside.tasks c.self.inside.used c.self.inside.mapped c.self.inside.next_id) c.self.invariant c.args.event.0 (place_of c.args.context) h.place h.first_there
 
 pub invariant_of-self : goal.invariant_of-self
@@ -44,7 +44,7 @@ invariant_of-self c =
     ∙ (added c.self.inside.pmus c.self.inside.events c.self.inside.contexts c.self.inside.families c.self.inside.processors c.self.inside.tasks c.self.inside.used c.self.inside.mapped c.self.inside.next_id c.join-key.result c.args.event c.args.attr.now c.args.leader c.args.origin c.args.context
     ∙ ap (add c.join-key.result (newcomer c.args.event c.args.attr.now c.args.leader c.args.origin c.args.context)) c.self.view_is))
     (added-kept c.join-key.result c.args.event c.args.attr.now c.args.leader c.args.origin c.args.context c.args.self.now
-    (add-kept c.args.self.now.hardware c.args.self.now c.join-key.result (newcomer c.args.event c.args.attr.now c.args.leader c.args.origin c.args.context) (may-come c.args.self.now (newcomer c.args.event c.args.attr.now c.args.leader c.args.origin c.args.context) c.join-key.result c.requires fresh) c.requires.original c.requires.group (kept-now (seen c.self.inside.pmus c.self.inside.events c.self.inside.contexts c.self.inside.families c.self.inside.processors c.self.inside.tasks c.self.inside.used c.self.inside.mapped c.self.inside.next_id) c.args.self.now c.self.view_is c.self.invariant)))
+    (add-kept c.args.self.now.hardware c.args.self.now c.join-key.result (newcomer c.args.event c.args.attr.now c.args.leader c.args.origin c.args.context) (may-come c.args.self.now (newcomer c.args.event c.args.attr.now c.args.leader c.args.origin c.args.context) c.join-key.result c.requires.may fresh) c.requires.may.original c.requires.may.group (kept-now (seen c.self.inside.pmus c.self.inside.events c.self.inside.contexts c.self.inside.families c.self.inside.processors c.self.inside.tasks c.self.inside.used c.self.inside.mapped c.self.inside.next_id) c.args.self.now c.self.view_is c.self.invariant)))
 
 pub returns-clause-stage : goal.returns-clause-stage
 returns-clause-stage c =
@@ -52,4 +52,4 @@ returns-clause-stage c =
     ap stage_of ((λ i. seen c.self.inside.pmus ((c.join-key.ensures.events ∙ ap (λ x. joined_events c.join-key.result x c.args.context c.args.leader c.self.inside.events) (c.new_instance-instance.ensures ∙ ap (λ copy. record (new_instance (seen c.self.inside.pmus c.self.inside.events c.self.inside.contexts c.self.inside.families c.self.inside.processors c.self.inside.tasks c.self.inside.used c.self.inside.mapped c.self.inside.next_id) (newcomer c.args.event c.args.attr.now c.args.leader c.args.origin c.args.context)) { copy = copy }) c.is_some-copy.ensures)) i) ((c.join-key.ensures.contexts ∙ ap (λ x. joined_contexts c.join-key.result x c.args.context c.args.leader c.self.inside.contexts) (c.new_instance-instance.ensures ∙ ap (λ copy. record (new_instance (seen c.self.inside.pmus c.self.inside.events c.self.inside.contexts c.self.inside.families c.self.inside.processors c.self.inside.tasks c.self.inside.used c.self.inside.mapped c.self.inside.next_id) (newcomer c.args.event c.args.attr.now c.args.leader c.args.origin c.args.context)) { copy = copy }) c.is_some-copy.ensures)) i) ((c.enter_family.ensures.families ∙ ap (λ b. with_family c.args.event.0 (in_family b c.join-key.result) c.self.inside.families) c.is_some-copy.ensures) i) c.self.inside.processors c.self.inside.tasks ((c.enter_family.ensures.used ∙ ap (λ b. if b then c.self.inside.used else c.self.inside.used ++ c.args.event ∷ []) c.is_some-copy.ensures) i) c.self.inside.mapped (c.self.inside.next_id + 1))
     ∙ (added c.self.inside.pmus c.self.inside.events c.self.inside.contexts c.self.inside.families c.self.inside.processors c.self.inside.tasks c.self.inside.used c.self.inside.mapped c.self.inside.next_id c.join-key.result c.args.event c.args.attr.now c.args.leader c.args.origin c.args.context
     ∙ ap (add c.join-key.result (newcomer c.args.event c.args.attr.now c.args.leader c.args.origin c.args.context)) c.self.view_is))
-    ∙ add-stage c.args.self.now.hardware c.args.self.now c.join-key.result (newcomer c.args.event c.args.attr.now c.args.leader c.args.origin c.args.context) (kept-now (seen c.self.inside.pmus c.self.inside.events c.self.inside.contexts c.self.inside.families c.self.inside.processors c.self.inside.tasks c.self.inside.used c.self.inside.mapped c.self.inside.next_id) c.args.self.now c.self.view_is c.self.invariant) (may-come c.args.self.now (newcomer c.args.event c.args.attr.now c.args.leader c.args.origin c.args.context) c.join-key.result c.requires fresh) c.requires.group
+    ∙ add-stage c.args.self.now.hardware c.args.self.now c.join-key.result (newcomer c.args.event c.args.attr.now c.args.leader c.args.origin c.args.context) (kept-now (seen c.self.inside.pmus c.self.inside.events c.self.inside.contexts c.self.inside.families c.self.inside.processors c.self.inside.tasks c.self.inside.used c.self.inside.mapped c.self.inside.next_id) c.args.self.now c.self.view_is c.self.invariant) (may-come c.args.self.now (newcomer c.args.event c.args.attr.now c.args.leader c.args.origin c.args.context) c.join-key.result c.requires.may fresh) c.requires.may.group
