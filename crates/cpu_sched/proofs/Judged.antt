@@ -104,35 +104,43 @@ counted-on (g ∷ gs) =
     (λ i. sym (filter-both (λ x. is_ready x.own) is_hardware (members_of g)) i ++ counted-on gs i) ∙ sym (filter-append is_hardware ready rest)
 
 -- all leaders of a processor are told
-abbrev all_verdicts : World → CpuNo → List Judged
+abbrev pub all_verdicts : World → CpuNo → List Judged
 all_verdicts v cpu = judge_passes v.hardware [] (map (filter (is_eligible v.hardware cpu)) (map (map (group_at v)) (pass_leaders v cpu)))
 
 abbrev pub is_tallied : World → World → CpuNo → SoFar → Type 0
 is_tallied v w cpu f =
     tally_in w cpu f ≡ fold (tell_pass v.hardware cpu (group_at v)) (tally_in v cpu (record { exclusive_on = None; first_on = None; refused = None })) (pass_leaders v cpu)
 
+-- no group is told yet
+pub none-told : (v : World) (cpu : CpuNo) → (seats_at v cpu).events ≡ [] → Stands v cpu v.standings [] [] [] (tally_in v cpu (record { exclusive_on = None; first_on = None; refused = None }))
+none-told v cpu empty = record {
+  groups = refl;
+  standings = λ q some. absurd (omega (arith, some));
+  others = λ q none. refl;
+  events = empty;
+  exclusive = refl;
+  first = refl;
+  refused = refl;
+}
+
+pub all-verdicts : (v : World) (cpu : CpuNo) → all_verdicts v cpu ≡ verdicts v.hardware (stage_of v) cpu
+unfolding verdicts
+all-verdicts v cpu = ap (λ ps. judge_passes v.hardware [] (map (filter (is_eligible v.hardware cpu)) ps)) (sym (passes-are v cpu))
+
 all-told : (v w : World) (cpu : CpuNo) (f : SoFar) → IsKept v.hardware v → (seats_at v cpu).events ≡ [] → is_tallied v w cpu f
     → Stands v cpu v.standings (reached_leaders v cpu) (all_verdicts v cpu) [] (tally_in w cpu f)
 all-told v w cpu f kept empty tally =
     subst (Stands v cpu v.standings (reached_leaders v cpu) (all_verdicts v cpu) []) (sym tally)
-    (passes-told v cpu v.standings (pass_leaders v cpu) [] [] (tally_in v cpu (record { exclusive_on = None; first_on = None; refused = None })) kept (reached-leading v.hardware v kept cpu) (reached-once v.hardware v kept cpu) (record {
-      groups = refl;
-      standings = λ q some. absurd (omega (arith, some));
-      others = λ q none. refl;
-      events = empty;
-      exclusive = refl;
-      first = refl;
-      refused = refl;
-    }))
+    (passes-told v cpu v.standings (pass_leaders v cpu) [] [] (tally_in v cpu (record { exclusive_on = None; first_on = None; refused = None })) kept (reached-leading v.hardware v kept cpu) (reached-once v.hardware v kept cpu)
+    (none-told v cpu empty))
 
 pub all-judged : (v w : World) (cpu : CpuNo) (f : SoFar) → IsKept v.hardware v → IsKept v.hardware w → cpu.0 < length v.quiet.seats → w ≡ retold cpu v w → (seats_at v cpu).events ≡ []
     → is_tallied v w cpu f → IsJudged v.hardware w cpu
-unfolding verdicts
 all-judged v w cpu f kept kept_now low is empty tally =
     let hw : Hardware = v.hardware in
     let h : Stands v cpu v.standings (reached_leaders v cpu) (all_verdicts v cpu) [] (tally_in w cpu f) = all-told v w cpu f kept empty tally in
     let whole : all_verdicts v cpu ++ [] ≡ verdicts hw (stage_of v) cpu =
-    append-nil (all_verdicts v cpu) ∙ ap (λ ps. judge_passes hw [] (map (filter (is_eligible hw cpu)) ps)) (sym (passes-are v cpu)) in
+    append-nil (all_verdicts v cpu) ∙ all-verdicts v cpu in
     let judged_now : IsJudged hw (retold cpu v w) cpu = record {
       standings = λ q lead has.
           h.standings q (reached-there hw v cpu kept q lead has) ∙ ap (λ js. standing_among js (group_at v q)) whole;

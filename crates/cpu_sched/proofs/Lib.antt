@@ -5,3 +5,4 @@ pub mod Retold
 pub mod Served
 pub mod Staying
 pub mod Telling
+pub mod Tried

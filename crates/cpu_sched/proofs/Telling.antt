@@ -101,14 +101,14 @@ pub record Stands (v : World) (cpu : CpuNo) (start : FinMap nat_cmp Standing) (t
   pub refused : t.so_far.refused ≡ first_refused within
 
 -- the standing that is told is the definitions'
-told-out : (hw : Hardware) (cpu : CpuNo) (g : Group) (t : Tally) → is_eligible hw cpu g ≡ false → told_of hw cpu g t ≡ standing.Out
+pub told-out : (hw : Hardware) (cpu : CpuNo) (g : Group) (t : Tally) → is_eligible hw cpu g ≡ false → told_of hw cpu g t ≡ standing.Out
 told-out hw cpu g t out =
     ap {B = Standing} (λ b. elim b as (λ c. Standing) [
       | true ↦ by_ruling (ruling_of (is_wholly_software g) (is_exclusive_group g) t.so_far.exclusive_on t.so_far.first_on t.so_far.refused) (t.events ++ with_masks hw (counted_members g))
       | false ↦ standing.Out
     ]) out
 
-told-in : (v : World) (cpu : CpuNo) (start : FinMap nat_cmp Standing) (told : List Key) (before within : List Judged) (t : Tally) (g : Group)
+pub told-in : (v : World) (cpu : CpuNo) (start : FinMap nat_cmp Standing) (told : List Key) (before within : List Judged) (t : Tally) (g : Group)
     → Stands v cpu start told before within t → is_eligible v.hardware cpu g ≡ true → told_of v.hardware cpu g t ≡ judge v.hardware before within g
 unfolding judge
 told-in v cpu start told before within t g h eligible =
@@ -222,7 +222,7 @@ step-in v cpu start told before within t k s kept all lead none h in_it =
     }
 
 -- one group, eligible or not
-step : (v : World) (cpu : CpuNo) (start : FinMap nat_cmp Standing) (told : List Key) (before within : List Judged) (t : Tally) (k : Key) (b : Bool)
+pub step : (v : World) (cpu : CpuNo) (start : FinMap nat_cmp Standing) (told : List Key) (before within : List Judged) (t : Tally) (k : Key) (b : Bool)
     → IsKept v.hardware v → AreLeading v told → leads (post_at v) k ≡ true → times k told ≡ 0 → Stands v cpu start told before within t → is_eligible v.hardware cpu (group_at v k) ≡ b
     → Stands v cpu start (told ++ k ∷ []) before (cond b (within ++ judged (group_at v k) (judge v.hardware before within (group_at v k)) ∷ []) within) (tell v.hardware cpu (group_at v) t k)
 step v cpu start told before within t k true kept all lead none h is =
@@ -233,7 +233,7 @@ step v cpu start told before within t k false kept all lead none h is =
     subst (λ s. Stands v cpu start (told ++ k ∷ []) before within (with_told v.hardware (group_at v k) k s t)) (sym (told-out v.hardware cpu (group_at v k) t is))
     (step-out v cpu start told before within t k kept all lead none h is)
 
-judge-next : (v : World) (cpu : CpuNo) (before within : List Judged) (k : Key) (keys : List Key) (b : Bool) → is_eligible v.hardware cpu (group_at v k) ≡ b
+pub judge-next : (v : World) (cpu : CpuNo) (before within : List Judged) (k : Key) (keys : List Key) (b : Bool) → is_eligible v.hardware cpu (group_at v k) ≡ b
     → judge_pass v.hardware before within (filter (is_eligible v.hardware cpu) (map (group_at v) (k ∷ keys)))
     ≡ judge_pass v.hardware before (cond b (within ++ judged (group_at v k) (judge v.hardware before within (group_at v k)) ∷ []) within) (filter (is_eligible v.hardware cpu) (map (group_at v) keys))
 unfolding judge_pass
@@ -242,22 +242,22 @@ judge-next v cpu before within k keys true is =
 judge-next v cpu before within k keys false is =
     ap (λ b. judge_pass v.hardware before within (cond b (group_at v k ∷ filter (is_eligible v.hardware cpu) (map (group_at v) keys)) (filter (is_eligible v.hardware cpu) (map (group_at v) keys)))) is
 
-judge-none : (hw : Hardware) (before within : List Judged) → judge_pass hw before within [] ≡ within
+pub judge-none : (hw : Hardware) (before within : List Judged) → judge_pass hw before within [] ≡ within
 unfolding judge_pass
 judge-none hw before within = refl
 
 -- the leaders of a list that begins with some and goes on with one
-seam : (told : List Key) (k : Key) (keys : List Key) → told ++ (k ∷ keys) ≡ (told ++ k ∷ []) ++ keys
+pub seam : (told : List Key) (k : Key) (keys : List Key) → told ++ (k ∷ keys) ≡ (told ++ k ∷ []) ++ keys
 seam told k keys = sym (append_assoc told (k ∷ []) keys)
 
-first-of_all : (told keys : List Key) (q : Key) → times q told ≤ times q (told ++ keys)
+pub first-of_all : (told keys : List Key) (q : Key) → times q told ≤ times q (told ++ keys)
 first-of_all told keys q = omega (arith, count-append (is_key q) told keys)
 
-next-fresh : (told : List Key) (k : Key) (keys : List Key) → times k (told ++ (k ∷ keys)) ≤ 1 → times k told ≡ 0
+pub next-fresh : (told : List Key) (k : Key) (keys : List Key) → times k (told ++ (k ∷ keys)) ≤ 1 → times k told ≡ 0
 next-fresh told k keys few =
     omega (arith, few, count-append (is_key k) told (k ∷ keys), count-cons (is_key k) k keys, once-true (is_key k k) (is_key-same k k refl))
 
-next-some : (told : List Key) (k : Key) (keys : List Key) → 1 ≤ times k (told ++ (k ∷ keys))
+pub next-some : (told : List Key) (k : Key) (keys : List Key) → 1 ≤ times k (told ++ (k ∷ keys))
 next-some told k keys = omega (arith, count-append (is_key k) told (k ∷ keys), count-cons (is_key k) k keys, once-true (is_key k k) (is_key-same k k refl))
 
 -- the groups of a pass
@@ -293,11 +293,11 @@ pass-over v cpu start told before within t h =
       refused = refl;
     }
 
-judges-next : (hw : Hardware) (before : List Judged) (p : List Group) (ps : List (List Group)) → judge_passes hw before (p ∷ ps) ≡ judge_passes hw (before ++ judge_pass hw before [] p) ps
+pub judges-next : (hw : Hardware) (before : List Judged) (p : List Group) (ps : List (List Group)) → judge_passes hw before (p ∷ ps) ≡ judge_passes hw (before ++ judge_pass hw before [] p) ps
 unfolding judge_passes
 judges-next hw before p ps = refl
 
-judges-none : (hw : Hardware) (before : List Judged) → judge_passes hw before [] ≡ before
+pub judges-none : (hw : Hardware) (before : List Judged) → judge_passes hw before [] ≡ before
 unfolding judge_passes
 judges-none hw before = refl
 

@@ -1,6 +1,6 @@
 -- How the groups of a processor are judged one after the other, by what those before leave. After ctx_sched_in, merge_sched_in and
 -- group_can_go_on of kernel/events/core.c; the tally is this project's own profile.
-use Rattle.std.specs.Prelude.{◌≡◌, ℕ, Bool, true, false, not, ◌&&◌, List, ◌++◌, Option, Some, None, if◌then◌else◌}
+use Rattle.std.specs.Prelude.{◌≡◌, ℕ, ◌+◌, Bool, true, false, not, ◌&&◌, List, [], ◌∷◌, ◌++◌, Option, Some, None, if◌then◌else◌}
 use Rattle.std.specs.FinMap.{FinMap, insert}
 use Rattle.std.specs.List.{fold}
 use Rattle.std.specs.Ordering.{nat_cmp}
@@ -18,6 +18,7 @@ use Rattle.world_spec.specs.Changes.{with_seats}
 use Rattle.world_spec.specs.StageOf.{group_at}
 use Rattle.world_spec.specs.Value.{World, seats_at}
 use Rattle.cpu_sched.specs.declared.judging.SoFar.{SoFar}
+use Rattle.cpu_sched.specs.Tried.{tries}
 
 -- the name that is there, or the one that comes where a test holds
 abbrev pub first_or : Bool → EventNo → Option EventNo → Option EventNo
@@ -66,6 +67,16 @@ next_pass t = record t { so_far = record t.so_far { refused = None } }
 
 abbrev pub tell_pass : Hardware → CpuNo → (Key → Group) → Tally → List Key → Tally
 tell_pass hw cpu group t keys = next_pass (fold (tell hw cpu group) t keys)
+
+-- for how many events of some leaders' groups counters are tried, each group judged after those before it; and so pass
+-- after pass
+abbrev pub tried_in : Hardware → CpuNo → (Key → Group) → Tally → List Key → ℕ
+tried_in hw cpu group t [] = 0
+tried_in hw cpu group t (k ∷ keys) = tries (told_of hw cpu (group k) t) (group k) + tried_in hw cpu group (tell hw cpu group t k) keys
+
+abbrev pub tried_passes : Hardware → CpuNo → (Key → Group) → Tally → List (List Key) → ℕ
+tried_passes hw cpu group t [] = 0
+tried_passes hw cpu group t (keys ∷ passes) = tried_in hw cpu group t keys + tried_passes hw cpu group (tell_pass hw cpu group t keys) passes
 
 -- the tally of a world
 abbrev pub tally_in : World → CpuNo → SoFar → Tally

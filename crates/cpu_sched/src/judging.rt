@@ -1,6 +1,6 @@
 //! How a group is judged after those before it: by the rules, and else by the counters.
 
-ghost use Rattle.std.specs.Prelude.{◌≡◌, ℕ, ◌+◌, ◌<◌, ◌≤◌, ◌++◌, ◌↔◌, ◌&&◌, not, true, All, [], None, length, slice_set, if◌then◌else◌};
+ghost use Rattle.std.specs.Prelude.{◌≡◌, ℕ, ◌+◌, ◌*◌, ◌<◌, ◌≤◌, ◌++◌, ◌↔◌, ◌&&◌, not, true, All, [], None, length, slice_set, if◌then◌else◌};
 ghost use Rattle.perf_base.specs.Masks.{IsMask};
 ghost use Rattle.perf_base.specs.declared.standing.Standing.TheVariants as stands;
 ghost use Rattle.stage_spec.specs.Hardware.{IsHardware};
@@ -14,7 +14,8 @@ ghost use Rattle.world_spec.specs.Kept.{leads, post_at};
 ghost use Rattle.world_spec.specs.StageOf.{group_at};
 ghost use Rattle.world_spec.specs.Value.{seats_at};
 ghost use Rattle.cpu_sched.specs.Briefs.{events_of};
-ghost use Rattle.cpu_sched.specs.Judging.{first_or, noted, events_next, IsTold};
+ghost use Rattle.cpu_sched.specs.Judging.{first_or, noted, events_next, told_of, tally_in, IsTold};
+ghost use Rattle.cpu_sched.specs.Tried.{tries_for, tries};
 
 use crate::brief::{Brief, brief_of};
 use perf_base::{Cause, CpuNo, EventNo, Key, Standing, Steps};
@@ -134,7 +135,8 @@ fn judge<L: Ledger>(
         ((seats_at world.old cpu).events ++ (events_of brief.now.events)) }
     ensures events { (seats_at world.new cpu).events ≡ events_next result (events_of brief.now.events) (seats_at world.old cpu).events }
     ensures world { world.new ≡ change.with_seats cpu (seats_at world.new cpu) world.old }
-    ensures counted { tests.old ≤ tests.new }
+    ensures least { tests.old + (if stands_on result then length (events_of brief.now.events) else 0) ≤ tests.new }
+    ensures most { tests.new ≤ tests.old + 272 * tries_for result (length (events_of brief.now.events)) }
 {
     if let Err(rule) = may_go(&so_far.facts(brief)) {
         return Standing::Refused(Cause::Rule(rule));
@@ -158,7 +160,9 @@ pub fn tell<L: Ledger>(
     requires hardware { IsHardware world.old.hardware }
     requires distinct { AreDistinct ((seats_at world.old cpu).events ++ with_masks world.old.hardware (effective.counted_members (group_at world.old leader))) }
     ensures told { IsTold cpu leader world.old so_far world.new result }
-    ensures counted { tests.old ≤ tests.new }
+    ensures least { tests.old + length (seats_at world.new cpu).events ≤ tests.new + length (seats_at world.old cpu).events }
+    ensures most { tests.new ≤ tests.old
+        + 272 * tries (told_of world.old.hardware cpu (group_at world.old leader) (tally_in world.old cpu so_far)) (group_at world.old leader) }
 {
     if !world.eligible(cpu, leader) {
         world.set_standing(leader, Standing::Out);

@@ -1,7 +1,7 @@
 //! The four passes over the groups of a processor: its own pinned groups and then its task's, its own flexible groups
 //! and then its task's.
 
-ghost use Rattle.std.specs.Prelude.{◌≡◌, ◌+◌, ◌<◌, ◌≤◌, false, [], length, take, flat_map, slice_index_or};
+ghost use Rattle.std.specs.Prelude.{◌≡◌, ◌+◌, ◌*◌, ◌<◌, ◌≤◌, false, [], length, take, flat_map, slice_index_or};
 ghost use Rattle.counter_match.specs.Seating.{empty_seating};
 ghost use Rattle.world_spec.specs.Changes as change;
 ghost use Rattle.perf_base.specs.declared.standing.Context.TheVariants as context;
@@ -15,8 +15,9 @@ ghost use Rattle.world_spec.specs.StageOf.{group_at, stage_of};
 ghost use Rattle.world_spec.specs.Value.{entry_at, standing_at, seats_at};
 ghost use Rattle.world_spec.specs.Copying.{leaders_in};
 ghost use Rattle.perf_world.specs.Seen.{IsWorld};
-ghost use Rattle.cpu_sched.specs.Judging.{tally_in, tell_pass, retold};
+ghost use Rattle.cpu_sched.specs.Judging.{tally_in, tell_pass, tried_in, retold};
 ghost use Rattle.cpu_sched.specs.Passes.{AreOfTold, told_before};
+ghost use Rattle.cpu_sched.specs.Tried.{tried};
 
 use crate::judging::{SoFar, tell};
 use perf_base::{Context, CpuNo, Key, Steps};
@@ -81,7 +82,9 @@ fn judge_pass<L: Ledger>(
         (slice_index_or (pass_leaders world.old cpu) pass []) }
     ensures world { world.new ≡ retold cpu world.old world.new }
     ensures events { AreOfTold world.new (told_before world.new cpu (pass + 1)) (seats_at world.new cpu).events }
-    ensures counted { tests.old ≤ tests.new }
+    ensures least { tests.old + length (seats_at world.new cpu).events ≤ tests.new + length (seats_at world.old cpu).events }
+    ensures most { tests.new ≤ tests.old + 272 * tried_in world.old.hardware cpu (group_at world.old) (tally_in world.old cpu so_far)
+        (slice_index_or (pass_leaders world.old cpu) pass []) }
 {
     let mut so_far = so_far;
     for place in 0..leaders(world, cpu, pass).len() {
@@ -99,7 +102,8 @@ pub fn judge_all<L: Ledger>(world: &mut World, cpu: CpuNo, tests: &mut Steps<L>)
     ensures others { (k : KeyNo) → has_context (stage_of world.old) cpu (entry_at world.old k).context ≡ false → standing_at world.new k ≡ standing_at world.old k }
     ensures low { cpu.0 < 8 }
     ensures kept { IsWorld world.new }
-    ensures counted { tests.old ≤ tests.new }
+    ensures least { tests.old + length (seats_at world.new cpu).events ≤ tests.new }
+    ensures most { tests.new ≤ tests.old + 272 * tried world.old.hardware (stage_of world.old) cpu }
 {
     world.clear_seats(cpu);
     let _own = own_context(world, cpu);

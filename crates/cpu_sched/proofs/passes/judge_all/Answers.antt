@@ -1,6 +1,7 @@
-use Rattle.std.proofs.Common.{arith, ◌≡◌, ◌∙◌, ◌<◌, length, ap, subst, take}
+use Rattle.std.proofs.Common.{arith, ◌≡◌, ◌∙◌, ◌<◌, [], length, ap, subst, take}
 use Rattle.std.proofs.lemmas.List.{length-set, take_all}
 use Rattle.std.specs.List.{fold}
+use Rattle.std.specs.Prelude.{None}
 use Rattle.counter_match.specs.Seating.{Seated, empty_seating}
 use Rattle.perf_base.specs.declared.numbers.CpuNo.{CpuNo}
 use Rattle.stage_laws.specs.Narrowing.{has_context}
@@ -10,9 +11,11 @@ use Rattle.world_spec.specs.Listings.{pass_leaders}
 use Rattle.world_spec.specs.Rescheduled.{IsJudged}
 use Rattle.world_spec.specs.StageOf.{group_at, stage_of}
 use Rattle.world_spec.specs.Value.{World, entry_at, standing_at, seats_at}
-use Rattle.cpu_sched.specs.Judging.{tally_in, tell_pass}
+use Rattle.cpu_sched.specs.Judging.{tally_in, tell_pass, tried_passes}
+use Rattle.cpu_sched.specs.Tried.{tried}
 use Rattle.cpu_sched.proofs.Judged.{is_tallied, all-judged, others-stand}
 use Rattle.cpu_sched.proofs.Retold.{retold-twice, pass-then, cleared, cleared-at}
+use Rattle.cpu_sched.proofs.Tried.{passes-then, all-tried}
 use Rattle.cpu_sched.proofs.passes.judge_all.Goals as goal
 
 pub loop-pass-preserved : goal.loop-pass-preserved
@@ -21,7 +24,13 @@ loop-pass-preserved g c = record {
   tally = pass-then c.args.cpu c.clear_seats.new.self c.loop-pass.world c.judge_pass-so_far.new.world c.new-so_far.result c.loop-pass.so_far c.judge_pass-so_far.result c.loop-pass.pass
       c.loop-pass-test.true c.loop-pass.invariant.world c.loop-pass.invariant.tally c.judge_pass-so_far.ensures.tally;
   events = c.judge_pass-so_far.ensures.events;
-  counted = omega (arith, c.loop-pass.invariant.counted, c.judge_pass-so_far.ensures.counted);
+  least = omega (arith, c.loop-pass.invariant.least, c.judge_pass-so_far.ensures.least);
+  most = omega (
+    arith,
+    c.loop-pass.invariant.most,
+    c.judge_pass-so_far.ensures.most,
+    passes-then c.args.cpu c.clear_seats.new.self c.loop-pass.world c.new-so_far.result c.loop-pass.so_far c.loop-pass.pass c.loop-pass-test.true c.loop-pass.invariant.world c.loop-pass.invariant.tally,
+  );
 }
 
 -- the seats of the world in which the groups are told
@@ -68,3 +77,31 @@ returns-clause-world g c =
     let low : c.args.cpu.0 < length c.args.world.now.quiet.seats =
     low-before c.args.world.now v c.args.cpu e c.requires c.own_context-own.ensures.kept.tables.seats c.clear_seats.ensures.world in
     retold-twice c.args.cpu c.args.world.now v c.loop-pass.world (cleared c.args.cpu c.args.world.now v e low c.clear_seats.ensures.world) c.loop-pass.invariant.world
+
+-- no event is on the counters that were cleared
+pub returns-clause-least : goal.returns-clause-least
+returns-clause-least g c =
+    let v : World = c.clear_seats.new.self in
+    let e : Seated = empty_seating (seats_at c.args.world.now c.args.cpu).counters in
+    let low : c.args.cpu.0 < length c.args.world.now.quiet.seats =
+    low-before c.args.world.now v c.args.cpu e c.requires c.own_context-own.ensures.kept.tables.seats c.clear_seats.ensures.world in
+    omega (arith, c.loop-pass.invariant.least, ap (λ s. length s.events) (cleared-at c.args.cpu c.args.world.now v e low c.clear_seats.ensures.world))
+
+pub returns-clause-most : goal.returns-clause-most
+returns-clause-most g c =
+    let v : World = c.clear_seats.new.self in
+    let e : Seated = empty_seating (seats_at c.args.world.now c.args.cpu).counters in
+    let low : c.args.cpu.0 < length c.args.world.now.quiet.seats =
+    low-before c.args.world.now v c.args.cpu e c.requires c.own_context-own.ensures.kept.tables.seats c.clear_seats.ensures.world in
+    let empty : (seats_at v c.args.cpu).events ≡ [] = ap (λ s. s.events) (cleared-at c.args.cpu c.args.world.now v e low c.clear_seats.ensures.world) in
+    let all : take c.loop-pass.pass (pass_leaders v c.args.cpu) ≡ pass_leaders v c.args.cpu = take_all c.loop-pass.pass (pass_leaders v c.args.cpu) (omega (arith, c.loop-pass-test.false)) in
+    let whole : tried_passes v.hardware c.args.cpu (group_at v) (tally_in v c.args.cpu c.new-so_far.result) (take c.loop-pass.pass (pass_leaders v c.args.cpu))
+    ≡ tried_passes v.hardware c.args.cpu (group_at v) (tally_in v c.args.cpu (record { exclusive_on = None; first_on = None; refused = None })) (pass_leaders v c.args.cpu) =
+    λ i. tried_passes v.hardware c.args.cpu (group_at v) (tally_in v c.args.cpu (c.new-so_far.ensures i)) (all i) in
+    omega (
+      arith,
+      c.loop-pass.invariant.most,
+      whole,
+      all-tried v c.args.cpu c.own_context-own.ensures.kept empty,
+      ap (λ (w : World). tried w.hardware (stage_of w) c.args.cpu) c.clear_seats.ensures.world,
+    )

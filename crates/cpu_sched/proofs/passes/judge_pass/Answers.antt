@@ -8,12 +8,13 @@ use Rattle.counter_match.specs.Seating.{AreDistinct}
 use Rattle.world_spec.specs.Listings.{pass_leaders}
 use Rattle.world_spec.specs.StageOf.{group_at}
 use Rattle.world_spec.specs.Value.{World, seats_at}
-use Rattle.cpu_sched.specs.Judging.{tally_in, tell}
+use Rattle.cpu_sched.specs.Judging.{tally_in, tell, tried_in}
 use Rattle.std.specs.List.{fold}
 use Rattle.cpu_sched.specs.Passes.{AreOfTold, told_before}
 use Rattle.cpu_sched.proofs.Passing.{leads-at}
 use Rattle.cpu_sched.proofs.Served.{next-distinct}
 use Rattle.cpu_sched.proofs.Retold.{retold-self, retold-twice, retold-list, retold-told, told-then, events-then, next-key, told-next}
+use Rattle.cpu_sched.proofs.Tried.{tried-then}
 use Rattle.cpu_sched.proofs.passes.judge_pass.Goals as goal
 
 pub loop-place-init : goal.loop-place-init
@@ -21,7 +22,8 @@ loop-place-init g c = record {
   world = retold-self c.args.cpu c.args.world.now;
   tally = refl;
   events = subst (λ ks. AreOfTold c.args.world.now ks (seats_at c.args.world.now c.args.cpu).events) (sym (append-nil (told_before c.args.world.now c.args.cpu c.args.pass))) c.requires.events;
-  counted = omega arith;
+  least = omega arith;
+  most = omega arith;
 }
 
 pub leaders-requires-clause-cpu : goal.leaders-requires-clause-cpu
@@ -78,7 +80,14 @@ loop-place-preserved g c =
       events = subst (λ ks. AreOfTold c.args.world.now ks (seats_at c.tell-so_far.new.world c.args.cpu).events) (append_assoc told (take c.loop-place.place keys) (k ∷ []) ∙ ap (λ ks. told ++ ks) (sym next))
           (events-then c.args.cpu c.args.world.now c.loop-place.world c.tell-so_far.new.world c.loop-place.so_far c.tell-so_far.result (told ++ take c.loop-place.place keys) k
           c.loop-place.invariant.world c.loop-place.invariant.events c.tell-so_far.ensures.told);
-      counted = omega (arith, c.loop-place.invariant.counted, c.tell-so_far.ensures.counted);
+      least = omega (arith, c.loop-place.invariant.least, c.tell-so_far.ensures.least);
+      most = omega (
+        arith,
+        c.loop-place.invariant.most,
+        c.tell-so_far.ensures.most,
+        tried-then c.args.cpu c.args.world.now c.loop-place.world c.args.so_far c.loop-place.so_far (take c.loop-place.place keys) k c.loop-place.invariant.world c.loop-place.invariant.tally,
+        ap (tried_in c.args.world.now.hardware c.args.cpu (group_at c.args.world.now) (tally_in c.args.world.now c.args.cpu c.args.so_far)) next,
+      );
     }
 
 pub returns-clause-events : goal.returns-clause-events
@@ -89,3 +98,13 @@ returns-clause-events g c =
     (subst (λ ks. AreOfTold c.args.world.now ks (seats_at c.loop-place.world c.args.cpu).events)
     (ap (λ ks. told_before c.args.world.now c.args.cpu c.args.pass ++ ks) all ∙ sym (told-next c.args.world.now c.args.cpu c.args.pass c.requires.pass))
     c.loop-place.invariant.events)
+
+pub returns-clause-most : goal.returns-clause-most
+returns-clause-most g c =
+    let keys : List Key = slice_index_or (pass_leaders c.args.world.now c.args.cpu) c.args.pass [] in
+    let all : take c.loop-place.place keys ≡ keys = take_all c.loop-place.place keys (omega (arith, c.loop-place-test.false, ap length c.leaders-place-end.ensures.leaders)) in
+    omega (
+      arith,
+      c.loop-place.invariant.most,
+      ap (tried_in c.args.world.now.hardware c.args.cpu (group_at c.args.world.now) (tally_in c.args.world.now c.args.cpu c.args.so_far)) all,
+    )

@@ -1,12 +1,16 @@
-use Rattle.std.proofs.Common.{arith, ◌∙◌, ap, sym, subst}
+use Rattle.std.proofs.Common.{arith, ◌≡◌, ◌∙◌, length, ap, sym, subst, slice_index_or}
 use Rattle.stage_spec.specs.Hardware.{Hardware}
+use Rattle.stage_spec.specs.Replies.{seated}
 use Rattle.stage_spec.specs.Settle.{settle}
+use Rattle.counter_match.specs.Seating.{empty_seating}
 use Rattle.world_spec.specs.Kept.{IsKept}
-use Rattle.world_spec.specs.Rescheduled.{IsRescheduled}
+use Rattle.world_spec.specs.Rescheduled.{IsRescheduled, pinned_leaders}
 use Rattle.world_spec.specs.StageOf.{stage_of}
 use Rattle.world_spec.specs.Value.{World}
+use Rattle.world_spec.proofs.Failing.{failed-rest}
 use Rattle.world_spec.proofs.Rescheduling.{fail-stage, fail-rescheduled}
 use Rattle.cpu_sched.proofs.Staying.{stays-but, others-stay}
+use Rattle.cpu_sched.proofs.Tried.{masks-length}
 use Rattle.cpu_sched.proofs.rescheduling.resched.Goals as goal
 
 pub returns-clause-stage : goal.returns-clause-stage
@@ -42,3 +46,21 @@ returns-clause-rest g c =
     let kept : IsKept hw w = subst (λ h. IsKept h w) (ap (λ (x : World). x.hardware) c.judge_all.ensures.world) c.judge_all.ensures.kept in
     stays-but hw c.args.world.now w c.fail_refused.new.world c.args.cpu
     (record { kept = kept; told = c.judge_all.ensures.world; others = c.judge_all.ensures.others; failed = c.fail_refused.ensures })
+
+-- groups that go to error keep the seats
+pub returns-clause-least : goal.returns-clause-least
+returns-clause-least g c =
+    let hw : Hardware = c.args.world.now.hardware in
+    let w : World = c.judge_all.new.world in
+    let x : World = c.fail_refused.new.world in
+    let kept : IsKept hw w = subst (λ h. IsKept h w) (ap (λ (x : World). x.hardware) c.judge_all.ensures.world) c.judge_all.ensures.kept in
+    let failed : IsRescheduled hw x c.args.cpu =
+    subst (λ (x : World). IsRescheduled hw x c.args.cpu) (sym c.fail_refused.ensures) (fail-rescheduled hw w c.args.cpu c.judge_all.ensures.low kept c.judge_all.ensures.judged) in
+    let quiet : x.quiet ≡ w.quiet = ap (λ (y : World). y.quiet) c.fail_refused.ensures ∙ (failed-rest (pinned_leaders w c.args.cpu) w).1 in
+    omega (
+      arith,
+      c.judge_all.ensures.least,
+      ap length failed.judged.served.events,
+      masks-length hw (seated hw (stage_of x) c.args.cpu),
+      ap (λ q. length (slice_index_or q.seats c.args.cpu.0 (empty_seating 0)).events) quiet,
+    )
