@@ -68,4 +68,4 @@ accounts-unseen hw w accounts cpu h = record {
 
 pub reset-others : (hw : Hardware) (w new : World) (events : List EventNo) (cpu : CpuNo) → IsReset events w new → IsUntouched hw w new cpu
 reset-others hw w new events cpu is =
-    subst (λ v. IsUntouched hw w v cpu) (sym is.world) (record { verdicts = refl; seats = refl; rescheduled = accounts-unseen hw w new.accounts cpu })
+    subst (λ v. IsUntouched hw w v cpu) (sym is.world) (record { briefs = refl; verdicts = refl; seats = refl; rescheduled = accounts-unseen hw w new.accounts cpu })

@@ -134,9 +134,9 @@ pub fn period(world: &mut World, event: EventNo, period: u64) -> Result<(), Reas
 }
 
 /// Closes an event: its copies go, and then the event. Where it led a group each sibling is a group of its own then,
-/// behind the flexible ones, and stands Out. The answer is the processors that must be rescheduled: those of the machine
-/// that reach the event or a copy of it. The others stand as they stood. It fails with `NoEvent` where the event is not
-/// open, and then nothing changes.
+/// behind the flexible ones, and stands Out. The answer is the processors that must be rescheduled: those of the
+/// machine that reach the event or a copy of it. The others stand as they stood. It fails with `NoEvent` where the event
+/// is not open, and then nothing changes.
 pub fn close(world: &mut World, event: EventNo) -> Result<CpuSet, Reason>
     requires { IsSound world.old.hardware (stage_of world.old) }
     ensures refused { IfErr result (λ reason. closed_refusal (stage_of world.old) event ≡ Some reason) }

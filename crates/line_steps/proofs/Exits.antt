@@ -30,7 +30,6 @@ use Rattle.world_spec.specs.Listings.{keys_in}
 use Rattle.world_spec.specs.Rescheduled.{AreRescheduled, AreUntouchedBut, IsRescheduled}
 use Rattle.world_spec.specs.StageOf.{stage_of}
 use Rattle.world_spec.specs.Value.{World, is_live, entry_at, instance_at, account_at, family_of, times}
-use Rattle.world_spec.proofs.Coming.{number_true}
 use Rattle.world_spec.proofs.Moving.{leads-parts}
 use Rattle.exit_fold.specs.Leaving.{leaves, leaving_copies, leaving_sums, HasExited}
 use Rattle.exit_fold.proofs.Copies.{leaving-times, no-one, same-sums}
@@ -43,7 +42,7 @@ use Rattle.step_laws.proofs.Stepping.{stepped}
 use Rattle.line_steps.specs.Settled.{OnlyRescheduled, is_in}
 use Rattle.line_steps.specs.Stepped.{limits_in, IsReady}
 use Rattle.line_steps.specs.Stepped as stepped_line
-use Rattle.line_steps.proofs.Keeping.{filter-below, in-by, none-lost, one-below, same-number, slots-same}
+use Rattle.line_steps.proofs.Keeping.{filter-below, is-alone, none-lost, one-below, slots-same}
 use Rattle.line_steps.proofs.Refused.{accepted-cpu}
 use Rattle.line_steps.proofs.Settling.{one-settled}
 use Rattle.line_steps.proofs.TaskChange.{filter-alike}
@@ -72,11 +71,9 @@ exit-untouched w v cpu set before hardware size others alone other low out =
 pub exit-settled : (v x : World) (cpu : CpuNo) (set : CpuSet) → cpu.0 < length v.quiet.running → ((other : CpuNo) → HasCpu set other ↔ (other.0 ≡ cpu.0))
     → stage_of x ≡ settle_each v.hardware (filter (is_in set) (all_cpus (stage_of v))) (stage_of v) → stage_of x ≡ settle v.hardware cpu (stage_of v)
 exit-settled v x cpu set low alone settled =
-    let same : (other : CpuNo) → other.0 < length v.quiet.running → is_in set other ≡ (cpu.0 == other.0) = λ other within.
-    in-by set other (cpu.0 == other.0) (λ has. same-number cpu.0 other.0 (sym ((alone other).0 has))) (λ is. (alone other).1 (sym (number_true cpu.0 other.0 is))) in
     settled
     ∙ (ap (λ cs. settle_each v.hardware cs (stage_of v))
-    (filter-below (is_in set) (λ other. cpu.0 == other.0) (length v.quiet.running) same ∙ one-below cpu (length v.quiet.running) low)
+    (filter-below (is_in set) (λ other. cpu.0 == other.0) (length v.quiet.running) (λ other within. is-alone cpu set other (alone other)) ∙ one-below cpu (length v.quiet.running) low)
     ∙ one-settled v.hardware cpu (stage_of v))
 
 -- as many processors stay

@@ -1,5 +1,5 @@
 -- A quiet line after which all events are there that were, with their accounts.
-use Rattle.std.specs.Prelude.{◌≡◌, ℕ, zero, suc, ◌<◌, ◌≤◌, ◌==◌, Bool, true, false, cond, is_some, List, [], ◌∷◌, ◌++◌, length, filter, flat_map, slice_index_or, None}
+use Rattle.std.specs.Prelude.{◌≡◌, ℕ, zero, suc, ◌<◌, ◌≤◌, ◌↔◌, ◌==◌, Bool, true, false, cond, is_some, List, [], ◌∷◌, ◌++◌, length, filter, flat_map, slice_index_or, None}
 use Rattle.std.specs.FinMap.{FinMap, get}
 use Rattle.std.specs.List.{list_any}
 use Rattle.std.specs.Option.{unwrap_or}
@@ -36,6 +36,7 @@ use Rattle.world_spec.specs.Kept.{IsKept}
 use Rattle.world_spec.specs.Rescheduled.{AreRescheduled, AreUntouchedOutside, IsRescheduled}
 use Rattle.world_spec.specs.StageOf.{stage_of}
 use Rattle.world_spec.specs.Value.{World, Account, Family, no_account, no_family, is_live, entry_at, instance_at, family_of}
+use Rattle.world_spec.proofs.Coming.{number_true}
 use Rattle.world_spec.proofs.Families.{open-is}
 use Rattle.step_laws.specs.Quiet.{is_quiet}
 use Rattle.step_laws.specs.Stepping.{HasStepped}
@@ -168,6 +169,11 @@ in-by set cpu false there back = elim (cases_Bool (is_in set cpu)) [
   | inl in_it ↦ absurd (false≢true (there (let h : HasCpu set cpu = grind (arith, nat_tests, in_it) in h)))
   | inr out ↦ out
 ]
+
+-- a set of one processor
+pub is-alone : (own : CpuNo) (set : CpuSet) (other : CpuNo) → (HasCpu set other ↔ (other.0 ≡ own.0)) → is_in set other ≡ (own.0 == other.0)
+is-alone own set other alone =
+    in-by set other (own.0 == other.0) (λ has. same-number own.0 other.0 (sym (alone.0 has))) (λ is. alone.1 (sym (number_true own.0 other.0 is)))
 
 pub settled-all : (hw : Hardware) (w : World) → AreRescheduled hw w → AreSettled hw (stage_of w)
 settled-all hw w h cpu low = (h cpu low).settled

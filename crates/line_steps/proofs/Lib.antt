@@ -3,6 +3,7 @@ pub mod Clearing
 pub mod Closes
 pub mod CommandLines
 pub mod Exits
+pub mod Counting
 pub mod Forks
 pub mod Keeping
 pub mod Opening

@@ -75,10 +75,10 @@ added-running : (w : World) (key : Key) (n : Newcomer) (leader : Option Key) →
 added-running w key n None = refl
 added-running w key n (Some leader) = refl
 
-hardware-stays : (w v : World) (key : Key) (n : Newcomer) → v ≡ add key n w → v.hardware ≡ w.hardware
+pub hardware-stays : (w v : World) (key : Key) (n : Newcomer) → v ≡ add key n w → v.hardware ≡ w.hardware
 hardware-stays w v key n is = ap (λ (y : World). y.hardware) is ∙ added-hardware w key n n.leader
 
-running-stays : (w v : World) (key : Key) (n : Newcomer) → v ≡ add key n w → v.quiet.running ≡ w.quiet.running
+pub running-stays : (w v : World) (key : Key) (n : Newcomer) → v ≡ add key n w → v.quiet.running ≡ w.quiet.running
 running-stays w v key n is = ap (λ (y : World). y.quiet.running) is ∙ added-running w key n n.leader
 
 pub is-step : (w v x : World) (slot : EventNo) (a : Attr) (leader : Option EventNo) (set : CpuSet) → Course w v x slot a leader set

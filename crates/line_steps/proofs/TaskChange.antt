@@ -137,7 +137,7 @@ room-then w a b x cpu to m c room =
     }
 
 -- the stage after the switch
-hardware-then : (w a b x : World) (cpu : CpuNo) (to : Option TaskNo) (m : Bool) → Course w a b x cpu to m → b.hardware ≡ w.hardware
+pub hardware-then : (w a b x : World) (cpu : CpuNo) (to : Option TaskNo) (m : Bool) → Course w a b x cpu to m → b.hardware ≡ w.hardware
 hardware-then w a b x cpu to m c = (keeps-counts w a b x cpu to m c).hardware ∙ ap (λ (y : World). y.hardware) c.first_rest
 
 pub filter-alike : (p q : CpuNo → Bool) (xs : List CpuNo) → ((cpu : CpuNo) → p cpu ≡ q cpu) → filter p xs ≡ filter q xs

@@ -45,7 +45,7 @@ task-lists : (cpu : CpuNo) (o : Option TaskNo) (w : World) → OnlyLists w (turn
 task-lists cpu None w = record { is = refl }
 task-lists cpu (Some task) w = record { is = refl }
 
-only-lists : (cpu : CpuNo) (w v : World) → v ≡ turned_world cpu w → v ≡ record w { contexts = v.contexts }
+pub only-lists : (cpu : CpuNo) (w v : World) → v ≡ turned_world cpu w → v ≡ record w { contexts = v.contexts }
 only-lists cpu w v is = (subst (OnlyLists w) (sym is) (task-lists cpu (task_on (stage_of w) cpu) w)).is
 
 tick-keeps : (w v x : World) (cpu : CpuNo) → Course w v x cpu → KeepsAll w x

@@ -1,3 +1,4 @@
+pub mod Counted
 pub mod Settled
 pub mod Stepped
 pub mod Switched

@@ -4,6 +4,7 @@ ghost use Rattle.std.specs.Prelude.{◌≡◌, ◌<◌, ◌≤◌};
 ghost use Rattle.perf_base.specs.Scripts.{IsSlot};
 ghost use Rattle.perf_base.specs.declared.lines.ToolLine.TheVariants as line;
 ghost use Rattle.stage_spec.specs.History.{ToolStep};
+ghost use Rattle.line_steps.specs.Counted.{IsCounted};
 ghost use Rattle.line_steps.specs.Stepped.{IsReady, IsDone, StaysIfRefused};
 
 use crate::rescheduling::resched_each;
@@ -25,7 +26,7 @@ pub fn enable<L: Ledger>(
     ensures done { IsDone (ToolStep (line.Enable event group)) world.old world.new result }
     ensures same { StaysIfRefused world.old world.new result }
     ensures hardware { world.new.hardware ≡ world.old.hardware }
-    ensures counted { tests.old ≤ tests.new }
+    ensures counted { IsCounted (ToolStep (line.Enable event group)) world.old world.new tests.old tests.new }
 {
     // A reader tells what always holds of a world.
     let _pmus = world.pmus();
@@ -52,7 +53,7 @@ pub fn disable<L: Ledger>(
     ensures done { IsDone (ToolStep (line.Disable event group)) world.old world.new result }
     ensures same { StaysIfRefused world.old world.new result }
     ensures hardware { world.new.hardware ≡ world.old.hardware }
-    ensures counted { tests.old ≤ tests.new }
+    ensures counted { IsCounted (ToolStep (line.Disable event group)) world.old world.new tests.old tests.new }
 {
     // A reader tells what always holds of a world.
     let _pmus = world.pmus();
@@ -117,7 +118,7 @@ pub fn close<L: Ledger>(world: &mut World, event: EventNo, tests: &mut Steps<L>)
     ensures done { IsDone (ToolStep (line.Close event)) world.old world.new result }
     ensures same { StaysIfRefused world.old world.new result }
     ensures hardware { world.new.hardware ≡ world.old.hardware }
-    ensures counted { tests.old ≤ tests.new }
+    ensures counted { IsCounted (ToolStep (line.Close event)) world.old world.new tests.old tests.new }
 {
     // A reader tells what always holds of a world.
     let _pmus = world.pmus();

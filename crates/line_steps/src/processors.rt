@@ -8,6 +8,7 @@ ghost use Rattle.stage_laws.specs.Bounds.{most_of_line};
 ghost use Rattle.work_account.specs.Ends.{AreTogether};
 ghost use Rattle.work_account.specs.Sampling.{HaveRings, HaveSpaceToSend, ends_of};
 ghost use Rattle.work_account.specs.Shares.{HaveRoom};
+ghost use Rattle.line_steps.specs.Counted.{IsCounted};
 ghost use Rattle.line_steps.specs.Stepped.{IsReady, IsDone, IsDoneWith, StaysIfRefused, seen_of};
 
 use crate::rescheduling::resched_each;
@@ -27,7 +28,7 @@ pub fn tick<L: Ledger>(world: &mut World, cpu: CpuNo, tests: &mut Steps<L>) -> R
     ensures done { IsDone (CpuStep cpu line.Tick) world.old world.new result }
     ensures same { StaysIfRefused world.old world.new result }
     ensures hardware { world.new.hardware ≡ world.old.hardware }
-    ensures counted { tests.old ≤ tests.new }
+    ensures counted { IsCounted (CpuStep cpu line.Tick) world.old world.new tests.old tests.new }
 {
     // A reader tells what always holds of a world.
     let _before = world.pmus();
@@ -93,7 +94,7 @@ pub fn exit<L: Ledger>(world: &mut World, cpu: CpuNo, tests: &mut Steps<L>) -> R
     ensures done { IsDone (CpuStep cpu line.Exit) world.old world.new result }
     ensures same { StaysIfRefused world.old world.new result }
     ensures hardware { world.new.hardware ≡ world.old.hardware }
-    ensures counted { tests.old ≤ tests.new }
+    ensures counted { IsCounted (CpuStep cpu line.Exit) world.old world.new tests.old tests.new }
 {
     // A reader tells what always holds of a world.
     let _before = world.pmus();

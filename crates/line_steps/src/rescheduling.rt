@@ -1,13 +1,16 @@
 //! Rescheduling the processors that a line touches.
 
-ghost use Rattle.std.specs.Prelude.{◌≡◌, ◌<◌, ◌≤◌, true, length, filter, if◌then◌else◌};
+ghost use Rattle.std.specs.Prelude.{◌≡◌, ◌+◌, ◌*◌, ◌<◌, ◌≤◌, true, length, filter, if◌then◌else◌};
 ghost use Rattle.perf_base.specs.Cpus.{HasCpu};
 ghost use Rattle.perf_base.specs.declared.numbers.CpuNo.{CpuNo as Cpu};
+ghost use Rattle.stage_spec.specs.Replies.{seated};
 ghost use Rattle.stage_spec.specs.Settle.{settle, settle_each};
 ghost use Rattle.stage_spec.specs.Stage.{all_cpus};
-ghost use Rattle.world_spec.specs.Rescheduled.{AreRescheduled, IsRescheduled};
+ghost use Rattle.world_spec.specs.Rescheduled.{AreRescheduled, AreUntouchedBut, IsRescheduled};
 ghost use Rattle.world_spec.specs.StageOf.{stage_of};
 ghost use Rattle.perf_world.specs.Seen.{IsWorld};
+ghost use Rattle.cpu_sched.specs.Tried.{tried};
+ghost use Rattle.line_steps.specs.Counted.{AreCounted};
 ghost use Rattle.line_steps.specs.Settled.{OnlyRescheduled, is_in};
 
 use cpu_sched::resched;
@@ -21,10 +24,10 @@ fn resched_if<L: Ledger>(world: &mut World, cpu: CpuNo, touched: bool, tests: &m
     requires untouched { (touched ≡ true → ⊥) → IsRescheduled world.old.hardware world.old cpu }
     ensures stage { stage_of world.new ≡ (if touched then settle world.old.hardware cpu (stage_of world.old) else stage_of world.old) }
     ensures rescheduled { IsRescheduled world.old.hardware world.new cpu }
-    ensures others { (other : Cpu) → other.0 < length world.old.quiet.running → IsRescheduled world.old.hardware world.old other
-        → IsRescheduled world.old.hardware world.new other }
+    ensures others { AreUntouchedBut cpu world.old world.new }
     ensures rest { OnlyRescheduled world.old world.new }
-    ensures counted { tests.old ≤ tests.new }
+    ensures least { tests.old + (if touched then length (seated world.old.hardware (stage_of world.new) cpu) else 0) ≤ tests.new }
+    ensures most { tests.new ≤ tests.old + 272 * (if touched then tried world.old.hardware (stage_of world.old) cpu else 0) }
 {
     if touched {
         resched(world, cpu, tests);
@@ -46,7 +49,7 @@ pub fn resched_each<L: Ledger>(world: &mut World, set: CpuSet, tests: &mut Steps
     ensures rescheduled { AreRescheduled world.old.hardware world.new }
     ensures rest { OnlyRescheduled world.old world.new }
     ensures kept { IsWorld world.new }
-    ensures counted { tests.old ≤ tests.new }
+    ensures counted { AreCounted world.old.hardware (stage_of world.old) (stage_of world.new) (filter (is_in set) (all_cpus (stage_of world.old))) tests.old tests.new }
 {
     for cpu in 0..world.pmus().cpus() {
         resched_if(world, CpuNo(cpu), touches(set, CpuNo(cpu)), tests);

@@ -12,6 +12,7 @@ ghost use Rattle.work_account.specs.Shares.{HaveRoom, HaveShares, one_hit};
 ghost use Rattle.world_spec.specs.Rescheduled.{IsJudged, IsRescheduled};
 ghost use Rattle.world_spec.specs.StageOf.{stage_of};
 ghost use Rattle.line_steps.specs.Switched.{migration_shares, two_hits};
+ghost use Rattle.line_steps.specs.Counted.{IsCounted};
 ghost use Rattle.line_steps.specs.Stepped.{IsReady, IsDone, StaysIfRefused};
 
 use cpu_sched::resched;
@@ -48,7 +49,7 @@ fn change_task<L: Ledger>(world: &mut World, cpu: CpuNo, to: Option<TaskNo>, tes
     ensures ready { IsReady world.new }
     ensures done { IsDone (CpuStep cpu (line.Switch to)) world.old world.new reply.Ok }
     ensures hardware { world.new.hardware ≡ world.old.hardware }
-    ensures counted { tests.old ≤ tests.new }
+    ensures counted { IsCounted (CpuStep cpu (line.Switch to)) world.old world.new tests.old tests.new }
 {
     // A reader tells what always holds of a world.
     let _before = world.pmus();
@@ -75,7 +76,7 @@ pub fn switch<L: Ledger>(
     ensures done { IsDone (CpuStep cpu (line.Switch to)) world.old world.new result }
     ensures same { StaysIfRefused world.old world.new result }
     ensures hardware { world.new.hardware ≡ world.old.hardware }
-    ensures counted { tests.old ≤ tests.new }
+    ensures counted { IsCounted (CpuStep cpu (line.Switch to)) world.old world.new tests.old tests.new }
 {
     // A reader tells what always holds of a world.
     let _pmus = world.pmus();

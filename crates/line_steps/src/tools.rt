@@ -4,6 +4,7 @@ ghost use Rattle.std.specs.Prelude.{◌≡◌, ◌+◌, ◌^◌, ◌<◌, ◌≤
 ghost use Rattle.perf_base.specs.Scripts.{IsAttr, IsSlot};
 ghost use Rattle.perf_base.specs.declared.lines.ToolLine.TheVariants as line;
 ghost use Rattle.stage_spec.specs.History.{ToolStep};
+ghost use Rattle.line_steps.specs.Counted.{IsCounted};
 ghost use Rattle.line_steps.specs.Stepped.{IsReady, IsDone, StaysIfRefused};
 
 use crate::rescheduling::resched_each;
@@ -28,7 +29,7 @@ pub fn open<L: Ledger>(
     ensures done { IsDone (ToolStep (line.Open slot attr.now leader)) world.old world.new result }
     ensures same { StaysIfRefused world.old world.new result }
     ensures hardware { world.new.hardware ≡ world.old.hardware }
-    ensures counted { tests.old ≤ tests.new }
+    ensures counted { IsCounted (ToolStep (line.Open slot attr.now leader)) world.old world.new tests.old tests.new }
 {
     // A reader tells what always holds of a world.
     let _pmus = world.pmus();

@@ -107,7 +107,7 @@ served-all hw [] = refl
 served-all hw (j ∷ js) = served-one hw (stands_on j.standing) j js refl ∙ ap (λ es. served_one (brief_of hw j.group) j.standing ++ es) (served-all hw js)
 
 -- the briefs of all passes one after the other
-briefs-joined : (hw : Hardware) (p : Group → Bool) (ps : List (List Group)) → map (brief_of hw) (flat_map (λ q. q) (map (filter p) ps)) ≡ flat_map (λ q. q) (map (λ q. map (brief_of hw) (filter p q)) ps)
+pub briefs-joined : (hw : Hardware) (p : Group → Bool) (ps : List (List Group)) → map (brief_of hw) (flat_map (λ q. q) (map (filter p) ps)) ≡ flat_map (λ q. q) (map (λ q. map (brief_of hw) (filter p q)) ps)
 briefs-joined hw p [] = refl
 briefs-joined hw p (q ∷ ps) = map-append (brief_of hw) (filter p q) (flat_map (λ x. x) (map (filter p) ps)) ∙ ap (λ bs. map (brief_of hw) (filter p q) ++ bs) (briefs-joined hw p ps)
 
@@ -150,6 +150,7 @@ left-rescheduled hw w after cpu low left h =
 
 pub left-untouched : LeftLaw
 left-untouched hw w after cpu low left = record {
+  briefs = left.briefs;
   verdicts = by_briefs hw cpu (stage_of after) (stage_of w) left.briefs;
   seats = left.seats;
   rescheduled = left-rescheduled hw w after cpu low left;

@@ -61,9 +61,10 @@ pub record IsLeft (hw : Hardware) (w after : World) (cpu : CpuNo) : Type 0 where
       → (leads (post_at w) k ≡ true) × (has_context (stage_of w) cpu (entry_at w k).context ≡ true)
       × ((instance_at after k).id ≡ (instance_at w k).id) × (standing_at after k ≡ standing_at w k)
 
--- What a call leaves to a processor that it does not name: the verdicts of its eligible groups, each with its cause, and its
--- seats. Where it stood as rescheduling leaves it, it still does.
+-- What a call leaves to a processor that it does not name: what verdicts need of its eligible groups, their verdicts, each with
+-- its cause, and its seats. Where it stood as rescheduling leaves it, it still does.
 pub record IsUntouched (hw : Hardware) (w after : World) (cpu : CpuNo) : Type 0 where
+  pub briefs : briefs hw (stage_of after) cpu ≡ briefs hw (stage_of w) cpu
   pub verdicts : standings hw (stage_of after) cpu ≡ standings hw (stage_of w) cpu
   pub seats : seats_at after cpu ≡ seats_at w cpu
   pub rescheduled : IsRescheduled hw w cpu → IsRescheduled hw after cpu

@@ -2,6 +2,7 @@ use Rattle.std.proofs.Common.{ap, length}
 use Rattle.perf_base.specs.declared.lines.ToolLine.TheVariants as line
 use Rattle.world_spec.specs.Value.{World}
 use Rattle.line_steps.proofs.Closes.{close-ready, close-done}
+use Rattle.line_steps.proofs.Counting.{counted-step, refused-counted}
 use Rattle.line_steps.proofs.Keeping.{left-rescheduled}
 use Rattle.line_steps.proofs.Refused.{refused-line}
 use Rattle.line_steps.proofs.commands.close.Goals as goal
@@ -46,3 +47,20 @@ returns-in-Ok-clause-done g c =
       rest = c.resched_each.ensures.rest;
       kept_then = c.resched_each.ensures.kept;
     })
+
+pub returns-in-Err-clause-counted : goal.returns-in-Err-clause-counted
+returns-in-Err-clause-counted g c =
+    refused-counted c.args.world.now c.close.new.world (line.Close c.args.event) c.in-Err.reason c.args.tests.now c.in-Err.ensures.refused
+
+pub returns-in-Ok-clause-counted : goal.returns-in-Ok-clause-counted
+returns-in-Ok-clause-counted g c =
+    counted-step c.args.world.now c.close.new.world c.resched_each.new.world (line.Close c.args.event) c.in-Ok.set c.args.tests.now c.resched_each.new.tests (record {
+      ready = c.requires.ready;
+      within = c.requires.slot;
+      accepted = c.in-Ok.ensures.accepted;
+      hardware = ap (λ (y : World). y.hardware) c.in-Ok.ensures.closed.world;
+      running = ap (λ (y : World). length y.quiet.running) c.in-Ok.ensures.closed.world;
+      stage = c.in-Ok.ensures.stage;
+      into = λ cpu low there. (c.in-Ok.ensures.processors.reaching cpu low).0 there;
+      back = λ cpu low there. (c.in-Ok.ensures.processors.reaching cpu low).1 there;
+    }) c.resched_each.ensures.counted

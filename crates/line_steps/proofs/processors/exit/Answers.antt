@@ -1,5 +1,7 @@
-use Rattle.std.proofs.Common.{arith}
+use Rattle.std.proofs.Common.{arith, length, refl}
 use Rattle.perf_base.specs.declared.lines.CpuLine.TheVariants as line
+use Rattle.world_spec.specs.StageOf.{stage_of}
+use Rattle.line_steps.proofs.Counting.{counted-alone, counted-own, refused-cpu_counted}
 use Rattle.line_steps.proofs.Exits.{exit-done, exit-ready, exit-settled, exit-size, exit-untouched}
 use Rattle.line_steps.proofs.Refused.{refused-cpu}
 use Rattle.line_steps.proofs.processors.exit.Goals as goal
@@ -42,3 +44,13 @@ returns-in-Ok-clause-done g c =
       rest = c.resched_each.ensures.rest;
       kept_then = c.resched_each.ensures.kept;
     })
+
+pub returns-in-Err-clause-counted : goal.returns-in-Err-clause-counted
+returns-in-Err-clause-counted g c = refused-cpu_counted c.args.world.now c.exit.new.world c.args.cpu line.Exit c.in-Err.reason c.args.tests.now c.in-Err.ensures.refused
+
+pub returns-in-Ok-clause-counted : goal.returns-in-Ok-clause-counted
+returns-in-Ok-clause-counted g c =
+    counted-own c.args.world.now c.exit.new.world c.resched_each.new.world c.args.cpu line.Exit c.args.tests.now c.resched_each.new.tests c.requires.cpu c.in-Ok.ensures.accepted refl (λ other. refl)
+    c.in-Ok.ensures.gone.gone.hardware c.in-Ok.ensures.stage
+    (counted-alone c.exit.new.world.hardware (stage_of c.exit.new.world) (stage_of c.resched_each.new.world) c.args.cpu c.in-Ok.set (length c.exit.new.world.quiet.running) c.args.tests.now c.resched_each.new.tests
+    (omega (arith, c.requires.cpu, exit-size c.args.world.now c.exit.new.world c.args.cpu c.in-Ok.ensures.stage)) c.in-Ok.ensures.processors c.resched_each.ensures.counted)

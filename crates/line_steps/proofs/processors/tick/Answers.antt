@@ -1,4 +1,9 @@
-use Rattle.line_steps.proofs.Ticking.{tick-done, tick-ready}
+use Rattle.std.proofs.Common.{ap, refl}
+use Rattle.perf_base.specs.declared.lines.CpuLine.TheVariants as line
+use Rattle.world_spec.specs.StageOf.{stage_of}
+use Rattle.world_spec.specs.Value.{World}
+use Rattle.line_steps.proofs.Counting.{counted-own, one-counted}
+use Rattle.line_steps.proofs.Ticking.{only-lists, tick-done, tick-ready}
 use Rattle.line_steps.proofs.processors.tick.Goals as goal
 
 pub returns-clause-ready : goal.returns-clause-ready
@@ -25,3 +30,11 @@ returns-clause-done g c = tick-done c.args.world.now c.rotate.new.world c.resche
   rest = c.resched.ensures.rest;
   kept_then = c.pmus-after.ensures.kept;
 })
+
+pub returns-clause-counted : goal.returns-clause-counted
+returns-clause-counted g c =
+    let w : World = c.args.world.now in
+    let v : World = c.rotate.new.world in
+    counted-own w v c.resched.new.world c.args.cpu line.Tick c.args.tests.now c.resched.new.tests c.requires.cpu refl refl (λ other. refl)
+    (ap (λ (y : World). y.hardware) (only-lists c.args.cpu w v c.rotate.ensures.world)) c.rotate.ensures.stage
+    (one-counted v.hardware (stage_of v) (stage_of c.resched.new.world) c.args.cpu c.args.tests.now c.resched.new.tests c.resched.ensures.least c.resched.ensures.most)

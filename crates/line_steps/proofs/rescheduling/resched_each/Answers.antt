@@ -1,11 +1,16 @@
-use Rattle.std.proofs.Common.{arith, ◌≡◌, ◌∙◌, ◌<◌, length, ap, sym, subst, if◌then◌else◌}
+use Rattle.std.specs.Prelude.{◌≢◌}
+use Rattle.std.proofs.Common.{arith, refl, inl, inr, ◌≡◌, ◌∙◌, ◌+◌, ◌<◌, ◌≤◌, length, ap, sym, subst, if◌then◌else◌}
+use Rattle.std.proofs.lemmas.Bool.{cases_eq}
 use Rattle.perf_base.specs.declared.numbers.CpuNo.{CpuNo}
 use Rattle.stage_spec.specs.Hardware.{Hardware}
+use Rattle.stage_spec.specs.Replies.{seated}
 use Rattle.stage_spec.specs.Settle.{settle}
 use Rattle.stage_spec.specs.Stage.{Stage}
-use Rattle.world_spec.specs.Rescheduled.{IsRescheduled}
+use Rattle.world_spec.specs.Rescheduled.{IsRescheduled, IsUntouched}
 use Rattle.world_spec.specs.StageOf.{stage_of}
-use Rattle.world_spec.specs.Value.{World}
+use Rattle.world_spec.specs.Value.{World, seats_at}
+use Rattle.cpu_sched.specs.Tried.{tried}
+use Rattle.line_steps.proofs.Counting.{counted-all, least-next, most-next, same-tried, seats-count}
 use Rattle.line_steps.proofs.Settling.{none-only, only-then, none-settled, settle-next, next-done, is-in_set}
 use Rattle.line_steps.proofs.rescheduling.resched_each.Goals as goal
 
@@ -15,7 +20,9 @@ loop-cpu-init g c = record {
   rest = none-only c.args.world.now;
   done = λ cpu low. absurd (omega (arith, low));
   left = λ cpu low out. c.requires cpu low (λ there. out (is-in_set c.args.set cpu there));
-  counted = omega arith;
+  ahead = λ cpu past low. refl;
+  least = omega arith;
+  most = omega arith;
 }
 
 pub resched_if-requires-clause-cpu : goal.resched_if-requires-clause-cpu
@@ -37,9 +44,13 @@ loop-cpu-preserved g c =
     let hw : Hardware = c.args.world.now.hardware in
     let same : c.loop-cpu.world.hardware ≡ hw = ap (λ (w : World). w.hardware) c.loop-cpu.invariant.rest.world in
     let size : length c.loop-cpu.world.quiet.running ≡ length c.args.world.now.quiet.running = ap (λ (w : World). length w.quiet.running) c.loop-cpu.invariant.rest.world in
+    let apart : (other : CpuNo) → other.0 < length c.args.world.now.quiet.running → other.0 ≢ cpu.0 → IsUntouched hw c.loop-cpu.world c.resched_if.new.world other = λ other low off.
+    subst (λ h. IsUntouched h c.loop-cpu.world c.resched_if.new.world other) same (c.resched_if.ensures.others other (omega (arith, low, size)) off) in
     let still : (other : CpuNo) → other.0 < length c.args.world.now.quiet.running → IsRescheduled hw c.loop-cpu.world other → IsRescheduled hw c.resched_if.new.world other = λ other low before.
-    subst (λ h. IsRescheduled h c.resched_if.new.world other) same
-    (c.resched_if.ensures.others other (omega (arith, low, size)) (subst (λ h. IsRescheduled h c.loop-cpu.world other) (sym same) before)) in
+    elim (cases_eq other.0 cpu.0) [
+      | inl e ↦ subst (λ n. IsRescheduled hw c.resched_if.new.world (record { 0 = n })) (sym e) (subst (λ h. IsRescheduled h c.resched_if.new.world cpu) same c.resched_if.ensures.rescheduled)
+      | inr off ↦ (apart other low off).rescheduled before
+    ] in
     let within : c.loop-cpu.cpu < length c.args.world.now.quiet.running =
     omega (arith, c.loop-cpu-test.true, c.cpus-cpu-end.ensures.number, ap (λ h. length h.cpu_pmus) c.pmus.ensures.pmus, c.pmus.ensures.kept.shape.running) in
     record {
@@ -51,5 +62,24 @@ loop-cpu-preserved g c =
           (λ other low. still other (omega (arith, low, within)) (c.loop-cpu.invariant.done other low))
           (subst (λ h. IsRescheduled h c.resched_if.new.world cpu) same c.resched_if.ensures.rescheduled);
       left = λ other low out. still other low (c.loop-cpu.invariant.left other low out);
-      counted = omega (arith, c.loop-cpu.invariant.counted, c.resched_if.ensures.counted);
+      ahead = λ other past low. (apart other low (λ e. omega (arith, past, e))).briefs ∙ c.loop-cpu.invariant.ahead other (omega (arith, past)) low;
+      least =
+          let seats : length (seats_at c.resched_if.new.world cpu).events ≡ length (seated c.loop-cpu.world.hardware (stage_of c.resched_if.new.world) cpu) =
+          seats-count c.loop-cpu.world.hardware c.resched_if.new.world cpu c.resched_if.ensures.rescheduled in
+          least-next c.args.set c.loop-cpu.cpu c.loop-cpu.world c.resched_if.new.world c.touches.result c.args.tests.now c.loop-cpu.tests c.resched_if.new.tests (sym c.touches.ensures)
+          (λ other low. ap (λ s. length s.events) (apart other (omega (arith, low, within)) (λ e. omega (arith, low, e))).seats)
+          c.loop-cpu.invariant.least
+          (subst (λ n. c.loop-cpu.tests + (if c.touches.result then n else 0) ≤ c.resched_if.new.tests) (sym seats) c.resched_if.ensures.least);
+      most =
+          let here : tried c.loop-cpu.world.hardware (stage_of c.loop-cpu.world) cpu ≡ tried hw (stage_of c.args.world.now) cpu =
+          ap (λ h. tried h (stage_of c.loop-cpu.world) cpu) same
+          ∙ same-tried hw (stage_of c.loop-cpu.world) (stage_of c.args.world.now) cpu (c.loop-cpu.invariant.ahead cpu (omega arith) within) in
+          most-next c.args.set c.loop-cpu.cpu (tried hw (stage_of c.args.world.now)) c.touches.result _ c.args.tests.now c.loop-cpu.tests c.resched_if.new.tests (sym c.touches.ensures) here
+          c.loop-cpu.invariant.most c.resched_if.ensures.most;
     }
+
+pub returns-clause-counted : goal.returns-clause-counted
+returns-clause-counted g c =
+    counted-all c.args.world.now.hardware c.args.set c.loop-cpu.cpu (length c.args.world.now.quiet.running) (stage_of c.args.world.now) c.loop-cpu.world c.args.tests.now c.loop-cpu.tests
+    (omega (arith, c.loop-cpu.auto.cpu-end, c.loop-cpu-test.false, c.cpus-cpu-end.ensures.number, ap (λ h. length h.cpu_pmus) c.pmus.ensures.pmus, c.pmus.ensures.kept.shape.running))
+    c.loop-cpu.invariant.done c.loop-cpu.invariant.least c.loop-cpu.invariant.most

@@ -1,9 +1,13 @@
-use Rattle.std.proofs.Common.{◌≡◌, ◌<◌, ◌≤◌, length, true}
+use Rattle.std.proofs.Common.{◌≡◌, ◌+◌, ◌*◌, ◌<◌, ◌≤◌, length, true}
+use Rattle.std.specs.List.{sum_by}
 use Rattle.std.specs.Prelude.{filter}
 use Rattle.perf_base.specs.declared.numbers.CpuNo.{CpuNo}
 use Rattle.stage_spec.specs.Settle.{settle_each}
+use Rattle.stage_laws.specs.Standings.{briefs}
 use Rattle.world_spec.specs.Rescheduled.{IsRescheduled}
 use Rattle.world_spec.specs.StageOf.{stage_of}
+use Rattle.world_spec.specs.Value.{seats_at}
+use Rattle.cpu_sched.specs.Tried.{tried}
 use Rattle.line_steps.specs.Settled.{OnlyRescheduled, is_in}
 use Rattle.line_steps.proofs.Settling.{cpus_below}
 use Rattle.line_steps.proofs.rescheduling.resched_each.Given as goal
@@ -14,5 +18,7 @@ invariant-loop-cpu g l = record {
   rest : OnlyRescheduled l.fn.world l.world;
   done : (cpu : CpuNo) → cpu.0 < l.cpu → IsRescheduled l.fn.world.hardware l.world cpu;
   left : (cpu : CpuNo) → cpu.0 < length l.fn.world.quiet.running → (is_in l.set cpu ≡ true → ⊥) → IsRescheduled l.fn.world.hardware l.world cpu;
-  counted : l.fn.tests ≤ l.tests;
+  ahead : (cpu : CpuNo) → l.cpu ≤ cpu.0 → cpu.0 < length l.fn.world.quiet.running → briefs l.fn.world.hardware (stage_of l.world) cpu ≡ briefs l.fn.world.hardware (stage_of l.fn.world) cpu;
+  least : l.fn.tests + sum_by (λ cpu. length (seats_at l.world cpu).events) (filter (is_in l.set) (cpus_below l.cpu)) ≤ l.tests;
+  most : l.tests ≤ l.fn.tests + 272 * sum_by (tried l.fn.world.hardware (stage_of l.fn.world)) (filter (is_in l.set) (cpus_below l.cpu));
 }

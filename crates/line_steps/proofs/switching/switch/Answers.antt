@@ -1,5 +1,6 @@
 use Rattle.std.proofs.Common.{refl, sym, ◌∙◌}
 use Rattle.perf_base.specs.declared.lines.CpuLine.TheVariants as line
+use Rattle.line_steps.proofs.Counting.{idle-counted, refused-cpu_counted}
 use Rattle.line_steps.proofs.Refused.{refused-cpu}
 use Rattle.line_steps.proofs.Unswitched.{runs-there, unswitched-still}
 use Rattle.line_steps.proofs.switching.switch.Goals as goal
@@ -14,3 +15,10 @@ returns-in-Ok-false-clause-done g c = unswitched-still c.args.world.now c.args.c
   accepted = c.in-Ok-false.ensures.accepted;
   runs = runs-there _ (sym c.in-Ok-false.ensures.changes ∙ c.in-Ok-false.field-0-test);
 })
+
+pub returns-in-Err-clause-counted : goal.returns-in-Err-clause-counted
+returns-in-Err-clause-counted g c = refused-cpu_counted c.args.world.now c.args.world.now c.args.cpu (line.Switch c.args.to) c.in-Err.reason c.args.tests.now c.in-Err.ensures.refused
+
+pub returns-in-Ok-false-clause-counted : goal.returns-in-Ok-false-clause-counted
+returns-in-Ok-false-clause-counted g c =
+    idle-counted c.args.world.now c.args.world.now c.args.cpu (line.Switch c.args.to) c.args.tests.now (runs-there _ (sym c.in-Ok-false.ensures.changes ∙ c.in-Ok-false.field-0-test))

@@ -1,5 +1,9 @@
+use Rattle.std.proofs.Common.{ap, length}
+use Rattle.perf_base.specs.declared.lines.ToolLine.TheVariants as line
+use Rattle.world_spec.specs.Value.{World}
 use Rattle.event_open.specs.Opened.{opened_as, IsOpenedAs}
-use Rattle.line_steps.proofs.Opening.{untouched, is-ready, is-done}
+use Rattle.line_steps.proofs.Counting.{counted-step, refused-counted}
+use Rattle.line_steps.proofs.Opening.{hardware-stays, running-stays, untouched, is-ready, is-done}
 use Rattle.line_steps.proofs.Refused.{refused-line}
 use Rattle.line_steps.proofs.tools.open.Goals as goal
 
@@ -45,3 +49,21 @@ returns-in-Ok-clause-done g c =
       rest = c.resched_each.ensures.rest;
       kept_then = c.resched_each.ensures.kept;
     })
+
+pub returns-in-Err-clause-counted : goal.returns-in-Err-clause-counted
+returns-in-Err-clause-counted g c = refused-counted c.args.world.now c.open.new.world (line.Open c.args.slot c.args.attr.now c.args.leader) c.in-Err.reason c.args.tests.now c.in-Err.ensures.refused
+
+pub returns-in-Ok-clause-counted : goal.returns-in-Ok-clause-counted
+returns-in-Ok-clause-counted g c =
+    let w : World = c.args.world.now in
+    let o : IsOpenedAs w c.open.new.world (opened_as w c.args.slot c.args.attr.now c.args.leader) = c.in-Ok.ensures.world in
+    counted-step w c.open.new.world c.resched_each.new.world (line.Open c.args.slot c.args.attr.now c.args.leader) c.in-Ok.set c.args.tests.now c.resched_each.new.tests (record {
+      ready = c.requires.ready;
+      within = (c.requires.slot, c.requires.attr, c.requires.leader);
+      accepted = c.in-Ok.ensures.accepted;
+      hardware = hardware-stays w c.open.new.world o.key (opened_as w c.args.slot c.args.attr.now c.args.leader) o.world;
+      running = ap length (running-stays w c.open.new.world o.key (opened_as w c.args.slot c.args.attr.now c.args.leader) o.world);
+      stage = c.in-Ok.ensures.stage;
+      into = λ cpu low there. (c.in-Ok.ensures.processors cpu low).0 there;
+      back = λ cpu low there. (c.in-Ok.ensures.processors cpu low).1 there;
+    }) c.resched_each.ensures.counted

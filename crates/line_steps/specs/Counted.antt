@@ -1,0 +1,39 @@
+-- How many tests of counters a line takes. After ctx_resched of kernel/events/core.c; the bounds are this project's own profile.
+use Rattle.std.specs.Prelude.{ℕ, ◌+◌, ◌*◌, ◌≤◌, Bool, false, not, ◌&&◌, List, filter, length}
+use Rattle.std.specs.List.{sum_by}
+use Rattle.perf_base.specs.declared.lines.CpuLine.{CpuLine}
+use Rattle.perf_base.specs.declared.lines.CpuLine.TheVariants as line
+use Rattle.perf_base.specs.declared.numbers.CpuNo.{CpuNo}
+use Rattle.stage_spec.specs.Hardware.{Hardware}
+use Rattle.stage_spec.specs.History.{Step, CpuStep, ToolStep, SeenStep}
+use Rattle.stage_spec.specs.Replies.{seated}
+use Rattle.stage_spec.specs.Stage.{Stage, all_cpus, task_on}
+use Rattle.stage_spec.specs.Switching.{is_running}
+use Rattle.stage_laws.specs.Narrowing.{changed, touches}
+use Rattle.world_spec.specs.StageOf.{stage_of}
+use Rattle.world_spec.specs.Value.{World}
+use Rattle.cpu_sched.specs.Tried.{tried}
+
+-- Some processors of a stage are rescheduled, which leads to another stage: at least one test for each hardware event that is on there
+-- then, and at most 272 for each event that counters are tried for.
+pub record AreCounted (hw : Hardware) (s after : Stage) (cpus : List CpuNo) (before now : ℕ) : Type 0 where
+  pub least : before + sum_by (λ cpu. length (seated hw after cpu)) cpus ≤ now
+  pub most : now ≤ before + 272 * sum_by (tried hw s) cpus
+
+-- a switch to what runs there already reschedules nobody
+abbrev pub is_idle_line : Stage → CpuNo → CpuLine → Bool
+is_idle_line s cpu (line.Switch to) = is_running (task_on s cpu) to
+is_idle_line s cpu _ = false
+
+abbrev pub is_idle : Stage → Step → Bool
+is_idle s (CpuStep cpu line) = is_idle_line s cpu line
+is_idle s (ToolStep line) = false
+is_idle s (SeenStep ring place) = false
+
+-- the processors that a line reschedules
+abbrev pub rescheduled_by : Hardware → Stage → Step → List CpuNo
+rescheduled_by hw s x = filter (λ cpu. not (is_idle s x) && touches hw s x cpu) (all_cpus s)
+
+-- A line takes the tests of rescheduling these processors once its own change is made. One that reschedules none takes none.
+abbrev pub IsCounted : Step → (w after : World) → (before now : ℕ) → Type 0
+IsCounted x w after before now = AreCounted w.hardware (changed w.hardware (stage_of w) x) (stage_of after) (rescheduled_by w.hardware (stage_of w) x) before now
