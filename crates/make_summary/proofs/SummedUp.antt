@@ -16,7 +16,7 @@ use Rattle.perf_base.specs.Scripts.{line_count}
 use Rattle.machine.specs.Ended.{Ran}
 use Rattle.machine.specs.Readers.{words_in}
 use Rattle.machine.specs.declared.ending.RingEnd.{RingEnd}
-use Rattle.report.specs.Said.{answered}
+use Rattle.report_spec.specs.Answers.{answered}
 use Rattle.report.specs.Told.{AreTold, IsTold, cut, records_in}
 use Rattle.report.proofs.Told.{first_cut_at}
 use Rattle.make_summary.specs.Summary.{first_word, ran_totals, totals_of}

@@ -3,7 +3,6 @@
 //! left of it. It takes no memory, and serves the program's top call.
 #![tactic(auto)]
 
-mod counting;
 mod laws;
 mod records;
 mod summary;

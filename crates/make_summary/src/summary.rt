@@ -4,11 +4,10 @@ ghost use Rattle.std.specs.Prelude.{◌≡◌, List, map, sum_by};
 ghost use Rattle.perf_base.specs.declared.numbers.RingNo.{RingNo};
 ghost use Rattle.ring_spec.specs.Account.{Account};
 ghost use Rattle.machine.specs.Readers.{words_in};
-ghost use Rattle.report.specs.Said.{answered};
+ghost use Rattle.report_spec.specs.Answers.{answered};
 ghost use Rattle.report.specs.Told.{AreTold};
 ghost use Rattle.make_summary.specs.Summary as spec;
 
-use crate::counting::count_lines;
 use crate::records::{count_lost, count_written};
 use machine::Ended;
 use perf_base::{Actor, Reply, StoredReply};
@@ -59,7 +58,7 @@ fn totals_of(ended: &Ended) -> Totals
     ensures { result ≡ spec.ran_totals ended.now }
 {
     Totals {
-        lines: count_lines(ended.script()) as u64,
+        lines: ended.script().line_count() as u64,
         sum: sum_first_words(ended.answers()),
         records: count_written(ended),
         lost: count_lost(ended.ring_ends()),

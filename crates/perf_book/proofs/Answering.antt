@@ -17,8 +17,7 @@ use Rattle.machine.specs.Leading.{Kept, HasLine, IsReplyTo, LeadTo, act_of, done
 use Rattle.machine.specs.Readers.{loads_of}
 use Rattle.machine.specs.Stepping.{IsAnswerTo}
 use Rattle.machine.proofs.Answers.{answers-look, answers-push}
-use Rattle.report.specs.Said.{answered}
-use Rattle.report_spec.specs.Answers.{lost_in}
+use Rattle.report_spec.specs.Answers.{answered, lost_in}
 use Rattle.perf_book.specs.Keeping.{kept, line_in}
 
 -- an act with the answer that it keeps

@@ -10,7 +10,8 @@ use Rattle.sample_ring.specs.InEnds.{InEnd, IsStill, Reads}
 use Rattle.sample_ring.specs.RingLists.{HasRing, InList, IsOut, RingList, place_of, with_slot}
 use Rattle.stage_laws.proofs.Leaders.{find-first, find-later}
 use Rattle.machine.proofs.Places.{place-here, place-later, set-here, set-other}
-use Rattle.perf_book.specs.Running.{AreReady, HasRead, IsReadBy, IsReady, line_for, slot_of}
+use Rattle.report_spec.specs.Answers.{line_for}
+use Rattle.perf_book.specs.Running.{AreReady, HasRead, IsReadBy, IsReady, slot_of}
 
 -- two rings stand at two places, if one of them is there
 places-apart : (numbers : List RingNo) (ring other : RingNo) → HasRing numbers ring → (other.0 ≡ ring.0 → ⊥) → place_of numbers other ≡ place_of numbers ring → ⊥

@@ -18,8 +18,7 @@ use Rattle.stage_spec.specs.Order.{IsCounted, done_by_cpu, done_by_tool, is_of_c
 use Rattle.stage_spec.specs.Replies.{Answered, AnswerOrder, lines_from}
 use Rattle.machine.specs.Leading.{Kept, HasLine, LeadTo, act_of, done_by}
 use Rattle.machine.proofs.Answers.{answers-look, no-answers}
-use Rattle.report.specs.Said.{answered}
-use Rattle.report_spec.specs.Answers.{lost_in}
+use Rattle.report_spec.specs.Answers.{answered, lost_in}
 use Rattle.run_laws.specs.Growing.{AreLooks, does_line, is_cpu_act, is_look}
 use Rattle.run_laws.proofs.Lines.{counted-cpus, counted-lines, lengths, looks-do-nothing}
 use Rattle.run_laws.proofs.Rings.{few-rings}

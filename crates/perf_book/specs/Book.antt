@@ -9,8 +9,7 @@ use Rattle.perf_base.specs.declared.reply.Reply.{Reply}
 use Rattle.perf_base.specs.Scripts.{Scripted, IsCovered, IsScript, line_count}
 use Rattle.perf_base.specs.Weight.{weight}
 use Rattle.machine.specs.Leading.{Kept, LeadTo}
-use Rattle.report.specs.Said.{answered}
-use Rattle.report_spec.specs.Answers.{IsAnswered}
+use Rattle.report_spec.specs.Answers.{answered, IsAnswered}
 use Rattle.run_laws.specs.Growing.{AreLooks, is_cpu_act, is_look}
 
 -- the script, the machine, the order, and the answer to each line that was done, with its actor and its number among that actor's lines, from 0

@@ -7,8 +7,7 @@ use Rattle.stage_spec.specs.Order.{last_seen}
 use Rattle.sample_ring.specs.RingLists.{InList}
 use Rattle.machine.specs.Ended.{Ran}
 use Rattle.machine.specs.Readers.{HaveTaken, IsShown, records_in, released_in}
-use Rattle.report.specs.Said.{answered}
-use Rattle.report_spec.specs.Answers.{IsAnswered, taken_of}
+use Rattle.report_spec.specs.Answers.{answered, IsAnswered, taken_of}
 
 -- It is of a script, its answers are those to its order, each ring came to what its account over that order says, and the readers have all words that were written.
 pub record IsEnd (e : Ran) : Type 0 where

@@ -34,10 +34,6 @@ IsReadBy line before after ring =
 abbrev pub IsRead : Scripted → (before after : InList) → RingNo → Type 0
 IsRead s before after ring = IsReadBy (reader_of s ring) before after ring
 
--- the line of a ring's reader among some lines
-abbrev pub line_for : List ReaderLine → RingNo → Option ReaderLine
-line_for lines ring = find (λ line. line.ring.0 == ring.0) lines
-
 -- The reader of a ring is there, takes from the ring of that number, and has released all that it has taken.
 pub record IsReady (rings : RingList) (ins : InList) (ring : RingNo) : Type 0 where
   pub known : HasRing rings.numbers ring

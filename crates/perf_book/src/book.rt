@@ -15,7 +15,7 @@ ghost use Rattle.perf_book.specs.Keeping.{KeepsAnswer, next_line};
 
 use crate::doing::{Answer, do_act, do_line};
 use crate::looking::look_before;
-use crate::making::{count_acts, count_lines};
+use crate::making::count_acts;
 use machine::{Machine, OrderFault, RingEnd};
 use perf_base::{Act, Actor, NoMemory, Script};
 use sample_ring::{Ins, Outs, Rings};
@@ -64,7 +64,7 @@ impl Book {
     {
         let machine = Machine::new(alloc, &script, outs)?;
         let order = Vec::with_capacity(alloc, count_acts(&script))?;
-        let answers = Vec::with_capacity(alloc, count_lines(&script) + 1)?;
+        let answers = Vec::with_capacity(alloc, script.line_count() + 1)?;
         let ends = Vec::with_capacity(alloc, script.rings().len())?;
         Ok(Book {
             script,

@@ -11,8 +11,7 @@ ghost use Rattle.work_account.specs.Ends.{AreTogether};
 ghost use Rattle.machine.specs.Leading.{HasLine, IsOf, LeadTo, act_of, done_by};
 ghost use Rattle.machine.specs.Readers.{AreFollowing, loads_of};
 ghost use Rattle.machine.specs.Stepping.{HasNoLine, IsUnlawful, NamesRing};
-ghost use Rattle.report.specs.Said.{answered};
-ghost use Rattle.report_spec.specs.Answers.{lost_in};
+ghost use Rattle.report_spec.specs.Answers.{answered, lost_in};
 ghost use Rattle.perf_book.specs.Keeping.{KeepsAnswer, kept, line_in, next_line};
 
 use machine::{Machine, OrderFault};

@@ -1,10 +1,9 @@
 //! The room that a book needs.
 
 ghost use Rattle.std.specs.Prelude.{◌≡◌, ◌≤◌, length, sum_by};
-ghost use Rattle.perf_base.specs.Scripts.{line_count};
 ghost use Rattle.perf_book.specs.Book.{most_acts};
 
-use perf_base::{CpuNo, Script, ToolNo};
+use perf_base::{CpuNo, Script};
 
 /// How many lines the processors of a script have.
 fn cpu_line_count(script: &Script) -> usize
@@ -19,28 +18,6 @@ fn cpu_line_count(script: &Script) -> usize
     count
 }
 
-/// How many lines the tools of a script have.
-fn tool_line_count(script: &Script) -> usize
-    ensures { result ≡ sum_by length script.now.tool_lines }
-{
-    // A reader tells what always holds of a script.
-    let _cpus = script.cpus();
-    let mut count = 0;
-    for tool in 0..4 {
-        count += script.tool_lines(ToolNo(tool)).len();
-    }
-    count
-}
-
-/// How many lines a script has.
-pub fn count_lines(script: &Script) -> usize
-    ensures { result ≡ line_count script.now }
-{
-    // A reader tells what always holds of a script.
-    let _cpus = script.cpus();
-    cpu_line_count(script) + tool_line_count(script)
-}
-
 /// For how many acts of a script a book makes room: those of the script's own order, a line each and 16 looks for each
 /// line of a processor, and 16 looks at the end.
 pub fn count_acts(script: &Script) -> usize
@@ -49,5 +26,5 @@ pub fn count_acts(script: &Script) -> usize
 {
     // A reader tells what always holds of a script.
     let _cpus = script.cpus();
-    script.order().len() + 16 * cpu_line_count(script) + count_lines(script) + 16
+    script.order().len() + 16 * cpu_line_count(script) + script.line_count() + 16
 }

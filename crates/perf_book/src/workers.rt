@@ -4,7 +4,8 @@ ghost use Rattle.std.specs.Prelude.{◌≡◌, ◌<◌, ◌∷◌, AllPairs, Non
 ghost use Rattle.std.specs.Thread.{IsSend, IsSync};
 ghost use Rattle.perf_base.specs.declared.numbers.RingNo.{RingNo as Ring};
 ghost use Rattle.sample_ring.specs.RingLists.{HasRing, place_of, with_slot};
-ghost use Rattle.perf_book.specs.Running.{AreReady, HasRead, IsReadBy, line_for, slot_of};
+ghost use Rattle.report_spec.specs.Answers.{line_for};
+ghost use Rattle.perf_book.specs.Running.{AreReady, HasRead, IsReadBy, slot_of};
 
 use crate::gate::Gate;
 use crate::named::{Named, Naming};

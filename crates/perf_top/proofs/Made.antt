@@ -8,9 +8,8 @@ use Rattle.perf_base.specs.Scripts.{Scripted, IsCovered}
 use Rattle.perf_base.specs.Weight.{weight}
 use Rattle.stage_spec.specs.Order.{IsComplete}
 use Rattle.ring_spec.specs.Account.{Account}
-use Rattle.report_spec.specs.Answers.{IsAnswered}
+use Rattle.report_spec.specs.Answers.{answered, IsAnswered}
 use Rattle.report_spec.specs.Report.{rings_after}
-use Rattle.report.specs.Said.{answered}
 use Rattle.report.specs.Told.{AreTold}
 use Rattle.machine.specs.Ended.{Ran}
 use Rattle.perf_book.specs.Ending.{IsEnd}

@@ -5,7 +5,7 @@ use Rattle.perf_base.specs.declared.acts.Act.{Act}
 use Rattle.perf_base.specs.Scripts.{Scripted}
 use Rattle.machine.specs.Ended.{Ran}
 use Rattle.perf_book.specs.Ending.{IsEnd}
-use Rattle.report.specs.Said.{answered}
+use Rattle.report_spec.specs.Answers.{answered}
 use Rattle.report.proofs.Told.{told_whole}
 use Rattle.report_spec.specs.Report.{rings_after}
 use Rattle.perf_top.specs.Outcome.{IsReported, report_by, rings_of}

@@ -22,9 +22,8 @@ use Rattle.make_summary.specs.Summary.{summary_text, totals_of}
 use Rattle.perf_top.specs.Attributes.{IsAttr, IsLineOf}
 use Rattle.machine.specs.Ended.{Ran}
 use Rattle.machine.specs.Readers.{words_in}
-use Rattle.report.specs.Said.{answered}
 use Rattle.report.specs.Told.{told_report}
-use Rattle.report_spec.specs.Answers.{AreReadersParts, IsAnswered, IsRunShaped}
+use Rattle.report_spec.specs.Answers.{answered, AreReadersParts, IsAnswered, IsRunShaped}
 use Rattle.report_spec.specs.Report.{report, rings_after}
 use Rattle.stat_rows.specs.Rows.{rows_of}
 use Rattle.stat_table.specs.Table.{table_text}

@@ -10,7 +10,8 @@ use Rattle.report_spec.specs.Report.{answer_line, answer_lines, answer_text, num
 use Rattle.script_spec.specs.Acts.{acts_text}
 use Rattle.script_print.proofs.Loops.{IsText}
 use Rattle.stage_spec.specs.Replies.{Answered}
-use Rattle.report.specs.Said.{answered, seat_text}
+use Rattle.report.specs.Said.{seat_text}
+use Rattle.report_spec.specs.Answers.{answered}
 use Rattle.report.specs.Told.{all_told, told_report}
 use Rattle.sample_ring.specs.declared.sent.RingNumbers.{RingNumbers}
 use Rattle.perf_base.specs.declared.numbers.RingNo.{RingNo}

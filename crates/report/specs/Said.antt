@@ -6,11 +6,6 @@ use Rattle.perf_base.specs.declared.numbers.EventNo.{EventNo}
 use Rattle.perf_base.specs.declared.reply.Reply.{Reply}
 use Rattle.perf_base.specs.Scripts.{Scripted}
 use Rattle.report_spec.specs.Report.{actor_text, answer_text, line_word}
-use Rattle.stage_spec.specs.Replies.{Answered}
-
--- an answer as it is kept: whose line it answers, the number of that line, and the reply
-abbrev pub answered : Actor × ℕ × Reply → Answered
-answered a = record { actor = a.0; number = a.1; reply = a.2 }
 
 -- the slot of an event and the counter that it has, a space before them
 abbrev pub seat_text : EventNo × ℕ → List ℕ

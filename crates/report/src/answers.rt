@@ -3,7 +3,8 @@
 ghost use Rattle.std.specs.Prelude.{◌≡◌, [], ◌∷◌, ◌++◌, codes, decimal, map};
 ghost use Rattle.perf_io.specs.Wrote.{Wrote};
 ghost use Rattle.report_spec.specs.Report.{actor_text, answer_line, answer_lines, answer_text};
-ghost use Rattle.report.specs.Said.{answered, line_start, said};
+ghost use Rattle.report.specs.Said.{line_start, said};
+ghost use Rattle.report_spec.specs.Answers.{answered};
 
 use crate::line_words::line_word;
 use crate::said::put_reply;

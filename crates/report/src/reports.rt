@@ -6,7 +6,7 @@ ghost use Rattle.perf_io.specs.Wrote.{Wrote};
 ghost use Rattle.report_spec.specs.Report.{answer_lines, report};
 ghost use Rattle.script_spec.specs.Acts.{acts_text};
 ghost use Rattle.ring_spec.specs.Account.{Account};
-ghost use Rattle.report.specs.Said.{answered};
+ghost use Rattle.report_spec.specs.Answers.{answered};
 ghost use Rattle.report.specs.Told.{AreTold, ring_lent, told_report};
 
 use crate::answers::write_answers;

@@ -6,6 +6,8 @@ use Rattle.perf_base.specs.declared.numbers.RingNo.{RingNo}
 use Rattle.perf_base.specs.declared.lines.ReaderLine.{ReaderLine}
 use Rattle.perf_base.specs.declared.acts.Act.{Act}
 use Rattle.perf_base.specs.declared.acts.Act.TheVariants as act
+use Rattle.perf_base.specs.declared.acts.Actor.{Actor}
+use Rattle.perf_base.specs.declared.reply.Reply.{Reply}
 use Rattle.perf_base.specs.Scripts.{Scripted}
 use Rattle.stage_spec.specs.Hardware.{hardware_of}
 use Rattle.stage_spec.specs.Order.{IsCounted, last_seen}
@@ -14,6 +16,10 @@ use Rattle.stage_spec.specs.Replies.{Answered, AnswerOrder}
 use Rattle.ring_spec.specs.Records.{Record, size_of}
 use Rattle.ring_spec.specs.Account.{Account}
 use Rattle.ring_spec.specs.Rings.{IsLawfulOrder, account_in, lost_count}
+
+-- an answer as it is kept: whose line it answers, the number of that line, and the reply
+abbrev pub answered : Actor × ℕ × Reply → Answered
+answered a = record { actor = a.0; number = a.1; reply = a.2 }
 
 -- how many records of an event were lost after some steps of a script
 abbrev pub lost_in : Scripted → List Step → EventNo → ℕ
@@ -62,9 +68,12 @@ taken_from tail place (r ∷ records) = elim (nat_le (place + size_of r) tail) [
 abbrev pub taken_of : Account → List Record
 taken_of a = taken_from a.tail 0 a.written
 
--- the reader of a ring, if a script has one
+-- the line of a ring's reader among some lines, and the reader of a ring, if a script has one
+abbrev pub line_for : List ReaderLine → RingNo → Option ReaderLine
+line_for lines ring = find (λ line. line.ring.0 == ring.0) lines
+
 abbrev pub reader_of : Scripted → RingNo → Option ReaderLine
-reader_of s ring = find (λ line. line.ring.0 == ring.0) s.readers
+reader_of s ring = line_for s.readers ring
 
 abbrev pub IsNoLook : RingNo → Act → Type 0
 IsNoLook ring (act.Processor cpu) = Unit {0}

@@ -1,8 +1,7 @@
 use Rattle.std.specs.Prelude.{List, ◌∷◌, [], ◌++◌, map}
 use Rattle.perf_base.specs.declared.acts.Act.{Act}
 use Rattle.std.proofs.Common.{subst, sym}
-use Rattle.report.specs.Said.{answered}
-use Rattle.report_spec.specs.Answers.{lost_in}
+use Rattle.report_spec.specs.Answers.{answered, lost_in}
 use Rattle.stage_spec.specs.Replies.{AnswerOrder}
 use Rattle.perf_book.proofs.Answering.{answered-then}
 use Rattle.perf_book.proofs.doing.do_act.Goals as goal

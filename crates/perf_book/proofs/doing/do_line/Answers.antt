@@ -3,8 +3,7 @@ use Rattle.perf_base.specs.declared.acts.Act.{Act}
 use Rattle.perf_base.specs.declared.acts.Actor.{Actor}
 use Rattle.perf_base.specs.declared.reply.Reply.{Reply}
 use Rattle.std.proofs.Common.{ap, subst, sym, ◌∙◌}
-use Rattle.report.specs.Said.{answered}
-use Rattle.report_spec.specs.Answers.{lost_in}
+use Rattle.report_spec.specs.Answers.{answered, lost_in}
 use Rattle.stage_spec.specs.Replies.{AnswerOrder}
 use Rattle.machine.specs.Leading.{act_of, done_by}
 use Rattle.perf_book.proofs.Answering.{answered-line, same-loads}

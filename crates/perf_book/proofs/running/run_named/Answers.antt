@@ -4,7 +4,8 @@ use Rattle.perf_base.specs.declared.numbers.RingNo.{RingNo}
 use Rattle.perf_base.specs.Scripts.{Scripted}
 use Rattle.perf_base.specs.Weight.{weight}
 use Rattle.machine.specs.Readers.{AreReaders}
-use Rattle.perf_book.specs.Running.{AreReady, IsReadBy, line_for}
+use Rattle.report_spec.specs.Answers.{line_for}
+use Rattle.perf_book.specs.Running.{AreReady, IsReadBy}
 use Rattle.perf_book.proofs.Ready.{all-ready, planned, readers-back}
 use Rattle.perf_book.proofs.running.run_named.Goals as goal
 

@@ -3,7 +3,7 @@ use Rattle.std.proofs.Common.{ap}
 use Rattle.perf_io.proofs.Wrote.{wrote_exit, wrote_text, wrote_then}
 use Rattle.script_spec.specs.Acts.{acts_text}
 use Rattle.report_spec.specs.Report.{answer_lines}
-use Rattle.report.specs.Said.{answered}
+use Rattle.report_spec.specs.Answers.{answered}
 use Rattle.report.specs.Told.{all_told}
 use Rattle.report.proofs.Entries.{report-parts}
 use Rattle.machine.specs.Ended.{Ran}

@@ -1,7 +1,7 @@
 use Rattle.std.proofs.Common.{◌++◌, codes, map}
 use Rattle.perf_io.proofs.Wrote.{wrote_then, wrote_exit, wrote_text}
 use Rattle.report_spec.specs.Report.{answer_lines}
-use Rattle.report.specs.Said.{answered}
+use Rattle.report_spec.specs.Answers.{answered}
 use Rattle.report.specs.Told.{all_told, ring_lent}
 use Rattle.report.proofs.Entries.{report-parts}
 use Rattle.report.proofs.Told.{told_whole}

@@ -3,7 +3,7 @@ use Rattle.std.proofs.Common.{arith, sym, ap, subst, ◌∙◌, append_assoc, le
 use Rattle.perf_base.specs.declared.acts.Act.{Act}
 use Rattle.line_steps.specs.Stepped.{StaysIfRefused}
 use Rattle.machine.specs.Leading.{HasLine, act_of, done_by}
-use Rattle.report.specs.Said.{answered}
+use Rattle.report_spec.specs.Answers.{answered}
 use Rattle.perf_book.specs.Book.{AreLooksOf, Booked}
 use Rattle.perf_book.proofs.Rooms.{answered-looks, booked-then, done-after, line-after, looks-length, room-before, room-for-answer, room-for-line}
 use Rattle.perf_book.proofs.book.Book.advance.Goals as goal

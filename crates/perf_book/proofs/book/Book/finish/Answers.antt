@@ -6,8 +6,7 @@ use Rattle.perf_base.specs.Weight.{weight}
 use Rattle.stage_spec.specs.Replies.{AnswerOrder}
 use Rattle.machine.specs.Ended.{Ran}
 use Rattle.machine.specs.Readers.{AreBehind, AreReaders}
-use Rattle.report.specs.Said.{answered}
-use Rattle.report_spec.specs.Answers.{lost_in}
+use Rattle.report_spec.specs.Answers.{answered, lost_in}
 use Rattle.run_laws.specs.Growing.{AreLooks}
 use Rattle.perf_book.specs.Book.{Booked}
 use Rattle.perf_book.specs.Ending.{IsEnd}

@@ -12,7 +12,7 @@ invariant_of-result c = (
       (booked-none c.args.script c.in_ok-machine.machine (subst IsScript c.script.view_is c.script.invariant) c.requires.covered c.requires.light c.in_ok-machine.ensures.led)),
   record {
     order = omega (arith, c.in_ok-order.ensures.capacity, c.count_acts.ensures);
-    answers = omega (arith, c.in_ok-answers.ensures.capacity, c.count_lines.ensures);
+    answers = omega (arith, c.in_ok-answers.ensures.capacity, c.line_count.ensures.number);
     ends = omega (arith, c.in_ok-ends.ensures.capacity, ap length c.rings.ensures.rings);
   },
   c.in_ok-ends.ensures.items,
