@@ -1,0 +1,7 @@
+pub mod Alone
+pub mod Prefixes
+pub mod Keeping
+pub mod Turns
+pub mod Counts
+pub mod Parting
+pub mod Counting
