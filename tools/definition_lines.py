@@ -25,9 +25,12 @@ def line_of(path, name):
     declared = re.compile(
         r"(?:pub )?(?:unfoldable |abbrev )?(?:pub )?(?:record |data |struct |enum )?" + re.escape(name) + r"(?= |$)"
     )
-    for number, line in enumerate(open(path), 1):
-        if declared.match(line) and (" : " in line or "{" in line):
-            return number
+    lines = open(path).readlines()
+    # Those that share parameters stand indented below them.
+    for indent in ("", "  "):
+        for number, line in enumerate(lines, 1):
+            if line.startswith(indent) and declared.match(line[len(indent):]) and (" : " in line or "{" in line):
+                return number
     return None
 
 
