@@ -4,7 +4,7 @@ use Rattle.perf_base.specs.declared.attr.Kind.{Kind}
 use Rattle.perf_base.specs.declared.attr.Kind.TheVariants.{Hard, ContextSwitches, CpuMigrations, TaskClock, Dummy}
 use Rattle.attr_bytes.specs.declared.raw.RawAttr.{RawAttr}
 
--- The attribute names the kind, where the script has so many hardware kinds. HARDWARE and RAW name a
+-- The attribute names the kind, given how many hardware kinds the script has. HARDWARE and RAW name a
 -- script's kind by its number, as this project's own profile has it; SOFTWARE has the numbers of
 -- PERF_COUNT_SW_ (perf_event_open(2)).
 abbrev pub NamesKind : ℕ → RawAttr → Kind → Type 0

@@ -2,7 +2,7 @@
 use Rattle.std.specs.Prelude.{◌≡◌, ℕ, ◌+◌, ◌≤◌, List, length, drop, ◌==◌, if◌then◌else◌}
 use Rattle.byteorder.specs.Endian.{little_number}
 
--- the little-endian number in so many bytes from an offset on
+-- the little-endian number in a given number of bytes from an offset on
 unfoldable pub number_at : ℕ → ℕ → List ℕ → ℕ
 number_at offset width bytes = little_number width (drop offset bytes)
 
@@ -50,7 +50,7 @@ config1_in bytes = number_at 56 8 bytes
 abbrev pub attr_size : List ℕ → ℕ
 attr_size bytes = if size_in bytes == 0 then 64 else size_in bytes
 
--- the new bytes are the old ones, but for a number put into so many bytes from an offset on
+-- the new bytes are the old ones, but for a number put into some of them from an offset on
 pub record PutsNumber (offset width number : ℕ) (old new : List ℕ) : Type 0 where
   pub length : length new ≡ length old
   pub put : number_at offset width new ≡ number

@@ -1,5 +1,5 @@
-// The checks of an attribute by itself, before anything that is open is looked at. Its definition is the
-// first fault of an attribute, in stage_spec. It serves the call that opens an event.
+//! The checks of an attribute by itself, before anything that is open is looked at. Its definition is the
+//! first fault of an attribute, in stage_spec. It serves the call that opens an event.
 #![tactic(auto)]
 
 ghost use Rattle.std.specs.Prelude.{◌≡◌, OnOk, IfErr};

@@ -1,4 +1,4 @@
--- How a seating is stored: arrays, of which the first places are in use.
+-- How a seating is stored: arrays, whose first places are in use. This project's own profile.
 use Rattle.std.specs.Prelude.{ℕ, ◌<◌, ◌≤◌, List, take, All}
 use Rattle.perf_base.specs.declared.numbers.EventNo.{EventNo}
 use Rattle.stage_spec.specs.Fits.{IsAssignment}

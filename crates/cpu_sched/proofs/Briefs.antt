@@ -1,4 +1,5 @@
--- What is looked at of a group by its keys, and that its events can be put on the counters of a processor on which it is eligible.
+-- What is looked at of a group by its keys, and that its events can be put on the counters of a processor on which it
+-- is eligible.
 use Rattle.std.specs.Prelude.{◌≡◌, ℕ, suc, ◌<◌, ◌≤◌, Bool, true, false, not, ◌&&◌, cond, All, List, [], ◌∷◌, length, map, filter, slice_index, slice_index_or}
 use Rattle.std.specs.List.{list_all}
 use Rattle.std.proofs.Common.{arith, refl, sym, ap, subst, ◌∙◌, inl, inr}

@@ -1,4 +1,5 @@
--- A world that differs in standings and in the seats of one processor: what it shares, and how such changes follow each other.
+-- A world that differs in standings and in the seats of one processor: what it shares, and how such changes follow each
+-- other.
 use Rattle.std.specs.Prelude.{◌≡◌, ℕ, zero, suc, ◌+◌, ◌<◌, List, [], ◌∷◌, ◌++◌, length, take, slice_index_or, slice_set}
 use Rattle.std.specs.List.{fold}
 use Rattle.std.proofs.Common.{arith, refl, sym, ap, subst, ◌∙◌}

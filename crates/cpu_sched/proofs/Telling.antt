@@ -89,8 +89,8 @@ events-by hw js g s true is =
     ap (events_of_on hw) (on-push js g s ∙ ap (λ b. cond b (groups_on js ++ g ∷ []) (groups_on js)) is) ∙ events-push hw (groups_on js) g
 events-by hw js g s false is = ap (events_of_on hw) (on-push js g s ∙ ap (λ b. cond b (groups_on js ++ g ∷ []) (groups_on js)) is)
 
--- What a tally is after some leaders were told: the standings are those among the verdicts before this pass and within it, and so are the events
--- and what is noted.
+-- What a tally is after some leaders were told: the standings are those among the verdicts before this pass and within
+-- it, and so are the events and what is noted.
 pub record Stands (v : World) (cpu : CpuNo) (start : FinMap nat_cmp Standing) (told : List Key) (before within : List Judged) (t : Tally) : Type 0 where
   pub groups : map (λ j. j.group) (before ++ within) ≡ filter (is_eligible v.hardware cpu) (map (group_at v) told)
   pub standings : (k : Key) → 1 ≤ times k told → stand_at t.standings k ≡ standing_among (before ++ within) (group_at v k)

@@ -1,5 +1,5 @@
--- How the groups of a processor are judged one after the other, by what those before leave. After ctx_sched_in, merge_sched_in and
--- group_can_go_on of kernel/events/core.c; the tally is this project's own profile.
+-- How the groups of a processor are judged one after the other, by what those before leave. After ctx_sched_in,
+-- merge_sched_in and group_can_go_on of kernel/events/core.c; the tally is this project's own profile.
 use Rattle.std.specs.Prelude.{◌≡◌, ℕ, ◌+◌, Bool, true, false, not, ◌&&◌, List, [], ◌∷◌, ◌++◌, Option, Some, None, if◌then◌else◌}
 use Rattle.std.specs.FinMap.{FinMap, insert}
 use Rattle.std.specs.List.{fold}
@@ -25,7 +25,8 @@ abbrev pub first_or : Bool → EventNo → Option EventNo → Option EventNo
 first_or holds name (Some group) = Some group
 first_or holds name None = if holds then Some name else None
 
--- what is noted of a group with its standing: the first exclusive group on, the first hardware group on, the first that was refused
+-- what is noted of a group with its standing: the first exclusive group on, the first hardware group on, the first that
+-- was refused
 abbrev pub noted : EventNo → (software exclusive : Bool) → Standing → SoFar → SoFar
 noted name software exclusive s f = record {
   exclusive_on = first_or (stands_on s && exclusive) name f.exclusive_on;
@@ -37,13 +38,13 @@ noted name software exclusive s f = record {
 abbrev pub events_next : Standing → (group events : List (EventNo × ℕ)) → List (EventNo × ℕ)
 events_next s group events = if stands_on s then events ++ group else events
 
--- What was told so far: the standings of the groups, the events on the counters, and what is noted for the rules.
+-- What was judged so far: the standings of the groups, the events on the counters, and what is noted for the rules.
 pub record Tally : Type 0 where
   pub standings : FinMap nat_cmp Standing
   pub events : List (EventNo × ℕ)
   pub so_far : SoFar
 
--- where a group stands after what was told: Out where it is not eligible
+-- where a group stands after what was judged: Out where it is not eligible
 abbrev pub told_of : Hardware → CpuNo → Group → Tally → Standing
 told_of hw cpu g t = elim (is_eligible hw cpu g) [
   | true ↦ by_ruling (ruling_of (is_wholly_software g) (is_exclusive_group g) t.so_far.exclusive_on t.so_far.first_on t.so_far.refused)
@@ -86,7 +87,7 @@ tally_in w cpu f = record { standings = w.standings; events = (seats_at w cpu).e
 abbrev pub retold : CpuNo → World → World → World
 retold cpu w after = record (with_seats cpu (seats_at after cpu) w) { standings = after.standings }
 
--- one group is told: the tally has it, and nothing else changes
+-- one group is judged: the tally has it, and nothing else changes
 pub record IsTold (cpu : CpuNo) (k : Key) (w : World) (f : SoFar) (after : World) (next : SoFar) : Type 0 where
   pub tally : tally_in after cpu next ≡ tell w.hardware cpu (group_at w) (tally_in w cpu f) k
   pub world : after ≡ retold cpu w after

@@ -77,7 +77,7 @@ fn needs_counter(world: &World, key: Key) -> bool
     }
 }
 
-/// An instance of a hardware kind with the counters that can count it, of which there are some.
+/// An instance of a hardware kind with the counters that can count it, at least one.
 fn with_mask(world: &World, key: Key) -> (EventNo, u32)
     requires there { is_live world.now key ≡ true }
     requires hardware { effective.is_hardware (instance_at world.now key) ≡ true }

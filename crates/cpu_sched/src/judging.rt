@@ -116,8 +116,8 @@ impl SoFar {
     }
 }
 
-/// Judges an eligible group: a rule that refuses it, or else the counters, on which it goes with those that are there
-/// where all fit together.
+/// Judges an eligible group: a rule that refuses it, or else the counters, on which it goes with the events already
+/// there where all fit together.
 fn judge<L: Ledger>(
     world: &mut World,
     cpu: CpuNo,

@@ -1,5 +1,5 @@
--- The copies of an original go one after the other, and then the original: what is left of the family, and that processors that do not reach it stand as
--- they stood.
+-- The copies of an original go one after the other, and then the original: what is left of the family, and that
+-- processors that do not reach it stand as they stood.
 use Rattle.std.specs.Prelude.{◌≡◌, ℕ, ◌+◌, ◌<◌, ◌≤◌, ◌==◌, Bool, true, false, ◌&&◌, suc, List, [], ◌∷◌, ◌++◌, count_by, length, map, take, drop, Some, None, slice_index_or, slice_set}
 use Rattle.std.specs.List.{list_any}
 use Rattle.std.proofs.Common.{arith, refl, sym, ap, subst, ◌∙◌, inl, inr, take_all}

@@ -1,4 +1,5 @@
--- Keys that are changed one after the other: what they leave, and that lists of keys and families stay while they are gone over.
+-- Keys that are changed one after the other: what they leave, and that lists of keys and families stay while they are
+-- gone over.
 use Rattle.std.specs.Prelude.{◌≡◌, ℕ, ◌+◌, ◌<◌, ◌≤◌, suc, Bool, true, List, [], ◌∷◌, ◌++◌, length, take, Option, Some, None, slice_index_or}
 use Rattle.std.proofs.Common.{arith, refl, sym, ap, ◌∙◌, inl, inr, take_all}
 use Rattle.std.proofs.Math.Seq.{take-suc}
@@ -105,7 +106,8 @@ pub all-families : (c : Command) (first now : World) (events : List EventNo) (pl
     → now ≡ changed c (keys_named first events) first
 all-families c first now events place before past = before ∙ ap (λ es. changed c (keys_named first es) first) (take_all place events past)
 
--- What a command makes of what is read at a key: of the key that is changed, and of no other; a second time it makes the same.
+-- What a command makes of what is read at a key: of the key that is changed, and of no other; a second time it makes
+-- the same.
 pub record Updates (X : Type 0) (c : Command) (at : World → Key → X) (u : X → X) : Type 0 where
   pub own : (w : World) (k : Key) → at (change c w k) k ≡ u (at w k)
   pub other : (w : World) (k q : Key) → (q.0 ≡ k.0 → ⊥) → at (change c w k) q ≡ at w q

@@ -1,4 +1,5 @@
--- A new period of an original: for what it is refused, what it is on the stage, and that processors stand as they stood.
+-- A new period of an original: for what it is refused, what it is on the stage, and that processors stand as they
+-- stood.
 use Rattle.std.specs.Prelude.{◌≡◌, ◌≢◌, ℕ, ◌^◌, ◌<◌, ◌≤◌, ◌==◌, Bool, true, false, not, ◌||◌, bit_and, [], ◌∷◌, Option, Some, None, is_some, length, option_map}
 use Rattle.std.specs.Option.{unwrap_or}
 use Rattle.std.proofs.Common.{arith, refl, sym, ap, subst, ◌∙◌}

@@ -1,4 +1,5 @@
--- Sets to which the processors that reach some keys are added, and that these processors are those that reach the families on the stage.
+-- Sets to which the processors that reach some keys are added, and that these processors are those that reach the
+-- families on the stage.
 use Rattle.std.specs.Prelude.{◌≡◌, ℕ, ◌+◌, ◌^◌, ◌<◌, ◌≤◌, ◌==◌, suc, max, Bool, true, false, ◌&&◌, ◌||◌, bit_or, List, [], ◌∷◌, ◌++◌, length, take, Option, Some, None, slice_index_or, if◌then◌else◌}
 use Rattle.std.specs.Int.{bit_at}
 use Rattle.std.specs.List.{list_any}

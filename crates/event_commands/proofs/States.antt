@@ -1,4 +1,5 @@
--- Own states that are set one after the other: what is left, that the stage has the command, and that processors that are not reached stand as they stood.
+-- Own states that are set one after the other: what is left, that the stage has the command, and that processors that
+-- are not reached stand as they stood.
 use Rattle.std.specs.Prelude.{◌≡◌, ◌<◌, ◌≤◌, ◌==◌, Bool, true, false, All, List, [], ◌∷◌, if◌then◌else◌}
 use Rattle.std.proofs.Common.{arith, refl, sym, ap, subst, ◌∙◌, inl, inr}
 use Rattle.std.proofs.lemmas.Bool.{cases_eq, cases_Bool}

@@ -1,5 +1,5 @@
--- What is left of a world when instances went, key by key. After perf_release, perf_event_release_kernel and perf_group_detach of
--- kernel/events/core.c; the tables are this project's own profile.
+-- What is left of a world when instances went, key by key. After perf_release, perf_event_release_kernel and
+-- perf_group_detach of kernel/events/core.c; the tables are this project's own profile.
 use Rattle.std.specs.Prelude.{◌≡◌, ◌≢◌, ◌≤◌, true, false, List, map, if◌then◌else◌}
 use Rattle.perf_base.specs.declared.numbers.EventNo.{EventNo}
 use Rattle.perf_base.specs.declared.numbers.Key.{Key}
@@ -11,7 +11,8 @@ use Rattle.world_spec.specs.Kept.{leads, post_at}
 use Rattle.world_spec.specs.StageOf.{stage_of}
 use Rattle.world_spec.specs.Value.{World, no_family, is_live, entry_at, instance_at, account_at, standing_at, family_of, times}
 
--- Keys, groups and families alone change: not the machine, what copies that exited had counted, lost counts, clocks, seats, tasks, slots, rings and ids.
+-- Keys, groups and families alone change: not the machine, what copies that exited had counted, lost counts, clocks,
+-- seats, tasks, slots, rings and ids.
 abbrev pub IsThinned : World → World → Type 0
 IsThinned w after = after ≡ record w {
   entries = after.entries;
@@ -21,12 +22,13 @@ IsThinned w after = after ≡ record w {
   families = after.families;
 }
 
--- where a group stands when some instances went: where it stood, and Out where it is that of a sibling whose leader went
+-- where a group stands when some instances went: where it stood, and Out where it is that of a sibling whose leader
+-- went
 abbrev pub stood : World → Key → Standing
 stood w q = if leads (post_at w) q then standing_at w q else standing.Out
 
--- Some instances of a family went. All others stay, in their contexts and with their accounts; and so do other families. A group in a context that none
--- of them was in stands where it stood.
+-- Some instances of a family went. All others stay, in their contexts and with their accounts; and so do other
+-- families. A group in a context that none of them was in stands where it stood.
 pub record HaveGone (e : EventNo) (done : List Key) (w after : World) : Type 0 where
   pub world : IsThinned w after
   pub stage : stage_of after ≡ drop_ones (map (λ k. (instance_at w k).id) done) (stage_of w)
@@ -41,7 +43,8 @@ pub record HaveGone (e : EventNo) (done : List Key) (w after : World) : Type 0 w
   pub leading : (q : Key) → leads (post_at w) q ≡ true → times q done ≡ 0 → leads (post_at after) q ≡ true
   pub standings : (q : Key) → leads (post_at after) q ≡ true → standing_at after q ≡ stood w q
 
--- An event is closed: its original and its copies went, and all others stay. Each group stands where it stood, and Out where it is new.
+-- An event is closed: its original and its copies went, and all others stay. Each group stands where it stood, and Out
+-- where it is new.
 pub record IsClosed (e : EventNo) (w after : World) : Type 0 where
   pub world : IsThinned w after
   pub gone : (k : Key) → is_live w k ≡ true → is_of_family e (instance_at w k) ≡ true → is_live after k ≡ false

@@ -1,5 +1,5 @@
--- What the commands of a tool leave of a world. After perf_event_enable, perf_event_disable, perf_event_reset, perf_event_period and
--- perf_release of kernel/events/core.c; the tables are this project's own profile.
+-- What the commands of a tool leave of a world. After perf_event_enable, perf_event_disable, perf_event_reset,
+-- perf_event_period and perf_release of kernel/events/core.c; the tables are this project's own profile.
 use Rattle.std.specs.Prelude.{◌≡◌, ◌≢◌, ◌<◌, ◌↔◌, ℕ, true, List, length, Some, if◌then◌else◌}
 use Rattle.std.specs.FinMap.{contains_key}
 use Rattle.perf_base.specs.Cpus.{HasCpu}
@@ -15,7 +15,8 @@ use Rattle.world_spec.specs.StageOf.{stage_of}
 use Rattle.world_spec.specs.Value.{World, Account, is_live, entry_at, instance_at, account_at, family_of}
 use Rattle.world_spec.specs.Changes.{set_period}
 
--- The processors that reach an instance of some families: of the machine's processors just these are in a set, and none that it does not have.
+-- The processors that reach an instance of some families: of the machine's processors just these are in a set, and none
+-- that it does not have.
 pub record AreReached (events : List EventNo) (w : World) (set : CpuSet) : Type 0 where
   pub reaching : (cpu : CpuNo) → cpu.0 < length w.quiet.running → (HasCpu set cpu ↔ (reaches (stage_of w) events cpu ≡ true))
   pub within : (cpu : CpuNo) → HasCpu set cpu → cpu.0 < length w.quiet.running
@@ -41,7 +42,8 @@ pub record IsReset (events : List EventNo) (w after : World) : Type 0 where
   pub accounts : (k : Key) → is_live w k ≡ true
       → account_at after k ≡ (if is_reached events (instance_at w k) then from_zero (account_at w k) else account_at w k)
 
--- The original has a new period, of which a whole one is left. It has counted what it had, all other accounts stay, and so does all else.
+-- The original has a new period, with a whole one left. It has counted what it had, all other accounts stay, and so
+-- does all else.
 pub record HasPeriod (e : EventNo) (period : ℕ) (w after : World) : Type 0 where
   pub original : Key
   pub named : (family_of w e).original ≡ Some original

@@ -1,5 +1,5 @@
--- The processors that reach the instances of some keys: each in its own context or in that of the task on it. After the calls of ctx_resched in
--- kernel/events/core.c.
+-- The processors that reach the instances of some keys: each in its own context or in that of the task on it. After the
+-- calls of ctx_resched in kernel/events/core.c.
 use Rattle.std.specs.Prelude.{◌≡◌, nat_lt, Bool, ◌&&◌, ◌||◌, List, length}
 use Rattle.std.specs.List.{list_any}
 use Rattle.perf_base.specs.declared.numbers.CpuNo.{CpuNo}

@@ -114,8 +114,8 @@ fn check_period(world: &World, event: EventNo, period: u64) -> Result<Key, Reaso
     Ok(key)
 }
 
-/// Gives an event another period, in occurrences, of which a whole one is left then, after the ioctl PERIOD. Its copies
-/// that are there keep theirs. It fails with `NoEvent` where the event is not open, with `NotSampling` where it has no
+/// Gives an event another period, in occurrences, with a whole one left then, after the ioctl PERIOD. Its live copies
+/// keep theirs. It fails with `NoEvent` where the event is not open, with `NotSampling` where it has no
 /// period, and with `ZeroPeriod` where the new one is 0 or has its highest bit set; the first that holds counts, and
 /// then nothing changes.
 pub fn period(world: &mut World, event: EventNo, period: u64) -> Result<(), Reason>
@@ -135,8 +135,8 @@ pub fn period(world: &mut World, event: EventNo, period: u64) -> Result<(), Reas
 
 /// Closes an event: its copies go, and then the event. Where it led a group each sibling is a group of its own then,
 /// behind the flexible ones, and stands Out. The answer is the processors that must be rescheduled: those of the
-/// machine that reach the event or a copy of it. The others stand as they stood. It fails with `NoEvent` where the event
-/// is not open, and then nothing changes.
+/// machine that reach the event or a copy of it. The others stand as they stood. It fails with `NoEvent` where the
+/// event is not open, and then nothing changes.
 pub fn close(world: &mut World, event: EventNo) -> Result<CpuSet, Reason>
     requires { IsSound world.old.hardware (stage_of world.old) }
     ensures refused { IfErr result (λ reason. closed_refusal (stage_of world.old) event ≡ Some reason) }

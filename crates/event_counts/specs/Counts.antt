@@ -18,6 +18,6 @@ pub record IsWithinPeriod (period left : ℕ) : Type 0 where
 abbrev pub fresh_counts : ℕ → Counts
 fresh_counts period = record { count = 0; period = period; left = period }
 
--- the instance after so many occurrences more
+-- the instance after a number of further occurrences
 abbrev pub counts_after : Counts → ℕ → Counts
 counts_after c n = record { count = c.count + n; period = c.period; left = left_after n c.period c.left }

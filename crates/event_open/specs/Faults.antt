@@ -1,5 +1,6 @@
--- The reasons for which an open is refused, in parts: those of the place that the event names, and those of the leader that is
--- given. After the system call perf_event_open of kernel/events/core.c; their order is this project's own profile.
+-- The reasons for which an open is refused, in parts: those of the place that the event names, and those of the leader
+-- that is given. After the system call perf_event_open of kernel/events/core.c; their order is this project's own
+-- profile.
 use Rattle.std.specs.Prelude.{Bool, ◌&&◌, ◌||◌, List, [], ◌∷◌, Option, is_some}
 use Rattle.perf_base.specs.declared.numbers.EventNo.{EventNo}
 use Rattle.perf_base.specs.declared.attr.Attr.{Attr}

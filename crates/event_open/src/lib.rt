@@ -1,6 +1,6 @@
-// The opening of an event in a world, as perf_event_open(2) opens one: for what it is refused, and the world after it.
-// Contracts see the refusal, the world and the stage of the definitions, and the processors that must be rescheduled.
-// It serves the machine.
+//! The opening of an event in a world, as perf_event_open(2) opens one: for what it is refused, and the world after it.
+//! Contracts see the refusal, the world and the stage of the definitions, and the processors that must be rescheduled.
+//! It serves the machine.
 #![tactic(auto)]
 
 mod checking;

@@ -1,5 +1,5 @@
--- What each family of a world has counted and lost, and the words of a member of a group read. After __perf_event_read_value and perf_read_group of
--- kernel/events/core.c.
+-- What each family of a world has counted and lost, and the words of a member of a group read. After
+-- __perf_event_read_value and perf_read_group of kernel/events/core.c.
 use Rattle.std.specs.Prelude.{ℕ, List, slice_index_or}
 use Rattle.perf_base.specs.declared.numbers.EventNo.{EventNo}
 use Rattle.perf_base.specs.declared.numbers.Key.{Key}

@@ -1,5 +1,5 @@
-// What a world answers to those that ask: the words of a read, why an event counts or does not, and the events on a
-// processor's counters. No call changes the world. It serves the machine that answers the lines of tools.
+//! What a world answers to those that ask: the words of a read, why an event counts or does not, and the events on a
+//! processor's counters. No call changes the world. It serves the machine that answers the lines of tools.
 #![tactic(auto)]
 
 mod asking;

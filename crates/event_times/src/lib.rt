@@ -1,5 +1,5 @@
-// The enabled and the running time of one event instance. Contracts see a record of the two sums. It
-// serves the crate that keeps the events.
+//! The enabled and the running time of one event instance. Contracts see a record of the two sums. It
+//! serves the crate that keeps the events.
 #![tactic(auto)]
 
 mod time_acc;

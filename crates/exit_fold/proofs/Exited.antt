@@ -1,4 +1,5 @@
--- An exit after the copies were folded: the task has exited, its processor is idle, and other processors stand as they stood.
+-- An exit after the copies were folded: the task has exited, its processor is idle, and other processors stand as they
+-- stood.
 use Rattle.std.specs.Prelude.{◌≡◌, ◌≢◌, ◌<◌, ◌==◌, true, false, ◌&&◌, Some, None, slice_index_or}
 use Rattle.std.proofs.Common.{arith, refl, sym, ap, subst, ◌∙◌, inl, inr}
 use Rattle.std.proofs.lemmas.Bool.{cases_Bool, cases_lt, false≢true}

@@ -1,4 +1,5 @@
--- Which instances go when a task exits, and what stays then. After perf_event_exit_task_context and sync_child_event of kernel/events/core.c.
+-- Which instances go when a task exits, and what stays then. After perf_event_exit_task_context and sync_child_event of
+-- kernel/events/core.c.
 use Rattle.std.specs.Prelude.{◌≡◌, ℕ, ◌==◌, Bool, true, false, not, ◌&&◌, List, ◌++◌, filter, Option, Some, None, slice_index_or}
 use Rattle.perf_base.specs.declared.lines.CpuLine.TheVariants as cpu_line
 use Rattle.perf_base.specs.declared.numbers.CpuNo.{CpuNo}
@@ -36,8 +37,8 @@ leaving_copies w to e = filter (leaves w to) (family_of w e).copies
 abbrev pub leaving_sums : World → Option TaskNo → EventNo → Sums
 leaving_sums w to e = plus_keys (λ k. (account_at w k).sums) (leaving_copies w to e)
 
--- Those instances and no others are gone. Each that stays has what it had, is in the group that it was in, and its group stands where it stood; each
--- family has its other copies; and what went is in the folded sums.
+-- Those instances and no others are gone. Each that stays has what it had, is in the group that it was in, and its
+-- group stands where it stood; each family has its other copies; and what went is in the folded sums.
 pub record HaveGone (w after : World) (to : Option TaskNo) : Type 0 where
   pub live : (k : Key) → is_live after k ≡ (is_live w k && not (leaves w to k))
   pub instances : (k : Key) → is_live after k ≡ true → instance_at after k ≡ instance_at w k
@@ -58,7 +59,8 @@ pub record IsFolded (task : TaskNo) (w after : World) : Type 0 where
   pub away : (k : Key) → is_of_task task (entry_at w k).context ≡ false → (post_at after k ≡ post_at w k) × (standing_at after k ≡ standing_at w k)
   pub quiet : after.quiet ≡ w.quiet
 
--- What an exit leaves: what a processor runs and whether tasks are there may change, too, and no clock, seat, slot, ring or id.
+-- What an exit leaves: what a processor runs and whether tasks are there may change, too, and no clock, seat, slot,
+-- ring or id.
 pub record HasExited (w after : World) (to : Option TaskNo) : Type 0 where
   pub gone : HaveGone w after to
   pub quiet : after.quiet ≡ record w.quiet { tasks = after.quiet.tasks; running = after.quiet.running }
@@ -72,7 +74,8 @@ abbrev pub fold_copy : Bool → Key → World → World
 fold_copy true k w = folded_away k w
 fold_copy false k w = w
 
--- The copies of an event that go with the task on a processor are those that the definitions take away by an exit: whatever is summed up of them is the same.
+-- The copies of an event that go with the task on a processor are those that the definitions take away by an exit:
+-- whatever is summed up of them is the same.
 abbrev pub LeavingLaw : Type 0
 LeavingLaw = (hw : Hardware) (w : World) (cpu : CpuNo) (e : EventNo) (f : Instance → Sums) → IsKept hw w
     → plus_each f (leaving_by (stage_of w) cpu cpu_line.Exit e) ≡ plus_keys (λ k. f (instance_at w k)) (leaving_copies w (task_on (stage_of w) cpu) e)

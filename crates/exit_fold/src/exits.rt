@@ -27,8 +27,8 @@ fn alone(cpu: CpuNo) -> CpuSet
 
 /// The task on a processor exits: each copy in its context goes, and what it has counted is added to the folded sums of
 /// its original. The task's own events stay. The processor is idle then. After perf_event_exit_task of
-/// kernel/events/core.c. The answer is the processors that must be rescheduled: this one alone. The others stand as they
-/// stood. It fails with `Idle` where no task is on, and then nothing changes.
+/// kernel/events/core.c. The answer is the processors that must be rescheduled: this one alone. The others stand as
+/// they stood. It fails with `Idle` where no task is on, and then nothing changes.
 pub fn exit(world: &mut World, cpu: CpuNo) -> Result<CpuSet, Reason>
     requires cpu { cpu.0 < length world.old.quiet.running }
     requires sound { IsSound world.old.hardware (stage_of world.old) }

@@ -26,8 +26,8 @@ copies_of_all w keys = sum_by (copies_of w) keys
 abbrev pub parent_of : World → Key → Parent
 parent_of w k = record { instance = instance_at w k; leads = is_key k (entry_at w k).leader; pinned = (entry_at w (entry_at w k).leader).pinned }
 
--- A key that is new names a copy in the child's context, of the event of one of some instances, with an id that was not drawn before, nothing counted and a whole
--- period left. It stands Out.
+-- A key that is new names a copy in the child's context, of the event of one of some instances, with an id that was not
+-- drawn before, nothing counted and a whole period left. It stands Out.
 pub record IsNewCopy (child : TaskNo) (w after : World) (parents : List Key) (k : Key) : Type 0 where
   pub copy : (instance_at after k).copy ≡ true
   pub context : (entry_at after k).context ≡ context.Task child
@@ -36,7 +36,8 @@ pub record IsNewCopy (child : TaskNo) (w after : World) (parents : List Key) (k 
   pub later : w.quiet.next_id ≤ (instance_at after k).id
   pub parent : (q : Key) × (1 ≤ times q parents) × ((instance_at after k).event ≡ (instance_at w q).event)
 
--- Copies of some instances were added to the child's groups, one after the other. Each key that was there has what it had.
+-- Copies of some instances were added to the child's groups, one after the other. Each key that was there has what it
+-- had.
 pub record AreCopied (child : TaskNo) (w after : World) (parents : List Key) : Type 0 where
   pub kept : IsKept w.hardware after
   pub stage : stage_of after ≡ add_copies child (map (parent_of w) parents) (stage_of w)
@@ -53,8 +54,8 @@ pub record AreCopied (child : TaskNo) (w after : World) (parents : List Key) : T
   pub quiet : after.quiet ≡ record w.quiet { next_id = w.quiet.next_id + length parents }
   pub few : copies_in after.families ≡ copies_in w.families + length parents
 
--- The group of a leader may be copied: it stands in a task's context, with pinned or flexible groups by its leader's flag; no event of it has an instance in the
--- child's context; and ids and copies have room.
+-- The group of a leader may be copied: it stands in a task's context, with pinned or flexible groups by its leader's
+-- flag; no event of it has an instance in the child's context; and ids and copies have room.
 pub record MayCopy (child : TaskNo) (w : World) (leader : Key) : Type 0 where
   pub leads : leads (post_at w) leader ≡ true
   pub number : child.0 < 64
@@ -85,8 +86,9 @@ pub record MayCopyList (child parent : TaskNo) (pinned : Bool) (w : World) : Typ
   pub ids : w.quiet.next_id + length (inherited_keys w (leaders_from w parent pinned)) < 2 ^ 63
   pub few : copies_in w.families + length (inherited_keys w (leaders_from w parent pinned)) ≤ 4096
 
--- What a fork leaves: each key that was there has what it had, and each new one names a copy in the child's context with an id that was not drawn before, which
--- has counted nothing, has a whole period left and stands Out. Each event has the original that it had. Folded sums, lost counts, clocks, seats, slots and rings are as before.
+-- What a fork leaves: each key that was there has what it had, and each new one names a copy in the child's context
+-- with an id that was not drawn before, which has counted nothing, has a whole period left and stands Out. Each event
+-- has the original that it had. Folded sums, lost counts, clocks, seats, slots and rings are as before.
 pub record HasForked (child : TaskNo) (w after : World) : Type 0 where
   pub live : (k : Key) → is_live w k ≡ true → is_live after k ≡ true
   pub entries : (k : Key) → is_live w k ≡ true → entry_at after k ≡ entry_at w k

@@ -15,8 +15,8 @@ use perf_world::World;
 /// The task on a processor is forked to a child of a number, 0 to 63: each group of the task's that is inherited is
 /// copied to the child's context, the pinned ones first. A copy is of the original, has its present period, is ready
 /// where the instance before it is, and else off, has counted nothing, and stands Out with its group. After
-/// perf_event_init_task of kernel/events/core.c. It fails with `Idle` where no task is on, with `Exists` where there was
-/// a task of that number, and with `CopiesFull` where there would be more than 4,096 copies; the first that holds
+/// perf_event_init_task of kernel/events/core.c. It fails with `Idle` where no task is on, with `Exists` where there
+/// was a task of that number, and with `CopiesFull` where there would be more than 4,096 copies; the first that holds
 /// counts, and then nothing changes. No processor has to be rescheduled.
 pub fn fork(world: &mut World, cpu: CpuNo, child: TaskNo) -> Result<(), Reason>
     requires cpu { cpu.0 < length world.old.quiet.running }

@@ -1,4 +1,4 @@
--- The first words of lines.
+-- The first words of lines. This project's own profile.
 use Rattle.std.specs.Prelude.{ℕ, List, [], ◌∷◌, codes, Option, Some, None, if◌then◌else◌}
 use Rattle.std.specs.Str.{bytes_eq}
 use Rattle.line_forms.specs.declared.keyword.Keyword.{Keyword}

@@ -1,4 +1,4 @@
--- What the words behind the first give, in the shapes that several forms share.
+-- What the words behind the first give, in the shapes that several forms share. This project's own profile.
 use Rattle.std.specs.Prelude.{ℕ, Bool, List, [], codes, Option, Some}
 use Rattle.line_forms.specs.Words.{◌>>=◌, end_of}
 use Rattle.line_forms.specs.Leaves.{decimal_at, word_if}

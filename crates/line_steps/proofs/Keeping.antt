@@ -45,7 +45,8 @@ use Rattle.line_steps.specs.Settled.{is_in}
 use Rattle.line_steps.specs.Stepped.{limits_in, IsReady}
 use Rattle.line_steps.proofs.Settling.{cpus_below, is-in_set}
 
--- What such a line leaves: the keys with their ids and contexts, and all that is counted by account, slot and processor.
+-- What such a line leaves: the keys with their ids and contexts, and all that is counted by account, slot and
+-- processor.
 pub record KeepsAll (w x : World) : Type 0 where
   pub hardware : x.hardware ≡ w.hardware
   pub live : (k : Key) → is_live x k ≡ is_live w k

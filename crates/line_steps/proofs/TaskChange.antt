@@ -72,7 +72,8 @@ placed-keeps : (cpu : CpuNo) (to : Option TaskNo) (w : World) → KeepsCounts w 
 placed-keeps cpu None w = record { hardware = refl; entries = refl; accounts = refl; families = refl; folded = refl; lost = refl; size = length-set w.quiet.running cpu.0 None; clocks = refl; used = refl; next_id = refl }
 placed-keeps cpu (Some task) w = record { hardware = refl; entries = refl; accounts = refl; families = refl; folded = refl; lost = refl; size = length-set w.quiet.running cpu.0 (Some task); clocks = refl; used = refl; next_id = refl }
 
--- What is told of a switch: the worlds before it, after its own count, after the task came, and after the processor was rescheduled.
+-- What is told of a switch: the worlds before it, after its own count, after the task came, and after the processor was
+-- rescheduled.
 pub record Course (w a b x : World) (cpu : CpuNo) (to : Option TaskNo) (migrates : Bool) : Type 0 where
   pub kept : IsKept w.hardware w
   pub ready : IsReady w
@@ -89,7 +90,8 @@ pub record Course (w a b x : World) (cpu : CpuNo) (to : Option TaskNo) (migrates
   pub settled : stage_of x ≡ settle b.hardware cpu (stage_of b)
   pub rest : StaysBut cpu b x
 
--- What is told of its end: the world after the migration's count, and that the processors are as rescheduling leaves them.
+-- What is told of its end: the world after the migration's count, and that the processors are as rescheduling leaves
+-- them.
 pub record End (w a b x d : World) (cpu : CpuNo) (to : Option TaskNo) (migrates : Bool) : Type 0 where
   pub course : Course w a b x cpu to migrates
   pub given : HaveShares x d (migration_shares migrates x cpu)

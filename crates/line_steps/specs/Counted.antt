@@ -1,4 +1,5 @@
--- How many tests of counters a line takes. After ctx_resched of kernel/events/core.c; the bounds are this project's own profile.
+-- How many tests of counters a line takes. After ctx_resched of kernel/events/core.c; the bounds are this project's own
+-- profile.
 use Rattle.std.specs.Prelude.{ℕ, ◌+◌, ◌*◌, ◌≤◌, Bool, false, not, ◌&&◌, List, filter, length}
 use Rattle.std.specs.List.{sum_by}
 use Rattle.perf_base.specs.declared.lines.CpuLine.{CpuLine}
@@ -14,8 +15,8 @@ use Rattle.world_spec.specs.StageOf.{stage_of}
 use Rattle.world_spec.specs.Value.{World}
 use Rattle.cpu_sched.specs.Tried.{tried}
 
--- Some processors of a stage are rescheduled, which leads to another stage: at least one test for each hardware event that is on there
--- then, and at most 272 for each event that counters are tried for.
+-- Some processors of a stage are rescheduled, which leads to another stage: at least one test for each hardware event
+-- that is on there then, and at most 272 for each event that counters are tried for.
 pub record AreCounted (hw : Hardware) (s after : Stage) (cpus : List CpuNo) (before now : ℕ) : Type 0 where
   pub least : before + sum_by (λ cpu. length (seated hw after cpu)) cpus ≤ now
   pub most : now ≤ before + 272 * sum_by (tried hw s) cpus
@@ -34,6 +35,7 @@ is_idle s (SeenStep ring place) = false
 abbrev pub rescheduled_by : Hardware → Stage → Step → List CpuNo
 rescheduled_by hw s x = filter (λ cpu. not (is_idle s x) && touches hw s x cpu) (all_cpus s)
 
--- A line takes the tests of rescheduling these processors once its own change is made. One that reschedules none takes none.
+-- A line takes the tests of rescheduling these processors once its own change is made. One that reschedules none takes
+-- none.
 abbrev pub IsCounted : Step → (w after : World) → (before now : ℕ) → Type 0
 IsCounted x w after before now = AreCounted w.hardware (changed w.hardware (stage_of w) x) (stage_of after) (rescheduled_by w.hardware (stage_of w) x) before now

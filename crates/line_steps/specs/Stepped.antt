@@ -16,18 +16,20 @@ use Rattle.sample_ring.specs.RingLists.{OutList}
 use Rattle.work_account.specs.Ends.{HaveAccounts}
 use Rattle.world_spec.specs.Value.{World, is_live, entry_at}
 
--- the limits of a world, of which no line speaks of a ring
+-- the limits of a world none of whose lines speaks of a ring
 abbrev pub limits_in : World → Limits
 limits_in w = record { cpus = length w.quiet.running; kinds = length w.hardware.kind_pmus; rings = [] }
 
--- Between lines the stage is sound, each processor stands as rescheduling leaves it, and each event that counts a processor counts one that the machine has.
+-- Between lines the stage is sound, each processor stands as rescheduling leaves it, and each event that counts a
+-- processor counts one that the machine has.
 pub record IsReady (w : World) : Type 0 where
   pub machine : IsMachine (limits_in w) w.hardware
   pub sound : IsSound w.hardware (stage_of w)
   pub rescheduled : AreRescheduled w.hardware w
   pub homes : (k : Key) (cpu : CpuNo) → is_live w k ≡ true → (entry_at w k).context ≡ context.Processor cpu → cpu.0 < length w.quiet.running
 
--- A line is done: whatever record the world agreed with, the answer is the one by that record, and the world agrees with the record after the line.
+-- A line is done: whatever record the world agreed with, the answer is the one by that record, and the world agrees
+-- with the record after the line.
 pub record IsDoneBy (x : Step) (w after : World) (reply : Reply) (r : Running) : Type 0 where
   pub answer : IsAnswerBy w.hardware r x reply
   pub agrees : AgreesWith after (record_after w.hardware r x)
@@ -35,7 +37,8 @@ pub record IsDoneBy (x : Step) (w after : World) (reply : Reply) (r : Running) :
 abbrev pub IsDone : Step → World → World → Reply → Type 0
 IsDone x w after reply = (r : Running) → AgreesWith w r → IsDoneBy x w after reply r
 
--- A line that may send records: whatever record the world agreed with, whose rings' accounts the ends had, they have the accounts of its rings after the line.
+-- A line that may send records: whatever record the world agreed with, whose rings' accounts the ends had, they have
+-- the accounts of its rings after the line.
 pub record IsDoneSending (x : Step) (w after : World) (sent : OutList) (reply : Reply) (r : Running) : Type 0 where
   pub done : IsDoneBy x w after reply r
   pub ends : HaveAccounts sent (record_after w.hardware r x).rings

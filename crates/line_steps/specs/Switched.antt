@@ -1,4 +1,5 @@
--- What a switch gives the events of a processor. After perf_event_task_sched_in and perf_sw_event of kernel/events/core.c.
+-- What a switch gives the events of a processor. After perf_event_task_sched_in and perf_sw_event of
+-- kernel/events/core.c.
 use Rattle.std.specs.Prelude.{ℕ, Bool, if◌then◌else◌}
 use Rattle.perf_base.specs.declared.attr.Kind.TheVariants as kind
 use Rattle.perf_base.specs.declared.numbers.CpuNo.{CpuNo}

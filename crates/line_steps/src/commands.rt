@@ -87,7 +87,7 @@ pub fn reset(world: &mut World, event: EventNo, group: bool) -> Reply
     }
 }
 
-/// Gives an event another period, in occurrences, of which a whole one is left then. Its copies that are there keep
+/// Gives an event another period, in occurrences, with a whole one left then. Its live copies keep
 /// theirs, and processors stay. Refused with NoEvent where the event is not open, with NotSampling where it has no
 /// period, and with ZeroPeriod where the new one is 0 or has its highest bit set.
 pub fn period(world: &mut World, event: EventNo, period: u64) -> Reply

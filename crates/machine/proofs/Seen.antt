@@ -1,5 +1,5 @@
--- A look at the tail of a ring leads from the acts before it to those acts and one more; and where the tail is seen again at the place that was seen last, the acts
--- that led there still do.
+-- A look at the tail of a ring leads from the acts before it to those acts and one more; and where the tail is seen
+-- again at the place that was seen last, the acts that led there still do.
 use Rattle.std.specs.Prelude.{◌≡◌, ℕ, zero, suc, ◌≤◌, ◌==◌, Bool, true, false, cond, List, [], ◌∷◌, ◌++◌, length, flat_map, Some, slice_get, slice_set, if◌then◌else◌}
 use Rattle.std.proofs.Common.{arith, refl, sym, ap, subst, ◌∙◌}
 use Rattle.std.proofs.lemmas.List.Sums.{sum_by_push}

@@ -11,7 +11,8 @@ use Rattle.sample_ring.specs.RingLists.{InList, HasReader}
 use Rattle.machine.specs.declared.ending.RingEnd.{RingEnd}
 use Rattle.machine.specs.Readers.{words_in}
 
--- its script, the order in which its lines were done, the answers to them, what each ring came to, and the rings' readers
+-- its script, the order in which its lines were done, the answers to them, what each ring came to, and the rings'
+-- readers
 pub record Ran : Type 0 where
   pub script : Scripted
   pub order : List Act
@@ -24,8 +25,8 @@ pub record HasTakenAll (ins : InList) (e : RingEnd) : Type 0 where
   pub there : HasReader ins e.ring
   pub words : 8 * length (words_in ins e.ring) ≡ e.numbers.head
 
--- No actor did more lines than the script gives it, each line that was done has its answer, in their order, and each ring of the script has its end, all of
--- whose words were taken.
+-- No actor did more lines than the script gives it, each line that was done has its answer, in their order, and each
+-- ring of the script has its end, all of whose words were taken.
 pub record IsRan (r : Ran) : Type 0 where
   pub counted : IsCounted r.script r.order
   pub lines : map (λ a. (a.0, a.1)) r.answers ≡ lines_from [] r.order
@@ -38,7 +39,8 @@ does_line (act.Processor cpu) = true
 does_line (act.Tool tool) = true
 does_line (act.Seen ring place) = false
 
--- The answer to the line that an act does: as many answers come before it as acts before the act do lines. A look has none.
+-- The answer to the line that an act does: as many answers come before it as acts before the act do lines. A look has
+-- none.
 abbrev pub answer_by : Ran → ℕ → Option Act → Option (Actor × ℕ × Reply)
 answer_by r n None = None
 answer_by r n (Some (act.Processor cpu)) = slice_get r.answers (count_by does_line (take n r.order))

@@ -1,5 +1,5 @@
--- What a table says of an event after some acts of a script: whether it is there, what its family has counted, whether it is in error, and what it counts. After
--- perf_event_open(2) and the rows of perf stat.
+-- What a table says of an event after some acts of a script: whether it is there, what its family has counted, whether
+-- it is in error, and what it counts. After perf_event_open(2) and the rows of perf stat.
 use Rattle.std.specs.Prelude.{◌≡◌, Bool, true, false, List, option_map, Option, Some, None, if◌then◌else◌}
 use Rattle.perf_base.specs.declared.acts.Act.{Act}
 use Rattle.perf_base.specs.declared.attr.Kind.{Kind}
@@ -16,7 +16,8 @@ use Rattle.stage_spec.specs.Stage.{Stage, Group, group_of, is_open, original_of}
 use Rattle.world_spec.specs.StageOf.{stage_of}
 use Rattle.machine.specs.Leading.{Kept}
 
--- the stage after some acts of a script, and what an event has counted by then with its copies, those that have exited among them; none where it is not open
+-- the stage after some acts of a script, and what an event has counted by then with its copies, those that have exited
+-- among them; none where it is not open
 abbrev pub stage_in : Scripted → List Act → Stage
 stage_in s acts = stage_after (hardware_of s) (opening_stage s) (history s acts)
 

@@ -1,4 +1,5 @@
--- What a machine keeps, which acts of a script lead to it, and what an act answers after them. This project's own profile.
+-- What a machine keeps, which acts of a script lead to it, and what an act answers after them. This project's own
+-- profile.
 use Rattle.std.specs.Prelude.{◌≡◌, ℕ, ◌<◌, List, [], ◌∷◌, length, slice_index_or}
 use Rattle.perf_base.specs.declared.acts.Act.{Act}
 use Rattle.perf_base.specs.declared.acts.Act.TheVariants as act
@@ -20,7 +21,8 @@ use Rattle.world_spec.specs.Agreement.{AgreesWith}
 use Rattle.world_spec.specs.Value.{World}
 use Rattle.line_steps.specs.Stepped.{IsReady}
 
--- how many lines each processor and each tool has done, the events with what they have counted, and the ends of the rings that send
+-- how many lines each processor and each tool has done, the events with what they have counted, and the ends of the
+-- rings that send
 pub record Kept : Type 0 where
   pub cpus : List ℕ
   pub tools : List ℕ
@@ -37,8 +39,9 @@ pub record IsWhole (m : Kept) : Type 0 where
 abbrev pub record_in : Scripted → List Act → Running
 record_in s acts = record_of (hardware_of s) (opening_stage s) s.rings (history s acts)
 
--- These acts of a script lead to a machine: no actor did more lines than it has and each look at a ring is lawful, the machine knows how many lines each
--- did, its world agrees with their record, and its ends have the accounts of the record's rings.
+-- These acts of a script lead to a machine: no actor did more lines than it has and each look at a ring is lawful, the
+-- machine knows how many lines each did, its world agrees with their record, and its ends have the accounts of the
+-- record's rings.
 pub record LeadTo (s : Scripted) (acts : List Act) (m : Kept) : Type 0 where
   pub counted : IsCounted s acts
   pub lawful : IsLawfulOrder s acts

@@ -12,8 +12,8 @@ use Rattle.sample_ring.specs.OutEnds.{OutEnd}
 use Rattle.sample_ring.specs.declared.sent.RingNumbers.{RingNumbers}
 use Rattle.sample_ring.specs.RingLists.{OutList, InList, HasReader, place_of}
 
--- A reader is of the ring of an end that sends, has taken and released just what stands before the last tail that this end has seen, and has room for so many
--- words.
+-- A reader is of the ring of an end that sends, has taken and released just what stands before the last tail that this
+-- end has seen, and has room for a number of words.
 pub record Follows (words : ℕ) (o : OutEnd) (i : InEnd) : Type 0 where
   pub ring : i.consumer.ring ≡ o.producer.ring
   pub up_to : IsUpTo i o.producer.last_tail
@@ -24,7 +24,8 @@ pub record AreFollowing (words : ℕ) (outs : OutList) (ins : InList) : Type 0 w
   pub numbers : ins.numbers ≡ outs.numbers
   pub each : (place : ℕ) (o : OutEnd) → slice_get outs.outs place ≡ Some o → (i : InEnd) × (slice_get ins.readers place ≡ Some (Some i)) × Follows words o i
 
--- A reader is of the ring of an end that sends, has released all that it has taken, and has room for so many words. The end may have seen less.
+-- A reader is of the ring of an end that sends, has released all that it has taken, and has room for a number of words.
+-- The end may have seen less.
 pub record IsReaderOf (words : ℕ) (o : OutEnd) (i : InEnd) : Type 0 where
   pub ring : i.consumer.ring ≡ o.producer.ring
   pub released : i.consumer.released ≡ length i.words
@@ -35,8 +36,8 @@ pub record AreReaders (words : ℕ) (outs : OutList) (ins : InList) : Type 0 whe
   pub numbers : ins.numbers ≡ outs.numbers
   pub each : (place : ℕ) (o : OutEnd) → slice_get outs.outs place ≡ Some o → (i : InEnd) × (slice_get ins.readers place ≡ Some (Some i)) × IsReaderOf words o i
 
--- A reader is of the ring of an end that sends, has released just what stands before the last tail that this end has seen, and has room for so many words. It may
--- have taken more than it has released.
+-- A reader is of the ring of an end that sends, has released just what stands before the last tail that this end has
+-- seen, and has room for a number of words. It may have taken more than it has released.
 pub record IsBehind (words : ℕ) (o : OutEnd) (i : InEnd) : Type 0 where
   pub ring : i.consumer.ring ≡ o.producer.ring
   pub released : 8 * i.consumer.released ≡ o.producer.last_tail
@@ -51,8 +52,8 @@ abbrev pub BehindTo : (few words : ℕ) → OutList → InList → Type 0
 BehindTo few words outs ins =
     (place : ℕ) (o : OutEnd) → place < few → slice_get outs.outs place ≡ Some o → (i : InEnd) × (slice_get ins.readers place ≡ Some (Some i)) × IsBehind words o i
 
--- A reader is of the ring of an end that sends, has released just what stands before the last tail that this end has seen, and has room for all words sent. It may
--- have taken more than it has released.
+-- A reader is of the ring of an end that sends, has released just what stands before the last tail that this end has
+-- seen, and has room for all words sent. It may have taken more than it has released.
 pub record Trails (o : OutEnd) (i : InEnd) : Type 0 where
   pub ring : i.consumer.ring ≡ o.producer.ring
   pub released : 8 * i.consumer.released ≡ o.producer.last_tail
@@ -72,7 +73,8 @@ words_of_slot (Some (Some i)) = i.words
 abbrev pub words_in : InList → RingNo → List ℕ
 words_in ins ring = words_of_slot (slice_get ins.readers (place_of ins.numbers ring))
 
--- how many records the reader of a ring has taken, and the place behind the words that it has released, in bytes from the start of the stream; 0 where it is not there
+-- how many records the reader of a ring has taken, and the place behind the words that it has released, in bytes from
+-- the start of the stream; 0 where it is not there
 abbrev pub records_of_slot : Option (Option InEnd) → ℕ
 records_of_slot None = 0
 records_of_slot (Some None) = 0

@@ -18,6 +18,7 @@ pub record HasRoom (w : World) : Type 0 where
   pub clocks : (cpu : CpuNo) → slice_index_or w.quiet.clocks cpu.0 0 + 1000000000 < 2 ^ 63
   pub ids : w.quiet.next_id + 4097 < 2 ^ 63
 
--- A line of a tool whose numbers are in their ranges, and whose processor and kind the machine has. Which rings it may name, a script says.
+-- A line of a tool whose numbers are in their ranges, and whose processor and kind the machine has. Which rings it may
+-- name, a script says.
 abbrev pub IsLineFor : World → ToolLine → Type 0
 IsLineFor w line = (rings : List (RingNo × ℕ)) × IsToolLine (length w.quiet.running) (length w.hardware.kind_pmus) rings line

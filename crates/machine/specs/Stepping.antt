@@ -31,7 +31,8 @@ HasNoLine s m (act.Processor cpu) = HasLine s m (actor.Processor cpu) → ⊥
 HasNoLine s m (act.Tool tool) = HasLine s m (actor.Tool tool) → ⊥
 HasNoLine s m (act.Seen ring place) = ⊥
 
--- A look at a place that is not lawful after some acts: there a ring's tail was seen last at `last`, and its head is `head`.
+-- A look at a place that is not lawful after some acts: there a ring's tail was seen last at `last`, and its head is
+-- `head`.
 pub record IsUnlawful (s : Scripted) (acts : List Act) (ring : RingNo) (last head given : ℕ) : Type 0 where
   pub seen_last : last ≡ last_seen ring acts
   pub headed : head ≡ head_of (account_in s acts (ring, bytes_of s ring))

@@ -16,7 +16,7 @@ use ring_taking::take_all;
 use sample_ring::{Ins, RingNumbers, Rings};
 
 /// What a ring came to: which it is, and where its head and the last tail seen are, in bytes from the start of the
-/// stream, how many of its records were lost in all, and how many of them no LOST record has told.
+/// stream, how many of its records were lost in all, and how many of them no LOST record has stated.
 #[derive(Clone, Copy, PartialEq, Eq, Debug)]
 pub struct RingEnd {
     pub ring: RingNo,

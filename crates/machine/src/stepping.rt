@@ -123,8 +123,8 @@ impl Machine {
     /// Does one act of a replay. A processor or a tool does its next line, which is answered. A look at a ring, which
     /// is one of the script's, is answered with Ok where the tail may be seen at its place: then the ring's reader
     /// takes the records before that place, and the place is the last tail seen. Each reader has room for 9 words for
-    /// each unit of the script's weight. A line leaves the readers, and one that is refused leaves the world and the ends
-    /// that send. It takes no memory.
+    /// each unit of the script's weight. A line leaves the readers, and one that is refused leaves the world and the
+    /// ends that send. It takes no memory.
     ///
     /// It fails with `NoLine` exactly where the actor has no line left, and with `BadSeen` exactly where the place is
     /// below the last one seen, above the head or not the end of a record; then nothing changes.

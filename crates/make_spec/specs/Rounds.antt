@@ -32,7 +32,7 @@ made_kinds =
     record { name = codes "branches"; pmu = 0; mask = 3 } ∷
     record { name = codes "misses"; pmu = 0; mask = 4 } ∷ []
 
--- what f gives for each of so many numbers, from 0 on; and where it gives lists, these one after the other
+-- what f gives for each number below a limit; and where it gives lists, these one after the other
 abbrev pub for_each : {X : Type 0} → ℕ → (ℕ → X) → List X
 for_each n f = map f (range_with_len 0 n)
 
@@ -61,12 +61,12 @@ round_lines p i =
     cpu_line.Tick ∷
     cpu_line.Switch None ∷ []
 
--- what a processor does in so many rounds
+-- what a processor does in a number of rounds
 abbrev pub processor_lines : ℕ → ℕ → List CpuLine
 processor_lines n p = for_each_all n (round_lines p)
 
--- an event that samples the cycles of all tasks on one processor, with its ring: each sample has the ip, the task and the time,
--- and a read has the two times and the lost count
+-- an event that samples the cycles of all tasks on one processor, with its ring: each sample has the ip, the task and
+-- the time, and a read has the two times and the lost count
 abbrev pub sampling_lines : ℕ → List ToolLine
 sampling_lines p =
     tool_line.Open (record { 0 = p }) (record {

@@ -1,4 +1,4 @@
--- What holds of the script of N rounds, and of its totals.
+-- What holds of the script of N rounds, and of its totals. This project's own profile.
 use Rattle.std.specs.Prelude.{◌≡◌, ℕ, ◌+◌, ◌*◌, List, Some, slice_get}
 use Rattle.perf_base.specs.declared.numbers.RingNo.{RingNo}
 use Rattle.perf_base.specs.declared.acts.Act.TheVariants as act

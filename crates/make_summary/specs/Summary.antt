@@ -11,14 +11,14 @@ use Rattle.machine.specs.Readers.{words_in}
 use Rattle.report.specs.Told.{records_in}
 use Rattle.make_summary.specs.declared.summary.Totals.{Totals}
 
--- the first word of a read: the event's count, or how many members a group has that is read whole (perf_event_open(2)); 0 of a read of no word, which an
--- event in effective error gives, and of any other answer
+-- the first word of a read: the event's count, or how many members a group has that is read whole (perf_event_open(2));
+-- 0 of a read of no word, which an event in effective error gives, and of any other answer
 abbrev pub first_word : Reply → ℕ
 first_word (reply.Read words) = slice_index words 0
 first_word r = 0
 
--- how many lines the script has, the first words of all reads, added up, and how many records were written and lost on all rings: LOST records are among those
--- written, and losses that none of them has told are among those lost
+-- how many lines the script has, the first words of all reads, added up, and how many records were written and lost on
+-- all rings: LOST records are among those written, and losses that none of them has stated are among those lost
 abbrev pub totals_of : Scripted → List Answered → List (RingNo × Account) → Totals
 totals_of s answers rings = record {
   lines = line_count s;

@@ -33,7 +33,7 @@ pub fn count_written(ended: &Ended) -> u128
     count
 }
 
-/// How many records were lost on rings, those among them that no LOST record has told.
+/// How many records were lost on rings, those among them that no LOST record has stated.
 pub fn count_lost(ends: &[RingEnd]) -> u128
     ensures { result ≡ sum_by (λ e. e.numbers.lost) ends.now }
 {

@@ -21,7 +21,7 @@ pub struct Totals {
     pub sum: u128,
     /// How many records were written on all rings, LOST records among them.
     pub records: u128,
-    /// How many records were lost on all rings, those among them that no LOST record has told.
+    /// How many records were lost on all rings, those among them that no LOST record has stated.
     pub lost: u128,
 }
 

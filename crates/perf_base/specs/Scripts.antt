@@ -37,7 +37,7 @@ pub record Scripted : Type 0 where
   pub readers : List ReaderLine
   pub order : List Act
 
--- a script of so many processors that says nothing else
+-- a script that says how many processors there are, and nothing else
 abbrev pub empty_script : ℕ → Scripted
 empty_script n = record { cpus = n; pmus = []; kinds = []; tasks = []; rings = []; cpu_lines = replicate 8 []; tool_lines = replicate 4 []; readers = []; order = [] }
 

@@ -1,6 +1,6 @@
-// The plain types that every other crate shares: numbers, attributes, lines of a script, acts, answers
-// and the script itself. Contracts see the small lists as lists, the flags as a number, and a script as
-// the record of what it says. It serves every crate of the repository.
+//! The plain types that every other crate shares: numbers, attributes, lines of a script, acts, answers
+//! and the script itself. Contracts see the small lists as lists, the flags as a number, and a script as
+//! the record of what it says. It serves every crate of the repository.
 #![tactic(auto)]
 
 mod acts;

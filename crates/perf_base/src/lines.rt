@@ -93,7 +93,7 @@ pub enum ToolLine {
     },
 }
 
-/// What the reader of a ring does: a number of tries, in each of which it takes at most `batch` records.
+/// What the reader of a ring does: a number of tries. In each it takes at most `batch` records.
 #[derive(Clone, Copy, PartialEq, Eq, Debug)]
 pub struct ReaderLine {
     pub ring: RingNo,

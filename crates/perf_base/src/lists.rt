@@ -98,7 +98,7 @@ impl<T: Filling, const ROOM: usize> ShortList<T, ROOM> {
         }
     }
 
-    /// The list of the entries of a slice, of which there are at most `ROOM`.
+    /// The list of the entries of a slice, at most `ROOM` of them.
     pub fn from_slice(entries: &[T]) -> Self
         requires { length entries.now ≤ ROOM }
         ensures { result ≡ entries.now }

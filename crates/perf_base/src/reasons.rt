@@ -31,7 +31,7 @@ pub enum Reason {
     /// A sibling that is pinned or exclusive; Linux gives EINVAL.
     SiblingFlags,
     /// An inherited event that may not be mapped, or a sibling that inherits otherwise than its
-    /// leader; Linux gives EINVAL for a mapping.
+    /// leader; Linux gives EINVAL, and takes such a sibling where all tasks are counted.
     Inherit,
     /// The group has 8 members; own.
     GroupFull,
@@ -59,7 +59,7 @@ pub enum Reason {
     NoRing,
     /// Hardware members of different PMUs; Linux gives EINVAL.
     OtherPmu,
-    /// A hardware kind on a processor of another PMU; Linux gives ENODEV.
+    /// A hardware kind on a processor of another PMU; Linux gives ENOENT.
     NoDevice,
 }
 

@@ -15,7 +15,8 @@ no_ring = (record { 0 = 0 }, 0)
 abbrev pub Rising : List (RingNo × ℕ) → Type 0
 Rising rings = AllPairs (λ q r. q.0.0 < r.0.0) rings
 
--- After the first rings the acts are those before and looks at these rings, each at a place above the last one of its ring.
+-- After the first rings the acts are those before and looks at these rings, each at a place above the last one of its
+-- ring.
 pub record Looked (rings : List (RingNo × ℕ)) (n : ℕ) (before items : List Act) : Type 0 where
   pub looks : List Act
   pub are : AreLooks 0 before looks

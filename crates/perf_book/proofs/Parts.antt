@@ -115,7 +115,8 @@ last-other acts ring other place off = fold-append (seen_at ring) 0 acts (act.Se
     one true e = absurd (off (grind (arith, nat_tests, e)))
     one false e = refl
 
--- The last look at each of the first rings saw what its reader has released, and the reader's words are those of the first records that were written.
+-- The last look at each of the first rings saw what its reader has released, and the reader's words are those of the
+-- first records that were written.
 abbrev pub IsPart : Scripted → (before items : List Act) → InList → RingNo → Type 0
 IsPart s before items ins ring =
     (last_seen ring items ≡ released_in ins ring) × (words_in ins ring ≡ words_of (take (records_in ins ring) (account_in s before (ring, bytes_of s ring)).written))
@@ -139,7 +140,8 @@ parts-more k s before items later ins rise low next parts own j below inside = e
     still ring less (inl same) = ap (last_seen ring) same
     still ring less (inr look) = ap (last_seen ring) look.2 ∙ last-other items ring (slice_index_or s.rings k no_ring).0 look.0 (λ e. omega (arith, less, e))
 
--- Where a reader is behind its end, the place that it has released is the last tail seen; and once the ends of one ring have met, all readers are still behind.
+-- Where a reader is behind its end, the place that it has released is the last tail seen; and once the ends of one ring
+-- have met, all readers are still behind.
 pub met-still : (words k : ℕ) (ring : RingNo) (outs later_outs : OutList) (ins later_ins : InList) (o : OutEnd) → out_of outs ring ≡ Some o → place_of outs.numbers ring ≡ k
     → MeetsEnd ring outs later_outs ins → MeetsReader ring outs ins later_ins → AreBehind words outs ins
     → (released_in ins ring ≡ o.producer.last_tail) × AreBehind words later_outs later_ins
@@ -200,7 +202,8 @@ released-words words outs ins ring k place low h = elim (slice_get_cases outs.ou
   | inr (past, _) ↦ absurd (omega (arith, past, low))
 ]
 
--- What the last looks saw is what the readers had released, and no more records stand before them than the readers had taken.
+-- What the last looks saw is what the readers had released, and no more records stand before them than the readers had
+-- taken.
 pub all-parts : (k : ℕ) (s : Scripted) (words : ℕ) (before items : List Act) (outs : OutList) (ins : InList) → All (λ r. bytes_of s r.0 ≡ r.1) s.rings → length s.rings ≤ k
     → outs.numbers ≡ map (λ r. r.0) s.rings → length outs.outs ≡ length s.rings → Rising s.rings → AreReaders words outs ins → Looked s.rings k before items → PartsTo k s before items ins
     → AreParts s items ins

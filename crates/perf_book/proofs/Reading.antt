@@ -66,7 +66,8 @@ rest-ready rings ins line rest rise ready k d low =
       released = its.released;
     }
 
--- The readers of some lines have read while the one of a line before them was out: its slot is empty still, and with it back all have read.
+-- The readers of some lines have read while the one of a line before them was out: its slot is empty still, and with it
+-- back all have read.
 pub still-out : (ins out inner : InList) (lines rest : List ReaderLine) (line : ReaderLine) (reader : InEnd) → lines ≡ line ∷ rest → AllPairs (λ q r. q.ring.0 < r.ring.0) lines
     → slot_of ins line.ring ≡ Some (Some reader) → out ≡ with_slot ins (place_of ins.numbers line.ring) None
     → ((ring : RingNo) → IsReadBy (line_for rest ring) out inner ring) → IsOut inner line.ring

@@ -1,5 +1,5 @@
--- What a book keeps: a script, the acts that were done of it, in their order, with the answers to them, and the machine that they lead to. This project's own
--- profile.
+-- What a book keeps: a script, the acts that were done of it, in their order, with the answers to them, and the machine
+-- that they lead to. This project's own profile.
 use Rattle.std.specs.Prelude.{◌≡◌, ℕ, ◌+◌, ◌*◌, ◌<◌, ◌≤◌, ⊤, List, [], count_by, length, map, sum_by}
 use Rattle.perf_base.specs.declared.acts.Act.{Act}
 use Rattle.perf_base.specs.declared.acts.Act.TheVariants as act
@@ -12,15 +12,16 @@ use Rattle.machine.specs.Leading.{Kept, LeadTo}
 use Rattle.report_spec.specs.Answers.{answered, IsAnswered}
 use Rattle.run_laws.specs.Growing.{AreLooks, is_cpu_act, is_look}
 
--- the script, the machine, the order, and the answer to each line that was done, with its actor and its number among that actor's lines, from 0
+-- the script, the machine, the order, and the answer to each line that was done, with its actor and its number among
+-- that actor's lines, from 0
 pub record Booked : Type 0 where
   pub script : Scripted
   pub machine : Kept
   pub order : List Act
   pub answers : List (Actor × ℕ × Reply)
 
--- The script's processors are of PMUs, it is not too heavy, its order leads to the machine and has these answers, and there are no more looks than the script's own
--- order may have and 16 for each act of a processor.
+-- The script's processors are of PMUs, it is not too heavy, its order leads to the machine and has these answers, and
+-- there are no more looks than the script's own order may have and 16 for each act of a processor.
 pub record IsBooked (b : Booked) : Type 0 where
   pub script : IsScript b.script
   pub covered : IsCovered b.script
@@ -35,7 +36,8 @@ MayAct (act.Processor cpu) b = ⊤
 MayAct (act.Tool tool) b = ⊤
 MayAct (act.Seen ring place) b = count_by is_look b.order < length b.script.order
 
--- the room that all acts of a script need: those of its own order, a line each and 16 looks for each line of a processor, and 16 looks at the end
+-- the room that all acts of a script need: those of its own order, a line each and 16 looks for each line of a
+-- processor, and 16 looks at the end
 abbrev pub most_acts : Scripted → ℕ
 most_acts s = length s.order + 16 * sum_by length s.cpu_lines + line_count s + 16
 

@@ -1,4 +1,4 @@
--- How the value of a book is stored: as the tuple of its parts.
+-- How the value of a book is stored: as the tuple of its parts. This project's own profile.
 use Rattle.std.specs.Prelude.{ℕ, List, refl}
 use Rattle.std.specs.Coded.{Coded, code_by, coded×, coded_ℕ, coded_list}
 use Rattle.perf_base.specs.contracts.acts.Act.{the_row as act_row}

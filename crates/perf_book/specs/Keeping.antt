@@ -23,6 +23,7 @@ abbrev pub kept : Option (Actor × ℕ) → Reply → List (Actor × ℕ × Repl
 kept None reply = []
 kept (Some line) reply = (line.0, line.1, reply) ∷ []
 
--- The answer to an act is kept behind the others. Where it is a refusal the machine's world is as it was before the act.
+-- The answer to an act is kept behind the others. Where it is a refusal the machine's world is as it was before the
+-- act.
 abbrev pub KeepsAnswer : Option (Actor × ℕ) → (m after : Kept) → (before now : List (Actor × ℕ × Reply)) → Type 0
 KeepsAnswer line m after before now = (reply : Reply) × (now ≡ before ++ kept line reply) × StaysIfRefused m.world after.world reply

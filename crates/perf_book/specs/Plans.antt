@@ -1,4 +1,4 @@
--- What the threads of a run are told of its script. This project's own profile.
+-- What the threads of a run know of its script. This project's own profile.
 use Rattle.std.specs.Prelude.{◌≡◌, ℕ, ◌-◌, ◌<◌, ◌≤◌, List, length, take, nat_lt, slice_index_or, if◌then◌else◌}
 use Rattle.perf_base.specs.declared.acts.Actor.{Actor}
 use Rattle.perf_base.specs.declared.acts.Actor.TheVariants as actor
@@ -19,7 +19,7 @@ count_of s (actor.Reader ring) = 0
 abbrev pub AreTurns : Scripted → List (Actor × ℕ) → Type 0
 AreTurns s turns = (place : ℕ) (d : Actor × ℕ) → place < 12 → slice_index_or turns place d ≡ (actor_at place, count_of s (actor_at place))
 
--- the lines of the readers are the first so many
+-- the lines of the readers are the first ones
 pub record IsPlanned (of readers : List ReaderLine) (count : ℕ) : Type 0 where
   pub few : count ≤ 16
   pub lines : take count readers ≡ of

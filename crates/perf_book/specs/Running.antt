@@ -9,11 +9,13 @@ use Rattle.sample_ring.specs.RingLists.{HasRing, InList, RingList, place_of}
 use Rattle.report_spec.specs.Answers.{IsRunShaped, reader_of}
 use Rattle.run_laws.specs.Growing.{EndsWithLine}
 
--- the order of a run between two of its lines: each look is one that a run makes, and the last act, if there is one, is a line
+-- the order of a run between two of its lines: each look is one that a run makes, and the last act, if there is one, is
+-- a line
 abbrev pub IsUnderWay : List Act → Type 0
 IsUnderWay order = IsRunShaped order × EndsWithLine order
 
--- The reader has loaded the head once for each try of its line, taken no more records than the line allows, and released all that it has taken.
+-- The reader has loaded the head once for each try of its line, taken no more records than the line allows, and
+-- released all that it has taken.
 pub record HasRead (line : ReaderLine) (i j : InEnd) : Type 0 where
   pub ring : j.consumer.ring ≡ i.consumer.ring
   pub room : j.room ≡ i.room

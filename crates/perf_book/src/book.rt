@@ -49,9 +49,9 @@ impl Model for Book {
 }
 
 impl Book {
-    /// A book of which no line was done, of a script each of whose processors is of a PMU, of a weight of at most
-    /// 65,536 and with at most 4,194,304 acts in its order, and of the ends that send of the script's rings, which are
-    /// new. It takes all memory that any run of the script needs, and fails only where there is not so much; then
+    /// A book whose lines are all still to be done, of a script each of whose processors is of a PMU, of a weight of at
+    /// most 65,536 and with at most 4,194,304 acts in its order, and of the ends that send of the script's rings, which
+    /// are new. It takes all memory that any run of the script needs, and fails only where there is not so much; then
     /// script and ends are gone.
     pub fn new(alloc: Global, script: Script, outs: Outs) -> Result<Book, NoMemory>
         requires covered { IsCovered script }
@@ -131,9 +131,9 @@ impl Book {
 
     /// Does one act of a given order. A processor or a tool does its next line. A look at a ring, which is one of the
     /// script's, is done where the tail may be seen at its place: then the ring's reader takes the records before that
-    /// place. The act is kept, with the answer to its line. A line that is refused leaves the machine's world as it was.
-    /// Before a look there are fewer looks than acts in the script's own order, and each reader has room for 9 words for
-    /// each unit of the script's weight. It takes no memory.
+    /// place. The act is kept, with the answer to its line. A line that is refused leaves the machine's world as it
+    /// was. Before a look there are fewer looks than acts in the script's own order, and each reader has room for 9
+    /// words for each unit of the script's weight. It takes no memory.
     ///
     /// It fails with `NoLine` exactly where the actor has no line left, and with `BadSeen` exactly where the place is
     /// below the last one seen, above the head or not the end of a record; then nothing changes.

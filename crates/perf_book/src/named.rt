@@ -71,7 +71,7 @@ pub fn advance_one(book: &mut Book, rings: &Rings, actor: Actor)
 }
 
 impl<J: Naming> Named<J> {
-    /// A book of which no line was done, by its name.
+    /// A book whose lines are all still to be done, by its name.
     pub fn new(book: Book) -> Named<J>
         requires script { book.script ≡ J.script }
         requires together { AreTogether J.rings book.machine.outs }

@@ -2,20 +2,20 @@
 -- of reading and writing.
 use Rattle.std.specs.Prelude.{◌≡◌, ℕ, ◌<◌, ◌⊎◌, List, [], ◌++◌, ⊤, Option, None, Some}
 
--- Where bytes are told, the first of them are taken and the others are left. Nothing is claimed where they
--- are not told.
+-- Where bytes are shown, the first of them are taken and the others are left. Nothing is claimed where they
+-- are not shown.
 abbrev pub Takes : Option (List ℕ) → Option (List ℕ) → List ℕ → Type 0
 Takes None new taken = ⊤
 Takes (Some left) None taken = ⊥
 Takes (Some left) (Some rest) taken = left ≡ taken ++ rest
 
--- Where bytes are told, these stand behind them now.
+-- Where bytes are shown, these stand behind them now.
 abbrev pub Adds : Option (List ℕ) → Option (List ℕ) → List ℕ → Type 0
 Adds None new added = ⊤
 Adds (Some held) None added = ⊥
 Adds (Some held) (Some longer) added = longer ≡ held ++ added
 
--- Where bytes are told, none is left.
+-- Where bytes are shown, none is left.
 abbrev pub IsAtEnd : Option (List ℕ) → Type 0
 IsAtEnd None = ⊤
 IsAtEnd (Some left) = left ≡ []

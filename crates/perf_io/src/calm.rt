@@ -7,7 +7,7 @@ use crate::copying::copy_front;
 use crate::outside::{Failed, Sink, Source};
 use std::marker::Model;
 
-/// Bytes in memory, of which each read gives as many as its buffer takes. A contract sees the bytes that
+/// Bytes in memory: each read gives as many as its buffer takes. A contract sees the bytes that
 /// no read has given yet.
 #[derive(Drop)]
 pub struct CalmSource {

@@ -1,6 +1,6 @@
-// The outside: sources of bytes and sinks for them, with a count of faults that tells an honest failure
-// from an invented one. A contract sees what a source has left, what a sink holds and how much of that
-// was flushed, each where it is told. It serves every crate that reads or writes.
+//! The outside: sources of bytes and sinks for them, with a count of faults that tells an honest failure
+//! from an invented one. A contract sees what a source has left, what a sink holds and how much of that
+//! was flushed, each where the object shows it. It serves every crate that reads or writes.
 #![tactic(auto)]
 
 mod calm;

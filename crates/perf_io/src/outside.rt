@@ -9,7 +9,7 @@ pub struct Failed;
 
 /// Bytes to read.
 pub trait Source {
-    // The bytes left, where the source tells them.
+    // The bytes left, where the source shows them.
     ghost left: { Self → Option (List ℕ) };
 
     // How many faults there were.
@@ -31,10 +31,10 @@ pub trait Source {
 
 /// A place for bytes.
 pub trait Sink {
-    // The bytes that it holds, where the sink tells them.
+    // The bytes that it holds, where the sink shows them.
     ghost held: { Self → Option (List ℕ) };
 
-    // How many bytes it held when `flush` last answered Ok, where it tells its bytes.
+    // How many bytes it held when `flush` last answered Ok, where it shows its bytes.
     ghost flushed: { Self → ℕ };
 
     // How many faults there were.

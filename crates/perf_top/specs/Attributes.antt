@@ -1,5 +1,5 @@
--- What `attr BYTES` writes of the bytes of a struct perf_event_attr (perf_event_open(2)). The words and the line are this
--- project's own profile.
+-- What `attr BYTES` writes of the bytes of a struct perf_event_attr (perf_event_open(2)). The words and the line are
+-- this project's own profile.
 use Rattle.std.specs.Prelude.{◌≡◌, ◌⊎◌, ℕ, List, [], ◌∷◌, ◌++◌, flat_map, Some, codes, decimal}
 use Rattle.std.specs.List.{join_with_byte}
 use Rattle.attr_bytes.specs.declared.raw.RawAttr.{RawAttr}

@@ -11,7 +11,8 @@ use Rattle.perf_top.specs.declared.replay.Ready.{Ready}
 abbrev pub AreUnread : InList → Type 0
 AreUnread ins = (place : ℕ) (i : InEnd) → slice_get ins.readers place ≡ Some (Some i) → (i.records ≡ 0) × (i.consumer.released ≡ 0)
 
--- The whole order of the script was done; both ends of each ring are of it, and each reader has taken what stands before the last look at its tail.
+-- The whole order of the script was done; both ends of each ring are of it, and each reader has taken what stands
+-- before the last look at its tail.
 pub record IsFilled (r : Ready) : Type 0 where
   pub order : r.book.order ≡ r.book.script.order
   pub together : AreTogether r.rings r.book.machine.outs

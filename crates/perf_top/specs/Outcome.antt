@@ -50,8 +50,8 @@ DoesOrder words = IsReplay words ⊎ IsStat words
 abbrev pub ReadsScript : List (List ℕ) → Type 0
 ReadsScript words = DoesOrder words ⊎ IsRun words
 
--- the words that have the script of N rounds made and its own order done, and those that have it made and printed: from 1 round to 1000, in decimal without
--- leading zeros
+-- the words that have the script of N rounds made and its own order done, and those that have it made and printed: from
+-- 1 round to 1000, in decimal without leading zeros
 abbrev pub IsMake : List (List ℕ) → ℕ → Type 0
 IsMake words n = (1 ≤ n) × (n ≤ 1000) × (words ≡ codes "make" ∷ decimal n ∷ [])
 
@@ -72,8 +72,8 @@ pub record Gave (before after : Option (List ℕ)) (text : List ℕ) : Type 0 wh
   pub taken : Takes before after text
   pub ended : IsAtEnd after
 
--- Over an order of a script the records that are sent to a ring are the samples written on it and those that it lost, and those lost are told by LOST records or
--- pending.
+-- Over an order of a script the records that are sent to a ring are the samples written on it and those that it lost,
+-- and LOST records state those lost or they are pending.
 pub record IsConserved (s : Scripted) (order : List Act) (ring : RingNo × ℕ) : Type 0 where
   pub sent : count_by (is_to ring.0) (sent_by_steps (hardware_of s) (opening_stage s) (history s order))
       ≡ count_by is_sample (account_in s order ring).written + length (account_in s order ring).lost
@@ -101,8 +101,9 @@ pub record IsReplayed (text out : List ℕ) : Type 0 where
   pub complete : IsComplete script script.order
   pub reported : IsReported script script.order out
 
--- The text stands for a script, and these bytes are the report of a complete order that a run may leave: looks at rings stand before a processor's line or at the
--- end, by rising rings, each further than the last one, and each reader took no more records than its tries allow.
+-- The text stands for a script, and these bytes are the report of a complete order that a run may leave: looks at rings
+-- stand before a processor's line or at the end, by rising rings, each further than the last one, and each reader took
+-- no more records than its tries allow.
 pub record IsRunOf (text out : List ℕ) : Type 0 where
   pub script : Scripted
   pub order : List Act
@@ -112,7 +113,8 @@ pub record IsRunOf (text out : List ℕ) : Type 0 where
   pub parts : AreReadersParts script order
   pub reported : IsReported script order out
 
--- The text stands for a script whose order is complete and lawful, and these bytes are the table of what its events have counted over that order.
+-- The text stands for a script whose order is complete and lawful, and these bytes are the table of what its events
+-- have counted over that order.
 pub record IsTabled (text out : List ℕ) : Type 0 where
   pub script : Scripted
   pub stands : StandsFor text script
@@ -120,8 +122,8 @@ pub record IsTabled (text out : List ℕ) : Type 0 where
   pub lawful : IsLawfulOrder script script.order
   pub is : out ≡ table_text (rows_of script script.order)
 
--- The act of this number, from 0, is the first look of a script's own order that is not lawful: the acts before it leave the ring's tail seen last at `last`, and its
--- head at `head`, and there it can't be seen at the place given.
+-- The act of this number, from 0, is the first look of a script's own order that is not lawful: the acts before it
+-- leave the ring's tail seen last at `last`, and its head at `head`, and there it can't be seen at the place given.
 pub record HasBadLook (s : Scripted) (index : ℕ) (ring : RingNo) (last head given : ℕ) : Type 0 where
   pub look : slice_get s.order index ≡ Some (act.Seen ring given)
   pub before : IsLawfulOrder s (take index s.order)
@@ -144,11 +146,13 @@ pub record HasOpenOrder (text : List ℕ) (line : ℕ) (reason : SReason) : Type
   pub at_end : line ≡ length (lines_of text)
   pub is_order : reason ≡ s_reason.Order
 
--- The text is no script, by its first faulty line; or, where the script's own order is to be done, one whose order is not complete.
+-- The text is no script, by its first faulty line; or, where the script's own order is to be done, one whose order is
+-- not complete.
 abbrev pub IsBadScript : List (List ℕ) → List ℕ → ℕ → SReason → Type 0
 IsBadScript words text line reason = IsRefused text line reason ⊎ (DoesOrder words × HasOpenOrder text line reason)
 
--- These bytes are the summary of the script of N rounds: of answers to its own order, and of what its rings came to over that order.
+-- These bytes are the summary of the script of N rounds: of answers to its own order, and of what its rings came to
+-- over that order.
 pub record IsSummary (n : ℕ) (out : List ℕ) : Type 0 where
   pub answers : List Answered
   pub answered : IsAnswered (script_of_rounds n) (script_of_rounds n).order answers
@@ -158,8 +162,9 @@ pub record IsSummary (n : ℕ) (out : List ℕ) : Type 0 where
 abbrev pub IsMade : List (List ℕ) → ℕ → List ℕ → Type 0
 IsMade words n out = (IsMake words n × IsSummary n out) ⊎ (IsMakeScript words n × (out ≡ printed (script_of_rounds n)))
 
--- What the words have written: under `replay` and `run` the report of the text that the source gave, to its end, and under `stat` its table; under `make` the summary
--- or the text of a made script, and under `attr` the line of the bytes that the second word spells, for which no source is read.
+-- What the words have written: under `replay` and `run` the report of the text that the source gave, to its end, and
+-- under `stat` its table; under `make` the summary or the text of a made script, and under `attr` the line of the bytes
+-- that the second word spells, for which no source is read.
 abbrev pub IsOutput : List (List ℕ) → Option (List ℕ) → Option (List ℕ) → List ℕ → Type 0
 IsOutput words before after out =
     (IsReplay words × ((text : List ℕ) × Gave before after text × IsReplayed text out))

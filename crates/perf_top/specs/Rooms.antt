@@ -1,4 +1,4 @@
--- How a line with a fixed room counts its faults.
+-- How a line with a fixed room counts its faults. This project's own profile.
 use Rattle.std.specs.Prelude.{ℕ, nat_lt, if◌then◌else◌}
 
 -- that a line of 512 bytes is full is its one fault

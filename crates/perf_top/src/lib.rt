@@ -1,7 +1,7 @@
-// The top call: it reads a script to its end, does its order, and writes the report, or the table of what its events
-// have counted; or it makes a script and writes what its report sums up to, or the script itself; or it writes what the
-// bytes of an attribute say. Its contract speaks of the bytes that the source had left and of those that the sink and
-// the notes hold. It serves the program.
+//! The top call: it reads a script to its end, does its order, and writes the report, or the table of what its events
+//! have counted; or it makes a script and writes what its report sums up to, or the script itself; or it writes what
+//! the bytes of an attribute say. Its contract speaks of the bytes that the source had left and of those that the sink
+//! and the notes hold. It serves the program.
 #![tactic(auto)]
 
 ghost use Rattle.std.specs.Prelude.{◌≡◌, ◌⊎◌, ◌↔◌, ℕ, ◌∷◌, [], ◌≤◌, ◌<◌, List, length, map, codes, IsTrue, IfSome, MatchOption, string_bytes};
@@ -63,7 +63,7 @@ fn is_stat(words: &[String]) -> bool
     words.len() == 1 && words[0].as_str() == "stat"
 }
 
-/// The second of two words of which the first is `attr`.
+/// The second of two words, where the first is `attr`.
 fn attr_word(words: &[String]) -> Option<&str>
     ensures { MatchOption result
         ((t : List ℕ) → map string_bytes words.now ≡ codes "attr" ∷ t ∷ [] → ⊥)

@@ -56,7 +56,7 @@ fn rounds_of(word: &str) -> Option<u32>
     }
 }
 
-/// The rounds of the script that two words have made, of which the first is `make`.
+/// The rounds of the script that two words have made, the first of them `make`.
 pub fn rounds_to_do(words: &[String]) -> Option<u32>
     ensures { MatchOption result ((n : ℕ) → IsMake (map string_bytes words.now) n → ⊥) (λ n. IsMake (map string_bytes words.now) n) }
 {
@@ -67,7 +67,7 @@ pub fn rounds_to_do(words: &[String]) -> Option<u32>
     }
 }
 
-/// The rounds of the script that three words have made, of which the first is `make` and the last `script`.
+/// The rounds of the script that three words have made, the first of them `make` and the last `script`.
 pub fn rounds_to_print(words: &[String]) -> Option<u32>
     ensures { MatchOption result ((n : ℕ) → IsMakeScript (map string_bytes words.now) n → ⊥) (λ n. IsMakeScript (map string_bytes words.now) n) }
 {

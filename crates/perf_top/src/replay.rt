@@ -144,7 +144,7 @@ fn replay(alloc: Global, script: Script) -> Result<Ready, RunStop>
     }
 }
 
-/// What is left of a run of which the whole order was done.
+/// What is left of a run whose whole order was done.
 fn finish(ready: Ready) -> Ended
     requires filled { IsFilled ready }
     ensures script { result.script ≡ ready.book.script }

@@ -1,4 +1,4 @@
--- How the value of a world is stored: as the tuple of its parts.
+-- How the value of a world is stored: as the tuple of its parts. This project's own profile.
 use Rattle.std.specs.Prelude.{ℕ, List, Option, refl}
 use Rattle.std.specs.Coded.{Coded, code_by, coded×, coded_ℕ, coded_list, coded_option}
 use Rattle.std.specs.FinMap.{FinMap, code}

@@ -24,7 +24,8 @@ words_line taken words = fate_text taken ++ (words_text words ++ 10 ∷ [])
 abbrev pub words_behind : ℕ → ℕ
 words_behind first = size_field first / 8 - 1
 
--- words cut into at most so many records: each is a first word and as many more as its size field says, or as there are
+-- words cut into at most a given number of records: each is a first word and as many more as its size field says, or as
+-- there are
 unfoldable pub cut : (most : ℕ) → List ℕ → List (List ℕ)
 cut zero words = []
 cut (suc most) [] = []

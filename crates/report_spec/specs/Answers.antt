@@ -25,8 +25,8 @@ answered a = record { actor = a.0; number = a.1; reply = a.2 }
 abbrev pub lost_in : Scripted → List Step → EventNo → ℕ
 lost_in s steps e = lost_count (hardware_of s) (opening_stage s) s.rings steps e
 
--- No actor has more acts than lines, each look at a tail is lawful, and there is one answer to each line that is done, in their
--- order.
+-- No actor has more acts than lines, each look at a tail is lawful, and there is one answer to each line that is done,
+-- in their order.
 pub record IsAnswered (s : Scripted) (order : List Act) (answers : List Answered) : Type 0 where
   pub counted : IsCounted s order
   pub lawful : IsLawfulOrder s order

@@ -105,7 +105,7 @@ answer_line s who n (Some text) = actor_text who ++ codes "." ++ decimal n ++ co
 abbrev pub answer_lines : Scripted → List Answered → List ℕ
 answer_lines s answers = flat_map (λ a. answer_line s a.actor a.number (answer_text a.reply)) answers
 
--- a word as so many hexadecimal digits, in small letters
+-- a word as a given number of hexadecimal digits, in small letters
 unfoldable pub hexadecimal : (digits word : ℕ) → List ℕ
 hexadecimal zero word = []
 hexadecimal (suc n) word = hexadecimal n (word / 16) ++ digit_glyph false (word % 16) ∷ []

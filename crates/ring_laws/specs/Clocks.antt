@@ -1,5 +1,5 @@
--- How far the clocks of processors go, and the sums of events over an order of a script. This project's own profile, after its
--- limits on work and on lines.
+-- How far the clocks of processors go, and the sums of events over an order of a script. This project's own profile,
+-- after its limits on work and on lines.
 use Rattle.std.specs.Prelude.{◌^◌, ◌<◌, ◌≤◌, All, List, count_by}
 use Rattle.perf_base.specs.declared.numbers.CpuNo.{CpuNo}
 use Rattle.perf_base.specs.declared.numbers.EventNo.{EventNo}

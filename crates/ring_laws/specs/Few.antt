@@ -14,7 +14,8 @@ use Rattle.ring_spec.specs.Records.{words_of}
 use Rattle.ring_spec.specs.Sending.{sent_by_steps}
 use Rattle.ring_spec.specs.Rings.{account_in}
 
--- of a step: the period that its line gives, whether it opens an event with a period, and how often its occurrences fill a period
+-- of a step: the period that its line gives, whether it opens an event with a period, and how often its occurrences
+-- fill a period
 abbrev pub period_by : Step → ℕ
 period_by (CpuStep cpu line) = 0
 period_by (ToolStep line) = period_of line
@@ -43,8 +44,8 @@ abbrev pub FewSentLaw : Type 0
 FewSentLaw = (l : Limits) (hw : Hardware) (declared : List TaskNo) (steps : List Step) (period : ℕ) → IsMachine l hw → AreTaskNumbers declared → All (IsLineWithin l) steps
     → 0 < period → IsLeast period steps → length (sent_by_steps hw (first_stage l.cpus declared) steps) ≤ weight_by period steps
 
--- No more records are sent over an order of a script, each of whose processors is of some PMU, than the script weighs, and no ring
--- gets more than 9 words for each.
+-- No more records are sent over an order of a script, each of whose processors is of some PMU, than the script weighs,
+-- and no ring gets more than 9 words for each.
 abbrev pub FewOfScriptLaw : Type 0
 FewOfScriptLaw = (s : Scripted) (order : List Act) → IsScript s → IsCovered s
     → length (sent_by_steps (hardware_of s) (opening_stage s) (history s order)) ≤ weight s

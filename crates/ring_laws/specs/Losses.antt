@@ -12,8 +12,8 @@ use Rattle.ring_spec.specs.Sending.{sent_by_steps}
 use Rattle.ring_spec.specs.Account.{head_of}
 use Rattle.ring_spec.specs.Rings.{account_in, lost_count}
 
--- On rings with distinct numbers an event loses no more records, all rings together, than the steps send; and so no more over
--- an order of a script than the script weighs.
+-- On rings with distinct numbers an event loses no more records, all rings together, than the steps send; and so no
+-- more over an order of a script than the script weighs.
 abbrev pub FewLostLaw : Type 0
 FewLostLaw = (hw : Hardware) (s : Stage) (rings : List (RingNo × ℕ)) (steps : List Step) (e : EventNo) → AllPairs (λ q r. q.0.0 ≢ r.0.0) rings
     → lost_count hw s rings steps e ≤ length (sent_by_steps hw s steps)
@@ -22,8 +22,8 @@ abbrev pub FewLostOfScriptLaw : Type 0
 FewLostOfScriptLaw = (s : Scripted) (order : List Act) (e : EventNo) → IsScript s → IsCovered s
     → lost_count (hardware_of s) (opening_stage s) s.rings (history s order) e ≤ weight s
 
--- A ring's head over an order of a script is at most 72 bytes for each unit of the script's weight; so it is below 2 to the 23
--- where the script is not too heavy.
+-- A ring's head over an order of a script is at most 72 bytes for each unit of the script's weight; so it is below 2 to
+-- the 23 where the script is not too heavy.
 abbrev pub HeadsLaw : Type 0
 HeadsLaw = (s : Scripted) (order : List Act) (ring : RingNo × ℕ) → IsScript s → IsCovered s → head_of (account_in s order ring) ≤ 72 * weight s
 

@@ -1,7 +1,7 @@
-// Laws of how many records there are: an order of a script sends no more than the script weighs, and the words that it
-// writes on a ring are few. Clocks, whose times samples can say, are small. The laws stand on the definitions of
-// ring_spec and the laws of stage_laws, and each is the contract of an empty function. They serve the crates that
-// reserve room for records.
+//! Laws of how many records there are: an order of a script sends no more than the script weighs, and the words that it
+//! writes on a ring are few. Clocks, whose times samples can say, are small. The laws stand on the definitions of
+//! ring_spec and the laws of stage_laws, and each is the contract of an empty function. They serve the crates that
+//! reserve room for records.
 #![tactic(auto)]
 
 mod laws;

@@ -1,6 +1,6 @@
--- What becomes of the records that are sent to a ring. After __perf_output_begin of kernel/events/ring_buffer.c; that a
--- tail is looked at once before a line, and that records which don't fit are counted for their event too, is this
--- project's own profile.
+-- What becomes of the records that are sent to a ring. After __perf_output_begin of kernel/events/ring_buffer.c, which
+-- counts the records that don't fit for their event too (lost_samples). That a tail is looked at once before a line is
+-- this project's own profile.
 use Rattle.std.specs.Prelude.{◌≡◌, ℕ, zero, suc, ◌+◌, ◌-◌, ◌==◌, nat_le, Bool, true, false, List, [], ◌∷◌, ◌++◌, fold, length, sum_by, count_by}
 use Rattle.perf_base.specs.declared.numbers.EventNo.{EventNo}
 use Rattle.ring_spec.specs.Records.{Record, Sample, Lost, size_of}
@@ -26,11 +26,11 @@ empty_account = record { written = []; pending = 0; lost = []; tail = 0 }
 abbrev pub head_of : Account → ℕ
 head_of a = sum_by size_of a.written
 
--- the bytes that are free, one of which stays so
+-- the bytes that are free; one more byte always stays so
 abbrev pub room_of : ℕ → Account → ℕ
 room_of bytes a = bytes - 1 - (head_of a - a.tail)
 
--- the LOST record that tells so many losses before the next record; none where nothing was lost
+-- the LOST record that states the losses before the next record; none where nothing was lost
 abbrev pub told_before : (pending : ℕ) → Sent → List Record
 told_before zero sent = []
 told_before (suc n) sent = Lost sent.id (suc n) sent.trailer ∷ []
@@ -55,7 +55,7 @@ lost_to a sent = record a { pending = a.pending + 1; lost = a.lost ++ sent.event
 abbrev pub send : ℕ → Account → Sent → Account
 send bytes a sent = elim (nat_le (need_of a sent) (room_of bytes a)) [ true ↦ written_to a sent | false ↦ lost_to a sent ]
 
--- one more event of a ring of so many bytes
+-- one more event of a ring of a given size in bytes
 abbrev pub ring_step : ℕ → Account → RingEvent → Account
 ring_step bytes a (Sends sent) = send bytes a sent
 ring_step bytes a (Looks place) = record a { tail = place }
@@ -69,11 +69,11 @@ abbrev pub lost_among : ℕ → Account → List RingEvent → List EventNo
 lost_among bytes a [] = []
 lost_among bytes a (e ∷ events) = lost_by bytes a e ++ lost_among bytes (ring_step bytes a e) events
 
--- the account of a ring of so many bytes after some events
+-- the account of a ring of a given size in bytes after some events
 unfoldable pub account : ℕ → List RingEvent → Account
 account bytes events = fold (ring_step bytes) empty_account events
 
--- whether an event is a record that is sent, and how many samples were written and how many losses told
+-- whether an event is a record that is sent, how many samples were written, and how many losses LOST records state
 abbrev pub is_sent : RingEvent → Bool
 is_sent (Sends sent) = true
 is_sent (Looks place) = false
@@ -93,8 +93,8 @@ is_event e f = f.0 == e.0
 abbrev pub lost_of : EventNo → Account → ℕ
 lost_of e a = count_by (is_event e) a.lost
 
--- The laws of conservation: the records sent are the samples written and those lost; those lost are told by LOST records or
--- pending.
+-- The laws of conservation: the records sent are the samples written and those lost; LOST records state those lost, or
+-- they are pending.
 abbrev pub SentLaw : Type 0
 SentLaw = (bytes : ℕ) (events : List RingEvent) → count_by is_sent events ≡ count_by is_sample (account bytes events).written + length (account bytes events).lost
 

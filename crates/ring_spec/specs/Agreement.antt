@@ -23,7 +23,8 @@ IsCurrentId s id = (lives s id ≡ true) ⊎ (s.next_id ≤ id)
 abbrev pub IsCurrentSlot : Stage → EventNo → Type 0
 IsCurrentSlot s e = (is_open s e ≡ true) ⊎ (is_used s e ≡ false)
 
--- what a ring shows of its account: the records written, the losses pending, how many were lost, and where the tail was seen last
+-- what a ring shows of its account: the records written, the losses pending, how many were lost, and where the tail was
+-- seen last
 pub record RingView : Type 0 where
   pub ring : RingNo
   pub bytes : ℕ
@@ -42,7 +43,7 @@ view_of a = record {
   tail = a.account.tail;
 }
 
--- Two records agree: they have one stage, the same sums of current ids, the same remainders of the instances that are there, the
+-- Two records agree: they have one stage, the same sums of current ids, the same remainders of the live instances, the
 -- same folded sums and lost counts of current slots, the same clocks, and rings that show the same.
 pub record Agree (r q : Running) : Type 0 where
   pub stage : r.stage ≡ q.stage

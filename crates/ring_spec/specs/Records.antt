@@ -62,7 +62,7 @@ WordsLaw = (records others : List Record) → words_of records ≡ words_of othe
 abbrev pub WholeLaw : Type 0
 WholeLaw = (records : List Record) → All IsRecord records → IsWhole (words_of records)
 
--- Where the first so many words of some records are whole, they end at a record: they are the words of the first few.
+-- Where some of the first words of records are whole, they end at a record: they are the words of the first few.
 pub record EndsAtRecord (records : List Record) (words : List ℕ) : Type 0 where
   pub few : ℕ
   pub cut : words ≡ words_of (take few records)

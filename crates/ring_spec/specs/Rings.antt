@@ -1,5 +1,5 @@
--- The rings of a script over an order: what was sent to each and seen of it, which orders are lawful, and how many records
--- of a family were lost. This project's own profile.
+-- The rings of a script over an order: what was sent to each and seen of it, which orders are lawful, and how many
+-- records of a family were lost. This project's own profile, after lost_samples of struct perf_event.
 use Rattle.std.specs.Prelude.{◌≡◌, ℕ, ◌*◌, ◌≤◌, ◌==◌, Bool, All, List, [], ◌∷◌, ◌++◌, length, map, take, filter, fold, find, sum_by, Option, Some, None, if◌then◌else◌}
 use Rattle.perf_base.specs.declared.numbers.EventNo.{EventNo}
 use Rattle.perf_base.specs.declared.numbers.RingNo.{RingNo}
@@ -51,7 +51,8 @@ account_of hw s steps ring = account ring.1 (events_of hw s steps ring.0)
 unfoldable pub lost_count : Hardware → Stage → List (RingNo × ℕ) → List Step → EventNo → ℕ
 lost_count hw s rings steps e = sum_by (λ ring. lost_of e (account_of hw s steps ring)) rings
 
--- The records that are sent to a ring over the steps are those among all that the steps send which go to it, in their order.
+-- The records that are sent to a ring over the steps are those among all that the steps send which go to it, in their
+-- order.
 abbrev pub SendsLaw : Type 0
 SendsLaw = (hw : Hardware) (s : Stage) (steps : List Step) (ring : RingNo)
     → filter is_sent (events_of hw s steps ring) ≡ sends_to ring (sent_by_steps hw s steps)
@@ -65,8 +66,8 @@ AccountLaw = (hw : Hardware) (s : Stage) (steps : List Step) (x : Step) (ring : 
 abbrev pub SizesLaw : Type 0
 SizesLaw = (hw : Hardware) (s : Stage) (steps : List Step) (ring : RingNo × ℕ) → All IsRecord (account_of hw s steps ring).written
 
--- On no ring are more than 9 words written for each record that is sent: a sample has at most 9, and a LOST record of at most 9
--- with its trailer comes only where a record was lost.
+-- On no ring are more than 9 words written for each record that is sent: a sample has at most 9, and a LOST record of
+-- at most 9 with its trailer comes only where a record was lost.
 abbrev pub RingWordsLaw : Type 0
 RingWordsLaw = (hw : Hardware) (s : Stage) (steps : List Step) (ring : RingNo × ℕ)
     → length (words_of (account_of hw s steps ring).written) ≤ 9 * length (sent_by_steps hw s steps)

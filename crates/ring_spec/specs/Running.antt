@@ -24,9 +24,9 @@ pub record RingAccount : Type 0 where
   pub bytes : ℕ
   pub account : Account
 
--- The record of a step: the stage that it leaves; of each id what its instance has counted and what is left of its period; of
--- each slot what its copies that exited had counted and how many of its records were lost; each processor's clock; each ring's
--- account.
+-- The record of a step: the stage that it leaves; of each id what its instance has counted and what is left of its
+-- period; of each slot what its copies that exited had counted and how many of its records were lost; each processor's
+-- clock; each ring's account.
 pub record Running : Type 0 where
   pub stage : Stage
   pub sums : ℕ → Sums

@@ -1,6 +1,8 @@
 -- Which records a step sends, and to which ring. After __perf_event_overflow, perf_output_sample and
--- perf_event_header__init_id of kernel/events/core.c. That records of an event without a ring are dropped, and whose ids
--- a trailer has, is this project's own profile.
+-- perf_event_header__init_id of kernel/events/core.c, and __perf_output_begin of kernel/events/ring_buffer.c, where
+-- records of an event without a ring are dropped and a LOST record has the original's ids too. The order of the records
+-- of one stretch of work, and that a copy's sample has its own STREAM_ID behind a LOST record, too, are this project's
+-- own profile.
 use Rattle.std.specs.Prelude.{ℕ, ◌+◌, ◌==◌, Bool, true, false, List, [], ◌∷◌, ◌++◌, replicate, flat_map, sum_by, Option, Some, None, if◌then◌else◌}
 use Rattle.perf_base.specs.declared.numbers.CpuNo.{CpuNo}
 use Rattle.perf_base.specs.declared.numbers.EventNo.{EventNo}
@@ -23,7 +25,8 @@ use Rattle.stage_spec.specs.Remainders.{remainder_of}
 use Rattle.ring_spec.specs.declared.fields.Fields.{Fields}
 use Rattle.ring_spec.specs.Records.{body_of, trailer_of}
 
--- a sample that is sent: the original whose it is, by slot and id, what the sample says, and the trailer of a LOST record before it
+-- a sample that is sent: the original whose it is, by slot and id, what the sample says, and the trailer of a LOST
+-- record before it
 pub record Sent : Type 0 where
   pub event : EventNo
   pub id : ℕ
@@ -89,7 +92,8 @@ sent_by_family (Some original) s cpu w clock count i = to_ring original.ring cou
 abbrev pub overflows_by : Work → ℕ → Instance → ℕ
 overflows_by w left i = overflows (work_hits w i) i.attr.period left
 
--- A stretch of work sends the records of each instance that is on, in pass order, those of one before those of the next.
+-- A stretch of work sends the records of each instance that is on, in pass order, those of one before those of the
+-- next.
 abbrev pub sent_at : Hardware → Stage → (left : ℕ → ℕ) → (clock : ℕ) → CpuNo → Work → List (RingNo × Sent)
 sent_at hw s left clock cpu w = flat_map (λ i. sent_by_family (original_of s i.event) s cpu w clock (overflows_by w (left i.id) i) i) (on_instances hw s cpu)
 

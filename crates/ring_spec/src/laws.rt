@@ -21,7 +21,7 @@ pub fn sent_are_written_or_lost()
     ensures { SentLaw }
 {}
 
-/// Records lost are told by LOST records or pending.
+/// LOST records state the records lost, or they are pending.
 pub fn lost_are_told_or_pending()
     ensures { ToldLaw }
 {}

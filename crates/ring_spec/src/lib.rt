@@ -1,6 +1,6 @@
-// Definitions of records and rings: the words of a record, which records an order sends, and what becomes of them
-// on their ring. It has no code but the types that definitions and code share, and one empty function for each law.
-// It serves the crates that write and read rings, and the definition of the report.
+//! Definitions of records and rings: the words of a record, which records an order sends, and what becomes of them
+//! on their ring. It has no code but the types that definitions and code share, and one empty function for each law.
+//! It serves the crates that write and read rings, and the definition of the report.
 #![tactic(auto)]
 
 mod fields;

@@ -1,5 +1,5 @@
--- What a ring that an event is given leaves of a world. After perf_mmap and perf_event_set_output of kernel/events/core.c; the
--- tables are this project's own profile.
+-- What a ring that an event is given leaves of a world. After perf_mmap and perf_event_set_output of
+-- kernel/events/core.c; the tables are this project's own profile.
 use Rattle.std.specs.Prelude.{◌≡◌, ◌≢◌, Bool, List, Option, Some}
 use Rattle.perf_base.specs.declared.numbers.EventNo.{EventNo}
 use Rattle.perf_base.specs.declared.numbers.Key.{Key}
@@ -10,7 +10,8 @@ use Rattle.world_spec.specs.Value.{World, Entry, is_live, entry_at, family_of}
 abbrev pub with_ring : Option RingNo → Bool → Entry → Entry
 with_ring ring owner e = record e { instance = record e.instance { ring = ring; mapped = owner } }
 
--- The original of an event has the ring, and these rings were mapped then. Keys and all other entries stay, and so does all else.
+-- The original of an event has the ring, and these rings were mapped then. Keys and all other entries stay, and so does
+-- all else.
 pub record HasRing (e : EventNo) (ring : Option RingNo) (owner : Bool) (mapped : List RingNo) (w after : World) : Type 0 where
   pub original : Key
   pub named : (family_of w e).original ≡ Some original

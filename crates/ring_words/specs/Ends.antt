@@ -1,4 +1,5 @@
--- What contracts see of a ring and of its two ends. Places, heads and tails are in bytes from the start of the stream, and never wrap.
+-- What contracts see of a ring and of its two ends. Places, heads and tails are in bytes from the start of the stream,
+-- and never wrap.
 use Rattle.std.specs.Prelude.{◌≡◌, ℕ, ◌+◌, ◌-◌, ◌*◌, ◌/◌, ◌%◌, ◌<◌, ◌≤◌, List, [], ◌++◌, length, take}
 use Rattle.atomic_table.specs.Seated.{TableId}
 use Rattle.ring_spec.specs.Whole.{size_field, IsWhole}
@@ -23,7 +24,8 @@ cells_of bytes = bytes / 8
 abbrev pub cell_of : ℕ → ℕ → ℕ
 cell_of bytes j = 2 + j % cells_of bytes
 
--- the end that writes: the words published, those put since, the last tail seen, and how often it was loaded (kernel/events/ring_buffer.c)
+-- the end that writes: the words published, those put since, the last tail seen, and how often it was loaded
+-- (kernel/events/ring_buffer.c)
 pub record ProducerEnd : Type 0 where
   pub ring : Ring
   pub published : List ℕ
@@ -31,7 +33,8 @@ pub record ProducerEnd : Type 0 where
   pub last_tail : ℕ
   pub loads : ℕ
 
--- the end that reads: the words taken, how many of them are released, the last head seen, and how often it was loaded (perf_event_open(2))
+-- the end that reads: the words taken, how many of them are released, the last head seen, and how often it was loaded
+-- (perf_event_open(2))
 pub record ConsumerEnd : Type 0 where
   pub ring : Ring
   pub taken : List ℕ
@@ -43,7 +46,8 @@ pub record ConsumerEnd : Type 0 where
 abbrev pub place_of : ProducerEnd → ℕ
 place_of p = 8 * (length p.published + length p.put)
 
--- the bytes that can still be put: one less than the size, so that a full ring does not look empty (kernel/events/ring_buffer.c)
+-- the bytes that can still be put: one less than the size, so that a full ring does not look empty
+-- (kernel/events/ring_buffer.c)
 abbrev pub room_of : ProducerEnd → ℕ
 room_of p = p.ring.bytes - 1 - (place_of p - p.last_tail)
 
@@ -59,13 +63,15 @@ pub record LeadsTo (taken : List ℕ) (place : ℕ) : Type 0 where
   pub whole : IsWhole (taken ++ others)
   pub ends : 8 * length (taken ++ others) ≡ place
 
--- a producer between two calls: what is published is whole, and less than the ring's size stands behind the last tail (this project's own profile)
+-- a producer between two calls: what is published is whole, and less than the ring's size stands behind the last tail
+-- (this project's own profile)
 pub record IsSoundProducer (p : ProducerEnd) : Type 0 where
   pub whole : IsWhole p.published
   pub stop : IsStop p.published p.last_tail
   pub fits : place_of p - p.last_tail < p.ring.bytes
 
--- a consumer between two calls: the words taken lead to the last head, and those released are whole (this project's own profile)
+-- a consumer between two calls: the words taken lead to the last head, and those released are whole (this project's own
+-- profile)
 pub record IsSoundConsumer (c : ConsumerEnd) : Type 0 where
   pub leads : LeadsTo c.taken c.last_head
   pub released : c.released ≤ length c.taken

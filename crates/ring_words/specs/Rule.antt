@@ -1,4 +1,5 @@
--- The rule of a ring, which holds between any two steps. Word 0 of the table is the tail, word 1 the head, and the others are the data words.
+-- The rule of a ring, which holds between any two steps. Word 0 of the table is the tail, word 1 the head, and the
+-- others are the data words.
 use Rattle.std.specs.Prelude.{◌≡◌, ℕ, ◌+◌, ◌-◌, ◌*◌, ◌/◌, ◌<◌, ◌≤◌, List, [], ◌∷◌, ◌++◌, length, take, filter, slice_index}
 use mathlib.Core.Option.{some}
 use mathlib.Core.List.{IsPrefix}
@@ -9,7 +10,8 @@ use Rattle.ring_spec.specs.Whole.{IsWhole}
 use Rattle.ring_words.specs.Ends.{tail_word, head_word, cells_of, cell_of}
 use Rattle.ring_words.specs.declared.view.View.{View}
 
--- what ties the table's words to what the producer p and the consumer c know (kernel/events/ring_buffer.c; whole words are this project's own profile)
+-- what ties the table's words to what the producer p and the consumer c know (kernel/events/ring_buffer.c; whole words
+-- are this project's own profile)
 pub record Tied (bytes : ℕ) (words : List ℕ) (p c : View) : Type 0 where
   pub size : IsRingSize bytes
   pub count : length words ≡ 2 + cells_of bytes
@@ -38,7 +40,8 @@ pub record Tied (bytes : ℕ) (words : List ℕ) (p c : View) : Type 0 where
 abbrev pub NoteHolds : View → View → View → Type 0
 NoteHolds p c v = IsPrefix v.note p.published × (v.note_place ≤ 8 * c.released)
 
--- one view is the producer's, one is the consumer's, the words are tied to both, and each view's note holds (this project's own profile)
+-- one view is the producer's, one is the consumer's, the words are tied to both, and each view's note holds (this
+-- project's own profile)
 pub record Kept (bytes : ℕ) (s : State (Unit {0}) View) : Type 0 where
   pub producer : View
   pub consumer : View

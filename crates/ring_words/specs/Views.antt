@@ -98,14 +98,16 @@ producer_end id v = record { ring = ring_of id; published = v.published; put = v
 abbrev pub consumer_end : TableId → View → ConsumerEnd
 consumer_end id v = record { ring = ring_of id; taken = v.taken; released = v.released; last_head = v.last_head; loads = v.head_loads }
 
--- what a ring's table keeps: its words are the tail, the head and the data words, and its rule is that of its size (this project's own profile)
+-- what a ring's table keeps: its words are the tail, the head and the data words, and its rule is that of its size
+-- (this project's own profile)
 pub record HoldsTable (id : TableId) (key bytes : ℕ) : Type 0 where
   pub key_is : key ≡ bytes
   pub words : id.words ≡ 2 + cells_of bytes
   pub slots : id.slots ≡ 0
   pub size : IsRingSize bytes
 
--- what a producer keeps: its seat is the producer's, and `place` is behind the last word put (this project's own profile)
+-- what a producer keeps: its seat is the producer's, and `place` is behind the last word put (this project's own
+-- profile)
 pub record HoldsProducer (id : TableId) (m : Holder) (place : ℕ) : Type 0 where
   pub role : IsProducer m.0
   pub bare : m.1 ≡ []
@@ -113,7 +115,8 @@ pub record HoldsProducer (id : TableId) (m : Holder) (place : ℕ) : Type 0 wher
   pub below : place < 2 ^ 63
   pub sound : IsSoundProducer (producer_end id m.0)
 
--- what a consumer keeps: its seat is the consumer's, and `place` is behind the last word taken (this project's own profile)
+-- what a consumer keeps: its seat is the consumer's, and `place` is behind the last word taken (this project's own
+-- profile)
 pub record HoldsConsumer (id : TableId) (m : Holder) (place : ℕ) : Type 0 where
   pub role : IsConsumer m.0
   pub bare : m.1 ≡ []

@@ -44,7 +44,8 @@ no_line_from done from before (act.Seen ring place ∷ looks) h = no_line_from (
 pub looks-give-no-line : NoLineLaw
 looks-give-no-line from before looks h = no_line_from before from before looks h
 
--- Numbers, of which each occurs at most as often as the list at its place is long, are at most as many as the lists have entries.
+-- Numbers, of which each occurs at most as often as the list at its place is long, are at most as many as the lists
+-- have entries.
 above-none : (k : ℕ) (numbers : List ℕ) → ((i : ℕ) → count_by (λ n. n == k + i) numbers ≤ 0) → count_by (λ n. nat_le k n) numbers ≤ 0
 above-none k [] h = omega arith
 above-none k (n ∷ numbers) h =
@@ -104,7 +105,8 @@ count-numbers who p by same (a ∷ acts) = one (who a) (same a) (count-numbers w
     one None e rest = rw (count-one by a acts, e) (omega (arith, rest))
     one (Some n) e rest = rw (count-one by a acts, e) (omega (arith, rest, count-one p n (filter_map who acts)))
 
--- So acts of actors with numbers are at most as many as the lines in all lists, where no actor has more acts than its list has lines.
+-- So acts of actors with numbers are at most as many as the lines in all lists, where no actor has more acts than its
+-- list has lines.
 few-acts : {X : Type 0} (who : Act → Option ℕ) (every : Act → Bool) (of : ℕ → Act → Bool) (lists : List (List X)) (order : List Act)
     → ((a : Act) → every a ≡ passes (λ n. nat_le 0 n) (who a)) → ((i : ℕ) (a : Act) → of i a ≡ passes (λ n. n == i) (who a))
     → ((i : ℕ) → count_by (of i) order ≤ length (slice_index_or lists i [])) → count_by every order ≤ sum_by length lists

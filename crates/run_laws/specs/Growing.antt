@@ -1,4 +1,5 @@
--- How the order that a run leaves grows, by one act and the looks at tails that stand before it. This project's own profile.
+-- How the order that a run leaves grows, by one act and the looks at tails that stand before it. This project's own
+-- profile.
 use Rattle.std.specs.Prelude.{◌≡◌, ℕ, ◌+◌, ◌<◌, ◌≤◌, Bool, true, false, List, [], ◌∷◌, ◌++◌}
 use Rattle.perf_base.specs.declared.numbers.CpuNo.{CpuNo}
 use Rattle.perf_base.specs.declared.numbers.RingNo.{RingNo}
@@ -10,8 +11,8 @@ use Rattle.stage_spec.specs.Order.{last_seen, done_by_cpu, done_by_tool, IsCompl
 use Rattle.stage_spec.specs.Replies.{lines_from}
 use Rattle.report_spec.specs.Answers.{IsRunShaped}
 
--- Looks at tails that one act of a run makes after some acts: by rising rings from a number on, each at a place above the last
--- one seen of its ring.
+-- Looks at tails that one act of a run makes after some acts: by rising rings from a number on, each at a place above
+-- the last one seen of its ring.
 abbrev pub AreLooks : (from : ℕ) → (before : List Act) → List Act → Type 0
 AreLooks from before [] = Unit {0}
 AreLooks from before (act.Processor cpu ∷ looks) = ⊥
@@ -45,8 +46,8 @@ does_line (act.Processor cpu) = true
 does_line (act.Tool tool) = true
 does_line (act.Seen ring place) = false
 
--- A run-shaped order that ends with a line stays so by looks, by a processor's act with looks before it, and by a tool's act
--- without. The last two end with a line again, and the order of no act is the first such one.
+-- A run-shaped order that ends with a line stays so by looks, by a processor's act with looks before it, and by a
+-- tool's act without. The last two end with a line again, and the order of no act is the first such one.
 abbrev pub ShapedNoneLaw : Type 0
 ShapedNoneLaw = IsRunShaped [] × EndsWithLine []
 

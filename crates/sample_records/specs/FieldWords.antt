@@ -1,4 +1,5 @@
--- The words of fields, each still a whole word, in the order of a sample and of a trailer.
+-- The words of fields, each still a whole word, in the order of a sample and of a trailer, after PERF_RECORD_SAMPLE
+-- and sample_id_all of perf_event_open(2).
 use Rattle.std.specs.Prelude.{◌≡◌, ℕ, ◌/◌, ◌%◌, ◌^◌, List, ◌++◌}
 use Rattle.ring_spec.specs.Records.{field}
 use Rattle.ring_spec.specs.declared.fields.Fields.{Fields}

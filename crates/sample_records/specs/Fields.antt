@@ -16,7 +16,8 @@ abbrev pub bits_in : ℕ → List ℕ → ℕ
 bits_in sample [] = 0
 bits_in sample (bit ∷ bits) = (if bit_and sample bit == 0 then 0 else 1) + bits_in sample bits
 
--- the bits whose fields stand before CPU in a sample, and all, in their order: IDENTIFIER, IP, TID, TIME, ID, STREAM_ID, CPU, PERIOD
+-- the bits whose fields stand before CPU in a sample, and all, in their order: IDENTIFIER, IP, TID, TIME, ID,
+-- STREAM_ID, CPU, PERIOD
 abbrev pub before_cpu_in_body : List ℕ
 before_cpu_in_body = 65536 ∷ 1 ∷ 2 ∷ 4 ∷ 64 ∷ 512 ∷ []
 

@@ -1,4 +1,4 @@
--- A header word is the one of its type, misc and size.
+-- A header word is the one of its type, misc and size, after struct perf_event_header of perf_event_open(2).
 use Rattle.std.specs.Prelude.{◌≡◌, ℕ, ◌^◌, ◌<◌}
 use Rattle.ring_spec.specs.Whole.{size_field}
 use Rattle.sample_records.specs.Headers.{type_field, misc_field, word_of}

@@ -36,7 +36,7 @@ header_fault type misc size =
     else if not (is_size type size) then Some fault.BadSize
     else None
 
--- the fault of a size, for so many words
+-- the fault of a size, for a given number of words
 abbrev pub length_fault : (size words : ℕ) → Option RecordFault
 length_fault size words = if nat_lt (8 * words) size then Some fault.Short else None
 
@@ -47,7 +47,7 @@ fault_of (first ∷ others) =
     option_or (header_fault (type_field first) (misc_field first) (size_field first))
     (length_fault (size_field first) (length (first ∷ others)))
 
--- The first so many words are those of this record.
+-- The first words are those of this record.
 pub record BeginsWith (words : List ℕ) (r : Record) (n : ℕ) : Type 0 where
   pub lawful : IsRecord r
   pub number : n ≡ length (record_words r)

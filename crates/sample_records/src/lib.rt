@@ -1,6 +1,6 @@
-// The records of a ring, PERF_RECORD_SAMPLE and PERF_RECORD_LOST of perf_event_open(2), from fields to words and
-// back. Contracts see a record as the definitions of records have it, and a fault as the first that its words have.
-// It serves the crates that write and read rings.
+//! The records of a ring, PERF_RECORD_SAMPLE and PERF_RECORD_LOST of perf_event_open(2), from fields to words and
+//! back. Contracts see a record as the definitions of records have it, and a fault as the first that its words have.
+//! It serves the crates that write and read rings.
 #![tactic(auto)]
 
 mod asking;

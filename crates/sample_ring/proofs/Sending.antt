@@ -154,7 +154,8 @@ module _ (o : OutEnd) (q : Request) (lost : Record) (lost_bytes sent_bytes free 
       let done : HasAccount (written_to o (request_of s)) (send o.producer.ring.bytes a s) = account_written o a s h f.put (omega (arith, enough, f.room, needs, ap (need_for o) e)) all in
       subst (λ (l : List Record). HasAccount (with_records o l) (send o.producer.ring.bytes a s)) (sym same) done
 
--- By the account the head is the end's place, and a send of the end is a send of the account: what callers can say before it.
+-- By the account the head is the end's place, and a send of the end is a send of the account: what callers can say
+-- before it.
 pub head_same : (o : OutEnd) (a : Account) → HasAccount o a → o.producer.put ≡ [] → account.head_of a ≡ place_of o.producer
 head_same o a h put = omega (arith, size-words a.written, ap length h.written, ap length put)
 

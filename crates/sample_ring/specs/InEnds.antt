@@ -19,7 +19,7 @@ pub record InEnd : Type 0 where
 abbrev pub new_in : Ring → ℕ → InEnd
 new_in ring room = record { consumer = new_consumer ring; words = []; records = 0; kept = None; room = room }
 
--- the words are those of so many records
+-- the words are those of this number of records
 abbrev pub AreRecords : List ℕ → ℕ → Type 0
 AreRecords words n = (blocks : List (List ℕ)) × All IsBlock blocks × (concat blocks ≡ words) × (length blocks ≡ n)
 

@@ -1,4 +1,4 @@
--- What the lists of ends are once an end that they lent comes back.
+-- What the lists of ends are once an end that they lent comes back. This project's own profile.
 use Rattle.std.specs.Prelude.{ℕ, slice_set, Option, Some}
 use Rattle.std.specs.Borrow.{Lends, MutBor, Fml}
 use Rattle.sample_ring.specs.OutEnds.{OutEnd}

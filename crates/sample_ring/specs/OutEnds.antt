@@ -4,7 +4,7 @@ use Rattle.ring_spec.specs.Records.{Record, IsRecord, size_of, words_of}
 use Rattle.ring_spec.specs.Account.{Account}
 use Rattle.ring_words.specs.Ends.{Ring, ProducerEnd, new_producer, IsSoundProducer}
 
--- the end that writes the ring's words, how many records were lost, and how many of them no LOST record has told
+-- the end that writes the ring's words, how many records were lost, and how many of them no LOST record has stated
 -- (kernel/events/ring_buffer.c)
 pub record OutEnd : Type 0 where
   pub producer : ProducerEnd

@@ -6,7 +6,7 @@ use Rattle.ring_words.specs.Ends.{ProducerEnd, place_of, IsStop, IsSoundProducer
 use Rattle.sample_ring.specs.declared.sent.RingNumbers.{RingNumbers}
 use Rattle.sample_ring.specs.OutEnds.{AreOfRecords}
 
--- the cell of a place, of so many cells
+-- the cell of a place, of a given number of cells
 abbrev pub mark_of : ℕ → ℕ → ℕ
 mark_of cells place = place / 8 % cells
 

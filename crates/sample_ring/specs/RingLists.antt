@@ -38,7 +38,7 @@ IsOut ins ring = slice_get ins.readers (place_of ins.numbers ring) ≡ Some None
 abbrev pub with_slot : InList → ℕ → Option InEnd → InList
 with_slot ins place slot = record ins { readers = slice_set ins.readers place slot }
 
--- The three were made together: of these rings and sizes in bytes, with stores of so many words.
+-- The three were made together: of these rings and sizes in bytes, with stores of this number of words.
 pub record AreNew (sizes : List (RingNo × ℕ)) (words : ℕ) (rings : RingList) (outs : OutList) (ins : InList) : Type 0 where
   pub ring_numbers : rings.numbers ≡ map (λ s. s.0) sizes
   pub out_numbers : outs.numbers ≡ map (λ s. s.0) sizes

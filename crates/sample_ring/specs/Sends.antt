@@ -1,5 +1,5 @@
--- What a send does to the end that sends. After __perf_output_begin of kernel/events/ring_buffer.c; that a LOST record
--- and the record behind it fit together or are not written is this project's own profile.
+-- What a send does to the end that sends. After __perf_output_begin of kernel/events/ring_buffer.c, where a LOST record
+-- and the record behind it fit together or are not written, too.
 use Rattle.std.specs.Prelude.{ℕ, zero, suc, ◌+◌, nat_le, Bool, true, false, List, [], ◌∷◌, ◌++◌, sum_by}
 use Rattle.ring_spec.specs.Records.{Record, Lost, size_of, words_of}
 use Rattle.ring_spec.specs.Sending.{Sent, trailer_if}
@@ -25,7 +25,7 @@ request r id t = record { sent = seen r; id = id; trailer = trailer_if t.all t.s
 abbrev pub request_of : Sent → Request
 request_of s = record { sent = sample_of s; id = s.id; trailer = s.trailer }
 
--- the record that tells so many losses, where there were some
+-- the record that states the losses, where there were some
 abbrev pub told_where : ℕ → Record → List Record
 told_where zero told = []
 told_where (suc n) told = told ∷ []

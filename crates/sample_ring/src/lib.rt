@@ -1,6 +1,6 @@
-// Records over the words of a ring: one end sends records and counts those that are lost, the other takes whole
-// records into a store. Contracts see the end that sends with its ring account, and the end that takes with the
-// records whose words it took. It serves the crates that sample and the one that runs readers.
+//! Records over the words of a ring: one end sends records and counts those that are lost, the other takes whole
+//! records into a store. Contracts see the end that sends with its ring account, and the end that takes with the
+//! records whose words it took. It serves the crates that sample and the one that runs readers.
 #![tactic(auto)]
 
 mod making;

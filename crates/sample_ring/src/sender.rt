@@ -15,7 +15,7 @@ use sample_records::{Record, Trailer, lost_record};
 use std::marker::Model;
 
 /// The end that sends records. Contracts see it as the end that writes the ring's words, the number of records that
-/// were lost, and how many of them no LOST record has told.
+/// were lost, and how many of them no LOST record has stated.
 #[derive(Drop)]
 pub struct Out {
     pub(crate) producer: Producer,

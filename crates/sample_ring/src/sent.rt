@@ -10,7 +10,7 @@ pub enum Sent {
 }
 
 /// Where the head is, the last tail seen, how many records were lost in all, and how many of them no LOST record has
-/// told. Places are in bytes from the start of the stream.
+/// stated. Places are in bytes from the start of the stream.
 #[derive(Clone, Copy, PartialEq, Eq, Debug)]
 pub struct RingNumbers {
     pub head: u64,

@@ -18,7 +18,8 @@ use Rattle.script_print.proofs.Sound.{Fits, AreSoundForms, more_sound}
 abbrev pub AreLow : List ℕ → List ℕ → Type 0
 AreLow ps ts = IfSome (last_of ps) (λ n. n < 8) × IfSome (last_of ts) (λ n. n < 4)
 
--- the forms so far are sound, say this script, have the headers of these processors and tools, and are of no later section
+-- the forms so far are sound, say this script, have the headers of these processors and tools, and are of no later
+-- section
 pub record Run (v : Version) (before : List Form) (t : Scripted) (ps ts : List ℕ) (rank : ℕ) : Type 0 where
   pub sound : AreSoundForms v before
   pub script : script_of before ≡ t

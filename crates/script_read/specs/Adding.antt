@@ -1,4 +1,4 @@
--- What a form adds to the script so far, and to what the state keeps beside it.
+-- What a form adds to the script so far, and to what the state keeps beside it. This project's own profile.
 use Rattle.std.specs.Prelude.{◌≡◌, ℕ, ◌<◌, bit_or, Option, Some, IfSome}
 use Rattle.perf_base.specs.declared.reasons.SReason.{SReason}
 use Rattle.perf_base.specs.declared.reasons.SReason.TheVariants as reason

@@ -1,4 +1,4 @@
--- What the making of a line gives, and for which reasons it is refused.
+-- What the making of a line gives, and for which reasons it is refused. This project's own profile.
 use Rattle.std.specs.Prelude.{◌≡◌, List, Some}
 use Rattle.perf_base.specs.declared.lines.CpuLine.{CpuLine}
 use Rattle.perf_base.specs.declared.lines.KindLine.{KindLine}

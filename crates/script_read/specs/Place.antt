@@ -1,4 +1,5 @@
--- Where a form may stand: the sections in their order, PMUs for all processors, and headers.
+-- Where a form may stand: the sections in their order, PMUs for all processors, and headers. This project's own
+-- profile.
 use Rattle.std.specs.Prelude.{◌<◌, ◌≤◌, IsSome}
 use Rattle.perf_base.specs.declared.numbers.CpuNo.{CpuNo}
 use Rattle.perf_base.specs.Cpus.{HasCpu}

@@ -1,4 +1,4 @@
--- What the state of the reader says of the forms of the lines so far.
+-- What the state of the reader says of the forms of the lines so far. This project's own profile.
 use Rattle.std.specs.Prelude.{◌≡◌, ℕ, ◌<◌, ◌≤◌, bit_or, List, [], ◌∷◌, length, All, Any, Option, option_map, IfSome}
 use Rattle.perf_base.specs.declared.numbers.CpuNo.{CpuNo}
 use Rattle.perf_base.specs.declared.numbers.ToolNo.{ToolNo}

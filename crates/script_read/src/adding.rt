@@ -43,7 +43,7 @@ fn check_room(script: &Script) -> Result<(), SReason>
     }
 }
 
-/// Adds the acts of an order, all of which are in range, unless the script has not what one is of.
+/// Adds the acts of an order, which are all in range, unless the script has not what one is of.
 fn add_acts(script: &mut Script, acts: &[Act]) -> Result<(), LineFault>
     requires range { All IsActInRange acts.now }
     ensures ok { OnOk result (All (IsAct script.old) acts.now × (script.new ≡ record script.old { order = script.old.order ++ acts.now })) }

@@ -43,7 +43,7 @@ head_forms n [] = form.Perf form.Two ∷ form.MachineOfPmus n ∷ []
 head_forms n (p ∷ []) = form.Perf form.One ∷ form.Machine n p.counters ∷ []
 head_forms n (p ∷ q ∷ pmus) = form.Perf form.Two ∷ form.MachineOfPmus n ∷ pmu_forms 0 (p ∷ q ∷ pmus)
 
--- a kind, in a script with so many PMUs
+-- a kind, in a script with a given number of PMUs
 abbrev pub kind_form : ℕ → KindLine → Form
 kind_form pmus k = if pmus == 1 then form.Kind k.name k.mask else form.KindOfPmu k.name k.pmu k.mask
 

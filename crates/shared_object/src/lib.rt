@@ -1,6 +1,6 @@
-// Any sequential object shared by threads that make its calls themselves. Its calls have one history, in which each
-// reply is the one that one thread would get. Contracts see each pass as the part of the history that it has seen.
-// It serves a crate whose object several threads call.
+//! Any sequential object shared by threads that make its calls themselves. Its calls have one history, in which each
+//! reply is the one that one thread would get. Contracts see each pass as the part of the history that it has seen.
+//! It serves a crate whose object several threads call.
 #![tactic(auto)]
 
 mod answer;

@@ -1,4 +1,5 @@
--- Settling several processors, one after the other: all of them are settled then, and only those that were not have to be.
+-- Settling several processors, one after the other: all of them are settled then, and only those that were not have to
+-- be.
 use Rattle.std.specs.Prelude.{◌≡◌, ◌≢◌, ℕ, zero, suc, ◌<◌, ◌≤◌, ◌==◌, ◌||◌, Bool, true, false, List, [], ◌∷◌, map, filter, length}
 use Rattle.std.specs.List.{list_any}
 use Rattle.std.proofs.Common.{arith, refl, sym, ap, ◌∙◌, inl, inr}

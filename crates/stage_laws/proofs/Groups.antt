@@ -1,4 +1,5 @@
--- What a group is, through the changes of a group: a change of its members, members that go, a copy, and one that joins.
+-- What a group is, through the changes of a group: a change of its members, members that go, a copy, and one that
+-- joins.
 use Rattle.std.specs.Prelude.{◌≡◌, ℕ, ◌+◌, ◌<◌, ◌≤◌, ◌==◌, Bool, true, false, not, All, List, [], ◌∷◌, length, map, filter, bit_and, cond, Option, Some, None, if◌then◌else◌}
 use Rattle.std.specs.List.{AllZip}
 use Rattle.std.proofs.Common.{refl, sym, ap, ◌∙◌, arith, length-append}
@@ -146,8 +147,8 @@ IsFine-from_group hw pinned g h k = record {
   listed = k;
 }
 
--- An instance with the place, the flags and the kind of another; whether it is a copy goes by whether the other is. A sibling
--- stays without error too.
+-- An instance with the place, the flags and the kind of another; whether it is a copy goes by whether the other is. A
+-- sibling stays without error too.
 pub record IsSame (copied : Bool → Bool) (i j : Instance) : Type 0 where
   pub copy : j.copy ≡ copied i.copy
   pub task : j.attr.task ≡ i.attr.task

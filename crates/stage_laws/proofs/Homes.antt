@@ -1,5 +1,5 @@
--- Where instances stand: an original in the context of its attribute, a copy in that of a live task; each with the attribute of
--- its slot, and at most one of a family in a context. How this stays through the changes of one context.
+-- Where instances stand: an original in the context of its attribute, a copy in that of a live task; each with the
+-- attribute of its slot, and at most one of a family in a context. How this stays through the changes of one context.
 use Rattle.std.specs.Prelude.{◌≡◌, ℕ, ◌+◌, ◌-◌, ◌<◌, ◌≤◌, ◌==◌, nat_lt, Bool, true, false, not, List, length, cond, Option, None, slice_index_or, if◌then◌else◌}
 use Rattle.std.proofs.Common.{refl, sym, ap, ◌∙◌, arith, inl, inr, subst}
 use Rattle.std.proofs.lemmas.Bool.{cases_Bool, cases_lt, both_ways, and_parts, not-true, cond_both, lt-ltb, le-ltb}

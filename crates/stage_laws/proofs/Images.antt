@@ -1,4 +1,5 @@
--- Lists through the images of their elements: those that pass a test, the first that does, how many do, and what holds of each.
+-- Lists through the images of their elements: those that pass a test, the first that does, how many do, and what holds
+-- of each.
 use Rattle.std.specs.Prelude.{◌≡◌, Bool, All, List, [], ◌∷◌, map, filter, length, find, count_by, Option, Some, None, option_map, slice_index_or}
 use Rattle.std.proofs.Common.{arith, refl, sym, ap, ◌∙◌, inl, inr}
 use Rattle.std.proofs.lemmas.Bool.{cases_Bool}

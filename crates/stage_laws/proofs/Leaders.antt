@@ -1,4 +1,5 @@
--- A group whose leader is the original in a slot is the one that the slot is found in, since a slot has at most one original.
+-- A group whose leader is the original in a slot is the one that the slot is found in, since a slot has at most one
+-- original.
 use Rattle.std.specs.Prelude.{◌≡◌, ◌+◌, ◌≤◌, Bool, true, false, List, [], ◌∷◌, ◌++◌, count_by, find, Some, cond}
 use Rattle.std.specs.List.{list_any}
 use Rattle.std.proofs.Common.{refl, ap, ◌∙◌, arith, inl, inr}

@@ -1,5 +1,5 @@
--- What takes some instances away takes each of them, one after the other: in any order where a context has at most one of them,
--- and where a group goes whole or not at all.
+-- What takes some instances away takes each of them, one after the other: in any order where a context has at most one
+-- of them, and where a group goes whole or not at all.
 use Rattle.std.specs.Prelude.{◌≡◌, ◌≢◌, ℕ, ◌+◌, ◌≤◌, ◌==◌, Bool, true, false, not, List, [], ◌∷◌, map, filter, flat_map, count_by, slice_index_or}
 use Rattle.std.specs.List.{list_any}
 use Rattle.std.proofs.Common.{arith, refl, sym, ap, ◌∙◌, inl, inr, append-nil, subst, set}

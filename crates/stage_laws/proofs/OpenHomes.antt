@@ -1,4 +1,5 @@
--- An open keeps where instances stand: the new original comes to the context of its attribute, and its slot had no instance.
+-- An open keeps where instances stand: the new original comes to the context of its attribute, and its slot had no
+-- instance.
 use Rattle.std.specs.Prelude.{◌≡◌, ℕ, ◌+◌, ◌*◌, ◌<◌, ◌≤◌, ◌==◌, Bool, true, false, not, ◌&&◌, [], length, cond, Option, Some, None, slice_index_or}
 use Rattle.std.proofs.Common.{refl, sym, ap, ◌∙◌, arith, inl, inr}
 use Rattle.std.proofs.lemmas.Bool.{cases_eq, both_ways, and_parts, not-true, not-false, eq-eqb, ne_eqb, false≢true}

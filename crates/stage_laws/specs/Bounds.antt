@@ -21,8 +21,8 @@ use Rattle.stage_laws.specs.Sound.{IsSound}
 abbrev pub greatest : List ℕ → ℕ
 greatest numbers = fold max 0 numbers
 
--- The most that a step adds to an event with its copies. Of work: to the count its length or its greatest occurrences, whichever
--- is more, and to each time its length. Of a switch: 1 to the count.
+-- The most that a step adds to an event with its copies. Of work: to the count its length or its greatest occurrences,
+-- whichever is more, and to each time its length. Of a switch: 1 to the count.
 abbrev pub most_of_line : CpuLine → Sums
 most_of_line (cpu_line.Switch to) = record no_sums { count = 1 }
 most_of_line (cpu_line.Work w) = record { count = max w.length (greatest w.hits); enabled = w.length; running = w.length }
@@ -104,7 +104,7 @@ SmallSumsLaw = (l : Limits) (hw : Hardware) (declared : List TaskNo) (steps : Li
     → IsMachine l hw → AreTaskNumbers declared → All (IsLineWithin l) steps → count_by is_line steps ≤ 16384
     → AreSmall (family_sums hw (first_stage l.cpus declared) steps e)
 
--- Ids begin at 1, and steps draw at most so many.
+-- Ids begin at 1, and steps draw at most this number.
 abbrev pub FewIdsLaw : Type 0
 FewIdsLaw = (l : Limits) (hw : Hardware) (declared : List TaskNo) (steps : List Step)
     → IsMachine l hw → AreTaskNumbers declared → All (IsLineWithin l) steps

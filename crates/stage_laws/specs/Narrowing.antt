@@ -36,8 +36,8 @@ has_context s cpu (context.Task task) = is_on_cpu s task cpu
 abbrev pub reaches : Stage → List EventNo → CpuNo → Bool
 reaches s events cpu = list_any (is_reached events) (reached s cpu)
 
--- Which processors a line that is not refused touches: an open those that have the new event's context; enable, disable and close
--- those that reach a family named; a switch, a tick and an exit their own; all other lines none.
+-- Which processors a line that is not refused touches: an open those that have the new event's context; enable, disable
+-- and close those that reach a family named; a switch, a tick and an exit their own; all other lines none.
 abbrev pub tool_touches : Stage → ToolLine → CpuNo → Bool
 tool_touches s (tool_line.Open slot attr leader) cpu = has_context s cpu (context_of attr)
 tool_touches s (tool_line.Enable event group) cpu = reaches s (targets s event group) cpu
@@ -72,7 +72,8 @@ changed hw s (CpuStep cpu line) = unless_left (cpu_refusal s cpu line) (cpu_chan
 changed hw s (ToolStep line) = unless_left (tool_refusal hw s line) (tool_changed line) s
 changed hw s (SeenStep ring place) = s
 
--- A step keeps a stage sound on the way too: its change does, before anything is settled, and so does settling one processor.
+-- A step keeps a stage sound on the way too: its change does, before anything is settled, and so does settling one
+-- processor.
 abbrev pub ChangedSoundLaw : Type 0
 ChangedSoundLaw = (l : Limits) (hw : Hardware) (s : Stage) (x : Step) → IsMachine l hw → IsWithin l x → IsSound hw s
     → IsSound hw (changed hw s x)
@@ -90,8 +91,8 @@ abbrev pub ReachedSettledLaw : Type 0
 ReachedSettledLaw = (l : Limits) (hw : Hardware) (declared : List TaskNo) (steps : List Step) → IsMachine l hw → AreTaskNumbers declared
     → All (IsWithin l) steps → AreSettled hw (stage_after hw (first_stage l.cpus declared) steps)
 
--- The law of narrowing: after a step that comes at a settled stage, only the processors that it touches have to be settled, every
--- processor is settled then, and those that it does not touch have the standings that they had.
+-- The law of narrowing: after a step that comes at a settled stage, only the processors that it touches have to be
+-- settled, every processor is settled then, and those that it does not touch have the standings that they had.
 pub record IsNarrow (hw : Hardware) (s : Stage) (x : Step) : Type 0 where
   pub stage : stage_step hw s x ≡ settle_each hw (filter (touches hw s x) (all_cpus s)) (changed hw s x)
   pub settled : AreSettled hw (stage_step hw s x)

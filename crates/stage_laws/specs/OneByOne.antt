@@ -1,5 +1,5 @@
--- What a line does to several instances, one instance at a time: changed, taken away and added by their ids. After the loops
--- over child_list, sibling_list and event_list of kernel/events/core.c.
+-- What a line does to several instances, one instance at a time: changed, taken away and added by their ids. After the
+-- loops over child_list, sibling_list and event_list of kernel/events/core.c.
 use Rattle.std.specs.Prelude.{◌≡◌, ℕ, ◌+◌, ◌≤◌, ◌==◌, Bool, true, false, not, List, [], ◌∷◌, ◌++◌, filter, count_by, map, flat_map, Option, Some, None, if◌then◌else◌}
 use Rattle.std.specs.List.{fold}
 use Rattle.perf_base.specs.declared.numbers.CpuNo.{CpuNo}
@@ -74,8 +74,9 @@ ExitOneByOneLaw = (hw : Hardware) (task : TaskNo) (s : Stage) (ids : List ℕ) �
     → AreIdsOf (filter is_copy (instances_in s (context.Task task))) ids
     → drop_ones ids s ≡ change_context (context.Task task) (without is_copy) s
 
--- An instance that a fork copies, whether it leads its group and whether that group is a pinned one. All of them, in the
--- order in which copies are made: the pinned groups that are inherited and then the flexible ones, each leader first.
+-- An instance that a fork copies, whether it leads its group and whether that group is a pinned one. All of them, in
+-- the order in which copies are made: the pinned groups that are inherited and then the flexible ones, each leader
+-- first.
 pub record Parent : Type 0 where
   pub instance : Instance
   pub leads : Bool
@@ -100,7 +101,8 @@ add_sibling false i l = record l { flexible = join_last i l.flexible }
 abbrev pub add_copy : Parent → Instance → Lists → Lists
 add_copy p i l = if p.leads then add_group p.pinned (alone i) l else add_sibling p.pinned i l
 
--- A copy is added to the groups of the child, and its id is drawn; and so are copies of some instances, one after the other.
+-- A copy is added to the groups of the child, and its id is drawn; and so are copies of some instances, one after the
+-- other.
 abbrev pub add_instance : TaskNo → Parent → Instance → Stage → Stage
 add_instance child p i s = record (change_context (context.Task child) (add_copy p i) s) { next_id = s.next_id + 1 }
 

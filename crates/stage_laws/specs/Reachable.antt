@@ -1,4 +1,4 @@
--- The laws of sound stages: the first stage is sound, and every line leaves it so.
+-- The laws of sound stages: the first stage is sound, and every line leaves it so. This project's own profile.
 use Rattle.std.specs.Prelude.{◌≤◌, All, List, not, count_by}
 use Rattle.perf_base.specs.declared.numbers.TaskNo.{TaskNo}
 use Rattle.stage_spec.specs.Hardware.{Hardware}

@@ -1,5 +1,5 @@
--- What holds of every stage that lines lead to. This project's own profile, after what kernel/events/core.c keeps of its
--- contexts, its groups and the tasks that they follow.
+-- What holds of every stage that lines lead to. This project's own profile, after what kernel/events/core.c keeps of
+-- its contexts, its groups and the tasks that they follow.
 use Rattle.std.specs.Prelude.{◌≡◌, ℕ, ◌<◌, ◌≤◌, ◌==◌, Bool, true, false, All, IsTrue, count_by, Some, None}
 use Rattle.std.specs.List.{list_any}
 use Rattle.perf_base.specs.declared.numbers.CpuNo.{CpuNo}
@@ -21,7 +21,8 @@ use Rattle.stage_spec.specs.Verdict.{with_masks, reached, instances_in}
 use Rattle.stage_spec.specs.Opening.{is_used, is_other_pmu}
 use Rattle.stage_spec.specs.Reading.{is_error}
 
--- Ids were drawn, from 1 on, and no two instances have one. A slot has at most one original, and none before it was used.
+-- Ids were drawn, from 1 on, and no two instances have one. A slot has at most one original, and none before it was
+-- used.
 abbrev pub has_id : ℕ → Instance → Bool
 has_id id i = i.id == id
 
@@ -47,7 +48,8 @@ pub record IsSibling (i : Instance) : Type 0 where
   pub exclusive : is_exclusive i.attr ≡ false
   pub error : is_error i.own ≡ false
 
--- A group has at most 8 members, which are alike. Its hardware members fit together, whatever their states, and are of one PMU.
+-- A group has at most 8 members, which are alike. Its hardware members fit together, whatever their states, and are of
+-- one PMU.
 pub record IsGroup (hw : Hardware) (g : Group) : Type 0 where
   pub small : size_of g ≤ 8
   pub alike : All (AreAlike g.leader) g.siblings
@@ -71,8 +73,8 @@ pub record IsCopyOf (i original : Instance) : Type 0 where
   pub ring : i.ring ≡ None
   pub mapped : i.mapped ≡ false
 
--- An original stands in the context that its attribute names, and a copy in that of a live task. A context, and what a processor
--- reaches, has at most one instance of a family. The original of each copy is open.
+-- An original stands in the context that its attribute names, and a copy in that of a live task. A context, and what a
+-- processor reaches, has at most one instance of a family. The original of each copy is open.
 pub record IsPlaced (s : Stage) : Type 0 where
   pub originals : (c : Context) → All (λ i. i.copy ≡ false → context_of i.attr ≡ c) (instances_in s c)
   pub no_copies : (cpu : CpuNo) → All (λ i. i.copy ≡ false) (instances_in s (context.Processor cpu))

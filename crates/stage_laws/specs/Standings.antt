@@ -14,8 +14,8 @@ use Rattle.stage_spec.specs.Verdict.{Judged, is_eligible, with_masks, passes, ve
 use Rattle.stage_spec.specs.Settle.{failed, settle, IsSettled, pinned_verdicts}
 use Rattle.stage_laws.specs.Sound.{IsNumbered}
 
--- what a verdict needs to know of a group: its leader's id and slot, whether it is wholly software and exclusive, and the slots
--- and masks of its ready hardware members
+-- what a verdict needs to know of a group: its leader's id and slot, whether it is wholly software and exclusive, and
+-- the slots and masks of its ready hardware members
 pub record Brief : Type 0 where
   pub leader : ℕ
   pub slot : EventNo
@@ -62,8 +62,8 @@ SameStandingsLaw = (hw : Hardware) (cpu : CpuNo) (s : Stage) (f : Instance → I
 abbrev pub fail_lists : List Judged → Lists → Lists
 fail_lists judged l = record l { pinned = map (λ g. failed (standing_among judged g) g) l.pinned }
 
--- Settling by standings: each eligible pinned group that is refused has its leader in error by the cause of its verdict, and all
--- else is as before.
+-- Settling by standings: each eligible pinned group that is refused has its leader in error by the cause of its
+-- verdict, and all else is as before.
 abbrev pub StandingsLaw : Type 0
 StandingsLaw = (hw : Hardware) (cpu : CpuNo) (s : Stage) → IsNumbered s → cpu.0 < 8
     → settle hw cpu s ≡ record s { contexts = map (fail_lists (verdicts hw s cpu)) s.contexts }

@@ -1,5 +1,6 @@
--- How the flexible hardware groups of a context take turns at a processor's ticks. After the rotation of flexible groups by
--- perf_rotate_context and rotate_ctx of kernel/events/core.c; which group moves is this project's own profile.
+-- How the flexible hardware groups of a context take turns at a processor's ticks. After the rotation of flexible
+-- groups by perf_rotate_context and rotate_ctx of kernel/events/core.c; which group moves is this project's own
+-- profile.
 use Rattle.std.specs.Prelude.{◌≡◌, ℕ, ◌+◌, ◌<◌, ◌≤◌, ◌==◌, Bool, true, false, not, ◌&&◌, All, List, [], ◌∷◌, ◌++◌, length, filter, find, take, drop, Option, Some, if◌then◌else◌}
 use Rattle.std.specs.List.{list_any}
 use Rattle.perf_base.specs.declared.numbers.CpuNo.{CpuNo}
@@ -32,21 +33,22 @@ is_waiting hw cpu c s = list_any (waits hw cpu (verdicts hw s cpu)) (flexible_of
 abbrev pub ticked : Hardware → CpuNo → Stage → Stage
 ticked hw cpu s = stage_step hw s (CpuStep cpu cpu_line.Tick)
 
--- The first that passes a test goes last: those that pass are turned by one place, and the others keep their order among themselves.
+-- The first that passes a test goes last: those that pass are turned by one place, and the others keep their order
+-- among themselves.
 abbrev pub FirstGoesLastLaw : Type 0
 FirstGoesLastLaw = (test : Group → Bool) (groups : List Group)
     → (filter test (first_goes_last test groups) ≡ drop 1 (filter test groups) ++ take 1 (filter test groups))
     × (filter (λ g. not (test g)) (first_goes_last test groups) ≡ filter (λ g. not (test g)) groups)
 
--- The first of the groups that take turns went last, so that these are turned by one place, and the other flexible groups of the
--- context keep their order among themselves.
+-- The first of the groups that take turns went last, so that these are turned by one place, and the other flexible
+-- groups of the context keep their order among themselves.
 pub record IsTurned (hw : Hardware) (cpu : CpuNo) (c : Context) (s t : Stage) : Type 0 where
   pub groups : flexible_of t c ≡ first_goes_last (takes_turns hw cpu) (flexible_of s c)
   pub takers : turn_takers hw cpu c t ≡ drop 1 (turn_takers hw cpu c s) ++ take 1 (turn_takers hw cpu c s)
   pub others : filter (λ g. not (takes_turns hw cpu g)) (flexible_of t c) ≡ filter (λ g. not (takes_turns hw cpu g)) (flexible_of s c)
 
--- A tick turns each of its processor's two contexts in which some eligible flexible group is not on. It leaves the flexible groups of
--- one in which all are on.
+-- A tick turns each of its processor's two contexts in which some eligible flexible group is not on. It leaves the
+-- flexible groups of one in which all are on.
 abbrev pub TickLaw : Type 0
 TickLaw = (hw : Hardware) (cpu : CpuNo) (c : Context) (s : Stage) → cpu.0 < 8 → has_context s cpu c ≡ true
     → (is_waiting hw cpu c s ≡ true → IsTurned hw cpu c s (ticked hw cpu s)) × (is_waiting hw cpu c s ≡ false → flexible_of (ticked hw cpu s) c ≡ flexible_of s c)
@@ -56,7 +58,8 @@ abbrev pub OtherContextsLaw : Type 0
 OtherContextsLaw = (hw : Hardware) (cpu : CpuNo) (c : Context) (s : Stage) → length s.contexts ≡ 72 → has_context s cpu c ≡ false
     → flexible_of (ticked hw cpu s) c ≡ flexible_of s c
 
--- whether a step is a tick of a processor, and how many steps are ticks at which some eligible flexible group of a context is not on
+-- whether a step is a tick of a processor, and how many steps are ticks at which some eligible flexible group of a
+-- context is not on
 abbrev pub is_tick_line : CpuLine → Bool
 is_tick_line cpu_line.Tick = true
 is_tick_line _ = false
@@ -85,9 +88,9 @@ IsTurning hw cpu c s (x ∷ steps) =
 abbrev pub WasFirst : Hardware → CpuNo → Context → Stage → List Step → Group → Type 0
 WasFirst hw cpu c s steps g = (n : ℕ) × (n ≤ length steps) × (first_in_turn hw cpu c (stage_after hw s (take n steps)) ≡ Some g)
 
--- The law of turns: of k groups of a context of a processor that take turns, each was the first at the start or after one of
--- k - 1 ticks of the processor, at each of which some eligible flexible group of the context is not on, with nothing between them
--- that changes its flexible groups or the task there.
+-- The law of turns: of k groups of a context of a processor that take turns, each was the first at the start or after
+-- one of k - 1 ticks of the processor, at each of which some eligible flexible group of the context is not on, with
+-- nothing between them that changes its flexible groups or the task there.
 abbrev pub TurnsLaw : Type 0
 TurnsLaw = (hw : Hardware) (cpu : CpuNo) (c : Context) (s : Stage) (steps : List Step) → cpu.0 < 8 → has_context s cpu c ≡ true
     → IsTurning hw cpu c s steps → length (turn_takers hw cpu c s) ≤ waiting_ticks hw cpu c s steps + 1

@@ -1,6 +1,6 @@
-// Laws of the stages that lines lead to: what holds of each of them, what the standings of groups depend on, which
-// processors a line touches, what one line adds, and how much any lines do. They stand on the definitions of
-// stage_spec, and each is the contract of an empty function. They serve the crates that keep a stage and do lines.
+//! Laws of the stages that lines lead to: what holds of each of them, what the standings of groups depend on, which
+//! processors a line touches, what one line adds, and how much any lines do. They stand on the definitions of
+//! stage_spec, and each is the contract of an empty function. They serve the crates that keep a stage and do lines.
 #![tactic(auto)]
 
 mod laws;

@@ -1,5 +1,5 @@
--- What holds of each instance of a stage holds after a step, where it is said of an instance's id, slot and whether it is a copy, and
--- holds of the instances that the step makes.
+-- What holds of each instance of a stage holds after a step, where it is said of an instance's id, slot and whether it
+-- is a copy, and holds of the instances that the step makes.
 use Rattle.std.specs.Prelude.{◌≡◌, ℕ, ◌+◌, ◌<◌, ◌≤◌, ◌⊎◌, Bool, true, false, List, [], ◌∷◌, length, drop, sum_by, Option, Some, None, if◌then◌else◌}
 use Rattle.std.proofs.Common.{arith, refl, sym, inl, inr}
 use Rattle.std.proofs.lemmas.List.Sums.{sum_by-cons}

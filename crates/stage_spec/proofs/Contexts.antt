@@ -1,4 +1,5 @@
--- A law of the groups at each place that each change of a context keeps holds after settling, ticks, closes, exits and switches.
+-- A law of the groups at each place that each change of a context keeps holds after settling, ticks, closes, exits and
+-- switches.
 use Rattle.std.specs.Prelude.{◌≡◌, ℕ, zero, suc, ◌<◌, Bool, true, false, not, ◌&&◌, List, [], ◌∷◌, ◌++◌, length, map, Option, Some, None, slice_index_or}
 use Rattle.std.specs.List.{list_any}
 use Rattle.std.proofs.Common.{refl, sym, ap, ◌∙◌, arith, inl, inr, subst, get_or, set, get_or-set_same, get_or-set_other}

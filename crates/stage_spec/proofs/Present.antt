@@ -1,4 +1,5 @@
--- What holds of each instance of a stage holds of those that are on, and of those that go; and what is found among them.
+-- What holds of each instance of a stage holds of those that are on, and of those that go; and what is found among
+-- them.
 use Rattle.std.specs.Prelude.{◌≡◌, ℕ, ◌<◌, Bool, true, false, ◌&&◌, ◌||◌, List, [], ◌∷◌, ◌++◌, map, flat_map, filter, find, length, Some, None, unwrap_or, cond, suc}
 use Rattle.std.specs.List.{list_any}
 use Rattle.std.proofs.Common.{arith, refl, sym, ap, ◌∙◌, get_or, subst}

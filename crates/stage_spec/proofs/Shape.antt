@@ -1,4 +1,5 @@
--- Each step keeps how many processors, tasks and contexts there are, and most leave the slots used, the rings and the next id.
+-- Each step keeps how many processors, tasks and contexts there are, and most leave the slots used, the rings and the
+-- next id.
 use Rattle.std.specs.Prelude.{◌≡◌, Bool, true, false, List, length, map, Option, Some, None}
 use Rattle.std.proofs.Common.{refl, sym, ◌∙◌}
 use Rattle.std.proofs.lemmas.List.{length-map, length-set, length-replicate}

@@ -1,6 +1,7 @@
 -- For what an attribute is refused by itself, whatever is open. The first four conditions are those of
--- perf_copy_attr in kernel/events/core.c and of perf_event_open(2), with the bits that this project's own
--- profile knows; the fifth is this project's own.
+-- perf_event_open(2): in kernel/events/core.c the system call looks at the period, perf_copy_attr at the bits, and
+-- perf_event_alloc at the place. This project's own profile are the bits that are known, the fifth condition, and the
+-- order.
 use Rattle.std.specs.Prelude.{ℕ, ◌^◌, ◌==◌, Bool, not, ◌&&◌, bit_and, List, [], ◌∷◌, Option}
 use Rattle.perf_base.specs.declared.attr.Attr.{Attr}
 use Rattle.perf_base.specs.declared.reasons.Reason.{Reason}

@@ -1,5 +1,5 @@
--- What becomes of groups when events go, after perf_group_detach of kernel/events/core.c. That siblings go behind the
--- flexible groups is this project's own profile.
+-- What becomes of groups when events go, after perf_group_detach of kernel/events/core.c, where add_event_to_groups
+-- puts siblings behind the flexible groups too.
 use Rattle.std.specs.Prelude.{Bool, true, false, not, List, [], ◌∷◌, ◌++◌, map, filter, flat_map}
 use Rattle.perf_base.specs.declared.numbers.EventNo.{EventNo}
 use Rattle.stage_spec.specs.declared.instance.Instance.{Instance}
@@ -17,8 +17,8 @@ kept_group goes g = elim (goes g.leader) [ true ↦ [] | false ↦ record g { si
 abbrev pub freed_groups : (Instance → Bool) → Group → List Group
 freed_groups goes g = elim (goes g.leader) [ true ↦ map alone (staying goes g.siblings) | false ↦ [] ]
 
--- the groups of a context without the instances that go; siblings of a leader that goes come last among the flexible groups,
--- in the order in which they joined
+-- the groups of a context without the instances that go; siblings of a leader that goes come last among the flexible
+-- groups, in the order in which they joined
 abbrev pub without : (Instance → Bool) → Lists → Lists
 without goes l = record {
   pinned = flat_map (kept_group goes) l.pinned;

@@ -1,5 +1,5 @@
 -- What an event's state comes to within its group, and what a group is by its events. After event_filter_match,
--- perf_event_state and is_software_event of kernel/events/core.c.
+-- __perf_effective_state and is_software_event of kernel/events/core.c.
 use Rattle.std.specs.Prelude.{Bool, true, false, not, ◌&&◌, List, filter}
 use Rattle.std.specs.List.{list_all}
 use Rattle.perf_base.specs.declared.numbers.EventNo.{EventNo}
@@ -15,8 +15,9 @@ is_ready own.Off = false
 is_ready own.Ready = true
 is_ready (own.Error cause) = false
 
--- An event is off while its leader is. While its leader is in error it is in error too, with the leader's cause and whatever
--- its own state, since a group is put on whole. Else it is off while it is off itself. No sibling is ever in error itself.
+-- An event is off while its leader is. While its leader is in error it is in error too, with the leader's cause and
+-- whatever its own state, since a group is put on whole. Else it is off while it is off itself. No sibling is ever in
+-- error itself.
 abbrev pub effective : (leader own : Own) → Own
 effective own.Off mine = own.Off
 effective (own.Error cause) mine = own.Error cause

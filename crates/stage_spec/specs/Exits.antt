@@ -1,5 +1,6 @@
--- What an exit does, after perf_event_exit_task of kernel/events/core.c. That the task's own events stay readable is
--- this project's own profile.
+-- What an exit does, after perf_event_exit_task of kernel/events/core.c, after which the task's own events can be read
+-- too. That ENABLE and DISABLE still change their states then, and that an exit is no context switch, is this project's
+-- own profile.
 use Rattle.std.specs.Prelude.{[], ◌∷◌, Option, Some, None}
 use Rattle.perf_base.specs.declared.numbers.CpuNo.{CpuNo}
 use Rattle.perf_base.specs.declared.numbers.TaskNo.{TaskNo}

@@ -35,8 +35,8 @@ leaving s (CpuStep cpu line) e = leaving_by s cpu line e
 leaving s (ToolStep line) e = []
 leaving s (SeenStep ring place) e = []
 
--- The folded sums of an event: the sums of each copy as they were when it went. The first of the steps comes after those
--- before it, the first of which was at a stage.
+-- The folded sums of an event: the sums of each copy as they were when it went. The first of the steps comes after
+-- those before it, the first of which was at a stage.
 unfoldable pub folded_from : Hardware → Stage → EventNo → (before steps : List Step) → Sums
 folded_from hw s e before [] = no_sums
 folded_from hw s e before (x ∷ steps) =
@@ -45,7 +45,7 @@ folded_from hw s e before (x ∷ steps) =
 unfoldable pub folded_of : Hardware → Stage → List Step → EventNo → Sums
 folded_of hw s steps e = folded_from hw s e [] steps
 
--- the original and its copies that are there, and the folded sums
+-- the original and its live copies, and the folded sums
 unfoldable pub family_sums : Hardware → Stage → List Step → EventNo → Sums
 family_sums hw s steps e =
     plus (plus_each (λ i. sums_of hw s steps i.id) (filter (is_of_family e) (all_instances (stage_after hw s steps)))) (folded_of hw s steps e)

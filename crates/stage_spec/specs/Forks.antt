@@ -28,7 +28,8 @@ present_period (Some original) a = original.attr.period
 abbrev pub copied_state : Own → Own
 copied_state o = if is_ready o then own.Ready else own.Off
 
--- A copy is of the original, also where it is made from a copy. It is ready where the instance before it is, and else off.
+-- A copy is of the original, also where it is made from a copy. It is ready where the instance before it is, and else
+-- off.
 abbrev pub copy_of : Stage → ℕ → Instance → Instance
 copy_of s id i = record {
   event = i.event;

@@ -1,5 +1,6 @@
 -- The counters of a machine: the PMU of each processor, the counters of each PMU, and of each hardware kind its PMU and
--- the counters that can count it. After struct pmu of kernel/events/core.c; the numbering is this project's own profile.
+-- the counters that can count it. After struct pmu of kernel/events/core.c; the numbering is this project's own
+-- profile.
 use Rattle.std.specs.Prelude.{ℕ, ◌<◌, ◌≤◌, ◌==◌, Bool, true, false, All, List, length, map, position, Option, Some, None, slice_index, take, replicate, ◌≡◌, ◌++◌}
 use Rattle.std.specs.Option.{unwrap_or}
 use Rattle.std.specs.Int.{bit_at}
@@ -12,8 +13,8 @@ use Rattle.perf_base.specs.Masks.{IsMask}
 use Rattle.perf_base.specs.Scripts.{Scripted}
 use Rattle.stage_spec.specs.Numbers.{numbers_below}
 
--- the PMU of each processor, how many counters each processor of each of the four PMUs has, and the PMU and the mask of each
--- hardware kind, bit C for counter C
+-- the PMU of each processor, how many counters each processor of each of the four PMUs has, and the PMU and the mask of
+-- each hardware kind, bit C for counter C
 pub record Hardware : Type 0 where
   pub cpu_pmus : List ℕ
   pub counters : List ℕ
@@ -63,7 +64,8 @@ is_counted_on hw cpu k = is_pmu (pmu_of_kind hw k) (pmu_of_cpu hw cpu)
 abbrev pub IsPmu : List ℕ → ℕ → Type 0
 IsPmu counters pmu = (pmu < 4) × (1 ≤ slice_index counters pmu) × (slice_index counters pmu ≤ 16)
 
--- 1 to 8 processors and at most 16 kinds, each of a PMU, and each kind's mask names some counters of its PMU and no others
+-- 1 to 8 processors and at most 16 kinds, each of a PMU, and each kind's mask names some counters of its PMU and no
+-- others
 pub record IsHardware (hw : Hardware) : Type 0 where
   pub cpus : (1 ≤ length hw.cpu_pmus) × (length hw.cpu_pmus ≤ 8)
   pub pmus : length hw.counters ≡ 4

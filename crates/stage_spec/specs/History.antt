@@ -73,8 +73,8 @@ tool_changed (tool_line.Close event) s = closed event s
 tool_changed (tool_line.Why event) s = s
 tool_changed (tool_line.Seats cpu) s = s
 
--- The stage after a step. A refused line leaves it, and so does a look at a ring; every other line changes it, and then each
--- processor is settled.
+-- The stage after a step. A refused line leaves it, and so does a look at a ring; every other line changes it, and then
+-- each processor is settled.
 abbrev pub unless_refused : Hardware → Option Reason → (Stage → Stage) → Stage → Stage
 unless_refused hw (Some r) change s = s
 unless_refused hw None change s = settle_all hw (change s)

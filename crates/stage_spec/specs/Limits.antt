@@ -7,7 +7,7 @@ use Rattle.stage_spec.specs.Hardware.{Hardware, IsHardware, hardware_of}
 use Rattle.stage_spec.specs.Stage.{Stage}
 use Rattle.stage_spec.specs.History.{Step, CpuStep, ToolStep, SeenStep}
 
--- so many processors and hardware kinds, and these rings with their bytes
+-- how many processors and hardware kinds there are, and the rings with their bytes
 pub record Limits : Type 0 where
   pub cpus : ℕ
   pub kinds : ℕ
@@ -37,7 +37,7 @@ AreTaskNumbers declared = All (λ task. task.0 < 64) declared
 abbrev pub ScriptMachineLaw : Type 0
 ScriptMachineLaw = (s : Scripted) → IsScript s → IsCovered s → IsMachine (limits_of s) (hardware_of s)
 
--- so many processors as the machine has, and room for 64 tasks and for the contexts of all
+-- as many processors as the machine has, and room for 64 tasks and for the contexts of all
 pub record HasShape (hw : Hardware) (s : Stage) : Type 0 where
   pub running : length s.running ≡ length hw.cpu_pmus
   pub tasks : length s.tasks ≡ 64

@@ -1,6 +1,6 @@
 -- What mapping a ring and redirecting an event's output do, after mmap and PERF_EVENT_IOC_SET_OUTPUT of
--- perf_event_open(2), perf_mmap and perf_event_set_output of kernel/events/core.c. That a ring is mapped at most once is
--- this project's own profile.
+-- perf_event_open(2), perf_mmap and perf_event_set_output of kernel/events/core.c. That a ring is mapped at most once
+-- is this project's own profile.
 use Rattle.std.specs.Prelude.{◌==◌, Bool, true, false, not, ◌&&◌, [], ◌∷◌, ◌++◌, Option, Some, None, is_some, is_none, if◌then◌else◌}
 use Rattle.std.specs.List.{list_any}
 use Rattle.perf_base.specs.declared.numbers.EventNo.{EventNo}
@@ -39,8 +39,8 @@ map_refusal s e ring = first_of ((reason.NoEvent, not (is_open s e))
     ∷ (reason.HasRing, is_some (ring_of s e))
     ∷ (reason.Busy, list_any (λ r. r.0 == ring.0) s.mapped) ∷ [])
 
--- An event can't be redirected to itself, to one on another processor, from any processor to one of another task, away from
--- a mapping of its own, nor to an event without a ring.
+-- An event can't be redirected to itself, to one on another processor, from any processor to one of another task, away
+-- from a mapping of its own, nor to an event without a ring.
 abbrev pub output_refusal : Stage → EventNo → EventNo → Option Reason
 output_refusal s e f = first_of ((reason.NoEvent, not (is_open s e && is_open s f))
     ∷ (reason.SameEvent, e.0 == f.0)

@@ -1,4 +1,4 @@
--- The numbers below a number.
+-- The numbers below a number. This project's own profile.
 use Rattle.std.specs.Prelude.{ℕ, zero, suc, List, [], ◌∷◌, ◌++◌}
 
 -- rising

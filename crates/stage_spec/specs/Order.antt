@@ -43,13 +43,14 @@ seen_at ring last (act.Seen other place) = if other.0 == ring.0 then place else 
 abbrev pub last_seen : RingNo → List Act → ℕ
 last_seen ring acts = fold (seen_at ring) 0 acts
 
--- A look is lawful where its place is at least the last one and stands behind some of the records that were written, given by
--- their sizes. So it is at most the ring's head, which stands behind all of them.
+-- A look is lawful where its place is at least the last one and stands behind some of the records that were written,
+-- given by their sizes. So it is at most the ring's head, which stands behind all of them.
 pub record IsLawfulSeen (sizes : List ℕ) (last place : ℕ) : Type 0 where
   pub above : last ≤ place
   pub behind : (n : ℕ) × (place ≡ sum (take n sizes))
 
--- An order is lawful where each look in it is, given the sizes of the records that are written on each ring after some acts.
+-- An order is lawful where each look in it is, given the sizes of the records that are written on each ring after some
+-- acts.
 abbrev pub IsLawfulAct : (RingNo → List ℕ) → List Act → Act → Type 0
 IsLawfulAct sizes before (act.Processor cpu) = Unit {0}
 IsLawfulAct sizes before (act.Tool tool) = Unit {0}

@@ -1,5 +1,6 @@
--- The words of a read, after perf_event_open(2), perf_read_one and perf_read_group of kernel/events/core.c. Where the
--- word of lost records stands is this project's own profile.
+-- The words of a read, after perf_event_open(2), __perf_read_one and perf_read_group of kernel/events/core.c: the word
+-- of lost records comes last, and an event in error gives no word. That a sibling under a leader in error gives none
+-- either is this project's own profile.
 use Rattle.std.specs.Prelude.{ℕ, ◌*◌, ◌==◌, nat_lt, Bool, true, false, not, bit_and, List, [], ◌∷◌, ◌++◌, length, flat_map, Option, Some, None, if◌then◌else◌}
 use Rattle.perf_base.specs.declared.numbers.EventNo.{EventNo}
 use Rattle.perf_base.specs.declared.standing.Own.{Own}

@@ -1,4 +1,5 @@
--- What one more step adds to a history: to the stage, to the sums of an instance, to the folded sums of an event.
+-- What one more step adds to a history: to the stage, to the sums of an instance, to the folded sums of an event. This
+-- project's own profile.
 use Rattle.std.specs.Prelude.{◌≡◌, ℕ, ◌≤◌, Bool, true, false, List, [], ◌∷◌, ◌++◌}
 use Rattle.perf_base.specs.declared.numbers.EventNo.{EventNo}
 use Rattle.perf_base.specs.declared.numbers.TaskNo.{TaskNo}

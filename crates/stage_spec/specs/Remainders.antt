@@ -1,5 +1,5 @@
 -- What is left of an instance's period over a history. After period_left and perf_event_period of
--- kernel/events/core.c; that PERIOD restarts the remainder is this project's own profile.
+-- kernel/events/core.c, which restarts the remainder too.
 use Rattle.std.specs.Prelude.{◌≡◌, ℕ, ◌==◌, Bool, true, false, ◌&&◌, List, [], ◌∷◌, ◌++◌, find, Option, Some, None}
 use Rattle.std.specs.List.{list_any}
 use Rattle.perf_base.specs.declared.lines.ToolLine.{ToolLine}
@@ -36,8 +36,8 @@ new_period s (CpuStep cpu line) id = None
 new_period s (ToolStep line) id = line_period s line id
 new_period s (SeenStep ring place) id = None
 
--- What a step leaves of the remainder. A new period is whole, and so is the period of an instance that the step makes; else
--- the occurrences of the step are taken off, one by one.
+-- What a step leaves of the remainder. A new period is whole, and so is the period of an instance that the step makes;
+-- else the occurrences of the step are taken off, one by one.
 abbrev pub left_by_hits : Hardware → Stage → Step → ℕ → Option Instance → ℕ → ℕ
 left_by_hits hw s x id None left = period_in (instance_of (stage_step hw s x) id)
 left_by_hits hw s x id (Some i) left = left_after (share hw s x id).count i.attr.period left

@@ -1,5 +1,5 @@
--- The answer to a line. After perf_event_open(2); the order of reasons, and what WHY and SEATS answer, are this project's
--- own profile.
+-- The answer to a line. After perf_event_open(2); the order of reasons, and what WHY and SEATS answer, are this
+-- project's own profile.
 use Rattle.std.specs.Prelude.{◌≡◌, ℕ, List, [], ◌∷◌, ◌++◌, map, filter, Option, Some, None}
 use Rattle.std.specs.List.{zip}
 use Rattle.perf_base.specs.declared.numbers.CpuNo.{CpuNo}
@@ -40,8 +40,8 @@ abbrev pub cpu_with : Stage → Context → Option CpuNo
 cpu_with s (context.Processor cpu) = Some cpu
 cpu_with s (context.Task task) = cpu_of s task
 
--- Why a ready event counts or does not, by where its group stands. It is away where its context is on no processor, and where
--- the group is not eligible there: its place is another processor, or it has a hardware member of another PMU.
+-- Why a ready event counts or does not, by where its group stands. It is away where its context is on no processor, and
+-- where the group is not eligible there: its place is another processor, or it has a hardware member of another PMU.
 abbrev pub why_standing : Standing → Why
 why_standing standing.Out = why.Away
 why_standing standing.On = why.On
@@ -65,7 +65,8 @@ why_in hw s None i = why.Off
 unfoldable pub why_of : Hardware → Stage → EventNo → Why
 why_of hw s e = why_in hw s (group_of s e) (original_of s e)
 
--- Seats of a processor: its hardware events that are on, in pass order, each with a counter of its own that can count it.
+-- Seats of a processor: its hardware events that are on, in pass order, each with a counter of its own that can count
+-- it.
 abbrev pub seated : Hardware → Stage → CpuNo → List Instance
 seated hw s cpu = filter is_hardware (on_instances hw s cpu)
 
@@ -102,8 +103,8 @@ IsAnswerAt hw s sums lost (SeenStep ring place) r = ⊥
 unfoldable pub IsReply : Hardware → Stage → List Step → (EventNo → ℕ) → Step → Reply → Type 0
 IsReply hw s before lost x r = IsAnswerAt hw (stage_after hw s before) (family_sums hw s before) lost x r
 
--- The replies to steps, one to each line and none to a look; the first step comes after some steps. Given what was lost after
--- each.
+-- The replies to steps, one to each line and none to a look; the first step comes after some steps. Given what was lost
+-- after each.
 unfoldable pub AreReplies : Hardware → Stage → (List Step → EventNo → ℕ) → (before steps : List Step) → List Reply → Type 0
 AreReplies hw s lost before [] [] = Unit {0}
 AreReplies hw s lost before [] (r ∷ replies) = ⊥
@@ -111,8 +112,8 @@ AreReplies hw s lost before (SeenStep ring place ∷ steps) replies = AreReplies
 AreReplies hw s lost before (x ∷ steps) [] = ⊥
 AreReplies hw s lost before (x ∷ steps) (r ∷ replies) = IsReply hw s before (lost before) x r × AreReplies hw s lost (before ++ x ∷ []) steps replies
 
--- An answer as it is kept: whose line it answers, a processor's or a tool's, the line's number among that actor's lines, from 0,
--- and the reply.
+-- An answer as it is kept: whose line it answers, a processor's or a tool's, the line's number among that actor's
+-- lines, from 0, and the reply.
 pub record Answered : Type 0 where
   pub actor : Actor
   pub number : ℕ

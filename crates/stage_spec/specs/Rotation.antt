@@ -1,5 +1,5 @@
--- What a tick does, after perf_rotate_context of kernel/events/core.c. That each context is rotated by itself, and
--- which group moves, is this project's own profile.
+-- What a tick does, after perf_rotate_context of kernel/events/core.c, which rotates each context by itself too. Which
+-- group moves is this project's own profile: the first eligible hardware group of the list, on or not.
 use Rattle.std.specs.Prelude.{Bool, true, false, not, ◌&&◌, List, [], ◌∷◌, ◌++◌, Option, Some, None}
 use Rattle.std.specs.List.{list_any}
 use Rattle.perf_base.specs.declared.numbers.CpuNo.{CpuNo}
@@ -15,7 +15,8 @@ abbrev pub first_goes_last : (Group → Bool) → List Group → List Group
 first_goes_last test [] = []
 first_goes_last test (g ∷ groups) = elim (test g) [ true ↦ groups ++ g ∷ [] | false ↦ g ∷ first_goes_last test groups ]
 
--- whether a group waits, by some verdicts: it is eligible and not on; and whether it takes turns: it is eligible and a hardware group
+-- whether a group waits, by some verdicts: it is eligible and not on; and whether it takes turns: it is eligible and a
+-- hardware group
 abbrev pub waits : Hardware → CpuNo → List Judged → Group → Bool
 waits hw cpu judged g = is_eligible hw cpu g && not (stands_on (standing_among judged g))
 

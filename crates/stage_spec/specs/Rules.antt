@@ -1,6 +1,7 @@
--- The rules that decide on a group before its counters are looked at, after group_can_go_on of
--- kernel/events/core.c. The names that a refusal carries, and that a group which was refused stops those
--- behind it, are this project's own profile.
+-- The rules that decide on a group before its counters are looked at, after group_can_go_on and merge_sched_in of
+-- kernel/events/core.c, where can_add_hw refuses every later hardware group of a pass once one was refused. The names
+-- that a refusal carries are this project's own profile, and so is that an exclusive group excludes all hardware groups
+-- of the processor, not only those of its own context and list.
 use Rattle.std.specs.Prelude.{Bool, true, false, Option, Some, None}
 use Rattle.perf_base.specs.declared.numbers.EventNo.{EventNo}
 use Rattle.perf_base.specs.declared.standing.Rule.{Rule}
@@ -12,9 +13,9 @@ pub data Ruling : Type 0 where
   Refuses : Rule → Ruling
   AsksCounters : Ruling
 
--- It goes by whether the group is wholly software and whether it is exclusive, by the exclusive group that is on and the
--- first hardware group that is on, and by the first group of this pass that was refused before it. The first case that fits
--- decides.
+-- It goes by whether the group is wholly software and whether it is exclusive, by the exclusive group that is on and
+-- the first hardware group that is on, and by the first group of this pass that was refused before it. The first case
+-- that fits decides.
 abbrev pub ruling_of : (software exclusive : Bool) (exclusive_on first_on refused : Option EventNo) → Ruling
 ruling_of true exclusive exclusive_on first_on refused = GoesOn
 ruling_of false exclusive (Some group) first_on refused = Refuses (rule.Exclusive group)

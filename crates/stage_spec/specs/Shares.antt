@@ -1,5 +1,7 @@
 -- What one step adds to one instance: occurrences, time enabled and time running. After perf_event_update_time,
--- perf_swevent_event and ctx_sched_in of kernel/events/core.c; when the software kinds occur is this project's own profile.
+-- perf_swevent_event and ctx_sched_in of kernel/events/core.c. A switch occurs before the events of the task that goes
+-- are taken off, and a migration after those of the task that comes were put on, as in perf_event_task_sched_out and
+-- perf_event_task_sched_in of include/linux/perf_event.h.
 use Rattle.std.specs.Prelude.{ℕ, ◌+◌, ◌==◌, Bool, true, false, not, ◌&&◌, List, find, flat_map, Option, Some, None, slice_index, if◌then◌else◌}
 use Rattle.perf_base.specs.declared.numbers.CpuNo.{CpuNo}
 use Rattle.perf_base.specs.declared.numbers.TaskNo.{TaskNo}
@@ -31,8 +33,8 @@ abbrev pub excludes : Mode → Attr → Bool
 excludes mode.User a = excludes_user a
 excludes mode.Kernel a = excludes_kernel a
 
--- What an event that is on counts of a stretch of work: a clock counts its length, whatever the mode, and a hardware kind its
--- occurrences, but for those in a mode that the event leaves out.
+-- What an event that is on counts of a stretch of work: a clock counts its length, whatever the mode, and a hardware
+-- kind its occurrences, but for those in a mode that the event leaves out.
 abbrev pub counted_by : Work → Attr → Kind → ℕ
 counted_by w a (kind.Hard n) = if excludes w.mode a then 0 else slice_index w.hits n
 counted_by w a kind.ContextSwitches = 0
@@ -83,8 +85,8 @@ work_share hw s cpu w id = record {
   running = of_instance (λ i. w.length) id (on_instances hw s cpu);
 }
 
--- Of a switch that changes what runs: one switch to those on before it, and, where it is a migration, one migration to those
--- on after it.
+-- Of a switch that changes what runs: one switch to those on before it, and, where it is a migration, one migration to
+-- those on after it.
 abbrev pub migration_share : Hardware → Bool → Stage → CpuNo → ℕ → ℕ
 migration_share hw true after cpu id = of_instance migration_hits id (on_instances hw after cpu)
 migration_share hw false after cpu id = 0

@@ -56,7 +56,7 @@ unknown_task = record { state = state.Unknown; last = None }
 abbrev pub fresh_task : TaskStatus
 fresh_task = record { state = state.Live; last = None }
 
--- the stage before the first line, of so many processors and with these tasks
+-- the stage before the first line, with this number of processors and these tasks
 unfoldable pub first_stage : ℕ → List TaskNo → Stage
 first_stage cpus declared = record {
   running = replicate cpus None;

@@ -26,8 +26,8 @@ unfoldable pub is_reset_by : Hardware → Stage → List Step → ℕ → Bool
 is_reset_by hw s [] id = false
 is_reset_by hw s (x ∷ steps) id = resets s x id || is_reset_by hw (stage_step hw s x) steps id
 
--- The count of an instance: what each step added to it, but for those before a reset that reached it. An instance gets nothing
--- before its birth nor after its end.
+-- The count of an instance: what each step added to it, but for those before a reset that reached it. An instance gets
+-- nothing before its birth nor after its end.
 unfoldable pub count_of : Hardware → Stage → List Step → ℕ → ℕ
 count_of hw s [] id = 0
 count_of hw s (x ∷ steps) id = (if is_reset_by hw (stage_step hw s x) steps id then 0 else (share hw s x id).count) + count_of hw (stage_step hw s x) steps id

@@ -30,7 +30,8 @@ abbrev pub task_lists : Stage → Option TaskNo → Lists
 task_lists s None = no_groups
 task_lists s (Some task) = lists_of s (context.Task task)
 
--- the four passes of a processor: its own pinned groups and then its task's, its own flexible groups and then its task's
+-- the four passes of a processor: its own pinned groups and then its task's, its own flexible groups and then its
+-- task's
 abbrev pub passes : Stage → CpuNo → List (List Group)
 passes s cpu =
     (lists_of s (context.Processor cpu)).pinned ∷ (task_lists s (task_on s cpu)).pinned
@@ -73,8 +74,8 @@ by_counters events = elim (fits (masks_of events)) [
   | false ↦ standing.Refused (cause.Hall (map (λ event. event.0) (tight_set (shortest_unfit events))))
 ]
 
--- What is said of a group after those of earlier passes and those within its own pass: the rules decide first, and else the
--- counters do.
+-- What is said of a group after those of earlier passes and those within its own pass: the rules decide first, and else
+-- the counters do.
 abbrev pub by_ruling : Ruling → List (EventNo × ℕ) → Standing
 by_ruling GoesOn events = standing.On
 by_ruling (Refuses rule) events = standing.Refused (cause.Rule rule)

@@ -1,5 +1,5 @@
--- The rows of the table that perf stat would print, after some acts of a script. This project's own profile, after perf stat, which has a row for each event that
--- it has opened.
+-- The rows of the table that perf stat would print, after some acts of a script. This project's own profile, after perf
+-- stat, which has a row for each event that it has opened.
 use Rattle.std.specs.Prelude.{ℕ, List, [], filter, map, option_map}
 use Rattle.std.specs.Option.{unwrap_or}
 use Rattle.perf_base.specs.declared.acts.Act.{Act}

@@ -1,6 +1,6 @@
-// The rows of the table that perf stat would print, read off a machine after the acts of a script: one for each slot
-// that holds an open event. Contracts see them as the rows by the definitions of reads. It serves the program's top
-// call.
+//! The rows of the table that perf stat would print, read off a machine after the acts of a script: one for each slot
+//! that holds an open event. Contracts see them as the rows by the definitions of reads. It serves the program's top
+//! call.
 #![tactic(auto)]
 
 mod laws;

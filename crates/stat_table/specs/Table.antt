@@ -4,11 +4,11 @@ use Rattle.std.specs.Prelude.{codes, decimal, Option, Some, None}
 use Rattle.stat_table.specs.declared.row.StatRow.{StatRow}
 use Rattle.stat_table.specs.Estimates.{estimate_of, share_of}
 
--- An entry at the right end of a column of so many places. A longer one is written whole.
+-- An entry at the right end of a column of a given width. A longer one is written whole.
 abbrev pub right : ℕ → List ℕ → List ℕ
 right width entry = replicate (width - length entry) 32 ++ entry
 
--- An entry at the left end of a column of so many places. A longer one is written whole.
+-- An entry at the left end of a column of a given width. A longer one is written whole.
 abbrev pub left : ℕ → List ℕ → List ℕ
 left width entry = entry ++ replicate (width - length entry) 32
 

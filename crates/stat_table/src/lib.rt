@@ -1,6 +1,6 @@
-// The table of what events counted: their values and times, the value that each would have had on a counter
-// all the time, and the share of its time that it was on one. Contracts see a row as its numbers, and what a
-// sink holds. It serves the program's top call.
+//! The table of what events counted: their values and times, the value that each would have had on a counter
+//! all the time, and the share of its time that it was on one. Contracts see a row as its numbers, and what a
+//! sink holds. It serves the program's top call.
 #![tactic(auto)]
 
 mod estimates;

@@ -10,7 +10,8 @@ use Rattle.world_spec.specs.Kept.{IsKept, family_sums}
 use Rattle.world_spec.specs.StageOf.{stage_of}
 use Rattle.world_spec.specs.Value.{World}
 
--- An answer by what the families of a world have counted and lost is the answer by each record with which the world agrees.
+-- An answer by what the families of a world have counted and lost is the answer by each record with which the world
+-- agrees.
 abbrev pub AnswerLaw : Type 0
 AnswerLaw = (hw : Hardware) (w : World) (r : Running) (x : Step) (a : Reply) → IsKept hw w → AgreesWith w r
     → IsAnswerAt hw (stage_of w) (λ e. family_sums w e.0) (λ e. slice_index_or w.lost e.0 0) x a → IsAnswerBy hw r x a

@@ -1,5 +1,5 @@
--- What a world is after a step, by what it was before: the stage after the step, and of each instance, slot and processor what the step adds. This project's own
--- profile.
+-- What a world is after a step, by what it was before: the stage after the step, and of each instance, slot and
+-- processor what the step adds. This project's own profile.
 use Rattle.std.specs.Prelude.{◌≡◌, ◌+◌, ◌<◌, ◌≤◌, true, List, [], map, flat_map, slice_index_or}
 use Rattle.perf_base.specs.declared.numbers.CpuNo.{CpuNo}
 use Rattle.perf_base.specs.declared.numbers.EventNo.{EventNo}
@@ -19,7 +19,8 @@ use Rattle.world_spec.specs.Kept.{IsKept, plus_keys}
 use Rattle.world_spec.specs.StageOf.{stage_of}
 use Rattle.world_spec.specs.Value.{World, is_live, instance_at, account_at, times}
 
--- An instance that was there has what it had, or nothing after a reset, and what the step adds to it; and what the step leaves of its period.
+-- An instance that was there has what it had, or nothing after a reset, and what the step adds to it; and what the step
+-- leaves of its period.
 pub record HasItsShare (hw : Hardware) (w after : World) (x : Step) (k : Key) : Type 0 where
   pub live : is_live w k ≡ true
   pub id : (instance_at after k).id ≡ (instance_at w k).id

@@ -1,4 +1,5 @@
--- How the leaders of a context are turned by a tick, by where their groups stand. After perf_rotate_context of kernel/events/core.c.
+-- How the leaders of a context are turned by a tick, by where their groups stand. After perf_rotate_context of
+-- kernel/events/core.c.
 use Rattle.std.specs.Prelude.{◌&&◌, Bool, true, false, not, List, find, Option, Some, None}
 use Rattle.std.specs.List.{list_any}
 use Rattle.perf_base.specs.declared.numbers.CpuNo.{CpuNo}

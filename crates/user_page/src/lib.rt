@@ -1,6 +1,6 @@
-// A page of four numbers that one thread publishes and another reads: no call of it takes a lock, waits or
-// tries again. Contracts see each end as the list of looks that it has published or seen.
-// It serves the crate that watches an event of a run.
+//! A page of four numbers that one thread publishes and another reads: no call of it takes a lock, waits or
+//! tries again. Contracts see each end as the list of looks that it has published or seen.
+//! It serves the crate that watches an event of a run.
 #![tactic(auto)]
 
 mod laws;

@@ -22,7 +22,8 @@ use Rattle.work_account.proofs.Passing.{front-may, rest-may, visited-rest}
 use Rattle.work_account.proofs.Noting.{noted-next, noted-all, room-left}
 use Rattle.work_account.proofs.Going.{IsButAccounts, but-after, visited-append, visited-none}
 
--- Of the keys that are gone over from a first world on, some are ahead; what was noted and what will be come to what is noted of all.
+-- Of the keys that are gone over from a first world on, some are ahead; what was noted and what will be come to what is
+-- noted of all.
 pub record Ahead (x : Happening) (first : World) (all : List Key) (was : List Overflow) (w : World) (more : List Key) (found : List Overflow) : Type 0 where
   pub but : IsButAccounts first w
   pub may : MayVisit x w more

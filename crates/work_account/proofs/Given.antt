@@ -25,7 +25,8 @@ use Rattle.work_account.proofs.Passing.{times-least, visit-own, visit-other}
 abbrev pub given_at : Happening → World → Key → Sums
 given_at x w k = record { count = counted x w k; enabled = if is_effective w k then lasts x else 0; running = if is_on w k then lasts x else 0 }
 
--- the account of a key after visits: as it was where it is not among them, and with what it is given where it is there once
+-- the account of a key after visits: as it was where it is not among them, and with what it is given where it is there
+-- once
 pub visited-out : (x : Happening) (k : Key) (keys : List Key) (w : World) → times k keys ≡ 0 → account_at (visited x keys w) k ≡ account_at w k
 unfolding visited
 visited-out x k [] w none = refl

@@ -1,4 +1,5 @@
--- The keys that a processor reaches: they live, no two are of one family, and those that are on and those that are ready are the stage's.
+-- The keys that a processor reaches: they live, no two are of one family, and those that are on and those that are
+-- ready are the stage's.
 use Rattle.std.specs.Prelude.{◌≡◌, ℕ, ◌≤◌, ◌==◌, Bool, true, false, ◌&&◌, cond, List, [], ◌∷◌, ◌++◌, map, filter, flat_map, count_by}
 use Rattle.std.proofs.Common.{arith, refl, sym, ap, ◌∙◌, inl, inr}
 use Rattle.std.proofs.lemmas.Bool.{cases_eq, cases_Bool, false≢true}

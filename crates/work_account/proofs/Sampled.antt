@@ -1,4 +1,5 @@
--- The records of the overflows that a stretch of work gives are those of the definitions, and what is left once they were sent.
+-- The records of the overflows that a stretch of work gives are those of the definitions, and what is left once they
+-- were sent.
 use Rattle.std.specs.Prelude.{◌≡◌, ℕ, ◌+◌, ◌<◌, ◌≤◌, Bool, true, false, cond, All, List, [], ◌∷◌, ◌++◌, length, map, filter, flat_map, slice_index_or, Option, Some, None, if◌then◌else◌}
 use Rattle.std.proofs.Common.{arith, refl, sym, ap, subst, ◌∙◌, inl, inr}
 use Rattle.std.proofs.lemmas.Bool.{cases_Bool}

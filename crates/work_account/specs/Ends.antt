@@ -1,5 +1,6 @@
--- What records that are sent do to the ends of the rings and to the counts of those lost, and the accounts that the ends have. After
--- __perf_event_overflow and __perf_output_begin of kernel/events; that the records lost are counted for their event is this project's own profile.
+-- What records that are sent do to the ends of the rings and to the counts of those lost, and the accounts that the
+-- ends have. After __perf_event_overflow and __perf_output_begin of kernel/events, which counts the records lost for
+-- their event too; the tables are this project's own profile.
 use Rattle.std.specs.Prelude.{◌≡◌, ◌≢◌, ℕ, ◌+◌, ◌*◌, ◌^◌, ◌<◌, ◌==◌, Bool, true, false, not, All, AllPairs, List, [], ◌∷◌, map, fold, slice_index_or, slice_set, if◌then◌else◌}
 use Rattle.perf_base.specs.declared.numbers.EventNo.{EventNo}
 use Rattle.perf_base.specs.declared.numbers.RingNo.{RingNo}
@@ -57,7 +58,8 @@ pub record AreTogether (rings : RingList) (outs : OutList) : Type 0 where
   pub numbers : rings.numbers ≡ outs.numbers
   pub tables : map (λ o. o.producer.ring) outs.outs ≡ rings.tables
 
--- So many records more, of events in some slots, leave heads and counts below 2^63: each moves one head by at most its ring's size, and may be lost.
+-- A number of further records, of events in some slots, leave heads and counts below 2^63: each moves one head by at
+-- most its ring's size, and may be lost.
 pub record HaveSpace (Slots : ℕ → Type 0) (n : ℕ) (x : Ends) : Type 0 where
   pub heads : All (λ o. place_of o.producer + n * o.producer.ring.bytes < 2 ^ 63) x.outs.outs
   pub losses : All (λ o. o.lost + n < 2 ^ 63) x.outs.outs

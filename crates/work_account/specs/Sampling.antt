@@ -1,4 +1,5 @@
--- What a stretch of work sends, as the code has it: the samples, and the overflows that they are of. This project's own profile.
+-- What a stretch of work sends, as the code has it: the samples, and the overflows that they are of. This project's own
+-- profile.
 use Rattle.std.specs.Prelude.{◌≡◌, ℕ, zero, suc, ◌+◌, List, length, flat_map, Some, slice_index_or, true}
 use Rattle.perf_base.specs.declared.lines.Work.{Work}
 use Rattle.perf_base.specs.declared.numbers.CpuNo.{CpuNo}
@@ -24,7 +25,7 @@ ends_of outs w = record { outs = outs; lost = w.lost }
 abbrev pub asks : Sample → Request
 asks s = request s.sent s.id s.trailer
 
--- a record that is sent so many times
+-- a record that is sent a number of times
 abbrev pub send_times : ℕ → EventNo → RingNo → Request → Ends → Ends
 send_times zero e ring q x = x
 send_times (suc n) e ring q x = send_times n e ring q (send_one x e ring q)

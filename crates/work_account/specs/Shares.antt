@@ -1,5 +1,6 @@
--- What a stretch of work on a processor, and one occurrence of a software kind there, add to the instances of a world. After
--- perf_event_update_time, perf_swevent_event and ctx_sched_in of kernel/events/core.c; when the software kinds occur is this project's own profile.
+-- What a stretch of work on a processor, and one occurrence of a software kind there, add to the instances of a world.
+-- After perf_event_update_time, perf_swevent_event and ctx_sched_in of kernel/events/core.c; the tables are this
+-- project's own profile.
 use Rattle.std.specs.Prelude.{◌≡◌, ℕ, ◌+◌, ◌^◌, ◌<◌, true}
 use Rattle.std.specs.FinMap.{contains_key}
 use Rattle.perf_base.specs.declared.attr.Kind.{Kind}
@@ -32,7 +33,8 @@ pub record HaveShares (w after : World) (given : ℕ → Sums) : Type 0 where
 abbrev pub work_shares : World → CpuNo → Work → ℕ → Sums
 work_shares w cpu work id = share w.hardware (stage_of w) (CpuStep cpu (cpu_line.Work work)) id
 
--- What one occurrence of a software kind gives: one switch, or one migration, to those that are on. No other kind occurs by itself.
+-- What one occurrence of a software kind gives: one switch, or one migration, to those that are on. No other kind
+-- occurs by itself.
 abbrev pub soft_hits : Kind → Instance → ℕ
 soft_hits (kind.Hard n) i = 0
 soft_hits kind.ContextSwitches i = switch_hits i

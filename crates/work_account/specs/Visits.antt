@@ -1,5 +1,5 @@
--- How the keys that a processor reaches are gone over, one after the other, and what each is given. After perf_event_update_time and
--- perf_swevent_event of kernel/events/core.c; the order is this project's own profile.
+-- How the keys that a processor reaches are gone over, one after the other, and what each is given. After
+-- perf_event_update_time and perf_swevent_event of kernel/events/core.c; the order is this project's own profile.
 use Rattle.std.specs.Prelude.{◌≡◌, ℕ, ◌+◌, ◌^◌, ◌<◌, ◌≤◌, ◌==◌, Bool, true, ◌&&◌, List, [], ◌∷◌, length, flat_map, count_by, Option, if◌then◌else◌}
 use Rattle.std.specs.List.{fold}
 use Rattle.perf_base.specs.declared.lines.CpuLine.TheVariants as cpu_line
@@ -90,8 +90,8 @@ pass_keys w cpu = all_members w (leaders_by_pass w cpu)
 abbrev pub is_in : World → ℕ → Key → Bool
 is_in w slot k = (instance_at w k).event.0 == slot
 
--- Keys may be gone over: they are live, no two of one family, and each family has room for what its instance is given. Sixteen kinds at most are
--- counted.
+-- Keys may be gone over: they are live, no two of one family, and each family has room for what its instance is given.
+-- Sixteen kinds at most are counted.
 pub record MayVisit (x : Happening) (w : World) (keys : List Key) : Type 0 where
   pub live : (k : Key) → 1 ≤ times k keys → is_live w k ≡ true
   pub one_each : (slot : ℕ) → count_by (is_in w slot) keys ≤ 1

@@ -22,5 +22,5 @@ impl Filling for Overflow {
     }
 }
 
-/// The overflows of the instances that a processor reaches, of which no two are of one event.
+/// The overflows of the instances that a processor reaches, no two of one event.
 pub type Overflows = ShortList<Overflow, 256>;

@@ -1,4 +1,5 @@
--- What acts of a script leave: a world and the ends of its rings. This project's own profile, after its limits on scripts.
+-- What acts of a script leave: a world and the ends of its rings. This project's own profile, after its limits on
+-- scripts.
 use Rattle.std.specs.Prelude.{◌≡◌, ◌≤◌, List, [], ◌∷◌}
 use Rattle.perf_base.specs.declared.acts.Act.{Act}
 use Rattle.perf_base.specs.declared.acts.Act.TheVariants as act

@@ -8,7 +8,8 @@ use Rattle.ring_words.specs.Ends.{place_of}
 use Rattle.sample_ring.specs.OutEnds.{OutEnd}
 use Rattle.work_account.specs.Ends.{IsAccountOf}
 
--- The places of its head and of the last tail seen, its counts of records lost and pending, and the words that it has published are those of an account.
+-- The places of its head and of the last tail seen, its counts of records lost and pending, and the words that it has
+-- published are those of an account.
 pub record ShowsAccount (o : OutEnd) (a : Account) : Type 0 where
   pub head : head_of a ≡ place_of o.producer
   pub tail : a.tail ≡ o.producer.last_tail

@@ -81,7 +81,7 @@ fn add_acts(script: &mut Script, acts: &[Act]) -> Result<(), NoMemory>
     Ok(())
 }
 
-/// Adds them so many times.
+/// Adds them a number of times.
 fn repeat_acts(script: &mut Script, times: u32, acts: &[Act]) -> Result<(), NoMemory>
     requires { All (IsAct script.old) acts.now }
     ensures { OnOk result (script.new ≡ with_acts script.old (for_each_all times (λ time. acts.now))) }

@@ -40,7 +40,8 @@ IsStated kind note expected.Unknown = IsKnown kind note → ⊥
 abbrev pub is_of_order : List ℕ → Bool
 is_of_order note = ends_with nat_eq note (codes ": ORDER\n") || starts_with nat_eq note (codes "perf_run: act ")
 
--- Whether there is a text that is replayed and stands for a script. One that is refused does so only where its order is at fault.
+-- Whether there is a text that is replayed and stands for a script. One that is refused does so only where its order is
+-- at fault.
 abbrev pub has_script : Expected → Bool
 has_script expected.Done = true
 has_script (expected.Refused wanted) = is_of_order (string_bytes wanted)

@@ -4,8 +4,8 @@ use Rattle.perf_top.specs.Outcome.{AreKnown, IsOutput}
 use Rattle.worked_cases.specs.Expectations.{Allows}
 use Rattle.worked_cases.specs.declared.case.Expected.{Expected}
 
--- The words ended as the case allows, beside a source that had the text: what was written under 0 is what they have written,
--- and 5 came exactly where they are none that the program knows.
+-- The words ended as the case allows, beside a source that had the text: what was written under 0 is what they have
+-- written, and 5 came exactly where they are none that the program knows.
 pub record AreAsExpected (e : Expected) (report : List ℕ) (words : List (List ℕ)) (text : List ℕ) : Type 0 where
   pub number : ℕ
   pub out : List ℕ

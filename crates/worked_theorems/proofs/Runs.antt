@@ -1,5 +1,5 @@
--- Worked cases of what a run leaves: orders whose looks stand as a run makes them and whose readers took their parts, and
--- their neighbours, each of them lawful and wrong in one thing.
+-- Worked cases of what a run leaves: orders whose looks stand as a run makes them and whose readers took their parts,
+-- and their neighbours, each of them lawful and wrong in one thing.
 use Rattle.std.specs.Prelude.{List, [], ◌∷◌, ◌++◌, take, drop, None, codes, false}
 use Rattle.std.proofs.Common.{arith, refl}
 use Rattle.perf_base.specs.declared.attr.Kind.TheVariants as kind
@@ -39,7 +39,8 @@ watched readers order = record {
   order = order;
 }
 
--- the first ring's reader takes one record at each of its two tries, the second's two at its one; or the first ring alone has one
+-- the first ring's reader takes one record at each of its two tries, the second's two at its one; or the first ring
+-- alone has one
 abbrev both_read : List ReaderLine
 both_read = reader 0 2 1 ∷ reader 1 1 2 ∷ []
 

@@ -19,8 +19,8 @@ use Rattle.ring_spec.proofs.Running.{IsKept, kept-first, kept-step, in_account}
 use Rattle.ring_laws.proofs.Tails.{seen_tail}
 use Rattle.worked_theorems.proofs.Answered.{is_behind, looks_lawful, is_ring, look_ok, declared, LawfulFrom, sum-cons, lawful_acts, lawful_by, find-passes, found_ring}
 
--- The act of this number is a look at this ring's tail at the place given. The acts before it are lawful, and it is not: the
--- ring's tail was seen last at `last`, and its head is `head`.
+-- The act of this number is a look at this ring's tail at the place given. The acts before it are lawful, and it is
+-- not: the ring's tail was seen last at `last`, and its head is `head`.
 pub record IsUnlawfulLook (s : Scripted) (number : ℕ) (ring : RingNo) (last head given : ℕ) : Type 0 where
   pub look : slice_get s.order number ≡ Some (act.Seen ring given)
   pub lawful_before : IsLawfulOrder s (take number s.order)

@@ -1,4 +1,5 @@
--- The instances of the stage are those of the world's keys, each once; so families, originals and copies are the world's.
+-- The instances of the stage are those of the world's keys, each once; so families, originals and copies are the
+-- world's.
 use Rattle.std.specs.Prelude.{◌≡◌, ℕ, ◌+◌, ◌<◌, ◌≤◌, ◌==◌, Bool, true, false, not, ◌&&◌, cond, List, [], ◌∷◌, ◌++◌, length, map, filter, find, count_by, flat_map, is_some, Option, Some, None, option_map, slice_index_or, if◌then◌else◌}
 use Rattle.std.specs.List.{list_any}
 use Rattle.std.proofs.Common.{arith, refl, sym, ap, ◌∙◌, inl, inr}

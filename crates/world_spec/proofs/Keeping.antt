@@ -32,7 +32,8 @@ by_entry P w k e q here there = elim (cases_eq q.0 k.0) [
   | inr apart ↦ subst P (sym (entry-there w k e q apart)) (there apart)
 ]
 
--- a change of an instance that keeps its post, known sample bits, the context that its attribute names, and error to leaders
+-- a change of an instance that keeps its post, known sample bits, the context that its attribute names, and error to
+-- leaders
 pub instance-lawful : (f : Instance → Instance) → KeepsPost f → (w : World) (k : Key) → is_live w k ≡ true
     → (is_error (f (instance_at w k)).own ≡ true → is_key k (entry_at w k).leader ≡ true)
     → has_unknown_sample (f (instance_at w k)).attr ≡ has_unknown_sample (instance_at w k).attr

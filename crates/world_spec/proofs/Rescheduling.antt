@@ -1,4 +1,5 @@
--- A processor that was judged, after its refused pinned groups went to error: it is settled, and stands by its verdicts.
+-- A processor that was judged, after its refused pinned groups went to error: it is settled, and stands by its
+-- verdicts.
 use Rattle.std.specs.Prelude.{◌≡◌, ℕ, ◌+◌, ◌<◌, ◌≤◌, ◌==◌, Bool, true, false, ◌&&◌, cond, List, [], ◌∷◌, ◌++◌, length, map, filter, flat_map, count_by, take, drop, Option, Some, None, slice_index_or, if◌then◌else◌}
 use Rattle.std.proofs.Common.{arith, refl, sym, ap, subst, ◌∙◌, inl, inr, append_assoc}
 use Rattle.std.proofs.lemmas.Bool.{cases_eq, cases_Bool, false≢true}

@@ -1,4 +1,5 @@
--- A worked case: of two events on a processor with one counter the first is on, and the second is refused by the tight set of both.
+-- A worked case: of two events on a processor with one counter the first is on, and the second is refused by the tight
+-- set of both.
 use Rattle.std.specs.Prelude.{◌≡◌, ℕ, ◌+◌, false, ◌&&◌, IsTrue, [], ◌∷◌, map, is_some, None, slice_index, replicate}
 use Rattle.std.specs.FinMap.{insert, empty, get-empty}
 use Rattle.std.specs.Option.{unwrap_or}

@@ -1,5 +1,5 @@
 -- How instances come and go in a world. After perf_install_in_context, perf_group_attach, perf_group_detach and
--- inherit_event of kernel/events/core.c; that siblings go behind the flexible groups is this project's own profile.
+-- inherit_event of kernel/events/core.c; the tables are this project's own profile.
 use Rattle.std.specs.Prelude.{◌+◌, Bool, true, false, [], ◌∷◌, ◌++◌, Option, Some, None, slice_index_or, slice_set, if◌then◌else◌}
 use Rattle.std.specs.FinMap.{FinMap, insert, remove}
 use Rattle.std.specs.List.{fold}

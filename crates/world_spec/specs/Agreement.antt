@@ -1,5 +1,5 @@
--- When a world agrees with the record of a step: they are of one stage, and the world's accounts, folded sums, lost counts and clocks are the
--- record's of all that a later line can ask for. This project's own profile.
+-- When a world agrees with the record of a step: they are of one stage, and the world's accounts, folded sums, lost
+-- counts and clocks are the record's of all that a later line can ask for. This project's own profile.
 use Rattle.std.specs.Prelude.{◌≡◌, ℕ, ◌≤◌, true, List, length, map, slice_index_or}
 use Rattle.perf_base.specs.declared.numbers.CpuNo.{CpuNo}
 use Rattle.perf_base.specs.declared.numbers.EventNo.{EventNo}
@@ -16,8 +16,9 @@ use Rattle.world_spec.specs.StageOf.{stage_of}
 use Rattle.world_spec.specs.Kept.{family_sums, IsKept}
 use Rattle.world_spec.specs.First.{first_world}
 
--- Of each instance that is there, the sums and what is left of its period; no sums of ids that were not drawn. Of slots that are open or
--- were never used, the folded sums and the lost counts. Of each processor the clock. Rings are not the world's.
+-- Of each instance that is there, the sums and what is left of its period; no sums of ids that were not drawn. Of slots
+-- that are open or were never used, the folded sums and the lost counts. Of each processor the clock. Rings are not the
+-- world's.
 pub record AgreesWith (w : World) (r : Running) : Type 0 where
   pub stage : r.stage ≡ stage_of w
   pub sums : (k : Key) → is_live w k ≡ true → r.sums (instance_at w k).id ≡ (account_at w k).sums
@@ -32,7 +33,8 @@ abbrev pub FirstAgreesLaw : Type 0
 FirstAgreesLaw = (hw : Hardware) (declared : List TaskNo) (rings : List (RingNo × ℕ))
     → AgreesWith (first_world hw declared) (first_record (first_stage (length hw.cpu_pmus) declared) rings)
 
--- Two records with which a world agrees, and whose rings show the same, agree. A world agrees with each record that agrees with one of its own.
+-- Two records with which a world agrees, and whose rings show the same, agree. A world agrees with each record that
+-- agrees with one of its own.
 abbrev pub RecordsAgreeLaw : Type 0
 RecordsAgreeLaw = (hw : Hardware) (w : World) (r q : Running) → IsKept hw w → AgreesWith w r → AgreesWith w q → map view_of r.rings ≡ map view_of q.rings → Agree r q
 

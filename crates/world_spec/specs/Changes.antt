@@ -30,7 +30,7 @@ with_account f k w = record w { accounts = insert w.accounts k.0 (f (account_at 
 abbrev pub remember : RingNo → List RingNo → List RingNo
 remember ring mapped = if list_any (λ r. r.0 == ring.0) mapped then mapped else mapped ++ ring ∷ []
 
--- the own state, the period, of which a whole one is left then, and the ring; a mapping of its own is remembered
+-- the own state, the period, with a whole one left then, and the ring; a mapping of its own is remembered
 abbrev pub set_own : Key → Own → World → World
 set_own k o w = with_instance (λ i. record i { own = o }) k w
 
@@ -42,7 +42,7 @@ set_ring k ring owner w = record (with_instance (λ i. record i { ring = Some ri
   quiet = record w.quiet { mapped = if owner then remember ring w.quiet.mapped else w.quiet.mapped };
 }
 
--- so many occurrences; a stretch of work, with whether the instance is ready and on; and a count from 0 on again
+-- a number of occurrences; a stretch of work, with whether the instance is ready and on; and a count from 0 on again
 abbrev pub hit : Key → ℕ → World → World
 hit k n w = with_account (λ a. record a {
   sums = record a.sums { count = a.sums.count + n };

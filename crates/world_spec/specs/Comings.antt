@@ -1,5 +1,5 @@
--- An instance that comes keeps a world and is the stage's own new instance. After perf_install_in_context, perf_group_attach and
--- inherit_event of kernel/events/core.c; the tables are this project's own profile.
+-- An instance that comes keeps a world and is the stage's own new instance. After perf_install_in_context,
+-- perf_group_attach and inherit_event of kernel/events/core.c; the tables are this project's own profile.
 use Rattle.std.specs.Prelude.{◌≡◌, ℕ, ◌+◌, ◌^◌, ◌<◌, true, false, List, [], ◌∷◌, ◌++◌, length, map, Option, Some, None, if◌then◌else◌}
 use Rattle.perf_base.specs.Scripts.{IsKind}
 use Rattle.perf_base.specs.declared.attr.Kind.{Kind}
@@ -24,7 +24,8 @@ abbrev pub new_kinds : World → Newcomer → Option Key → List Kind
 new_kinds w n None = n.attr.kind ∷ []
 new_kinds w n (Some leader) = kinds_in (post_at w) leader ++ n.attr.kind ∷ []
 
--- The key names nothing; the kind is one of the machine's; the context has none of the family; the group fits with it; ids have room.
+-- The key names nothing; the kind is one of the machine's; the context has none of the family; the group fits with it;
+-- ids have room.
 pub record MayCome (hw : Hardware) (w : World) (k : Key) (n : Newcomer) : Type 0 where
   pub fresh : is_live w k ≡ false
   pub slot : n.event.0 < 256
@@ -71,7 +72,8 @@ AddLaw = (hw : Hardware) (w : World) (k : Key) (n : Newcomer) → IsKept hw w �
 abbrev pub AddKeptLaw : Type 0
 AddKeptLaw = (hw : Hardware) (w : World) (k : Key) (n : Newcomer) → MayCome hw w k n → IsOfOriginal w n → HasRoom w n n.leader → Keeps hw w (add k n w)
 
--- Where the instance is an original in the context that its attribute names, and its leader is one too, the stage is what opening it makes.
+-- Where the instance is an original in the context that its attribute names, and its leader is one too, the stage is
+-- what opening it makes.
 abbrev pub slot_led : World → Option Key → Option EventNo
 slot_led w None = None
 slot_led w (Some leader) = Some (instance_at w leader).event

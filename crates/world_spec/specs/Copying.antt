@@ -1,5 +1,5 @@
--- A copy that a fork makes of an instance is the definitions' own. After inherit_event and inherit_group of kernel/events/core.c; the
--- tables are this project's own profile.
+-- A copy that a fork makes of an instance is the definitions' own. After inherit_event and inherit_group of
+-- kernel/events/core.c; the tables are this project's own profile.
 use Rattle.std.specs.Prelude.{◌≡◌, Bool, true, false, List, [], ◌∷◌, ◌++◌, Option, Some, None}
 use Rattle.perf_base.specs.declared.numbers.Key.{Key}
 use Rattle.perf_base.specs.declared.numbers.TaskNo.{TaskNo}
@@ -33,7 +33,8 @@ abbrev pub leaders_in : Bool → Leaders → List Key
 leaders_in true l = l.pinned
 leaders_in false l = l.flexible
 
--- The copy of a leader has no leader, and goes into the list of its flag. The copy of a sibling joins the last group of the list.
+-- The copy of a leader has no leader, and goes into the list of its flag. The copy of a sibling joins the last group of
+-- the list.
 pub record LeadsLast (l : Leaders) (pinned : Bool) (leader : Key) : Type 0 where
   pub before : List Key
   pub last : leaders_in pinned l ≡ before ++ leader ∷ []

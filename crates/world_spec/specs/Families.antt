@@ -1,5 +1,5 @@
--- What the families of a world are on the stage that it stands for. After child_list and perf_event_for_each_child of kernel/events/core.c;
--- that a processor reaches one instance of a family at most is this project's own profile.
+-- What the families of a world are on the stage that it stands for. After child_list and perf_event_for_each_child of
+-- kernel/events/core.c; that a processor reaches one instance of a family at most is this project's own profile.
 use Rattle.std.specs.Prelude.{◌≡◌, true, map, filter, is_some, option_map}
 use Rattle.perf_base.specs.declared.numbers.CpuNo.{CpuNo}
 use Rattle.perf_base.specs.declared.numbers.EventNo.{EventNo}
@@ -15,7 +15,8 @@ use Rattle.world_spec.specs.Value.{World, is_live, entry_at, instance_at, family
 use Rattle.world_spec.specs.StageOf.{group_at, stage_of}
 use Rattle.world_spec.specs.Kept.{copies_in, keys_of, plus_keys, IsKept}
 
--- A processor reaches at most one instance of a family: two of one slot, each in its own context or that of the task on it, are one.
+-- A processor reaches at most one instance of a family: two of one slot, each in its own context or that of the task on
+-- it, are one.
 abbrev pub OneReachedLaw : Type 0
 OneReachedLaw = (hw : Hardware) (w : World) (cpu : CpuNo) (j k : Key) → IsKept hw w → is_live w j ≡ true → is_live w k ≡ true
     → (instance_at w j).event.0 ≡ (instance_at w k).event.0

@@ -1,5 +1,5 @@
--- The world before the first line. After perf_event_init_cpu and perf_event_init_task of kernel/events/core.c; the tables are this project's
--- own profile.
+-- The world before the first line. After perf_event_init_cpu and perf_event_init_task of kernel/events/core.c; the
+-- tables are this project's own profile.
 use Rattle.std.specs.Prelude.{◌≡◌, List, [], None, length, map, replicate, slice_index}
 use Rattle.std.specs.FinMap.{empty}
 use Rattle.perf_base.specs.declared.numbers.TaskNo.{TaskNo}
@@ -11,7 +11,8 @@ use Rattle.world_spec.specs.Value.{World, no_family, no_leaders}
 use Rattle.world_spec.specs.StageOf.{stage_of}
 use Rattle.world_spec.specs.Kept.{IsKept}
 
--- no event, these tasks, and the processors of a machine, each idle, with no time passed and no event seated on its counters
+-- no event, these tasks, and the processors of a machine, each idle, with no time passed and no event seated on its
+-- counters
 abbrev pub first_world : Hardware → List TaskNo → World
 first_world hw declared = record {
   hardware = hw;

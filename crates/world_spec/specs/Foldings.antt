@@ -1,5 +1,5 @@
--- A copy that is folded goes, and its event has counted with its copies what it had. After sync_child_event and perf_event_exit_event of
--- kernel/events/core.c; the tables are this project's own profile.
+-- A copy that is folded goes, and its event has counted with its copies what it had. After sync_child_event and
+-- perf_event_exit_event of kernel/events/core.c; the tables are this project's own profile.
 use Rattle.std.specs.Prelude.{◌≡◌, ℕ, true}
 use Rattle.perf_base.specs.declared.numbers.Key.{Key}
 use Rattle.stage_spec.specs.Hardware.{Hardware}

@@ -1,5 +1,5 @@
--- An instance that goes leaves a world kept, and is the stage's own instance that goes. After perf_group_detach and list_del_event of
--- kernel/events/core.c; the tables are this project's own profile.
+-- An instance that goes leaves a world kept, and is the stage's own instance that goes. After perf_group_detach and
+-- list_del_event of kernel/events/core.c; the tables are this project's own profile.
 use Rattle.std.specs.Prelude.{◌≡◌, true, false}
 use Rattle.perf_base.specs.declared.numbers.Key.{Key}
 use Rattle.stage_spec.specs.Hardware.{Hardware}
@@ -15,7 +15,8 @@ pub record MayGo (w : World) (k : Key) : Type 0 where
   pub live : is_live w k ≡ true
   pub last : (instance_at w k).copy ≡ false → (j : Key) → is_copy_in (post_at w) (instance_at w k).event.0 j ≡ false
 
--- An instance that goes, a sibling or a leader, is the stage's: siblings of a leader become groups of their own behind the flexible ones.
+-- An instance that goes, a sibling or a leader, is the stage's: siblings of a leader become groups of their own behind
+-- the flexible ones.
 abbrev pub GoLaw : Type 0
 GoLaw = (hw : Hardware) (w : World) (k : Key) → IsKept hw w → MayGo w k → stage_of (drop_instance k w) ≡ drop_one (instance_at w k).id (stage_of w)
 

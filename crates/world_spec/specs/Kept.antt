@@ -26,8 +26,9 @@ use Rattle.counter_match.specs.Seating.{Seated, IsSound, empty_seating}
 use Rattle.world_spec.specs.Value.{World, Leaders, Family, no_leaders, no_family, is_live, entry_at, instance_at, account_at, is_key, times}
 use Rattle.world_spec.specs.StageOf.{after_first, stage_of}
 
--- Of a key, what no command, switch, tick or stretch of work changes: whether it names an instance, and of that its id, its slot,
--- whether it is a copy, what it counts, where it stands, its leader, the members where it leads, and in which list.
+-- Of a key, what no command, switch, tick or stretch of work changes: whether it names an instance, and of that its id,
+-- its slot, whether it is a copy, what it counts, where it stands, its leader, the members where it leads, and in which
+-- list.
 pub record Post : Type 0 where
   pub live : Bool
   pub id : ℕ
@@ -79,8 +80,8 @@ is_member_of at leader k = (at k).live && is_key leader (at k).leader
 abbrev pub leads_in : (Key → Post) → ℕ → Bool → Key → Bool
 leads_in at place pinned k = leads at k && place_of (at k).context == place && (if (at k).pinned then pinned else not pinned)
 
--- A key stands once where its instance lives, and nowhere else: in its slot's family, in its leader's group and, where it leads,
--- in one of the lists of its context. Keys that name nothing stand nowhere.
+-- A key stands once where its instance lives, and nowhere else: in its slot's family, in its leader's group and, where
+-- it leads, in one of the lists of its context. Keys that name nothing stand nowhere.
 pub record AreLinked (at : Key → Post) (contexts : List Leaders) (families : List Family) : Type 0 where
   pub originals : (k : Key) (slot : ℕ) → times k (in_option (slice_index_or families slot no_family).original) ≡ once_if (is_original_in at slot k)
   pub copies : (k : Key) (slot : ℕ) → times k (slice_index_or families slot no_family).copies ≡ once_if (is_copy_in at slot k)
@@ -95,7 +96,8 @@ pub record AreGrouped (at : Key → Post) : Type 0 where
   pub leader_first : (k : Key) → leads at k ≡ true → (at k).members ≡ k ∷ after_first (at k).members
   pub small : (k : Key) → length (at k).members ≤ 8
 
--- Ids were drawn, and no two instances have one. Slots are below 256, and of an original's slot is known that it was used.
+-- Ids were drawn, and no two instances have one. Slots are below 256, and of an original's slot is known that it was
+-- used.
 pub record AreNumbered (at : Key → Post) (next_id : ℕ) : Type 0 where
   pub first : 1 ≤ next_id
   pub drawn : (k : Key) → (at k).live ≡ true → (1 ≤ (at k).id) × ((at k).id < next_id)
@@ -108,8 +110,8 @@ abbrev pub is_of_task : Context → Bool
 is_of_task (context.Processor cpu) = false
 is_of_task (context.Task task) = true
 
--- A context has at most one instance of a family. A copy stands in a task's context, and its original, in another one, is there. So
--- a processor reaches at most one.
+-- A context has at most one instance of a family. A copy stands in a task's context, and its original, in another one,
+-- is there. So a processor reaches at most one.
 pub record AreApart (at : Key → Post) : Type 0 where
   pub one_each : (j k : Key) → (at j).live ≡ true → (at k).live ≡ true → (at j).event.0 ≡ (at k).event.0 → place_of (at j).context ≡ place_of (at k).context → j ≡ k
   pub copies : (k : Key) → (at k).live ≡ true → (at k).copy ≡ true → is_of_task (at k).context ≡ true
@@ -124,7 +126,7 @@ pub record AreFitting (hw : Hardware) (kinds : List Kind) : Type 0 where
   pub fit : IsTrue (fits (map (mask_of hw) (filter (λ k. not (is_software k)) kinds)))
   pub one_pmu : AllPairs (λ k other. is_other_pmu hw k other ≡ false) kinds
 
--- what a family has counted: its instances that are there, and its copies that exited
+-- what a family has counted: its live instances, and its copies that exited
 abbrev pub keys_of : Family → List Key
 keys_of f = in_option f.original ++ f.copies
 
@@ -135,8 +137,8 @@ plus_keys sums (k ∷ keys) = plus (sums k) (plus_keys sums keys)
 abbrev pub family_sums : World → ℕ → Sums
 family_sums w slot = plus (plus_keys (λ k. (account_at w k).sums) (keys_of (slice_index_or w.families slot no_family))) (slice_index_or w.folded slot no_sums)
 
--- Counts and times of a family, clocks, lost counts and ids stay small. No instance ran longer than it was enabled, nor did any that
--- exited, so running times stay small too.
+-- Counts and times of a family, clocks, lost counts and ids stay small. No instance ran longer than it was enabled, nor
+-- did any that exited, so running times stay small too.
 pub record AreSmall (w : World) : Type 0 where
   pub counts : (slot : ℕ) → (family_sums w slot).count < 2 ^ 63
   pub times : (slot : ℕ) → (family_sums w slot).enabled < 2 ^ 63
@@ -163,7 +165,8 @@ pub record HaveCopies (at : Key → Post) (families : List Family) : Type 0 wher
   pub rising : (slot : ℕ) → AllPairs (λ j k. (at j).id < (at k).id) (slice_index_or families slot no_family).copies
   pub few : copies_in families ≤ 4096
 
--- The seats of each processor are over the counters of its PMU: each event that is seated is on a counter of its mask, and no counter serves two.
+-- The seats of each processor are over the counters of its PMU: each event that is seated is on a counter of its mask,
+-- and no counter serves two.
 pub record AreSeated (hw : Hardware) (seats : List Seated) : Type 0 where
   pub counters : (cpu : CpuNo) → cpu.0 < length seats → (slice_index_or seats cpu.0 (empty_seating 0)).counters ≡ counters_of hw cpu
   pub sound : (cpu : CpuNo) → cpu.0 < length seats → IsSound (slice_index_or seats cpu.0 (empty_seating 0))

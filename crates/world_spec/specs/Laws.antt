@@ -1,5 +1,5 @@
--- Each change keeps a world, and is the stage's own change or leaves the stage. After what kernel/events/core.c keeps of its
--- contexts and groups; the tables are this project's own profile.
+-- Each change keeps a world, and is the stage's own change or leaves the stage. After what kernel/events/core.c keeps
+-- of its contexts and groups; the tables are this project's own profile.
 use Rattle.std.specs.Prelude.{◌≡◌, ℕ, ◌+◌, ◌^◌, ◌<◌, Bool, true, [], ◌∷◌, ◌++◌, Option, Some, length, slice_index_or, if◌then◌else◌}
 use Rattle.perf_base.specs.declared.numbers.CpuNo.{CpuNo}
 use Rattle.perf_base.specs.declared.numbers.Key.{Key}

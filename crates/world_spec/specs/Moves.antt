@@ -1,5 +1,5 @@
--- Changes of groups keep a world and are the stage's own. After perf_rotate_context, perf_group_attach and perf_group_detach
--- of kernel/events/core.c; the tables are this project's own profile.
+-- Changes of groups keep a world and are the stage's own. After perf_rotate_context, perf_group_attach and
+-- perf_group_detach of kernel/events/core.c; the tables are this project's own profile.
 use Rattle.std.specs.Prelude.{◌≡◌, ℕ, Bool, true, false}
 use Rattle.perf_base.specs.declared.numbers.Key.{Key}
 use Rattle.perf_base.specs.declared.standing.Context.{Context}

@@ -1,5 +1,5 @@
--- How a processor stands as rescheduling leaves it: its groups, and the counters that serve its events. After ctx_sched_in and merge_sched_in of
--- kernel/events/core.c; the tables are this project's own profile.
+-- How a processor stands as rescheduling leaves it: its groups, and the counters that serve its events. After
+-- ctx_sched_in and merge_sched_in of kernel/events/core.c; the tables are this project's own profile.
 use Rattle.std.specs.Prelude.{◌≡◌, ◌≢◌, ◌<◌, true, List, ◌++◌, length}
 use Rattle.std.specs.List.{fold}
 use Rattle.perf_base.specs.Cpus.{HasCpu}
@@ -27,14 +27,14 @@ use Rattle.world_spec.specs.Changes.{set_own, set_standing}
 use Rattle.world_spec.specs.Laws.{Keeps}
 use Rattle.world_spec.specs.Listings.{task_leaders}
 
--- A processor's counters serve the hardware events that are on, in pass order and with their masks: each has a counter of its mask, and no
--- two have the same one.
+-- A processor's counters serve the hardware events that are on, in pass order and with their masks: each has a counter
+-- of its mask, and no two have the same one.
 pub record AreServed (hw : Hardware) (w : World) (cpu : CpuNo) : Type 0 where
   pub events : (seats_at w cpu).events ≡ with_masks hw (seated hw (stage_of w) cpu)
   pub assigned : IsAssignment (masks_of (seats_at w cpu).events) (seats_at w cpu).seats
 
--- Each group of a processor's own context and of its task's stands as its verdict with its cause, and Out where it is not eligible. Its
--- counters serve what is on.
+-- Each group of a processor's own context and of its task's stands as its verdict with its cause, and Out where it is
+-- not eligible. Its counters serve what is on.
 pub record IsJudged (hw : Hardware) (w : World) (cpu : CpuNo) : Type 0 where
   pub standings : (k : Key) → leads (post_at w) k ≡ true → has_context (stage_of w) cpu (entry_at w k).context ≡ true
       → standing_at w k ≡ standing_of hw (stage_of w) cpu (group_at w k)
@@ -61,8 +61,8 @@ pub record IsLeft (hw : Hardware) (w after : World) (cpu : CpuNo) : Type 0 where
       → (leads (post_at w) k ≡ true) × (has_context (stage_of w) cpu (entry_at w k).context ≡ true)
       × ((instance_at after k).id ≡ (instance_at w k).id) × (standing_at after k ≡ standing_at w k)
 
--- What a call leaves to a processor that it does not name: what verdicts need of its eligible groups, their verdicts, each with
--- its cause, and its seats. Where it stood as rescheduling leaves it, it still does.
+-- What a call leaves to a processor that it does not name: what verdicts need of its eligible groups, their verdicts,
+-- each with its cause, and its seats. Where it stood as rescheduling leaves it, it still does.
 pub record IsUntouched (hw : Hardware) (w after : World) (cpu : CpuNo) : Type 0 where
   pub briefs : briefs hw (stage_of after) cpu ≡ briefs hw (stage_of w) cpu
   pub verdicts : standings hw (stage_of after) cpu ≡ standings hw (stage_of w) cpu
@@ -99,7 +99,8 @@ fail_group w k = fail_by (standing_at w k) k w
 abbrev pub fail_groups : List Key → World → World
 fail_groups keys w = fold fail_group w keys
 
--- Where a processor was judged and its refused pinned groups then go to error, it is rescheduled, and the stage is settled there.
+-- Where a processor was judged and its refused pinned groups then go to error, it is rescheduled, and the stage is
+-- settled there.
 abbrev pub FailStageLaw : Type 0
 FailStageLaw = (hw : Hardware) (w : World) (cpu : CpuNo) → cpu.0 < 8 → IsKept hw w → IsJudged hw w cpu
     → stage_of (fail_groups (pinned_leaders w cpu) w) ≡ settle hw cpu (stage_of w)

@@ -1,5 +1,6 @@
--- What stays when an instance comes or goes: all other instances with their contexts and accounts, and all that is no family's. After
--- list_del_event and perf_install_in_context of kernel/events/core.c; the tables are this project's own profile.
+-- What stays when an instance comes or goes: all other instances with their contexts and accounts, and all that is no
+-- family's. After list_del_event and perf_install_in_context of kernel/events/core.c; the tables are this project's own
+-- profile.
 use Rattle.std.specs.Prelude.{◌≡◌, ℕ, true, false, Some, slice_index_or}
 use Rattle.perf_base.specs.declared.numbers.EventNo.{EventNo}
 use Rattle.perf_base.specs.declared.numbers.Key.{Key}
@@ -34,7 +35,8 @@ GoStaysLaw = (hw : Hardware) (w : World) (k : Key) → IsKept hw w → MayGo w k
 abbrev pub FoldStaysLaw : Type 0
 FoldStaysLaw = (hw : Hardware) (w : World) (k : Key) → IsKept hw w → is_live w k ≡ true → (instance_at w k).copy ≡ true → HasGone w (folded_away k w) k
 
--- A key that comes names the new instance, in its context, with nothing counted and a whole period left, and stands Out.
+-- A key that comes names the new instance, in its context, with nothing counted and a whole period left, and stands
+-- Out.
 pub record HasCome (w after : World) (k : Key) (n : Newcomer) : Type 0 where
   pub live : is_live after k ≡ true
   pub instance : instance_at after k ≡ new_instance w n

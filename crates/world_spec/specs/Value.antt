@@ -1,5 +1,6 @@
 -- The events, groups, families and accounts of a machine as one value: tables by key, and lists of keys. After struct
--- perf_event, perf_event_context and perf_cpu_context of kernel/events/core.c; the tables are this project's own profile.
+-- perf_event, perf_event_context and perf_cpu_context of kernel/events/core.c; the tables are this project's own
+-- profile.
 use Rattle.std.specs.Prelude.{ℕ, ◌^◌, ◌==◌, Bool, false, List, [], count_by, Option, None, slice_index_or}
 use Rattle.std.specs.Option.{unwrap_or}
 use Rattle.std.specs.Ordering.{nat_cmp}
@@ -50,8 +51,8 @@ pub record Family : Type 0 where
   pub original : Option Key
   pub copies : List Key
 
--- What no group and no account shows: of each task where it stands; the task, the clock and the seats of each processor; the
--- slots that were opened, the rings that were mapped, and the id of the next instance.
+-- What no group and no account shows: of each task where it stands; the task, the clock and the seats of each
+-- processor; the slots that were opened, the rings that were mapped, and the id of the next instance.
 pub record Quiet : Type 0 where
   pub tasks : List TaskStatus
   pub running : List (Option TaskNo)
@@ -61,9 +62,9 @@ pub record Quiet : Type 0 where
   pub mapped : List RingNo
   pub next_id : ℕ
 
--- The machine's counters, which never change. By key the entries, the accounts and, of leaders, the standings. The leaders of the
--- eight processors' groups and then of each task's. By slot the families, what the copies that exited had counted, and how many
--- records were lost.
+-- The machine's counters, which never change. By key the entries, the accounts and, of leaders, the standings. The
+-- leaders of the eight processors' groups and then of each task's. By slot the families, what the copies that exited
+-- had counted, and how many records were lost.
 pub record World : Type 0 where
   pub hardware : Hardware
   pub entries : FinMap nat_cmp Entry

@@ -1,4 +1,5 @@
--- Which instances count on a processor, by the keys of a world. After ctx_sched_in and perf_event_update_time of kernel/events/core.c.
+-- Which instances count on a processor, by the keys of a world. After ctx_sched_in and perf_event_update_time of
+-- kernel/events/core.c.
 use Rattle.std.specs.Prelude.{◌≡◌, List, map, filter, flat_map}
 use Rattle.perf_base.specs.declared.numbers.CpuNo.{CpuNo}
 use Rattle.perf_base.specs.declared.numbers.Key.{Key}
@@ -26,7 +27,8 @@ ready_in w leader = filter (λ k. is_ready (instance_at w k).own) (entry_at w le
 abbrev pub effective_in : World → Key → List Key
 effective_in w leader = filter (λ k. is_ready (effective (instance_at w leader).own (instance_at w k).own)) (entry_at w leader).members
 
--- Where a processor was judged, the instances that are on are the ready members of the groups that stand on, in pass order.
+-- Where a processor was judged, the instances that are on are the ready members of the groups that stand on, in pass
+-- order.
 abbrev pub OnLaw : Type 0
 OnLaw = (hw : Hardware) (w : World) (cpu : CpuNo) → IsKept hw w → IsJudged hw w cpu
     → on_instances hw (stage_of w) cpu ≡ map (instance_at w) (flat_map (ready_in w) (leaders_on w cpu))

@@ -1,6 +1,6 @@
-// The value of a world: its events, groups, contexts, families, accounts and tasks by key, what holds of it at any
-// time, the stage that it stands for, and what each change does to both. It has no code but one empty function for each
-// law. It serves the crate that keeps the tables and, by its laws, those that change them.
+//! The value of a world: its events, groups, contexts, families, accounts and tasks by key, what holds of it at any
+//! time, the stage that it stands for, and what each change does to both. It has no code but one empty function for
+//! each law. It serves the crate that keeps the tables and, by its laws, those that change them.
 #![tactic(auto)]
 
 mod laws;

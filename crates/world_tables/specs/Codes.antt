@@ -1,4 +1,4 @@
--- How the values of the tables are stored: each as the tuple of its parts.
+-- How the values of the tables are stored: each as the tuple of its parts. This project's own profile.
 use Rattle.std.specs.Prelude.{ℕ, Bool, List, refl}
 use Rattle.std.specs.Coded.{Coded, code_by, coded×, coded_ℕ, coded_bool, coded_list}
 use Rattle.std.specs.FinMap.{FinMap, code}

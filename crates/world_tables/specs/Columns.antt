@@ -1,4 +1,5 @@
--- The tables of events by key: entries, accounts and standings, and what each change does to them. This project's own profile.
+-- The tables of events by key: entries, accounts and standings, and what each change does to them. This project's own
+-- profile.
 use Rattle.std.specs.Prelude.{ℕ, Bool, map}
 use Rattle.std.specs.FinMap.{FinMap, empty, get, contains_key, insert, remove, from_entries}
 use Rattle.std.specs.Option.{unwrap_or}

@@ -1,5 +1,5 @@
--- One event with its accounts, as the tables keep it. After struct perf_event of kernel/events/core.c; how it is kept is this
--- project's own profile.
+-- One event with its accounts, as the tables keep it. After struct perf_event of kernel/events/core.c; how it is kept
+-- is this project's own profile.
 use Rattle.std.specs.Prelude.{ℕ, ◌+◌, Bool, true, false, [], ◌∷◌, ◌++◌, Some, if◌then◌else◌}
 use Rattle.perf_base.specs.declared.numbers.Key.{Key}
 use Rattle.perf_base.specs.declared.standing.Context.{Context}
@@ -35,7 +35,7 @@ with_instance f r = record r { entry = record r.entry { instance = f r.entry.ins
 abbrev pub with_account : (Account → Account) → Row → Row
 with_account f r = record r { account = f r.account }
 
--- so many occurrences, and a stretch of work
+-- a number of occurrences, and a stretch of work
 abbrev pub after_hit : ℕ → ℕ → Account → Account
 after_hit n period a = record { sums = record a.sums { count = a.sums.count + n }; left = left_after n period a.left }
 

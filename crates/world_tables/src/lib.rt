@@ -1,6 +1,6 @@
-// The tables that a world of events is kept in: the events by key, the leaders of groups by context, the families by
-// slot, and the processors. Contracts see each as finite maps and lists, and each change as one equation. It serves the
-// crate that keeps the world.
+//! The tables that a world of events is kept in: the events by key, the leaders of groups by context, the families by
+//! slot, and the processors. Contracts see each as finite maps and lists, and each change as one equation. It serves
+//! the crate that keeps the world.
 #![tactic(auto)]
 
 mod contexts;

@@ -1,4 +1,4 @@
--- Worked cases, written by tools/script_terms.py from texts and their reports.
+-- Worked cases, written by tools/maintain/script_terms.py from texts and their reports.
 use Rattle.std.specs.Prelude.{List, [], ◌∷◌, Some, None, codes}
 use Rattle.std.proofs.Common.{refl}
 use Rattle.perf_base.specs.declared.attr.Kind.TheVariants as kind

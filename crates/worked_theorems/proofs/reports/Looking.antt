@@ -27,7 +27,8 @@ use Rattle.ring_spec.specs.Running.{Running, first_record}
 use Rattle.ring_spec.proofs.Running.{kept-first}
 use Rattle.worked_theorems.proofs.Unlawful.{IsUnlawfulLook, RunLooks, AllLooks, EndsUnlawful, run_looks, unlawful_look}
 
--- The looks of some acts of a script, one by one, and something said of the end. Where this is unfolded, so is all that it computes with.
+-- The looks of some acts of a script, one by one, and something said of the end. Where this is unfolded, so is all that
+-- it computes with.
 unfoldable pub Walked : (s : Scripted) → (Running → Type 0) → List Act → Type 0
 unfolding RunLooks first_stage fits fits_beside fits_below tight_set tight_after shortest_unfit unfit_after judge judge_pass judge_passes verdicts settle_pass settle settle_each settle_all open_refusal opened command_each with_period mapped_to output_to closed switched rotated copies_from copy_groups forked exited read_words stage_step steps_from share left_after overflows taken_from
 Walked s End acts = RunLooks (hardware_of s) End (first_record (opening_stage s) s.rings) (history s acts)
