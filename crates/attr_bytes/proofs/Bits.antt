@@ -1,9 +1,9 @@
 -- The bits of a flag word.
-use Rattle.std.proofs.Common.{◌≡◌, ◌<◌, ◌^◌, ℕ, zero, suc, ◌*◌, ◌/◌, ◌%◌, min, max, refl, sym, ap, ◌∙◌, arith, bit_and, bit_or}
+use Rattle.std.proofs.Common.{◌≡◌, ◌<◌, ◌^◌, ℕ, ◌+◌, ◌*◌, ◌/◌, ◌%◌, min, max, refl, sym, ap, ◌∙◌, arith, bit_and, bit_or}
 use Rattle.std.specs.Int.{bit_at}
 use Rattle.std.proofs.lemmas.Nat.{shr-shr, or_lt, and_le_r}
-use Rattle.std.proofs.lemmas.Nat.Bits.{bit_at_and, bit_at_or, bit_at-lt, same_from_bits, same_from_bits_below}
-use Rattle.attr_bytes.specs.Flags.{AreFlagsOf, HasOnlyReadBits, read_bits}
+use Rattle.std.proofs.lemmas.Nat.Bits.{bit_at_and, bit_at_or, bit_at-lt, same_from_bits}
+use Rattle.attr_bytes.specs.Flags.{HasOnlyReadBits, read_bits, flags_of_word}
 
 -- a bit of two masked numbers put together
 two_masks : (a m b n i : ℕ) → bit_at (bit_or (bit_and a m) (bit_and b n)) i ≡ max (min (bit_at a i) (bit_at m i)) (min (bit_at b i) (bit_at n i))
@@ -26,6 +26,17 @@ both_masks a m b n k p q = same_from_bits _ _ (λ i.
     let e : min (bit_at m i) (bit_at k i) ≡ bit_at m i = sym (bit_at_and m k i) ∙ ap (λ (x : ℕ). bit_at x i) p in
     let f : min (bit_at n i) (bit_at k i) ≡ bit_at n i = sym (bit_at_and n k i) ∙ ap (λ (x : ℕ). bit_at x i) q in
     bit_at_and _ k i ∙ rw (two_masks a m b n i) (omega arith))
+
+-- The flags are those of the flag word, bit by bit, and no others.
+pub record AreFlagsOf (word flags : ℕ) : Type 0 where
+  pub disabled : bit_at flags 0 ≡ bit_at word 0
+  pub inherit : bit_at flags 1 ≡ bit_at word 1
+  pub pinned : bit_at flags 2 ≡ bit_at word 2
+  pub exclusive : bit_at flags 3 ≡ bit_at word 3
+  pub exclude_user : bit_at flags 4 ≡ bit_at word 4
+  pub exclude_kernel : bit_at flags 5 ≡ bit_at word 5
+  pub sample_id_all : bit_at flags 6 ≡ bit_at word 18
+  pub no_other : flags < 2 ^ 7
 
 -- what `flags_of_word` computes
 pub AreFlagsOf-word : (word : ℕ) → AreFlagsOf word (bit_or (bit_and word 63) (bit_and (word / 4096) 64))
@@ -66,26 +77,14 @@ word-HasOnlyReadBits flags high = both_masks flags 63 high 262144 read_bits refl
 pub word-bit_other : (flags high i : ℕ) → bit_at 63 i ≡ 0 → bit_at 262144 i ≡ 0 → bit_at (bit_or (bit_and flags 63) (bit_and high 262144)) i ≡ 0
 word-bit_other flags high i p q = no_mask flags 63 high 262144 i p q
 
--- seven bits, each by its place
-seven_bits : (f g i : ℕ) → i < 7 → bit_at f 0 ≡ bit_at g 0 → bit_at f 1 ≡ bit_at g 1 → bit_at f 2 ≡ bit_at g 2 → bit_at f 3 ≡ bit_at g 3 → bit_at f 4 ≡ bit_at g 4 → bit_at f 5 ≡ bit_at g 5 → bit_at f 6 ≡ bit_at g 6 → bit_at f i ≡ bit_at g i
-seven_bits f g zero below b0 b1 b2 b3 b4 b5 b6 = b0
-seven_bits f g (suc zero) below b0 b1 b2 b3 b4 b5 b6 = b1
-seven_bits f g (suc (suc zero)) below b0 b1 b2 b3 b4 b5 b6 = b2
-seven_bits f g (suc (suc (suc zero))) below b0 b1 b2 b3 b4 b5 b6 = b3
-seven_bits f g (suc (suc (suc (suc zero)))) below b0 b1 b2 b3 b4 b5 b6 = b4
-seven_bits f g (suc (suc (suc (suc (suc zero))))) below b0 b1 b2 b3 b4 b5 b6 = b5
-seven_bits f g (suc (suc (suc (suc (suc (suc zero)))))) below b0 b1 b2 b3 b4 b5 b6 = b6
-seven_bits f g (suc (suc (suc (suc (suc (suc (suc n))))))) below b0 b1 b2 b3 b4 b5 b6 = absurd (omega arith)
+-- seven bits make the number
+of_bits : (n : ℕ) → n < 2 ^ 7 → n ≡ bit_at n 0 * 2 ^ 0 + bit_at n 1 * 2 ^ 1 + bit_at n 2 * 2 ^ 2 + bit_at n 3 * 2 ^ 3 + bit_at n 4 * 2 ^ 4 + bit_at n 5 * 2 ^ 5 + bit_at n 6 * 2 ^ 6
+of_bits n h = omega arith
 
--- one word has one set of flags
-pub AreFlagsOf-one : (word f g : ℕ) → AreFlagsOf word f → AreFlagsOf word g → f ≡ g
-AreFlagsOf-one word f g p q =
-    same_from_bits_below 7 f g p.no_other q.no_other (λ i below.
-    seven_bits f g i below
-    (p.disabled ∙ sym q.disabled)
-    (p.inherit ∙ sym q.inherit)
-    (p.pinned ∙ sym q.pinned)
-    (p.exclusive ∙ sym q.exclusive)
-    (p.exclude_user ∙ sym q.exclude_user)
-    (p.exclude_kernel ∙ sym q.exclude_kernel)
-    (p.sample_id_all ∙ sym q.sample_id_all))
+-- so flags that are those of a flag word bit by bit are those that it has
+pub flags_are : (word flags : ℕ) → AreFlagsOf word flags → flags ≡ flags_of_word word
+flags_are word flags h = of_bits flags h.no_other ∙ rw (h.disabled, h.inherit, h.pinned, h.exclusive, h.exclude_user, h.exclude_kernel, h.sample_id_all) refl
+
+-- a flag word has no flag beside the seven
+pub flags_of_word-few : (word : ℕ) → flags_of_word word < 2 ^ 7
+flags_of_word-few word = omega (arith, bit_at-lt word 0, bit_at-lt word 1, bit_at-lt word 2, bit_at-lt word 3, bit_at-lt word 4, bit_at-lt word 5, bit_at-lt word 18)

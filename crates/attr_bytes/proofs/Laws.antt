@@ -1,5 +1,5 @@
 -- Bytes stand for an attribute exactly where they have no fault, and for one at most.
-use Rattle.std.proofs.Common.{◌≡◌, ◌<◌, ◌≤◌, ℕ, ◌+◌, ◌-◌, ◌/◌, bit_and, bit_or, inl, inr, ◌↔◌, Bool, true, false, not, cond, nat_eq, ◌||◌, List, ◌++◌, length, drop, get_or, Option, Some, None, refl, sym, ap, subst, ◌∙◌, arith, length-take, length-drop, length-append}
+use Rattle.std.proofs.Common.{◌≡◌, ◌<◌, ◌≤◌, ℕ, ◌+◌, ◌-◌, inl, inr, ◌↔◌, Bool, true, false, not, cond, nat_eq, ◌||◌, List, ◌++◌, length, drop, get_or, Option, Some, None, refl, sym, ap, subst, ◌∙◌, arith, length-take, length-drop, length-append}
 use Rattle.std.specs.Option.{option_or}
 use Rattle.std.specs.List.{list_any, slice_range, slice_index}
 use Rattle.std.proofs.lemmas.Bool.{ltb-false, le-ltb, eqb-true, eq-eqb, ne_eqb, not-false, not_from_true, or_parts, or_from, or_left, or_right, or_cases, and_parts, and_from, cases_eq, cond-false, both_ways, not_from_false}
@@ -9,10 +9,9 @@ use Rattle.std.proofs.lemmas.Grind.{get_or_default_zero}
 use Rattle.attr_bytes.specs.declared.raw.RawAttr.{RawAttr}
 use Rattle.attr_bytes.specs.declared.fault.AttrFault.{AttrFault}
 use Rattle.attr_bytes.specs.Layout.{number_at, type_in, size_in, config_in, sample_period_in, sample_type_in, read_format_in, flag_word_in, bp_type_in, config1_in, attr_size}
-use Rattle.attr_bytes.specs.Flags.{AreFlagsOf, HasOnlyReadBits}
+use Rattle.attr_bytes.specs.Flags.{HasOnlyReadBits, flags_of_word}
 use Rattle.attr_bytes.specs.Standing.{StandsFor, IsClass}
 use Rattle.attr_bytes.specs.Faults.{has_unknown, frame_fault, field_fault, fault_of}
-use Rattle.attr_bytes.proofs.Bits.{AreFlagsOf-one, AreFlagsOf-word}
 use Rattle.attr_bytes.proofs.Numbers.{number_at-append}
 
 -- an element of a part
@@ -132,7 +131,7 @@ StandsFor-AreFieldsRead bytes raw h = record {
 }
 
 -- what has no fault stands for the attribute that its fields give
-pub stands_from_fields : (bytes : List ℕ) (raw : RawAttr) → IsFramed bytes → AreFieldsRead bytes → raw.class ≡ type_in bytes → raw.config ≡ config_in bytes → raw.period ≡ sample_period_in bytes → raw.sample ≡ sample_type_in bytes → raw.format ≡ read_format_in bytes → AreFlagsOf (flag_word_in bytes) raw.flags.0 → StandsFor bytes raw
+pub stands_from_fields : (bytes : List ℕ) (raw : RawAttr) → IsFramed bytes → AreFieldsRead bytes → raw.class ≡ type_in bytes → raw.config ≡ config_in bytes → raw.period ≡ sample_period_in bytes → raw.sample ≡ sample_type_in bytes → raw.format ≡ read_format_in bytes → raw.flags.0 ≡ flags_of_word (flag_word_in bytes) → StandsFor bytes raw
 stands_from_fields bytes raw frame fields class config period sample format flags = record {
   least_size = frame.least;
   most_size = frame.most;
@@ -160,7 +159,7 @@ pub StandsFor-one : (bytes : List ℕ) (a b : RawAttr) → StandsFor bytes a →
 StandsFor-one bytes a b p q =
     same_fields a.class b.class a.config b.config a.period b.period a.sample b.sample a.format b.format a.flags.0 b.flags.0
     (p.class ∙ sym q.class) (p.config ∙ sym q.config) (p.period ∙ sym q.period) (p.sample ∙ sym q.sample) (p.format ∙ sym q.format)
-    (AreFlagsOf-one (flag_word_in bytes) a.flags.0 b.flags.0 p.flags q.flags)
+    (p.flags ∙ sym q.flags)
 
 -- the first of two faults is none where both are, and only there
 both_none : (a b : Option AttrFault) → option_or a b ≡ None → (a ≡ None) × (b ≡ None)
@@ -173,19 +172,18 @@ none_of_both a b p q = rw (p, q) refl
 -- bytes stand for some attribute exactly where they have no fault
 pub StandsFor-iff-no_fault : (bytes : List ℕ) → ((raw : RawAttr) × StandsFor bytes raw) ↔ (fault_of bytes ≡ None)
 StandsFor-iff-no_fault bytes =
-    let word : ℕ = flag_word_in bytes in
     let raw : RawAttr = record {
       class = type_in bytes;
       config = config_in bytes;
       period = sample_period_in bytes;
       sample = sample_type_in bytes;
       format = read_format_in bytes;
-      flags = record { 0 = bit_or (bit_and word 63) (bit_and (word / 4096) 64) };
+      flags = record { 0 = flags_of_word (flag_word_in bytes) };
     } in (
       (λ standing. none_of_both _ _ (IsFramed-none bytes (StandsFor-IsFramed bytes standing.0 standing.1)) (AreFieldsRead-none bytes (StandsFor-AreFieldsRead bytes standing.0 standing.1))),
       (λ none.
           let parts = both_none _ _ none in
-          (raw, stands_from_fields bytes raw (none-IsFramed bytes parts.0) (none-AreFieldsRead bytes parts.1) refl refl refl refl refl (AreFlagsOf-word word))),
+          (raw, stands_from_fields bytes raw (none-IsFramed bytes parts.0) (none-AreFieldsRead bytes parts.1) refl refl refl refl refl refl)),
     )
 
 -- the fields of the bytes that are written
@@ -198,7 +196,7 @@ pub record IsWritten (words : List ℕ) (raw : RawAttr) : Type 0 where
   pub sample : sample_type_in words ≡ raw.sample
   pub format : read_format_in words ≡ raw.format
   pub read_bits : HasOnlyReadBits (flag_word_in words)
-  pub flags : AreFlagsOf (flag_word_in words) raw.flags.0
+  pub flags : flags_of_word (flag_word_in words) ≡ raw.flags.0
   pub bp_type : bp_type_in words ≡ 0
   pub config1 : config1_in words ≡ 0
 
@@ -221,7 +219,7 @@ IsWritten-StandsFor words raw h class more =
       sample = sym (same 24 8 (omega arith) ∙ h.sample);
       format = sym (same 32 8 (omega arith) ∙ h.format);
       read_bits = rw word h.read_bits;
-      flags = rw word h.flags;
+      flags = sym (ap flags_of_word word ∙ h.flags);
       bp_type = same 52 4 (omega arith) ∙ h.bp_type;
       config1 = same 56 8 (omega arith) ∙ h.config1;
     }

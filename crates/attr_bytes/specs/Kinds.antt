@@ -1,15 +1,19 @@
--- What an attribute counts.
-use Rattle.std.specs.Prelude.{◌≡◌, ℕ, ◌<◌, ◌⊎◌}
+-- Which kind of event an attribute names.
+use Rattle.std.specs.Prelude.{ℕ, ◌==◌, ◌||◌, ◌&&◌, nat_lt, Option, Some, None, if◌then◌else◌}
 use Rattle.perf_base.specs.declared.attr.Kind.{Kind}
 use Rattle.perf_base.specs.declared.attr.Kind.TheVariants.{Hard, ContextSwitches, CpuMigrations, TaskClock, Dummy}
-use Rattle.attr_bytes.specs.declared.raw.RawAttr.{RawAttr}
 
--- The attribute names the kind, given how many hardware kinds the script has. HARDWARE and RAW name a
--- script's kind by its number, as this project's own profile has it; SOFTWARE has the numbers of
--- PERF_COUNT_SW_ (perf_event_open(2)).
-abbrev pub NamesKind : ℕ → RawAttr → Kind → Type 0
-NamesKind kinds raw (Hard number) = ((raw.class ≡ 0) ⊎ (raw.class ≡ 4)) × (raw.config ≡ number) × (number < kinds)
-NamesKind kinds raw TaskClock = (raw.class ≡ 1) × (raw.config ≡ 1)
-NamesKind kinds raw ContextSwitches = (raw.class ≡ 1) × (raw.config ≡ 3)
-NamesKind kinds raw CpuMigrations = (raw.class ≡ 1) × (raw.config ≡ 4)
-NamesKind kinds raw Dummy = (raw.class ≡ 1) × (raw.config ≡ 9)
+-- the software kind of a config, by the numbers of PERF_COUNT_SW_ (perf_event_open(2))
+abbrev pub software_numbered : ℕ → Option Kind
+software_numbered config =
+    if config == 1 then Some TaskClock else
+    if config == 3 then Some ContextSwitches else
+    if config == 4 then Some CpuMigrations else
+    if config == 9 then Some Dummy else None
+
+-- The kind that a type and a config name, where there are so many hardware kinds: SOFTWARE, type 1, a software kind,
+-- HARDWARE and RAW, types 0 and 4, a hardware kind by its number, as this project's own profile has it.
+abbrev pub kind_numbered : (kinds class config : ℕ) → Option Kind
+kind_numbered kinds class config =
+    if class == 1 then software_numbered config else
+    if (class == 0 || class == 4) && nat_lt config kinds then Some (Hard config) else None

@@ -2,7 +2,7 @@
 use Rattle.std.specs.Prelude.{◌≡◌, ℕ, ◌<◌, ◌≤◌, ◌⊎◌, List, length, slice_index}
 use Rattle.attr_bytes.specs.declared.raw.RawAttr.{RawAttr}
 use Rattle.attr_bytes.specs.Layout.{type_in, config_in, sample_period_in, sample_type_in, read_format_in, flag_word_in, bp_type_in, config1_in, attr_size}
-use Rattle.attr_bytes.specs.Flags.{AreFlagsOf, HasOnlyReadBits}
+use Rattle.attr_bytes.specs.Flags.{flags_of_word, HasOnlyReadBits}
 
 -- the types of this project's own profile: HARDWARE, SOFTWARE and RAW
 abbrev pub IsClass : ℕ → Type 0
@@ -22,6 +22,6 @@ pub record StandsFor (bytes : List ℕ) (raw : RawAttr) : Type 0 where
   pub sample : raw.sample ≡ sample_type_in bytes
   pub format : raw.format ≡ read_format_in bytes
   pub read_bits : HasOnlyReadBits (flag_word_in bytes)
-  pub flags : AreFlagsOf (flag_word_in bytes) raw.flags.0
+  pub flags : raw.flags.0 ≡ flags_of_word (flag_word_in bytes)
   pub bp_type : bp_type_in bytes ≡ 0
   pub config1 : config1_in bytes ≡ 0

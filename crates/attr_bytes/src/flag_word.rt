@@ -2,7 +2,7 @@
 
 ghost use Rattle.std.specs.Prelude.{◌≡◌, ◌<◌, ◌^◌};
 ghost use Rattle.std.specs.Int.{bit_at};
-ghost use Rattle.attr_bytes.specs.Flags.{AreFlagsOf, HasOnlyReadBits};
+ghost use Rattle.attr_bytes.specs.Flags as says;
 
 use perf_base::AttrFlags;
 
@@ -20,7 +20,7 @@ const SAMPLE_ID_ALL_SHIFT: u32 = 12;
 
 /// The flags that a flag word has.
 pub fn flags_of_word(word: u64) -> AttrFlags
-    ensures { AreFlagsOf word result.0 }
+    ensures { result.0 ≡ says.flags_of_word word }
 {
     let sample_id_all = AttrFlags::SAMPLE_ID_ALL.0;
     AttrFlags((word & SAME_PLACE) | ((word >> SAMPLE_ID_ALL_SHIFT) & sample_id_all))
@@ -29,8 +29,8 @@ pub fn flags_of_word(word: u64) -> AttrFlags
 /// The flag word that has these flags, and no bit without effect.
 pub fn word_of_flags(flags: AttrFlags) -> u64
     requires { flags.0 < 2 ^ 7 }
-    ensures flags { AreFlagsOf result flags.0 }
-    ensures read_bits { HasOnlyReadBits result }
+    ensures flags { says.flags_of_word result ≡ flags.0 }
+    ensures read_bits { says.HasOnlyReadBits result }
     ensures exclude_hv { bit_at result 6 ≡ 0 }
     ensures exclude_guest { bit_at result 20 ≡ 0 }
 {

@@ -1,17 +1,14 @@
 //! What an attribute counts.
 
-ghost use Rattle.std.specs.Prelude.{◌≡◌, IfSome};
-ghost use Rattle.perf_base.specs.declared.attr.Kind.{Kind};
-ghost use Rattle.attr_bytes.specs.Kinds.{NamesKind};
+ghost use Rattle.std.specs.Prelude.{◌≡◌};
+ghost use Rattle.attr_bytes.specs.Kinds.{kind_numbered};
 
 use crate::raw::RawAttr;
 use perf_base::Kind;
 
-/// The kind that the attribute names, where the script has `kinds` hardware kinds. None exactly where it
-/// names none.
+/// The kind that the attribute names, where there are `kinds` hardware kinds. None exactly where it names none.
 pub fn kind_of(raw: &RawAttr, kinds: u8) -> Option<Kind>
-    ensures some { IfSome result (NamesKind kinds raw.now) }
-    ensures every { (kind : Kind) → NamesKind kinds raw.now kind → result ≡ Some kind }
+    ensures { result ≡ kind_numbered kinds raw.now.class raw.now.config }
 {
     match (raw.class, raw.config) {
         (0 | 4, number) if number < u64::from(kinds) => Some(Kind::Hard(number as u8)),

@@ -184,6 +184,14 @@ act-again (act.Processor cpu) h = rw (number_again 10 20 cpu.0 (omega arith) (om
 act-again (act.Tool tool) h = rw (number_again 10 20 tool.0 (omega arith) (omega arith) (omega arith) (omega arith) h) refl
 act-again (act.Seen ring place) h = rw (append_assoc (decimal ring.0) (61 ∷ []) (decimal place), seen-again ring.0 place h.0 h.1) refl
 
+-- what is seen as what a word says is what the word is the text of
+pub spelled_sound : {X : Type 0} (view : X → Act) (word : List ℕ) (r : Option X) → option_map view r ≡ act_in word → IfSome r (λ s. form.IsActSpelling (view s) × (word ≡ act_text (view s)))
+spelled_sound view word (Some x) e = act-takes word (view x) (sym e)
+spelled_sound view word None e = tt
+
+pub spelled_exact : {X : Type 0} (view : X → Act) (word : List ℕ) (r : Option X) → option_map view r ≡ act_in word → (a : Act) → form.IsActSpelling a → word ≡ act_text a → option_map view r ≡ Some a
+spelled_exact view word r e a h is = e ∙ (ap act_in is ∙ act-again a h)
+
 -- ---- bytes
 
 pair_is : (high low : ℕ) → digit_of high < 16 → digit_of low < 16 → (pair_of high low < 256) × (pair_of high low / 16 ≡ digit_of high) × (pair_of high low % 16 ≡ digit_of low)

@@ -1,9 +1,10 @@
 //! The acts of an order line.
 
-ghost use Rattle.std.specs.Prelude.{◌≡◌, ◌<◌, ◌^◌, ◌++◌, List, [], ◌∷◌, All, IfErr, OnOk, MatchOption};
+ghost use Rattle.std.specs.Prelude.{◌≡◌, ◌<◌, ◌^◌, ◌++◌, List, [], ◌∷◌, All, IfErr, IfSome, OnOk, MatchOption};
 ghost use Rattle.std.specs.Option.{option_map};
 ghost use Rattle.perf_base.specs.declared.acts.Act as script;
-ghost use Rattle.script_spec.specs.Acts.{IsActInRange};
+ghost use Rattle.script_spec.specs.Acts.{act_text, IsActInRange};
+ghost use Rattle.script_spec.specs.Forms.{IsActSpelling};
 ghost use Rattle.line_forms.specs.Words.{left};
 ghost use Rattle.line_forms.specs.Lists.{each_word};
 ghost use Rattle.line_forms.specs.Acts as says;
@@ -37,7 +38,7 @@ fn wide(n: u128) -> Option<u64>
 }
 
 /// An act with its numbers as they are spelled.
-#[derive(Clone, Copy)]
+#[derive(Clone, Copy, PartialEq, Eq, Debug)]
 pub enum SpelledAct {
     Processor(u128),
     Tool(u128),
@@ -46,7 +47,7 @@ pub enum SpelledAct {
 
 impl SpelledAct {
     /// The act, where its numbers are those of an actor, or of a ring and a place in it.
-    fn in_range(self) -> Option<Act>
+    pub fn in_range(self) -> Option<Act>
         ensures { MatchOption result (IsActInRange (act_of self) → ⊥) (λ act. IsActInRange (act_of self) × (act ≡ act_of self)) }
     {
         match self {
@@ -98,6 +99,15 @@ fn spelled(word: &[u8]) -> Option<SpelledAct>
             _ => None,
         },
     }
+}
+
+/// The act that a word spells, with numbers of any size that can be spelled. None exactly where it spells none.
+pub fn spelled_act(word: &[u8]) -> Option<SpelledAct>
+    ensures sound { IfSome result (λ s. IsActSpelling (act_of s) × (word.now ≡ act_text (act_of s))) }
+    ensures exact { (act : script.Act) → IsActSpelling act → word.now ≡ act_text act → option_map act_of result ≡ Some act }
+    ensures read { option_map act_of result ≡ says.act_in word.now }
+{
+    spelled(word)
 }
 
 /// The acts that an order line spells. Where the numbers of all are in range, they are kept as a script has them.
@@ -157,7 +167,7 @@ pub fn order_acts(alloc: Global, words: Words<'_>) -> Result<Acts<'_>, LineStop>
     let mut kept = Some(Vec::new(alloc));
     let mut rest = words;
     while let Some((word, more)) = rest.next() {
-        let act = spelled(word).ok_or(LineStop::NoForm)?;
+        let act = spelled_act(word).ok_or(LineStop::NoForm)?;
         keep(&mut kept, act)?;
         rest = more;
     }

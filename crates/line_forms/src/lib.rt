@@ -1,6 +1,6 @@
 //! The form of a line of a script. Contracts see a line as its words, and a form as what the definitions of the
 //! language call so, with numbers of any size that can be spelled. It serves the reader of scripts, and whoever reads
-//! bytes from their digits.
+//! an act from its text or bytes from their digits.
 
 #![tactic(auto)]
 
@@ -19,7 +19,7 @@ mod tests;
 mod tool_forms;
 mod words;
 
-pub use acts::Acts;
+pub use acts::{Acts, SpelledAct, spelled_act};
 pub use forms::{Asked, CpuForm, Form, Hit, Opening, ToolForm, Version, Working};
 pub use lists::{MOST_BYTES, read_bytes};
 pub use reading::read_form;

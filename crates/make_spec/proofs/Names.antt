@@ -1,9 +1,14 @@
 -- The kinds of the script of N rounds can be declared, one after the other.
-use Rattle.std.proofs.Common.{◌≡◌, ◌≢◌, ℕ, ◌<◌, ◌≤◌, List, [], ◌∷◌, length, get_or, All, ap, inl, arith}
+use Rattle.std.proofs.Common.{◌≡◌, ◌≢◌, ℕ, ◌<◌, ◌≤◌, false, List, [], ◌∷◌, length, get_or, All, ap, inl, inr, ◌∙◌, arith}
 use Rattle.std.specs.Prelude.{AllPairs, codes, take}
 use Rattle.std.specs.List.{AllByRecursion}
+use Rattle.std.specs.Str.{bytes_eq}
+use Rattle.std.proofs.lemmas.Bool.{cases_Bool, cond-false}
 use Rattle.std.proofs.lemmas.List.Elements.{All-from_recursion}
 use Rattle.std.proofs.lemmas.List.Quantifiers.{all_pairs_push}
+use Rattle.std.proofs.lemmas.Slice.Eq.{bytes_eq-Decides}
+use Rattle.perf_base.specs.Kinds.{software_name}
+use Rattle.perf_base.specs.declared.attr.Kind.TheVariants.{ContextSwitches, CpuMigrations, TaskClock, Dummy}
 use Rattle.perf_base.specs.declared.lines.KindLine.{KindLine}
 use Rattle.perf_base.specs.Scripts.{IsKindLine, IsName, IsNameByte, IsFreeName}
 use Rattle.make_spec.specs.Rounds.{made_pmus, made_kinds}
@@ -19,14 +24,19 @@ letters (b ∷ bs) h = (inl (h.0, h.1), letters bs h.2)
 named : (b : ℕ) (bs : List ℕ) → AreLetters (b ∷ bs) → IsName (b ∷ bs)
 named b bs h = ((h.0, h.1), All-from_recursion IsNameByte bs (letters bs h.2))
 
+-- a text of another length is another text
+other_text : (x y : List ℕ) → (length x ≡ length y → ⊥) → bytes_eq x y ≡ false
+other_text x y h = elim (cases_Bool (bytes_eq x y)) [ inl t ↦ absurd (h (ap length ((bytes_eq-Decides x y).0 t))) | inr f ↦ f ]
+
 -- a name of 6 to 13 letters, but for 10, is free
 free : (name : List ℕ) → 5 < length name → (length name ≡ 10 → ⊥) → length name < 14 → IsFreeName name
 free name low other high = record {
   ip = λ e. absurd (omega (arith, ap length e));
-  switches = λ e. absurd (omega (arith, ap length e));
-  migrations = λ e. absurd (omega (arith, ap length e));
-  clock = λ e. absurd (other (ap length e));
-  dummy = λ e. absurd (omega (arith, ap length e));
+  software =
+      cond-false _ _ _ (other_text name (software_name ContextSwitches) (λ e. absurd (omega (arith, e))))
+      ∙ (cond-false _ _ _ (other_text name (software_name CpuMigrations) (λ e. absurd (omega (arith, e))))
+      ∙ (cond-false _ _ _ (other_text name (software_name TaskClock) (λ e. absurd (other e)))
+      ∙ cond-false _ _ _ (other_text name (software_name Dummy) (λ e. absurd (omega (arith, e))))));
 }
 
 pub cycles_fit : IsKindLine made_pmus (record { name = codes "cycles"; pmu = 0; mask = 7 })

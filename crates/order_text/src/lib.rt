@@ -1,12 +1,11 @@
-//! The acts of an order as text, both ways. Contracts see the text of an act and what a sink holds. It serves
-//! the readers and printers of scripts and the report.
+//! The acts of an order as text, both ways. Contracts see the text of an act and what a sink holds. An act is read as
+//! an order line's acts are (line_forms), and written as they are (script_print).
 
 #![tactic(auto)]
 
 mod reading;
 #[cfg(test)]
 mod tests;
-mod writing;
 
 pub use reading::read_act;
-pub use writing::write_act;
+pub use script_print::write_act;

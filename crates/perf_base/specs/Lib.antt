@@ -1,10 +1,13 @@
 pub mod Acts
+pub mod Contexts
 pub mod Cpus
 pub mod Flags
+pub mod Kinds
 pub mod Light
 pub mod Masks
 pub mod Padded
 pub mod Reasons
 pub mod Said
 pub mod Scripts
+pub mod Standings
 pub mod Weight

@@ -1,5 +1,5 @@
 -- What a script says, and which entries it may have. This project's own profile; the limits are its own.
-use Rattle.std.specs.Prelude.{◌≡◌, ◌≢◌, ℕ, ◌+◌, ◌^◌, ◌<◌, ◌≤◌, ◌⊎◌, List, [], ◌∷◌, ◌++◌, length, drop, bit_and, codes, All, AllPairs, Any, IfSome, MatchOption, slice_get, slice_index_or, slice_set, sum_by, replicate}
+use Rattle.std.specs.Prelude.{◌≡◌, ◌≢◌, ℕ, ◌+◌, ◌^◌, ◌<◌, ◌≤◌, ◌⊎◌, List, [], ◌∷◌, ◌++◌, length, drop, bit_and, codes, All, AllPairs, Any, IfSome, MatchOption, Option, None, slice_get, slice_index_or, slice_set, sum_by, replicate}
 use Rattle.perf_base.specs.declared.numbers.CpuNo.{CpuNo}
 use Rattle.perf_base.specs.declared.numbers.EventNo.{EventNo}
 use Rattle.perf_base.specs.declared.numbers.RingNo.{RingNo}
@@ -24,6 +24,7 @@ use Rattle.perf_base.specs.declared.acts.Act.{Act}
 use Rattle.perf_base.specs.declared.acts.Act.TheVariants as act
 use Rattle.perf_base.specs.Cpus.{HasCpu}
 use Rattle.perf_base.specs.Masks.{IsMask}
+use Rattle.perf_base.specs.Kinds.{software_kind}
 
 -- what a script says: its machine, its names, the lines of each processor and tool, its readers and its order
 pub record Scripted : Type 0 where
@@ -101,10 +102,7 @@ IsName (b ∷ bs) = IsLetter b × All IsNameByte bs
 -- no hardware kind is called so: the word of an instruction pointer, and the software kinds
 pub record IsFreeName (name : List ℕ) : Type 0 where
   pub ip : name ≢ codes "ip"
-  pub switches : name ≢ codes "context-switches"
-  pub migrations : name ≢ codes "cpu-migrations"
-  pub clock : name ≢ codes "task-clock"
-  pub dummy : name ≢ codes "dummy"
+  pub software : software_kind name ≡ None
 
 -- a mask that names counters of a declared PMU
 abbrev pub IsMaskOf : List PmuLine → ℕ → ℕ → Type 0

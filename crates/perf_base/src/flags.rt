@@ -2,6 +2,7 @@
 
 ghost use Rattle.std.specs.Prelude.{⊤, ◌≡◌, map};
 ghost use Rattle.perf_base.specs.Flags.{flag_table};
+ghost use Rattle.perf_base.specs.Flags as says;
 
 use bitflags::{Flag, Flags};
 
@@ -62,6 +63,55 @@ impl AttrFlags {
         ensures { map (λ flag. (flag.name.now, flag.value.0)) result.now ≡ flag_table }
     {
         AttrFlags::TABLE
+    }
+
+    /// Whether the event is off at first.
+    pub fn is_disabled(self) -> bool
+        ensures { result ≡ says.is_disabled self }
+    {
+        self.intersects(AttrFlags::DISABLED)
+    }
+
+    /// Whether tasks that are forked later are counted too.
+    pub fn is_inherited(self) -> bool
+        ensures { result ≡ says.is_inherited self }
+    {
+        self.intersects(AttrFlags::INHERIT)
+    }
+
+    /// Whether the group is to be on whenever that is possible.
+    pub fn is_pinned(self) -> bool
+        ensures { result ≡ says.is_pinned self }
+    {
+        self.intersects(AttrFlags::PINNED)
+    }
+
+    /// Whether the group is to be the only hardware group on its processor.
+    pub fn is_exclusive(self) -> bool
+        ensures { result ≡ says.is_exclusive self }
+    {
+        self.intersects(AttrFlags::EXCLUSIVE)
+    }
+
+    /// Whether occurrences in user mode are left out.
+    pub fn excludes_user(self) -> bool
+        ensures { result ≡ says.excludes_user self }
+    {
+        self.intersects(AttrFlags::EXCLUDE_USER)
+    }
+
+    /// Whether occurrences in kernel mode are left out.
+    pub fn excludes_kernel(self) -> bool
+        ensures { result ≡ says.excludes_kernel self }
+    {
+        self.intersects(AttrFlags::EXCLUDE_KERNEL)
+    }
+
+    /// Whether each record of another kind than a sample ends with the fields that tell its event.
+    pub fn identifies_all(self) -> bool
+        ensures { result ≡ says.identifies_all self }
+    {
+        self.intersects(AttrFlags::SAMPLE_ID_ALL)
     }
 }
 

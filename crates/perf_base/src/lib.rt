@@ -26,7 +26,7 @@ pub use lines::{CpuLine, KindLine, Mode, PmuLine, ReaderLine, ToolLine, Work};
 pub use lists::{Filling, Name, SeatList, ShortList, Tight, Words};
 pub use numbers::{CpuNo, CpuSet, EventNo, Key, NoMemory, RingNo, TaskNo, ToolNo};
 pub use reasons::{Reason, SReason};
-pub use reply::{Reply, StoredReply, Sums};
+pub use reply::{Answer, Reply, StoredReply, Sums};
 pub use script::Script;
 pub use standing::{Cause, Context, Own, Rule, Standing, Why};
 pub use steps::Steps;

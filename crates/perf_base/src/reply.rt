@@ -2,6 +2,7 @@
 
 ghost use Rattle.std.specs.Prelude.{◌≡◌};
 
+use crate::acts::Actor;
 use crate::lists::{SeatList, Words};
 use crate::reasons::Reason;
 use crate::standing::Why;
@@ -48,6 +49,15 @@ impl StoredReply {
     {
         self.reply
     }
+}
+
+/// An answer in the order of answers: whose line it answers, a processor's or a tool's, the line's number among that
+/// actor's lines, from 0, and the reply.
+#[derive(Clone, Copy, PartialEq, Eq, Debug)]
+pub struct Answer {
+    pub actor: Actor,
+    pub number: u32,
+    pub reply: StoredReply,
 }
 
 /// What an instance or a family has counted: occurrences, and the lengths of work for which it was

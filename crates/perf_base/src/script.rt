@@ -207,6 +207,13 @@ impl Script {
         Ok(())
     }
 
+    /// Nothing happens. The caller's proof learns what holds of every script.
+    pub fn use_invariant(&self)
+        ensures { IsScript self.now }
+    {
+        let _ = &self.cpus;
+    }
+
     /// How many processors, 1 to 8.
     pub fn cpus(&self) -> u8
         ensures number { result ≡ self.now.cpus }

@@ -1,5 +1,8 @@
 //! Where an event stands, and why it is not on.
 
+ghost use Rattle.std.specs.Prelude.{◌≡◌};
+ghost use Rattle.perf_base.specs.Standings as says;
+
 use crate::lists::Tight;
 use crate::numbers::{CpuNo, EventNo, TaskNo};
 
@@ -40,6 +43,22 @@ pub enum Standing {
     Out,
     On,
     Refused(Cause),
+}
+
+impl Standing {
+    /// Whether the group is on.
+    pub fn is_on(&self) -> bool
+        ensures { result ≡ says.stands_on self.now }
+    {
+        matches!(self, Standing::On)
+    }
+
+    /// Whether the group was refused.
+    pub fn is_refused(&self) -> bool
+        ensures { result ≡ says.stands_refused self.now }
+    {
+        matches!(self, Standing::Refused(_))
+    }
 }
 
 /// Why an event counts or does not.

@@ -17,5 +17,5 @@ pub use calm::{CalmSink, CalmSource};
 pub use mem_sink::MemSink;
 pub use mem_source::MemSource;
 pub use outside::{Failed, Sink, Source};
-pub use standard::{StdNotes, StdSink, StdSource};
+pub use standard::{StdNotes, StdSink, StdSource, StdWriter};
 pub use writing::{write_all, write_decimal, write_numbered};

@@ -59,14 +59,20 @@ impl Source for StdSource {
     }
 }
 
-/// Standard output, with the count of the errors that the system gave.
+/// A stream of the system to write to, with the count of the errors that it gave.
 #[derive(Drop)]
-pub struct StdSink {
-    output: Stdout,
+pub struct StdWriter<W: Write> {
+    output: W,
     faults: u64,
 }
 
-impl Model for StdSink {
+/// Standard output.
+pub type StdSink = StdWriter<Stdout>;
+
+/// Standard error.
+pub type StdNotes = StdWriter<Stderr>;
+
+impl<W: Write> Model for StdWriter<W> {
     ghost use Rattle.std.specs.Prelude.{ℕ};
 
     ghost Value = { ℕ };
@@ -74,16 +80,16 @@ impl Model for StdSink {
     ghost view = { λ s. s.faults };
 }
 
-impl StdSink {
-    /// Writes to this output.
-    pub fn new(output: Stdout) -> StdSink
+impl<W: Write> StdWriter<W> {
+    /// Writes to this stream.
+    pub fn new(output: W) -> StdWriter<W>
         ensures { result ≡ 0 }
     {
-        StdSink { output, faults: 0 }
+        StdWriter { output, faults: 0 }
     }
 }
 
-impl Sink for StdSink {
+impl<W: Write> Sink for StdWriter<W> {
     ghost held = { λ _. None };
 
     ghost flushed = { λ _. 0 };
@@ -112,62 +118,6 @@ impl Sink for StdSink {
         ensures fault { OnErr result (self.new ≡ count_after self.old 1) }
     {
         flush_counted(&mut self.output, &mut self.faults)
-    }
-}
-
-/// Standard error, with the count of the errors that the system gave.
-#[derive(Drop)]
-pub struct StdNotes {
-    error: Stderr,
-    faults: u64,
-}
-
-impl Model for StdNotes {
-    ghost use Rattle.std.specs.Prelude.{ℕ};
-
-    ghost Value = { ℕ };
-
-    ghost view = { λ s. s.faults };
-}
-
-impl StdNotes {
-    /// Writes to this standard error.
-    pub fn new(error: Stderr) -> StdNotes
-        ensures { result ≡ 0 }
-    {
-        StdNotes { error, faults: 0 }
-    }
-}
-
-impl Sink for StdNotes {
-    ghost held = { λ _. None };
-
-    ghost flushed = { λ _. 0 };
-
-    ghost faults = { λ s. s };
-
-    ghost last_fault = { Some last_count };
-
-    fn write(&mut self, piece: &[u8]) -> Result<usize, Failed>
-        ensures count { self.old ≤ self.new }
-        ensures cause { OnErr result (Rose (Some last_count) self.old self.new) }
-        ensures within { IfOk result (λ n. n ≤ length piece.now) }
-        ensures some { IfOk result (λ n. 0 < length piece.now → 0 < n) }
-
-        // A write that took nothing of something is counted too.
-        ensures ok { OnOk result (self.new ≡ self.old) }
-        ensures fault { OnErr result (self.new ≡ count_after self.old 1) }
-    {
-        write_counted(&mut self.error, &mut self.faults, piece)
-    }
-
-    fn flush(&mut self) -> Result<(), Failed>
-        ensures count { self.old ≤ self.new }
-        ensures cause { OnErr result (Rose (Some last_count) self.old self.new) }
-        ensures ok { OnOk result (self.new ≡ self.old) }
-        ensures fault { OnErr result (self.new ≡ count_after self.old 1) }
-    {
-        flush_counted(&mut self.error, &mut self.faults)
     }
 }
 

@@ -6,7 +6,7 @@ use Rattle.std.proofs.lemmas.Bool.{cases_Bool, eqb-true, ne_eqb, and_from, lt-lt
 use Rattle.std.proofs.lemmas.List.{take-append-drop, length-drop, length-map, length-take, length-replicate, get_or-map, get_or-take, get_or-replicate, get_or_default, same_lists}
 use Rattle.std.proofs.lemmas.List.Elements.{All-nil, All-cons, All-head, All-tail, All-weaker}
 use Rattle.std.proofs.lemmas.List.Kept.{AllPairs-cons}
-use Rattle.std.proofs.lemmas.Option.{IfSome_then}
+use Rattle.std.proofs.lemmas.Option.{IfSome_then, none-some}
 use Rattle.std.proofs.lemmas.List.Sums.{list_all-from_AllPass, position_or_len_is}
 use Rattle.perf_base.specs.declared.lines.KindLine.{KindLine}
 use Rattle.perf_base.specs.declared.lines.PmuLine.{PmuLine}
@@ -16,7 +16,8 @@ use Rattle.perf_base.specs.Scripts.{IsKindLine, IsCpuLine, IsName, IsNameByte, I
 use Rattle.script_spec.specs.Lines.{pieces}
 use Rattle.script_spec.specs.Forms as form
 use Rattle.script_spec.specs.Forms.{Hit, CpuForm, Form, hit_text, ip_text, ToolForm, Opening}
-use Rattle.script_spec.specs.Meaning.{times_of, occurrences, or_zero, cpu_line_of, kinds_in, number_of, software_kind, kind_named, tool_line_of, task_sel, cpu_sel, slot, rings_in}
+use Rattle.script_spec.specs.Meaning.{times_of, occurrences, or_zero, cpu_line_of, kinds_in, number_of, kind_named, tool_line_of, task_sel, cpu_sel, slot, rings_in}
+use Rattle.perf_base.specs.Kinds.{software_kind, software_name}
 use Rattle.script_spec.specs.Faults.{IsCpuFormInRange, IsCpuFormNamed, IsToolFormInRange, IsToolFormNamed, IsWide, HasAttr}
 use Rattle.script_spec.specs.Printing.{some_of, hits_of, cpu_form, kind_name, task_number, cpu_number, asked, tool_form}
 use Rattle.line_forms.proofs.Singles.{bytes_eq-true, bytes_eq_self, name_takes}
@@ -219,8 +220,9 @@ no_number kinds name h =
     rw (at, f) refl
 
 module _ (kinds : List KindLine) (pmus : List PmuLine) (are : All (IsKindLine pmus) kinds) (once : AreOnce kinds) where
-  software : (name : List ℕ) (k : Kind) → All (λ j. j.name ≢ name) kinds → software_kind name ≡ Some k → kind_named kinds name ≡ Some k
-  software name k h e = rw (no_number kinds name h) e
+  -- no declared kind is called as a software kind is
+  software : (k : Kind) → software_kind (software_name k) ≡ Some k → kind_named kinds (software_name k) ≡ Some k
+  software k e = rw (no_number kinds (software_name k) (λ i d l same. none-some k (sym (are i d l).free.software ∙ (ap software_kind same ∙ e)))) e
 
   word : (text : List ℕ) → says.name text ≡ Some text → form.IsWord text
   word text e = (name_takes text text e).0
@@ -229,10 +231,10 @@ module _ (kinds : List KindLine) (pmus : List PmuLine) (are : All (IsKindLine pm
   pub kind_again : (k : Kind) → IsKind (length kinds) k → form.IsWord (kind_name kinds k) × (kind_named kinds (kind_name kinds k) ≡ Some k)
   unfolding says.name
   kind_again (kind.Hard n) h = let k = are n no_kind h in (rw (name_at kinds n h) (k.name, k.length), rw (number_again kinds n once h) refl)
-  kind_again kind.ContextSwitches h = (word (codes "context-switches") refl, software (codes "context-switches") kind.ContextSwitches (λ i d l. (are i d l).free.switches) refl)
-  kind_again kind.CpuMigrations h = (word (codes "cpu-migrations") refl, software (codes "cpu-migrations") kind.CpuMigrations (λ i d l. (are i d l).free.migrations) refl)
-  kind_again kind.TaskClock h = (word (codes "task-clock") refl, software (codes "task-clock") kind.TaskClock (λ i d l. (are i d l).free.clock) refl)
-  kind_again kind.Dummy h = (word (codes "dummy") refl, software (codes "dummy") kind.Dummy (λ i d l. (are i d l).free.dummy) refl)
+  kind_again kind.ContextSwitches h = (word (software_name kind.ContextSwitches) refl, software kind.ContextSwitches refl)
+  kind_again kind.CpuMigrations h = (word (software_name kind.CpuMigrations) refl, software kind.CpuMigrations refl)
+  kind_again kind.TaskClock h = (word (software_name kind.TaskClock) refl, software kind.TaskClock refl)
+  kind_again kind.Dummy h = (word (software_name kind.Dummy) refl, software kind.Dummy refl)
 
 -- ---- a printed line of a tool
 

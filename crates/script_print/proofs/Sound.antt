@@ -14,7 +14,7 @@ use Rattle.script_spec.specs.Lines.{words_of, lines_of, rest_of}
 use Rattle.script_spec.specs.Forms as form
 use Rattle.script_spec.specs.Forms.{Version, Form, IsOfForm, IsOfVersion, IsSpelling, form_words}
 use Rattle.script_spec.specs.Meaning.{script_of}
-use Rattle.script_spec.specs.Faults.{IsNoEnd, IsPrintable, IsPlaced, IsInRange, HasAttr, IsNamed, IsWithinLimits, IsLight, Keeps, IsSound}
+use Rattle.script_spec.specs.Faults.{IsNoEnd, IsPrintable, IsPlaced, IsInRange, HasAttr, IsNamed, IsWithinLimits, IsWithinWeight, Keeps, IsSound}
 use Rattle.script_spec.specs.Texts.{version_of, AreSound, StandsFor}
 use Rattle.script_spec.specs.Printing.{line_text}
 use Rattle.line_forms.proofs.Laws.{one_form}
@@ -72,7 +72,7 @@ is_printed (w ∷ ws) h = record {
 pub record Fits (v : Version) (before : List Form) (f : Form) : Type 0 where
   pub form : IsOfVersion v f × IsSpelling f
   pub range : IsInRange before f
-  pub others : HasAttr f × IsNamed before f × IsWithinLimits before f × IsLight before f
+  pub others : HasAttr f × IsNamed before f × IsWithinLimits before f × IsWithinWeight before f
 
 line_sound : (v : Version) (before : List Form) (f : Form) → Fits v before f → IsPlaced before f → All IsNoEnd before → IsSound v before (line_bytes f) f
 line_sound v before f h placed no_end = record { is = is; keeps = keeps }
@@ -95,7 +95,7 @@ line_sound v before f h placed no_end = record { is = is; keeps = keeps }
     keeps reason.Attr = λ g k. subst HasAttr (same g k) h.others.0
     keeps reason.Name = λ g k. subst (IsNamed before) (same g k) h.others.1
     keeps reason.Limit = λ g k. subst (IsWithinLimits before) (same g k) h.others.2
-    keeps reason.Weight = λ g k. subst (IsLight before) (same g k) h.others.3
+    keeps reason.Weight = λ g k. subst (IsWithinWeight before) (same g k) h.others.3
     keeps reason.Order = tt
 
 sound_more : (v : Version) (lines : List (List ℕ)) (forms : List Form) (line : List ℕ) (f : Form) → AreSound v lines forms → IsSound v forms line f → AreSound v (lines ++ line ∷ []) (forms ++ f ∷ [])

@@ -3,6 +3,7 @@
 
 #![tactic(auto)]
 
+mod acts;
 mod cpu_lines;
 mod declared;
 mod entries;
@@ -16,6 +17,7 @@ mod tests;
 mod tool_lines;
 mod words;
 
+pub use acts::write_act;
 pub use laws::printed_text_stands;
 pub use printing::{print_script, put_acts};
 pub use stored::printed_text_stands_for;

@@ -9,12 +9,12 @@ ghost use Rattle.script_spec.specs.Printing.{order_forms, printed};
 ghost use Rattle.perf_io.specs.Wrote.{Wrote};
 ghost use Rattle.script_print.specs.Words.{text, declared_text, lines_text, last_text};
 
+use crate::acts::write_act;
 use crate::cpu_lines::put_processors;
 use crate::declared::{put_head, put_kinds};
 use crate::entries::put_entries;
 use crate::tool_lines::put_tools;
 use crate::words::put_line;
-use order_text::write_act;
 use perf_base::{Act, Script};
 use perf_io::{Failed, Sink, write_all};
 

@@ -16,5 +16,5 @@ pub fn printed_text_stands_for(script: &Script)
     requires light { weight script.now ≤ 65536 }
     ensures { StandsFor (printed script.now) script.now }
 {
-    let _order = script.order();
+    script.use_invariant();
 }

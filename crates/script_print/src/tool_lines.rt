@@ -10,7 +10,7 @@ ghost use Rattle.perf_base.specs.declared.lines.ToolLine.TheVariants as tool_lin
 
 use crate::entries::{Entry, put_section};
 use crate::words::{Word, put_line};
-use perf_base::{Attr, CpuSel, EventNo, Kind, Script, TaskSel, ToolLine, ToolNo};
+use perf_base::{Attr, CpuSel, EventNo, Kind, Name, Script, TaskSel, ToolLine, ToolNo};
 use perf_io::{Failed, Sink};
 
 /// The word of a number.
@@ -34,10 +34,7 @@ fn kind_word(script: &Script, kind: Kind) -> Word<'static>
 {
     match kind {
         Kind::Hard(n) => Word::Named(b"kind=", script.name(usize::from(n))),
-        Kind::ContextSwitches => Word::Plain(b"kind=context-switches"),
-        Kind::CpuMigrations => Word::Plain(b"kind=cpu-migrations"),
-        Kind::TaskClock => Word::Plain(b"kind=task-clock"),
-        Kind::Dummy => Word::Plain(b"kind=dummy"),
+        _ => Word::Named(b"kind=", Name::from_slice(kind.software_name())),
     }
 }
 

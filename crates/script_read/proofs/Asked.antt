@@ -15,11 +15,12 @@ use Rattle.perf_base.specs.Cpus.{HasCpu}
 use Rattle.perf_base.specs.Masks.{IsMask}
 use Rattle.perf_base.specs.Scripts.{Scripted, IsPmuLine, AreApart, IsRingSize, IsFreeName, HasRing, IsAct, line_count, lines_of_cpu, lines_of_tool}
 use Rattle.perf_base.specs.Weight.{weight}
+use Rattle.perf_base.specs.Kinds.{software_kind}
 use Rattle.attr_bytes.specs.Faults.{fault_of}
 use Rattle.script_spec.specs.Acts.{IsActInRange}
 use Rattle.script_spec.specs.Forms as form
 use Rattle.script_spec.specs.Forms.{Hit, Working, CpuForm, Opening, ToolForm, Form}
-use Rattle.script_spec.specs.Faults.{IsPrintable, IsNoEnd, section, IsInOrder, AreCovered, IsUnder, IsBehindPmus, IsPlaced, IsBetween, IsAmount, IsNextPmu, IsCpuFormInRange, IsOpeningInRange, IsToolFormInRange, IsInRange, HasAttr, IsNewName, AreKinds, IsCpuFormNamed, IsToolFormNamed, IsNamed, IsWithinLimits, IsLight}
+use Rattle.script_spec.specs.Faults.{IsPrintable, IsNoEnd, section, IsInOrder, AreCovered, IsUnder, IsBehindPmus, IsPlaced, IsBetween, IsAmount, IsNextPmu, IsCpuFormInRange, IsOpeningInRange, IsToolFormInRange, IsInRange, HasAttr, IsNewName, AreKinds, IsCpuFormNamed, IsToolFormNamed, IsNamed, IsWithinLimits, IsWithinWeight}
 use Rattle.script_spec.specs.Meaning.{cpus_in, pmus_in, kinds_in, tasks_in, rings_in, processors_in, tools_in, readers_in, kind_named, kind_of_bytes, last_of, script_of}
 use Rattle.script_read.specs.Progress.{AsksOf}
 use Rattle.script_read.proofs.Known.{Known, Yes, No, known_as, both, all_three, all_four, known_not, below, at_most, same_number, same_text, known_empty, known_missing, known_some, known_if_some, known_all, known_any, known_pairs, known_below, some_below}
@@ -147,10 +148,7 @@ has_attr other = Yes tt
 -- ---- names
 
 free_name : (name : List ℕ) → Known (IsFreeName name)
-free_name name =
-    known_as (all_four (known_not (same_text name (codes "ip"))) (known_not (same_text name (codes "context-switches"))) (known_not (same_text name (codes "cpu-migrations")))
-    (both (known_not (same_text name (codes "task-clock"))) (known_not (same_text name (codes "dummy")))))
-    (λ h. record { ip = h.0; switches = h.1; migrations = h.2; clock = h.3.0; dummy = h.3.1 }) (λ h. (h.ip, h.switches, h.migrations, (h.clock, h.dummy)))
+free_name name = known_as (both (known_not (same_text name (codes "ip"))) (known_missing (software_kind name))) (λ h. record { ip = h.0; software = h.1 }) (λ h. (h.ip, h.software))
 
 new_name : (before : List Form) (name : List ℕ) → Known (IsNewName before name)
 new_name before name =
@@ -202,7 +200,7 @@ within_limits before (form.OnProcessor line) = below (line_count (script_of befo
 within_limits before (form.OnTool line) = below (line_count (script_of before)) 16384
 within_limits before other = Yes tt
 
-light : (before : List Form) (f : Form) → Known (IsLight before f)
+light : (before : List Form) (f : Form) → Known (IsWithinWeight before f)
 light before form.End = at_most (weight (script_of before)) 65536
 light before other = Yes tt
 

@@ -5,6 +5,8 @@ use Rattle.std.specs.Int.{bit_at}
 use Rattle.std.specs.Fmt.{digits}
 use Rattle.std.proofs.lemmas.Bool.{and_parts, leb-true}
 use Rattle.std.proofs.lemmas.List.Elements.{All-cons}
+use Rattle.std.proofs.lemmas.Option.{none-some}
+use Rattle.perf_base.specs.declared.attr.Kind.TheVariants as kind
 use Rattle.perf_base.specs.declared.lines.PmuLine.{PmuLine}
 use Rattle.perf_base.specs.declared.reasons.SReason.{SReason}
 use Rattle.perf_base.specs.declared.reasons.SReason.TheVariants as reason
@@ -207,7 +209,7 @@ unfolding pieces form_at body_at kind_at name_at name number_at number strip
 dummy_is = form-takes form.One (words_of (codes "kind dummy mask=1")) (form.Kind (codes "dummy") 1) refl
 
 dummy_first : IsFirstOf one_processor (form.Kind (codes "dummy") 1) reason.Name
-dummy_first = record { earlier = earlier; broken = λ h. h.free.dummy refl }
+dummy_first = record { earlier = earlier; broken = λ h. none-some kind.Dummy (sym h.free.software) }
   where
     earlier : (q : SReason) → rank q < 6 → AsksOf one_processor (form.Kind (codes "dummy") 1) q
     earlier reason.Place l = behind (form.Kind (codes "dummy") 1) (omega arith) tt

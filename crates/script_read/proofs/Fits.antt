@@ -1,9 +1,9 @@
 -- What a form says, where it keeps what is asked of it, the script can hold.
-use Rattle.std.proofs.Common.{◌≡◌, ℕ, zero, suc, ◌-◌, ◌^◌, ◌<◌, ◌≤◌, eqb, ltb, All, List, [], ◌∷◌, map, length, Option, Some, None, option_map, inl, inr, refl, sym, ap, subst, ◌∙◌, arith}
+use Rattle.std.proofs.Common.{◌≡◌, ℕ, zero, suc, ◌-◌, ◌^◌, ◌<◌, ◌≤◌, ◌&&◌, ◌||◌, eqb, ltb, All, List, [], ◌∷◌, map, length, Option, Some, None, option_map, inl, inr, refl, sym, ap, subst, ◌∙◌, arith}
 use Rattle.std.proofs.lemmas.Option.{same_Some}
-use Rattle.std.specs.Prelude.{replicate, IfSome, codes}
+use Rattle.std.specs.Prelude.{replicate, IfSome}
 use Rattle.std.specs.Str.{bytes_eq}
-use Rattle.std.proofs.lemmas.Bool.{cases_Bool, ltb-true}
+use Rattle.std.proofs.lemmas.Bool.{cases_Bool, ltb-true, and_parts}
 use Rattle.std.proofs.lemmas.List.{length-map, drop_at}
 use Rattle.std.proofs.lemmas.List.Elements.{All-cons, All-head, All-tail, All-append, All-replicate}
 use Rattle.std.proofs.lemmas.List.Quantifiers.{position-Some}
@@ -14,12 +14,14 @@ use Rattle.perf_base.specs.declared.lines.PmuLine.{PmuLine}
 use Rattle.perf_base.specs.declared.lines.KindLine.{KindLine}
 use Rattle.perf_base.specs.declared.lines.ToolLine.{ToolLine}
 use Rattle.perf_base.specs.Scripts.{Scripted, IsPmuLine, IsMaskOf, IsCpuLine, IsToolLine, IsKind, IsTaskSel, IsCpuSel, IsSlot}
-use Rattle.attr_bytes.proofs.Bits.{AreFlagsOf-word}
+use Rattle.attr_bytes.proofs.Bits.{flags_of_word-few}
+use Rattle.attr_bytes.specs.Kinds.{kind_numbered}
 use Rattle.attr_bytes.specs.Layout.{type_in, config_in, flag_word_in}
 use Rattle.script_spec.specs.Forms as form
 use Rattle.script_spec.specs.Forms.{Hit, CpuForm, ToolForm}
 use Rattle.script_spec.specs.Faults.{IsAmount, IsCpuFormInRange, IsToolFormInRange}
-use Rattle.script_spec.specs.Meaning.{number_of, software_kind, kind_named, kind_numbered, kind_of_bytes, times_of, or_zero, cpu_line_of, tool_line_of, task_sel, cpu_sel, slot, open_line, asked_attr, bytes_attr}
+use Rattle.script_spec.specs.Meaning.{number_of, kind_named, kind_of_bytes, times_of, or_zero, cpu_line_of, tool_line_of, task_sel, cpu_sel, slot, open_line, asked_attr, bytes_attr}
+use Rattle.perf_base.specs.Kinds.{software_kind, software_name}
 use Rattle.script_read.specs.Names.{IsToolFormNamedOf}
 
 pub mask_small : (pmus : List PmuLine) (n pmu mask : ℕ) → All (IsPmuLine n) pmus → IsMaskOf pmus pmu mask → (pmu < length pmus) × (mask < 2 ^ 16)
@@ -71,13 +73,13 @@ abbrev IsAnyKind : Option Kind → Type 0
 IsAnyKind o = (n : ℕ) → IfSome o (IsKind n)
 
 software_fits : (name : List ℕ) → IsAnyKind (software_kind name)
-software_fits name n = elim (cases_Bool (bytes_eq name (codes "context-switches"))) [
+software_fits name n = elim (cases_Bool (bytes_eq name (software_name kind.ContextSwitches))) [
   | inl t ↦ rw t tt
-  | inr f ↦ elim (cases_Bool (bytes_eq name (codes "cpu-migrations"))) [
+  | inr f ↦ elim (cases_Bool (bytes_eq name (software_name kind.CpuMigrations))) [
     | inl t ↦ rw (f, t) tt
-    | inr g ↦ elim (cases_Bool (bytes_eq name (codes "task-clock"))) [
+    | inr g ↦ elim (cases_Bool (bytes_eq name (software_name kind.TaskClock))) [
       | inl t ↦ rw (f, g, t) tt
-      | inr h ↦ elim (cases_Bool (bytes_eq name (codes "dummy"))) [
+      | inr h ↦ elim (cases_Bool (bytes_eq name (software_name kind.Dummy))) [
         | inl t ↦ rw (f, g, h, t) tt
         | inr i ↦ rw (f, g, h, i) tt
       ]
@@ -92,7 +94,7 @@ named_fits kinds name k e = go (number_of kinds name) refl
     go (Some i) at = subst (IsKind (length kinds)) (same_Some (kind.Hard i) k (rw at at e)) (position_within kinds name i at)
     go None at = let soft : software_kind name ≡ Some k = (rw at at e) in subst (λ (o : Option Kind). IfSome o (IsKind (length kinds))) soft (software_fits name (length kinds))
 
-numbered_fits : (kinds : List KindLine) (class config : ℕ) → IfSome (kind_numbered kinds class config) (IsKind (length kinds))
+numbered_fits : (kinds class config : ℕ) → IfSome (kind_numbered kinds class config) (IsKind kinds)
 numbered_fits kinds class config = elim (cases_Bool (eqb class 1)) [
   | inl one ↦ elim (cases_Bool (eqb config 1)) [
     | inl t ↦ rw (one, t) tt
@@ -107,8 +109,8 @@ numbered_fits kinds class config = elim (cases_Bool (eqb class 1)) [
       ]
     ]
   ]
-  | inr other ↦ elim (cases_Bool (ltb config (length kinds))) [
-    | inl t ↦ rw (other, t) (ltb-true _ _ t)
+  | inr other ↦ elim (cases_Bool ((eqb class 0 || eqb class 4) && ltb config kinds)) [
+    | inl t ↦ rw (other, t) (ltb-true _ _ (and_parts _ _ t).1)
     | inr f ↦ rw (other, f) tt
   ]
 ]
@@ -147,10 +149,10 @@ tool_line_fits s (form.OpenAttr p bytes) line spelled range named e = go (kind_o
     go None at = absurd cc
     go (Some k) at =
         let is : open_line p (bytes_attr p bytes) k ≡ line = same_Some _ line (ap (option_map (open_line p (bytes_attr p bytes))) (sym at) ∙ sym e) in
-        let fits : IsKind (length s.kinds) k = subst (λ (o : Option Kind). IfSome o (IsKind (length s.kinds))) at (numbered_fits s.kinds (type_in bytes) (config_in bytes)) in
+        let fits : IsKind (length s.kinds) k = subst (λ (o : Option Kind). IfSome o (IsKind (length s.kinds))) at (numbered_fits (length s.kinds) (type_in bytes) (config_in bytes)) in
         subst (IsToolLine s.cpus (length s.kinds) s.rings) is (
           range.slot,
-          record { kind = fits; task = task_fits p.task range.task; cpu = cpu_fits s.cpus p.cpu range.cpu; flags = (AreFlagsOf-word (flag_word_in bytes)).no_other },
+          record { kind = fits; task = task_fits p.task range.task; cpu = cpu_fits s.cpus p.cpu range.cpu; flags = flags_of_word-few (flag_word_in bytes) },
           leader_fits p.leader range.leader,
         )
 tool_line_fits s (form.Enable n group) line spelled range named e = subst (IsToolLine s.cpus (length s.kinds) s.rings) (same_Some _ line (sym e)) range

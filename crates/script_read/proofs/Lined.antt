@@ -1,5 +1,5 @@
 -- A form that is taken, as a line.
-use Rattle.std.proofs.Common.{◌≡◌, ℕ, false, All, List, [], ◌∷◌, Result, Ok, Err, sym, subst}
+use Rattle.std.proofs.Common.{◌≡◌, ℕ, false, All, List, [], ◌∷◌, Result, Ok, Err, refl, sym, subst}
 use Rattle.std.specs.Prelude.{IfOk, IfErr}
 use Rattle.script_spec.specs.Lines.{words_of}
 use Rattle.script_spec.specs.Forms as form
@@ -9,9 +9,11 @@ use Rattle.script_read.specs.declared.progress.Progress.{Progress}
 use Rattle.script_read.specs.declared.progress.Progress.TheVariants as progress
 use Rattle.script_read.specs.declared.fault.LineFault.{LineFault}
 use Rattle.script_read.specs.declared.fault.LineFault.TheVariants as fault
-use Rattle.script_read.specs.Fault.{Blames}
+use Rattle.line_forms.specs.declared.stop.LineStop.{LineStop}
+use Rattle.line_forms.specs.declared.stop.LineStop.TheVariants as stop
+use Rattle.script_read.specs.Fault.{Blames, fault_of_stop}
 use Rattle.script_read.specs.Progress.{Behind, IsTaken, IsFirstOf, ended_of, IsTakenLine}
-use Rattle.script_read.proofs.Beginning.{ended_false, sound_line, faulty_line}
+use Rattle.script_read.proofs.Beginning.{ended_false, sound_line, faulty_line, form_faulty}
 
 version_taken : (forms : List Form) (f : Form) (q : Progress) → ((v : Version) → IsTaken (form.Perf v ∷ []) f q) → (v : Version) × (forms ≡ form.Perf v ∷ []) → IsTaken forms f q
 version_taken forms f q h x = subst (λ fs. IsTaken fs f q) (sym x.1) (h x.0)
@@ -39,3 +41,9 @@ pub line_bad : (r : Result Progress LineFault) (v : Version) (line : List ℕ) (
 line_bad (Ok q) v line f p e plain is one h = tt
 line_bad (Err (fault.Bad q)) v line f p e plain is one h = λ forms b. faulty_line v forms line f (ended_false forms p b e) plain is one q (h forms b)
 line_bad (Err fault.NoMemory) v line f p e plain is one h = λ forms b. tt
+
+-- a line that gives no form
+pub stop_bad : (v : Version) (line : List ℕ) (p : Progress) (s : LineStop) → ended_of p ≡ false → All IsPrintable line → (s ≡ stop.NoForm → (g : Form) → IsOfForm v (words_of line) g → ⊥)
+    → (forms : List Form) → Behind forms p → Blames (fault_of_stop s) (λ r. IsFaulty v forms line r)
+stop_bad v line p stop.Memory e plain none = λ forms b. tt
+stop_bad v line p stop.NoForm e plain none = λ forms b. form_faulty v forms line (ended_false forms p b e) plain (none refl)

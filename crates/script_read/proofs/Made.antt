@@ -9,21 +9,18 @@ use Rattle.perf_base.specs.declared.lines.KindLine.{KindLine}
 use Rattle.perf_base.specs.declared.lines.ToolLine.{ToolLine}
 use Rattle.attr_bytes.specs.declared.raw.RawAttr.{RawAttr}
 use Rattle.attr_bytes.specs.Standing.{StandsFor}
-use Rattle.attr_bytes.specs.Layout.{flag_word_in}
-use Rattle.attr_bytes.proofs.Bits.{AreFlagsOf-one, AreFlagsOf-word}
+use Rattle.attr_bytes.specs.Kinds.{kind_numbered}
 use Rattle.script_spec.specs.Forms.{Opening}
-use Rattle.script_spec.specs.Meaning.{open_line, bytes_attr, flags_of_word, task_sel, cpu_sel, kind_numbered, kind_of_bytes}
+use Rattle.script_spec.specs.Meaning.{open_line, bytes_attr, task_sel, cpu_sel, kind_of_bytes}
 
 -- an attribute that was read, opened there
 abbrev attr_by : Opening → RawAttr → Kind → Attr
 attr_by p raw k = record { kind = k; task = task_sel p.task; cpu = cpu_sel p.cpu; period = raw.period; sample = raw.sample; format = raw.format; flags = raw.flags }
 
 attr_is : (p : Opening) (bytes : List ℕ) (raw : RawAttr) (k : Kind) → StandsFor bytes raw → attr_by p raw k ≡ bytes_attr p bytes k
-attr_is p bytes raw k h =
-    let f : raw.flags.0 ≡ flags_of_word (flag_word_in bytes) = AreFlagsOf-one (flag_word_in bytes) raw.flags.0 (flags_of_word (flag_word_in bytes)) h.flags (AreFlagsOf-word (flag_word_in bytes)) in
-    rw (h.period, h.sample, h.format) (ap (λ n. record (bytes_attr p bytes k) { flags = record { 0 = n } }) f)
+attr_is p bytes raw k h = rw (h.period, h.sample, h.format) (ap (λ n. record (bytes_attr p bytes k) { flags = record { 0 = n } }) h.flags)
 
-pub kind_by_bytes : (kinds : List KindLine) (bytes : List ℕ) (raw : RawAttr) (k : Option Kind) → StandsFor bytes raw → k ≡ kind_numbered kinds raw.class raw.config → k ≡ kind_of_bytes kinds bytes
+pub kind_by_bytes : (kinds : List KindLine) (bytes : List ℕ) (raw : RawAttr) (k : Option Kind) → StandsFor bytes raw → k ≡ kind_numbered (length kinds) raw.class raw.config → k ≡ kind_of_bytes kinds bytes
 kind_by_bytes kinds bytes raw k h e = rw (h.class, h.config) at e
 
 pub opened_by_bytes : (p : Opening) (bytes : List ℕ) (raw : RawAttr) (k : Kind) (named : Option Kind) (line : ToolLine) → StandsFor bytes raw → Some k ≡ named → line ≡ open_line p (λ x. attr_by p raw x) k

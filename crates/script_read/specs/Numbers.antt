@@ -59,5 +59,5 @@ IsInRangeOf s (form.Order acts) = All IsActInRange acts
 IsInRangeOf s form.End = Unit {0}
 
 -- where an event is opened, in the terms of a script
-abbrev pub place_of : Opening → Place
-place_of p = record { event = slot p.slot; task = task_sel p.task; cpu = cpu_sel p.cpu; leader = option_map slot p.leader }
+abbrev pub opening_place : Opening → Place
+opening_place p = record { event = slot p.slot; task = task_sel p.task; cpu = cpu_sel p.cpu; leader = option_map slot p.leader }

@@ -3,7 +3,7 @@ use Rattle.std.specs.Prelude.{◌≡◌, ℕ, List, [], ◌∷◌, ◌++◌, Boo
 use Rattle.perf_base.specs.declared.reasons.SReason.{SReason}
 use Rattle.script_spec.specs.Forms as form
 use Rattle.script_spec.specs.Forms.{Version, Form}
-use Rattle.script_spec.specs.Faults.{IsPlaced, IsInRange, HasAttr, IsNamed, IsWithinLimits, IsLight, IsSound}
+use Rattle.script_spec.specs.Faults.{IsPlaced, IsInRange, HasAttr, IsNamed, IsWithinLimits, IsWithinWeight, IsSound}
 use Rattle.script_read.specs.declared.progress.Progress.{Progress}
 use Rattle.script_read.specs.declared.progress.Progress.TheVariants as progress
 use Rattle.script_read.specs.Fault.{AsksThese, IsFirstBroken}
@@ -17,7 +17,7 @@ Behind forms (progress.Machine s) = Follows forms s
 
 -- what each reason asks of a form behind those before it, and the first reason for which it is refused
 abbrev pub AsksOf : List Form → Form → SReason → Type 0
-AsksOf before f = AsksThese (IsPlaced before f) (IsInRange before f) (HasAttr f) (IsNamed before f) (IsWithinLimits before f) (IsLight before f)
+AsksOf before f = AsksThese (IsPlaced before f) (IsInRange before f) (HasAttr f) (IsNamed before f) (IsWithinLimits before f) (IsWithinWeight before f)
 
 abbrev pub IsFirstOf : List Form → Form → SReason → Type 0
 IsFirstOf before f = IsFirstBroken (AsksOf before f)

@@ -232,7 +232,7 @@ impl State {
         ensures section { OnOk result (self.new.section ≡ part_of (form_of form.now)) }
         ensures bad { IfErr result (λ e. Blames e (IsFirst self.old (form_of form.now))) }
     {
-        let _cpus = self.script.cpus();
+        self.use_invariant();
         if !self.reaches(form) {
             return Err(LineFault::Bad(SReason::Place));
         }

@@ -1,9 +1,10 @@
 //! Kinds and rings by their names.
 
-ghost use Rattle.std.specs.Prelude.{◌≡◌, ◌≢◌, ◌↔◌, IsTrue, IfSome, MatchOption, All, AllPairs, Any, map, None};
+ghost use Rattle.std.specs.Prelude.{◌≡◌, ◌≢◌, ◌↔◌, IsTrue, IfSome, MatchOption, All, AllPairs, Any, map, length, None};
 ghost use Rattle.std.specs.Str.{bytes_eq};
 ghost use Rattle.perf_base.specs.Scripts.{IsScript, IsFreeName, HasRing, IsAct};
-ghost use Rattle.attr_bytes.specs.Standing.{StandsFor, IsClass};
+ghost use Rattle.attr_bytes.specs.Standing.{StandsFor};
+ghost use Rattle.attr_bytes.specs.Kinds.{kind_numbered};
 ghost use Rattle.attr_bytes.specs.Faults.{fault_of};
 ghost use Rattle.script_spec.specs.Acts.{IsActInRange};
 ghost use Rattle.script_spec.specs.Meaning as says;
@@ -28,32 +29,11 @@ pub fn same_name(left: Name, right: Name) -> bool
     is_called(left, right.as_bytes())
 }
 
-/// One of the four kinds that every script has, by its name.
-pub fn software_kind(name: Name) -> Option<Kind>
-    ensures { result ≡ says.software_kind name }
-{
-    if is_called(name, b"context-switches") {
-        Some(Kind::ContextSwitches)
-    } else if is_called(name, b"cpu-migrations") {
-        Some(Kind::CpuMigrations)
-    } else if is_called(name, b"task-clock") {
-        Some(Kind::TaskClock)
-    } else if is_called(name, b"dummy") {
-        Some(Kind::Dummy)
-    } else {
-        None
-    }
-}
-
 /// Whether a kind may be called so.
 pub fn is_free_name(name: Name) -> bool
     ensures { IsTrue result ↔ IsFreeName name }
 {
-    !is_called(name, b"ip")
-        && !is_called(name, b"context-switches")
-        && !is_called(name, b"cpu-migrations")
-        && !is_called(name, b"task-clock")
-        && !is_called(name, b"dummy")
+    !is_called(name, b"ip") && Kind::software(name.as_bytes()).is_none()
 }
 
 /// The number of a declared kind.
@@ -75,7 +55,7 @@ pub fn kind_named(script: &Script, name: Name) -> Option<Kind>
 {
     match number_of(script, name) {
         Some(kind) => Some(Kind::Hard(kind as u8)),
-        None => software_kind(name),
+        None => Kind::software(name.as_bytes()),
     }
 }
 
@@ -88,9 +68,8 @@ pub fn raw_of(bytes: &[u8]) -> Option<RawAttr>
 
 /// The kind that an attribute names.
 pub fn kind_of_raw(script: &Script, raw: &RawAttr) -> Option<Kind>
-    requires script { IsScript script.now }
-    requires class { IsClass raw.now.class }
-    ensures { result ≡ says.kind_numbered script.now.kinds raw.now.class raw.now.config }
+    requires { IsScript script.now }
+    ensures { result ≡ kind_numbered (length script.now.kinds) raw.now.class raw.now.config }
 {
     kind_of(raw, script.kinds() as u8)
 }

@@ -7,7 +7,7 @@ ghost use Rattle.perf_base.specs.Scripts.{IsScript, IsMaskOf, IsRingSize};
 ghost use Rattle.script_spec.specs.Faults.{IsBetween, IsWide, IsTaskNumber, IsSlotNumber, IsAmount, IsOpeningInRange};
 ghost use Rattle.script_spec.specs.Meaning as says;
 ghost use Rattle.line_forms.specs.Forms.{hit_of, opening_of};
-ghost use Rattle.script_read.specs.Numbers.{place_of, IsNextTask, IsNextRing, IsNextReader, IsFreeMask};
+ghost use Rattle.script_read.specs.Numbers.{opening_place, IsNextTask, IsNextRing, IsNextReader, IsFreeMask};
 
 use line_forms::{Hit, Opening};
 use perf_base::{CpuNo, CpuSel, EventNo, ReaderLine, RingNo, Script, TaskNo, TaskSel, ToolNo};
@@ -173,7 +173,7 @@ pub struct Place {
 
 pub fn opening_place(cpus: u8, opening: &Opening) -> Option<Place>
     ensures { MatchOption result (IsOpeningInRange cpus (opening_of opening.now) → ⊥)
-        (λ r. IsOpeningInRange cpus (opening_of opening.now) × (r ≡ place_of (opening_of opening.now))) }
+        (λ r. IsOpeningInRange cpus (opening_of opening.now) × (r ≡ opening_place (opening_of opening.now))) }
 {
     Some(Place {
         event: slot(opening.slot)?,

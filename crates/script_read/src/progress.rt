@@ -11,7 +11,7 @@ ghost use Rattle.script_read.specs.Fault.{Blames};
 use crate::fault::LineFault;
 use crate::numbers::{counters, cpus};
 use crate::state::{Section, State};
-use line_forms::{Form, LineStop, Version, read_form};
+use line_forms::{Form, Version, read_form};
 use perf_base::{CpuSet, NoMemory, SReason, Script};
 use std::alloc::Global;
 
@@ -119,7 +119,7 @@ fn later_form(state: State, form: &Form<'_>) -> Result<Progress, LineFault>
     ensures bad { IfErr result (λ e. (forms : List text.Form) → Follows forms state → Blames e (λ r. IsFirstOf forms (form_of form.now) r)) }
 {
     let mut state = state;
-    let _cpus = state.script.cpus();
+    state.use_invariant();
     state.take(form)?;
     Ok(Progress::Machine(state))
 }
@@ -165,9 +165,6 @@ pub fn take_line(
     if !is_printable(line) {
         return Err(LineFault::Bad(SReason::Ascii));
     }
-    match read_form(alloc, version, line) {
-        Err(LineStop::Memory) => Err(LineFault::NoMemory),
-        Err(LineStop::NoForm) => Err(LineFault::Bad(SReason::Form)),
-        Ok(form) => take_form(alloc, progress, &form),
-    }
+    let form = read_form(alloc, version, line)?;
+    take_form(alloc, progress, &form)
 }

@@ -46,10 +46,7 @@ fn next_line(text: &[u8]) -> Option<(&[u8], &[u8])>
     ensures { MatchOption result (HasNoLine text.now) (λ x. IsNextLine text.now x.0.now x.1.now) }
 {
     let (line, back) = cut(text, b'\n');
-    match back {
-        None => None,
-        Some(rest) => Some((line, rest)),
-    }
+    Some((line, back?))
 }
 
 fn no_end(line: u32) -> ScriptFault

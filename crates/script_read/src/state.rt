@@ -1,6 +1,7 @@
 //! What the lines so far say.
 
 ghost use Rattle.std.specs.Prelude.{◌≡◌};
+ghost use Rattle.perf_base.specs.Scripts.{IsScript};
 ghost use Rattle.line_forms.specs.Forms.{form_of};
 ghost use Rattle.script_read.specs.State.{rank_of, part_of};
 
@@ -72,4 +73,13 @@ pub struct State {
     pub cpu: Option<CpuNo>,
     pub tool: Option<ToolNo>,
     pub named: CpuSet,
+}
+
+impl State {
+    /// Nothing happens. The caller's proof learns that the script so far is one that can be built.
+    pub fn use_invariant(&self)
+        ensures { IsScript self.now.script }
+    {
+        self.script.use_invariant();
+    }
 }

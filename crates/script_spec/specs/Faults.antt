@@ -192,9 +192,9 @@ IsWithinLimits before (form.OnTool line) = line_count (script_of before) < 16384
 IsWithinLimits before other = Unit {0}
 
 -- at the end the script weighs at most 65,536
-abbrev pub IsLight : List Form → Form → Type 0
-IsLight before form.End = weight (script_of before) ≤ 65536
-IsLight before other = Unit {0}
+abbrev pub IsWithinWeight : List Form → Form → Type 0
+IsWithinWeight before form.End = weight (script_of before) ≤ 65536
+IsWithinWeight before other = Unit {0}
 
 -- ---- the reasons in their order
 
@@ -213,7 +213,7 @@ Keeps version before line reason.Range = Each version line (IsInRange before)
 Keeps version before line reason.Attr = Each version line HasAttr
 Keeps version before line reason.Name = Each version line (IsNamed before)
 Keeps version before line reason.Limit = Each version line (IsWithinLimits before)
-Keeps version before line reason.Weight = Each version line (IsLight before)
+Keeps version before line reason.Weight = Each version line (IsWithinWeight before)
 Keeps version before line reason.Order = Unit {0}
 
 -- the order in which the reasons are looked for in a line

@@ -1,6 +1,6 @@
 -- The script that the forms of a text say: each part is read off the whole list of forms. This project's own
 -- profile.
-use Rattle.std.specs.Prelude.{ℕ, ◌-◌, ◌/◌, ◌^◌, ◌==◌, nat_lt, bit_and, bit_or, Bool, false, List, [], ◌∷◌, ◌++◌, length, map, filter_map, flat_map, position, replicate, slice_get, slice_index, Option, Some, None, option_map, unwrap_or, codes, if◌then◌else◌}
+use Rattle.std.specs.Prelude.{ℕ, ◌-◌, ◌^◌, ◌==◌, Bool, false, List, [], ◌∷◌, ◌++◌, length, map, filter_map, flat_map, position, replicate, slice_get, slice_index, Option, Some, None, option_map, unwrap_or, if◌then◌else◌}
 use Rattle.std.specs.Option.{option_or}
 use Rattle.std.specs.Str.{bytes_eq}
 use Rattle.perf_base.specs.declared.numbers.EventNo.{EventNo}
@@ -22,7 +22,10 @@ use Rattle.perf_base.specs.declared.lines.ToolLine.TheVariants as tool_line
 use Rattle.perf_base.specs.declared.lines.ReaderLine.{ReaderLine}
 use Rattle.perf_base.specs.declared.acts.Act.{Act}
 use Rattle.perf_base.specs.Scripts.{Scripted}
+use Rattle.perf_base.specs.Kinds.{software_kind}
 use Rattle.attr_bytes.specs.Layout.{type_in, config_in, sample_period_in, sample_type_in, read_format_in, flag_word_in}
+use Rattle.attr_bytes.specs.Kinds.{kind_numbered}
+use Rattle.attr_bytes.specs.Flags.{flags_of_word}
 use Rattle.script_spec.specs.Forms as form
 use Rattle.script_spec.specs.Forms.{Hit, CpuForm, ToolForm, Opening, Form}
 
@@ -105,37 +108,13 @@ acts_in forms = flat_map acts_said forms
 abbrev pub number_of : List KindLine → List ℕ → Option ℕ
 number_of kinds name = position (λ k. bytes_eq k.name name) kinds
 
--- the four kinds that every script has
-abbrev pub software_kind : List ℕ → Option Kind
-software_kind name =
-    if bytes_eq name (codes "context-switches") then Some kind.ContextSwitches else
-    if bytes_eq name (codes "cpu-migrations") then Some kind.CpuMigrations else
-    if bytes_eq name (codes "task-clock") then Some kind.TaskClock else
-    if bytes_eq name (codes "dummy") then Some kind.Dummy else None
-
 -- the kind that is called so, if one is
 abbrev pub kind_named : List KindLine → List ℕ → Option Kind
 kind_named kinds name = option_or (option_map kind.Hard (number_of kinds name)) (software_kind name)
 
--- The kind that an attribute's type and config name, if they name one: type 1 the software kinds, by the
--- numbers of PERF_COUNT_SW_ (perf_event_open(2)), the others a declared kind by its number.
-abbrev pub kind_numbered : List KindLine → ℕ → ℕ → Option Kind
-kind_numbered kinds class config =
-    if class == 1 then (
-    if config == 1 then Some kind.TaskClock else
-    if config == 3 then Some kind.ContextSwitches else
-    if config == 4 then Some kind.CpuMigrations else
-    if config == 9 then Some kind.Dummy else None
-    ) else if nat_lt config (length kinds) then Some (kind.Hard config) else None
-
 -- the kind of an attribute's bytes
 abbrev pub kind_of_bytes : List KindLine → List ℕ → Option Kind
-kind_of_bytes kinds bytes = kind_numbered kinds (type_in bytes) (config_in bytes)
-
--- perf_base's flags of a flag word: those from disabled to exclude_kernel have the bits 0 to 5 in both, and
--- sample_id_all has bit 18 there and bit 6 here
-abbrev pub flags_of_word : ℕ → ℕ
-flags_of_word word = bit_or (bit_and word 63) (bit_and (word / 4096) 64)
+kind_of_bytes kinds bytes = kind_numbered (length kinds) (type_in bytes) (config_in bytes)
 
 -- ---- lines
 

@@ -1,7 +1,7 @@
 -- The printed text of a script. This project's own profile: what is 0, kinds that do not occur and processors and
 -- tools without lines are left out, the kinds of a work line stand in their declared order, and the order stands
 -- on one line. A script with one PMU is printed in version one, every other one in version two.
-use Rattle.std.specs.Prelude.{ℕ, ◌+◌, ◌≤◌, ◌==◌, List, [], ◌∷◌, ◌++◌, length, map, flat_map, slice_index_or, Option, Some, None, option_map, codes, if◌then◌else◌}
+use Rattle.std.specs.Prelude.{ℕ, ◌+◌, ◌≤◌, ◌==◌, List, [], ◌∷◌, ◌++◌, length, map, flat_map, slice_index_or, Option, Some, None, option_map, if◌then◌else◌}
 use Rattle.std.specs.List.{join_with_byte}
 use Rattle.perf_base.specs.declared.numbers.RingNo.{RingNo}
 use Rattle.perf_base.specs.declared.numbers.TaskNo.{TaskNo}
@@ -20,6 +20,7 @@ use Rattle.perf_base.specs.declared.lines.ToolLine.{ToolLine}
 use Rattle.perf_base.specs.declared.lines.ToolLine.TheVariants as tool_line
 use Rattle.perf_base.specs.declared.lines.ReaderLine.{ReaderLine}
 use Rattle.perf_base.specs.declared.acts.Act.{Act}
+use Rattle.perf_base.specs.Kinds.{software_name}
 use Rattle.perf_base.specs.Scripts.{Scripted, IsScript, IsCovered}
 use Rattle.perf_base.specs.Weight.{weight}
 use Rattle.script_spec.specs.Forms as form
@@ -75,12 +76,10 @@ processor_forms kinds n (line ∷ lines) = form.Processor n ∷ map (cpu_form ki
 
 -- ---- lines of tools
 
+-- a hardware kind has the name that it was declared with
 abbrev pub kind_name : List KindLine → Kind → List ℕ
 kind_name kinds (kind.Hard n) = slice_index_or (map (λ k. k.name) kinds) n []
-kind_name kinds kind.ContextSwitches = codes "context-switches"
-kind_name kinds kind.CpuMigrations = codes "cpu-migrations"
-kind_name kinds kind.TaskClock = codes "task-clock"
-kind_name kinds kind.Dummy = codes "dummy"
+kind_name kinds other = software_name other
 
 abbrev pub task_number : TaskSel → Option ℕ
 task_number tasks.All = None

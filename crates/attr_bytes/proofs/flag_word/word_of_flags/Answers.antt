@@ -1,9 +1,9 @@
-use Rattle.std.proofs.Common.{refl}
-use Rattle.attr_bytes.proofs.Bits.{word-AreFlagsOf, word-HasOnlyReadBits, word-bit_other}
+use Rattle.std.proofs.Common.{refl, sym}
+use Rattle.attr_bytes.proofs.Bits.{flags_are, word-AreFlagsOf, word-HasOnlyReadBits, word-bit_other}
 use Rattle.attr_bytes.proofs.flag_word.word_of_flags.Goals as goal
 
 pub returns-clause-flags : goal.returns-clause-flags
-returns-clause-flags c = word-AreFlagsOf c.args.flags.0 c.requires
+returns-clause-flags c = sym (flags_are _ c.args.flags.0 (word-AreFlagsOf c.args.flags.0 c.requires))
 
 pub returns-clause-read_bits : goal.returns-clause-read_bits
 returns-clause-read_bits c = word-HasOnlyReadBits c.args.flags.0 _

@@ -1,6 +1,6 @@
-use Rattle.std.proofs.Common.{ℕ, ◌∙◌, subst, sym}
+use Rattle.std.proofs.Common.{◌∙◌, ap, sym}
 use Rattle.std.proofs.lemmas.Option.{none-some}
-use Rattle.attr_bytes.specs.Flags.{AreFlagsOf}
+use Rattle.attr_bytes.specs.Flags.{flags_of_word}
 use Rattle.attr_bytes.proofs.Laws.{IsFramed-none, none-IsFramed, none-AreFieldsRead, StandsFor-IsFramed, stands_from_fields}
 use Rattle.attr_bytes.proofs.reading.read_attr.Goals as goal
 
@@ -11,4 +11,4 @@ pub returns-clause-ok : goal.returns-clause-ok
 returns-clause-ok c =
     stands_from_fields c.args.bytes.now _ (none-IsFramed c.args.bytes.now c.in_ok-check_frame.ensures.fault) (none-AreFieldsRead c.args.bytes.now c.in_ok-check_fields.ensures)
     c.u32_at.ensures c.u64_at.ensures c.u64_at-2.ensures c.u64_at-3.ensures c.u64_at-4.ensures
-    (let P : ℕ → Type 0 = λ word. AreFlagsOf word c.flags_of_word.result.0 in subst P c.u64_at-5.ensures c.flags_of_word.ensures)
+    (c.flags_of_word.ensures ∙ ap flags_of_word c.u64_at-5.ensures)

@@ -10,12 +10,12 @@ use Rattle.line_forms.proofs.acts.order_acts.Goals as goal
 pub returns-in_err-act : goal.returns-in_err-act
 returns-in_err-act c =
     let p = err_from_is_err_and c.from_residual.result c.from_residual.ensures.1 in
-    rw (p.1, p.2) (each_fail _ act_in _ _ _ _ _ c.in-Some.ensures (sym c.spelled.ensures ∙ ap (option_map act_of) c.in_err-act.ensures.ok_part) c.loop-word.invariant.1)
+    rw (p.1, p.2) (each_fail _ act_in _ _ _ _ _ c.in-Some.ensures (sym c.spelled_act.ensures.read ∙ ap (option_map act_of) c.in_err-act.ensures.ok_part) c.loop-word.invariant.1)
 
 pub loop-word-preserved : goal.loop-word-preserved
 loop-word-preserved c = (
   _,
-  each_step act_in _ _ _ _ _ _ c.in-Some.ensures (sym c.spelled.ensures ∙ ap (option_map act_of) c.in_ok-act.ensures.ok_part) c.loop-word.invariant.1,
+  each_step act_in _ _ _ _ _ _ c.in-Some.ensures (sym c.spelled_act.ensures.read ∙ ap (option_map act_of) c.in_ok-act.ensures.ok_part) c.loop-word.invariant.1,
   c.in_ok-keep.ensures.kept _ c.loop-word.invariant.2,
 )
 

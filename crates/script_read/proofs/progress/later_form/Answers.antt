@@ -17,5 +17,5 @@ returns-in_err-take-clause-bad c =
 pub returns-clause-ok : goal.returns-clause-ok
 returns-clause-ok c = λ forms h. record {
   asks = λ q. (asks_iff forms c.args.state (form_of c.args.form.now) q h).0 (c.in_ok-take.ensures.ok.0 q);
-  behind = follows_more forms (form_of c.args.form.now) c.args.state c.take.new.self h c.cpus-cpus.ensures.sound (c.in_ok-take.ensures.ok.0 reason.Place) (c.in_ok-take.ensures.ok.0 reason.Range) c.in_ok-take.ensures.ok.1 c.in_ok-take.ensures.section;
+  behind = follows_more forms (form_of c.args.form.now) c.args.state c.take.new.self h c.use_invariant.ensures (c.in_ok-take.ensures.ok.0 reason.Place) (c.in_ok-take.ensures.ok.0 reason.Range) c.in_ok-take.ensures.ok.1 c.in_ok-take.ensures.section;
 }

@@ -1,4 +1,4 @@
-//! Writing an act. It takes no memory.
+//! Writing an act.
 
 ghost use Rattle.std.specs.Prelude.{◌≡◌, ◌++◌, decimal};
 ghost use Rattle.perf_io.specs.Wrote.{Wrote};
@@ -23,7 +23,7 @@ fn put_pair<K: Sink>(
     write_numbered(sink, second, m)
 }
 
-/// Writes the text of an act. Where a call of the sink fails, some front of the text stays added.
+/// Writes the text of an act. It takes no memory. Where a call of the sink fails, some front of the text stays added.
 pub fn write_act<K: Sink>(act: &Act, sink: &mut K) -> Result<(), Failed>
     ensures wrote { Wrote K.held K.faults K.last_fault sink.old sink.new result (act_text act.now) }
     ensures flushed { K.flushed sink.new ≡ K.flushed sink.old }

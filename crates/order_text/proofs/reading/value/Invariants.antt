@@ -1,6 +1,0 @@
-use Rattle.std.proofs.Common.{◌≡◌, ◌<◌, ◌^◌, drop}
-use Rattle.order_text.specs.Reading.{value_after}
-use Rattle.order_text.proofs.reading.value.Given as goal
-
-abbrev pub invariant-loop-digit : goal.invariant-loop-digit
-invariant-loop-digit l = value_after 0 l.digits < 2 ^ 64 → value_after l.value (drop l.digit-index l.digits) ≡ value_after 0 l.digits
