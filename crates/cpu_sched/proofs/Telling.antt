@@ -20,7 +20,8 @@ use Rattle.stage_spec.specs.Effective.{name_of, is_wholly_software, is_exclusive
 use Rattle.stage_spec.specs.Hardware.{Hardware, mask_of}
 use Rattle.stage_spec.specs.Rules.{ruling_of}
 use Rattle.stage_spec.specs.Stage.{Group}
-use Rattle.stage_spec.specs.Verdict.{Judged, is_eligible, by_ruling, judge, judge_pass, judge_passes, stands_on, stands_refused, groups_on, first_named, first_refused, with_masks, standing_among}
+use Rattle.stage_spec.specs.Verdict.{Judged, is_eligible, by_ruling, judge, judge_pass, judge_passes, groups_on, first_named, first_refused, with_masks, standing_among}
+use Rattle.perf_base.specs.Standings.{stands_on, stands_refused}
 use Rattle.stage_spec.proofs.Settling.{judged, groups_on-append}
 use Rattle.stage_laws.proofs.Counts.{count-cons, count-append, count-filter}
 use Rattle.stage_laws.proofs.Leaders.{find-first, find-later}

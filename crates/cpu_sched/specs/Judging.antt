@@ -13,7 +13,8 @@ use Rattle.stage_spec.specs.Effective.{name_of, is_wholly_software, is_exclusive
 use Rattle.stage_spec.specs.Hardware.{Hardware}
 use Rattle.stage_spec.specs.Rules.{ruling_of}
 use Rattle.stage_spec.specs.Stage.{Group}
-use Rattle.stage_spec.specs.Verdict.{is_eligible, by_ruling, stands_on, stands_refused, with_masks}
+use Rattle.stage_spec.specs.Verdict.{is_eligible, by_ruling, with_masks}
+use Rattle.perf_base.specs.Standings.{stands_on, stands_refused}
 use Rattle.world_spec.specs.Changes.{with_seats}
 use Rattle.world_spec.specs.StageOf.{group_at}
 use Rattle.world_spec.specs.Value.{World, seats_at}

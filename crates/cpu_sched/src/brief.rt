@@ -1,6 +1,7 @@
 //! What rescheduling looks at of a group.
 
-ghost use Rattle.std.specs.Prelude.{◌≡◌, ◌+◌, ◌<◌, ◌≤◌, true, All, filter, length, map, ◌&&◌, not, bit_and, ◌==◌, [], ◌∷◌, ◌++◌};
+ghost use Rattle.perf_base.specs.Flags as flag;
+ghost use Rattle.std.specs.Prelude.{◌≡◌, ◌+◌, ◌<◌, ◌≤◌, true, All, filter, length, map, ◌&&◌, not, [], ◌∷◌, ◌++◌};
 ghost use Rattle.stage_spec.specs.Effective as effective;
 ghost use Rattle.stage_spec.specs.Hardware as hardware;
 ghost use Rattle.stage_spec.specs.Tight.{masks_of};
@@ -90,9 +91,9 @@ fn with_mask(world: &World, key: Key) -> (EventNo, u32)
 
 /// Whether a group whose leader has these flags is to be the only hardware group on its processor.
 fn asks_alone(flags: AttrFlags, software: bool) -> bool
-    ensures { result ≡ not (bit_and flags.0 8 == 0) && not software }
+    ensures { result ≡ flag.is_exclusive flags && not software }
 {
-    flags.0 & AttrFlags::EXCLUSIVE.0 != 0 && !software
+    flags.is_exclusive() && !software
 }
 
 /// Those of some instances that need a counter, each with the counters that can count it.

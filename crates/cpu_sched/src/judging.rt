@@ -6,7 +6,8 @@ ghost use Rattle.perf_base.specs.declared.standing.Standing.TheVariants as stand
 ghost use Rattle.stage_spec.specs.Hardware.{IsHardware};
 ghost use Rattle.stage_spec.specs.Rules.{ruling_of};
 ghost use Rattle.stage_spec.specs.Tight.{masks_of};
-ghost use Rattle.stage_spec.specs.Verdict.{by_ruling, stands_on, stands_refused, with_masks};
+ghost use Rattle.stage_spec.specs.Verdict.{by_ruling, with_masks};
+ghost use Rattle.perf_base.specs.Standings.{stands_on};
 ghost use Rattle.stage_spec.specs.Effective as effective;
 ghost use Rattle.counter_match.specs.Seating.{AreDistinct};
 ghost use Rattle.world_spec.specs.Changes as change;
@@ -42,24 +43,6 @@ fn or_first(known: Option<EventNo>, holds: bool, name: EventNo) -> Option<EventN
     match known {
         Some(group) => Some(group),
         None => { if holds { Some(name) } else { None } }
-    }
-}
-
-fn is_on(standing: &Standing) -> bool
-    ensures { result ≡ stands_on standing.now }
-{
-    match standing {
-        Standing::On => true,
-        Standing::Out | Standing::Refused(_) => false,
-    }
-}
-
-fn is_refused(standing: &Standing) -> bool
-    ensures { result ≡ stands_refused standing.now }
-{
-    match standing {
-        Standing::Refused(_) => true,
-        Standing::Out | Standing::On => false,
     }
 }
 
@@ -107,11 +90,11 @@ impl SoFar {
     fn with(&self, brief: &Brief, standing: &Standing) -> SoFar
         ensures { result ≡ noted brief.now.name brief.now.software brief.now.exclusive standing.now self.now }
     {
-        let on = is_on(standing);
+        let on = standing.is_on();
         SoFar {
             exclusive_on: or_first(self.exclusive_on, on && brief.exclusive, brief.name),
             first_on: or_first(self.first_on, on && !brief.software, brief.name),
-            refused: or_first(self.refused, is_refused(standing), brief.name),
+            refused: or_first(self.refused, standing.is_refused(), brief.name),
         }
     }
 }

@@ -24,17 +24,27 @@ use perf_base::{Context, CpuNo, Key, Steps};
 use perf_world::World;
 use std::sync::ledger::Ledger;
 
-/// A processor's own context. A machine has at most 8 processors. As a reader it also tells what always holds of a
-/// world.
-pub fn own_context(world: &World, cpu: CpuNo) -> Context
+/// Nothing happens. The caller's proof learns that a processor of the machine is one of 8, and what always holds of a
+/// world and of its counters.
+pub fn use_processor(world: &World, cpu: CpuNo)
     requires { cpu.0 < length world.now.quiet.running }
-    ensures context { result ≡ context.Processor cpu }
     ensures low { cpu.0 < 8 }
     ensures hardware { IsHardware world.now.hardware }
     ensures kept { IsWorld world.now }
 {
     let cpus = world.pmus().cpus();
     prove!(cpu.0 < cpus);
+}
+
+/// A processor's own context.
+fn own_context(world: &World, cpu: CpuNo) -> Context
+    requires { cpu.0 < length world.now.quiet.running }
+    ensures context { result ≡ context.Processor cpu }
+    ensures low { cpu.0 < 8 }
+    ensures hardware { IsHardware world.now.hardware }
+    ensures kept { IsWorld world.now }
+{
+    use_processor(world, cpu);
     Context::Processor(cpu)
 }
 
@@ -106,10 +116,10 @@ pub fn judge_all<L: Ledger>(world: &mut World, cpu: CpuNo, tests: &mut Steps<L>)
     ensures most { tests.new ≤ tests.old + 272 * tried world.old.hardware (stage_of world.old) cpu }
 {
     world.clear_seats(cpu);
-    let _own = own_context(world, cpu);
+    use_processor(world, cpu);
     let mut so_far = SoFar::new();
     for pass in 0..4 {
         so_far = judge_pass(world, cpu, pass, so_far, tests);
     }
-    let _own = own_context(world, cpu);
+    use_processor(world, cpu);
 }

@@ -10,7 +10,7 @@ ghost use Rattle.cpu_sched.specs.Resched.{StaysBut};
 ghost use Rattle.cpu_sched.specs.Tried.{tried};
 
 use crate::failing::fail_refused;
-use crate::passes::{judge_all, own_context};
+use crate::passes::{judge_all, use_processor};
 use perf_base::{CpuNo, Steps};
 use perf_world::World;
 use std::sync::ledger::Ledger;
@@ -28,8 +28,7 @@ pub fn resched<L: Ledger>(world: &mut World, cpu: CpuNo, tests: &mut Steps<L>)
     ensures least { tests.old + length (seated world.old.hardware (stage_of world.new) cpu) ≤ tests.new }
     ensures most { tests.new ≤ tests.old + 272 * tried world.old.hardware (stage_of world.old) cpu }
 {
-    // A reader tells what always holds of a world.
-    let _own = own_context(world, cpu);
+    use_processor(world, cpu);
     judge_all(world, cpu, tests);
     fail_refused(world, cpu);
 }

@@ -126,8 +126,7 @@ pub fn period(world: &mut World, event: EventNo, period: u64) -> Result<(), Reas
     ensures period { OnOk result (HasPeriod event period world.old world.new) }
     ensures others { OnOk result (AreUntouched world.old world.new) }
 {
-    // A reader tells what always holds of a world.
-    let _cpus = world.pmus().cpus();
+    world.pmus().use_invariant();
     let original = check_period(world, event, period)?;
     world.set_period(original, period);
     Ok(())

@@ -1,8 +1,6 @@
 //! The processors that reach some families.
 
-ghost use Rattle.std.specs.Prelude.{◌≡◌, ◌<◌, ◌≤◌, ◌^◌, bit_or, [], ◌∷◌, All, IfSome, Some, true, length, if◌then◌else◌};
-ghost use Rattle.perf_base.specs.declared.numbers.CpuNo.{CpuNo as Cpu};
-ghost use Rattle.stage_laws.specs.Narrowing.{has_context};
+ghost use Rattle.std.specs.Prelude.{◌≡◌, ◌<◌, ◌≤◌, ◌^◌, bit_or, [], ◌∷◌, All, true, length, if◌then◌else◌};
 ghost use Rattle.world_spec.specs.Kept.{in_option};
 ghost use Rattle.world_spec.specs.StageOf.{stage_of};
 ghost use Rattle.world_spec.specs.Value.{is_live, family_of};
@@ -10,20 +8,8 @@ ghost use Rattle.perf_world.specs.Seen.{IsWorld};
 ghost use Rattle.event_commands.specs.Changing.{family_keys, keys_named};
 ghost use Rattle.event_commands.specs.Reaching.{AddsReaching, AreReaching, is_there};
 
-use perf_base::{Context, CpuNo, CpuSet, EventNo, Key};
+use perf_base::{CpuNo, CpuSet, EventNo, Key};
 use perf_world::World;
-
-/// The processor that a context is of: its own one, or the one that runs its task.
-fn cpu_of(world: &World, context: Context) -> Option<CpuNo>
-    requires { IsWorld world.now }
-    ensures has { IfSome result (λ cpu. has_context (stage_of world.now) cpu context ≡ true) }
-    ensures only { (cpu : Cpu) → has_context (stage_of world.now) cpu context ≡ true → result ≡ Some cpu }
-{
-    match context {
-        Context::Processor(cpu) => Some(cpu),
-        Context::Task(task) => world.cpu_of(task),
-    }
-}
 
 /// Adds a processor, if the machine has it.
 fn add_if_there(world: &World, cpu: CpuNo, cpus: &mut CpuSet)
@@ -42,7 +28,7 @@ fn add_cpu(world: &World, key: Key, cpus: &mut CpuSet)
     requires few { length world.now.quiet.running ≤ 8 }
     ensures { AddsReaching world.now (key ∷ []) cpus.old cpus.new }
 {
-    if let Some(cpu) = cpu_of(world, world.context_of(key)) {
+    if let Some(cpu) = world.cpu_with(world.context_of(key)) {
         add_if_there(world, cpu, cpus);
     }
 }
@@ -85,8 +71,7 @@ pub fn cpus_reaching(world: &World, slots: &[EventNo]) -> CpuSet
     ensures few { length world.now.quiet.running ≤ 8 }
     ensures kept { IsWorld world.now }
 {
-    // A reader tells what always holds of a world.
-    let _few = world.pmus().cpus();
+    world.pmus().use_invariant();
     let mut cpus = CpuSet::new();
     for slot in slots {
         add_family(world, *slot, &mut cpus);

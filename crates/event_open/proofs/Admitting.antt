@@ -1,5 +1,5 @@
 -- What an open that is not refused gives of the leader's group and of the new event, by the keys of a world.
-use Rattle.std.specs.Prelude.{◌≡◌, ◌≢◌, ℕ, ◌≤◌, ◌==◌, Bool, true, false, List, [], ◌∷◌, ◌++◌, length, map, Option, Some, None, slice_index_or}
+use Rattle.std.specs.Prelude.{◌≡◌, ◌≢◌, ◌≤◌, ◌==◌, Bool, true, false, List, [], ◌∷◌, ◌++◌, length, map, Option, Some, None, slice_index_or}
 use Rattle.std.specs.List.{AllPairs}
 use Rattle.std.proofs.Common.{arith, refl, sym, ap, subst, ◌∙◌, inl, inr}
 use Rattle.std.proofs.lemmas.Bool.{cases_Bool, false≢true}
@@ -10,19 +10,18 @@ use Rattle.perf_base.specs.declared.numbers.EventNo.{EventNo}
 use Rattle.perf_base.specs.declared.numbers.Key.{Key}
 use Rattle.stage_spec.specs.declared.instance.Instance.{Instance}
 use Rattle.stage_spec.specs.Opening.{is_used, group_led, group_with, new_original}
-use Rattle.stage_spec.specs.Stage.{Group, members_of, group_of, place_of}
+use Rattle.stage_spec.specs.Stage.{Group, members_of, place_of}
 use Rattle.counter_match.specs.Seating.{AreDistinct}
-use Rattle.world_spec.specs.Value.{World, is_live, entry_at, instance_at, family_of, times}
+use Rattle.world_spec.specs.Value.{World, is_live, entry_at, instance_at, times}
 use Rattle.world_spec.specs.StageOf.{stage_of}
 use Rattle.world_spec.specs.Kept.{post_at, once_if, is_member_of, is_original_in}
 use Rattle.world_spec.proofs.Coming.{three, number_true}
 use Rattle.world_spec.proofs.Copies.{times-at}
-use Rattle.world_spec.proofs.Families.{group-members}
 use Rattle.perf_world.specs.Seen.{IsWorld}
-use Rattle.event_open.specs.Demanded.{demanded, demanded_by}
-use Rattle.event_open.specs.Opened.{members_led, members_with}
+use Rattle.event_open.specs.Demanded.{demanded, demanded_with}
+use Rattle.event_open.specs.Opened.{keys_led, members_led, members_with}
 use Rattle.event_open.proofs.Demanding.{demanded-distinct, demanded-push, pairs-mapped, pairs-of_keys}
-use Rattle.event_open.proofs.Leaders.{group-led, member-lives, slot-original}
+use Rattle.event_open.proofs.Leaders.{member-lives}
 
 at-most-one : (b : Bool) → once_if b ≤ 1
 at-most-one true = omega arith
@@ -55,51 +54,38 @@ slot-free w e h unused j live slot =
     ]
 
 -- so a group asks for counters for different slots, also with the new event
-pub group-distinct : (w : World) (e : EventNo) (a : Attr) (m : Key) → IsWorld w → is_used (stage_of w) e ≡ false
-    → AreDistinct (demanded w.hardware (map (instance_at w) (entry_at w m).members ++ new_original (stage_of w) e a ∷ []))
-group-distinct w e a m h unused =
+apart-with : (w : World) (e : EventNo) (a : Attr) (m : Key) → IsWorld w → is_used (stage_of w) e ≡ false
+    → AllPairs (λ i j. i.event ≢ j.event) (map (instance_at w) (entry_at w m).members ++ new_original (stage_of w) e a ∷ [])
+apart-with w e a m h unused =
     let keys : List Key = (entry_at w m).members in
-    demanded-distinct w.hardware (map (instance_at w) keys ++ new_original (stage_of w) e a ∷ [])
-    (all_pairs_push (λ i j. i.event ≢ j.event) (map (instance_at w) keys) (new_original (stage_of w) e a)
+    all_pairs_push (λ i j. i.event ≢ j.event) (map (instance_at w) keys) (new_original (stage_of w) e a)
     (pairs-mapped (λ i j. i.event ≢ j.event) (instance_at w) keys (members-apart w m h))
     (λ n d low same.
     let size : length (map (instance_at w) keys) ≡ length keys = length-map keys (instance_at w) in
     let k : Key = slice_index_or keys n (record { 0 = 0 }) in
     let some : 1 ≤ times k keys = times-at keys n (record { 0 = 0 }) (omega (arith, low, size)) in
     let is : slice_index_or (map (instance_at w) keys) n d ≡ instance_at w k = get_or-map (instance_at w) keys n (record { 0 = 0 }) d (omega (arith, low, size)) in
-    slot-free w e h unused k (member-lives w m k h some).0 (ap (λ i. i.event.0) (sym is) ∙ ap (λ x. x.0) same)))
+    slot-free w e h unused k (member-lives w m k h some).0 (ap (λ i. i.event.0) (sym is) ∙ ap (λ x. x.0) same))
 
-pub alone-distinct : (w : World) (e : EventNo) (a : Attr) → AreDistinct (demanded w.hardware (new_original (stage_of w) e a ∷ []))
-alone-distinct w e a = demanded-distinct w.hardware (new_original (stage_of w) e a ∷ []) (λ i j d before low. absurd (omega (arith, before, low)))
+pub demands-distinct : (w : World) (e : EventNo) (a : Attr) (first : Option Key) → IsWorld w → is_used (stage_of w) e ≡ false
+    → AreDistinct (demanded_with w.hardware (map (instance_at w) (keys_led w first)) e a.kind)
+demands-distinct w e a first h unused = subst AreDistinct (demanded-push w.hardware (map (instance_at w) (keys_led w first)) new) (demanded-distinct w.hardware (map (instance_at w) (keys_led w first) ++ new ∷ []) (pairs first))
+  where
+    new : Instance
+    new = new_original (stage_of w) e a
 
--- the members of the group that is led, by keys
-pub led-members : (w : World) (e : EventNo) (k : Key) → IsWorld w → (family_of w e).original ≡ Some k
-    → members_led (group_of (stage_of w) e) ≡ map (instance_at w) (entry_at w (entry_at w k).leader).members
-led-members w e k h is =
-    ap members_led (group-led w e (Some k) h is) ∙ group-members w.hardware w (entry_at w k).leader h (h.grouped.led k (slot-original w e k h is).live)
+    pairs : (o : Option Key) → AllPairs (λ i j. i.event ≢ j.event) (map (instance_at w) (keys_led w o) ++ new ∷ [])
+    pairs None = λ i j d before low. absurd (omega (arith, before, low))
+    pairs (Some m) = apart-with w e a m h unused
 
+-- the members of the group with the new event, and what they ask for
 pub members-with : (o : Option Group) (i : Instance) → members_of (group_with o i) ≡ members_led o ++ i ∷ []
 members-with None i = refl
 members-with (Some g) i = refl
 
-led-distinct : (w : World) (e : EventNo) (a : Attr) (f : EventNo) (o : Option Key) → IsWorld w → is_used (stage_of w) e ≡ false → (family_of w f).original ≡ o
-    → AreDistinct (demanded w.hardware (members_led (group_of (stage_of w) f) ++ new_original (stage_of w) e a ∷ []))
-led-distinct w e a f None h unused is =
-    subst (λ g. AreDistinct (demanded w.hardware (members_led g ++ new_original (stage_of w) e a ∷ []))) (sym (group-led w f None h is)) (alone-distinct w e a)
-led-distinct w e a f (Some k) h unused is =
-    subst (λ xs. AreDistinct (demanded w.hardware (xs ++ new_original (stage_of w) e a ∷ []))) (sym (led-members w f k h is))
-    (group-distinct w e a (entry_at w k).leader h unused)
-
-pub all-distinct : (w : World) (e : EventNo) (a : Attr) (leader : Option EventNo) → IsWorld w → is_used (stage_of w) e ≡ false
-    → AreDistinct (demanded w.hardware (members_with (stage_of w) e a leader))
-all-distinct w e a None h unused = alone-distinct w e a
-all-distinct w e a (Some f) h unused =
-    subst (λ xs. AreDistinct (demanded w.hardware xs)) (sym (members-with (group_of (stage_of w) f) (new_original (stage_of w) e a)))
-    (led-distinct w e a f (family_of w f).original h unused refl)
-
-pub demands-whole : (w : World) (e : EventNo) (a : Attr) (leader : Option EventNo) (led all : List (EventNo × ℕ)) → led ≡ demanded w.hardware (members_led (group_led (stage_of w) leader))
-    → all ≡ led ++ demanded_by w.hardware e a.kind → all ≡ demanded w.hardware (members_with (stage_of w) e a leader)
-demands-whole w e a leader led all is more =
-    more ∙ (ap (λ xs. xs ++ demanded_by w.hardware e a.kind) is
-    ∙ (sym (demanded-push w.hardware (members_led (group_led (stage_of w) leader)) (new_original (stage_of w) e a))
-    ∙ ap (demanded w.hardware) (sym (members-with (group_led (stage_of w) leader) (new_original (stage_of w) e a)))))
+pub demands-whole : (w : World) (e : EventNo) (a : Attr) (leader : Option EventNo) (xs : List Instance) → members_led (group_led (stage_of w) leader) ≡ xs
+    → demanded_with w.hardware xs e a.kind ≡ demanded w.hardware (members_with (stage_of w) e a leader)
+demands-whole w e a leader xs is =
+    let new : Instance = new_original (stage_of w) e a in
+    sym (demanded-push w.hardware xs new)
+    ∙ ap (demanded w.hardware) (ap (λ ys. ys ++ new ∷ []) (sym is) ∙ sym (members-with (group_led (stage_of w) leader) new))

@@ -20,7 +20,8 @@ use Rattle.stage_spec.specs.declared.instance.Instance.{Instance}
 use Rattle.stage_spec.specs.Hardware.{is_software, mask_of, is_pmu, pmu_of_kind}
 use Rattle.stage_spec.specs.Fits.{fits}
 use Rattle.stage_spec.specs.Opening.{is_other_pmu, new_original, open_refusal, opened}
-use Rattle.stage_spec.specs.Places.{is_same_task, is_same_cpu, context_by, context_of}
+use Rattle.stage_spec.specs.Places.{is_same_task, is_same_cpu}
+use Rattle.perf_base.specs.Contexts.{context_of, context_by}
 use Rattle.stage_spec.specs.Refusals.{holds_of}
 use Rattle.stage_spec.specs.Stage.{group_of, place_of}
 use Rattle.stage_spec.specs.Tight.{masks_of}
@@ -34,14 +35,13 @@ use Rattle.world_spec.specs.Comings.{new_kinds, slot_led, MayCome, HasRoom, IsLe
 use Rattle.world_spec.proofs.AddedStage.{open-stage}
 use Rattle.world_spec.proofs.Coming.{number_true}
 use Rattle.world_spec.proofs.Families.{original-is}
-use Rattle.world_spec.proofs.Moving.{leads-parts}
 use Rattle.perf_world.specs.Parts.{MayAdd}
 use Rattle.perf_world.specs.Seen.{IsWorld}
 use Rattle.event_open.specs.Demanded.{demanded}
-use Rattle.event_open.specs.Opened.{leader_key, members_with, opened_as}
-use Rattle.event_open.proofs.Admitting.{led-members, members-with, slot-free}
+use Rattle.event_open.specs.Opened.{leader_key, members_led, members_with, opened_as}
+use Rattle.event_open.proofs.Admitting.{members-with, slot-free}
 use Rattle.event_open.proofs.Demanding.{masks-by_kinds}
-use Rattle.event_open.proofs.Leaders.{IsOriginal, slot-original, closed-is, sibling-is, other-pmu-is, room-is}
+use Rattle.event_open.proofs.Leaders.{IsOriginal, slot-original, closed-is, sibling-is, led-members, other-pmu-is, room-is}
 use Rattle.event_open.proofs.Refusing.{none-holds, first-free}
 
 -- the context of an attribute has a place
@@ -57,8 +57,8 @@ pub record IsLeader (w : World) (a : Attr) (leader : EventNo) (k : Key) : Type 0
   pub named : (family_of w leader).original ≡ Some k
   pub original : IsOriginal w leader k
   pub leads : leads (post_at w) k ≡ true
-  pub own : (entry_at w k).leader ≡ k
   pub context : (entry_at w k).context ≡ context_of a
+  pub members : members_led (group_of (stage_of w) leader) ≡ map (instance_at w) (entry_at w k).members
   pub room : length (entry_at w k).members < 8
 
 same-context : (t u : TaskSel) (c d : CpuSel) → t ≡ u → c ≡ d → context_by t c ≡ context_by u d
@@ -68,13 +68,9 @@ leader-key : (w : World) (e : EventNo) (a : Attr) (leader : EventNo) (k : Key) �
     → (family_of w leader).original ≡ Some k → IsLeader w a leader k
 leader-key w e a leader k h fine named =
     let o : IsOriginal w leader k = slot-original w leader k h named in
-    let m : Key = (entry_at w k).leader in
-    let its : leads (post_at w) m ≡ true = h.grouped.led k o.live in
-    let slot : (instance_at w m).event.0 ≡ leader.0 = number_true (instance_at w m).event.0 leader.0
-    (not-false ((instance_at w m).event.0 == leader.0) (sym (sibling-is w leader (Some k) h named) ∙ fine.leads)) in
-    let own : m ≡ k = h.apart.one_each m k (leads-parts (is_live w m) (is_key m (entry_at w m).leader) its).0 o.live
-    (slot ∙ sym (ap (λ x. x.0) o.event)) (ap place_of (h.grouped.together k o.live)) in
-    let lead : leads (post_at w) k ≡ true = subst (λ q. leads (post_at w) q ≡ true) own its in
+    let own : is_key k (entry_at w k).leader ≡ true = not-false (is_key k (entry_at w k).leader) (sym (sibling-is w leader k h named) ∙ fine.leads) in
+    let lead : leads (post_at w) k ≡ true = ap (λ live. live && is_key k (entry_at w k).leader) o.live ∙ own in
+    let members : members_led (group_of (stage_of w) leader) ≡ map (instance_at w) (entry_at w k).members = led-members w (Some leader) (Some k) (entry_at w k).members h (sym named) lead refl in
     let here : (is_same_task (instance_at w k).attr.task a.task && is_same_cpu (instance_at w k).attr.cpu a.cpu) ≡ true =
     not-false (is_same_task (instance_at w k).attr.task a.task && is_same_cpu (instance_at w k).attr.cpu a.cpu)
     (sym (ap (holds_of (λ i. not (is_same_task i.attr.task a.task && is_same_cpu i.attr.cpu a.cpu))) (original-is w.hardware w leader h ∙ ap (option_map (instance_at w)) named)) ∙ fine.here) in
@@ -83,10 +79,10 @@ leader-key w e a leader k h fine named =
       named = named;
       original = o;
       leads = lead;
-      own = own;
       context = h.lawful.placed k o.live o.first
           ∙ same-context (instance_at w k).attr.task a.task (instance_at w k).attr.cpu a.cpu (same_task (instance_at w k).attr.task a.task both.0) (same_cpu (instance_at w k).attr.cpu a.cpu both.1);
-      room = subst (λ q. length (entry_at w q).members < 8) own (room-is w leader k h named fine.room);
+      members = members;
+      room = room-is w (Some leader) (entry_at w k).members members fine.room;
     }
 
 pub led-by : (w : World) (e : EventNo) (a : Attr) (leader : EventNo) (o : Option Key) → IsWorld w → IsAccepted w.hardware (stage_of w) e a (Some leader)
@@ -133,10 +129,9 @@ pub fitting-led : (w : World) (e : EventNo) (a : Attr) (leader : EventNo) (k : K
 fitting-led w e a leader k h fine led =
     let keys : List Key = (entry_at w k).members in
     let whole : members_with (stage_of w) e a (Some leader) ≡ map (instance_at w) keys ++ new_original (stage_of w) e a ∷ [] =
-    members-with (group_of (stage_of w) leader) (new_original (stage_of w) e a)
-    ∙ ap (λ xs. xs ++ new_original (stage_of w) e a ∷ []) (led-members w leader k h led.named ∙ ap (λ q. map (instance_at w) (entry_at w q).members) led.own) in
+    members-with (group_of (stage_of w) leader) (new_original (stage_of w) e a) ∙ ap (λ xs. xs ++ new_original (stage_of w) e a ∷ []) led.members in
     let none : list_any (λ q. is_other_pmu w.hardware a.kind (instance_at w q).attr.kind) keys ≡ false =
-    ap (λ q. list_any (λ j. is_other_pmu w.hardware a.kind (instance_at w j).attr.kind) (entry_at w q).members) (sym led.own) ∙ (sym (other-pmu-is w a leader k h led.named) ∙ fine.pmu) in
+    sym (other-pmu-is w a (Some leader) keys led.members) ∙ fine.pmu in
     record {
       fit = fitting-by w (kinds_in (post_at w) k ++ a.kind ∷ []) (members_with (stage_of w) e a (Some leader)) fine.fit (ap (map (λ i. i.attr.kind)) whole ∙ kinds-whole w e a keys);
       one_pmu = all_pairs_push (λ one other. is_other_pmu w.hardware one other ≡ false) (kinds_in (post_at w) k) a.kind (h.fitting k).one_pmu

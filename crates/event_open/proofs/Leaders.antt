@@ -1,5 +1,5 @@
 -- What an open's tests of its leader are by the keys of a world.
-use Rattle.std.specs.Prelude.{◌≡◌, ℕ, ◌<◌, ◌≤◌, ◌==◌, ◌||◌, nat_lt, nat_le, Bool, true, false, not, All, List, [], ◌∷◌, map, length, Option, Some, None, is_some, option_map}
+use Rattle.std.specs.Prelude.{◌≡◌, ◌<◌, ◌≤◌, ◌==◌, ◌&&◌, ◌||◌, nat_lt, Bool, true, false, not, All, List, [], ◌∷◌, map, length, Option, Some, None, IfSome, is_some, option_map}
 use Rattle.std.specs.List.{list_any}
 use Rattle.std.proofs.Common.{arith, refl, sym, ap, ◌∙◌, inl, inr}
 use Rattle.std.proofs.lemmas.Bool.{cases_Bool, ltb-true, not-false}
@@ -8,19 +8,24 @@ use Rattle.std.proofs.lemmas.List.{length-map}
 use Rattle.perf_base.specs.declared.attr.Attr.{Attr}
 use Rattle.perf_base.specs.declared.numbers.EventNo.{EventNo}
 use Rattle.perf_base.specs.declared.numbers.Key.{Key}
+use Rattle.perf_base.specs.declared.reasons.Reason.TheVariants as reason
 use Rattle.stage_spec.specs.declared.instance.Instance.{Instance}
 use Rattle.stage_spec.specs.Effective.{name_of}
-use Rattle.stage_spec.specs.Opening.{is_other_pmu, leader_is_closed, leader_is_sibling, group_is_of_other_pmu, group_is_full}
+use Rattle.stage_spec.specs.Flags.{is_inherited, is_pinned, is_exclusive}
+use Rattle.stage_spec.specs.Opening.{is_other_pmu, is_same_flag, leader_is_closed, leader_is_sibling, group_is_of_other_pmu, group_is_full, group_led}
+use Rattle.stage_spec.specs.Places.{is_same_task, is_same_cpu}
 use Rattle.stage_spec.specs.Refusals.{holds_of}
-use Rattle.stage_spec.specs.Stage.{Group, members_of, group_of, size_of}
+use Rattle.stage_spec.specs.Stage.{Group, members_of, group_of, group_size, original_of, place_of}
 use Rattle.world_spec.specs.Value.{World, is_live, entry_at, instance_at, family_of, is_key, times}
 use Rattle.world_spec.specs.StageOf.{group_at, stage_of}
-use Rattle.world_spec.specs.Kept.{post_at, in_option, is_member_of, is_original_in}
+use Rattle.world_spec.specs.Kept.{leads, post_at, in_option, is_member_of, is_original_in}
 use Rattle.world_spec.proofs.Coming.{three, number_true}
-use Rattle.world_spec.proofs.Families.{group-is, open-is, group-members}
-use Rattle.world_spec.proofs.Keys.{key-is, is_key-true, times-cons, once-true, once-false}
+use Rattle.world_spec.proofs.Families.{group-is, open-is, original-is, group-members}
+use Rattle.world_spec.proofs.Keys.{key-is, is_key-true, is_key-false, times-cons, once-true, once-false}
 use Rattle.world_spec.proofs.Moving.{leads-parts}
 use Rattle.perf_world.specs.Seen.{IsWorld}
+use Rattle.event_open.specs.Faults.{joining_faults, group_faults, leader_faults}
+use Rattle.event_open.specs.Opened.{keys_led, leader_key, members_led}
 use Rattle.event_open.proofs.Demanding.{all-keys}
 
 -- the group that a leader's original is in
@@ -30,24 +35,8 @@ its_group w k = group_at w (entry_at w k).leader
 pub group-led : (w : World) (e : EventNo) (o : Option Key) → IsWorld w → (family_of w e).original ≡ o → group_of (stage_of w) e ≡ option_map (its_group w) o
 group-led w e o h is = group-is w.hardware w e h ∙ ap (option_map (its_group w)) is
 
-holds-mapped : {X Y : Type 0} (test : Y → Bool) (f : X → Y) (o : Option X) → holds_of test (option_map f o) ≡ holds_of (λ x. test (f x)) o
-holds-mapped test f None = refl
-holds-mapped test f (Some x) = refl
-
-pub none-is : {X : Type 0} (o : Option X) (b : Bool) → is_some o ≡ not b → b ≡ not (is_some o)
-none-is o true h = rw h refl
-none-is o false h = rw h refl
-
-pub at-least : (m n : ℕ) → nat_le m n ≡ not (nat_lt n m)
-at-least m n = grind (arith, nat_tests)
-
 pub closed-is : (w : World) (e : EventNo) (o : Option Key) → IsWorld w → (family_of w e).original ≡ o → leader_is_closed (stage_of w) (Some e) ≡ not (is_some o)
 closed-is w e o h is = ap not (open-is w.hardware w e h ∙ ap is_some is)
-
-pub sibling-is : (w : World) (e : EventNo) (o : Option Key) → IsWorld w → (family_of w e).original ≡ o
-    → leader_is_sibling (stage_of w) (Some e) ≡ holds_of (λ k. not ((instance_at w (entry_at w k).leader).event.0 == e.0)) o
-sibling-is w e o h is =
-    ap (holds_of (λ g. not ((name_of g).0 == e.0))) (group-led w e o h is) ∙ holds-mapped (λ g. not ((name_of g).0 == e.0)) (its_group w) o
 
 -- the original in a slot is live, in that slot, and no copy
 pub record IsOriginal (w : World) (e : EventNo) (k : Key) : Type 0 where
@@ -67,6 +56,38 @@ slot-original w e k h is =
       | inr off ↦ absurd (omega (arith, one, h.linked.originals k e.0, once-false (is_original_in (post_at w) e.0 k) off))
     ]
 
+-- it is a sibling exactly where it does not lead its own group
+pub sibling-is : (w : World) (e : EventNo) (k : Key) → IsWorld w → (family_of w e).original ≡ Some k → leader_is_sibling (stage_of w) (Some e) ≡ not (is_key k (entry_at w k).leader)
+sibling-is w e k h is =
+    let o : IsOriginal w e k = slot-original w e k h is in
+    let m : Key = (entry_at w k).leader in
+    let slot : (instance_at w k).event.0 ≡ e.0 = ap (λ x. x.0) o.event in
+    let same : ((instance_at w m).event.0 == e.0) ≡ is_key k m = elim (cases_Bool (is_key k m)) [
+      | inl own ↦
+          let here : (instance_at w m).event.0 ≡ e.0 = ap (λ q. (instance_at w q).event.0) (key-is m k (is_key-true k m own)) ∙ slot in
+          let found : ((instance_at w m).event.0 == e.0) ≡ true = grind (arith, nat_tests, here) in
+          found ∙ sym own
+      | inr off ↦ elim (cases_Bool ((instance_at w m).event.0 == e.0)) [
+        | inl here ↦
+            let live : is_live w m ≡ true = (leads-parts (is_live w m) (is_key m (entry_at w m).leader) (h.grouped.led k o.live)).0 in
+            let own : m ≡ k = h.apart.one_each m k live o.live (number_true (instance_at w m).event.0 e.0 here ∙ sym slot) (ap place_of (h.grouped.together k o.live)) in
+            absurd (is_key-false k m off (ap (λ q. q.0) own))
+        | inr other ↦ other ∙ sym off
+      ]
+    ] in
+    ap (holds_of (λ g. not ((name_of g).0 == e.0))) (group-led w e (Some k) h is) ∙ ap not same
+
+-- so why an event may not join its group
+pub joining-faults : (w : World) (a : Attr) (e : EventNo) (k : Key) → IsWorld w → (family_of w e).original ≡ Some k
+    → leader_faults (stage_of w) a (Some e) ≡ (reason.NoEvent, false) ∷ joining_faults w a k
+joining-faults w a e k h is =
+    let closed : leader_is_closed (stage_of w) (Some e) ≡ false = closed-is w e (Some k) h is in
+    let led : original_of (stage_of w) e ≡ Some (instance_at w k) = original-is w.hardware w e h ∙ ap (option_map (instance_at w)) is in
+    λ i. (reason.NoEvent, closed i) ∷ (reason.NotLeader, sibling-is w e k h is i)
+    ∷ (reason.OtherContext, holds_of (λ f. not (is_same_task f.attr.task a.task && is_same_cpu f.attr.cpu a.cpu)) (led i))
+    ∷ (reason.SiblingFlags, is_pinned a || is_exclusive a)
+    ∷ (reason.Inherit, holds_of (λ f. not (is_same_flag (is_inherited f.attr) (is_inherited a))) (led i)) ∷ []
+
 -- a member of a group is live, and the leader is its leader
 pub member-lives : (w : World) (m j : Key) → IsWorld w → 1 ≤ times j (entry_at w m).members → (is_live w j ≡ true) × ((entry_at w j).leader ≡ m)
 member-lives w m j h some = elim (cases_Bool (is_member_of (post_at w) m j)) [
@@ -79,34 +100,46 @@ member-lives w m j h some = elim (cases_Bool (is_member_of (post_at w) m j)) [
 pub members-live : (w : World) (m : Key) → IsWorld w → All (λ k. is_live w k ≡ true) (entry_at w m).members
 members-live w m h = all-keys (λ k. is_live w k ≡ true) (entry_at w m).members (λ k some. (member-lives w m k h some).0)
 
--- its group
+-- the members of the group that is led, by the leader's key
+pub led-members : (w : World) (leader : Option EventNo) (first : Option Key) (keys : List Key) → IsWorld w → first ≡ leader_key w leader
+    → IfSome first (λ k. leads (post_at w) k ≡ true) → keys ≡ keys_led w first → members_led (group_led (stage_of w) leader) ≡ map (instance_at w) keys
+led-members w leader first keys h key lead are = led leader first key lead ∙ ap (map (instance_at w)) (sym are)
+  where
+    led : (l : Option EventNo) (o : Option Key) → o ≡ leader_key w l → IfSome o (λ k. leads (post_at w) k ≡ true) → members_led (group_led (stage_of w) l) ≡ map (instance_at w) (keys_led w o)
+    led None None is lead = refl
+    led None (Some k) is lead = absurd (cc)
+    led (Some e) None is lead = ap members_led (group-led w e None h (sym is))
+    led (Some e) (Some k) is lead =
+        let own : (entry_at w k).leader ≡ k = key-is (entry_at w k).leader k (is_key-true k (entry_at w k).leader (leads-parts (is_live w k) (is_key k (entry_at w k).leader) lead).1) in
+        ap members_led (group-led w e (Some k) h (sym is)) ∙ (ap (λ q. members_of (group_at w q)) own ∙ group-members w.hardware w k h lead)
+
+-- so the tests of its group
 any-mapped : {X Y : Type 0} (test : Y → Bool) (f : X → Y) (xs : List X) → list_any test (map f xs) ≡ list_any (λ x. test (f x)) xs
 any-mapped test f [] = refl
 any-mapped test f (x ∷ xs) = ap (λ b. test (f x) || b) (any-mapped test f xs)
 
-pub other-pmu-none : (w : World) (a : Attr) (e : EventNo) → IsWorld w → (family_of w e).original ≡ None → group_is_of_other_pmu w.hardware (stage_of w) a (Some e) ≡ false
-other-pmu-none w a e h is = ap (holds_of (λ g. list_any (λ i. is_other_pmu w.hardware a.kind i.attr.kind) (members_of g))) (group-led w e None h is)
+any-led : (test : Instance → Bool) (o : Option Group) → holds_of (λ g. list_any test (members_of g)) o ≡ list_any test (members_led o)
+any-led test None = refl
+any-led test (Some g) = refl
 
-pub full-none : (w : World) (e : EventNo) → IsWorld w → (family_of w e).original ≡ None → group_is_full (stage_of w) (Some e) ≡ false
-full-none w e h is = ap (holds_of (λ g. not (nat_lt (size_of g) 8))) (group-led w e None h is)
+full-led : (o : Option Group) → holds_of (λ g. not (nat_lt (group_size g) 8)) o ≡ not (nat_lt (length (members_led o)) 8)
+full-led None = refl
+full-led (Some g) = refl
 
-pub other-pmu-is : (w : World) (a : Attr) (e : EventNo) (k : Key) → IsWorld w → (family_of w e).original ≡ Some k
-    → group_is_of_other_pmu w.hardware (stage_of w) a (Some e) ≡ list_any (λ q. is_other_pmu w.hardware a.kind (instance_at w q).attr.kind) (entry_at w (entry_at w k).leader).members
-other-pmu-is w a e k h is =
+pub other-pmu-is : (w : World) (a : Attr) (leader : Option EventNo) (keys : List Key) → members_led (group_led (stage_of w) leader) ≡ map (instance_at w) keys
+    → group_is_of_other_pmu w.hardware (stage_of w) a leader ≡ list_any (λ q. is_other_pmu w.hardware a.kind (instance_at w q).attr.kind) keys
+other-pmu-is w a leader keys is =
     let test : Instance → Bool = λ i. is_other_pmu w.hardware a.kind i.attr.kind in
-    ap (holds_of (λ g. list_any test (members_of g))) (group-led w e (Some k) h is)
-    ∙ (ap (list_any test) (group-members w.hardware w (entry_at w k).leader h (h.grouped.led k (slot-original w e k h is).live))
-    ∙ any-mapped test (instance_at w) (entry_at w (entry_at w k).leader).members)
+    any-led test (group_led (stage_of w) leader) ∙ (ap (list_any test) is ∙ any-mapped test (instance_at w) keys)
 
-pub full-is : (w : World) (e : EventNo) (k : Key) → IsWorld w → (family_of w e).original ≡ Some k
-    → group_is_full (stage_of w) (Some e) ≡ not (nat_lt (length (entry_at w (entry_at w k).leader).members) 8)
-full-is w e k h is =
-    ap (holds_of (λ g. not (nat_lt (size_of g) 8))) (group-led w e (Some k) h is)
-    ∙ ap (λ n. not (nat_lt n 8)) (ap length (group-members w.hardware w (entry_at w k).leader h (h.grouped.led k (slot-original w e k h is).live)) ∙ length-map (entry_at w (entry_at w k).leader).members (instance_at w))
+full-is : (w : World) (leader : Option EventNo) (keys : List Key) → members_led (group_led (stage_of w) leader) ≡ map (instance_at w) keys
+    → group_is_full (stage_of w) leader ≡ not (nat_lt (length keys) 8)
+full-is w leader keys is = full-led (group_led (stage_of w) leader) ∙ ap (λ n. not (nat_lt n 8)) (ap length is ∙ length-map keys (instance_at w))
 
-pub room-is : (w : World) (e : EventNo) (k : Key) → IsWorld w → (family_of w e).original ≡ Some k → group_is_full (stage_of w) (Some e) ≡ false
-    → length (entry_at w (entry_at w k).leader).members < 8
-room-is w e k h is room = below (length (entry_at w (entry_at w k).leader).members) 8 (sym (full-is w e k h is) ∙ room)
-  where
-    below : (m n : ℕ) → not (nat_lt m n) ≡ false → m < n
-    below m n e = ltb-true m n (not-false (nat_lt m n) e)
+pub group-faults : (w : World) (a : Attr) (leader : Option EventNo) (keys : List Key) → members_led (group_led (stage_of w) leader) ≡ map (instance_at w) keys
+    → (reason.OtherPmu, group_is_of_other_pmu w.hardware (stage_of w) a leader) ∷ (reason.GroupFull, group_is_full (stage_of w) leader) ∷ [] ≡ group_faults w a.kind keys
+group-faults w a leader keys is = λ i. (reason.OtherPmu, other-pmu-is w a leader keys is i) ∷ (reason.GroupFull, full-is w leader keys is i) ∷ []
+
+pub room-is : (w : World) (leader : Option EventNo) (keys : List Key) → members_led (group_led (stage_of w) leader) ≡ map (instance_at w) keys
+    → group_is_full (stage_of w) leader ≡ false → length keys < 8
+room-is w leader keys is room = ltb-true (length keys) 8 (not-false (nat_lt (length keys) 8) (sym (full-is w leader keys is) ∙ room))

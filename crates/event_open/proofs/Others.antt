@@ -14,7 +14,7 @@ use Rattle.perf_base.specs.declared.standing.Standing.TheVariants as standing
 use Rattle.stage_spec.specs.Hardware.{Hardware}
 use Rattle.stage_spec.specs.Flags.{is_pinned}
 use Rattle.stage_spec.specs.Opening.{add_group, new_original, open_refusal, opened}
-use Rattle.stage_spec.specs.Places.{context_of}
+use Rattle.perf_base.specs.Contexts.{context_of}
 use Rattle.stage_spec.specs.Stage.{Stage, alone, change_context, task_on}
 use Rattle.stage_spec.specs.Verdict.{is_eligible, judge_passes, passes, verdicts}
 use Rattle.stage_laws.specs.Narrowing.{has_context}

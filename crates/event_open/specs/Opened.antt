@@ -6,11 +6,11 @@ use Rattle.perf_base.specs.declared.numbers.EventNo.{EventNo}
 use Rattle.perf_base.specs.declared.numbers.Key.{Key}
 use Rattle.stage_spec.specs.declared.instance.Instance.{Instance}
 use Rattle.stage_spec.specs.Opening.{group_led, group_with, new_original}
-use Rattle.stage_spec.specs.Places.{context_of}
+use Rattle.perf_base.specs.Contexts.{context_of}
 use Rattle.stage_spec.specs.Stage.{Stage, Group, members_of}
 use Rattle.world_spec.specs.Adding.{Newcomer, add}
 use Rattle.world_spec.specs.Staying.{HasCome}
-use Rattle.world_spec.specs.Value.{World, is_live, family_of}
+use Rattle.world_spec.specs.Value.{World, is_live, entry_at, family_of}
 use Rattle.perf_world.specs.Parts.{newcomer}
 
 -- the original in a leader's slot, where a leader is given
@@ -21,6 +21,11 @@ leader_key w (Some leader) = (family_of w leader).original
 -- the new original: it stands in the context that its attribute names, in the group of the leader that is given
 abbrev pub opened_as : World → EventNo → Attr → Option EventNo → Newcomer
 opened_as w e a leader = newcomer e a (leader_key w leader) None (context_of a)
+
+-- the members of the group that the leader's key leads
+abbrev pub keys_led : World → Option Key → List Key
+keys_led w None = []
+keys_led w (Some first) = (entry_at w first).members
 
 -- the members of the group that is led, where one is, and those of the group with the new event
 abbrev pub members_led : Option Group → List Instance

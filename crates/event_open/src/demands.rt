@@ -38,7 +38,7 @@ impl Model for Demands {
 
 impl Demands {
     /// No event.
-    pub fn new() -> Demands
+    fn new() -> Demands
         ensures { result ≡ [] }
     {
         Demands {
@@ -75,10 +75,8 @@ impl Demands {
         ensures ok { OnOk result (unassignable self.now ≡ None) }
         ensures err { IfErr result (λ reason. unassignable self.now ≡ Some reason) }
     {
-        match seat_alone::<Brand>(&self.events[..self.used], Blank::new(1)) {
-            Ok(()) => Ok(()),
-            Err(set) => Err(Reason::NoAssignment(set)),
-        }
+        let seated = seat_alone::<Brand>(&self.events[..self.used], Blank::new(1));
+        seated.map_err(Reason::NoAssignment)
     }
 }
 

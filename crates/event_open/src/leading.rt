@@ -1,17 +1,19 @@
 //! The leader that an open gives.
 
-ghost use Rattle.std.specs.Prelude.{◌≡◌, ◌<◌, ◌||◌, All, OnOk, IfErr, None, Some, true, length};
+ghost use Rattle.std.specs.Prelude.{◌≡◌, ◌<◌, ◌&&◌, ◌||◌, not, All, OnOk, IfOk, IfErr, IfSome, None, Some, true, length};
 ghost use Rattle.std.specs.List.{list_any};
 ghost use Rattle.perf_base.specs.Scripts.{IsKind};
 ghost use Rattle.stage_spec.specs.Flags as flag;
 ghost use Rattle.stage_spec.specs.Opening as opening;
 ghost use Rattle.stage_spec.specs.Places as places;
 ghost use Rattle.stage_spec.specs.Refusals.{first_of};
+ghost use Rattle.world_spec.specs.Kept.{leads, post_at};
 ghost use Rattle.world_spec.specs.Value.{is_live, instance_at};
 ghost use Rattle.world_spec.specs.StageOf.{stage_of};
-ghost use Rattle.event_open.specs.Faults.{leader_faults, group_faults};
+ghost use Rattle.event_open.specs.Faults.{joining_faults, leader_faults, group_faults};
+ghost use Rattle.event_open.specs.Opened.{keys_led, leader_key};
 
-use perf_base::{Attr, AttrFlags, CpuSel, EventNo, Key, Kind, Reason, TaskSel};
+use perf_base::{Attr, CpuSel, EventNo, Key, Kind, Reason, TaskSel};
 use perf_world::World;
 use pmu_model::Pmus;
 
@@ -37,81 +39,78 @@ fn is_same_cpu(cpu: CpuSel, other: CpuSel) -> bool
     }
 }
 
-/// Whether tasks that are forked later are counted too.
-fn is_inherited(attr: &Attr) -> bool
-    ensures { result ≡ flag.is_inherited attr.now }
-{
-    attr.flags.0 & AttrFlags::INHERIT.0 != 0
-}
-
 /// Whether an event asks for what only a leader may have: to be pinned, or exclusive.
 fn asks_to_lead(attr: &Attr) -> bool
     ensures { result ≡ (flag.is_pinned attr.now || flag.is_exclusive attr.now) }
 {
-    attr.flags.0 & AttrFlags::PINNED.0 != 0 || attr.flags.0 & AttrFlags::EXCLUSIVE.0 != 0
+    attr.flags.is_pinned() || attr.flags.is_exclusive()
 }
 
-/// Whether a leader is not open.
-fn is_closed(world: &World, leader: EventNo) -> bool
-    ensures { result ≡ opening.leader_is_closed (stage_of world.now) (Some leader) }
+/// Whether an event names another task or processor than the leader.
+fn is_elsewhere(leader: &Attr, attr: &Attr) -> bool
+    ensures { result ≡ not (places.is_same_task leader.now.task attr.now.task && places.is_same_cpu leader.now.cpu attr.now.cpu) }
 {
-    world.key_of(leader).is_none()
+    !(is_same_task(leader.task, attr.task) && is_same_cpu(leader.cpu, attr.cpu))
 }
 
-/// Whether a leader is open and is itself a sibling.
-fn is_sibling(world: &World, leader: EventNo) -> bool
-    ensures { result ≡ opening.leader_is_sibling (stage_of world.now) (Some leader) }
+/// Whether one of the leader and an event is inherited and the other is not.
+fn inherits_otherwise(leader: &Attr, attr: &Attr) -> bool
+    ensures { result ≡ not (opening.is_same_flag (flag.is_inherited leader.now) (flag.is_inherited attr.now)) }
 {
-    match world.key_of(leader) {
-        None => false,
-        Some(key) => world.event_of(world.leader_of(key)).0 != leader.0,
-    }
+    leader.flags.is_inherited() != attr.flags.is_inherited()
 }
 
-/// Whether a leader is open and names another task or processor.
-fn is_elsewhere(world: &World, attr: &Attr, leader: EventNo) -> bool
-    ensures { result ≡ opening.leader_is_elsewhere (stage_of world.now) attr.now (Some leader) }
+/// Whether an event may join the group of an original. The error is the first of these that holds: `NotLeader` where
+/// the original is a sibling, `OtherContext` where it names another task or processor, `SiblingFlags` where the event
+/// is to be pinned or exclusive, `Inherit` where one of them is inherited and the other is not.
+fn check_joining(world: &World, attr: &Attr, first: Key) -> Result<(), Reason>
+    requires { is_live world.now first ≡ true }
+    ensures ok { OnOk result (first_of (joining_faults world.now attr.now first) ≡ None) }
+    ensures err { IfErr result (λ reason. first_of (joining_faults world.now attr.now first) ≡ Some reason) }
 {
-    let Some(key) = world.key_of(leader) else {
-        return false;
-    };
-    let first = world.attr(key);
-    !(is_same_task(first.task, attr.task) && is_same_cpu(first.cpu, attr.cpu))
-}
-
-/// Whether a leader is open and is inherited where the event is not, or the other way round.
-fn inherits_otherwise(world: &World, attr: &Attr, leader: EventNo) -> bool
-    ensures { result ≡ opening.leader_inherits_otherwise (stage_of world.now) attr.now (Some leader) }
-{
-    match world.key_of(leader) {
-        None => false,
-        Some(key) => is_inherited(&world.attr(key)) != is_inherited(attr),
-    }
-}
-
-/// Whether an event may join the group of the leader that is given. The error is the first of these that holds:
-/// `NoEvent` where the leader is not open, `NotLeader` where it is a sibling, `OtherContext` where it names another
-/// task or processor, `SiblingFlags` where the event is to be pinned or exclusive, `Inherit` where one of them is
-/// inherited and the other is not.
-pub fn check_leader(world: &World, attr: &Attr, leader: Option<EventNo>) -> Result<(), Reason>
-    ensures ok { OnOk result (first_of (leader_faults (stage_of world.now) attr.now leader) ≡ None) }
-    ensures err { IfErr result (λ reason. first_of (leader_faults (stage_of world.now) attr.now leader) ≡ Some reason) }
-{
-    let Some(leader) = leader else {
-        return Ok(());
-    };
-    if is_closed(world, leader) {
-        Err(Reason::NoEvent)
-    } else if is_sibling(world, leader) {
+    let leader = world.attr(first);
+    if world.leader_of(first) != first {
         Err(Reason::NotLeader)
-    } else if is_elsewhere(world, attr, leader) {
+    } else if is_elsewhere(&leader, attr) {
         Err(Reason::OtherContext)
     } else if asks_to_lead(attr) {
         Err(Reason::SiblingFlags)
-    } else if inherits_otherwise(world, attr, leader) {
+    } else if inherits_otherwise(&leader, attr) {
         Err(Reason::Inherit)
     } else {
         Ok(())
+    }
+}
+
+/// The key of the leader that is given. The error is `NoEvent` where it is not open, and else the first reason for
+/// which the event may not join its group.
+pub fn check_leader(
+    world: &World,
+    attr: &Attr,
+    leader: Option<EventNo>,
+) -> Result<Option<Key>, Reason>
+    ensures ok { OnOk result (first_of (leader_faults (stage_of world.now) attr.now leader) ≡ None) }
+    ensures err { IfErr result (λ reason. first_of (leader_faults (stage_of world.now) attr.now leader) ≡ Some reason) }
+    ensures key { IfOk result (λ first. first ≡ leader_key world.now leader) }
+    ensures leads { IfOk result (λ first. IfSome first (λ k. leads (post_at world.now) k ≡ true)) }
+{
+    let Some(leader) = leader else {
+        return Ok(None);
+    };
+    let first = world.key_of(leader).ok_or(Reason::NoEvent)?;
+    check_joining(world, attr, first)?;
+    Ok(Some(first))
+}
+
+/// The members of the group that is led by the key that is given: none without one.
+pub fn members_led(world: &World, first: Option<Key>) -> &[Key]
+    requires { IfSome first (λ k. leads (post_at world.now) k ≡ true) }
+    ensures members { result.now ≡ keys_led world.now first }
+    ensures there { All (λ k. is_live world.now k ≡ true) result.now }
+{
+    match first {
+        None => &[],
+        Some(first) => world.members(first),
     }
 }
 
@@ -141,40 +140,18 @@ fn has_other_pmu(world: &World, kind: Kind, members: &[Key]) -> bool
     false
 }
 
-/// Whether a leader's group has a hardware member of another PMU than the event's.
-fn group_is_of_other_pmu(world: &World, attr: &Attr, leader: EventNo) -> bool
-    requires { IsKind (length world.now.hardware.kind_pmus) attr.now.kind }
-    ensures { result ≡ opening.group_is_of_other_pmu world.now.hardware (stage_of world.now) attr.now (Some leader) }
+/// Whether a group has room for an event of a kind. The error is the first of these that holds: `OtherPmu` where the
+/// event and some member are of different PMUs, `GroupFull` where there are eight members.
+pub fn check_group(world: &World, kind: Kind, members: &[Key]) -> Result<(), Reason>
+    requires kind { IsKind (length world.now.hardware.kind_pmus) kind }
+    requires there { All (λ k. is_live world.now k ≡ true) members.now }
+    ensures ok { OnOk result (first_of (group_faults world.now kind members.now) ≡ None) }
+    ensures err { IfErr result (λ reason. first_of (group_faults world.now kind members.now) ≡ Some reason) }
+    ensures room { OnOk result (length members.now < 8) }
 {
-    match world.key_of(leader) {
-        None => false,
-        Some(key) => has_other_pmu(world, attr.kind, world.members(world.leader_of(key))),
-    }
-}
-
-/// Whether a leader's group has eight members.
-fn group_is_full(world: &World, leader: EventNo) -> bool
-    ensures { result ≡ opening.group_is_full (stage_of world.now) (Some leader) }
-{
-    match world.key_of(leader) {
-        None => false,
-        Some(key) => world.members(world.leader_of(key)).len() >= 8,
-    }
-}
-
-/// Whether the group of the leader that is given has room for an event. The error is the first of these that holds:
-/// `OtherPmu` where the event and some member are of different PMUs, `GroupFull` where there are eight members.
-pub fn check_group(world: &World, attr: &Attr, leader: Option<EventNo>) -> Result<(), Reason>
-    requires { IsKind (length world.now.hardware.kind_pmus) attr.now.kind }
-    ensures ok { OnOk result (first_of (group_faults world.now.hardware (stage_of world.now) attr.now leader) ≡ None) }
-    ensures err { IfErr result (λ reason. first_of (group_faults world.now.hardware (stage_of world.now) attr.now leader) ≡ Some reason) }
-{
-    let Some(leader) = leader else {
-        return Ok(());
-    };
-    if group_is_of_other_pmu(world, attr, leader) {
+    if has_other_pmu(world, kind, members) {
         Err(Reason::OtherPmu)
-    } else if group_is_full(world, leader) {
+    } else if members.len() >= 8 {
         Err(Reason::GroupFull)
     } else {
         Ok(())

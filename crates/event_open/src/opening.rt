@@ -5,41 +5,17 @@ ghost use Rattle.perf_base.specs.Cpus.{HasCpu};
 ghost use Rattle.perf_base.specs.Scripts.{IsAttr};
 ghost use Rattle.perf_base.specs.declared.numbers.CpuNo.{CpuNo as Cpu};
 ghost use Rattle.stage_spec.specs.Opening.{open_refusal, opened};
-ghost use Rattle.stage_spec.specs.Places as places;
+ghost use Rattle.perf_base.specs.Contexts as contexts;
 ghost use Rattle.stage_spec.specs.Verdict.{verdicts};
 ghost use Rattle.stage_laws.specs.Narrowing as narrowing;
 ghost use Rattle.world_spec.specs.Rescheduled.{AreUntouchedOutside};
 ghost use Rattle.world_spec.specs.StageOf.{stage_of};
 ghost use Rattle.perf_world.specs.Seen.{IsWorld};
-ghost use Rattle.event_open.specs.Opened.{IsOpenedAs, leader_key, opened_as};
+ghost use Rattle.event_open.specs.Opened.{IsOpenedAs, opened_as};
 
 use crate::checking::check_open;
-use perf_base::{Attr, Context, CpuNo, CpuSel, CpuSet, EventNo, Key, Reason, TaskSel};
+use perf_base::{Attr, Context, CpuNo, CpuSet, EventNo, Reason};
 use perf_world::World;
-
-/// The context that an event counts: its task's, or its processor's.
-fn context_of(attr: &Attr) -> Context
-    ensures { result ≡ places.context_of attr.now }
-{
-    match (attr.task, attr.cpu) {
-        (TaskSel::One(task), _) => Context::Task(task),
-        (TaskSel::All, CpuSel::One(cpu)) => Context::Processor(cpu),
-        (TaskSel::All, CpuSel::Any) => Context::Processor(CpuNo(0)),
-    }
-}
-
-/// Whether a context is one of a processor's two: its own, and that of the task on it.
-fn has_context(world: &World, cpu: CpuNo, context: Context) -> bool
-    ensures { result ≡ narrowing.has_context (stage_of world.now) cpu context }
-{
-    match context {
-        Context::Processor(other) => other.0 == cpu.0,
-        Context::Task(task) => match world.task_on(cpu) {
-            None => false,
-            Some(other) => other.0 == task.0,
-        },
-    }
-}
 
 /// Adds a processor to a set, where it is to be there.
 fn insert_if(set: &mut CpuSet, cpu: CpuNo, there: bool)
@@ -59,23 +35,9 @@ fn cpus_with(world: &World, context: Context) -> CpuSet
 {
     let mut set = CpuSet::new();
     for cpu in 0..world.pmus().cpus() {
-        insert_if(
-            &mut set,
-            CpuNo(cpu),
-            has_context(world, CpuNo(cpu), context),
-        );
+        insert_if(&mut set, CpuNo(cpu), world.has_context(CpuNo(cpu), context));
     }
     set
-}
-
-/// The key of the original in the slot of the leader that is given: none where there is no leader, or it is not open.
-fn leader_of(world: &World, leader: Option<EventNo>) -> Option<Key>
-    ensures { result ≡ leader_key world.now leader }
-{
-    match leader {
-        None => None,
-        Some(leader) => world.key_of(leader),
-    }
 }
 
 /// Opens an event in a slot, as a group of its own or in the group of a leader. It is an original, stands in the
@@ -105,15 +67,14 @@ pub fn open(
     ensures world { OnOk result (IsOpenedAs world.old world.new (opened_as world.old event attr.now leader)) }
     ensures stage { OnOk result (stage_of world.new ≡ opened (stage_of world.old) event attr.now leader) }
     ensures processors { IfOk result (λ set. (cpu : Cpu) → cpu.0 < length world.old.quiet.running
-        → (HasCpu set cpu ↔ (narrowing.has_context (stage_of world.old) cpu (places.context_of attr.now) ≡ true))) }
+        → (HasCpu set cpu ↔ (narrowing.has_context (stage_of world.old) cpu (contexts.context_of attr.now) ≡ true))) }
     ensures within { IfOk result (λ set. (cpu : Cpu) → HasCpu set cpu → cpu.0 < length world.old.quiet.running) }
     ensures others { IfOk result (λ set. AreUntouchedOutside set world.old world.new) }
     ensures verdicts { IfOk result (λ set. (cpu : Cpu) → cpu.0 < length world.old.quiet.running → (HasCpu set cpu → ⊥)
         → verdicts world.old.hardware (stage_of world.new) cpu ≡ verdicts world.old.hardware (stage_of world.old) cpu) }
 {
-    check_open(world, event, attr, leader)?;
-    let first = leader_of(world, leader);
-    let context = context_of(attr);
+    let first = check_open(world, event, attr, leader)?;
+    let context = attr.context();
     let cpus = cpus_with(world, context);
     world.add(event, attr, first, None, context);
     Ok(cpus)

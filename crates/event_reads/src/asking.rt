@@ -13,7 +13,7 @@ ghost use Rattle.world_spec.specs.Value.{entry_at, instance_at, is_live};
 ghost use Rattle.perf_world.specs.Seen.{IsWorld};
 ghost use Rattle.event_reads.specs.Homes.{StandRescheduled};
 
-use crate::states::{context_named, cpu_with, standing_on, state_in};
+use crate::states::{standing_on, state_in};
 use perf_base::{Context, CpuNo, EventNo, Key, Own, Reason, SeatList, Standing, Why};
 use perf_world::World;
 
@@ -44,7 +44,7 @@ fn why_ready(world: &World, leader: Key, named: Context) -> Why
     requires rescheduled { StandRescheduled world.now }
     ensures { result ≡ replies.why_on world.now.hardware (stage_of world.now) (group_at world.now leader) (replies.cpu_with (stage_of world.now) named) }
 {
-    match cpu_with(world, named) {
+    match world.cpu_with(named) {
         None => Why::Away,
         Some(cpu) => why_standing(standing_on(world, cpu, leader)),
     }
@@ -62,7 +62,7 @@ fn why_member(world: &World, leader: Key, key: Key) -> Why
     match state_in(world, leader, key) {
         Own::Off => Why::Off,
         Own::Error(cause) => Why::Failed(cause),
-        Own::Ready => why_ready(world, leader, context_named(&world.attr(key))),
+        Own::Ready => why_ready(world, leader, world.attr(key).context()),
     }
 }
 

@@ -49,8 +49,7 @@ pub fn fold_copies(world: &mut World, task: TaskNo)
     requires grouped { IsGrouped world.old.hardware (stage_of world.old) }
     ensures folded { IsFolded task world.old world.new }
 {
-    // A reader tells what always holds of a world.
-    let _pmus = world.pmus();
+    world.use_invariant();
     let mut passed = 0;
     while let Some(leader) = leader_at(world, task, passed) {
         passed = fold_or_pass(world, leader, passed);

@@ -13,7 +13,7 @@ use Rattle.perf_base.specs.declared.standing.Context.{Context}
 use Rattle.stage_spec.specs.Flags.{is_inherited}
 use Rattle.stage_spec.specs.Forks.{inherited_groups, new_copies}
 use Rattle.stage_spec.specs.Hardware.{Hardware}
-use Rattle.stage_spec.specs.Stage.{Group, size_of, lists_of, place_of, task_on, status_of, unknown_task, is_live as is_live_task}
+use Rattle.stage_spec.specs.Stage.{Group, group_size, lists_of, place_of, task_on, status_of, unknown_task, is_live as is_live_task}
 use Rattle.stage_laws.proofs.Totals.{total-nil, total-cons, sum_by-is-total}
 use Rattle.world_spec.specs.Value.{World, no_leaders, leaders_of, entry_at, instance_at}
 use Rattle.world_spec.specs.StageOf.{group_at, lists_at, stage_of}
@@ -42,14 +42,14 @@ list-leads hw w c false h = listed-lead w (place_of c) false (leaders_of w c).fl
 sum-cons : {X : Type 0} (f : X → ℕ) (x : X) (xs : List X) → sum_by f (x ∷ xs) ≡ f x + sum_by f xs
 sum-cons f x xs = sum_by-is-total f (x ∷ xs) ∙ (total-cons f x xs ∙ ap (λ n. f x + n) (sym (sum_by-is-total f xs)))
 
-one-more : (b : Bool) (g : Group) (gs : List Group) (n : ℕ) → is_inherited g.leader.attr ≡ b → size_of g ≡ n
-    → sum_by size_of (inherited_groups (g ∷ gs)) ≡ (if b then n else 0) + sum_by size_of (inherited_groups gs)
+one-more : (b : Bool) (g : Group) (gs : List Group) (n : ℕ) → is_inherited g.leader.attr ≡ b → group_size g ≡ n
+    → sum_by group_size (inherited_groups (g ∷ gs)) ≡ (if b then n else 0) + sum_by group_size (inherited_groups gs)
 one-more true g gs n is size =
-    ap (λ c. sum_by size_of (cond c (g ∷ inherited_groups gs) (inherited_groups gs))) is ∙ (sum-cons size_of g (inherited_groups gs) ∙ ap (λ m. m + sum_by size_of (inherited_groups gs)) size)
-one-more false g gs n is size = ap (λ c. sum_by size_of (cond c (g ∷ inherited_groups gs) (inherited_groups gs))) is ∙ omega arith
+    ap (λ c. sum_by group_size (cond c (g ∷ inherited_groups gs) (inherited_groups gs))) is ∙ (sum-cons group_size g (inherited_groups gs) ∙ ap (λ m. m + sum_by group_size (inherited_groups gs)) size)
+one-more false g gs n is size = ap (λ c. sum_by group_size (cond c (g ∷ inherited_groups gs) (inherited_groups gs))) is ∙ omega arith
 
-pub copies-sum : (hw : Hardware) (w : World) (keys : List Key) → IsKept hw w → AreLeading w keys → sum_by size_of (inherited_groups (map (group_at w) keys)) ≡ copies_of_all w keys
-copies-sum hw w [] h lead = sum_by-is-total size_of [] ∙ (total-nil size_of ∙ sym (sum_by-is-total (copies_of w) [] ∙ total-nil (copies_of w)))
+pub copies-sum : (hw : Hardware) (w : World) (keys : List Key) → IsKept hw w → AreLeading w keys → sum_by group_size (inherited_groups (map (group_at w) keys)) ≡ copies_of_all w keys
+copies-sum hw w [] h lead = sum_by-is-total group_size [] ∙ (total-nil group_size ∙ sym (sum_by-is-total (copies_of w) [] ∙ total-nil (copies_of w)))
 copies-sum hw w (q ∷ keys) h lead =
     one-more (is_inherited (instance_at w q).attr) (group_at w q) (map (group_at w) keys) (length (entry_at w q).members) refl
     (ap length (group-members hw w q h (leading-first w q keys lead)) ∙ length-map (entry_at w q).members (instance_at w))

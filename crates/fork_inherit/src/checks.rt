@@ -1,6 +1,6 @@
 //! When a fork is refused.
 
-ghost use Rattle.std.specs.Prelude.{◌≡◌, ◌+◌, ◌<◌, ◌≤◌, ◌==◌, nat_lt, not, bit_and, true, All, Some, None, OnOk, IfOk, IfErr, IfSome, IfNone, length};
+ghost use Rattle.std.specs.Prelude.{◌≡◌, ◌+◌, ◌<◌, ◌≤◌, ◌==◌, nat_lt, not, true, All, Some, None, OnOk, IfOk, IfErr, IfSome, IfNone, length};
 ghost use Rattle.stage_spec.specs.Forks.{fork_refusal, new_copies};
 ghost use Rattle.perf_base.specs.declared.standing.Context.TheVariants as context;
 ghost use Rattle.stage_spec.specs.Stage as stage;
@@ -9,7 +9,7 @@ ghost use Rattle.world_spec.specs.StageOf.{stage_of};
 ghost use Rattle.perf_world.specs.Seen.{IsWorld};
 ghost use Rattle.fork_inherit.specs.Copies.{copies_of, copies_of_all};
 
-use perf_base::{AttrFlags, Context, CpuNo, Key, Reason, TaskNo};
+use perf_base::{Context, CpuNo, Key, Reason, TaskNo};
 use perf_world::World;
 use stage_spec::TaskState;
 
@@ -26,19 +26,12 @@ fn was_used(state: TaskState) -> bool
     }
 }
 
-/// Whether tasks that are forked later are counted too.
-pub fn is_inherited(flags: AttrFlags) -> bool
-    ensures { result ≡ not (bit_and flags.0 2 == 0) }
-{
-    flags.0 & AttrFlags::INHERIT.0 != 0
-}
-
 /// How many copies a fork makes of a leader's group.
 fn copies(world: &World, leader: Key) -> u32
     requires { leads (post_at world.now) leader ≡ true }
     ensures { result ≡ copies_of world.now leader }
 {
-    if is_inherited(world.attr(leader).flags) {
+    if world.attr(leader).flags.is_inherited() {
         world.members(leader).len() as u32
     } else {
         0
@@ -81,8 +74,7 @@ pub fn check_fork(world: &World, cpu: CpuNo, child: TaskNo) -> Result<TaskNo, Re
     ensures parent { IfOk result (λ parent. stage.task_on (stage_of world.now) cpu ≡ Some parent) }
     ensures kept { IsWorld world.now }
 {
-    // A reader tells what always holds of a world.
-    let _pmus = world.pmus();
+    world.use_invariant();
     let Some(parent) = world.task_on(cpu) else {
         return Err(Reason::Idle);
     };

@@ -9,7 +9,6 @@ ghost use Rattle.perf_world.specs.Parts.{MayAdd};
 ghost use Rattle.perf_world.specs.Seen.{IsWorld};
 ghost use Rattle.fork_inherit.specs.Copies.{AreCopied, MayCopy, MayCopyList, inherited_members, inherited_keys, leaders_from};
 
-use crate::checks::is_inherited;
 use perf_base::{Context, Key, Own, TaskNo};
 use perf_world::World;
 
@@ -32,7 +31,7 @@ fn inherit(world: &mut World, key: Key, child: TaskNo, leader: Option<Key>) -> K
     ensures world { world.new ≡ copy_comes result child (instance_at world.old key) leader world.old }
     ensures kept { IsWorld world.old }
 {
-    let _pmus = world.pmus();
+    world.use_invariant();
     let own = copied_state(world.own(key));
     let event = world.event_of(key);
     let origin = world.origin(key);
@@ -49,8 +48,7 @@ fn inherit_group(world: &mut World, leader: Key, child: TaskNo)
     requires may { MayCopy child world.old leader }
     ensures copied { AreCopied child world.old world.new (entry_at world.old leader).members }
 {
-    // A reader tells what always holds of a world.
-    let _pmus = world.pmus();
+    world.use_invariant();
     let first = inherit(world, leader, child, None);
     for member in 1..world.members(leader).len() {
         let sibling = world.members(leader)[member];
@@ -64,9 +62,8 @@ fn inherit_if_wanted(world: &mut World, leader: Key, child: TaskNo)
     requires may { is_inherited (instance_at world.old leader).attr ≡ true → MayCopy child world.old leader }
     ensures copied { AreCopied child world.old world.new (inherited_members world.old leader) }
 {
-    // A reader tells what always holds of a world.
-    let _pmus = world.pmus();
-    if is_inherited(world.attr(leader).flags) {
+    world.use_invariant();
+    if world.attr(leader).flags.is_inherited() {
         inherit_group(world, leader, child);
     }
 }
@@ -76,8 +73,7 @@ pub fn inherit_list(world: &mut World, parent: TaskNo, child: TaskNo, pinned: bo
     requires may { MayCopyList child parent pinned world.old }
     ensures copied { AreCopied child world.old world.new (inherited_keys world.old (leaders_from world.old parent pinned)) }
 {
-    // A reader tells what always holds of a world.
-    let _pmus = world.pmus();
+    world.use_invariant();
     for place in 0..world.list(Context::Task(parent), pinned).len() {
         let leader = world.list(Context::Task(parent), pinned)[place];
         inherit_if_wanted(world, leader, child);

@@ -30,8 +30,7 @@ pub fn fork(world: &mut World, cpu: CpuNo, child: TaskNo) -> Result<(), Reason>
     ensures stays { OnOk result (HasForked child world.old world.new) }
     ensures others { OnOk result (AreUntouched world.old world.new) }
 {
-    // A reader tells what always holds of a world.
-    let _cpus = world.pmus().cpus();
+    world.pmus().use_invariant();
     let parent = check_fork(world, cpu, child)?;
     inherit_list(world, parent, child, true);
     inherit_list(world, parent, child, false);

@@ -10,7 +10,8 @@ use Rattle.perf_base.specs.declared.reply.Reply.{Reply}
 use Rattle.perf_base.specs.Scripts.{Scripted}
 use Rattle.stage_spec.specs.Hardware.{Hardware, hardware_of}
 use Rattle.stage_spec.specs.History.{Step, CpuStep, ToolStep, SeenStep, steps_of, steps_from, history, opening_stage}
-use Rattle.stage_spec.specs.Replies.{Answered, AnswerOrder, AreReplies, lines_from, lines_of_act}
+use Rattle.stage_spec.specs.Replies.{AnswerOrder, AreReplies, lines_from, lines_of_act}
+use Rattle.perf_base.specs.declared.reply.Answer.{Answer}
 use Rattle.stage_spec.specs.Stage.{Stage}
 use Rattle.machine.proofs.History.{history-grows}
 
@@ -45,7 +46,7 @@ lines-push before (b ∷ acts) a =
     ∙ sym (append_assoc (lines_of_act before b) (lines_from (before ++ b ∷ []) acts) (lines_of_act (before ++ b ∷ acts) a)))
 
 -- One more act with the reply to its line is one more answer.
-pub answers-push : (s : Scripted) (lost : List Step → EventNo → ℕ) (acts : List Act) (a : Act) (answers : List Answered) (answer : Answered) → AnswerOrder s lost acts answers
+pub answers-push : (s : Scripted) (lost : List Step → EventNo → ℕ) (acts : List Act) (a : Act) (answers : List Answer) (answer : Answer) → AnswerOrder s lost acts answers
     → lines_of_act acts a ≡ (answer.actor, answer.number) ∷ [] → AreReplies (hardware_of s) (opening_stage s) lost (history s acts) (steps_of s acts a) (answer.reply ∷ [])
     → AnswerOrder s lost (acts ++ a ∷ []) (answers ++ answer ∷ [])
 answers-push s lost acts a answers answer h line reply = record {
@@ -57,7 +58,7 @@ answers-push s lost acts a answers answer h line reply = record {
 }
 
 -- A look is no line and has no answer.
-pub answers-look : (s : Scripted) (lost : List Step → EventNo → ℕ) (acts : List Act) (ring : RingNo) (place : ℕ) (answers : List Answered) → AnswerOrder s lost acts answers
+pub answers-look : (s : Scripted) (lost : List Step → EventNo → ℕ) (acts : List Act) (ring : RingNo) (place : ℕ) (answers : List Answer) → AnswerOrder s lost acts answers
     → AnswerOrder s lost (acts ++ act.Seen ring place ∷ []) answers
 unfolding AreReplies
 answers-look s lost acts ring place answers h = record {

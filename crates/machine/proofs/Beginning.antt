@@ -32,7 +32,7 @@ use Rattle.world_spec.specs.Value.{is_live, is_key, entry_at, seats_at}
 use Rattle.world_spec.proofs.Agreement.{first-agrees}
 use Rattle.world_spec.proofs.First.{first-stage, none-live, replicated}
 use Rattle.world_spec.proofs.Moving.{leads-parts}
-use Rattle.line_steps.specs.Stepped.{IsReady}
+use Rattle.machine.specs.Stepped.{IsReady}
 use Rattle.machine.specs.Leading.{IsWhole, LeadTo}
 
 -- a stage without groups has no verdicts

@@ -7,14 +7,14 @@ use Rattle.std.proofs.lemmas.Option.{none-some, same_Some, slice_get_cases, slic
 use Rattle.perf_base.specs.declared.acts.Act.{Act}
 use Rattle.perf_base.specs.declared.numbers.RingNo.{RingNo}
 use Rattle.perf_base.specs.Scripts.{Scripted}
-use Rattle.ring_taking.specs.Taking.{with_tail}
+use Rattle.sample_ring.specs.Taking.{with_tail}
 use Rattle.sample_ring.specs.InEnds.{InEnd}
 use Rattle.sample_ring.specs.Lending.{with_out}
 use Rattle.sample_ring.specs.OutEnds.{OutEnd}
-use Rattle.sample_ring.specs.RingLists.{InList, OutList, place_of, with_slot}
+use Rattle.sample_ring.specs.RingLists.{InList, OutList, ring_index, with_slot}
 use Rattle.ring_spec.specs.Running.{RingAccount}
 use Rattle.work_account.specs.Ends.{AreAccounts}
-use Rattle.work_laws.proofs.Rings.{script-numbers}
+use Rattle.machine.proofs.RingsThere.{script-numbers}
 use Rattle.machine.specs.Leading.{Kept, LeadTo}
 use Rattle.machine.specs.Readers.{AreBehind, AreFollowing, AreReaders, BehindTo, HasItsReader, HasMet, IsBehind, IsReaderOf, out_of, released_in, released_of_slot}
 use Rattle.machine.proofs.Pairs.{paired-set}
@@ -39,9 +39,9 @@ following-readers words outs ins h = record {
 -- the reader of a ring among them
 pub its-reader : (words : ℕ) (outs : OutList) (ins : InList) (ring : RingNo) (o : OutEnd) → AreReaders words outs ins → out_of outs ring ≡ Some o → HasItsReader outs ins ring
 its-reader words outs ins ring o h at =
-    let there = h.each (place_of outs.numbers ring) o at in
+    let there = h.each (ring_index outs.numbers ring) o at in
     record {
-      there = (there.0, ap (λ n. slice_get ins.readers (place_of n ring)) h.numbers ∙ there.1);
+      there = (there.0, ap (λ n. slice_get ins.readers (ring_index n ring)) h.numbers ∙ there.1);
       same = λ p found. subst (λ (q : OutEnd). there.0.consumer.ring ≡ q.producer.ring) (same_Some o p (sym at ∙ found)) there.2.ring;
     }
 
@@ -80,13 +80,13 @@ readers-set words place outs ins o p i j at reader here h = record {
 
 -- what a call that lets two ends meet says of the ends and of the readers
 abbrev pub MeetsEnd : (ring : RingNo) → (outs new : OutList) → InList → Type 0
-MeetsEnd ring outs new ins = (o : OutEnd) → out_of outs ring ≡ Some o → new ≡ with_out outs (place_of outs.numbers ring) (with_tail o (released_in ins ring) (o.producer.loads + 1))
+MeetsEnd ring outs new ins = (o : OutEnd) → out_of outs ring ≡ Some o → new ≡ with_out outs (ring_index outs.numbers ring) (with_tail o (released_in ins ring) (o.producer.loads + 1))
 
 abbrev pub MeetsReader : (ring : RingNo) → OutList → (ins new : InList) → Type 0
-MeetsReader ring outs ins new = (o : OutEnd) (i : InEnd) → out_of outs ring ≡ Some o → slice_get ins.readers (place_of ins.numbers ring) ≡ Some (Some i)
-    → (j : InEnd) × HasMet o i j × (new ≡ with_slot ins (place_of ins.numbers ring) (Some j))
+MeetsReader ring outs ins new = (o : OutEnd) (i : InEnd) → out_of outs ring ≡ Some o → slice_get ins.readers (ring_index ins.numbers ring) ≡ Some (Some i)
+    → (j : InEnd) × HasMet o i j × (new ≡ with_slot ins (ring_index ins.numbers ring) (Some j))
 
-pub meet-behind : (words few : ℕ) (ring : RingNo) (outs new_outs : OutList) (ins new_ins : InList) → few < length outs.outs → place_of outs.numbers ring ≡ few
+pub meet-behind : (words few : ℕ) (ring : RingNo) (outs new_outs : OutList) (ins new_ins : InList) → few < length outs.outs → ring_index outs.numbers ring ≡ few
     → MeetsEnd ring outs new_outs ins → MeetsReader ring outs ins new_ins → AreReaders words outs ins → BehindTo few words outs ins
     → AreReaders words new_outs new_ins × BehindTo (few + 1) words new_outs new_ins
 meet-behind words few ring outs new_outs ins new_ins below place end reader h behind = elim (slice_get_cases outs.outs few).1 [
@@ -94,8 +94,8 @@ meet-behind words few ring outs new_outs ins new_ins below place end reader h be
       let found : out_of outs ring ≡ Some o = ap (slice_get outs.outs) place ∙ at in
       let there = h.each few o at in
       let i : InEnd = there.0 in
-      let same : place_of ins.numbers ring ≡ few = ap (λ n. place_of n ring) h.numbers ∙ place in
-      let slot : slice_get ins.readers (place_of ins.numbers ring) ≡ Some (Some i) = ap (slice_get ins.readers) same ∙ there.1 in
+      let same : ring_index ins.numbers ring ≡ few = ap (λ n. ring_index n ring) h.numbers ∙ place in
+      let slot : slice_get ins.readers (ring_index ins.numbers ring) ≡ Some (Some i) = ap (slice_get ins.readers) same ∙ there.1 in
       let met = reader o i found slot in
       let p : OutEnd = with_tail o (8 * i.consumer.released) (o.producer.loads + 1) in
       let is_out : with_out outs few p ≡ new_outs =
@@ -136,7 +136,7 @@ ends-of-rings s acts m led =
 
 -- rings that rise stand each at its place
 pub place-of-nth : (rings : List (RingNo × ℕ)) (few : ℕ) (ring : RingNo × ℕ) → AllPairs (λ (q r : RingNo × ℕ). q.0.0 < r.0.0) rings → slice_get rings few ≡ Some ring
-    → place_of (map (λ (r : RingNo × ℕ). r.0) rings) ring.0 ≡ few
+    → ring_index (map (λ (r : RingNo × ℕ). r.0) rings) ring.0 ≡ few
 place-of-nth [] few ring rise at = absurd (none-some _ at)
 place-of-nth (q ∷ rings) zero ring rise at = place-here q.0 ring.0 (map (λ (r : RingNo × ℕ). r.0) rings) (ap (λ (r : RingNo × ℕ). r.0.0) (same_Some q ring at))
 place-of-nth (q ∷ rings) (suc few) ring rise at =

@@ -3,12 +3,12 @@ use Rattle.std.specs.Prelude.{◌≡◌, ℕ, List, map, option_map, Option, Som
 use Rattle.std.proofs.Common.{refl, sym, ap, subst, ◌∙◌, inl, inr}
 use Rattle.std.proofs.lemmas.Bool.{cases_eq}
 use Rattle.std.proofs.lemmas.Option.{none-some, same_Some, slice_get-map}
-use Rattle.ring_taking.specs.Taking.{IsUpTo}
+use Rattle.sample_ring.specs.Taking.{IsUpTo}
 use Rattle.ring_words.specs.Ends.{Ring}
 use Rattle.sample_ring.specs.InEnds.{InEnd}
 use Rattle.sample_ring.specs.OutEnds.{OutEnd}
 use Rattle.sample_ring.specs.RingLists.{InList, OutList, RingList, with_slot}
-use Rattle.line_steps.specs.Stepped.{seen_of}
+use Rattle.machine.specs.Stepped.{seen_of}
 use Rattle.work_account.specs.Ends.{AreTogether}
 use Rattle.machine.specs.Readers.{AreFollowing, Follows}
 use Rattle.machine.proofs.Places.{set-here, set-other}

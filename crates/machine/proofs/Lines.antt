@@ -16,9 +16,9 @@ use Rattle.perf_base.specs.declared.numbers.ToolNo.{ToolNo}
 use Rattle.perf_base.specs.Scripts.{Scripted, IsCovered, IsScript, IsCpuLine, IsToolLine, lines_of_cpu, lines_of_tool}
 use Rattle.stage_spec.proofs.Machines.{script_machine}
 use Rattle.stage_laws.specs.Bounds.{greatest, most_of_line}
-use Rattle.work_account.specs.Shares.{HaveRoom}
+use Rattle.world_spec.specs.Shares.{HaveRoom}
 use Rattle.world_spec.specs.Value.{World}
-use Rattle.line_steps.specs.Stepped.{IsReady}
+use Rattle.machine.specs.Stepped.{IsReady}
 use Rattle.machine.specs.Leading.{Kept, HasLine, LeadTo}
 use Rattle.machine.specs.Room.{HasRoom, IsLineFor}
 

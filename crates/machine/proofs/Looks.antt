@@ -9,14 +9,14 @@ use Rattle.perf_base.specs.Scripts.{Scripted}
 use Rattle.stage_spec.specs.Order.{IsLawfulSeen, last_seen}
 use Rattle.ring_spec.specs.Records.{Record, words_of}
 use Rattle.ring_spec.specs.Rings.{sizes_in}
-use Rattle.ring_taking.specs.Taking.{with_tail}
+use Rattle.sample_ring.specs.Taking.{with_tail}
 use Rattle.ring_words.specs.Ends.{IsStop}
 use Rattle.sample_ring.specs.InEnds.{InEnd}
 use Rattle.sample_ring.specs.Lending.{with_out, with_reader}
 use Rattle.sample_ring.specs.OutEnds.{OutEnd, IsSoundOut}
-use Rattle.sample_ring.specs.RingLists.{HasRing, InList, OutList, place_of}
+use Rattle.sample_ring.specs.RingLists.{HasRing, InList, OutList, ring_index}
 use Rattle.machine.specs.Leading.{Kept, LeadTo}
-use Rattle.machine.specs.Readers.{loads_of, records_in, records_of_slot, words_in, words_of_slot}
+use Rattle.machine.specs.Readers.{loads_of, records_taken, records_of_slot, words_in, words_of_slot}
 use Rattle.machine.proofs.Places.{set-here}
 use Rattle.machine.proofs.Seen.{lawful-stop}
 
@@ -31,16 +31,16 @@ one-load outs place o p at more =
 
 -- where two ends meet the tail may be seen
 pub met-lawful : (s : Scripted) (acts : List Act) (m : Kept) (ring : RingNo) (place loads : ℕ) (o p : OutEnd) → LeadTo s acts m → HasRing m.outs.numbers ring
-    → slice_get m.outs.outs (place_of m.outs.numbers ring) ≡ Some o → p ≡ with_tail o place loads → o.producer.last_tail ≤ p.producer.last_tail → IsSoundOut p
+    → slice_get m.outs.outs (ring_index m.outs.numbers ring) ≡ Some o → p ≡ with_tail o place loads → o.producer.last_tail ≤ p.producer.last_tail → IsSoundOut p
     → IsLawfulSeen (sizes_in s acts ring) (last_seen ring acts) place
 met-lawful s acts m ring place loads o p led there at e rises sound =
     lawful-stop s acts m ring place o led there at (subst (λ (q : OutEnd). o.producer.last_tail ≤ q.producer.last_tail) e rises)
     (subst (λ (q : OutEnd). IsStop q.producer.published q.producer.last_tail) e sound.producer.stop)
 
 -- and the reader's words are those of the first records written
-pub met-words : (ins : InList) (ring : RingNo) (i j : InEnd) (records : List Record) → slice_get ins.readers (place_of ins.numbers ring) ≡ Some (Some i)
+pub met-words : (ins : InList) (ring : RingNo) (i j : InEnd) (records : List Record) → slice_get ins.readers (ring_index ins.numbers ring) ≡ Some (Some i)
     → j.words ≡ i.words → j.records ≡ i.records → i.words ≡ words_of (take i.records records)
-    → words_in (with_reader ins (place_of ins.numbers ring) j) ring ≡ words_of (take (records_in (with_reader ins (place_of ins.numbers ring) j) ring) records)
+    → words_in (with_reader ins (ring_index ins.numbers ring) j) ring ≡ words_of (take (records_taken (with_reader ins (ring_index ins.numbers ring) j) ring) records)
 met-words ins ring i j records at words number first =
-    let here = set-here ins.readers (place_of ins.numbers ring) (Some i) (Some j) at in
+    let here = set-here ins.readers (ring_index ins.numbers ring) (Some i) (Some j) at in
     ap words_of_slot here ∙ (words ∙ (first ∙ ap (λ n. words_of (take n records)) (sym (ap records_of_slot here ∙ number))))

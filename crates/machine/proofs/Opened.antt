@@ -14,7 +14,7 @@ use Rattle.event_reads.proofs.Opened.{group-by, is-open, original-at}
 use Rattle.world_spec.specs.Kept.{IsKept}
 use Rattle.world_spec.specs.StageOf.{stage_of}
 use Rattle.world_spec.specs.Value.{World, entry_at, family_of, instance_at}
-use Rattle.machine.specs.Events.{in_error, in_error_by, kind_in}
+use Rattle.stage_spec.specs.Tables.{in_error_by, in_error, kind_in}
 
 -- there is none where the slot is not open
 pub not-closed : (hw : Hardware) (w : World) (e : EventNo) → IsKept hw w → is_open (stage_of w) e ≡ true → (family_of w e).original ≡ None → ⊥

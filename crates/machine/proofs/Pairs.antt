@@ -6,7 +6,7 @@ use Rattle.std.proofs.lemmas.Option.{same_Some}
 use Rattle.perf_base.specs.declared.numbers.RingNo.{RingNo}
 use Rattle.sample_ring.specs.InEnds.{InEnd}
 use Rattle.sample_ring.specs.OutEnds.{OutEnd}
-use Rattle.sample_ring.specs.RingLists.{InList, OutList, place_of}
+use Rattle.sample_ring.specs.RingLists.{InList, OutList, ring_index}
 use Rattle.machine.proofs.Places.{set-here, set-other}
 
 -- Each end that sends has a reader at its place, to which it stands in a relation.
@@ -15,10 +15,10 @@ ArePaired R outs readers = (place : ℕ) (o : OutEnd) → slice_get outs place �
 
 -- the end and the reader of a ring
 pub paired-at : (R : OutEnd → InEnd → Type 0) (outs : OutList) (ins : InList) (ring : RingNo) (o : OutEnd) (i : InEnd) → ins.numbers ≡ outs.numbers → ArePaired R outs.outs ins.readers
-    → slice_get outs.outs (place_of outs.numbers ring) ≡ Some o → slice_get ins.readers (place_of ins.numbers ring) ≡ Some (Some i) → R o i
+    → slice_get outs.outs (ring_index outs.numbers ring) ≡ Some o → slice_get ins.readers (ring_index ins.numbers ring) ≡ Some (Some i) → R o i
 paired-at R outs ins ring o i numbers h at reader =
-    let found : slice_get ins.readers (place_of outs.numbers ring) ≡ Some (Some i) = ap (λ n. slice_get ins.readers (place_of n ring)) (sym numbers) ∙ reader in
-    let there = h (place_of outs.numbers ring) o at in
+    let found : slice_get ins.readers (ring_index outs.numbers ring) ≡ Some (Some i) = ap (λ n. slice_get ins.readers (ring_index n ring)) (sym numbers) ∙ reader in
+    let there = h (ring_index outs.numbers ring) o at in
     subst (R o) (same_Some there.0 i (same_Some (Some there.0) (Some i) (sym there.1 ∙ found))) there.2
 
 -- both are replaced by two that stand to each other so too

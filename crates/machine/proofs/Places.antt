@@ -12,7 +12,7 @@ use Rattle.ring_spec.specs.Rings.{bytes_in}
 use Rattle.ring_spec.specs.Running.{RingAccount, ring_after}
 use Rattle.ring_spec.proofs.Running.{in_account}
 use Rattle.sample_ring.specs.OutEnds.{OutEnd}
-use Rattle.sample_ring.specs.RingLists.{HasRing, place_of}
+use Rattle.sample_ring.specs.RingLists.{HasRing, ring_index}
 use Rattle.work_account.specs.Ends.{IsAccountOf, AreAccounts}
 
 -- what stands in a list of which one entry was set
@@ -29,14 +29,14 @@ set-other (z ∷ xs) (suc i) zero y off = refl
 set-other (z ∷ xs) (suc i) (suc j) y off = set-other xs i j y (λ e. off (ap suc e))
 
 -- the place of a ring is that of its number
-pub place-here : (n ring : RingNo) (numbers : List RingNo) → n.0 ≡ ring.0 → place_of (n ∷ numbers) ring ≡ 0
-place-here n ring numbers e = let its : (n.0 == ring.0) ≡ true = grind (arith, nat_tests, e) in ap (λ (b : Bool). cond (not b) (1 + place_of numbers ring) 0) its
+pub place-here : (n ring : RingNo) (numbers : List RingNo) → n.0 ≡ ring.0 → ring_index (n ∷ numbers) ring ≡ 0
+place-here n ring numbers e = let its : (n.0 == ring.0) ≡ true = grind (arith, nat_tests, e) in ap (λ (b : Bool). cond (not b) (1 + ring_index numbers ring) 0) its
 
-pub place-later : (n ring : RingNo) (numbers : List RingNo) → (n.0 ≡ ring.0 → ⊥) → place_of (n ∷ numbers) ring ≡ suc (place_of numbers ring)
+pub place-later : (n ring : RingNo) (numbers : List RingNo) → (n.0 ≡ ring.0 → ⊥) → ring_index (n ∷ numbers) ring ≡ suc (ring_index numbers ring)
 place-later n ring numbers off =
     let other : (n.0 == ring.0) ≡ false = grind (arith, nat_tests, off) in
-    let one : 1 + place_of numbers ring ≡ suc (place_of numbers ring) = omega arith in
-    ap (λ (b : Bool). cond (not b) (1 + place_of numbers ring) 0) other ∙ one
+    let one : 1 + ring_index numbers ring ≡ suc (ring_index numbers ring) = omega arith in
+    ap (λ (b : Bool). cond (not b) (1 + ring_index numbers ring) 0) other ∙ one
 
 pub ring-is : (m n : RingNo) → m.0 ≡ n.0 → m ≡ n
 ring-is m n e = λ i. record { 0 = e i }
@@ -52,7 +52,7 @@ account-here f n ring o r rings e h =
     (subst (λ (m : RingNo). IsAccountOf m o (in_account f r)) (sym h.ring) h)
 
 pub account-there : (f : RingNo × ℕ → Account) (numbers : List RingNo) (outs : List OutEnd) (rings : List (RingNo × ℕ)) (ring : RingNo) (o : OutEnd)
-    → AreAccounts numbers outs (map (in_account f) rings) → HasRing numbers ring → slice_get outs (place_of numbers ring) ≡ Some o
+    → AreAccounts numbers outs (map (in_account f) rings) → HasRing numbers ring → slice_get outs (ring_index numbers ring) ≡ Some o
     → IsAccountOf ring o (in_account f (ring, bytes_in (find (λ r. r.0.0 == ring.0) rings)))
 account-there f [] outs rings ring o h there at = absurd (omega (arith, there))
 account-there f (n ∷ numbers) [] rings ring o h there at = absurd (none-some _ at)
@@ -62,7 +62,7 @@ account-there f (n ∷ numbers) (p ∷ outs) (r ∷ rings) ring o h there at = e
       let same : p ≡ o = same_Some p o (ap (slice_get (p ∷ outs)) (sym (place-here n ring numbers e)) ∙ at) in
       account-here f n ring o r rings e (subst (λ (q : OutEnd). IsAccountOf n q (in_account f r)) same h.0)
   | inr off ↦
-      let later : place_of (n ∷ numbers) ring ≡ suc (place_of numbers ring) = place-later n ring numbers off in
+      let later : ring_index (n ∷ numbers) ring ≡ suc (ring_index numbers ring) = place-later n ring numbers off in
       let apart : (r.0.0 == ring.0) ≡ false = grind (arith, nat_tests, off, ap (λ (q : RingNo). q.0) h.0.ring) in
       let rest : IsAccountOf ring o (in_account f (ring, bytes_in (find (λ q. q.0.0 == ring.0) rings))) =
       account-there f numbers outs rings ring o h.1 (omega (arith, there, later)) (ap (slice_get (p ∷ outs)) (sym later) ∙ at) in
@@ -104,24 +104,24 @@ others-apart n ring numbers j d apart at e same =
 
 -- A look at a ring leaves its end with the account that was looked at, and the others as they were.
 pub seen-among : (numbers : List RingNo) (outs : List OutEnd) (accounts : List RingAccount) (ring : RingNo) (place : ℕ) (o p : OutEnd)
-    → AllPairs (λ m n. m.0 ≢ n.0) numbers → AreAccounts numbers outs accounts → HasRing numbers ring → slice_get outs (place_of numbers ring) ≡ Some o
+    → AllPairs (λ m n. m.0 ≢ n.0) numbers → AreAccounts numbers outs accounts → HasRing numbers ring → slice_get outs (ring_index numbers ring) ≡ Some o
     → ((n : RingNo) (a : RingAccount) → IsAccountOf n o a → IsAccountOf n p (with_tail place a))
-    → AreAccounts numbers (slice_set outs (place_of numbers ring) p) (map (ring_after (SeenStep ring place) []) accounts)
+    → AreAccounts numbers (slice_set outs (ring_index numbers ring) p) (map (ring_after (SeenStep ring place) []) accounts)
 seen-among [] outs accounts ring place o p apart h there at looked = absurd (omega (arith, there))
 seen-among (n ∷ numbers) [] accounts ring place o p apart h there at looked = absurd (none-some _ at)
 seen-among (n ∷ numbers) (q ∷ outs) [] ring place o p apart h there at looked = absurd h
 seen-among (n ∷ numbers) (q ∷ outs) (a ∷ accounts) ring place o p apart h there at looked = elim (cases_eq n.0 ring.0) [
   | inl e ↦
-      let first : place_of (n ∷ numbers) ring ≡ 0 = place-here n ring numbers e in
+      let first : ring_index (n ∷ numbers) ring ≡ 0 = place-here n ring numbers e in
       let same : q ≡ o = same_Some q o (ap (slice_get (q ∷ outs)) (sym first) ∙ at) in
       let here : IsAccountOf n p (with_tail place a) = looked n a (subst (λ (x : OutEnd). IsAccountOf n x a) same h.0) in
       let is : ring_after (SeenStep ring place) [] a ≡ with_tail place a = look-here ring place a (ap (λ (x : RingNo). x.0) h.0.ring ∙ e) in
       subst (λ (i : ℕ). AreAccounts (n ∷ numbers) (slice_set (q ∷ outs) i p) (map (ring_after (SeenStep ring place) []) (a ∷ accounts))) (sym first)
       (subst (IsAccountOf n p) (sym is) here, others-still numbers outs accounts ring place h.1 (λ j d in_list same_ring. others-apart n ring numbers j d apart in_list e same_ring))
   | inr off ↦
-      let later : place_of (n ∷ numbers) ring ≡ suc (place_of numbers ring) = place-later n ring numbers off in
+      let later : ring_index (n ∷ numbers) ring ≡ suc (ring_index numbers ring) = place-later n ring numbers off in
       let still : ring_after (SeenStep ring place) [] a ≡ a = look-other ring place a (λ e. off (sym (ap (λ (x : RingNo). x.0) h.0.ring) ∙ e)) in
-      let rest : AreAccounts numbers (slice_set outs (place_of numbers ring) p) (map (ring_after (SeenStep ring place) []) accounts) =
+      let rest : AreAccounts numbers (slice_set outs (ring_index numbers ring) p) (map (ring_after (SeenStep ring place) []) accounts) =
       seen-among numbers outs accounts ring place o p (λ i j d below inside. apart (suc i) (suc j) d (omega (arith, below)) (omega (arith, inside))) h.1 (omega (arith, there, later))
       (ap (slice_get (q ∷ outs)) (sym later) ∙ at) looked in
       subst (λ (i : ℕ). AreAccounts (n ∷ numbers) (slice_set (q ∷ outs) i p) (map (ring_after (SeenStep ring place) []) (a ∷ accounts))) (sym later)

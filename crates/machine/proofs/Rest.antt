@@ -11,20 +11,20 @@ use Rattle.ring_spec.specs.Records.{words_of}
 use Rattle.ring_spec.specs.Rings.{account_in, bytes_of}
 use Rattle.ring_spec.proofs.Running.{in_account}
 use Rattle.ring_laws.proofs.Orders.{few_words}
-use Rattle.ring_taking.specs.Taking.{with_tail}
+use Rattle.sample_ring.specs.Taking.{with_tail}
 use Rattle.sample_ring.specs.InEnds.{InEnd}
 use Rattle.sample_ring.specs.Lending.{with_out, with_reader}
 use Rattle.sample_ring.specs.OutEnds.{OutEnd}
-use Rattle.sample_ring.specs.RingLists.{HasRing, InList, OutList, place_of, with_slot}
+use Rattle.sample_ring.specs.RingLists.{HasRing, InList, OutList, ring_index, with_slot}
 use Rattle.work_account.specs.Ends.{AreAccounts}
-use Rattle.work_laws.proofs.Rings.{recorded}
+use Rattle.machine.proofs.RingsThere.{recorded}
 use Rattle.machine.specs.Leading.{Kept, LeadTo}
 use Rattle.machine.specs.Readers.{AreBehind, AreTrailing, HasTaken, Trails, words_of_slot}
 use Rattle.machine.proofs.Pairs.{paired-set}
 use Rattle.machine.proofs.Places.{place-here, place-later, ring-is, set-here, set-other}
 
 -- two rings at one place are one
-same-place : (numbers : List RingNo) (ring other : RingNo) → HasRing numbers ring → place_of numbers other ≡ place_of numbers ring → other ≡ ring
+same-place : (numbers : List RingNo) (ring other : RingNo) → HasRing numbers ring → ring_index numbers other ≡ ring_index numbers ring → other ≡ ring
 same-place [] ring other there e = absurd (omega (arith, there))
 same-place (n ∷ numbers) ring other there e = elim (cases_eq n.0 ring.0) [
   | inl its ↦ elim (cases_eq n.0 other.0) [
@@ -39,18 +39,18 @@ same-place (n ∷ numbers) ring other there e = elim (cases_eq n.0 ring.0) [
 ]
 
 -- the reader of a ring has taken all of it, and the others have what they had
-pub ring-taken : (s : Scripted) (acts : List Act) (ins : InList) (ring : RingNo) (i j : InEnd) → slice_get ins.readers (place_of ins.numbers ring) ≡ Some (Some i)
-    → j.words ≡ words_of (account_in s acts (ring, bytes_of s ring)).written → HasTaken s acts (with_slot ins (place_of ins.numbers ring) (Some j)) ring
+pub ring-taken : (s : Scripted) (acts : List Act) (ins : InList) (ring : RingNo) (i j : InEnd) → slice_get ins.readers (ring_index ins.numbers ring) ≡ Some (Some i)
+    → j.words ≡ words_of (account_in s acts (ring, bytes_of s ring)).written → HasTaken s acts (with_slot ins (ring_index ins.numbers ring) (Some j)) ring
 ring-taken s acts ins ring i j at all =
-    let here = set-here ins.readers (place_of ins.numbers ring) (Some i) (Some j) at in
+    let here = set-here ins.readers (ring_index ins.numbers ring) (Some i) (Some j) at in
     record { there = (j, here); words = ap words_of_slot here ∙ all }
 
 pub others-taken : (s : Scripted) (acts : List Act) (ins : InList) (ring other : RingNo) (slot : Option InEnd) → HasRing ins.numbers ring
-    → HasTaken s acts (with_slot ins (place_of ins.numbers ring) slot) ring → HasTaken s acts ins other → HasTaken s acts (with_slot ins (place_of ins.numbers ring) slot) other
-others-taken s acts ins ring other slot there taken h = elim (cases_eq (place_of ins.numbers other) (place_of ins.numbers ring)) [
-  | inl e ↦ subst (HasTaken s acts (with_slot ins (place_of ins.numbers ring) slot)) (sym (same-place ins.numbers ring other there e)) taken
+    → HasTaken s acts (with_slot ins (ring_index ins.numbers ring) slot) ring → HasTaken s acts ins other → HasTaken s acts (with_slot ins (ring_index ins.numbers ring) slot) other
+others-taken s acts ins ring other slot there taken h = elim (cases_eq (ring_index ins.numbers other) (ring_index ins.numbers ring)) [
+  | inl e ↦ subst (HasTaken s acts (with_slot ins (ring_index ins.numbers ring) slot)) (sym (same-place ins.numbers ring other there e)) taken
   | inr off ↦
-      let still = set-other ins.readers (place_of ins.numbers ring) (place_of ins.numbers other) slot off in
+      let still = set-other ins.readers (ring_index ins.numbers ring) (ring_index ins.numbers other) slot off in
       record { there = (h.there.0, still ∙ h.there.1); words = ap words_of_slot still ∙ h.words }
 ]
 
@@ -63,12 +63,12 @@ trails-rest o p i j loads h e released same = record {
   room = omega (arith, h.room, same.1, ap (λ (q : OutEnd). length q.producer.published) e);
 }
 
-pub trailing-rest : (outs : OutList) (ins : InList) (ring : RingNo) (o p : OutEnd) (i j : InEnd) → AreTrailing outs ins → slice_get outs.outs (place_of outs.numbers ring) ≡ Some o
-    → slice_get ins.readers (place_of ins.numbers ring) ≡ Some (Some i) → Trails p j → AreTrailing (with_out outs (place_of outs.numbers ring) p) (with_reader ins (place_of ins.numbers ring) j)
+pub trailing-rest : (outs : OutList) (ins : InList) (ring : RingNo) (o p : OutEnd) (i j : InEnd) → AreTrailing outs ins → slice_get outs.outs (ring_index outs.numbers ring) ≡ Some o
+    → slice_get ins.readers (ring_index ins.numbers ring) ≡ Some (Some i) → Trails p j → AreTrailing (with_out outs (ring_index outs.numbers ring) p) (with_reader ins (ring_index ins.numbers ring) j)
 trailing-rest outs ins ring o p i j h at reader both =
-    let place : ℕ = place_of outs.numbers ring in
-    let found : slice_get ins.readers place ≡ Some (Some i) = ap (λ n. slice_get ins.readers (place_of n ring)) (sym h.numbers) ∙ reader in
-    subst (λ k. AreTrailing (with_out outs place p) (with_reader ins k j)) (ap (λ n. place_of n ring) (sym h.numbers))
+    let place : ℕ = ring_index outs.numbers ring in
+    let found : slice_get ins.readers place ≡ Some (Some i) = ap (λ n. slice_get ins.readers (ring_index n ring)) (sym h.numbers) ∙ reader in
+    subst (λ k. AreTrailing (with_out outs place p) (with_reader ins k j)) (ap (λ n. ring_index n ring) (sym h.numbers))
     (record { numbers = h.numbers; each = paired-set Trails outs.outs ins.readers place o p i j h.each at found both })
 
 -- no ring has more words than a script's weight allows

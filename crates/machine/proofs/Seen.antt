@@ -20,18 +20,18 @@ use Rattle.ring_spec.proofs.Lawful.{lawful_law}
 use Rattle.ring_spec.proofs.Running.{in_account, record_law}
 use Rattle.ring_laws.proofs.Tails.{seen_tail}
 use Rattle.ring_words.specs.Ends.{IsStop}
-use Rattle.ring_taking.specs.Taking.{with_tail as with_last_tail}
+use Rattle.sample_ring.specs.Taking.{with_tail as with_last_tail}
 use Rattle.sample_ring.specs.Lending.{with_out}
 use Rattle.sample_ring.specs.OutEnds.{OutEnd, HasAccount}
-use Rattle.sample_ring.specs.RingLists.{HasRing, place_of}
+use Rattle.sample_ring.specs.RingLists.{HasRing, ring_index}
 use Rattle.sample_ring.proofs.Cuts.{stops_are_ends}
 use Rattle.world_spec.specs.Agreement.{AgreesWith}
 use Rattle.world_spec.specs.Kept.{IsKept}
 use Rattle.world_spec.specs.Value.{World}
 use Rattle.work_account.specs.Ends.{IsAccountOf, AreAccounts}
-use Rattle.step_laws.specs.Stepping.{HasStepped}
-use Rattle.step_laws.proofs.Stepping.{stepped}
-use Rattle.line_steps.proofs.Keeping.{KeepsAll, kept-stepped}
+use Rattle.world_spec.specs.Stepping.{HasStepped}
+use Rattle.world_spec.proofs.Stepping.{stepped}
+use Rattle.machine.proofs.Keeping.{KeepsAll, kept-stepped}
 use Rattle.machine.specs.Leading.{Kept, LeadTo, record_in}
 use Rattle.machine.proofs.History.{record-push}
 use Rattle.machine.proofs.Places.{account-there, seen-among, with_tail}
@@ -89,10 +89,10 @@ tool-still acts ring place tool = sum_by_push (λ a. cond (is_of_tool tool a) 1 
 
 -- the machine with the end of a ring that has seen the tail at a place, by so many loads in all
 abbrev pub seen-by : Kept → RingNo → (place loads : ℕ) → OutEnd → Kept
-seen-by m ring place loads o = record m { outs = with_out m.outs (place_of m.outs.numbers ring) (with_last_tail o place loads) }
+seen-by m ring place loads o = record m { outs = with_out m.outs (ring_index m.outs.numbers ring) (with_last_tail o place loads) }
 
 pub seen-led : (s : Scripted) (acts : List Act) (m : Kept) (ring : RingNo) (place loads : ℕ) (o : OutEnd) → IsKept m.world.hardware m.world → LeadTo s acts m → HasRing m.outs.numbers ring
-    → slice_get m.outs.outs (place_of m.outs.numbers ring) ≡ Some o → IsLawfulSeen (sizes_in s acts ring) (last_seen ring acts) place
+    → slice_get m.outs.outs (ring_index m.outs.numbers ring) ≡ Some o → IsLawfulSeen (sizes_in s acts ring) (last_seen ring acts) place
     → LeadTo s (acts ++ act.Seen ring place ∷ []) (seen-by m ring place loads o)
 seen-led s acts m ring place loads o kept led there at lawful =
     let after : record_after m.world.hardware (record_in s acts) (SeenStep ring place) ≡ record_in s (acts ++ act.Seen ring place ∷ []) =
@@ -109,26 +109,26 @@ seen-led s acts m ring place loads o kept led there at lawful =
       agrees = subst (AgreesWith m.world) after (look-agrees m.world (record_in s acts) ring place kept led.agrees);
       ends = record {
         apart = led.ends.apart;
-        each = subst (λ r. AreAccounts m.outs.numbers (slice_set m.outs.outs (place_of m.outs.numbers ring) (with_last_tail o place loads)) r.rings) after
+        each = subst (λ r. AreAccounts m.outs.numbers (slice_set m.outs.outs (ring_index m.outs.numbers ring) (with_last_tail o place loads)) r.rings) after
             (seen-among m.outs.numbers m.outs.outs (record_in s acts).rings ring place o (with_last_tail o place loads) led.ends.apart led.ends.each there at (looked place loads o));
       };
     }
 
 -- The end of a ring has the account that the acts give that ring.
 pub end-account : (s : Scripted) (acts : List Act) (m : Kept) (ring : RingNo) (o : OutEnd) → LeadTo s acts m → HasRing m.outs.numbers ring
-    → slice_get m.outs.outs (place_of m.outs.numbers ring) ≡ Some o → IsAccountOf ring o (in_account (account_in s acts) (ring, bytes_of s ring))
+    → slice_get m.outs.outs (ring_index m.outs.numbers ring) ≡ Some o → IsAccountOf ring o (in_account (account_in s acts) (ring, bytes_of s ring))
 end-account s acts m ring o led there at =
     account-there (account_in s acts) m.outs.numbers m.outs.outs s.rings ring o
     (subst (AreAccounts m.outs.numbers m.outs.outs) (record_law (hardware_of s) (opening_stage s) s.rings (history s acts)).rings led.ends.each) there at
 
 -- It has seen the tail last where the acts did.
 pub end-seen : (s : Scripted) (acts : List Act) (m : Kept) (ring : RingNo) (o : OutEnd) → LeadTo s acts m → HasRing m.outs.numbers ring
-    → slice_get m.outs.outs (place_of m.outs.numbers ring) ≡ Some o → o.producer.last_tail ≡ last_seen ring acts
+    → slice_get m.outs.outs (ring_index m.outs.numbers ring) ≡ Some o → o.producer.last_tail ≡ last_seen ring acts
 end-seen s acts m ring o led there at = sym (end-account s acts m ring o led there at).has.tail ∙ seen_tail s acts ring (bytes_of s ring)
 
 -- A stop of its words that is not before the last tail may be seen.
 pub lawful-stop : (s : Scripted) (acts : List Act) (m : Kept) (ring : RingNo) (place : ℕ) (o : OutEnd) → LeadTo s acts m → HasRing m.outs.numbers ring
-    → slice_get m.outs.outs (place_of m.outs.numbers ring) ≡ Some o → o.producer.last_tail ≤ place → IsStop o.producer.published place
+    → slice_get m.outs.outs (ring_index m.outs.numbers ring) ≡ Some o → o.producer.last_tail ≤ place → IsStop o.producer.published place
     → IsLawfulSeen (sizes_in s acts ring) (last_seen ring acts) place
 lawful-stop s acts m ring place o led there at above stop =
     let has : HasAccount o (account_in s acts (ring, bytes_of s ring)) = (end-account s acts m ring o led there at).has in
@@ -156,7 +156,7 @@ still-among (n ∷ numbers) (q ∷ outs) (a ∷ accounts) zero o p h at same = (
 still-among (n ∷ numbers) (q ∷ outs) (a ∷ accounts) (suc i) o p h at same = (h.0, still-among numbers outs accounts i o p h.1 at same)
 
 pub still-led : (s : Scripted) (acts : List Act) (m : Kept) (ring : RingNo) (place loads : ℕ) (o : OutEnd) → LeadTo s acts m
-    → slice_get m.outs.outs (place_of m.outs.numbers ring) ≡ Some o → o.producer.last_tail ≡ place → LeadTo s acts (seen-by m ring place loads o)
+    → slice_get m.outs.outs (ring_index m.outs.numbers ring) ≡ Some o → o.producer.last_tail ≡ place → LeadTo s acts (seen-by m ring place loads o)
 still-led s acts m ring place loads o led at same = record {
   counted = led.counted;
   lawful = led.lawful;
@@ -166,7 +166,7 @@ still-led s acts m ring place loads o led at same = record {
   agrees = led.agrees;
   ends = record {
     apart = led.ends.apart;
-    each = still-among m.outs.numbers m.outs.outs (record_in s acts).rings (place_of m.outs.numbers ring) o (with_last_tail o place loads) led.ends.each at
+    each = still-among m.outs.numbers m.outs.outs (record_in s acts).rings (ring_index m.outs.numbers ring) o (with_last_tail o place loads) led.ends.each at
         (λ n a h. still-looked place loads o n a same h);
   };
 }

@@ -8,11 +8,11 @@ use Rattle.perf_base.specs.Scripts.{Scripted, IsCovered, IsScript}
 use Rattle.perf_base.specs.Weight.{weight}
 use Rattle.ring_spec.specs.Rings.{account_in, bytes_of}
 use Rattle.ring_laws.proofs.Orders.{few_words}
-use Rattle.ring_taking.specs.Taking.{IsUpTo, with_tail}
+use Rattle.sample_ring.specs.Taking.{IsUpTo, with_tail}
 use Rattle.ring_words.specs.Ends.{Ring}
 use Rattle.sample_ring.specs.InEnds.{InEnd}
 use Rattle.sample_ring.specs.OutEnds.{HasAccount, OutEnd}
-use Rattle.sample_ring.specs.RingLists.{InList, OutList, RingList, HasRing, place_of}
+use Rattle.sample_ring.specs.RingLists.{InList, OutList, RingList, HasRing, ring_index}
 use Rattle.work_account.specs.Ends.{AreTogether}
 use Rattle.machine.specs.Leading.{Kept, LeadTo}
 use Rattle.machine.specs.Readers.{AreFollowing, Follows}
@@ -22,23 +22,23 @@ abbrev ring_of : OutEnd → Ring
 ring_of o = o.producer.ring
 
 -- the ring of an end, and its reader
-pub ring-of-end : (rings : RingList) (outs : OutList) (ring : RingNo) (o : OutEnd) (t : Ring) → AreTogether rings outs → slice_get outs.outs (place_of outs.numbers ring) ≡ Some o
-    → slice_get rings.tables (place_of rings.numbers ring) ≡ Some t → o.producer.ring ≡ t
+pub ring-of-end : (rings : RingList) (outs : OutList) (ring : RingNo) (o : OutEnd) (t : Ring) → AreTogether rings outs → slice_get outs.outs (ring_index outs.numbers ring) ≡ Some o
+    → slice_get rings.tables (ring_index rings.numbers ring) ≡ Some t → o.producer.ring ≡ t
 ring-of-end rings outs ring o t h at there =
     same_Some (ring_of o) t
-    (sym (slice_get-map ring_of outs.outs (place_of outs.numbers ring) ∙ ap (option_map ring_of) at)
-    ∙ ((λ i. slice_get (h.tables i) (place_of (sym h.numbers i) ring)) ∙ there))
+    (sym (slice_get-map ring_of outs.outs (ring_index outs.numbers ring) ∙ ap (option_map ring_of) at)
+    ∙ ((λ i. slice_get (h.tables i) (ring_index (sym h.numbers i) ring)) ∙ there))
 
 pub follower : (words : ℕ) (outs : OutList) (ins : InList) (ring : RingNo) (o : OutEnd) (i : InEnd) → AreFollowing words outs ins
-    → slice_get outs.outs (place_of outs.numbers ring) ≡ Some o → slice_get ins.readers (place_of ins.numbers ring) ≡ Some (Some i) → Follows words o i
+    → slice_get outs.outs (ring_index outs.numbers ring) ≡ Some o → slice_get ins.readers (ring_index ins.numbers ring) ≡ Some (Some i) → Follows words o i
 follower words outs ins ring o i h at reader =
-    let there = h.each (place_of outs.numbers ring) o at in
-    let same : there.0 ≡ i = same_Some there.0 i (same_Some (Some there.0) (Some i) (sym there.1 ∙ (ap (λ n. slice_get ins.readers (place_of n ring)) (sym h.numbers) ∙ reader))) in
+    let there = h.each (ring_index outs.numbers ring) o at in
+    let same : there.0 ≡ i = same_Some there.0 i (same_Some (Some there.0) (Some i) (sym there.1 ∙ (ap (λ n. slice_get ins.readers (ring_index n ring)) (sym h.numbers) ∙ reader))) in
     subst (Follows words o) same there.2
 
 -- it has room for all words that were sent
 pub room-there : (s : Scripted) (acts : List Act) (m : Kept) (ring : RingNo) (o : OutEnd) (i : InEnd) → IsScript s → IsCovered s → LeadTo s acts m → HasRing m.outs.numbers ring
-    → slice_get m.outs.outs (place_of m.outs.numbers ring) ≡ Some o → Follows (9 * weight s) o i → length o.producer.published ≤ i.room
+    → slice_get m.outs.outs (ring_index m.outs.numbers ring) ≡ Some o → Follows (9 * weight s) o i → length o.producer.published ≤ i.room
 room-there s acts m ring o i h covered led there at follows =
     let a : HasAccount o (account_in s acts (ring, bytes_of s ring)) = (end-account s acts m ring o led there at).has in
     omega (arith, follows.room, ap length a.written, few_words s acts (ring, bytes_of s ring) h covered)
@@ -49,11 +49,11 @@ set-same f [] i x y at e = absurd (none-some _ at)
 set-same f (z ∷ xs) zero x y at e = ap (λ q. q ∷ map f xs) (e ∙ ap f (sym (same_Some z x at)))
 set-same f (z ∷ xs) (suc i) x y at e = ap (λ l. f z ∷ l) (set-same f xs i x y at e)
 
-pub together-look : (rings : RingList) (outs : OutList) (ring : RingNo) (o p : OutEnd) (place loads : ℕ) → AreTogether rings outs → slice_get outs.outs (place_of outs.numbers ring) ≡ Some o
-    → p ≡ with_tail o place loads → AreTogether rings (record outs { outs = slice_set outs.outs (place_of outs.numbers ring) p })
+pub together-look : (rings : RingList) (outs : OutList) (ring : RingNo) (o p : OutEnd) (place loads : ℕ) → AreTogether rings outs → slice_get outs.outs (ring_index outs.numbers ring) ≡ Some o
+    → p ≡ with_tail o place loads → AreTogether rings (record outs { outs = slice_set outs.outs (ring_index outs.numbers ring) p })
 together-look rings outs ring o p place loads h at e = record {
   numbers = h.numbers;
-  tables = set-same ring_of outs.outs (place_of outs.numbers ring) o p at (ap ring_of e) ∙ h.tables;
+  tables = set-same ring_of outs.outs (ring_index outs.numbers ring) o p at (ap ring_of e) ∙ h.tables;
 }
 
 -- and its reader follows it

@@ -10,8 +10,8 @@ use Rattle.perf_base.specs.Scripts.{Scripted, IsCovered, IsScript, lines_of_cpu}
 use Rattle.perf_base.specs.Weight.{weight}
 use Rattle.world_spec.specs.Kept.{IsKept}
 use Rattle.work_account.specs.Sampling.{HaveSpaceToSend, ends_of}
-use Rattle.work_laws.specs.Left.{IsLeft}
-use Rattle.work_laws.proofs.Space.{space}
+use Rattle.machine.specs.Left.{IsLeft}
+use Rattle.machine.proofs.Space.{space}
 use Rattle.machine.specs.Leading.{Kept, LeadTo}
 use Rattle.machine.proofs.Stepped.{next-cpu}
 

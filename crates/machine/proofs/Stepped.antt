@@ -24,7 +24,7 @@ use Rattle.ring_spec.proofs.Lawful.{lawful_law}
 use Rattle.ring_spec.proofs.Running.{replies_law}
 use Rattle.world_spec.specs.Agreement.{AgreesWith}
 use Rattle.world_spec.specs.Value.{World}
-use Rattle.line_steps.specs.Stepped.{IsDone, IsDoneSending, IsDoneWith}
+use Rattle.machine.specs.Stepped.{IsDone, IsDoneSending, IsDoneWith}
 use Rattle.machine.specs.Leading.{Kept, LeadTo, IsReplyTo, record_in}
 use Rattle.machine.proofs.History.{record-push, raised, cpu-push, cpu-other, tool-push, tool-other, counted-push, cpu-is, tool-is}
 

@@ -12,12 +12,12 @@ use Rattle.ring_laws.proofs.Tails.{seen_tail}
 use Rattle.ring_words.specs.Ends.{IsStop}
 use Rattle.ring_words.specs.Ends as words
 use Rattle.sample_ring.specs.OutEnds.{OutEnd}
-use Rattle.sample_ring.specs.RingLists.{HasRing, place_of}
+use Rattle.sample_ring.specs.RingLists.{HasRing, ring_index}
 use Rattle.sample_ring.proofs.Cuts.{stops_are_ends}
 use Rattle.work_account.specs.Ends.{IsAccountOf}
-use Rattle.work_laws.specs.Shown.{ShowsAccount}
-use Rattle.work_laws.proofs.Rings.{declared-there, script-numbers}
-use Rattle.work_laws.proofs.Shown.{shown}
+use Rattle.machine.specs.Shown.{ShowsAccount}
+use Rattle.machine.proofs.RingsThere.{declared-there, script-numbers}
+use Rattle.machine.proofs.Shown.{shown}
 use Rattle.machine.specs.declared.stepping.OrderFault.{OrderFault}
 use Rattle.machine.specs.declared.stepping.OrderFault.TheVariants as fault
 use Rattle.machine.specs.Leading.{Kept, IsOf, LeadTo}
@@ -32,8 +32,8 @@ ring-there s m ring of h =
 
 -- what an end says of a place at which it can't be seen
 pub unlawful-by : (s : Scripted) (acts : List Act) (m : Kept) (ring : RingNo) (o : OutEnd) (given : ℕ) → LeadTo s acts m → HasRing m.outs.numbers ring
-    → slice_get m.outs.outs (place_of m.outs.numbers ring) ≡ Some o → ((o.producer.last_tail ≤ given) × IsStop o.producer.published given → ⊥)
-    → IsUnlawful s acts ring o.producer.last_tail (words.place_of o.producer) given
+    → slice_get m.outs.outs (ring_index m.outs.numbers ring) ≡ Some o → ((o.producer.last_tail ≤ given) × IsStop o.producer.published given → ⊥)
+    → IsUnlawful s acts ring o.producer.last_tail (words.head_place o.producer) given
 unlawful-by s acts m ring o given led there at refused =
     let a : IsAccountOf ring o (in_account (account_in s acts) (ring, bytes_of s ring)) = end-account s acts m ring o led there at in
     let shows : ShowsAccount o (account_in s acts (ring, bytes_of s ring)) = shown ring o (in_account (account_in s acts) (ring, bytes_of s ring)) a in

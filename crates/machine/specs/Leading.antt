@@ -19,7 +19,7 @@ use Rattle.sample_ring.specs.RingLists.{OutList}
 use Rattle.work_account.specs.Ends.{HaveAccounts}
 use Rattle.world_spec.specs.Agreement.{AgreesWith}
 use Rattle.world_spec.specs.Value.{World}
-use Rattle.line_steps.specs.Stepped.{IsReady}
+use Rattle.machine.specs.Stepped.{IsReady}
 
 -- how many lines each processor and each tool has done, the events with what they have counted, and the ends of the
 -- rings that send

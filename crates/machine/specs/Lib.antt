@@ -1,7 +1,13 @@
 pub mod Codes
+pub mod Counted
 pub mod Ended
 pub mod Events
 pub mod Leading
+pub mod Left
 pub mod Readers
 pub mod Room
+pub mod Settled
+pub mod Shown
+pub mod Stepped
 pub mod Stepping
+pub mod Switched

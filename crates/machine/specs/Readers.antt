@@ -6,11 +6,11 @@ use Rattle.perf_base.specs.Scripts.{Scripted}
 use Rattle.ring_spec.specs.Account.{Account, head_of}
 use Rattle.ring_spec.specs.Records.{words_of}
 use Rattle.ring_spec.specs.Rings.{account_in, bytes_of}
-use Rattle.ring_taking.specs.Taking.{IsUpTo}
+use Rattle.sample_ring.specs.Taking.{IsUpTo}
 use Rattle.sample_ring.specs.InEnds.{InEnd}
 use Rattle.sample_ring.specs.OutEnds.{OutEnd}
 use Rattle.sample_ring.specs.declared.sent.RingNumbers.{RingNumbers}
-use Rattle.sample_ring.specs.RingLists.{OutList, InList, HasReader, place_of}
+use Rattle.sample_ring.specs.RingLists.{OutList, InList, HasReader, ring_index}
 
 -- A reader is of the ring of an end that sends, has taken and released just what stands before the last tail that this
 -- end has seen, and has room for a number of words.
@@ -71,7 +71,7 @@ words_of_slot (Some None) = []
 words_of_slot (Some (Some i)) = i.words
 
 abbrev pub words_in : InList → RingNo → List ℕ
-words_in ins ring = words_of_slot (slice_get ins.readers (place_of ins.numbers ring))
+words_in ins ring = words_of_slot (slice_get ins.readers (ring_index ins.numbers ring))
 
 -- how many records the reader of a ring has taken, and the place behind the words that it has released, in bytes from
 -- the start of the stream; 0 where it is not there
@@ -80,8 +80,8 @@ records_of_slot None = 0
 records_of_slot (Some None) = 0
 records_of_slot (Some (Some i)) = i.records
 
-abbrev pub records_in : InList → RingNo → ℕ
-records_in ins ring = records_of_slot (slice_get ins.readers (place_of ins.numbers ring))
+abbrev pub records_taken : InList → RingNo → ℕ
+records_taken ins ring = records_of_slot (slice_get ins.readers (ring_index ins.numbers ring))
 
 abbrev pub released_of_slot : Option (Option InEnd) → ℕ
 released_of_slot None = 0
@@ -89,12 +89,12 @@ released_of_slot (Some None) = 0
 released_of_slot (Some (Some i)) = 8 * i.consumer.released
 
 abbrev pub released_in : InList → RingNo → ℕ
-released_in ins ring = released_of_slot (slice_get ins.readers (place_of ins.numbers ring))
+released_in ins ring = released_of_slot (slice_get ins.readers (ring_index ins.numbers ring))
 
 -- The reader of a ring is there, and is of the same ring as the end that sends.
 pub record HasItsReader (outs : OutList) (ins : InList) (ring : RingNo) : Type 0 where
   pub there : HasReader ins ring
-  pub same : (o : OutEnd) → slice_get outs.outs (place_of outs.numbers ring) ≡ Some o → there.0.consumer.ring ≡ o.producer.ring
+  pub same : (o : OutEnd) → slice_get outs.outs (ring_index outs.numbers ring) ≡ Some o → there.0.consumer.ring ≡ o.producer.ring
 
 -- A reader has met the end that sends: it has seen the head, by one load more, and is else what it was.
 pub record HasMet (o : OutEnd) (i j : InEnd) : Type 0 where
@@ -119,7 +119,7 @@ pub record IsShown (n : RingNumbers) (a : Account) : Type 0 where
 
 -- the end of a ring that sends, if it is there, and how often each has loaded its tail
 abbrev pub out_of : OutList → RingNo → Option OutEnd
-out_of outs ring = slice_get outs.outs (place_of outs.numbers ring)
+out_of outs ring = slice_get outs.outs (ring_index outs.numbers ring)
 
 abbrev pub loads_of : OutList → List ℕ
 loads_of outs = map (λ o. o.producer.loads) outs.outs

@@ -5,7 +5,7 @@ use Rattle.perf_base.specs.declared.lines.ToolLine.{ToolLine}
 use Rattle.perf_base.specs.declared.numbers.CpuNo.{CpuNo}
 use Rattle.perf_base.specs.declared.numbers.RingNo.{RingNo}
 use Rattle.perf_base.specs.declared.reply.Sums.{Sums}
-use Rattle.work_account.specs.Shares.{HaveRoom}
+use Rattle.world_spec.specs.Shares.{HaveRoom}
 use Rattle.world_spec.specs.Value.{World}
 
 -- the most that a line adds to an event and its copies

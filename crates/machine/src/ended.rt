@@ -1,15 +1,14 @@
 //! What is left of a run.
 
-ghost use Rattle.std.specs.Prelude.{◌≡◌, ◌<◌, ◌≤◌, [], All, count_by, length, map, take};
+ghost use Rattle.std.specs.Prelude.{◌≡◌, [], All, map};
 ghost use Rattle.stage_spec.specs.Order.{IsCounted};
 ghost use Rattle.stage_spec.specs.Replies.{lines_from};
 ghost use Rattle.sample_ring.specs.RingLists.{HasReader};
-ghost use Rattle.machine.specs.Ended as spec;
 ghost use Rattle.machine.specs.Ended.{HasTakenAll, IsRan};
 ghost use Rattle.machine.specs.Readers.{words_in};
 
 use crate::ending::RingEnd;
-use perf_base::{Act, Actor, Reply, RingNo, Script, StoredReply};
+use perf_base::{Act, Answer, RingNo, Script};
 use sample_ring::Ins;
 use std::marker::Model;
 
@@ -20,7 +19,7 @@ use std::marker::Model;
 pub struct Ended {
     script: Script,
     order: Vec<Act>,
-    answers: Vec<(Actor, u32, StoredReply)>,
+    answers: Vec<Answer>,
     ends: Vec<RingEnd>,
     ins: Ins,
 }
@@ -35,32 +34,17 @@ impl Model for Ended {
     ghost invariant = { λ e. IsRan (record { script = e.script; order = e.order.items; answers = e.answers.items; ends = e.ends.items; ins = e.ins }) };
 }
 
-/// Whether an act does a line.
-fn does_line(act: &Act) -> bool
-    ensures { result ≡ spec.does_line act.now }
-{
-    !matches!(act, Act::Seen(..))
-}
-
-/// How many acts before one of some do a line.
-fn lines_before(acts: &[Act], act: usize) -> usize
-    requires { act ≤ length acts.now }
-    ensures { result ≡ count_by spec.does_line (take act acts.now) }
-{
-    acts[..act].iter().filter(|act| does_line(act)).count()
-}
-
 impl Ended {
     /// A run of a script that has ended.
     pub fn new(
         script: Script,
         order: Vec<Act>,
-        answers: Vec<(Actor, u32, StoredReply)>,
+        answers: Vec<Answer>,
         ends: Vec<RingEnd>,
         ins: Ins,
     ) -> Ended
         requires counted { IsCounted script order.items }
-        requires lines { map (λ a. (a.0, a.1)) answers.items ≡ lines_from [] order.items }
+        requires lines { map (λ a. (a.actor, a.number)) answers.items ≡ lines_from [] order.items }
         requires rings { map (λ e. e.ring) ends.items ≡ map (λ r. r.0) script.rings }
         requires taken { All (HasTakenAll ins) ends.items }
         ensures { result ≡ record { script = script; order = order.items; answers = answers.items; ends = ends.items; ins = ins } }
@@ -89,7 +73,7 @@ impl Ended {
     }
 
     /// The answers, one to each line that was done, in their order.
-    pub fn answers(&self) -> &[(Actor, u32, StoredReply)]
+    pub fn answers(&self) -> &[Answer]
         ensures { result.now ≡ self.now.answers }
     {
         self.answers.as_slice()
@@ -109,17 +93,5 @@ impl Ended {
         ensures { result.now ≡ words_in self.now.ins ring }
     {
         self.ins.lent(ring).words()
-    }
-
-    /// The answer to the line of an act of the order, from 0. A look at a ring has none.
-    pub fn reply(&self, act: usize) -> Option<(Actor, u32, Reply)>
-        requires { act < length self.now.order }
-        ensures { result ≡ spec.answer_at self.now act }
-    {
-        if !does_line(&self.order[act]) {
-            return None;
-        }
-        let (actor, number, reply) = &self.answers[lines_before(&self.order, act)];
-        Some((*actor, *number, reply.reply()))
     }
 }

@@ -12,8 +12,7 @@ ghost use Rattle.machine.specs.Readers.{AreBehind, AreTrailing, HasTaken, HaveTa
 
 use crate::machine::Machine;
 use perf_base::{RingNo, Script};
-use ring_taking::take_all;
-use sample_ring::{Ins, RingNumbers, Rings};
+use sample_ring::{Ins, RingNumbers, Rings, take_all};
 
 /// What a ring came to: which it is, and where its head and the last tail seen are, in bytes from the start of the
 /// stream, how many of its records were lost in all, and how many of them no LOST record has stated.

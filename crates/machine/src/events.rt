@@ -1,6 +1,6 @@
 //! What a table says of the events that are open.
 
-ghost use Rattle.std.specs.Prelude.{◌≡◌, true, false, List, Some, IfSome, IfNone};
+ghost use Rattle.std.specs.Prelude.{◌≡◌, ◌<◌, true, false, List, Some, IfSome, IfNone};
 ghost use Rattle.perf_base.specs.declared.acts.Act.{Act};
 ghost use Rattle.perf_base.specs.Scripts.{Scripted};
 ghost use Rattle.stage_spec.specs.Reading as reading;
@@ -8,7 +8,8 @@ ghost use Rattle.stage_spec.specs.Stage as stage;
 ghost use Rattle.world_spec.specs.StageOf.{stage_of};
 ghost use Rattle.world_spec.specs.Value.{family_of, is_live};
 ghost use Rattle.perf_world.specs.Seen.{IsWorld};
-ghost use Rattle.machine.specs.Events.{HasEvent, family_if_open, in_error, kind_in, stage_in};
+ghost use Rattle.machine.specs.Events.{HasEvent};
+ghost use Rattle.stage_spec.specs.Tables.{stage_in, family_if_open, in_error, kind_in};
 ghost use Rattle.machine.specs.Leading.{LeadTo};
 
 use crate::machine::Machine;
@@ -44,6 +45,16 @@ impl Machine {
         }
     }
 
+    /// Nothing happens. The caller's proof learns that the slot of an open event is one of the 256, and what always
+    /// holds of a world.
+    fn use_slot(&self, event: EventNo)
+        requires { HasEvent self.now event }
+        ensures low { event.0 < 256 }
+        ensures kept { IsWorld self.now.world }
+    {
+        self.original(event);
+    }
+
     /// What an event has counted, and the lengths of work for which it was enabled and on a counter: its own and those
     /// of its copies, the copies that have exited among them. None exactly where the slot is not open.
     pub fn family(&self, event: EventNo) -> Option<Sums>
@@ -54,8 +65,7 @@ impl Machine {
         if !self.is_open(event) {
             return None;
         }
-        // It is there, so its slot is one of the 256.
-        let _original = self.original(event);
+        self.use_slot(event);
         Some(family_sums(&self.world, event))
     }
 

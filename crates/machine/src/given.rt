@@ -5,11 +5,12 @@ ghost use Rattle.perf_base.specs.Scripts.{IsCpuLine};
 ghost use Rattle.stage_spec.specs.History.{CpuStep, ToolStep};
 ghost use Rattle.perf_base.specs.declared.lines.CpuLine.TheVariants as cpu_line;
 ghost use Rattle.perf_base.specs.declared.lines.Work.{Work as Stretch};
-ghost use Rattle.line_steps.specs.Stepped.{IsReady, IsDone, IsDoneWith, StaysIfRefused, seen_of};
+ghost use Rattle.machine.specs.Stepped.{IsReady, IsDone, IsDoneWith, StaysIfRefused, seen_of};
 ghost use Rattle.work_account.specs.Ends.{AreTogether};
 ghost use Rattle.work_account.specs.Sampling.{HaveRings, HaveSpaceToSend, ends_of};
 ghost use Rattle.machine.specs.Room.{HasRoom, IsLineFor};
 
+use crate::{commands, processors, rings as ring_lines, switching, tools};
 use perf_base::{CpuLine, CpuNo, Reply, Steps, ToolLine};
 use perf_world::World;
 use sample_ring::{Outs, Rings};
@@ -44,11 +45,11 @@ pub fn cpu_line<L: Ledger>(
 {
     let mut tests = Steps::<L>::new(blank);
     match line {
-        CpuLine::Switch(to) => line_steps::switch(world, cpu, *to, &mut tests),
-        CpuLine::Work(work) => line_steps::work(world, cpu, work, rings, outs),
-        CpuLine::Tick => line_steps::tick(world, cpu, &mut tests),
-        CpuLine::Fork(child) => line_steps::fork(world, cpu, *child),
-        CpuLine::Exit => line_steps::exit(world, cpu, &mut tests),
+        CpuLine::Switch(to) => switching::switch(world, cpu, *to, &mut tests),
+        CpuLine::Work(work) => processors::work(world, cpu, work, rings, outs),
+        CpuLine::Tick => processors::tick(world, cpu, &mut tests),
+        CpuLine::Fork(child) => processors::fork(world, cpu, *child),
+        CpuLine::Exit => processors::exit(world, cpu, &mut tests),
     }
 }
 
@@ -67,20 +68,18 @@ pub fn tool_line<L: Ledger>(world: &mut World, line: &ToolLine, blank: Blank) ->
 {
     let mut tests = Steps::<L>::new(blank);
     match line {
-        ToolLine::Open { slot, attr, leader } => line_steps::open(
+        ToolLine::Open { slot, attr, leader } => tools::open(
             world, *slot, attr, *leader, &mut tests,
         ),
-        ToolLine::Enable { event, group } => line_steps::enable(world, *event, *group, &mut tests),
-        ToolLine::Disable { event, group } => line_steps::disable(
-            world, *event, *group, &mut tests,
-        ),
-        ToolLine::Reset { event, group } => line_steps::reset(world, *event, *group),
-        ToolLine::Period { event, period } => line_steps::period(world, *event, *period),
-        ToolLine::Read { event, size } => line_steps::read(world, *event, *size),
-        ToolLine::Map { event, ring } => line_steps::map(world, *event, *ring),
-        ToolLine::Output { event, target } => line_steps::output(world, *event, *target),
-        ToolLine::Close { event } => line_steps::close(world, *event, &mut tests),
-        ToolLine::Why { event } => line_steps::why(world, *event),
-        ToolLine::Seats { cpu } => line_steps::seats(world, *cpu),
+        ToolLine::Enable { event, group } => commands::enable(world, *event, *group, &mut tests),
+        ToolLine::Disable { event, group } => commands::disable(world, *event, *group, &mut tests),
+        ToolLine::Reset { event, group } => commands::reset(world, *event, *group),
+        ToolLine::Period { event, period } => commands::period(world, *event, *period),
+        ToolLine::Read { event, size } => tools::read(world, *event, *size),
+        ToolLine::Map { event, ring } => ring_lines::map(world, *event, *ring),
+        ToolLine::Output { event, target } => ring_lines::output(world, *event, *target),
+        ToolLine::Close { event } => commands::close(world, *event, &mut tests),
+        ToolLine::Why { event } => tools::why(world, *event),
+        ToolLine::Seats { cpu } => tools::seats(world, *cpu),
     }
 }

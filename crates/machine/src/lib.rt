@@ -3,6 +3,7 @@
 //! script that lead there are the history that it stands for. It serves whoever goes through an order.
 #![tactic(auto)]
 
+mod commands;
 mod counters;
 mod ended;
 mod ending;
@@ -10,7 +11,12 @@ mod events;
 mod given;
 mod looking;
 mod machine;
+mod processors;
+mod rescheduling;
+mod rings;
 mod stepping;
+mod switching;
+mod tools;
 
 pub use ended::Ended;
 pub use ending::RingEnd;

@@ -6,15 +6,15 @@ ghost use Rattle.perf_base.specs.declared.acts.Act.TheVariants as act;
 ghost use Rattle.perf_base.specs.Scripts.{Scripted};
 ghost use Rattle.ring_spec.specs.Records.{words_of};
 ghost use Rattle.ring_spec.specs.Rings.{account_in, bytes_of, sizes_in};
-ghost use Rattle.ring_taking.specs.Taking.{with_tail};
+ghost use Rattle.sample_ring.specs.Taking.{with_tail};
 ghost use Rattle.sample_ring.specs.InEnds.{InEnd};
 ghost use Rattle.sample_ring.specs.Lending.{with_out};
 ghost use Rattle.sample_ring.specs.OutEnds.{OutEnd};
-ghost use Rattle.sample_ring.specs.RingLists.{HasRing, place_of, with_slot};
+ghost use Rattle.sample_ring.specs.RingLists.{HasRing, ring_index, with_slot};
 ghost use Rattle.stage_spec.specs.Order.{IsLawfulSeen, last_seen};
 ghost use Rattle.work_account.specs.Ends.{AreTogether};
 ghost use Rattle.machine.specs.Leading.{LeadTo};
-ghost use Rattle.machine.specs.Readers.{HasItsReader, HasMet, loads_of, out_of, records_in, released_in, words_in};
+ghost use Rattle.machine.specs.Readers.{HasItsReader, HasMet, loads_of, out_of, records_taken, released_in, words_in};
 
 use crate::machine::Machine;
 use perf_base::RingNo;
@@ -34,11 +34,10 @@ impl Machine {
         ensures world { self.new.world ≡ self.old.world }
         // Of the machine only the last tail that the ring's end has seen and its number of loads change.
         ensures end { (o : OutEnd) → out_of self.old.outs ring ≡ Some o
-            → self.new ≡ record self.old { outs = with_out self.old.outs (place_of self.old.outs.numbers ring) (with_tail o result (o.producer.loads + 1)) } }
-        ensures loads { loads_of self.new.outs ≡ slice_set (loads_of self.old.outs) (place_of self.old.outs.numbers ring) (slice_index_or (loads_of self.old.outs) (place_of self.old.outs.numbers ring) 0 + 1) }
+            → self.new ≡ record self.old { outs = with_out self.old.outs (ring_index self.old.outs.numbers ring) (with_tail o result (o.producer.loads + 1)) } }
+        ensures loads { loads_of self.new.outs ≡ slice_set (loads_of self.old.outs) (ring_index self.old.outs.numbers ring) (slice_index_or (loads_of self.old.outs) (ring_index self.old.outs.numbers ring) 0 + 1) }
     {
-        // A reader tells what always holds of a world.
-        let _pmus = self.world.pmus();
+        self.world.use_invariant();
         self.outs.out(ring).look(rings.table(ring))
     }
 
@@ -58,15 +57,14 @@ impl Machine {
         // Of the machine only the last tail that the ring's end has seen and its number of loads change, and of the
         // readers only the last head that the ring's has seen and its number of loads.
         ensures end { (o : OutEnd) → out_of self.old.outs ring ≡ Some o
-            → self.new ≡ record self.old { outs = with_out self.old.outs (place_of self.old.outs.numbers ring) (with_tail o (released_in ins.old ring) (o.producer.loads + 1)) } }
-        ensures reader { (o : OutEnd) (i : InEnd) → out_of self.old.outs ring ≡ Some o → slice_get ins.old.readers (place_of ins.old.numbers ring) ≡ Some (Some i)
-            → (j : InEnd) × HasMet o i j × (ins.new ≡ with_slot ins.old (place_of ins.old.numbers ring) (Some j)) }
+            → self.new ≡ record self.old { outs = with_out self.old.outs (ring_index self.old.outs.numbers ring) (with_tail o (released_in ins.old ring) (o.producer.loads + 1)) } }
+        ensures reader { (o : OutEnd) (i : InEnd) → out_of self.old.outs ring ≡ Some o → slice_get ins.old.readers (ring_index ins.old.numbers ring) ≡ Some (Some i)
+            → (j : InEnd) × HasMet o i j × (ins.new ≡ with_slot ins.old (ring_index ins.old.numbers ring) (Some j)) }
         // The reader's words are those of the first records written.
         ensures words { (s : Scripted) (acts : List Act) → LeadTo s acts self.old
-            → words_in ins.new ring ≡ words_of (take (records_in ins.new ring) (account_in s acts (ring, bytes_of s ring)).written) }
+            → words_in ins.new ring ≡ words_of (take (records_taken ins.new ring) (account_in s acts (ring, bytes_of s ring)).written) }
     {
-        // A reader tells what always holds of a world.
-        let _pmus = self.world.pmus();
+        self.world.use_invariant();
         meet(rings.table(ring), self.outs.out(ring), ins.reader(ring));
     }
 }

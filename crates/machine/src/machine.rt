@@ -2,17 +2,16 @@
 
 ghost use Rattle.std.specs.Prelude.{◌≡◌, ◌<◌, ◌≤◌, ◌↔◌, List, [], ◌∷◌, ◌++◌, IfOk, IsTrue, map};
 ghost use Rattle.perf_base.specs.declared.acts.Act.{Act};
-ghost use Rattle.perf_base.specs.declared.acts.Act.TheVariants as act;
 ghost use Rattle.perf_base.specs.Scripts.{IsCovered};
 ghost use Rattle.perf_base.specs.Weight.{weight};
 ghost use Rattle.ring_spec.specs.Running.{empty_ring};
-ghost use Rattle.line_steps.specs.Stepped.{StaysIfRefused, seen_of};
+ghost use Rattle.machine.specs.Stepped.{StaysIfRefused, seen_of};
 ghost use Rattle.work_account.specs.Ends.{AreTogether, HaveAccounts};
 ghost use Rattle.machine.specs.Leading.{HasLine, IsOf, IsReplyTo, LeadTo, act_of, done_by};
 
 use crate::counters::pmus_of;
 use crate::given::{cpu_line, tool_line};
-use perf_base::{Actor, CpuNo, NoMemory, Reply, Script, ToolNo};
+use perf_base::{Actor, NoMemory, Reply, Script};
 use perf_world::World;
 use sample_ring::{Outs, Rings};
 use std::alloc::Global;
@@ -64,8 +63,7 @@ impl Machine {
     pub fn has_line(&self, script: &Script, actor: Actor) -> bool
         ensures { IsTrue result ↔ HasLine script.now self.now actor }
     {
-        // A reader tells what always holds of a script.
-        let _cpus = script.cpus();
+        script.use_invariant();
         match actor {
             Actor::Processor(cpu) => {
                 cpu.0 < 8 && (self.cpus[cpu.0 as usize] as usize) < script.cpu_lines(cpu).len()
@@ -88,55 +86,6 @@ impl Machine {
         }
     }
 
-    /// Does the next line of a processor.
-    fn next_cpu_line(&mut self, script: &Script, rings: &Rings, cpu: CpuNo) -> Reply
-        requires covered { IsCovered script.now }
-        requires light { weight script.now ≤ 65536 }
-        requires together { AreTogether rings.now self.old.outs }
-        requires script { IsOf script.now self.old }
-        requires line { HasLine script.now self.old (Actor.Processor cpu) }
-        ensures reply { (acts : List Act) → LeadTo script.now acts self.old → IsReplyTo script.now acts (act.Processor cpu) result }
-        ensures done { (acts : List Act) → LeadTo script.now acts self.old → LeadTo script.now (acts ++ act.Processor cpu ∷ []) self.new }
-        ensures same { StaysIfRefused self.old.world self.new.world result }
-        ensures ends { StaysIfRefused self.old.outs self.new.outs result }
-        ensures together { AreTogether rings.now self.new.outs }
-        ensures seen { seen_of self.new.outs ≡ seen_of self.old.outs }
-    {
-        // Readers tell what always holds of a script and of a world.
-        let _cpus = script.cpus();
-        let _pmus = self.world.pmus();
-        let done = self.cpus[cpu.0 as usize];
-        let line = &script.cpu_lines(cpu)[done as usize];
-        self.cpus[cpu.0 as usize] = done + 1;
-        cpu_line::<Brand>(
-            &mut self.world,
-            cpu,
-            line,
-            rings,
-            &mut self.outs,
-            Blank::new(1),
-        )
-    }
-
-    /// Does the next line of a tool.
-    fn next_tool_line(&mut self, script: &Script, tool: ToolNo) -> Reply
-        requires covered { IsCovered script.now }
-        requires script { IsOf script.now self.old }
-        requires line { HasLine script.now self.old (Actor.Tool tool) }
-        ensures reply { (acts : List Act) → LeadTo script.now acts self.old → IsReplyTo script.now acts (act.Tool tool) result }
-        ensures done { (acts : List Act) → LeadTo script.now acts self.old → LeadTo script.now (acts ++ act.Tool tool ∷ []) self.new }
-        ensures same { StaysIfRefused self.old.world self.new.world result }
-        ensures outs { self.new.outs ≡ self.old.outs }
-    {
-        // Readers tell what always holds of a script and of a world.
-        let _cpus = script.cpus();
-        let _pmus = self.world.pmus();
-        let done = self.tools[tool.0 as usize];
-        let line = &script.tool_lines(tool)[done as usize];
-        self.tools[tool.0 as usize] = done + 1;
-        tool_line::<Brand>(&mut self.world, line, Blank::new(1))
-    }
-
     /// Does the actor's next line, with the records that it sends, then every rescheduling that it makes necessary, and
     /// answers it. The script is the one that the machine was made for, of a weight of at most 65,536, and the rings
     /// are those of its ends. No tail is loaded. A line that is refused leaves the world and the ends as they were.
@@ -155,9 +104,28 @@ impl Machine {
         ensures together { AreTogether rings.now self.new.outs }
         ensures seen { seen_of self.new.outs ≡ seen_of self.old.outs }
     {
+        script.use_invariant();
+        self.world.use_invariant();
         match actor {
-            Actor::Processor(cpu) => self.next_cpu_line(script, rings, cpu),
-            Actor::Tool(tool) => self.next_tool_line(script, tool),
+            Actor::Processor(cpu) => {
+                let done = self.cpus[cpu.0 as usize];
+                let line = &script.cpu_lines(cpu)[done as usize];
+                self.cpus[cpu.0 as usize] = done + 1;
+                cpu_line::<Brand>(
+                    &mut self.world,
+                    cpu,
+                    line,
+                    rings,
+                    &mut self.outs,
+                    Blank::new(1),
+                )
+            }
+            Actor::Tool(tool) => {
+                let done = self.tools[tool.0 as usize];
+                let line = &script.tool_lines(tool)[done as usize];
+                self.tools[tool.0 as usize] = done + 1;
+                tool_line::<Brand>(&mut self.world, line, Blank::new(1))
+            }
             Actor::Reader(_) => unreachable!(),
         }
     }

@@ -5,17 +5,16 @@ ghost use Rattle.perf_base.specs.declared.acts.Act.{Act as ActNo};
 ghost use Rattle.perf_base.specs.declared.numbers.RingNo.{RingNo as Ring};
 ghost use Rattle.perf_base.specs.Scripts.{IsCovered, HasRing};
 ghost use Rattle.perf_base.specs.Weight.{weight};
-ghost use Rattle.line_steps.specs.Stepped.{StaysIfRefused};
-ghost use Rattle.ring_words.specs.Ends.{IsStop, place_of as head_place};
+ghost use Rattle.machine.specs.Stepped.{StaysIfRefused};
+ghost use Rattle.ring_words.specs.Ends.{IsStop, head_place as head_place};
 ghost use Rattle.work_account.specs.Ends.{AreTogether};
-ghost use Rattle.machine.specs.Leading.{HasLine, IsOf, IsReplyTo, LeadTo, act_of};
+ghost use Rattle.machine.specs.Leading.{IsOf, LeadTo};
 ghost use Rattle.machine.specs.Readers.{AreFollowing};
 ghost use Rattle.machine.specs.Stepping.{HasNoLine, IsAnswerTo, IsUnlawful, LeavesReaders, NamesRing};
 
 use crate::machine::Machine;
 use perf_base::{Act, Actor, Reply, RingNo, Script};
-use ring_taking::take_to;
-use sample_ring::{Ins, Out, Outs, Rings};
+use sample_ring::{Ins, Out, Outs, Rings, take_to};
 
 /// Why an act can't be done.
 #[derive(Clone, Copy, PartialEq, Eq, Debug)]
@@ -51,35 +50,6 @@ fn check_seen(out: &Out, ring: RingNo, given: u64) -> Result<(), OrderFault>
 }
 
 impl Machine {
-    /// Does the next line of an actor, if it has one.
-    fn line_if(
-        &mut self,
-        script: &Script,
-        rings: &Rings,
-        ins: &Ins,
-        actor: Actor,
-    ) -> Result<Reply, OrderFault>
-        requires covered { IsCovered script.now }
-        requires light { weight script.now ≤ 65536 }
-        requires script { IsOf script.now self.old }
-        requires together { AreTogether rings.now self.old.outs }
-        requires following { AreFollowing (9 * weight script.now) self.old.outs ins.now }
-        ensures no_line { result ≡ Err OrderFault.NoLine ↔ (HasLine script.now self.old actor → ⊥) }
-        ensures refused { OnErr result (result ≡ Err OrderFault.NoLine) }
-        ensures same { OnErr result (self.new ≡ self.old) }
-        ensures reply { IfOk result (λ reply. (acts : List ActNo) → LeadTo script.now acts self.old → IsReplyTo script.now acts (act_of actor) reply) }
-        ensures done { OnOk result ((acts : List ActNo) → LeadTo script.now acts self.old → LeadTo script.now (acts ++ act_of actor ∷ []) self.new) }
-        ensures world { IfOk result (StaysIfRefused self.old.world self.new.world) }
-        ensures ends { IfOk result (StaysIfRefused self.old.outs self.new.outs) }
-        ensures together { AreTogether rings.now self.new.outs }
-        ensures following { AreFollowing (9 * weight script.now) self.new.outs ins.now }
-    {
-        if !self.has_line(script, actor) {
-            return Err(OrderFault::NoLine);
-        }
-        Ok(self.line(script, rings, actor))
-    }
-
     /// Sees the tail of a ring at a place, if that is lawful: its reader takes what stands before it.
     fn seen(
         &mut self,
@@ -103,9 +73,8 @@ impl Machine {
         ensures together { AreTogether rings.now self.new.outs }
         ensures following { AreFollowing (9 * weight script.now) self.new.outs ins.new }
     {
-        // Readers tell what always holds of a script and of a world.
-        let _cpus = script.cpus();
-        let _pmus = self.world.pmus();
+        script.use_invariant();
+        self.world.use_invariant();
         match check_seen(self.outs.lent(ring), ring, place) {
             Err(fault) => Err(fault),
             Ok(()) => {
@@ -153,13 +122,17 @@ impl Machine {
         ensures together { AreTogether rings.now self.new.outs }
         ensures following { AreFollowing (9 * weight script.now) self.new.outs ins.new }
     {
-        match act {
-            Act::Processor(cpu) => self.line_if(script, rings, ins, Actor::Processor(cpu)),
-            Act::Tool(tool) => self.line_if(script, rings, ins, Actor::Tool(tool)),
+        let actor = match act {
+            Act::Processor(cpu) => Actor::Processor(cpu),
+            Act::Tool(tool) => Actor::Tool(tool),
             Act::Seen(ring, place) => {
                 self.seen(script, rings, ins, ring, place)?;
-                Ok(Reply::Ok)
+                return Ok(Reply::Ok);
             }
+        };
+        if !self.has_line(script, actor) {
+            return Err(OrderFault::NoLine);
         }
+        Ok(self.line(script, rings, actor))
     }
 }

@@ -1,42 +1,42 @@
 -- The answers to an order, with one more.
 use Rattle.std.specs.Prelude.{◌≡◌, ℕ, List, [], ◌∷◌, ◌++◌, length, map, Option, Some, None}
 use Rattle.std.proofs.Common.{arith, sym, ap, subst, ◌∙◌, append-nil}
-use Rattle.std.proofs.lemmas.List.{map-append}
 use Rattle.perf_base.specs.declared.acts.Act.{Act}
 use Rattle.perf_base.specs.declared.acts.Act.TheVariants as act
 use Rattle.perf_base.specs.declared.acts.Actor.{Actor}
 use Rattle.perf_base.specs.declared.acts.Actor.TheVariants as actor
+use Rattle.perf_base.specs.declared.reply.Answer.{Answer}
 use Rattle.perf_base.specs.declared.reply.Reply.{Reply}
 use Rattle.perf_base.specs.Scripts.{Scripted}
 use Rattle.ring_spec.proofs.Running.{map-map}
 use Rattle.stage_spec.specs.Replies.{AnswerOrder, lines_of_act}
 use Rattle.sample_ring.specs.OutEnds.{OutEnd}
 use Rattle.sample_ring.specs.RingLists.{OutList}
-use Rattle.line_steps.specs.Stepped.{seen_of}
+use Rattle.machine.specs.Stepped.{seen_of}
 use Rattle.machine.specs.Leading.{Kept, HasLine, IsReplyTo, LeadTo, act_of, done_by}
 use Rattle.machine.specs.Readers.{loads_of}
 use Rattle.machine.specs.Stepping.{IsAnswerTo}
 use Rattle.machine.proofs.Answers.{answers-look, answers-push}
-use Rattle.report_spec.specs.Answers.{answered, lost_in}
+use Rattle.report_spec.specs.Answers.{lost_in}
 use Rattle.perf_book.specs.Keeping.{kept, line_in}
 
 -- an act with the answer that it keeps
-pub answered-then : (s : Scripted) (acts : List Act) (a : Act) (line : Option (Actor × ℕ)) (reply : Reply) (answers : List (Actor × ℕ × Reply)) → lines_of_act acts a ≡ line_in line
-    → IsAnswerTo s acts a reply → AnswerOrder s (lost_in s) acts (map answered answers) → AnswerOrder s (lost_in s) (acts ++ a ∷ []) (map answered (answers ++ kept line reply))
+pub answered-then : (s : Scripted) (acts : List Act) (a : Act) (line : Option (Actor × ℕ)) (reply : Reply) (answers : List Answer) → lines_of_act acts a ≡ line_in line
+    → IsAnswerTo s acts a reply → AnswerOrder s (lost_in s) acts answers → AnswerOrder s (lost_in s) (acts ++ a ∷ []) (answers ++ kept line reply)
 answered-then s acts (act.Processor cpu) None reply answers is r h = absurd (omega (arith, ap length is))
 answered-then s acts (act.Processor cpu) (Some line) reply answers is r h =
-    rw (map-append answered answers ((line.0, line.1, reply) ∷ [])) (answers-push s (lost_in s) acts (act.Processor cpu) (map answered answers) (answered (line.0, line.1, reply)) h is r)
+    answers-push s (lost_in s) acts (act.Processor cpu) answers (record { actor = line.0; number = line.1; reply = reply }) h is r
 answered-then s acts (act.Tool tool) None reply answers is r h = absurd (omega (arith, ap length is))
 answered-then s acts (act.Tool tool) (Some line) reply answers is r h =
-    rw (map-append answered answers ((line.0, line.1, reply) ∷ [])) (answers-push s (lost_in s) acts (act.Tool tool) (map answered answers) (answered (line.0, line.1, reply)) h is r)
+    answers-push s (lost_in s) acts (act.Tool tool) answers (record { actor = line.0; number = line.1; reply = reply }) h is r
 answered-then s acts (act.Seen ring place) None reply answers is r h =
-    subst (λ xs. AnswerOrder s (lost_in s) (acts ++ act.Seen ring place ∷ []) (map answered xs)) (sym (append-nil answers)) (answers-look s (lost_in s) acts ring place (map answered answers) h)
+    subst (λ xs. AnswerOrder s (lost_in s) (acts ++ act.Seen ring place ∷ []) xs) (sym (append-nil answers)) (answers-look s (lost_in s) acts ring place answers h)
 answered-then s acts (act.Seen ring place) (Some line) reply answers is r h = absurd (omega (arith, ap length is))
 
 -- an actor's next line with its answer
-pub answered-line : (s : Scripted) (acts : List Act) (m : Kept) (who : Actor) (reply : Reply) (answers : List (Actor × ℕ × Reply)) → HasLine s m who → LeadTo s acts m
-    → IsReplyTo s acts (act_of who) reply → AnswerOrder s (lost_in s) acts (map answered answers)
-    → AnswerOrder s (lost_in s) (acts ++ act_of who ∷ []) (map answered (answers ++ (who, done_by who m, reply) ∷ []))
+pub answered-line : (s : Scripted) (acts : List Act) (m : Kept) (who : Actor) (reply : Reply) (answers : List Answer) → HasLine s m who → LeadTo s acts m
+    → IsReplyTo s acts (act_of who) reply → AnswerOrder s (lost_in s) acts answers
+    → AnswerOrder s (lost_in s) (acts ++ act_of who ∷ []) (answers ++ record { actor = who; number = done_by who m; reply = reply } ∷ [])
 answered-line s acts m (actor.Processor cpu) reply answers has led r h =
     answered-then s acts (act.Processor cpu) (Some (actor.Processor cpu, done_by (actor.Processor cpu) m)) reply answers (ap (λ n. (actor.Processor cpu, n) ∷ []) (sym (led.cpus cpu))) r h
 answered-line s acts m (actor.Tool tool) reply answers has led r h =

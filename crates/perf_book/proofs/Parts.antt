@@ -20,11 +20,11 @@ use Rattle.ring_spec.specs.Rings.{account_in, account_of, bytes_of, events_after
 use Rattle.ring_spec.specs.Sending.{sent_after}
 use Rattle.ring_spec.proofs.Rings.{account_of-push}
 use Rattle.sample_ring.specs.InEnds.{InEnd}
-use Rattle.ring_taking.specs.Taking.{with_tail}
+use Rattle.sample_ring.specs.Taking.{with_tail}
 use Rattle.sample_ring.specs.Lending.{with_out}
 use Rattle.sample_ring.specs.OutEnds.{OutEnd}
-use Rattle.sample_ring.specs.RingLists.{InList, OutList, place_of, with_slot}
-use Rattle.machine.specs.Readers.{AreBehind, AreReaders, HasMet, IsBehind, out_of, records_in, records_of_slot, released_in, released_of_slot, words_in, words_of_slot}
+use Rattle.sample_ring.specs.RingLists.{InList, OutList, ring_index, with_slot}
+use Rattle.machine.specs.Readers.{AreBehind, AreReaders, HasMet, IsBehind, out_of, records_taken, records_of_slot, released_in, released_of_slot, words_in, words_of_slot}
 use Rattle.machine.proofs.History.{history-grows}
 use Rattle.machine.proofs.Behind.{MeetsEnd, MeetsReader, place-of-nth}
 use Rattle.machine.proofs.Pairs.{paired-set}
@@ -72,13 +72,13 @@ same-met o ins later n i j at met e =
     })
 
 pub same-words : (ins later : InList) (ring : RingNo) → SameReaders ins later → words_in later ring ≡ words_in ins ring
-same-words ins later ring h = ap (λ numbers. words_of_slot (slice_get later.readers (place_of numbers ring))) h.numbers ∙ h.words (place_of ins.numbers ring)
+same-words ins later ring h = ap (λ numbers. words_of_slot (slice_get later.readers (ring_index numbers ring))) h.numbers ∙ h.words (ring_index ins.numbers ring)
 
-pub same-records : (ins later : InList) (ring : RingNo) → SameReaders ins later → records_in later ring ≡ records_in ins ring
-same-records ins later ring h = ap (λ numbers. records_of_slot (slice_get later.readers (place_of numbers ring))) h.numbers ∙ h.records (place_of ins.numbers ring)
+pub same-records : (ins later : InList) (ring : RingNo) → SameReaders ins later → records_taken later ring ≡ records_taken ins ring
+same-records ins later ring h = ap (λ numbers. records_of_slot (slice_get later.readers (ring_index numbers ring))) h.numbers ∙ h.records (ring_index ins.numbers ring)
 
 pub same-released : (ins later : InList) (ring : RingNo) → SameReaders ins later → released_in later ring ≡ released_in ins ring
-same-released ins later ring h = ap (λ numbers. released_of_slot (slice_get later.readers (place_of numbers ring))) h.numbers ∙ h.released (place_of ins.numbers ring)
+same-released ins later ring h = ap (λ numbers. released_of_slot (slice_get later.readers (ring_index numbers ring))) h.numbers ∙ h.released (ring_index ins.numbers ring)
 
 -- a look writes nothing
 look-written : (bytes : ℕ) (ring : RingNo) (hw : Hardware) (st : Stage) (a : Account) (before : List Step) (other : RingNo) (place : ℕ)
@@ -119,7 +119,7 @@ last-other acts ring other place off = fold-append (seen_at ring) 0 acts (act.Se
 -- first records that were written.
 abbrev pub IsPart : Scripted → (before items : List Act) → InList → RingNo → Type 0
 IsPart s before items ins ring =
-    (last_seen ring items ≡ released_in ins ring) × (words_in ins ring ≡ words_of (take (records_in ins ring) (account_in s before (ring, bytes_of s ring)).written))
+    (last_seen ring items ≡ released_in ins ring) × (words_in ins ring ≡ words_of (take (records_taken ins ring) (account_in s before (ring, bytes_of s ring)).written))
 
 abbrev pub PartsTo : ℕ → Scripted → (before items : List Act) → InList → Type 0
 PartsTo k s before items ins = (j : ℕ) → j < k → j < length s.rings → IsPart s before items ins (slice_index_or s.rings j no_ring).0
@@ -142,15 +142,15 @@ parts-more k s before items later ins rise low next parts own j below inside = e
 
 -- Where a reader is behind its end, the place that it has released is the last tail seen; and once the ends of one ring
 -- have met, all readers are still behind.
-pub met-still : (words k : ℕ) (ring : RingNo) (outs later_outs : OutList) (ins later_ins : InList) (o : OutEnd) → out_of outs ring ≡ Some o → place_of outs.numbers ring ≡ k
+pub met-still : (words k : ℕ) (ring : RingNo) (outs later_outs : OutList) (ins later_ins : InList) (o : OutEnd) → out_of outs ring ≡ Some o → ring_index outs.numbers ring ≡ k
     → MeetsEnd ring outs later_outs ins → MeetsReader ring outs ins later_ins → AreBehind words outs ins
     → (released_in ins ring ≡ o.producer.last_tail) × AreBehind words later_outs later_ins
 met-still words k ring outs later_outs ins later_ins o at place end reader h =
     let here : slice_get outs.outs k ≡ Some o = ap (slice_get outs.outs) (sym place) ∙ at in
     let there = h.each k o here in
     let i : InEnd = there.0 in
-    let same : place_of ins.numbers ring ≡ k = ap (λ n. place_of n ring) h.numbers ∙ place in
-    let slot : slice_get ins.readers (place_of ins.numbers ring) ≡ Some (Some i) = ap (slice_get ins.readers) same ∙ there.1 in
+    let same : ring_index ins.numbers ring ≡ k = ap (λ n. ring_index n ring) h.numbers ∙ place in
+    let slot : slice_get ins.readers (ring_index ins.numbers ring) ≡ Some (Some i) = ap (slice_get ins.readers) same ∙ there.1 in
     let met = reader o i at slot in
     let p : OutEnd = with_tail o (8 * i.consumer.released) (o.producer.loads + 1) in
     let is_out : with_out outs k p ≡ later_outs = sym (end o at ∙ (λ n. with_out outs (place n) (with_tail o (ap released_of_slot slot n) (o.producer.loads + 1)))) in
@@ -167,14 +167,14 @@ met-still words k ring outs later_outs ins later_ins o at place end reader h =
     )
 
 -- the reader that a ring's ends leave where they meet is the same but for what it has seen
-pub met-same : (words k : ℕ) (ring : RingNo) (outs : OutList) (ins later : InList) (o : OutEnd) → out_of outs ring ≡ Some o → place_of outs.numbers ring ≡ k → MeetsReader ring outs ins later
+pub met-same : (words k : ℕ) (ring : RingNo) (outs : OutList) (ins later : InList) (o : OutEnd) → out_of outs ring ≡ Some o → ring_index outs.numbers ring ≡ k → MeetsReader ring outs ins later
     → AreReaders words outs ins → SameReaders ins later
 met-same words k ring outs ins later o at place reader h =
     let there = h.each k o (ap (slice_get outs.outs) (sym place) ∙ at) in
-    let same : place_of ins.numbers ring ≡ k = ap (λ n. place_of n ring) h.numbers ∙ place in
-    let slot : slice_get ins.readers (place_of ins.numbers ring) ≡ Some (Some there.0) = ap (slice_get ins.readers) same ∙ there.1 in
+    let same : ring_index ins.numbers ring ≡ k = ap (λ n. ring_index n ring) h.numbers ∙ place in
+    let slot : slice_get ins.readers (ring_index ins.numbers ring) ≡ Some (Some there.0) = ap (slice_get ins.readers) same ∙ there.1 in
     let met = reader o there.0 at slot in
-    same-met o ins later (place_of ins.numbers ring) there.0 met.0 slot met.1 met.2
+    same-met o ins later (ring_index ins.numbers ring) there.0 met.0 slot met.1 met.2
 
 -- a look that sees no more than the last one is none
 pub no-look : (rings : List (RingNo × ℕ)) (k : ℕ) (items later : List Act) → IsNext rings k items later → last_seen (slice_index_or rings k no_ring).0 later ≡ last_seen (slice_index_or rings k no_ring).0 items
@@ -192,12 +192,12 @@ no-look rings k items later (inr look) e =
         one false e = absurd (grind (arith, nat_tests, e))
 
 -- a reader has taken what it has released
-released-words : (words : ℕ) (outs : OutList) (ins : InList) (ring : RingNo) (k : ℕ) → place_of outs.numbers ring ≡ k → k < length outs.outs → AreReaders words outs ins
+released-words : (words : ℕ) (outs : OutList) (ins : InList) (ring : RingNo) (k : ℕ) → ring_index outs.numbers ring ≡ k → k < length outs.outs → AreReaders words outs ins
     → released_in ins ring ≤ 8 * length (words_in ins ring)
 released-words words outs ins ring k place low h = elim (slice_get_cases outs.outs k).1 [
   | inl (o, _, at, _) ↦
       let there = h.each k o at in
-      let slot : slice_get ins.readers (place_of ins.numbers ring) ≡ Some (Some there.0) = ap (slice_get ins.readers) (ap (λ n. place_of n ring) h.numbers ∙ place) ∙ there.1 in
+      let slot : slice_get ins.readers (ring_index ins.numbers ring) ≡ Some (Some there.0) = ap (slice_get ins.readers) (ap (λ n. ring_index n ring) h.numbers ∙ place) ∙ there.1 in
       omega (arith, ap released_of_slot slot, ap (λ (x : Option (Option InEnd)). length (words_of_slot x)) slot, there.2.released)
   | inr (past, _) ↦ absurd (omega (arith, past, low))
 ]
@@ -215,9 +215,9 @@ all-parts k s words before items outs ins declared past numbers ends rise reader
     let written : (account_in s items r).written ≡ (account_in s before (r.0, bytes_of s r.0)).written =
     written-looked s k before items r looked ∙ ap (λ n. (account_in s before (r.0, n)).written) (sym bytes) in
     let tail : (account_in s items r).tail ≡ last_seen r.0 items = seen_tail s items r.0 r.1 in
-    let place : place_of outs.numbers r.0 ≡ j =
-    ap (λ n. place_of n r.0) numbers ∙ place-of-nth s.rings j r rise (slice_get-get_or s.rings j d low) in
+    let place : ring_index outs.numbers r.0 ≡ j =
+    ap (λ n. ring_index n r.0) numbers ∙ place-of-nth s.rings j r rise (slice_get-get_or s.rings j d low) in
     let released : released_in ins r.0 ≤ 8 * length (words_in ins r.0) = released-words words outs ins r.0 j place (omega (arith, ends, low)) readers in
-    let few = few-taken-of s items r (records_in ins r.0)
-    (omega (arith, tail, part.0, released, ap length part.1, ap (λ records. length (words_of (take (records_in ins r.0) records))) written)) in
+    let few = few-taken-of s items r (records_taken ins r.0)
+    (omega (arith, tail, part.0, released, ap length part.1, ap (λ records. length (words_of (take (records_taken ins r.0) records))) written)) in
     (part.0, few)

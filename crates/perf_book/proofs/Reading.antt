@@ -7,14 +7,14 @@ use Rattle.std.proofs.lemmas.List.Elements.{All-tail}
 use Rattle.perf_base.specs.declared.lines.ReaderLine.{ReaderLine}
 use Rattle.perf_base.specs.declared.numbers.RingNo.{RingNo}
 use Rattle.sample_ring.specs.InEnds.{InEnd, IsStill, Reads}
-use Rattle.sample_ring.specs.RingLists.{HasRing, InList, IsOut, RingList, place_of, with_slot}
+use Rattle.sample_ring.specs.RingLists.{HasRing, InList, IsOut, RingList, ring_index, with_slot}
 use Rattle.stage_laws.proofs.Leaders.{find-first, find-later}
 use Rattle.machine.proofs.Places.{place-here, place-later, set-here, set-other}
 use Rattle.report_spec.specs.Answers.{line_for}
 use Rattle.perf_book.specs.Running.{AreReady, HasRead, IsReadBy, IsReady, slot_of}
 
 -- two rings stand at two places, if one of them is there
-places-apart : (numbers : List RingNo) (ring other : RingNo) → HasRing numbers ring → (other.0 ≡ ring.0 → ⊥) → place_of numbers other ≡ place_of numbers ring → ⊥
+places-apart : (numbers : List RingNo) (ring other : RingNo) → HasRing numbers ring → (other.0 ≡ ring.0 → ⊥) → ring_index numbers other ≡ ring_index numbers ring → ⊥
 places-apart [] ring other there off same = omega (arith, there)
 places-apart (n ∷ numbers) ring other there off same = elim (cases_eq n.0 ring.0) [
   | inl here ↦
@@ -30,8 +30,8 @@ places-apart (n ∷ numbers) ring other there off same = elim (cases_eq n.0 ring
 
 -- a slot of another ring stays where one is set
 slot-other : (ins : InList) (ring other : RingNo) (slot : Option InEnd) → HasRing ins.numbers ring → (other.0 ≡ ring.0 → ⊥)
-    → slot_of (with_slot ins (place_of ins.numbers ring) slot) other ≡ slot_of ins other
-slot-other ins ring other slot there off = set-other ins.readers (place_of ins.numbers ring) (place_of ins.numbers other) slot (places-apart ins.numbers ring other there off)
+    → slot_of (with_slot ins (ring_index ins.numbers ring) slot) other ≡ slot_of ins other
+slot-other ins ring other slot there off = set-other ins.readers (ring_index ins.numbers ring) (ring_index ins.numbers other) slot (places-apart ins.numbers ring other there off)
 
 -- lines behind a line are of higher rings
 above : (line : ReaderLine) (rest : List ReaderLine) → AllPairs (λ q r. q.ring.0 < r.ring.0) (line ∷ rest) → All (λ r. line.ring.0 < r.ring.0) rest
@@ -52,7 +52,7 @@ pub first-ready : (rings : RingList) (ins : InList) (line : ReaderLine) (rest : 
 first-ready rings ins line rest ready = ready 0 line (omega arith)
 
 pub rest-ready : (rings : RingList) (ins : InList) (line : ReaderLine) (rest : List ReaderLine) → AllPairs (λ q r. q.ring.0 < r.ring.0) (line ∷ rest) → AreReady rings ins (line ∷ rest)
-    → AreReady rings (with_slot ins (place_of ins.numbers line.ring) None) rest
+    → AreReady rings (with_slot ins (ring_index ins.numbers line.ring) None) rest
 rest-ready rings ins line rest rise ready k d low =
     let higher : line.ring.0 < (get_or rest k d).ring.0 = above line rest rise k d low in
     let its : IsReady rings ins (get_or rest k d).ring = All-tail (λ l. IsReady rings ins l.ring) line rest ready k d low in
@@ -69,12 +69,12 @@ rest-ready rings ins line rest rise ready k d low =
 -- The readers of some lines have read while the one of a line before them was out: its slot is empty still, and with it
 -- back all have read.
 pub still-out : (ins out inner : InList) (lines rest : List ReaderLine) (line : ReaderLine) (reader : InEnd) → lines ≡ line ∷ rest → AllPairs (λ q r. q.ring.0 < r.ring.0) lines
-    → slot_of ins line.ring ≡ Some (Some reader) → out ≡ with_slot ins (place_of ins.numbers line.ring) None
+    → slot_of ins line.ring ≡ Some (Some reader) → out ≡ with_slot ins (ring_index ins.numbers line.ring) None
     → ((ring : RingNo) → IsReadBy (line_for rest ring) out inner ring) → IsOut inner line.ring
 still-out ins out inner lines rest line reader is rise at end read =
     let none : line_for rest line.ring ≡ None = none-for rest line.ring (above line rest (subst (AllPairs (λ q r. q.ring.0 < r.ring.0)) is rise)) in
     subst (λ l. IsReadBy l out inner line.ring) none (read line.ring)
-    ∙ (ap (λ (x : InList). slot_of x line.ring) end ∙ set-here ins.readers (place_of ins.numbers line.ring) (Some reader) None at)
+    ∙ (ap (λ (x : InList). slot_of x line.ring) end ∙ set-here ins.readers (ring_index ins.numbers line.ring) (Some reader) None at)
 
 by-slots : (line : Option ReaderLine) (out before inner after : InList) (ring : RingNo) → slot_of out ring ≡ slot_of before ring → slot_of after ring ≡ slot_of inner ring
     → IsReadBy line out inner ring → IsReadBy line before after ring
@@ -83,8 +83,8 @@ by-slots (Some line) out before inner after ring first last read = (read.0, read
 
 pub read-more : (ins out inner after : InList) (lines rest : List ReaderLine) (line : ReaderLine) (reader back : InEnd) → lines ≡ line ∷ rest
     → AllPairs (λ q r. q.ring.0 < r.ring.0) lines → HasRing ins.numbers line.ring → slot_of ins line.ring ≡ Some (Some reader)
-    → out ≡ with_slot ins (place_of ins.numbers line.ring) None → inner.numbers ≡ out.numbers → ((ring : RingNo) → IsReadBy (line_for rest ring) out inner ring)
-    → HasRead line reader back → after ≡ with_slot inner (place_of inner.numbers line.ring) (Some back) → (ring : RingNo) → IsReadBy (line_for lines ring) ins after ring
+    → out ≡ with_slot ins (ring_index ins.numbers line.ring) None → inner.numbers ≡ out.numbers → ((ring : RingNo) → IsReadBy (line_for rest ring) out inner ring)
+    → HasRead line reader back → after ≡ with_slot inner (ring_index inner.numbers line.ring) (Some back) → (ring : RingNo) → IsReadBy (line_for lines ring) ins after ring
 read-more ins out inner after lines rest line reader back is rise there at end numbers read has put ring = elim (cases_eq line.ring.0 ring.0) [
   | inl here ↦
       let its : (line.ring.0 == ring.0) ≡ true = grind (arith, nat_tests, here) in
@@ -92,7 +92,7 @@ read-more ins out inner after lines rest line reader back is rise there at end n
       let same : line.ring ≡ ring = λ i. record { 0 = here i } in
       let empty : IsOut inner line.ring = still-out ins out inner lines rest line reader is rise at end read in
       let now : slot_of after line.ring ≡ Some (Some back) =
-      ap (λ (x : InList). slot_of x line.ring) put ∙ set-here inner.readers (place_of inner.numbers line.ring) None (Some back) empty in
+      ap (λ (x : InList). slot_of x line.ring) put ∙ set-here inner.readers (ring_index inner.numbers line.ring) None (Some back) empty in
       subst (λ l. IsReadBy l ins after ring) (sym found) (reader, back, ap (slot_of ins) (sym same) ∙ at, ap (slot_of after) (sym same) ∙ now, has)
   | inr off ↦
       let its : (line.ring.0 == ring.0) ≡ false = grind (arith, nat_tests, off) in

@@ -11,7 +11,7 @@ use Rattle.report_spec.specs.Answers.{reader_of}
 use Rattle.ring_words.specs.Ends.{Ring}
 use Rattle.sample_ring.specs.InEnds.{InEnd}
 use Rattle.sample_ring.specs.OutEnds.{OutEnd}
-use Rattle.sample_ring.specs.RingLists.{InList, OutList, RingList, place_of}
+use Rattle.sample_ring.specs.RingLists.{InList, OutList, RingList, ring_index}
 use Rattle.sample_ring.specs.RingLists as lists
 use Rattle.work_account.specs.Ends.{AreTogether}
 use Rattle.machine.specs.Leading.{Kept, LeadTo}
@@ -52,17 +52,17 @@ table-at (p ∷ outs) (suc place) o at = table-at outs place o at
 -- the reader of a ring that is there is ready
 ready-at : (words : ℕ) (rings : RingList) (outs : OutList) (ins : InList) (ring : RingNo) → AreTogether rings outs → AreReaders words outs ins → length outs.outs ≡ length outs.numbers
     → lists.HasRing outs.numbers ring → IsReady rings ins ring
-ready-at words rings outs ins ring together readers whole there = elim (slice_get_cases outs.outs (place_of outs.numbers ring)).1 [
+ready-at words rings outs ins ring together readers whole there = elim (slice_get_cases outs.outs (ring_index outs.numbers ring)).1 [
   | inl (o, _, at, _) ↦
-      let its = readers.each (place_of outs.numbers ring) o at in
-      let table : slice_get (map (λ (o : OutEnd). o.producer.ring) outs.outs) (place_of outs.numbers ring) ≡ Some o.producer.ring =
-      table-at outs.outs (place_of outs.numbers ring) o at in
+      let its = readers.each (ring_index outs.numbers ring) o at in
+      let table : slice_get (map (λ (o : OutEnd). o.producer.ring) outs.outs) (ring_index outs.numbers ring) ≡ Some o.producer.ring =
+      table-at outs.outs (ring_index outs.numbers ring) o at in
       record {
         known = subst (λ (n : List RingNo). lists.HasRing n ring) (sym together.numbers) there;
         listed = subst (λ (n : List RingNo). lists.HasRing n ring) (sym readers.numbers) there;
         reader = its.0;
-        there = ap (λ (n : List RingNo). slice_get ins.readers (place_of n ring)) readers.numbers ∙ its.1;
-        same = (λ i. slice_get (sym together.tables i) (place_of (together.numbers i) ring)) ∙ (table ∙ ap Some (sym its.2.ring));
+        there = ap (λ (n : List RingNo). slice_get ins.readers (ring_index n ring)) readers.numbers ∙ its.1;
+        same = (λ i. slice_get (sym together.tables i) (ring_index (together.numbers i) ring)) ∙ (table ∙ ap Some (sym its.2.ring));
         released = its.2.released;
       }
   | inr (past, _) ↦ absurd (omega (arith, past, there, whole))
@@ -119,9 +119,9 @@ readers-back x y words rings before after hx hy same together later numbers read
           | inl (o, _, at, _) ↦
               let its = readers.each place o at in
               let names : before.numbers ≡ map (λ (r : RingNo × ℕ). r.0) x.script.rings = readers.numbers ∙ numbers-of x.script x.order x.machine hx.led in
-              let here : place_of before.numbers r.0 ≡ place =
-              ap (λ (n : List RingNo). place_of n r.0) names ∙ place-of-nth x.script.rings place r hx.script.rings_rise ring_at in
-              let here_after : place_of after.numbers r.0 ≡ place = ap (λ (n : List RingNo). place_of n r.0) numbers ∙ here in
+              let here : ring_index before.numbers r.0 ≡ place =
+              ap (λ (n : List RingNo). ring_index n r.0) names ∙ place-of-nth x.script.rings place r hx.script.rings_rise ring_at in
+              let here_after : ring_index after.numbers r.0 ≡ place = ap (λ (n : List RingNo). ring_index n r.0) numbers ∙ here in
               let back = read-back (reader_of x.script r.0) before after r.0 words o p its.0 (read r.0) (ap (slice_get before.readers) here ∙ its.1)
               (same-ring rings outs y.machine.outs place o p together later at found) its.2 in
               (back.0, ap (slice_get after.readers) (sym here_after) ∙ back.1, back.2)

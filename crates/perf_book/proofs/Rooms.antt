@@ -15,10 +15,11 @@ use Rattle.perf_base.specs.declared.reply.Reply.{Reply}
 use Rattle.perf_base.specs.Weight.{weight}
 use Rattle.perf_base.specs.Scripts.{Scripted, IsCovered, IsScript, line_count, lines_of_cpu, lines_of_tool}
 use Rattle.stage_spec.specs.Order.{IsCounted, done_by_cpu, done_by_tool, is_of_cpu, is_of_tool}
-use Rattle.stage_spec.specs.Replies.{Answered, AnswerOrder, lines_from}
+use Rattle.stage_spec.specs.Replies.{AnswerOrder, lines_from}
+use Rattle.perf_base.specs.declared.reply.Answer.{Answer}
 use Rattle.machine.specs.Leading.{Kept, HasLine, LeadTo, act_of, done_by}
 use Rattle.machine.proofs.Answers.{answers-look, no-answers}
-use Rattle.report_spec.specs.Answers.{answered, lost_in}
+use Rattle.report_spec.specs.Answers.{lost_in}
 use Rattle.run_laws.specs.Growing.{AreLooks, does_line, is_cpu_act, is_look}
 use Rattle.run_laws.proofs.Lines.{counted-cpus, counted-lines, lengths, looks-do-nothing}
 use Rattle.run_laws.proofs.Rings.{few-rings}
@@ -83,12 +84,12 @@ lines-count before (act.Tool tool ∷ acts) = omega (arith, lines-count (before 
 lines-count before (act.Seen ring place ∷ acts) =
     omega (arith, lines-count (before ++ act.Seen ring place ∷ []) acts, sum_by-cons (λ a. cond (does_line a) 1 0) (act.Seen ring place) acts)
 
-pub answers-count : (s : Scripted) (acts : List Act) (answers : List (Actor × ℕ × Reply)) → AnswerOrder s (lost_in s) acts (map answered answers) → length answers ≡ count_by does_line acts
+pub answers-count : (s : Scripted) (acts : List Act) (answers : List Answer) → AnswerOrder s (lost_in s) acts answers → length answers ≡ count_by does_line acts
 answers-count s acts answers h =
-    sym (length-map answers answered) ∙ (sym (length-map (map answered answers) (λ a. (a.actor, a.number))) ∙ (ap length h.lines ∙ lines-count [] acts))
+    sym (length-map answers (λ a. (a.actor, a.number))) ∙ (ap length h.lines ∙ lines-count [] acts)
 
 -- looks have no answers
-seen-answers : (s : Scripted) (from : ℕ) (before acts looks : List Act) (answers : List Answered) → AreLooks from before looks → AnswerOrder s (lost_in s) acts answers
+seen-answers : (s : Scripted) (from : ℕ) (before acts looks : List Act) (answers : List Answer) → AreLooks from before looks → AnswerOrder s (lost_in s) acts answers
     → AnswerOrder s (lost_in s) (acts ++ looks) answers
 seen-answers s from before acts [] answers are h = subst (λ o. AnswerOrder s (lost_in s) o answers) (sym (append-nil acts)) h
 seen-answers s from before acts (act.Processor cpu ∷ looks) answers are h = absurd are
@@ -97,7 +98,7 @@ seen-answers s from before acts (act.Seen ring place ∷ looks) answers are h =
     subst (λ o. AnswerOrder s (lost_in s) o answers) (append_assoc acts (act.Seen ring place ∷ []) looks)
     (seen-answers s (ring.0 + 1) before (acts ++ act.Seen ring place ∷ []) looks answers are.2 (answers-look s (lost_in s) acts ring place answers h))
 
-pub looks-answered : (s : Scripted) (acts looks : List Act) (answers : List Answered) → AreLooks 0 acts looks → AnswerOrder s (lost_in s) acts answers → AnswerOrder s (lost_in s) (acts ++ looks) answers
+pub looks-answered : (s : Scripted) (acts looks : List Act) (answers : List Answer) → AreLooks 0 acts looks → AnswerOrder s (lost_in s) acts answers → AnswerOrder s (lost_in s) (acts ++ looks) answers
 looks-answered s acts looks answers are h = seen-answers s 0 acts acts looks answers are h
 
 -- room for 16 acts, whatever was done; for one act behind 16 looks, and one answer, where an actor has a line left
@@ -173,7 +174,7 @@ few-looks s acts looks then (actor.Tool tool) m script has are few h e =
 few-looks s acts looks then (actor.Reader ring) m script has are few h e = absurd has
 
 -- looks leave the answers, and who has a line
-pub answered-looks : (s : Scripted) (acts looks then : List Act) (who : Actor) (answers : List Answered) → AreLooksOf who acts looks → then ≡ acts ++ looks → AnswerOrder s (lost_in s) acts answers
+pub answered-looks : (s : Scripted) (acts looks then : List Act) (who : Actor) (answers : List Answer) → AreLooksOf who acts looks → then ≡ acts ++ looks → AnswerOrder s (lost_in s) acts answers
     → AnswerOrder s (lost_in s) then answers
 answered-looks s acts looks then (actor.Processor cpu) answers are e h = subst (λ o. AnswerOrder s (lost_in s) o answers) (sym e) (seen-answers s 0 acts acts looks answers are h)
 answered-looks s acts looks then (actor.Tool tool) answers are e h = subst (λ o. AnswerOrder s (lost_in s) o answers) (sym (e ∙ (ap (λ ls. acts ++ ls) are ∙ append-nil acts))) h
@@ -194,8 +195,8 @@ looks-length s (actor.Tool tool) looks few = omega (arith, few)
 looks-length s (actor.Reader ring) looks few = omega (arith, few)
 
 -- a book with one line more
-pub booked-then : (b : Booked) (who : Actor) (looks then : List Act) (m : Kept) (answers : List (Actor × ℕ × Reply)) → IsBooked b → HasLine b.script b.machine who → AreLooksOf who b.order looks
-    → length looks ≤ loads_by who * length b.script.rings → then ≡ (b.order ++ looks) ++ act_of who ∷ [] → LeadTo b.script then m → AnswerOrder b.script (lost_in b.script) then (map answered answers)
+pub booked-then : (b : Booked) (who : Actor) (looks then : List Act) (m : Kept) (answers : List Answer) → IsBooked b → HasLine b.script b.machine who → AreLooksOf who b.order looks
+    → length looks ≤ loads_by who * length b.script.rings → then ≡ (b.order ++ looks) ++ act_of who ∷ [] → LeadTo b.script then m → AnswerOrder b.script (lost_in b.script) then answers
     → IsBooked (record { script = b.script; machine = m; order = then; answers = answers })
 booked-then b who looks then m answers h has are few e led all = record {
   script = h.script;
@@ -227,8 +228,8 @@ looks-then b (act.Processor cpu) h may = omega (arith, h.looks, count-push is_lo
 looks-then b (act.Tool tool) h may = omega (arith, h.looks, count-push is_look b.order (act.Tool tool), count-push is_cpu_act b.order (act.Tool tool))
 looks-then b (act.Seen ring place) h may = omega (arith, may, count-push is_look b.order (act.Seen ring place))
 
-pub booked-act : (b : Booked) (a : Act) (then : List Act) (m : Kept) (answers : List (Actor × ℕ × Reply)) → IsBooked b → MayAct a b → then ≡ b.order ++ a ∷ []
-    → LeadTo b.script then m → AnswerOrder b.script (lost_in b.script) then (map answered answers) → IsBooked (record { script = b.script; machine = m; order = then; answers = answers })
+pub booked-act : (b : Booked) (a : Act) (then : List Act) (m : Kept) (answers : List Answer) → IsBooked b → MayAct a b → then ≡ b.order ++ a ∷ []
+    → LeadTo b.script then m → AnswerOrder b.script (lost_in b.script) then answers → IsBooked (record { script = b.script; machine = m; order = then; answers = answers })
 booked-act b a then m answers h may e led all = record {
   script = h.script;
   covered = h.covered;

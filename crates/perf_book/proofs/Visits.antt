@@ -7,7 +7,7 @@ use Rattle.perf_base.specs.declared.acts.Act.{Act}
 use Rattle.perf_base.specs.declared.numbers.RingNo.{RingNo}
 use Rattle.perf_base.specs.Scripts.{Scripted, IsScript}
 use Rattle.sample_ring.specs.OutEnds.{OutEnd}
-use Rattle.sample_ring.specs.RingLists.{HasRing, place_of}
+use Rattle.sample_ring.specs.RingLists.{HasRing, ring_index}
 use Rattle.machine.specs.Leading.{Kept, LeadTo}
 use Rattle.machine.specs.Readers.{loads_of, out_of}
 use Rattle.machine.proofs.Behind.{ends-of-rings, numbers-of, place-of-nth}
@@ -15,11 +15,11 @@ use Rattle.perf_book.proofs.Looked.{no_ring}
 
 -- the k-th ring's end is the k-th
 pub kth-place : (s : Scripted) (acts : List Act) (m : Kept) (rings : List (RingNo × ℕ)) (k : ℕ) → IsScript s → LeadTo s acts m → rings ≡ s.rings → k < length rings
-    → place_of m.outs.numbers (slice_index_or rings k no_ring).0 ≡ k
+    → ring_index m.outs.numbers (slice_index_or rings k no_ring).0 ≡ k
 kth-place s acts m rings k h led e =
-    subst (λ (l : List (RingNo × ℕ)). k < length l → place_of m.outs.numbers (slice_index_or l k no_ring).0 ≡ k) (sym e)
+    subst (λ (l : List (RingNo × ℕ)). k < length l → ring_index m.outs.numbers (slice_index_or l k no_ring).0 ≡ k) (sym e)
     (λ low.
-    ap (λ n. place_of n (slice_index_or s.rings k no_ring).0) (numbers-of s acts m led)
+    ap (λ n. ring_index n (slice_index_or s.rings k no_ring).0) (numbers-of s acts m led)
     ∙ place-of-nth s.rings k (slice_index_or s.rings k no_ring) h.rings_rise (slice_get-get_or s.rings k no_ring low))
 
 pub kth-there : (s : Scripted) (acts : List Act) (m : Kept) (rings : List (RingNo × ℕ)) (k : ℕ) → IsScript s → LeadTo s acts m → rings ≡ s.rings → k < length rings

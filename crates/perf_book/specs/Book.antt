@@ -1,15 +1,15 @@
 -- What a book keeps: a script, the acts that were done of it, in their order, with the answers to them, and the machine
 -- that they lead to. This project's own profile.
-use Rattle.std.specs.Prelude.{◌≡◌, ℕ, ◌+◌, ◌*◌, ◌<◌, ◌≤◌, ⊤, List, [], count_by, length, map, sum_by}
+use Rattle.std.specs.Prelude.{◌≡◌, ℕ, ◌+◌, ◌*◌, ◌<◌, ◌≤◌, ⊤, List, [], count_by, length, sum_by}
 use Rattle.perf_base.specs.declared.acts.Act.{Act}
 use Rattle.perf_base.specs.declared.acts.Act.TheVariants as act
 use Rattle.perf_base.specs.declared.acts.Actor.{Actor}
 use Rattle.perf_base.specs.declared.acts.Actor.TheVariants as actor
-use Rattle.perf_base.specs.declared.reply.Reply.{Reply}
+use Rattle.perf_base.specs.declared.reply.Answer.{Answer}
 use Rattle.perf_base.specs.Scripts.{Scripted, IsCovered, IsScript, line_count}
 use Rattle.perf_base.specs.Weight.{weight}
 use Rattle.machine.specs.Leading.{Kept, LeadTo}
-use Rattle.report_spec.specs.Answers.{answered, IsAnswered}
+use Rattle.report_spec.specs.Answers.{IsAnswered}
 use Rattle.run_laws.specs.Growing.{AreLooks, is_cpu_act, is_look}
 
 -- the script, the machine, the order, and the answer to each line that was done, with its actor and its number among
@@ -18,7 +18,7 @@ pub record Booked : Type 0 where
   pub script : Scripted
   pub machine : Kept
   pub order : List Act
-  pub answers : List (Actor × ℕ × Reply)
+  pub answers : List Answer
 
 -- The script's processors are of PMUs, it is not too heavy, its order leads to the machine and has these answers, and
 -- there are no more looks than the script's own order may have and 16 for each act of a processor.
@@ -27,7 +27,7 @@ pub record IsBooked (b : Booked) : Type 0 where
   pub covered : IsCovered b.script
   pub light : weight b.script ≤ 65536
   pub led : LeadTo b.script b.order b.machine
-  pub answered : IsAnswered b.script b.order (map answered b.answers)
+  pub answered : IsAnswered b.script b.order b.answers
   pub looks : count_by is_look b.order ≤ length b.script.order + 16 * count_by is_cpu_act b.order
 
 -- A look at a ring is one of at most as many as the script's own order has acts. A line asks nothing.

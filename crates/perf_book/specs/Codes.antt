@@ -1,22 +1,17 @@
 -- How the value of a book is stored: as the tuple of its parts. This project's own profile.
-use Rattle.std.specs.Prelude.{ℕ, List, refl}
-use Rattle.std.specs.Coded.{Coded, code_by, coded×, coded_ℕ, coded_list}
+use Rattle.std.specs.Prelude.{List, refl}
+use Rattle.std.specs.Coded.{Coded, code_by, coded×, coded_list}
 use Rattle.perf_base.specs.contracts.acts.Act.{the_row as act_row}
-use Rattle.perf_base.specs.contracts.acts.Actor.{the_row as actor_row}
-use Rattle.perf_base.specs.contracts.reply.Reply.{the_row as reply_row}
+use Rattle.perf_base.specs.contracts.reply.Answer.{the_row as answer_row}
 use Rattle.perf_base.specs.contracts.script.Script.{the_row as script_row}
 use Rattle.perf_base.specs.declared.acts.Act.{Act}
-use Rattle.perf_base.specs.declared.acts.Actor.{Actor}
-use Rattle.perf_base.specs.declared.reply.Reply.{Reply}
+use Rattle.perf_base.specs.declared.reply.Answer.{Answer}
 use Rattle.perf_base.specs.Scripts.{Scripted}
 use Rattle.machine.specs.Codes.{kept_code}
 use Rattle.machine.specs.Leading.{Kept}
 use Rattle.perf_book.specs.Book.{Booked}
 
-abbrev pub answer_code : Coded (Actor × ℕ × Reply)
-answer_code = code_by (Actor × (ℕ × Reply)) (coded× actor_row.coded (coded× coded_ℕ reply_row.coded)) (λ a. (a.0, (a.1, a.2))) (λ p. (p.0, p.1.0, p.1.1)) (λ _. refl)
-
 abbrev pub booked_code : Coded Booked
 booked_code =
-    code_by (Scripted × (Kept × (List Act × List (Actor × ℕ × Reply)))) (coded× script_row.coded (coded× kept_code (coded× (coded_list act_row.coded) (coded_list answer_code))))
+    code_by (Scripted × (Kept × (List Act × List Answer))) (coded× script_row.coded (coded× kept_code (coded× (coded_list act_row.coded) (coded_list answer_row.coded))))
     (λ b. (b.script, (b.machine, (b.order, b.answers)))) (λ p. record { script = p.0; machine = p.1.0; order = p.1.1.0; answers = p.1.1.1 }) (λ _. refl)

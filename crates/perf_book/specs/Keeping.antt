@@ -4,8 +4,9 @@ use Rattle.perf_base.specs.declared.acts.Act.{Act}
 use Rattle.perf_base.specs.declared.acts.Act.TheVariants as act
 use Rattle.perf_base.specs.declared.acts.Actor.{Actor}
 use Rattle.perf_base.specs.declared.acts.Actor.TheVariants as actor
+use Rattle.perf_base.specs.declared.reply.Answer.{Answer}
 use Rattle.perf_base.specs.declared.reply.Reply.{Reply}
-use Rattle.line_steps.specs.Stepped.{StaysIfRefused}
+use Rattle.machine.specs.Stepped.{StaysIfRefused}
 use Rattle.machine.specs.Leading.{Kept, done_by}
 
 -- whose line an act does next, and its number; a look does none
@@ -19,11 +20,11 @@ abbrev pub line_in : Option (Actor × ℕ) → List (Actor × ℕ)
 line_in None = []
 line_in (Some line) = line ∷ []
 
-abbrev pub kept : Option (Actor × ℕ) → Reply → List (Actor × ℕ × Reply)
+abbrev pub kept : Option (Actor × ℕ) → Reply → List Answer
 kept None reply = []
-kept (Some line) reply = (line.0, line.1, reply) ∷ []
+kept (Some line) reply = record { actor = line.0; number = line.1; reply = reply } ∷ []
 
 -- The answer to an act is kept behind the others. Where it is a refusal the machine's world is as it was before the
 -- act.
-abbrev pub KeepsAnswer : Option (Actor × ℕ) → (m after : Kept) → (before now : List (Actor × ℕ × Reply)) → Type 0
+abbrev pub KeepsAnswer : Option (Actor × ℕ) → (m after : Kept) → (before now : List Answer) → Type 0
 KeepsAnswer line m after before now = (reply : Reply) × (now ≡ before ++ kept line reply) × StaysIfRefused m.world after.world reply

@@ -5,7 +5,7 @@ use Rattle.perf_base.specs.declared.lines.ReaderLine.{ReaderLine}
 use Rattle.perf_base.specs.declared.numbers.RingNo.{RingNo}
 use Rattle.perf_base.specs.Scripts.{Scripted}
 use Rattle.sample_ring.specs.InEnds.{InEnd}
-use Rattle.sample_ring.specs.RingLists.{HasRing, InList, RingList, place_of}
+use Rattle.sample_ring.specs.RingLists.{HasRing, InList, RingList, ring_index}
 use Rattle.report_spec.specs.Answers.{IsRunShaped, reader_of}
 use Rattle.run_laws.specs.Growing.{EndsWithLine}
 
@@ -25,7 +25,7 @@ pub record HasRead (line : ReaderLine) (i j : InEnd) : Type 0 where
 
 -- what stands in the place of a ring's reader
 abbrev pub slot_of : InList → RingNo → Option (Option InEnd)
-slot_of ins ring = slice_get ins.readers (place_of ins.numbers ring)
+slot_of ins ring = slice_get ins.readers (ring_index ins.numbers ring)
 
 -- The reader of a ring has done its line, where it has one; else it is as it was.
 abbrev pub IsReadBy : Option ReaderLine → (before after : InList) → RingNo → Type 0
@@ -42,7 +42,7 @@ pub record IsReady (rings : RingList) (ins : InList) (ring : RingNo) : Type 0 wh
   pub listed : HasRing ins.numbers ring
   pub reader : InEnd
   pub there : slot_of ins ring ≡ Some (Some reader)
-  pub same : slice_get rings.tables (place_of rings.numbers ring) ≡ Some reader.consumer.ring
+  pub same : slice_get rings.tables (ring_index rings.numbers ring) ≡ Some reader.consumer.ring
   pub released : reader.consumer.released ≡ length reader.words
 
 abbrev pub AreReady : RingList → InList → List ReaderLine → Type 0

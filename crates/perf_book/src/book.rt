@@ -13,11 +13,11 @@ ghost use Rattle.machine.specs.Stepping.{HasNoLine, IsUnlawful, NamesRing};
 ghost use Rattle.perf_book.specs.Book.{AreLooksOf, Booked, IsBooked, MayAct, loads_by};
 ghost use Rattle.perf_book.specs.Keeping.{KeepsAnswer, next_line};
 
-use crate::doing::{Answer, do_act, do_line};
+use crate::doing::{do_line, keep, line_of};
 use crate::looking::look_before;
 use crate::making::count_acts;
 use machine::{Machine, OrderFault, RingEnd};
-use perf_base::{Act, Actor, NoMemory, Script};
+use perf_base::{Act, Actor, Answer, NoMemory, Script};
 use sample_ring::{Ins, Outs, Rings};
 use std::alloc::Global;
 use std::marker::Model;
@@ -153,14 +153,14 @@ impl Book {
         ensures following { AreFollowing (9 * weight self.new.script) self.new.machine.outs ins.new }
         ensures sound { IsBooked self.new }
     {
-        do_act(
-            &mut self.machine,
-            &self.script,
-            rings,
-            ins,
-            &mut self.order,
-            &mut self.answers,
-            act,
-        )
+        let line = line_of(&self.machine, act);
+        match self.machine.step(&self.script, rings, ins, act) {
+            Err(fault) => Err(fault),
+            Ok(reply) => {
+                keep(&mut self.answers, line, reply);
+                self.order.push_reserved(act);
+                Ok(())
+            }
+        }
     }
 }

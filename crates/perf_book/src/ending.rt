@@ -7,15 +7,15 @@ ghost use Rattle.perf_base.specs.Scripts.{Scripted};
 ghost use Rattle.perf_base.specs.Weight.{weight};
 ghost use Rattle.ring_spec.specs.Records.{words_of};
 ghost use Rattle.ring_spec.specs.Rings.{account_in, bytes_of};
-ghost use Rattle.ring_taking.specs.Taking.{with_tail};
+ghost use Rattle.sample_ring.specs.Taking.{with_tail};
 ghost use Rattle.sample_ring.specs.InEnds.{InEnd};
 ghost use Rattle.sample_ring.specs.Lending.{with_out};
 ghost use Rattle.sample_ring.specs.OutEnds.{OutEnd};
-ghost use Rattle.sample_ring.specs.RingLists.{HasRing, place_of, with_slot};
+ghost use Rattle.sample_ring.specs.RingLists.{HasRing, ring_index, with_slot};
 ghost use Rattle.stage_spec.specs.Order.{last_seen};
 ghost use Rattle.work_account.specs.Ends.{AreTogether};
 ghost use Rattle.machine.specs.Leading.{IsOf, LeadTo};
-ghost use Rattle.machine.specs.Readers.{AreBehind, AreReaders, HasItsReader, HasMet, IsShown, out_of, records_in, released_in, words_in};
+ghost use Rattle.machine.specs.Readers.{AreBehind, AreReaders, HasItsReader, HasMet, IsShown, out_of, records_taken, released_in, words_in};
 ghost use Rattle.perf_book.specs.Ending.{AreParts, IsEnd};
 ghost use Rattle.run_laws.specs.Growing.{AreLooks};
 
@@ -36,11 +36,11 @@ fn meet_at(machine: &mut Machine, rings: &Rings, ins: &mut Ins, order: &mut Vec<
         ⊎ ((place : ℕ) × (last_seen ring order.old.items < place) × (order.new.items ≡ order.old.items ++ act.Seen ring place ∷ [])) }
     ensures seen { (s : Scripted) → LeadTo s order.old.items machine.old → last_seen ring order.new.items ≡ released_in ins.old ring }
     ensures end { (o : OutEnd) → out_of machine.old.outs ring ≡ Some o
-        → machine.new.outs ≡ with_out machine.old.outs (place_of machine.old.outs.numbers ring) (with_tail o (released_in ins.old ring) (o.producer.loads + 1)) }
-    ensures reader { (o : OutEnd) (i : InEnd) → out_of machine.old.outs ring ≡ Some o → slice_get ins.old.readers (place_of ins.old.numbers ring) ≡ Some (Some i)
-        → (j : InEnd) × HasMet o i j × (ins.new ≡ with_slot ins.old (place_of ins.old.numbers ring) (Some j)) }
+        → machine.new.outs ≡ with_out machine.old.outs (ring_index machine.old.outs.numbers ring) (with_tail o (released_in ins.old ring) (o.producer.loads + 1)) }
+    ensures reader { (o : OutEnd) (i : InEnd) → out_of machine.old.outs ring ≡ Some o → slice_get ins.old.readers (ring_index ins.old.numbers ring) ≡ Some (Some i)
+        → (j : InEnd) × HasMet o i j × (ins.new ≡ with_slot ins.old (ring_index ins.old.numbers ring) (Some j)) }
     ensures words { (s : Scripted) → LeadTo s order.old.items machine.old
-        → words_in ins.new ring ≡ words_of (take (records_in ins.new ring) (account_in s order.old.items (ring, bytes_of s ring)).written) }
+        → words_in ins.new ring ≡ words_of (take (records_taken ins.new ring) (account_in s order.old.items (ring, bytes_of s ring)).written) }
     ensures together { AreTogether rings.now machine.new.outs }
     ensures filled { vec_len order.new ≤ vec_len order.old + 1 }
     ensures capacity { vec_capacity order.new ≡ vec_capacity order.old }

@@ -4,7 +4,7 @@ ghost use Rattle.std.specs.Prelude.{◌≡◌, ℕ, ◌+◌, ◌*◌, ◌<◌, �
 ghost use Rattle.perf_base.specs.declared.acts.Act.{Act as ActNo};
 ghost use Rattle.perf_base.specs.declared.acts.Act.TheVariants as act;
 ghost use Rattle.perf_base.specs.Scripts.{Scripted};
-ghost use Rattle.sample_ring.specs.RingLists.{HasRing, place_of};
+ghost use Rattle.sample_ring.specs.RingLists.{HasRing, ring_index};
 ghost use Rattle.stage_spec.specs.Order.{last_seen};
 ghost use Rattle.work_account.specs.Ends.{AreTogether};
 ghost use Rattle.machine.specs.Leading.{LeadTo};
@@ -25,7 +25,7 @@ fn look_at(machine: &mut Machine, rings: &Rings, order: &mut Vec<Act>, ring: Rin
     ensures led { (s : Scripted) → LeadTo s order.old.items machine.old → LeadTo s order.new.items machine.new }
     ensures looked { (s : Scripted) → LeadTo s order.old.items machine.old → (order.new.items ≡ order.old.items)
         ⊎ ((place : ℕ) × (last_seen ring order.old.items < place) × (order.new.items ≡ order.old.items ++ act.Seen ring place ∷ [])) }
-    ensures loads { loads_of machine.new.outs ≡ slice_set (loads_of machine.old.outs) (place_of machine.old.outs.numbers ring) (slice_index_or (loads_of machine.old.outs) (place_of machine.old.outs.numbers ring) 0 + 1) }
+    ensures loads { loads_of machine.new.outs ≡ slice_set (loads_of machine.old.outs) (ring_index machine.old.outs.numbers ring) (slice_index_or (loads_of machine.old.outs) (ring_index machine.old.outs.numbers ring) 0 + 1) }
     ensures together { AreTogether rings.now machine.new.outs }
     ensures world { machine.new.world ≡ machine.old.world }
     ensures filled { vec_len order.new ≤ vec_len order.old + 1 }

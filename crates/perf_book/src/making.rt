@@ -9,8 +9,7 @@ use perf_base::{CpuNo, Script};
 fn cpu_line_count(script: &Script) -> usize
     ensures { result ≡ sum_by length script.now.cpu_lines }
 {
-    // A reader tells what always holds of a script.
-    let _cpus = script.cpus();
+    script.use_invariant();
     let mut count = 0;
     for cpu in 0..8 {
         count += script.cpu_lines(CpuNo(cpu)).len();
@@ -24,7 +23,6 @@ pub fn count_acts(script: &Script) -> usize
     requires { length script.now.order ≤ 4194304 }
     ensures { result ≡ most_acts script.now }
 {
-    // A reader tells what always holds of a script.
-    let _cpus = script.cpus();
+    script.use_invariant();
     script.order().len() + 16 * cpu_line_count(script) + script.line_count() + 16
 }

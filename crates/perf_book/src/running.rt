@@ -38,8 +38,7 @@ fn actor_at(place: u8) -> Actor
 fn count_of(script: &Script, actor: Actor) -> u32
     ensures { result ≡ count_of script.now actor }
 {
-    // A reader tells what always holds of a script.
-    let _cpus = script.cpus();
+    script.use_invariant();
     let count = match actor {
         Actor::Processor(cpu) if cpu.0 < 8 => script.cpu_lines(cpu).len(),
         Actor::Tool(tool) if tool.0 < 4 => script.tool_lines(tool).len(),

@@ -3,7 +3,7 @@
 ghost use Rattle.std.specs.Prelude.{◌≡◌, ◌<◌, ◌∷◌, AllPairs, None, Some, length, slice_get};
 ghost use Rattle.std.specs.Thread.{IsSend, IsSync};
 ghost use Rattle.perf_base.specs.declared.numbers.RingNo.{RingNo as Ring};
-ghost use Rattle.sample_ring.specs.RingLists.{HasRing, place_of, with_slot};
+ghost use Rattle.sample_ring.specs.RingLists.{HasRing, ring_index, with_slot};
 ghost use Rattle.report_spec.specs.Answers.{line_for};
 ghost use Rattle.perf_book.specs.Running.{AreReady, HasRead, IsReadBy, slot_of};
 
@@ -17,7 +17,7 @@ use std::thread::{Threads, join};
 /// The tries of a ring's reader. It takes no lock and waits for nobody.
 fn read<G: Gate>(rings: &Rings, mut reader: In, line: ReaderLine, gate: &G) -> In
     requires ring { HasRing rings.now.numbers line.ring }
-    requires same { slice_get rings.now.tables (place_of rings.now.numbers line.ring) ≡ Some reader.consumer.ring }
+    requires same { slice_get rings.now.tables (ring_index rings.now.numbers line.ring) ≡ Some reader.consumer.ring }
     requires released { reader.consumer.released ≡ length reader.words }
     ensures { HasRead line reader result }
 {
@@ -78,10 +78,10 @@ fn take_out(ins: &mut Ins, rings: &Rings, line: ReaderLine, rest: &[ReaderLine])
     requires rise { AllPairs (λ q r. q.ring.0 < r.ring.0) (line ∷ rest.now) }
     requires ready { AreReady rings.now ins.old (line ∷ rest.now) }
     ensures reader { slot_of ins.old line.ring ≡ Some (Some result) }
-    ensures end { ins.new ≡ with_slot ins.old (place_of ins.old.numbers line.ring) None }
+    ensures end { ins.new ≡ with_slot ins.old (ring_index ins.old.numbers line.ring) None }
     ensures listed { HasRing ins.old.numbers line.ring }
     ensures known { HasRing rings.now.numbers line.ring }
-    ensures same { slice_get rings.now.tables (place_of rings.now.numbers line.ring) ≡ Some result.consumer.ring }
+    ensures same { slice_get rings.now.tables (ring_index rings.now.numbers line.ring) ≡ Some result.consumer.ring }
     ensures released { result.consumer.released ≡ length result.words }
     ensures rise { AllPairs (λ q r. q.ring.0 < r.ring.0) rest.now }
     ensures ready { AreReady rings.now ins.new rest.now }
@@ -114,7 +114,7 @@ pub fn run_readers<J: Naming + Send + Sync, R: Threads + Wait + Sync, G: Gate + 
     let (reader, mut ins) = join(
         rt,
         || -> In
-            requires { HasRing rings.now.numbers line.ring × (slice_get rings.now.tables (place_of rings.now.numbers line.ring) ≡ Some reader.consumer.ring)
+            requires { HasRing rings.now.numbers line.ring × (slice_get rings.now.tables (ring_index rings.now.numbers line.ring) ≡ Some reader.consumer.ring)
                 × (reader.consumer.released ≡ length reader.words) }
             ensures { HasRead line reader result }
         { read(rings, reader, line, gate) },

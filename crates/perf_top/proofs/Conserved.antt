@@ -11,7 +11,7 @@ use Rattle.stage_spec.specs.History.{Step, history, opening_stage}
 use Rattle.stage_spec.specs.Stage.{Stage}
 use Rattle.ring_spec.specs.Account.{RingEvent, Sends, is_sent}
 use Rattle.ring_spec.specs.Rings.{account_of, events_of, is_to}
-use Rattle.ring_spec.specs.Sending.{Sent, sent_by_steps}
+use Rattle.ring_spec.specs.Sending.{SentSample, sent_by_steps}
 use Rattle.ring_spec.proofs.Conserved.{sent_law, told_law}
 use Rattle.ring_spec.proofs.Rings.{sends_law}
 use Rattle.perf_top.specs.Outcome.{IsConserved}
@@ -19,8 +19,8 @@ use Rattle.perf_top.specs.Outcome.{IsConserved}
 -- the records that are sent to a ring
 sent-to : (hw : Hardware) (s : Stage) (steps : List Step) (ring : RingNo) → count_by (is_to ring) (sent_by_steps hw s steps) ≡ count_by is_sent (events_of hw s steps ring)
 sent-to hw s steps ring =
-    let sents : List (RingNo × Sent) = filter (is_to ring) (sent_by_steps hw s steps) in
-    let sends : length (filter is_sent (events_of hw s steps ring)) ≡ length sents = ap length (sends_law hw s steps ring) ∙ length-map sents (λ (sent : RingNo × Sent). Sends sent.1) in
+    let sents : List (RingNo × SentSample) = filter (is_to ring) (sent_by_steps hw s steps) in
+    let sends : length (filter is_sent (events_of hw s steps ring)) ≡ length sents = ap length (sends_law hw s steps ring) ∙ length-map sents (λ (sent : RingNo × SentSample). Sends sent.1) in
     omega (arith, sends, length-filter is_sent (events_of hw s steps ring), length-filter (is_to ring) (sent_by_steps hw s steps))
 
 conserved : (s : Scripted) (order : List Act) (ring : RingNo × ℕ) → IsConserved s order ring

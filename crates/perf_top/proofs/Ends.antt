@@ -1,7 +1,9 @@
 -- How a script that was read ends.
-use Rattle.std.proofs.Common.{◌≡◌, ℕ, Result, Ok, Err, IfOk, ap}
+use Rattle.std.specs.Prelude.{◌⊎◌, OnErr}
+use Rattle.std.proofs.Common.{◌≡◌, ℕ, Result, Ok, Err, IfOk, inl, inr, ap, sym, ◌∙◌}
 use Rattle.perf_base.specs.declared.reasons.SReason.{SReason}
 use Rattle.perf_base.specs.declared.reasons.SReason.TheVariants as s_reason
+use Rattle.perf_top.specs.declared.stop.BadLook.{BadLook}
 use Rattle.perf_top.specs.declared.stop.RunStop.{RunStop}
 use Rattle.perf_top.specs.declared.stop.RunStop.TheVariants as stop
 
@@ -28,3 +30,13 @@ same_reason line line2 reason reason2 e = ap (λ r. reason_in (stop_in r)) e
 pub if_ok : {X E : Type 0} (P Q : X → Type 0) → ((x : X) → P x → Q x) → (r : Result X E) → IfOk r P → IfOk r Q
 if_ok P Q k (Ok x) h = k x h
 if_ok P Q k (Err e) h = h
+
+-- what stops a replay is one of two things
+pub only-these : {X : Type 0} (r : Result X RunStop) (s : RunStop) → OnErr r ((r ≡ Err stop.NoMemory) ⊎ ((b : BadLook) × (r ≡ Err (stop.BadOrder b)))) → r ≡ Err s
+    → (s ≡ stop.NoMemory) ⊎ ((b : BadLook) × (s ≡ stop.BadOrder b))
+unfolding stop_in
+only-these (Ok x) s only is = absurd cc
+only-these (Err t) s only is = elim only [
+  | inl none ↦ inl (ap stop_in (sym is ∙ none))
+  | inr look ↦ inr (look.0, ap stop_in (sym is ∙ look.1))
+]

@@ -8,18 +8,18 @@ use Rattle.perf_base.specs.Scripts.{Scripted, IsCovered}
 use Rattle.perf_base.specs.Weight.{weight}
 use Rattle.stage_spec.specs.Order.{IsComplete}
 use Rattle.ring_spec.specs.Account.{Account}
-use Rattle.report_spec.specs.Answers.{answered, IsAnswered}
+use Rattle.report_spec.specs.Answers.{IsAnswered}
 use Rattle.report_spec.specs.Report.{rings_after}
-use Rattle.report.specs.Told.{AreTold}
+use Rattle.report.specs.Told.{AreTold, rings_of}
 use Rattle.machine.specs.Ended.{Ran}
 use Rattle.perf_book.specs.Ending.{IsEnd}
 use Rattle.make_spec.specs.Rounds.{script_of_rounds}
 use Rattle.make_spec.proofs.Sound.{covered_law}
 use Rattle.make_spec.proofs.Weights.{weight_law}
-use Rattle.make_summary.specs.Summary.{summary_text, totals_of}
-use Rattle.make_summary.specs.declared.summary.Summary.{Summary}
-use Rattle.make_summary.proofs.MadeOrder.{complete_law, no_look_law, order_length}
-use Rattle.perf_top.specs.Outcome.{HasBadLook, IsMake, IsMakeScript, IsSummary, rings_of}
+use Rattle.report.specs.Summary.{summary_text, totals_of}
+use Rattle.report.specs.declared.summary.Summary.{Summary}
+use Rattle.report.proofs.MadeOrder.{complete_law, no_look_law, order_length}
+use Rattle.perf_top.specs.Outcome.{HasBadLook, IsMake, IsMakeScript, IsSummary}
 use Rattle.perf_top.specs.declared.stop.BadLook.{BadLook}
 use Rattle.perf_top.specs.declared.stop.RunStop.{RunStop}
 use Rattle.perf_top.specs.declared.stop.RunStop.TheVariants as stop
@@ -81,14 +81,14 @@ only-memory n s (Err why) is bad only = elim only [
 
 -- what a finished run of it sums up to
 pub summed-up : (n : ℕ) (e : Ran) (s : Summary) → IsEnd e → e.script ≡ script_of_rounds n → e.order ≡ (script_of_rounds n).order → s.rounds ≡ n
-    → ((rings : List (RingNo × Account)) → AreTold (rings_of e) rings → s.totals ≡ totals_of e.script (map answered e.answers) rings) → IsSummary n (summary_text s.rounds s.totals)
+    → ((rings : List (RingNo × Account)) → AreTold (rings_of e) rings → s.totals ≡ totals_of e.script e.answers rings) → IsSummary n (summary_text s.rounds s.totals)
 summed-up n e s end script order rounds totals =
-    let told : s.totals ≡ totals_of e.script (map answered e.answers) (rings_after e.script e.order) =
+    let told : s.totals ≡ totals_of e.script e.answers (rings_after e.script e.order) =
     totals (rings_after e.script e.order) (are-told e.script e.order e.ins e.ends end.script end.rings end.shown end.taken) in
-    let made : s.totals ≡ totals_of (script_of_rounds n) (map answered e.answers) (rings_after (script_of_rounds n) (script_of_rounds n).order) =
-    told ∙ (λ i. totals_of (script i) (map answered e.answers) (rings_after (script i) (order i))) in
+    let made : s.totals ≡ totals_of (script_of_rounds n) e.answers (rings_after (script_of_rounds n) (script_of_rounds n).order) =
+    told ∙ (λ i. totals_of (script i) e.answers (rings_after (script i) (order i))) in
     record {
-      answers = map answered e.answers;
-      answered = subst (λ acts. IsAnswered (script_of_rounds n) acts (map answered e.answers)) order (subst (λ t. IsAnswered t e.order (map answered e.answers)) script end.answered);
+      answers = e.answers;
+      answered = subst (λ acts. IsAnswered (script_of_rounds n) acts e.answers) order (subst (λ t. IsAnswered t e.order e.answers) script end.answered);
       is = λ i. summary_text (rounds i) (made i);
     }

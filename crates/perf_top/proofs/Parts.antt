@@ -7,9 +7,9 @@ use Rattle.perf_base.specs.declared.numbers.RingNo.{RingNo}
 use Rattle.perf_base.specs.Scripts.{Scripted}
 use Rattle.ring_spec.specs.Rings.{account_in}
 use Rattle.sample_ring.specs.InEnds.{InEnd}
-use Rattle.sample_ring.specs.RingLists.{InList, place_of}
+use Rattle.sample_ring.specs.RingLists.{InList, ring_index}
 use Rattle.stage_spec.specs.Order.{last_seen}
-use Rattle.machine.specs.Readers.{records_in, records_of_slot, released_in, released_of_slot}
+use Rattle.machine.specs.Readers.{records_taken, records_of_slot, released_in, released_of_slot}
 use Rattle.report_spec.specs.Answers.{AreReadersParts, IsNoLook, IsRunShaped, reader_of, taken_of}
 use Rattle.run_laws.proofs.Taken.{never-seen}
 use Rattle.perf_book.specs.Ending.{AreParts}
@@ -18,20 +18,20 @@ use Rattle.perf_top.specs.Keeping.{AreUnread}
 
 -- a reader that has taken nothing has released nothing
 none-released : (ins : InList) (ring : RingNo) → AreUnread ins → released_in ins ring ≡ 0
-none-released ins ring unread = one (slice_get ins.readers (place_of ins.numbers ring)) refl
+none-released ins ring unread = one (slice_get ins.readers (ring_index ins.numbers ring)) refl
   where
-    one : (slot : Option (Option InEnd)) → slice_get ins.readers (place_of ins.numbers ring) ≡ slot → released_of_slot slot ≡ 0
+    one : (slot : Option (Option InEnd)) → slice_get ins.readers (ring_index ins.numbers ring) ≡ slot → released_of_slot slot ≡ 0
     one None at = refl
     one (Some None) at = refl
-    one (Some (Some i)) at = omega (arith, (unread (place_of ins.numbers ring) i at).1)
+    one (Some (Some i)) at = omega (arith, (unread (ring_index ins.numbers ring) i at).1)
 
 -- the part of one ring's reader, if it has a line
 part-of : (order : List Act) (ring : RingNo) (taken : ℕ) (before after : InList) (line : Option ReaderLine) → IsRunShaped order → AreUnread before → IsReadBy line before after ring
-    → last_seen ring order ≡ released_in after ring → taken ≤ records_in after ring → MatchOption line (All (IsNoLook ring) order) (λ l. taken ≤ l.tries * l.batch)
+    → last_seen ring order ≡ released_in after ring → taken ≤ records_taken after ring → MatchOption line (All (IsNoLook ring) order) (λ l. taken ≤ l.tries * l.batch)
 part-of order ring taken before after None shaped unread read last few =
     never-seen order ring shaped (last ∙ (ap released_of_slot read ∙ none-released before ring unread))
 part-of order ring taken before after (Some line) shaped unread read last few =
-    omega (arith, few, ap records_of_slot read.3, read.4.records, (unread (place_of before.numbers ring) read.0 read.2).0)
+    omega (arith, few, ap records_of_slot read.3, read.4.records, (unread (ring_index before.numbers ring) read.0 read.2).0)
 
 pub readers-parts : (s : Scripted) (order : List Act) (before after : InList) → IsRunShaped order → AreUnread before → All (λ r. IsRead s before after r.0) s.rings → AreParts s order after
     → AreReadersParts s order

@@ -5,19 +5,19 @@ use Rattle.perf_base.specs.declared.acts.Act.{Act}
 use Rattle.perf_base.specs.Scripts.{Scripted}
 use Rattle.machine.specs.Ended.{Ran}
 use Rattle.perf_book.specs.Ending.{IsEnd}
-use Rattle.report_spec.specs.Answers.{answered}
 use Rattle.report.proofs.Told.{told_whole}
 use Rattle.report_spec.specs.Report.{rings_after}
-use Rattle.perf_top.specs.Outcome.{IsReported, report_by, rings_of}
+use Rattle.perf_top.specs.Outcome.{IsReported}
+use Rattle.report.specs.Told.{report_by, rings_of}
 use Rattle.perf_top.proofs.Conserved.{all-conserved}
 use Rattle.perf_top.proofs.Told.{are-told}
 
 pub end-reported : (e : Ran) → IsEnd e → IsReported e.script e.order (report_by e)
 end-reported e h = record {
-  answers = map answered e.answers;
+  answers = e.answers;
   answered = h.answered;
   conserved = all-conserved e.script e.order;
-  is = told_whole e.script e.order (map answered e.answers) (rings_of e) (rings_after e.script e.order) (are-told e.script e.order e.ins e.ends h.script h.rings h.shown h.taken);
+  is = told_whole e.script e.order e.answers (rings_of e) (rings_after e.script e.order) (are-told e.script e.order e.ins e.ends h.script h.rings h.shown h.taken);
 }
 
 -- of a script and an order that are known

@@ -1,6 +1,6 @@
 -- What the rings of a replay came to is what the definitions say.
 use Rattle.std.specs.Prelude.{◌≡◌, ℕ, All, List, [], ◌∷◌, length, map}
-use Rattle.std.proofs.Common.{arith, refl, ap, subst, ◌∙◌}
+use Rattle.std.proofs.Common.{arith, ap, subst, ◌∙◌}
 use Rattle.std.proofs.lemmas.List.Elements.{All-head, All-tail}
 use Rattle.perf_base.specs.declared.acts.Act.{Act}
 use Rattle.perf_base.specs.declared.numbers.RingNo.{RingNo}
@@ -16,8 +16,7 @@ use Rattle.machine.specs.declared.ending.RingEnd.{RingEnd}
 use Rattle.machine.specs.Readers.{HasTaken, HaveTaken, IsShown, words_in}
 use Rattle.perf_book.proofs.Declared.{IsDeclared, all-declared}
 use Rattle.perf_book.proofs.Taken.{first-is, others-are}
-use Rattle.report.specs.Told.{AreTold, IsTold, all_told, told_lines}
-use Rattle.script_print.proofs.Loops.{IsText}
+use Rattle.report.specs.Told.{AreTold, IsTold}
 use Rattle.report_spec.specs.Report.{rings_after}
 
 -- the numbers and the words of one ring
@@ -56,10 +55,3 @@ pub are-told : (s : Scripted) (order : List Act) (ins : InList) (ends : List Rin
     → All (λ (e : RingEnd). IsShown e.numbers (account_in s order (e.ring, bytes_of s e.ring))) ends → HaveTaken s order ins
     → AreTold (map (λ (e : RingEnd). (e.ring, e.numbers, words_in ins e.ring)) ends) (rings_after s order)
 are-told s order ins ends h same shown taken = told-each s order ins ends s.rings same (all-declared s h) shown taken
-
--- the lines of the rings, one after the other
-abbrev pub end_told : InList → RingEnd → RingNo × RingNumbers × List ℕ
-end_told ins e = (e.ring, e.numbers, words_in ins e.ring)
-
-pub ends_each : (ins : InList) → IsText (λ (ends : List RingEnd). all_told (map (end_told ins) ends)) (λ e. told_lines e.ring e.numbers (words_in ins e.ring))
-ends_each ins = record { nil = refl; cons = λ e ends. refl }

@@ -10,8 +10,8 @@ use Rattle.script_spec.specs.Forms.{AreBytes, byte_text, hexadecimal, flags_text
 use Rattle.script_spec.specs.Printing.{some_of}
 
 -- the words, and the bytes that the second one spells, two hexadecimal digits each
-abbrev pub IsAttr : List (List ℕ) → List ℕ → Type 0
-IsAttr words bytes = AreBytes bytes × (words ≡ codes "attr" ∷ flat_map byte_text bytes ∷ [])
+abbrev pub IsAttrCommand : List (List ℕ) → List ℕ → Type 0
+IsAttrCommand words bytes = AreBytes bytes × (words ≡ codes "attr" ∷ flat_map byte_text bytes ∷ [])
 
 -- the words of an attribute: the bits of its samples and of its reads in hexadecimal, and its flags where it has some
 abbrev pub words_of_attr : RawAttr → List (List ℕ)

@@ -9,21 +9,18 @@ use Rattle.ring_spec.specs.Rings.{IsLawfulOrder, account_in, bytes_of, is_to, si
 use Rattle.ring_spec.specs.Sending.{sent_by_steps}
 use Rattle.stage_spec.specs.Hardware.{hardware_of}
 use Rattle.stage_spec.specs.History.{history, opening_stage}
-use Rattle.sample_ring.specs.declared.sent.RingNumbers.{RingNumbers}
 use Rattle.stage_spec.specs.Order.{IsComplete, IsLawfulSeen, last_seen}
-use Rattle.stage_spec.specs.Replies.{Answered}
+use Rattle.perf_base.specs.declared.reply.Answer.{Answer}
 use Rattle.perf_base.specs.declared.reasons.SReason.{SReason}
 use Rattle.perf_base.specs.declared.reasons.SReason.TheVariants as s_reason
 use Rattle.script_spec.specs.Lines.{lines_of}
 use Rattle.script_spec.specs.Printing.{printed}
 use Rattle.script_spec.specs.Texts.{StandsFor, IsRefused}
 use Rattle.make_spec.specs.Rounds.{script_of_rounds}
-use Rattle.make_summary.specs.Summary.{summary_text, totals_of}
-use Rattle.perf_top.specs.Attributes.{IsAttr, IsLineOf}
+use Rattle.report.specs.Summary.{summary_text, totals_of}
+use Rattle.perf_top.specs.Attributes.{IsAttrCommand, IsLineOf}
 use Rattle.machine.specs.Ended.{Ran}
-use Rattle.machine.specs.Readers.{words_in}
-use Rattle.report.specs.Told.{told_report}
-use Rattle.report_spec.specs.Answers.{answered, AreReadersParts, IsAnswered, IsRunShaped}
+use Rattle.report_spec.specs.Answers.{AreReadersParts, IsAnswered, IsRunShaped}
 use Rattle.report_spec.specs.Report.{report, rings_after}
 use Rattle.stat_rows.specs.Rows.{rows_of}
 use Rattle.stat_table.specs.Table.{table_text}
@@ -64,7 +61,7 @@ MakesScript words n = IsMake words n ⊎ IsMakeScript words n
 
 -- the words that the program knows
 abbrev pub AreKnown : List (List ℕ) → Type 0
-AreKnown words = ReadsScript words ⊎ (((n : ℕ) × MakesScript words n) ⊎ ((bytes : List ℕ) × IsAttr words bytes))
+AreKnown words = ReadsScript words ⊎ (((n : ℕ) × MakesScript words n) ⊎ ((bytes : List ℕ) × IsAttrCommand words bytes))
 
 -- The source was read to its end, and this is all that it gave.
 pub record Gave (before after : Option (List ℕ)) (text : List ℕ) : Type 0 where
@@ -81,18 +78,10 @@ pub record IsConserved (s : Scripted) (order : List Act) (ring : RingNo × ℕ) 
 
 -- These bytes are the report of an order of a script, with answers to it, and on each ring of it records are conserved.
 pub record IsReported (script : Scripted) (order : List Act) (out : List ℕ) : Type 0 where
-  pub answers : List Answered
+  pub answers : List Answer
   pub answered : IsAnswered script order answers
   pub conserved : All (IsConserved script order) script.rings
   pub is : out ≡ report script order answers (rings_after script order)
-
--- the rings of a run that has ended: which they are, their numbers, and the words that were written on them
-abbrev pub rings_of : Ran → List (RingNo × RingNumbers × List ℕ)
-rings_of r = map (λ e. (e.ring, e.numbers, words_in r.ins e.ring)) r.ends
-
--- the report of a run that has ended
-abbrev pub report_by : Ran → List ℕ
-report_by r = told_report r.script r.order (map answered r.answers) (rings_of r)
 
 -- The text stands for a script whose order is complete, and these bytes are the report of that order.
 pub record IsReplayed (text out : List ℕ) : Type 0 where
@@ -154,7 +143,7 @@ IsBadScript words text line reason = IsRefused text line reason ⊎ (DoesOrder w
 -- These bytes are the summary of the script of N rounds: of answers to its own order, and of what its rings came to
 -- over that order.
 pub record IsSummary (n : ℕ) (out : List ℕ) : Type 0 where
-  pub answers : List Answered
+  pub answers : List Answer
   pub answered : IsAnswered (script_of_rounds n) (script_of_rounds n).order answers
   pub is : out ≡ summary_text n (totals_of (script_of_rounds n) answers (rings_after (script_of_rounds n) (script_of_rounds n).order))
 
@@ -171,7 +160,7 @@ IsOutput words before after out =
     ⊎ ((IsRun words × ((text : List ℕ) × Gave before after text × IsRunOf text out))
     ⊎ ((IsStat words × ((text : List ℕ) × Gave before after text × IsTabled text out))
     ⊎ (((n : ℕ) × IsMade words n out)
-    ⊎ ((bytes : List ℕ) × IsAttr words bytes × IsLineOf bytes out))))
+    ⊎ ((bytes : List ℕ) × IsAttrCommand words bytes × IsLineOf bytes out))))
 
 -- Nothing was read, or all that the source had left, which is a text that is not too long.
 abbrev pub ReadNoneOrAll : {S : Type 0} → (S → Option (List ℕ)) → S → S → Type 0

@@ -7,7 +7,7 @@
 ghost use Rattle.std.specs.Prelude.{◌≡◌, ◌⊎◌, ◌↔◌, ℕ, ◌∷◌, [], ◌≤◌, ◌<◌, List, length, map, codes, IsTrue, IfSome, MatchOption, string_bytes};
 ghost use Rattle.perf_io.specs.Outside.{Adds, Rose};
 ghost use Rattle.perf_io.specs.Wrote.{WroteFront};
-ghost use Rattle.perf_top.specs.Attributes.{IsAttr};
+ghost use Rattle.perf_top.specs.Attributes.{IsAttrCommand};
 ghost use Rattle.perf_top.specs.Notes.{note_of};
 ghost use Rattle.perf_top.specs.Outcome.{AreKnown, DoesOrder, IsReplay, IsRun, IsStat, IsOutput, MakesScript, Noted, Gave, ReadNoneOrAll, ReadsScript, IsBadOrder, IsBadScript};
 
@@ -116,7 +116,7 @@ pub fn perf_main<R: Threads + Wait + Sync, S: Source, K: Sink, N: Sink, G: Gate 
     // Under `make` all is written, or the sink failed, or memory ran out: a made script is never refused.
     ensures make { (n : ℕ) → MakesScript (map string_bytes words.now) n → (result ≡ Status.Done) ⊎ ((result ≡ Status.WriteFault) ⊎ (result ≡ Status.NoMemory)) }
     // Under `attr` all is written or the sink failed: memory never runs out there.
-    ensures attr { (bytes : List ℕ) → IsAttr (map string_bytes words.now) bytes → (result ≡ Status.Done) ⊎ (result ≡ Status.WriteFault) }
+    ensures attr { (bytes : List ℕ) → IsAttrCommand (map string_bytes words.now) bytes → (result ≡ Status.Done) ⊎ (result ≡ Status.WriteFault) }
     ensures bad_order { (index : ℕ) → (ring : RingNo) → (last : ℕ) → (head : ℕ) → (given : ℕ) → result ≡ Status.BadOrder index ring last head given →
         DoesOrder (map string_bytes words.now) × ((text : List ℕ) × Gave (S.left source.old) (S.left source.new) text × IsBadOrder text index ring last head given) }
     ensures read_fault { result ≡ Status.ReadFault → Rose S.last_fault (S.faults source.old) (S.faults source.new) }

@@ -6,7 +6,7 @@ ghost use Rattle.perf_io.specs.Outside.{Adds};
 ghost use Rattle.perf_io.specs.Wrote.{WroteFront};
 ghost use Rattle.script_spec.specs.Printing.{printed};
 ghost use Rattle.make_spec.specs.Rounds.{script_of_rounds};
-ghost use Rattle.make_summary.specs.Summary.{summary_text};
+ghost use Rattle.report.specs.Summary.{summary_text};
 ghost use Rattle.perf_book.specs.Ending.{IsEnd};
 ghost use Rattle.perf_top.specs.Outcome.{IsMake, IsMakeScript, IsSummary};
 
@@ -17,9 +17,9 @@ use crate::stop::RunStop;
 use buffered_sink::Written;
 use itoa::Buffer;
 use machine::Ended;
-use make_summary::{Summary, summary_of, write_summary};
 use perf_base::{NoMemory, Script};
 use perf_io::{Failed, Sink};
+use report::{Summary, summary_of, write_summary};
 use script_print::print_script;
 use std::alloc::Global;
 use work_maker::make;
@@ -87,10 +87,8 @@ fn replay_made(alloc: Global, rounds: u32) -> Result<Ended, RunStop>
     ensures ended { IfOk result (λ e. IsEnd e) }
     ensures memory { IfErr result (λ stop. stop ≡ RunStop.NoMemory) }
 {
-    match make(alloc, rounds) {
-        Err(NoMemory) => Err(RunStop::NoMemory),
-        Ok(script) => replay_script(alloc, script),
-    }
+    let script = make(alloc, rounds)?;
+    replay_script(alloc, script)
 }
 
 /// The summary of the script of N rounds.
@@ -99,10 +97,8 @@ fn sum_up(alloc: Global, rounds: u32) -> Result<Summary, RunStop>
     ensures sums { IfOk result (λ s. IsSummary rounds (summary_text s.rounds s.totals)) }
     ensures memory { IfErr result (λ stop. stop ≡ RunStop.NoMemory) }
 {
-    match replay_made(alloc, rounds) {
-        Err(stop) => Err(stop),
-        Ok(ended) => Ok(summary_of(rounds, &ended)),
-    }
+    let ended = replay_made(alloc, rounds)?;
+    Ok(summary_of(rounds, &ended))
 }
 
 /// The summary of a made script, as a text.
@@ -112,7 +108,7 @@ struct SummaryText {
 }
 
 impl Written for SummaryText {
-    ghost use Rattle.make_summary.specs.Summary.{summary_text};
+    ghost use Rattle.report.specs.Summary.{summary_text};
 
     ghost text = { λ t. summary_text t.summary.rounds t.summary.totals };
 

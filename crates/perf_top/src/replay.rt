@@ -15,7 +15,7 @@ ghost use Rattle.perf_book.specs.Ending.{IsEnd};
 ghost use Rattle.perf_top.specs.Keeping.{AreUnread, IsFilled};
 ghost use Rattle.perf_top.specs.Outcome.{Gave, HasBadLook, HasOpenOrder, IsBadOrder, IsReplayed, ReadNoneOrAll};
 
-use crate::load::{Loaded, load};
+use crate::load::load;
 use crate::run::{Report, send};
 use crate::status::Status;
 use crate::stop::{BadLook, RunStop};
@@ -102,28 +102,6 @@ fn fill(book: &mut Book, rings: &Rings, ins: &mut Ins) -> Result<(), BadLook>
     Ok(())
 }
 
-/// Does the whole order of a script, which is complete, up to the first look that is not lawful.
-fn run(ready: Ready) -> Result<Ready, BadLook>
-    requires complete { IsComplete ready.book.script ready.book.script.order }
-    requires short { length ready.book.script.order ≤ 4194304 }
-    requires empty { ready.book.order ≡ [] }
-    requires together { AreTogether ready.rings ready.book.machine.outs }
-    requires following { AreFollowing (9 * weight ready.book.script) ready.book.machine.outs ready.ins }
-    ensures bad { (b : BadLook) → result ≡ Err b → HasBadLook ready.book.script b.index b.ring b.last b.head b.given }
-    ensures script { IfOk result (λ r. r.book.script ≡ ready.book.script) }
-    ensures filled { IfOk result (λ r. IsFilled r) }
-{
-    let Ready {
-        rings,
-        mut ins,
-        mut book,
-    } = ready;
-    if let Err(look) = fill(&mut book, &rings, &mut ins) {
-        return Err(look);
-    }
-    Ok(Ready { rings, ins, book })
-}
-
 /// Does the whole order of a script, which is complete. Its memory is taken before the first act.
 fn replay(alloc: Global, script: Script) -> Result<Ready, RunStop>
     requires covered { IsCovered script }
@@ -135,13 +113,14 @@ fn replay(alloc: Global, script: Script) -> Result<Ready, RunStop>
     ensures bad { (b : BadLook) → result ≡ Err (RunStop.BadOrder b) → HasBadLook script b.index b.ring b.last b.head b.given }
     ensures only { OnErr result ((result ≡ Err RunStop.NoMemory) ⊎ ((b : BadLook) × (result ≡ Err (RunStop.BadOrder b)))) }
 {
-    match prepare(alloc, script) {
-        Err(NoMemory) => Err(RunStop::NoMemory),
-        Ok(ready) => match run(ready) {
-            Err(look) => Err(RunStop::BadOrder(look)),
-            Ok(filled) => Ok(filled),
-        },
-    }
+    let ready = prepare(alloc, script)?;
+    let Ready {
+        rings,
+        mut ins,
+        mut book,
+    } = ready;
+    fill(&mut book, &rings, &mut ins)?;
+    Ok(Ready { rings, ins, book })
 }
 
 /// What is left of a run whose whole order was done.
@@ -167,30 +146,8 @@ pub fn replay_script(alloc: Global, script: Script) -> Result<Ended, RunStop>
     ensures bad { (b : BadLook) → result ≡ Err (RunStop.BadOrder b) → HasBadLook script b.index b.ring b.last b.head b.given }
     ensures only { OnErr result ((result ≡ Err RunStop.NoMemory) ⊎ ((b : BadLook) × (result ≡ Err (RunStop.BadOrder b)))) }
 {
-    match replay(alloc, script) {
-        Err(stop) => Err(stop),
-        Ok(ready) => Ok(finish(ready)),
-    }
-}
-
-/// Does the own order of a script that was read, if that is complete.
-fn replay_loaded(alloc: Global, loaded: Loaded) -> Result<Ready, RunStop>
-    requires covered { IsCovered loaded.script }
-    requires light { weight loaded.script ≤ 65536 }
-    requires short { length loaded.script.order ≤ 4194304 }
-    ensures complete { IfOk result (λ r. IsComplete loaded.script loaded.script.order) }
-    ensures script { IfOk result (λ r. r.book.script ≡ loaded.script) }
-    ensures filled { IfOk result (λ r. IsFilled r) }
-    ensures bad { (b : BadLook) → result ≡ Err (RunStop.BadOrder b) → IsComplete loaded.script loaded.script.order × HasBadLook loaded.script b.index b.ring b.last b.head b.given }
-    ensures incomplete { (line : ℕ) → (reason : Reason) → result ≡ Err (RunStop.Bad line reason)
-        → (IsComplete loaded.script loaded.script.order → ⊥) × (line ≡ loaded.last_line) × (reason ≡ SReason.Order) }
-    ensures fault { result ≡ Err RunStop.ReadFault → ⊥ }
-    ensures long { result ≡ Err RunStop.TooLong → ⊥ }
-{
-    if !order_complete(&loaded.script) {
-        return Err(RunStop::Bad(loaded.last_line, SReason::Order));
-    }
-    replay(alloc, loaded.script)
+    let ready = replay(alloc, script)?;
+    Ok(finish(ready))
 }
 
 /// Reads the script that a source has left and does its own order. All memory is taken before the first act.
@@ -207,13 +164,11 @@ pub fn replay_source<S: Source>(alloc: Global, source: &mut S) -> Result<Ready, 
     ensures fault { result ≡ Err RunStop.ReadFault → Rose S.last_fault (S.faults source.old) (S.faults source.new) }
     ensures long { result ≡ Err RunStop.TooLong → IfSome (S.left source.old) (λ bytes. 4194304 < length bytes) }
 {
-    match load(alloc, source) {
-        Err(stop) => Err(stop),
-        Ok(loaded) => match replay_loaded(alloc, loaded) {
-            Err(stop) => Err(stop),
-            Ok(ready) => Ok(ready),
-        },
+    let loaded = load(alloc, source)?;
+    if !order_complete(&loaded.script) {
+        return Err(RunStop::Bad(loaded.last_line, SReason::Order));
     }
+    replay(alloc, loaded.script)
 }
 
 /// Reads a script, does its order and writes the report.

@@ -2,37 +2,13 @@
 
 ghost use Rattle.std.specs.Prelude.{◌≡◌, ◌≤◌, ◌⊎◌, length, IfSome};
 ghost use Rattle.perf_io.specs.Outside.{Adds};
-ghost use Rattle.perf_io.specs.Wrote.{Wrote, WroteFront};
-ghost use Rattle.report.specs.Told.{all_told};
-ghost use Rattle.perf_top.specs.Outcome.{report_by, rings_of};
+ghost use Rattle.perf_io.specs.Wrote.{WroteFront};
 
 use crate::status::Status;
 use buffered_sink::{Written, write_buffered};
 use machine::Ended;
 use perf_io::{Failed, Sink};
-use report::{write_answers, write_end, write_order, write_ring};
-
-/// Writes what the rings of a run came to.
-fn put_rings<K: Sink>(sink: &mut K, ended: &Ended) -> Result<(), Failed>
-    ensures wrote { Wrote K.held K.faults K.last_fault sink.old sink.new result (all_told (rings_of ended.now)) }
-    ensures flushed { K.flushed sink.new ≡ K.flushed sink.old }
-{
-    for end in ended.ring_ends() {
-        write_ring(sink, end.ring, &end.numbers, ended.words(end.ring))?;
-    }
-    Ok(())
-}
-
-/// Writes the report of a run.
-fn put_report<K: Sink>(sink: &mut K, ended: &Ended) -> Result<(), Failed>
-    ensures wrote { Wrote K.held K.faults K.last_fault sink.old sink.new result (report_by ended.now) }
-    ensures flushed { K.flushed sink.new ≡ K.flushed sink.old }
-{
-    write_order(sink, ended.order())?;
-    write_answers(sink, ended.script(), ended.answers())?;
-    put_rings(sink, ended)?;
-    write_end(sink)
-}
+use report::write_report;
 
 /// The report of a run that has ended.
 #[derive(Drop)]
@@ -41,12 +17,12 @@ pub struct Report<'a> {
 }
 
 impl Written for Report<'_> {
-    ghost use Rattle.perf_top.specs.Outcome.{report_by};
+    ghost use Rattle.report.specs.Told.{report_by};
 
     ghost text = { λ r. report_by r.ended.now };
 
     fn write_to<K: Sink>(&self, sink: &mut K) -> Result<(), Failed> {
-        put_report(sink, self.ended)
+        write_report(self.ended, sink)
     }
 }
 

@@ -2,9 +2,10 @@
 
 ghost use Rattle.std.specs.Prelude.{◌≡◌};
 ghost use Rattle.perf_top.specs.Stops.{status_of};
+ghost use Rattle.perf_top.specs.declared.stop.RunStop.TheVariants as stop;
 
 use crate::status::Status;
-use perf_base::{RingNo, SReason};
+use perf_base::{NoMemory, RingNo, SReason};
 
 /// A look at a ring's tail that can't have been made: the number of its act in the order, from 0, the ring, the last
 /// place seen, the head and the place given, in bytes.
@@ -25,6 +26,22 @@ pub enum RunStop {
     TooLong,
     Bad(u32, SReason),
     BadOrder(BadLook),
+}
+
+impl From<NoMemory> for RunStop {
+    ghost from_gives = { λ _ e. e ≡ stop.NoMemory };
+
+    fn from(_error: NoMemory) -> RunStop {
+        RunStop::NoMemory
+    }
+}
+
+impl From<BadLook> for RunStop {
+    ghost from_gives = { λ look e. e ≡ stop.BadOrder look };
+
+    fn from(look: BadLook) -> RunStop {
+        RunStop::BadOrder(look)
+    }
 }
 
 impl RunStop {

@@ -62,14 +62,8 @@ pub fn read_text<S: Source>(alloc: Global, source: &mut S) -> Result<Vec<u8>, Te
     ensures fault { result ≡ Err TextStop.ReadFault → Rose S.last_fault (S.faults source.old) (S.faults source.new) }
     ensures long { result ≡ Err TextStop.TooLong → IfSome (S.left source.old) (λ bytes. MOST_BYTES < length bytes) }
 {
-    match room(alloc) {
-        Err(stop) => Err(stop),
-        Ok(mut text) => match fill(source, &mut text) {
-            Err(stop) => Err(stop),
-            Ok(len) => {
-                text.truncate(len);
-                Ok(text)
-            }
-        },
-    }
+    let mut text = room(alloc)?;
+    let len = fill(source, &mut text)?;
+    text.truncate(len);
+    Ok(text)
 }

@@ -3,7 +3,6 @@
 ghost use Rattle.std.specs.Prelude.{◌≡◌, ℕ, ◌*◌, ◌<◌, ◌≤◌, List, [], Err, IfOk, IfSome, length};
 ghost use Rattle.perf_base.specs.declared.numbers.RingNo.{RingNo as Ring};
 ghost use Rattle.perf_base.specs.declared.reasons.SReason.{SReason as Reason};
-ghost use Rattle.perf_base.specs.Scripts.{IsCovered};
 ghost use Rattle.perf_base.specs.Weight.{weight};
 ghost use Rattle.perf_io.specs.Outside.{Adds, Rose};
 ghost use Rattle.perf_io.specs.Wrote.{WroteFront};
@@ -14,7 +13,8 @@ ghost use Rattle.work_account.specs.Ends.{AreTogether};
 ghost use Rattle.machine.specs.Readers.{AreFollowing};
 ghost use Rattle.perf_book.specs.Ending.{IsEnd};
 ghost use Rattle.perf_top.specs.Keeping.{AreUnread};
-ghost use Rattle.perf_top.specs.Outcome.{Gave, IsRunOf, ReadNoneOrAll, report_by};
+ghost use Rattle.perf_top.specs.Outcome.{Gave, IsRunOf, ReadNoneOrAll};
+ghost use Rattle.report.specs.Told.{report_by};
 
 use crate::load::load;
 use crate::replay::{Ready, prepare};
@@ -22,7 +22,6 @@ use crate::run::{Report, send};
 use crate::status::Status;
 use crate::stop::{BadLook, RunStop};
 use machine::Ended;
-use perf_base::{NoMemory, Script};
 use perf_book::{Gate, run_all};
 use perf_io::{Sink, Source};
 use std::alloc::Global;
@@ -46,26 +45,6 @@ fn run_ready<R: Threads + Wait + Sync, G: Gate + Sync>(rt: &R, ready: Ready, gat
     book.finish(rings, ins)
 }
 
-/// What is left of a script that was run. Its memory is taken before the first act.
-fn run_script<R: Threads + Wait + Sync, G: Gate + Sync>(
-    rt: &R,
-    alloc: Global,
-    script: Script,
-    gate: &G,
-) -> Result<Ended, NoMemory>
-    requires covered { IsCovered script }
-    requires light { weight script ≤ 65536 }
-    requires short { length script.order ≤ 4194304 }
-    ensures script { IfOk result (λ e. e.script ≡ script) }
-    ensures ended { IfOk result (λ e. IsEnd e) }
-    ensures complete { IfOk result (λ e. IsComplete e.script e.order) }
-    ensures shaped { IfOk result (λ e. IsRunShaped e.order) }
-    ensures parts { IfOk result (λ e. AreReadersParts e.script e.order) }
-{
-    let ready = prepare(alloc, script)?;
-    Ok(run_ready::<R, G>(rt, ready, gate))
-}
-
 /// What is left of the script that a source has left, once it was run. All memory is taken before the first act.
 fn run_source<R: Threads + Wait + Sync, S: Source, G: Gate + Sync>(
     rt: &R,
@@ -82,13 +61,9 @@ fn run_source<R: Threads + Wait + Sync, S: Source, G: Gate + Sync>(
     ensures fault { result ≡ Err RunStop.ReadFault → Rose S.last_fault (S.faults source.old) (S.faults source.new) }
     ensures long { result ≡ Err RunStop.TooLong → IfSome (S.left source.old) (λ bytes. 4194304 < length bytes) }
 {
-    match load(alloc, source) {
-        Err(stop) => Err(stop),
-        Ok(loaded) => match run_script::<R, G>(rt, alloc, loaded.script, gate) {
-            Err(NoMemory) => Err(RunStop::NoMemory),
-            Ok(ended) => Ok(ended),
-        },
-    }
+    let loaded = load(alloc, source)?;
+    let ready = prepare(alloc, loaded.script)?;
+    Ok(run_ready::<R, G>(rt, ready, gate))
 }
 
 /// Reads a script, runs it with a thread for each processor, tool and reader, and writes the report.

@@ -14,22 +14,15 @@ ghost use Rattle.world_tables.specs.Columns.{is_there, entry_in};
 ghost use Rattle.world_tables.specs.Places.{picked, with_family};
 ghost use Rattle.perf_world.specs.Parts.{joined_events, joined_contexts};
 
-use perf_base::{Attr, AttrFlags, Context, EventNo, Key, Own};
+use perf_base::{Attr, Context, EventNo, Key, Own};
 use stage_spec::Instance;
 use world_tables::{Contexts, EventTable, Families, UsedSlots, place_of};
-
-/// Whether an event's group is to stand among the pinned ones.
-pub fn is_pinned(attr: &Attr) -> bool
-    ensures { result ≡ flag.is_pinned attr.now }
-{
-    attr.flags.0 & AttrFlags::PINNED.0 != 0
-}
 
 /// The own state in which an event starts.
 pub fn first_state(attr: &Attr) -> Own
     ensures { result ≡ opening.first_state attr.now }
 {
-    if attr.flags.0 & AttrFlags::DISABLED.0 != 0 {
+    if attr.flags.is_disabled() {
         Own::Off
     } else {
         Own::Ready
@@ -68,7 +61,7 @@ fn join_alone(
     ensures events { events.new ≡ joined_events result instance context None events.old }
     ensures contexts { contexts.new ≡ joined_contexts result instance context None contexts.old }
 {
-    let pinned = is_pinned(&instance.attr);
+    let pinned = instance.attr.flags.is_pinned();
     let key = events.insert_leader(instance, context, pinned);
     contexts.push(place_of(context), pinned, key);
     key

@@ -14,12 +14,14 @@ ghost use Rattle.stage_spec.specs.Limits.{AreTaskNumbers};
 ghost use Rattle.stage_spec.specs.Occurrences.{overflows};
 ghost use Rattle.stage_spec.specs.Opening.{is_used};
 ghost use Rattle.stage_spec.specs.Reading.{is_error};
+ghost use Rattle.stage_spec.specs.Replies as replies;
 ghost use Rattle.stage_spec.specs.Shares.{no_sums};
 ghost use Rattle.stage_spec.specs.Stage as stage;
 ghost use Rattle.stage_spec.specs.Switching.{put_on};
 ghost use Rattle.stage_spec.specs.declared.instance.TaskState.TheVariants as task_state;
 ghost use Rattle.stage_spec.specs.Tight.{masks_of, tight_set, shortest_unfit};
 ghost use Rattle.counter_match.specs.Seating.{AreDistinct, slots_of, empty_seating};
+ghost use Rattle.stage_laws.specs.Narrowing as narrowing;
 ghost use Rattle.stage_laws.specs.OneByOne.{change_one, drop_one};
 ghost use Rattle.world_spec.specs.Value.{is_live, entry_at, instance_at, account_at, standing_at, seats_at, leaders_of, family_of, is_key};
 ghost use Rattle.world_spec.specs.StageOf.{group_at, stage_of};
@@ -80,6 +82,13 @@ impl Model for World {
 }
 
 impl World {
+    /// Nothing happens. The caller's proof learns what holds of every world.
+    pub fn use_invariant(&self)
+        ensures { IsWorld self.now }
+    {
+        let _ = &self.pmus;
+    }
+
     /// What the counters of the machine are.
     pub fn pmus(&self) -> &Pmus
         ensures pmus { result.now ≡ self.now.hardware }
@@ -387,6 +396,32 @@ impl World {
             }
         }
         None
+    }
+
+    /// Whether a context is one of a processor's two: its own, and that of the task on it.
+    pub fn has_context(&self, cpu: CpuNo, context: Context) -> bool
+        ensures { result ≡ narrowing.has_context (stage_of self.now) cpu context }
+    {
+        match context {
+            Context::Processor(other) => other.0 == cpu.0,
+            Context::Task(task) => match self.task_on(cpu) {
+                Some(other) => other.0 == task.0,
+                None => false,
+            },
+        }
+    }
+
+    /// The processor that a context is on: its own one, or the one that runs its task.
+    pub fn cpu_with(&self, context: Context) -> Option<CpuNo>
+        ensures cpu { result ≡ replies.cpu_with (stage_of self.now) context }
+        ensures has { IfSome result (λ cpu. narrowing.has_context (stage_of self.now) cpu context ≡ true) }
+        ensures only { (cpu : Cpu) → narrowing.has_context (stage_of self.now) cpu context ≡ true → result ≡ Some cpu }
+    {
+        self.use_invariant();
+        match context {
+            Context::Processor(cpu) => Some(cpu),
+            Context::Task(task) => self.cpu_of(task),
+        }
     }
 
     /// Sets the own state of an instance. Only a leader may be in error.

@@ -67,6 +67,13 @@ impl Pmus {
         }
     }
 
+    /// Nothing happens. The caller's proof learns what holds of the counters of every machine.
+    pub fn use_invariant(&self)
+        ensures { IsHardware self.now }
+    {
+        let _ = &self.cpus;
+    }
+
     /// How many processors there are, 1 to 8.
     pub fn cpus(&self) -> u8
         ensures number { result ≡ length self.now.cpu_pmus }

@@ -1,17 +1,14 @@
 -- Lists of a report that are written entry by entry, and the parts of its text.
-use Rattle.std.specs.Prelude.{◌≡◌, ℕ, List, [], ◌∷◌, ◌++◌, map, flat_map, codes, decimal}
+use Rattle.std.specs.Prelude.{◌≡◌, ℕ, List, [], ◌∷◌, ◌++◌, flat_map, codes, decimal}
 use Rattle.std.proofs.Common.{refl, sym, ap, append_assoc}
 use Rattle.perf_base.specs.declared.acts.Act.{Act}
-use Rattle.perf_base.specs.declared.acts.Actor.{Actor}
 use Rattle.perf_base.specs.declared.numbers.EventNo.{EventNo}
-use Rattle.perf_base.specs.declared.reply.Reply.{Reply}
 use Rattle.perf_base.specs.Scripts.{Scripted}
 use Rattle.report_spec.specs.Report.{answer_line, answer_lines, answer_text, numbers_text, slots_text}
 use Rattle.script_spec.specs.Acts.{acts_text}
 use Rattle.script_print.proofs.Loops.{IsText}
-use Rattle.stage_spec.specs.Replies.{Answered}
+use Rattle.perf_base.specs.declared.reply.Answer.{Answer}
 use Rattle.report.specs.Said.{seat_text}
-use Rattle.report_spec.specs.Answers.{answered}
 use Rattle.report.specs.Told.{all_told, told_report}
 use Rattle.sample_ring.specs.declared.sent.RingNumbers.{RingNumbers}
 use Rattle.perf_base.specs.declared.numbers.RingNo.{RingNo}
@@ -29,19 +26,13 @@ seat-parts s = ap (λ t. 32 ∷ t) (sym (append_assoc (decimal s.0.0) (61 ∷ []
 pub seats_each : IsText (flat_map seat_text) seat_text
 seats_each = record { nil = refl; cons = λ s seats. refl }
 
-abbrev pub kept_line : Scripted → Actor × ℕ × Reply → List ℕ
-kept_line s a = answer_line s a.0 a.1 (answer_text a.2)
-
-abbrev pub kept_lines : Scripted → List (Actor × ℕ × Reply) → List ℕ
-kept_lines s answers = answer_lines s (map answered answers)
-
-pub answers_each : (s : Scripted) → IsText (kept_lines s) (kept_line s)
+pub answers_each : (s : Scripted) → IsText (answer_lines s) (λ a. answer_line s a.actor a.number (answer_text a.reply))
 answers_each s = record { nil = refl; cons = λ a answers. refl }
 
 in_a_row : (a b c d e f g : List ℕ) → (a ++ (b ++ c)) ++ (d ++ (e ++ (f ++ g))) ≡ a ++ b ++ c ++ d ++ e ++ f ++ g
 in_a_row a b c d e f g = simp append_assoc
 
 -- the whole, in its parts
-pub report-parts : (s : Scripted) (order : List Act) (answers : List Answered) (rings : List (RingNo × RingNumbers × List ℕ))
+pub report-parts : (s : Scripted) (order : List Act) (answers : List Answer) (rings : List (RingNo × RingNumbers × List ℕ))
     → (codes "order" ++ (acts_text order ++ 10 ∷ [])) ++ (answer_lines s answers ++ (all_told rings ++ codes "end\n")) ≡ told_report s order answers rings
 report-parts s order answers rings = in_a_row (codes "order") (acts_text order) (10 ∷ []) (answer_lines s answers) (all_told rings) (codes "end") (10 ∷ [])

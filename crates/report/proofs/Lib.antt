@@ -1,3 +1,5 @@
 pub mod Digits
 pub mod Entries
+pub mod MadeOrder
+pub mod SummedUp
 pub mod Told

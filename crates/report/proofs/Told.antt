@@ -8,18 +8,21 @@ use Rattle.std.proofs.Math.Seq.{drop-append_seam, take-append_seam}
 use Rattle.perf_base.specs.declared.acts.Act.{Act}
 use Rattle.perf_base.specs.declared.numbers.RingNo.{RingNo}
 use Rattle.perf_base.specs.Scripts.{Scripted}
+use Rattle.sample_ring.specs.RingLists.{InList}
 use Rattle.sample_ring.specs.declared.sent.RingNumbers.{RingNumbers}
+use Rattle.machine.specs.declared.ending.RingEnd.{RingEnd}
+use Rattle.machine.specs.Readers.{words_in}
 use Rattle.ring_spec.specs.Account.{Account, head_of}
-use Rattle.ring_spec.specs.Records.{Record, IsRecord, record_words, size_of, words_of}
+use Rattle.ring_spec.specs.Records.{Record, IsRecord, record_words, record_size, words_of}
 use Rattle.ring_spec.specs.Whole.{IsBlock, size_field}
 use Rattle.ring_spec.proofs.Cutting.{block-of}
-use Rattle.report_spec.specs.Report.{answer_lines, hexadecimal, record_lines, report, ring_lines}
+use Rattle.report_spec.specs.Report.{answer_lines, hexadecimal_digits, record_lines, report, ring_lines}
 use Rattle.script_spec.specs.Acts.{acts_text}
-use Rattle.stage_spec.specs.Replies.{Answered}
-use Rattle.report.specs.Told.{AreTold, IsTold, all_told, cut, cut_lines, records_in, ring_lent, told_lines, told_report, words_behind, words_line, words_text}
+use Rattle.perf_base.specs.declared.reply.Answer.{Answer}
+use Rattle.report.specs.Told.{AreTold, IsTold, all_told, cut, cut_lines, cut_records, told_lines, told_report, words_behind, words_line, words_text}
 use Rattle.script_print.proofs.Loops.{IsText}
 
-pub words_each : IsText words_text (λ word. 32 ∷ hexadecimal 16 word)
+pub words_each : IsText words_text (λ word. 32 ∷ hexadecimal_digits 16 word)
 words_each = record { nil = refl; cons = λ word words. refl }
 
 -- as many records as there are words are enough
@@ -38,27 +41,27 @@ cut_enough (suc n) (suc m) (first ∷ others) a b =
 
 -- the first record and the words behind it
 first_cut : (first : ℕ) (others : List ℕ) (k : ℕ) → k ≡ suc (min (words_behind first) (length others))
-    → records_in (first ∷ others) ≡ take k (first ∷ others) ∷ records_in (drop k (first ∷ others))
+    → cut_records (first ∷ others) ≡ take k (first ∷ others) ∷ cut_records (drop k (first ∷ others))
 unfolding cut
 first_cut first others k e =
     let b = words_behind first in
     let fewer : length (drop b others) ≡ length others - b = length-drop b others in
-    let rest : cut (length others) (drop b others) ≡ records_in (drop b others) = cut_enough (length others) (length (drop b others)) (drop b others) (omega (arith, fewer)) (omega arith) in
+    let rest : cut (length others) (drop b others) ≡ cut_records (drop b others) = cut_enough (length others) (length (drop b others)) (drop b others) (omega (arith, fewer)) (omega arith) in
     rw (e, take_min b others, drop_min b others, rest) refl
 
 pub first_cut_at : (words : List ℕ) (size k : ℕ) → 0 < length words → size ≡ size_field (get_or words 0 0) / 8 → k ≡ max 1 (min size (length words))
-    → records_in words ≡ take k words ∷ records_in (drop k words)
+    → cut_records words ≡ take k words ∷ cut_records (drop k words)
 first_cut_at [] size k some s e = absurd (omega (arith, some))
 first_cut_at (first ∷ others) size k some s e = first_cut first others k (omega (arith, s, e))
 
 -- the line of the first record, and those of the rest
-pub lines_step : (tail place k : ℕ) (words front behind : List ℕ) → records_in words ≡ take k words ∷ records_in (drop k words) → front ≡ take k words → behind ≡ drop k words
-    → words_line (nat_le (place + 8 * length front) tail) front ++ cut_lines tail (place + 8 * length front) (records_in behind) ≡ cut_lines tail place (records_in words)
+pub lines_step : (tail place k : ℕ) (words front behind : List ℕ) → cut_records words ≡ take k words ∷ cut_records (drop k words) → front ≡ take k words → behind ≡ drop k words
+    → words_line (nat_le (place + 8 * length front) tail) front ++ cut_lines tail (place + 8 * length front) (cut_records behind) ≡ cut_lines tail place (cut_records words)
 unfolding cut_lines
 lines_step tail place k words front behind e r b = rw (e, r, b) refl
 
 -- no words have no lines
-pub no_lines : (tail place : ℕ) (words : List ℕ) → length words ≡ 0 → [] ≡ cut_lines tail place (records_in words)
+pub no_lines : (tail place : ℕ) (words : List ℕ) → length words ≡ 0 → [] ≡ cut_lines tail place (cut_records words)
 unfolding cut cut_lines
 no_lines tail place [] e = refl
 no_lines tail place (first ∷ others) e = absurd (omega (arith, e))
@@ -93,7 +96,7 @@ cut_words (suc n) (r ∷ records) all l =
 lines_by_words : (tail place : ℕ) (records : List Record) → cut_lines tail place (map record_words records) ≡ record_lines tail place records
 unfolding cut_lines record_lines
 lines_by_words tail place [] = refl
-lines_by_words tail place (r ∷ records) = rw (lines_by_words tail (place + size_of r) records) (simp append_assoc)
+lines_by_words tail place (r ∷ records) = rw (lines_by_words tail (place + record_size r) records) (simp append_assoc)
 
 -- five texts with a number behind each, in a row
 in_a_row : (a b c d e f g h i j end rest : List ℕ)
@@ -103,14 +106,18 @@ in_a_row a b c d e f g h i j end rest = simp append_assoc
 -- what is told of the numbers and the words of an account are its lines
 pub told_account : (ring : RingNo) (numbers : RingNumbers) (words : List ℕ) (a : Account) → IsTold numbers words a → told_lines ring numbers words ≡ ring_lines (ring, a)
 told_account ring numbers words a h =
-    let same : records_in words ≡ map record_words a.written = ap records_in h.written ∙ cut_words (length (words_of a.written)) a.written h.lawful (omega arith) in
-    let lines : cut_lines a.tail 0 (records_in words) ≡ record_lines a.tail 0 a.written = ap (cut_lines a.tail 0) same ∙ lines_by_words a.tail 0 a.written in
+    let same : cut_records words ≡ map record_words a.written = ap cut_records h.written ∙ cut_words (length (words_of a.written)) a.written h.lawful (omega arith) in
+    let lines : cut_lines a.tail 0 (cut_records words) ≡ record_lines a.tail 0 a.written = ap (cut_lines a.tail 0) same ∙ lines_by_words a.tail 0 a.written in
     rw (h.head, h.tail, h.lost, h.pending, lines)
     (in_a_row (codes "ring ") (decimal ring.0) (codes " head=") (decimal (head_of a)) (codes " tail=") (decimal a.tail) (codes " lost=") (decimal (length a.lost))
     (codes " pending=") (decimal a.pending) (10 ∷ []) (record_lines a.tail 0 a.written))
 
-pub rings_each : IsText (λ rings. all_told (map ring_lent rings)) (λ r. told_lines r.0 r.1 r.2.now)
-rings_each = record { nil = refl; cons = λ r rings. refl }
+-- the lines of the rings of a run, one after the other
+abbrev pub end_told : InList → RingEnd → RingNo × RingNumbers × List ℕ
+end_told ins e = (e.ring, e.numbers, words_in ins e.ring)
+
+pub ends_each : (ins : InList) → IsText (λ (ends : List RingEnd). all_told (map (end_told ins) ends)) (λ e. told_lines e.ring e.numbers (words_in ins e.ring))
+ends_each ins = record { nil = refl; cons = λ e ends. refl }
 
 pub told_accounts : (rings : List (RingNo × RingNumbers × List ℕ)) (accounts : List (RingNo × Account)) → AreTold rings accounts → all_told rings ≡ flat_map ring_lines accounts
 told_accounts [] [] h = refl
@@ -120,7 +127,7 @@ told_accounts (r ∷ rings) (a ∷ accounts) h =
     ap (λ t. t ++ all_told rings) (ap (λ number. told_lines number r.1 r.2) h.0 ∙ told_account a.0 r.1 r.2 a.1 h.1) ∙ ap (λ t. ring_lines a ++ t) (told_accounts rings accounts h.2)
 
 -- the report with its rings
-pub told_whole : (s : Scripted) (order : List Act) (answers : List Answered) (rings : List (RingNo × RingNumbers × List ℕ)) (accounts : List (RingNo × Account))
+pub told_whole : (s : Scripted) (order : List Act) (answers : List Answer) (rings : List (RingNo × RingNumbers × List ℕ)) (accounts : List (RingNo × Account))
     → AreTold rings accounts → told_report s order answers rings ≡ report s order answers accounts
 unfolding report
 told_whole s order answers rings accounts h =

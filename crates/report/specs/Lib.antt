@@ -1,2 +1,4 @@
+pub mod Laws
 pub mod Said
+pub mod Summary
 pub mod Told

@@ -1,14 +1,13 @@
 //! Writing the lines of answers.
 
-ghost use Rattle.std.specs.Prelude.{◌≡◌, [], ◌∷◌, ◌++◌, codes, decimal, map};
+ghost use Rattle.std.specs.Prelude.{◌≡◌, [], ◌∷◌, ◌++◌, codes, decimal};
 ghost use Rattle.perf_io.specs.Wrote.{Wrote};
 ghost use Rattle.report_spec.specs.Report.{actor_text, answer_line, answer_lines, answer_text};
 ghost use Rattle.report.specs.Said.{line_start, said};
-ghost use Rattle.report_spec.specs.Answers.{answered};
 
 use crate::line_words::line_word;
 use crate::said::put_reply;
-use perf_base::{Actor, Reply, Script, StoredReply};
+use perf_base::{Actor, Answer, Reply, Script};
 use perf_io::{Failed, Sink, write_all, write_numbered};
 
 /// Writes the name of an actor. A reader has none.
@@ -76,7 +75,7 @@ fn put_line<K: Sink>(
 
 /// Writes the line of the answer to an actor's line of a number, from 0. A plain Ok has no line. Where a call of the
 /// sink fails, some front of the line stays added.
-pub fn write_answer<K: Sink>(
+fn write_answer<K: Sink>(
     sink: &mut K,
     script: &Script,
     actor: Actor,
@@ -92,27 +91,27 @@ pub fn write_answer<K: Sink>(
     }
 }
 
-/// Writes the line of an answer that is kept with the actor and the number of the line that it answers.
-fn put_kept<K: Sink>(
-    sink: &mut K,
-    script: &Script,
-    answer: &(Actor, u32, StoredReply),
-) -> Result<(), Failed>
-    ensures wrote { Wrote K.held K.faults K.last_fault sink.old sink.new result (answer_line script.now answer.now.0 answer.now.1 (answer_text answer.now.2)) }
+/// Writes the line of an answer.
+fn put_kept<K: Sink>(sink: &mut K, script: &Script, answer: &Answer) -> Result<(), Failed>
+    ensures wrote { Wrote K.held K.faults K.last_fault sink.old sink.new result (answer_line script.now answer.now.actor answer.now.number (answer_text answer.now.reply)) }
     ensures flushed { K.flushed sink.new ≡ K.flushed sink.old }
 {
-    let (actor, number, reply) = answer;
-    write_answer(sink, script, *actor, *number, &reply.reply())
+    write_answer(
+        sink,
+        script,
+        answer.actor,
+        answer.number,
+        &answer.reply.reply(),
+    )
 }
 
-/// Writes the lines of answers, each kept with the actor and the number of the line that it answers. Where a call of
-/// the sink fails, some front of the lines stays added.
-pub fn write_answers<K: Sink>(
+/// Writes the lines of answers. Where a call of the sink fails, some front of the lines stays added.
+pub(crate) fn write_answers<K: Sink>(
     sink: &mut K,
     script: &Script,
-    answers: &[(Actor, u32, StoredReply)],
+    answers: &[Answer],
 ) -> Result<(), Failed>
-    ensures wrote { Wrote K.held K.faults K.last_fault sink.old sink.new result (answer_lines script.now (map answered answers.now)) }
+    ensures wrote { Wrote K.held K.faults K.last_fault sink.old sink.new result (answer_lines script.now answers.now) }
     ensures flushed { K.flushed sink.new ≡ K.flushed sink.old }
 {
     for answer in answers {

@@ -53,8 +53,7 @@ fn cpu_word_at(lines: &[CpuLine], number: u32) -> &'static [u8]
 fn cpu_line_word(script: &Script, cpu: CpuNo, number: u32) -> &'static [u8]
     ensures { result.now ≡ text.cpu_word (slice_get (lines_of_cpu script.now cpu) number) }
 {
-    // A reader tells what always holds of a script.
-    let _cpus = script.cpus();
+    script.use_invariant();
     if cpu.0 >= 8 {
         return b"";
     }
@@ -76,8 +75,7 @@ fn tool_word_at(lines: &[ToolLine], number: u32) -> &'static [u8]
 fn tool_line_word(script: &Script, tool: ToolNo, number: u32) -> &'static [u8]
     ensures { result.now ≡ text.tool_word (slice_get (lines_of_tool script.now tool) number) }
 {
-    // A reader tells what always holds of a script.
-    let _cpus = script.cpus();
+    script.use_invariant();
     if tool.0 >= 4 {
         return b"";
     }

@@ -1,13 +1,13 @@
 //! Writing what rings came to.
 
-ghost use Rattle.std.specs.Prelude.{◌≡◌, ◌<◌, ◌≤◌, List, ◌∷◌, ◌++◌, codes, decimal, drop, false, flat_map, length, map, take};
+ghost use Rattle.std.specs.Prelude.{◌≡◌, ◌<◌, ◌≤◌, ◌∷◌, ◌++◌, codes, decimal, drop, false, length, take};
 ghost use Rattle.std.specs.Fmt.{digit_glyph};
-ghost use Rattle.perf_base.specs.declared.numbers.RingNo.{RingNo};
 ghost use Rattle.perf_io.specs.Wrote.{Wrote};
-ghost use Rattle.report_spec.specs.Report.{fate_text, hexadecimal, ring_lines};
+ghost use Rattle.report_spec.specs.Report.{fate_text, hexadecimal_digits, ring_lines};
 ghost use Rattle.ring_spec.specs.Account.{Account};
-ghost use Rattle.report.specs.Told.{AreTold, IsTold, all_told, cut_lines, numbers_line, records_in, ring_lent, told_lines, words_line, words_text};
+ghost use Rattle.report.specs.Told.{IsTold, all_told, cut_lines, numbers_line, cut_records, rings_of, told_lines, words_line, words_text};
 
+use machine::Ended;
 use perf_base::RingNo;
 use perf_io::{Failed, Sink, write_all, write_numbered};
 use sample_records::header_of;
@@ -23,7 +23,7 @@ fn glyph(digit: u8) -> u8
 
 /// The sixteen digits of a word with a space before them.
 fn word_text(word: u64) -> [u8; 17]
-    ensures { result ≡ 32 ∷ hexadecimal 16 word }
+    ensures { result ≡ 32 ∷ hexadecimal_digits 16 word }
 {
     let mut text = [32; 17];
     let mut left = word;
@@ -68,7 +68,7 @@ fn first_length(words: &[u64]) -> usize
     requires { 0 < length words.now }
     ensures some { 0 < result }
     ensures within { result ≤ length words.now }
-    ensures cut { records_in words.now ≡ take result words.now ∷ records_in (drop result words.now) }
+    ensures cut { cut_records words.now ≡ take result words.now ∷ cut_records (drop result words.now) }
 {
     let size = usize::from(header_of(words[0]).size / 8);
     size.clamp(1, words.len())
@@ -76,7 +76,7 @@ fn first_length(words: &[u64]) -> usize
 
 /// Writes the lines of the records that words are cut into.
 fn put_records<K: Sink>(sink: &mut K, tail: u64, words: &[u64]) -> Result<(), Failed>
-    ensures wrote { Wrote K.held K.faults K.last_fault sink.old sink.new result (cut_lines tail 0 (records_in words.now)) }
+    ensures wrote { Wrote K.held K.faults K.last_fault sink.old sink.new result (cut_lines tail 0 (cut_records words.now)) }
     ensures flushed { K.flushed sink.new ≡ K.flushed sink.old }
 {
     let mut place = 0;
@@ -115,7 +115,7 @@ fn put_numbers<K: Sink>(sink: &mut K, ring: RingNo, numbers: &RingNumbers) -> Re
 /// size field of a record's first word says how many words the record has; where it says none, the record is that word,
 /// and where it says more than there are, the words that there are. Where a call of the sink fails, some front of the
 /// lines stays added.
-pub fn write_ring<K: Sink>(
+pub(crate) fn write_ring<K: Sink>(
     sink: &mut K,
     ring: RingNo,
     numbers: &RingNumbers,
@@ -129,18 +129,14 @@ pub fn write_ring<K: Sink>(
     put_records(sink, numbers.tail, words)
 }
 
-/// Writes what rings came to, in their order: for each ring its numbers and all words that were written on it. Where a
-/// call of the sink fails, some front of the lines stays added.
-pub fn write_rings<K: Sink>(
-    sink: &mut K,
-    rings: &[(RingNo, RingNumbers, &[u64])],
-) -> Result<(), Failed>
-    ensures wrote { Wrote K.held K.faults K.last_fault sink.old sink.new result (all_told (map ring_lent rings.now)) }
-    ensures accounts { (accounts : List (RingNo × Account)) → AreTold (map ring_lent rings.now) accounts → Wrote K.held K.faults K.last_fault sink.old sink.new result (flat_map ring_lines accounts) }
+/// Writes what the rings of a run came to, by rising number. Where a call of the sink fails, some front of the lines
+/// stays added.
+pub(crate) fn write_rings<K: Sink>(sink: &mut K, ended: &Ended) -> Result<(), Failed>
+    ensures wrote { Wrote K.held K.faults K.last_fault sink.old sink.new result (all_told (rings_of ended.now)) }
     ensures flushed { K.flushed sink.new ≡ K.flushed sink.old }
 {
-    for (ring, numbers, words) in rings {
-        write_ring(sink, *ring, numbers, words)?;
+    for end in ended.ring_ends() {
+        write_ring(sink, end.ring, &end.numbers, ended.words(end.ring))?;
     }
     Ok(())
 }

@@ -3,14 +3,17 @@
 ghost use Rattle.std.specs.Prelude.{◌≡◌, ◌≤◌, [], length};
 ghost use Rattle.perf_base.specs.Scripts.{IsToolLine};
 
-use crate::{write_report, write_ring, write_whole_report};
+use crate::answers::write_answers;
+use crate::reports::{write_end, write_order, write_report};
+use crate::rings::write_ring;
+use machine::Ended;
 use perf_base::{
-    Act, Actor, Attr, AttrFlags, Cause, CpuLine, CpuNo, CpuSel, EventNo, Kind, NoMemory, Reason,
-    Reply, RingNo, Script, SeatList, StoredReply, TaskNo, TaskSel, Tight, ToolLine, ToolNo, Why,
-    Words,
+    Act, Actor, Answer, Attr, AttrFlags, Cause, CpuLine, CpuNo, CpuSel, EventNo, Kind, NoMemory,
+    Reason, Reply, RingNo, Script, SeatList, StoredReply, TaskNo, TaskSel, Tight, ToolLine, ToolNo,
+    Why, Words,
 };
 use perf_io::MemSink;
-use sample_ring::RingNumbers;
+use sample_ring::{RingNumbers, make_rings};
 use std::alloc::Global;
 use std::test::Fail;
 
@@ -78,8 +81,12 @@ fn script(alloc: Global) -> Result<Script, NoMemory> {
 }
 
 /// The answer to a line of tool 0.
-fn told(number: u32, reply: Reply) -> (Actor, u32, StoredReply) {
-    (Actor::Tool(ToolNo(0)), number, StoredReply::new(reply))
+fn told(number: u32, reply: Reply) -> Answer {
+    Answer {
+        actor: Actor::Tool(ToolNo(0)),
+        number,
+        reply: StoredReply::new(reply),
+    }
 }
 
 const TOOL: Act = Act::Tool(ToolNo(0));
@@ -97,7 +104,11 @@ fn each_answer_but_a_plain_ok_has_a_line(rt: HostRuntime) -> Result<(), Fail> {
     let script = script(rt.alloc())?;
     let answers = [
         told(0, Reply::Ok),
-        (Actor::Processor(CpuNo(0)), 0, StoredReply::new(Reply::Ok)),
+        Answer {
+            actor: Actor::Processor(CpuNo(0)),
+            number: 0,
+            reply: StoredReply::new(Reply::Ok),
+        },
         told(1, Reply::Read(words(&[500, 100, 100]))),
         told(2, Reply::Why(Why::Failed(Cause::Hall(slots(&[0, 2]))))),
         told(3, Reply::Refused(Reason::NoAssignment(slots(&[0, 1, 2])))),
@@ -105,7 +116,9 @@ fn each_answer_but_a_plain_ok_has_a_line(rt: HostRuntime) -> Result<(), Fail> {
     ];
     let order = [TOOL, Act::Processor(CpuNo(0)), TOOL, TOOL, TOOL, TOOL];
     let mut sink = MemSink::new(rt.alloc(), 7, vec![in rt.alloc(); 999u64]?, 200)?;
-    assert!(rt; write_report(&mut sink, &script, &order, &answers).is_ok());
+    assert!(rt; write_order(&mut sink, &order).is_ok());
+    assert!(rt; write_answers(&mut sink, &script, &answers).is_ok());
+    assert!(rt; write_end(&mut sink).is_ok());
     assert_eq!(rt; sink.bytes(), REPORT);
     Ok(())
 }
@@ -115,7 +128,8 @@ fn failing_write(rt: HostRuntime) -> Result<(), Fail> {
     let script = script(rt.alloc())?;
     let answers = [told(1, Reply::Read(words(&[7])))];
     let mut sink = MemSink::new(rt.alloc(), 7, vec![in rt.alloc(); 999u64]?, 14)?;
-    assert!(rt; write_report(&mut sink, &script, &[TOOL], &answers).is_err());
+    assert!(rt; write_order(&mut sink, &[TOOL]).is_ok());
+    assert!(rt; write_answers(&mut sink, &script, &answers).is_err());
     assert_eq!(rt; sink.bytes(), b"order t0\nt0.1 ".as_slice());
     Ok(())
 }
@@ -175,26 +189,27 @@ fn each_record_of_a_ring_has_a_line(rt: HostRuntime) -> Result<(), Fail> {
     Ok(())
 }
 
-const WHOLE: &[u8] = b"order t0
-t0.1 read 7
-ring 0 head=16 tail=0 lost=0 pending=0
-left 0010000200000009 0000000000000007
-ring 1 head=0 tail=0 lost=0 pending=0
-end
-";
+/// A run of a script without a line.
+fn empty_run(alloc: Global) -> Result<Ended, NoMemory> {
+    let script = Script::new(alloc, 1);
+    let (_, _, ins) = make_rings(alloc, &[], 0)?;
+    Ok(Ended::new(
+        script,
+        Vec::new(alloc),
+        Vec::new(alloc),
+        Vec::new(alloc),
+        ins,
+    ))
+}
 
 #[test]
-fn rings_stand_before_the_end(rt: HostRuntime) -> Result<(), Fail> {
-    let script = script(rt.alloc())?;
-    let answers = [told(1, Reply::Read(words(&[7])))];
-    let written: &[u64] = &[0x0010_0002_0000_0009, 7];
-    let none: &[u64] = &[];
-    let rings = [
-        (RingNo(0), came_to([16, 0, 0, 0]), written),
-        (RingNo(1), came_to([0, 0, 0, 0]), none),
-    ];
+fn empty_run_has_an_order_and_an_end(rt: HostRuntime) -> Result<(), Fail> {
+    let ended = empty_run(rt.alloc())?;
     let mut sink = MemSink::new(rt.alloc(), 7, vec![in rt.alloc(); 999u64]?, 200)?;
-    assert!(rt; write_whole_report(&mut sink, &script, &[TOOL], &answers, &rings).is_ok());
-    assert_eq!(rt; sink.bytes(), WHOLE);
+    assert!(rt; write_report(&ended, &mut sink).is_ok());
+    assert_eq!(rt; sink.bytes(), b"order\nend\n".as_slice());
+    let mut full = MemSink::new(rt.alloc(), 7, vec![in rt.alloc(); 999u64]?, 8)?;
+    assert!(rt; write_report(&ended, &mut full).is_err());
+    assert_eq!(rt; full.bytes(), b"order\nen".as_slice());
     Ok(())
 }

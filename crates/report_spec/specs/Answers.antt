@@ -12,14 +12,11 @@ use Rattle.perf_base.specs.Scripts.{Scripted}
 use Rattle.stage_spec.specs.Hardware.{hardware_of}
 use Rattle.stage_spec.specs.Order.{IsCounted, last_seen}
 use Rattle.stage_spec.specs.History.{Step, opening_stage}
-use Rattle.stage_spec.specs.Replies.{Answered, AnswerOrder}
-use Rattle.ring_spec.specs.Records.{Record, size_of}
+use Rattle.stage_spec.specs.Replies.{AnswerOrder}
+use Rattle.perf_base.specs.declared.reply.Answer.{Answer}
+use Rattle.ring_spec.specs.Records.{Record, record_size}
 use Rattle.ring_spec.specs.Account.{Account}
 use Rattle.ring_spec.specs.Rings.{IsLawfulOrder, account_in, lost_count}
-
--- an answer as it is kept: whose line it answers, the number of that line, and the reply
-abbrev pub answered : Actor × ℕ × Reply → Answered
-answered a = record { actor = a.0; number = a.1; reply = a.2 }
 
 -- how many records of an event were lost after some steps of a script
 abbrev pub lost_in : Scripted → List Step → EventNo → ℕ
@@ -27,7 +24,7 @@ lost_in s steps e = lost_count (hardware_of s) (opening_stage s) s.rings steps e
 
 -- No actor has more acts than lines, each look at a tail is lawful, and there is one answer to each line that is done,
 -- in their order.
-pub record IsAnswered (s : Scripted) (order : List Act) (answers : List Answered) : Type 0 where
+pub record IsAnswered (s : Scripted) (order : List Act) (answers : List Answer) : Type 0 where
   pub counted : IsCounted s order
   pub lawful : IsLawfulOrder s order
   pub answered : AnswerOrder s (lost_in s) order answers
@@ -63,7 +60,7 @@ IsRunShaped order = (before after : List Act) (a : Act) → order ≡ before ++ 
 -- the records of a list, from a place on, that end at or before the tail: those that the reader took
 unfoldable pub taken_from : (tail place : ℕ) → List Record → List Record
 taken_from tail place [] = []
-taken_from tail place (r ∷ records) = elim (nat_le (place + size_of r) tail) [ true ↦ r ∷ taken_from tail (place + size_of r) records | false ↦ [] ]
+taken_from tail place (r ∷ records) = elim (nat_le (place + record_size r) tail) [ true ↦ r ∷ taken_from tail (place + record_size r) records | false ↦ [] ]
 
 abbrev pub taken_of : Account → List Record
 taken_of a = taken_from a.tail 0 a.written

@@ -23,8 +23,8 @@ use Rattle.perf_base.specs.declared.reply.Reply.{Reply}
 use Rattle.perf_base.specs.declared.reply.Reply.TheVariants as reply
 use Rattle.perf_base.specs.Reasons.{printed_of}
 use Rattle.perf_base.specs.Scripts.{Scripted, lines_of_cpu, lines_of_tool}
-use Rattle.stage_spec.specs.Replies.{Answered}
-use Rattle.ring_spec.specs.Records.{Record, record_words, size_of}
+use Rattle.perf_base.specs.declared.reply.Answer.{Answer}
+use Rattle.ring_spec.specs.Records.{Record, record_words, record_size}
 use Rattle.ring_spec.specs.Account.{Account, head_of}
 use Rattle.ring_spec.specs.Rings.{account_in}
 use Rattle.script_spec.specs.Acts.{act_text, acts_text}
@@ -102,13 +102,13 @@ answer_line s who n None = []
 answer_line s who n (Some text) = actor_text who ++ codes "." ++ decimal n ++ codes " " ++ line_word s who n ++ text ++ 10 ∷ []
 
 -- the lines of the answers
-abbrev pub answer_lines : Scripted → List Answered → List ℕ
+abbrev pub answer_lines : Scripted → List Answer → List ℕ
 answer_lines s answers = flat_map (λ a. answer_line s a.actor a.number (answer_text a.reply)) answers
 
 -- a word as a given number of hexadecimal digits, in small letters
-unfoldable pub hexadecimal : (digits word : ℕ) → List ℕ
-hexadecimal zero word = []
-hexadecimal (suc n) word = hexadecimal n (word / 16) ++ digit_glyph false (word % 16) ∷ []
+unfoldable pub hexadecimal_digits : (digits word : ℕ) → List ℕ
+hexadecimal_digits zero word = []
+hexadecimal_digits (suc n) word = hexadecimal_digits n (word / 16) ++ digit_glyph false (word % 16) ∷ []
 
 -- a record, taken or left, with its words of sixteen digits each
 abbrev pub fate_text : (taken : Bool) → List ℕ
@@ -116,12 +116,12 @@ fate_text true = codes "taken"
 fate_text false = codes "left"
 
 abbrev pub record_line : (taken : Bool) → Record → List ℕ
-record_line taken r = fate_text taken ++ flat_map (λ word. 32 ∷ hexadecimal 16 word) (record_words r) ++ 10 ∷ []
+record_line taken r = fate_text taken ++ flat_map (λ word. 32 ∷ hexadecimal_digits 16 word) (record_words r) ++ 10 ∷ []
 
 -- the records of a ring from a place on: one that ends at or before the tail was taken
 unfoldable pub record_lines : (tail place : ℕ) → List Record → List ℕ
 record_lines tail place [] = []
-record_lines tail place (r ∷ records) = record_line (nat_le (place + size_of r) tail) r ++ record_lines tail (place + size_of r) records
+record_lines tail place (r ∷ records) = record_line (nat_le (place + record_size r) tail) r ++ record_lines tail (place + record_size r) records
 
 -- what a ring came to, and the records written on it
 abbrev pub ring_lines : RingNo × Account → List ℕ
@@ -130,7 +130,7 @@ ring_lines ring = codes "ring " ++ decimal ring.0.0 ++ codes " head=" ++ decimal
     ++ record_lines ring.1.tail 0 ring.1.written
 
 -- the whole report: the order, the answers, the rings, the end
-unfoldable pub report : Scripted → List Act → List Answered → List (RingNo × Account) → List ℕ
+unfoldable pub report : Scripted → List Act → List Answer → List (RingNo × Account) → List ℕ
 report s order answers rings = codes "order" ++ acts_text order ++ 10 ∷ [] ++ answer_lines s answers ++ flat_map ring_lines rings ++ codes "end" ++ 10 ∷ []
 
 -- what each ring of a script comes to over an order

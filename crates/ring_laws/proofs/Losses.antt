@@ -8,13 +8,13 @@ use Rattle.perf_base.specs.declared.numbers.RingNo.{RingNo}
 use Rattle.stage_spec.specs.Hardware.{Hardware, hardware_of}
 use Rattle.stage_spec.specs.Stage.{Stage}
 use Rattle.stage_spec.specs.History.{Step, history, opening_stage}
-use Rattle.ring_spec.specs.Sending.{Sent, sent_by_steps}
+use Rattle.ring_spec.specs.Sending.{SentSample, sent_by_steps}
 use Rattle.ring_laws.specs.Losses.{FewLostLaw, FewLostOfScriptLaw, HeadsLaw, SmallHeadsLaw}
 use Rattle.ring_laws.proofs.Orders.{few_of_script, few_words}
 use Rattle.std.proofs.lemmas.Bool.{cases_eq}
 use Rattle.std.proofs.lemmas.Bool.Decides.{nat_tests}
 use Rattle.std.proofs.lemmas.List.{length-append, length-map}
-use Rattle.ring_spec.specs.Records.{Record, record_words, size_of, words_of}
+use Rattle.ring_spec.specs.Records.{Record, record_words, record_size, words_of}
 use Rattle.ring_spec.specs.Account.{RingEvent, Sends, account, is_sent, is_event, lost_of}
 use Rattle.ring_spec.specs.Rings.{is_to, events_of, account_of, lost_count, account_in}
 use Rattle.ring_spec.proofs.Conserved.{sent_law}
@@ -47,10 +47,10 @@ at_most_one n (r ∷ rings) h = elim (cases_eq n r.0.0) [
       omega (arith, apart-none n r.0.0 e, rest, count-one (λ (q : RingNo × ℕ). n == q.0.0) r rings)
 ]
 
-abbrev sent_to : List (RingNo × Sent) → RingNo × ℕ → ℕ
+abbrev sent_to : List (RingNo × SentSample) → RingNo × ℕ → ℕ
 sent_to sents ring = count_by (is_to ring.0) sents
 
-one_sent : (x : RingNo × Sent) (sents : List (RingNo × Sent)) (rings : List (RingNo × ℕ))
+one_sent : (x : RingNo × SentSample) (sents : List (RingNo × SentSample)) (rings : List (RingNo × ℕ))
     → sum_by (sent_to (x ∷ sents)) rings ≡ count_by (λ (r : RingNo × ℕ). x.0.0 == r.0.0) rings + sum_by (sent_to sents) rings
 one_sent x sents [] = refl
 one_sent x sents (r ∷ rings) =
@@ -67,7 +67,7 @@ none_sent : (rings : List (RingNo × ℕ)) → sum_by (sent_to []) rings ≡ 0
 none_sent [] = refl
 none_sent (r ∷ rings) = omega (arith, none_sent rings, sum_by-cons (sent_to []) r rings)
 
-to_rings : (sents : List (RingNo × Sent)) (rings : List (RingNo × ℕ)) → AllPairs (λ q r. q.0.0 ≢ r.0.0) rings → sum_by (sent_to sents) rings ≤ length sents
+to_rings : (sents : List (RingNo × SentSample)) (rings : List (RingNo × ℕ)) → AllPairs (λ q r. q.0.0 ≢ r.0.0) rings → sum_by (sent_to sents) rings ≤ length sents
 to_rings [] rings h = omega (arith, none_sent rings)
 to_rings (x ∷ sents) rings h = omega (arith, to_rings sents rings h, one_sent x sents rings, at_most_one x.0.0 rings h)
 
@@ -76,8 +76,8 @@ lost_on : (hw : Hardware) (s : Stage) (steps : List Step) (e : EventNo) (ring : 
 unfolding account_of
 lost_on hw s steps e ring =
     let events : List RingEvent = events_of hw s steps ring.0 in
-    let sents : List (RingNo × Sent) = filter (is_to ring.0) (sent_by_steps hw s steps) in
-    let sends : length (filter is_sent events) ≡ length sents = ap length (sends_law hw s steps ring.0) ∙ length-map sents (λ (sent : RingNo × Sent). Sends sent.1) in
+    let sents : List (RingNo × SentSample) = filter (is_to ring.0) (sent_by_steps hw s steps) in
+    let sends : length (filter is_sent events) ≡ length sents = ap length (sends_law hw s steps ring.0) ∙ length-map sents (λ (sent : RingNo × SentSample). Sends sent.1) in
     omega (
       arith,
       sends,
@@ -109,9 +109,9 @@ few_lost_of_script s order e h covered =
     )
 
 -- the head in words
-head_words : (records : List Record) → sum_by size_of records ≡ 8 * length (words_of records)
+head_words : (records : List Record) → sum_by record_size records ≡ 8 * length (words_of records)
 head_words [] = refl
-head_words (r ∷ records) = omega (arith, head_words records, sum_by-cons size_of r records, length-append (record_words r) (words_of records))
+head_words (r ∷ records) = omega (arith, head_words records, sum_by-cons record_size r records, length-append (record_words r) (words_of records))
 
 pub heads : HeadsLaw
 heads s order ring h covered = omega (arith, head_words (account_in s order ring).written, few_words s order ring h covered)

@@ -10,7 +10,8 @@ use Rattle.stage_spec.specs.Hardware.{Hardware}
 use Rattle.stage_spec.specs.Stage.{Stage, Group, members_of, members, is_of_family}
 use Rattle.stage_spec.specs.Effective.{is_ready}
 use Rattle.stage_spec.specs.Commands.{is_reached}
-use Rattle.stage_spec.specs.Verdict.{reached, Judged, is_eligible, judge, judge_pass, judge_passes, passes, stands_on, verdicts, on_instances}
+use Rattle.stage_spec.specs.Verdict.{reached, Judged, is_eligible, judge, judge_pass, judge_passes, passes, verdicts, on_instances}
+use Rattle.perf_base.specs.Standings.{stands_on}
 use Rattle.stage_spec.proofs.Each.{Each}
 
 -- a processor reaches at most one instance of a family

@@ -12,7 +12,7 @@ use Rattle.stage_spec.specs.Hardware.{Hardware, hardware_of}
 use Rattle.stage_spec.specs.Stage.{Stage}
 use Rattle.stage_spec.specs.Order.{seen_at, next_of_cpu, next_of_tool}
 use Rattle.stage_spec.specs.History.{Step, CpuStep, ToolStep, SeenStep, steps_of, steps_from, cpu_steps, tool_steps, history, opening_stage}
-use Rattle.ring_spec.specs.Sending.{Sent, sent_after}
+use Rattle.ring_spec.specs.Sending.{SentSample, sent_after}
 use Rattle.ring_spec.specs.Account.{Sends, Looks, Account, account, empty_account, send, ring_step, written_to, lost_to, need_of, room_of}
 use Rattle.ring_spec.specs.Rings.{looks_at, sends_to, is_to, events_after, events_from, events_of, account_of}
 use Rattle.ring_laws.specs.Tails.{TailLaw}
@@ -23,7 +23,7 @@ tail_by ring last (CpuStep cpu line) = last
 tail_by ring last (ToolStep line) = last
 tail_by ring last (SeenStep other place) = if other.0 == ring.0 then place else last
 
-sends-tail : (bytes : ℕ) (a : Account) (sents : List (RingNo × Sent)) → (fold (ring_step bytes) a (map (λ sent. Sends sent.1) sents)).tail ≡ a.tail
+sends-tail : (bytes : ℕ) (a : Account) (sents : List (RingNo × SentSample)) → (fold (ring_step bytes) a (map (λ sent. Sends sent.1) sents)).tail ≡ a.tail
 sends-tail bytes a [] = refl
 sends-tail bytes a (sent ∷ sents) = sends-tail bytes (send bytes a sent.1) sents ∙ one (nat_le (need_of a sent.1) (room_of bytes a))
   where
@@ -43,7 +43,7 @@ looks-tail bytes ring a (SeenStep other place) = one (other.0 == ring.0)
 events-tail : (bytes : ℕ) (hw : Hardware) (s : Stage) (ring : RingNo) (a : Account) (before : List Step) (x : Step)
     → (fold (ring_step bytes) a (events_after hw s ring before x)).tail ≡ tail_by ring a.tail x
 events-tail bytes hw s ring a before x =
-    let sents : List (RingNo × Sent) = filter (is_to ring) (sent_after hw s before x) in
+    let sents : List (RingNo × SentSample) = filter (is_to ring) (sent_after hw s before x) in
     ap (λ b. b.tail) (fold-append (ring_step bytes) a (looks_at ring x) (sends_to ring (sent_after hw s before x)))
     ∙ (sends-tail bytes (fold (ring_step bytes) a (looks_at ring x)) sents ∙ looks-tail bytes ring a x)
 

@@ -26,14 +26,14 @@ use Rattle.stage_spec.specs.Families.{plus_each, leaving}
 use Rattle.stage_spec.specs.Remainders.{left_by, left_by_hits, left_by_period, new_period, instance_of}
 use Rattle.stage_spec.specs.Reading.{read_words, read_words_of, words_in, words_by, words_of_group, words_of_member, words_unless_error, has_format, is_error}
 use Rattle.stage_spec.specs.Effective.{state_in}
-use Rattle.stage_spec.specs.Replies.{IsAnswerAt, IsDone, UnlessRefused}
+use Rattle.stage_spec.specs.Replies.{IsAnswerAt, IsToolReply, UnlessRefused}
 use Rattle.stage_spec.proofs.Each.{Each, head-Each, weaker-Each, filter-Each, InGroup, InStage}
 use Rattle.stage_spec.proofs.Carried.{IsOfName, step-in}
 use Rattle.stage_spec.proofs.Inside.{all_instances-in, InStage-from_all}
 use Rattle.stage_spec.proofs.Parts.{joined-Each}
 use Rattle.stage_spec.proofs.Present.{on_instances-in, leaving-in, Found, any-found, find-holds, find-any, each_at, each_there}
 use Rattle.stage_spec.proofs.Drawn.{step-draws}
-use Rattle.ring_spec.specs.Sending.{Sent, sent_by_step, sent_by_line, sent_at, sent_by_family, overflows_by, length_by}
+use Rattle.ring_spec.specs.Sending.{SentSample, sent_by_step, sent_by_line, sent_at, sent_by_family, overflows_by, length_by}
 use Rattle.ring_spec.specs.Account.{RingEvent, Sends, Looks, Account, ring_step, lost_by, lost_among, written_to, lost_to, need_of, room_of}
 use Rattle.ring_spec.specs.Rings.{events_by}
 use Rattle.ring_spec.specs.Running.{RingAccount, Running, ring_after, losses_on, record_after, family_by, IsAnswerBy}
@@ -180,7 +180,7 @@ among-nameless bytes a (x ∷ events) =
 abbrev shown : RingView → Account
 shown v = record { written = v.written; pending = v.pending; lost = []; tail = v.tail }
 
-ring-view : (x : Step) (sents : List (RingNo × Sent)) (a : RingAccount)
+ring-view : (x : Step) (sents : List (RingNo × SentSample)) (a : RingAccount)
     → let v : RingView = view_of a in
     let events : List RingEvent = events_by x sents v.ring in
     let after : Account = nameless (fold (ring_step v.bytes) (shown v) events) in
@@ -194,7 +194,7 @@ ring-view x sents a =
     let V : Account → ℕ → RingView = λ b n. record { ring = a.ring; bytes = a.bytes; written = b.written; pending = b.pending; lost = n; tail = b.tail } in
     ap (λ b. V b (length (fold (ring_step a.bytes) a.account events).lost)) same ∙ ap (V (nameless (fold (ring_step a.bytes) (nameless a.account) events))) losses
 
-after-same : (x : Step) (sents : List (RingNo × Sent)) (a b : RingAccount) → view_of a ≡ view_of b → view_of (ring_after x sents a) ≡ view_of (ring_after x sents b)
+after-same : (x : Step) (sents : List (RingNo × SentSample)) (a b : RingAccount) → view_of a ≡ view_of b → view_of (ring_after x sents a) ≡ view_of (ring_after x sents b)
 after-same x sents a b e =
     let W : RingView → RingView = λ v. (let events : List RingEvent = events_by x sents v.ring in
     let after : Account = nameless (fold (ring_step v.bytes) (shown v) events) in
@@ -202,7 +202,7 @@ after-same x sents a b e =
     now) in
     ring-view x sents a ∙ (ap W e ∙ sym (ring-view x sents b))
 
-losses-same : (x : Step) (sents : List (RingNo × Sent)) (a b : RingAccount) → view_of a ≡ view_of b → losses_on x sents a ≡ losses_on x sents b
+losses-same : (x : Step) (sents : List (RingNo × SentSample)) (a b : RingAccount) → view_of a ≡ view_of b → losses_on x sents a ≡ losses_on x sents b
 losses-same x sents a b e =
     among-nameless a.bytes a.account (events_by x sents a.ring)
     ∙ (ap (λ (v : RingView). lost_among v.bytes (shown v) (events_by x sents v.ring)) e ∙ sym (among-nameless b.bytes b.account (events_by x sents b.ring)))
@@ -214,7 +214,7 @@ head_view a b rs qs e = ap (λ (l : List RingView). get_or l 0 (view_of a)) e
 tail_views : (a b : RingAccount) (rs qs : List RingAccount) → map view_of (a ∷ rs) ≡ map view_of (b ∷ qs) → map view_of rs ≡ map view_of qs
 tail_views a b rs qs e = ap (drop 1) e
 
-rings-same : (x : Step) (sents : List (RingNo × Sent)) (rs qs : List RingAccount) → map view_of rs ≡ map view_of qs → map view_of (map (ring_after x sents) rs) ≡ map view_of (map (ring_after x sents) qs)
+rings-same : (x : Step) (sents : List (RingNo × SentSample)) (rs qs : List RingAccount) → map view_of rs ≡ map view_of qs → map view_of (map (ring_after x sents) rs) ≡ map view_of (map (ring_after x sents) qs)
 rings-same x sents [] [] e = refl
 rings-same x sents [] (b ∷ qs) e = absurd (omega (arith, ap length e))
 rings-same x sents (a ∷ rs) [] e = absurd (omega (arith, ap length e))
@@ -222,7 +222,7 @@ rings-same x sents (a ∷ rs) (b ∷ qs) e =
     ap (λ v. v ∷ map view_of (map (ring_after x sents) rs)) (after-same x sents a b (head_view a b rs qs e))
     ∙ ap (λ vs. view_of (ring_after x sents b) ∷ vs) (rings-same x sents rs qs (tail_views a b rs qs e))
 
-all_losses-same : (x : Step) (sents : List (RingNo × Sent)) (rs qs : List RingAccount) → map view_of rs ≡ map view_of qs → flat_map (losses_on x sents) rs ≡ flat_map (losses_on x sents) qs
+all_losses-same : (x : Step) (sents : List (RingNo × SentSample)) (rs qs : List RingAccount) → map view_of rs ≡ map view_of qs → flat_map (losses_on x sents) rs ≡ flat_map (losses_on x sents) qs
 all_losses-same x sents [] [] e = refl
 all_losses-same x sents [] (b ∷ qs) e = absurd (omega (arith, ap length e))
 all_losses-same x sents (a ∷ rs) [] e = absurd (omega (arith, ap length e))
@@ -295,7 +295,7 @@ unless-same : (refusal : Option Reason) (a : Reply) (P Q : Type 0) → (P → Q)
 unless-same (Some r) a P Q f h = h
 unless-same None a P Q f h = f h
 
-done-same : (hw : Hardware) (s : Stage) (f g : EventNo → Sums) (l m : EventNo → ℕ) (line : ToolLine) (a : Reply) → InStage (Alike f g l m) s → IsDone hw s f l line a → IsDone hw s g m line a
+done-same : (hw : Hardware) (s : Stage) (f g : EventNo → Sums) (l m : EventNo → ℕ) (line : ToolLine) (a : Reply) → InStage (Alike f g l m) s → IsToolReply hw s f l line a → IsToolReply hw s g m line a
 done-same hw s f g l m (tool_line.Open slot attr leader) a h d = d
 done-same hw s f g l m (tool_line.Enable event group) a h d = d
 done-same hw s f g l m (tool_line.Disable event group) a h d = d
@@ -310,7 +310,7 @@ done-same hw s f g l m (tool_line.Seats cpu) a h d = d
 
 answer-same : (hw : Hardware) (s : Stage) (f g : EventNo → Sums) (l m : EventNo → ℕ) (x : Step) (a : Reply) → InStage (Alike f g l m) s → IsAnswerAt hw s f l x a → IsAnswerAt hw s g m x a
 answer-same hw s f g l m (CpuStep cpu line) a h d = d
-answer-same hw s f g l m (ToolStep line) a h d = unless-same (tool_refusal hw s line) a (IsDone hw s f l line a) (IsDone hw s g m line a) (done-same hw s f g l m line a h) d
+answer-same hw s f g l m (ToolStep line) a h d = unless-same (tool_refusal hw s line) a (IsToolReply hw s f l line a) (IsToolReply hw s g m line a) (done-same hw s f g l m line a h) d
 answer-same hw s f g l m (SeenStep ring place) a h d = d
 
 -- the numbers of each family that is there

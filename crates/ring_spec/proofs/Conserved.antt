@@ -3,7 +3,7 @@ use Rattle.std.specs.Prelude.{◌≡◌, ℕ, ◌+◌, nat_le, Bool, true, false
 use Rattle.std.proofs.Common.{arith, refl, zero, suc}
 use Rattle.std.proofs.lemmas.List.{length_push}
 use Rattle.std.proofs.lemmas.List.Sums.{sum_by-append, sum_by-cons}
-use Rattle.ring_spec.specs.Sending.{Sent}
+use Rattle.ring_spec.specs.Sending.{SentSample}
 use Rattle.ring_spec.specs.Account.{RingEvent, Sends, Looks, Account, account, empty_account, ring_step, told_before, records_for, sample_of, written_to, lost_to, need_of, room_of, is_sent, is_sample, losses_in, SentLaw, ToldLaw}
 
 samples : Account → ℕ
@@ -13,11 +13,11 @@ told : Account → ℕ
 told a = sum_by losses_in a.written
 
 -- what a record that is written brings
-told_samples : (pending : ℕ) (sent : Sent) → count_by is_sample (told_before pending sent ++ sample_of sent ∷ []) ≡ 1
+told_samples : (pending : ℕ) (sent : SentSample) → count_by is_sample (told_before pending sent ++ sample_of sent ∷ []) ≡ 1
 told_samples zero sent = refl
 told_samples (suc n) sent = refl
 
-told_losses : (pending : ℕ) (sent : Sent) → sum_by losses_in (told_before pending sent ++ sample_of sent ∷ []) ≡ pending
+told_losses : (pending : ℕ) (sent : SentSample) → sum_by losses_in (told_before pending sent ++ sample_of sent ∷ []) ≡ pending
 told_losses zero sent = refl
 told_losses (suc n) sent = omega arith
 

@@ -19,7 +19,7 @@ use Rattle.stage_spec.specs.Stage.{Stage}
 use Rattle.stage_spec.specs.Hardware.{is_software}
 use Rattle.stage_spec.specs.Shares.{excludes, counted_by, work_hits}
 use Rattle.stage_spec.specs.Occurrences.{left_after_one, overflows}
-use Rattle.ring_spec.specs.Sending.{Sent, to_ring, sent_of, fields_of, sent_by_family, overflows_by}
+use Rattle.ring_spec.specs.Sending.{SentSample, to_ring, sent_of, fields_of, sent_by_family, overflows_by}
 
 -- Each overflow takes a whole period of occurrences, but for the first, which takes what was left.
 filled : (n p l : ℕ) → 0 < p → overflows n p l * p + min l p ≤ n + p
@@ -110,11 +110,11 @@ instance-few period w i left false pos h =
     let none : overflows (work_hits w i) i.attr.period left ≡ 0 = ap (λ p. overflows (work_hits w i) p left) (h.none refl) ∙ none_by (work_hits w i) left in
     omega (arith, none)
 
-length-repeat : (n : ℕ) (sent : RingNo × Sent) → length (replicate n sent) ≡ n
+length-repeat : (n : ℕ) (sent : RingNo × SentSample) → length (replicate n sent) ≡ n
 length-repeat zero sent = refl
 length-repeat (suc n) sent = ap suc (length-repeat n sent)
 
-sent-most : (ring : Option RingNo) (n : ℕ) (sent : Sent) → length (to_ring ring n sent) ≤ n
+sent-most : (ring : Option RingNo) (n : ℕ) (sent : SentSample) → length (to_ring ring n sent) ≤ n
 sent-most None n sent = omega arith
 sent-most (Some ring) n sent = omega (arith, length-repeat n (ring, sent))
 

@@ -6,7 +6,7 @@ use Rattle.perf_base.specs.declared.numbers.RingNo.{RingNo}
 use Rattle.stage_spec.specs.Hardware.{Hardware}
 use Rattle.stage_spec.specs.Stage.{Stage}
 use Rattle.stage_spec.specs.History.{Step, CpuStep, ToolStep, SeenStep}
-use Rattle.ring_spec.specs.Sending.{Sent, sent_after, sent_from}
+use Rattle.ring_spec.specs.Sending.{SentSample, sent_after, sent_from}
 use Rattle.ring_spec.specs.Account.{RingEvent, Sends, Looks, account, empty_account, ring_step, is_sent}
 use Rattle.ring_spec.specs.Rings.{is_to, sends_to, looks_at, events_by, events_after, events_from, events_of, account_of, AccountLaw, SendsLaw}
 
@@ -53,11 +53,11 @@ looks-none ring (SeenStep other place) = one (other.0 == ring.0)
     one true = refl
     one false = refl
 
-sends-all : (sents : List (RingNo × Sent)) → filter is_sent (map (λ sent. Sends sent.1) sents) ≡ map (λ sent. Sends sent.1) sents
+sends-all : (sents : List (RingNo × SentSample)) → filter is_sent (map (λ sent. Sends sent.1) sents) ≡ map (λ sent. Sends sent.1) sents
 sends-all [] = refl
 sends-all (sent ∷ sents) = ap (λ es. Sends sent.1 ∷ es) (sends-all sents)
 
-sends_to-append : (ring : RingNo) (sents more : List (RingNo × Sent)) → sends_to ring (sents ++ more) ≡ sends_to ring sents ++ sends_to ring more
+sends_to-append : (ring : RingNo) (sents more : List (RingNo × SentSample)) → sends_to ring (sents ++ more) ≡ sends_to ring sents ++ sends_to ring more
 sends_to-append ring [] more = refl
 sends_to-append ring (sent ∷ sents) more = one (is_to ring sent) (sends_to-append ring sents more)
   where
@@ -67,7 +67,7 @@ sends_to-append ring (sent ∷ sents) more = one (is_to ring sent) (sends_to-app
     one true e = ap (λ es. Sends sent.1 ∷ es) e
     one false e = e
 
-sends_by : (x : Step) (sents : List (RingNo × Sent)) (ring : RingNo) → filter is_sent (events_by x sents ring) ≡ sends_to ring sents
+sends_by : (x : Step) (sents : List (RingNo × SentSample)) (ring : RingNo) → filter is_sent (events_by x sents ring) ≡ sends_to ring sents
 sends_by x sents ring = filter-both is_sent (looks_at ring x) (sends_to ring sents) ∙ rw (looks-none ring x) (sends-all (filter (is_to ring) sents))
 
 sends_from : (hw : Hardware) (s : Stage) (before steps : List Step) (ring : RingNo) → filter is_sent (events_from hw s ring before steps) ≡ sends_to ring (sent_from hw s before steps)

@@ -17,7 +17,7 @@ use Rattle.stage_spec.specs.Families.{folded_of, folded_from, family_sums}
 use Rattle.stage_spec.specs.Replies.{IsAnswerAt, IsReply, AreReplies}
 use Rattle.stage_spec.proofs.Recurrence.{stage_after-push, sums_of-push, folded_of-push}
 use Rattle.stage_spec.proofs.Remainders.{remainder_of-push}
-use Rattle.ring_spec.specs.Sending.{Sent, sent_by_step, sent_after, length_by, clock_of}
+use Rattle.ring_spec.specs.Sending.{SentSample, sent_by_step, sent_after, length_by, clock_of}
 use Rattle.ring_spec.specs.Account.{RingEvent, Sends, Looks, Account, account, ring_step, lost_by, lost_among, lost_of, is_event, written_to, lost_to, need_of, room_of}
 use Rattle.ring_spec.specs.Rings.{events_by, events_of, events_from, account_of, lost_count}
 use Rattle.ring_spec.specs.Running.{RingAccount, Running, first_record, empty_ring, ring_after, losses_on, record_after, record_of, family_by, IsAnswerBy, AreRepliesBy, RecordLaw, RepliesLaw}
@@ -46,7 +46,7 @@ count_by-append : (e : EventNo) (xs ys : List EventNo) → count_by (is_event e)
 count_by-append e xs ys = sum_by-append (λ f. cond (is_event e f) 1 0) xs ys
 
 -- all rings together
-rings-lost : (e : EventNo) (x : Step) (sents : List (RingNo × Sent)) (rings : List RingAccount)
+rings-lost : (e : EventNo) (x : Step) (sents : List (RingNo × SentSample)) (rings : List RingAccount)
     → sum_by (λ (a : RingAccount). lost_of e a.account) (map (ring_after x sents) rings) ≡ sum_by (λ (a : RingAccount). lost_of e a.account) rings + count_by (is_event e) (flat_map (losses_on x sents) rings)
 rings-lost e x sents [] = refl
 rings-lost e x sents (a ∷ rings) =
@@ -103,7 +103,7 @@ ring-grows hw s before x ring = sym (account_of-push hw s before x ring)
 pub kept-step : (hw : Hardware) (s : Stage) (rings : List (RingNo × ℕ)) (before : List Step) (r : Running) (x : Step)
     → IsKept hw s rings before r → IsKept hw s rings (before ++ x ∷ []) (record_after hw r x)
 kept-step hw s rings before r x h =
-    let sents : List (RingNo × Sent) = sent_by_step hw (stage_after hw s before) (remainder_of hw s before) (clock_of before) x in
+    let sents : List (RingNo × SentSample) = sent_by_step hw (stage_after hw s before) (remainder_of hw s before) (clock_of before) x in
     record {
       stage = ap (λ t. stage_step hw t x) h.stage ∙ sym (stage_after-push hw s before x);
       sums = fun_ext (λ id. rw (h.stage, h.sums) (sym (sums_of-push hw s before x id)));

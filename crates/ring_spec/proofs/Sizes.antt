@@ -20,8 +20,8 @@ use Rattle.stage_spec.specs.History.{Step, CpuStep, ToolStep, SeenStep, stage_af
 use Rattle.stage_spec.specs.Remainders.{remainder_of}
 use Rattle.ring_spec.specs.declared.fields.Fields.{Fields}
 use Rattle.ring_spec.specs.Whole.{IsBlock, size_field}
-use Rattle.ring_spec.specs.Records.{Record, Sample, Lost, field, thread_word, body_of, trailer_of, record_words, words_of, size_of, IsRecord, EndsAtRecord, PrefixLaw}
-use Rattle.ring_spec.specs.Sending.{Sent, fields_of, has_trailer, trailer_if, sent_of, to_ring, sent_by_family, overflows_by, sent_by_line, sent_by_step, sent_after, sent_by_steps, clock_of}
+use Rattle.ring_spec.specs.Records.{Record, Sample, Lost, field, thread_word, body_of, trailer_of, record_words, words_of, record_size, IsRecord, EndsAtRecord, PrefixLaw}
+use Rattle.ring_spec.specs.Sending.{SentSample, fields_of, has_trailer, trailer_if, sent_of, to_ring, sent_by_family, overflows_by, sent_by_line, sent_by_step, sent_after, sent_by_steps, clock_of}
 use Rattle.ring_spec.specs.Account.{RingEvent, Sends, Looks, Account, account, empty_account, ring_step, send, told_before, sample_of, records_for, written_to, lost_to, need_of, room_of, is_sent}
 use Rattle.ring_spec.specs.Rings.{is_to, sends_to, looks_at, events_by, events_from, events_of, account_of, SizesLaw, RingWordsLaw, WholeLookLaw}
 use Rattle.ring_spec.proofs.Cutting.{back, block-of}
@@ -52,7 +52,7 @@ trailer-short sample f =
     ) 4 sample f.time) 64 sample f.id) 512 sample f.stream_id) 128 sample f.cpu) 65536 sample f.identifier
 
 -- the records that a step sends
-abbrev IsSized : Sent → Type 0
+abbrev IsSized : SentSample → Type 0
 IsSized sent = (length sent.body ≤ 8) × (length sent.trailer ≤ 6)
 
 trailer_if-short : (b : Bool) (sample : ℕ) (f : Fields) → length (trailer_if b sample f) ≤ 6
@@ -62,15 +62,15 @@ trailer_if-short false sample f = omega arith
 sized : (original : Instance) (w : Work) (i : Instance) (f : Fields) → IsSized (sent_of original w i f)
 sized original w i f = (body-short i.attr.sample f, trailer_if-short (has_trailer original.attr) original.attr.sample (record f { stream_id = original.id }))
 
-abbrev AreSized : List (RingNo × Sent) → Type 0
-AreSized sents = Each (λ (sent : RingNo × Sent). IsSized sent.1) sents
+abbrev AreSized : List (RingNo × SentSample) → Type 0
+AreSized sents = Each (λ (sent : RingNo × SentSample). IsSized sent.1) sents
 
-repeated : (n : ℕ) (sent : RingNo × Sent) → IsSized sent.1 → AreSized (replicate n sent)
+repeated : (n : ℕ) (sent : RingNo × SentSample) → IsSized sent.1 → AreSized (replicate n sent)
 unfolding Each
 repeated zero sent h = tt
 repeated (suc n) sent h = (h, repeated n sent h)
 
-to_ring-sized : (ring : Option RingNo) (n : ℕ) (sent : Sent) → IsSized sent → AreSized (to_ring ring n sent)
+to_ring-sized : (ring : Option RingNo) (n : ℕ) (sent : SentSample) → IsSized sent → AreSized (to_ring ring n sent)
 unfolding Each
 to_ring-sized None n sent h = tt
 to_ring-sized (Some ring) n sent h = repeated n (ring, sent) h
@@ -85,7 +85,7 @@ work-sized : (s : Stage) (left : ℕ → ℕ) (clock : ℕ) (cpu : CpuNo) (w : W
 unfolding Each
 work-sized s left clock cpu w [] = tt
 work-sized s left clock cpu w (i ∷ instances) =
-    append-Each (λ (sent : RingNo × Sent). IsSized sent.1) (sent_by_family (original_of s i.event) s cpu w clock (overflows_by w (left i.id) i) i) _
+    append-Each (λ (sent : RingNo × SentSample). IsSized sent.1) (sent_by_family (original_of s i.event) s cpu w clock (overflows_by w (left i.id) i) i) _
     (family-sized (original_of s i.event) s cpu w clock (overflows_by w (left i.id) i) i) (work-sized s left clock cpu w instances)
 
 line-sized : (hw : Hardware) (s : Stage) (left : ℕ → ℕ) (clock : ℕ) (cpu : CpuNo) (line : CpuLine) → AreSized (sent_by_line hw s left clock cpu line)
@@ -117,13 +117,13 @@ looks-sized ring (SeenStep other place) = one (other.0 == ring.0)
     one true = (tt, tt)
     one false = tt
 
-sends-sized : (ring : RingNo) (sents : List (RingNo × Sent)) → AreSized sents → Each IsSizedEvent (sends_to ring sents)
+sends-sized : (ring : RingNo) (sents : List (RingNo × SentSample)) → AreSized sents → Each IsSizedEvent (sends_to ring sents)
 unfolding Each
 sends-sized ring [] h = tt
 sends-sized ring (sent ∷ sents) h = one (is_to ring sent) (sends-sized ring sents h.1)
   where
     one : (b : Bool) → Each IsSizedEvent (sends_to ring sents)
-        → Each IsSizedEvent (map (λ (s : RingNo × Sent). Sends s.1) (cond b (sent ∷ filter (is_to ring) sents) (filter (is_to ring) sents)))
+        → Each IsSizedEvent (map (λ (s : RingNo × SentSample). Sends s.1) (cond b (sent ∷ filter (is_to ring) sents) (filter (is_to ring) sents)))
     one true rest = (h.0, rest)
     one false rest = rest
 
@@ -131,7 +131,7 @@ events-sized : (hw : Hardware) (s : Stage) (ring : RingNo) (before steps : List 
 unfolding events_from sent_after Each
 events-sized hw s ring before [] = tt
 events-sized hw s ring before (x ∷ steps) =
-    let sents : List (RingNo × Sent) = sent_by_step hw (stage_after hw s before) (remainder_of hw s before) (clock_of before) x in
+    let sents : List (RingNo × SentSample) = sent_by_step hw (stage_after hw s before) (remainder_of hw s before) (clock_of before) x in
     append-Each IsSizedEvent (events_by x sents ring) (events_from hw s ring (before ++ x ∷ []) steps)
     (append-Each IsSizedEvent (looks_at ring x) (sends_to ring sents) (looks-sized ring x) (sends-sized ring sents (step-sized hw (stage_after hw s before) (remainder_of hw s before) (clock_of before) x)))
     (events-sized hw s ring (before ++ x ∷ []) steps)
@@ -144,7 +144,7 @@ record AreFew (pending : ℕ) (records : List Record) : Type 0 where
   pub lawful : All IsRecord records
   pub words : length (words_of records) ≤ 9 + told pending
 
-for_sent : (pending : ℕ) (sent : Sent) → IsSized sent → AreFew pending (told_before pending sent ++ sample_of sent ∷ [])
+for_sent : (pending : ℕ) (sent : SentSample) → IsSized sent → AreFew pending (told_before pending sent ++ sample_of sent ∷ [])
 for_sent zero sent h = record { lawful = All-cons IsRecord (sample_of sent) [] h.0 (All-nil IsRecord); words = omega (arith, h.0, length-append sent.body []) }
 for_sent (suc n) sent h = record {
   lawful = All-cons IsRecord (Lost sent.id (suc n) sent.trailer) (sample_of sent ∷ []) h.1 (All-cons IsRecord (sample_of sent) [] h.0 (All-nil IsRecord));
@@ -156,7 +156,7 @@ record AccountFew (a : Account) (sends : ℕ) : Type 0 where
   pub lawful : All IsRecord a.written
   pub words : length (words_of a.written) + told a.pending ≤ 9 * sends
 
-send-few : (bytes : ℕ) (a : Account) (sent : Sent) (n : ℕ) → IsSized sent → AccountFew a n → AccountFew (send bytes a sent) (n + 1)
+send-few : (bytes : ℕ) (a : Account) (sent : SentSample) (n : ℕ) → IsSized sent → AccountFew a n → AccountFew (send bytes a sent) (n + 1)
 send-few bytes a sent n h k = one (nat_le (need_of a sent) (room_of bytes a))
   where
     one : (b : Bool) → AccountFew (elim b as (λ x. Account) [ true ↦ written_to a sent | false ↦ lost_to a sent ]) (n + 1)
@@ -187,7 +187,7 @@ written-few hw s steps ring =
     let k : AccountFew (fold (ring_step ring.1) empty_account events) (0 + length (filter is_sent events)) =
     over-few ring.1 empty_account 0 events (events-sized hw s ring.0 [] steps) (record { lawful = All-nil IsRecord; words = omega arith }) in
     let sends : length (filter is_sent events) ≡ length (filter (is_to ring.0) (sent_by_steps hw s steps)) =
-    ap length (sends_law hw s steps ring.0) ∙ length-mapped (λ (sent : RingNo × Sent). Sends sent.1) (filter (is_to ring.0) (sent_by_steps hw s steps)) in
+    ap length (sends_law hw s steps ring.0) ∙ length-mapped (λ (sent : RingNo × SentSample). Sends sent.1) (filter (is_to ring.0) (sent_by_steps hw s steps)) in
     record { lawful = k.lawful; words = omega (arith, k.words, sends, length-filter (is_to ring.0) (sent_by_steps hw s steps), count_by-le-length (is_to ring.0) (sent_by_steps hw s steps)) }
 
 pub sizes_law : SizesLaw
@@ -234,12 +234,12 @@ sum_from : (a : ℕ) (xs : List ℕ) → fold ◌+◌ a xs ≡ a + sum xs
 sum_from a [] = omega arith
 sum_from a (x ∷ xs) = sum_from (a + x) xs ∙ omega (arith, sum_from (0 + x) xs)
 
-sizes-are : (records : List Record) (k : ℕ) → 8 * length (words_of (take k records)) ≡ sum (take k (map size_of records))
+sizes-are : (records : List Record) (k : ℕ) → 8 * length (words_of (take k records)) ≡ sum (take k (map record_size records))
 sizes-are [] zero = refl
 sizes-are [] (suc k) = refl
 sizes-are (r ∷ records) zero = refl
 sizes-are (r ∷ records) (suc k) =
-    omega (arith, sizes-are records k, length-append (record_words r) (words_of (take k records)), sum_from (0 + size_of r) (take k (map size_of records)))
+    omega (arith, sizes-are records k, length-append (record_words r) (words_of (take k records)), sum_from (0 + record_size r) (take k (map record_size records)))
 
 pub prefix_law : PrefixLaw
 prefix_law records n h whole =

@@ -3,12 +3,12 @@
 -- this project's own profile.
 use Rattle.std.specs.Prelude.{◌≡◌, ℕ, zero, suc, ◌+◌, ◌-◌, ◌==◌, nat_le, Bool, true, false, List, [], ◌∷◌, ◌++◌, fold, length, sum_by, count_by}
 use Rattle.perf_base.specs.declared.numbers.EventNo.{EventNo}
-use Rattle.ring_spec.specs.Records.{Record, Sample, Lost, size_of}
-use Rattle.ring_spec.specs.Sending.{Sent}
+use Rattle.ring_spec.specs.Records.{Record, Sample, Lost, record_size}
+use Rattle.ring_spec.specs.Sending.{SentSample}
 
 -- what happens to a ring: a record is sent to it, or its tail is seen at a place
 pub data RingEvent : Type 0 where
-  Sends : (sent : Sent) → RingEvent
+  Sends : (sent : SentSample) → RingEvent
   Looks : (place : ℕ) → RingEvent
 
 -- The records written, how many were lost since the last LOST record, the event of each record that was lost, and where
@@ -24,35 +24,35 @@ empty_account = record { written = []; pending = 0; lost = []; tail = 0 }
 
 -- the head: the sizes of all records written, added up
 abbrev pub head_of : Account → ℕ
-head_of a = sum_by size_of a.written
+head_of a = sum_by record_size a.written
 
 -- the bytes that are free; one more byte always stays so
 abbrev pub room_of : ℕ → Account → ℕ
 room_of bytes a = bytes - 1 - (head_of a - a.tail)
 
 -- the LOST record that states the losses before the next record; none where nothing was lost
-abbrev pub told_before : (pending : ℕ) → Sent → List Record
+abbrev pub told_before : (pending : ℕ) → SentSample → List Record
 told_before zero sent = []
 told_before (suc n) sent = Lost sent.id (suc n) sent.trailer ∷ []
 
 -- what is written where it fits: the sample, behind a LOST record where some were lost
-abbrev pub sample_of : Sent → Record
+abbrev pub sample_of : SentSample → Record
 sample_of sent = Sample sent.mode sent.body
 
-abbrev pub records_for : Account → Sent → List Record
+abbrev pub records_for : Account → SentSample → List Record
 records_for a sent = told_before a.pending sent ++ sample_of sent ∷ []
 
 -- the bytes that this needs: both fit together or neither is written
-abbrev pub need_of : Account → Sent → ℕ
-need_of a sent = sum_by size_of (records_for a sent)
+abbrev pub need_of : Account → SentSample → ℕ
+need_of a sent = sum_by record_size (records_for a sent)
 
-abbrev pub written_to : Account → Sent → Account
+abbrev pub written_to : Account → SentSample → Account
 written_to a sent = record a { written = a.written ++ records_for a sent; pending = 0 }
 
-abbrev pub lost_to : Account → Sent → Account
+abbrev pub lost_to : Account → SentSample → Account
 lost_to a sent = record a { pending = a.pending + 1; lost = a.lost ++ sent.event ∷ [] }
 
-abbrev pub send : ℕ → Account → Sent → Account
+abbrev pub send : ℕ → Account → SentSample → Account
 send bytes a sent = elim (nat_le (need_of a sent) (room_of bytes a)) [ true ↦ written_to a sent | false ↦ lost_to a sent ]
 
 -- one more event of a ring of a given size in bytes

@@ -26,8 +26,8 @@ record_words (Sample mode body) = header 9 (misc_of mode) (length body + 1) ∷ 
 record_words (Lost id lost trailer) = header 2 0 (length trailer + 3) ∷ id ∷ lost ∷ trailer
 
 -- the size of a record in bytes, and the words of records, one after the other
-abbrev pub size_of : Record → ℕ
-size_of r = 8 * length (record_words r)
+abbrev pub record_size : Record → ℕ
+record_size r = 8 * length (record_words r)
 
 abbrev pub words_of : List Record → List ℕ
 words_of records = flat_map record_words records
@@ -66,7 +66,7 @@ WholeLaw = (records : List Record) → All IsRecord records → IsWhole (words_o
 pub record EndsAtRecord (records : List Record) (words : List ℕ) : Type 0 where
   pub few : ℕ
   pub cut : words ≡ words_of (take few records)
-  pub place : 8 * length words ≡ sum (take few (map size_of records))
+  pub place : 8 * length words ≡ sum (take few (map record_size records))
 
 abbrev pub PrefixLaw : Type 0
 PrefixLaw = (records : List Record) (n : ℕ) → All IsRecord records → IsWhole (take n (words_of records)) → EndsAtRecord records (take n (words_of records))

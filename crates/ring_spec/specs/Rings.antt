@@ -9,16 +9,16 @@ use Rattle.stage_spec.specs.Hardware.{Hardware, hardware_of}
 use Rattle.stage_spec.specs.Stage.{Stage}
 use Rattle.stage_spec.specs.Order.{IsLawful, IsLawfulAct, IsLawfulSeen}
 use Rattle.stage_spec.specs.History.{Step, CpuStep, ToolStep, SeenStep, history, opening_stage}
-use Rattle.ring_spec.specs.Records.{size_of, words_of, IsRecord}
+use Rattle.ring_spec.specs.Records.{record_size, words_of, IsRecord}
 use Rattle.ring_spec.specs.Whole.{IsWhole}
-use Rattle.ring_spec.specs.Sending.{Sent, sent_after, sent_by_steps}
+use Rattle.ring_spec.specs.Sending.{SentSample, sent_after, sent_by_steps}
 use Rattle.ring_spec.specs.Account.{RingEvent, Sends, Looks, Account, account, ring_step, is_sent, lost_of}
 
 -- the records among some that go to a ring
-abbrev pub is_to : RingNo → RingNo × Sent → Bool
+abbrev pub is_to : RingNo → RingNo × SentSample → Bool
 is_to ring sent = sent.0.0 == ring.0
 
-abbrev pub sends_to : RingNo → List (RingNo × Sent) → List RingEvent
+abbrev pub sends_to : RingNo → List (RingNo × SentSample) → List RingEvent
 sends_to ring sents = map (λ sent. Sends sent.1) (filter (is_to ring) sents)
 
 -- a look at a ring's tail
@@ -28,7 +28,7 @@ looks_at ring (ToolStep line) = []
 looks_at ring (SeenStep other place) = if other.0 == ring.0 then Looks place ∷ [] else []
 
 -- what a step that sends these records does to a ring
-abbrev pub events_by : Step → List (RingNo × Sent) → RingNo → List RingEvent
+abbrev pub events_by : Step → List (RingNo × SentSample) → RingNo → List RingEvent
 events_by x sents ring = looks_at ring x ++ sends_to ring sents
 
 -- what a step does to a ring after some steps, the first of them at a stage
@@ -76,7 +76,7 @@ RingWordsLaw = (hw : Hardware) (s : Stage) (steps : List Step) (ring : RingNo ×
 abbrev pub WholeLookLaw : Type 0
 WholeLookLaw = (hw : Hardware) (s : Stage) (steps : List Step) (ring : RingNo × ℕ) (last n : ℕ)
     → let words : List ℕ = take n (words_of (account_of hw s steps ring).written) in
-    IsWhole words → last ≤ 8 * length words → IsLawfulSeen (map size_of (account_of hw s steps ring).written) last (8 * length words)
+    IsWhole words → last ≤ 8 * length words → IsLawfulSeen (map record_size (account_of hw s steps ring).written) last (8 * length words)
 
 -- the declared size of a ring, and the sizes of the records written on it after some acts of a script
 abbrev pub bytes_in : Option (RingNo × ℕ) → ℕ
@@ -90,7 +90,7 @@ abbrev pub account_in : Scripted → List Act → RingNo × ℕ → Account
 account_in s acts ring = account_of (hardware_of s) (opening_stage s) (history s acts) ring
 
 abbrev pub sizes_in : Scripted → List Act → RingNo → List ℕ
-sizes_in s acts ring = map size_of (account_in s acts (ring, bytes_of s ring)).written
+sizes_in s acts ring = map record_size (account_in s acts (ring, bytes_of s ring)).written
 
 -- An order of a script is lawful where each look at a ring's tail is, after the acts before it.
 abbrev pub IsLawfulOrder : Scripted → List Act → Type 0

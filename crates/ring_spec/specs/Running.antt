@@ -14,7 +14,7 @@ use Rattle.stage_spec.specs.Remainders.{left_by, remainder_of}
 use Rattle.stage_spec.specs.Families.{plus, plus_each, leaving, folded_of}
 use Rattle.stage_spec.specs.Recurrence.{after_reset}
 use Rattle.stage_spec.specs.Replies.{IsAnswerAt, AreReplies}
-use Rattle.ring_spec.specs.Sending.{Sent, sent_by_step, length_by, clock_of}
+use Rattle.ring_spec.specs.Sending.{SentSample, sent_by_step, length_by, clock_of}
 use Rattle.ring_spec.specs.Account.{Account, empty_account, ring_step, lost_among, is_event}
 use Rattle.ring_spec.specs.Rings.{events_by, account_of, lost_count}
 
@@ -52,10 +52,10 @@ first_record s rings = record {
 }
 
 -- a ring after one step more, and the events whose records it loses by that step, given the records that the step sends
-abbrev pub ring_after : Step → List (RingNo × Sent) → RingAccount → RingAccount
+abbrev pub ring_after : Step → List (RingNo × SentSample) → RingAccount → RingAccount
 ring_after x sents a = record a { account = fold (ring_step a.bytes) a.account (events_by x sents a.ring) }
 
-abbrev pub losses_on : Step → List (RingNo × Sent) → RingAccount → List EventNo
+abbrev pub losses_on : Step → List (RingNo × SentSample) → RingAccount → List EventNo
 losses_on x sents a = lost_among a.bytes a.account (events_by x sents a.ring)
 
 -- how many records of an event were lost, with these
@@ -63,7 +63,7 @@ abbrev pub more_lost : (EventNo → ℕ) → List EventNo → EventNo → ℕ
 more_lost lost losses e = lost e + count_by (is_event e) losses
 
 -- the record after one step more, given the records that the step sends, and after one step more
-abbrev pub record_with : Hardware → Running → Step → List (RingNo × Sent) → Running
+abbrev pub record_with : Hardware → Running → Step → List (RingNo × SentSample) → Running
 record_with hw r x sents = record {
   stage = stage_step hw r.stage x;
   sums = λ id. plus (after_reset (resets r.stage x id) (r.sums id)) (share hw r.stage x id);

@@ -14,7 +14,7 @@ use Rattle.perf_base.specs.declared.lines.Work.{Work}
 use Rattle.perf_base.specs.declared.lines.CpuLine.{CpuLine}
 use Rattle.perf_base.specs.declared.lines.CpuLine.TheVariants as cpu_line
 use Rattle.stage_spec.specs.declared.instance.Instance.{Instance}
-use Rattle.stage_spec.specs.Flags.{has_flag}
+use Rattle.perf_base.specs.Flags as flags
 use Rattle.stage_spec.specs.Hardware.{Hardware}
 use Rattle.stage_spec.specs.Stage.{Stage, original_of, task_on}
 use Rattle.stage_spec.specs.Verdict.{on_instances}
@@ -27,7 +27,7 @@ use Rattle.ring_spec.specs.Records.{body_of, trailer_of}
 
 -- a sample that is sent: the original whose it is, by slot and id, what the sample says, and the trailer of a LOST
 -- record before it
-pub record Sent : Type 0 where
+pub record SentSample : Type 0 where
   pub event : EventNo
   pub id : ℕ
   pub mode : Mode
@@ -63,14 +63,14 @@ fields_of s cpu w clock id i = record {
 
 -- sample_id_all, the flag of an original that gives its LOST records a trailer
 abbrev pub has_trailer : Attr → Bool
-has_trailer a = has_flag 64 a
+has_trailer a = flags.identifies_all a.flags
 
 abbrev pub trailer_if : Bool → ℕ → Fields → List ℕ
 trailer_if true sample f = trailer_of sample f
 trailer_if false sample f = []
 
 -- the record of an overflow; the trailer has the original's id as STREAM_ID too
-abbrev pub sent_of : Instance → Work → Instance → Fields → Sent
+abbrev pub sent_of : Instance → Work → Instance → Fields → SentSample
 sent_of original w i f = record {
   event = original.event;
   id = original.id;
@@ -80,11 +80,11 @@ sent_of original w i f = record {
 }
 
 -- one record for each overflow, to the ring of the original; none where it has no ring
-abbrev pub to_ring : Option RingNo → ℕ → Sent → List (RingNo × Sent)
+abbrev pub to_ring : Option RingNo → ℕ → SentSample → List (RingNo × SentSample)
 to_ring None n sent = []
 to_ring (Some ring) n sent = replicate n (ring, sent)
 
-abbrev pub sent_by_family : Option Instance → Stage → CpuNo → Work → (clock count : ℕ) → Instance → List (RingNo × Sent)
+abbrev pub sent_by_family : Option Instance → Stage → CpuNo → Work → (clock count : ℕ) → Instance → List (RingNo × SentSample)
 sent_by_family None s cpu w clock count i = []
 sent_by_family (Some original) s cpu w clock count i = to_ring original.ring count (sent_of original w i (fields_of s cpu w clock original.id i))
 
@@ -94,10 +94,10 @@ overflows_by w left i = overflows (work_hits w i) i.attr.period left
 
 -- A stretch of work sends the records of each instance that is on, in pass order, those of one before those of the
 -- next.
-abbrev pub sent_at : Hardware → Stage → (left : ℕ → ℕ) → (clock : ℕ) → CpuNo → Work → List (RingNo × Sent)
+abbrev pub sent_at : Hardware → Stage → (left : ℕ → ℕ) → (clock : ℕ) → CpuNo → Work → List (RingNo × SentSample)
 sent_at hw s left clock cpu w = flat_map (λ i. sent_by_family (original_of s i.event) s cpu w clock (overflows_by w (left i.id) i) i) (on_instances hw s cpu)
 
-abbrev pub sent_by_line : Hardware → Stage → (left : ℕ → ℕ) → (clock : ℕ) → CpuNo → CpuLine → List (RingNo × Sent)
+abbrev pub sent_by_line : Hardware → Stage → (left : ℕ → ℕ) → (clock : ℕ) → CpuNo → CpuLine → List (RingNo × SentSample)
 sent_by_line hw s left clock cpu (cpu_line.Switch to) = []
 sent_by_line hw s left clock cpu (cpu_line.Work w) = sent_at hw s left (clock + w.length) cpu w
 sent_by_line hw s left clock cpu cpu_line.Tick = []
@@ -105,20 +105,20 @@ sent_by_line hw s left clock cpu (cpu_line.Fork child) = []
 sent_by_line hw s left clock cpu cpu_line.Exit = []
 
 -- the records that a step sends at a stage, given each instance's remainder and each processor's clock before it
-abbrev pub sent_by_step : Hardware → Stage → (left : ℕ → ℕ) → (clock : CpuNo → ℕ) → Step → List (RingNo × Sent)
+abbrev pub sent_by_step : Hardware → Stage → (left : ℕ → ℕ) → (clock : CpuNo → ℕ) → Step → List (RingNo × SentSample)
 sent_by_step hw s left clock (CpuStep cpu line) = sent_by_line hw s left (clock cpu) cpu line
 sent_by_step hw s left clock (ToolStep line) = []
 sent_by_step hw s left clock (SeenStep ring place) = []
 
 -- the records that a step sends after some steps, the first of them at a stage
-unfoldable pub sent_after : Hardware → Stage → (before : List Step) → Step → List (RingNo × Sent)
+unfoldable pub sent_after : Hardware → Stage → (before : List Step) → Step → List (RingNo × SentSample)
 sent_after hw s before x = sent_by_step hw (stage_after hw s before) (remainder_of hw s before) (clock_of before) x
 
 -- the records that steps send, the first of them after some others
-unfoldable pub sent_from : Hardware → Stage → (before steps : List Step) → List (RingNo × Sent)
+unfoldable pub sent_from : Hardware → Stage → (before steps : List Step) → List (RingNo × SentSample)
 sent_from hw s before [] = []
 sent_from hw s before (x ∷ steps) = sent_after hw s before x ++ sent_from hw s (before ++ x ∷ []) steps
 
 -- the records that steps send, the first of which is at a stage
-abbrev pub sent_by_steps : Hardware → Stage → List Step → List (RingNo × Sent)
+abbrev pub sent_by_steps : Hardware → Stage → List Step → List (RingNo × SentSample)
 sent_by_steps hw s steps = sent_from hw s [] steps

@@ -8,15 +8,8 @@ ghost use Rattle.world_spec.specs.StageOf.{stage_of};
 ghost use Rattle.world_spec.specs.Value.{is_live, family_of};
 ghost use Rattle.perf_world.specs.Seen.{IsWorld};
 
-use perf_base::{Attr, AttrFlags, CpuSel, EventNo, Key, Reason, RingNo};
+use perf_base::{Attr, CpuSel, EventNo, Key, Reason, RingNo};
 use perf_world::World;
-
-/// Whether tasks that are forked later are counted too.
-fn is_inherited(attr: &Attr) -> bool
-    ensures { result ≡ flag.is_inherited attr.now }
-{
-    attr.flags.0 & AttrFlags::INHERIT.0 != 0
-}
 
 /// Whether an event counts on any processor.
 fn is_any_cpu(attr: &Attr) -> bool
@@ -43,7 +36,7 @@ fn is_other_task(attr: &Attr, other: &Attr) -> bool
 fn is_inherited_anywhere(attr: &Attr) -> bool
     ensures { result ≡ flag.is_inherited attr.now && places.is_any_cpu attr.now.cpu }
 {
-    is_inherited(attr) && is_any_cpu(attr)
+    attr.flags.is_inherited() && is_any_cpu(attr)
 }
 
 /// Whether two events count different tasks on any processor.

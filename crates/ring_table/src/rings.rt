@@ -22,8 +22,7 @@ pub fn map(world: &mut World, event: EventNo, ring: RingNo) -> Result<(), Reason
     ensures rest { OnOk result (HasRing event (Some ring) true (world.old.quiet.mapped ++ ring ∷ []) world.old world.new) }
     ensures others { OnOk result (AreUntouched world.old world.new) }
 {
-    // A reader tells what always holds of a world.
-    let _cpus = world.pmus().cpus();
+    world.pmus().use_invariant();
     let key = check_map(world, event, ring)?;
     world.set_ring(key, ring, true);
     Ok(())
@@ -42,8 +41,7 @@ pub fn output(world: &mut World, event: EventNo, target: EventNo) -> Result<(), 
     ensures rest { OnOk result (HasRing event (ring_of (stage_of world.old) target) false world.old.quiet.mapped world.old world.new) }
     ensures others { OnOk result (AreUntouched world.old world.new) }
 {
-    // A reader tells what always holds of a world.
-    let _cpus = world.pmus().cpus();
+    world.pmus().use_invariant();
     let (key, ring) = check_output(world, event, target)?;
     world.set_ring(key, ring, false);
     Ok(())

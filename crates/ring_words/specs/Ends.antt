@@ -43,13 +43,13 @@ pub record ConsumerEnd : Type 0 where
   pub loads : ℕ
 
 -- the place behind the last word put (kernel/events/ring_buffer.c)
-abbrev pub place_of : ProducerEnd → ℕ
-place_of p = 8 * (length p.published + length p.put)
+abbrev pub head_place : ProducerEnd → ℕ
+head_place p = 8 * (length p.published + length p.put)
 
 -- the bytes that can still be put: one less than the size, so that a full ring does not look empty
 -- (kernel/events/ring_buffer.c)
 abbrev pub room_of : ProducerEnd → ℕ
-room_of p = p.ring.bytes - 1 - (place_of p - p.last_tail)
+room_of p = p.ring.bytes - 1 - (head_place p - p.last_tail)
 
 -- a place at which a reader may stop: the words published up to it are whole (this project's own profile)
 pub record IsStop (published : List ℕ) (place : ℕ) : Type 0 where
@@ -68,7 +68,7 @@ pub record LeadsTo (taken : List ℕ) (place : ℕ) : Type 0 where
 pub record IsSoundProducer (p : ProducerEnd) : Type 0 where
   pub whole : IsWhole p.published
   pub stop : IsStop p.published p.last_tail
-  pub fits : place_of p - p.last_tail < p.ring.bytes
+  pub fits : head_place p - p.last_tail < p.ring.bytes
 
 -- a consumer between two calls: the words taken lead to the last head, and those released are whole (this project's own
 -- profile)

@@ -1,7 +1,7 @@
 //! The end of a ring that writes.
 ghost use Rattle.std.specs.Prelude.{◌≡◌, ◌+◌, ◌-◌, ◌*◌, ◌^◌, ◌<◌, ◌≤◌, [], ◌∷◌, ◌++◌};
 ghost use Rattle.ring_spec.specs.Whole.{IsWhole};
-ghost use Rattle.ring_words.specs.Ends.{place_of, room_of, IsStop, IsSoundProducer};
+ghost use Rattle.ring_words.specs.Ends.{head_place, room_of, IsStop, IsSoundProducer};
 
 use crate::steps::{load_tail, store_head, store_word};
 use crate::table::RingTable;
@@ -46,7 +46,7 @@ impl Producer {
     pub fn put_word(&mut self, table: &RingTable, word: u64)
         requires ring { self.old.ring ≡ table.now }
         requires room { 8 ≤ room_of self.old }
-        requires place { place_of self.old + 8 < 2 ^ 63 }
+        requires place { head_place self.old + 8 < 2 ^ 63 }
         ensures end { self.new ≡ record self.old { put = self.old.put ++ word ∷ [] } }
         ensures sound { IsSoundProducer self.new }
     {

@@ -1,7 +1,7 @@
 //! A small ring word by word, and a ring between two threads.
 ghost use Rattle.std.specs.Prelude.{◌≡◌, ◌+◌, ◌*◌, ◌^◌, ◌<◌, ◌≤◌, [], ◌∷◌, ◌++◌, length};
 ghost use Rattle.ring_spec.specs.Whole.{IsWhole};
-ghost use Rattle.ring_words.specs.Ends.{new_producer, place_of, room_of, IsSoundProducer, IsSoundConsumer};
+ghost use Rattle.ring_words.specs.Ends.{new_producer, head_place, room_of, IsSoundProducer, IsSoundConsumer};
 
 use crate::{Consumer, Producer, RingTable, close, make_ring, meet};
 use std::process::Abort;
@@ -15,7 +15,7 @@ fn put_block(table: &RingTable, producer: &mut Producer, second: u64)
     requires ring { producer.old.ring ≡ table.now }
     requires whole { IsWhole producer.old.put }
     requires room { 16 ≤ room_of producer.old }
-    requires place { place_of producer.old + 16 < 2 ^ 63 }
+    requires place { head_place producer.old + 16 < 2 ^ 63 }
     ensures end { producer.new ≡ record producer.old { put = producer.old.put ++ FIRST ∷ second ∷ [] } }
     ensures whole { IsWhole producer.new.put }
     ensures sound { IsSoundProducer producer.new }

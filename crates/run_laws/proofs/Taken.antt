@@ -10,29 +10,29 @@ use Rattle.perf_base.specs.declared.numbers.RingNo.{RingNo}
 use Rattle.perf_base.specs.declared.acts.Act.{Act}
 use Rattle.perf_base.specs.declared.acts.Act.TheVariants as act
 use Rattle.stage_spec.specs.Order.{seen_at, last_seen}
-use Rattle.ring_spec.specs.Records.{Record, Sample, Lost, record_words, size_of, words_of}
+use Rattle.ring_spec.specs.Records.{Record, Sample, Lost, record_words, record_size, words_of}
 use Rattle.ring_spec.specs.Account.{Account}
 use Rattle.ring_spec.specs.Rings.{account_in}
 use Rattle.report_spec.specs.Answers.{IsRunLook, IsRunShaped, taken_from, IsNoLook}
 use Rattle.run_laws.specs.Taken.{FewTakenLaw, FewTakenOfLaw, NeverSeenLaw}
 
-some_words : (r : Record) → 0 < size_of r
+some_words : (r : Record) → 0 < record_size r
 some_words (Sample mode body) = omega arith
 some_words (Lost id lost trailer) = omega arith
 
 few-from : (tail place n : ℕ) (records : List Record) → tail ≤ place + 8 * length (words_of (take n records)) → length (taken_from tail place records) ≤ n
 unfolding taken_from
 few-from tail place n [] h = omega arith
-few-from tail place zero (r ∷ records) h = one (nat_le (place + size_of r) tail) refl
+few-from tail place zero (r ∷ records) h = one (nat_le (place + record_size r) tail) refl
   where
-    one : (b : Bool) → nat_le (place + size_of r) tail ≡ b → length (elim b as (λ x. List Record) [ true ↦ r ∷ taken_from tail (place + size_of r) records | false ↦ [] ]) ≤ 0
-    one true e = absurd (omega (arith, h, leb-true (place + size_of r) tail e, some_words r))
+    one : (b : Bool) → nat_le (place + record_size r) tail ≡ b → length (elim b as (λ x. List Record) [ true ↦ r ∷ taken_from tail (place + record_size r) records | false ↦ [] ]) ≤ 0
+    one true e = absurd (omega (arith, h, leb-true (place + record_size r) tail e, some_words r))
     one false e = omega arith
 few-from tail place (suc n) (r ∷ records) h =
-    one (nat_le (place + size_of r) tail) (few-from tail (place + size_of r) n records (omega (arith, h, length-append (record_words r) (words_of (take n records)))))
+    one (nat_le (place + record_size r) tail) (few-from tail (place + record_size r) n records (omega (arith, h, length-append (record_words r) (words_of (take n records)))))
   where
-    one : (b : Bool) → length (taken_from tail (place + size_of r) records) ≤ n
-        → length (elim b as (λ x. List Record) [ true ↦ r ∷ taken_from tail (place + size_of r) records | false ↦ [] ]) ≤ suc n
+    one : (b : Bool) → length (taken_from tail (place + record_size r) records) ≤ n
+        → length (elim b as (λ x. List Record) [ true ↦ r ∷ taken_from tail (place + record_size r) records | false ↦ [] ]) ≤ suc n
     one true rest = omega (arith, rest)
     one false rest = omega arith
 

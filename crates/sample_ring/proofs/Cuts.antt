@@ -14,7 +14,7 @@ use Rattle.ring_words.proofs.Prefixes.{stop_more}
 use Rattle.sample_ring.proofs.Marks.{stop_at_end}
 use Rattle.sample_ring.proofs.Sending.{size-words}
 use Rattle.ring_spec.specs.Account.{Account}
-use Rattle.ring_spec.specs.Records.{EndsAtRecord, size_of}
+use Rattle.ring_spec.specs.Records.{EndsAtRecord, record_size}
 use Rattle.ring_spec.proofs.Sizes.{prefix_law}
 use Rattle.ring_words.specs.Ends.{IsStop}
 use Rattle.sample_ring.specs.OutEnds.{OutEnd, HasAccount, EndsRecord}
@@ -62,8 +62,8 @@ stop_ends a place lawful stop =
     let long : length (take (place / 8) (words_of a.written)) ≡ place / 8 = length-take-le (place / 8) (words_of a.written) (omega (arith, stop.within)) in
     (ends.few, omega (arith, stop.of_words, long) ∙ ends.place)
 
-sizes_of : (n : ℕ) (records : List Record) → sum (take n (map size_of records)) ≡ 8 * length (words_of (take n records))
-sizes_of n records = ap sum (take-map size_of n records) ∙ (sum-map size_of (take n records) ∙ size-words (take n records))
+sizes_of : (n : ℕ) (records : List Record) → sum (take n (map record_size records)) ≡ 8 * length (words_of (take n records))
+sizes_of n records = ap sum (take-map record_size n records) ∙ (sum-map record_size (take n records) ∙ size-words (take n records))
 
 pub ends_stop : (a : Account) (place : ℕ) → All IsRecord a.written → EndsRecord a place → IsStop (words_of a.written) place
 ends_stop a place lawful e =

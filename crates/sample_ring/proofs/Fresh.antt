@@ -6,7 +6,7 @@ use Rattle.std.specs.Prelude.{slice_get, Option, Some}
 use Rattle.perf_base.specs.declared.numbers.RingNo.{RingNo}
 use Rattle.sample_ring.specs.OutEnds.{OutEnd, new_out}
 use Rattle.sample_ring.specs.InEnds.{InEnd, new_in}
-use Rattle.sample_ring.specs.RingLists.{RingList, OutList, InList, AreNew, HasRing, HasReader, place_of}
+use Rattle.sample_ring.specs.RingLists.{RingList, OutList, InList, AreNew, HasRing, HasReader, ring_index}
 use Rattle.std.proofs.Math.Pow.{pow_mono}
 use Rattle.std.proofs.lemmas.List.{length-map, length-replicate, get_or-replicate}
 use Rattle.std.proofs.lemmas.List.Elements.{All-nil}
@@ -57,16 +57,16 @@ holds_new p marks size new sound are =
 -- the ring, the end that sends and the end that takes that a new run has at the place of a ring
 pub record NewAt (words : ℕ) (rings : RingList) (outs : OutList) (ins : InList) (ring : RingNo) : Type 0 where
   pub table : Ring
-  pub table_is : slice_get rings.tables (place_of rings.numbers ring) ≡ Some table
-  pub out_is : slice_get outs.outs (place_of outs.numbers ring) ≡ Some (new_out table)
-  pub reader_is : slice_get ins.readers (place_of ins.numbers ring) ≡ Some (Some (new_in table words))
+  pub table_is : slice_get rings.tables (ring_index rings.numbers ring) ≡ Some table
+  pub out_is : slice_get outs.outs (ring_index outs.numbers ring) ≡ Some (new_out table)
+  pub reader_is : slice_get ins.readers (ring_index ins.numbers ring) ≡ Some (Some (new_in table words))
 
 module _ (sizes : List (RingNo × ℕ)) (words : ℕ) (rings : RingList) (outs : OutList) (ins : InList) (new : AreNew sizes words rings outs ins) (ring : RingNo) where
   abbrev at : ℕ
-  at = place_of rings.numbers ring
+  at = ring_index rings.numbers ring
 
-  same_place : (numbers : List RingNo) → numbers ≡ map (λ (s : RingNo × ℕ). s.0) sizes → place_of numbers ring ≡ at
-  same_place numbers e = ap (λ (l : List RingNo). place_of l ring) (e ∙ sym new.ring_numbers)
+  same_place : (numbers : List RingNo) → numbers ≡ map (λ (s : RingNo × ℕ). s.0) sizes → ring_index numbers ring ≡ at
+  same_place numbers e = ap (λ (l : List RingNo). ring_index l ring) (e ∙ sym new.ring_numbers)
 
   as_many : length rings.tables ≡ length rings.numbers
   as_many = sym (length-map rings.tables (λ (t : Ring). t.bytes)) ∙ (ap length new.bytes ∙ (length-map sizes (λ (s : RingNo × ℕ). s.1) ∙ (sym (length-map sizes (λ (s : RingNo × ℕ). s.0)) ∙ sym (ap length new.ring_numbers))))

@@ -1,5 +1,7 @@
+pub mod Blocks
 pub mod Cuts
 pub mod Fresh
 pub mod Marks
+pub mod Readers
 pub mod Sending
-pub mod Taking
+pub mod Takes

@@ -6,9 +6,9 @@ use Rattle.std.proofs.Math.Seq.{take-append-add}
 use Rattle.std.proofs.lemmas.List.{take_all, take-append-le}
 use Rattle.atomic_table.proofs.Lists.{one_turn}
 use Rattle.ring_spec.specs.Whole.{IsBlock, IsWhole}
-use Rattle.ring_spec.specs.Records.{Record, IsRecord, record_words, size_of}
+use Rattle.ring_spec.specs.Records.{Record, IsRecord, record_words, record_size}
 use Rattle.ring_spec.proofs.Cutting.{block-of}
-use Rattle.ring_words.specs.Ends.{ProducerEnd, place_of, room_of, IsStop, LeadsTo, BeginsBlock, IsSoundProducer}
+use Rattle.ring_words.specs.Ends.{ProducerEnd, head_place, room_of, IsStop, LeadsTo, BeginsBlock, IsSoundProducer}
 use Rattle.ring_words.proofs.Prefixes.{whole_both, whole_one, stop_more}
 use Rattle.ring_words.proofs.Cuts.{next_begins}
 use Rattle.sample_ring.specs.Outs.{mark_of, AreMarks}
@@ -102,8 +102,8 @@ marks_block : (marks words block : List ℕ) (tail place : ℕ) → AreMarks mar
 marks_block marks words [] tail place m block at fits = absurd block
 marks_block marks words (first ∷ others) tail place m block at fits = marks_more marks words first others tail place m block at fits
 
-pub marks_put : (marks : List ℕ) (p : ProducerEnd) (r : Record) (place : ℕ) → AreMarks marks (p.published ++ p.put) p.last_tail → IsRecord r → place ≡ place_of p + size_of r
-    → p.ring.bytes ≡ 8 * length marks → IsSoundProducer p → size_of r ≤ room_of p
+pub marks_put : (marks : List ℕ) (p : ProducerEnd) (r : Record) (place : ℕ) → AreMarks marks (p.published ++ p.put) p.last_tail → IsRecord r → place ≡ head_place p + record_size r
+    → p.ring.bytes ≡ 8 * length marks → IsSoundProducer p → record_size r ≤ room_of p
     → AreMarks (set marks (mark_of (length marks) place) place) (p.published ++ (p.put ++ record_words r)) p.last_tail
 marks_put marks p r place m lawful at bytes sound room =
     let words : List ℕ = p.published ++ p.put in

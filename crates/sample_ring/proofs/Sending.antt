@@ -6,12 +6,12 @@ use Rattle.std.proofs.lemmas.List.Sums.{sum_by-cons, sum_by-append}
 use Rattle.std.proofs.lemmas.Bool.{le-leb, leb-false, leb-true, lt-leb}
 use Rattle.std.proofs.Math.Seq.{take-append_seam}
 use Rattle.ring_spec.specs.Whole.{IsWhole}
-use Rattle.ring_spec.specs.Records.{Record, Lost, IsRecord, record_words, size_of, words_of}
-use Rattle.ring_spec.specs.Sending.{Sent}
+use Rattle.ring_spec.specs.Records.{Record, Lost, IsRecord, record_words, record_size, words_of}
+use Rattle.ring_spec.specs.Sending.{SentSample}
 use Rattle.ring_spec.specs.Account.{Account, sample_of, told_before, send}
 use Rattle.ring_spec.specs.Account as account
 use Rattle.ring_spec.proofs.Cutting.{whole_law}
-use Rattle.ring_words.specs.Ends.{ProducerEnd, place_of, room_of, IsSoundProducer}
+use Rattle.ring_words.specs.Ends.{ProducerEnd, head_place, room_of, IsSoundProducer}
 use Rattle.sample_ring.proofs.Marks.{marks_later}
 use Rattle.sample_ring.specs.declared.sent.RingNumbers.{RingNumbers}
 use Rattle.sample_ring.specs.OutEnds.{OutEnd, HasAccount, AreOfRecords}
@@ -34,9 +34,9 @@ pub whole-both : (n : ℕ) (told sent : Record) → IsRecord told → IsRecord s
 whole-both n told sent a b = subst IsWhole (sym (words-both n told sent)) (whole_law (told_where n told ++ sent ∷ []) (lawful-both n told sent a b))
 
 -- the size of records is that of their words
-pub size-words : (records : List Record) → sum_by size_of records ≡ 8 * length (words_of records)
+pub size-words : (records : List Record) → sum_by record_size records ≡ 8 * length (words_of records)
 size-words [] = refl
-size-words (r ∷ rs) = omega (arith, size-words rs, sum_by-cons size_of r rs, ap length (flat_map-cons record_words r rs), length-append (record_words r) (words_of rs))
+size-words (r ∷ rs) = omega (arith, size-words rs, sum_by-cons record_size r rs, ap length (flat_map-cons record_words r rs), length-append (record_words r) (words_of rs))
 
 -- words written over the beginning of a list of their length
 pub written_over : (xs ys : List ℕ) (n : ℕ) → n ≡ length xs → length ys ≡ length xs → take n (ys ++ drop (length ys) xs) ≡ ys
@@ -47,7 +47,7 @@ of_records_more words records r all = (r.0 ++ records, All-append IsRecord r.0 r
 
 -- the fields after records were published
 pub holds_published : (p : ProducerEnd) (numbers : RingNumbers) (marks after : List ℕ) (records : List Record) (head : ℕ) → HoldsOut p numbers marks → length after ≡ length marks
-    → All IsRecord records → head ≡ numbers.head + sum_by size_of records → IsSoundProducer (with_published p records)
+    → All IsRecord records → head ≡ numbers.head + sum_by record_size records → IsSoundProducer (with_published p records)
     → AreMarks after (with_published p records).published p.last_tail
     → HoldsOut (with_published p records) (record numbers { head = head; pending = 0 }) after
 holds_published p numbers marks after records head h same all at sound noted = record {
@@ -77,15 +77,15 @@ holds_seen p numbers marks tail loads place h at rises sound = record {
   noted = marks_later marks p.published p.last_tail tail h.noted rises;
 }
 
-need_sum : (n : ℕ) (told sent : Record) → sum_by size_of (told_where n told ++ sent ∷ []) ≡ sum_by size_of (told_where n told) + size_of sent
-need_sum n told sent = sum_by-append size_of (told_where n told) (sent ∷ []) ∙ omega (arith, sum_by-cons size_of sent [])
+need_sum : (n : ℕ) (told sent : Record) → sum_by record_size (told_where n told ++ sent ∷ []) ≡ sum_by record_size (told_where n told) + record_size sent
+need_sum n told sent = sum_by-append record_size (told_where n told) (sent ∷ []) ∙ omega (arith, sum_by-cons record_size sent [])
 
 -- what a send needs, by the account and by the end
-told_same : (n : ℕ) (s : Sent) → told_before n s ≡ told_where n (Lost s.id n s.trailer)
+told_same : (n : ℕ) (s : SentSample) → told_before n s ≡ told_where n (Lost s.id n s.trailer)
 told_same zero s = refl
 told_same (suc n) s = refl
 
-module _ (o : OutEnd) (a : Account) (s : Sent) (h : HasAccount o a) (put : o.producer.put ≡ []) where
+module _ (o : OutEnd) (a : Account) (s : SentSample) (h : HasAccount o a) (put : o.producer.put ≡ []) where
   abbrev bytes : ℕ
   bytes = o.producer.ring.bytes
 
@@ -93,7 +93,7 @@ module _ (o : OutEnd) (a : Account) (s : Sent) (h : HasAccount o a) (put : o.pro
   records_same = ap (λ (l : List Record). l ++ sample_of s ∷ []) (told_same a.pending s ∙ ap (λ (n : ℕ). told_where n (Lost s.id n s.trailer)) h.pending)
 
   need_same : account.need_of a s ≡ need_for o (request_of s)
-  need_same = ap (sum_by size_of) records_same
+  need_same = ap (sum_by record_size) records_same
 
   room_same : account.room_of bytes a ≡ room_of o.producer
   room_same = omega (arith, size-words a.written, ap length h.written, h.tail, ap length put)
@@ -124,29 +124,29 @@ module _ (o : OutEnd) (a : Account) (s : Sent) (h : HasAccount o a) (put : o.pro
 pub record Found (o : OutEnd) (q : Request) (lost : Record) (lost_bytes sent_bytes free : ℕ) : Type 0 where
   pub put : o.producer.put ≡ []
   pub told : lost ≡ Lost q.id o.pending q.trailer
-  pub told_size : lost_bytes ≡ sum_by size_of (told_where o.pending lost)
-  pub sent_size : sent_bytes ≡ size_of q.sent
+  pub told_size : lost_bytes ≡ sum_by record_size (told_where o.pending lost)
+  pub sent_size : sent_bytes ≡ record_size q.sent
   pub room : free ≡ room_of o.producer
 
 pub found : (was o : OutEnd) (q : Request) (lost : Record) (lost_bytes sent_bytes free : ℕ) → was ≡ o → was.producer.put ≡ [] → lost ≡ Lost q.id was.pending q.trailer
-    → lost_bytes ≡ sum_by size_of (told_where was.pending lost) → sent_bytes ≡ size_of q.sent → free ≡ room_of o.producer → Found o q lost lost_bytes sent_bytes free
+    → lost_bytes ≡ sum_by record_size (told_where was.pending lost) → sent_bytes ≡ record_size q.sent → free ≡ room_of o.producer → Found o q lost lost_bytes sent_bytes free
 found was o q lost lost_bytes sent_bytes free same put told told_size sent_size room =
     let pending : was.pending ≡ o.pending = ap (λ (x : OutEnd). x.pending) same in record {
       put = ap (λ (x : OutEnd). x.producer.put) (sym same) ∙ put;
       told = told ∙ ap (λ (n : ℕ). Lost q.id n q.trailer) pending;
-      told_size = told_size ∙ ap (λ (n : ℕ). sum_by size_of (told_where n lost)) pending;
+      told_size = told_size ∙ ap (λ (n : ℕ). sum_by record_size (told_where n lost)) pending;
       sent_size = sent_size;
       room = room;
     }
 
 module _ (o : OutEnd) (q : Request) (lost : Record) (lost_bytes sent_bytes free : ℕ) (f : Found o q lost lost_bytes sent_bytes free) where
   needs : need_for o q ≡ lost_bytes + sent_bytes
-  needs = need_sum o.pending (Lost q.id o.pending q.trailer) q.sent ∙ omega (arith, f.sent_size, f.told_size, ap (λ (r : Record). sum_by size_of (told_where o.pending r)) f.told)
+  needs = need_sum o.pending (Lost q.id o.pending q.trailer) q.sent ∙ omega (arith, f.sent_size, f.told_size, ap (λ (r : Record). sum_by record_size (told_where o.pending r)) f.told)
 
-  pub after_lost : free < lost_bytes + sent_bytes → (a : Account) (s : Sent) → HasAccount o a → q ≡ request_of s → HasAccount (lost_to o) (send o.producer.ring.bytes a s)
+  pub after_lost : free < lost_bytes + sent_bytes → (a : Account) (s : SentSample) → HasAccount o a → q ≡ request_of s → HasAccount (lost_to o) (send o.producer.ring.bytes a s)
   after_lost less a s h e = account_lost o a s h f.put (omega (arith, less, f.room, needs, ap (need_for o) e))
 
-  pub after_written : lost_bytes + sent_bytes ≤ free → IsRecord lost → IsRecord q.sent → (a : Account) (s : Sent) → HasAccount o a → q ≡ request_of s
+  pub after_written : lost_bytes + sent_bytes ≤ free → IsRecord lost → IsRecord q.sent → (a : Account) (s : SentSample) → HasAccount o a → q ≡ request_of s
       → HasAccount (with_records o (told_where o.pending lost ++ q.sent ∷ [])) (send o.producer.ring.bytes a s)
   after_written enough lawful_lost lawful a s h e =
       let same : told_where o.pending lost ++ q.sent ∷ [] ≡ records_for o (request_of s) = ap (λ (r : Record). told_where o.pending r ++ q.sent ∷ []) f.told ∙ ap (records_for o) e in
@@ -156,10 +156,10 @@ module _ (o : OutEnd) (q : Request) (lost : Record) (lost_bytes sent_bytes free 
 
 -- By the account the head is the end's place, and a send of the end is a send of the account: what callers can say
 -- before it.
-pub head_same : (o : OutEnd) (a : Account) → HasAccount o a → o.producer.put ≡ [] → account.head_of a ≡ place_of o.producer
+pub head_same : (o : OutEnd) (a : Account) → HasAccount o a → o.producer.put ≡ [] → account.head_of a ≡ head_place o.producer
 head_same o a h put = omega (arith, size-words a.written, ap length h.written, ap length put)
 
-pub account_sent : (o : OutEnd) (a : Account) (s : Sent) → HasAccount o a → o.producer.put ≡ [] → All IsRecord (records_for o (request_of s)) → HasAccount (sent_to o (request_of s)) (send o.producer.ring.bytes a s)
+pub account_sent : (o : OutEnd) (a : Account) (s : SentSample) → HasAccount o a → o.producer.put ≡ [] → All IsRecord (records_for o (request_of s)) → HasAccount (sent_to o (request_of s)) (send o.producer.ring.bytes a s)
 account_sent o a s h put lawful = one (fits o (request_of s)) refl
   where
     one : (b : Bool) → fits o (request_of s) ≡ b → HasAccount (elim b as (λ _. OutEnd) [ true ↦ written_to o (request_of s) | false ↦ lost_to o ]) (send o.producer.ring.bytes a s)
@@ -167,10 +167,10 @@ account_sent o a s h put lawful = one (fits o (request_of s)) refl
     one false e = account_lost o a s h put (leb-false (need_for o (request_of s)) (room_of o.producer) e)
 
 -- a send moves the head by less than the ring's size, and loses at most one record
-pub head_bounded : (o : OutEnd) (q : Request) → place_of (sent_to o q).producer ≤ place_of o.producer + o.producer.ring.bytes
+pub head_bounded : (o : OutEnd) (q : Request) → head_place (sent_to o q).producer ≤ head_place o.producer + o.producer.ring.bytes
 head_bounded o q = one (fits o q) refl
   where
-    one : (b : Bool) → fits o q ≡ b → place_of (elim b as (λ _. OutEnd) [ true ↦ written_to o q | false ↦ lost_to o ]).producer ≤ place_of o.producer + o.producer.ring.bytes
+    one : (b : Bool) → fits o q ≡ b → head_place (elim b as (λ _. OutEnd) [ true ↦ written_to o q | false ↦ lost_to o ]).producer ≤ head_place o.producer + o.producer.ring.bytes
     one true e = omega (arith, leb-true (need_for o q) (room_of o.producer) e, size-words (records_for o q), length-append o.producer.published (words_of (records_for o q)))
     one false e = omega arith
 

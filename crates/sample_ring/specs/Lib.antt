@@ -5,3 +5,4 @@ pub mod OutEnds
 pub mod Outs
 pub mod RingLists
 pub mod Sends
+pub mod Taking

@@ -1,6 +1,6 @@
 -- What contracts see of the end of a ring that sends records, and the ring account that it has.
 use Rattle.std.specs.Prelude.{◌≡◌, ℕ, ◌≤◌, List, [], length, map, take, sum, All}
-use Rattle.ring_spec.specs.Records.{Record, IsRecord, size_of, words_of}
+use Rattle.ring_spec.specs.Records.{Record, IsRecord, record_size, words_of}
 use Rattle.ring_spec.specs.Account.{Account}
 use Rattle.ring_words.specs.Ends.{Ring, ProducerEnd, new_producer, IsSoundProducer}
 
@@ -26,7 +26,7 @@ pub record HasAccount (o : OutEnd) (a : Account) : Type 0 where
 
 -- a place at which one of the records written ends, or the start (this project's own profile)
 abbrev pub EndsRecord : Account → ℕ → Type 0
-EndsRecord a place = (few : ℕ) × (place ≡ sum (take few (map size_of a.written)))
+EndsRecord a place = (few : ℕ) × (place ≡ sum (take few (map record_size a.written)))
 
 -- words that are those of some records (this project's own profile)
 abbrev pub AreOfRecords : List ℕ → Type 0

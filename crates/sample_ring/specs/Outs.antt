@@ -2,7 +2,7 @@
 -- each in the cell of its place (this project's own profile).
 use Rattle.std.specs.Prelude.{◌≡◌, ℕ, ◌*◌, ◌/◌, ◌%◌, ◌<◌, ◌≤◌, List, [], length, slice_index}
 use Rattle.ring_spec.specs.Whole.{IsWhole}
-use Rattle.ring_words.specs.Ends.{ProducerEnd, place_of, IsStop, IsSoundProducer}
+use Rattle.ring_words.specs.Ends.{ProducerEnd, head_place, IsStop, IsSoundProducer}
 use Rattle.sample_ring.specs.declared.sent.RingNumbers.{RingNumbers}
 use Rattle.sample_ring.specs.OutEnds.{AreOfRecords}
 
@@ -18,7 +18,7 @@ pub record AreMarks (marks : List ℕ) (words : List ℕ) (tail : ℕ) : Type 0 
   pub found : (place : ℕ) → IsStop words place → tail ≤ place → slice_index marks (mark_of (length marks) place) ≡ place
 
 pub record HoldsOut (p : ProducerEnd) (numbers : RingNumbers) (marks : List ℕ) : Type 0 where
-  pub head : numbers.head ≡ place_of p
+  pub head : numbers.head ≡ head_place p
   pub tail : numbers.tail ≡ p.last_tail
   pub put : p.put ≡ []
   pub bytes : p.ring.bytes ≡ 8 * length marks

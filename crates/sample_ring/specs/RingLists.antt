@@ -21,18 +21,18 @@ pub record InList : Type 0 where
   pub readers : List (Option InEnd)
 
 -- the place of a ring among these, and that it is there
-abbrev pub place_of : List RingNo → RingNo → ℕ
-place_of numbers ring = position_or_len (λ r. r.0 == ring.0) numbers
+abbrev pub ring_index : List RingNo → RingNo → ℕ
+ring_index numbers ring = position_or_len (λ r. r.0 == ring.0) numbers
 
 abbrev pub HasRing : List RingNo → RingNo → Type 0
-HasRing numbers ring = place_of numbers ring < length numbers
+HasRing numbers ring = ring_index numbers ring < length numbers
 
 -- the reader of a ring that is there is not out, or is out
 abbrev pub HasReader : InList → RingNo → Type 0
-HasReader ins ring = (reader : InEnd) × (slice_get ins.readers (place_of ins.numbers ring) ≡ Some (Some reader))
+HasReader ins ring = (reader : InEnd) × (slice_get ins.readers (ring_index ins.numbers ring) ≡ Some (Some reader))
 
 abbrev pub IsOut : InList → RingNo → Type 0
-IsOut ins ring = slice_get ins.readers (place_of ins.numbers ring) ≡ Some None
+IsOut ins ring = slice_get ins.readers (ring_index ins.numbers ring) ≡ Some None
 
 -- the list with a reader, or none, at a place
 abbrev pub with_slot : InList → ℕ → Option InEnd → InList

@@ -1,10 +1,10 @@
 -- What a send does to the end that sends. After __perf_output_begin of kernel/events/ring_buffer.c, where a LOST record
 -- and the record behind it fit together or are not written, too.
 use Rattle.std.specs.Prelude.{ℕ, zero, suc, ◌+◌, nat_le, Bool, true, false, List, [], ◌∷◌, ◌++◌, sum_by}
-use Rattle.ring_spec.specs.Records.{Record, Lost, size_of, words_of}
-use Rattle.ring_spec.specs.Sending.{Sent, trailer_if}
+use Rattle.ring_spec.specs.Records.{Record, Lost, record_size, words_of}
+use Rattle.ring_spec.specs.Sending.{SentSample, trailer_if}
 use Rattle.ring_spec.specs.Account.{sample_of}
-use Rattle.ring_words.specs.Ends.{ProducerEnd, place_of, room_of}
+use Rattle.ring_words.specs.Ends.{ProducerEnd, head_place, room_of}
 use Rattle.sample_records.specs.declared.fields.Trailer.{Trailer}
 use Rattle.sample_records.specs.declared.record.Record.{Record as StoredRecord}
 use Rattle.sample_records.specs.Seen.{seen}
@@ -22,7 +22,7 @@ abbrev pub request : StoredRecord → ℕ → Trailer → Request
 request r id t = record { sent = seen r; id = id; trailer = trailer_if t.all t.sample t.fields }
 
 -- the request of a sample of the definitions
-abbrev pub request_of : Sent → Request
+abbrev pub request_of : SentSample → Request
 request_of s = record { sent = sample_of s; id = s.id; trailer = s.trailer }
 
 -- the record that states the losses, where there were some
@@ -35,7 +35,7 @@ abbrev pub records_for : OutEnd → Request → List Record
 records_for o q = told_where o.pending (Lost q.id o.pending q.trailer) ++ q.sent ∷ []
 
 abbrev pub need_for : OutEnd → Request → ℕ
-need_for o q = sum_by size_of (records_for o q)
+need_for o q = sum_by record_size (records_for o q)
 
 abbrev pub with_published : ProducerEnd → List Record → ProducerEnd
 with_published p records = record p { published = p.published ++ words_of records }
@@ -60,5 +60,5 @@ sent_to o q = elim (fits o q) [ true ↦ written_to o q | false ↦ lost_to o ]
 abbrev pub answer_to : OutEnd → Request → Answer
 answer_to o q = elim (fits o q) [
   | true ↦ answer.Written
-  | false ↦ answer.Lost (place_of o.producer) o.producer.last_tail (need_for o q)
+  | false ↦ answer.Lost (head_place o.producer) o.producer.last_tail (need_for o q)
 ]

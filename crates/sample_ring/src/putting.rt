@@ -1,7 +1,7 @@
 //! Records put on a ring, word by word, and the marks of their ends.
 ghost use Rattle.std.specs.Prelude.{◌≡◌, ◌+◌, ◌*◌, ◌^◌, ◌<◌, ◌≤◌, ◌↔◌, [], ◌∷◌, ◌++◌, length, slice_index, sum_by, IsTrue};
-ghost use Rattle.ring_spec.specs.Records.{IsRecord, record_words, size_of, words_of};
-ghost use Rattle.ring_words.specs.Ends.{place_of, room_of, IsSoundProducer};
+ghost use Rattle.ring_spec.specs.Records.{IsRecord, record_words, record_size, words_of};
+ghost use Rattle.ring_words.specs.Ends.{head_place, room_of, IsSoundProducer};
 ghost use Rattle.sample_records.specs.Seen.{seen};
 ghost use Rattle.sample_ring.specs.Outs.{AreMarks, mark_of};
 ghost use Rattle.sample_ring.specs.Sends.{told_where, with_published};
@@ -11,9 +11,9 @@ use ring_words::{Producer, RingTable};
 use sample_records::{Record, words_of};
 
 /// The size of a record in bytes.
-pub(crate) fn size_of(sent: &Record) -> u64
+pub(crate) fn record_size(sent: &Record) -> u64
     requires { IsRecord (seen sent.now) }
-    ensures { result ≡ size_of (seen sent.now) }
+    ensures { result ≡ record_size (seen sent.now) }
 {
     match sent {
         Record::Sample { body, .. } => 8 * (body.len() as u64 + 1),
@@ -24,16 +24,16 @@ pub(crate) fn size_of(sent: &Record) -> u64
 /// The size of what a LOST record adds, where some were lost.
 pub(crate) fn size_told(pending: u64, told: &Record) -> u64
     requires { IsRecord (seen told.now) }
-    ensures { result ≡ sum_by size_of (told_where pending (seen told.now)) }
+    ensures { result ≡ sum_by record_size (told_where pending (seen told.now)) }
 {
-    if pending == 0 { 0 } else { size_of(told) }
+    if pending == 0 { 0 } else { record_size(told) }
 }
 
 // Puts words behind those put.
 fn put_words(producer: &mut Producer, table: &RingTable, words: &[u64])
     requires ring { producer.old.ring ≡ table.now }
     requires room { 8 * length words.now ≤ room_of producer.old }
-    requires place { place_of producer.old + 8 * length words.now < 2 ^ 63 }
+    requires place { head_place producer.old + 8 * length words.now < 2 ^ 63 }
     requires sound { IsSoundProducer producer.old }
     ensures end { producer.new ≡ record producer.old { put = producer.old.put ++ words.now } }
     ensures sound { IsSoundProducer producer.new }
@@ -53,20 +53,20 @@ pub(crate) fn put_record(
 ) -> u64
     requires ring { producer.old.ring ≡ table.now }
     requires lawful { IsRecord (seen sent.now) }
-    requires room { size_of (seen sent.now) ≤ room_of producer.old }
-    requires head { head ≡ place_of producer.old }
-    requires place { head + size_of (seen sent.now) < 2 ^ 63 }
+    requires room { record_size (seen sent.now) ≤ room_of producer.old }
+    requires head { head ≡ head_place producer.old }
+    requires place { head + record_size (seen sent.now) < 2 ^ 63 }
     requires bytes { table.now.bytes ≡ 8 * length marks.old }
     requires sound { IsSoundProducer producer.old }
     requires marks { AreMarks marks.old (producer.old.published ++ producer.old.put) producer.old.last_tail }
     ensures end { producer.new ≡ record producer.old { put = producer.old.put ++ record_words (seen sent.now) } }
-    ensures head { result ≡ head + size_of (seen sent.now) }
+    ensures head { result ≡ head + record_size (seen sent.now) }
     ensures sound { IsSoundProducer producer.new }
     ensures marks { AreMarks marks.new (producer.new.published ++ producer.new.put) producer.new.last_tail }
 {
     let words = words_of(sent);
     put_words(producer, table, words.as_slice());
-    let end = head + size_of(sent);
+    let end = head + record_size(sent);
     let cell = (end / 8) as usize % marks.len();
     marks[cell] = end;
     end
@@ -83,14 +83,14 @@ pub(crate) fn put_told(
 ) -> u64
     requires ring { producer.old.ring ≡ table.now }
     requires lawful { IsRecord (seen told.now) }
-    requires room { sum_by size_of (told_where pending (seen told.now)) ≤ room_of producer.old }
-    requires head { head ≡ place_of producer.old }
-    requires place { head + sum_by size_of (told_where pending (seen told.now)) < 2 ^ 63 }
+    requires room { sum_by record_size (told_where pending (seen told.now)) ≤ room_of producer.old }
+    requires head { head ≡ head_place producer.old }
+    requires place { head + sum_by record_size (told_where pending (seen told.now)) < 2 ^ 63 }
     requires bytes { table.now.bytes ≡ 8 * length marks.old }
     requires sound { IsSoundProducer producer.old }
     requires marks { AreMarks marks.old (producer.old.published ++ producer.old.put) producer.old.last_tail }
     ensures end { producer.new ≡ record producer.old { put = producer.old.put ++ words_of (told_where pending (seen told.now)) } }
-    ensures head { result ≡ head + sum_by size_of (told_where pending (seen told.now)) }
+    ensures head { result ≡ head + sum_by record_size (told_where pending (seen told.now)) }
     ensures sound { IsSoundProducer producer.new }
     ensures marks { AreMarks marks.new (producer.new.published ++ producer.new.put) producer.new.last_tail }
 {
@@ -113,15 +113,15 @@ pub(crate) fn publish_records(
     requires ring { producer.old.ring ≡ table.now }
     requires told { IsRecord (seen told.now) }
     requires lawful { IsRecord (seen sent.now) }
-    requires room { sum_by size_of (told_where numbers.now.pending (seen told.now) ++ seen sent.now ∷ []) ≤ room_of producer.old }
-    requires head { numbers.now.head ≡ place_of producer.old }
-    requires place { numbers.now.head + sum_by size_of (told_where numbers.now.pending (seen told.now) ++ seen sent.now ∷ []) < 2 ^ 63 }
+    requires room { sum_by record_size (told_where numbers.now.pending (seen told.now) ++ seen sent.now ∷ []) ≤ room_of producer.old }
+    requires head { numbers.now.head ≡ head_place producer.old }
+    requires place { numbers.now.head + sum_by record_size (told_where numbers.now.pending (seen told.now) ++ seen sent.now ∷ []) < 2 ^ 63 }
     requires bytes { table.now.bytes ≡ 8 * length marks.old }
     requires put { producer.old.put ≡ [] }
     requires sound { IsSoundProducer producer.old }
     requires marks { AreMarks marks.old producer.old.published producer.old.last_tail }
     ensures end { producer.new ≡ with_published producer.old (told_where numbers.now.pending (seen told.now) ++ seen sent.now ∷ []) }
-    ensures head { result ≡ numbers.now.head + sum_by size_of (told_where numbers.now.pending (seen told.now) ++ seen sent.now ∷ []) }
+    ensures head { result ≡ numbers.now.head + sum_by record_size (told_where numbers.now.pending (seen told.now) ++ seen sent.now ∷ []) }
     ensures sound { IsSoundProducer producer.new }
     ensures marks { AreMarks marks.new producer.new.published producer.new.last_tail }
 {

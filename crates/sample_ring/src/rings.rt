@@ -2,7 +2,7 @@
 ghost use Rattle.std.specs.Prelude.{◌≡◌, ◌<◌, length, slice_get, slice_set, IsSome, Some, None};
 ghost use Rattle.std.specs.Borrow.{sem};
 ghost use Rattle.sample_ring.specs.Lending.{LendsOut, LendsReader, LendsSlot};
-ghost use Rattle.sample_ring.specs.RingLists.{HasReader, HasRing, IsOut, place_of, with_slot};
+ghost use Rattle.sample_ring.specs.RingLists.{HasReader, HasRing, IsOut, ring_index, with_slot};
 
 use crate::reader::In;
 use crate::sender::Out;
@@ -65,8 +65,8 @@ impl Model for Ins {
 }
 
 // The place of a ring.
-fn place_of(numbers: &[RingNo], ring: RingNo) -> usize
-    ensures { result ≡ place_of numbers.now ring }
+fn ring_index(numbers: &[RingNo], ring: RingNo) -> usize
+    ensures { result ≡ ring_index numbers.now ring }
 {
     for (place, number) in numbers.iter().enumerate() {
         if number.0 == ring.0 {
@@ -80,9 +80,9 @@ impl Rings {
     /// The words of a ring that is there.
     pub fn table(&self, ring: RingNo) -> &RingTable
         requires { HasRing self.now.numbers ring }
-        ensures { slice_get self.now.tables (place_of self.now.numbers ring) ≡ Some result.now }
+        ensures { slice_get self.now.tables (ring_index self.now.numbers ring) ≡ Some result.now }
     {
-        &self.tables[place_of(self.numbers.as_slice(), ring)]
+        &self.tables[ring_index(self.numbers.as_slice(), ring)]
     }
 }
 
@@ -90,19 +90,19 @@ impl Outs {
     /// The end that sends of a ring that is there.
     pub fn out(&mut self, ring: RingNo) -> &mut Out
         requires { HasRing self.old.numbers ring }
-        ensures* lends { sem 𝓛 (LendsOut self.entry (place_of self.old.numbers ring) result) }
-        ensures value { slice_get self.old.outs (place_of self.old.numbers ring) ≡ Some result.now }
+        ensures* lends { sem 𝓛 (LendsOut self.entry (ring_index self.old.numbers ring) result) }
+        ensures value { slice_get self.old.outs (ring_index self.old.numbers ring) ≡ Some result.now }
     {
-        let place = place_of(self.numbers.as_slice(), ring);
+        let place = ring_index(self.numbers.as_slice(), ring);
         &mut self.outs[place]
     }
 
     /// The same for reading.
     pub fn lent(&self, ring: RingNo) -> &Out
         requires { HasRing self.now.numbers ring }
-        ensures { slice_get self.now.outs (place_of self.now.numbers ring) ≡ Some result.now }
+        ensures { slice_get self.now.outs (ring_index self.now.numbers ring) ≡ Some result.now }
     {
-        &self.outs[place_of(self.numbers.as_slice(), ring)]
+        &self.outs[ring_index(self.numbers.as_slice(), ring)]
     }
 }
 
@@ -122,19 +122,19 @@ impl Ins {
     /// The end that takes of a ring that is there, whose reader is not out.
     pub fn reader(&mut self, ring: RingNo) -> &mut In
         requires { HasReader self.old ring }
-        ensures* lends { sem 𝓛 (LendsReader self.entry (place_of self.old.numbers ring) result) }
-        ensures value { slice_get self.old.readers (place_of self.old.numbers ring) ≡ Some (Some result.now) }
+        ensures* lends { sem 𝓛 (LendsReader self.entry (ring_index self.old.numbers ring) result) }
+        ensures value { slice_get self.old.readers (ring_index self.old.numbers ring) ≡ Some (Some result.now) }
     {
-        let place = place_of(self.numbers.as_slice(), ring);
+        let place = ring_index(self.numbers.as_slice(), ring);
         reader_in(&mut self.readers[place])
     }
 
     /// The same for reading.
     pub fn lent(&self, ring: RingNo) -> &In
         requires { HasReader self.now ring }
-        ensures { slice_get self.now.readers (place_of self.now.numbers ring) ≡ Some (Some result.now) }
+        ensures { slice_get self.now.readers (ring_index self.now.numbers ring) ≡ Some (Some result.now) }
     {
-        match &self.readers[place_of(self.numbers.as_slice(), ring)] {
+        match &self.readers[ring_index(self.numbers.as_slice(), ring)] {
             Some(reader) => reader,
             None => unreachable!(),
         }
@@ -143,19 +143,19 @@ impl Ins {
     /// Moves out a reader that is not out.
     pub fn take_reader(&mut self, ring: RingNo) -> In
         requires { HasReader self.old ring }
-        ensures reader { slice_get self.old.readers (place_of self.old.numbers ring) ≡ Some (Some result) }
-        ensures end { self.new ≡ with_slot self.old (place_of self.old.numbers ring) None }
+        ensures reader { slice_get self.old.readers (ring_index self.old.numbers ring) ≡ Some (Some result) }
+        ensures end { self.new ≡ with_slot self.old (ring_index self.old.numbers ring) None }
     {
-        let place = place_of(self.numbers.as_slice(), ring);
+        let place = ring_index(self.numbers.as_slice(), ring);
         self.readers[place].take().unwrap()
     }
 
     /// Puts back a reader that is out.
     pub fn give_reader(&mut self, ring: RingNo, reader: In)
         requires { IsOut self.old ring }
-        ensures { self.new ≡ with_slot self.old (place_of self.old.numbers ring) (Some reader) }
+        ensures { self.new ≡ with_slot self.old (ring_index self.old.numbers ring) (Some reader) }
     {
-        let place = place_of(self.numbers.as_slice(), ring);
+        let place = ring_index(self.numbers.as_slice(), ring);
         self.readers[place] = Some(reader);
     }
 }

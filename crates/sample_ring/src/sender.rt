@@ -1,14 +1,14 @@
 //! The end of a ring that sends records.
 ghost use Rattle.std.specs.Prelude.{◌≡◌, ◌+◌, ◌*◌, ◌^◌, ◌<◌, ◌≤◌, ◌↔◌, [], ◌∷◌, ◌++◌, sum_by, IsTrue};
-ghost use Rattle.ring_spec.specs.Records.{IsRecord, size_of};
-ghost use Rattle.ring_spec.specs.Sending.{Sent as SentSample};
+ghost use Rattle.ring_spec.specs.Records.{IsRecord, record_size};
+ghost use Rattle.ring_spec.specs.Sending.{SentSample};
 ghost use Rattle.ring_spec.specs.Account.{Account, send as send_on};
-ghost use Rattle.ring_words.specs.Ends.{place_of, room_of, IsStop};
+ghost use Rattle.ring_words.specs.Ends.{head_place, room_of, IsStop};
 ghost use Rattle.sample_records.specs.Seen.{seen};
 ghost use Rattle.sample_ring.specs.OutEnds.{EndsRecord, HasAccount, IsSoundOut};
 ghost use Rattle.sample_ring.specs.Sends.{request, request_of, told_where, with_records, lost_to, sent_to, answer_to};
 
-use crate::putting::{is_marked, publish_records, size_of, size_told};
+use crate::putting::{is_marked, publish_records, record_size, size_told};
 use crate::sent::{RingNumbers, Sent};
 use ring_words::{Producer, RingTable};
 use sample_records::{Record, Trailer, lost_record};
@@ -58,7 +58,7 @@ impl Out {
     pub fn send(&mut self, table: &RingTable, sent: &Record, id: u64, trailer: &Trailer) -> Sent
         requires ring { self.old.producer.ring ≡ table.now }
         requires lawful { IsRecord (seen sent.now) }
-        requires head { place_of (sent_to self.old (request sent.now id trailer.now)).producer < 2 ^ 63 }
+        requires head { head_place (sent_to self.old (request sent.now id trailer.now)).producer < 2 ^ 63 }
         requires lost { (sent_to self.old (request sent.now id trailer.now)).lost < 2 ^ 63 }
         ensures end { self.new ≡ sent_to self.old (request sent.now id trailer.now) }
         ensures answer { result ≡ answer_to self.old (request sent.now id trailer.now) }
@@ -69,7 +69,7 @@ impl Out {
     {
         let pending = self.numbers.pending;
         let told = lost_record(id, pending, trailer);
-        let need = size_told(pending, &told) + size_of(sent);
+        let need = size_told(pending, &told) + record_size(sent);
         if self.room() < need {
             self.lose(need)
         } else {
@@ -88,7 +88,7 @@ impl Out {
     fn lose(&mut self, need: u64) -> Sent
         requires { self.old.lost + 1 < 2 ^ 63 }
         ensures end { self.new ≡ lost_to self.old }
-        ensures answer { result ≡ Sent.Lost (place_of self.old.producer) self.old.producer.last_tail need }
+        ensures answer { result ≡ Sent.Lost (head_place self.old.producer) self.old.producer.last_tail need }
         ensures sound { IsSoundOut self.new }
     {
         self.numbers.lost += 1;
@@ -102,8 +102,8 @@ impl Out {
         requires ring { self.old.producer.ring ≡ table.now }
         requires told { IsRecord (seen told.now) }
         requires lawful { IsRecord (seen sent.now) }
-        requires room { sum_by size_of (told_where self.old.pending (seen told.now) ++ seen sent.now ∷ []) ≤ room_of self.old.producer }
-        requires head { place_of self.old.producer + sum_by size_of (told_where self.old.pending (seen told.now) ++ seen sent.now ∷ []) < 2 ^ 63 }
+        requires room { sum_by record_size (told_where self.old.pending (seen told.now) ++ seen sent.now ∷ []) ≤ room_of self.old.producer }
+        requires head { head_place self.old.producer + sum_by record_size (told_where self.old.pending (seen told.now) ++ seen sent.now ∷ []) < 2 ^ 63 }
         ensures end { self.new ≡ with_records self.old (told_where self.old.pending (seen told.now) ++ seen sent.now ∷ []) }
         ensures answer { result ≡ Sent.Written }
         ensures sound { IsSoundOut self.new }
@@ -117,7 +117,7 @@ impl Out {
 
     /// Where the head and the last tail seen are, and the counts of lost records.
     pub fn numbers(&self) -> RingNumbers
-        ensures head { result.head ≡ place_of self.now.producer }
+        ensures head { result.head ≡ head_place self.now.producer }
         ensures tail { result.tail ≡ self.now.producer.last_tail }
         ensures lost { result.lost ≡ self.now.lost }
         ensures pending { result.pending ≡ self.now.pending }

@@ -10,7 +10,8 @@ use Rattle.stage_spec.specs.declared.instance.Instance.{Instance}
 use Rattle.stage_spec.specs.Hardware.{Hardware}
 use Rattle.stage_spec.specs.Stage.{Stage, Group, members_of, all_instances, is_of_family}
 use Rattle.stage_spec.specs.Effective.{is_ready, ready_members, state_in}
-use Rattle.stage_spec.specs.Verdict.{Judged, is_eligible, groups_on, judge, judge_pass, judge_passes, passes, stands_on, verdicts, on_instances, reached}
+use Rattle.stage_spec.specs.Verdict.{Judged, is_eligible, groups_on, judge, judge_pass, judge_passes, passes, verdicts, on_instances, reached}
+use Rattle.perf_base.specs.Standings.{stands_on}
 use Rattle.stage_laws.specs.Sound.{has_id, IsNumbered}
 use Rattle.stage_spec.specs.Shares.{of_instance, ready_instances}
 use Rattle.stage_spec.proofs.Each.{Each, weaker-Each}

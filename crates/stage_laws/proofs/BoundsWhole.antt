@@ -18,7 +18,7 @@ use Rattle.perf_base.specs.declared.reasons.Reason.TheVariants as reason
 use Rattle.perf_base.specs.declared.reply.Sums.{Sums}
 use Rattle.stage_spec.specs.declared.instance.Instance.{Instance}
 use Rattle.stage_spec.specs.Hardware.{Hardware}
-use Rattle.stage_spec.specs.Stage.{Stage, Group, size_of, Lists, groups_in, members, all_instances, is_of_family, is_copy, is_idle, task_on, first_stage}
+use Rattle.stage_spec.specs.Stage.{Stage, Group, group_size, Lists, groups_in, members, all_instances, is_of_family, is_copy, is_idle, task_on, first_stage}
 use Rattle.stage_spec.specs.Verdict.{task_lists}
 use Rattle.stage_spec.specs.Refusals.{first_of}
 use Rattle.stage_spec.specs.Opening.{opened}
@@ -86,7 +86,7 @@ copy_groups-none e g s h id (group ∷ groups) low =
       arith,
       if_nothing (group.leader.event.0 == e.0) (g id) (h id low),
       copies-none e g s h (id + 1) group.siblings (omega (arith, low)),
-      copy_groups-none e g s h (id + size_of group) groups (omega (arith, low)),
+      copy_groups-none e g s h (id + group_size group) groups (omega (arith, low)),
     )
 
 new_copies-none : (e : EventNo) (g : ℕ → ℕ) (s : Stage) → NoneLater s g → (l : Lists) → lists_weight (family_by e g) (copied s l) ≡ 0
@@ -94,7 +94,7 @@ new_copies-none e g s h l =
     omega (
       arith,
       copy_groups-none e g s h s.next_id (inherited_groups l.pinned) (omega arith),
-      copy_groups-none e g s h (s.next_id + sum_by size_of (inherited_groups l.pinned)) (inherited_groups l.flexible) (omega arith),
+      copy_groups-none e g s h (s.next_id + sum_by group_size (inherited_groups l.pinned)) (inherited_groups l.flexible) (omega arith),
     )
 
 -- the copies that go by an exit

@@ -18,7 +18,8 @@ use Rattle.stage_spec.specs.Places.{may_count_on}
 use Rattle.stage_spec.specs.Stage.{Stage, Group, members_of, lists_of, no_groups, place_of, task_on, change_group, change_lists, change_each}
 use Rattle.stage_spec.specs.Effective.{is_ready, is_hardware, is_wholly_software, is_exclusive_group, counted_members}
 use Rattle.stage_spec.specs.Rules.{ruling_of}
-use Rattle.stage_spec.specs.Verdict.{Judged, is_eligible, groups_on, first_named, first_refused, with_masks, by_ruling, judge, judge_pass, judge_passes, passes, task_lists, stands_on, stands_refused, verdicts}
+use Rattle.stage_spec.specs.Verdict.{Judged, is_eligible, groups_on, first_named, first_refused, with_masks, by_ruling, judge, judge_pass, judge_passes, passes, task_lists, verdicts}
+use Rattle.perf_base.specs.Standings.{stands_on, stands_refused}
 use Rattle.stage_spec.specs.Settle.{pinned_verdicts}
 use Rattle.stage_laws.specs.Standings.{Brief, brief_of, briefs, standings, BriefsLaw, KeepsBrief}
 use Rattle.stage_laws.proofs.Images.{map-same, filter-map, find-image}

@@ -14,7 +14,8 @@ use Rattle.perf_base.specs.declared.standing.Standing.TheVariants as standing
 use Rattle.stage_spec.specs.Hardware.{Hardware}
 use Rattle.stage_spec.specs.Stage.{Stage, Group, members_of, Lists, lists_of, no_groups, groups_in, members, place_of, task_on, change_each}
 use Rattle.stage_spec.specs.Effective.{is_ready}
-use Rattle.stage_spec.specs.Verdict.{Judged, is_eligible, judge, judge_pass, judge_passes, passes, task_lists, stands_refused, standing_among, verdicts}
+use Rattle.stage_spec.specs.Verdict.{Judged, is_eligible, judge, judge_pass, judge_passes, passes, task_lists, standing_among, verdicts}
+use Rattle.perf_base.specs.Standings.{stands_refused}
 use Rattle.stage_spec.specs.Settle.{failed, settle_pass, settle_lists, settle_task, own_verdicts, settle, IsSettled, pinned_verdicts}
 use Rattle.stage_laws.specs.Sound.{has_id}
 use Rattle.stage_laws.specs.Standings.{briefs, SettledLaw, StandingsLaw, SameStandingsLaw, fail_lists}

@@ -9,9 +9,9 @@ use Rattle.perf_base.specs.declared.numbers.TaskNo.{TaskNo}
 use Rattle.perf_base.specs.declared.attr.Attr.{Attr}
 use Rattle.perf_base.specs.declared.standing.Context.TheVariants as context
 use Rattle.stage_spec.specs.declared.instance.Instance.{Instance}
-use Rattle.stage_spec.specs.Stage.{Stage, Group, size_of, alone, Lists, lists_of, no_groups, groups_in, all_groups, place_of, is_original, task_on}
+use Rattle.stage_spec.specs.Stage.{Stage, Group, group_size, alone, Lists, lists_of, no_groups, groups_in, all_groups, place_of, is_original, task_on}
 use Rattle.stage_spec.specs.Flags.{is_inherited, is_pinned}
-use Rattle.stage_spec.specs.Places.{context_of}
+use Rattle.perf_base.specs.Contexts.{context_of}
 use Rattle.stage_laws.specs.Sound.{has_id}
 use Rattle.stage_spec.specs.Opening.{opened, placed, add_group, joined, join_group, join_lists, new_original}
 use Rattle.stage_spec.specs.Verdict.{task_lists}
@@ -109,7 +109,7 @@ copy_groups-weigh : (f g : Instance → ℕ) (s : Stage) → ((id : ℕ) (i : In
 unfolding copy_groups total
 copy_groups-weigh f g s h id [] = refl
 copy_groups-weigh f g s h id (group ∷ groups) =
-    omega (arith, h id group.leader, copies-weigh f g s h (id + 1) group.siblings, copy_groups-weigh f g s h (id + size_of group) groups)
+    omega (arith, h id group.leader, copies-weigh f g s h (id + 1) group.siblings, copy_groups-weigh f g s h (id + group_size group) groups)
 
 -- what the groups of a context that are inherited weigh
 abbrev pub inherited_weight : (Instance → ℕ) → Lists → ℕ
@@ -119,7 +119,7 @@ pub copied-weighs : (f g : Instance → ℕ) (s : Stage) → ((id : ℕ) (i : In
 copied-weighs f g s h l = omega (
   arith,
   copy_groups-weigh f g s h s.next_id (inherited_groups l.pinned),
-  copy_groups-weigh f g s h (s.next_id + sum_by size_of (inherited_groups l.pinned)) (inherited_groups l.flexible),
+  copy_groups-weigh f g s h (s.next_id + sum_by group_size (inherited_groups l.pinned)) (inherited_groups l.flexible),
 )
 
 pub inherited_weight-le : (f : Instance → ℕ) (l : Lists) → inherited_weight f l ≤ lists_weight f l
@@ -133,10 +133,10 @@ pub copied-none : (f : Instance → ℕ) (s : Stage) → ((id : ℕ) (i : Instan
 copied-none f s h l = omega (arith, copied-weighs f (λ i. 0) s h l, groups-zero (inherited_groups l.pinned), groups-zero (inherited_groups l.flexible))
 
 -- there are as many copies as members of the inherited groups
-sizes-weigh : (groups : List Group) → total (group_weight (λ i. 1)) groups ≡ sum_by size_of groups
+sizes-weigh : (groups : List Group) → total (group_weight (λ i. 1)) groups ≡ sum_by group_size groups
 unfolding total
 sizes-weigh [] = refl
-sizes-weigh (g ∷ groups) = omega (arith, total-ones g.siblings, sum_by-cons size_of g groups, sizes-weigh groups)
+sizes-weigh (g ∷ groups) = omega (arith, total-ones g.siblings, sum_by-cons group_size g groups, sizes-weigh groups)
 
 pub inherited-count : (l : Lists) → inherited_weight (λ i. 1) l ≡ new_copies l
 inherited-count l = omega (arith, sizes-weigh (inherited_groups l.pinned), sizes-weigh (inherited_groups l.flexible))
@@ -168,23 +168,23 @@ unfolding copies_from total
 copies-ids s n id [] = sym (among-none id n)
 copies-ids s n id (i ∷ xs) = omega (arith, copies-ids s n (id + 1) xs, among-first id (length (i ∷ xs)) (length xs) n (omega arith))
 
-copy_groups-ids : (s : Stage) (n id : ℕ) (groups : List Group) → total (group_weight (one_if (has_id n))) (copy_groups s id groups) ≡ among id (sum_by size_of groups) n
+copy_groups-ids : (s : Stage) (n id : ℕ) (groups : List Group) → total (group_weight (one_if (has_id n))) (copy_groups s id groups) ≡ among id (sum_by group_size groups) n
 unfolding copy_groups total
 copy_groups-ids s n id [] = sym (among-none id n)
 copy_groups-ids s n id (g ∷ groups) =
-    let sizes : sum_by size_of (g ∷ groups) ≡ size_of g + sum_by size_of groups = sum_by-cons size_of g groups in
+    let sizes : sum_by group_size (g ∷ groups) ≡ group_size g + sum_by group_size groups = sum_by-cons group_size g groups in
     rw sizes (omega (
       arith,
       copies-ids s n (id + 1) g.siblings,
-      among-first id (size_of g) (length g.siblings) n (omega arith),
-      copy_groups-ids s n (id + size_of g) groups,
-      among-plus id (size_of g) (sum_by size_of groups) n,
+      among-first id (group_size g) (length g.siblings) n (omega arith),
+      copy_groups-ids s n (id + group_size g) groups,
+      among-plus id (group_size g) (sum_by group_size groups) n,
     ))
 
 pub copied-ids : (s : Stage) (n : ℕ) (l : Lists) → lists_weight (one_if (has_id n)) (copied s l) ≡ among s.next_id (new_copies l) n
 copied-ids s n l =
-    let pinned : ℕ = sum_by size_of (inherited_groups l.pinned) in
-    let flexible : ℕ = sum_by size_of (inherited_groups l.flexible) in
+    let pinned : ℕ = sum_by group_size (inherited_groups l.pinned) in
+    let flexible : ℕ = sum_by group_size (inherited_groups l.flexible) in
     omega (arith, copy_groups-ids s n s.next_id (inherited_groups l.pinned), copy_groups-ids s n (s.next_id + pinned) (inherited_groups l.flexible), among-plus s.next_id pinned flexible n)
 
 -- the copies are added, where the child had no groups

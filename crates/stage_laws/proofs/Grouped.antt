@@ -23,9 +23,10 @@ use Rattle.perf_base.specs.declared.standing.Own.TheVariants as own
 use Rattle.stage_spec.specs.declared.instance.Instance.{Instance}
 use Rattle.stage_spec.specs.Flags.{is_inherited, is_pinned, is_exclusive, is_disabled}
 use Rattle.stage_spec.specs.Hardware.{Hardware}
-use Rattle.stage_spec.specs.Places.{is_same_task, is_same_cpu, context_of}
+use Rattle.stage_spec.specs.Places.{is_same_task, is_same_cpu}
+use Rattle.perf_base.specs.Contexts.{context_of}
 use Rattle.stage_spec.specs.Refusals.{holds_of}
-use Rattle.stage_spec.specs.Stage.{Stage, lists_of, change_lists, Group, members_of, size_of, alone, Lists, groups_in, all_groups, change_group, no_groups, is_original, task_on, group_of, original_of, first_stage, change_each}
+use Rattle.stage_spec.specs.Stage.{Stage, lists_of, change_lists, Group, members_of, group_size, alone, Lists, groups_in, all_groups, change_group, no_groups, is_original, task_on, group_of, original_of, first_stage, change_each}
 use Rattle.stage_spec.specs.Effective.{hardware_members}
 use Rattle.stage_spec.specs.Verdict.{Judged, task_lists, with_masks}
 use Rattle.stage_spec.specs.Fits.{fits}
@@ -160,12 +161,12 @@ set_ring-fine hw e ring owner s h =
 copy_groups-fine : (hw : Hardware) (pinned : Bool) (s : Stage) (id : ℕ) (groups : List Group) → Each (IsFine hw pinned) groups → Each (IsFine hw pinned) (copy_groups s id groups)
 unfolding copy_groups Each
 copy_groups-fine hw pinned s id [] h = tt
-copy_groups-fine hw pinned s id (g ∷ groups) h = (IsFine-copy hw pinned s id g h.0, copy_groups-fine hw pinned s (id + size_of g) groups h.1)
+copy_groups-fine hw pinned s id (g ∷ groups) h = (IsFine-copy hw pinned s id g h.0, copy_groups-fine hw pinned s (id + group_size g) groups h.1)
 
 copied-fine : (hw : Hardware) (s : Stage) (l : Lists) → AreFine hw l → AreFine hw (copied s l)
 copied-fine hw s l h = record {
   pinned = copy_groups-fine hw true s s.next_id (inherited_groups l.pinned) (filter-Each (IsFine hw true) (λ g. is_inherited g.leader.attr) l.pinned h.pinned);
-  flexible = copy_groups-fine hw false s (s.next_id + sum_by size_of (inherited_groups l.pinned)) (inherited_groups l.flexible)
+  flexible = copy_groups-fine hw false s (s.next_id + sum_by group_size (inherited_groups l.pinned)) (inherited_groups l.flexible)
       (filter-Each (IsFine hw false) (λ g. is_inherited g.leader.attr) l.flexible h.flexible);
 }
 
@@ -219,7 +220,7 @@ joined-fine hw s slot a e h pinned g fine led found =
     let inherits : is_same_flag (is_inherited g.leader.attr) (is_inherited a) ≡ true =
     not-false _ (holds_of-some (λ j. not (is_same_flag (is_inherited j.attr) (is_inherited a))) (original_of s e) g.leader found.leader h.inherit) in
     let flags = or_parts (is_pinned a) (is_exclusive a) h.flags in
-    let room : size_of g < 8 = ltb-true (size_of g) 8 (not-false _ (holds_of-some (λ k. not (nat_lt (size_of k) 8)) (group_of s e) g found.group h.room)) in
+    let room : group_size g < 8 = ltb-true (group_size g) 8 (not-false _ (holds_of-some (λ k. not (nat_lt (group_size k) 8)) (group_of s e) g found.group h.room)) in
     let pmu : list_any (λ j. is_other_pmu hw a.kind j.attr.kind) (members_of g) ≡ false =
     holds_of-some (λ k. list_any (λ j. is_other_pmu hw a.kind j.attr.kind) (members_of k)) (group_of s e) g found.group h.pmu in
     let fit : fits (masks_of (with_masks hw (hardware_members (joined i g)))) ≡ true =

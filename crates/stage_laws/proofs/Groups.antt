@@ -12,7 +12,7 @@ use Rattle.perf_base.specs.declared.standing.Standing.TheVariants as standing
 use Rattle.stage_spec.specs.declared.instance.Instance.{Instance}
 use Rattle.stage_spec.specs.Flags.{is_pinned}
 use Rattle.stage_spec.specs.Hardware.{Hardware, is_software, mask_of, pmu_of_kind, is_pmu}
-use Rattle.stage_spec.specs.Stage.{Stage, Group, members_of, size_of, alone, change_group}
+use Rattle.stage_spec.specs.Stage.{Stage, Group, members_of, group_size, alone, change_group}
 use Rattle.stage_spec.specs.Effective.{is_ready, is_hardware}
 use Rattle.stage_spec.specs.Verdict.{with_masks}
 use Rattle.stage_spec.specs.Fits.{fits, fits_beside}
@@ -117,7 +117,7 @@ IsOfPmu-back hw i j h = other_pmu-back (pmu_of_kind hw i.attr.kind) (pmu_of_kind
 
 -- what a group is, by recursion over its members, with whether its leader is pinned
 pub record IsFine (hw : Hardware) (pinned : Bool) (g : Group) : Type 0 where
-  pub small : size_of g ≤ 8
+  pub small : group_size g ≤ 8
   pub alike : Each (AreAlike g.leader) g.siblings
   pub siblings : Each IsSibling g.siblings
   pub fit : Fit hw [] (members_of g)
@@ -282,7 +282,7 @@ IsFine-freed hw pinned goes g h =
     (none-Each (IsFine hw false))
 
 -- one that joins
-pub IsFine-joined : (hw : Hardware) (pinned : Bool) (i : Instance) (g : Group) → IsFine hw pinned g → size_of g < 8 → AreAlike g.leader i → IsSibling i
+pub IsFine-joined : (hw : Hardware) (pinned : Bool) (i : Instance) (g : Group) → IsFine hw pinned g → group_size g < 8 → AreAlike g.leader i → IsSibling i
     → Fit hw [] (members_of (joined i g)) → Each (IsOfPmu hw i) (members_of g) → IsFine hw pinned (joined i g)
 unfolding Each
 IsFine-joined hw pinned i g h room alike sibling fit same = record {

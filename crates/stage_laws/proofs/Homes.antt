@@ -20,7 +20,8 @@ use Rattle.stage_spec.specs.declared.instance.Instance.{Instance}
 use Rattle.stage_spec.specs.declared.instance.TaskState.{TaskState}
 use Rattle.stage_spec.specs.declared.instance.TaskStatus.{TaskStatus}
 use Rattle.stage_spec.specs.Hardware.{Hardware}
-use Rattle.stage_spec.specs.Places.{is_all_tasks, context_by, context_of}
+use Rattle.stage_spec.specs.Places.{is_all_tasks}
+use Rattle.perf_base.specs.Contexts.{context_of, context_by}
 use Rattle.stage_spec.specs.Stage.{Stage, Lists, lists_of, no_groups, place_of, unknown_task, is_live, was_used, is_original, is_of_family, original_of, change_lists}
 use Rattle.stage_spec.specs.Verdict.{Judged}
 use Rattle.stage_spec.specs.Settle.{settle_lists, settle_pass}

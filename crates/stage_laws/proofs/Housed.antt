@@ -19,7 +19,7 @@ use Rattle.stage_spec.specs.declared.instance.Instance.{Instance}
 use Rattle.stage_spec.specs.declared.instance.TaskState.TheVariants as state
 use Rattle.stage_spec.specs.declared.instance.TaskStatus.{TaskStatus}
 use Rattle.stage_spec.specs.Hardware.{Hardware}
-use Rattle.stage_spec.specs.Places.{context_of}
+use Rattle.perf_base.specs.Contexts.{context_of}
 use Rattle.stage_spec.specs.Stage.{Stage, lists_of, no_groups, place_of, task_on, status_of, is_live, was_used, is_copy, is_original, change_lists, is_idle, change_context, set_running, fresh_task, live_copies}
 use Rattle.stage_spec.specs.Verdict.{task_lists}
 use Rattle.stage_spec.specs.Settle.{settle_all}

@@ -19,7 +19,7 @@ use Rattle.stage_spec.specs.declared.instance.Instance.{Instance}
 use Rattle.stage_spec.specs.Hardware.{Hardware}
 use Rattle.stage_spec.specs.Stage.{Stage, no_groups, place_of, all_instances, change_each, is_original, task_on, first_stage}
 use Rattle.stage_spec.specs.Verdict.{task_lists}
-use Rattle.stage_spec.specs.Places.{context_of}
+use Rattle.perf_base.specs.Contexts.{context_of}
 use Rattle.stage_spec.specs.Settle.{settle_all}
 use Rattle.stage_spec.specs.Opening.{placed, new_original, opened}
 use Rattle.stage_spec.specs.Commands.{is_reached, command_each, with_period, enabled, disabled, targets}

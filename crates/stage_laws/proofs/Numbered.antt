@@ -29,7 +29,7 @@ use Rattle.stage_spec.specs.declared.instance.Instance.{Instance}
 use Rattle.stage_spec.specs.Hardware.{Hardware}
 use Rattle.stage_spec.specs.Stage.{Stage, Lists, no_groups, place_of, all_instances, change_each, is_original, is_copy, live_copies, task_on, status_of, is_idle, was_used, first_stage}
 use Rattle.stage_spec.specs.Verdict.{task_lists}
-use Rattle.stage_spec.specs.Places.{context_by, context_of}
+use Rattle.perf_base.specs.Contexts.{context_of, context_by}
 use Rattle.stage_spec.specs.Settle.{settle_all}
 use Rattle.stage_spec.specs.Opening.{is_used, new_original, opened}
 use Rattle.stage_spec.specs.Commands.{is_reached, command_each, with_period, enabled, disabled, targets}

@@ -11,7 +11,7 @@ use Rattle.perf_base.specs.declared.numbers.EventNo.{EventNo}
 use Rattle.perf_base.specs.declared.numbers.TaskNo.{TaskNo}
 use Rattle.perf_base.specs.declared.standing.Context.TheVariants as context
 use Rattle.stage_spec.specs.declared.instance.Instance.{Instance}
-use Rattle.stage_spec.specs.Stage.{Stage, Group, members_of, size_of, alone, Lists, lists_of, no_groups, groups_in, members, is_of_family, is_original, original_of, place_of, task_on, fresh_task, set_status, change_context}
+use Rattle.stage_spec.specs.Stage.{Stage, Group, members_of, group_size, alone, Lists, lists_of, no_groups, groups_in, members, is_of_family, is_original, original_of, place_of, task_on, fresh_task, set_status, change_context}
 use Rattle.stage_spec.specs.Verdict.{task_lists}
 use Rattle.stage_spec.specs.Opening.{joined, add_group}
 use Rattle.stage_spec.specs.Forks.{inherited_groups, copy_of, copies_from, copy_group, copy_groups, copied, copied_state, present_period, new_copies, forked}
@@ -76,7 +76,7 @@ added-group s id pinned g l =
     ap (added s (id + 1) (map (sibling_parent pinned) g.siblings)) (group-pushed pinned (alone (copy_of s id g.leader)) l)
     ∙ added-siblings s (id + 1) pinned (alone (copy_of s id g.leader)) g.siblings l
 
-parents-length : (pinned : Bool) (g : Group) → length (parents_in pinned g) ≡ size_of g
+parents-length : (pinned : Bool) (g : Group) → length (parents_in pinned g) ≡ group_size g
 parents-length pinned g = ap (λ n. suc n) (length-map g.siblings (sibling_parent pinned))
 
 added-groups : (s : Stage) (id : ℕ) (pinned : Bool) (groups : List Group) (l : Lists) → added s id (flat_map (parents_in pinned) groups) l ≡ pushed pinned (copy_groups s id groups) l
@@ -85,14 +85,14 @@ added-groups s id pinned [] l = sym (pushed-none pinned l)
 added-groups s id pinned (g ∷ groups) l =
     added-append s id (parents_in pinned g) (flat_map (parents_in pinned) groups) l
     ∙ (ap (λ n. added s (id + n) (flat_map (parents_in pinned) groups) (added s id (parents_in pinned g) l)) (parents-length pinned g)
-    ∙ (ap (added s (id + size_of g) (flat_map (parents_in pinned) groups)) (added-group s id pinned g l)
-    ∙ (added-groups s (id + size_of g) pinned groups (pushed pinned (copy_group s id g ∷ []) l)
-    ∙ pushed-twice pinned (copy_group s id g) (copy_groups s (id + size_of g) groups) l)))
+    ∙ (ap (added s (id + group_size g) (flat_map (parents_in pinned) groups)) (added-group s id pinned g l)
+    ∙ (added-groups s (id + group_size g) pinned groups (pushed pinned (copy_group s id g ∷ []) l)
+    ∙ pushed-twice pinned (copy_group s id g) (copy_groups s (id + group_size g) groups) l)))
 
-parents-count : (pinned : Bool) (groups : List Group) → length (flat_map (parents_in pinned) groups) ≡ sum_by size_of groups
+parents-count : (pinned : Bool) (groups : List Group) → length (flat_map (parents_in pinned) groups) ≡ sum_by group_size groups
 parents-count pinned [] = refl
 parents-count pinned (g ∷ groups) =
-    omega (arith, length-append (parents_in pinned g) (flat_map (parents_in pinned) groups), parents-length pinned g, sum_by-cons size_of g groups, parents-count pinned groups)
+    omega (arith, length-append (parents_in pinned g) (flat_map (parents_in pinned) groups), parents-length pinned g, sum_by-cons group_size g groups, parents-count pinned groups)
 
 added-all : (s : Stage) (l : Lists) → added s s.next_id (fork_parents l) no_groups ≡ copied s l
 added-all s l =
@@ -100,8 +100,8 @@ added-all s l =
     let flexible : List Group = inherited_groups l.flexible in
     added-append s s.next_id (flat_map (parents_in true) pinned) (flat_map (parents_in false) flexible) no_groups
     ∙ (ap (λ n. added s (s.next_id + n) (flat_map (parents_in false) flexible) (added s s.next_id (flat_map (parents_in true) pinned) no_groups)) (parents-count true pinned)
-    ∙ (ap (added s (s.next_id + sum_by size_of pinned) (flat_map (parents_in false) flexible)) (added-groups s s.next_id true pinned no_groups)
-    ∙ added-groups s (s.next_id + sum_by size_of pinned) false flexible (pushed true (copy_groups s s.next_id pinned) no_groups)))
+    ∙ (ap (added s (s.next_id + sum_by group_size pinned) (flat_map (parents_in false) flexible)) (added-groups s s.next_id true pinned no_groups)
+    ∙ added-groups s (s.next_id + sum_by group_size pinned) false flexible (pushed true (copy_groups s s.next_id pinned) no_groups)))
 
 -- a copy that is added is no original, so the originals stay
 -- what is found among the instances of some groups, with an instance that is not it

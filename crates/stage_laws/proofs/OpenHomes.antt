@@ -17,7 +17,8 @@ use Rattle.stage_spec.specs.declared.instance.TaskState.{TaskState}
 use Rattle.stage_spec.specs.declared.instance.TaskState.TheVariants as state
 use Rattle.stage_spec.specs.Flags.{is_pinned}
 use Rattle.stage_spec.specs.Hardware.{Hardware}
-use Rattle.stage_spec.specs.Places.{is_same_task, is_same_cpu, context_by, context_of}
+use Rattle.stage_spec.specs.Places.{is_same_task, is_same_cpu}
+use Rattle.perf_base.specs.Contexts.{context_of, context_by}
 use Rattle.stage_spec.specs.Stage.{Stage, Group, alone, Lists, lists_of, groups_in, no_groups, place_of, is_original, is_of_family, original_of, all_instances, status_of, is_live, was_used}
 use Rattle.stage_spec.specs.Opening.{is_used, placed, add_group, join_lists, new_original, names_no_task}
 use Rattle.stage_laws.specs.Sound.{IsNumbered}

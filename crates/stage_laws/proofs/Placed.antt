@@ -15,7 +15,8 @@ use Rattle.perf_base.specs.declared.standing.Context.TheVariants as context
 use Rattle.stage_spec.specs.declared.instance.Instance.{Instance}
 use Rattle.stage_spec.specs.declared.instance.TaskStatus.{TaskStatus}
 use Rattle.stage_spec.specs.Hardware.{Hardware}
-use Rattle.stage_spec.specs.Places.{is_all_tasks, context_of}
+use Rattle.stage_spec.specs.Places.{is_all_tasks}
+use Rattle.perf_base.specs.Contexts.{context_of}
 use Rattle.stage_spec.specs.Stage.{Stage, Group, Lists, lists_of, groups_in, no_groups, place_of, members, is_original, is_of_family, original_of, all_instances, status_of, is_live, task_on, first_stage}
 use Rattle.stage_spec.specs.Verdict.{task_lists, passes, instances_in, reached}
 use Rattle.stage_spec.specs.History.{Step, stage_step}

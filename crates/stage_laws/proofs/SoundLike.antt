@@ -10,8 +10,8 @@ use Rattle.perf_base.specs.declared.standing.Context.TheVariants as context
 use Rattle.stage_spec.specs.declared.instance.Instance.{Instance}
 use Rattle.stage_spec.specs.Hardware.{Hardware}
 use Rattle.stage_spec.specs.Flags.{is_inherited, is_pinned}
-use Rattle.stage_spec.specs.Places.{context_of}
-use Rattle.stage_spec.specs.Stage.{Stage, Group, members_of, size_of, Lists, lists_of, no_groups, all_groups, all_instances, is_of_family, is_original, is_copy, original_of, unknown_task, is_live, was_used}
+use Rattle.perf_base.specs.Contexts.{context_of}
+use Rattle.stage_spec.specs.Stage.{Stage, Group, members_of, group_size, Lists, lists_of, no_groups, all_groups, all_instances, is_of_family, is_original, is_copy, original_of, unknown_task, is_live, was_used}
 use Rattle.stage_spec.specs.Effective.{is_hardware}
 use Rattle.stage_spec.specs.Verdict.{with_masks, instances_in, reached}
 use Rattle.stage_spec.specs.Opening.{is_other_pmu}
@@ -79,7 +79,7 @@ like-group hw g h e k =
     let leader : bare h.leader ≡ bare g.leader = ap (λ x. x.leader) e in
     let same : map bare (members_of h) ≡ map bare (members_of g) = ap (λ x. map bare (members_of x)) e in
     record {
-      small = rw (ap size_of e) k.small;
+      small = rw (ap group_size e) k.small;
       alike = subst (All (AreAlike h.leader)) (sym siblings) (λ n d low. alike-bare g.leader h.leader (slice_index_or g.siblings n d) leader (k.alike n d low));
       siblings = subst (All IsSibling) (sym siblings) k.siblings;
       fit = rw (masks-like hw (members_of g) (members_of h) same) k.fit;

@@ -21,7 +21,8 @@ use Rattle.perf_base.specs.declared.standing.Context.TheVariants as context
 use Rattle.perf_base.specs.declared.standing.Own.{Own}
 use Rattle.stage_spec.specs.declared.instance.Instance.{Instance}
 use Rattle.stage_spec.specs.Hardware.{Hardware}
-use Rattle.stage_spec.specs.Places.{is_same_task, is_same_cpu, context_by, context_of}
+use Rattle.stage_spec.specs.Places.{is_same_task, is_same_cpu}
+use Rattle.perf_base.specs.Contexts.{context_of, context_by}
 use Rattle.stage_spec.specs.Refusals.{holds_of}
 use Rattle.stage_spec.specs.Stage.{Stage, Group, members_of, alone, Lists, lists_of, no_groups, groups_in, all_groups, members, place_of, task_on, is_task, change_group, change_lists, change_each, change_context, is_original, is_of_family, original_of}
 use Rattle.stage_spec.specs.Flags.{is_pinned, is_exclusive}

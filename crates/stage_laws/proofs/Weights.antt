@@ -16,7 +16,8 @@ use Rattle.stage_spec.specs.declared.instance.Instance.{Instance}
 use Rattle.stage_spec.specs.Hardware.{Hardware}
 use Rattle.stage_spec.specs.Stage.{Stage, Group, members_of, alone, change_group, Lists, lists_of, no_groups, groups_in, members, all_instances, place_of, change_lists, change_each, change_context, is_of_family, is_copy, task_on, all_cpus}
 use Rattle.stage_spec.specs.Effective.{is_wholly_software}
-use Rattle.stage_spec.specs.Verdict.{Judged, is_eligible, judge, standing_among, stands_on, task_lists, verdicts}
+use Rattle.stage_spec.specs.Verdict.{Judged, is_eligible, judge, standing_among, task_lists, verdicts}
+use Rattle.perf_base.specs.Standings.{stands_on}
 use Rattle.stage_spec.specs.Settle.{failed, settle_pass, settle_lists, settle_task, own_verdicts, settle, settle_each, settle_all}
 use Rattle.stage_spec.specs.Closing.{staying, without, kept_group, freed_groups, closed}
 use Rattle.stage_spec.specs.Rotation.{first_goes_last, turned, turn_lists, turn_task, rotated}

@@ -13,7 +13,7 @@ use Rattle.perf_base.specs.declared.standing.Context.{Context}
 use Rattle.perf_base.specs.declared.standing.Context.TheVariants as context
 use Rattle.perf_base.specs.declared.reasons.Reason.{Reason}
 use Rattle.stage_spec.specs.Hardware.{Hardware}
-use Rattle.stage_spec.specs.Places.{context_of}
+use Rattle.perf_base.specs.Contexts.{context_of}
 use Rattle.stage_spec.specs.Stage.{Stage, all_cpus, is_on_cpu, first_stage}
 use Rattle.stage_spec.specs.Verdict.{passes, reached}
 use Rattle.stage_spec.specs.Settle.{settle, settle_each, IsSettled}

@@ -12,8 +12,9 @@ use Rattle.stage_spec.specs.declared.instance.Instance.{Instance}
 use Rattle.stage_spec.specs.Flags.{is_inherited, is_pinned, is_exclusive}
 use Rattle.stage_spec.specs.Hardware.{Hardware}
 use Rattle.stage_spec.specs.Limits.{HasShape}
-use Rattle.stage_spec.specs.Places.{is_all_tasks, context_of}
-use Rattle.stage_spec.specs.Stage.{Stage, Group, members_of, size_of, Lists, lists_of, all_groups, all_instances, no_groups, is_of_family, is_original, live_copies, original_of, task_on, status_of, is_live, was_used}
+use Rattle.stage_spec.specs.Places.{is_all_tasks}
+use Rattle.perf_base.specs.Contexts.{context_of}
+use Rattle.stage_spec.specs.Stage.{Stage, Group, members_of, group_size, Lists, lists_of, all_groups, all_instances, no_groups, is_of_family, is_original, live_copies, original_of, task_on, status_of, is_live, was_used}
 use Rattle.stage_spec.specs.Effective.{hardware_members}
 use Rattle.stage_spec.specs.Fits.{fits}
 use Rattle.stage_spec.specs.Tight.{masks_of}
@@ -51,7 +52,7 @@ pub record IsSibling (i : Instance) : Type 0 where
 -- A group has at most 8 members, which are alike. Its hardware members fit together, whatever their states, and are of
 -- one PMU.
 pub record IsGroup (hw : Hardware) (g : Group) : Type 0 where
-  pub small : size_of g ≤ 8
+  pub small : group_size g ≤ 8
   pub alike : All (AreAlike g.leader) g.siblings
   pub siblings : All IsSibling g.siblings
   pub fit : IsTrue (fits (masks_of (with_masks hw (hardware_members g))))

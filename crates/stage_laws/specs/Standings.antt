@@ -10,7 +10,8 @@ use Rattle.stage_spec.specs.Flags.{is_exclusive}
 use Rattle.stage_spec.specs.Hardware.{Hardware}
 use Rattle.stage_spec.specs.Stage.{Stage, Group, Lists, change_each}
 use Rattle.stage_spec.specs.Effective.{name_of, is_wholly_software, is_exclusive_group, counted_members}
-use Rattle.stage_spec.specs.Verdict.{Judged, is_eligible, with_masks, passes, verdicts, standing_among, stands_refused}
+use Rattle.stage_spec.specs.Verdict.{Judged, is_eligible, with_masks, passes, verdicts, standing_among}
+use Rattle.perf_base.specs.Standings.{stands_refused}
 use Rattle.stage_spec.specs.Settle.{failed, settle, IsSettled, pinned_verdicts}
 use Rattle.stage_laws.specs.Sound.{IsNumbered}
 

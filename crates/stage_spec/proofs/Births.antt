@@ -15,7 +15,8 @@ use Rattle.stage_spec.specs.declared.instance.Instance.{Instance}
 use Rattle.stage_spec.specs.Hardware.{Hardware}
 use Rattle.stage_spec.specs.Stage.{Stage, Group, members_of, lists_of, task_on, first_stage}
 use Rattle.stage_spec.specs.Effective.{is_ready, state_in, ready_members}
-use Rattle.stage_spec.specs.Verdict.{Judged, is_eligible, groups_on, judge, judge_pass, judge_passes, passes, task_lists, stands_on, verdicts, on_instances}
+use Rattle.stage_spec.specs.Verdict.{Judged, is_eligible, groups_on, judge, judge_pass, judge_passes, passes, task_lists, verdicts, on_instances}
+use Rattle.perf_base.specs.Standings.{stands_on}
 use Rattle.stage_spec.specs.Settle.{settle_all}
 use Rattle.stage_spec.specs.Commands.{command_each, enabled, disabled, targets, with_period}
 use Rattle.stage_spec.specs.Mapping.{mapped_to, output_to}

@@ -20,8 +20,8 @@ use Rattle.perf_base.specs.declared.standing.Context.TheVariants as context
 use Rattle.perf_base.specs.declared.standing.Own.{Own}
 use Rattle.stage_spec.specs.declared.instance.Instance.{Instance}
 use Rattle.stage_spec.specs.Hardware.{Hardware}
-use Rattle.stage_spec.specs.Places.{context_of}
-use Rattle.stage_spec.specs.Stage.{Stage, Group, size_of, alone, Lists, lists_of, no_groups, place_of, change_lists, change_each, change_context, is_original, is_of_family, is_copy, task_on, all_cpus}
+use Rattle.perf_base.specs.Contexts.{context_of}
+use Rattle.stage_spec.specs.Stage.{Stage, Group, group_size, alone, Lists, lists_of, no_groups, place_of, change_lists, change_each, change_context, is_original, is_of_family, is_copy, task_on, all_cpus}
 use Rattle.stage_spec.specs.Effective.{hardware_members}
 use Rattle.stage_spec.specs.Verdict.{Judged, task_lists, verdicts, with_masks}
 use Rattle.stage_spec.specs.Settle.{settle_lists, settle_task, own_verdicts, settle, settle_each, settle_all}
@@ -171,24 +171,24 @@ unfolding copies_from Each
 copies_from-in P s low high k id [] g l h = tt
 copies_from-in P s low high k id (i ∷ instances) g l h = (k i id g.0 l (omega arith), copies_from-in P s low high k (id + 1) instances g.1 (omega arith) (omega arith))
 
-copy_group-in : (P : Instance → Type 0) (s : Stage) (low high : ℕ) → CopiesIn P s low high → (id : ℕ) (g : Group) → InGroup P g → low ≤ id → id + size_of g ≤ high → InGroup P (copy_group s id g)
+copy_group-in : (P : Instance → Type 0) (s : Stage) (low high : ℕ) → CopiesIn P s low high → (id : ℕ) (g : Group) → InGroup P g → low ≤ id → id + group_size g ≤ high → InGroup P (copy_group s id g)
 copy_group-in P s low high k id g m l h =
     cons-Each P (copy_of s id g.leader) (copies_from s (id + 1) g.siblings) (k g.leader id (head-Each P g.leader g.siblings m) l (omega arith))
     (copies_from-in P s low high k (id + 1) g.siblings (tail-Each P g.leader g.siblings m) (omega arith) (omega arith))
 
-copy_groups-in : (P : Instance → Type 0) (s : Stage) (low high : ℕ) → CopiesIn P s low high → (id : ℕ) (groups : List Group) → InGroups P groups → low ≤ id → id + sum_by size_of groups ≤ high
+copy_groups-in : (P : Instance → Type 0) (s : Stage) (low high : ℕ) → CopiesIn P s low high → (id : ℕ) (groups : List Group) → InGroups P groups → low ≤ id → id + sum_by group_size groups ≤ high
     → InGroups P (copy_groups s id groups)
 unfolding copy_groups Each
 copy_groups-in P s low high k id [] m l h = tt
 copy_groups-in P s low high k id (g ∷ groups) m l h =
-    let e : sum_by size_of (g ∷ groups) ≡ size_of g + sum_by size_of groups = sum_by-cons size_of g groups in
-    (copy_group-in P s low high k id g m.0 l (omega (arith, e, h)), copy_groups-in P s low high k (id + size_of g) groups m.1 (omega arith) (omega (arith, e, h)))
+    let e : sum_by group_size (g ∷ groups) ≡ group_size g + sum_by group_size groups = sum_by-cons group_size g groups in
+    (copy_group-in P s low high k id g m.0 l (omega (arith, e, h)), copy_groups-in P s low high k (id + group_size g) groups m.1 (omega arith) (omega (arith, e, h)))
 
 copied-in : (P : Instance → Type 0) (s : Stage) (l : Lists) → CopiesIn P s s.next_id (s.next_id + new_copies l) → InLists P l → InLists P (copied s l)
 copied-in P s l k h = record {
   in_pinned = copy_groups-in P s s.next_id (s.next_id + new_copies l) k s.next_id (inherited_groups l.pinned)
       (filter-Each (InGroup P) (λ g. is_inherited g.leader.attr) l.pinned h.in_pinned) (omega arith) (omega arith);
-  in_flexible = copy_groups-in P s s.next_id (s.next_id + new_copies l) k (s.next_id + sum_by size_of (inherited_groups l.pinned)) (inherited_groups l.flexible)
+  in_flexible = copy_groups-in P s s.next_id (s.next_id + new_copies l) k (s.next_id + sum_by group_size (inherited_groups l.pinned)) (inherited_groups l.flexible)
       (filter-Each (InGroup P) (λ g. is_inherited g.leader.attr) l.flexible h.in_flexible) (omega arith) (omega arith);
 }
 

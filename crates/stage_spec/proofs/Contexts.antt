@@ -15,7 +15,8 @@ use Rattle.perf_base.specs.declared.standing.Standing.{Standing}
 use Rattle.stage_spec.specs.declared.instance.Instance.{Instance}
 use Rattle.stage_spec.specs.Hardware.{Hardware}
 use Rattle.stage_spec.specs.Stage.{Stage, Group, Lists, lists_of, no_groups, place_of, change_context, is_of_family, is_copy, task_on, all_cpus}
-use Rattle.stage_spec.specs.Verdict.{Judged, is_eligible, judge, standing_among, stands_on, task_lists, verdicts}
+use Rattle.stage_spec.specs.Verdict.{Judged, is_eligible, judge, standing_among, task_lists, verdicts}
+use Rattle.perf_base.specs.Standings.{stands_on}
 use Rattle.stage_spec.specs.Effective.{is_wholly_software}
 use Rattle.stage_spec.specs.Settle.{failed, settle_pass, settle_lists, settle_task, own_verdicts, settle, settle_each, settle_all}
 use Rattle.stage_spec.specs.Closing.{without, closed}

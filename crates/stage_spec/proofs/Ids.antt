@@ -12,10 +12,10 @@ use Rattle.perf_base.specs.declared.standing.Context.TheVariants as context
 use Rattle.perf_base.specs.declared.standing.Own.{Own}
 use Rattle.stage_spec.specs.declared.instance.Instance.{Instance}
 use Rattle.stage_spec.specs.Hardware.{Hardware}
-use Rattle.stage_spec.specs.Stage.{Stage, Group, size_of, alone, Lists, lists_of, no_groups, place_of, change_lists, change_each, change_context, is_original, task_on, first_stage}
+use Rattle.stage_spec.specs.Stage.{Stage, Group, group_size, alone, Lists, lists_of, no_groups, place_of, change_lists, change_each, change_context, is_original, task_on, first_stage}
 use Rattle.stage_spec.specs.Verdict.{task_lists}
 use Rattle.stage_spec.specs.Settle.{settle_all}
-use Rattle.stage_spec.specs.Places.{context_of}
+use Rattle.perf_base.specs.Contexts.{context_of}
 use Rattle.stage_spec.specs.Opening.{opened, placed, add_group, join_lists, new_original}
 use Rattle.stage_spec.specs.Flags.{is_pinned}
 use Rattle.stage_spec.specs.Commands.{command_each, with_period, is_reached}
@@ -134,20 +134,20 @@ unfolding copies_from Each
 copies_from-below s id n [] h = tt
 copies_from-below s id n (i ∷ instances) h = (omega arith, copies_from-below s (id + 1) n instances (omega arith))
 
-copy_group-below : (s : Stage) (id n : ℕ) (g : Group) → id + size_of g ≤ n → InGroup (IdBelow n) (copy_group s id g)
+copy_group-below : (s : Stage) (id n : ℕ) (g : Group) → id + group_size g ≤ n → InGroup (IdBelow n) (copy_group s id g)
 copy_group-below s id n g h = cons-Each (IdBelow n) (copy_of s id g.leader) (copies_from s (id + 1) g.siblings) (omega arith) (copies_from-below s (id + 1) n g.siblings (omega arith))
 
-copy_groups-below : (s : Stage) (id n : ℕ) (groups : List Group) → id + sum_by size_of groups ≤ n → InGroups (IdBelow n) (copy_groups s id groups)
+copy_groups-below : (s : Stage) (id n : ℕ) (groups : List Group) → id + sum_by group_size groups ≤ n → InGroups (IdBelow n) (copy_groups s id groups)
 unfolding copy_groups Each
 copy_groups-below s id n [] h = tt
 copy_groups-below s id n (g ∷ groups) h =
-    let e : sum_by size_of (g ∷ groups) ≡ size_of g + sum_by size_of groups = sum_by-cons size_of g groups in
-    (copy_group-below s id n g (omega (arith, e, h)), copy_groups-below s (id + size_of g) n groups (omega (arith, e, h)))
+    let e : sum_by group_size (g ∷ groups) ≡ group_size g + sum_by group_size groups = sum_by-cons group_size g groups in
+    (copy_group-below s id n g (omega (arith, e, h)), copy_groups-below s (id + group_size g) n groups (omega (arith, e, h)))
 
 copied-below : (s : Stage) (l : Lists) → InLists (IdBelow (s.next_id + new_copies l)) (copied s l)
 copied-below s l = record {
   in_pinned = copy_groups-below s s.next_id (s.next_id + new_copies l) (inherited_groups l.pinned) (omega arith);
-  in_flexible = copy_groups-below s (s.next_id + sum_by size_of (inherited_groups l.pinned)) (s.next_id + new_copies l) (inherited_groups l.flexible) (omega arith);
+  in_flexible = copy_groups-below s (s.next_id + sum_by group_size (inherited_groups l.pinned)) (s.next_id + new_copies l) (inherited_groups l.flexible) (omega arith);
 }
 
 pub forked-below : (cpu : CpuNo) (child : TaskNo) (s : Stage) → AllBelow s.next_id s → AllBelow (forked cpu child s).next_id (forked cpu child s)

@@ -10,7 +10,7 @@ use Rattle.perf_base.specs.declared.standing.Standing.TheVariants as standing
 use Rattle.stage_spec.specs.declared.instance.Instance.{Instance}
 use Rattle.stage_spec.specs.Flags.{is_inherited}
 use Rattle.stage_spec.specs.Hardware.{Hardware}
-use Rattle.stage_spec.specs.Stage.{Stage, Group, members_of, size_of, alone, Lists, groups_in, change_group, change_lists, is_original, members, all_groups, all_instances}
+use Rattle.stage_spec.specs.Stage.{Stage, Group, members_of, group_size, alone, Lists, groups_in, change_group, change_lists, is_original, members, all_groups, all_instances}
 use Rattle.stage_spec.specs.Verdict.{Judged}
 use Rattle.stage_spec.specs.Settle.{failed, settle_lists}
 use Rattle.stage_spec.specs.Opening.{add_group, joined, join_group, join_lists}
@@ -149,11 +149,11 @@ copy_groups-in : (P Q : Instance → Type 0) (s : Stage) → ((id : ℕ) (i : In
 unfolding copy_groups Each
 copy_groups-in P Q s k id [] h = tt
 copy_groups-in P Q s k id (g ∷ groups) h =
-    ((k id g.leader h.0.0, copies_from-in P Q s k (id + 1) g.siblings h.0.1), copy_groups-in P Q s k (id + size_of g) groups h.1)
+    ((k id g.leader h.0.0, copies_from-in P Q s k (id + 1) g.siblings h.0.1), copy_groups-in P Q s k (id + group_size g) groups h.1)
 
 pub copied-in : (P Q : Instance → Type 0) (s : Stage) → ((id : ℕ) (i : Instance) → P i → Q (copy_of s id i)) → (l : Lists) → InLists P l → InLists Q (copied s l)
 copied-in P Q s k l h = record {
   in_pinned = copy_groups-in P Q s k s.next_id (inherited_groups l.pinned) (filter-Each (InGroup P) (λ g. is_inherited g.leader.attr) l.pinned h.in_pinned);
-  in_flexible = copy_groups-in P Q s k (s.next_id + sum_by size_of (inherited_groups l.pinned)) (inherited_groups l.flexible)
+  in_flexible = copy_groups-in P Q s k (s.next_id + sum_by group_size (inherited_groups l.pinned)) (inherited_groups l.flexible)
       (filter-Each (InGroup P) (λ g. is_inherited g.leader.attr) l.flexible h.in_flexible);
 }

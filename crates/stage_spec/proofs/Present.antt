@@ -15,7 +15,8 @@ use Rattle.stage_spec.specs.declared.instance.Instance.{Instance}
 use Rattle.stage_spec.specs.Hardware.{Hardware}
 use Rattle.stage_spec.specs.Stage.{Stage, Group, members_of, lists_of, groups_in, members, is_of_family, task_on}
 use Rattle.stage_spec.specs.Effective.{is_ready, state_in, ready_members}
-use Rattle.stage_spec.specs.Verdict.{Judged, is_eligible, groups_on, judge, judge_pass, judge_passes, passes, task_lists, stands_on, verdicts, on_instances}
+use Rattle.stage_spec.specs.Verdict.{Judged, is_eligible, groups_on, judge, judge_pass, judge_passes, passes, task_lists, verdicts, on_instances}
+use Rattle.perf_base.specs.Standings.{stands_on}
 use Rattle.stage_spec.specs.History.{Step, CpuStep, ToolStep, SeenStep}
 use Rattle.stage_spec.specs.Shares.{ready_instances}
 use Rattle.stage_spec.specs.Families.{leaving, leaving_by}

@@ -12,7 +12,8 @@ use Rattle.perf_base.specs.declared.standing.Context.{Context}
 use Rattle.perf_base.specs.declared.standing.Context.TheVariants as context
 use Rattle.stage_spec.specs.Hardware.{Hardware}
 use Rattle.stage_spec.specs.Stage.{Stage, Group, Lists, lists_of, no_groups, place_of, task_on, change_context}
-use Rattle.stage_spec.specs.Verdict.{Judged, is_eligible, groups_on, judge_pass, judge_passes, passes, task_lists, stands_on, verdicts}
+use Rattle.stage_spec.specs.Verdict.{Judged, is_eligible, groups_on, judge_pass, judge_passes, passes, task_lists, verdicts}
+use Rattle.perf_base.specs.Standings.{stands_on}
 use Rattle.stage_spec.specs.Settle.{settle_pass, settle_lists, settle_task, own_verdicts, settle, SettleLaw, SettledVerdictsLaw, VerdictsLaw}
 use Rattle.stage_spec.proofs.Settling.{kept, going, groups_on-append, groups_on-kept, judge_pass-kept, judge_pass-same, eligible-settled, settle_pass-again}
 

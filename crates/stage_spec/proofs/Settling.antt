@@ -15,7 +15,8 @@ use Rattle.stage_spec.specs.Effective.{is_wholly_software, is_exclusive_group, c
 use Rattle.stage_spec.specs.Rules.{ruling_of}
 use Rattle.stage_spec.specs.Fits.{fits}
 use Rattle.stage_spec.specs.Tight.{masks_of, tight_set, shortest_unfit}
-use Rattle.stage_spec.specs.Verdict.{Judged, is_eligible, groups_on, first_named, first_refused, with_masks, by_counters, by_ruling, judge, judge_pass, stands_on, stands_refused}
+use Rattle.stage_spec.specs.Verdict.{Judged, is_eligible, groups_on, first_named, first_refused, with_masks, by_counters, by_ruling, judge, judge_pass}
+use Rattle.perf_base.specs.Standings.{stands_on, stands_refused}
 use Rattle.stage_spec.specs.Settle.{failed, settle_pass}
 
 abbrev pub judged : Group → Standing → Judged

@@ -22,7 +22,7 @@ use Rattle.stage_spec.specs.Verdict.{task_lists}
 use Rattle.stage_spec.specs.Settle.{settle, settle_all}
 use Rattle.stage_spec.specs.Opening.{opened, placed, add_group, join_lists, new_original}
 use Rattle.stage_spec.specs.Flags.{is_pinned}
-use Rattle.stage_spec.specs.Places.{context_of}
+use Rattle.perf_base.specs.Contexts.{context_of}
 use Rattle.stage_spec.specs.Commands.{command_each, with_period}
 use Rattle.stage_spec.specs.Mapping.{mapped_to, output_to}
 use Rattle.stage_spec.specs.Closing.{without, closed}

@@ -10,7 +10,7 @@ use Rattle.perf_base.specs.declared.standing.Own.TheVariants as own
 use Rattle.perf_base.specs.declared.reasons.Reason.{Reason}
 use Rattle.perf_base.specs.declared.reasons.Reason.TheVariants as reason
 use Rattle.stage_spec.specs.declared.instance.Instance.{Instance}
-use Rattle.stage_spec.specs.Stage.{Stage, Group, size_of, is_idle, Lists, original_of, task_on, status_of, fresh_task, was_used, live_copies, set_status, change_context}
+use Rattle.stage_spec.specs.Stage.{Stage, Group, group_size, is_idle, Lists, original_of, task_on, status_of, fresh_task, was_used, live_copies, set_status, change_context}
 use Rattle.stage_spec.specs.Effective.{is_ready}
 use Rattle.stage_spec.specs.Verdict.{task_lists}
 use Rattle.stage_spec.specs.Flags.{is_inherited}
@@ -51,18 +51,18 @@ copy_group s id g = record { leader = copy_of s id g.leader; siblings = copies_f
 
 unfoldable pub copy_groups : Stage → ℕ → List Group → List Group
 copy_groups s id [] = []
-copy_groups s id (g ∷ groups) = copy_group s id g ∷ copy_groups s (id + size_of g) groups
+copy_groups s id (g ∷ groups) = copy_group s id g ∷ copy_groups s (id + group_size g) groups
 
 -- the groups that a child gets: the pinned ones take the first ids
 abbrev pub copied : Stage → Lists → Lists
 copied s l = record {
   pinned = copy_groups s s.next_id (inherited_groups l.pinned);
-  flexible = copy_groups s (s.next_id + sum_by size_of (inherited_groups l.pinned)) (inherited_groups l.flexible);
+  flexible = copy_groups s (s.next_id + sum_by group_size (inherited_groups l.pinned)) (inherited_groups l.flexible);
 }
 
 -- how many copies a fork makes
 abbrev pub new_copies : Lists → ℕ
-new_copies l = sum_by size_of (inherited_groups l.pinned) + sum_by size_of (inherited_groups l.flexible)
+new_copies l = sum_by group_size (inherited_groups l.pinned) + sum_by group_size (inherited_groups l.flexible)
 
 -- no task is on; the child's number was used; there would be more than 4,096 copies
 abbrev pub fork_refusal : Stage → CpuNo → TaskNo → Option Reason

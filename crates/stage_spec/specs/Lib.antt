@@ -28,5 +28,6 @@ pub mod Shares
 pub mod Stage
 pub mod Sums
 pub mod Switching
+pub mod Tables
 pub mod Tight
 pub mod Verdict

@@ -16,9 +16,10 @@ use Rattle.perf_base.specs.declared.reasons.Reason.TheVariants as reason
 use Rattle.stage_spec.specs.declared.instance.Instance.{Instance}
 use Rattle.stage_spec.specs.Flags.{is_disabled, is_inherited, is_pinned, is_exclusive}
 use Rattle.stage_spec.specs.Hardware.{Hardware, pmu_of_kind, is_pmu, is_counted_on}
-use Rattle.stage_spec.specs.Places.{is_same_task, is_same_cpu, context_of}
+use Rattle.stage_spec.specs.Places.{is_same_task, is_same_cpu}
+use Rattle.perf_base.specs.Contexts.{context_of}
 use Rattle.stage_spec.specs.Refusals.{first_of, holds_of}
-use Rattle.stage_spec.specs.Stage.{Stage, Group, members_of, size_of, alone, Lists, is_original, is_open, original_of, group_of, status_of, is_live, change_context}
+use Rattle.stage_spec.specs.Stage.{Stage, Group, members_of, group_size, alone, Lists, is_original, is_open, original_of, group_of, status_of, is_live, change_context}
 use Rattle.stage_spec.specs.Effective.{hardware_members, name_of}
 use Rattle.stage_spec.specs.Verdict.{with_masks}
 use Rattle.stage_spec.specs.Fits.{fits}
@@ -75,7 +76,7 @@ group_is_of_other_pmu hw s a leader = holds_of (λ g. list_any (λ i. is_other_p
 
 -- the group has eight members (own)
 abbrev pub group_is_full : Stage → Option EventNo → Bool
-group_is_full s leader = holds_of (λ g. not (nat_lt (size_of g) 8)) (group_led s leader)
+group_is_full s leader = holds_of (λ g. not (nat_lt (group_size g) 8)) (group_led s leader)
 
 -- the reasons before the last in their order, each with whether it holds
 abbrev pub open_faults : Hardware → Stage → EventNo → Attr → Option EventNo → List (Reason × Bool)

@@ -1,4 +1,4 @@
--- Where an event counts: its task, its processor and its context. After pid and cpu of perf_event_open(2).
+-- Where an event counts: its task and its processor. After pid and cpu of perf_event_open(2).
 use Rattle.std.specs.Prelude.{◌==◌, Bool, true, false}
 use Rattle.perf_base.specs.declared.numbers.CpuNo.{CpuNo}
 use Rattle.perf_base.specs.declared.attr.Attr.{Attr}
@@ -6,8 +6,6 @@ use Rattle.perf_base.specs.declared.attr.TaskSel.{TaskSel}
 use Rattle.perf_base.specs.declared.attr.TaskSel.TheVariants as tasks
 use Rattle.perf_base.specs.declared.attr.CpuSel.{CpuSel}
 use Rattle.perf_base.specs.declared.attr.CpuSel.TheVariants as cpus
-use Rattle.perf_base.specs.declared.standing.Context.{Context}
-use Rattle.perf_base.specs.declared.standing.Context.TheVariants as context
 
 -- whether an event counts all tasks, as pid -1 does, and whether it counts on any processor, as cpu -1 does
 abbrev pub is_all_tasks : TaskSel → Bool
@@ -35,12 +33,3 @@ is_same_cpu (cpus.One cpu) (cpus.One other) = cpu.0 == other.0
 abbrev pub may_count_on : CpuNo → CpuSel → Bool
 may_count_on cpu cpus.Any = true
 may_count_on cpu (cpus.One other) = other.0 == cpu.0
-
--- the context that an event counts: its task's, or its processor's
-abbrev pub context_by : TaskSel → CpuSel → Context
-context_by (tasks.One task) cpu = context.Task task
-context_by tasks.All (cpus.One cpu) = context.Processor cpu
-context_by tasks.All cpus.Any = context.Processor (record { 0 = 0 })
-
-abbrev pub context_of : Attr → Context
-context_of a = context_by a.task a.cpu

@@ -1,4 +1,4 @@
--- The words of a read, after perf_event_open(2), __perf_read_one and perf_read_group of kernel/events/core.c: the word
+-- The words of a read, after perf_event_open(2), perf_read_one and perf_read_group of kernel/events/core.c: the word
 -- of lost records comes last, and an event in error gives no word. That a sibling under a leader in error gives none
 -- either is this project's own profile.
 use Rattle.std.specs.Prelude.{ℕ, ◌*◌, ◌==◌, nat_lt, Bool, true, false, not, bit_and, List, [], ◌∷◌, ◌++◌, length, flat_map, Option, Some, None, if◌then◌else◌}
@@ -9,7 +9,7 @@ use Rattle.perf_base.specs.declared.reasons.Reason.{Reason}
 use Rattle.perf_base.specs.declared.reasons.Reason.TheVariants as reason
 use Rattle.perf_base.specs.declared.reply.Sums.{Sums}
 use Rattle.stage_spec.specs.declared.instance.Instance.{Instance}
-use Rattle.stage_spec.specs.Stage.{Stage, Group, members_of, size_of, is_open, original_of, group_of}
+use Rattle.stage_spec.specs.Stage.{Stage, Group, members_of, group_size, is_open, original_of, group_of}
 use Rattle.stage_spec.specs.Effective.{state_in}
 use Rattle.stage_spec.specs.Refusals.{first_of, holds_of}
 
@@ -36,7 +36,7 @@ words_of_member format sums id lost = sums.count ∷ marks_of format id lost
 
 -- the words of a group: the number of members, the leader's times, then each member in the order in which they joined
 abbrev pub words_of_group : ℕ → (EventNo → Sums) → (EventNo → ℕ) → Group → List ℕ
-words_of_group format sums lost g = size_of g ∷ times_of format (sums g.leader.event)
+words_of_group format sums lost g = group_size g ∷ times_of format (sums g.leader.event)
     ++ flat_map (λ i. words_of_member format (sums i.event) i.id (lost i.event)) (members_of g)
 
 -- the words of a read of an event in a group, where it is not in error; the format is its own

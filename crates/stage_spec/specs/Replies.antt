@@ -15,6 +15,7 @@ use Rattle.perf_base.specs.declared.standing.Standing.TheVariants as standing
 use Rattle.perf_base.specs.declared.standing.Why.{Why}
 use Rattle.perf_base.specs.declared.standing.Why.TheVariants as why
 use Rattle.perf_base.specs.declared.reasons.Reason.{Reason}
+use Rattle.perf_base.specs.declared.reply.Answer.{Answer}
 use Rattle.perf_base.specs.declared.reply.Reply.{Reply}
 use Rattle.perf_base.specs.declared.reply.Reply.TheVariants as reply
 use Rattle.perf_base.specs.declared.reply.Sums.{Sums}
@@ -29,7 +30,7 @@ use Rattle.stage_spec.specs.Stage.{Stage, Group, original_of, group_of, cpu_of}
 use Rattle.stage_spec.specs.Effective.{is_hardware, state_in}
 use Rattle.stage_spec.specs.Verdict.{on_instances, standing_of}
 use Rattle.stage_spec.specs.Fits.{IsAssignment}
-use Rattle.stage_spec.specs.Places.{context_of}
+use Rattle.perf_base.specs.Contexts.{context_of}
 use Rattle.stage_spec.specs.Reading.{read_words}
 use Rattle.stage_spec.specs.Order.{done_by_cpu, done_by_tool}
 use Rattle.stage_spec.specs.History.{Step, CpuStep, ToolStep, SeenStep, cpu_refusal, tool_refusal, stage_after, history, opening_stage}
@@ -75,18 +76,18 @@ pub record IsSeats (hw : Hardware) (s : Stage) (cpu : CpuNo) (seats : List (Even
   pub counters : IsAssignment (map (λ i. mask_of hw i.attr.kind) (seated hw s cpu)) (map (λ seat. seat.1) seats)
 
 -- The answer to a line that is not refused, given what each family has counted and lost. All but SEATS have one.
-abbrev pub IsDone : Hardware → Stage → (EventNo → Sums) → (EventNo → ℕ) → ToolLine → Reply → Type 0
-IsDone hw s sums lost (tool_line.Open slot attr leader) r = r ≡ reply.Ok
-IsDone hw s sums lost (tool_line.Enable event group) r = r ≡ reply.Ok
-IsDone hw s sums lost (tool_line.Disable event group) r = r ≡ reply.Ok
-IsDone hw s sums lost (tool_line.Reset event group) r = r ≡ reply.Ok
-IsDone hw s sums lost (tool_line.Period event period) r = r ≡ reply.Ok
-IsDone hw s sums lost (tool_line.Read event size) r = r ≡ reply.Read (read_words sums lost s event)
-IsDone hw s sums lost (tool_line.Map event ring) r = r ≡ reply.Ok
-IsDone hw s sums lost (tool_line.Output event target) r = r ≡ reply.Ok
-IsDone hw s sums lost (tool_line.Close event) r = r ≡ reply.Ok
-IsDone hw s sums lost (tool_line.Why event) r = r ≡ reply.Why (why_of hw s event)
-IsDone hw s sums lost (tool_line.Seats cpu) r = (seats : List (EventNo × ℕ)) × (r ≡ reply.Seats seats) × IsSeats hw s cpu seats
+abbrev pub IsToolReply : Hardware → Stage → (EventNo → Sums) → (EventNo → ℕ) → ToolLine → Reply → Type 0
+IsToolReply hw s sums lost (tool_line.Open slot attr leader) r = r ≡ reply.Ok
+IsToolReply hw s sums lost (tool_line.Enable event group) r = r ≡ reply.Ok
+IsToolReply hw s sums lost (tool_line.Disable event group) r = r ≡ reply.Ok
+IsToolReply hw s sums lost (tool_line.Reset event group) r = r ≡ reply.Ok
+IsToolReply hw s sums lost (tool_line.Period event period) r = r ≡ reply.Ok
+IsToolReply hw s sums lost (tool_line.Read event size) r = r ≡ reply.Read (read_words sums lost s event)
+IsToolReply hw s sums lost (tool_line.Map event ring) r = r ≡ reply.Ok
+IsToolReply hw s sums lost (tool_line.Output event target) r = r ≡ reply.Ok
+IsToolReply hw s sums lost (tool_line.Close event) r = r ≡ reply.Ok
+IsToolReply hw s sums lost (tool_line.Why event) r = r ≡ reply.Why (why_of hw s event)
+IsToolReply hw s sums lost (tool_line.Seats cpu) r = (seats : List (EventNo × ℕ)) × (r ≡ reply.Seats seats) × IsSeats hw s cpu seats
 
 -- a refused line answers its reason
 abbrev pub UnlessRefused : Option Reason → Reply → Type 0 → Type 0
@@ -96,7 +97,7 @@ UnlessRefused None r Done = Done
 -- The answer to a step at a stage, given what each family has counted and lost. A look at a tail has none.
 abbrev pub IsAnswerAt : Hardware → Stage → (EventNo → Sums) → (EventNo → ℕ) → Step → Reply → Type 0
 IsAnswerAt hw s sums lost (CpuStep cpu line) r = UnlessRefused (cpu_refusal s cpu line) r (r ≡ reply.Ok)
-IsAnswerAt hw s sums lost (ToolStep line) r = UnlessRefused (tool_refusal hw s line) r (IsDone hw s sums lost line r)
+IsAnswerAt hw s sums lost (ToolStep line) r = UnlessRefused (tool_refusal hw s line) r (IsToolReply hw s sums lost line r)
 IsAnswerAt hw s sums lost (SeenStep ring place) r = ⊥
 
 -- the answer to a step after some steps, the first of them at a stage, given how many records of each family were lost
@@ -112,13 +113,6 @@ AreReplies hw s lost before (SeenStep ring place ∷ steps) replies = AreReplies
 AreReplies hw s lost before (x ∷ steps) [] = ⊥
 AreReplies hw s lost before (x ∷ steps) (r ∷ replies) = IsReply hw s before (lost before) x r × AreReplies hw s lost (before ++ x ∷ []) steps replies
 
--- An answer as it is kept: whose line it answers, a processor's or a tool's, the line's number among that actor's
--- lines, from 0, and the reply.
-pub record Answered : Type 0 where
-  pub actor : Actor
-  pub number : ℕ
-  pub reply : Reply
-
 -- whose line an act does, and the line's number, which is the count of that actor's earlier acts; a look does none
 abbrev pub lines_of_act : (before : List Act) → Act → List (Actor × ℕ)
 lines_of_act before (act.Processor cpu) = (actor.Processor cpu, done_by_cpu cpu before) ∷ []
@@ -131,10 +125,10 @@ lines_from before [] = []
 lines_from before (a ∷ acts) = lines_of_act before a ++ lines_from (before ++ a ∷ []) acts
 
 -- The answers to the acts of an order of a script: one to each line that is done, in their order.
-pub record AnswerOrder (s : Scripted) (lost : List Step → EventNo → ℕ) (order : List Act) (answers : List Answered) : Type 0 where
+pub record AnswerOrder (s : Scripted) (lost : List Step → EventNo → ℕ) (order : List Act) (answers : List Answer) : Type 0 where
   pub lines : map (λ a. (a.actor, a.number)) answers ≡ lines_from [] order
   pub replies : AreReplies (hardware_of s) (opening_stage s) lost [] (history s order) (map (λ a. a.reply) answers)
 
 -- replies as answers to the lines that an order does
-abbrev pub answers_to : (order : List Act) → List Reply → List Answered
+abbrev pub answers_to : (order : List Act) → List Reply → List Answer
 answers_to order replies = map (λ a. record { actor = a.0.0; number = a.0.1; reply = a.1 }) (zip (lines_from [] order) replies)

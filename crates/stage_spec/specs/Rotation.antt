@@ -8,7 +8,8 @@ use Rattle.perf_base.specs.declared.standing.Context.TheVariants as context
 use Rattle.stage_spec.specs.Hardware.{Hardware}
 use Rattle.stage_spec.specs.Stage.{Stage, Group, Lists, task_on, change_context}
 use Rattle.stage_spec.specs.Effective.{is_wholly_software}
-use Rattle.stage_spec.specs.Verdict.{Judged, is_eligible, stands_on, standing_among, verdicts}
+use Rattle.stage_spec.specs.Verdict.{Judged, is_eligible, standing_among, verdicts}
+use Rattle.perf_base.specs.Standings.{stands_on}
 
 -- the first group that passes a test goes last
 abbrev pub first_goes_last : (Group → Bool) → List Group → List Group

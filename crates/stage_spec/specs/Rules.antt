@@ -1,7 +1,7 @@
 -- The rules that decide on a group before its counters are looked at, after group_can_go_on and merge_sched_in of
 -- kernel/events/core.c, where can_add_hw refuses every later hardware group of a pass once one was refused. The names
--- that a refusal carries are this project's own profile, and so is that an exclusive group excludes all hardware groups
--- of the processor, not only those of its own context and list.
+-- that a refusal carries are this project's own profile, and so is that an exclusive group looks at all hardware groups
+-- that are on, not only at those of its own context and list.
 use Rattle.std.specs.Prelude.{Bool, true, false, Option, Some, None}
 use Rattle.perf_base.specs.declared.numbers.EventNo.{EventNo}
 use Rattle.perf_base.specs.declared.standing.Rule.{Rule}

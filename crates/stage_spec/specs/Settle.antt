@@ -9,7 +9,8 @@ use Rattle.perf_base.specs.declared.standing.Standing.{Standing}
 use Rattle.perf_base.specs.declared.standing.Standing.TheVariants as standing
 use Rattle.stage_spec.specs.Hardware.{Hardware}
 use Rattle.stage_spec.specs.Stage.{Stage, Group, Lists, lists_of, task_on, change_context, all_cpus}
-use Rattle.stage_spec.specs.Verdict.{Judged, is_eligible, judge, judge_pass, judge_passes, passes, stands_on, verdicts}
+use Rattle.stage_spec.specs.Verdict.{Judged, is_eligible, judge, judge_pass, judge_passes, passes, verdicts}
+use Rattle.perf_base.specs.Standings.{stands_on}
 
 -- a refused group has its leader in error, with the cause
 abbrev pub failed : Standing → Group → Group

@@ -24,8 +24,8 @@ pub record Group : Type 0 where
 abbrev pub members_of : Group → List Instance
 members_of g = g.leader ∷ g.siblings
 
-abbrev pub size_of : Group → ℕ
-size_of g = length (members_of g)
+abbrev pub group_size : Group → ℕ
+group_size g = length (members_of g)
 
 abbrev pub alone : Instance → Group
 alone i = record { leader = i; siblings = [] }

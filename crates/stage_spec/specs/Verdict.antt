@@ -9,6 +9,7 @@ use Rattle.perf_base.specs.declared.standing.Context.{Context}
 use Rattle.perf_base.specs.declared.standing.Context.TheVariants as context
 use Rattle.perf_base.specs.declared.standing.Cause.TheVariants as cause
 use Rattle.perf_base.specs.declared.standing.Standing.{Standing}
+use Rattle.perf_base.specs.Standings.{stands_on, stands_refused}
 use Rattle.perf_base.specs.declared.standing.Standing.TheVariants as standing
 use Rattle.stage_spec.specs.declared.instance.Instance.{Instance}
 use Rattle.stage_spec.specs.Hardware.{Hardware, mask_of, is_counted_on}
@@ -41,16 +42,6 @@ passes s cpu =
 pub record Judged : Type 0 where
   pub group : Group
   pub standing : Standing
-
-abbrev pub stands_on : Standing → Bool
-stands_on standing.Out = false
-stands_on standing.On = true
-stands_on (standing.Refused cause) = false
-
-abbrev pub stands_refused : Standing → Bool
-stands_refused standing.Out = false
-stands_refused standing.On = false
-stands_refused (standing.Refused cause) = true
 
 -- the groups that are on, the name of the first that passes a test, and the first that was refused
 abbrev pub groups_on : List Judged → List Group

@@ -9,7 +9,7 @@ use Rattle.perf_base.specs.declared.reply.Sums.{Sums}
 use Rattle.perf_base.specs.Scripts.{Scripted}
 use Rattle.stage_spec.specs.Numbers.{numbers_below}
 use Rattle.stage_spec.specs.Stage.{is_open}
-use Rattle.machine.specs.Events.{family_if_open, family_in, stage_in}
+use Rattle.stage_spec.specs.Tables.{stage_in, family_in, family_if_open}
 use Rattle.stat_table.specs.declared.row.StatRow.{StatRow}
 use Rattle.stat_rows.specs.Rows.{open_below, row_of, slots_below}
 

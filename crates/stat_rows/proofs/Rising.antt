@@ -11,7 +11,7 @@ use Rattle.perf_base.specs.declared.numbers.EventNo.{EventNo}
 use Rattle.perf_base.specs.Scripts.{Scripted}
 use Rattle.stage_spec.specs.Stage.{is_open}
 use Rattle.stat_table.specs.declared.row.StatRow.{StatRow}
-use Rattle.machine.specs.Events.{stage_in}
+use Rattle.stage_spec.specs.Tables.{stage_in}
 use Rattle.stat_rows.specs.Laws.{CountLaw, RisingLaw}
 use Rattle.stat_rows.specs.Rows.{open_below, row_of, slots_below}
 use Rattle.stat_rows.proofs.Filling.{slot, slots-more}

@@ -13,7 +13,7 @@ use Rattle.stage_laws.specs.Sound.{IsSound}
 use Rattle.stage_laws.proofs.BoundsWhole.{line_sound}
 use Rattle.stage_laws.proofs.Sound.{first_sound}
 use Rattle.ring_laws.proofs.Orders.{within}
-use Rattle.machine.specs.Events.{stage_in}
+use Rattle.stage_spec.specs.Tables.{stage_in}
 
 steps-sound : (l : Limits) (hw : Hardware) (s : Stage) (steps : List Step) → IsMachine l hw → All (IsLineWithin l) steps → IsSound hw s → IsSound hw (stage_after hw s steps)
 unfolding stage_after

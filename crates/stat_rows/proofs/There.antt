@@ -12,7 +12,7 @@ use Rattle.stage_spec.specs.Hardware.{hardware_of}
 use Rattle.stage_spec.specs.Stage.{all_instances, is_open, is_original}
 use Rattle.stage_spec.proofs.Present.{Found, any-found, each_at}
 use Rattle.stage_laws.specs.Sound.{IsSound}
-use Rattle.machine.specs.Events.{stage_in}
+use Rattle.stage_spec.specs.Tables.{stage_in}
 use Rattle.stat_rows.specs.Laws.{EachLaw}
 use Rattle.stat_rows.specs.Rows.{open_below, row_of, slots_below}
 use Rattle.stat_rows.proofs.Filling.{slot, slots-more}

@@ -4,7 +4,7 @@ use Rattle.perf_base.specs.declared.acts.Act.{Act}
 use Rattle.perf_base.specs.declared.numbers.EventNo.{EventNo}
 use Rattle.perf_base.specs.Scripts.{IsCovered, IsScript, Scripted}
 use Rattle.stage_spec.specs.Stage.{is_open}
-use Rattle.machine.specs.Events.{stage_in}
+use Rattle.stage_spec.specs.Tables.{stage_in}
 use Rattle.stat_rows.specs.Rows.{row_of, rows_of, slots_below}
 
 -- The slots of the rows rise.

@@ -8,7 +8,7 @@ use Rattle.perf_base.specs.Scripts.{Scripted}
 use Rattle.script_spec.specs.Printing.{kind_name}
 use Rattle.stage_spec.specs.Numbers.{numbers_below}
 use Rattle.stage_spec.specs.Stage.{Stage, is_open}
-use Rattle.machine.specs.Events.{family_in, in_error, kind_in, stage_in}
+use Rattle.stage_spec.specs.Tables.{stage_in, family_in, in_error, kind_in}
 use Rattle.stat_table.specs.declared.row.StatRow.{StatRow}
 
 -- The name of what an event counts, as the script writes it. An event that is not open has none.

@@ -5,7 +5,8 @@ ghost use Rattle.perf_base.specs.declared.acts.Act.{Act};
 ghost use Rattle.perf_base.specs.Scripts.{IsCovered, Scripted};
 ghost use Rattle.script_spec.specs.Printing.{kind_name};
 ghost use Rattle.stage_spec.specs.Stage.{is_open};
-ghost use Rattle.machine.specs.Events.{HasEvent, family_in, stage_in};
+ghost use Rattle.machine.specs.Events.{HasEvent};
+ghost use Rattle.stage_spec.specs.Tables.{stage_in, family_in};
 ghost use Rattle.machine.specs.Leading.{IsOf, LeadTo};
 ghost use Rattle.stat_rows.specs.Rows.{row_of, rows_of};
 
@@ -26,10 +27,7 @@ fn name_of(script: &Script, kind: Kind) -> Name
                 Name::new()
             }
         }
-        Kind::ContextSwitches => Name::from_slice(b"context-switches"),
-        Kind::CpuMigrations => Name::from_slice(b"cpu-migrations"),
-        Kind::TaskClock => Name::from_slice(b"task-clock"),
-        Kind::Dummy => Name::from_slice(b"dummy"),
+        _ => Name::from_slice(kind.software_name()),
     }
 }
 
@@ -42,8 +40,7 @@ fn row(machine: &Machine, script: &Script, event: EventNo, sums: Sums) -> StatRo
     ensures row { (acts : List Act) → LeadTo script.now acts machine.now → result ≡ row_of script.now acts event }
     ensures small { result.sums.running < 2 ^ 44 }
 {
-    // A reader tells what always holds of a script.
-    let _kinds = script.kinds();
+    script.use_invariant();
     StatRow {
         event,
         name: name_of(script, machine.kind(event)),

@@ -13,7 +13,8 @@ use Rattle.perf_base.specs.declared.standing.Context.TheVariants as context
 use Rattle.stage_spec.specs.Hardware.{Hardware}
 use Rattle.stage_spec.specs.Rotation.{first_goes_last, waits, takes_turns, turned, turn_lists}
 use Rattle.stage_spec.specs.Stage.{Group, Lists, lists_of, place_of, change_context}
-use Rattle.stage_spec.specs.Verdict.{Judged, is_eligible, stands_on, verdicts, standing_of}
+use Rattle.stage_spec.specs.Verdict.{Judged, is_eligible, verdicts, standing_of}
+use Rattle.perf_base.specs.Standings.{stands_on}
 use Rattle.stage_laws.specs.Narrowing.{has_context}
 use Rattle.stage_laws.proofs.Leaders.{find-first, find-later}
 use Rattle.world_spec.specs.Changes.{all_but}

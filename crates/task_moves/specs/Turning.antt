@@ -9,7 +9,8 @@ use Rattle.perf_base.specs.declared.standing.Context.{Context}
 use Rattle.perf_base.specs.declared.standing.Context.TheVariants as context
 use Rattle.stage_spec.specs.Rotation.{takes_turns}
 use Rattle.stage_spec.specs.Stage.{task_on}
-use Rattle.stage_spec.specs.Verdict.{is_eligible, stands_on}
+use Rattle.stage_spec.specs.Verdict.{is_eligible}
+use Rattle.perf_base.specs.Standings.{stands_on}
 use Rattle.world_spec.specs.Changes.{to_last, with_leaders}
 use Rattle.world_spec.specs.StageOf.{group_at, stage_of}
 use Rattle.world_spec.specs.Value.{World, Leaders, standing_at}

@@ -7,7 +7,6 @@ ghost use Rattle.perf_base.specs.declared.numbers.TaskNo.{TaskNo as Task};
 ghost use Rattle.perf_base.specs.declared.standing.Context.{Context as Place};
 ghost use Rattle.stage_spec.specs.Rotation as rotation;
 ghost use Rattle.stage_spec.specs.Stage.{place_of, task_on};
-ghost use Rattle.stage_spec.specs.Verdict.{stands_on};
 ghost use Rattle.stage_laws.specs.Narrowing.{has_context};
 ghost use Rattle.stage_laws.specs.Turns.{is_waiting, IsTurned, flexible_of};
 ghost use Rattle.world_spec.specs.Kept.{leads, post_at};
@@ -17,7 +16,7 @@ ghost use Rattle.world_spec.specs.Value.{leaders_of};
 ghost use Rattle.perf_world.specs.Seen.{IsWorld};
 ghost use Rattle.task_moves.specs.Turning.{turn_in, turn_of_task, turned_world, turning, waits_there};
 
-use perf_base::{Context, CpuNo, Key, Standing, TaskNo};
+use perf_base::{Context, CpuNo, Key, TaskNo};
 use perf_world::World;
 
 /// Whether a group takes turns on a processor: it is eligible there, and a hardware group.
@@ -29,22 +28,13 @@ fn takes_turns(world: &World, cpu: CpuNo, leader: Key) -> bool
     world.eligible(cpu, leader) && !world.is_wholly_software(leader)
 }
 
-fn is_on(standing: &Standing) -> bool
-    ensures { result ≡ stands_on standing.now }
-{
-    match standing {
-        Standing::On => true,
-        Standing::Out | Standing::Refused(_) => false,
-    }
-}
-
 /// Whether a group waits on a processor: it is eligible there, and not on.
 fn waits(world: &World, cpu: CpuNo, leader: Key) -> bool
     requires cpu { cpu.0 < length world.now.quiet.running }
     requires leads { leads (post_at world.now) leader ≡ true }
     ensures { result ≡ waits_there world.now cpu leader }
 {
-    world.eligible(cpu, leader) && !is_on(&world.standing(leader))
+    world.eligible(cpu, leader) && !world.standing(leader).is_on()
 }
 
 /// Whether some of the groups waits.
@@ -118,7 +108,7 @@ fn running(world: &World, cpu: CpuNo) -> Option<TaskNo>
     ensures cpus { length world.now.quiet.running ≤ 8 }
     ensures kept { IsWorld world.now }
 {
-    let _cpus = world.pmus().cpus();
+    world.pmus().use_invariant();
     world.task_on(cpu)
 }
 

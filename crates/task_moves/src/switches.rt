@@ -115,7 +115,7 @@ fn migrates(world: &World, cpu: CpuNo, to: Option<TaskNo>) -> bool
     ensures cpus { length world.now.quiet.running ≤ 8 }
     ensures kept { IsWorld world.now }
 {
-    let _cpus = world.pmus().cpus();
+    world.pmus().use_invariant();
     match to {
         Some(task) => was_elsewhere(world, cpu, task),
         None => false,

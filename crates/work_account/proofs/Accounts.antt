@@ -18,7 +18,7 @@ use Rattle.ring_spec.specs.Account as account
 use Rattle.ring_spec.specs.Records.{IsRecord}
 use Rattle.ring_spec.specs.Rings.{is_to, sends_to}
 use Rattle.ring_spec.specs.Running.{RingAccount, ring_after, losses_on, more_lost}
-use Rattle.ring_spec.specs.Sending.{Sent}
+use Rattle.ring_spec.specs.Sending.{SentSample}
 use Rattle.ring_words.specs.Ends.{Ring}
 use Rattle.sample_ring.specs.OutEnds.{OutEnd, HasAccount}
 use Rattle.sample_ring.specs.Sends.{Request, request_of, records_for, sent_to, written_to, lost_to, fits}
@@ -26,13 +26,13 @@ use Rattle.sample_ring.proofs.Sending.{account_sent, lawful-both}
 use Rattle.work_account.specs.Ends.{Ends, sent_among, loses_among, count_lost, send_next, send_all, IsAccountOf, AreAccounts, HaveAccounts}
 
 -- a sample has at most 8 fields, and a trailer at most 6 words
-abbrev pub IsSized : Sent → Type 0
+abbrev pub IsSized : SentSample → Type 0
 IsSized sent = (length sent.body ≤ 8) × (length sent.trailer ≤ 6)
 
-abbrev pub AreSized : List (RingNo × Sent) → Type 0
-AreSized sents = Each (λ (sent : RingNo × Sent). IsSized sent.1) sents
+abbrev pub AreSized : List (RingNo × SentSample) → Type 0
+AreSized sents = Each (λ (sent : RingNo × SentSample). IsSized sent.1) sents
 
-lawful : (o : OutEnd) (s : Sent) → IsSized s → All IsRecord (records_for o (request_of s))
+lawful : (o : OutEnd) (s : SentSample) → IsSized s → All IsRecord (records_for o (request_of s))
 lawful o s z = lawful-both o.pending _ _ z.1 z.0
 
 -- a send leaves an end's ring, and nothing put
@@ -51,13 +51,13 @@ put-kept o q = one (fits o q)
     one false = refl
 
 -- an account once a record was sent to a ring, and the event whose record is lost then
-abbrev after_one : RingNo → Sent → RingAccount → RingAccount
+abbrev after_one : RingNo → SentSample → RingAccount → RingAccount
 after_one ring s a = record a { account = if ring.0 == a.ring.0 then send a.bytes a.account s else a.account }
 
-abbrev lost_one : RingNo → Sent → RingAccount → List EventNo
+abbrev lost_one : RingNo → SentSample → RingAccount → List EventNo
 lost_one ring s a = if ring.0 == a.ring.0 then lost_by a.bytes a.account (Sends s) else []
 
-module _ (n : RingNo) (o : OutEnd) (a : RingAccount) (h : IsAccountOf n o a) (ring : RingNo) (s : Sent) where
+module _ (n : RingNo) (o : OutEnd) (a : RingAccount) (h : IsAccountOf n o a) (ring : RingNo) (s : SentSample) where
   here : n.0 ≡ ring.0 → (ring.0 == a.ring.0) ≡ true
   here e = let same : a.ring.0 ≡ n.0 = ap (λ (r : RingNo). r.0) h.ring in grind (arith, nat_tests, e, same)
 
@@ -116,7 +116,7 @@ apart-rest n numbers h = λ i j d below inside. h (suc i) (suc j) d (omega (arit
 apart-first : (n ring : RingNo) (numbers : List RingNo) → n.0 ≡ ring.0 → AreApart (n ∷ numbers) → All (λ m. m.0 ≢ ring.0) numbers
 apart-first n ring numbers e h = λ k d inside same. h 0 (suc k) d (omega arith) (omega (arith, inside)) (e ∙ sym same)
 
-none-after : (numbers : List RingNo) (outs : List OutEnd) (accounts : List RingAccount) (ring : RingNo) (s : Sent) → All (λ m. m.0 ≢ ring.0) numbers
+none-after : (numbers : List RingNo) (outs : List OutEnd) (accounts : List RingAccount) (ring : RingNo) (s : SentSample) → All (λ m. m.0 ≢ ring.0) numbers
     → AreAccounts numbers outs accounts → AreAccounts numbers outs (map (after_one ring s) accounts)
 none-after [] [] [] ring s off h = tt
 none-after [] [] (a ∷ accounts) ring s off h = absurd h
@@ -128,7 +128,7 @@ none-after (n ∷ numbers) (o ∷ outs) (a ∷ accounts) ring s off h = (
   none-after numbers outs accounts ring s (All-tail (λ (m : RingNo). m.0 ≢ ring.0) n numbers off) h.1,
 )
 
-one-after : (numbers : List RingNo) (outs : List OutEnd) (accounts : List RingAccount) (ring : RingNo) (s : Sent) → IsSized s → AreApart numbers
+one-after : (numbers : List RingNo) (outs : List OutEnd) (accounts : List RingAccount) (ring : RingNo) (s : SentSample) → IsSized s → AreApart numbers
     → AreAccounts numbers outs accounts → AreAccounts numbers (sent_among numbers outs ring (request_of s)) (map (after_one ring s) accounts)
 one-after [] [] [] ring s z apart h = tt
 one-after [] [] (a ∷ accounts) ring s z apart h = absurd h
@@ -147,7 +147,7 @@ one-after (n ∷ numbers) (o ∷ outs) (a ∷ accounts) ring s z apart h =
           (sent-away n o a h.0 ring s off, one-after numbers outs accounts ring s z (apart-rest n numbers apart) h.1)
     ]
 
-none-lost : (numbers : List RingNo) (outs : List OutEnd) (accounts : List RingAccount) (ring : RingNo) (s : Sent) → All (λ m. m.0 ≢ ring.0) numbers
+none-lost : (numbers : List RingNo) (outs : List OutEnd) (accounts : List RingAccount) (ring : RingNo) (s : SentSample) → All (λ m. m.0 ≢ ring.0) numbers
     → AreAccounts numbers outs accounts → (e : EventNo) → count_by (is_event e) (flat_map (lost_one ring s) accounts) ≡ 0
 none-lost [] [] [] ring s off h e = refl
 none-lost [] [] (a ∷ accounts) ring s off h e = absurd h
@@ -163,10 +163,10 @@ none-lost (n ∷ numbers) (o ∷ outs) (a ∷ accounts) ring s off h e =
     )
 
 -- one of an event, where the record was lost
-abbrev once_lost : Bool → Sent → EventNo → ℕ
+abbrev once_lost : Bool → SentSample → EventNo → ℕ
 once_lost lost s e = if lost then as_number (s.event.0 == e.0) else 0
 
-one-lost : (numbers : List RingNo) (outs : List OutEnd) (accounts : List RingAccount) (ring : RingNo) (s : Sent) → IsSized s → AreApart numbers
+one-lost : (numbers : List RingNo) (outs : List OutEnd) (accounts : List RingAccount) (ring : RingNo) (s : SentSample) → IsSized s → AreApart numbers
     → AreAccounts numbers outs accounts → (e : EventNo)
     → count_by (is_event e) (flat_map (lost_one ring s) accounts) ≡ once_lost (loses_among numbers outs ring (request_of s)) s e
 one-lost [] [] [] ring s z apart h e = refl
@@ -198,11 +198,11 @@ one-lost (n ∷ numbers) (o ∷ outs) (a ∷ accounts) ring s z apart h e =
     ]
 
 -- what a processor's step that sends one record more does to an account: that record first
-module _ (cpu : CpuNo) (line : CpuLine) (p : RingNo × Sent) (sents : List (RingNo × Sent)) where
+module _ (cpu : CpuNo) (line : CpuLine) (p : RingNo × SentSample) (sents : List (RingNo × SentSample)) where
   first-account : (a : RingAccount) → ring_after (CpuStep cpu line) (p ∷ sents) a ≡ ring_after (CpuStep cpu line) sents (after_one p.0 p.1 a)
   first-account a = one (p.0.0 == a.ring.0)
     where
-      one : (b : Bool) → record a { account = fold (ring_step a.bytes) a.account (map (λ (t : RingNo × Sent). Sends t.1) (cond b (p ∷ filter (is_to a.ring) sents) (filter (is_to a.ring) sents))) }
+      one : (b : Bool) → record a { account = fold (ring_step a.bytes) a.account (map (λ (t : RingNo × SentSample). Sends t.1) (cond b (p ∷ filter (is_to a.ring) sents) (filter (is_to a.ring) sents))) }
           ≡ record a { account = fold (ring_step a.bytes) (if b then send a.bytes a.account p.1 else a.account) (sends_to a.ring sents) }
       one true = refl
       one false = refl
@@ -210,7 +210,7 @@ module _ (cpu : CpuNo) (line : CpuLine) (p : RingNo × Sent) (sents : List (Ring
   first-losses : (a : RingAccount) → losses_on (CpuStep cpu line) (p ∷ sents) a ≡ lost_one p.0 p.1 a ++ losses_on (CpuStep cpu line) sents (after_one p.0 p.1 a)
   first-losses a = one (p.0.0 == a.ring.0)
     where
-      one : (b : Bool) → lost_among a.bytes a.account (map (λ (t : RingNo × Sent). Sends t.1) (cond b (p ∷ filter (is_to a.ring) sents) (filter (is_to a.ring) sents)))
+      one : (b : Bool) → lost_among a.bytes a.account (map (λ (t : RingNo × SentSample). Sends t.1) (cond b (p ∷ filter (is_to a.ring) sents) (filter (is_to a.ring) sents)))
           ≡ (if b then lost_by a.bytes a.account (Sends p.1) else []) ++ lost_among a.bytes (if b then send a.bytes a.account p.1 else a.account) (sends_to a.ring sents)
       one true = refl
       one false = refl
@@ -244,23 +244,23 @@ nothing-lost : (cpu : CpuNo) (line : CpuLine) (accounts : List RingAccount) → 
 nothing-lost cpu line [] = refl
 nothing-lost cpu line (a ∷ accounts) = nothing-lost cpu line accounts
 
-next-accounts : (x : Ends) (p : RingNo × Sent) (accounts : List RingAccount) → IsSized p.1 → HaveAccounts x.outs accounts
+next-accounts : (x : Ends) (p : RingNo × SentSample) (accounts : List RingAccount) → IsSized p.1 → HaveAccounts x.outs accounts
     → HaveAccounts (send_next x p).outs (map (after_one p.0 p.1) accounts)
 next-accounts x p accounts z h = record {
   apart = h.apart;
   each = one-after x.outs.numbers x.outs.outs accounts p.0 p.1 z h.apart h.each;
 }
 
-pub accounts-after : (cpu : CpuNo) (line : CpuLine) (sents : List (RingNo × Sent)) (x : Ends) (accounts : List RingAccount) → AreSized sents → HaveAccounts x.outs accounts
+pub accounts-after : (cpu : CpuNo) (line : CpuLine) (sents : List (RingNo × SentSample)) (x : Ends) (accounts : List RingAccount) → AreSized sents → HaveAccounts x.outs accounts
     → HaveAccounts (send_all x sents).outs (map (ring_after (CpuStep cpu line) sents) accounts)
 unfolding send_all
 accounts-after cpu line [] x accounts z h = subst (HaveAccounts x.outs) (sym (nothing-after cpu line accounts)) h
 accounts-after cpu line (p ∷ sents) x accounts z h =
-    let S : RingNo × Sent → Type 0 = λ (t : RingNo × Sent). IsSized t.1 in
+    let S : RingNo × SentSample → Type 0 = λ (t : RingNo × SentSample). IsSized t.1 in
     subst (HaveAccounts (send_all (send_next x p) sents).outs) (sym (first-accounts cpu line p sents accounts))
     (accounts-after cpu line sents (send_next x p) (map (after_one p.0 p.1) accounts) (tail-Each S p sents z) (next-accounts x p accounts (head-Each S p sents z) h))
 
-counted-lost : (lost : List ℕ) (b : Bool) (s : Sent) (e : EventNo) → e.0 < length lost
+counted-lost : (lost : List ℕ) (b : Bool) (s : SentSample) (e : EventNo) → e.0 < length lost
     → (slice_index_or (count_lost b s.event lost) e.0 0 ≡ slice_index_or lost e.0 0 + once_lost b s e) × (length (count_lost b s.event lost) ≡ length lost)
 counted-lost lost false s e low = (omega arith, refl)
 counted-lost lost true s e low =
@@ -280,13 +280,13 @@ counted-lost lost true s e low =
           (rw other (omega (arith, get_or-set_other lost s.event.0 e.0 more 0 off)), long)
     ]
 
-pub lost-after : (cpu : CpuNo) (line : CpuLine) (sents : List (RingNo × Sent)) (x : Ends) (accounts : List RingAccount) → AreSized sents → HaveAccounts x.outs accounts
+pub lost-after : (cpu : CpuNo) (line : CpuLine) (sents : List (RingNo × SentSample)) (x : Ends) (accounts : List RingAccount) → AreSized sents → HaveAccounts x.outs accounts
     → (e : EventNo) → e.0 < length x.lost
     → slice_index_or (send_all x sents).lost e.0 0 ≡ more_lost (λ f. slice_index_or x.lost f.0 0) (flat_map (losses_on (CpuStep cpu line) sents) accounts) e
 unfolding send_all
 lost-after cpu line [] x accounts z h e low = omega (arith, ap (count_by (is_event e)) (nothing-lost cpu line accounts))
 lost-after cpu line (p ∷ sents) x accounts z h e low =
-    let S : RingNo × Sent → Type 0 = λ (t : RingNo × Sent). IsSized t.1 in
+    let S : RingNo × SentSample → Type 0 = λ (t : RingNo × SentSample). IsSized t.1 in
     let one = counted-lost x.lost (loses_among x.outs.numbers x.outs.outs p.0 (request_of p.1)) p.1 e low in
     omega (
       arith,

@@ -17,7 +17,7 @@ use Rattle.world_spec.proofs.Counting.{find-mapped, find-one, find-none, times-f
 use Rattle.world_spec.proofs.Keys.{key-is, is_key-same, is_key-other, times-cons, once-true, once-false}
 use Rattle.world_spec.proofs.Tables.{keys-written}
 use Rattle.work_account.specs.declared.happening.Happening.{Happening}
-use Rattle.work_account.specs.Shares.{with_share, HaveShares}
+use Rattle.world_spec.specs.Shares.{with_share, HaveShares}
 use Rattle.work_account.specs.Visits.{lasts, is_effective, is_on, counted, visit, visited, is_in}
 use Rattle.work_account.proofs.Passing.{times-least, visit-own, visit-other}
 

@@ -13,7 +13,7 @@ use Rattle.world_spec.specs.StageOf.{stage_of}
 use Rattle.world_spec.specs.Kept.{family_sums}
 use Rattle.world_spec.specs.Changes.{pass_time}
 use Rattle.world_spec.specs.Rescheduled.{IsRescheduled}
-use Rattle.work_account.specs.Shares.{HaveShares}
+use Rattle.world_spec.specs.Shares.{HaveShares}
 use Rattle.work_account.proofs.Going.{IsButAccounts}
 
 stays : (hw : Hardware) (w : World) (accounts : FinMap nat_cmp Account) (clocks : List ℕ) (other : CpuNo) → IsRescheduled hw w other

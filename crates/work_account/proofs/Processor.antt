@@ -12,7 +12,7 @@ use Rattle.world_spec.specs.StageOf.{stage_of}
 use Rattle.world_spec.specs.Kept.{family_sums, IsKept}
 use Rattle.world_spec.specs.Rescheduled.{IsJudged}
 use Rattle.work_account.specs.declared.happening.Happening.{Happening}
-use Rattle.work_account.specs.Shares.{HaveRoom, HaveShares}
+use Rattle.world_spec.specs.Shares.{HaveRoom, HaveShares}
 use Rattle.work_account.specs.declared.overflowing.Overflow.{Overflow}
 use Rattle.work_account.specs.Visits.{most_given, shares_of, visited, overflow_at, noted, pass_keys}
 use Rattle.work_account.proofs.Given.{times-once}

@@ -16,7 +16,8 @@ use Rattle.stage_spec.specs.Hardware.{Hardware}
 use Rattle.stage_spec.specs.Reading.{is_error}
 use Rattle.stage_spec.specs.Shares.{ready_instances}
 use Rattle.stage_spec.specs.Stage.{Group, members, is_of_family}
-use Rattle.stage_spec.specs.Verdict.{Judged, is_eligible, passes, verdicts, stands_on, on_instances, reached}
+use Rattle.stage_spec.specs.Verdict.{Judged, is_eligible, passes, verdicts, on_instances, reached}
+use Rattle.perf_base.specs.Standings.{stands_on}
 use Rattle.stage_laws.proofs.Counts.{count-cons, count-append}
 use Rattle.world_spec.specs.Value.{World, is_live, entry_at, instance_at, standing_at, is_key, times}
 use Rattle.world_spec.specs.StageOf.{group_at, stage_of}

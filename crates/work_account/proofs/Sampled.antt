@@ -22,7 +22,7 @@ use Rattle.stage_spec.specs.Stage.{original_of}
 use Rattle.stage_spec.specs.Verdict.{on_instances}
 use Rattle.stage_laws.specs.Bounds.{AreAtMost}
 use Rattle.ring_spec.specs.Running.{RingAccount, ring_after, losses_on, more_lost}
-use Rattle.ring_spec.specs.Sending.{Sent, to_ring, sent_by_family, overflows_by}
+use Rattle.ring_spec.specs.Sending.{SentSample, to_ring, sent_by_family, overflows_by}
 use Rattle.sample_ring.specs.RingLists.{RingList, OutList}
 use Rattle.world_spec.specs.Value.{World, is_live, instance_at, account_at, is_key, times}
 use Rattle.world_spec.specs.StageOf.{stage_of}
@@ -35,7 +35,7 @@ use Rattle.work_account.specs.declared.overflowing.Overflow.{Overflow}
 use Rattle.work_account.specs.declared.samples.Stretch.{Stretch}
 use Rattle.work_account.specs.Ends.{Ends, AreTogether, HaveAccounts, HaveSpace, send_all}
 use Rattle.work_account.specs.Sampling.{AreLeft, HasInstance, HaveRings, HaveSpaceToSend, ends_of, sent_by, sents_of, sents_all}
-use Rattle.work_account.specs.Shares.{HaveShares}
+use Rattle.world_spec.specs.Shares.{HaveShares}
 use Rattle.work_account.specs.Visits.{is_on, overflow_at, pass_keys}
 use Rattle.work_account.proofs.Accounts.{AreSized, accounts-after, lost-after}
 use Rattle.work_account.proofs.Going.{IsButAccounts}
@@ -49,7 +49,7 @@ no-overflows : (period left : ℕ) → overflows 0 period left ≡ 0
 unfolding overflows
 no-overflows period left = refl
 
-nothing-to : (o : Option RingNo) (sent : Sent) → to_ring o 0 sent ≡ []
+nothing-to : (o : Option RingNo) (sent : SentSample) → to_ring o 0 sent ≡ []
 nothing-to None sent = refl
 nothing-to (Some ring) sent = refl
 
@@ -57,13 +57,13 @@ module _ (w : World) (cpu : CpuNo) (work : Work) (clock : ℕ) (left : ℕ → �
   abbrev line : Stretch
   line = record { cpu = cpu; work = work; clock = clock }
 
-  abbrev sends : ℕ → Instance → List (RingNo × Sent)
+  abbrev sends : ℕ → Instance → List (RingNo × SentSample)
   sends n i = sent_by_family (original_of (stage_of w) i.event) (stage_of w) cpu work clock n i
 
-  abbrev of_instance : Instance → List (RingNo × Sent)
+  abbrev of_instance : Instance → List (RingNo × SentSample)
   of_instance i = sends (overflows_by work (left i.id) i) i
 
-  abbrev of_key : Key → List (RingNo × Sent)
+  abbrev of_key : Key → List (RingNo × SentSample)
   of_key k = sents_of w line (overflow_at (happening.Work work) w k)
 
   nothing-sent : (o : Option Instance) (i : Instance) → sent_by_family o (stage_of w) cpu work clock 0 i ≡ []
@@ -92,10 +92,10 @@ module _ (w : World) (cpu : CpuNo) (work : Work) (clock : ℕ) (left : ℕ → �
       all-sends are keys (λ j some. lives j (omega (arith, some, times-cons j k keys))) in
       let chosen : (b : Bool) → is_on w k ≡ b → flat_map of_instance (map (instance_at w) (filter (is_on w) (k ∷ keys))) ≡ flat_map of_instance (map (instance_at w) (cond b (k ∷ rest) rest)) =
       λ b e. ap (λ (c : Bool). flat_map of_instance (map (instance_at w) (cond c (k ∷ rest) rest))) e in
-      ap (λ (l : List (RingNo × Sent)). of_key k ++ l) more
+      ap (λ (l : List (RingNo × SentSample)). of_key k ++ l) more
       ∙ elim (cases_Bool (is_on w k)) [
-        | inl on ↦ ap (λ (l : List (RingNo × Sent)). l ++ flat_map of_instance (map (instance_at w) rest)) (on-sends k (are k live) on) ∙ sym (chosen true on)
-        | inr off ↦ ap (λ (l : List (RingNo × Sent)). l ++ flat_map of_instance (map (instance_at w) rest)) (off-sends k off) ∙ sym (chosen false off)
+        | inl on ↦ ap (λ (l : List (RingNo × SentSample)). l ++ flat_map of_instance (map (instance_at w) rest)) (on-sends k (are k live) on) ∙ sym (chosen true on)
+        | inr off ↦ ap (λ (l : List (RingNo × SentSample)). l ++ flat_map of_instance (map (instance_at w) rest)) (off-sends k off) ∙ sym (chosen false off)
       ]
 
 -- the instances of the overflows live
@@ -161,7 +161,7 @@ module _ (w timed : World) (cpu : CpuNo) (work : Work) (found : List Overflow) (
       → HaveSpace (HasInstance timed) (length (sents_all timed (record { cpu = cpu; work = work; clock = clock }) found)) (ends_of outs timed)
   space-there outs judged h =
       subst (λ (v : World). HaveSpace (HasInstance v) (length (sents_all timed (record { cpu = cpu; work = work; clock = clock }) found)) (ends_of outs v)) (sym t.world)
-      (subst (λ (l : List (RingNo × Sent)). HaveSpace (HasInstance w) (length l) (ends_of outs w)) (sym (sents-are judged h.left h.are_left)) h.space)
+      (subst (λ (l : List (RingNo × SentSample)). HaveSpace (HasInstance w) (length l) (ends_of outs w)) (sym (sents-are judged h.left h.are_left)) h.space)
 
   pub ends-are : (before outs : OutList) (new : World) → IsJudged w.hardware w cpu → (left : ℕ → ℕ) → AreLeft w left
       → ends_of outs new ≡ send_all (ends_of before timed) (sents_all timed (record { cpu = cpu; work = work; clock = clock }) found)

@@ -10,7 +10,7 @@ use Rattle.perf_base.specs.declared.numbers.CpuNo.{CpuNo}
 use Rattle.perf_base.specs.declared.numbers.RingNo.{RingNo}
 use Rattle.stage_spec.specs.declared.instance.Instance.{Instance}
 use Rattle.stage_spec.specs.Stage.{Stage}
-use Rattle.ring_spec.specs.Sending.{Sent, fields_of, sent_of, to_ring, sent_by_family}
+use Rattle.ring_spec.specs.Sending.{SentSample, fields_of, sent_of, to_ring, sent_by_family}
 use Rattle.sample_ring.specs.RingLists.{RingList}
 use Rattle.sample_ring.specs.Sends.{Request, request_of}
 use Rattle.world_spec.specs.Value.{World}
@@ -24,38 +24,38 @@ pub send_all-none : (x : Ends) → send_all x [] ≡ x
 unfolding send_all
 send_all-none x = refl
 
-pub send_all-append : (x : Ends) (front rest : List (RingNo × Sent)) → send_all x (front ++ rest) ≡ send_all (send_all x front) rest
+pub send_all-append : (x : Ends) (front rest : List (RingNo × SentSample)) → send_all x (front ++ rest) ≡ send_all (send_all x front) rest
 unfolding send_all
 send_all-append x front rest = fold-append send_next x front rest
 
 -- what stays after records are sent
-pub numbers-after : (sents : List (RingNo × Sent)) (x : Ends) → (send_all x sents).outs.numbers ≡ x.outs.numbers
+pub numbers-after : (sents : List (RingNo × SentSample)) (x : Ends) → (send_all x sents).outs.numbers ≡ x.outs.numbers
 unfolding send_all
 numbers-after [] x = refl
 numbers-after (p ∷ sents) x = numbers-after sents (send_next x p)
 
-pub together-after : (rings : RingList) (sents : List (RingNo × Sent)) (x : Ends) → AreTogether rings x.outs → AreTogether rings (send_all x sents).outs
+pub together-after : (rings : RingList) (sents : List (RingNo × SentSample)) (x : Ends) → AreTogether rings x.outs → AreTogether rings (send_all x sents).outs
 unfolding send_all
 together-after rings [] x h = h
 together-after rings (p ∷ sents) x h = together-after rings sents (send_next x p) (together-next rings x p.1.event p.0 (request_of p.1) h)
 
-pub space-after : (S : ℕ → Type 0) (front rest : List (RingNo × Sent)) (x : Ends) → HaveSpace S (length (front ++ rest)) x → HaveSpace S (length rest) (send_all x front)
+pub space-after : (S : ℕ → Type 0) (front rest : List (RingNo × SentSample)) (x : Ends) → HaveSpace S (length (front ++ rest)) x → HaveSpace S (length rest) (send_all x front)
 unfolding send_all
 space-after S [] rest x h = h
 space-after S (p ∷ front) rest x h = space-after S front rest (send_next x p) (space-next S (length (front ++ rest)) x p.1.event p.0 (request_of p.1) h)
 
-pub space-front : (S : ℕ → Type 0) (front rest : List (RingNo × Sent)) (x : Ends) → HaveSpace S (length (front ++ rest)) x → HaveSpace S (length front) x
+pub space-front : (S : ℕ → Type 0) (front rest : List (RingNo × SentSample)) (x : Ends) → HaveSpace S (length (front ++ rest)) x → HaveSpace S (length front) x
 space-front S front rest x h = space-less S (length front) (length rest) x (subst (λ n. HaveSpace S n x) (length-append front rest) h)
 
 -- a record that is sent so many times
-times-all : (n : ℕ) (ring : RingNo) (s : Sent) (x : Ends) → send_times n s.event ring (request_of s) x ≡ send_all x (replicate n (ring, s))
+times-all : (n : ℕ) (ring : RingNo) (s : SentSample) (x : Ends) → send_times n s.event ring (request_of s) x ≡ send_all x (replicate n (ring, s))
 unfolding send_all
 times-all zero ring s x = refl
 times-all (suc n) ring s x = times-all n ring s (send_one x s.event ring (request_of s))
 
 -- the records of an instance, by its original
 module _ (st : Stage) (cpu : CpuNo) (work : Work) (clock count : ℕ) (original i : Instance) where
-  abbrev says : Sent
+  abbrev says : SentSample
   says = sent_of original work i (fields_of st cpu work clock original.id i)
 
   pub ring-sends : (ring other : RingNo) (q : Request) (x after : Ends) → Some ring ≡ original.ring → other ≡ ring → q ≡ request_of says

@@ -21,7 +21,7 @@ use Rattle.world_spec.specs.Kept.{IsKept}
 use Rattle.world_spec.specs.Rescheduled.{IsJudged}
 use Rattle.work_account.specs.declared.happening.Happening.{Happening}
 use Rattle.work_account.specs.declared.happening.Happening.TheVariants as happening
-use Rattle.work_account.specs.Shares.{soft_hits, HaveRoom, HaveShares}
+use Rattle.world_spec.specs.Shares.{soft_hits, HaveRoom, HaveShares}
 use Rattle.work_account.specs.Visits.{lasts, occurs, shares_of, most_given, is_effective, is_on, visited, pass_keys, MayVisit}
 use Rattle.work_account.proofs.Passing.{cond-most}
 use Rattle.work_account.proofs.Reached.{members-live, one-each, on-keys, ready-keys}

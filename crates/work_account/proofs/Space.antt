@@ -7,7 +7,7 @@ use Rattle.std.proofs.lemmas.List.Elements.{All-head, All-tail, All-cons}
 use Rattle.std.proofs.Math.Seq.{set_out}
 use Rattle.perf_base.specs.declared.numbers.EventNo.{EventNo}
 use Rattle.perf_base.specs.declared.numbers.RingNo.{RingNo}
-use Rattle.ring_words.specs.Ends.{Ring, place_of}
+use Rattle.ring_words.specs.Ends.{Ring, head_place}
 use Rattle.sample_ring.specs.OutEnds.{OutEnd}
 use Rattle.sample_ring.specs.RingLists.{RingList}
 use Rattle.sample_ring.specs.Sends.{Request, sent_to}
@@ -37,10 +37,10 @@ all-sent P Q q other its (n ∷ numbers) (o ∷ outs) ring h =
 times-more : (n b : ℕ) → suc n * b ≡ n * b + b
 times-more n b = omega arith
 
-head-next : (n : ℕ) (q : Request) (o : OutEnd) → place_of o.producer + suc n * o.producer.ring.bytes < 2 ^ 63 → place_of (sent_to o q).producer + n * (sent_to o q).producer.ring.bytes < 2 ^ 63
+head-next : (n : ℕ) (q : Request) (o : OutEnd) → head_place o.producer + suc n * o.producer.ring.bytes < 2 ^ 63 → head_place (sent_to o q).producer + n * (sent_to o q).producer.ring.bytes < 2 ^ 63
 head-next n q o h =
     let b : ℕ = o.producer.ring.bytes in
-    subst (λ (m : ℕ). place_of (sent_to o q).producer + n * m < 2 ^ 63) (ap (λ (r : Ring). r.bytes) (sym (ring-kept o q))) (omega (arith, h, head_bounded o q, times-more n b))
+    subst (λ (m : ℕ). head_place (sent_to o q).producer + n * m < 2 ^ 63) (ap (λ (r : Ring). r.bytes) (sym (ring-kept o q))) (omega (arith, h, head_bounded o q, times-more n b))
 
 count-next : (b : Bool) (e : EventNo) (lost : List ℕ) (slot : ℕ) → slice_index_or (count_lost b e lost) slot 0 ≤ slice_index_or lost slot 0 + 1
 count-next false e lost slot = omega arith
@@ -56,7 +56,7 @@ count-next true e lost slot =
 
 pub space-next : (S : ℕ → Type 0) (n : ℕ) (x : Ends) (e : EventNo) (ring : RingNo) (q : Request) → HaveSpace S (suc n) x → HaveSpace S n (send_one x e ring q)
 space-next S n x e ring q h = record {
-  heads = all-sent (λ (o : OutEnd). place_of o.producer + suc n * o.producer.ring.bytes < 2 ^ 63) (λ (o : OutEnd). place_of o.producer + n * o.producer.ring.bytes < 2 ^ 63) q
+  heads = all-sent (λ (o : OutEnd). head_place o.producer + suc n * o.producer.ring.bytes < 2 ^ 63) (λ (o : OutEnd). head_place o.producer + n * o.producer.ring.bytes < 2 ^ 63) q
       (λ o a. omega (arith, a, times-more n o.producer.ring.bytes)) (head-next n q) x.outs.numbers x.outs.outs ring h.heads;
   losses = all-sent (λ (o : OutEnd). o.lost + suc n < 2 ^ 63) (λ (o : OutEnd). o.lost + n < 2 ^ 63) q
       (λ o a. omega (arith, a)) (λ o a. omega (arith, a, lost_bounded o q)) x.outs.numbers x.outs.outs ring h.losses;

@@ -5,8 +5,8 @@ use Rattle.std.specs.Prelude.{◌≡◌, ◌≢◌, ℕ, ◌+◌, ◌*◌, ◌^�
 use Rattle.perf_base.specs.declared.numbers.EventNo.{EventNo}
 use Rattle.perf_base.specs.declared.numbers.RingNo.{RingNo}
 use Rattle.ring_spec.specs.Running.{RingAccount}
-use Rattle.ring_spec.specs.Sending.{Sent}
-use Rattle.ring_words.specs.Ends.{place_of}
+use Rattle.ring_spec.specs.Sending.{SentSample}
+use Rattle.ring_words.specs.Ends.{head_place}
 use Rattle.sample_ring.specs.OutEnds.{OutEnd, HasAccount}
 use Rattle.sample_ring.specs.RingLists.{RingList, OutList}
 use Rattle.sample_ring.specs.declared.sent.Sent.{Sent as Answer}
@@ -47,10 +47,10 @@ send_one x e ring q = record {
   lost = count_lost (loses_among x.outs.numbers x.outs.outs ring q) e x.lost;
 }
 
-abbrev pub send_next : Ends → RingNo × Sent → Ends
+abbrev pub send_next : Ends → RingNo × SentSample → Ends
 send_next x sent = send_one x sent.1.event sent.0 (request_of sent.1)
 
-unfoldable pub send_all : Ends → List (RingNo × Sent) → Ends
+unfoldable pub send_all : Ends → List (RingNo × SentSample) → Ends
 send_all x sents = fold send_next x sents
 
 -- The ends are those of the rings.
@@ -61,7 +61,7 @@ pub record AreTogether (rings : RingList) (outs : OutList) : Type 0 where
 -- A number of further records, of events in some slots, leave heads and counts below 2^63: each moves one head by at
 -- most its ring's size, and may be lost.
 pub record HaveSpace (Slots : ℕ → Type 0) (n : ℕ) (x : Ends) : Type 0 where
-  pub heads : All (λ o. place_of o.producer + n * o.producer.ring.bytes < 2 ^ 63) x.outs.outs
+  pub heads : All (λ o. head_place o.producer + n * o.producer.ring.bytes < 2 ^ 63) x.outs.outs
   pub losses : All (λ o. o.lost + n < 2 ^ 63) x.outs.outs
   pub lost : (slot : ℕ) → Slots slot → slice_index_or x.lost slot 0 + n < 2 ^ 63
 

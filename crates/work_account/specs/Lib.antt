@@ -1,4 +1,3 @@
 pub mod Ends
 pub mod Sampling
-pub mod Shares
 pub mod Visits

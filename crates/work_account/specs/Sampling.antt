@@ -7,7 +7,7 @@ use Rattle.perf_base.specs.declared.numbers.EventNo.{EventNo}
 use Rattle.perf_base.specs.declared.numbers.Key.{Key}
 use Rattle.perf_base.specs.declared.numbers.RingNo.{RingNo}
 use Rattle.stage_spec.specs.Stage.{original_of}
-use Rattle.ring_spec.specs.Sending.{Sent, sent_by_family, sent_at}
+use Rattle.ring_spec.specs.Sending.{SentSample, sent_by_family, sent_at}
 use Rattle.sample_ring.specs.RingLists.{OutList, HasRing}
 use Rattle.sample_ring.specs.Sends.{Request, request}
 use Rattle.world_spec.specs.Value.{World, is_live, instance_at, account_at}
@@ -31,10 +31,10 @@ send_times zero e ring q x = x
 send_times (suc n) e ring q x = send_times n e ring q (send_one x e ring q)
 
 -- the records of an instance's overflows, and of those of several, one after the other
-abbrev pub sents_of : World → Stretch → Overflow → List (RingNo × Sent)
+abbrev pub sents_of : World → Stretch → Overflow → List (RingNo × SentSample)
 sents_of w line o = sent_by_family (original_of (stage_of w) (instance_at w o.key).event) (stage_of w) line.cpu line.work line.clock o.count (instance_at w o.key)
 
-abbrev pub sents_all : World → Stretch → List Overflow → List (RingNo × Sent)
+abbrev pub sents_all : World → Stretch → List Overflow → List (RingNo × SentSample)
 sents_all w line found = flat_map (sents_of w line) found
 
 -- a slot that some instance is of
@@ -50,7 +50,7 @@ abbrev pub AreLeft : World → (ℕ → ℕ) → Type 0
 AreLeft w left = (k : Key) → is_live w k ≡ true → left (instance_at w k).id ≡ (account_at w k).left
 
 -- the records that a stretch of work on a processor sends, given the remainders; the clock in them is the one after it
-abbrev pub sent_by : World → (ℕ → ℕ) → CpuNo → Work → List (RingNo × Sent)
+abbrev pub sent_by : World → (ℕ → ℕ) → CpuNo → Work → List (RingNo × SentSample)
 sent_by w left cpu work = sent_at w.hardware (stage_of w) left (slice_index_or w.quiet.clocks cpu.0 0 + work.length) cpu work
 
 -- There is space for all of them, whose events have instances.

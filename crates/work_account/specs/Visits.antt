@@ -12,7 +12,7 @@ use Rattle.stage_spec.specs.declared.instance.Instance.{Instance}
 use Rattle.stage_spec.specs.Effective.{effective, is_ready}
 use Rattle.stage_spec.specs.Occurrences.{overflows}
 use Rattle.stage_spec.specs.Shares.{work_hits}
-use Rattle.stage_spec.specs.Verdict.{stands_on}
+use Rattle.perf_base.specs.Standings.{stands_on}
 use Rattle.stage_laws.specs.Bounds.{most_of_line}
 use Rattle.world_spec.specs.Value.{World, is_live, entry_at, instance_at, account_at, standing_at, leaders_of, times}
 use Rattle.world_spec.specs.Kept.{family_sums}
@@ -23,7 +23,7 @@ use Rattle.world_tables.specs.Places.{picked}
 use Rattle.work_account.specs.declared.happening.Happening.{Happening}
 use Rattle.work_account.specs.declared.happening.Happening.TheVariants as happening
 use Rattle.work_account.specs.declared.overflowing.Overflow.{Overflow}
-use Rattle.work_account.specs.Shares.{work_shares, soft_hits, soft_shares, one_hit}
+use Rattle.world_spec.specs.Shares.{work_shares, soft_hits, soft_shares, one_hit}
 
 -- how long what happens takes, and what an instance that is on counts of it
 abbrev pub lasts : Happening → ℕ

@@ -3,10 +3,10 @@
 ghost use Rattle.std.specs.Prelude.{◌≡◌};
 ghost use Rattle.perf_base.specs.Scripts.{IsKind};
 ghost use Rattle.stage_spec.specs.Shares as shares;
-ghost use Rattle.work_account.specs.Shares as soft;
+ghost use Rattle.world_spec.specs.Shares as soft;
 ghost use Rattle.work_account.specs.Visits as visits;
 
-use perf_base::{Attr, AttrFlags, Kind, Mode, Work};
+use perf_base::{Attr, Kind, Mode, Work};
 use stage_spec::Instance;
 
 /// A stretch of work, or one occurrence of a software kind, in kernel mode.
@@ -21,8 +21,8 @@ fn excludes(mode: Mode, attr: &Attr) -> bool
     ensures { result ≡ shares.excludes mode attr.now }
 {
     match mode {
-        Mode::User => attr.flags.0 & AttrFlags::EXCLUDE_USER.0 != 0,
-        Mode::Kernel => attr.flags.0 & AttrFlags::EXCLUDE_KERNEL.0 != 0,
+        Mode::User => attr.flags.excludes_user(),
+        Mode::Kernel => attr.flags.excludes_kernel(),
     }
 }
 

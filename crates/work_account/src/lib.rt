@@ -12,5 +12,5 @@ mod sending;
 mod tests;
 mod visits;
 
-pub use account::{soft, work};
-pub use sampling::work_sampled;
+pub use account::soft;
+pub use sampling::work;

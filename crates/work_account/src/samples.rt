@@ -9,7 +9,7 @@ ghost use Rattle.world_spec.specs.Value.{is_live, instance_at};
 ghost use Rattle.world_spec.specs.StageOf.{stage_of};
 ghost use Rattle.work_account.specs.Sampling.{asks};
 
-use perf_base::{AttrFlags, CpuNo, Key, RingNo, TaskNo, Work};
+use perf_base::{CpuNo, Key, RingNo, TaskNo, Work};
 use perf_world::World;
 use ring_spec::Fields;
 use sample_records::{Record, Trailer, sample_record};
@@ -81,7 +81,7 @@ pub fn sample_of(world: &World, stretch: &Stretch, ring: RingNo, origin: Key, ke
         sent: sample_record(stretch.work.mode, instance.attr.sample, &fields),
         id: original.id,
         trailer: Trailer {
-            all: original.attr.flags.0 & AttrFlags::SAMPLE_ID_ALL.0 != 0,
+            all: original.attr.flags.identifies_all(),
             sample: original.attr.sample,
             fields: Fields {
                 stream_id: original.id,

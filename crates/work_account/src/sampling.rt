@@ -14,7 +14,7 @@ ghost use Rattle.world_spec.specs.StageOf.{stage_of};
 ghost use Rattle.world_spec.specs.Rescheduled.{IsJudged, IsRescheduled};
 ghost use Rattle.work_account.specs.Ends.{AreTogether, HaveAccounts, send_all};
 ghost use Rattle.work_account.specs.Sampling.{AreLeft, HaveRings, HaveSpaceToSend, ends_of, sent_by};
-ghost use Rattle.work_account.specs.Shares.{HaveRoom, HaveShares, work_shares};
+ghost use Rattle.world_spec.specs.Shares.{HaveRoom, HaveShares, work_shares};
 
 use crate::happening::Happening;
 use crate::samples::Stretch;
@@ -24,10 +24,12 @@ use perf_base::{CpuNo, Work};
 use perf_world::World;
 use sample_ring::{Outs, Rings};
 
-/// A stretch of work on a processor, as `work` does it, with the records that it sends: for each overflow of an event
-/// there that is on one sample to the ring of the event's original, if that has one, those of one event before those of
-/// the next (kernel/events/core.c). A record that its ring loses is counted for the original. It takes no memory.
-pub fn work_sampled(world: &mut World, cpu: CpuNo, work: &Work, rings: &Rings, outs: &mut Outs)
+/// A stretch of work on a processor: its length is added to the processor's clock, to the enabled time of each event
+/// there that is ready and to the running time of each that is on, and what occurred to what those count. A burst of
+/// occurrences takes no more steps than one. For each overflow of an event there that is on one sample goes to the ring
+/// of the event's original, if that has one, those of one event before those of the next (kernel/events/core.c). A
+/// record that its ring loses is counted for the original. It takes no memory.
+pub fn work(world: &mut World, outs: &mut Outs, rings: &Rings, cpu: CpuNo, work: &Work)
     requires cpu { cpu.0 < length world.old.quiet.running }
     requires judged { IsJudged world.old.hardware world.old cpu }
     requires room { HaveRoom world.old (most_of_line (cpu_line.Work work.now)) }

@@ -3,7 +3,7 @@
 ghost use Rattle.std.specs.Prelude.{◌≡◌, ℕ, ◌+◌, ◌^◌, ◌<◌, true, All, Some, length, slice_index_or};
 ghost use Rattle.ring_spec.specs.Records.{IsRecord};
 ghost use Rattle.ring_spec.specs.Sending.{sent_by_family};
-ghost use Rattle.ring_words.specs.Ends.{place_of};
+ghost use Rattle.ring_words.specs.Ends.{head_place};
 ghost use Rattle.sample_records.specs.Seen.{seen};
 ghost use Rattle.sample_ring.specs.RingLists.{HasRing};
 ghost use Rattle.world_spec.specs.Value.{is_live, instance_at};
@@ -23,7 +23,7 @@ fn send(sample: &Sample, rings: &Rings, outs: &mut Outs) -> Sent
     requires lawful { IsRecord (seen sample.now.sent) }
     requires together { AreTogether rings.now outs.old }
     requires ring { HasRing outs.old.numbers sample.now.ring }
-    requires heads { All (λ o. place_of o.producer + o.producer.ring.bytes < 2 ^ 63) outs.old.outs }
+    requires heads { All (λ o. head_place o.producer + o.producer.ring.bytes < 2 ^ 63) outs.old.outs }
     requires losses { All (λ o. o.lost + 1 < 2 ^ 63) outs.old.outs }
     ensures outs { outs.new ≡ record outs.old { outs = ends.sent_among outs.old.numbers outs.old.outs sample.now.ring (asks sample.now) } }
     ensures answer { ends.is_lost result ≡ ends.loses_among outs.old.numbers outs.old.outs sample.now.ring (asks sample.now) }

@@ -4,19 +4,18 @@ ghost use Rattle.std.specs.Prelude.{◌≡◌, ℕ, ◌+◌, ◌^◌, ◌<◌, �
 ghost use Rattle.stage_spec.specs.Effective as effective;
 ghost use Rattle.stage_spec.specs.Families.{plus};
 ghost use Rattle.stage_spec.specs.Stage as stage;
-ghost use Rattle.stage_spec.specs.Verdict as verdict;
 ghost use Rattle.stage_laws.specs.Bounds.{AreAtMost};
 ghost use Rattle.world_spec.specs.Kept.{family_sums, AreLinked, leads, post_at};
 ghost use Rattle.world_spec.specs.Value.{is_live, entry_at, instance_at, leaders_of};
 ghost use Rattle.world_spec.specs.Rescheduled.{IsJudged};
-ghost use Rattle.work_account.specs.Shares.{HaveRoom, HaveShares};
+ghost use Rattle.world_spec.specs.Shares.{HaveRoom, HaveShares};
 ghost use Rattle.perf_world.specs.Seen.{IsWorld};
 ghost use Rattle.world_tables.specs.Places.{picked};
 ghost use Rattle.work_account.specs.Visits as spec;
 
 use crate::happening::Happening;
 use crate::overflowing::{Overflow, Overflows};
-use perf_base::{Context, CpuNo, Key, Own, Standing, TaskNo};
+use perf_base::{Context, CpuNo, Key, Own, TaskNo};
 use perf_world::World;
 
 /// Whether an event's state within its group is ready, by its leader's own state and its own one.
@@ -26,16 +25,6 @@ fn is_effective(leader: &Own, own: &Own) -> bool
     match (leader, own) {
         (Own::Ready, Own::Ready | Own::Error(_)) => true,
         _ => false,
-    }
-}
-
-/// Whether a group stands on.
-fn stands_on(standing: &Standing) -> bool
-    ensures { result ≡ verdict.stands_on standing.now }
-{
-    match standing {
-        Standing::On => true,
-        Standing::Out | Standing::Refused(_) => false,
     }
 }
 
@@ -56,7 +45,7 @@ fn is_on(world: &World, key: Key, ready: bool) -> bool
     requires ready { ready ≡ spec.is_effective world.now key }
     ensures { result ≡ spec.is_on world.now key }
 {
-    ready && stands_on(&world.standing(world.leader_of(key)))
+    ready && world.standing(world.leader_of(key)).is_on()
 }
 
 /// How often what happens gives what an instance counts: never where it is not on.

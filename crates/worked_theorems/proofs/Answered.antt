@@ -18,8 +18,8 @@ use Rattle.stage_spec.specs.Stage.{Stage}
 use Rattle.stage_spec.specs.Order.{IsLawfulAct, IsLawfulSeen, last_seen, seen_at, next_of_cpu, next_of_tool}
 use Rattle.stage_spec.specs.History.{Step, CpuStep, ToolStep, SeenStep, steps_of, steps_from, cpu_steps, tool_steps, history, opening_stage}
 use Rattle.stage_spec.specs.Replies.{AreReplies}
-use Rattle.ring_spec.specs.Records.{size_of}
-use Rattle.ring_spec.specs.Sending.{Sent, sent_after}
+use Rattle.ring_spec.specs.Records.{record_size}
+use Rattle.ring_spec.specs.Sending.{SentSample, sent_after}
 use Rattle.ring_spec.specs.Account.{Sends, Looks, Account, account, empty_account, send, ring_step, written_to, lost_to, need_of, room_of}
 use Rattle.ring_spec.specs.Rings.{looks_at, sends_to, is_to, events_after, events_from, events_of, account_of, account_in, bytes_of, bytes_in, sizes_in, lost_count}
 use Rattle.ring_spec.specs.Running.{RingAccount, Running, record_after, IsAnswerBy}
@@ -36,7 +36,7 @@ looks_lawful sizes last place = nat_le last place && is_behind 0 place sizes
 
 abbrev pub lawful_at : Option RingAccount → ℕ → Bool
 lawful_at None place = false
-lawful_at (Some a) place = looks_lawful (map size_of a.account.written) a.account.tail place
+lawful_at (Some a) place = looks_lawful (map record_size a.account.written) a.account.tail place
 
 abbrev pub is_ring : RingNo → RingAccount → Bool
 is_ring ring a = a.ring.0 == ring.0
@@ -96,7 +96,7 @@ abbrev pub LawfulStep : Hardware → Stage → List (RingNo × ℕ) → List Ste
 LawfulStep hw s rings before (CpuStep cpu line) = Unit {0}
 LawfulStep hw s rings before (ToolStep line) = Unit {0}
 LawfulStep hw s rings before (SeenStep ring place) =
-    IsLawfulSeen (map size_of (account_of hw s before (declared rings ring)).written) (account_of hw s before (declared rings ring)).tail place
+    IsLawfulSeen (map record_size (account_of hw s before (declared rings ring)).written) (account_of hw s before (declared rings ring)).tail place
 
 unfoldable pub LawfulFrom : Hardware → Stage → List (RingNo × ℕ) → (before steps : List Step) → Type 0
 LawfulFrom hw s rings before [] = Unit {0}
@@ -167,11 +167,11 @@ found_ring ring (q ∷ rings) r e = one (q.0.0 == ring.0) refl (λ e. found_ring
 
 found_lawful : (hw : Hardware) (s : Stage) (rings : List (RingNo × ℕ)) (before : List Step) (ring : RingNo) (place : ℕ) (o : Option (RingNo × ℕ))
     → find (λ r. r.0.0 == ring.0) rings ≡ o → lawful_at (option_map (in_account (account_of hw s before)) o) place ≡ true
-    → IsLawfulSeen (map size_of (account_of hw s before (ring, bytes_in o)).written) (account_of hw s before (ring, bytes_in o)).tail place
+    → IsLawfulSeen (map record_size (account_of hw s before (ring, bytes_in o)).written) (account_of hw s before (ring, bytes_in o)).tail place
 found_lawful hw s rings before ring place None e h = absurd (false≢true h)
 found_lawful hw s rings before ring place (Some r) e h =
     let same : r.0 ≡ ring = found_ring ring rings r e in
-    rw (← same) (lawful_seen (map size_of (account_of hw s before r).written) (account_of hw s before r).tail place h)
+    rw (← same) (lawful_seen (map record_size (account_of hw s before r).written) (account_of hw s before r).tail place h)
 
 pub lawful_by : (hw : Hardware) (s : Stage) (rings : List (RingNo × ℕ)) (before : List Step) (k : Running) (x : Step) → IsKept hw s rings before k → look_ok k.rings x ≡ true → LawfulStep hw s rings before x
 lawful_by hw s rings before k (CpuStep cpu line) h ok = tt

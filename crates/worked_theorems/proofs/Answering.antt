@@ -6,19 +6,19 @@ use Rattle.perf_base.specs.declared.reasons.Reason.{Reason}
 use Rattle.perf_base.specs.declared.reply.Reply.{Reply}
 use Rattle.stage_spec.specs.Hardware.{Hardware}
 use Rattle.stage_spec.specs.History.{Step, CpuStep, ToolStep, SeenStep, tool_refusal}
-use Rattle.stage_spec.specs.Replies.{IsDone, UnlessRefused}
+use Rattle.stage_spec.specs.Replies.{IsToolReply, UnlessRefused}
 use Rattle.ring_spec.specs.Running.{Running, family_by, IsAnswerBy}
 use Rattle.worked_theorems.proofs.answers.Seats.{SeatsBy, seats_by}
 
 abbrev DoneBy : Hardware → Running → ToolLine → Reply → Type 0
 DoneBy hw r (tool_line.Seats cpu) a = SeatsBy hw r.stage cpu a
-DoneBy hw r line a = IsDone hw r.stage (family_by r) r.lost line a
+DoneBy hw r line a = IsToolReply hw r.stage (family_by r) r.lost line a
 
 abbrev pub AnswerBy : Hardware → Running → Step → Reply → Type 0
 AnswerBy hw r (ToolStep line) a = UnlessRefused (tool_refusal hw r.stage line) a (DoneBy hw r line a)
 AnswerBy hw r x a = IsAnswerBy hw r x a
 
-done_by : (hw : Hardware) (r : Running) (line : ToolLine) (a : Reply) → DoneBy hw r line a → IsDone hw r.stage (family_by r) r.lost line a
+done_by : (hw : Hardware) (r : Running) (line : ToolLine) (a : Reply) → DoneBy hw r line a → IsToolReply hw r.stage (family_by r) r.lost line a
 done_by hw r (tool_line.Seats cpu) a h = seats_by hw r.stage cpu a h
 done_by hw r (tool_line.Open slot attr leader) a h = h
 done_by hw r (tool_line.Enable event group) a h = h
@@ -37,5 +37,5 @@ unless_by None a P Q f h = f h
 
 pub answer_by : (hw : Hardware) (r : Running) (x : Step) (a : Reply) → AnswerBy hw r x a → IsAnswerBy hw r x a
 answer_by hw r (CpuStep cpu line) a h = h
-answer_by hw r (ToolStep line) a h = unless_by (tool_refusal hw r.stage line) a (DoneBy hw r line a) (IsDone hw r.stage (family_by r) r.lost line a) (done_by hw r line a) h
+answer_by hw r (ToolStep line) a h = unless_by (tool_refusal hw r.stage line) a (DoneBy hw r line a) (IsToolReply hw r.stage (family_by r) r.lost line a) (done_by hw r line a) h
 answer_by hw r (SeenStep ring place) a h = h

@@ -11,7 +11,7 @@ use Rattle.stage_spec.specs.Hardware.{Hardware, hardware_of}
 use Rattle.stage_spec.specs.Stage.{Stage}
 use Rattle.stage_spec.specs.Order.{IsLawfulAct, IsLawfulSeen, last_seen}
 use Rattle.stage_spec.specs.History.{Step, steps_from, history, opening_stage}
-use Rattle.ring_spec.specs.Records.{size_of}
+use Rattle.ring_spec.specs.Records.{record_size}
 use Rattle.ring_spec.specs.Account.{Account, head_of}
 use Rattle.ring_spec.specs.Rings.{account_of, account_in, bytes_of, bytes_in, sizes_in, IsLawfulOrder}
 use Rattle.ring_spec.specs.Running.{RingAccount, Running, first_record, record_after}
@@ -79,11 +79,11 @@ lawful_looks s acts h = λ some after a e. lawful_acts s [] acts h some after a 
 pub record FailsAt (a : Account) (last head given : ℕ) : Type 0 where
   pub seen : a.tail ≡ last
   pub headed : head_of a ≡ head
-  pub fails : IsLawfulSeen (map size_of a.written) a.tail given → ⊥
+  pub fails : IsLawfulSeen (map record_size a.written) a.tail given → ⊥
 
 abbrev pub FailsBy : Option RingAccount → (last head given : ℕ) → Type 0
 FailsBy None last head given = ⊥
-FailsBy (Some a) last head given = (a.account.tail ≡ last) × (head_of a.account ≡ head) × (looks_lawful (map size_of a.account.written) a.account.tail given ≡ false)
+FailsBy (Some a) last head given = (a.account.tail ≡ last) × (head_of a.account ≡ head) × (looks_lawful (map record_size a.account.written) a.account.tail given ≡ false)
 
 abbrev pub EndsUnlawful : RingNo → (last head given : ℕ) → Running → Type 0
 EndsUnlawful ring last head given k = FailsBy (find (is_ring ring) k.rings) last head given
@@ -95,7 +95,7 @@ found_fails hw s rings steps ring last head given None e h = absurd h
 found_fails hw s rings steps ring last head given (Some r) e h =
     let same : r.0 ≡ ring = found_ring ring rings r e in
     let there : Account = account_of hw s steps r in
-    rw (← same) (record { seen = h.0; headed = h.1; fails = unlawful_seen (map size_of there.written) there.tail given h.2 })
+    rw (← same) (record { seen = h.0; headed = h.1; fails = unlawful_seen (map record_size there.written) there.tail given h.2 })
 
 kept_fails : (hw : Hardware) (s : Stage) (rings : List (RingNo × ℕ)) (steps : List Step) (k : Running) (ring : RingNo) (last head given : ℕ)
     → IsKept hw s rings steps k → EndsUnlawful ring last head given k → FailsAt (account_of hw s steps (declared rings ring)) last head given

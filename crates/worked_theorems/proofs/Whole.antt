@@ -18,7 +18,8 @@ use Rattle.perf_base.specs.Scripts.{Scripted, lines_of_cpu, lines_of_tool}
 use Rattle.stage_spec.specs.Hardware.{hardware_of}
 use Rattle.stage_spec.specs.Numbers.{numbers_below}
 use Rattle.stage_spec.specs.Order.{IsCounted, done_by_cpu, done_by_tool, is_of_cpu, is_of_tool}
-use Rattle.stage_spec.specs.Replies.{Answered, AreReplies, AnswerOrder, lines_from, answers_to}
+use Rattle.stage_spec.specs.Replies.{AreReplies, AnswerOrder, lines_from, answers_to}
+use Rattle.perf_base.specs.declared.reply.Answer.{Answer}
 use Rattle.stage_spec.specs.History.{Step, steps_from, history, opening_stage}
 use Rattle.ring_spec.specs.Account.{Account}
 use Rattle.ring_spec.specs.Rings.{account_of}
@@ -97,7 +98,7 @@ pub answers_order : (s : Scripted) (lost : List Step → EventNo → ℕ) (order
     → AreReplies (hardware_of s) (opening_stage s) lost [] (history s order) replies → AnswerOrder s lost order (answers_to order replies)
 answers_order s lost order replies same h =
     let pairs : List ((Actor × ℕ) × Reply) = zip (lines_from [] order) replies in
-    let each : (Actor × ℕ) × Reply → Answered = λ a. record { actor = a.0.0; number = a.0.1; reply = a.1 } in
+    let each : (Actor × ℕ) × Reply → Answer = λ a. record { actor = a.0.0; number = a.0.1; reply = a.1 } in
     record {
       lines = map-map each (λ a. (a.actor, a.number)) pairs ∙ firsts-zip (lines_from [] order) replies same;
       replies = rw (map-map each (λ a. a.reply) pairs ∙ seconds-zip (lines_from [] order) replies same) h;

@@ -13,7 +13,7 @@ use Rattle.stage_spec.specs.Checks.{has_unknown_sample}
 use Rattle.stage_spec.specs.Flags.{is_disabled}
 use Rattle.stage_spec.specs.Hardware.{Hardware}
 use Rattle.stage_spec.specs.Opening.{is_used}
-use Rattle.stage_spec.specs.Places.{context_of}
+use Rattle.perf_base.specs.Contexts.{context_of}
 use Rattle.stage_spec.specs.Reading.{is_error}
 use Rattle.stage_spec.specs.Stage.{place_of}
 use Rattle.world_spec.specs.Value.{World, Account, Leaders, no_family, no_leaders, no_account, is_live, entry_at, instance_at, account_at, is_key, times}

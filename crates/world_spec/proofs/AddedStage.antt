@@ -13,7 +13,7 @@ use Rattle.stage_spec.specs.declared.instance.Instance.{Instance}
 use Rattle.stage_spec.specs.Flags.{is_pinned}
 use Rattle.stage_spec.specs.Hardware.{Hardware}
 use Rattle.stage_spec.specs.Opening.{joined, add_group, join_group, join_lists, opened}
-use Rattle.stage_spec.specs.Places.{context_of}
+use Rattle.perf_base.specs.Contexts.{context_of}
 use Rattle.stage_spec.specs.Stage.{Stage, Group, Lists, alone, place_of, lists_of, is_original, change_context}
 use Rattle.stage_laws.specs.Sound.{has_id}
 use Rattle.world_spec.specs.Value.{World, Leaders, no_leaders, no_family, leaders_of, is_live, entry_at, instance_at, is_key, times}

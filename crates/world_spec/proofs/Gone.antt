@@ -19,7 +19,7 @@ use Rattle.stage_spec.specs.Families.{plus}
 use Rattle.stage_spec.specs.Fits.{fits, fits_beside}
 use Rattle.stage_spec.specs.Hardware.{Hardware}
 use Rattle.stage_spec.specs.Opening.{is_used}
-use Rattle.stage_spec.specs.Places.{context_of}
+use Rattle.perf_base.specs.Contexts.{context_of}
 use Rattle.stage_spec.specs.Reading.{is_error}
 use Rattle.stage_spec.specs.Shares.{no_sums}
 use Rattle.world_spec.specs.Value.{World, Entry, Leaders, Family, no_family, no_leaders, no_entry, no_account, is_live, entry_at, instance_at, account_at, is_key, times}

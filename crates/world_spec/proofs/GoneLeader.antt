@@ -16,7 +16,7 @@ use Rattle.stage_spec.specs.Checks.{has_unknown_sample}
 use Rattle.stage_spec.specs.Fits.{fits, fits_beside}
 use Rattle.stage_spec.specs.Hardware.{Hardware, is_software, mask_of}
 use Rattle.stage_spec.specs.Opening.{is_used}
-use Rattle.stage_spec.specs.Places.{context_of}
+use Rattle.perf_base.specs.Contexts.{context_of}
 use Rattle.stage_spec.specs.Reading.{is_error}
 use Rattle.stage_spec.specs.Stage.{place_of}
 use Rattle.stage_laws.proofs.Fitting.{fits_beside-others, fits_beside-rest}

@@ -3,6 +3,7 @@ pub mod Added
 pub mod AddedKept
 pub mod AddedStage
 pub mod Agreement
+pub mod Asking
 pub mod Coming
 pub mod ComingGroups
 pub mod ComingLinks
@@ -26,11 +27,14 @@ pub mod Keys
 pub mod Listings
 pub mod Moving
 pub mod Placing
+pub mod Quiet
 pub mod Reaching
 pub mod Renaming
 pub mod Rescheduling
+pub mod Slots
 pub mod Standing
 pub mod Staying
+pub mod Stepping
 pub mod Tables
 pub mod Worked
 pub mod Working

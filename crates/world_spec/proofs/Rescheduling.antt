@@ -21,7 +21,8 @@ use Rattle.stage_spec.specs.Hardware.{Hardware}
 use Rattle.stage_spec.specs.Settle.{IsSettled, failed, pinned_verdicts, flexible_verdicts}
 use Rattle.stage_spec.specs.Stage.{Stage, Group, members_of, place_of, task_on, is_task}
 use Rattle.stage_spec.specs.Tight.{masks_of}
-use Rattle.stage_spec.specs.Verdict.{Judged, is_eligible, passes, judge_pass, judge_passes, verdicts, stands_on, groups_on, with_masks, standing_among}
+use Rattle.stage_spec.specs.Verdict.{Judged, is_eligible, passes, judge_pass, judge_passes, verdicts, groups_on, with_masks, standing_among}
+use Rattle.perf_base.specs.Standings.{stands_on}
 use Rattle.stage_spec.proofs.Settled.{settled_verdicts, settles_once}
 use Rattle.stage_spec.proofs.Settling.{kept, groups_on-append, groups_on-kept}
 use Rattle.stage_laws.specs.Narrowing.{has_context}

@@ -16,7 +16,8 @@ use Rattle.stage_spec.specs.Hardware.{Hardware, mask_of}
 use Rattle.stage_spec.specs.Replies.{seated}
 use Rattle.stage_spec.specs.Stage.{Stage, Group, members_of}
 use Rattle.stage_spec.specs.Tight.{masks_of}
-use Rattle.stage_spec.specs.Verdict.{Judged, is_eligible, passes, judge, judge_pass, judge_passes, verdicts, stands_on, groups_on, with_masks, standing_among}
+use Rattle.stage_spec.specs.Verdict.{Judged, is_eligible, passes, judge, judge_pass, judge_passes, verdicts, groups_on, with_masks, standing_among}
+use Rattle.perf_base.specs.Standings.{stands_on}
 use Rattle.stage_laws.specs.Standings.{Brief, brief_of, briefs, standings}
 use Rattle.stage_laws.proofs.Briefs.{by_briefs}
 use Rattle.stage_laws.proofs.ByStandings.{settled_by_briefs}

@@ -13,7 +13,8 @@ use Rattle.stage_spec.specs.declared.instance.Instance.{Instance}
 use Rattle.stage_spec.specs.Effective.{effective, is_ready, ready_members}
 use Rattle.stage_spec.specs.Hardware.{Hardware}
 use Rattle.stage_spec.specs.Stage.{Group, members_of}
-use Rattle.stage_spec.specs.Verdict.{Judged, is_eligible, passes, verdicts, stands_on, groups_on, standing_among}
+use Rattle.stage_spec.specs.Verdict.{Judged, is_eligible, passes, verdicts, groups_on, standing_among}
+use Rattle.perf_base.specs.Standings.{stands_on}
 use Rattle.stage_laws.proofs.Counts.{count-cons, count-append, count-filter}
 use Rattle.stage_laws.proofs.Images.{filter-map}
 use Rattle.world_spec.specs.Value.{World, entry_at, instance_at, standing_at, is_key, times}

@@ -10,7 +10,7 @@ use Rattle.stage_spec.specs.Checks.{has_unknown_sample}
 use Rattle.stage_spec.specs.Flags.{is_pinned}
 use Rattle.stage_spec.specs.Hardware.{Hardware}
 use Rattle.stage_spec.specs.Opening.{is_used, joined, add_group, opened}
-use Rattle.stage_spec.specs.Places.{context_of}
+use Rattle.perf_base.specs.Contexts.{context_of}
 use Rattle.stage_spec.specs.Stage.{Stage, Group, Lists, alone, place_of, change_context}
 use Rattle.stage_laws.specs.Sound.{has_id}
 use Rattle.world_spec.specs.Value.{World, is_live, entry_at, instance_at}

@@ -17,7 +17,7 @@ use Rattle.stage_spec.specs.Fits.{fits}
 use Rattle.stage_spec.specs.Hardware.{Hardware, is_software, mask_of, counters_of}
 use Rattle.stage_spec.specs.Limits.{HasShape}
 use Rattle.stage_spec.specs.Opening.{is_used, is_other_pmu}
-use Rattle.stage_spec.specs.Places.{context_of}
+use Rattle.perf_base.specs.Contexts.{context_of}
 use Rattle.stage_spec.specs.Reading.{is_error}
 use Rattle.stage_spec.specs.Shares.{no_sums}
 use Rattle.stage_spec.specs.Stage.{place_of}

@@ -1,5 +1,6 @@
 pub mod Adding
 pub mod Agreement
+pub mod Asking
 pub mod Changes
 pub mod Comings
 pub mod Copying
@@ -11,8 +12,11 @@ pub mod Kept
 pub mod Laws
 pub mod Listings
 pub mod Moves
+pub mod Quiet
 pub mod Rescheduled
+pub mod Shares
 pub mod StageOf
 pub mod Staying
+pub mod Stepping
 pub mod Value
 pub mod Working

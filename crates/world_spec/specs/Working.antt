@@ -6,7 +6,8 @@ use Rattle.perf_base.specs.declared.numbers.Key.{Key}
 use Rattle.stage_spec.specs.Effective.{effective, is_ready}
 use Rattle.stage_spec.specs.Hardware.{Hardware}
 use Rattle.stage_spec.specs.Shares.{ready_instances}
-use Rattle.stage_spec.specs.Verdict.{on_instances, stands_on}
+use Rattle.stage_spec.specs.Verdict.{on_instances}
+use Rattle.perf_base.specs.Standings.{stands_on}
 use Rattle.world_spec.specs.Value.{World, entry_at, instance_at, standing_at}
 use Rattle.world_spec.specs.StageOf.{stage_of}
 use Rattle.world_spec.specs.Kept.{IsKept}

@@ -13,6 +13,9 @@ ghost use Rattle.world_spec.specs.Moves.{MoveKeptLaw, MoveLaw};
 ghost use Rattle.world_spec.specs.Rescheduled.{FailKeptLaw, FailLaw, FailStageLaw, LeftLaw, SeatsAnswerLaw};
 ghost use Rattle.world_spec.specs.Staying.{AddStaysLaw, FoldStaysLaw, GoStaysLaw, OriginLaw};
 ghost use Rattle.world_spec.specs.Working.{OnLaw, ReadyLaw};
+ghost use Rattle.world_spec.specs.Asking.{AnswerLaw};
+ghost use Rattle.world_spec.specs.Quiet.{QuietLaw, RefusedLaw};
+ghost use Rattle.world_spec.specs.Stepping.{LosingLaw, SteppedLaw};
 
 /// A new own state is that of the stage's instance, and keeps the world where only a leader gets an error.
 pub fn own_states_are_set()
@@ -202,4 +205,31 @@ pub fn others_stay()
 pub fn instances_work()
     ensures on { OnLaw }
     ensures ready { ReadyLaw }
+{}
+
+/// Where a world agrees with a record, a world that a step leads to agrees with the record after that step, if the step
+/// loses no record.
+pub fn steps_lead_to_records()
+    ensures { SteppedLaw }
+{}
+
+/// So where the step loses records, whose losses the world counts.
+pub fn losing_steps_lead_to_records()
+    ensures { LosingLaw }
+{}
+
+/// A step that is no stretch of work, no switch that is done, no reset and no new period leaves what each instance has
+/// counted and what is left of its period.
+pub fn quiet_steps_leave_accounts()
+    ensures { QuietLaw }
+{}
+
+/// A step that is refused leads to the world itself.
+pub fn refused_steps_leave_worlds()
+    ensures { RefusedLaw }
+{}
+
+/// What a world answers by what its families have counted and lost is the answer by each record with which it agrees.
+pub fn worlds_answer_by_records()
+    ensures { AnswerLaw }
 {}

@@ -72,8 +72,7 @@ pub fn machine(alloc: Global) -> Result<World, NoMemory>
         [0, 0, 1, 0, 0, 0, 0, 0, 0, 0, 0, 0, 0, 0, 0, 0],
         [3, 1, 1, 0, 0, 0, 0, 0, 0, 0, 0, 0, 0, 0, 0, 0],
     );
-    // A reader tells what always holds of the PMUs.
-    let _cpus = pmus.cpus();
+    pmus.use_invariant();
     World::new(alloc, pmus, &[TaskNo(5), TaskNo(6), TaskNo(7)])
 }
 
@@ -142,8 +141,7 @@ fn open_event(world: &mut World, slot: EventNo, attr: &Attr, leader: Option<Even
     ensures steady { IsSteady world.new }
     ensures drawn { world.new.quiet.next_id ≤ world.old.quiet.next_id + 1 }
 {
-    // A reader tells what always holds of a world.
-    let _pmus = world.pmus();
+    world.use_invariant();
     if slot.0 >= 256 || !is_asked(attr) || !is_slot(leader) {
         return false;
     }

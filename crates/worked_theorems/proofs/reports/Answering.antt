@@ -22,7 +22,7 @@ use Rattle.stage_spec.specs.History.{Step, SeenStep, stage_step, steps_from, his
 use Rattle.stage_spec.specs.Shares.{share}
 use Rattle.stage_spec.specs.Occurrences.{left_after, overflows}
 use Rattle.stage_spec.specs.Replies.{why_of}
-use Rattle.report_spec.specs.Report.{report, hexadecimal, record_lines}
+use Rattle.report_spec.specs.Report.{report, hexadecimal_digits, record_lines}
 use Rattle.ring_spec.specs.Running.{Running, first_record, record_after}
 use Rattle.worked_theorems.proofs.Answering.{AnswerBy, answer_by}
 use Rattle.worked_theorems.proofs.Answered.{RunRings, look_ok}
@@ -46,7 +46,7 @@ answers_by hw End k (x ∷ steps) (a ∷ replies) h = (answer_by hw k x a h.0, a
 
 -- So for a script's order, and its report at the end. Where this is unfolded, so is all that it computes with.
 unfoldable pub Computed : Scripted → List Reply → List ℕ → Type 0
-unfolding AnswersBy digits first_stage fits fits_beside fits_below tight_set tight_after shortest_unfit unfit_after judge judge_pass judge_passes verdicts settle_pass settle settle_each settle_all open_refusal opened command_each with_period mapped_to output_to closed switched rotated copies_from copy_groups forked exited read_words stage_step steps_from share why_of left_after overflows report hexadecimal record_lines
+unfolding AnswersBy digits first_stage fits fits_beside fits_below tight_set tight_after shortest_unfit unfit_after judge judge_pass judge_passes verdicts settle_pass settle settle_each settle_all open_refusal opened command_each with_period mapped_to output_to closed switched rotated copies_from copy_groups forked exited read_words stage_step steps_from share why_of left_after overflows report hexadecimal_digits record_lines
 Computed s replies text = AnswersBy (hardware_of s) (EndsAs s replies text) (first_record (opening_stage s) s.rings) (history s s.order) replies
 
 pub computed : (s : Scripted) (replies : List Reply) (text : List ℕ) → is_filled s replies ≡ true → Computed s replies text → IsWorked s replies text

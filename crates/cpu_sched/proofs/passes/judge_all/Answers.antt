@@ -46,14 +46,14 @@ returns-clause-judged g c =
     let v : World = c.clear_seats.new.self in
     let e : Seated = empty_seating (seats_at c.args.world.now c.args.cpu).counters in
     let low : c.args.cpu.0 < length c.args.world.now.quiet.seats =
-    low-before c.args.world.now v c.args.cpu e c.requires c.own_context-own.ensures.kept.tables.seats c.clear_seats.ensures.world in
+    low-before c.args.world.now v c.args.cpu e c.requires c.use_processor.ensures.kept.tables.seats c.clear_seats.ensures.world in
     let hardware : c.loop-pass.world.hardware ≡ v.hardware = ap (λ (w : World). w.hardware) c.loop-pass.invariant.world in
     let all : take c.loop-pass.pass (pass_leaders v c.args.cpu) ≡ pass_leaders v c.args.cpu = take_all c.loop-pass.pass (pass_leaders v c.args.cpu) (omega (arith, c.loop-pass-test.false)) in
     let tallied : is_tallied v c.loop-pass.world c.args.cpu c.loop-pass.so_far =
     c.loop-pass.invariant.tally ∙ (λ i. fold (tell_pass v.hardware c.args.cpu (group_at v)) (tally_in v c.args.cpu (c.new-so_far.ensures i)) (all i)) in
     subst (λ hw. IsJudged hw c.loop-pass.world c.args.cpu) (ap (λ (w : World). w.hardware) c.clear_seats.ensures.world)
-    (all-judged v c.loop-pass.world c.args.cpu c.loop-pass.so_far c.own_context-own.ensures.kept
-    (subst (λ hw. IsKept hw c.loop-pass.world) hardware c.own_context-own-2.ensures.kept) (low-after c.args.world.now v c.args.cpu e low c.clear_seats.ensures.world) c.loop-pass.invariant.world
+    (all-judged v c.loop-pass.world c.args.cpu c.loop-pass.so_far c.use_processor.ensures.kept
+    (subst (λ hw. IsKept hw c.loop-pass.world) hardware c.use_processor-2.ensures.kept) (low-after c.args.world.now v c.args.cpu e low c.clear_seats.ensures.world) c.loop-pass.invariant.world
     (ap (λ s. s.events) (cleared-at c.args.cpu c.args.world.now v e low c.clear_seats.ensures.world)) tallied)
 
 pub returns-clause-others : goal.returns-clause-others
@@ -61,12 +61,12 @@ returns-clause-others g c =
     let v : World = c.clear_seats.new.self in
     let e : Seated = empty_seating (seats_at c.args.world.now c.args.cpu).counters in
     let low : c.args.cpu.0 < length c.args.world.now.quiet.seats =
-    low-before c.args.world.now v c.args.cpu e c.requires c.own_context-own.ensures.kept.tables.seats c.clear_seats.ensures.world in
+    low-before c.args.world.now v c.args.cpu e c.requires c.use_processor.ensures.kept.tables.seats c.clear_seats.ensures.world in
     let all : take c.loop-pass.pass (pass_leaders v c.args.cpu) ≡ pass_leaders v c.args.cpu = take_all c.loop-pass.pass (pass_leaders v c.args.cpu) (omega (arith, c.loop-pass-test.false)) in
     let tallied : is_tallied v c.loop-pass.world c.args.cpu c.loop-pass.so_far =
     c.loop-pass.invariant.tally ∙ (λ i. fold (tell_pass v.hardware c.args.cpu (group_at v)) (tally_in v c.args.cpu (c.new-so_far.ensures i)) (all i)) in
     λ k away.
-    others-stand v c.loop-pass.world c.args.cpu c.loop-pass.so_far c.own_context-own.ensures.kept (ap (λ s. s.events) (cleared-at c.args.cpu c.args.world.now v e low c.clear_seats.ensures.world)) tallied k
+    others-stand v c.loop-pass.world c.args.cpu c.loop-pass.so_far c.use_processor.ensures.kept (ap (λ s. s.events) (cleared-at c.args.cpu c.args.world.now v e low c.clear_seats.ensures.world)) tallied k
     (ap (λ (w : World). has_context (stage_of w) c.args.cpu (entry_at w k).context) c.clear_seats.ensures.world ∙ away)
     ∙ ap (λ (w : World). standing_at w k) c.clear_seats.ensures.world
 
@@ -75,7 +75,7 @@ returns-clause-world g c =
     let v : World = c.clear_seats.new.self in
     let e : Seated = empty_seating (seats_at c.args.world.now c.args.cpu).counters in
     let low : c.args.cpu.0 < length c.args.world.now.quiet.seats =
-    low-before c.args.world.now v c.args.cpu e c.requires c.own_context-own.ensures.kept.tables.seats c.clear_seats.ensures.world in
+    low-before c.args.world.now v c.args.cpu e c.requires c.use_processor.ensures.kept.tables.seats c.clear_seats.ensures.world in
     retold-twice c.args.cpu c.args.world.now v c.loop-pass.world (cleared c.args.cpu c.args.world.now v e low c.clear_seats.ensures.world) c.loop-pass.invariant.world
 
 -- no event is on the counters that were cleared
@@ -84,7 +84,7 @@ returns-clause-least g c =
     let v : World = c.clear_seats.new.self in
     let e : Seated = empty_seating (seats_at c.args.world.now c.args.cpu).counters in
     let low : c.args.cpu.0 < length c.args.world.now.quiet.seats =
-    low-before c.args.world.now v c.args.cpu e c.requires c.own_context-own.ensures.kept.tables.seats c.clear_seats.ensures.world in
+    low-before c.args.world.now v c.args.cpu e c.requires c.use_processor.ensures.kept.tables.seats c.clear_seats.ensures.world in
     omega (arith, c.loop-pass.invariant.least, ap (λ s. length s.events) (cleared-at c.args.cpu c.args.world.now v e low c.clear_seats.ensures.world))
 
 pub returns-clause-most : goal.returns-clause-most
@@ -92,7 +92,7 @@ returns-clause-most g c =
     let v : World = c.clear_seats.new.self in
     let e : Seated = empty_seating (seats_at c.args.world.now c.args.cpu).counters in
     let low : c.args.cpu.0 < length c.args.world.now.quiet.seats =
-    low-before c.args.world.now v c.args.cpu e c.requires c.own_context-own.ensures.kept.tables.seats c.clear_seats.ensures.world in
+    low-before c.args.world.now v c.args.cpu e c.requires c.use_processor.ensures.kept.tables.seats c.clear_seats.ensures.world in
     let empty : (seats_at v c.args.cpu).events ≡ [] = ap (λ s. s.events) (cleared-at c.args.cpu c.args.world.now v e low c.clear_seats.ensures.world) in
     let all : take c.loop-pass.pass (pass_leaders v c.args.cpu) ≡ pass_leaders v c.args.cpu = take_all c.loop-pass.pass (pass_leaders v c.args.cpu) (omega (arith, c.loop-pass-test.false)) in
     let whole : tried_passes v.hardware c.args.cpu (group_at v) (tally_in v c.args.cpu c.new-so_far.result) (take c.loop-pass.pass (pass_leaders v c.args.cpu))
@@ -102,6 +102,6 @@ returns-clause-most g c =
       arith,
       c.loop-pass.invariant.most,
       whole,
-      all-tried v c.args.cpu c.own_context-own.ensures.kept empty,
+      all-tried v c.args.cpu c.use_processor.ensures.kept empty,
       ap (λ (w : World). tried w.hardware (stage_of w) c.args.cpu) c.clear_seats.ensures.world,
     )

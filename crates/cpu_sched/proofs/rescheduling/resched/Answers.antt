@@ -37,7 +37,7 @@ returns-clause-others g c =
     λ other low apart.
     others-stay hw c.args.world.now w c.fail_refused.new.world c.args.cpu other
     (record { kept = kept; told = c.judge_all.ensures.world; others = c.judge_all.ensures.others; failed = c.fail_refused.ensures })
-    c.own_context-own.ensures.kept (omega (arith, low, c.own_context-own.ensures.kept.shape.running, c.own_context-own.ensures.hardware.cpus)) apart
+    c.use_processor.ensures.kept (omega (arith, low, c.use_processor.ensures.kept.shape.running, c.use_processor.ensures.hardware.cpus)) apart
 
 pub returns-clause-rest : goal.returns-clause-rest
 returns-clause-rest g c =

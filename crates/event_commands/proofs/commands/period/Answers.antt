@@ -13,4 +13,4 @@ returns-clause-period c =
 pub returns-clause-others : goal.returns-clause-others
 returns-clause-others c = λ cpu low.
     period-others c.args.world.now.hardware c.args.world.now c.set_period.new.self c.args.event c.args.period c.in_ok-original.original cpu c.check_period.ensures.kept
-    c.in_ok-original.ensures.live c.set_period.ensures.world (returns-clause-stage c) (few-cpus c.pmus.result.now c.args.world.now cpu c.check_period.ensures.kept c.pmus.ensures.pmus c.cpus-cpus.ensures.sound.cpus.1 low)
+    c.in_ok-original.ensures.live c.set_period.ensures.world (returns-clause-stage c) (few-cpus c.pmus.result.now c.args.world.now cpu c.check_period.ensures.kept c.pmus.ensures.pmus c.use_invariant.ensures.cpus.1 low)

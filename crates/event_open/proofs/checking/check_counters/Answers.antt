@@ -1,30 +1,14 @@
-use Rattle.std.proofs.Common.{◌++◌, ap, sym, subst, ◌∙◌}
-use Rattle.std.proofs.lemmas.Result.{IfErr-weaker, on_ok_weaker}
-use Rattle.stage_spec.specs.Opening.{unassignable}
-use Rattle.counter_match.specs.Seating.{AreDistinct}
-use Rattle.world_spec.specs.StageOf.{stage_of}
-use Rattle.event_open.specs.Demanded.{demanded_by}
-use Rattle.event_open.proofs.Admitting.{all-distinct, demands-whole}
-use Rattle.event_open.proofs.Refusing.{none-holds}
+use Rattle.std.proofs.Common.{arith, ap, length, map}
+use Rattle.std.proofs.lemmas.List.{length-map}
+use Rattle.world_spec.specs.Value.{instance_at}
+use Rattle.event_open.proofs.Demanding.{length-demanded}
 use Rattle.event_open.proofs.checking.check_counters.Goals as goal
 
-pub group_demands-demands-requires : goal.group_demands-demands-requires
-group_demands-demands-requires c = (none-holds c.args.world.now.hardware (stage_of c.args.world.now) c.args.event c.args.attr.now c.args.leader c.requires.free).room
-
-pub check-requires : goal.check-requires
-check-requires c =
-    subst AreDistinct (sym (demands-whole c.args.world.now c.args.event c.args.attr.now c.args.leader c.group_demands-demands.result c.demand.new.self c.group_demands-demands.ensures.demands (c.demand.ensures ∙ ap (λ hw. c.group_demands-demands.result ++ demanded_by hw c.args.event c.args.attr.now.kind) c.pmus.ensures.pmus)))
-    (all-distinct c.args.world.now c.args.event c.args.attr.now c.args.leader c.pmus.ensures.kept
-    (none-holds c.args.world.now.hardware (stage_of c.args.world.now) c.args.event c.args.attr.now c.args.leader c.requires.free).unused)
-
-pub returns-clause-ok : goal.returns-clause-ok
-returns-clause-ok c =
-    on_ok_weaker c.check.result
-    (λ fits. ap unassignable (sym (demands-whole c.args.world.now c.args.event c.args.attr.now c.args.leader c.group_demands-demands.result c.demand.new.self c.group_demands-demands.ensures.demands (c.demand.ensures ∙ ap (λ hw. c.group_demands-demands.result ++ demanded_by hw c.args.event c.args.attr.now.kind) c.pmus.ensures.pmus))) ∙ fits)
-    c.check.ensures.ok
-
-pub returns-clause-err : goal.returns-clause-err
-returns-clause-err c =
-    IfErr-weaker c.check.result _ _
-    (λ reason is. ap unassignable (sym (demands-whole c.args.world.now c.args.event c.args.attr.now c.args.leader c.group_demands-demands.result c.demand.new.self c.group_demands-demands.ensures.demands (c.demand.ensures ∙ ap (λ hw. c.group_demands-demands.result ++ demanded_by hw c.args.event c.args.attr.now.kind) c.pmus.ensures.pmus))) ∙ is)
-    c.check.ensures.err
+pub demand-requires-clause-room : goal.demand-requires-clause-room
+demand-requires-clause-room c = omega (
+  arith,
+  ap length c.demands_of-demands.ensures,
+  length-demanded c.args.world.now.hardware (map (instance_at c.args.world.now) c.args.members.now),
+  length-map c.args.members.now (instance_at c.args.world.now),
+  c.requires.room,
+)

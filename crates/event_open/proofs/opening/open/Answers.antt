@@ -1,5 +1,5 @@
 use Rattle.std.proofs.Common.{◌≡◌, rules, arith, None, sym, subst, ◌∙◌}
-use Rattle.stage_spec.specs.Places as places
+use Rattle.perf_base.specs.Contexts as contexts
 use Rattle.world_spec.specs.Adding.{add}
 use Rattle.world_spec.specs.Value.{World}
 use Rattle.perf_world.specs.Parts.{newcomer, MayAdd}
@@ -12,20 +12,20 @@ use Rattle.event_open.proofs.opening.open.Goals as goal
 
 pub add-requires-clause-may : goal.add-requires-clause-may
 add-requires-clause-may c =
-    subst (λ n. MayAdd c.args.world.now n) (λ i. newcomer c.args.event c.args.attr.now (sym c.leader_of-first.ensures i) None (sym c.context_of-context.ensures i))
-    (may-add c.args.world.now c.args.event c.args.attr.now c.args.leader c.cpus_with-cpus.ensures.kept c.requires.slot c.requires.attr c.cpus_with-cpus.ensures.few c.requires.room c.in_ok-check_open.ensures.ok)
+    subst (λ n. MayAdd c.args.world.now n) (λ i. newcomer c.args.event c.args.attr.now (sym c.in_ok-first.ensures.key i) None (sym c.context-context.ensures i))
+    (may-add c.args.world.now c.args.event c.args.attr.now c.args.leader c.cpus_with-cpus.ensures.kept c.requires.slot c.requires.attr c.cpus_with-cpus.ensures.few c.requires.room c.in_ok-first.ensures.ok)
 
 pub returns : goal.returns
 returns c =
     let w : World = c.args.world.now in
     let may : MayAdd w (opened_as w c.args.event c.args.attr.now c.args.leader) =
-    may-add w c.args.event c.args.attr.now c.args.leader c.cpus_with-cpus.ensures.kept c.requires.slot c.requires.attr c.cpus_with-cpus.ensures.few c.requires.room c.in_ok-check_open.ensures.ok in
+    may-add w c.args.event c.args.attr.now c.args.leader c.cpus_with-cpus.ensures.kept c.requires.slot c.requires.attr c.cpus_with-cpus.ensures.few c.requires.room c.in_ok-first.ensures.ok in
     let now : c.add.new.self ≡ add c.add.result (opened_as w c.args.event c.args.attr.now c.args.leader) w =
-    c.add.ensures.world ∙ (λ i. add c.add.result (newcomer c.args.event c.args.attr.now (c.leader_of-first.ensures i) None (c.context_of-context.ensures i)) w) in
+    c.add.ensures.world ∙ (λ i. add c.add.result (newcomer c.args.event c.args.attr.now (c.in_ok-first.ensures.key i) None (c.context-context.ensures i)) w) in
     let o : IsOpened w c.add.new.self c.args.event c.args.attr.now c.args.leader =
-    is-opened w c.add.new.self c.args.event c.args.attr.now c.args.leader c.add.result c.cpus_with-cpus.ensures.kept may c.in_ok-check_open.ensures.ok c.add.ensures.fresh now in
+    is-opened w c.add.new.self c.args.event c.args.attr.now c.args.leader c.add.result c.cpus_with-cpus.ensures.kept may c.in_ok-first.ensures.ok c.add.ensures.fresh now in
     record {
-      accepted = c.in_ok-check_open.ensures.ok;
+      accepted = c.in_ok-first.ensures.ok;
       refused = search rules;
       same = search rules;
       world = record {
@@ -39,6 +39,6 @@ returns c =
       stage = o.stage;
       processors = search rules;
       within = search rules;
-      others = λ cpu low out. o.others cpu (omega (arith, low, c.cpus_with-cpus.ensures.few)) (not-among w cpu c.context_of-context.result (places.context_of c.args.attr.now) _ (c.cpus_with-cpus.ensures.there cpu) c.context_of-context.ensures low out);
-      verdicts = λ cpu low out. o.verdicts cpu (not-among w cpu c.context_of-context.result (places.context_of c.args.attr.now) _ (c.cpus_with-cpus.ensures.there cpu) c.context_of-context.ensures low out);
+      others = λ cpu low out. o.others cpu (omega (arith, low, c.cpus_with-cpus.ensures.few)) (not-among w cpu c.context-context.result (contexts.context_of c.args.attr.now) _ (c.cpus_with-cpus.ensures.there cpu) c.context-context.ensures low out);
+      verdicts = λ cpu low out. o.verdicts cpu (not-among w cpu c.context-context.result (contexts.context_of c.args.attr.now) _ (c.cpus_with-cpus.ensures.there cpu) c.context-context.ensures low out);
     }

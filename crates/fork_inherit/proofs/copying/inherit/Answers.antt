@@ -14,7 +14,7 @@ pub add-copy-requires-clause-may : goal.add-copy-requires-clause-may
 add-copy-requires-clause-may c =
     subst (MayAdd c.args.world.now)
     (sym (same-newcomer c.args.world.now.hardware c.args.world.now (instance_at c.args.world.now c.args.key) c.event_of-event.result c.attr-attr.result c.attr.result.period c.origin-origin.result c.args.child c.args.leader
-    c.pmus-pmus.ensures.kept c.event_of-event.ensures c.attr-attr.ensures (ap (λ (a : Attr). a.period) c.attr.ensures) c.origin-origin.ensures.origin))
+    c.use_invariant.ensures c.event_of-event.ensures c.attr-attr.ensures (ap (λ (a : Attr). a.period) c.attr.ensures) c.origin-origin.ensures.origin))
     c.requires.may
 
 pub add-copy-requires-clause-origin : goal.add-copy-requires-clause-origin
@@ -25,15 +25,15 @@ set_own-requires-clause-live c =
     let n : Newcomer = copy_from c.args.world.now c.args.child (instance_at c.args.world.now c.args.key) c.args.leader in
     let same : newcomer c.event_of-event.result (record c.attr-attr.result { period = c.attr.result.period }) c.args.leader (Some c.origin-origin.result) (context.Task c.args.child) ≡ n =
     same-newcomer c.args.world.now.hardware c.args.world.now (instance_at c.args.world.now c.args.key) c.event_of-event.result c.attr-attr.result c.attr.result.period c.origin-origin.result c.args.child c.args.leader
-    c.pmus-pmus.ensures.kept c.event_of-event.ensures c.attr-attr.ensures (ap (λ (a : Attr). a.period) c.attr.ensures) c.origin-origin.ensures.origin in
+    c.use_invariant.ensures c.event_of-event.ensures c.attr-attr.ensures (ap (λ (a : Attr). a.period) c.attr.ensures) c.origin-origin.ensures.origin in
     ap (λ (w : World). is_live w c.add-copy.result) (c.add-copy.ensures.world ∙ ap (λ x. add c.add-copy.result x c.args.world.now) same)
-    ∙ (has-come c.args.world.now c.add-copy.result n c.pmus-pmus.ensures.kept c.add-copy.ensures.fresh c.requires.may).live
+    ∙ (has-come c.args.world.now c.add-copy.result n c.use_invariant.ensures c.add-copy.ensures.fresh c.requires.may).live
 
 pub returns-clause-world : goal.returns-clause-world
 returns-clause-world c =
     let same : newcomer c.event_of-event.result (record c.attr-attr.result { period = c.attr.result.period }) c.args.leader (Some c.origin-origin.result) (context.Task c.args.child)
     ≡ copy_from c.args.world.now c.args.child (instance_at c.args.world.now c.args.key) c.args.leader =
     same-newcomer c.args.world.now.hardware c.args.world.now (instance_at c.args.world.now c.args.key) c.event_of-event.result c.attr-attr.result c.attr.result.period c.origin-origin.result c.args.child c.args.leader
-    c.pmus-pmus.ensures.kept c.event_of-event.ensures c.attr-attr.ensures (ap (λ (a : Attr). a.period) c.attr.ensures) c.origin-origin.ensures.origin in
+    c.use_invariant.ensures c.event_of-event.ensures c.attr-attr.ensures (ap (λ (a : Attr). a.period) c.attr.ensures) c.origin-origin.ensures.origin in
     c.set_own.ensures.world
     ∙ (λ i. set_own c.add-copy.result ((c.copied_state-own.ensures ∙ ap copied_state c.own.ensures) i) ((c.add-copy.ensures.world ∙ ap (λ x. add c.add-copy.result x c.args.world.now) same) i))

@@ -9,27 +9,27 @@ use Rattle.fork_inherit.proofs.Listed.{list-here, as-picked}
 use Rattle.fork_inherit.proofs.copying.inherit_list.Goals as goal
 
 pub loop-place-init : goal.loop-place-init
-loop-place-init c = copied-none c.args.child c.args.world.now c.pmus-pmus.ensures.kept
+loop-place-init c = copied-none c.args.child c.args.world.now c.use_invariant.ensures
 
 pub bounds-list-place : goal.bounds-list-place
 bounds-list-place c =
     (list-here c.args.child c.args.parent c.args.pinned c.args.world.now c.loop-place.world c.loop-place.place c.list-place-end.result.now c.list.result.now (record { 0 = 0 })
-    c.pmus-pmus.ensures.kept c.requires.may c.loop-place.invariant c.list-place-end.ensures.list c.loop-place-test.true c.list.ensures.list).low
+    c.use_invariant.ensures c.requires.may c.loop-place.invariant c.list-place-end.ensures.list c.loop-place-test.true c.list.ensures.list).low
 
 pub inherit_if_wanted-requires-clause-live : goal.inherit_if_wanted-requires-clause-live
 inherit_if_wanted-requires-clause-live c =
     (list-here c.args.child c.args.parent c.args.pinned c.args.world.now c.loop-place.world c.loop-place.place c.list-place-end.result.now c.list.result.now (record { 0 = 0 })
-    c.pmus-pmus.ensures.kept c.requires.may c.loop-place.invariant c.list-place-end.ensures.list c.loop-place-test.true c.list.ensures.list).at.live
+    c.use_invariant.ensures c.requires.may c.loop-place.invariant c.list-place-end.ensures.list c.loop-place-test.true c.list.ensures.list).at.live
 
 pub inherit_if_wanted-requires-clause-may : goal.inherit_if_wanted-requires-clause-may
 inherit_if_wanted-requires-clause-may c =
     (list-here c.args.child c.args.parent c.args.pinned c.args.world.now c.loop-place.world c.loop-place.place c.list-place-end.result.now c.list.result.now (record { 0 = 0 })
-    c.pmus-pmus.ensures.kept c.requires.may c.loop-place.invariant c.list-place-end.ensures.list c.loop-place-test.true c.list.ensures.list).at.may
+    c.use_invariant.ensures c.requires.may c.loop-place.invariant c.list-place-end.ensures.list c.loop-place-test.true c.list.ensures.list).at.may
 
 pub loop-place-preserved : goal.loop-place-preserved
 loop-place-preserved c =
     (list-here c.args.child c.args.parent c.args.pinned c.args.world.now c.loop-place.world c.loop-place.place c.list-place-end.result.now c.list.result.now (record { 0 = 0 })
-    c.pmus-pmus.ensures.kept c.requires.may c.loop-place.invariant c.list-place-end.ensures.list c.loop-place-test.true c.list.ensures.list).at.next c.inherit_if_wanted.new.world c.inherit_if_wanted.ensures.copied
+    c.use_invariant.ensures c.requires.may c.loop-place.invariant c.list-place-end.ensures.list c.loop-place-test.true c.list.ensures.list).at.next c.inherit_if_wanted.new.world c.inherit_if_wanted.ensures.copied
 
 pub returns : goal.returns
 returns c =

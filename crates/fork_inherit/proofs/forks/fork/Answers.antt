@@ -40,4 +40,4 @@ returns-clause-others c =
     (is-free c.args.world.now c.args.cpu c.args.child c.in_ok-parent.parent c.in_ok-parent.ensures.parent c.in_ok-parent.ensures.accepted)
     (both-copied c.args.world.now c.inherit_list.new.world c.inherit_list-2.new.world c.args.cpu c.args.child c.in_ok-parent.parent c.pmus.ensures.kept
     (is-free c.args.world.now c.args.cpu c.args.child c.in_ok-parent.parent c.in_ok-parent.ensures.parent c.in_ok-parent.ensures.accepted) c.inherit_list.ensures.copied c.inherit_list-2.ensures.copied) c.add_task.ensures.stage)
-    (omega (arith, low, c.pmus.ensures.kept.shape.running, ap (λ (hw : Hardware). length hw.cpu_pmus) c.pmus.ensures.pmus, c.cpus-cpus.ensures.sound.cpus.1))
+    (omega (arith, low, c.pmus.ensures.kept.shape.running, ap (λ (hw : Hardware). length hw.cpu_pmus) c.pmus.ensures.pmus, c.use_invariant.ensures.cpus.1))

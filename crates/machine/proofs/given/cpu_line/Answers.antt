@@ -2,8 +2,8 @@ use Rattle.std.proofs.Common.{length, refl, sym, subst}
 use Rattle.perf_base.specs.Scripts.{IsCpuLine}
 use Rattle.perf_base.specs.declared.lines.CpuLine.TheVariants as line
 use Rattle.stage_spec.specs.History.{CpuStep}
-use Rattle.line_steps.specs.Stepped.{IsDoneWith}
-use Rattle.line_steps.proofs.Refused.{stays-same}
+use Rattle.machine.specs.Stepped.{IsDoneWith}
+use Rattle.machine.proofs.Refused.{stays-same}
 use Rattle.machine.proofs.Lines.{work-room}
 use Rattle.machine.proofs.Stepped.{cpu-sends}
 use Rattle.machine.proofs.given.cpu_line.Goals as goal

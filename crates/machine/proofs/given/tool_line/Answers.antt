@@ -1,7 +1,7 @@
 use Rattle.std.proofs.Common.{sym, subst}
 use Rattle.stage_spec.specs.History.{ToolStep}
-use Rattle.line_steps.specs.Stepped.{IsDone}
-use Rattle.line_steps.proofs.Refused.{stays-same}
+use Rattle.machine.specs.Stepped.{IsDone}
+use Rattle.machine.proofs.Refused.{stays-same}
 use Rattle.machine.proofs.given.tool_line.Goals as goal
 
 pub returns-clause-done : goal.returns-clause-done

@@ -1,9 +1,8 @@
 use Rattle.std.specs.Prelude.{◌≡◌, ℕ, List, ◌∷◌, [], ◌++◌, map}
 use Rattle.perf_base.specs.declared.acts.Act.{Act}
-use Rattle.perf_base.specs.declared.acts.Actor.{Actor}
-use Rattle.perf_base.specs.declared.reply.Reply.{Reply}
+use Rattle.perf_base.specs.declared.reply.Answer.{Answer}
 use Rattle.std.proofs.Common.{ap, subst, sym, ◌∙◌}
-use Rattle.report_spec.specs.Answers.{answered, lost_in}
+use Rattle.report_spec.specs.Answers.{lost_in}
 use Rattle.stage_spec.specs.Replies.{AnswerOrder}
 use Rattle.machine.specs.Leading.{act_of, done_by}
 use Rattle.perf_book.proofs.Answering.{answered-line, same-loads}
@@ -12,12 +11,12 @@ use Rattle.perf_book.proofs.doing.do_line.Goals as goal
 pub returns-clause-answered : goal.returns-clause-answered
 returns-clause-answered c =
     let acts : List Act = c.args.order.now.items in
-    let answers : List (Actor × ℕ × Reply) = c.args.answers.now.items in
+    let answers : List Answer = c.args.answers.now.items in
     let act : c.push_reserved.new.self.items ≡ acts ++ act_of c.args.actor ∷ [] = c.push_reserved.ensures.items ∙ ap (λ a. acts ++ a ∷ []) c.act_of.ensures in
-    let answer : c.push_reserved-2.new.self.items ≡ answers ++ (c.args.actor, done_by c.args.actor c.args.machine.now, c.line-reply.result) ∷ [] =
-    c.push_reserved-2.ensures.items ∙ (λ i. answers ++ (c.args.actor, c.done-number.ensures i, c.new.ensures i) ∷ []) in
-    subst (λ items. AnswerOrder c.args.script.now (lost_in c.args.script.now) items (map answered c.push_reserved-2.new.self.items)) (sym act)
-    (subst (λ items. AnswerOrder c.args.script.now (lost_in c.args.script.now) (acts ++ act_of c.args.actor ∷ []) (map answered items)) (sym answer)
+    let answer : c.push_reserved-2.new.self.items ≡ answers ++ record { actor = c.args.actor; number = done_by c.args.actor c.args.machine.now; reply = c.line-reply.result } ∷ [] =
+    c.push_reserved-2.ensures.items ∙ (λ i. answers ++ record { actor = c.args.actor; number = c.done-number.ensures i; reply = c.new.ensures i } ∷ []) in
+    subst (λ items. AnswerOrder c.args.script.now (lost_in c.args.script.now) items c.push_reserved-2.new.self.items) (sym act)
+    (subst (λ items. AnswerOrder c.args.script.now (lost_in c.args.script.now) (acts ++ act_of c.args.actor ∷ []) items) (sym answer)
     (answered-line c.args.script.now acts c.args.machine.now c.args.actor c.line-reply.result answers c.requires.line c.requires.led (c.line-reply.ensures.reply acts c.requires.led) c.requires.answered))
 
 pub returns-clause-loads : goal.returns-clause-loads

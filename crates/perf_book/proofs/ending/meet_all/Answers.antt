@@ -6,10 +6,10 @@ use Rattle.perf_base.specs.Scripts.{Scripted, IsScript}
 use Rattle.perf_base.specs.Weight.{weight}
 use Rattle.ring_spec.specs.Records.{words_of}
 use Rattle.ring_spec.specs.Rings.{account_in, bytes_of}
-use Rattle.sample_ring.specs.RingLists.{place_of}
+use Rattle.sample_ring.specs.RingLists.{ring_index}
 use Rattle.stage_spec.specs.Order.{last_seen}
 use Rattle.machine.specs.Leading.{Kept}
-use Rattle.machine.specs.Readers.{records_in, released_in, words_in}
+use Rattle.machine.specs.Readers.{records_taken, released_in, words_in}
 use Rattle.machine.proofs.Seen.{end-seen}
 use Rattle.perf_book.proofs.Declared.{all-declared}
 use Rattle.machine.proofs.Behind.{all-behind, ends-of-rings, its-reader, meet-behind, none-behind, numbers-of}
@@ -59,7 +59,7 @@ loop-ring-preserved c =
     let sound : IsScript s = c.rings-ring-items.ensures.sound in
     let same_rings : items ≡ s.rings = c.rings-ring-items.ensures.rings in
     let low : k < length s.rings = omega (arith, c.loop-ring-test.true, ap length same_rings) in
-    let place : place_of m.outs.numbers ring ≡ k = kth-place s now m items k sound h.led same_rings c.loop-ring-test.true in
+    let place : ring_index m.outs.numbers ring ≡ k = kth-place s now m items k sound h.led same_rings c.loop-ring-test.true in
     let end = kth-end s now m items k sound h.led same_rings c.loop-ring-test.true in
     let next : IsNext s.rings k now later = subst (λ rings. IsNext rings k now later) same_rings (c.meet_at.ensures.looked s h.led) in
     let met = meet-behind words k ring m.outs c.meet_at.new.machine.outs c.loop-ring.ins c.meet_at.new.ins (omega (arith, low, ends-of-rings s now m h.led)) place
@@ -67,7 +67,7 @@ loop-ring-preserved c =
     let same : SameReaders c.loop-ring.ins c.meet_at.new.ins = met-same words k ring m.outs c.loop-ring.ins c.meet_at.new.ins end.0 end.1 place c.meet_at.ensures.reader h.readers in
     let all_same : SameReaders c.args.ins.now c.meet_at.new.ins = same-then c.args.ins.now c.loop-ring.ins c.meet_at.new.ins h.same same in
     let seen : last_seen ring later ≡ released_in c.loop-ring.ins ring = c.meet_at.ensures.seen s h.led in
-    let records : words_in c.args.ins.now ring ≡ words_of (take (records_in c.args.ins.now ring) (account_in s before (ring, bytes_of s ring)).written) =
+    let records : words_in c.args.ins.now ring ≡ words_of (take (records_taken c.args.ins.now ring) (account_in s before (ring, bytes_of s ring)).written) =
     sym (same-words c.args.ins.now c.meet_at.new.ins ring all_same)
     ∙ (c.meet_at.ensures.words s h.led
     ∙ (λ i. words_of (take (same-records c.args.ins.now c.meet_at.new.ins ring all_same i) (written-looked s k before now (ring, bytes_of s ring) h.looked i)))) in

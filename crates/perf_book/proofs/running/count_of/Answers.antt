@@ -11,11 +11,11 @@ returns c = elim c.match-actor.branch [
   | in-Tool w ↦ search rules
   | in_default-2 w ↦
       let none : lines_of_cpu c.args.script.now w.in-Processor.cpu ≡ [] =
-      get_or_past c.args.script.now.cpu_lines w.in-Processor.cpu.0 [] (omega (arith, w.if-cpu-lt8.false, c.cpus-cpus.ensures.sound.processors)) in
+      get_or_past c.args.script.now.cpu_lines w.in-Processor.cpu.0 [] (omega (arith, w.if-cpu-lt8.false, c.use_invariant.ensures.processors)) in
       w.count-is ∙ sym (ap (count_of c.args.script.now) w.in-Processor.is ∙ ap length none)
   | in_default-3 w ↦
       let none : lines_of_tool c.args.script.now w.in-Tool.tool ≡ [] =
-      get_or_past c.args.script.now.tool_lines w.in-Tool.tool.0 [] (omega (arith, w.if-tool-lt4.false, c.cpus-cpus.ensures.sound.tools)) in
+      get_or_past c.args.script.now.tool_lines w.in-Tool.tool.0 [] (omega (arith, w.if-tool-lt4.false, c.use_invariant.ensures.tools)) in
       w.count-is ∙ sym (ap (count_of c.args.script.now) w.in-Tool.is ∙ ap length none)
   | in_default w ↦ w.count-is ∙ sym (ap (count_of c.args.script.now) w.in_default.is)
 ]

@@ -1,4 +1,5 @@
-use Rattle.perf_top.specs.Outcome.{IsReplayed, report_by}
+use Rattle.perf_top.specs.Outcome.{IsReplayed}
+use Rattle.report.specs.Told.{report_by}
 use Rattle.perf_top.proofs.Reported.{reported-as}
 use Rattle.perf_top.proofs.replay.replay_all.Goals as goal
 

@@ -1,10 +1,10 @@
 use Rattle.std.proofs.Common.{◌≡◌, Ok, take}
 use Rattle.perf_io.specs.Wrote.{Wrote}
-use Rattle.report.proofs.Entries.{kept_lines}
+use Rattle.report_spec.specs.Report.{answer_lines}
 use Rattle.report.proofs.answers.write_answers.Given as goal
 
 abbrev pub invariant-loop-answer : goal.invariant-loop-answer
 invariant-loop-answer g l = record {
-  wrote : Wrote g.K.Sink.held g.K.Sink.faults g.K.Sink.last_fault l.fn.sink l.sink (Ok tt) (kept_lines l.script (take l.answer-index l.answers));
+  wrote : Wrote g.K.Sink.held g.K.Sink.faults g.K.Sink.last_fault l.fn.sink l.sink (Ok tt) (answer_lines l.script (take l.answer-index l.answers));
   flushed : g.K.Sink.flushed l.sink ≡ g.K.Sink.flushed l.fn.sink;
 }

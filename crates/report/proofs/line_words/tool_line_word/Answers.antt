@@ -6,4 +6,4 @@ use Rattle.report.proofs.line_words.tool_line_word.Goals as goal
 pub returns-then-tool-ge4 : goal.returns-then-tool-ge4
 returns-then-tool-ge4 c =
     ap (λ lines. text.tool_word (slice_get lines c.args.number))
-    (sym (get_or_past c.args.script.now.tool_lines c.args.tool.0 [] (omega (arith, c.if-tool-ge4.true, c.cpus-cpus.ensures.sound.tools))))
+    (sym (get_or_past c.args.script.now.tool_lines c.args.tool.0 [] (omega (arith, c.if-tool-ge4.true, c.use_invariant.ensures.tools))))

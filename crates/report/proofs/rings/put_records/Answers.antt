@@ -1,7 +1,7 @@
 use Rattle.std.proofs.Common.{arith, ◌+◌, ◌*◌, ◌∙◌, length, sym}
 use Rattle.std.proofs.lemmas.Bool.{eqb-true}
 use Rattle.perf_io.proofs.Wrote.{wrote_exit, wrote_nothing, wrote_text, wrote_then}
-use Rattle.report.specs.Told.{cut_lines, records_in}
+use Rattle.report.specs.Told.{cut_lines, cut_records}
 use Rattle.report.proofs.Told.{lines_step, no_lines}
 use Rattle.report.proofs.rings.put_records.Goals as goal
 
@@ -24,7 +24,7 @@ returns-in_err-put_record-clause-wrote g c =
     let behind = c.split_at.result.1.now in
     c.loop-rest.invariant.wrote c.put_record.new.sink c.from_residual.result
     (wrote_text (lines_step c.args.tail c.loop-rest.place c.first_length.result c.loop-rest.rest.now front behind c.first_length.ensures.cut c.split_at.ensures.front c.split_at.ensures.back)
-    (wrote_exit (cut_lines c.args.tail (c.loop-rest.place + 8 * length front) (records_in behind)) c.from_residual.ensures.0 c.in_err-put_record.ensures.wrote))
+    (wrote_exit (cut_lines c.args.tail (c.loop-rest.place + 8 * length front) (cut_records behind)) c.from_residual.ensures.0 c.in_err-put_record.ensures.wrote))
 
 pub returns-clause-wrote : goal.returns-clause-wrote
 returns-clause-wrote g c =

@@ -1,15 +1,15 @@
 use Rattle.std.proofs.Common.{◌≡◌, ◌+◌, ◌*◌, Result, length}
 use Rattle.perf_io.specs.Wrote.{Wrote}
 use Rattle.perf_io.specs.declared.outside.Failed.{Failed}
-use Rattle.report.specs.Told.{cut_lines, records_in}
+use Rattle.report.specs.Told.{cut_lines, cut_records}
 use Rattle.report.proofs.rings.put_records.Given as goal
 
 -- whatever writes the lines of the rest now has written all
 abbrev pub invariant-loop-rest : goal.invariant-loop-rest
 invariant-loop-rest g l = record {
   place : l.place + 8 * length l.rest ≡ 8 * length l.words;
-  wrote : (after : g.row.K.Denot) (r : Result (Unit {0}) Failed) → Wrote g.K.Sink.held g.K.Sink.faults g.K.Sink.last_fault l.sink after r (cut_lines l.tail l.place (records_in l.rest))
-      → Wrote g.K.Sink.held g.K.Sink.faults g.K.Sink.last_fault l.fn.sink after r (cut_lines l.tail 0 (records_in l.words));
+  wrote : (after : g.row.K.Denot) (r : Result (Unit {0}) Failed) → Wrote g.K.Sink.held g.K.Sink.faults g.K.Sink.last_fault l.sink after r (cut_lines l.tail l.place (cut_records l.rest))
+      → Wrote g.K.Sink.held g.K.Sink.faults g.K.Sink.last_fault l.fn.sink after r (cut_lines l.tail 0 (cut_records l.words));
   flushed : g.K.Sink.flushed l.sink ≡ g.K.Sink.flushed l.fn.sink;
 }
 

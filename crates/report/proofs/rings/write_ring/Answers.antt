@@ -1,11 +1,11 @@
 use Rattle.perf_io.proofs.Wrote.{wrote_then, wrote_exit, wrote_text}
-use Rattle.report.specs.Told.{cut_lines, records_in}
+use Rattle.report.specs.Told.{cut_lines, cut_records}
 use Rattle.report.proofs.Told.{told_account}
 use Rattle.report.proofs.rings.write_ring.Goals as goal
 
 pub returns-in_err-put_numbers-clause-wrote : goal.returns-in_err-put_numbers-clause-wrote
 returns-in_err-put_numbers-clause-wrote g c =
-    wrote_exit (cut_lines c.args.numbers.now.tail 0 (records_in c.args.words.now)) c.from_residual.ensures.0 c.in_err-put_numbers.ensures.wrote
+    wrote_exit (cut_lines c.args.numbers.now.tail 0 (cut_records c.args.words.now)) c.from_residual.ensures.0 c.in_err-put_numbers.ensures.wrote
 
 pub returns-in_err-put_numbers-clause-account : goal.returns-in_err-put_numbers-clause-account
 returns-in_err-put_numbers-clause-account g c a h =

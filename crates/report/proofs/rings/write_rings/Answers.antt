@@ -1,23 +1,19 @@
-use Rattle.std.proofs.Common.{ap, arith, map}
+use Rattle.std.proofs.Common.{◌∙◌, ap, arith, map}
 use Rattle.std.proofs.lemmas.List.{take_all}
 use Rattle.perf_io.proofs.Wrote.{wrote_text}
 use Rattle.script_print.proofs.Loops.{loop_exit}
-use Rattle.report.specs.Told.{all_told, ring_lent}
-use Rattle.report.proofs.Told.{rings_each, told_accounts}
+use Rattle.report.specs.Told.{all_told, told_lines}
+use Rattle.report.proofs.Told.{end_told, ends_each}
 use Rattle.report.proofs.rings.write_rings.Goals as goal
 
 pub returns-in_err-write_ring-clause-wrote : goal.returns-in_err-write_ring-clause-wrote
 returns-in_err-write_ring-clause-wrote g c =
-    loop_exit rings_each c.args.rings.now c.loop-ring.ring-index _ c.loop-ring-test.true c.loop-ring.invariant.wrote c.from_residual.ensures.0
-    c.in_err-write_ring.ensures.wrote
-
-pub returns-in_err-write_ring-clause-accounts : goal.returns-in_err-write_ring-clause-accounts
-returns-in_err-write_ring-clause-accounts g c accounts h =
-    wrote_text (told_accounts (map ring_lent c.args.rings.now) accounts h) (returns-in_err-write_ring-clause-wrote g c)
+    wrote_text (ap (λ ends. all_told (map (end_told c.args.ended.now.ins) ends)) c.ring_ends-end-items.ensures.ends)
+    (loop_exit (ends_each c.args.ended.now.ins) c.ring_ends-end-items.result.now c.loop-end.end-index _ c.loop-end-test.true c.loop-end.invariant.wrote c.from_residual.ensures.0
+    (wrote_text (ap (told_lines _ _) c.words.ensures) c.in_err-write_ring.ensures.wrote))
 
 pub returns-clause-wrote : goal.returns-clause-wrote
 returns-clause-wrote g c =
-    wrote_text (ap (λ rings. all_told (map ring_lent rings)) (take_all c.loop-ring.ring-index c.args.rings.now (omega (arith, c.loop-ring-test.false)))) c.loop-ring.invariant.wrote
-
-pub returns-clause-accounts : goal.returns-clause-accounts
-returns-clause-accounts g c accounts h = wrote_text (told_accounts (map ring_lent c.args.rings.now) accounts h) (returns-clause-wrote g c)
+    wrote_text
+    (ap (λ ends. all_told (map (end_told c.args.ended.now.ins) ends)) (take_all c.loop-end.end-index c.ring_ends-end-items.result.now (omega (arith, c.loop-end-test.false)) ∙ c.ring_ends-end-items.ensures.ends))
+    c.loop-end.invariant.wrote

@@ -1,10 +1,12 @@
 use Rattle.std.proofs.Common.{◌≡◌, Ok, map, take}
 use Rattle.perf_io.specs.Wrote.{Wrote}
-use Rattle.report.specs.Told.{all_told, ring_lent}
+use Rattle.machine.specs.Readers.{words_in}
+use Rattle.report.specs.Told.{all_told}
 use Rattle.report.proofs.rings.write_rings.Given as goal
 
-abbrev pub invariant-loop-ring : goal.invariant-loop-ring
-invariant-loop-ring g l = record {
-  wrote : Wrote g.K.Sink.held g.K.Sink.faults g.K.Sink.last_fault l.fn.sink l.sink (Ok tt) (all_told (map ring_lent (take l.ring-index l.rings)));
+abbrev pub invariant-loop-end : goal.invariant-loop-end
+invariant-loop-end g l = record {
+  wrote : Wrote g.K.Sink.held g.K.Sink.faults g.K.Sink.last_fault l.fn.sink l.sink (Ok tt)
+      (all_told (map (λ e. (e.ring, e.numbers, words_in l.ended.ins e.ring)) (take l.end-index l.end-items)));
   flushed : g.K.Sink.flushed l.sink ≡ g.K.Sink.flushed l.fn.sink;
 }

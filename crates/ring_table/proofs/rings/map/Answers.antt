@@ -14,4 +14,4 @@ returns-clause-rest c =
 pub returns-clause-others : goal.returns-clause-others
 returns-clause-others c = λ cpu low.
     map-stays c.args.world.now c.set_ring.new.self c.args.event c.args.ring c.in_ok-key.key cpu c.in_ok-key.ensures.live c.set_ring.ensures.world (returns-clause-stage c)
-    (few-cpus c.pmus.result.now c.args.world.now cpu c.check_map.ensures.kept c.pmus.ensures.pmus c.cpus-cpus.ensures.sound.cpus.1 low)
+    (few-cpus c.pmus.result.now c.args.world.now cpu c.check_map.ensures.kept c.pmus.ensures.pmus c.use_invariant.ensures.cpus.1 low)

@@ -8,4 +8,4 @@ pub returns-clause-small : goal.returns-clause-small
 returns-clause-small c =
     let led = c.requires.script in
     subst (λ (sums : Sums). sums.running < 2 ^ 44) (sym (c.requires.sums c.args.script.now led.0 led.1))
-    (sums_of_script c.args.script.now led.0 c.args.event c.kinds-kinds.ensures.sound c.requires.covered).running
+    (sums_of_script c.args.script.now led.0 c.args.event c.use_invariant.ensures c.requires.covered).running

@@ -3,7 +3,7 @@ use Rattle.perf_base.specs.declared.numbers.Key.{Key}
 use Rattle.stage_spec.specs.Reading.{is_error}
 use Rattle.stage_spec.specs.Stage.{Stage}
 use Rattle.world_spec.specs.Value.{World, entry_at, instance_at}
-use Rattle.machine.specs.Events.{in_error}
+use Rattle.stage_spec.specs.Tables.{in_error}
 use Rattle.machine.specs.Leading.{Kept}
 use Rattle.machine.proofs.Opened.{error-by}
 use Rattle.machine.proofs.Roomy.{stage-then}

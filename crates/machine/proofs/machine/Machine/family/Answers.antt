@@ -2,7 +2,7 @@ use Rattle.std.specs.Prelude.{◌≡◌, false, true, Some, None, if◌then◌el
 use Rattle.std.proofs.Common.{ap, sym, ◌∙◌}
 use Rattle.stage_spec.specs.Stage.{is_open}
 use Rattle.world_spec.specs.Kept.{family_sums}
-use Rattle.machine.specs.Events.{family_in, stage_in}
+use Rattle.stage_spec.specs.Tables.{stage_in, family_in}
 use Rattle.machine.specs.Leading.{Kept}
 use Rattle.machine.proofs.Roomy.{family-then}
 use Rattle.machine.proofs.machine.Machine.family.Goals as goal
@@ -17,5 +17,5 @@ returns-clause-led c = λ s acts led.
     let opened : is_open (stage_in s acts) c.args.event ≡ true = sym (c.is_open.ensures.led s acts led) ∙ c.if-not-is_open.false in
     ap Some (c.family_sums.ensures
     ∙ (ap (λ (m : Kept). family_sums m.world c.args.event.0) c.self.view_is
-    ∙ family-then s acts c.args.self.now c.args.event led c.original-original.ensures.kept (sym c.is_open.ensures.there ∙ c.if-not-is_open.false)))
+    ∙ family-then s acts c.args.self.now c.args.event led c.use_slot.ensures.kept (sym c.is_open.ensures.there ∙ c.if-not-is_open.false)))
     ∙ sym (ap (λ b. if b then Some (family_in s acts c.args.event) else None) opened)

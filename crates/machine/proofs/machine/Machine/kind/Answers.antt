@@ -4,7 +4,7 @@ use Rattle.perf_base.specs.declared.attr.Attr.{Attr}
 use Rattle.perf_base.specs.declared.numbers.Key.{Key}
 use Rattle.stage_spec.specs.Stage.{Stage}
 use Rattle.world_spec.specs.Value.{World, instance_at}
-use Rattle.machine.specs.Events.{kind_in}
+use Rattle.stage_spec.specs.Tables.{kind_in}
 use Rattle.machine.specs.Leading.{Kept}
 use Rattle.machine.proofs.Opened.{kind-by}
 use Rattle.machine.proofs.Roomy.{stage-then}

@@ -3,7 +3,7 @@ use Rattle.std.proofs.Common.{sym, ap, ◌∙◌, subst}
 use Rattle.perf_base.specs.declared.acts.Act.TheVariants as act
 use Rattle.sample_ring.specs.Lending.{with_out}
 use Rattle.sample_ring.specs.OutEnds.{OutEnd}
-use Rattle.sample_ring.specs.RingLists.{HasRing, OutList, place_of}
+use Rattle.sample_ring.specs.RingLists.{HasRing, OutList, ring_index}
 use Rattle.work_account.specs.Ends.{AreTogether}
 use Rattle.machine.specs.Leading.{Kept, LeadTo}
 use Rattle.machine.specs.Readers.{loads_of}
@@ -24,8 +24,8 @@ returns-clause-seen c = λ s acts led.
     let o : OutEnd = c.out.result.now in
     let before : LeadTo s acts m = subst (LeadTo s acts) (sym c.self.view_is) led in
     let there : HasRing m.outs.numbers c.args.ring = subst (λ k. HasRing k.outs.numbers c.args.ring) (sym c.self.view_is) c.requires.ring in
-    subst (λ p. LeadTo s (acts ++ act.Seen c.args.ring c.look.result ∷ []) (record m { outs = with_out m.outs (place_of m.outs.numbers c.args.ring) p })) (sym c.look.ensures.end)
-    (seen-led s acts m c.args.ring c.look.result (o.producer.loads + 1) o c.pmus-pmus.ensures.kept before there c.out.ensures.value
+    subst (λ p. LeadTo s (acts ++ act.Seen c.args.ring c.look.result ∷ []) (record m { outs = with_out m.outs (ring_index m.outs.numbers c.args.ring) p })) (sym c.look.ensures.end)
+    (seen-led s acts m c.args.ring c.look.result (o.producer.loads + 1) o c.use_invariant.ensures before there c.out.ensures.value
     (lawful-stop s acts m c.args.ring c.look.result o before there c.out.ensures.value c.look.ensures.rises c.look.ensures.stop))
 
 pub returns-clause-same : goal.returns-clause-same
@@ -34,7 +34,7 @@ returns-clause-same c = λ s acts led last.
     let o : OutEnd = c.out.result.now in
     let before : LeadTo s acts m = subst (LeadTo s acts) (sym c.self.view_is) led in
     let there : HasRing m.outs.numbers c.args.ring = subst (λ k. HasRing k.outs.numbers c.args.ring) (sym c.self.view_is) c.requires.ring in
-    subst (λ p. LeadTo s acts (record m { outs = with_out m.outs (place_of m.outs.numbers c.args.ring) p })) (sym c.look.ensures.end)
+    subst (λ p. LeadTo s acts (record m { outs = with_out m.outs (ring_index m.outs.numbers c.args.ring) p })) (sym c.look.ensures.end)
     (still-led s acts m c.args.ring c.look.result (o.producer.loads + 1) o before c.out.ensures.value (end-seen s acts m c.args.ring o before there c.out.ensures.value ∙ sym last))
 
 pub returns-clause-together : goal.returns-clause-together
@@ -46,5 +46,5 @@ returns-clause-together c =
 pub returns-clause-loads : goal.returns-clause-loads
 returns-clause-loads c =
     let outs : OutList = c.self.inside.outs in
-    one-load outs (place_of outs.numbers c.args.ring) c.out.result.now c.look.new.self c.out.ensures.value (ap (λ (p : OutEnd). p.producer.loads) c.look.ensures.end)
-    ∙ ap (λ k. slice_set (loads_of k.outs) (place_of k.outs.numbers c.args.ring) (slice_index_or (loads_of k.outs) (place_of k.outs.numbers c.args.ring) 0 + 1)) c.self.view_is
+    one-load outs (ring_index outs.numbers c.args.ring) c.out.result.now c.look.new.self c.out.ensures.value (ap (λ (p : OutEnd). p.producer.loads) c.look.ensures.end)
+    ∙ ap (λ k. slice_set (loads_of k.outs) (ring_index k.outs.numbers c.args.ring) (slice_index_or (loads_of k.outs) (ring_index k.outs.numbers c.args.ring) 0 + 1)) c.self.view_is

@@ -6,7 +6,7 @@ use Rattle.ring_spec.specs.Rings.{account_in, bytes_of, sizes_in}
 use Rattle.sample_ring.specs.InEnds.{InEnd}
 use Rattle.sample_ring.specs.Lending.{with_out}
 use Rattle.sample_ring.specs.OutEnds.{OutEnd}
-use Rattle.sample_ring.specs.RingLists.{HasRing, place_of}
+use Rattle.sample_ring.specs.RingLists.{HasRing, ring_index}
 use Rattle.stage_spec.specs.Order.{IsLawfulSeen, last_seen}
 use Rattle.work_account.specs.Ends.{AreTogether}
 use Rattle.machine.specs.Leading.{Kept, LeadTo}
@@ -33,9 +33,9 @@ returns-clause-seen c = λ s acts led.
     let o : OutEnd = c.out.result.now in
     let place : ℕ = 8 * c.reader.result.now.consumer.released in
     let released : released_in c.args.ins.now c.args.ring ≡ place = ap released_of_slot c.reader.ensures.value in
-    subst (λ n. LeadTo s (acts ++ act.Seen c.args.ring n ∷ []) (record m { outs = with_out m.outs (place_of m.outs.numbers c.args.ring) c.meet.new.out })) (sym released)
-    (subst (λ p. LeadTo s (acts ++ act.Seen c.args.ring place ∷ []) (record m { outs = with_out m.outs (place_of m.outs.numbers c.args.ring) p })) (sym c.meet.ensures.out)
-    (seen-led s acts m c.args.ring place (o.producer.loads + 1) o c.pmus-pmus.ensures.kept before there c.out.ensures.value
+    subst (λ n. LeadTo s (acts ++ act.Seen c.args.ring n ∷ []) (record m { outs = with_out m.outs (ring_index m.outs.numbers c.args.ring) c.meet.new.out })) (sym released)
+    (subst (λ p. LeadTo s (acts ++ act.Seen c.args.ring place ∷ []) (record m { outs = with_out m.outs (ring_index m.outs.numbers c.args.ring) p })) (sym c.meet.ensures.out)
+    (seen-led s acts m c.args.ring place (o.producer.loads + 1) o c.use_invariant.ensures before there c.out.ensures.value
     (met-lawful s acts m c.args.ring place (o.producer.loads + 1) o c.meet.new.out before there c.out.ensures.value c.meet.ensures.out c.meet.ensures.rises.0 c.meet.ensures.sound.0)))
 
 pub returns-clause-same : goal.returns-clause-same
@@ -46,7 +46,7 @@ returns-clause-same c = λ s acts led last.
     let o : OutEnd = c.out.result.now in
     let place : ℕ = 8 * c.reader.result.now.consumer.released in
     let released : released_in c.args.ins.now c.args.ring ≡ place = ap released_of_slot c.reader.ensures.value in
-    subst (λ p. LeadTo s acts (record m { outs = with_out m.outs (place_of m.outs.numbers c.args.ring) p })) (sym c.meet.ensures.out)
+    subst (λ p. LeadTo s acts (record m { outs = with_out m.outs (ring_index m.outs.numbers c.args.ring) p })) (sym c.meet.ensures.out)
     (still-led s acts m c.args.ring place (o.producer.loads + 1) o before c.out.ensures.value
     (end-seen s acts m c.args.ring o before there c.out.ensures.value ∙ (sym last ∙ released)))
 

@@ -2,8 +2,8 @@ use Rattle.std.proofs.Common.{sym, subst, ◌∙◌}
 use Rattle.ring_spec.specs.Rings.{account_in, bytes_of}
 use Rattle.ring_spec.proofs.Running.{in_account}
 use Rattle.sample_ring.specs.RingLists.{HasRing}
-use Rattle.work_laws.specs.Shown.{ShowsAccount}
-use Rattle.work_laws.proofs.Shown.{shown}
+use Rattle.machine.specs.Shown.{ShowsAccount}
+use Rattle.machine.proofs.Shown.{shown}
 use Rattle.machine.specs.Leading.{Kept, LeadTo}
 use Rattle.machine.proofs.Seen.{end-account}
 use Rattle.machine.proofs.machine.Machine.ring_end.Goals as goal

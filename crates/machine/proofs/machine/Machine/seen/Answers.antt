@@ -7,7 +7,7 @@ use Rattle.ring_words.specs.Ends as words
 use Rattle.ring_words.specs.Ends.{IsStop}
 use Rattle.sample_ring.specs.Lending.{with_out}
 use Rattle.sample_ring.specs.OutEnds.{OutEnd}
-use Rattle.sample_ring.specs.RingLists.{HasRing, place_of, with_slot}
+use Rattle.sample_ring.specs.RingLists.{HasRing, ring_index, with_slot}
 use Rattle.work_account.specs.Ends.{AreTogether}
 use Rattle.machine.specs.Leading.{Kept, IsOf, LeadTo}
 use Rattle.machine.specs.Readers.{AreFollowing, Follows}
@@ -59,7 +59,7 @@ take_to-requires-clause-room c =
     let follows : Follows (9 * weight c.args.script.now) c.out.result.now c.reader.result.now =
     follower (9 * weight c.args.script.now) m.outs c.args.ins.now c.args.ring c.out.result.now c.reader.result.now following c.out.ensures.value c.reader.ensures.value in
     let there : HasRing m.outs.numbers c.args.ring = ring-there c.args.script.now m c.args.ring of c.requires.ring in
-    room-there c.args.script.now of.0 m c.args.ring c.out.result.now c.reader.result.now c.cpus-cpus.ensures.sound c.requires.covered of.1 there c.out.ensures.value follows
+    room-there c.args.script.now of.0 m c.args.ring c.out.result.now c.reader.result.now c.use_invariant.ensures c.requires.covered of.1 there c.out.ensures.value follows
 
 pub returns-in-Err-clause-unlawful : goal.returns-in-Err-clause-unlawful
 returns-in-Err-clause-unlawful c =
@@ -67,7 +67,7 @@ returns-in-Err-clause-unlawful c =
     let of : IsOf c.args.script.now m = subst (IsOf c.args.script.now) (sym c.self.view_is) c.requires.script in
     let there : HasRing m.outs.numbers c.args.ring = ring-there c.args.script.now m c.args.ring of c.requires.ring in
     λ other last head given is.
-    refused-as c.args.script.now c.args.self.now c.args.ring other c.lent.result.now.producer.last_tail (words.place_of c.lent.result.now.producer) c.args.place last head given
+    refused-as c.args.script.now c.args.self.now c.args.ring other c.lent.result.now.producer.last_tail (words.head_place c.lent.result.now.producer) c.args.place last head given
     (sym c.in-Err.ensures.refused ∙ is)
     (λ acts led.
     unlawful-by c.args.script.now acts m c.args.ring c.lent.result.now c.args.place (subst (LeadTo c.args.script.now acts) (sym c.self.view_is) led) there c.lent.ensures
@@ -83,9 +83,9 @@ returns-in-Ok-clause-done c =
     let same : c.lent.result.now ≡ c.out.result.now = same_Some c.lent.result.now c.out.result.now (sym c.lent.ensures ∙ c.out.ensures.value) in
     let stop : (c.out.result.now.producer.last_tail ≤ c.args.place) × IsStop c.out.result.now.producer.published c.args.place =
     subst (λ (o : OutEnd). (o.producer.last_tail ≤ c.args.place) × IsStop o.producer.published c.args.place) same c.in-Ok.ensures.accepted in
-    subst (λ (o : OutEnd). LeadTo c.args.script.now (acts ++ act.Seen c.args.ring c.args.place ∷ []) (record m { outs = with_out m.outs (place_of m.outs.numbers c.args.ring) o }))
+    subst (λ (o : OutEnd). LeadTo c.args.script.now (acts ++ act.Seen c.args.ring c.args.place ∷ []) (record m { outs = with_out m.outs (ring_index m.outs.numbers c.args.ring) o }))
     (sym c.take_to.ensures.out)
-    (seen-led c.args.script.now acts m c.args.ring c.args.place c.take_to.new.out.producer.loads c.out.result.now c.pmus-pmus.ensures.kept led_m there c.out.ensures.value
+    (seen-led c.args.script.now acts m c.args.ring c.args.place c.take_to.new.out.producer.loads c.out.result.now c.use_invariant-2.ensures led_m there c.out.ensures.value
     (lawful-stop c.args.script.now acts m c.args.ring c.args.place c.out.result.now led_m there c.out.ensures.value stop.0 stop.1))
 
 pub returns-in-Ok-clause-together : goal.returns-in-Ok-clause-together
@@ -100,9 +100,9 @@ returns-in-Ok-clause-following c =
     let following : AreFollowing (9 * weight c.args.script.now) m.outs c.args.ins.now = subst (λ (k : Kept). AreFollowing (9 * weight c.args.script.now) k.outs c.args.ins.now) (sym c.self.view_is) c.requires.following in
     let follows : Follows (9 * weight c.args.script.now) c.out.result.now c.reader.result.now =
     follower (9 * weight c.args.script.now) m.outs c.args.ins.now c.args.ring c.out.result.now c.reader.result.now following c.out.ensures.value c.reader.ensures.value in
-    subst (λ (p : ℕ). AreFollowing (9 * weight c.args.script.now) (with_out m.outs (place_of m.outs.numbers c.args.ring) c.take_to.new.out) (with_slot c.args.ins.now p (Some c.take_to.new.reader)))
-    (ap (λ n. place_of n c.args.ring) (sym following.numbers))
-    (following-look (9 * weight c.args.script.now) m.outs c.args.ins.now (place_of m.outs.numbers c.args.ring) c.out.result.now c.take_to.new.out c.reader.result.now c.take_to.new.reader following
-    c.out.ensures.value (ap (λ n. slice_get c.args.ins.now.readers (place_of n c.args.ring)) (sym following.numbers) ∙ c.reader.ensures.value)
+    subst (λ (p : ℕ). AreFollowing (9 * weight c.args.script.now) (with_out m.outs (ring_index m.outs.numbers c.args.ring) c.take_to.new.out) (with_slot c.args.ins.now p (Some c.take_to.new.reader)))
+    (ap (λ n. ring_index n c.args.ring) (sym following.numbers))
+    (following-look (9 * weight c.args.script.now) m.outs c.args.ins.now (ring_index m.outs.numbers c.args.ring) c.out.result.now c.take_to.new.out c.reader.result.now c.take_to.new.reader following
+    c.out.ensures.value (ap (λ n. slice_get c.args.ins.now.readers (ring_index n c.args.ring)) (sym following.numbers) ∙ c.reader.ensures.value)
     (follows-look (9 * weight c.args.script.now) c.out.result.now c.take_to.new.out c.reader.result.now c.take_to.new.reader c.args.place c.take_to.new.out.producer.loads follows c.take_to.ensures.out
     c.take_to.ensures.reader c.take_to.ensures.same))

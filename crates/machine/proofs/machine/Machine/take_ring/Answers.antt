@@ -2,7 +2,7 @@ use Rattle.std.specs.Prelude.{◌*◌, Some}
 use Rattle.std.proofs.Common.{sym, subst, ◌∙◌}
 use Rattle.sample_ring.specs.Lending.{with_out}
 use Rattle.sample_ring.specs.OutEnds.{OutEnd}
-use Rattle.sample_ring.specs.RingLists.{HasRing, place_of}
+use Rattle.sample_ring.specs.RingLists.{HasRing, ring_index}
 use Rattle.work_account.specs.Ends.{AreTogether}
 use Rattle.machine.specs.Leading.{Kept, LeadTo}
 use Rattle.machine.specs.Readers.{AreTrailing, Trails}
@@ -18,7 +18,7 @@ returns-clause-led c = λ s acts led.
     let trailing : AreTrailing m.outs c.args.ins.now = subst (λ (k : Kept). AreTrailing k.outs c.args.ins.now) (sym c.self.view_is) c.requires.trailing in
     let trails : Trails c.out.result.now c.reader.result.now =
     paired-at Trails m.outs c.args.ins.now c.args.ring c.out.result.now c.reader.result.now trailing.numbers trailing.each c.out.ensures.value c.reader.ensures.value in
-    subst (λ (p : OutEnd). LeadTo s acts (record m { outs = with_out m.outs (place_of m.outs.numbers c.args.ring) p })) (sym c.take_all.ensures.out)
+    subst (λ (p : OutEnd). LeadTo s acts (record m { outs = with_out m.outs (ring_index m.outs.numbers c.args.ring) p })) (sym c.take_all.ensures.out)
     (still-led s acts m c.args.ring (8 * c.reader.result.now.consumer.released) c.take_all.new.out.producer.loads c.out.result.now (subst (LeadTo s acts) (sym c.self.view_is) led)
     c.out.ensures.value (sym trails.released))
 

@@ -1,9 +1,8 @@
 use Rattle.std.specs.Prelude.{◌≡◌, List, ◌∷◌, [], ◌++◌, length, map}
 use Rattle.std.proofs.Common.{arith, sym, ap, subst, ◌∙◌, append_assoc, length-append}
 use Rattle.perf_base.specs.declared.acts.Act.{Act}
-use Rattle.line_steps.specs.Stepped.{StaysIfRefused}
+use Rattle.machine.specs.Stepped.{StaysIfRefused}
 use Rattle.machine.specs.Leading.{HasLine, act_of, done_by}
-use Rattle.report_spec.specs.Answers.{answered}
 use Rattle.perf_book.specs.Book.{AreLooksOf, Booked}
 use Rattle.perf_book.proofs.Rooms.{answered-looks, booked-then, done-after, line-after, looks-length, room-before, room-for-answer, room-for-line}
 use Rattle.perf_book.proofs.book.Book.advance.Goals as goal
@@ -16,7 +15,7 @@ look_before-requires-clause-room c =
 pub do_line-requires-clause-answered : goal.do_line-requires-clause-answered
 do_line-requires-clause-answered c =
     let looks = c.look_before.ensures.looks in
-    answered-looks c.self.inside.script c.self.inside.order.items looks.0 c.look_before.new.order.items c.args.actor (map answered c.self.inside.answers.items) looks.1 looks.2
+    answered-looks c.self.inside.script c.self.inside.order.items looks.0 c.look_before.new.order.items c.args.actor c.self.inside.answers.items looks.1 looks.2
     c.self.invariant.0.answered.answered
 
 pub do_line-requires-clause-line : goal.do_line-requires-clause-line
@@ -84,7 +83,7 @@ returns-clause-answer c =
     c.look_before.ensures.led looks.1 looks.2 in (
       answer.0,
       answer.1
-          ∙ (ap (λ n. c.self.inside.answers.items ++ (c.args.actor, n, answer.0) ∷ []) same
-          ∙ ap (λ (k : Booked). k.answers ++ (c.args.actor, done_by c.args.actor k.machine, answer.0) ∷ []) c.self.view_is),
+          ∙ (ap (λ n. c.self.inside.answers.items ++ record { actor = c.args.actor; number = n; reply = answer.0 } ∷ []) same
+          ∙ ap (λ (k : Booked). k.answers ++ record { actor = c.args.actor; number = done_by c.args.actor k.machine; reply = answer.0 } ∷ []) c.self.view_is),
       subst (λ w. StaysIfRefused w c.do_line.new.machine.world answer.0) world answer.2,
     )

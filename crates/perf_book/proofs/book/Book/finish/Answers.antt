@@ -1,12 +1,11 @@
 use Rattle.std.specs.Prelude.{◌≡◌, ◌*◌, List, ◌++◌, map}
 use Rattle.std.proofs.Common.{arith, sym, ap, subst, ◌∙◌}
-use Rattle.ring_spec.proofs.Running.{map-map}
 use Rattle.perf_base.specs.declared.acts.Act.{Act}
 use Rattle.perf_base.specs.Weight.{weight}
 use Rattle.stage_spec.specs.Replies.{AnswerOrder}
 use Rattle.machine.specs.Ended.{Ran}
 use Rattle.machine.specs.Readers.{AreBehind, AreReaders}
-use Rattle.report_spec.specs.Answers.{answered, lost_in}
+use Rattle.report_spec.specs.Answers.{lost_in}
 use Rattle.run_laws.specs.Growing.{AreLooks}
 use Rattle.perf_book.specs.Book.{Booked}
 use Rattle.perf_book.specs.Ending.{IsEnd}
@@ -25,10 +24,10 @@ meet_all-requires-clause-room c =
 pub new-requires-clause-lines : goal.new-requires-clause-lines
 new-requires-clause-lines c =
     let looks = c.meet_all.ensures.looks in
-    let all : AnswerOrder c.self.inside.script (lost_in c.self.inside.script) c.meet_all.new.order.items (map answered c.self.inside.answers.items) =
-    subst (λ acts. AnswerOrder c.self.inside.script (lost_in c.self.inside.script) acts (map answered c.self.inside.answers.items)) (sym looks.2)
-    (looks-answered c.self.inside.script c.self.inside.order.items looks.0 (map answered c.self.inside.answers.items) looks.1 c.self.invariant.0.answered.answered) in
-    sym (map-map answered (λ a. (a.actor, a.number)) c.self.inside.answers.items) ∙ all.lines
+    let all : AnswerOrder c.self.inside.script (lost_in c.self.inside.script) c.meet_all.new.order.items c.self.inside.answers.items =
+    subst (λ acts. AnswerOrder c.self.inside.script (lost_in c.self.inside.script) acts c.self.inside.answers.items) (sym looks.2)
+    (looks-answered c.self.inside.script c.self.inside.order.items looks.0 c.self.inside.answers.items looks.1 c.self.invariant.0.answered.answered) in
+    all.lines
 
 pub new-requires-clause-taken : goal.new-requires-clause-taken
 new-requires-clause-taken c =
@@ -59,8 +58,8 @@ returns-clause-ended c =
       answered = record {
         counted = c.meet_all.ensures.led.counted;
         lawful = c.meet_all.ensures.led.lawful;
-        answered = subst (λ acts. AnswerOrder c.self.inside.script (lost_in c.self.inside.script) acts (map answered c.self.inside.answers.items)) (sym looks.2)
-            (looks-answered c.self.inside.script c.self.inside.order.items looks.0 (map answered c.self.inside.answers.items) looks.1 c.self.invariant.0.answered.answered);
+        answered = subst (λ acts. AnswerOrder c.self.inside.script (lost_in c.self.inside.script) acts c.self.inside.answers.items) (sym looks.2)
+            (looks-answered c.self.inside.script c.self.inside.order.items looks.0 c.self.inside.answers.items looks.1 c.self.invariant.0.answered.answered);
       };
       rings = c.push_ends.ensures.rings;
       shown = c.push_ends.ensures.shown c.meet_all.new.order.items led;

@@ -1,4 +1,0 @@
-pub mod Counted
-pub mod Settled
-pub mod Stepped
-pub mod Switched

@@ -1,0 +1,79 @@
+-- Lines of tools that ask: the world is as it was.
+use Rattle.std.specs.Prelude.{◌≡◌, ℕ, zero, suc, ◌<◌, true, [], ◌∷◌, ◌++◌, length, None, slice_index_or}
+use Rattle.std.proofs.Common.{arith, refl, sym, ap, subst, ◌∙◌}
+use Rattle.std.proofs.lemmas.List.{map-append}
+use Rattle.perf_base.specs.declared.lines.ToolLine.{ToolLine}
+use Rattle.perf_base.specs.declared.numbers.CpuNo.{CpuNo}
+use Rattle.perf_base.specs.declared.reply.Reply.{Reply}
+use Rattle.stage_spec.specs.Hardware.{Hardware}
+use Rattle.stage_spec.specs.History.{ToolStep, stage_step, unless_refused, tool_refusal, tool_changed}
+use Rattle.stage_spec.specs.Numbers.{numbers_below}
+use Rattle.stage_spec.specs.Replies.{UnlessRefused, IsToolReply}
+use Rattle.stage_spec.specs.Settle.{settle, settle_each, settle_all, IsSettled}
+use Rattle.stage_spec.specs.Shares.{no_sums}
+use Rattle.stage_spec.specs.Stage.{Stage}
+use Rattle.stage_spec.proofs.Recurrence.{plus-none}
+use Rattle.world_spec.specs.Kept.{IsKept, family_sums}
+use Rattle.world_spec.specs.StageOf.{stage_of}
+use Rattle.world_spec.specs.Value.{World, instance_at}
+use Rattle.event_reads.specs.Homes.{StandRescheduled}
+use Rattle.world_spec.specs.Quiet.{is_quiet_call}
+use Rattle.world_spec.specs.Stepping.{HasStepped}
+use Rattle.world_spec.proofs.Asking.{answers-by}
+use Rattle.world_spec.proofs.Quiet.{quiet-keeps}
+use Rattle.world_spec.proofs.Stepping.{stepped}
+use Rattle.machine.specs.Stepped.{IsReady}
+use Rattle.machine.specs.Stepped as stepped_line
+use Rattle.machine.proofs.Refused.{tools-lose_none}
+use Rattle.machine.proofs.Settling.{cpus_below, settle-parts}
+
+-- settling settled processors changes nothing
+pub settled-below : (hw : Hardware) (n : ℕ) (s : Stage) → ((cpu : CpuNo) → cpu.0 < n → IsSettled hw cpu s) → settle_each hw (cpus_below n) s ≡ s
+unfolding settle_each
+settled-below hw zero s h = refl
+settled-below hw (suc n) s h =
+    let cpu : CpuNo = record { 0 = n } in
+    let cpus : cpus_below (suc n) ≡ cpus_below n ++ cpu ∷ [] = map-append (λ k. record { 0 = k }) (numbers_below n) (n ∷ []) in
+    ap (λ cs. settle_each hw cs s) cpus
+    ∙ (settle-parts hw (cpus_below n) (cpu ∷ []) s
+    ∙ (ap (λ t. settle hw cpu t) (settled-below hw n s (λ c low. h c (omega (arith, low)))) ∙ h cpu (omega arith)))
+
+-- a line that asks
+pub asks-stage : (w : World) (l : ToolLine) → IsReady w → tool_refusal w.hardware (stage_of w) l ≡ None → ((s : Stage) → tool_changed l s ≡ s)
+    → stage_of w ≡ stage_step w.hardware (stage_of w) (ToolStep l)
+unfolding stage_step settle_all
+asks-stage w l h accepted same =
+    sym (ap (λ o. unless_refused w.hardware o (tool_changed l) (stage_of w)) accepted
+    ∙ (ap (settle_all w.hardware) (same (stage_of w)) ∙ settled-below w.hardware (length w.quiet.running) (stage_of w) (λ cpu low. (h.rescheduled cpu low).settled)))
+
+asks-stepped : (w : World) (l : ToolLine) → IsKept w.hardware w → IsReady w → is_quiet_call l ≡ true → tool_refusal w.hardware (stage_of w) l ≡ None → ((s : Stage) → tool_changed l s ≡ s)
+    → HasStepped w.hardware w w (ToolStep l)
+asks-stepped w l h ready quiet accepted same = record {
+  stage = asks-stage w l ready accepted same;
+  drawn = omega arith;
+  old = λ k live before. quiet-keeps w.hardware w w (ToolStep l) k h quiet (record { live = live; id = refl; account = refl });
+  new = λ k live past. let low : (instance_at w k).id < w.quiet.next_id = (h.numbered.drawn k live).1 in absurd (omega (arith, low, past));
+  slots = λ e current. current;
+  folded = λ e current. (
+    [],
+    record {
+      leaving = refl;
+      live = λ k some. absurd (omega (arith, some));
+      sums = sym (plus-none (slice_index_or w.folded e.0 no_sums));
+    },
+  );
+  lost = λ e. refl;
+  clock = λ cpu. let same_clock : slice_index_or w.quiet.clocks cpu.0 0 ≡ slice_index_or w.quiet.clocks cpu.0 0 = refl in omega (arith, same_clock);
+}
+
+pub asked : (w : World) (l : ToolLine) (a : Reply) → IsKept w.hardware w → IsReady w → is_quiet_call l ≡ true → tool_refusal w.hardware (stage_of w) l ≡ None → ((s : Stage) → tool_changed l s ≡ s)
+    → IsToolReply w.hardware (stage_of w) (λ e. family_sums w e.0) (λ e. slice_index_or w.lost e.0 0) l a → stepped_line.IsDone (ToolStep l) w w a
+asked w l a h ready quiet accepted same done by agrees = record {
+  answer = answers-by w.hardware w by (ToolStep l) a h agrees
+      (subst (λ o. UnlessRefused o a (IsToolReply w.hardware (stage_of w) (λ e. family_sums w e.0) (λ e. slice_index_or w.lost e.0 0) l a)) (sym accepted) done);
+  agrees = stepped w.hardware w w by (ToolStep l) h h agrees (asks-stepped w l h ready quiet accepted same) (tools-lose_none w.hardware by l);
+}
+
+-- between lines every processor stands as rescheduling leaves it
+pub all-stand : (w : World) → IsReady w → StandRescheduled w
+all-stand w ready = record { machine = ready.rescheduled; counted = λ k cpu live at. ready.rescheduled cpu (ready.homes k cpu live at) }

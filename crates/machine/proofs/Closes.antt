@@ -1,0 +1,175 @@
+-- A line that closes an event.
+use Rattle.std.specs.Prelude.{◌≡◌, ℕ, ◌<◌, ◌==◌, true, false, is_some, [], length, filter, Option, Some, None, slice_index_or}
+use Rattle.std.specs.FinMap.{get}
+use Rattle.std.specs.List.{list_any}
+use Rattle.std.specs.Option.{unwrap_or}
+use Rattle.std.proofs.Common.{arith, refl, sym, ap, subst, ◌∙◌, inl, inr}
+use Rattle.std.proofs.lemmas.Bool.{cases_Bool, cases_eq, false≢true}
+use Rattle.std.proofs.lemmas.Bool.Decides.{nat_tests}
+use Rattle.perf_base.specs.Cpus.{HasCpu}
+use Rattle.perf_base.specs.Scripts.{IsSlot}
+use Rattle.perf_base.specs.declared.lines.ToolLine.TheVariants as line
+use Rattle.perf_base.specs.declared.numbers.CpuNo.{CpuNo}
+use Rattle.perf_base.specs.declared.numbers.CpuSet.{CpuSet}
+use Rattle.perf_base.specs.declared.numbers.EventNo.{EventNo}
+use Rattle.perf_base.specs.declared.numbers.Key.{Key}
+use Rattle.perf_base.specs.declared.reply.Reply.TheVariants as reply
+use Rattle.stage_spec.specs.Closing.{closed}
+use Rattle.stage_spec.specs.Commands.{closed_refusal}
+use Rattle.stage_spec.specs.Hardware.{Hardware}
+use Rattle.stage_spec.specs.History.{ToolStep, stage_step}
+use Rattle.stage_spec.specs.Limits.{IsMachine}
+use Rattle.stage_spec.specs.Settle.{settle_each}
+use Rattle.stage_spec.specs.Shares.{no_sums}
+use Rattle.stage_spec.specs.Stage.{all_cpus, is_of_family}
+use Rattle.stage_spec.proofs.Recurrence.{plus-none}
+use Rattle.stage_laws.specs.Narrowing.{tool_touches}
+use Rattle.stage_laws.specs.Sound.{IsSound}
+use Rattle.stage_laws.proofs.Sound.{step_sound}
+use Rattle.ring_spec.specs.Agreement.{IsCurrentSlot}
+use Rattle.world_spec.specs.Kept.{IsKept}
+use Rattle.world_spec.specs.Rescheduled.{AreRescheduled}
+use Rattle.world_spec.specs.StageOf.{stage_of}
+use Rattle.world_spec.specs.Value.{World, Entry, no_entry, no_family, is_live, entry_at, instance_at, account_at, family_of}
+use Rattle.world_spec.proofs.Families.{open-is}
+use Rattle.event_commands.specs.Closing.{IsClosed}
+use Rattle.world_spec.specs.Quiet.{KeepsAccount}
+use Rattle.world_spec.specs.Stepping.{HasStepped}
+use Rattle.world_spec.proofs.Quiet.{quiet-keeps}
+use Rattle.machine.specs.Settled.{OnlyRescheduled, is_in}
+use Rattle.machine.specs.Stepped.{limits_in, IsReady}
+use Rattle.machine.specs.Stepped as stepped_line
+use Rattle.machine.proofs.CommandLines.{accepted-line}
+use Rattle.machine.proofs.Keeping.{narrowed-step}
+
+-- What is told of a close: the worlds before it, after it, and after the processors were rescheduled.
+pub record Course (w v x : World) (e : EventNo) (set : CpuSet) : Type 0 where
+  pub kept : IsKept w.hardware w
+  pub ready : IsReady w
+  pub slot : IsSlot e
+  pub accepted : closed_refusal (stage_of w) e ≡ None
+  pub gone : IsClosed e w v
+  pub stage : stage_of v ≡ closed e (stage_of w)
+  pub into : (cpu : CpuNo) → cpu.0 < length w.quiet.running → HasCpu set cpu → tool_touches (stage_of w) (line.Close e) cpu ≡ true
+  pub back : (cpu : CpuNo) → cpu.0 < length w.quiet.running → tool_touches (stage_of w) (line.Close e) cpu ≡ true → HasCpu set cpu
+  pub settled : stage_of x ≡ settle_each v.hardware (filter (is_in set) (all_cpus (stage_of v))) (stage_of v)
+  pub rest : OnlyRescheduled v x
+  pub kept_then : IsKept x.hardware x
+
+close-stage : (w v x : World) (e : EventNo) (set : CpuSet) → Course w v x e set → stage_of x ≡ stage_step w.hardware (stage_of w) (ToolStep (line.Close e))
+close-stage w v x e set c = narrowed-step w v x (line.Close e) set (record {
+  ready = c.ready;
+  within = c.slot;
+  accepted = c.accepted;
+  hardware = ap (λ (y : World). y.hardware) c.gone.world;
+  running = ap (λ (y : World). length y.quiet.running) c.gone.world;
+  stage = c.stage;
+  into = c.into;
+  back = c.back;
+}) c.settled
+
+-- a key that names nothing is of no event
+none-there : (o : Option Entry) → is_some o ≡ false → unwrap_or o no_entry ≡ no_entry
+none-there None dead = refl
+none-there (Some entry) dead = absurd (false≢true (sym dead))
+
+none-of : (e : EventNo) → e.0 < 256 → is_of_family e no_entry.instance ≡ false
+none-of e low = grind (arith, nat_tests, low)
+
+not-closed : (w v : World) (e : EventNo) (k : Key) → IsClosed e w v → IsSlot e → is_live v k ≡ true → is_of_family e (instance_at w k) ≡ false
+not-closed w v e k g slot live = elim (cases_Bool (is_of_family e (instance_at w k))) [
+  | inr off ↦ off
+  | inl family ↦ elim (cases_Bool (is_live w k)) [
+    | inl was ↦ absurd (false≢true (sym (g.gone k was family) ∙ live))
+    | inr dead ↦
+        let none : entry_at w k ≡ no_entry = none-there (get w.entries k.0) dead in
+        absurd (false≢true (sym (ap (λ (y : Entry). is_of_family e y.instance) none ∙ none-of e slot) ∙ family))
+  ]
+]
+
+-- each key that names an instance then has what it had
+record Stays (w x : World) (k : Key) : Type 0 where
+  keeps : KeepsAccount w x k
+  context : (entry_at x k).context ≡ (entry_at w k).context
+
+stays : (w v x : World) (e : EventNo) (set : CpuSet) (k : Key) → Course w v x e set → is_live x k ≡ true → Stays w x k
+stays w v x e set k c live =
+    let there : is_live v k ≡ true = sym (c.rest.live k) ∙ live in
+    let off : is_of_family e (instance_at w k) ≡ false = not-closed w v e k c.gone c.slot there in
+    record {
+      keeps = record {
+        live = sym (c.gone.live k off) ∙ there;
+        id = ap (λ y. y.instance.id) (c.rest.entries k) ∙ ap (λ i. i.id) (c.gone.instances k off);
+        account = ap (λ (y : World). account_at y k) c.rest.world ∙ c.gone.accounts k off;
+      };
+      context = ap (λ y. y.context) (c.rest.entries k) ∙ c.gone.contexts k off;
+    }
+
+-- the slots that are current were so
+close-slots : (w v x : World) (e : EventNo) (set : CpuSet) (slot : EventNo) → Course w v x e set → IsCurrentSlot (stage_of x) slot → IsCurrentSlot (stage_of w) slot
+close-slots w v x e set slot c current =
+    let family : family_of x slot ≡ family_of v slot = ap (λ (y : World). family_of y slot) c.rest.world in
+    elim current [
+      | inl opened ↦
+          let some : is_some (family_of v slot).original ≡ true = ap (λ f. is_some f.original) (sym family) ∙ (sym (open-is x.hardware x slot c.kept_then) ∙ opened) in
+          elim (cases_eq slot.0 e.0) [
+            | inl same ↦
+                let gone : family_of v slot ≡ no_family = subst (λ (n : ℕ). family_of v (record { 0 = n }) ≡ no_family) (sym same) c.gone.family in
+                absurd (false≢true (ap (λ f. is_some f.original) (sym gone) ∙ some))
+            | inr apart ↦ inl (open-is w.hardware w slot c.kept ∙ (ap (λ f. is_some f.original) (sym (c.gone.families slot apart)) ∙ some))
+          ]
+      | inr unused ↦
+          let used : x.quiet.used ≡ w.quiet.used = ap (λ (y : World). y.quiet.used) c.rest.world ∙ ap (λ (y : World). y.quiet.used) c.gone.world in
+          inr (ap (λ u. list_any (λ y. y.0 == slot.0) u) (sym used) ∙ unused)
+    ]
+
+close-stepped : (w v x : World) (e : EventNo) (set : CpuSet) → Course w v x e set → HasStepped w.hardware w x (ToolStep (line.Close e))
+close-stepped w v x e set c =
+    let next : x.quiet.next_id ≡ w.quiet.next_id = ap (λ (y : World). y.quiet.next_id) c.rest.world ∙ ap (λ (y : World). y.quiet.next_id) c.gone.world in
+    record {
+      stage = close-stage w v x e set c;
+      drawn = omega (arith, next);
+      old = λ k live before. quiet-keeps w.hardware w x (ToolStep (line.Close e)) k c.kept refl (stays w v x e set k c live).keeps;
+      new = λ k live past.
+          let same : KeepsAccount w x k = (stays w v x e set k c live).keeps in
+          let low : (instance_at w k).id < w.quiet.next_id = (c.kept.numbered.drawn k same.live).1 in
+          absurd (omega (arith, low, past, same.id));
+      slots = λ slot current. close-slots w v x e set slot c current;
+      folded = λ slot current. (
+        [],
+        record {
+          leaving = refl;
+          live = λ k some. absurd (omega (arith, some));
+          sums = ap (λ (y : World). slice_index_or y.folded slot.0 no_sums) c.rest.world
+              ∙ (ap (λ (y : World). slice_index_or y.folded slot.0 no_sums) c.gone.world ∙ sym (plus-none (slice_index_or w.folded slot.0 no_sums)));
+        },
+      );
+      lost = λ slot. ap (λ (y : World). slice_index_or y.lost slot.0 0) c.rest.world ∙ ap (λ (y : World). slice_index_or y.lost slot.0 0) c.gone.world;
+      clock = λ own.
+          let same : slice_index_or x.quiet.clocks own.0 0 ≡ slice_index_or w.quiet.clocks own.0 0 =
+          ap (λ (y : World). slice_index_or y.quiet.clocks own.0 0) c.rest.world ∙ ap (λ (y : World). slice_index_or y.quiet.clocks own.0 0) c.gone.world in
+          omega (arith, same);
+    }
+
+hardware-same : (w v x : World) (e : EventNo) (set : CpuSet) → Course w v x e set → x.hardware ≡ w.hardware
+hardware-same w v x e set c = ap (λ (y : World). y.hardware) c.rest.world ∙ ap (λ (y : World). y.hardware) c.gone.world
+
+pub close-done : (w v x : World) (e : EventNo) (set : CpuSet) → Course w v x e set → stepped_line.IsDone (ToolStep (line.Close e)) w x reply.Ok
+close-done w v x e set c =
+    accepted-line w x (line.Close e) c.kept (subst (λ (hw : Hardware). IsKept hw x) (hardware-same w v x e set c) c.kept_then) c.accepted (λ s sums lost. refl) (close-stepped w v x e set c)
+
+pub close-ready : (w v x : World) (e : EventNo) (set : CpuSet) → Course w v x e set → AreRescheduled v.hardware x → IsReady x
+close-ready w v x e set c rescheduled =
+    let size : length x.quiet.running ≡ length w.quiet.running = ap (λ (y : World). length y.quiet.running) c.rest.world ∙ ap (λ (y : World). length y.quiet.running) c.gone.world in
+    let hardware : x.hardware ≡ w.hardware = hardware-same w v x e set c in
+    record {
+      machine = subst (λ (n : ℕ). IsMachine (record { cpus = n; kinds = length x.hardware.kind_pmus; rings = [] }) x.hardware) (sym size)
+          (subst (λ (hw : Hardware). IsMachine (record { cpus = length w.quiet.running; kinds = length hw.kind_pmus; rings = [] }) hw) (sym hardware) c.ready.machine);
+      sound = subst (λ (hw : Hardware). IsSound hw (stage_of x)) (sym hardware)
+          (subst (IsSound w.hardware) (sym (close-stage w v x e set c)) (step_sound (limits_in w) w.hardware (stage_of w) (ToolStep (line.Close e)) c.ready.machine c.slot c.ready.sound));
+      rescheduled = subst (λ (hw : Hardware). AreRescheduled hw x) (sym (ap (λ (y : World). y.hardware) c.rest.world)) rescheduled;
+      homes = λ k own live at.
+          let same : Stays w x k = stays w v x e set k c live in
+          let low : own.0 < length w.quiet.running = c.ready.homes k own same.keeps.live (sym same.context ∙ at) in
+          omega (arith, low, size);
+    }

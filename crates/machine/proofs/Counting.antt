@@ -1,0 +1,206 @@
+-- How many tests of counters rescheduling some processors takes.
+use Rattle.std.specs.Prelude.{◌≡◌, ℕ, suc, zero, ◌+◌, ◌*◌, ◌<◌, ◌≤◌, ◌==◌, ◌↔◌, Bool, true, false, not, ◌&&◌, List, [], ◌∷◌, ◌++◌, length, map, filter, flat_map, cond, Some, None, if◌then◌else◌}
+use Rattle.std.specs.List.{sum_by}
+use Rattle.std.proofs.Common.{arith, refl, sym, ap, subst, ◌∙◌}
+use Rattle.std.proofs.lemmas.List.{length-map, map-append}
+use Rattle.std.proofs.lemmas.List.Elements.{filter-append}
+use Rattle.std.proofs.lemmas.List.Sums.{sum_by-append, sum_by-cons}
+use Rattle.perf_base.specs.Cpus.{HasCpu}
+use Rattle.perf_base.specs.declared.lines.CpuLine.{CpuLine}
+use Rattle.perf_base.specs.declared.lines.ToolLine.{ToolLine}
+use Rattle.perf_base.specs.declared.numbers.CpuNo.{CpuNo}
+use Rattle.perf_base.specs.declared.numbers.CpuSet.{CpuSet}
+use Rattle.perf_base.specs.declared.numbers.EventNo.{EventNo}
+use Rattle.perf_base.specs.declared.reasons.Reason.{Reason}
+use Rattle.perf_base.specs.declared.standing.Standing.{Standing}
+use Rattle.stage_spec.specs.declared.instance.Instance.{Instance}
+use Rattle.stage_spec.specs.Effective.{counted_members}
+use Rattle.stage_spec.specs.Hardware.{Hardware, mask_of}
+use Rattle.stage_spec.specs.History.{Step, CpuStep, ToolStep, cpu_refusal, tool_refusal, cpu_changed, tool_changed}
+use Rattle.stage_spec.specs.Numbers.{numbers_below}
+use Rattle.stage_spec.specs.Replies.{seated}
+use Rattle.stage_spec.specs.Stage.{Stage, Group, all_cpus}
+use Rattle.stage_spec.specs.Verdict.{Judged, is_eligible, passes, verdicts, with_masks}
+use Rattle.stage_laws.specs.Narrowing.{changed, cpu_touches, tool_touches, touches, unless_left, unless_no}
+use Rattle.stage_laws.specs.Standings.{Brief, brief_of, briefs, standings}
+use Rattle.stage_laws.proofs.Briefs.{by_briefs}
+use Rattle.world_spec.specs.Rescheduled.{IsRescheduled}
+use Rattle.world_spec.specs.StageOf.{stage_of}
+use Rattle.world_spec.specs.Value.{World, seats_at}
+use Rattle.world_spec.proofs.Standing.{briefs-joined, passes-groups}
+use Rattle.cpu_sched.specs.Tried.{tried, tries, tries_for}
+use Rattle.machine.specs.Counted.{AreCounted, IsCounted, is_idle_line, rescheduled_by}
+use Rattle.machine.specs.Settled.{is_in}
+use Rattle.machine.proofs.Keeping.{Touched, filter-below, in-by, is-alone, one-below}
+use Rattle.machine.proofs.Settling.{cpus_below}
+
+-- as many events are seated as are on
+pub seats-count : (hw : Hardware) (w : World) (cpu : CpuNo) → IsRescheduled hw w cpu → length (seats_at w cpu).events ≡ length (seated hw (stage_of w) cpu)
+seats-count hw w cpu h = ap length h.judged.served.events ∙ length-map (seated hw (stage_of w) cpu) (λ i. (i.event, mask_of hw i.attr.kind))
+
+-- what is tried for goes by briefs
+abbrev tried_one : Brief → Standing → ℕ
+tried_one b s = tries_for s (length b.counted)
+
+tried_by : List Brief → List (ℕ × Standing) → ℕ
+tried_by [] xs = 0
+tried_by (b ∷ bs) [] = 0
+tried_by (b ∷ bs) (x ∷ xs) = tried_one b x.1 + tried_by bs xs
+
+tried-all : (hw : Hardware) (js : List Judged) → sum_by (λ j. tries j.standing j.group) js ≡ tried_by (map (brief_of hw) (map (λ j. j.group) js)) (map (λ j. (j.group.leader.id, j.standing)) js)
+unfolding tried_by
+tried-all hw [] = refl
+tried-all hw (j ∷ js) =
+    let same : length (with_masks hw (counted_members j.group)) ≡ length (counted_members j.group) = length-map (counted_members j.group) (λ i. (i.event, mask_of hw i.attr.kind)) in
+    sum_by-cons (λ k. tries k.standing k.group) j js
+    ∙ ((λ i. tries_for j.standing (sym same i) + sum_by (λ k. tries k.standing k.group) js)
+    ∙ ap (λ n. tried_one (brief_of hw j.group) j.standing + n) (tried-all hw js))
+
+tried-is : (hw : Hardware) (s : Stage) (cpu : CpuNo) → tried hw s cpu ≡ tried_by (flat_map (λ q. q) (briefs hw s cpu)) (standings hw s cpu)
+unfolding verdicts
+tried-is hw s cpu =
+    let ps : List (List Group) = map (filter (is_eligible hw cpu)) (passes s cpu) in
+    tried-all hw (verdicts hw s cpu)
+    ∙ ap (λ bs. tried_by bs (standings hw s cpu)) (ap (map (brief_of hw)) (passes-groups hw [] ps) ∙ briefs-joined hw (is_eligible hw cpu) (passes s cpu))
+
+pub same-tried : (hw : Hardware) (s t : Stage) (cpu : CpuNo) → briefs hw s cpu ≡ briefs hw t cpu → tried hw s cpu ≡ tried hw t cpu
+same-tried hw s t cpu same =
+    tried-is hw s cpu ∙ ((λ i. tried_by (flat_map (λ q. q) (same i)) (by_briefs hw cpu s t same i)) ∙ sym (tried-is hw t cpu))
+
+-- sums over the processors below a number
+below-more : (n : ℕ) → cpus_below (n + 1) ≡ cpus_below n ++ record { 0 = n } ∷ []
+below-more n =
+    let one : n + 1 ≡ suc n = omega arith in
+    ap cpus_below one ∙ map-append (λ k. record { 0 = k }) (numbers_below n) (n ∷ [])
+
+one-sum : (f : CpuNo → ℕ) (p : CpuNo → Bool) (cpu : CpuNo) (b : Bool) → p cpu ≡ b → sum_by f (filter p (cpu ∷ [])) ≡ (if b then f cpu else 0)
+one-sum f p cpu true is = ap (λ b. sum_by f (cond b (cpu ∷ []) [])) is ∙ (let alone : 0 + f cpu ≡ f cpu = omega arith in alone)
+one-sum f p cpu false is = ap (λ b. sum_by f (cond b (cpu ∷ []) [])) is
+
+sum-more : (f : CpuNo → ℕ) (p : CpuNo → Bool) (n : ℕ) (b : Bool) → p (record { 0 = n }) ≡ b
+    → sum_by f (filter p (cpus_below (n + 1))) ≡ sum_by f (filter p (cpus_below n)) + (if b then f (record { 0 = n }) else 0)
+sum-more f p n b is =
+    let cpu : CpuNo = record { 0 = n } in
+    ap (λ cs. sum_by f (filter p cs)) (below-more n)
+    ∙ (ap (sum_by f) (filter-append p (cpus_below n) (cpu ∷ []))
+    ∙ (sum_by-append f (filter p (cpus_below n)) (filter p (cpu ∷ [])) ∙ ap (λ m. sum_by f (filter p (cpus_below n)) + m) (one-sum f p cpu b is)))
+
+sum-same : (f g : CpuNo → ℕ) (p : CpuNo → Bool) (n : ℕ) → ((cpu : CpuNo) → cpu.0 < n → f cpu ≡ g cpu) → sum_by f (filter p (cpus_below n)) ≡ sum_by g (filter p (cpus_below n))
+sum-same f g p zero same = refl
+sum-same f g p (suc n) same =
+    let one : n + 1 ≡ suc n = omega arith in
+    let cpu : CpuNo = record { 0 = n } in
+    let rest : sum_by f (filter p (cpus_below n)) ≡ sum_by g (filter p (cpus_below n)) = sum-same f g p n (λ c low. same c (omega (arith, low))) in
+    let here : (if p cpu then f cpu else 0) ≡ (if p cpu then g cpu else 0) = ap (λ m. if p cpu then m else 0) (same cpu (omega arith)) in
+    subst (λ m. sum_by f (filter p (cpus_below m)) ≡ sum_by g (filter p (cpus_below m))) one
+    (sum-more f p n (p cpu) refl ∙ ((λ i. rest i + here i) ∙ sym (sum-more g p n (p cpu) refl)))
+
+-- one processor more: the tests so far, by the seats of those that were rescheduled
+pub least-next : (set : CpuSet) (n : ℕ) (w x : World) (b : Bool) (first before now : ℕ) → is_in set (record { 0 = n }) ≡ b
+    → ((cpu : CpuNo) → cpu.0 < n → length (seats_at x cpu).events ≡ length (seats_at w cpu).events)
+    → first + sum_by (λ cpu. length (seats_at w cpu).events) (filter (is_in set) (cpus_below n)) ≤ before
+    → before + (if b then length (seats_at x (record { 0 = n })).events else 0) ≤ now
+    → first + sum_by (λ cpu. length (seats_at x cpu).events) (filter (is_in set) (cpus_below (n + 1))) ≤ now
+least-next set n w x b first before now is same so more =
+    omega (
+      arith,
+      so,
+      more,
+      sum-more (λ cpu. length (seats_at x cpu).events) (is_in set) n b is,
+      sum-same (λ cpu. length (seats_at x cpu).events) (λ cpu. length (seats_at w cpu).events) (is_in set) n same,
+    )
+
+pub most-next : (set : CpuSet) (n : ℕ) (f : CpuNo → ℕ) (b : Bool) (here first before now : ℕ) → is_in set (record { 0 = n }) ≡ b → here ≡ f (record { 0 = n })
+    → before ≤ first + 272 * sum_by f (filter (is_in set) (cpus_below n)) → now ≤ before + 272 * (if b then here else 0)
+    → now ≤ first + 272 * sum_by f (filter (is_in set) (cpus_below (n + 1)))
+most-next set n f true here first before now is same so more = omega (arith, same, so, more, sum-more f (is_in set) n true is)
+most-next set n f false here first before now is same so more = omega (arith, so, more, sum-more f (is_in set) n false is)
+
+-- all of them
+pub counted-all : (hw : Hardware) (set : CpuSet) (n size : ℕ) (s : Stage) (x : World) (first now : ℕ) → size ≡ n → ((cpu : CpuNo) → cpu.0 < n → IsRescheduled hw x cpu)
+    → first + sum_by (λ cpu. length (seats_at x cpu).events) (filter (is_in set) (cpus_below n)) ≤ now
+    → now ≤ first + 272 * sum_by (tried hw s) (filter (is_in set) (cpus_below n))
+    → AreCounted hw s (stage_of x) (filter (is_in set) (cpus_below size)) first now
+counted-all hw set n size s x first now whole done least most =
+    subst (λ m. AreCounted hw s (stage_of x) (filter (is_in set) (cpus_below m)) first now) (sym whole) (record {
+      least = omega (
+        arith,
+        least,
+        sum-same (λ cpu. length (seats_at x cpu).events) (λ cpu. length (seated hw (stage_of x) cpu)) (is_in set) n (λ cpu low. seats-count hw x cpu (done cpu low)),
+      );
+      most = most;
+    })
+
+-- a line of a tool takes the tests of the processors that it touches
+pub counted-step : (w v x : World) (l : ToolLine) (set : CpuSet) (before now : ℕ) → Touched w v l set
+    → AreCounted v.hardware (stage_of v) (stage_of x) (filter (is_in set) (all_cpus (stage_of v))) before now → IsCounted (ToolStep l) w x before now
+counted-step w v x l set before now c h =
+    let hw : Hardware = w.hardware in
+    let s : Stage = stage_of w in
+    let touched : (cpu : CpuNo) → cpu.0 < length w.quiet.running → is_in set cpu ≡ touches hw s (ToolStep l) cpu = λ cpu low.
+    in-by set cpu (tool_touches s l cpu) (c.into cpu low) (c.back cpu low) ∙ sym (ap (λ o. unless_no o (tool_touches s l cpu)) c.accepted) in
+    let made : stage_of v ≡ changed hw s (ToolStep l) = c.stage ∙ sym (ap (λ o. unless_left o (tool_changed l) s) c.accepted) in
+    let cpus : filter (is_in set) (all_cpus (stage_of v)) ≡ rescheduled_by hw s (ToolStep l) =
+    (λ i. filter (is_in set) (cpus_below (c.running i))) ∙ filter-below (is_in set) (touches hw s (ToolStep l)) (length w.quiet.running) touched in
+    subst (λ cs. AreCounted hw (changed hw s (ToolStep l)) (stage_of x) cs before now) cpus
+    (subst (λ t. AreCounted hw t (stage_of x) (filter (is_in set) (all_cpus (stage_of v))) before now) made
+    (subst (λ h. AreCounted h (stage_of v) (stage_of x) (filter (is_in set) (all_cpus (stage_of v))) before now) c.hardware h))
+
+-- one processor alone
+pub one-counted : (hw : Hardware) (s after : Stage) (cpu : CpuNo) (before now : ℕ) → before + length (seated hw after cpu) ≤ now → now ≤ before + 272 * tried hw s cpu
+    → AreCounted hw s after (cpu ∷ []) before now
+one-counted hw s after cpu before now least most = record {
+  least = omega (arith, least, sum_by-cons (λ c. length (seated hw after c)) cpu []);
+  most = omega (arith, most, sum_by-cons (tried hw s) cpu []);
+}
+
+pub counted-alone : (hw : Hardware) (s after : Stage) (cpu : CpuNo) (set : CpuSet) (size before now : ℕ) → cpu.0 < size → ((other : CpuNo) → HasCpu set other ↔ (other.0 ≡ cpu.0))
+    → AreCounted hw s after (filter (is_in set) (cpus_below size)) before now → AreCounted hw s after (cpu ∷ []) before now
+counted-alone hw s after cpu set size before now low alone h =
+    subst (λ cs. AreCounted hw s after cs before now)
+    (filter-below (is_in set) (λ other. cpu.0 == other.0) size (λ other within. is-alone cpu set other (alone other)) ∙ one-below cpu size low) h
+
+-- a line of a processor that touches its own one takes the tests of that one
+pub counted-own : (w v x : World) (cpu : CpuNo) (l : CpuLine) (before now : ℕ) → cpu.0 < length w.quiet.running → cpu_refusal (stage_of w) cpu l ≡ None → is_idle_line (stage_of w) cpu l ≡ false
+    → ((other : CpuNo) → cpu_touches cpu l other ≡ (cpu.0 == other.0)) → v.hardware ≡ w.hardware → stage_of v ≡ cpu_changed w.hardware cpu l (stage_of w)
+    → AreCounted v.hardware (stage_of v) (stage_of x) (cpu ∷ []) before now → IsCounted (CpuStep cpu l) w x before now
+counted-own w v x cpu l before now low accepted busy own hardware stage h =
+    let hw : Hardware = w.hardware in
+    let s : Stage = stage_of w in
+    let touched : (other : CpuNo) → other.0 < length w.quiet.running → (not (is_idle_line s cpu l) && touches hw s (CpuStep cpu l) other) ≡ (cpu.0 == other.0) = λ other within.
+    (λ i. not (busy i) && unless_no (accepted i) (own other i)) in
+    let made : stage_of v ≡ changed hw s (CpuStep cpu l) = stage ∙ sym (ap (λ o. unless_left o (cpu_changed hw cpu l) s) accepted) in
+    let cpus : rescheduled_by hw s (CpuStep cpu l) ≡ cpu ∷ [] =
+    filter-below (λ other. not (is_idle_line s cpu l) && touches hw s (CpuStep cpu l) other) (λ other. cpu.0 == other.0) (length w.quiet.running) touched ∙ one-below cpu (length w.quiet.running) low in
+    subst (λ cs. AreCounted hw (changed hw s (CpuStep cpu l)) (stage_of x) cs before now) (sym cpus)
+    (subst (λ t. AreCounted hw t (stage_of x) (cpu ∷ []) before now) made (subst (λ h. AreCounted h (stage_of v) (stage_of x) (cpu ∷ []) before now) hardware h))
+
+-- a line that reschedules nobody takes none
+none-among : (p : CpuNo → Bool) (cs : List CpuNo) → ((cpu : CpuNo) → p cpu ≡ false) → filter p cs ≡ []
+none-among p [] off = refl
+none-among p (c ∷ cs) off = ap (λ b. cond b (c ∷ filter p cs) (filter p cs)) (off c) ∙ none-among p cs off
+
+counted-none : (x : Step) (w after : World) (n : ℕ) → rescheduled_by w.hardware (stage_of w) x ≡ [] → IsCounted x w after n n
+counted-none x w after n none =
+    subst (λ cs. AreCounted w.hardware (changed w.hardware (stage_of w) x) (stage_of after) cs n n) (sym none) (record { least = omega arith; most = omega arith })
+
+pub refused-counted : (w after : World) (l : ToolLine) (r : Reason) (n : ℕ) → tool_refusal w.hardware (stage_of w) l ≡ Some r → IsCounted (ToolStep l) w after n n
+refused-counted w after l r n refused =
+    counted-none (ToolStep l) w after n
+    (none-among (touches w.hardware (stage_of w) (ToolStep l)) (all_cpus (stage_of w)) (λ cpu. ap (λ o. unless_no o (tool_touches (stage_of w) l cpu)) refused))
+
+both-off : (a b : Bool) → b ≡ false → (a && b) ≡ false
+both-off true b off = off
+both-off false b off = refl
+
+pub refused-cpu_counted : (w after : World) (cpu : CpuNo) (l : CpuLine) (r : Reason) (n : ℕ) → cpu_refusal (stage_of w) cpu l ≡ Some r → IsCounted (CpuStep cpu l) w after n n
+refused-cpu_counted w after cpu l r n refused =
+    counted-none (CpuStep cpu l) w after n
+    (none-among (λ other. not (is_idle_line (stage_of w) cpu l) && touches w.hardware (stage_of w) (CpuStep cpu l) other) (all_cpus (stage_of w))
+    (λ other. both-off (not (is_idle_line (stage_of w) cpu l)) (touches w.hardware (stage_of w) (CpuStep cpu l) other) (ap (λ o. unless_no o (cpu_touches cpu l other)) refused)))
+
+pub idle-counted : (w after : World) (cpu : CpuNo) (l : CpuLine) (n : ℕ) → is_idle_line (stage_of w) cpu l ≡ true → IsCounted (CpuStep cpu l) w after n n
+idle-counted w after cpu l n idle =
+    counted-none (CpuStep cpu l) w after n
+    (none-among (λ other. not (is_idle_line (stage_of w) cpu l) && touches w.hardware (stage_of w) (CpuStep cpu l) other) (all_cpus (stage_of w))
+    (λ other. ap (λ b. not b && touches w.hardware (stage_of w) (CpuStep cpu l) other) idle))

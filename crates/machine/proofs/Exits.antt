@@ -1,0 +1,220 @@
+-- An exit.
+use Rattle.std.specs.Prelude.{◌≡◌, ◌≢◌, ℕ, ◌<◌, ◌≤◌, ◌↔◌, ◌&&◌, ◌==◌, Bool, true, false, not, List, [], length, map, filter, Option, Some, None, slice_index_or}
+use Rattle.std.proofs.Common.{arith, refl, sym, ap, subst, ◌∙◌, inl, inr}
+use Rattle.std.proofs.lemmas.Bool.{cases_eq}
+use Rattle.std.proofs.lemmas.List.{length-set}
+use Rattle.perf_base.specs.Cpus.{HasCpu}
+use Rattle.perf_base.specs.declared.lines.CpuLine.TheVariants as line
+use Rattle.perf_base.specs.declared.numbers.CpuNo.{CpuNo}
+use Rattle.perf_base.specs.declared.numbers.CpuSet.{CpuSet}
+use Rattle.perf_base.specs.declared.numbers.EventNo.{EventNo}
+use Rattle.perf_base.specs.declared.numbers.Key.{Key}
+use Rattle.perf_base.specs.declared.numbers.TaskNo.{TaskNo}
+use Rattle.perf_base.specs.declared.reply.Reply.TheVariants as reply
+use Rattle.perf_base.specs.declared.standing.Context.TheVariants as context
+use Rattle.stage_spec.specs.Exits.{exit_refusal, exited, exited_by}
+use Rattle.stage_spec.specs.Families.{plus}
+use Rattle.stage_spec.specs.Hardware.{Hardware}
+use Rattle.stage_spec.specs.History.{Step, CpuStep, stage_step}
+use Rattle.stage_spec.specs.Limits.{IsMachine}
+use Rattle.stage_spec.specs.Settle.{settle, settle_each}
+use Rattle.stage_spec.specs.Shares.{no_sums}
+use Rattle.stage_spec.specs.Stage.{Stage, all_cpus, task_on, members, groups_in, is_of_family}
+use Rattle.stage_spec.specs.Verdict.{task_lists}
+use Rattle.stage_laws.specs.Narrowing.{IsNarrow, changed, unless_left, unless_no, touches}
+use Rattle.stage_laws.specs.Sound.{IsSound}
+use Rattle.stage_laws.proofs.Narrow.{narrows}
+use Rattle.stage_laws.proofs.Sound.{step_sound}
+use Rattle.world_spec.specs.Kept.{once_if, plus_keys, IsKept}
+use Rattle.world_spec.specs.Listings.{keys_in}
+use Rattle.world_spec.specs.Rescheduled.{AreRescheduled, AreUntouchedBut, IsRescheduled}
+use Rattle.world_spec.specs.StageOf.{stage_of}
+use Rattle.world_spec.specs.Value.{World, is_live, entry_at, instance_at, account_at, family_of, times}
+use Rattle.world_spec.proofs.Moving.{leads-parts}
+use Rattle.exit_fold.specs.Leaving.{leaves, leaving_copies, leaving_sums, HasExited}
+use Rattle.exit_fold.proofs.Copies.{leaving-times, no-one, same-sums}
+use Rattle.exit_fold.proofs.Exited.{task-low}
+use Rattle.exit_fold.proofs.Leaving.{of_event, leaving-mapped, same-keys}
+use Rattle.world_spec.specs.Quiet.{KeepsAccount}
+use Rattle.world_spec.specs.Stepping.{HasStepped, HasFolded}
+use Rattle.world_spec.proofs.Quiet.{quiet-keeps}
+use Rattle.world_spec.proofs.Stepping.{stepped}
+use Rattle.machine.specs.Settled.{OnlyRescheduled, is_in}
+use Rattle.machine.specs.Stepped.{limits_in, IsReady}
+use Rattle.machine.specs.Stepped as stepped_line
+use Rattle.machine.proofs.Keeping.{filter-below, is-alone, none-lost, one-below, slots-same}
+use Rattle.machine.proofs.Refused.{accepted-cpu}
+use Rattle.machine.proofs.Settling.{one-settled}
+use Rattle.machine.proofs.TaskChange.{filter-alike}
+
+-- What is told of an exit: the worlds before it, after it, and after the processor was rescheduled.
+pub record Course (w v x : World) (cpu : CpuNo) : Type 0 where
+  pub kept : IsKept w.hardware w
+  pub ready : IsReady w
+  pub low : cpu.0 < length w.quiet.running
+  pub accepted : exit_refusal (stage_of w) cpu ≡ None
+  pub stage : stage_of v ≡ exited cpu (stage_of w)
+  pub gone : HasExited w v (task_on (stage_of w) cpu)
+  pub settled : stage_of x ≡ settle v.hardware cpu (stage_of v)
+  pub rest : OnlyRescheduled v x
+  pub kept_then : IsKept x.hardware x
+
+-- the processors but this one are not in the set, and stand as they stood
+pub exit-untouched : (w v : World) (cpu : CpuNo) (set : CpuSet) → AreRescheduled w.hardware w → v.hardware ≡ w.hardware → length v.quiet.running ≡ length w.quiet.running → AreUntouchedBut cpu w v
+    → ((other : CpuNo) → HasCpu set other ↔ (other.0 ≡ cpu.0)) → (other : CpuNo) → other.0 < length v.quiet.running → (HasCpu set other → ⊥) → IsRescheduled v.hardware v other
+exit-untouched w v cpu set before hardware size others alone other low out =
+    let within : other.0 < length w.quiet.running = omega (arith, low, size) in
+    subst (λ (hw : Hardware). IsRescheduled hw v other) (sym hardware)
+    ((others other within (λ same. out ((alone other).1 same))).rescheduled (before other within))
+
+-- settling those of the set is settling this one
+pub exit-settled : (v x : World) (cpu : CpuNo) (set : CpuSet) → cpu.0 < length v.quiet.running → ((other : CpuNo) → HasCpu set other ↔ (other.0 ≡ cpu.0))
+    → stage_of x ≡ settle_each v.hardware (filter (is_in set) (all_cpus (stage_of v))) (stage_of v) → stage_of x ≡ settle v.hardware cpu (stage_of v)
+exit-settled v x cpu set low alone settled =
+    settled
+    ∙ (ap (λ cs. settle_each v.hardware cs (stage_of v))
+    (filter-below (is_in set) (λ other. cpu.0 == other.0) (length v.quiet.running) (λ other within. is-alone cpu set other (alone other)) ∙ one-below cpu (length v.quiet.running) low)
+    ∙ one-settled v.hardware cpu (stage_of v))
+
+-- as many processors stay
+size-by : (cpu : CpuNo) (o : Option TaskNo) (s : Stage) → length (exited_by cpu o s).running ≡ length s.running
+size-by cpu None s = refl
+size-by cpu (Some task) s = length-set s.running cpu.0 None
+
+size-exited : (cpu : CpuNo) (s : Stage) → length (exited cpu s).running ≡ length s.running
+unfolding exited
+size-exited cpu s = size-by cpu (task_on s cpu) s
+
+pub exit-size : (w v : World) (cpu : CpuNo) → stage_of v ≡ exited cpu (stage_of w) → length v.quiet.running ≡ length w.quiet.running
+exit-size w v cpu stage = ap (λ s. length s.running) stage ∙ size-exited cpu (stage_of w)
+
+-- what is counted by slot and by processor, and how many processors there are
+record KeepsRest (w x : World) : Type 0 where
+  hardware : x.hardware ≡ w.hardware
+  originals : (e : EventNo) → (family_of x e).original ≡ (family_of w e).original
+  lost : x.lost ≡ w.lost
+  size : length x.quiet.running ≡ length w.quiet.running
+  clocks : x.quiet.clocks ≡ w.quiet.clocks
+  used : x.quiet.used ≡ w.quiet.used
+  next_id : x.quiet.next_id ≡ w.quiet.next_id
+
+rest-kept : (w v x : World) (cpu : CpuNo) → Course w v x cpu → KeepsRest w x
+rest-kept w v x cpu c = record {
+  hardware = ap (λ (y : World). y.hardware) c.rest.world ∙ c.gone.gone.hardware;
+  originals = λ e. ap (λ (y : World). (family_of y e).original) c.rest.world ∙ ap (λ f. f.original) (c.gone.gone.families e);
+  lost = ap (λ (y : World). y.lost) c.rest.world ∙ c.gone.gone.lost;
+  size = ap (λ (y : World). length y.quiet.running) c.rest.world ∙ exit-size w v cpu c.stage;
+  clocks = ap (λ (y : World). y.quiet.clocks) c.rest.world ∙ ap (λ q. q.clocks) c.gone.quiet;
+  used = ap (λ (y : World). y.quiet.used) c.rest.world ∙ ap (λ q. q.used) c.gone.quiet;
+  next_id = ap (λ (y : World). y.quiet.next_id) c.rest.world ∙ ap (λ q. q.next_id) c.gone.quiet;
+}
+
+exit-stage : (w v x : World) (cpu : CpuNo) → Course w v x cpu → stage_of x ≡ stage_step w.hardware (stage_of w) (CpuStep cpu line.Exit)
+exit-stage w v x cpu c =
+    let hw : Hardware = w.hardware in
+    let s : Stage = stage_of w in
+    let step : Step = CpuStep cpu line.Exit in
+    let narrow : IsNarrow hw s step = narrows (limits_in w) hw s step c.ready.machine (c.low, tt) c.ready.sound (λ own low. (c.ready.rescheduled own low).settled) in
+    let change : changed hw s step ≡ exited cpu s = ap (λ o. unless_left o (exited cpu) s) c.accepted in
+    let touched : (own : CpuNo) → touches hw s step own ≡ (cpu.0 == own.0) = λ own. ap (λ o. unless_no o (cpu.0 == own.0)) c.accepted in
+    c.settled
+    ∙ ((λ i. settle (c.gone.gone.hardware i) cpu (c.stage i))
+    ∙ (sym (one-settled hw cpu (exited cpu s))
+    ∙ (ap (λ cs. settle_each hw cs (exited cpu s)) (sym (filter-alike (touches hw s step) (λ own. cpu.0 == own.0) (all_cpus s) touched ∙ one-below cpu (length w.quiet.running) c.low))
+    ∙ (ap (settle_each hw (filter (touches hw s step) (all_cpus s))) (sym change) ∙ sym narrow.stage))))
+
+-- each key that names an instance then has what it had
+record Stays (w x : World) (k : Key) : Type 0 where
+  keeps : KeepsAccount w x k
+  context : (entry_at x k).context ≡ (entry_at w k).context
+
+stays : (w v x : World) (cpu : CpuNo) (k : Key) → Course w v x cpu → is_live x k ≡ true → Stays w x k
+stays w v x cpu k c live =
+    let there : is_live v k ≡ true = sym (c.rest.live k) ∙ live in
+    record {
+      keeps = record {
+        live = (leads-parts (is_live w k) (not (leaves w (task_on (stage_of w) cpu) k)) (sym (c.gone.gone.live k) ∙ there)).0;
+        id = ap (λ y. y.instance.id) (c.rest.entries k) ∙ ap (λ i. i.id) (c.gone.gone.instances k there);
+        account = ap (λ (y : World). account_at y k) c.rest.world ∙ c.gone.gone.accounts k there;
+      };
+      context = ap (λ y. y.context) (c.rest.entries k) ∙ c.gone.gone.contexts k there;
+    }
+
+-- the copies that go
+abbrev gone_keys : World → Option TaskNo → EventNo → List Key
+gone_keys w None e = []
+gone_keys w (Some task) e = filter (of_event w e) (keys_in w (context.Task task))
+
+gone-mapped : (w : World) (o : Option TaskNo) (e : EventNo) → IsKept w.hardware w
+    → filter (λ i. is_of_family e i && i.copy) (members (groups_in (task_lists (stage_of w) o))) ≡ map (instance_at w) (gone_keys w o e)
+gone-mapped w None e h = refl
+gone-mapped w (Some task) e h = leaving-mapped w.hardware w task e h
+
+once-live : (live b : Bool) → 1 ≤ once_if (live && b) → live ≡ true
+once-live true b some = refl
+once-live false b some = absurd (omega (arith, some))
+
+gone-live : (w : World) (o : Option TaskNo) (e : EventNo) (k : Key) → IsKept w.hardware w → ((task : TaskNo) → o ≡ Some task → task.0 < 64) → 1 ≤ times k (gone_keys w o e) → is_live w k ≡ true
+gone-live w None e k h low some = absurd (omega (arith, some))
+gone-live w (Some task) e k h low some =
+    once-live (is_live w k) (leaves w (Some task) k && (instance_at w k).event.0 == e.0)
+    (omega (arith, some, same-keys w.hardware w task e h (low task refl) k, leaving-times w.hardware w task e h k))
+
+gone-sums : (w : World) (o : Option TaskNo) (e : EventNo) → IsKept w.hardware w → ((task : TaskNo) → o ≡ Some task → task.0 < 64)
+    → leaving_sums w o e ≡ plus_keys (λ k. (account_at w k).sums) (gone_keys w o e)
+gone-sums w None e h low = ap (plus_keys (λ k. (account_at w k).sums)) (no-one (family_of w e).copies)
+gone-sums w (Some task) e h low =
+    sym (same-sums (λ k. (account_at w k).sums) (gone_keys w (Some task) e) (leaving_copies w (Some task) e) (same-keys w.hardware w task e h (low task refl)))
+
+exit-folded : (w v x : World) (cpu : CpuNo) (e : EventNo) → Course w v x cpu → HasFolded w x (CpuStep cpu line.Exit) e (gone_keys w (task_on (stage_of w) cpu) e)
+exit-folded w v x cpu e c =
+    let on : Option TaskNo = task_on (stage_of w) cpu in
+    let low : (task : TaskNo) → on ≡ Some task → task.0 < 64 = λ task is. task-low w.hardware w cpu task c.kept is in
+    record {
+      leaving = gone-mapped w on e c.kept;
+      live = λ k some. gone-live w on e k c.kept low some;
+      sums = ap (λ (y : World). slice_index_or y.folded e.0 no_sums) c.rest.world
+          ∙ (c.gone.gone.folded e ∙ ap (plus (slice_index_or w.folded e.0 no_sums)) (gone-sums w on e c.kept low));
+    }
+
+exit-stepped : (w v x : World) (cpu : CpuNo) → Course w v x cpu → HasStepped w.hardware w x (CpuStep cpu line.Exit)
+exit-stepped w v x cpu c =
+    let keeps : KeepsRest w x = rest-kept w v x cpu c in
+    record {
+      stage = exit-stage w v x cpu c;
+      drawn = omega (arith, keeps.next_id);
+      old = λ k live before. quiet-keeps w.hardware w x (CpuStep cpu line.Exit) k c.kept refl (stays w v x cpu k c live).keeps;
+      new = λ k live past.
+          let same : KeepsAccount w x k = (stays w v x cpu k c live).keeps in
+          let low : (instance_at w k).id < w.quiet.next_id = (c.kept.numbered.drawn k same.live).1 in
+          absurd (omega (arith, low, past, same.id));
+      slots = slots-same w x c.kept c.kept_then keeps.originals keeps.used;
+      folded = λ e current. (gone_keys w (task_on (stage_of w) cpu) e, exit-folded w v x cpu e c);
+      lost = λ e. ap (λ l. slice_index_or l e.0 0) keeps.lost;
+      clock = λ own.
+          let same : slice_index_or x.quiet.clocks own.0 0 ≡ slice_index_or w.quiet.clocks own.0 0 = ap (λ l. slice_index_or l own.0 0) keeps.clocks in
+          omega (arith, same);
+    }
+
+pub exit-done : (w v x : World) (cpu : CpuNo) → Course w v x cpu → stepped_line.IsDone (CpuStep cpu line.Exit) w x reply.Ok
+exit-done w v x cpu c by agrees = record {
+  answer = accepted-cpu w by cpu line.Exit c.accepted agrees;
+  agrees = stepped w.hardware w x by (CpuStep cpu line.Exit) c.kept (subst (λ (hw : Hardware). IsKept hw x) (rest-kept w v x cpu c).hardware c.kept_then) agrees
+      (exit-stepped w v x cpu c) (none-lost cpu line.Exit by.rings);
+}
+
+-- the world is ready for the next line
+pub exit-ready : (w v x : World) (cpu : CpuNo) → Course w v x cpu → AreRescheduled v.hardware x → IsReady x
+exit-ready w v x cpu c rescheduled =
+    let keeps : KeepsRest w x = rest-kept w v x cpu c in
+    record {
+      machine = subst (λ (n : ℕ). IsMachine (record { cpus = n; kinds = length x.hardware.kind_pmus; rings = [] }) x.hardware) (sym keeps.size)
+          (subst (λ (hw : Hardware). IsMachine (record { cpus = length w.quiet.running; kinds = length hw.kind_pmus; rings = [] }) hw) (sym keeps.hardware) c.ready.machine);
+      sound = subst (λ (hw : Hardware). IsSound hw (stage_of x)) (sym keeps.hardware)
+          (subst (IsSound w.hardware) (sym (exit-stage w v x cpu c)) (step_sound (limits_in w) w.hardware (stage_of w) (CpuStep cpu line.Exit) c.ready.machine (c.low, tt) c.ready.sound));
+      rescheduled = subst (λ (hw : Hardware). AreRescheduled hw x) (sym keeps.hardware) (subst (λ (hw : Hardware). AreRescheduled hw x) c.gone.gone.hardware rescheduled);
+      homes = λ k place live at.
+          let same : Stays w x k = stays w v x cpu k c live in
+          let low : place.0 < length w.quiet.running = c.ready.homes k place same.keeps.live (sym same.context ∙ at) in
+          omega (arith, low, keeps.size);
+    }

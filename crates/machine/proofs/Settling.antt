@@ -1,0 +1,77 @@
+-- Rescheduling processors one after the other.
+use Rattle.std.specs.Prelude.{◌≡◌, ℕ, suc, ◌+◌, ◌<◌, Bool, true, false, List, [], ◌∷◌, ◌++◌, map, filter, cond, if◌then◌else◌}
+use Rattle.std.proofs.Common.{arith, refl, sym, ap, subst, ◌∙◌, inl, inr}
+use Rattle.std.proofs.lemmas.Bool.{cases_eq}
+use Rattle.std.proofs.lemmas.Bool.Decides.{nat_tests}
+use Rattle.std.proofs.lemmas.List.{map-append}
+use Rattle.std.proofs.lemmas.List.Elements.{filter-append}
+use Rattle.perf_base.specs.Cpus.{HasCpu}
+use Rattle.perf_base.specs.declared.numbers.CpuNo.{CpuNo}
+use Rattle.perf_base.specs.declared.numbers.CpuSet.{CpuSet}
+use Rattle.stage_spec.specs.Hardware.{Hardware}
+use Rattle.stage_spec.specs.Numbers.{numbers_below}
+use Rattle.stage_spec.specs.Settle.{settle, settle_each}
+use Rattle.stage_spec.specs.Stage.{Stage}
+use Rattle.world_spec.specs.Rescheduled.{IsRescheduled}
+use Rattle.world_spec.specs.Value.{World, Entry, instance_at}
+use Rattle.cpu_sched.specs.Resched.{StaysBut}
+use Rattle.machine.specs.Settled.{OnlyRescheduled, is_in}
+
+-- one processor
+pub one-only : (cpu : CpuNo) (w x : World) → StaysBut cpu w x → OnlyRescheduled w x
+one-only cpu w x h = record { world = h.world; live = h.live; entries = h.entries }
+
+pub none-only : (w : World) → OnlyRescheduled w w
+none-only w = record { world = refl; live = λ k. refl; entries = λ k. refl }
+
+-- one and then others
+pub only-then : (v w x : World) → OnlyRescheduled v w → OnlyRescheduled w x → OnlyRescheduled v x
+only-then v w x first second = record {
+  world = second.world ∙ ap {A = World} {B = World} (λ y. record y { entries = x.entries; standings = x.standings; quiet = record y.quiet { seats = x.quiet.seats } }) first.world;
+  live = λ k. second.live k ∙ first.live k;
+  entries = λ k. second.entries k ∙ ap {A = Entry} {B = Entry} (λ e. record e { instance = record e.instance { own = (instance_at x k).own } }) (first.entries k);
+}
+
+-- the processors below a number
+abbrev pub cpus_below : ℕ → List CpuNo
+cpus_below n = map (λ k. record { 0 = k }) (numbers_below n)
+
+pub one-settled : (hw : Hardware) (cpu : CpuNo) (s : Stage) → settle_each hw (cpu ∷ []) s ≡ settle hw cpu s
+unfolding settle_each
+one-settled hw cpu s = refl
+
+pub settle-parts : (hw : Hardware) (xs ys : List CpuNo) (s : Stage) → settle_each hw (xs ++ ys) s ≡ settle_each hw ys (settle_each hw xs s)
+unfolding settle_each
+settle-parts hw [] ys s = refl
+settle-parts hw (x ∷ xs) ys s = settle-parts hw xs ys (settle hw x s)
+
+settle-one : (hw : Hardware) (set : CpuSet) (cpu : CpuNo) (s : Stage) (b : Bool) → is_in set cpu ≡ b → settle_each hw (filter (is_in set) (cpu ∷ [])) s ≡ (if b then settle hw cpu s else s)
+unfolding settle_each
+settle-one hw set cpu s true h = ap (λ b. settle_each hw (cond b (cpu ∷ []) []) s) h
+settle-one hw set cpu s false h = ap (λ b. settle_each hw (cond b (cpu ∷ []) []) s) h
+
+pub settle-next : (hw : Hardware) (set : CpuSet) (n : ℕ) (s t x : Stage) (b : Bool) → t ≡ settle_each hw (filter (is_in set) (cpus_below n)) s → is_in set (record { 0 = n }) ≡ b
+    → x ≡ (if b then settle hw (record { 0 = n }) t else t) → x ≡ settle_each hw (filter (is_in set) (cpus_below (n + 1))) s
+settle-next hw set n s t x b before is after =
+    let cpu : CpuNo = record { 0 = n } in
+    let one : n + 1 ≡ suc n = omega arith in
+    let cpus : cpus_below (n + 1) ≡ cpus_below n ++ cpu ∷ [] = ap cpus_below one ∙ map-append (λ k. record { 0 = k }) (numbers_below n) (n ∷ []) in
+    after
+    ∙ (sym (settle-one hw set cpu t b is)
+    ∙ (ap (settle_each hw (filter (is_in set) (cpu ∷ []))) before
+    ∙ (sym (settle-parts hw (filter (is_in set) (cpus_below n)) (filter (is_in set) (cpu ∷ [])) s)
+    ∙ ap (λ cs. settle_each hw cs s) (sym (ap (filter (is_in set)) cpus ∙ filter-append (is_in set) (cpus_below n) (cpu ∷ []))))))
+
+pub is-in_set : (set : CpuSet) (cpu : CpuNo) → HasCpu set cpu → is_in set cpu ≡ true
+is-in_set set cpu h = grind (arith, nat_tests, h)
+
+pub none-settled : (hw : Hardware) (s : Stage) → s ≡ settle_each hw [] s
+unfolding settle_each
+none-settled hw s = refl
+
+-- one processor more
+pub next-done : (hw : Hardware) (x : World) (n : ℕ) → ((cpu : CpuNo) → cpu.0 < n → IsRescheduled hw x cpu) → IsRescheduled hw x (record { 0 = n }) → (cpu : CpuNo) → cpu.0 < n + 1 → IsRescheduled hw x cpu
+next-done hw x n before now cpu low = elim (cases_eq cpu.0 n) [
+  | inl e ↦ subst (λ k. IsRescheduled hw x (record { 0 = k })) (sym e) now
+  | inr apart ↦ before cpu (omega (arith, low, apart))
+]

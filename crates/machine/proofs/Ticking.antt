@@ -1,0 +1,102 @@
+-- A tick.
+use Rattle.std.specs.Prelude.{◌≡◌, ℕ, ◌<◌, ◌≢◌, length, Option, Some, None}
+use Rattle.std.proofs.Common.{arith, refl, sym, ap, subst, ◌∙◌, inl, inr}
+use Rattle.std.proofs.lemmas.Bool.{cases_eq}
+use Rattle.perf_base.specs.declared.lines.CpuLine.TheVariants as line
+use Rattle.perf_base.specs.declared.numbers.CpuNo.{CpuNo}
+use Rattle.perf_base.specs.declared.numbers.TaskNo.{TaskNo}
+use Rattle.perf_base.specs.declared.reply.Reply.TheVariants as reply
+use Rattle.perf_base.specs.declared.standing.Context.TheVariants as context
+use Rattle.stage_spec.specs.Hardware.{Hardware}
+use Rattle.stage_spec.specs.History.{CpuStep, stage_step}
+use Rattle.stage_spec.specs.Rotation.{rotated}
+use Rattle.stage_spec.specs.Settle.{settle, settle_each}
+use Rattle.stage_spec.specs.Stage.{task_on}
+use Rattle.stage_laws.specs.Narrowing.{IsNarrow}
+use Rattle.stage_laws.proofs.Narrow.{narrows}
+use Rattle.world_spec.specs.Kept.{IsKept}
+use Rattle.world_spec.specs.Rescheduled.{AreUntouchedBut, IsRescheduled}
+use Rattle.world_spec.specs.StageOf.{stage_of}
+use Rattle.world_spec.specs.Value.{World, is_live, entry_at, instance_at}
+use Rattle.cpu_sched.specs.Resched.{StaysBut}
+use Rattle.task_moves.specs.Turning.{turn_in, turn_of_task, turned_world}
+use Rattle.world_spec.proofs.Stepping.{stepped}
+use Rattle.machine.specs.Stepped.{limits_in, IsReady}
+use Rattle.machine.specs.Stepped as stepped_line
+use Rattle.machine.proofs.Keeping.{none-lost, KeepsAll, kept-stepped, kept-ready, one-below}
+use Rattle.machine.proofs.Settling.{one-settled}
+
+-- What is told of a tick: the worlds before it, after the groups took turns, and after the processor was rescheduled.
+pub record Course (w v x : World) (cpu : CpuNo) : Type 0 where
+  pub kept : IsKept w.hardware w
+  pub ready : IsReady w
+  pub low : cpu.0 < length w.quiet.running
+  pub world : v ≡ turned_world cpu w
+  pub stage : stage_of v ≡ rotated w.hardware cpu (stage_of w)
+  pub settled : stage_of x ≡ settle v.hardware cpu (stage_of v)
+  pub rest : StaysBut cpu v x
+  pub kept_then : IsKept x.hardware x
+
+-- turning changes lists of leaders alone
+record OnlyLists (w v : World) : Type 0 where
+  is : v ≡ record w { contexts = v.contexts }
+
+task-lists : (cpu : CpuNo) (o : Option TaskNo) (w : World) → OnlyLists w (turn_of_task cpu o (turn_in cpu (context.Processor cpu) w))
+task-lists cpu None w = record { is = refl }
+task-lists cpu (Some task) w = record { is = refl }
+
+pub only-lists : (cpu : CpuNo) (w v : World) → v ≡ turned_world cpu w → v ≡ record w { contexts = v.contexts }
+only-lists cpu w v is = (subst (OnlyLists w) (sym is) (task-lists cpu (task_on (stage_of w) cpu) w)).is
+
+tick-keeps : (w v x : World) (cpu : CpuNo) → Course w v x cpu → KeepsAll w x
+tick-keeps w v x cpu c =
+    let lists : v ≡ record w { contexts = v.contexts } = only-lists cpu w v c.world in
+    record {
+      hardware = ap (λ (y : World). y.hardware) c.rest.world ∙ ap (λ (y : World). y.hardware) lists;
+      live = λ k. c.rest.live k ∙ ap (λ (y : World). is_live y k) lists;
+      ids = λ k. ap (λ e. e.instance.id) (c.rest.entries k) ∙ ap (λ (y : World). (instance_at y k).id) lists;
+      contexts = λ k. ap (λ e. e.context) (c.rest.entries k) ∙ ap (λ (y : World). (entry_at y k).context) lists;
+      accounts = ap (λ (y : World). y.accounts) c.rest.world ∙ ap (λ (y : World). y.accounts) lists;
+      families = ap (λ (y : World). y.families) c.rest.world ∙ ap (λ (y : World). y.families) lists;
+      folded = ap (λ (y : World). y.folded) c.rest.world ∙ ap (λ (y : World). y.folded) lists;
+      lost = ap (λ (y : World). y.lost) c.rest.world ∙ ap (λ (y : World). y.lost) lists;
+      running = ap (λ (y : World). length y.quiet.running) c.rest.world ∙ ap (λ (y : World). length y.quiet.running) lists;
+      clocks = ap (λ (y : World). y.quiet.clocks) c.rest.world ∙ ap (λ (y : World). y.quiet.clocks) lists;
+      used = ap (λ (y : World). y.quiet.used) c.rest.world ∙ ap (λ (y : World). y.quiet.used) lists;
+      next_id = ap (λ (y : World). y.quiet.next_id) c.rest.world ∙ ap (λ (y : World). y.quiet.next_id) lists;
+    }
+
+tick-stage : (w v x : World) (cpu : CpuNo) → Course w v x cpu → stage_of x ≡ stage_step w.hardware (stage_of w) (CpuStep cpu line.Tick)
+tick-stage w v x cpu c =
+    let hw : Hardware = w.hardware in
+    let lists : v ≡ record w { contexts = v.contexts } = only-lists cpu w v c.world in
+    let narrow : IsNarrow hw (stage_of w) (CpuStep cpu line.Tick) =
+    narrows (limits_in w) hw (stage_of w) (CpuStep cpu line.Tick) c.ready.machine (c.low, tt) c.ready.sound (λ own low. (c.ready.rescheduled own low).settled) in
+    c.settled
+    ∙ ((λ i. settle ((lists i).hardware) cpu (c.stage i))
+    ∙ (sym (one-settled hw cpu (rotated hw cpu (stage_of w)))
+    ∙ (ap (λ cs. settle_each hw cs (rotated hw cpu (stage_of w))) (sym (one-below cpu (length w.quiet.running) c.low)) ∙ sym narrow.stage)))
+
+pub tick-done : (w v x : World) (cpu : CpuNo) → Course w v x cpu → stepped_line.IsDone (CpuStep cpu line.Tick) w x reply.Ok
+tick-done w v x cpu c by agrees =
+    let keeps : KeepsAll w x = tick-keeps w v x cpu c in
+    record {
+      answer = refl;
+      agrees = stepped w.hardware w x by (CpuStep cpu line.Tick) c.kept (subst (λ (hw : Hardware). IsKept hw x) keeps.hardware c.kept_then) agrees
+          (kept-stepped w x (CpuStep cpu line.Tick) c.kept c.kept_then keeps refl (λ e. refl) (λ own. refl) (tick-stage w v x cpu c)) (none-lost cpu line.Tick by.rings);
+    }
+
+pub tick-ready : (w v x : World) (cpu : CpuNo) → Course w v x cpu → IsRescheduled v.hardware x cpu
+    → AreUntouchedBut cpu w v
+    → AreUntouchedBut cpu v x → IsReady x
+tick-ready w v x cpu c own turned rescheduled =
+    let lists : v ≡ record w { contexts = v.contexts } = only-lists cpu w v c.world in
+    let same : v.hardware ≡ w.hardware = ap (λ (y : World). y.hardware) lists in
+    let keeps : KeepsAll w x = tick-keeps w v x cpu c in
+    kept-ready w x (CpuStep cpu line.Tick) c.ready (c.low, tt) keeps (tick-stage w v x cpu c) (λ other low. elim (cases_eq other.0 cpu.0) [
+      | inl e ↦ subst (λ (hw : Hardware). IsRescheduled hw x other) same (subst (λ (n : ℕ). IsRescheduled v.hardware x (record { 0 = n })) (sym e) own)
+      | inr apart ↦
+          let within : other.0 < length w.quiet.running = omega (arith, low, keeps.running) in
+          let before : IsRescheduled v.hardware v other = subst (λ (hw : Hardware). IsRescheduled hw v other) (sym same) ((turned other within apart).rescheduled (c.ready.rescheduled other within)) in
+          subst (λ (hw : Hardware). IsRescheduled hw x other) same ((rescheduled other (omega (arith, within, ap (λ (y : World). length y.quiet.running) lists)) apart).rescheduled before)
+    ])

@@ -1,0 +1,90 @@
+-- A switch to what already runs.
+use Rattle.std.specs.Prelude.{◌≡◌, ℕ, ◌<◌, Bool, true, false, not, length, [], Option, None, slice_index_or}
+use Rattle.std.proofs.Common.{arith, refl, sym, ap, ◌∙◌}
+use Rattle.perf_base.specs.declared.lines.CpuLine.TheVariants as line
+use Rattle.perf_base.specs.declared.numbers.CpuNo.{CpuNo}
+use Rattle.perf_base.specs.declared.numbers.Key.{Key}
+use Rattle.perf_base.specs.declared.numbers.TaskNo.{TaskNo}
+use Rattle.perf_base.specs.declared.reply.Reply.TheVariants as reply
+use Rattle.perf_base.specs.declared.reply.Sums.{Sums}
+use Rattle.stage_spec.specs.History.{CpuStep, stage_step, unless_refused}
+use Rattle.stage_spec.specs.Remainders.{left_by_hits}
+use Rattle.stage_spec.specs.Settle.{settle_all}
+use Rattle.stage_spec.specs.Shares.{share, no_sums, switch_share, changes_task}
+use Rattle.stage_spec.specs.Stage.{Stage, task_on}
+use Rattle.stage_spec.specs.Switching.{is_running, switch_refusal, switched, put_on}
+use Rattle.stage_spec.proofs.Recurrence.{plus-none}
+use Rattle.world_spec.specs.Kept.{IsKept}
+use Rattle.world_spec.specs.StageOf.{stage_of}
+use Rattle.world_spec.specs.Value.{World, is_live, instance_at, account_at}
+use Rattle.world_spec.specs.Shares.{with_share}
+use Rattle.world_spec.specs.Stepping.{HasStepped, HasItsShare}
+use Rattle.world_spec.proofs.Stepping.{stepped, instance-found}
+use Rattle.machine.specs.Stepped.{IsReady}
+use Rattle.machine.specs.Stepped as stepped_line
+use Rattle.machine.proofs.Asking.{settled-below}
+use Rattle.machine.proofs.Refused.{accepted-cpu}
+use Rattle.machine.proofs.Keeping.{none-lost}
+use Rattle.machine.proofs.TaskChange.{none-given}
+
+pub runs-there : (b : Bool) → not b ≡ false → b ≡ true
+runs-there true h = refl
+runs-there false h = absurd (cc)
+
+-- What is told of a switch to what already runs.
+pub record Still (w : World) (cpu : CpuNo) (to : Option TaskNo) : Type 0 where
+  pub kept : IsKept w.hardware w
+  pub ready : IsReady w
+  pub accepted : switch_refusal (stage_of w) cpu to ≡ None
+  pub runs : is_running (task_on (stage_of w) cpu) to ≡ true
+
+still-stage : (w : World) (cpu : CpuNo) (to : Option TaskNo) → Still w cpu to → stage_of w ≡ stage_step w.hardware (stage_of w) (CpuStep cpu (line.Switch to))
+unfolding stage_step settle_all switched
+still-stage w cpu to c =
+    let s : Stage = stage_of w in
+    let runs : s ≡ switched cpu to s = λ i. elim (sym c.runs i) as (λ b. Stage) [ true ↦ s | false ↦ put_on cpu to s ] in
+    sym (settled-below w.hardware (length w.quiet.running) s (λ own low. (c.ready.rescheduled own low).settled))
+    ∙ (ap (settle_all w.hardware) runs ∙ ap (λ o. unless_refused w.hardware o (switched cpu to) s) (sym c.accepted))
+
+still-gives : (w : World) (cpu : CpuNo) (to : Option TaskNo) (id : ℕ) → Still w cpu to → no_sums ≡ share w.hardware (stage_of w) (CpuStep cpu (line.Switch to)) id
+unfolding share
+still-gives w cpu to id c =
+    sym (λ i. elim (changes_task (c.accepted i) (c.runs i)) as (λ b. Sums) [ true ↦ switch_share w.hardware (stage_of w) cpu to id | false ↦ no_sums ])
+
+still-share : (w : World) (cpu : CpuNo) (to : Option TaskNo) (k : Key) → Still w cpu to → is_live w k ≡ true → HasItsShare w.hardware w w (CpuStep cpu (line.Switch to)) k
+still-share w cpu to k c live =
+    let id : ℕ = (instance_at w k).id in
+    let account : account_at w k ≡ with_share (instance_at w k) (share w.hardware (stage_of w) (CpuStep cpu (line.Switch to)) id) (account_at w k) =
+    (none-given w cpu).accounts k live ∙ ap (λ g. with_share (instance_at w k) g (account_at w k)) (still-gives w cpu to id c) in
+    record {
+      live = live;
+      id = refl;
+      sums = ap (λ a. a.sums) account;
+      left = ap (λ a. a.left) account
+          ∙ ap (λ o. left_by_hits w.hardware (stage_of w) (CpuStep cpu (line.Switch to)) id o (account_at w k).left) (sym (instance-found w.hardware w k c.kept live));
+    }
+
+still-stepped : (w : World) (cpu : CpuNo) (to : Option TaskNo) → Still w cpu to → HasStepped w.hardware w w (CpuStep cpu (line.Switch to))
+still-stepped w cpu to c = record {
+  stage = still-stage w cpu to c;
+  drawn = omega arith;
+  old = λ k live before. still-share w cpu to k c live;
+  new = λ k live past. let low : (instance_at w k).id < w.quiet.next_id = (c.kept.numbered.drawn k live).1 in absurd (omega (arith, low, past));
+  slots = λ e current. current;
+  folded = λ e current. (
+    [],
+    record {
+      leaving = refl;
+      live = λ k some. absurd (omega (arith, some));
+      sums = sym (plus-none (slice_index_or w.folded e.0 no_sums));
+    },
+  );
+  lost = λ e. refl;
+  clock = λ own. omega arith;
+}
+
+pub unswitched-still : (w : World) (cpu : CpuNo) (to : Option TaskNo) → Still w cpu to → stepped_line.IsDone (CpuStep cpu (line.Switch to)) w w reply.Ok
+unswitched-still w cpu to c by agrees = record {
+  answer = accepted-cpu w by cpu (line.Switch to) c.accepted agrees;
+  agrees = stepped w.hardware w w by (CpuStep cpu (line.Switch to)) c.kept c.kept agrees (still-stepped w cpu to c) (none-lost cpu (line.Switch to) by.rings);
+}

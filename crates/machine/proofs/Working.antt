@@ -1,0 +1,194 @@
+-- A stretch of work.
+use Rattle.std.specs.Prelude.{◌≡◌, ℕ, ◌+◌, ◌<◌, ◌==◌, Bool, true, false, List, [], ◌∷◌, flat_map, map, length, slice_index_or, slice_set, if◌then◌else◌}
+use Rattle.std.proofs.Common.{arith, refl, sym, ap, subst, ◌∙◌, inl, inr}
+use Rattle.std.proofs.lemmas.Bool.{cases_eq}
+use Rattle.std.proofs.lemmas.Bool.Decides.{nat_tests}
+use Rattle.std.proofs.lemmas.List.{get_or-set_same, get_or-set_other}
+use Rattle.perf_base.specs.declared.lines.CpuLine.TheVariants as line
+use Rattle.perf_base.specs.declared.lines.Work.{Work}
+use Rattle.perf_base.specs.declared.numbers.CpuNo.{CpuNo}
+use Rattle.perf_base.specs.declared.numbers.EventNo.{EventNo}
+use Rattle.perf_base.specs.declared.numbers.Key.{Key}
+use Rattle.perf_base.specs.declared.numbers.RingNo.{RingNo}
+use Rattle.perf_base.specs.declared.reply.Reply.TheVariants as reply
+use Rattle.stage_spec.specs.Hardware.{Hardware}
+use Rattle.stage_spec.specs.Limits.{IsMachine}
+use Rattle.stage_spec.specs.History.{Step, CpuStep, stage_step}
+use Rattle.stage_spec.specs.Remainders.{left_by_hits}
+use Rattle.stage_spec.specs.Settle.{settle_all}
+use Rattle.stage_spec.specs.Shares.{no_sums}
+use Rattle.stage_spec.proofs.Recurrence.{plus-none}
+use Rattle.stage_laws.specs.Sound.{IsSound}
+use Rattle.ring_spec.specs.Agreement.{IsCurrentSlot}
+use Rattle.world_spec.specs.Changes.{pass_time}
+use Rattle.world_spec.specs.Kept.{IsKept}
+use Rattle.world_spec.specs.Rescheduled.{AreRescheduled, IsRescheduled}
+use Rattle.world_spec.specs.StageOf.{stage_of}
+use Rattle.world_spec.specs.Value.{World, is_live, entry_at, instance_at, account_at}
+use Rattle.world_spec.specs.Shares.{HaveShares, with_share, work_shares}
+use Rattle.ring_spec.specs.Running.{Running, RingAccount, losses_on, more_lost, ring_after}
+use Rattle.ring_spec.specs.Sending.{SentSample, sent_at, sent_by_step}
+use Rattle.sample_ring.specs.OutEnds.{OutEnd}
+use Rattle.sample_ring.specs.RingLists.{OutList}
+use Rattle.sample_ring.specs.Sends.{Request, fits, lost_to, request_of, sent_to, written_to}
+use Rattle.work_account.specs.Ends.{Ends, HaveAccounts, send_all, send_next, sent_among}
+use Rattle.work_account.specs.Sampling.{AreLeft, ends_of, sent_by}
+use Rattle.world_spec.specs.Stepping.{HasStepped, HasItsShare}
+use Rattle.world_spec.proofs.Stepping.{stepped-losing, instance-found}
+use Rattle.machine.specs.Stepped.{IsReady, IsDoneWith, seen_of}
+use Rattle.world_spec.specs.Agreement.{AgreesWith}
+use Rattle.machine.proofs.Asking.{settled-below}
+
+-- What is told of a stretch of work, but for the records that it loses: the worlds before and after it.
+pub record Course (w x : World) (cpu : CpuNo) (work : Work) : Type 0 where
+  pub kept : IsKept w.hardware w
+  pub ready : IsReady w
+  pub low : cpu.0 < length w.quiet.running
+  pub shares : HaveShares w x (work_shares w cpu work)
+  pub stage : stage_of x ≡ stage_of w
+  pub rest : x ≡ pass_time cpu work.length (record w { accounts = x.accounts })
+
+-- What is told of it with them: the ends before and after it, too.
+pub record Sending (w x : World) (cpu : CpuNo) (work : Work) (outs sent : OutList) : Type 0 where
+  pub kept : IsKept w.hardware w
+  pub ready : IsReady w
+  pub low : cpu.0 < length w.quiet.running
+  pub shares : HaveShares w x (work_shares w cpu work)
+  pub stage : stage_of x ≡ stage_of w
+  pub rest : x ≡ pass_time cpu work.length (record w { accounts = x.accounts; lost = x.lost })
+  pub rescheduled : (other : CpuNo) → IsRescheduled w.hardware w other → IsRescheduled w.hardware x other
+  pub kept_then : IsKept x.hardware x
+  pub ends : (left : ℕ → ℕ) (accounts : List RingAccount) → AreLeft w left → HaveAccounts outs accounts
+      → HaveAccounts sent (map (ring_after (CpuStep cpu (line.Work work)) (sent_by w left cpu work)) accounts)
+  pub lost : (left : ℕ → ℕ) (accounts : List RingAccount) → AreLeft w left → HaveAccounts outs accounts → (e : EventNo) → e.0 < 256
+      → slice_index_or x.lost e.0 0
+      ≡ more_lost (λ f. slice_index_or w.lost f.0 0) (flat_map (losses_on (CpuStep cpu (line.Work work)) (sent_by w left cpu work)) accounts) e
+
+work-stage : (w : World) (cpu : CpuNo) (work : Work) → IsReady w → stage_of w ≡ stage_step w.hardware (stage_of w) (CpuStep cpu (line.Work work))
+unfolding stage_step settle_all
+work-stage w cpu work h = sym (settled-below w.hardware (length w.quiet.running) (stage_of w) (λ own low. (h.rescheduled own low).settled))
+
+clock-by : (clocks : List ℕ) (cpu other : CpuNo) (n : ℕ) → cpu.0 < length clocks
+    → slice_index_or (slice_set clocks cpu.0 (slice_index_or clocks cpu.0 0 + n)) other.0 0 ≡ slice_index_or clocks other.0 0 + (if cpu.0 == other.0 then n else 0)
+clock-by clocks cpu other n low = elim (cases_eq other.0 cpu.0) [
+  | inl e ↦
+      let same : (cpu.0 == other.0) ≡ true = grind (arith, nat_tests, e) in
+      ap (λ k. slice_index_or (slice_set clocks cpu.0 (slice_index_or clocks cpu.0 0 + n)) k 0) e
+      ∙ (get_or-set_same clocks cpu.0 (slice_index_or clocks cpu.0 0 + n) 0 low
+      ∙ (λ i. slice_index_or clocks (sym e i) 0 + (if sym same i then n else 0)))
+  | inr apart ↦
+      let off : (cpu.0 == other.0) ≡ false = grind (arith, nat_tests, apart) in
+      let none : slice_index_or clocks other.0 0 ≡ slice_index_or clocks other.0 0 + 0 = omega arith in
+      get_or-set_other clocks cpu.0 other.0 (slice_index_or clocks cpu.0 0 + n) 0 apart
+      ∙ (none ∙ ap (λ b. slice_index_or clocks other.0 0 + (if b then n else 0)) (sym off))
+]
+
+work-share : (w x : World) (cpu : CpuNo) (work : Work) (k : Key) → Course w x cpu work → is_live x k ≡ true → HasItsShare w.hardware w x (CpuStep cpu (line.Work work)) k
+work-share w x cpu work k c live_then =
+    let live : is_live w k ≡ true = sym (ap (λ (y : World). is_live y k) c.rest) ∙ live_then in
+    let id : ℕ = (instance_at w k).id in
+    let account : account_at x k ≡ with_share (instance_at w k) (work_shares w cpu work id) (account_at w k) = c.shares.accounts k live in
+    record {
+      live = live;
+      id = ap (λ (y : World). (instance_at y k).id) c.rest;
+      sums = ap (λ a. a.sums) account;
+      left = ap (λ a. a.left) account
+          ∙ ap (λ o. left_by_hits w.hardware (stage_of w) (CpuStep cpu (line.Work work)) id o (account_at w k).left) (sym (instance-found w.hardware w k c.kept live));
+    }
+
+work-stepped : (w x : World) (cpu : CpuNo) (work : Work) → Course w x cpu work → HasStepped w.hardware w x (CpuStep cpu (line.Work work))
+work-stepped w x cpu work c =
+    let next : x.quiet.next_id ≡ w.quiet.next_id = ap (λ (y : World). y.quiet.next_id) c.rest in
+    record {
+      stage = c.stage ∙ work-stage w cpu work c.ready;
+      drawn = omega (arith, next);
+      old = λ k live before. work-share w x cpu work k c live;
+      new = λ k live past.
+          let low : (instance_at w k).id < w.quiet.next_id = (c.kept.numbered.drawn k (sym (ap (λ (y : World). is_live y k) c.rest) ∙ live)).1 in
+          absurd (omega (arith, low, past, ap (λ (y : World). (instance_at y k).id) c.rest));
+      slots = λ e current. subst (λ s. IsCurrentSlot s e) c.stage current;
+      folded = λ e current. (
+        [],
+        record {
+          leaving = refl;
+          live = λ k some. absurd (omega (arith, some));
+          sums = ap (λ (y : World). slice_index_or y.folded e.0 no_sums) c.rest ∙ sym (plus-none (slice_index_or w.folded e.0 no_sums));
+        },
+      );
+      lost = λ e. ap (λ (y : World). slice_index_or y.lost e.0 0) c.rest;
+      clock = λ other. ap (λ (y : World). slice_index_or y.quiet.clocks other.0 0) c.rest ∙ clock-by w.quiet.clocks cpu other work.length (omega (arith, c.low, c.kept.tables.clocks));
+    }
+
+-- the world but for the counts of records lost
+but-lost : (w x : World) (cpu : CpuNo) (work : Work) (outs sent : OutList) → Sending w x cpu work outs sent → Course w (record x { lost = w.lost }) cpu work
+but-lost w x cpu work outs sent c = record {
+  kept = c.kept;
+  ready = c.ready;
+  low = c.low;
+  shares = record { accounts = c.shares.accounts; keys = c.shares.keys };
+  stage = c.stage;
+  rest = ap {A = World} {B = World} (λ y. record y { lost = w.lost }) c.rest;
+}
+
+-- the records that the line sends are the definitions'
+sents-are : (w : World) (by : Running) (cpu : CpuNo) (work : Work) → AgreesWith w by
+    → sent_by w by.left cpu work ≡ sent_by_step w.hardware by.stage by.left by.clock (CpuStep cpu (line.Work work))
+sents-are w by cpu work agrees = λ i. sent_at w.hardware (sym agrees.stage i) by.left (sym (agrees.clock cpu) i + work.length) cpu work
+
+pub work-done : (w x : World) (cpu : CpuNo) (work : Work) (outs sent : OutList) → Sending w x cpu work outs sent
+    → IsDoneWith (CpuStep cpu (line.Work work)) w x outs sent reply.Ok
+work-done w x cpu work outs sent c by agrees accounts =
+    let step : Step = CpuStep cpu (line.Work work) in
+    let are : sent_by w by.left cpu work ≡ sent_by_step w.hardware by.stage by.left by.clock step = sents-are w by cpu work agrees in
+    record {
+      done = record {
+        answer = refl;
+        agrees = stepped-losing w.hardware w x by step c.kept (subst (λ (hw : Hardware). IsKept hw x) (ap (λ (y : World). y.hardware) c.rest) c.kept_then) agrees (record {
+          stepped = work-stepped w (record x { lost = w.lost }) cpu work (but-lost w x cpu work outs sent c);
+          lost = λ e low. c.lost by.left by.rings agrees.left accounts e low
+              ∙ ap (λ sents. more_lost (λ f. slice_index_or w.lost f.0 0) (flat_map (losses_on step sents) by.rings) e) are;
+        });
+      };
+      ends = subst (λ sents. HaveAccounts sent (map (ring_after step sents) by.rings)) are (c.ends by.left by.rings agrees.left accounts);
+    }
+
+pub work-ready : (w x : World) (cpu : CpuNo) (work : Work) (outs sent : OutList) → Sending w x cpu work outs sent → IsReady x
+work-ready w x cpu work outs sent c =
+    let hardware : x.hardware ≡ w.hardware = ap (λ (y : World). y.hardware) c.rest in
+    let running : length x.quiet.running ≡ length w.quiet.running = ap (λ (y : World). length y.quiet.running) c.rest in
+    record {
+      machine = subst (λ (n : ℕ). IsMachine (record { cpus = n; kinds = length x.hardware.kind_pmus; rings = [] }) x.hardware) (sym running)
+          (subst (λ (hw : Hardware). IsMachine (record { cpus = length w.quiet.running; kinds = length hw.kind_pmus; rings = [] }) hw) (sym hardware) c.ready.machine);
+      sound = subst (λ (hw : Hardware). IsSound hw (stage_of x)) (sym hardware) (subst (IsSound w.hardware) (sym c.stage) c.ready.sound);
+      rescheduled = subst (λ (hw : Hardware). AreRescheduled hw x) (sym hardware) (λ other low. c.rescheduled other (c.ready.rescheduled other (omega (arith, low, running))));
+      homes = λ k own live at.
+          let low : own.0 < length w.quiet.running = c.ready.homes k own (sym (ap (λ (y : World). is_live y k) c.rest) ∙ live) (sym (ap (λ (y : World). (entry_at y k).context) c.rest) ∙ at) in
+          omega (arith, low, running);
+    }
+
+-- no end that sends looks at its reader
+abbrev knows : OutEnd → ℕ × ℕ
+knows o = (o.producer.last_tail, o.producer.loads)
+
+still-one : (o : OutEnd) (q : Request) (b : Bool) → knows (elim b as (λ _. OutEnd) [ true ↦ written_to o q | false ↦ lost_to o ]) ≡ knows o
+still-one o q true = refl
+still-one o q false = refl
+
+still-among : (numbers : List RingNo) (outs : List OutEnd) (ring : RingNo) (q : Request) → map knows (sent_among numbers outs ring q) ≡ map knows outs
+still-among [] outs ring q = refl
+still-among (n ∷ numbers) [] ring q = refl
+still-among (n ∷ numbers) (o ∷ outs) ring q = here (n.0 == ring.0) (still-among numbers outs ring q)
+  where
+    here : (b : Bool) → map knows (sent_among numbers outs ring q) ≡ map knows outs
+        → map knows (if b then sent_to o q ∷ outs else o ∷ sent_among numbers outs ring q) ≡ knows o ∷ map knows outs
+    here true rest = ap (λ k. k ∷ map knows outs) (still-one o q (fits o q))
+    here false rest = ap (λ l. knows o ∷ l) rest
+
+still-after : (sents : List (RingNo × SentSample)) (x : Ends) → seen_of (send_all x sents).outs ≡ seen_of x.outs
+unfolding send_all
+still-after [] x = refl
+still-after (s ∷ sents) x = still-after sents (send_next x s) ∙ still-among x.outs.numbers x.outs.outs s.0 (request_of s.1)
+
+pub work-seen : (w x : World) (cpu : CpuNo) (work : Work) (outs sent : OutList) (left : ℕ → ℕ)
+    → ends_of sent x ≡ send_all (ends_of outs w) (sent_by w left cpu work) → seen_of sent ≡ seen_of outs
+work-seen w x cpu work outs sent left is = ap (λ (e : Ends). seen_of e.outs) is ∙ still-after (sent_by w left cpu work) (ends_of outs w)

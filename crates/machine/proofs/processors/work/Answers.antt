@@ -1,0 +1,40 @@
+use Rattle.machine.proofs.Working.{work-done, work-seen, work-ready}
+use Rattle.machine.proofs.processors.work.Goals as goal
+
+pub work-requires-clause-judged : goal.work-requires-clause-judged
+work-requires-clause-judged c = (c.requires.ready.rescheduled c.args.cpu c.requires.cpu).judged
+
+pub returns-clause-ready : goal.returns-clause-ready
+returns-clause-ready c =
+    work-ready c.args.world.now c.work.new.world c.args.cpu c.args.work.now c.args.outs.now c.work.new.outs (record {
+      kept = c.use_invariant.ensures;
+      ready = c.requires.ready;
+      low = c.requires.cpu;
+      shares = c.work.ensures.shares;
+      stage = c.work.ensures.stage;
+      rest = c.work.ensures.rest;
+      rescheduled = c.work.ensures.rescheduled;
+      kept_then = c.use_invariant-2.ensures;
+      ends = c.work.ensures.accounts;
+      lost = c.work.ensures.lost;
+    })
+
+pub returns-clause-done : goal.returns-clause-done
+returns-clause-done c =
+    work-done c.args.world.now c.work.new.world c.args.cpu c.args.work.now c.args.outs.now c.work.new.outs (record {
+      kept = c.use_invariant.ensures;
+      ready = c.requires.ready;
+      low = c.requires.cpu;
+      shares = c.work.ensures.shares;
+      stage = c.work.ensures.stage;
+      rest = c.work.ensures.rest;
+      rescheduled = c.work.ensures.rescheduled;
+      kept_then = c.use_invariant-2.ensures;
+      ends = c.work.ensures.accounts;
+      lost = c.work.ensures.lost;
+    })
+
+pub returns-clause-seen : goal.returns-clause-seen
+returns-clause-seen c =
+    work-seen c.args.world.now c.work.new.world c.args.cpu c.args.work.now c.args.outs.now c.work.new.outs c.requires.space.left
+    (c.work.ensures.sent c.requires.space.left c.requires.space.are_left)

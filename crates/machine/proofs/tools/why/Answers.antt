@@ -1,0 +1,17 @@
+use Rattle.std.proofs.Common.{refl, ap}
+use Rattle.perf_base.specs.declared.lines.ToolLine.TheVariants as line
+use Rattle.perf_base.specs.declared.reply.Reply.TheVariants as reply
+use Rattle.machine.proofs.Asking.{all-stand, asked}
+use Rattle.machine.proofs.Refused.{refused-line}
+use Rattle.machine.proofs.tools.why.Goals as goal
+
+pub why-requires : goal.why-requires
+why-requires c = record { rescheduled = all-stand c.args.world.now c.requires.ready }
+
+pub returns-in-Err : goal.returns-in-Err
+returns-in-Err c = refused-line c.args.world.now c.args.world.now (line.Why c.args.event) c.in-Err.reason c.use_invariant.ensures refl c.in-Err.ensures.refused
+
+pub returns-in-Ok : goal.returns-in-Ok
+returns-in-Ok c =
+    asked c.args.world.now (line.Why c.args.event) (reply.Why c.in-Ok.why) c.use_invariant.ensures c.requires.ready refl c.in-Ok.ensures.accepted (λ s. refl)
+    (ap reply.Why c.in-Ok.ensures.why)

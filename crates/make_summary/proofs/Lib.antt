@@ -1,2 +1,0 @@
-pub mod MadeOrder
-pub mod SummedUp

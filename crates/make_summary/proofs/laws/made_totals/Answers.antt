@@ -1,5 +1,0 @@
-use Rattle.make_spec.proofs.Sound.{line_law}
-use Rattle.make_summary.proofs.laws.made_totals.Goals as goal
-
-pub returns : goal.returns
-returns c n answers rings = line_law n

@@ -1,4 +1,0 @@
-pub mod Asking
-pub mod Quiet
-pub mod Slots
-pub mod Stepping

@@ -1,0 +1,87 @@
+-- That answers by a world are answers by its record, and that a settled stage stays under a line that asks.
+use Rattle.std.specs.Prelude.{◌≡◌, ◌≤◌, ◌==◌, ◌&&◌, Bool, not, true, is_some, All, List, [], ◌∷◌, slice_index_or}
+use Rattle.std.proofs.Common.{arith, refl, sym, ap, subst, ◌∙◌, inl, inr}
+use Rattle.std.proofs.lemmas.Bool.{cases_Bool}
+use Rattle.std.proofs.lemmas.List.Elements.{All-map}
+use Rattle.perf_base.specs.declared.numbers.EventNo.{EventNo}
+use Rattle.perf_base.specs.declared.numbers.Key.{Key}
+use Rattle.perf_base.specs.declared.reply.Sums.{Sums}
+use Rattle.stage_spec.specs.Families.{plus}
+use Rattle.stage_spec.specs.Hardware.{Hardware}
+use Rattle.stage_spec.specs.Shares.{no_sums}
+use Rattle.stage_spec.specs.Stage.{is_open}
+use Rattle.ring_spec.specs.Agreement.{IsCurrentSlot, Agree, AreFamiliesOpen}
+use Rattle.ring_spec.specs.Running.{Running, family_by, IsAnswerBy}
+use Rattle.ring_spec.proofs.Agreement.{answer_agrees}
+use Rattle.ring_spec.proofs.Running.{same_answer}
+use Rattle.world_spec.specs.Agreement.{AgreesWith}
+use Rattle.world_spec.specs.Kept.{IsKept, keys_of, plus_keys, family_sums}
+use Rattle.world_spec.specs.StageOf.{stage_of}
+use Rattle.world_spec.specs.Staying.{IsOriginalOf}
+use Rattle.world_spec.specs.Value.{World, is_live, instance_at, account_at, family_of, is_key, times}
+use Rattle.world_spec.proofs.Accounts.{family-times}
+use Rattle.world_spec.proofs.ComingLinks.{none_of_three}
+use Rattle.world_spec.proofs.Copies.{times-at}
+use Rattle.world_spec.proofs.Families.{all_keys, instances-are, key-lives, family-sums, open-is}
+use Rattle.world_spec.proofs.Keys.{is_key-same, times-cons, once-true, once-false}
+use Rattle.world_spec.proofs.Staying.{origin-is}
+use Rattle.world_spec.specs.Asking.{AnswerLaw}
+
+-- the record with the world's own folded sums and lost counts
+abbrev as_world : World → Running → Running
+as_world w r = record r { stage = stage_of w; folded = λ e. slice_index_or w.folded e.0 no_sums; lost = λ e. slice_index_or w.lost e.0 0 }
+
+as-agrees : (w : World) (r : Running) → AgreesWith w r → Agree r (as_world w r)
+as-agrees w r a = record {
+  stage = a.stage;
+  sums = λ id current. refl;
+  left = λ id there. refl;
+  folded = λ e current. a.folded e (subst (λ s. IsCurrentSlot s e) a.stage current);
+  lost = λ e current. a.lost e (subst (λ s. IsCurrentSlot s e) a.stage current);
+  clock = λ cpu. refl;
+  rings = refl;
+}
+
+sums-within : (s t : Key → Sums) (keys : List Key) → ((k : Key) → 1 ≤ times k keys → s k ≡ t k) → plus_keys s keys ≡ plus_keys t keys
+sums-within s t [] h = refl
+sums-within s t (k ∷ keys) h =
+    let first : s k ≡ t k = h k (omega (arith, times-cons k k keys, once-true (is_key k k) (is_key-same k k refl))) in
+    let rest : plus_keys s keys ≡ plus_keys t keys = sums-within s t keys (λ q some. h q (omega (arith, some, times-cons q k keys))) in
+    λ i. plus (first i) (rest i)
+
+-- the keys of a family are live
+family-lives : (hw : Hardware) (w : World) → IsKept hw w → (e : EventNo) (k : Key) → 1 ≤ times k (keys_of (family_of w e)) → is_live w k ≡ true
+family-lives hw w h e k some = elim (cases_Bool (is_live w k)) [
+  | inl live ↦ live
+  | inr dead ↦
+      let of : Bool = (instance_at w k).event.0 == e.0 in
+      let copy : Bool = (instance_at w k).copy in
+      absurd (omega (
+        arith,
+        some,
+        family-times w h.linked k e.0,
+        once-false (is_live w k && of && not copy) (none_of_three (is_live w k) of (not copy) dead),
+        once-false (is_live w k && of && copy) (none_of_three (is_live w k) of copy dead),
+      ))
+]
+
+family-is : (hw : Hardware) (w : World) (r : Running) (e : EventNo) → IsKept hw w → AgreesWith w r → family_by (as_world w r) e ≡ family_sums w e.0
+family-is hw w r e h a =
+    ap (λ s. plus s (slice_index_or w.folded e.0 no_sums))
+    (family-sums hw w e (λ i. r.sums i.id) h
+    ∙ sums-within (λ k. r.sums (instance_at w k).id) (λ k. (account_at w k).sums) (keys_of (family_of w e)) (λ k some. a.sums k (family-lives hw w h e k some)))
+
+families-open : (hw : Hardware) (w : World) → IsKept hw w → AreFamiliesOpen (stage_of w)
+families-open hw w h =
+    subst (All (λ i. is_open (stage_of w) i.event ≡ true)) (sym (instances-are hw w h))
+    (All-map (λ i. is_open (stage_of w) i.event ≡ true) (instance_at w) (all_keys w) (λ n d low.
+    let k : Key = slice_index_or (all_keys w) n d in
+    let o : (original : Key) × IsOriginalOf w k original = origin-is hw w k h (key-lives hw w h k (times-at (all_keys w) n d low)) in
+    open-is hw w (instance_at w k).event h ∙ ap is_some o.1.named))
+
+pub answers-by : AnswerLaw
+answers-by hw w r x a h agrees answer =
+    let q : Running = as_world w r in
+    let by_q : IsAnswerBy hw q x a =
+    same_answer hw (stage_of w) (stage_of w) (λ e. family_sums w e.0) (family_by q) (λ e. slice_index_or w.lost e.0 0) q.lost x a refl (λ i. λ e. sym (family-is hw w r e h agrees) i) refl answer in
+    (answer_agrees hw r q x a (subst AreFamiliesOpen (sym agrees.stage) (families-open hw w h)) (as-agrees w r agrees)).1 by_q
