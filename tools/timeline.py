@@ -1,9 +1,10 @@
 #!/usr/bin/env python3
 """Draws who was on which counter of which processor when, as an SVG.
 
-Time goes to the right by each processor's own clock, which its work lines move. A row is a counter; an event that stands on it while work is done
-has a bar there. Beneath stand the groups that were refused meanwhile, each with its cause. The program is asked: a tool of its own is added to a
-copy of the script, with lines `seats` and `why` before each work line. Nothing is scheduled here.
+Time goes to the right by each processor's own clock, which its work lines move. A row is a counter; an event that
+stands on it while work is done has a bar there. Beneath, each event that was refused has a row: its colour where it was
+on, grey with the cause where it was refused. At the end of a row stands its sum. The program is asked: a tool of its
+own is added to a copy of the script, with lines `seats` and `why` before each work line. Nothing is scheduled here.
 
 Usage: timeline.py PROGRAM SCRIPT
   PROGRAM  the built program, crates/perf_run/out/perf_run; `rt run` in crates/perf_run leaves it there
@@ -15,8 +16,10 @@ import subprocess
 import sys
 from html import escape
 
-LEFT, TOP, ROW, WIDTH = 160, 34, 22, 720
-COLORS = ["#4878a8", "#d0743c", "#5a9e6f", "#b65a7a", "#8a7cc0", "#b09a3a", "#5aa6b0", "#8c8c8c"]
+LEFT, TOP, ROW, WIDTH, RIGHT = 160, 52, 22, 720, 220
+COLORS = ["#2f5f8f", "#a8501c", "#2f7a47", "#93365a", "#5f4fa8", "#7a6614", "#1f7480", "#5c5c5c"]
+GREY, INK = "#dcdcdc", "#222"
+UNIT = "time of the processor, in the script's units of work"
 
 
 def values(words):
@@ -63,7 +66,7 @@ class Script:
 
 
 def with_questions(script):
-    """Adds a tool that asks before each work line. Answers its name and, of each of its lines, the act that it comes before."""
+    """Adds a tool that asks before each work line: its name and, of each of its lines, the act that it comes before."""
     free = [f"t{n}" for n in range(3, -1, -1) if f"t{n}" not in script.lines]
     if not free:
         sys.exit("all four tools have lines")
@@ -91,15 +94,20 @@ def answers_of(program, script):
     run = subprocess.run([program, "replay"], input=script.text().encode(), capture_output=True)
     if run.returncode:
         sys.exit(run.stderr.decode() or f"status {run.returncode}")
+    return words_of(run.stdout.decode())
+
+
+def words_of(report):
+    """The words of each line of a report, by the name of the line that is answered."""
     told = {}
-    for line in run.stdout.decode().splitlines()[1:-1]:
+    for line in report.splitlines()[1:-1]:
         name, *words = line.split(" ")
         told[name] = words
     return told
 
 
 def stretches(script, acts, asker, before, told):
-    """Of each stretch of work: the processor, its beginning and end, what was on which counter, and what was refused why."""
+    """Of each stretch of work the processor, its beginning and end, what was on which counter, what was refused why."""
     asked = {}
     for number, line in enumerate(script.lines[asker]):
         asked.setdefault(before[number], []).append((line.split(" "), told.get(f"{asker}.{number}", [])))
@@ -125,52 +133,139 @@ def stretches(script, acts, asker, before, told):
                     seats = {int(word.split("=")[1]): int(word.split("=")[0]) for word in reply[1:]}
                 elif reply[1:2] and reply[1] in ("hall", "earlier", "exclusive", "exclusive-self", "error"):
                     context = contexts.get(int(question[1]), {})
-                    here = "p" + context.get("cpu", "") == act if context.get("task") == "all" else context.get("task") == tasks.get(act)
+                    of_task = context.get("task") == tasks.get(act)
+                    here = "p" + context.get("cpu", "") == act if context.get("task") == "all" else of_task
                     if here:
                         refused.append((int(question[1]), " ".join(reply[1:])))
             found.append((int(act[1:]), start, clock[act], seats, refused))
     return found
 
 
-def bar(x, y, width, color, text, title):
-    label = f'<text x="{x + 4:.1f}" y="{y + 14}" fill="#fff">{escape(text)}</text>' if width > 9 * len(text) else ""
-    return f'<g><title>{escape(title)}</title><rect x="{x:.1f}" y="{y + 2}" width="{max(width - 1, 1):.1f}" height="{ROW - 4}" fill="{color}"/>{label}</g>'
+def listed(words):
+    """Names in a sentence: `0`, `0 and 1`, or `0, 1 and 2`."""
+    return words[0] if len(words) == 1 else ", ".join(words[:-1]) + " and " + words[-1]
 
 
-def picture(script, found):
+def in_words(cause):
+    """A cause, as `why` answers it, in words."""
+    word, *named = cause.split(" ")
+    if word == "error":
+        return "in error: " + in_words(" ".join(named)) if named else "in error"
+    if word == "hall":
+        events = sorted(named, key=int)
+        return f"too few counters: {listed(events)}" if len(events) > 1 else f"no counter: {events[0]}"
+    return {
+        "earlier": "behind {}, which was refused",
+        "exclusive": "{} is exclusive",
+        "exclusive-self": "is exclusive, and {} is on",
+    }[word].format(*named)
+
+
+class Labels:
+    """What a picture calls its events, counters and causes. Rows begin behind `left`."""
+
+    left = LEFT
+
+    def __init__(self, script):
+        self.kinds = {}
+        for lines in script.lines.values():
+            for line in lines:
+                if line.startswith("open "):
+                    words = line.split(" ")
+                    self.kinds.setdefault(int(words[1]), values(words).get("kind", "attr"))
+
+    def event(self, event):
+        return f"{event} {self.kinds.get(event, '')}"
+
+    def title(self, event):
+        return f"event {self.event(event)}"
+
+    def refused(self, event):
+        return f"event {self.event(event)}"[:24]
+
+    def counter(self, cpu, counter):
+        return f"processor {cpu}, counter {counter}"
+
+    def cause(self, cause):
+        return in_words(cause)
+
+
+def sum_of(part, whole):
+    """A row's sum: a part of the whole, and its share, cut."""
+    return f"{part:,} of {whole:,}: {100 * part // whole if whole else 0}%"
+
+
+def bar(x, y, width, color, text, title, ink="#fff"):
+    label = f'<text x="{x + 4:.1f}" y="{y + 15}" fill="{ink}">{escape(text)}</text>'
+    size = f'width="{max(width - 1, 1):.1f}" height="{ROW - 4}"'
+    drawn = f'<title>{escape(title)}</title><rect x="{x:.1f}" y="{y + 2}" {size} fill="{color}"/>'
+    return f'<g>{drawn}{label if width > 6.6 * len(text) + 6 else ""}</g>'
+
+
+def row_of(labels, y, name, bars, part, whole):
+    """A row: its name, its bars, and at its end its sum."""
+    total = f'<text x="{labels.left + WIDTH + 10}" y="{y + 15}">{sum_of(part, whole)}</text>'
+    return [f'<text x="6" y="{y + 15}">{escape(name)}</text>', *bars, total]
+
+
+def counter_row(labels, here, cpu, counter, y, scale):
+    """A counter's row: a bar for each stretch in which an event was on it."""
+    bars, busy = [], 0
+    for _, start, stop, seats, _ in here:
+        if counter in seats:
+            event = seats[counter]
+            busy += stop - start
+            title = f"{labels.title(event)}, {start:,} to {stop:,}"
+            x, width = labels.left + start * scale, (stop - start) * scale
+            bars.append(bar(x, y, width, COLORS[event % len(COLORS)], labels.event(event), title))
+    whole = sum(stop - start for _, start, stop, _, _ in here)
+    return row_of(labels, y, labels.counter(cpu, counter), bars, busy, whole)
+
+
+def refused_row(labels, here, event, y, scale):
+    """The row of an event that was refused: its colour where it was on, grey with the cause where it was refused."""
+    bars, on, off = [], 0, 0
+    for _, start, stop, seats, refused in here:
+        x, width, when = labels.left + start * scale, (stop - start) * scale, f"{start:,} to {stop:,}"
+        if event in seats.values():
+            on += stop - start
+            bars.append(bar(x, y, width, COLORS[event % len(COLORS)], "on", f"{labels.title(event)}: on, {when}"))
+        for cause in [labels.cause(cause) for other, cause in refused if other == event]:
+            off += stop - start
+            bars.append(bar(x, y, width, GREY, cause, f"{labels.title(event)}: {cause}, {when}", INK))
+    return row_of(labels, y, labels.refused(event), bars, on, on + off)
+
+
+def axis(left, end, bottom):
+    """The lines and numbers of the axis, with its unit."""
+    marks = [left + WIDTH * i // 4 for i in range(5)]
+    lines = [f'<line x1="{x}" x2="{x}" y1="{TOP - 8}" y2="{bottom}" stroke="#ddd"/>' for x in marks]
+    numbers = [f'<text x="{x}" y="38" text-anchor="middle">{end * i // 4:,}</text>' for i, x in enumerate(marks)]
+    of_sums = f'<text x="{left + WIDTH + 10}" y="18">time on, of the whole</text>'
+    return [*lines, *numbers, f'<text x="{left}" y="18">{UNIT}</text>', of_sums]
+
+
+def picture(script, found, labels=None):
+    labels = labels or Labels(script)
     end = max([stop for _, _, stop, _, _ in found], default=1) or 1
     scale = WIDTH / end
-    kinds = {}
-    for actor, lines in script.lines.items():
-        for line in lines:
-            if line.startswith("open "):
-                words = line.split(" ")
-                kinds.setdefault(int(words[1]), values(words).get("kind", "attr"))
     rows, y = [], TOP
     for cpu in sorted(script.counters):
         here = [one for one in found if one[0] == cpu]
         if not here:
             continue
         for counter in range(script.counters[cpu]):
-            rows.append(f'<text x="6" y="{y + 15}">processor {cpu}, counter {counter}</text>')
-            for _, start, stop, seats, _ in here:
-                if counter in seats:
-                    event = seats[counter]
-                    name = f"{event} {kinds.get(event, '')}"
-                    rows.append(bar(LEFT + start * scale, y, (stop - start) * scale, COLORS[event % len(COLORS)], name, f"event {name}, {start} to {stop}"))
+            rows += counter_row(labels, here, cpu, counter, y, scale)
             y += ROW
         for event in sorted({event for one in here for event, _ in one[4]}):
-            rows.append(f'<text x="6" y="{y + 15}" fill="#777">event {event} refused</text>')
-            for _, start, stop, _, refused in here:
-                for cause in [cause for other, cause in refused if other == event]:
-                    rows.append(bar(LEFT + start * scale, y, (stop - start) * scale, "#b9b9b9", cause, f"event {event}: {cause}, {start} to {stop}"))
+            rows += refused_row(labels, here, event, y, scale)
             y += ROW
         y += 8
-    ticks = [f'<text x="{LEFT + WIDTH * i / 4:.0f}" y="20" text-anchor="middle" fill="#555">{end * i // 4}</text>' for i in range(5)]
-    lines = [f'<line x1="{LEFT + WIDTH * i / 4:.0f}" x2="{LEFT + WIDTH * i / 4:.0f}" y1="{TOP - 8}" y2="{y}" stroke="#ddd"/>' for i in range(5)]
-    size = f'width="{LEFT + WIDTH + 30}" height="{y + 6}"'
-    style = '<style>text{font:12px sans-serif}</style><rect width="100%" height="100%" fill="#fff"/>'
-    return "\n".join([f'<svg xmlns="http://www.w3.org/2000/svg" {size}>', style, *lines, *ticks, *rows, "</svg>"])
+    size = f'width="{labels.left + WIDTH + RIGHT}" height="{y + 6}"'
+    style = f'<style>text{{font:12px sans-serif;fill:{INK}}}text[fill="#fff"]{{fill:#fff}}</style>'
+    paper = '<rect width="100%" height="100%" fill="#fff"/>'
+    parts = [style + paper, *axis(labels.left, end, y), *rows]
+    return "\n".join([f'<svg xmlns="http://www.w3.org/2000/svg" {size}>', *parts, "</svg>"])
 
 
 def main(program, path):
@@ -181,6 +276,7 @@ def main(program, path):
     print(picture(script, stretches(script, acts, asker, before, told)))
 
 
-if len(sys.argv) != 3:
-    sys.exit(__doc__)
-main(*sys.argv[1:])
+if __name__ == "__main__":
+    if len(sys.argv) != 3:
+        sys.exit(__doc__)
+    main(*sys.argv[1:])

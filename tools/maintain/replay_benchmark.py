@@ -90,7 +90,7 @@ def sampling():
 
 def stored(name):
     """A worked case, and its order."""
-    path = os.path.join(os.path.dirname(os.path.abspath(__file__)), "..", "crates", "worked_cases", "data", name + ".script")
+    path = os.path.join(os.path.dirname(os.path.abspath(__file__)), "..", "..", "crates", "worked_cases", "data", name + ".script")
     with open(path) as file:
         return parted(file.read())
 
@@ -150,6 +150,7 @@ def main(program):
     print(f"make 1000: {1000 * summary:.1f} ms; {peak / 2**20:.1f} MiB; the best of {RUNS}")
 
 
-if len(sys.argv) != 2:
-    sys.exit(__doc__)
-main(sys.argv[1])
+if __name__ == "__main__":
+    if len(sys.argv) != 2:
+        sys.exit(__doc__)
+    main(sys.argv[1])

@@ -21,7 +21,7 @@ import re
 import shutil
 import sys
 
-CRATE = os.path.join(os.path.dirname(os.path.abspath(__file__)), "..", "crates", "worked_cases")
+CRATE = os.path.join(os.path.dirname(os.path.abspath(__file__)), "..", "..", "crates", "worked_cases")
 DATA = os.path.join(CRATE, "data")
 LIST = os.path.join(DATA, "cases")
 THEOREMS = os.path.join(DATA, "theorems")
@@ -201,4 +201,5 @@ def main(words):
         sys.exit("\n".join(faults))
 
 
-main(sys.argv[1:])
+if __name__ == "__main__":
+    main(sys.argv[1:])

@@ -48,6 +48,7 @@ def main(program, source, target):
     print(f"{source}: {others} reports with other counters")
 
 
-if len(sys.argv) != 4:
-    sys.exit(__doc__)
-main(*sys.argv[1:])
+if __name__ == "__main__":
+    if len(sys.argv) != 4:
+        sys.exit(__doc__)
+    main(*sys.argv[1:])

@@ -1,9 +1,9 @@
 #!/usr/bin/env python3
-"""Writes into docs/DEFINITIONS.md and docs/RULES.md the line at which each definition stands.
+"""Writes into docs/DEFINITIONS.md and docs/RULES.md the line at which each definition and each call stands.
 
-The pages name a definition as `NAME`, `crates/FILE:LINE`. This looks NAME up in FILE and writes its line. It is run by
-hand after definitions moved, from the top of the repository, and says which names it did not find. It also says which worked
-cases the rows of docs/RULES.md name that are not there.
+The pages name a definition or a call as `NAME`, `crates/FILE:LINE`. This looks the last part of NAME up in FILE and writes
+its line. It is run by hand after definitions moved, from the top of the repository, and says which names it did not find.
+It also says which worked cases the rows of docs/RULES.md name that are not there.
 
 Usage: definition_lines.py [--check]    with --check nothing is written, and the status is 1 where a line is wrong
 """
@@ -15,21 +15,23 @@ import sys
 PAGES = ("docs/DEFINITIONS.md", "docs/RULES.md")
 CASES = "crates/worked_cases/data"
 PLACE = re.compile(r"`([^`]+)`, `(crates/[^`:]+):(\d+)`")
-CASE = re.compile(r"\| `([a-z-]+/[a-z0-9-]+)` \|$", re.MULTILINE)
+CASE = re.compile(r"\| `([a-z-]+/[a-z0-9-]+)` (?=\|)")
 
 
 def line_of(path, name):
     """The line, from 1, at which a file declares a name; None where it doesn't, or is not there."""
     if not os.path.exists(path):
         return None
+    name = re.escape(name.split("::")[-1])
     declared = re.compile(
-        r"(?:pub )?(?:unfoldable |abbrev )?(?:pub )?(?:record |data |struct |enum )?" + re.escape(name) + r"(?= |$)"
+        rf"(?:pub )?(?:unfoldable |abbrev |const )?(?:pub )?(?:record |data |struct |enum |trait )?{name}(?= |$)|pub (?:const )?fn {name}\b"
     )
-    lines = open(path).readlines()
-    # Those that share parameters stand indented below them.
-    for indent in ("", "  "):
+    with open(path, encoding="utf-8") as file:
+        lines = file.readlines()
+    # Those that share parameters stand indented below them, and methods in their impl.
+    for indent in ("", "  ", "    "):
         for number, line in enumerate(lines, 1):
-            if line.startswith(indent) and declared.match(line[len(indent):]) and (" : " in line or "{" in line):
+            if line.startswith(indent) and declared.match(line[len(indent):]) and re.search(r" : |[{(]", line):
                 return number
     return None
 

@@ -1,7 +1,7 @@
 #!/usr/bin/env python3
 """Runs scripts by threads, and replays each with the order that its report names.
 
-    tools/run_then_replay.py PROGRAM SCRIPT..
+    tools/maintain/run_then_replay.py PROGRAM SCRIPT..
 
 PROGRAM is the built perf_run. Each script is given to `run`; then the order that the report's first line names
 is put in place of the script's own, and that text is given to `replay`. Both reports have to be the same, byte for byte,

@@ -68,6 +68,7 @@ def main(program):
         print(f"{len(text)} bytes, {lines} lines, {text.count(ACT)} acts: {best:.2f} s, the best of {RUNS}; peak memory {peak:.1f} MiB")
 
 
-if len(sys.argv) != 2:
-    sys.exit(__doc__)
-main(sys.argv[1])
+if __name__ == "__main__":
+    if len(sys.argv) != 2:
+        sys.exit(__doc__)
+    main(sys.argv[1])

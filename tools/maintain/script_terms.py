@@ -25,7 +25,7 @@ import os
 import re
 import sys
 
-CRATES = os.path.join(os.path.dirname(os.path.abspath(__file__)), "..", "crates")
+CRATES = os.path.join(os.path.dirname(os.path.abspath(__file__)), "..", "..", "crates")
 DATA = os.path.join(CRATES, "worked_cases", "data")
 PROOFS = os.path.join(CRATES, "worked_theorems", "proofs")
 
@@ -508,7 +508,7 @@ def write_files(out, title, cases, terms_of, modules):
     for number, part in enumerate(parts, 1):
         body = [line for terms in part for line in ["", *terms]]
         name = f"{title}{number}"
-        head = ["-- Worked cases, written by tools/script_terms.py from texts and their reports.", *imports(body, modules)]
+        head = ["-- Worked cases, written by tools/maintain/script_terms.py from texts and their reports.", *imports(body, modules)]
         with open(os.path.join(out, f"{name}.antt"), "w", encoding="utf-8") as file:
             file.write("\n".join([*head, *body]) + "\n")
 
@@ -559,7 +559,7 @@ BY_HAND = ("Answering", "Looking", "Seats", "Words")
 
 def is_written(path):
     with open(path, encoding="utf-8") as file:
-        return "written by tools/script_terms.py" in file.readline()
+        return "written by tools/maintain/script_terms.py" in file.readline()
 
 
 def write_folder(out, files, terms_of, modules):
