@@ -1,0 +1,133 @@
+"""The command line: reads the words, asks the program, prints, and says by the exit status whether all is counted."""
+
+import argparse
+import os
+import sys
+
+from fit import machines as kinds_of_core
+from fit import runs, table
+from fit.drawing import picture_of
+from fit.events import SOFTWARE, read_lists
+from fit.faults import BadInput, ProgramFault
+from fit.findings import judged_twice
+from fit.plan import plan_of
+from fit.program import program_at
+from fit.script import scripts_of
+
+FITS, FAILS, BAD_INPUT, NO_ANSWER, INTERRUPTED = 0, 1, 2, 3, 130
+ABOUT = "Says whether the events of a `perf stat -e` list fit on the counters of a machine, what each gets, and why."
+STATUS = """\
+exit status: 0 all groups are counted, all the time or in turns; 1 a group is refused at open or never on;
+2 the input is refused; 3 the program gave no answer"""
+
+
+def parser():
+    """The options."""
+    form = argparse.RawDescriptionHelpFormatter
+    made = argparse.ArgumentParser(prog="fit.py", description=ABOUT, epilog=STATUS, formatter_class=form)
+    add = made.add_argument
+    add("-m", metavar="MACHINE", action="append", default=[], dest="machines",
+        help="the machine, or NAME=PROCESSORS for each kind of core; a path that ends in .toml is a file of your own")
+    add("--counters", metavar="N", type=int, help="a machine of N counters, in place of -m")
+    add("--mask", metavar="EVENT=HEX", action="append", default=[], help="the counters that may count an event")
+    add("-e", metavar="LIST", action="append", default=[], dest="lists",
+        help="events as perf stat takes them, with the modifiers u, k, D and e")
+    add("-a", action="store_true", dest="everywhere", help="count on each processor, not a task")
+    add("-C", metavar="PROCESSORS", dest="processors", help="count on these processors, as 0-2,5")
+    add("--watchdog", action="store_true", help="a pinned cycles event comes first, as Linux's NMI watchdog has it")
+    add("--repeat", action="store_true", help="spread the groups over runs in which each is on all the time")
+    add("--svg", metavar="FILE", help="draw who was on which counter when")
+    add("--script", metavar="FILE", help="write the script that was asked, with its order")
+    add("--json", action="store_true", help="print JSON")
+    add("--list", action="store_true", help="say which machines there are, or what the given ones know")
+    add("--program", metavar="PATH", help="the program perf_run")
+    return made
+
+
+def machines_of(options):
+    """The machines that the options give, and the processors that `-C` or `-a` names."""
+    if bool(options.machines) == (options.counters is not None):
+        raise BadInput("give a machine by -m, or its counters by --counters; --list says which machines there are")
+    if options.everywhere and options.processors is not None:
+        raise BadInput("-a and -C: give one of them")
+    wanted = kinds_of_core.processors_of(options.processors, "-C") if options.processors is not None else ()
+    if options.machines:
+        found = kinds_of_core.read_machines(options.machines, options.mask, wanted)
+    else:
+        found = [kinds_of_core.plain_with(options.counters, options.mask, wanted)]
+    if options.everywhere:
+        wanted = tuple(sorted(processor for machine in found for processor in machine.processors))
+    return found, wanted
+
+
+def listing(options):
+    """What `--list` prints."""
+    if not options.machines and options.counters is None:
+        return [f"{name:<12} {kinds_of_core.load(name).source}" for name in kinds_of_core.names()]
+    lines = []
+    for machine in machines_of(options)[0]:
+        lines += [f"{machine.name}: {machine.counters_of((1 << machine.counters) - 1)}", f"    masks: {machine.source}"]
+        lines += [f"    number of counters: {machine.numbers}"] if machine.numbers else []
+        lines += [f"    {machine.note}"] if machine.note else []
+        width = max(map(len, machine.masks))
+        lines += [f"  {event:<{width}}  {machine.counters_of(mask)}" for event, mask in machine.masks.items()]
+        lines += [f"  {event} is refused: {reason}" for event, reason in machine.refused.items()]
+    return [*lines, f"software events: {', '.join(SOFTWARE)}"]
+
+
+def write(path, text, option):
+    """Writes a file that an option names."""
+    try:
+        with open(path, "w", encoding="utf-8", errors="backslashreplace") as file:
+            file.write(text)
+    except OSError as fault:
+        raise BadInput(f"{option}: {path} can't be written: {fault.strerror}") from None
+
+
+def answer(options):
+    """Asks the program, prints, and answers the exit status."""
+    machines, processors = machines_of(options)
+    if not options.lists:
+        raise BadInput("-e: give a list of events")
+    plan = plan_of(read_lists(options.lists), machines, processors, options.watchdog)
+    program = program_at(options.program)
+    [(findings, script)] = judged_twice(program, plan, [plan.groups])
+    if options.script is not None:
+        write(options.script, script.text(), "--script")
+    if options.svg is not None:
+        [(unasked, _)] = scripts_of(plan, [plan.groups], asks=False)
+        write(options.svg, picture_of(program, unasked), "--svg")
+    spread = runs.runs_of(program, plan) if options.repeat else None
+    if options.json:
+        print(table.json_of(findings, plan, program, spread and runs.as_json(spread)))
+    else:
+        lines = table.text_of(findings)
+        lines += ["", *runs.text_of(spread)] if spread else []
+        lines += [program.note] if program.note else []
+        print("\n".join(lines))
+    return FAILS if any(finding.fails for finding in findings) else FITS
+
+
+def main(words):
+    """Does what the words say. Answers the exit status."""
+    options = parser().parse_args(words)
+    try:
+        status = FITS
+        if options.list:
+            print("\n".join(listing(options)))
+        else:
+            status = answer(options)
+        sys.stdout.flush()
+        return status
+    except BadInput as fault:
+        print(f"fit.py: {fault}", file=sys.stderr)
+        return BAD_INPUT
+    except ProgramFault as fault:
+        print(f"fit.py: {fault}", file=sys.stderr)
+        return NO_ANSWER
+    except KeyboardInterrupt:
+        return INTERRUPTED
+    except BrokenPipeError:
+        # nobody reads: what is left goes nowhere, or Python would complain at its end
+        os.dup2(os.open(os.devnull, os.O_WRONLY), sys.stdout.fileno())
+        return NO_ANSWER

@@ -1,0 +1,128 @@
+"""What the program's answers mean for each group: whether it is counted, for how long, where, and why it waits."""
+
+from dataclasses import dataclass, field
+
+from fit.answers import Answers, Cause, Times
+from fit.faults import ProgramFault
+from fit.script import scripts_of
+from fit.sentences import reason_of
+
+
+@dataclass
+class Finding:
+    """A group in all its contexts: its times, by processor the counters that its members had at the start, by place the
+    reasons for which opens of members were refused, and why it waits or is never on."""
+
+    group: object
+    times: Times = Times(0, 0)
+    seats: dict = field(default_factory=dict)
+    refused: dict = field(default_factory=dict)
+    in_error: bool = False
+    reason: object = None
+    waits: bool = False
+
+    @property
+    def is_never_on(self):
+        return self.times.running == 0
+
+    @property
+    def fails(self):
+        return self.is_never_on or bool(self.refused)
+
+    @property
+    def is_whole(self):
+        """Whether all its members are on whenever the context is on a processor of its kind."""
+        return not self.fails and not self.waits
+
+
+def judged(program, plan, candidates):
+    """The findings of each of some lists of groups, as the program answers."""
+    made = scripts_of(plan, candidates)
+    answers = answers_of(program, made)
+    return [findings_of(script, contexts, answers[id(script)]) for script, contexts in made]
+
+
+def judged_twice(program, plan, candidates):
+    """As `judged`, and the script of each list. The times over two rotations have to be twice those over one."""
+    made, twice = scripts_of(plan, candidates), scripts_of(plan, candidates, times=2, asks=False)
+    answers = answers_of(program, made + twice)
+    found = []
+    for (script, contexts), (other, others) in zip(made, twice):
+        check_doubled(contexts, answers[id(script)].times, others, answers[id(other)].times)
+        found.append((findings_of(script, contexts, answers[id(script)]), script))
+    return found
+
+
+def answers_of(program, made):
+    """The answers to each script, by the script's identity. All calls are made together."""
+    scripts = list({id(script): script for script, _ in made}.values())
+    calls = [(word, script) for script in scripts for word in ("stat", "replay")[: 1 + script.asks]]
+    printed = program.outputs([(word, script.text()) for word, script in calls])
+    found = {}
+    for (word, script), text in zip(calls, printed):
+        answers = found.setdefault(id(script), Answers())
+        answers.add(word, text)
+    return found
+
+
+def check_doubled(contexts, times, others, twice):
+    """Over two rotations each event has twice the times that it has over one."""
+    for context, other in zip(contexts, others):
+        for one, two in zip(context.opened, other.opened):
+            for slot, again in zip(one.slots, two.slots):
+                once, both = times.get(slot, Times(0, 0)), twice.get(again, Times(0, 0))
+                if (2 * once.enabled, 2 * once.running) != (both.enabled, both.running):
+                    first, second = (f"{time.running} of {time.enabled}" for time in (once, both))
+                    shares = f"{first} over one rotation, {second} over two"
+                    raise ProgramFault(f"the shares of {one.group.text} differ: {shares}")
+
+
+def findings_of(script, contexts, answers):
+    """The finding of each group of these contexts, in the order of the list."""
+    found = {}
+    for context in contexts:
+        for one in context.opened:
+            finding = found.setdefault(one.group.number, Finding(one.group))
+            add_opens(finding, script, one, answers)
+            add_rounds(finding, script, context, one, answers)
+    for finding in found.values():
+        if finding.is_never_on and not finding.reason:
+            raise ProgramFault(f"{finding.group.text} is never on, and the program gives no cause")
+    return [found[number] for number in sorted(found)]
+
+
+def add_opens(finding, script, one, answers):
+    """Adds the times of the leader, and the members whose open was refused."""
+    times = answers.times.get(one.leader, Times(0, 0))
+    finding.times = Times(finding.times.enabled + times.enabled, finding.times.running + times.running)
+    for place, question in enumerate(one.opens):
+        cause = answers.refusal(question)
+        if cause:
+            finding.refused.setdefault(place, reason_of(cause, script, {}))
+
+
+def add_rounds(finding, script, context, one, answers):
+    """Adds on which counters the group was at the start, and why it waits or is never on."""
+    rounds = context.rounds
+    kinds = (None, *script.plan.machines) if one.group.machine is None else (one.group.machine,)
+    here = [one_round for one_round in rounds if script.plan.machine_of(one_round.processor) in kinds]
+    for one_round in here[:1]:
+        seats = answers.seats(one_round.seats)
+        places = {place: seats[slot] for place, slot in enumerate(one.slots) if slot in seats}
+        finding.seats[one_round.processor] = places
+    waiting = [one_round for one_round in here if cause_in(one_round, one.leader, answers)]
+    if not waiting:
+        return
+    finding.waits = True
+    finding.in_error = finding.in_error or answers.why(waiting[0].why[one.leader])[:1] == ["error"]
+    is_on = answers.times.get(one.leader, Times(0, 0)).running > 0
+    standing = [one_round for one_round in waiting if one_round.first == one.leader]
+    chosen = waiting[0] if is_on or not standing else standing[0]
+    causes = {leader: cause_in(chosen, leader, answers) for leader in chosen.why}
+    if not finding.reason or not is_on:
+        finding.reason = reason_of(causes[one.leader], script, causes)
+
+
+def cause_in(one_round, leader, answers):
+    """Why the group of this leader was off in a round; none where it was on or was not asked."""
+    return Cause.of(answers.why(one_round.why[leader])) if leader in one_round.why else None

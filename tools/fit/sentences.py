@@ -1,0 +1,55 @@
+"""Puts the program's causes into sentences with perf's names."""
+
+from dataclasses import dataclass
+
+from fit.faults import ProgramFault
+from fit.machines import in_words
+
+
+@dataclass(frozen=True)
+class Reason:
+    """A cause with perf's names: the program's word for it, the events or the group that it names, and a sentence."""
+
+    word: str
+    names: tuple
+    sentence: str
+
+
+def reason_of(cause, script, causes):
+    """The reason of a cause. `causes`: those of all leaders in the same round, for a group that waits for another."""
+    if cause.word == "hall":
+        slots = sorted(cause.slots)
+        return Reason("hall", tuple(map(script.name_of, slots)), hall(slots, script))
+    if cause.word == "pmu":
+        sentence = "its events are of different kinds of core, and a group has counters of one"
+        return Reason("pmu", (), sentence)
+    other = script.text_of_group(cause.slots[0])
+    if cause.word == "exclusive":
+        return Reason("exclusive", (other,), f"{other} is exclusive and on")
+    if cause.word == "exclusive-self":
+        return Reason("exclusive-self", (other,), f"it is exclusive, and {other} is on")
+    if not causes.get(cause.slots[0]):
+        raise ProgramFault(f"the program says that a group waits for {other}, and not why that waits")
+    rest = reason_of(causes[cause.slots[0]], script, causes)
+    return Reason("earlier", (other,), f"waits for {other}: {rest.sentence}")
+
+
+def hall(slots, script):
+    """The sentence of a tight set, in the list's order: these events have fewer counters together than they are."""
+    names, machine = [script.name_of(slot) for slot in slots], script.slots[slots[0]].machine
+    mask = 0
+    for slot in slots:
+        mask |= script.slots[slot].mask
+    counters, count = machine.counters_of(mask), mask.bit_count()
+    if len(slots) == 2 and count == 1:
+        return f"{counted(names)} both need {counters}"
+    return f"{counted(names)} need {len(slots)} counters and have {count}: {counters}"
+
+
+def counted(names):
+    """The names in a phrase, each once, with how often it stands there."""
+    words = []
+    for name in dict.fromkeys(names):
+        count = names.count(name)
+        words.append(name if count == 1 else f"{name} ({count} times)")
+    return in_words(words)

@@ -1,0 +1,155 @@
+"""Whole calls of the tool: what is printed, the exit status, and the files that it writes."""
+
+import json
+import os
+import subprocess
+import sys
+import tempfile
+
+from fit.program import REPOSITORY
+from fit.tests.support import PATH, ProgramTest
+
+REFUSED = "{cycles,instructions},{l1d_pend_miss.pending,cycle_activity.cycles_l1d_pending},branches:k"
+
+
+class Printed(ProgramTest):
+    def test_a_member_is_refused_at_open(self):
+        status, out, err = self.fit("-m", "sandybridge", "-e", REFUSED)
+        lines = out.split("\n")
+        self.assertEqual((1, ""), (status, err))
+        self.assertEqual(
+            [
+                "{l1d_pend_miss.pending,cycle_activity.cycles_l1d_pending} can never be counted together:",
+                "    l1d_pend_miss.pending and cycle_activity.cycles_l1d_pending both need counter 2.",
+                "    So the open of cycle_activity.cycles_l1d_pending is refused.",
+                "All else is on all the time.",
+            ],
+            lines[:4],
+        )
+        self.assertIn("   <not supported>      cycle_activity.cycles_l1d_pending", lines)
+        self.assertNotIn("%", out)
+
+    def test_never_on_is_named_first_with_its_cause(self):
+        status, out, _ = self.fit("-m", "k10", "--watchdog", "-e", "branches,{cycles,cycles,cycles,cycles}")
+        self.assertEqual(1, status)
+        self.assertTrue(out.startswith(
+            "{cycles,cycles,cycles,cycles} is opened and never on:\n"
+            "    the watchdog's cycles and cycles (4 times) need 5 counters and have 4: counters 0-3.\n"
+        ), out)
+        self.assertIn("     <not counted>      cycles                      (0.00%)  off", out)
+
+    def test_a_pinned_group_in_error_has_no_percentage(self):
+        status, out, _ = self.fit("--counters", "1", "-e", "cycles:D,branches:D")
+        self.assertEqual(1, status)
+        self.assertIn("branches:D is in error and never on:\n    cycles:D and branches:D both need counter 0.\n", out)
+        self.assertNotIn("%", out)
+
+    def test_an_exclusive_group_names_what_keeps_it_off(self):
+        status, out, _ = self.fit("--counters", "4", "--watchdog", "-e", "cycles:e")
+        self.assertEqual(1, status)
+        self.assertIn("    it is exclusive, and the watchdog's cycles is on.\n", out)
+
+    def test_what_waits_for_another_has_its_cause(self):
+        status, out, _ = self.fit("--counters", "2", "-e", "cycles,cycles,{branches,branches}")
+        self.assertEqual(0, status)
+        self.assertIn("                        cycles                     (33.33%)  counter 0     [1]\n", out)
+        self.assertIn("(66.67%)  counter 1     [2]\n", out)
+        cause = "[1] waits for {branches,branches}: cycles and branches (2 times) need 3 counters and have 2:"
+        self.assertIn(cause, out)
+
+    def test_a_group_of_two_kinds_of_core_is_refused(self):
+        both = "{armv8_cortex_a53/cycles/,armv8_cortex_a72/cycles/}"
+        for more in ((), ("-a",)):
+            status, out, _ = self.fit("-m", "cortex-a53=0-1", "-m", "cortex-a72=2", *more, "-e", both)
+            self.assertEqual(1, status)
+            self.assertIn("its events are of different kinds of core", out)
+            self.assertIn("   <not supported>      armv8_cortex_a72/cycles/", out)
+
+    def test_the_rest_of_a_group_can_be_never_on(self):
+        text = "{branches,branches,branches},cycles:D"
+        status, out, _ = self.fit("--counters", "2", "-e", text)
+        self.assertEqual(1, status)
+        self.assertIn("So the open of branches is refused.\nWhat is left of it is opened and never on:\n", out)
+
+    def test_processors_have_contexts_of_their_own(self):
+        _, one, _ = self.fit("--counters", "2", "-e", "cycles,cycles,branches")
+        status, out, _ = self.fit("--counters", "2", "-C", "0,2-3", "-e", "cycles,cycles,branches")
+        self.assertEqual((0, one), (status, out))
+
+
+class Json(ProgramTest):
+    def read(self, *words):
+        status, out, err = self.fit("--json", *words)
+        self.assertEqual("", err)
+        return status, json.loads(out)
+
+    def test_groups(self):
+        status, answer = self.read("--counters", "2", "-C", "1", "-e", "{cycles,branches},cycles:k,dummy")
+        self.assertEqual((0, False, {"processors": [1]}), (status, answer["fails"], answer["context"]))
+        first, second, third = answer["groups"]
+        self.assertEqual(("50.00", 2000, 1000), (first["percent"], first["enabled"], first["running"]))
+        seats = [one["counters_at_start"] for one in first["events"]]
+        self.assertEqual([{"1": "counter 0"}, {"1": "counter 1"}], seats)
+        self.assertEqual("hall", second["reason"]["word"])
+        self.assertEqual(["cycles", "branches", "cycles:k"], second["reason"]["names"])
+        self.assertEqual(("100.00", None, False), (third["percent"], third["reason"], third["waits"]))
+
+    def test_refused_member(self):
+        status, answer = self.read("-m", "sandybridge", "-e", REFUSED)
+        self.assertEqual((1, True), (status, answer["fails"]))
+        member = answer["groups"][1]["events"][1]
+        names = ["l1d_pend_miss.pending", "cycle_activity.cycles_l1d_pending"]
+        self.assertEqual("not supported", member["state"])
+        self.assertEqual(("hall", names), (member["refused"]["word"], member["refused"]["names"]))
+
+
+class Files(ProgramTest):
+    def test_script_is_replayed(self):
+        with tempfile.TemporaryDirectory() as folder:
+            path = os.path.join(folder, "asked.script")
+            self.fit("-m", "core2", "-e", "{mul,branches},div", "--script", path)
+            with open(path, "rb") as script:
+                done = subprocess.run([PATH, "stat"], stdin=script, capture_output=True)
+            with open(path) as file:
+                text = file.read()
+        self.assertEqual(0, done.returncode, done.stderr)
+        self.assertEqual(["50.00%"] * 3, [line.split()[-1] for line in done.stdout.decode().splitlines()[1:-1]])
+        self.assertIn("\nkind k0 pmu=0 mask=2\nkind k1 pmu=0 mask=3\nkind k2 pmu=0 mask=2\ntask 0\n", text)
+
+    def test_picture_has_the_names_of_perf(self):
+        with tempfile.TemporaryDirectory() as folder:
+            path = os.path.join(folder, "drawn.svg")
+            self.fit("-m", "core2", "-e", "{mul,instructions},div:D,ref-cycles", "--svg", path)
+            with open(path) as file:
+                text = file.read()
+        self.assertIn(">processor 0, fixed counter 2</text>", text)
+        self.assertIn(">mul</text>", text)
+        self.assertIn("<title>div:D, 0 to 1,000</title>", text)
+        self.assertIn("mul and div:D both need counter 1", text)
+        self.assertNotIn("k0", text)
+
+    def test_timeline_draws_as_before(self):
+        words = [os.path.join("tools", "timeline.py"), PATH, os.path.join("examples", "multiplexing.script")]
+        done = subprocess.run([sys.executable, *words], cwd=REPOSITORY, capture_output=True)
+        with open(os.path.join(REPOSITORY, "docs", "multiplexing.svg"), "rb") as file:
+            self.assertEqual((file.read(), b""), (done.stdout, done.stderr))
+
+    def test_a_picture_of_too_many_lines_is_refused(self):
+        with tempfile.TemporaryDirectory() as folder:
+            path = os.path.join(folder, "drawn.svg")
+            status, out, err = self.fit("--counters", "1", "-e", ",".join(["cycles"] * 140), "--svg", path)
+        self.assertEqual((2, ""), (status, out))
+        self.assertIn("--svg: the picture would ask in 20", err)
+
+
+class Limits(ProgramTest):
+    def test_the_longest_list_is_answered(self):
+        status, out, err = self.fit("--counters", "2", "-e", ",".join(["cycles"] * 256))
+        self.assertEqual((0, ""), (status, err))
+        self.assertEqual(256, out.count("(0.78%)"))
+
+    def test_eight_processors_and_a_watchdog_each(self):
+        words = ["--counters", "16", "--watchdog", "-C", "0-7", "-e", ",".join(["cycles"] * 31)]
+        status, out, err = self.fit(*words)
+        self.assertEqual((0, ""), (status, err))
+        self.assertEqual(31, out.count("(48.39%)"))

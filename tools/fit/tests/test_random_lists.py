@@ -1,0 +1,182 @@
+"""Random lists, held to exhaustive search: what is refused at open, what is never on, and each share.
+
+There are 200 without exclusive groups on each machine, and others with exclusive groups and on two kinds of core.
+"""
+
+import random
+
+from fit import machines
+from fit.events import read_lists
+from fit.findings import judged_twice
+from fit.plan import MOST_KINDS, Plan, plan_of
+from fit.tests.search import Wanted, has_assignment, opened, pinned_on, shares
+from fit.tests.support import ProgramTest
+
+LISTS, BATCH = 200, 50
+SOFTWARE = ("task-clock", "cs", "migrations", "dummy")
+
+
+def random_event(pool):
+    name = random.choice(SOFTWARE) if random.random() < 0.05 else random.choice(pool)
+    return name + random.choice(("", "", "", ":u", ":k"))
+
+
+def random_group(pool, pinned, exclusive=0):
+    """A group as text: one event, or some in braces."""
+    size = random.choice((1, 1, 1, 2, 2, 3, 4, 5))
+    modifier = "D" * (random.random() < pinned) + "e" * (random.random() < exclusive)
+    if size == 1 and random.random() < 0.7:
+        name = random_event(pool)
+        return name + modifier if ":" in name else name + ":" * bool(modifier) + modifier
+    events = ",".join(random_event(pool) for _ in range(size))
+    return "{" + events + "}" + ":" * bool(modifier) + modifier
+
+
+def random_list(pool):
+    """A list as text. In some all groups need the same masks."""
+    if random.random() < 0.2:
+        group = random_group(pool, 0)
+        return ",".join([group] * random.randint(2, 6))
+    pinned = random.choice((0, 0.2, 0.5))
+    return ",".join(random_group(pool, pinned) for _ in range(random.randint(1, 7)))
+
+
+def batches(machine):
+    """Lists of texts, each for one watchdog's setting and with few enough kinds for one script."""
+    for number in range(LISTS // BATCH):
+        has_watchdog = bool(machine.watchdog) and number % 2 == 1
+        names = sorted(set(machine.masks) - {machine.watchdog} if has_watchdog else machine.masks)
+        pool = random.sample(names, min(len(names), MOST_KINDS - has_watchdog))
+        yield has_watchdog, [random_list(pool + [machine.watchdog] * has_watchdog) for _ in range(BATCH)]
+
+
+def judged_lists(program, machines, texts, has_watchdog):
+    """The findings of each list. The lists share scripts."""
+    plans = [plan_of(read_lists([text]), machines, (), has_watchdog) for text in texts]
+    groups = tuple(group for plan in plans for group in plan.groups)
+    whole = Plan(tuple(machines), groups, (), has_watchdog)
+    return [findings for findings, _ in judged_twice(program, whole, [plan.groups for plan in plans])]
+
+
+def wanted_of(group):
+    """The group as the search takes it, with the members that can be opened."""
+    masks = [event.mask for event in group.events]
+    return Wanted([masks[place] for place in opened(masks)], group.is_pinned, group.is_exclusive)
+
+
+class Others(ProgramTest):
+    def test_exclusive_groups(self):
+        random.seed(11)
+        machine, seen = machines.plain(4), set()
+        pool = sorted(machine.masks)
+        for has_watchdog in (False, True):
+            always = [machine.masks["cycles"]] * has_watchdog
+            texts = [",".join(random_group(pool, 0.2, 0.2) for _ in range(random.randint(2, 6))) for _ in range(BATCH)]
+            for text, findings in zip(texts, judged_lists(self.program, [machine], texts, has_watchdog)):
+                with self.subTest(watchdog=has_watchdog, list=text):
+                    wanted = shares([wanted_of(finding.group) for finding in findings], always)
+                    for finding, share in zip(findings, wanted):
+                        self.assertEqual(share * finding.times.enabled, finding.times.running)
+                        seen.add((finding.reason.word if finding.reason else "", finding.is_never_on))
+        words = ("hall", "exclusive", "exclusive-self")
+        self.assertLessEqual({(word, never) for word in words for never in (False, True)} | {("", False)}, seen)
+
+    def test_two_kinds_of_core(self):
+        random.seed(12)
+        both = machines.read_machines(["cortex-a53=0-1", "cortex-a72=2"], [], ())
+        pool = [f"{machine.pmu}/{event}/" for machine in both for event in ("cycles", "branches")]
+        pool += ["cycles", "branches"]
+        texts = [",".join(self.group_of(pool) for _ in range(random.randint(2, 9))) for _ in range(BATCH)]
+        in_turns = 0
+        for text, findings in zip(texts, judged_lists(self.program, both, texts, False)):
+            with self.subTest(list=text):
+                for machine in both:
+                    own = [finding for finding in findings if finding.group.machine == machine]
+                    for finding, share in zip(own, shares([wanted_of(finding.group) for finding in own])):
+                        # half of the time the task is on the other kind of core
+                        self.assertEqual(share * finding.times.enabled, 2 * finding.times.running)
+                        in_turns += 0 < share < 1
+        self.assertGreater(in_turns, 50)
+
+    def group_of(self, pool):
+        """A group on one kind of core, or on each."""
+        name = random.choice(pool)
+        size = random.choice((1, 2, 3, 6))
+        return "{" + ",".join([name] * size) + "}" + random.choice(("", "", ":D"))
+
+
+class RandomLists(ProgramTest):
+    def setUp(self):
+        self.seen = dict.fromkeys(("lists", "groups", "refused", "never on", "in turns", "alike"), 0)
+
+    def test_on_each_machine(self):
+        random.seed(20261129)
+        for name in machines.names():
+            self.check_machine(machines.load(name))
+        self.assertEqual(LISTS * len(machines.names()), self.seen["lists"])
+        for what, count in self.seen.items():
+            self.assertGreater(count, 100, what)
+        print(", ".join(f"{count} {what}" for what, count in self.seen.items()))
+
+    def check_machine(self, machine):
+        for has_watchdog, texts in batches(machine):
+            found = judged_lists(self.program, [machine], texts, has_watchdog)
+            always = [machine.masks[machine.watchdog]] if has_watchdog else []
+            for text, findings in zip(texts, found):
+                with self.subTest(machine=machine.name, watchdog=has_watchdog, list=text):
+                    self.check_list(findings, always)
+                    self.check_reasons(findings, machine)
+                    self.seen["lists"] += 1
+
+    def check_list(self, findings, always):
+        """Holds a list's findings to what the search says of its masks."""
+        groups = []
+        for finding in findings:
+            masks = [event.mask for event in finding.group.events]
+            hardware = [mask for mask in masks if mask]
+            self.assertEqual(not has_assignment(hardware), bool(finding.refused))
+            places = opened(masks)
+            self.assertEqual([place for place in range(len(masks)) if place not in places], sorted(finding.refused))
+            groups.append(wanted_of(finding.group))
+            self.seen["refused"] += bool(finding.refused)
+        self.check_never_on(findings, groups, always)
+        wanted = shares(groups, always)
+        for finding, share in zip(findings, wanted):
+            self.assertEqual(share * finding.times.enabled, finding.times.running)
+            self.assertEqual(0 < share < 1 or finding.is_never_on, finding.waits)
+            self.seen["in turns"] += 0 < share < 1
+        self.check_alike(findings, groups)
+        self.seen["groups"] += len(groups)
+
+    def check_never_on(self, findings, groups, always):
+        """A group is never on exactly where it has no assignment together with the pinned groups that are on."""
+        on = pinned_on(groups, always)
+        for place, (finding, group) in enumerate(zip(findings, groups)):
+            others = [mask for other in on if other != place for mask in groups[other].hardware]
+            fits = has_assignment([*always, *others, *group.hardware]) or not group.hardware
+            self.assertEqual(not fits, finding.is_never_on)
+            self.assertEqual(finding.is_never_on and group.is_pinned, finding.in_error)
+            self.seen["never on"] += finding.is_never_on
+
+    def check_alike(self, findings, groups):
+        """Where all hardware groups are flexible and need the same masks, all have the same share."""
+        needs = [sorted(group.hardware) for group in groups if group.hardware]
+        if len(needs) < 2 or any(group.is_pinned for group in groups) or any(need != needs[0] for need in needs):
+            return
+        found = [finding for finding, group in zip(findings, groups) if group.hardware]
+        self.assertEqual(1, len({(finding.times.enabled, finding.times.running) for finding in found}))
+        self.seen["alike"] += any(finding.waits for finding in found)
+
+    def check_reasons(self, findings, machine):
+        """The events of a tight set have one counter fewer together than there are events."""
+        for finding in findings:
+            for reason in [*finding.refused.values(), finding.reason]:
+                if reason and reason.word == "hall":
+                    mask = 0
+                    for name in reason.names:
+                        mask |= machine.masks[name.removeprefix("the watchdog's ").partition(":")[0]]
+                    count = len(reason.names)
+                    self.assertEqual(count - 1, mask.bit_count(), reason.sentence)
+                    both = count == 2 and "both need" in reason.sentence
+                    self.assertTrue(both or f"need {count} counters and have {count - 1}: " in reason.sentence)
+                    self.assertTrue(reason.sentence.endswith(machine.counters_of(mask)), reason.sentence)
