@@ -1,0 +1,147 @@
+"""The calls of the running kernel that the tool needs: perf_event_open(2), ioctl(2), mmap(2), read(2), by ctypes."""
+
+import ctypes
+import errno
+import fcntl
+import mmap
+import os
+import platform
+import struct
+
+from on_linux.attributes import PAGE_FAULTS, bytes_of
+
+# the number of perf_event_open(2) by the name of the machine; those without a name here have 241
+OPEN_NUMBERS = {"x86_64": 298, "i686": 336, "armv7l": 364, "ppc64": 319, "ppc64le": 319, "s390x": 331}
+ENABLE, DISABLE, RESET = 0x2400, 0x2401, 0x2403
+PERIOD, SET_OUTPUT, ID = 0x40082404, 0x2405, 0x80082407
+GROUP = 1
+# where the user page has its head, its tail and the place and size of the data
+HEAD_AT, TAIL_AT, DATA_OFFSET_AT, DATA_SIZE_AT = 1024, 1032, 1040, 1048
+PAGE = mmap.PAGESIZE
+# event descriptors stand from here on, so that no other open takes the number of one that was closed
+FIRST_DESCRIPTOR = 500
+# the flags of an event that leaves out the kernel and the hypervisor, as users without privilege may open it
+USER_ALONE = 1 << 5 | 1 << 6
+# a process number above every that a kernel gives out (PID_MAX_LIMIT)
+NO_PROCESS = 4194304
+
+LIBC = ctypes.CDLL(None, use_errno=True)
+LIBC.syscall.restype = ctypes.c_long
+LIBC.mmap.restype = ctypes.c_void_p
+LIBC.mmap.argtypes = [ctypes.c_void_p, ctypes.c_size_t, ctypes.c_int, ctypes.c_int, ctypes.c_int, ctypes.c_long]
+LIBC.munmap.argtypes = [ctypes.c_void_p, ctypes.c_size_t]
+LIBC.read.restype = ctypes.c_ssize_t
+LIBC.read.argtypes = [ctypes.c_int, ctypes.c_void_p, ctypes.c_size_t]
+LIBC.ioctl.argtypes = [ctypes.c_int, ctypes.c_ulong, ctypes.c_void_p]
+MAP_FAILED = ctypes.c_void_p(-1).value
+
+
+class Refused(Exception):
+    """The kernel refused a call, with this errno."""
+
+    def __init__(self, number):
+        super().__init__(errno.errorcode.get(number, str(number)))
+        self.number = number
+        self.name = errno.errorcode.get(number, str(number))
+
+
+def version():
+    """The version of the running kernel, without what its builder put behind it: 6.18.44."""
+    return platform.release().split("-")[0].split("+")[0]
+
+
+def checked(answer):
+    if answer is None or answer < 0:
+        raise Refused(ctypes.get_errno())
+    return answer
+
+
+def event_open(attr, process, cpu, leader):
+    """Opens an event by the bytes of its attribute; gives its descriptor."""
+    number = OPEN_NUMBERS.get(platform.machine(), 241)
+    room = ctypes.create_string_buffer(attr, len(attr))
+    words = [ctypes.c_long(word) for word in (number, process, cpu, leader, 8)]
+    return checked(LIBC.syscall(words[0], room, *words[1:]))
+
+
+def put_at(descriptor, place):
+    """Gives a descriptor the number `place`."""
+    os.dup2(descriptor, place, inheritable=False)
+    os.close(descriptor)
+
+
+def close(descriptor):
+    checked(LIBC.close(descriptor))
+
+
+def command(descriptor, request, argument=0):
+    checked(LIBC.ioctl(descriptor, request, argument))
+
+
+def set_period(descriptor, period):
+    value = ctypes.c_uint64(period)
+    checked(LIBC.ioctl(descriptor, PERIOD, ctypes.addressof(value)))
+
+
+def id_of(descriptor):
+    value = ctypes.c_uint64()
+    checked(LIBC.ioctl(descriptor, ID, ctypes.addressof(value)))
+    return value.value
+
+
+def read_words(descriptor, size):
+    """The words that read(2) gives into a buffer of this size."""
+    room = ctypes.create_string_buffer(max(size, 1))
+    got = checked(LIBC.read(descriptor, room, size))
+    return list(struct.unpack(f"={got // 8}Q", room.raw[: got // 8 * 8]))
+
+
+class Mapping:
+    """A ring that is mapped: its user page and its data."""
+
+    def __init__(self, descriptor, size):
+        self.length = PAGE + size
+        address = LIBC.mmap(None, self.length, mmap.PROT_READ | mmap.PROT_WRITE, mmap.MAP_SHARED, descriptor, 0)
+        if address == MAP_FAILED:
+            raise Refused(ctypes.get_errno())
+        self.address = address
+        self.size = self.word(DATA_SIZE_AT)
+        self.data_at = self.word(DATA_OFFSET_AT)
+
+    def word(self, place):
+        return ctypes.c_uint64.from_address(self.address + place).value
+
+    def head(self):
+        return self.word(HEAD_AT)
+
+    def tail(self):
+        return self.word(TAIL_AT)
+
+    def set_tail(self, tail):
+        ctypes.c_uint64.from_address(self.address + TAIL_AT).value = tail
+
+    def bytes(self, start, end):
+        """The bytes of the stream from `start` to `end`, which lie in the ring."""
+        data = ctypes.string_at(self.address + self.data_at, self.size)
+        first = start % self.size
+        return (data + data)[first : first + end - start]
+
+    def unmap(self):
+        LIBC.munmap(self.address, self.length)
+
+
+def probe(flags=USER_ALONE):
+    """None where an event of page faults with these flags can be opened on this process; else the errno's name."""
+    try:
+        os.close(event_open(bytes_of(PAGE_FAULTS, flags=flags), 0, -1, -1))
+    except Refused as refused:
+        return refused.name
+    return None
+
+
+def is_open(descriptor):
+    try:
+        fcntl.fcntl(descriptor, fcntl.F_GETFD)
+    except OSError:
+        return False
+    return True

@@ -1,0 +1,136 @@
+"""Compares reports of perf_run with what the running Linux kernel does, by software events.
+
+Usage: python3 tools/on_linux [--program PATH] SCRIPT..
+           does each script on the running kernel, and compares with the program's report
+       python3 tools/on_linux --report REPORT SCRIPT
+           compares with this report, and calls no program
+       python3 tools/on_linux [--program PATH] [--docs] --all
+           does the tool's own cases and prints a table; --docs also writes it into docs/LINUX.md and docs/RULES.md
+
+PATH is the built perf_run. Without it the tool calls crates/perf_run/out/perf_run, which `rt run` proves and leaves
+there. Where that is missing, `rt try` builds the program once, which proves nothing.
+
+Page faults stand for each hardware kind: a page that is touched is one occurrence. docs/LINUX.md has the known
+differences.
+
+Ends with 0 where the kernel does the same or differs as documented, with 1 where it differs and no cause is known, with
+2 where the words, a file or the program are at fault, and with 77 where no event can be opened.
+"""
+
+import argparse
+import os
+import sys
+import time
+
+from on_linux import documents, kernel, program, table, verdicts
+from on_linux.cases import Case, all_cases
+from on_linux.script import Fault
+from on_linux.task import Helper, TaskFault
+
+FAULT, NO_OPEN = 2, 77
+
+
+def main(words):
+    options = options_of(words)
+    reason = kernel.probe()
+    if reason:
+        print(f"on_linux: no event can be opened here: {reason}")
+        return NO_OPEN
+    try:
+        known = documents.known_rows()
+        return all_of_list(options, known) if options.all else scripts(options, known)
+    except OSError as fault:
+        print(f"on_linux: {fault.filename or 'a call of the system'}: {fault.strerror}", file=sys.stderr)
+    except (Fault, TaskFault, program.ProgramFault, documents.DocumentFault, kernel.Refused) as fault:
+        print(f"on_linux: {fault}", file=sys.stderr)
+    return FAULT
+
+
+def options_of(words):
+    usage, _, details = __doc__.partition("Usage: ")[2].partition("\n\n")
+    form = argparse.RawDescriptionHelpFormatter
+    parser = argparse.ArgumentParser(prog="on_linux", usage=usage, description=details, formatter_class=form)
+    parser.add_argument("--program")
+    parser.add_argument("--report")
+    parser.add_argument("--all", action="store_true")
+    parser.add_argument("--docs", action="store_true")
+    parser.add_argument("scripts", nargs="*")
+    options = parser.parse_args(words)
+    if options.all == bool(options.scripts):
+        parser.error("give --all, or scripts")
+    if options.report and len(options.scripts) != 1:
+        parser.error("--report is for one script")
+    if options.docs and not options.all:
+        parser.error("--docs is for --all")
+    return options
+
+
+def read(path):
+    try:
+        with open(path, encoding="ascii") as file:
+            return file.read()
+    except UnicodeDecodeError as fault:
+        raise Fault(f"{path}: byte {fault.start} is not ASCII") from fault
+
+
+def about():
+    return f"Linux {kernel.version()} on {os.uname().machine}, pages of {kernel.PAGE} bytes"
+
+
+def scripts(options, known):
+    """Does the scripts that are named, and says for each what came of it."""
+    cases = [Case("script", path, read(path), (), None) for path in options.scripts]
+    if options.report:
+        outcomes = [program.Outcome(0, read(options.report), "")]
+        print(f"{about()}; the report is {options.report}")
+    else:
+        print(f"{about()}; reports by {program.name_of(options.program)}")
+        outcomes = program.outcomes(options.program, [case.text for case in cases])
+    statuses = [0]
+    with Helper() as helper:
+        for case, outcome in zip(cases, outcomes):
+            if outcome.status:
+                print(f"{case.name}: the program ends with {outcome.status}: {outcome.note or 'no note'}")
+                statuses.append(FAULT)
+                continue
+            verdict = verdicts.of_case(case, outcome, helper, known)
+            statuses.append(1 if verdict.word == verdicts.UNKNOWN else 0)
+            tell(verdict)
+    return max(statuses)
+
+
+def tell(verdict):
+    """Prints what came of a script: the differences that are documented, and all else that there is to say."""
+    print(f"{verdict.case.name}: {verdict.word}" + (f": {', '.join(verdict.rows)}" if verdict.rows else ""))
+    documented = [check.text for check in verdict.checks if check.row and not check.is_same]
+    for note in documented + verdict.notes:
+        print(f"    {note}")
+    print(f"    {sum(check.is_same for check in verdict.checks)} of {len(verdict.checks)} comparisons are the same")
+
+
+def all_of_list(options, known):
+    """Does the tool's own cases."""
+    began = time.monotonic()
+    cases = all_cases()
+    print(f"{about()}; reports by {program.name_of(options.program)}", flush=True)
+    outcomes = program.outcomes(options.program, [case.text for case in cases])
+    asked = time.monotonic()
+    with Helper() as helper:
+        found = [verdicts.of_case(case, outcome, helper, known) for case, outcome in zip(cases, outcomes)]
+    times = f"the reports took {asked - began:.0f} s, the kernel's answers {time.monotonic() - asked:.0f} s"
+    comparisons = sum(len(verdict.checks) for verdict in found)
+    summary = "\n".join(table.wrapped(f"{table.summary(found)}; {comparisons} comparisons in all."))
+    run = f"{table.text(found, known)}\n\n{summary}"
+    print(f"{run}\n{times}")
+    if options.docs:
+        write_docs(options, found, known, run)
+    return 1 if any(verdict.word == verdicts.UNKNOWN for verdict in found) else 0
+
+
+def write_docs(options, found, known, run):
+    page = documents.read(documents.RULES)
+    names = documents.rule_names(page)
+    source = program.kind_of(options.program)
+    head = "\n".join(table.wrapped(f"`python3 tools/on_linux --all` on {about()}, with the reports of {source}:"))
+    documents.write(documents.RULES, documents.with_column(page, table.of_rules(found, known, names, kernel.version())))
+    documents.write(documents.LINUX, documents.with_last_run(documents.read(documents.LINUX), f"{head}\n\n{run}"))

@@ -1,0 +1,176 @@
+"""Tests of decoding records, of what the program prints, and of the tables."""
+
+import os
+import struct
+import unittest
+import unittest.mock
+
+from on_linux import documents, program, records, rules, table, verdicts
+from on_linux.cases import Case, all_cases
+from on_linux.compare import Check
+from on_linux.script import Fault, Report, Script
+
+
+def header(kind, misc, size):
+    return struct.pack("=IHH", kind, misc, size)
+
+
+class Streams(unittest.TestCase):
+    def test_records_of_a_stream(self):
+        data = header(9, 2, 16) + struct.pack("=Q", 5) + header(2, 0, 24) + struct.pack("=QQ", 7, 3)
+        found = records.of_stream(data)
+        self.assertEqual(
+            [(one.type, one.misc, one.size, one.words, one.end) for one in found],
+            [(9, 2, 16, [5], 16), (2, 0, 24, [7, 3], 40)],
+        )
+        self.assertEqual(records.fields(found[1], ["id", "lost"]), {"id": 7, "lost": 3})
+        self.assertIsNone(records.fields(found[1], ["id"]))
+
+    def test_no_record(self):
+        for data in (header(9, 2, 0), header(9, 2, 12) + bytes(4), header(9, 2, 32) + bytes(8)):
+            with self.assertRaises(Fault):
+                records.of_stream(data)
+
+    def test_records_of_a_report(self):
+        report = Report(
+            "order\nring 0 head=40 tail=16 lost=0 pending=0\ntaken 0010000200000009 0000000000000005\nleft"
+            " 0018000000000002 0000000000000007 0000000000000003\nend\n"
+        )
+        found = records.of_report(report.rings[0])
+        self.assertEqual(
+            [(one.type, one.misc, one.size, one.words, one.end, one.place) for one in found],
+            [(9, 2, 16, [5], 16, 3), (2, 0, 24, [7, 3], 40, 4)],
+        )
+
+    def test_halves(self):
+        self.assertEqual(records.halves(struct.unpack("=Q", struct.pack("=II", 3, 4))[0]), (3, 4))
+
+
+class Programs(unittest.TestCase):
+    def test_outcomes_of_rt_try(self):
+        out = "== a\norder t0\nt0.0 open ESRCH\nend\n== b\n"
+        errors = (
+            "case=a run=ended status=0 runners=1 races=unchecked proved=no\n"
+            "perf_run: line 3: FORM\n"
+            "case=b run=ended status=1 runners=1 races=unchecked proved=no\ncases=2 ended=2\n"
+        )
+        found = program.outcomes_of_cases(out, errors)
+        self.assertEqual(found["a"].report, "order t0\nt0.0 open ESRCH\nend\n")
+        self.assertEqual((found["a"].status, found["b"].status, found["b"].note), (0, 1, "perf_run: line 3: FORM"))
+
+    def test_no_program(self):
+        with self.assertRaises(program.ProgramFault):
+            program.called(os.path.join(os.sep, "no", "such", "program"), "")
+
+
+class Lists(unittest.TestCase):
+    def test_cases(self):
+        cases = all_cases()
+        names = [(case.group, case.name) for case in cases]
+        self.assertGreaterEqual(len(cases), 150)
+        self.assertEqual(len(set(names)), len(names))
+        self.assertEqual(
+            len({case.text for case in cases if case.name.startswith("sample-") and "layouts" in case.group}), 256
+        )
+        for case in cases:
+            script = Script(case.text)
+            left = {actor: len(lines) - script.order.count(actor) for actor, lines in script.lines.items()}
+            self.assertEqual(set(left.values()) - {0}, set(), case.name)
+
+    def test_rows_of_cases_are_in_the_document(self):
+        known = documents.known_rows()
+        self.assertEqual([row for case in all_cases() for row in case.shows if row not in known], [])
+
+    def test_rows_that_a_software_event_can_show_have_a_case(self):
+        shown = {row for case in all_cases() for row in case.shows}
+        self.assertEqual(
+            [row.name for row in documents.known_rows().values() if "seen" in row.known_from and row.name not in shown],
+            [],
+        )
+
+
+class Tables(unittest.TestCase):
+    def setUp(self):
+        self.known = documents.rows(
+            "| `here` | does | not | why | source of 6.1; seen on 6.18.44 |\n## Where the stand-in differs\n| `there` |"
+            " a | b | source of 6.1 |\n"
+        )
+        same, differs = Check("a", "rule", True), Check("b", "rule", False, "1", "2", "here", 3)
+        stand_in = Check("c", "other", False, "1", "2", "there", 4)
+        self.found = [
+            verdicts.Verdict(Case("g", "one", ""), verdicts.SAME, (), (), [same]),
+            verdicts.Verdict(Case("g", "two", "", (), ("here",)), verdicts.DOCUMENTED, ("here",), (), [differs]),
+            verdicts.Verdict(Case("h", "three", "", (), ("there",)), verdicts.UNKNOWN, (), ("what | why",), [stand_in]),
+        ]
+
+    def test_text(self):
+        text = table.text(self.found, self.known)
+        for line in (
+            "| g | 2 | 1 | 1 | 0 | 0 | 0 |",
+            "| all | 3 | 1 | 1 | 0 | 0 | 1 |",
+            "| two | `here` | source of 6.1; seen on 6.18.44 |",
+            "| h: three | what \\| why |",
+            "Rows that are known from sources alone: `there`.",
+        ):
+            self.assertIn(line, text.splitlines())
+        self.assertEqual(
+            table.summary(self.found),
+            (
+                "3 cases: 1 same, 1 differ as documented, 0 not comparable, 0 not permitted, 1 differ and no cause is"
+                " known"
+            ),
+        )
+
+    def test_column_of_rules(self):
+        cells = table.of_rules(self.found, self.known, ["rule", "other", "third"], "6.18.44")
+        self.assertEqual(
+            cells, {"rule": "seen on 6.18.44; differs: `here`", "other": "not comparable", "third": "not comparable"}
+        )
+        page = (
+            "front\n| Rule | Code | Linux | Case |\n|---|---|---|---|\n| rule | x |  | `c/d` |\n| new | y |  |"
+            " `e/f` |\n"
+        )
+        self.assertEqual(
+            documents.with_column(page, cells), page.replace("| x |  |", "| x | seen on 6.18.44; differs: `here` |")
+        )
+        with self.assertRaises(documents.DocumentFault):
+            documents.with_column(page.replace("Linux", "Other"), cells)
+
+    def test_a_part_of_a_rule_has_its_own_rows_alone(self):
+        parts = {"all of it": ("rule", ("here",)), "none of it": ("rule", ("there",))}
+        with unittest.mock.patch.dict(rules.PARTS, parts):
+            cells = table.of_rules(self.found, self.known, list(parts), "6.18.44")
+        self.assertEqual(
+            cells, {"all of it": "seen on 6.18.44; differs: `here`", "none of it": "seen on 6.18.44"}
+        )
+
+    def test_column_has_rows_of_sources(self):
+        known = documents.rows("| `rotation` | does | not | why | source of 6.1 |\n")
+        cells = table.of_rules([], known, [rules.TURNS], "6.18.44")
+        self.assertEqual(cells, {rules.TURNS: "not comparable; differs by its source: `rotation`"})
+
+    def test_wrapped(self):
+        text = "x" * 115 + " `rt try` " + "y" * 10
+        self.assertEqual(table.wrapped(text), ["x" * 115, "`rt try` " + "y" * 10])
+
+    def test_last_run(self):
+        self.assertEqual(documents.with_last_run("a\n## The last run\n\nold\n", "new"), "a\n## The last run\n\nnew\n")
+
+    def test_cases_show_what_they_are_made_for(self):
+        def judged(shows, rows, known_from):
+            known = documents.rows(f"| `here` | does | not | why | {known_from} |\n")
+            verdict = verdicts.Verdict(
+                Case("g", "n", "", (), shows), verdicts.DOCUMENTED if rows else verdicts.SAME, rows
+            )
+            return verdicts.judged(verdict, known).word
+
+        here = f"seen on {verdicts.version()}"
+        self.assertEqual(judged(("here",), ("here",), here), verdicts.DOCUMENTED)
+        self.assertEqual(judged(("here",), (), here), verdicts.UNKNOWN)
+        self.assertEqual(judged(("here",), (), "source of 2.6"), verdicts.SAME)
+        self.assertEqual(judged((), ("here",), here), verdicts.UNKNOWN)
+        self.assertEqual(judged(None, ("here",), here), verdicts.DOCUMENTED)
+
+
+if __name__ == "__main__":
+    unittest.main()
