@@ -28,11 +28,13 @@ def of_open(comparison, line, refusal, answer):
     follow = comparison.follow
     has_no_leader = attribute.leader is not None and follow.event(attribute.leader) is None
     later = later_errnos(comparison, attribute)
-    if refusal == "ESRCH" and answer.errno == "EBADF" and has_no_leader:
+    is_live = attribute.task == "all" or int(attribute.task) in follow.tasks - follow.exited
+    if refusal == "ESRCH" and answer.errno == "EBADF" and has_no_leader and not is_live:
         return "leader-before-task"
     if refusal == "ESRCH" and answer.errno == "ENODEV" and attribute.leader is not None and not has_no_leader:
         return "leader-of-exited-task" if follow.event(attribute.leader).task in follow.exited else None
-    if refusal == "ENOPLACE" and answer.errno == "EBADF" and has_no_leader:
+    is_placeless = attribute.task == "all" and attribute.cpu == "any"
+    if refusal == "ENOPLACE" and answer.errno == "EBADF" and has_no_leader and is_placeless:
         return "leader-before-place"
     if refusal == "EINHERIT" and answer.errno is None and attribute.task == "all":
         return "inherit-on-processors"

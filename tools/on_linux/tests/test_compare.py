@@ -4,6 +4,7 @@ import unittest
 
 from on_linux import differences, documents, rings, rules
 from on_linux.doing import Answer
+from on_linux.script import Script
 from on_linux.tests import recorded
 
 
@@ -43,6 +44,19 @@ class Altered(unittest.TestCase):
     def test_errno(self):
         self.check("open ESRCH", "open EBADF", "t0.1 open 1 kind=faults task=7 cpu=any", rules.OPENS, 2)
         self.check("read ENOSPC", "read EBADF", "t0.4 read 0 size=8", rules.FORMAT, 4)
+
+    def test_leaders_come_first_only_where_the_task_or_the_place_is_wrong(self):
+        comparison = recorded.comparison(recorded.report())
+        table = (
+            ("task=7 cpu=any", "ESRCH", "leader-before-task"),
+            ("task=0 cpu=any", "ESRCH", None),
+            ("task=all cpu=any", "ENOPLACE", "leader-before-place"),
+            ("task=0 cpu=any", "ENOPLACE", None),
+        )
+        for where, refusal, row in table:
+            text = recorded.SCRIPT.replace("open 1 kind=faults task=7 cpu=any", f"open 1 kind=faults {where} leader=9")
+            line = Script(text).lines["t0"][1]
+            self.assertEqual(differences.of_open(comparison, line, refusal, Answer(errno="EBADF")), row, where)
 
     def test_an_open_that_was_not_refused(self):
         found = recorded.differing(recorded.report().replace("t0.1 open ESRCH\n", ""))
