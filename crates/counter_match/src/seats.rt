@@ -52,6 +52,15 @@ impl Seats {
         self.seating = Seating::new();
     }
 
+    /// Takes over the events of other seats with as many counters, each on the counter that it has there.
+    pub fn copy_from(&mut self, other: &Seats)
+        requires { self.old.counters ≡ other.now.counters }
+        ensures copied { self.new ≡ other.now }
+        ensures sound { IsSound other.now }
+    {
+        self.seating = other.seating;
+    }
+
     /// Adds a group of at most 8 events with their masks; an event that is seated may get another counter. Where
     /// the events do not fit with the group, nothing changes, and the answer is the tight set of the shortest
     /// beginning of the list that does not fit. A step is one test of one counter for one event.

@@ -337,6 +337,26 @@ fn agrees_with_the_plain_search(rt: HostRuntime) -> Result<(), Fail> {
     Ok(())
 }
 
+/// Whether seats that had another event have two events after `copy_from`, on counters of their masks.
+fn copies<L: Ledger>(blank: Blank) -> bool
+    requires name { blank.name ≡ L.name }
+    requires parts { blank.parts ≡ L.parts }
+    requires some { 0 < blank.parts }
+{
+    let mut steps = Steps::<L>::new(blank);
+    let mut own = Seats::new(2);
+    let _ = own.try_add(&[(EventNo(9), 3)], &mut steps);
+    let mut other = Seats::new(2);
+    let _ = other.try_add(&[(EventNo(0), 3), (EventNo(1), 1)], &mut steps);
+    own.copy_from(&other);
+    is_seated(&own.list(), &[3, 1]) && is_seated(&other.list(), &[3, 1])
+}
+
+#[test]
+fn copies_other_seats(rt: HostRuntime) {
+    assert!(rt; copies::<Brand>(Blank::new(1)));
+}
+
 fn crosses<T: Send + Sync>() {}
 
 #[test]

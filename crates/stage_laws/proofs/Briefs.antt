@@ -1,8 +1,9 @@
 -- Judging briefs in place of groups.
-use Rattle.std.specs.Prelude.{◌≡◌, ℕ, ◌&&◌, Bool, not, List, [], ◌∷◌, ◌++◌, map, filter, find, flat_map, Option, Some, None, option_map, take}
+use Rattle.std.specs.Prelude.{◌≡◌, ℕ, ◌&&◌, Bool, true, false, not, cond, List, [], ◌∷◌, ◌++◌, map, filter, flat_map, Option, Some, None, take}
 use Rattle.std.specs.List.{list_all, list_any}
 use Rattle.std.proofs.Common.{refl, sym, ap, ◌∙◌}
 use Rattle.std.proofs.lemmas.List.{map-append}
+use Rattle.std.proofs.lemmas.List.Elements.{filter-append}
 use Rattle.std.proofs.lemmas.Simd.{map-map}
 use Rattle.std.proofs.Math.ListN.{get_or-map}
 use Rattle.perf_base.specs.declared.numbers.CpuNo.{CpuNo}
@@ -21,38 +22,12 @@ use Rattle.stage_spec.specs.Rules.{ruling_of}
 use Rattle.stage_spec.specs.Verdict.{Judged, is_eligible, groups_on, first_named, first_refused, with_masks, by_ruling, judge, judge_pass, judge_passes, passes, task_lists, verdicts}
 use Rattle.perf_base.specs.Standings.{stands_on, stands_refused}
 use Rattle.stage_spec.specs.Settle.{pinned_verdicts}
-use Rattle.stage_laws.specs.Standings.{Brief, brief_of, briefs, standings, BriefsLaw, KeepsBrief}
+use Rattle.stage_laws.specs.Briefs.{GroupBrief, JudgedBrief, briefs_on, first_slot, first_brief_refused, judge_brief, judge_briefs, judge_brief_passes, standings_by, seated_by}
+use Rattle.stage_laws.specs.Standings.{brief_of, briefs, BriefsLaw, JudgedBriefsLaw, SeatedBriefsLaw, KeepsBrief}
 use Rattle.stage_laws.proofs.Images.{map-same, filter-map, find-image}
 
--- a brief and what was said of it
-record JudgedBrief : Type 0 where
-  pub brief : Brief
-  pub standing : Standing
-
-abbrev summed : Hardware → Judged → JudgedBrief
+abbrev summed : Hardware → Judged → JudgedBrief ℕ
 summed hw j = record { brief = brief_of hw j.group; standing = j.standing }
-
-abbrev briefs_on : List JudgedBrief → List Brief
-briefs_on judged = map (λ j. j.brief) (filter (λ j. stands_on j.standing) judged)
-
-abbrev first_slot : (Brief → Bool) → List Brief → Option EventNo
-first_slot test bs = option_map (λ b. b.slot) (find test bs)
-
-abbrev first_brief_refused : List JudgedBrief → Option EventNo
-first_brief_refused judged = option_map (λ j. j.brief.slot) (find (λ j. stands_refused j.standing) judged)
-
-unfoldable judge_brief : (before within : List JudgedBrief) → Brief → Standing
-judge_brief before within b = by_ruling (ruling_of b.software b.exclusive (first_slot (λ c. c.exclusive) (briefs_on (before ++ within)))
-    (first_slot (λ c. not c.software) (briefs_on (before ++ within))) (first_brief_refused within))
-    (flat_map (λ c. c.counted) (briefs_on (before ++ within)) ++ b.counted)
-
-unfoldable judge_briefs : (before within : List JudgedBrief) → List Brief → List JudgedBrief
-judge_briefs before within [] = within
-judge_briefs before within (b ∷ bs) = judge_briefs before (within ++ record { brief = b; standing = judge_brief before within b } ∷ []) bs
-
-unfoldable judge_brief_passes : List JudgedBrief → List (List Brief) → List JudgedBrief
-judge_brief_passes before [] = before
-judge_brief_passes before (pass ∷ rest) = judge_brief_passes (before ++ judge_briefs before [] pass) rest
 
 -- judging groups is judging their briefs
 on-summed : (hw : Hardware) (js : List Judged) → briefs_on (map (summed hw) js) ≡ map (brief_of hw) (groups_on js)
@@ -81,7 +56,7 @@ judge-summed hw before within g =
     find-image (λ c. not c.software) (λ h. not (is_wholly_software h)) (brief_of hw) (λ b. b.slot) (λ g. refl) gs in
     let refused : first_brief_refused (map (summed hw) within) ≡ first_refused within =
     find-image (λ j. stands_refused j.standing) (λ j. stands_refused j.standing) (summed hw) (λ j. j.brief.slot) (λ j. refl) within in
-    let by : List Brief → Option EventNo → Standing = λ bs r. by_ruling (ruling_of (is_wholly_software g) (is_exclusive_group g) (first_slot (λ c. c.exclusive) bs)
+    let by : List (GroupBrief ℕ) → Option EventNo → Standing = λ bs r. by_ruling (ruling_of (is_wholly_software g) (is_exclusive_group g) (first_slot (λ c. c.exclusive) bs)
     (first_slot (λ c. not c.software) bs) r) (flat_map (λ c. c.counted) bs ++ with_masks hw (counted_members g)) in
     ap (λ bs. by bs (first_brief_refused (map (summed hw) within))) on ∙ (ap (by (map (brief_of hw) gs)) refused
     ∙ (rw (exclusive, first, counted-summed hw gs g) refl))
@@ -105,17 +80,49 @@ judge_passes-summed hw before (p ∷ ps) =
     ∙ (ap (λ js. judge_brief_passes js (map (map (brief_of hw)) ps)) (sym (map-append (summed hw) before (judge_pass hw before [] p)))
     ∙ judge_passes-summed hw (before ++ judge_pass hw before [] p) ps)
 
-abbrev standing_with_id : JudgedBrief → (ℕ × Standing)
-standing_with_id j = (j.brief.leader, j.standing)
-
-standings-are : (hw : Hardware) (s : Stage) (cpu : CpuNo) → standings hw s cpu ≡ map standing_with_id (judge_brief_passes [] (briefs hw s cpu))
+pub standings-are : JudgedBriefsLaw
 unfolding verdicts
 standings-are hw s cpu =
-    sym (ap (map standing_with_id) (judge_passes-summed hw [] (map (filter (is_eligible hw cpu)) (passes s cpu)))
-    ∙ map-map standing_with_id (summed hw) (judge_passes hw [] (map (filter (is_eligible hw cpu)) (passes s cpu))))
+    sym (ap standings_by (judge_passes-summed hw [] (map (filter (is_eligible hw cpu)) (passes s cpu)))
+    ∙ map-map (λ j. (j.brief.leader, j.standing)) (summed hw) (judge_passes hw [] (map (filter (is_eligible hw cpu)) (passes s cpu))))
+
+-- the hardware instances that are on are the members that need counters of the groups that are on
+filter-one : (b : Bool) (p q : Instance → Bool) (x : Instance) (xs : List Instance) → p x ≡ b → filter q (filter p xs) ≡ filter (λ y. p y && q y) xs
+    → filter q (filter p (x ∷ xs)) ≡ filter (λ y. p y && q y) (x ∷ xs)
+filter-one true p q x xs e rest =
+    ap (λ b. filter q (cond b (x ∷ filter p xs) (filter p xs))) e
+    ∙ (ap (λ ys. cond (q x) (x ∷ ys) ys) rest ∙ ap (λ b. cond (b && q x) (x ∷ filter (λ y. p y && q y) xs) (filter (λ y. p y && q y) xs)) (sym e))
+filter-one false p q x xs e rest =
+    ap (λ b. filter q (cond b (x ∷ filter p xs) (filter p xs))) e
+    ∙ (rest ∙ ap (λ b. cond (b && q x) (x ∷ filter (λ y. p y && q y) xs) (filter (λ y. p y && q y) xs)) (sym e))
+
+filter-both : (p q : Instance → Bool) (xs : List Instance) → filter q (filter p xs) ≡ filter (λ x. p x && q x) xs
+filter-both p q [] = refl
+filter-both p q (x ∷ xs) = filter-one (p x) p q x xs refl (filter-both p q xs)
+
+pub counted-on : (gs : List Group) → flat_map counted_members gs ≡ filter is_hardware (flat_map (λ g. filter (λ i. is_ready i.own) (members_of g)) gs)
+counted-on [] = refl
+counted-on (g ∷ gs) =
+    let ready : List Instance = filter (λ i. is_ready i.own) (members_of g) in
+    let rest : List Instance = flat_map (λ x. filter (λ i. is_ready i.own) (members_of x)) gs in
+    (λ i. sym (filter-both (λ x. is_ready x.own) is_hardware (members_of g)) i ++ counted-on gs i) ∙ sym (filter-append is_hardware ready rest)
+
+masks-of-briefs : (hw : Hardware) (gs : List Group) → with_masks hw (flat_map counted_members gs) ≡ flat_map (λ b. b.counted) (map (brief_of hw) gs)
+masks-of-briefs hw [] = refl
+masks-of-briefs hw (g ∷ gs) =
+    map-append (λ i. (i.event, mask_of hw i.attr.kind)) (counted_members g) (flat_map counted_members gs) ∙ ap (λ es. with_masks hw (counted_members g) ++ es) (masks-of-briefs hw gs)
+
+pub seated-are : SeatedBriefsLaw
+unfolding verdicts
+seated-are hw s cpu =
+    let js : List Judged = judge_passes hw [] (map (filter (is_eligible hw cpu)) (passes s cpu)) in
+    ap (with_masks hw) (sym (counted-on (groups_on js)))
+    ∙ (masks-of-briefs hw (groups_on js)
+    ∙ (ap (flat_map (λ b. b.counted)) (sym (on-summed hw js))
+    ∙ ap seated_by (sym (judge_passes-summed hw [] (map (filter (is_eligible hw cpu)) (passes s cpu))))))
 
 pub by_briefs : BriefsLaw
-by_briefs hw cpu s t same = standings-are hw s cpu ∙ (ap (λ bs. map standing_with_id (judge_brief_passes [] bs)) same ∙ sym (standings-are hw t cpu))
+by_briefs hw cpu s t same = standings-are hw s cpu ∙ (ap (λ bs. standings_by (judge_brief_passes [] bs)) same ∙ sym (standings-are hw t cpu))
 
 -- whether a group of the first two passes is refused goes by briefs too
 any-summed : (hw : Hardware) (js : List Judged) → list_any (λ j. stands_refused j.standing) (map (summed hw) js) ≡ list_any (λ j. stands_refused j.standing) js
@@ -165,7 +172,7 @@ brief-kept hw f k g =
     let counted : with_masks hw (filter needs (map f (members_of g))) ≡ with_masks hw (filter needs (members_of g)) =
     ap (with_masks hw) those ∙ (map-map (slot_mask hw) f (filter needs (members_of g))
     ∙ map-same (λ i. slot_mask hw (f i)) (slot_mask hw) (slot_mask-kept hw f k) (filter needs (members_of g))) in
-    let made : ℕ → EventNo → Bool → Bool → List (EventNo × ℕ) → Brief = λ id slot soft flag events.
+    let made : ℕ → EventNo → Bool → Bool → List (EventNo × ℕ) → GroupBrief ℕ = λ id slot soft flag events.
     record { leader = id; slot = slot; software = soft; exclusive = flag && not soft; counted = events } in
     let l : Instance = f g.leader in
     let now : Bool = list_all (λ i. is_software i.attr.kind) (map f (members_of g)) in

@@ -1,4 +1,5 @@
 pub mod Bounds
+pub mod Briefs
 pub mod Narrowing
 pub mod OneByOne
 pub mod Reachable

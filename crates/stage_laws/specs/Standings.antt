@@ -1,9 +1,8 @@
 -- What the standings of a processor's groups depend on, and settling by standings. After merge_sched_in of
 -- kernel/events/core.c; whom a refusal names is this project's own profile.
-use Rattle.std.specs.Prelude.{◌≡◌, ℕ, ◌<◌, Bool, false, List, map, filter}
+use Rattle.std.specs.Prelude.{◌≡◌, ℕ, ◌<◌, false, List, [], map, filter}
 use Rattle.std.specs.List.{list_any}
 use Rattle.perf_base.specs.declared.numbers.CpuNo.{CpuNo}
-use Rattle.perf_base.specs.declared.numbers.EventNo.{EventNo}
 use Rattle.perf_base.specs.declared.standing.Standing.{Standing}
 use Rattle.stage_spec.specs.declared.instance.Instance.{Instance}
 use Rattle.stage_spec.specs.Flags.{is_exclusive}
@@ -12,19 +11,13 @@ use Rattle.stage_spec.specs.Stage.{Stage, Group, Lists, change_each}
 use Rattle.stage_spec.specs.Effective.{name_of, is_wholly_software, is_exclusive_group, counted_members}
 use Rattle.stage_spec.specs.Verdict.{Judged, is_eligible, with_masks, passes, verdicts, standing_among}
 use Rattle.perf_base.specs.Standings.{stands_refused}
+use Rattle.stage_spec.specs.Replies.{seated}
 use Rattle.stage_spec.specs.Settle.{failed, settle, IsSettled, pinned_verdicts}
+use Rattle.stage_laws.specs.Briefs.{GroupBrief, judge_brief_passes, standings_by, seated_by}
 use Rattle.stage_laws.specs.Sound.{IsNumbered}
 
--- what a verdict needs to know of a group: its leader's id and slot, whether it is wholly software and exclusive, and
--- the slots and masks of its ready hardware members
-pub record Brief : Type 0 where
-  pub leader : ℕ
-  pub slot : EventNo
-  pub software : Bool
-  pub exclusive : Bool
-  pub counted : List (EventNo × ℕ)
-
-abbrev pub brief_of : Hardware → Group → Brief
+-- the brief of a group of the stage, its leader by its id
+abbrev pub brief_of : Hardware → Group → GroupBrief ℕ
 brief_of hw g = record {
   leader = g.leader.id;
   slot = name_of g;
@@ -34,7 +27,7 @@ brief_of hw g = record {
 }
 
 -- of the eligible groups of a processor, pass by pass
-abbrev pub briefs : Hardware → Stage → CpuNo → List (List Brief)
+abbrev pub briefs : Hardware → Stage → CpuNo → List (List (GroupBrief ℕ))
 briefs hw s cpu = map (λ pass. map (brief_of hw) (filter (is_eligible hw cpu) pass)) (passes s cpu)
 
 -- the standing of each of these groups, with its leader's id
@@ -44,6 +37,14 @@ standings hw s cpu = map (λ j. (j.group.leader.id, j.standing)) (verdicts hw s 
 -- The law of briefs: standings depend on the briefs in pass order alone.
 abbrev pub BriefsLaw : Type 0
 BriefsLaw = (hw : Hardware) (cpu : CpuNo) (s t : Stage) → briefs hw s cpu ≡ briefs hw t cpu → standings hw s cpu ≡ standings hw t cpu
+
+-- The standings are those of the briefs, judged pass by pass.
+abbrev pub JudgedBriefsLaw : Type 0
+JudgedBriefsLaw = (hw : Hardware) (s : Stage) (cpu : CpuNo) → standings hw s cpu ≡ standings_by (judge_brief_passes [] (briefs hw s cpu))
+
+-- So are the hardware events that are on, each with the counters that can count it.
+abbrev pub SeatedBriefsLaw : Type 0
+SeatedBriefsLaw = (hw : Hardware) (s : Stage) (cpu : CpuNo) → with_masks hw (seated hw s cpu) ≡ seated_by (judge_brief_passes [] (briefs hw s cpu))
 
 -- a change of instances that keeps all that a brief needs, as a new period and another ring do
 pub record KeepsBrief (f : Instance → Instance) : Type 0 where

@@ -1,6 +1,6 @@
 //! The laws of the stages that lines lead to, each as the contract of an empty function.
 
-ghost use Rattle.stage_laws.specs.Standings.{BriefsLaw, SameStandingsLaw, SettledLaw, StandingsLaw};
+ghost use Rattle.stage_laws.specs.Standings.{BriefsLaw, JudgedBriefsLaw, SameStandingsLaw, SeatedBriefsLaw, SettledLaw, StandingsLaw};
 ghost use Rattle.stage_laws.specs.Reachable.{FewOriginalsLaw, FirstSoundLaw, StepSoundLaw, ReachedSoundLaw};
 ghost use Rattle.stage_laws.specs.Bounds.{FamilyShareLaw, FamilySumsLaw, FewIdsLaw, SmallSumsLaw};
 ghost use Rattle.stage_laws.specs.Narrowing.{NarrowLaw, SettleOthersLaw, ChangedSoundLaw, ReachedSettledLaw, SettleSoundLaw};
@@ -10,6 +10,17 @@ ghost use Rattle.stage_laws.specs.OneByOne.{IdsLaw, CommandOneByOneLaw, PeriodOn
 /// Standings depend on the briefs of the eligible groups in pass order alone.
 pub fn standings_go_by_briefs()
     ensures { BriefsLaw }
+{}
+
+/// Standings are those of the briefs, judged pass by pass.
+pub fn standings_are_judged_by_briefs()
+    ensures { JudgedBriefsLaw }
+{}
+
+/// The hardware events that are on, with the counters that can count them, are those of the briefs that are on when the
+/// briefs are judged pass by pass.
+pub fn briefs_tell_what_is_seated()
+    ensures { SeatedBriefsLaw }
 {}
 
 /// A change of instances that keeps what a brief needs leaves the standings, and what is settled stays so.
