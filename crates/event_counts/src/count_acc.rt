@@ -1,35 +1,39 @@
 //! The count of one instance, and when its period is over.
 
-ghost use Rattle.std.specs.Prelude.{◌≡◌, ◌≢◌, ◌+◌, ◌^◌, ◌<◌, ◌≤◌};
-ghost use Rattle.event_counts.specs.Counts.{fresh_counts, counts_after};
+ghost use Rattle.std.specs.Prelude.{◌≡◌, ◌≢◌, ◌+◌, ◌^◌, ◌<◌, ◌≤◌, true, false};
+ghost use Rattle.event_counts.specs.Counts.{fresh_counts, count_at, followed, restarted, counts_after};
 ghost use Rattle.stage_spec.specs.Occurrences.{overflows};
 
+use perf_base::Steps;
 use std::marker::Model;
+use std::sync::ledger::Ledger;
 
 /// How often an instance was hit, its period in occurrences, 0 for one that does not sample, and how many
-/// occurrences are left until its next overflow.
+/// occurrences are left until its next overflow. One that does not sample can count along with a total.
 #[derive(Clone, Copy, PartialEq, Eq, Debug)]
 pub struct CountAcc {
     count: u64,
     period: u64,
     left: u64,
+    stamp: u64,
+    along: bool,
 }
 
 impl Model for CountAcc {
-    ghost use Rattle.event_counts.specs.Counts.{Counts, IsWithinPeriod};
+    ghost use Rattle.event_counts.specs.Counts.{Counts, IsCount};
 
     ghost Value = { Counts };
 
-    ghost view = { λ c. record { count = c.count; period = c.period; left = c.left } };
+    ghost view = { λ c. record { count = c.count; period = c.period; left = c.left; stamp = c.stamp; along = c.along } };
 
-    ghost invariant = { λ c. IsWithinPeriod c.period c.left };
+    ghost invariant = { λ c. IsCount (record { count = c.count; period = c.period; left = c.left; stamp = c.stamp; along = c.along }) };
 
-    ghost inverse = { λ c. record { count = c.count; period = c.period; left = c.left } };
+    ghost inverse = { λ c. record { count = c.count; period = c.period; left = c.left; stamp = c.stamp; along = c.along } };
 }
 
 #[tactic(auto, using(crate::proofs::OneByOne::bursts))]
 impl CountAcc {
-    /// An instance that was never hit, with a whole period before it.
+    /// An instance that was never hit, with a whole period before it. It follows no total.
     pub fn new(period: u64) -> CountAcc
         ensures { result ≡ fresh_counts period }
     {
@@ -37,15 +41,37 @@ impl CountAcc {
             count: 0,
             period,
             left: period,
+            stamp: 0,
+            along: false,
         }
     }
 
-    /// Adds `n` occurrences, and answers how often the period was over, which is 0 without a period.
-    pub fn hit(&mut self, n: u64) -> u64
-        requires { self.old.count + n < 2 ^ 63 }
+    /// From this total on an instance that does not sample counts along with it, or no longer. What the total
+    /// gained since the stamp counts by the old state. It is one step.
+    pub fn follow<L: Ledger>(&mut self, total: u64, along: bool, steps: &mut Steps<L>)
+        requires plain { self.old.period ≡ 0 }
+        requires after { self.old.along ≡ true → self.old.stamp ≤ total }
+        requires fits { self.old.along ≡ true → count_at total self.old < 2 ^ 63 }
+        ensures counts { self.new ≡ followed total along self.old }
+        ensures step { steps.new ≡ steps.old + 1 }
+    {
+        let count = self.count(total);
+        self.count = count;
+        self.stamp = total;
+        self.along = along;
+        steps.tick();
+    }
+
+    /// Adds `n` occurrences to an instance that follows no total, and answers how often the period was over, which
+    /// is 0 without a period. It is one step.
+    pub fn hit<L: Ledger>(&mut self, n: u64, steps: &mut Steps<L>) -> u64
+        requires apart { self.old.along ≡ false }
+        requires fits { self.old.count + n < 2 ^ 63 }
         ensures counts { self.new ≡ counts_after self.old n }
         ensures overflows { result ≡ overflows n self.old.period self.old.left }
+        ensures step { steps.new ≡ steps.old + 1 }
     {
+        steps.tick();
         self.count += n;
         if self.period == 0 {
             return 0;
@@ -59,11 +85,14 @@ impl CountAcc {
         past / self.period + 1
     }
 
-    /// Clears the count. The period and the remainder stay.
-    pub fn reset(&mut self)
-        ensures { self.new ≡ record self.old { count = 0 } }
+    /// Clears the count, where the total has come to this number. The period and the remainder stay. It is one step.
+    pub fn reset<L: Ledger>(&mut self, total: u64, steps: &mut Steps<L>)
+        ensures counts { self.new ≡ restarted total self.old }
+        ensures step { steps.new ≡ steps.old + 1 }
     {
         self.count = 0;
+        self.stamp = total;
+        steps.tick();
     }
 
     /// Gives a sampling instance another period, which begins whole. The count stays.
@@ -76,11 +105,17 @@ impl CountAcc {
         self.left = period;
     }
 
-    /// How often the instance was hit since its birth or its last reset.
-    pub fn count(&self) -> u64
-        ensures { result ≡ self.now.count }
+    /// How often the instance was hit since its birth or its last reset, where the total has come to this number.
+    pub fn count(&self, total: u64) -> u64
+        requires after { self.now.along ≡ true → self.now.stamp ≤ total }
+        requires fits { self.now.along ≡ true → count_at total self.now < 2 ^ 63 }
+        ensures { result ≡ count_at total self.now }
     {
-        self.count
+        if self.along {
+            self.count + (total - self.stamp)
+        } else {
+            self.count
+        }
     }
 
     /// The period in occurrences, 0 for an instance that does not sample.
@@ -103,62 +138,74 @@ impl CountAcc {
 #[cfg(test)]
 mod tests {
     use super::*;
+    use crate::total::Total;
+    use std::marker::Brand;
+    use std::sync::ledger::Blank;
 
     fn crosses_threads<T: Send + Sync>(_value: &T) {}
 
+    /// How often a period is over in two bursts, what is left of it then, and the count.
+    fn bursts<L: Ledger>(blank: Blank, period: u64, first: u64, next: u64) -> [u64; 4]
+        requires name { blank.name ≡ L.name }
+        requires parts { blank.parts ≡ L.parts }
+        requires some { 0 < blank.parts }
+        requires small { first + next < 2 ^ 63 }
+    {
+        let mut steps = Steps::<L>::new(blank);
+        let mut counts = CountAcc::new(period);
+        crosses_threads(&counts);
+        let over = counts.hit(first, &mut steps);
+        let more = counts.hit(next, &mut steps);
+        [over, more, counts.left(), counts.count(9)]
+    }
+
+    fn bursts_plainly(period: u64, first: u64, next: u64) -> [u64; 4]
+        requires { first + next < 2 ^ 63 }
+    {
+        bursts::<Brand>(Blank::new(1), period, first, next)
+    }
+
     #[test]
     fn overflows_by_period(rt: HostRuntime) {
-        // The first period, a burst, a new period of 0 for none, two more bursts; then the overflows and
-        // what is left.
-        for (first, bursts, second, more, overflows, left) in [
-            (100, 250, 0, [50, 0], [2, 1, 0], 100),
-            (100, 90, 30, [29, 1], [0, 0, 1], 30),
-            (1, 3, 0, [1, 2], [3, 1, 2], 1),
-            (0, 5, 0, [7, 0], [0, 0, 0], 0),
-        ] {
-            let mut counts = CountAcc::new(first);
-            crosses_threads(&counts);
-            let [want, want_next, want_last] = overflows;
-            let [next, last] = more;
-            assert_eq!(rt;
-                counts.hit(bursts),
-                want,
-                "the first burst of the row of {first} and {bursts}"
-            );
-            if second != 0 && counts.period() != 0 {
-                counts.set_period(second);
-            }
-            assert_eq!(rt;
-                counts.hit(next),
-                want_next,
-                "the second burst of the row of {first} and {bursts}"
-            );
-            assert_eq!(rt;
-                counts.hit(last),
-                want_last,
-                "the last burst of the row of {first} and {bursts}"
-            );
-            assert_eq!(rt;
-                counts.left(),
-                left,
-                "what is left in the row of {first} and {bursts}"
-            );
-            assert_eq!(rt;
-                counts.count(),
-                bursts + next + last,
-                "the count of the row of {first} and {bursts}"
-            );
-            counts.reset();
-            assert_eq!(rt;
-                counts.count(),
-                0,
-                "the count after a reset in the row of {first} and {bursts}"
-            );
-            assert_eq!(rt;
-                counts.left(),
-                left,
-                "what is left after a reset in the row of {first} and {bursts}"
-            );
-        }
+        assert_eq!(rt; bursts_plainly(100, 250, 50), [2, 1, 100, 300]);
+        assert_eq!(rt; bursts_plainly(30, 29, 1), [0, 1, 30, 30]);
+        assert_eq!(rt; bursts_plainly(1, 3, 1), [3, 1, 1, 4]);
+        assert_eq!(rt; bursts_plainly(0, 5, 7), [0, 0, 0, 12]);
+    }
+
+    /// The count of an instance that follows a total from 5 to 12, is reset there and follows it to 23, before the
+    /// reset and at the end.
+    fn followed_by<L: Ledger>(blank: Blank) -> (u64, u64)
+        requires name { blank.name ≡ L.name }
+        requires parts { blank.parts ≡ L.parts }
+        requires some { 0 < blank.parts }
+    {
+        let mut steps = Steps::<L>::new(blank);
+        let mut total = Total::new();
+        let mut counts = CountAcc::new(0);
+        total.add(5, &mut steps);
+        counts.follow(total.value(), true, &mut steps);
+        total.add(7, &mut steps);
+        let before = counts.count(total.value());
+        counts.reset(total.value(), &mut steps);
+        total.add(11, &mut steps);
+        counts.follow(total.value(), false, &mut steps);
+        (before, counts.count(99))
+    }
+
+    fn followed_plainly() -> (u64, u64) {
+        followed_by::<Brand>(Blank::new(1))
+    }
+
+    #[test]
+    fn follows_a_total(rt: HostRuntime) {
+        assert_eq!(rt; followed_plainly(), (7, 11));
+    }
+
+    #[test]
+    fn takes_a_new_period(rt: HostRuntime) {
+        let mut counts = CountAcc::new(100);
+        counts.set_period(30);
+        assert_eq!(rt; (counts.period(), counts.left()), (30, 30));
     }
 }

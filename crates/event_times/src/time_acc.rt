@@ -1,102 +1,146 @@
 //! The two times of one instance.
 
-ghost use Rattle.std.specs.Prelude.{◌≡◌, ◌+◌, ◌^◌, ◌<◌, ◌≤◌, IsTrue};
-ghost use Rattle.event_times.specs.Times.{no_times, times_after};
+ghost use Rattle.std.specs.Prelude.{◌≡◌, ◌+◌, ◌^◌, ◌<◌, ◌≤◌, true, IsTrue};
+ghost use Rattle.event_times.specs.Times.{fresh_times, enabled_at, running_at, turned};
 
+use perf_base::Steps;
 use std::marker::Model;
+use std::sync::ledger::Ledger;
 
-/// How long an instance was ready and how long it was on, in the units of a work line's length. It was
-/// never on for longer than it was ready.
+/// How long an instance was ready and how long it was on, in the units of its processor's clock, and its state since
+/// its last turn. It was never on for longer than it was ready.
 #[derive(Clone, Copy, PartialEq, Eq, Debug)]
 pub struct TimeAcc {
     enabled: u64,
     running: u64,
+    stamp: u64,
+    ready: bool,
+    on: bool,
 }
 
 impl Model for TimeAcc {
-    ghost use Rattle.std.specs.Prelude.{◌≤◌};
+    ghost use Rattle.std.specs.Prelude.{IsTrue};
     ghost use Rattle.event_times.specs.Times.{Times};
 
     ghost Value = { Times };
 
-    ghost view = { λ t. record { enabled = t.enabled; running = t.running } };
+    ghost view = { λ t. record { enabled = t.enabled; running = t.running; stamp = t.stamp; ready = t.ready; on = t.on } };
 
-    ghost invariant = { λ t. t.running ≤ t.enabled };
+    ghost use Rattle.std.specs.Prelude.{◌≤◌};
 
-    ghost inverse = { λ t. record { enabled = t.enabled; running = t.running } };
+    ghost invariant = { λ t. (t.running ≤ t.enabled) × (IsTrue t.on → IsTrue t.ready) };
+
+    ghost inverse = { λ t. record { enabled = t.enabled; running = t.running; stamp = t.stamp; ready = t.ready; on = t.on } };
 }
 
 impl TimeAcc {
-    /// The times of an instance that is just born: none.
+    /// The times of an instance that is just born: none. It is neither ready nor on.
     pub fn new() -> TimeAcc
-        ensures { result ≡ no_times }
+        ensures { result ≡ fresh_times }
     {
         TimeAcc {
             enabled: 0,
             running: 0,
+            stamp: 0,
+            ready: false,
+            on: false,
         }
     }
 
-    /// A stretch of time passes: it counts as enabled where the instance is ready, and as running where it
-    /// is on. The running time is never the greater one, so both sums stay below 2^63.
-    pub fn pass(&mut self, length: u64, ready: bool, on: bool)
+    /// From this clock on the instance is ready and on, or not. The stretch before it counts by the old state. The
+    /// running time is never the greater one, so both sums stay below 2^63. It is one step.
+    pub fn turn<L: Ledger>(&mut self, clock: u64, ready: bool, on: bool, steps: &mut Steps<L>)
         requires on_is_ready { IsTrue on → IsTrue ready }
-        requires fits { (times_after self.old length ready on).enabled < 2 ^ 63 }
-        ensures { self.new ≡ times_after self.old length ready on }
+        requires after { self.old.ready ≡ true → self.old.stamp ≤ clock }
+        requires fits { self.old.ready ≡ true → enabled_at clock self.old < 2 ^ 63 }
+        ensures times { self.new ≡ turned clock ready on self.old }
+        ensures step { steps.new ≡ steps.old + 1 }
     {
-        if ready {
-            self.enabled += length;
-        }
-        if on {
-            self.running += length;
+        let enabled = self.enabled(clock);
+        let running = self.running(clock);
+        self.enabled = enabled;
+        self.running = running;
+        self.stamp = clock;
+        self.ready = ready;
+        self.on = on;
+        steps.tick();
+    }
+
+    /// Whether the instance is ready since its last turn.
+    pub fn ready(&self) -> bool
+        ensures { result ≡ self.now.ready }
+    {
+        self.ready
+    }
+
+    /// Whether it is on since then.
+    pub fn on(&self) -> bool
+        ensures { result ≡ self.now.on }
+    {
+        self.on
+    }
+
+    /// How long the instance was ready, at a clock.
+    pub fn enabled(&self, clock: u64) -> u64
+        requires after { self.now.ready ≡ true → self.now.stamp ≤ clock }
+        requires fits { self.now.ready ≡ true → enabled_at clock self.now < 2 ^ 63 }
+        ensures { result ≡ enabled_at clock self.now }
+    {
+        if self.ready {
+            self.enabled + (clock - self.stamp)
+        } else {
+            self.enabled
         }
     }
 
-    /// How long the instance was ready.
-    pub fn enabled(&self) -> u64
-        ensures { result ≡ self.now.enabled }
+    /// How long the instance was on, at a clock, which is no longer than it was ready.
+    pub fn running(&self, clock: u64) -> u64
+        requires after { self.now.ready ≡ true → self.now.stamp ≤ clock }
+        requires fits { self.now.ready ≡ true → enabled_at clock self.now < 2 ^ 63 }
+        ensures sum { result ≡ running_at clock self.now }
+        ensures within { result ≤ enabled_at clock self.now }
     {
-        self.enabled
-    }
-
-    /// How long the instance was on, which is no longer than it was ready.
-    pub fn running(&self) -> u64
-        ensures sum { result ≡ self.now.running }
-        ensures within { result ≤ self.now.enabled }
-    {
-        self.running
+        if self.on {
+            self.running + (clock - self.stamp)
+        } else {
+            self.running
+        }
     }
 }
 
 #[cfg(test)]
 mod tests {
     use super::*;
+    use std::marker::Brand;
+    use std::sync::ledger::Blank;
 
     fn crosses_threads<T: Send + Sync>(_value: &T) {}
 
+    /// The times at clock 20 of an instance that is ready and on from clock 5 to 12, and turns to this state then.
+    fn times_by<L: Ledger>(blank: Blank, ready: bool, on: bool) -> (u64, u64)
+        requires name { blank.name ≡ L.name }
+        requires parts { blank.parts ≡ L.parts }
+        requires some { 0 < blank.parts }
+        requires on_is_ready { IsTrue on → IsTrue ready }
+    {
+        let mut steps = Steps::<L>::new(blank);
+        let mut times = TimeAcc::new();
+        crosses_threads(&times);
+        times.turn(5, true, true, &mut steps);
+        times.turn(12, ready, on, &mut steps);
+        (times.enabled(20), times.running(20))
+    }
+
+    fn times_plainly(ready: bool, on: bool) -> (u64, u64)
+        requires { IsTrue on → IsTrue ready }
+    {
+        times_by::<Brand>(Blank::new(1), ready, on)
+    }
+
     #[test]
     fn adds_by_state(rt: HostRuntime) {
-        for (first, length, ready, on, enabled, running) in [
-            (10, 7, true, true, 17, 17),
-            (10, 7, true, false, 17, 10),
-            (10, 7, false, false, 10, 10),
-            (10, 0, true, true, 10, 10),
-            (0, 3, true, false, 3, 0),
-        ] {
-            let mut times = TimeAcc::new();
-            crosses_threads(&times);
-            times.pass(first, true, true);
-            times.pass(length, ready, on);
-            assert_eq!(rt;
-                times.enabled(),
-                enabled,
-                "enabled after {first} and {length}"
-            );
-            assert_eq!(rt;
-                times.running(),
-                running,
-                "running after {first} and {length}"
-            );
-        }
+        assert_eq!(rt; times_plainly(true, true), (15, 15), "on");
+        assert_eq!(rt; times_plainly(true, false), (15, 7), "ready");
+        assert_eq!(rt; times_plainly(false, false), (7, 7), "neither");
     }
 }
