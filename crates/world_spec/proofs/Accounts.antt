@@ -1,5 +1,5 @@
 -- What one account adds to the sums of its family, and that occurrences, stretches of work and resets keep a world.
-use Rattle.std.specs.Prelude.{◌≡◌, ℕ, ◌+◌, ◌^◌, ◌<◌, ◌≤◌, ◌==◌, Bool, true, false, not, ◌&&◌, cond, List, [], ◌∷◌, slice_index_or, if◌then◌else◌}
+use Rattle.std.specs.Prelude.{◌≡◌, ℕ, ◌+◌, ◌^◌, ◌<◌, ◌≤◌, ◌==◌, Bool, true, false, not, ◌&&◌, cond, List, [], ◌∷◌, slice_index_or}
 use Rattle.std.specs.FinMap.{get}
 use Rattle.std.specs.Option.{unwrap_or}
 use Rattle.std.proofs.Common.{arith, refl, sym, ap, subst, ◌∙◌, inl, inr}
@@ -17,7 +17,7 @@ use Rattle.stage_laws.proofs.Totals.{total}
 use Rattle.world_spec.specs.Value.{World, Account, Family, no_family, no_account, is_live, instance_at, account_at, is_key, times}
 use Rattle.world_spec.specs.Kept.{post_at, once_if, is_original_in, is_copy_in, in_option, keys_of, plus_keys, family_sums, AreLinked, IsKept}
 use Rattle.world_spec.specs.Changes.{with_instance, with_account}
-use Rattle.world_spec.specs.Laws.{HitLaw, HitKeptLaw, PassLaw, PassKeptLaw, ResetLaw, ResetKeptLaw, PeriodLaw, PeriodKeptLaw}
+use Rattle.world_spec.specs.Laws.{HitLaw, HitKeptLaw, ResetLaw, ResetKeptLaw, PeriodLaw, PeriodKeptLaw}
 use Rattle.world_spec.proofs.Tables.{get-here, get-there, keys-written}
 use Rattle.world_spec.proofs.Renaming.{instance-stage}
 use Rattle.world_spec.proofs.Keeping.{instance-kept}
@@ -135,6 +135,7 @@ account-kept f hw w k n m there count enabled ran room_count room_enabled h = re
     folded = h.tables.folded;
     lost = h.tables.lost;
     clocks = h.tables.clocks;
+    totals = h.tables.totals;
     seats = h.tables.seats;
   };
   shape = record { running = h.shape.running; tasks = h.shape.tasks; contexts = h.shape.contexts };
@@ -155,6 +156,7 @@ account-kept f hw w k n m there count enabled ran room_count room_enabled h = re
     ran = λ q. by_account (λ a. a.sums.running ≤ a.sums.enabled) f w k q (λ same. ran) (λ apart. h.small.ran q);
     folded_ran = h.small.folded_ran;
     clocks = h.small.clocks;
+    totals = h.small.totals;
     lost = h.small.lost;
     ids = h.small.ids;
   };
@@ -167,23 +169,6 @@ pub hit-kept : HitKeptLaw
 hit-kept hw w k n there room h =
     account-kept (λ a. record a { sums = record a.sums { count = a.sums.count + n }; left = left_after n (instance_at w k).attr.period a.left }) hw w k n 0 there
     (omega arith) (omega arith) (h.small.ran k) room (omega (arith, h.small.times (instance_at w k).event.0)) h
-
-pub pass-stage : PassLaw
-pass-stage w k n ready on = refl
-
-ran-longer : (enabled running n : ℕ) (ready on : Bool) → running ≤ enabled → (on ≡ true → ready ≡ true) → running + (if on then n else 0) ≤ enabled + (if ready then n else 0)
-ran-longer enabled running n true true h k = omega (arith, h)
-ran-longer enabled running n true false h k = omega (arith, h)
-ran-longer enabled running n false true h k = absurd (let e : false ≡ true = k refl in cc)
-ran-longer enabled running n false false h k = omega (arith, h)
-
-pub pass-kept : PassKeptLaw
-pass-kept hw w k n ready on there both room h =
-    account-kept (λ a. record a {
-      sums = record a.sums { enabled = a.sums.enabled + (if ready then n else 0); running = a.sums.running + (if on then n else 0) };
-    }) hw w k 0 (if ready then n else 0) there
-    (omega arith) (omega arith) (ran-longer (account_at w k).sums.enabled (account_at w k).sums.running n ready on (h.small.ran k) both)
-    (omega (arith, h.small.counts (instance_at w k).event.0)) room h
 
 pub reset-stage : ResetLaw
 reset-stage w k = refl

@@ -63,6 +63,7 @@ small-added w k n None low room h = record {
       (omega (arith, account-new w k n None (λ s. s.running) refl)) (λ j apart. subst (λ a. a.sums.running ≤ a.sums.enabled) (sym (account-other w k n None j apart)) (h.ran j));
   folded_ran = h.folded_ran;
   clocks = h.clocks;
+  totals = h.totals;
   lost = h.lost;
   ids = room;
 }
@@ -76,6 +77,7 @@ small-added w k n (Some first) low room h = record {
       (λ j apart. subst (λ a. a.sums.running ≤ a.sums.enabled) (sym (account-other w k n (Some first) j apart)) (h.ran j));
   folded_ran = h.folded_ran;
   clocks = h.clocks;
+  totals = h.totals;
   lost = h.lost;
   ids = room;
 }
@@ -166,6 +168,7 @@ added-kept hw w k n None fits room may of h =
         folded = h.tables.folded;
         lost = h.tables.lost;
         clocks = h.tables.clocks;
+        totals = h.tables.totals;
         seats = h.tables.seats;
       };
       shape = record {
@@ -206,6 +209,7 @@ added-kept hw w k n (Some first) fits room may of h =
         folded = h.tables.folded;
         lost = h.tables.lost;
         clocks = h.tables.clocks;
+        totals = h.tables.totals;
         seats = h.tables.seats;
       };
       shape = record {

@@ -18,9 +18,9 @@ use Rattle.stage_spec.specs.Shares.{no_sums}
 use Rattle.stage_spec.specs.Stage.{first_stage}
 use Rattle.stage_laws.proofs.RunningTasks.{running_first}
 use Rattle.counter_match.specs.Seating.{Seated, IsSound, empty_seating}
-use Rattle.world_spec.specs.Value.{World, no_entry, no_account, no_family, no_leaders, is_live, entry_at, instance_at, account_at, is_key, times}
+use Rattle.world_spec.specs.Value.{World, Totals, no_entry, no_account, no_family, no_leaders, no_totals, is_live, entry_at, instance_at, account_at, is_key, times}
 use Rattle.world_spec.specs.StageOf.{lists_at}
-use Rattle.world_spec.specs.Kept.{post_at, in_option, is_original_in, is_copy_in, is_member_of, leads_in, keys_of, plus_keys, family_sums, AreFitting, AreSeated}
+use Rattle.world_spec.specs.Kept.{post_at, in_option, is_original_in, is_copy_in, is_member_of, leads_in, keys_of, plus_keys, family_sums, AreFitting, AreSeated, AreSmallTotals}
 use Rattle.world_spec.specs.First.{first_world, FirstStageLaw, FirstKeptLaw}
 use Rattle.world_spec.proofs.Keys.{once-false}
 use Rattle.world_spec.proofs.Moving.{leads-parts}
@@ -86,6 +86,11 @@ first-kept hw declared hardware =
         folded = length-replicate 256 no_sums;
         lost = length-replicate {A = ℕ} 256 0;
         clocks = length-replicate {A = ℕ} n 0 ∙ sym (length-replicate {A = Option TaskNo} n None);
+        totals = record {
+          size = length-replicate {A = Totals} n no_totals ∙ sym (length-replicate {A = Option TaskNo} n None);
+          user = λ cpu. ap (λ t. length t.user) (replicated n cpu no_totals) ∙ length-replicate {A = ℕ} 16 0;
+          kernel = λ cpu. ap (λ t. length t.kernel) (replicated n cpu no_totals) ∙ length-replicate {A = ℕ} 16 0;
+        };
         seats = length-map hw.cpu_pmus (λ pmu. empty_seating (slice_index hw.counters pmu)) ∙ sym (length-replicate {A = Option TaskNo} n None);
       };
       shape = record { running = length-replicate {A = Option TaskNo} n None; tasks = refl; contexts = length-map w.contexts (lists_at w) ∙ length-replicate 72 no_leaders };
@@ -137,6 +142,10 @@ first-kept hw declared hardware =
         ran = λ k. subst (λ a. a.sums.running ≤ a.sums.enabled) (sym (no-account hw declared k)) (omega arith);
         folded_ran = λ slot. subst (λ s. s.running ≤ s.enabled) (sym (replicated 256 slot no_sums)) (omega arith);
         clocks = λ cpu. subst (λ m. m < 2 ^ 63) (sym (replicated n cpu 0)) (omega arith);
+        totals = λ cpu. subst AreSmallTotals (sym (replicated n cpu no_totals)) (record {
+          user = λ number. subst (λ m. m < 2 ^ 63) (sym (replicated 16 number 0)) (omega arith);
+          kernel = λ number. subst (λ m. m < 2 ^ 63) (sym (replicated 16 number 0)) (omega arith);
+        });
         lost = λ slot. subst (λ m. m < 2 ^ 63) (sym (replicated 256 slot 0)) (omega arith);
         ids = omega arith;
       };

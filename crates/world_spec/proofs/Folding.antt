@@ -182,6 +182,7 @@ fold-kept hw w k live copy h =
         folded = length-set w.folded event _ ∙ h.tables.folded;
         lost = kept.tables.lost;
         clocks = kept.tables.clocks;
+        totals = kept.tables.totals;
         seats = kept.tables.seats;
       };
       shape = record { running = kept.shape.running; tasks = kept.shape.tasks; contexts = kept.shape.contexts };
@@ -201,6 +202,7 @@ fold-kept hw w k live copy h =
         folded_ran = λ slot. at_place (λ s. s.running ≤ s.enabled) w.folded event (plus away (account_at w k).sums) no_sums slot low
             (λ e. omega (arith, h.small.folded_ran event, h.small.ran k)) (λ apart. h.small.folded_ran slot);
         clocks = kept.small.clocks;
+        totals = kept.small.totals;
         lost = kept.small.lost;
         ids = kept.small.ids;
       };

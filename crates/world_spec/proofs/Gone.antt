@@ -165,6 +165,7 @@ small-left w k entries standings contexts low h =
           (λ q apart. subst (λ a. a.sums.running ≤ a.sums.enabled) (sym (account-left w k q apart)) (h.ran q));
       folded_ran = h.folded_ran;
       clocks = h.clocks;
+      totals = h.totals;
       lost = h.lost;
       ids = h.ids;
     }
@@ -240,6 +241,7 @@ left-kept hw w k may h =
         folded = h.tables.folded;
         lost = h.tables.lost;
         clocks = h.tables.clocks;
+        totals = h.tables.totals;
         seats = h.tables.seats;
       };
       shape = record {

@@ -248,6 +248,7 @@ led-kept hw w k entries standings lead f may h =
         folded = h.tables.folded;
         lost = h.tables.lost;
         clocks = h.tables.clocks;
+        totals = h.tables.totals;
         seats = h.tables.seats;
       };
       shape = record {

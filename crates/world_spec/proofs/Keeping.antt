@@ -1,5 +1,5 @@
 -- What a world keeps, through changes of one instance, of one account, of a standing and of the quiet fields.
-use Rattle.std.specs.Prelude.{◌≡◌, ℕ, ◌+◌, ◌^◌, ◌<◌, ◌==◌, true, false, List, [], ◌∷◌, ◌++◌, length, Some, slice_index_or, slice_set, if◌then◌else◌}
+use Rattle.std.specs.Prelude.{◌≡◌, ℕ, ◌+◌, ◌^◌, ◌<◌, ◌==◌, true, false, List, length, Some, slice_index_or, slice_set, if◌then◌else◌}
 use Rattle.std.proofs.Common.{arith, refl, sym, ap, subst, ◌∙◌, inl, inr, get_or-set_other, get_or-set_same}
 use Rattle.std.proofs.lemmas.Bool.{cases_eq, cases_lt}
 use Rattle.std.proofs.lemmas.List.{length-map, length-set}
@@ -17,11 +17,11 @@ use Rattle.stage_spec.specs.Reading.{is_error}
 use Rattle.stage_spec.specs.Stage.{Stage}
 use Rattle.stage_laws.specs.Sound.{AreRunning}
 use Rattle.counter_match.specs.Seating.{Seated, IsSound, empty_seating}
-use Rattle.world_spec.specs.Value.{World, Entry, Quiet, is_live, entry_at, instance_at, is_key}
+use Rattle.world_spec.specs.Value.{World, Entry, Quiet, no_totals, is_live, entry_at, instance_at, is_key}
 use Rattle.world_spec.specs.StageOf.{stage_of, lists_at}
-use Rattle.world_spec.specs.Kept.{post_at, AreLinked, HaveCopies, AreSeated, AreGrouped, AreNumbered, AreApart, AreFitting, kinds_in, AreLawful, IsKept}
+use Rattle.world_spec.specs.Kept.{post_at, AreLinked, HaveCopies, AreSeated, AreGrouped, AreNumbered, AreApart, AreFitting, kinds_in, HaveTotals, AreSmallTotals, AreLawful, IsKept}
 use Rattle.world_spec.specs.Changes.{remember, with_instance}
-use Rattle.world_spec.specs.Laws.{OwnLaw, OwnKeptLaw, RingLaw, RingKeptLaw, StandingLaw, StandingKeptLaw, SeatsLaw, SeatsKeptLaw, ClockLaw, ClockKeptLaw, LostLaw, LostKeptLaw}
+use Rattle.world_spec.specs.Laws.{OwnLaw, OwnKeptLaw, RingLaw, RingKeptLaw, StandingLaw, StandingKeptLaw, SeatsLaw, SeatsKeptLaw, LostLaw, LostKeptLaw}
 use Rattle.world_spec.proofs.Tables.{KeepsPost, posts-same, keys-written, live-written, with_entry, entry-here, entry-there}
 use Rattle.world_spec.proofs.Renaming.{instance-stage}
 
@@ -69,6 +69,7 @@ instance-kept f keeps hw w k there error sample named h =
         folded = h.tables.folded;
         lost = h.tables.lost;
         clocks = h.tables.clocks;
+        totals = h.tables.totals;
         seats = h.tables.seats;
       };
       shape = record {
@@ -85,16 +86,17 @@ instance-kept f keeps hw w k there error sample named h =
       fitting = subst (λ at. (q : Key) → AreFitting hw (kinds_in at q)) posts h.fitting;
       lawful = instance-lawful f keeps w k there error sample named h.lawful;
       seated = h.seated;
-      small = record { counts = h.small.counts; times = h.small.times; ran = h.small.ran; folded_ran = h.small.folded_ran; clocks = h.small.clocks; lost = h.small.lost; ids = h.small.ids };
+      small = record { counts = h.small.counts; times = h.small.times; ran = h.small.ran; folded_ran = h.small.folded_ran; clocks = h.small.clocks; totals = h.small.totals; lost = h.small.lost; ids = h.small.ids };
     }
 
 -- a change of the quiet fields that leaves the slots used and the next id
 pub quiet-kept : (hw : Hardware) (w : World) (quiet : Quiet) → quiet.used ≡ w.quiet.used → quiet.next_id ≡ w.quiet.next_id
     → HasShape hw (stage_of (record w { quiet = quiet })) → AreRunning (stage_of (record w { quiet = quiet }))
     → ((cpu : ℕ) → slice_index_or quiet.clocks cpu 0 < 2 ^ 63) → length quiet.clocks ≡ length quiet.running → length quiet.seats ≡ length quiet.running → AreSeated hw quiet.seats
+    → HaveTotals (length quiet.running) quiet.totals → ((cpu : ℕ) → AreSmallTotals (slice_index_or quiet.totals cpu no_totals))
     → IsKept hw w → IsKept hw (record w { quiet = quiet })
-quiet-kept hw w quiet used next shape running clocks many_clocks many_seats seated h = record {
-  tables = record { accounts = h.tables.accounts; standings = h.tables.standings; families = h.tables.families; folded = h.tables.folded; lost = h.tables.lost; clocks = many_clocks; seats = many_seats };
+quiet-kept hw w quiet used next shape running clocks many_clocks many_seats seated totals small h = record {
+  tables = record { accounts = h.tables.accounts; standings = h.tables.standings; families = h.tables.families; folded = h.tables.folded; lost = h.tables.lost; clocks = many_clocks; totals = totals; seats = many_seats };
   shape = shape;
   running = running;
   linked = h.linked;
@@ -111,7 +113,7 @@ quiet-kept hw w quiet used next shape running clocks many_clocks many_seats seat
     placed = h.lawful.placed;
   };
   seated = seated;
-  small = record { counts = h.small.counts; times = h.small.times; ran = h.small.ran; folded_ran = h.small.folded_ran; clocks = clocks; lost = h.small.lost; ids = subst (λ n. n < 2 ^ 63) (sym next) h.small.ids };
+  small = record { counts = h.small.counts; times = h.small.times; ran = h.small.ran; folded_ran = h.small.folded_ran; clocks = clocks; totals = small; lost = h.small.lost; ids = subst (λ n. n < 2 ^ 63) (sym next) h.small.ids };
 }
 
 -- a number below a bound at each place of a list, after one was written
@@ -165,6 +167,7 @@ standing-kept hw w k s there h = record {
     folded = h.tables.folded;
     lost = h.tables.lost;
     clocks = h.tables.clocks;
+    totals = h.tables.totals;
     seats = h.tables.seats;
   };
   shape = record { running = h.shape.running; tasks = h.shape.tasks; contexts = h.shape.contexts };
@@ -177,7 +180,7 @@ standing-kept hw w k s there h = record {
   fitting = h.fitting;
   lawful = record { errors = h.lawful.errors; samples = h.lawful.samples; kinds = h.lawful.kinds; used = h.lawful.used; placed = h.lawful.placed };
   seated = h.seated;
-  small = record { counts = h.small.counts; times = h.small.times; ran = h.small.ran; folded_ran = h.small.folded_ran; clocks = h.small.clocks; lost = h.small.lost; ids = h.small.ids };
+  small = record { counts = h.small.counts; times = h.small.times; ran = h.small.ran; folded_ran = h.small.folded_ran; clocks = h.small.clocks; totals = h.small.totals; lost = h.small.lost; ids = h.small.ids };
 }
 
 pub seats-stage : SeatsLaw
@@ -186,16 +189,8 @@ seats-stage w cpu seated = refl
 pub seats-kept : SeatsKeptLaw
 seats-kept hw w cpu seated sound counters h =
     quiet-kept hw w (record w.quiet { seats = slice_set w.quiet.seats cpu.0 seated }) refl refl h.shape h.running h.small.clocks
-    h.tables.clocks (length-set w.quiet.seats cpu.0 seated ∙ h.tables.seats) (seated-set hw w.quiet.seats cpu seated sound counters h.seated) h
-
-pub clock-stage : ClockLaw
-clock-stage w cpu n = refl
-
-pub clock-kept : ClockKeptLaw
-clock-kept hw w cpu n low h =
-    let now : ℕ = slice_index_or w.quiet.clocks cpu.0 0 + n in
-    quiet-kept hw w (record w.quiet { clocks = slice_set w.quiet.clocks cpu.0 now }) refl refl h.shape h.running
-    (bounded-set w.quiet.clocks cpu.0 now (2 ^ 63) h.small.clocks low) (length-set w.quiet.clocks cpu.0 now ∙ h.tables.clocks) h.tables.seats h.seated h
+    h.tables.clocks (length-set w.quiet.seats cpu.0 seated ∙ h.tables.seats) (seated-set hw w.quiet.seats cpu seated sound counters h.seated)
+    h.tables.totals h.small.totals h
 
 pub lost-stage : LostLaw
 lost-stage w k = refl
@@ -212,6 +207,7 @@ lost-kept hw w k low h =
         folded = h.tables.folded;
         lost = length-set w.lost slot more ∙ h.tables.lost;
         clocks = h.tables.clocks;
+        totals = h.tables.totals;
         seats = h.tables.seats;
       };
       shape = record { running = h.shape.running; tasks = h.shape.tasks; contexts = h.shape.contexts };
@@ -230,6 +226,7 @@ lost-kept hw w k low h =
         ran = h.small.ran;
         folded_ran = h.small.folded_ran;
         clocks = h.small.clocks;
+        totals = h.small.totals;
         lost = bounded-set w.lost slot more (2 ^ 63) h.small.lost low;
         ids = h.small.ids;
       };
@@ -247,4 +244,5 @@ ring-kept hw w k ring owner there h =
     let kept : IsKept hw t = instance-kept f (λ live e. refl) hw w k there (h.lawful.errors k there) refl refl h in
     quiet-kept hw t (record w.quiet { mapped = if owner then remember ring w.quiet.mapped else w.quiet.mapped }) refl refl
     (record { running = kept.shape.running; tasks = kept.shape.tasks; contexts = kept.shape.contexts })
-    (record { live = kept.running.live; once = kept.running.once }) kept.small.clocks kept.tables.clocks kept.tables.seats kept.seated kept
+    (record { live = kept.running.live; once = kept.running.once }) kept.small.clocks kept.tables.clocks kept.tables.seats kept.seated
+    kept.tables.totals kept.small.totals kept

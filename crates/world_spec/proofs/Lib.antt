@@ -3,6 +3,7 @@ pub mod Added
 pub mod AddedKept
 pub mod AddedStage
 pub mod Agreement
+pub mod Along
 pub mod Asking
 pub mod Coming
 pub mod ComingGroups
@@ -25,6 +26,7 @@ pub mod GoneStage
 pub mod Keeping
 pub mod Keys
 pub mod Listings
+pub mod Metering
 pub mod Moving
 pub mod Placing
 pub mod Quiet
@@ -36,5 +38,7 @@ pub mod Standing
 pub mod Staying
 pub mod Stepping
 pub mod Tables
+pub mod Ways
+pub mod WaysGone
 pub mod Worked
 pub mod Working

@@ -144,7 +144,7 @@ is-numbered hw w h =
     }
 
 -- a context
-held-by : (hw : Hardware) (w : World) → IsKept hw w → (k : Key) (keys : List Key) → times k (flat_map (members_at w) keys) ≡ cond (is_live w k) (times (entry_at w k).leader keys) 0
+pub held-by : (hw : Hardware) (w : World) → IsKept hw w → (k : Key) (keys : List Key) → times k (flat_map (members_at w) keys) ≡ cond (is_live w k) (times (entry_at w k).leader keys) 0
 held-by hw w h k keys =
     let m : Key = (entry_at w k).leader in
     times-flat k (members_at w) keys
@@ -158,7 +158,7 @@ held-by hw w h k keys =
           ∙ (total-none keys ∙ ap (λ b. cond b (times m keys) 0) (sym dead))
     ])
 
-keys-at : (hw : Hardware) (w : World) → IsKept hw w → (k : Key) (place : ℕ)
+pub keys-at : (hw : Hardware) (w : World) → IsKept hw w → (k : Key) (place : ℕ)
     → times k (flat_map (members_at w) (leaders_both (slice_index_or w.contexts place no_leaders))) ≡ once_if (is_live w k && place_of (entry_at w k).context == place)
 keys-at hw w h k place =
     let m : Key = (entry_at w k).leader in
@@ -211,7 +211,7 @@ four-lists q a b c d =
     )
 
 -- whether a place is that of the task that runs
-abbrev stands_in_task : Option TaskNo → ℕ → Bool
+abbrev pub stands_in_task : Option TaskNo → ℕ → Bool
 stands_in_task None place = false
 stands_in_task (Some task) place = place == 8 + task.0
 
@@ -228,7 +228,7 @@ task-at : (hw : Hardware) (w : World) → IsKept hw w → (q : Key) (o : Option 
 task-at hw w h q None = nobody (leads (post_at w) q)
 task-at hw w h q (Some task) = leaders-at hw w h q (8 + task.0)
 
-counted-there : (hw : Hardware) (w : World) → IsKept hw w → (cpu : CpuNo) (q : Key)
+pub counted-there : (hw : Hardware) (w : World) → IsKept hw w → (cpu : CpuNo) (q : Key)
     → times q (reached_leaders w cpu)
     ≡ once_if (leads (post_at w) q && place_of (entry_at w q).context == place_of (context.Processor cpu))
     + once_if (leads (post_at w) q && stands_in_task (task_on (stage_of w) cpu) (place_of (entry_at w q).context))

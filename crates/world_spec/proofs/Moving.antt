@@ -98,7 +98,7 @@ leaders-kept hw w c f low same h =
     let size : length w.contexts ≡ 72 = sym (length-map w.contexts (lists_at w)) ∙ h.shape.contexts in
     let within : place_of c < length w.contexts = omega (arith, low, size) in
     record {
-      tables = record { accounts = h.tables.accounts; standings = h.tables.standings; families = h.tables.families; folded = h.tables.folded; lost = h.tables.lost; clocks = h.tables.clocks; seats = h.tables.seats };
+      tables = record { accounts = h.tables.accounts; standings = h.tables.standings; families = h.tables.families; folded = h.tables.folded; lost = h.tables.lost; clocks = h.tables.clocks; totals = h.tables.totals; seats = h.tables.seats };
       shape = record {
         running = h.shape.running;
         tasks = h.shape.tasks;
@@ -127,6 +127,7 @@ leaders-kept hw w c f low same h =
         ran = h.small.ran;
         folded_ran = h.small.folded_ran;
         clocks = h.small.clocks;
+        totals = h.small.totals;
         lost = h.small.lost;
         ids = h.small.ids;
       };

@@ -28,7 +28,8 @@ running-kept hw w cpu to running h =
     let size : length (slice_set w.quiet.running cpu.0 to) ≡ length w.quiet.running = length-set w.quiet.running cpu.0 to in
     quiet-kept hw w (record w.quiet { running = slice_set w.quiet.running cpu.0 to }) refl refl
     (record { running = length-set w.quiet.running cpu.0 to ∙ h.shape.running; tasks = h.shape.tasks; contexts = h.shape.contexts })
-    (record { live = running.live; once = running.once }) h.small.clocks (h.tables.clocks ∙ sym size) (h.tables.seats ∙ sym size) h.seated h
+    (record { live = running.live; once = running.once }) h.small.clocks (h.tables.clocks ∙ sym size) (h.tables.seats ∙ sym size) h.seated
+    (record { size = h.tables.totals.size ∙ sym size; user = h.tables.totals.user; kernel = h.tables.totals.kernel }) h.small.totals h
 
 status-kept : (hw : Hardware) (w : World) (task : TaskNo) (f : TaskStatus → TaskStatus) → AreRunning (set_status task (f (status_of (stage_of w) task)) (stage_of w))
     → IsKept hw w → IsKept hw (with_status task f w)
@@ -36,7 +37,8 @@ status-kept hw w task f running h =
     let status : TaskStatus = f (slice_index_or w.quiet.tasks task.0 unknown_task) in
     quiet-kept hw w (record w.quiet { tasks = slice_set w.quiet.tasks task.0 status }) refl refl
     (record { running = h.shape.running; tasks = length-set w.quiet.tasks task.0 status ∙ h.shape.tasks; contexts = h.shape.contexts })
-    (record { live = running.live; once = running.once }) h.small.clocks h.tables.clocks h.tables.seats h.seated h
+    (record { live = running.live; once = running.once }) h.small.clocks h.tables.clocks h.tables.seats h.seated
+    h.tables.totals h.small.totals h
 
 pub place-kept : PlaceKeptLaw
 place-kept hw w cpu None low free h =

@@ -18,7 +18,8 @@ use Rattle.stage_spec.specs.Stage.{Stage, Group, members_of}
 use Rattle.stage_spec.specs.Tight.{masks_of}
 use Rattle.stage_spec.specs.Verdict.{Judged, is_eligible, passes, judge, judge_pass, judge_passes, verdicts, groups_on, with_masks, standing_among}
 use Rattle.perf_base.specs.Standings.{stands_on}
-use Rattle.stage_laws.specs.Standings.{Brief, brief_of, briefs, standings}
+use Rattle.stage_laws.specs.Briefs.{GroupBrief}
+use Rattle.stage_laws.specs.Standings.{brief_of, briefs, standings}
 use Rattle.stage_laws.proofs.Briefs.{by_briefs}
 use Rattle.stage_laws.proofs.ByStandings.{settled_by_briefs}
 use Rattle.counter_match.specs.Seating.{Seated, slots_of}
@@ -58,10 +59,10 @@ passes-groups hw before (p ∷ ps) =
     ∙ append_assoc (map (λ j. j.group) before) p (flat_map (λ q. q) ps))
 
 -- what is served, by briefs and standings
-abbrev served_one : Brief → Standing → List (EventNo × ℕ)
+abbrev served_one : GroupBrief ℕ → Standing → List (EventNo × ℕ)
 served_one b x = if stands_on x then b.counted else []
 
-served_by : List Brief → List (ℕ × Standing) → List (EventNo × ℕ)
+served_by : List (GroupBrief ℕ) → List (ℕ × Standing) → List (EventNo × ℕ)
 served_by [] xs = []
 served_by (b ∷ bs) [] = []
 served_by (b ∷ bs) (x ∷ xs) = served_one b x.1 ++ served_by bs xs

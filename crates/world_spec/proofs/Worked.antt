@@ -25,7 +25,7 @@ use Rattle.stage_spec.specs.Stage.{Stage, Group, no_groups, alone, unknown_task}
 use Rattle.stage_spec.specs.Tight.{masks_of, tight_set, tight_after, shortest_unfit, unfit_after}
 use Rattle.stage_spec.specs.Verdict.{verdicts, judge_passes, judge_pass, judge, standing_of, with_masks}
 use Rattle.counter_match.specs.Seating.{Seated}
-use Rattle.world_spec.specs.Value.{World, Entry, no_attr, no_entry, no_leaders, is_live, entry_at, instance_at, standing_at, seats_at, is_key}
+use Rattle.world_spec.specs.Value.{World, Entry, no_attr, no_entry, no_leaders, no_totals, is_live, entry_at, instance_at, standing_at, seats_at, is_key}
 use Rattle.world_spec.specs.StageOf.{after_first, group_at, stage_of}
 use Rattle.world_spec.specs.Rescheduled.{IsRescheduled}
 use Rattle.world_spec.proofs.Keys.{key-is}
@@ -77,6 +77,7 @@ world = record {
     tasks = replicate 64 unknown_task;
     running = None ∷ [];
     clocks = 0 ∷ [];
+    totals = no_totals ∷ [];
     seats = record { counters = 1; events = (event 0, 1) ∷ []; seats = 0 ∷ [] } ∷ [];
     used = event 0 ∷ event 1 ∷ [];
     mapped = [];

@@ -97,7 +97,7 @@ filter-more f p e (q ∷ keys) h =
           filter-first p (f q) (map f keys) false off ∙ (rest ∙ ap (filter p) (sym (filter-first e (f q) (map f keys) false fails)))
     ]
 
-filter-same : (p q : Key → Bool) (keys : List Key) → ((k : Key) → 1 ≤ times k keys → p k ≡ q k) → filter p keys ≡ filter q keys
+pub filter-same : (p q : Key → Bool) (keys : List Key) → ((k : Key) → 1 ≤ times k keys → p k ≡ q k) → filter p keys ≡ filter q keys
 filter-same p q [] h = refl
 filter-same p q (k ∷ keys) h =
     let first : p k ≡ q k = h k (omega (arith, times-cons k k keys, once-true (is_key k k) (is_key-same k k refl))) in
@@ -108,7 +108,7 @@ filter-joined test [] = refl
 filter-joined test (p ∷ ps) = ap (λ gs. filter test p ++ gs) (filter-joined test ps) ∙ sym (filter-append test p (flat_map (λ x. x) ps))
 
 -- the groups that are judged are the eligible ones of the leaders
-judged-groups : (hw : Hardware) (w : World) (cpu : CpuNo) → map (λ j. j.group) (verdicts hw (stage_of w) cpu) ≡ filter (is_eligible hw cpu) (map (group_at w) (leaders_by_pass w cpu))
+pub judged-groups : (hw : Hardware) (w : World) (cpu : CpuNo) → map (λ j. j.group) (verdicts hw (stage_of w) cpu) ≡ filter (is_eligible hw cpu) (map (group_at w) (leaders_by_pass w cpu))
 unfolding verdicts
 judged-groups hw w cpu =
     let test : Group → Bool = is_eligible hw cpu in

@@ -1,6 +1,6 @@
 -- What each change does to a world, but for those by which instances come and go. After perf_event_enable,
--- perf_event_period, perf_mmap, perf_swevent_event, perf_event_update_time and perf_event_task_sched_in of
--- kernel/events/core.c; the tables are this project's own profile.
+-- perf_event_period, perf_mmap, perf_swevent_event and perf_event_task_sched_in of kernel/events/core.c; the tables are
+-- this project's own profile.
 use Rattle.std.specs.Prelude.{ℕ, ◌+◌, ◌==◌, Bool, true, false, not, List, [], ◌∷◌, ◌++◌, filter, Option, Some, None, slice_index_or, slice_set, if◌then◌else◌}
 use Rattle.std.specs.FinMap.{insert}
 use Rattle.std.specs.List.{list_any}
@@ -42,30 +42,22 @@ set_ring k ring owner w = record (with_instance (λ i. record i { ring = Some ri
   quiet = record w.quiet { mapped = if owner then remember ring w.quiet.mapped else w.quiet.mapped };
 }
 
--- a number of occurrences; a stretch of work, with whether the instance is ready and on; and a count from 0 on again
+-- a number of occurrences, and a count from 0 on again
 abbrev pub hit : Key → ℕ → World → World
 hit k n w = with_account (λ a. record a {
   sums = record a.sums { count = a.sums.count + n };
   left = left_after n (instance_at w k).attr.period a.left;
 }) k w
 
-abbrev pub pass : Key → ℕ → (ready on : Bool) → World → World
-pass k length ready on w = with_account (λ a. record a {
-  sums = record a.sums { enabled = a.sums.enabled + (if ready then length else 0); running = a.sums.running + (if on then length else 0) };
-}) k w
-
 abbrev pub reset_count : Key → World → World
 reset_count k w = with_account (λ a. record a { sums = record a.sums { count = 0 } }) k w
 
--- the standing of a group by its leader, the seats and the clock of a processor, and one record more that was lost
+-- the standing of a group by its leader, the seats of a processor, and one record more that was lost
 abbrev pub set_standing : Key → Standing → World → World
 set_standing k s w = record w { standings = insert w.standings k.0 s }
 
 abbrev pub with_seats : CpuNo → Seated → World → World
 with_seats cpu seated w = record w { quiet = record w.quiet { seats = slice_set w.quiet.seats cpu.0 seated } }
-
-abbrev pub pass_time : CpuNo → ℕ → World → World
-pass_time cpu length w = record w { quiet = record w.quiet { clocks = slice_set w.quiet.clocks cpu.0 (slice_index_or w.quiet.clocks cpu.0 0 + length) } }
 
 abbrev pub add_lost : Key → World → World
 add_lost k w = record w { lost = slice_set w.lost (instance_at w k).event.0 (slice_index_or w.lost (instance_at w k).event.0 0 + 1) }

@@ -7,12 +7,12 @@ use Rattle.stage_spec.specs.Hardware.{Hardware, IsHardware}
 use Rattle.stage_spec.specs.Shares.{no_sums}
 use Rattle.stage_spec.specs.Stage.{first_stage}
 use Rattle.counter_match.specs.Seating.{empty_seating}
-use Rattle.world_spec.specs.Value.{World, no_family, no_leaders}
+use Rattle.world_spec.specs.Value.{World, no_family, no_leaders, no_totals}
 use Rattle.world_spec.specs.StageOf.{stage_of}
 use Rattle.world_spec.specs.Kept.{IsKept}
 
--- no event, these tasks, and the processors of a machine, each idle, with no time passed and no event seated on its
--- counters
+-- no event, these tasks, and the processors of a machine, each idle, with no time passed, nothing counted and no event
+-- seated on its counters
 abbrev pub first_world : Hardware → List TaskNo → World
 first_world hw declared = record {
   hardware = hw;
@@ -27,6 +27,7 @@ first_world hw declared = record {
     tasks = (first_stage (length hw.cpu_pmus) declared).tasks;
     running = replicate (length hw.cpu_pmus) None;
     clocks = replicate (length hw.cpu_pmus) 0;
+    totals = replicate (length hw.cpu_pmus) no_totals;
     seats = map (λ pmu. empty_seating (slice_index hw.counters pmu)) hw.cpu_pmus;
     used = [];
     mapped = [];

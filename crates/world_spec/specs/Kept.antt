@@ -1,6 +1,6 @@
 -- What holds of a world at any time, also while the instances of one line come or go one by one. After what
 -- kernel/events/core.c keeps of its groups, contexts and inherited events; the counting is this project's own profile.
-use Rattle.std.specs.Prelude.{◌≡◌, ℕ, ◌^◌, ◌<◌, ◌≤◌, ◌==◌, Bool, true, false, not, ◌&&◌, IsTrue, List, [], ◌∷◌, ◌++◌, length, map, filter, Option, Some, None, slice_index_or, if◌then◌else◌}
+use Rattle.std.specs.Prelude.{◌≡◌, ℕ, ◌^◌, ◌<◌, ◌≤◌, ◌==◌, Bool, true, false, not, ◌&&◌, IsTrue, List, [], ◌∷◌, ◌++◌, length, map, filter, Option, Some, None, slice_index, slice_index_or, if◌then◌else◌}
 use Rattle.std.specs.FinMap.{contains_key}
 use Rattle.std.specs.List.{AllPairs, sum_by}
 use Rattle.perf_base.specs.Scripts.{IsKind}
@@ -23,7 +23,7 @@ use Rattle.stage_spec.specs.Shares.{no_sums}
 use Rattle.stage_spec.specs.Stage.{place_of}
 use Rattle.stage_laws.specs.Sound.{AreRunning}
 use Rattle.counter_match.specs.Seating.{Seated, IsSound, empty_seating}
-use Rattle.world_spec.specs.Value.{World, Leaders, Family, no_leaders, no_family, is_live, entry_at, instance_at, account_at, is_key, times}
+use Rattle.world_spec.specs.Value.{World, Leaders, Family, Totals, no_leaders, no_family, no_totals, is_live, entry_at, instance_at, account_at, is_key, times}
 use Rattle.world_spec.specs.StageOf.{after_first, stage_of}
 
 -- Of a key, what no command, switch, tick or stretch of work changes: whether it names an instance, and of that its id,
@@ -137,14 +137,26 @@ plus_keys sums (k ∷ keys) = plus (sums k) (plus_keys sums keys)
 abbrev pub family_sums : World → ℕ → Sums
 family_sums w slot = plus (plus_keys (λ k. (account_at w k).sums) (keys_of (slice_index_or w.families slot no_family))) (slice_index_or w.folded slot no_sums)
 
--- Counts and times of a family, clocks, lost counts and ids stay small. No instance ran longer than it was enabled, nor
--- did any that exited, so running times stay small too.
+-- Each processor has totals of 16 kinds in each mode.
+pub record HaveTotals (cpus : ℕ) (totals : List Totals) : Type 0 where
+  pub size : length totals ≡ cpus
+  pub user : (cpu : ℕ) → length (slice_index_or totals cpu no_totals).user ≡ 16
+  pub kernel : (cpu : ℕ) → length (slice_index_or totals cpu no_totals).kernel ≡ 16
+
+-- Each total of a processor stays small.
+pub record AreSmallTotals (totals : Totals) : Type 0 where
+  pub user : (number : ℕ) → slice_index totals.user number < 2 ^ 63
+  pub kernel : (number : ℕ) → slice_index totals.kernel number < 2 ^ 63
+
+-- Counts and times of a family, clocks, totals, lost counts and ids stay small. No instance ran longer than it was
+-- enabled, nor did any that exited, so running times stay small too.
 pub record AreSmall (w : World) : Type 0 where
   pub counts : (slot : ℕ) → (family_sums w slot).count < 2 ^ 63
   pub times : (slot : ℕ) → (family_sums w slot).enabled < 2 ^ 63
   pub ran : (k : Key) → (account_at w k).sums.running ≤ (account_at w k).sums.enabled
   pub folded_ran : (slot : ℕ) → (slice_index_or w.folded slot no_sums).running ≤ (slice_index_or w.folded slot no_sums).enabled
   pub clocks : (cpu : ℕ) → slice_index_or w.quiet.clocks cpu 0 < 2 ^ 63
+  pub totals : (cpu : ℕ) → AreSmallTotals (slice_index_or w.quiet.totals cpu no_totals)
   pub lost : (slot : ℕ) → slice_index_or w.lost slot 0 < 2 ^ 63
   pub ids : w.quiet.next_id < 2 ^ 63
 
@@ -179,6 +191,7 @@ pub record HaveTables (w : World) : Type 0 where
   pub folded : length w.folded ≡ 256
   pub lost : length w.lost ≡ 256
   pub clocks : length w.quiet.clocks ≡ length w.quiet.running
+  pub totals : HaveTotals (length w.quiet.running) w.quiet.totals
   pub seats : length w.quiet.seats ≡ length w.quiet.running
 
 -- what a world's type keeps

@@ -1,6 +1,6 @@
 -- Each change keeps a world, and is the stage's own change or leaves the stage. After what kernel/events/core.c keeps
 -- of its contexts and groups; the tables are this project's own profile.
-use Rattle.std.specs.Prelude.{◌≡◌, ℕ, ◌+◌, ◌^◌, ◌<◌, Bool, true, [], ◌∷◌, ◌++◌, Option, Some, length, slice_index_or, if◌then◌else◌}
+use Rattle.std.specs.Prelude.{◌≡◌, ℕ, ◌+◌, ◌^◌, ◌<◌, Bool, true, Option, Some, length, slice_index_or, if◌then◌else◌}
 use Rattle.perf_base.specs.declared.numbers.CpuNo.{CpuNo}
 use Rattle.perf_base.specs.declared.numbers.Key.{Key}
 use Rattle.perf_base.specs.declared.numbers.RingNo.{RingNo}
@@ -17,7 +17,7 @@ use Rattle.counter_match.specs.Seating.{Seated, IsSound}
 use Rattle.world_spec.specs.Value.{World, is_live, entry_at, instance_at, is_key}
 use Rattle.world_spec.specs.StageOf.{stage_of}
 use Rattle.world_spec.specs.Kept.{IsKept, family_sums}
-use Rattle.world_spec.specs.Changes.{remember, set_own, set_period, set_ring, set_standing, with_seats, pass_time, add_lost, hit, pass, reset_count, place, add_task, end_task}
+use Rattle.world_spec.specs.Changes.{remember, set_own, set_period, set_ring, set_standing, with_seats, add_lost, hit, reset_count, place, add_task, end_task}
 
 -- a change of the world that keeps what it keeps
 abbrev pub Keeps : Hardware → World → World → Type 0
@@ -63,32 +63,19 @@ SeatsLaw = (w : World) (cpu : CpuNo) (seated : Seated) → stage_of (with_seats 
 abbrev pub SeatsKeptLaw : Type 0
 SeatsKeptLaw = (hw : Hardware) (w : World) (cpu : CpuNo) (seated : Seated) → IsSound seated → seated.counters ≡ counters_of hw cpu → Keeps hw w (with_seats cpu seated w)
 
-abbrev pub ClockLaw : Type 0
-ClockLaw = (w : World) (cpu : CpuNo) (n : ℕ) → stage_of (pass_time cpu n w) ≡ stage_of w
-
-abbrev pub ClockKeptLaw : Type 0
-ClockKeptLaw = (hw : Hardware) (w : World) (cpu : CpuNo) (n : ℕ) → slice_index_or w.quiet.clocks cpu.0 0 + n < 2 ^ 63 → Keeps hw w (pass_time cpu n w)
-
 abbrev pub LostLaw : Type 0
 LostLaw = (w : World) (k : Key) → stage_of (add_lost k w) ≡ stage_of w
 
 abbrev pub LostKeptLaw : Type 0
 LostKeptLaw = (hw : Hardware) (w : World) (k : Key) → slice_index_or w.lost (instance_at w k).event.0 0 + 1 < 2 ^ 63 → Keeps hw w (add_lost k w)
 
--- Occurrences, stretches of work and resets leave the stage. What a family has counted and its times must stay small.
+-- Occurrences and resets leave the stage. What a family has counted must stay small.
 abbrev pub HitLaw : Type 0
 HitLaw = (w : World) (k : Key) (n : ℕ) → stage_of (hit k n w) ≡ stage_of w
 
 abbrev pub HitKeptLaw : Type 0
 HitKeptLaw = (hw : Hardware) (w : World) (k : Key) (n : ℕ) → is_live w k ≡ true
     → (family_sums w (instance_at w k).event.0).count + n < 2 ^ 63 → Keeps hw w (hit k n w)
-
-abbrev pub PassLaw : Type 0
-PassLaw = (w : World) (k : Key) (n : ℕ) (ready on : Bool) → stage_of (pass k n ready on w) ≡ stage_of w
-
-abbrev pub PassKeptLaw : Type 0
-PassKeptLaw = (hw : Hardware) (w : World) (k : Key) (n : ℕ) (ready on : Bool) → is_live w k ≡ true → (on ≡ true → ready ≡ true)
-    → (family_sums w (instance_at w k).event.0).enabled + (if ready then n else 0) < 2 ^ 63 → Keeps hw w (pass k n ready on w)
 
 abbrev pub ResetLaw : Type 0
 ResetLaw = (w : World) (k : Key) → stage_of (reset_count k w) ≡ stage_of w

@@ -11,6 +11,7 @@ pub mod Goings
 pub mod Kept
 pub mod Laws
 pub mod Listings
+pub mod Metering
 pub mod Moves
 pub mod Quiet
 pub mod Rescheduled
@@ -19,4 +20,5 @@ pub mod StageOf
 pub mod Staying
 pub mod Stepping
 pub mod Value
+pub mod Ways
 pub mod Working

@@ -1,7 +1,7 @@
 -- The events, groups, families and accounts of a machine as one value: tables by key, and lists of keys. After struct
 -- perf_event, perf_event_context and perf_cpu_context of kernel/events/core.c; the tables are this project's own
 -- profile.
-use Rattle.std.specs.Prelude.{ℕ, ◌^◌, ◌==◌, Bool, false, List, [], count_by, Option, None, slice_index_or}
+use Rattle.std.specs.Prelude.{ℕ, ◌^◌, ◌==◌, Bool, false, List, [], count_by, replicate, Option, None, slice_index_or}
 use Rattle.std.specs.Option.{unwrap_or}
 use Rattle.std.specs.Ordering.{nat_cmp}
 use Rattle.std.specs.FinMap.{FinMap, get, contains_key}
@@ -51,12 +51,21 @@ pub record Family : Type 0 where
   pub original : Option Key
   pub copies : List Key
 
--- What no group and no account shows: of each task where it stands; the task, the clock and the seats of each
--- processor; the slots that were opened, the rings that were mapped, and the id of the next instance.
+-- how often each hardware kind occurred on a processor: in user mode and in kernel mode
+pub record Totals : Type 0 where
+  pub user : List ℕ
+  pub kernel : List ℕ
+
+abbrev pub no_totals : Totals
+no_totals = record { user = replicate 16 0; kernel = replicate 16 0 }
+
+-- What no group and no account shows: of each task where it stands; the task, the clock, the totals and the seats of
+-- each processor; the slots that were opened, the rings that were mapped, and the id of the next instance.
 pub record Quiet : Type 0 where
   pub tasks : List TaskStatus
   pub running : List (Option TaskNo)
   pub clocks : List ℕ
+  pub totals : List Totals
   pub seats : List Seated
   pub used : List EventNo
   pub mapped : List RingNo
@@ -118,7 +127,10 @@ leaders_of w c = slice_index_or w.contexts (place_of c) no_leaders
 abbrev pub family_of : World → EventNo → Family
 family_of w e = slice_index_or w.families e.0 no_family
 
--- the seats of a processor
+-- the totals and the seats of a processor
+abbrev pub totals_at : World → CpuNo → Totals
+totals_at w cpu = slice_index_or w.quiet.totals cpu.0 no_totals
+
 abbrev pub seats_at : World → CpuNo → Seated
 seats_at w cpu = slice_index_or w.quiet.seats cpu.0 (empty_seating 0)
 

@@ -1,18 +1,26 @@
 -- Which instances count on a processor, by the keys of a world. After ctx_sched_in and perf_event_update_time of
 -- kernel/events/core.c.
-use Rattle.std.specs.Prelude.{◌≡◌, List, map, filter, flat_map}
+use Rattle.std.specs.Prelude.{◌≡◌, Bool, true, ◌&&◌, List, map, filter, flat_map}
 use Rattle.perf_base.specs.declared.numbers.CpuNo.{CpuNo}
 use Rattle.perf_base.specs.declared.numbers.Key.{Key}
 use Rattle.stage_spec.specs.Effective.{effective, is_ready}
 use Rattle.stage_spec.specs.Hardware.{Hardware}
 use Rattle.stage_spec.specs.Shares.{ready_instances}
 use Rattle.stage_spec.specs.Verdict.{on_instances}
+use Rattle.stage_laws.specs.Narrowing.{has_context}
 use Rattle.perf_base.specs.Standings.{stands_on}
-use Rattle.world_spec.specs.Value.{World, entry_at, instance_at, standing_at}
+use Rattle.world_spec.specs.Value.{World, is_live, entry_at, instance_at, standing_at, times}
 use Rattle.world_spec.specs.StageOf.{stage_of}
-use Rattle.world_spec.specs.Kept.{IsKept}
+use Rattle.world_spec.specs.Kept.{IsKept, once_if}
 use Rattle.world_spec.specs.Listings.{pass_leaders}
 use Rattle.world_spec.specs.Rescheduled.{IsJudged}
+
+-- An instance is ready by its leader's own state and its own one, and on where its group stands on, too.
+abbrev pub is_effective : World → Key → Bool
+is_effective w k = is_ready (effective (instance_at w (entry_at w k).leader).own (instance_at w k).own)
+
+abbrev pub is_on : World → Key → Bool
+is_on w k = is_effective w k && stands_on (standing_at w (entry_at w k).leader)
 
 -- the leaders of a processor's groups in pass order, and of these the ones whose groups stand on
 abbrev pub leaders_by_pass : World → CpuNo → List Key
@@ -20,6 +28,10 @@ leaders_by_pass w cpu = flat_map (λ keys. keys) (pass_leaders w cpu)
 
 abbrev pub leaders_on : World → CpuNo → List Key
 leaders_on w cpu = filter (λ k. stands_on (standing_at w k)) (leaders_by_pass w cpu)
+
+-- all that a processor reaches, in pass order
+abbrev pub keys_by_pass : World → CpuNo → List Key
+keys_by_pass w cpu = flat_map (λ k. (entry_at w k).members) (leaders_by_pass w cpu)
 
 -- the ready members of a group that is on, and the members of a group that are effectively ready
 abbrev pub ready_in : World → Key → List Key
@@ -38,3 +50,17 @@ OnLaw = (hw : Hardware) (w : World) (cpu : CpuNo) → IsKept hw w → IsJudged h
 abbrev pub ReadyLaw : Type 0
 ReadyLaw = (hw : Hardware) (w : World) (cpu : CpuNo) → IsKept hw w
     → ready_instances (stage_of w) cpu ≡ map (instance_at w) (flat_map (effective_in w) (leaders_by_pass w cpu))
+
+-- Of the keys that a processor reaches, those that are on are the stage's where it was judged, and those that are
+-- effectively ready are the stage's. A key stands once among them where its context is on the processor, and else not.
+abbrev pub OnKeysLaw : Type 0
+OnKeysLaw = (hw : Hardware) (w : World) (cpu : CpuNo) → IsKept hw w → IsJudged hw w cpu
+    → on_instances hw (stage_of w) cpu ≡ map (instance_at w) (filter (is_on w) (keys_by_pass w cpu))
+
+abbrev pub ReadyKeysLaw : Type 0
+ReadyKeysLaw = (hw : Hardware) (w : World) (cpu : CpuNo) → IsKept hw w
+    → ready_instances (stage_of w) cpu ≡ map (instance_at w) (filter (is_effective w) (keys_by_pass w cpu))
+
+abbrev pub ReachedKeysLaw : Type 0
+ReachedKeysLaw = (hw : Hardware) (w : World) (cpu : CpuNo) (k : Key) → IsKept hw w → is_live w k ≡ true
+    → times k (keys_by_pass w cpu) ≡ once_if (has_context (stage_of w) cpu (entry_at w k).context)

@@ -7,12 +7,14 @@ ghost use Rattle.world_spec.specs.Families.{CopiesLaw, FamilyIdsLaw, FamilySumsL
 ghost use Rattle.world_spec.specs.First.{FirstKeptLaw, FirstStageLaw};
 ghost use Rattle.world_spec.specs.Foldings.{FoldKeptLaw, FoldLaw, FoldSumsLaw};
 ghost use Rattle.world_spec.specs.Goings.{GoKeptLaw, GoLaw};
-ghost use Rattle.world_spec.specs.Laws.{ClockKeptLaw, ClockLaw, EndKeptLaw, EndLaw, HitKeptLaw, HitLaw, LostKeptLaw, LostLaw, OwnKeptLaw, OwnLaw, PassKeptLaw, PassLaw, PeriodKeptLaw, PeriodLaw, PlaceKeptLaw, PlaceLaw, ResetKeptLaw, ResetLaw, RingKeptLaw, RingLaw, SeatsKeptLaw, SeatsLaw, StandingKeptLaw, StandingLaw, TaskKeptLaw, TaskLaw};
+ghost use Rattle.world_spec.specs.Laws.{EndKeptLaw, EndLaw, HitKeptLaw, HitLaw, LostKeptLaw, LostLaw, OwnKeptLaw, OwnLaw, PeriodKeptLaw, PeriodLaw, PlaceKeptLaw, PlaceLaw, ResetKeptLaw, ResetLaw, RingKeptLaw, RingLaw, SeatsKeptLaw, SeatsLaw, StandingKeptLaw, StandingLaw, TaskKeptLaw, TaskLaw};
 ghost use Rattle.world_spec.specs.Listings.{ContextLaw, MembersLaw, NumberedLaw, OneInContextLaw, OneOnProcessorLaw, PassesLaw};
+ghost use Rattle.world_spec.specs.Metering.{AlongLaw, GivenLaw, ShareLaw, WorkGrowsLaw, WorkKeptLaw, WorkStageLaw, WorkWaysLaw};
 ghost use Rattle.world_spec.specs.Moves.{MoveKeptLaw, MoveLaw};
 ghost use Rattle.world_spec.specs.Rescheduled.{FailKeptLaw, FailLaw, FailStageLaw, LeftLaw, SeatsAnswerLaw};
 ghost use Rattle.world_spec.specs.Staying.{AddStaysLaw, FoldStaysLaw, GoStaysLaw, OriginLaw};
-ghost use Rattle.world_spec.specs.Working.{OnLaw, ReadyLaw};
+ghost use Rattle.world_spec.specs.Ways.{AddWaysLaw, FoldWaysLaw, GoWaysLaw, OtherWaysLaw, OutsideContextLaw, OutsideGroupLaw, OwnWaysLaw, PeriodWaysLaw, PlaceWaysLaw, RingWaysLaw, StandingWaysLaw, TurnedLaw, WayLaw};
+ghost use Rattle.world_spec.specs.Working.{OnKeysLaw, OnLaw, ReachedKeysLaw, ReadyKeysLaw, ReadyLaw};
 ghost use Rattle.world_spec.specs.Asking.{AnswerLaw};
 ghost use Rattle.world_spec.specs.Quiet.{QuietLaw, RefusedLaw};
 ghost use Rattle.world_spec.specs.Stepping.{LosingLaw, SteppedLaw};
@@ -41,12 +43,6 @@ pub fn occurrences_are_counted()
     ensures kept { HitKeptLaw }
 {}
 
-/// A stretch of work leaves the stage, and keeps the world while the enabled time of the family has room.
-pub fn work_passes()
-    ensures stage { PassLaw }
-    ensures kept { PassKeptLaw }
-{}
-
 /// A reset leaves the stage and keeps the world.
 pub fn counts_are_reset()
     ensures stage { ResetLaw }
@@ -63,12 +59,6 @@ pub fn standings_are_set()
 pub fn seats_are_given()
     ensures stage { SeatsLaw }
     ensures kept { SeatsKeptLaw }
-{}
-
-/// A clock leaves the stage, and keeps the world while it has room.
-pub fn clocks_advance()
-    ensures stage { ClockLaw }
-    ensures kept { ClockKeptLaw }
 {}
 
 /// A lost record leaves the stage, and keeps the world while the count has room.
@@ -205,6 +195,62 @@ pub fn others_stay()
 pub fn instances_work()
     ensures on { OnLaw }
     ensures ready { ReadyLaw }
+{}
+
+/// The way that an instance has now is turned as the world has it. A change that keeps a key's way leaves it turned.
+pub fn ways_are_turned()
+    ensures way { WayLaw }
+    ensures still { TurnedLaw }
+{}
+
+/// What changes no entry, no standing and no task that runs keeps all ways, and so do a period and a ring. An own state
+/// and a standing keep those of other groups, and a task that is placed those of the contexts of other tasks.
+pub fn ways_stay()
+    ensures other { OtherWaysLaw }
+    ensures period { PeriodWaysLaw }
+    ensures ring { RingWaysLaw }
+    ensures own { OwnWaysLaw }
+    ensures standing { StandingWaysLaw }
+    ensures placed { PlaceWaysLaw }
+{}
+
+/// Keys that are not among the members of a group, or of a task's context, are led by another key, or stand in another
+/// context.
+pub fn ways_are_reached()
+    ensures group { OutsideGroupLaw }
+    ensures context { OutsideContextLaw }
+{}
+
+/// An instance that comes, goes or is folded keeps the ways of all others, but for the siblings that it led.
+pub fn other_ways_stay()
+    ensures come { AddWaysLaw }
+    ensures gone { GoWaysLaw }
+    ensures folded { FoldWaysLaw }
+{}
+
+/// By the keys that a processor reaches, those that are on and those that are ready are the stage's. A key stands among
+/// them where its context is on the processor.
+pub fn processors_reach_keys()
+    ensures on { OnKeysLaw }
+    ensures ready { ReadyKeysLaw }
+    ensures reached { ReachedKeysLaw }
+{}
+
+/// A line of work leaves the stage and all ways. It keeps the world where there is room, and a family grows by no more
+/// than the most that the line gives.
+pub fn lines_work()
+    ensures stage { WorkStageLaw }
+    ensures ways { WorkWaysLaw }
+    ensures kept { WorkKeptLaw }
+    ensures grown { WorkGrowsLaw }
+{}
+
+/// Where a processor was judged, what an instance has of a stretch of work along it is the definitions' share, but for
+/// the occurrences of one that samples. Its occurrences are those of an event whose count goes along totals.
+pub fn shares_go_along()
+    ensures share { ShareLaw }
+    ensures given { GivenLaw }
+    ensures along { AlongLaw }
 {}
 
 /// Where a world agrees with a record, a world that a step leads to agrees with the record after that step, if the step
