@@ -6,3 +6,6 @@ mod Room
 mod Running
 mod Seats
 mod Tables
+mod Turning
+mod TurnedGone
+mod Worked

@@ -19,8 +19,8 @@ use Rattle.stage_spec.specs.contracts.instance.TaskStatus.{the_row as status_row
 use Rattle.stage_spec.specs.declared.instance.TaskStatus.{TaskStatus}
 use Rattle.stage_spec.specs.Hardware.{Hardware}
 use Rattle.counter_match.specs.Seating.{Seated}
-use Rattle.world_spec.specs.Value.{World, Entry, Account, Leaders, Family, Quiet}
-use Rattle.world_tables.specs.Codes.{entry_code, account_code}
+use Rattle.world_spec.specs.Value.{World, Entry, Account, Leaders, Family, Totals, Quiet}
+use Rattle.world_tables.specs.Codes.{entry_code, account_code, totals_code}
 
 abbrev pub hardware_code : Coded Hardware
 hardware_code =
@@ -49,18 +49,19 @@ seated_code =
 abbrev pub quiet_code : Coded Quiet
 quiet_code =
     code_by
-    (List TaskStatus × (List (Option TaskNo) × (List ℕ × (List Seated × (List EventNo × (List RingNo × ℕ))))))
+    (List TaskStatus × (List (Option TaskNo) × (List ℕ × (List Totals × (List Seated × (List EventNo × (List RingNo × ℕ)))))))
     (coded× (coded_list status_row.coded) (coded× (coded_list (coded_option task_row.coded)) (coded× (coded_list coded_ℕ)
-    (coded× (coded_list seated_code) (coded× (coded_list event_row.coded) (coded× (coded_list ring_row.coded) coded_ℕ))))))
-    (λ q. (q.tasks, (q.running, (q.clocks, (q.seats, (q.used, (q.mapped, q.next_id)))))))
+    (coded× (coded_list totals_code) (coded× (coded_list seated_code) (coded× (coded_list event_row.coded) (coded× (coded_list ring_row.coded) coded_ℕ)))))))
+    (λ q. (q.tasks, (q.running, (q.clocks, (q.totals, (q.seats, (q.used, (q.mapped, q.next_id))))))))
     (λ p. record {
       tasks = p.0;
       running = p.1.0;
       clocks = p.1.1.0;
-      seats = p.1.1.1.0;
-      used = p.1.1.1.1.0;
-      mapped = p.1.1.1.1.1.0;
-      next_id = p.1.1.1.1.1.1;
+      totals = p.1.1.1.0;
+      seats = p.1.1.1.1.0;
+      used = p.1.1.1.1.1.0;
+      mapped = p.1.1.1.1.1.1.0;
+      next_id = p.1.1.1.1.1.1.1;
     })
     (λ _. refl)
 

@@ -6,6 +6,7 @@
 mod coming;
 mod finding;
 mod going;
+mod settling;
 mod world;
 
 pub use world::World;

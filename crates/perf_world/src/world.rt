@@ -32,6 +32,13 @@ ghost use Rattle.world_spec.specs.Comings.{counted_in, instance_comes};
 ghost use Rattle.world_spec.specs.First.{first_world};
 ghost use Rattle.world_spec.specs.Goings.{MayGo};
 ghost use Rattle.world_spec.specs.Laws.{remembered, IsFree};
+ghost use Rattle.world_spec.specs.Metering.{goes_along, HasMeterRoom, IsWorked};
+ghost use Rattle.world_spec.specs.Shares.{HaveRoom};
+ghost use Rattle.world_spec.specs.Ways.{is_on_at};
+ghost use Rattle.perf_base.specs.declared.lines.CpuLine.TheVariants as cpu_line;
+ghost use Rattle.perf_base.specs.declared.numbers.Key.{Key as KeyNo};
+ghost use Rattle.stage_spec.specs.Families.{plus};
+ghost use Rattle.stage_laws.specs.Bounds.{AreAtMost, most_of_line};
 ghost use Rattle.world_spec.specs.Moves.{group_goes_last};
 ghost use Rattle.world_tables.specs.Places.{picked};
 ghost use Rattle.perf_world.specs.Parts.{MayAdd, newcomer};
@@ -40,9 +47,11 @@ ghost use Rattle.perf_world.specs.Seen.{IsWorld, noted};
 use crate::coming::{enter_family, join, new_instance};
 use crate::finding::{are_counted_on, are_software, first_after, is_ready, may_count_on};
 use crate::going::{leave_family, leave_group};
+use crate::settling::{processor_with, settle, settle_each, settle_group, settle_task};
 use counter_match::Seats;
 use perf_base::{
-    Attr, Context, CpuNo, EventNo, Key, NoMemory, Own, RingNo, Standing, Steps, Sums, TaskNo, Tight,
+    Attr, Context, CpuNo, EventNo, Key, NoMemory, Own, RingNo, Standing, Steps, Sums, TaskNo,
+    Tight, Work,
 };
 use pmu_model::Pmus;
 use stage_spec::{Instance, TaskState, TaskStatus};
@@ -74,11 +83,12 @@ impl Model for World {
 
     ghost coded = { world_code };
 
-    ghost use Rattle.perf_world.specs.Seen.{seen, IsWorld};
+    ghost use Rattle.perf_world.specs.Seen.{seen};
+    ghost use Rattle.perf_world.specs.Settling.{IsStored};
 
     ghost view = { λ w. seen w.pmus w.events w.contexts w.families w.processors w.tasks w.used w.mapped w.next_id };
 
-    ghost invariant = { λ w. IsWorld (seen w.pmus w.events w.contexts w.families w.processors w.tasks w.used w.mapped w.next_id) };
+    ghost invariant = { λ w. IsStored w.events (seen w.pmus w.events w.contexts w.families w.processors w.tasks w.used w.mapped w.next_id) };
 }
 
 impl World {
@@ -110,7 +120,7 @@ impl World {
         ensures clock { result ≡ slice_index_or self.now.quiet.clocks cpu.0 0 }
         ensures small { result < 2 ^ 63 }
     {
-        self.processors.clock(cpu)
+        self.events.clock(cpu)
     }
 
     /// The events on a processor's counters.
@@ -390,12 +400,7 @@ impl World {
         ensures nowhere { IfNone result ((cpu : Cpu) → stage.task_on (stage_of self.now) cpu ≡ Some task → ⊥) }
         ensures kept { IsWorld self.now }
     {
-        for cpu in 0..self.pmus.cpus() {
-            if self.processors.running(CpuNo(cpu)) == Some(task) {
-                return Some(CpuNo(cpu));
-            }
-        }
-        None
+        processor_with(&self.processors, self.pmus.cpus(), task)
     }
 
     /// Whether a context is one of a processor's two: its own, and that of the task on it.
@@ -431,7 +436,10 @@ impl World {
         ensures world { self.new ≡ change.set_own key own self.old }
         ensures stage { stage_of self.new ≡ change_one (λ i. record i { own = own }) (instance_at self.old key).id (stage_of self.old) }
     {
+        let cpus = self.pmus.cpus();
         self.events.set_own(key, own);
+        let leader = self.events.leader(key);
+        settle_group(&mut self.events, &self.processors, cpus, leader);
     }
 
     /// Sets the period of an instance that samples, in occurrences. It begins whole.
@@ -463,30 +471,42 @@ impl World {
         ensures world { self.new ≡ change.set_standing leader standing self.old }
         ensures stage { stage_of self.new ≡ stage_of self.old }
     {
+        let cpus = self.pmus.cpus();
         self.events.set_standing(leader, standing);
+        settle_group(&mut self.events, &self.processors, cpus, leader);
     }
 
-    /// Adds occurrences to what an instance has counted, and answers how often its period was over.
-    pub fn hit(&mut self, key: Key, n: u64) -> u64
+    /// Adds occurrences to what an instance has counted, and answers how often its period was over. The count of the
+    /// instance does not go along the totals of a processor. It takes one step.
+    pub fn hit<L: Ledger>(&mut self, key: Key, n: u64, steps: &mut Steps<L>) -> u64
         requires live { is_live self.old key ≡ true }
+        requires alone { (cpu : Cpu) → is_on_at self.old cpu key ≡ true → goes_along (instance_at self.old key).attr ≡ false }
         requires fits { (family_sums self.old (instance_at self.old key).event.0).count + n < 2 ^ 63 }
         ensures world { self.new ≡ change.hit key n self.old }
         ensures stage { stage_of self.new ≡ stage_of self.old }
         ensures overflows { result ≡ overflows n (instance_at self.old key).attr.period (account_at self.old key).left }
+        ensures step { steps.new ≡ steps.old + 1 }
     {
-        self.events.hit(key, n)
+        self.events.hit(key, n, steps)
     }
 
-    /// Adds a stretch of work to the times of an instance: to its enabled time where it is ready, and to its running
-    /// time where it is on.
-    pub fn pass(&mut self, key: Key, duration: u64, ready: bool, on: bool)
-        requires live { is_live self.old key ≡ true }
-        requires on_is_ready { on ≡ true → ready ≡ true }
-        requires fits { (family_sums self.old (instance_at self.old key).event.0).enabled + (if ready then duration else 0) < 2 ^ 63 }
-        ensures world { self.new ≡ change.pass key duration ready on self.old }
+    /// Work is done on a processor: it adds to the processor's clock, and to one total for each hardware kind in the
+    /// mode of the work. So each instance that is ready there has its length as time enabled, and each that is on as
+    /// time running; one that is on and does not sample has counted what it counts of it. It takes at most 17 steps,
+    /// however many instances there are.
+    pub fn add_work<L: Ledger>(&mut self, cpu: CpuNo, work: &Work, steps: &mut Steps<L>)
+        requires cpu { cpu.0 < length self.old.quiet.running }
+        requires kinds { length work.now.hits ≡ 16 }
+        requires room { HaveRoom self.old (most_of_line (cpu_line.Work work.now)) }
+        requires meter { HasMeterRoom self.old cpu work.now }
+        ensures worked { IsWorked self.old self.new cpu work.now }
         ensures stage { stage_of self.new ≡ stage_of self.old }
+        ensures grown { (slot : ℕ) → AreAtMost (family_sums self.new slot) (plus (family_sums self.old slot) (most_of_line (cpu_line.Work work.now))) }
+        ensures whole { (k : KeyNo) → is_live self.old k ≡ true → (instance_at self.old k).attr.period ≡ 0 → (account_at self.old k).left ≡ 0 }
+        ensures kept { IsWorld self.old }
+        ensures steps { steps.new ≤ steps.old + 17 }
     {
-        self.events.pass(key, duration, ready, on);
+        self.events.add_work(cpu, work, steps);
     }
 
     /// Clears the count of an instance.
@@ -496,16 +516,6 @@ impl World {
         ensures stage { stage_of self.new ≡ stage_of self.old }
     {
         self.events.reset(key);
-    }
-
-    /// Adds the length of a work line to a processor's clock.
-    pub fn pass_time(&mut self, cpu: CpuNo, duration: u64)
-        requires cpu { cpu.0 < length self.old.quiet.running }
-        requires fits { slice_index_or self.old.quiet.clocks cpu.0 0 + duration < 2 ^ 63 }
-        ensures world { self.new ≡ change.pass_time cpu duration self.old }
-        ensures stage { stage_of self.new ≡ stage_of self.old }
-    {
-        self.processors.pass_time(cpu, duration);
     }
 
     /// One record more of an instance's family was lost.
@@ -526,6 +536,17 @@ impl World {
         ensures stage { stage_of self.new ≡ stage_of self.old }
     {
         self.processors.clear_seats(cpu);
+    }
+
+    /// Puts the events of some seats on a processor's counters, which are as many: each on the counter that it has
+    /// there, in place of those that are on.
+    pub fn set_seats(&mut self, cpu: CpuNo, seats: &Seats)
+        requires cpu { cpu.0 < length self.old.quiet.running }
+        requires counters { (seats_at self.old cpu).counters ≡ seats.now.counters }
+        ensures world { self.new ≡ change.with_seats cpu seats.now self.old }
+        ensures stage { stage_of self.new ≡ stage_of self.old }
+    {
+        self.processors.set_seats(cpu, seats);
     }
 
     /// Puts a group last in its list.
@@ -571,8 +592,24 @@ impl World {
         ensures world { self.new ≡ change.place cpu task self.old }
         ensures stage { stage_of self.new ≡ put_on cpu task (stage_of self.old) }
     {
+        let cpus = self.pmus.cpus();
+        let before = self.processors.running(cpu);
         self.processors.set_running(cpu, task);
         note_last(&mut self.tasks, cpu, task);
+        settle_task(
+            &mut self.events,
+            &self.contexts,
+            &self.processors,
+            cpus,
+            before,
+        );
+        settle_task(
+            &mut self.events,
+            &self.contexts,
+            &self.processors,
+            cpus,
+            task,
+        );
     }
 
     /// A machine before its first line: its processors idle, these tasks there, and no event. It takes all memory that
@@ -583,7 +620,7 @@ impl World {
         ensures stage { IfOk result (λ w. stage_of w ≡ stage.first_stage (length pmus.cpu_pmus) tasks.now) }
     {
         let processors = Processors::new(alloc, &pmus)?;
-        let events = EventTable::new(alloc)?;
+        let events = EventTable::new(alloc, pmus.cpus())?;
         let contexts = Contexts::new(alloc)?;
         let families = Families::new(alloc)?;
         let used = UsedSlots::new(alloc)?;
@@ -648,6 +685,7 @@ impl World {
         ensures stage { stage_of self.new ≡ counted_in (newcomer event attr.now leader origin context)
             (instance_comes self.old (newcomer event attr.now leader origin context) leader (stage_of self.old)) }
     {
+        let cpus = self.pmus.cpus();
         let copy = origin.is_some();
         let instance = new_instance(event, copy, self.next_id, attr);
         let key = join(
@@ -659,6 +697,7 @@ impl World {
         );
         enter_family(&mut self.families, &mut self.used, event, copy, key);
         self.next_id += 1;
+        settle(&mut self.events, &self.processors, cpus, key);
         key
     }
 
@@ -669,10 +708,18 @@ impl World {
         ensures world { self.new ≡ drop_instance key self.old }
         ensures stage { stage_of self.new ≡ drop_one (instance_at self.old key).id (stage_of self.old) }
     {
+        let cpus = self.pmus.cpus();
         let instance = *self.events.instance(key);
+        let siblings = self.events.siblings(key);
         leave_group(&mut self.events, &mut self.contexts, key);
         leave_family(&mut self.families, instance.event, instance.copy, key);
         self.events.remove(key);
+        settle_each(
+            &mut self.events,
+            &self.processors,
+            cpus,
+            siblings.as_slice(),
+        );
     }
 
     /// A copy goes, and what it has counted is added to the folded sums of its original.
@@ -683,12 +730,20 @@ impl World {
         ensures stage { stage_of self.new ≡ drop_one (instance_at self.old copy).id (stage_of self.old) }
         ensures sums { (slot : ℕ) → family_sums self.new slot ≡ family_sums self.old slot }
     {
+        let cpus = self.pmus.cpus();
         let event = self.events.instance(copy).event;
         let sums = self.events.sums(copy);
+        let siblings = self.events.siblings(copy);
         self.families.fold(event, sums);
         leave_group(&mut self.events, &mut self.contexts, copy);
         leave_family(&mut self.families, event, true, copy);
         self.events.remove(copy);
+        settle_each(
+            &mut self.events,
+            &self.processors,
+            cpus,
+            siblings.as_slice(),
+        );
     }
 }
 

@@ -1,6 +1,6 @@
 -- Parts of rows, each as a list of its own, after one row was written.
 use Rattle.std.specs.Prelude.{◌≡◌, ℕ, ◌+◌, ◌<◌, List, [], ◌∷◌, length, map, replicate, Option, None, slice_index, slice_index_or, slice_set}
-use Rattle.std.proofs.Common.{arith, refl, sym, ap, subst, ◌∙◌}
+use Rattle.std.proofs.Common.{arith, refl, sym, ap, ◌∙◌}
 use Rattle.std.proofs.lemmas.List.{map-set, get_or-map, get_or-set_same, length-map, length-set}
 use Rattle.std.proofs.lemmas.List.Sums.{sum_by-set}
 use Rattle.std.proofs.Math.Seq.{map-set_same}
@@ -14,7 +14,7 @@ use Rattle.world_spec.specs.Value.{Family, no_family}
 use Rattle.world_tables.specs.Places.{Slot, Slots, slots, with_family, Place, Places, places, no_seats}
 
 module _ {A B : Type 0} (f : A → B) (xs : List A) (i : ℕ) where
-  part-put : (v : A) (ys : List B) → map f xs ≡ ys → map f (slice_set xs i v) ≡ slice_set ys i (f v)
+  pub part-put : (v : A) (ys : List B) → map f xs ≡ ys → map f (slice_set xs i v) ≡ slice_set ys i (f v)
   part-put v ys e = map-set f xs i v ∙ ap (λ (y : List B). slice_set y i (f v)) e
 
   part-same : (v r : A) (ys : List B) → map f xs ≡ ys → r ≡ slice_index_or xs i r → f v ≡ f r → map f (slice_set xs i v) ≡ ys
@@ -37,24 +37,12 @@ module _ (rows : List Place) (t : Places) (i : ℕ) (r : Place) (view : places r
   pub put-running : (x : Option TaskNo) → places (slice_set rows i (record r { running = x })) ≡ record t { running = slice_set t.running i x }
   put-running x = λ j. record {
     running = part-put (λ p. p.running) rows i (record r { running = x }) t.running (ap (λ p. p.running) view) j;
-    clocks = part-same (λ p. p.clock) rows i (record r { running = x }) r t.clocks (ap (λ p. p.clocks) view) at refl j;
     seats = part-same (λ p. p.seats) rows i (record r { running = x }) r t.seats (ap (λ p. p.seats) view) at refl j;
   }
-
-  pub put-clock : (n : ℕ) → places (slice_set rows i (record r { clock = r.clock + n })) ≡ record t { clocks = slice_set t.clocks i (slice_index_or t.clocks i 0 + n) }
-  put-clock n =
-      let new : Place = record r { clock = r.clock + n } in
-      let here : slice_index_or t.clocks i 0 ≡ r.clock = part-at (λ p. p.clock) rows i r t.clocks 0 (ap (λ p. p.clocks) view) at (places-low rows t i view low) in
-      λ j. record {
-        running = part-same (λ p. p.running) rows i new r t.running (ap (λ p. p.running) view) at refl j;
-        clocks = (part-put (λ p. p.clock) rows i new t.clocks (ap (λ p. p.clocks) view) ∙ ap (λ c. slice_set t.clocks i (c + n)) (sym here)) j;
-        seats = part-same (λ p. p.seats) rows i new r t.seats (ap (λ p. p.seats) view) at refl j;
-      }
 
   pub put-seats : (x : Seated) → places (slice_set rows i (record r { seats = x })) ≡ record t { seats = slice_set t.seats i x }
   put-seats x = λ j. record {
     running = part-same (λ p. p.running) rows i (record r { seats = x }) r t.running (ap (λ p. p.running) view) at refl j;
-    clocks = part-same (λ p. p.clock) rows i (record r { seats = x }) r t.clocks (ap (λ p. p.clocks) view) at refl j;
     seats = part-put (λ p. p.seats) rows i (record r { seats = x }) t.seats (ap (λ p. p.seats) view) j;
   }
 
@@ -101,11 +89,10 @@ module _ (rows : List Slot) (t : Slots) (i : ℕ) (r : Slot) (view : slots rows 
 
 -- the rows of idle processors, one for each PMU of a list
 pub idle-made : (hw : Hardware) (pmus : List ℕ)
-    → places (map (λ pmu. record { running = None; clock = 0; seats = empty_seating (slice_index hw.counters pmu) }) pmus)
-    ≡ record { running = replicate (length pmus) None; clocks = replicate (length pmus) 0; seats = map (λ pmu. empty_seating (slice_index hw.counters pmu)) pmus }
+    → places (map (λ pmu. record { running = None; seats = empty_seating (slice_index hw.counters pmu) }) pmus)
+    ≡ record { running = replicate (length pmus) None; seats = map (λ pmu. empty_seating (slice_index hw.counters pmu)) pmus }
 idle-made hw [] = refl
 idle-made hw (pmu ∷ pmus) = λ i. record {
   running = None ∷ (idle-made hw pmus i).running;
-  clocks = 0 ∷ (idle-made hw pmus i).clocks;
   seats = empty_seating (slice_index hw.counters pmu) ∷ (idle-made hw pmus i).seats;
 }

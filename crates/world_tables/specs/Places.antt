@@ -48,25 +48,22 @@ pub record IsBelow (s : Sums) : Type 0 where
 abbrev pub no_seats : Seated
 no_seats = empty_seating 0
 
--- of one processor the task on it, its clock and its seats
+-- of one processor the task on it and its seats
 pub record Place : Type 0 where
   pub running : Option TaskNo
-  pub clock : ℕ
   pub seats : Seated
 
 -- and of all processors
 pub record Places : Type 0 where
   pub running : List (Option TaskNo)
-  pub clocks : List ℕ
   pub seats : List Seated
 
 abbrev pub places : List Place → Places
-places rows = record { running = map (λ r. r.running) rows; clocks = map (λ r. r.clock) rows; seats = map (λ r. r.seats) rows }
+places rows = record { running = map (λ r. r.running) rows; seats = map (λ r. r.seats) rows }
 
 -- processors that are idle, with no event on their counters
 abbrev pub idle_places : Hardware → Places
 idle_places hw = record {
   running = replicate (length hw.cpu_pmus) None;
-  clocks = replicate (length hw.cpu_pmus) 0;
   seats = map (λ pmu. empty_seating (slice_index hw.counters pmu)) hw.cpu_pmus;
 }

@@ -1,18 +1,22 @@
 //! One event with its accounts.
 
-ghost use Rattle.std.specs.Prelude.{◌≡◌, ◌≢◌, ◌+◌, ◌^◌, ◌<◌, ◌≤◌, IsTrue, Some, [], ◌∷◌, ◌++◌, length};
+ghost use Rattle.std.specs.Prelude.{◌≡◌, ◌≢◌, ◌+◌, ◌^◌, ◌<◌, ◌≤◌, true, false, Some, [], ◌∷◌, ◌++◌, length};
+ghost use Rattle.event_counts.specs.Counts.{counts_after, restarted};
 ghost use Rattle.perf_base.specs.declared.standing.Standing.TheVariants as standing;
 ghost use Rattle.stage_spec.specs.Occurrences.{overflows};
 ghost use Rattle.world_spec.specs.Changes.{all_but};
-ghost use Rattle.world_tables.specs.Rows.{fresh_row, leader_entry, sibling_entry, without_count, with_instance, with_account, after_hit, after_pass, freed_entry};
+ghost use Rattle.world_tables.specs.Meters.{IsTally, tally_to, total_of, way_of, sums_at};
+ghost use Rattle.world_tables.specs.Rows.{fresh_kept, leader_entry, sibling_entry, with_instance, freed_entry};
 
-use event_counts::CountAcc;
-use event_times::TimeAcc;
-use perf_base::{Context, Key, Own, RingNo, Standing, Sums};
+use crate::meter::Meter;
+use crate::tally::Tally;
+use crate::way::Way;
+use perf_base::{Context, CpuNo, Key, Own, RingNo, Standing, Steps, Sums};
 use smallvec::SmallVec;
 use stage_spec::Instance;
 use std::alloc::Global;
 use std::marker::Model;
+use std::sync::ledger::{Blank, Ledger};
 
 /// An event, where it stands, and what it has counted. A leader has the members of its group, itself first, and a
 /// sibling has none.
@@ -24,23 +28,22 @@ pub struct Event {
     members: SmallVec<Key, 8>,
     pinned: bool,
     standing: Standing,
-    times: TimeAcc,
-    counts: CountAcc,
+    tally: Tally,
 }
 
 impl Model for Event {
     ghost use Rattle.std.specs.Prelude.{◌≡◌};
-    ghost use Rattle.world_tables.specs.Rows.{Row};
+    ghost use Rattle.world_tables.specs.Rows.{Kept};
 
-    ghost Value = { Row };
+    ghost Value = { Kept };
 
     ghost view = { λ e. record {
       entry = record { instance = e.instance; context = e.context; leader = e.leader; members = e.members.items; pinned = e.pinned };
-      account = record { sums = record { count = e.counts.count; enabled = e.times.enabled; running = e.times.running }; left = e.counts.left };
+      tally = e.tally;
       standing = e.standing;
     } };
 
-    ghost invariant = { λ e. (e.counts.period ≡ e.instance.attr.period) × (e.members.capacity ≡ 8) };
+    ghost invariant = { λ e. (e.tally.counts.period ≡ e.instance.attr.period) × (e.members.capacity ≡ 8) };
 }
 
 impl Event {
@@ -52,7 +55,7 @@ impl Event {
         leader: Key,
         pinned: bool,
     ) -> Event
-        ensures { result ≡ fresh_row (sibling_entry instance context leader pinned) }
+        ensures { result ≡ fresh_kept (sibling_entry instance context leader pinned) }
     {
         Event {
             instance,
@@ -61,8 +64,7 @@ impl Event {
             members: SmallVec::new(alloc),
             pinned,
             standing: Standing::Out,
-            times: TimeAcc::new(),
-            counts: CountAcc::new(instance.attr.period),
+            tally: Tally::new(instance.attr.period),
         }
     }
 
@@ -74,7 +76,7 @@ impl Event {
         context: Context,
         pinned: bool,
     ) -> Event
-        ensures { result ≡ fresh_row (leader_entry key instance context pinned) }
+        ensures { result ≡ fresh_kept (leader_entry key instance context pinned) }
     {
         let mut event = Event::new(alloc, instance, context, key, pinned);
         event.push_member(key);
@@ -123,15 +125,26 @@ impl Event {
         self.standing
     }
 
-    /// What it has counted.
-    pub fn sums(&self) -> Sums
-        ensures { result ≡ self.now.account.sums }
+    /// The processor along whose meter its account runs.
+    pub fn cpu(&self) -> CpuNo
+        ensures { result ≡ self.now.tally.cpu }
     {
-        Sums {
-            count: self.counts.count(),
-            enabled: self.times.enabled(),
-            running: self.times.running(),
-        }
+        self.tally.cpu()
+    }
+
+    /// The way that its account goes.
+    pub fn way(&self) -> Way
+        ensures { result ≡ way_of self.now.tally }
+    {
+        self.tally.way()
+    }
+
+    /// What it has counted, by its processor's meter.
+    pub fn sums(&self, meter: &Meter) -> Sums
+        requires { IsTally meter.now self.now.entry.instance.attr self.now.tally }
+        ensures { result ≡ sums_at meter.now self.now.entry.instance.attr self.now.tally }
+    {
+        self.tally.sums(meter, &self.instance.attr)
     }
 
     /// Sets the own state.
@@ -153,9 +166,11 @@ impl Event {
     pub fn set_period(&mut self, period: u64)
         requires samples { self.old.entry.instance.attr.period ≢ 0 }
         requires still_samples { period ≢ 0 }
-        ensures { self.new ≡ with_account (λ a. record a { left = period }) (with_instance (λ i. record i { attr = record i.attr { period = period } }) self.old) }
+        ensures { self.new ≡ record (with_instance (λ i. record i { attr = record i.attr { period = period } }) self.old) {
+          tally = record self.old.tally { counts = record self.old.tally.counts { period = period; left = period } };
+        } }
     {
-        self.counts.set_period(period);
+        self.tally.set_period(period);
         self.instance.attr.period = period;
     }
 
@@ -166,29 +181,46 @@ impl Event {
         self.standing = standing;
     }
 
-    /// Adds occurrences, and answers how often the period was over.
-    pub fn hit(&mut self, n: u64) -> u64
-        requires { self.old.account.sums.count + n < 2 ^ 63 }
-        ensures account { self.new ≡ with_account (after_hit n self.old.entry.instance.attr.period) self.old }
-        ensures overflows { result ≡ overflows n self.old.entry.instance.attr.period self.old.account.left }
+    /// Adds occurrences to an account that goes along no total, and answers how often the period was over. It is one
+    /// step.
+    pub fn hit<L: Ledger>(&mut self, n: u64, steps: &mut Steps<L>) -> u64
+        requires apart { self.old.tally.counts.along ≡ false }
+        requires fits { self.old.tally.counts.count + n < 2 ^ 63 }
+        ensures counts { self.new ≡ record self.old { tally = record self.old.tally { counts = counts_after self.old.tally.counts n } } }
+        ensures overflows { result ≡ overflows n self.old.entry.instance.attr.period self.old.tally.counts.left }
+        ensures step { steps.new ≡ steps.old + 1 }
     {
-        self.counts.hit(n)
+        self.tally.hit(n, steps)
     }
 
-    /// Adds a stretch of work.
-    pub fn pass(&mut self, length: u64, ready: bool, on: bool)
-        requires on_is_ready { IsTrue on → IsTrue ready }
-        requires fits { (after_pass length ready on self.old.account).sums.enabled < 2 ^ 63 }
-        ensures { self.new ≡ with_account (after_pass length ready on) self.old }
+    /// Its account goes another way: it stops at the meter of its old processor, and starts at that of the new one. The
+    /// steps of this are not counted.
+    pub fn turn<L: Ledger>(&mut self, from: &Meter, to: &Meter, way: Way, blank: Blank)
+        requires name { blank.name ≡ L.name }
+        requires parts { blank.parts ≡ L.parts }
+        requires some { 0 < blank.parts }
+        requires on_is_ready { way.on ≡ true → way.ready ≡ true }
+        requires tally { IsTally from.now self.old.entry.instance.attr self.old.tally }
+        ensures { self.new ≡ record self.old { tally = tally_to from.now to.now self.old.entry.instance.attr way self.old.tally } }
     {
-        self.times.pass(length, ready, on);
+        let mut steps = Steps::<L>::new(blank);
+        self.tally
+            .turn(from, to, &self.instance.attr, way, &mut steps);
     }
 
-    /// Clears the count.
-    pub fn reset(&mut self)
-        ensures { self.new ≡ with_account without_count self.old }
+    /// Clears the count, by its processor's meter. The steps of this are not counted.
+    pub fn reset<L: Ledger>(&mut self, meter: &Meter, blank: Blank)
+        requires name { blank.name ≡ L.name }
+        requires parts { blank.parts ≡ L.parts }
+        requires some { 0 < blank.parts }
+        ensures { self.new ≡ record self.old {
+          tally = record self.old.tally {
+            counts = restarted (total_of meter.now.clock meter.now.totals self.old.entry.instance.attr) self.old.tally.counts;
+          };
+        } }
     {
-        self.counts.reset();
+        let mut steps = Steps::<L>::new(blank);
+        self.tally.reset(meter, &self.instance.attr, &mut steps);
     }
 
     /// Adds a member to the group that it leads. A group has 8 at most.

@@ -1,28 +1,37 @@
-//! The events by key.
+//! The events by key, with the meters that their accounts run along.
 
-ghost use Rattle.std.specs.Prelude.{◌≡◌, ◌≢◌, ◌+◌, ◌^◌, ◌<◌, ◌≤◌, IsTrue, IfOk, Some, true, false, [], ◌∷◌, ◌++◌, length};
+ghost use Rattle.std.specs.Prelude.{◌≡◌, ◌≢◌, ◌+◌, ◌^◌, ◌<◌, ◌≤◌, IfOk, Some, true, false, [], ◌∷◌, ◌++◌, length, replicate, slice_index_or};
 ghost use Rattle.std.specs.FinMap.{len};
+ghost use Rattle.perf_base.specs.declared.numbers.Key.{Key as KeyNo};
 ghost use Rattle.perf_base.specs.declared.standing.Standing.TheVariants as standing;
 ghost use Rattle.stage_spec.specs.Occurrences.{overflows};
 ghost use Rattle.world_spec.specs.StageOf.{after_first};
 ghost use Rattle.world_spec.specs.Changes.{all_but};
-ghost use Rattle.world_tables.specs.Rows.{fresh_row, leader_entry, sibling_entry, without_count, after_hit, after_pass, freed_entry};
-ghost use Rattle.world_tables.specs.Columns.{is_there, row_in, entry_in, account_in, standing_in, put_entry, put_account, put_standing, put_instance, put_row, taken, no_columns};
+ghost use Rattle.world_tables.specs.Meters.{goes_along, way_of, no_meter};
+ghost use Rattle.world_tables.specs.Rows.{fresh_row, leader_entry, sibling_entry, without_count, after_hit, freed_entry};
+ghost use Rattle.world_tables.specs.Columns.{IsWorked, HasRoomForWork, is_there, entry_in, account_in, standing_in, way_in, put_entry, put_account, put_standing, put_way, put_instance, put_row, taken, no_columns};
 
 use crate::event::Event;
-use perf_base::{Context, Key, NoMemory, Own, RingNo, Standing, Sums};
+use crate::meter::Meter;
+use crate::way::Way;
+use perf_base::{Context, CpuNo, Key, NoMemory, Own, RingNo, Standing, Steps, Sums, Work};
 use slab::Slab;
 use smallvec::SmallVec;
 use stage_spec::Instance;
 use std::alloc::Global;
-use std::marker::Model;
+use std::marker::{Brand, Model};
+use std::sync::ledger::{Blank, Ledger};
 
-/// The events, each under the key that it was given, with what each has counted. Contracts see three finite maps by
-/// key: the entries, the accounts and the standings. There is room for 4,352 events: 256 originals and 4,096 copies.
+/// The events, each under the key that it was given, with what each has counted, and the meters of the processors.
+/// Contracts see four finite maps by key, the entries, the accounts, the standings and the ways, and two lists by
+/// processor, the clocks and the totals. There is room for 4,352 events: 256 originals and 4,096 copies.
 #[derive(Drop)]
 pub struct EventTable {
     alloc: Global,
     events: Slab<Event>,
+    meters: Vec<Meter>,
+    /// The meter for what is no processor.
+    idle: Meter,
 }
 
 impl Model for EventTable {
@@ -33,23 +42,44 @@ impl Model for EventTable {
 
     ghost coded = { columns_code };
 
-    ghost use Rattle.world_tables.specs.Columns.{columns};
+    ghost use Rattle.world_tables.specs.Columns.{IsTable, columns};
 
-    ghost view = { λ t. columns t.events };
+    ghost view = { λ t. columns t.meters.items t.events };
 
-    ghost use Rattle.std.specs.Prelude.{◌≤◌};
+    ghost invariant = { λ t. IsTable t.meters.items t.idle t.events };
+}
 
-    ghost invariant = { λ t. 4352 ≤ t.events.capacity };
+/// The meter of a processor, or another one where there is no such processor.
+fn meter_of<'a>(meters: &'a [Meter], other: &'a Meter, cpu: CpuNo) -> &'a Meter
+    ensures { result.now ≡ slice_index_or meters.now cpu.0 other.now }
+{
+    match meters.get(cpu.0 as usize) {
+        Some(meter) => meter,
+        None => other,
+    }
+}
+
+/// The meters of processors that never worked.
+fn idle_meters(alloc: Global, cpus: u8) -> Result<Vec<Meter>, NoMemory>
+    ensures { IfOk result (λ meters. meters.items ≡ replicate cpus no_meter) }
+{
+    let mut meters = Vec::with_capacity(alloc, cpus as usize)?;
+    for _ in 0..cpus {
+        meters.push(Meter::new())?;
+    }
+    Ok(meters)
 }
 
 impl EventTable {
-    /// No events. It fails only where memory runs out.
-    pub fn new(alloc: Global) -> Result<EventTable, NoMemory>
-        ensures { IfOk result (λ t. t ≡ no_columns) }
+    /// No events, and so many processors that never worked. It fails only where memory runs out.
+    pub fn new(alloc: Global, cpus: u8) -> Result<EventTable, NoMemory>
+        ensures { IfOk result (λ t. t ≡ no_columns cpus) }
     {
         Ok(EventTable {
             alloc,
             events: Slab::with_capacity(alloc, 4352)?,
+            meters: idle_meters(alloc, cpus)?,
+            idle: Meter::new(),
         })
     }
 
@@ -62,7 +92,9 @@ impl EventTable {
 
     fn event(&self, key: Key) -> &Event
         requires { is_there self.now key ≡ true }
-        ensures { result.now ≡ row_in self.now key }
+        ensures entry { result.now.entry ≡ entry_in self.now key }
+        ensures standing { result.now.standing ≡ standing_in self.now key }
+        ensures way { way_of result.now.tally ≡ way_in self.now key }
     {
         &self.events[key.0]
     }
@@ -135,7 +167,25 @@ impl EventTable {
         requires { is_there self.now key ≡ true }
         ensures { result ≡ (account_in self.now key).sums }
     {
-        self.event(key).sums()
+        let event = &self.events[key.0];
+        event.sums(meter_of(&self.meters, &self.idle, event.cpu()))
+    }
+
+    /// The way that an event's account goes.
+    pub fn way(&self, key: Key) -> Way
+        requires { is_there self.now key ≡ true }
+        ensures { result ≡ way_in self.now key }
+    {
+        self.event(key).way()
+    }
+
+    /// The lengths of a processor's work lines, added up.
+    pub fn clock(&self, cpu: CpuNo) -> u64
+        requires { cpu.0 < length self.now.clocks }
+        ensures clock { result ≡ slice_index_or self.now.clocks cpu.0 0 }
+        ensures below { result < 2 ^ 63 }
+    {
+        self.meters[cpu.0 as usize].clock()
     }
 
     /// An event that is just born comes as the leader of a group of its own. Its key named nothing.
@@ -210,24 +260,43 @@ impl EventTable {
         self.events[key.0].set_standing(standing);
     }
 
-    /// Adds occurrences of an event, and answers how often its period was over.
-    pub fn hit(&mut self, key: Key, n: u64) -> u64
+    /// Adds occurrences of an event whose count goes along no total: it samples, or it is not on, or work lines do not
+    /// give its kind. Answers how often its period was over. It is one step.
+    pub fn hit<L: Ledger>(&mut self, key: Key, n: u64, steps: &mut Steps<L>) -> u64
         requires there { is_there self.old key ≡ true }
+        requires apart { goes_along (entry_in self.old key).instance.attr (way_in self.old key).on ≡ false }
         requires fits { (account_in self.old key).sums.count + n < 2 ^ 63 }
         ensures account { self.new ≡ put_account key (after_hit n (entry_in self.old key).instance.attr.period (account_in self.old key)) self.old }
         ensures overflows { result ≡ overflows n (entry_in self.old key).instance.attr.period (account_in self.old key).left }
+        ensures step { steps.new ≡ steps.old + 1 }
     {
-        self.events[key.0].hit(n)
+        self.events[key.0].hit(n, steps)
     }
 
-    /// Adds a stretch of work to the times of an event.
-    pub fn pass(&mut self, key: Key, length: u64, ready: bool, on: bool)
+    /// The account of an event goes another way from here on. What it has counted stays.
+    pub fn turn(&mut self, key: Key, way: Way)
         requires there { is_there self.old key ≡ true }
-        requires on_is_ready { IsTrue on → IsTrue ready }
-        requires fits { (after_pass length ready on (account_in self.old key)).sums.enabled < 2 ^ 63 }
-        ensures { self.new ≡ put_account key (after_pass length ready on (account_in self.old key)) self.old }
+        requires on_is_ready { way.on ≡ true → way.ready ≡ true }
+        ensures { self.new ≡ put_way key way self.old }
     {
-        self.events[key.0].pass(length, ready, on);
+        let event = &mut self.events[key.0];
+        let from = meter_of(&self.meters, &self.idle, event.cpu());
+        let to = meter_of(&self.meters, &self.idle, way.cpu);
+        event.turn::<Brand>(from, to, way, Blank::new(1));
+    }
+
+    /// Adds a line of work on a processor, in 17 steps: to its clock and its totals, and so to each account that runs
+    /// along them. The caller's proof learns that no account without a period has a remainder.
+    pub fn add_work<L: Ledger>(&mut self, cpu: CpuNo, work: &Work, steps: &mut Steps<L>)
+        requires cpu { cpu.0 < length self.old.clocks }
+        requires kinds { length work.now.hits ≡ 16 }
+        requires room { HasRoomForWork self.old cpu work.now }
+        ensures worked { IsWorked self.old self.new cpu work.now }
+        ensures whole { (k : KeyNo) → is_there self.old k ≡ true → (entry_in self.old k).instance.attr.period ≡ 0 → (account_in self.old k).left ≡ 0 }
+        ensures steps { steps.new ≡ steps.old + 17 }
+    {
+        let meter = &mut self.meters[cpu.0 as usize];
+        meter.add_work(work, steps);
     }
 
     /// Clears the count of an event.
@@ -235,7 +304,9 @@ impl EventTable {
         requires { is_there self.old key ≡ true }
         ensures { self.new ≡ put_account key (without_count (account_in self.old key)) self.old }
     {
-        self.events[key.0].reset();
+        let event = &mut self.events[key.0];
+        let meter = meter_of(&self.meters, &self.idle, event.cpu());
+        event.reset::<Brand>(meter, Blank::new(1));
     }
 
     /// Adds a member to the group that an event leads. A group has 8 at most.

@@ -8,10 +8,14 @@ mod event;
 mod event_table;
 mod families;
 mod marks;
+mod meter;
 mod processors;
+mod tally;
+mod way;
 
 pub use contexts::{Contexts, place_of};
 pub use event_table::EventTable;
 pub use families::Families;
 pub use marks::{MappedRings, UsedSlots};
 pub use processors::Processors;
+pub use way::Way;

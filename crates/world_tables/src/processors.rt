@@ -1,4 +1,4 @@
-//! The processors: what runs on each, how long it worked, and which events are on its counters.
+//! The processors: what runs on each, and which events are on its counters.
 
 ghost use Rattle.std.specs.Prelude.{◌≡◌, ◌↔◌, ◌+◌, ◌*◌, ◌^◌, ◌<◌, ◌≤◌, ◌++◌, All, IsTrue, IsOk, IfOk, OnOk, OnErr, IfErr, Option, Some, None, length, map, slice_index, slice_index_or, slice_set};
 ghost use Rattle.perf_base.specs.Masks.{IsMask};
@@ -15,11 +15,10 @@ use std::alloc::Global;
 use std::marker::Model;
 use std::sync::ledger::Ledger;
 
-/// One processor: the task on it, the lengths of its work lines added up, and the events on its counters.
+/// One processor: the task on it, and the events on its counters.
 #[derive(Drop)]
 pub struct Processor {
     running: Option<TaskNo>,
-    clock: u64,
     seats: Seats,
 }
 
@@ -28,18 +27,17 @@ impl Model for Processor {
 
     ghost Value = { Place };
 
-    ghost view = { λ p. record { running = p.running; clock = p.clock; seats = p.seats } };
+    ghost view = { λ p. record { running = p.running; seats = p.seats } };
 }
 
 impl Processor {
     fn idle(counters: u8) -> Processor
         requires some { 0 < counters }
         requires most { counters ≤ 16 }
-        ensures { result ≡ record { running = None; clock = 0; seats = empty_seating counters } }
+        ensures { result ≡ record { running = None; seats = empty_seating counters } }
     {
         Processor {
             running: None,
-            clock: 0,
             seats: Seats::new(counters),
         }
     }
@@ -48,12 +46,6 @@ impl Processor {
         ensures { result ≡ self.now.running }
     {
         self.running
-    }
-
-    fn clock(&self) -> u64
-        ensures { result ≡ self.now.clock }
-    {
-        self.clock
     }
 
     fn seats(&self) -> &Seats
@@ -68,17 +60,18 @@ impl Processor {
         self.running = task;
     }
 
-    fn pass_time(&mut self, duration: u64)
-        requires { self.old.clock + duration < 2 ^ 63 }
-        ensures { self.new ≡ record self.old { clock = self.old.clock + duration } }
-    {
-        self.clock += duration;
-    }
-
     fn clear_seats(&mut self)
         ensures { self.new ≡ record self.old { seats = empty_seating self.old.seats.counters } }
     {
         self.seats.clear();
+    }
+
+    fn set_seats(&mut self, seats: &Seats)
+        requires { self.old.seats.counters ≡ seats.now.counters }
+        ensures set { self.new ≡ record self.old { seats = seats.now } }
+        ensures sound { IsSound seats.now }
+    {
+        self.seats.copy_from(seats);
     }
 
     fn seat<L: Ledger>(
@@ -105,8 +98,7 @@ impl Processor {
     }
 }
 
-/// The processors of a machine. Contracts see three lists by processor: the tasks on them, their clocks and their
-/// seats.
+/// The processors of a machine. Contracts see two lists by processor: the tasks on them and their seats.
 #[derive(Drop)]
 pub struct Processors {
     rows: Vec<Processor>,
@@ -144,14 +136,6 @@ impl Processors {
         }
     }
 
-    /// The lengths of a processor's work lines, added up.
-    pub fn clock(&self, cpu: CpuNo) -> u64
-        requires { cpu.0 < length self.now.running }
-        ensures { result ≡ slice_index_or self.now.clocks cpu.0 0 }
-    {
-        self.rows[cpu.0 as usize].clock()
-    }
-
     /// The events on a processor's counters.
     pub fn seats(&self, cpu: CpuNo) -> &Seats
         requires { cpu.0 < length self.now.running }
@@ -168,15 +152,6 @@ impl Processors {
         self.rows[cpu.0 as usize].set_running(task);
     }
 
-    /// Adds the length of a work line to a processor's clock.
-    pub fn pass_time(&mut self, cpu: CpuNo, duration: u64)
-        requires cpu { cpu.0 < length self.old.running }
-        requires room { slice_index_or self.old.clocks cpu.0 0 + duration < 2 ^ 63 }
-        ensures { self.new ≡ record self.old { clocks = slice_set self.old.clocks cpu.0 (slice_index_or self.old.clocks cpu.0 0 + duration) } }
-    {
-        self.rows[cpu.0 as usize].pass_time(duration);
-    }
-
     /// Takes all events off a processor's counters.
     pub fn clear_seats(&mut self, cpu: CpuNo)
         requires { cpu.0 < length self.old.running }
@@ -185,6 +160,16 @@ impl Processors {
         } }
     {
         self.rows[cpu.0 as usize].clear_seats();
+    }
+
+    /// Puts the events of some seats on a processor's counters, as `Seats::copy_from` does.
+    pub fn set_seats(&mut self, cpu: CpuNo, seats: &Seats)
+        requires cpu { cpu.0 < length self.old.running }
+        requires counters { (slice_index_or self.old.seats cpu.0 no_seats).counters ≡ seats.now.counters }
+        ensures set { self.new ≡ record self.old { seats = slice_set self.old.seats cpu.0 seats.now } }
+        ensures sound { IsSound seats.now }
+    {
+        self.rows[cpu.0 as usize].set_seats(seats);
     }
 
     /// Seats a group on a processor, as `Seats::try_add` does.

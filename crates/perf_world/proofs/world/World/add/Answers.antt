@@ -1,15 +1,21 @@
-use Rattle.std.proofs.Common.{◌≡◌, ◌+◌, ◌++◌, [], ◌∷◌, false, is_some, ap, sym, subst, ◌∙◌, inl, inr, if◌then◌else◌}
+use Rattle.std.proofs.Common.{◌≡◌, ◌+◌, ◌++◌, [], ◌∷◌, true, false, is_some, ap, sym, subst, ◌∙◌, inl, inr, if◌then◌else◌}
 use Rattle.std.proofs.lemmas.Bool.{cases_Bool}
 use Rattle.stage_spec.specs.Flags.{is_pinned}
 use Rattle.stage_spec.specs.Stage.{place_of}
-use Rattle.world_spec.specs.Value.{is_live}
+use Rattle.world_spec.specs.Value.{World, is_live, entry_at}
+use Rattle.world_spec.specs.Ways.{IsTurned}
+use Rattle.world_spec.proofs.Added.{comes-by}
+use Rattle.world_spec.proofs.WaysGone.{add-ways}
+use Rattle.world_tables.specs.Columns.{Columns, is_there, way_in}
 use Rattle.world_spec.specs.StageOf.{stage_of}
 use Rattle.world_spec.specs.Adding.{new_instance, in_family, add}
 use Rattle.world_spec.proofs.AddedKept.{add-kept}
 use Rattle.world_spec.proofs.AddedStage.{add-stage}
 use Rattle.world_tables.specs.Places.{with_family}
 use Rattle.perf_world.specs.Parts.{newcomer, MayAdd, joined_events, joined_contexts}
-use Rattle.perf_world.specs.Seen.{seen}
+use Rattle.perf_world.specs.Seen.{seen, IsWorld}
+use Rattle.perf_world.proofs.TurnedGone.{joined-there, joined-ways}
+use Rattle.perf_world.proofs.Turning.{stored-after, settled-turned, leader-live, not-only}
 use Rattle.perf_world.proofs.Added.{added, added-kept, may-come}
 use Rattle.perf_world.proofs.Counted.{room-for-copy, room-for-original}
 use Rattle.perf_world.proofs.Kept.{kept-now, kept-after}
@@ -20,36 +26,82 @@ pub join-key-requires-clause-events : goal.join-key-requires-clause-events
 join-key-requires-clause-events c =
     let h : MayAdd (seen c.self.inside.pmus c.self.inside.events c.self.inside.contexts c.self.inside.families c.self.inside.processors c.self.inside.tasks c.self.inside.used c.self.inside.mapped c.self.inside.next_id) (newcomer c.args.event c.args.attr.now c.args.leader c.args.origin c.args.context) = subst (λ w. MayAdd w (newcomer c.args.event c.args.attr.now c.args.leader c.args.origin c.args.context)) (sym c.self.view_is) c.requires.may in
     elim (cases_Bool (is_some c.args.origin)) [
-      | inl copy ↦ room-for-copy c.self.inside.pmus (seen c.self.inside.pmus c.self.inside.events c.self.inside.contexts c.self.inside.families c.self.inside.processors c.self.inside.tasks c.self.inside.used c.self.inside.mapped c.self.inside.next_id) c.self.invariant (h.original.few copy)
-      | inr first ↦ room-for-original c.self.inside.pmus (seen c.self.inside.pmus c.self.inside.events c.self.inside.contexts c.self.inside.families c.self.inside.processors c.self.inside.tasks c.self.inside.used c.self.inside.mapped c.self.inside.next_id) c.self.invariant c.args.event h.slot (h.original.unused first)
+      | inl copy ↦ room-for-copy c.self.inside.pmus (seen c.self.inside.pmus c.self.inside.events c.self.inside.contexts c.self.inside.families c.self.inside.processors c.self.inside.tasks c.self.inside.used c.self.inside.mapped c.self.inside.next_id) c.self.invariant.kept (h.original.few copy)
+      | inr first ↦ room-for-original c.self.inside.pmus (seen c.self.inside.pmus c.self.inside.events c.self.inside.contexts c.self.inside.families c.self.inside.processors c.self.inside.tasks c.self.inside.used c.self.inside.mapped c.self.inside.next_id) c.self.invariant.kept c.args.event h.slot (h.original.unused first)
     ]
 
 pub join-key-requires-clause-new : goal.join-key-requires-clause-new
-join-key-requires-clause-new c k dead = unlisted c.self.inside.pmus (seen c.self.inside.pmus c.self.inside.events c.self.inside.contexts c.self.inside.families c.self.inside.processors c.self.inside.tasks c.self.inside.used c.self.inside.mapped c.self.inside.next_id) c.self.invariant (is_pinned c.new_instance-instance.result.attr) (place_of c.args.context) k dead
+join-key-requires-clause-new c k dead = unlisted c.self.inside.pmus (seen c.self.inside.pmus c.self.inside.events c.self.inside.contexts c.self.inside.families c.self.inside.processors c.self.inside.tasks c.self.inside.used c.self.inside.mapped c.self.inside.next_id) c.self.invariant.kept (is_pinned c.new_instance-instance.result.attr) (place_of c.args.context) k dead
 
 pub join-key-requires-clause-room : goal.join-key-requires-clause-room
 join-key-requires-clause-room c =
     let h : MayAdd (seen c.self.inside.pmus c.self.inside.events c.self.inside.contexts c.self.inside.families c.self.inside.processors c.self.inside.tasks c.self.inside.used c.self.inside.mapped c.self.inside.next_id) (newcomer c.args.event c.args.attr.now c.args.leader c.args.origin c.args.context) = subst (λ w. MayAdd w (newcomer c.args.event c.args.attr.now c.args.leader c.args.origin c.args.context)) (sym c.self.view_is) c.requires.may in
-    list-room c.self.inside.pmus (seen c.self.inside.pmus c.self.inside.events c.self.inside.contexts c.self.inside.families c.self.inside.processors c.self.inside.tasks c.self.inside.used c.self.inside.mapped c.self.inside.next_id) c.self.invariant (is_pinned c.new_instance-instance.result.attr) (place_of c.args.context) c.args.event.0 h.slot h.first_there
+    list-room c.self.inside.pmus (seen c.self.inside.pmus c.self.inside.events c.self.inside.contexts c.self.inside.families c.self.inside.processors c.self.inside.tasks c.self.inside.used c.self.inside.mapped c.self.inside.next_id) c.self.invariant.kept (is_pinned c.new_instance-instance.result.attr) (place_of c.args.context) c.args.event.0 h.slot h.first_there
 
 pub enter_family-requires-clause-copies : goal.enter_family-requires-clause-copies
 enter_family-requires-clause-copies c copy =
     let h : MayAdd (seen c.self.inside.pmus c.self.inside.events c.self.inside.contexts c.self.inside.families c.self.inside.processors c.self.inside.tasks c.self.inside.used c.self.inside.mapped c.self.inside.next_id) (newcomer c.args.event c.args.attr.now c.args.leader c.args.origin c.args.context) = subst (λ w. MayAdd w (newcomer c.args.event c.args.attr.now c.args.leader c.args.origin c.args.context)) (sym c.self.view_is) c.requires.may in
-    copies-room c.self.inside.pmus (seen c.self.inside.pmus c.self.inside.events c.self.inside.contexts c.self.inside.families c.self.inside.processors c.self.inside.tasks c.self.inside.used c.self.inside.mapped c.self.inside.next_id) c.self.invariant c.args.event.0 (place_of c.args.context) h.place h.first_there
+    copies-room c.self.inside.pmus (seen c.self.inside.pmus c.self.inside.events c.self.inside.contexts c.self.inside.families c.self.inside.processors c.self.inside.tasks c.self.inside.used c.self.inside.mapped c.self.inside.next_id) c.self.invariant.kept c.args.event.0 (place_of c.args.context) h.place h.first_there
+
+pub settle-requires-clause-cpus : goal.settle-requires-clause-cpus
+settle-requires-clause-cpus c = c.cpus-cpus.ensures.number ∙ sym c.self.invariant.kept.shape.running
+
+pub settle-requires-clause-once : goal.settle-requires-clause-once
+settle-requires-clause-once c = c.self.invariant.kept.running.once
+
+pub settle-requires-clause-there : goal.settle-requires-clause-there
+settle-requires-clause-there c =
+    ap (λ (t : Columns). is_there t c.join-key.result) c.join-key.ensures.events ∙ joined-there c.join-key.result c.new_instance-instance.result c.args.context c.args.leader c.self.inside.events
+
+pub settle-requires-clause-leader : goal.settle-requires-clause-leader
+settle-requires-clause-leader c =
+    let fresh : is_live c.args.self.now c.join-key.result ≡ false = sym (ap (λ w. is_live w c.join-key.result) c.self.view_is) ∙ c.join-key.ensures.fresh in
+    let after : World = (add c.join-key.result (newcomer c.args.event c.args.attr.now c.args.leader c.args.origin c.args.context) c.args.self.now) in
+    let is : seen c.self.inside.pmus c.join-key.new.events c.join-key.new.contexts c.enter_family.new.families c.self.inside.processors c.self.inside.tasks c.enter_family.new.used c.self.inside.mapped (c.self.inside.next_id + 1) ≡ after = ((λ i. seen c.self.inside.pmus ((c.join-key.ensures.events ∙ ap (λ x. joined_events c.join-key.result x c.args.context c.args.leader c.self.inside.events) (c.new_instance-instance.ensures ∙ ap (λ copy. record (new_instance (seen c.self.inside.pmus c.self.inside.events c.self.inside.contexts c.self.inside.families c.self.inside.processors c.self.inside.tasks c.self.inside.used c.self.inside.mapped c.self.inside.next_id) (newcomer c.args.event c.args.attr.now c.args.leader c.args.origin c.args.context)) { copy = copy }) c.is_some-copy.ensures)) i) ((c.join-key.ensures.contexts ∙ ap (λ x. joined_contexts c.join-key.result x c.args.context c.args.leader c.self.inside.contexts) (c.new_instance-instance.ensures ∙ ap (λ copy. record (new_instance (seen c.self.inside.pmus c.self.inside.events c.self.inside.contexts c.self.inside.families c.self.inside.processors c.self.inside.tasks c.self.inside.used c.self.inside.mapped c.self.inside.next_id) (newcomer c.args.event c.args.attr.now c.args.leader c.args.origin c.args.context)) { copy = copy }) c.is_some-copy.ensures)) i) ((c.enter_family.ensures.families ∙ ap (λ b. with_family c.args.event.0 (in_family b c.join-key.result) c.self.inside.families) c.is_some-copy.ensures) i) c.self.inside.processors c.self.inside.tasks ((c.enter_family.ensures.used ∙ ap (λ b. if b then c.self.inside.used else c.self.inside.used ++ c.args.event ∷ []) c.is_some-copy.ensures) i) c.self.inside.mapped (c.self.inside.next_id + 1))
+    ∙ (added c.self.inside.pmus c.self.inside.events c.self.inside.contexts c.self.inside.families c.self.inside.processors c.self.inside.tasks c.self.inside.used c.self.inside.mapped c.self.inside.next_id c.join-key.result c.args.event c.args.attr.now c.args.leader c.args.origin c.args.context
+    ∙ ap (add c.join-key.result (newcomer c.args.event c.args.attr.now c.args.leader c.args.origin c.args.context)) c.self.view_is)) in
+    let kept : IsWorld after = (added-kept c.join-key.result c.args.event c.args.attr.now c.args.leader c.args.origin c.args.context c.args.self.now
+    (add-kept c.args.self.now.hardware c.args.self.now c.join-key.result (newcomer c.args.event c.args.attr.now c.args.leader c.args.origin c.args.context) (may-come c.args.self.now (newcomer c.args.event c.args.attr.now c.args.leader c.args.origin c.args.context) c.join-key.result c.requires.may fresh) c.requires.may.original c.requires.may.group (kept-now (seen c.self.inside.pmus c.self.inside.events c.self.inside.contexts c.self.inside.families c.self.inside.processors c.self.inside.tasks c.self.inside.used c.self.inside.mapped c.self.inside.next_id) c.args.self.now c.self.view_is c.self.invariant.kept))) in
+    let live : is_live after c.join-key.result ≡ true =
+    ap (λ (w : World). is_live w c.join-key.result) (sym is)
+    ∙ (ap (λ (t : Columns). is_there t c.join-key.result) c.join-key.ensures.events ∙ joined-there c.join-key.result c.new_instance-instance.result c.args.context c.args.leader c.self.inside.events) in
+    ap (λ (w : World). is_live w (entry_at w c.join-key.result).leader) is ∙ leader-live after.hardware after c.join-key.result kept live
 
 pub invariant_of-self : goal.invariant_of-self
 invariant_of-self c =
     let fresh : is_live c.args.self.now c.join-key.result ≡ false = sym (ap (λ w. is_live w c.join-key.result) c.self.view_is) ∙ c.join-key.ensures.fresh in
-    kept-after _ (add c.join-key.result (newcomer c.args.event c.args.attr.now c.args.leader c.args.origin c.args.context) c.args.self.now) ((λ i. seen c.self.inside.pmus ((c.join-key.ensures.events ∙ ap (λ x. joined_events c.join-key.result x c.args.context c.args.leader c.self.inside.events) (c.new_instance-instance.ensures ∙ ap (λ copy. record (new_instance (seen c.self.inside.pmus c.self.inside.events c.self.inside.contexts c.self.inside.families c.self.inside.processors c.self.inside.tasks c.self.inside.used c.self.inside.mapped c.self.inside.next_id) (newcomer c.args.event c.args.attr.now c.args.leader c.args.origin c.args.context)) { copy = copy }) c.is_some-copy.ensures)) i) ((c.join-key.ensures.contexts ∙ ap (λ x. joined_contexts c.join-key.result x c.args.context c.args.leader c.self.inside.contexts) (c.new_instance-instance.ensures ∙ ap (λ copy. record (new_instance (seen c.self.inside.pmus c.self.inside.events c.self.inside.contexts c.self.inside.families c.self.inside.processors c.self.inside.tasks c.self.inside.used c.self.inside.mapped c.self.inside.next_id) (newcomer c.args.event c.args.attr.now c.args.leader c.args.origin c.args.context)) { copy = copy }) c.is_some-copy.ensures)) i) ((c.enter_family.ensures.families ∙ ap (λ b. with_family c.args.event.0 (in_family b c.join-key.result) c.self.inside.families) c.is_some-copy.ensures) i) c.self.inside.processors c.self.inside.tasks ((c.enter_family.ensures.used ∙ ap (λ b. if b then c.self.inside.used else c.self.inside.used ++ c.args.event ∷ []) c.is_some-copy.ensures) i) c.self.inside.mapped (c.self.inside.next_id + 1))
+    let now : World = c.args.self.now in
+    let after : World = (add c.join-key.result (newcomer c.args.event c.args.attr.now c.args.leader c.args.origin c.args.context) c.args.self.now) in
+    let is : seen c.self.inside.pmus c.join-key.new.events c.join-key.new.contexts c.enter_family.new.families c.self.inside.processors c.self.inside.tasks c.enter_family.new.used c.self.inside.mapped (c.self.inside.next_id + 1) ≡ after = ((λ i. seen c.self.inside.pmus ((c.join-key.ensures.events ∙ ap (λ x. joined_events c.join-key.result x c.args.context c.args.leader c.self.inside.events) (c.new_instance-instance.ensures ∙ ap (λ copy. record (new_instance (seen c.self.inside.pmus c.self.inside.events c.self.inside.contexts c.self.inside.families c.self.inside.processors c.self.inside.tasks c.self.inside.used c.self.inside.mapped c.self.inside.next_id) (newcomer c.args.event c.args.attr.now c.args.leader c.args.origin c.args.context)) { copy = copy }) c.is_some-copy.ensures)) i) ((c.join-key.ensures.contexts ∙ ap (λ x. joined_contexts c.join-key.result x c.args.context c.args.leader c.self.inside.contexts) (c.new_instance-instance.ensures ∙ ap (λ copy. record (new_instance (seen c.self.inside.pmus c.self.inside.events c.self.inside.contexts c.self.inside.families c.self.inside.processors c.self.inside.tasks c.self.inside.used c.self.inside.mapped c.self.inside.next_id) (newcomer c.args.event c.args.attr.now c.args.leader c.args.origin c.args.context)) { copy = copy }) c.is_some-copy.ensures)) i) ((c.enter_family.ensures.families ∙ ap (λ b. with_family c.args.event.0 (in_family b c.join-key.result) c.self.inside.families) c.is_some-copy.ensures) i) c.self.inside.processors c.self.inside.tasks ((c.enter_family.ensures.used ∙ ap (λ b. if b then c.self.inside.used else c.self.inside.used ++ c.args.event ∷ []) c.is_some-copy.ensures) i) c.self.inside.mapped (c.self.inside.next_id + 1))
+    ∙ (added c.self.inside.pmus c.self.inside.events c.self.inside.contexts c.self.inside.families c.self.inside.processors c.self.inside.tasks c.self.inside.used c.self.inside.mapped c.self.inside.next_id c.join-key.result c.args.event c.args.attr.now c.args.leader c.args.origin c.args.context
+    ∙ ap (add c.join-key.result (newcomer c.args.event c.args.attr.now c.args.leader c.args.origin c.args.context)) c.self.view_is)) in
+    let kept : IsWorld after = (added-kept c.join-key.result c.args.event c.args.attr.now c.args.leader c.args.origin c.args.context c.args.self.now
+    (add-kept c.args.self.now.hardware c.args.self.now c.join-key.result (newcomer c.args.event c.args.attr.now c.args.leader c.args.origin c.args.context) (may-come c.args.self.now (newcomer c.args.event c.args.attr.now c.args.leader c.args.origin c.args.context) c.join-key.result c.requires.may fresh) c.requires.may.original c.requires.may.group (kept-now (seen c.self.inside.pmus c.self.inside.events c.self.inside.contexts c.self.inside.families c.self.inside.processors c.self.inside.tasks c.self.inside.used c.self.inside.mapped c.self.inside.next_id) c.args.self.now c.self.view_is c.self.invariant.kept))) in
+    stored-after c.settle.new.events _ after (ap (λ t. seen c.self.inside.pmus t c.join-key.new.contexts c.enter_family.new.families c.self.inside.processors c.self.inside.tasks c.enter_family.new.used c.self.inside.mapped (c.self.inside.next_id + 1)) c.settle.ensures.same ∙ is) kept
+    (settled-turned c.self.inside.processors (c.join-key.result ∷ []) c.self.inside.events c.join-key.new.events c.settle.new.events (seen c.self.inside.pmus c.self.inside.events c.self.inside.contexts c.self.inside.families c.self.inside.processors c.self.inside.tasks c.self.inside.used c.self.inside.mapped c.self.inside.next_id) now after c.self.view_is c.self.invariant.turned c.settle.ensures
+    (λ u k h. subst (λ (w : World). IsTurned w u k) is (record { ready = h.ready; on = h.on }))
+    (λ k live none.
+    let apart : k.0 ≡ c.join-key.result.0 → ⊥ = not-only c.join-key.result k none in
+    let was : is_live now k ≡ true = sym (ap (λ x. x.live) ((comes-by now c.join-key.result (newcomer c.args.event c.args.attr.now c.args.leader c.args.origin c.args.context) fresh c.args.leader c.requires.may.group).others k apart)) ∙ live in
+    record {
+      live = was;
+      keeps = add-ways now.hardware now c.join-key.result (newcomer c.args.event c.args.attr.now c.args.leader c.args.origin c.args.context) k (kept-now (seen c.self.inside.pmus c.self.inside.events c.self.inside.contexts c.self.inside.families c.self.inside.processors c.self.inside.tasks c.self.inside.used c.self.inside.mapped c.self.inside.next_id) c.args.self.now c.self.view_is c.self.invariant.kept) (may-come now (newcomer c.args.event c.args.attr.now c.args.leader c.args.origin c.args.context) c.join-key.result c.requires.may fresh) c.requires.may.group was;
+      same = ap (λ t. way_in t k) c.join-key.ensures.events ∙ joined-ways c.join-key.result c.new_instance-instance.result c.args.context c.args.leader c.self.inside.events k apart;
+    }))
+
+pub returns-clause-fresh : goal.returns-clause-fresh
+returns-clause-fresh c = sym (ap (λ w. is_live w c.join-key.result) c.self.view_is) ∙ c.join-key.ensures.fresh
+
+pub returns-clause-world : goal.returns-clause-world
+returns-clause-world c =
+    ap (λ t. seen c.self.inside.pmus t c.join-key.new.contexts c.enter_family.new.families c.self.inside.processors c.self.inside.tasks c.enter_family.new.used c.self.inside.mapped (c.self.inside.next_id + 1)) c.settle.ensures.same ∙ ((λ i. seen c.self.inside.pmus ((c.join-key.ensures.events ∙ ap (λ x. joined_events c.join-key.result x c.args.context c.args.leader c.self.inside.events) (c.new_instance-instance.ensures ∙ ap (λ copy. record (new_instance (seen c.self.inside.pmus c.self.inside.events c.self.inside.contexts c.self.inside.families c.self.inside.processors c.self.inside.tasks c.self.inside.used c.self.inside.mapped c.self.inside.next_id) (newcomer c.args.event c.args.attr.now c.args.leader c.args.origin c.args.context)) { copy = copy }) c.is_some-copy.ensures)) i) ((c.join-key.ensures.contexts ∙ ap (λ x. joined_contexts c.join-key.result x c.args.context c.args.leader c.self.inside.contexts) (c.new_instance-instance.ensures ∙ ap (λ copy. record (new_instance (seen c.self.inside.pmus c.self.inside.events c.self.inside.contexts c.self.inside.families c.self.inside.processors c.self.inside.tasks c.self.inside.used c.self.inside.mapped c.self.inside.next_id) (newcomer c.args.event c.args.attr.now c.args.leader c.args.origin c.args.context)) { copy = copy }) c.is_some-copy.ensures)) i) ((c.enter_family.ensures.families ∙ ap (λ b. with_family c.args.event.0 (in_family b c.join-key.result) c.self.inside.families) c.is_some-copy.ensures) i) c.self.inside.processors c.self.inside.tasks ((c.enter_family.ensures.used ∙ ap (λ b. if b then c.self.inside.used else c.self.inside.used ++ c.args.event ∷ []) c.is_some-copy.ensures) i) c.self.inside.mapped (c.self.inside.next_id + 1))
     ∙ (added c.self.inside.pmus c.self.inside.events c.self.inside.contexts c.self.inside.families c.self.inside.processors c.self.inside.tasks c.self.inside.used c.self.inside.mapped c.self.inside.next_id c.join-key.result c.args.event c.args.attr.now c.args.leader c.args.origin c.args.context
     ∙ ap (add c.join-key.result (newcomer c.args.event c.args.attr.now c.args.leader c.args.origin c.args.context)) c.self.view_is))
-    (added-kept c.join-key.result c.args.event c.args.attr.now c.args.leader c.args.origin c.args.context c.args.self.now
-    (add-kept c.args.self.now.hardware c.args.self.now c.join-key.result (newcomer c.args.event c.args.attr.now c.args.leader c.args.origin c.args.context) (may-come c.args.self.now (newcomer c.args.event c.args.attr.now c.args.leader c.args.origin c.args.context) c.join-key.result c.requires.may fresh) c.requires.may.original c.requires.may.group (kept-now (seen c.self.inside.pmus c.self.inside.events c.self.inside.contexts c.self.inside.families c.self.inside.processors c.self.inside.tasks c.self.inside.used c.self.inside.mapped c.self.inside.next_id) c.args.self.now c.self.view_is c.self.invariant)))
 
 pub returns-clause-stage : goal.returns-clause-stage
 returns-clause-stage c =
     let fresh : is_live c.args.self.now c.join-key.result ≡ false = sym (ap (λ w. is_live w c.join-key.result) c.self.view_is) ∙ c.join-key.ensures.fresh in
-    ap stage_of ((λ i. seen c.self.inside.pmus ((c.join-key.ensures.events ∙ ap (λ x. joined_events c.join-key.result x c.args.context c.args.leader c.self.inside.events) (c.new_instance-instance.ensures ∙ ap (λ copy. record (new_instance (seen c.self.inside.pmus c.self.inside.events c.self.inside.contexts c.self.inside.families c.self.inside.processors c.self.inside.tasks c.self.inside.used c.self.inside.mapped c.self.inside.next_id) (newcomer c.args.event c.args.attr.now c.args.leader c.args.origin c.args.context)) { copy = copy }) c.is_some-copy.ensures)) i) ((c.join-key.ensures.contexts ∙ ap (λ x. joined_contexts c.join-key.result x c.args.context c.args.leader c.self.inside.contexts) (c.new_instance-instance.ensures ∙ ap (λ copy. record (new_instance (seen c.self.inside.pmus c.self.inside.events c.self.inside.contexts c.self.inside.families c.self.inside.processors c.self.inside.tasks c.self.inside.used c.self.inside.mapped c.self.inside.next_id) (newcomer c.args.event c.args.attr.now c.args.leader c.args.origin c.args.context)) { copy = copy }) c.is_some-copy.ensures)) i) ((c.enter_family.ensures.families ∙ ap (λ b. with_family c.args.event.0 (in_family b c.join-key.result) c.self.inside.families) c.is_some-copy.ensures) i) c.self.inside.processors c.self.inside.tasks ((c.enter_family.ensures.used ∙ ap (λ b. if b then c.self.inside.used else c.self.inside.used ++ c.args.event ∷ []) c.is_some-copy.ensures) i) c.self.inside.mapped (c.self.inside.next_id + 1))
+    ap stage_of (ap (λ t. seen c.self.inside.pmus t c.join-key.new.contexts c.enter_family.new.families c.self.inside.processors c.self.inside.tasks c.enter_family.new.used c.self.inside.mapped (c.self.inside.next_id + 1)) c.settle.ensures.same ∙ ((λ i. seen c.self.inside.pmus ((c.join-key.ensures.events ∙ ap (λ x. joined_events c.join-key.result x c.args.context c.args.leader c.self.inside.events) (c.new_instance-instance.ensures ∙ ap (λ copy. record (new_instance (seen c.self.inside.pmus c.self.inside.events c.self.inside.contexts c.self.inside.families c.self.inside.processors c.self.inside.tasks c.self.inside.used c.self.inside.mapped c.self.inside.next_id) (newcomer c.args.event c.args.attr.now c.args.leader c.args.origin c.args.context)) { copy = copy }) c.is_some-copy.ensures)) i) ((c.join-key.ensures.contexts ∙ ap (λ x. joined_contexts c.join-key.result x c.args.context c.args.leader c.self.inside.contexts) (c.new_instance-instance.ensures ∙ ap (λ copy. record (new_instance (seen c.self.inside.pmus c.self.inside.events c.self.inside.contexts c.self.inside.families c.self.inside.processors c.self.inside.tasks c.self.inside.used c.self.inside.mapped c.self.inside.next_id) (newcomer c.args.event c.args.attr.now c.args.leader c.args.origin c.args.context)) { copy = copy }) c.is_some-copy.ensures)) i) ((c.enter_family.ensures.families ∙ ap (λ b. with_family c.args.event.0 (in_family b c.join-key.result) c.self.inside.families) c.is_some-copy.ensures) i) c.self.inside.processors c.self.inside.tasks ((c.enter_family.ensures.used ∙ ap (λ b. if b then c.self.inside.used else c.self.inside.used ++ c.args.event ∷ []) c.is_some-copy.ensures) i) c.self.inside.mapped (c.self.inside.next_id + 1))
     ∙ (added c.self.inside.pmus c.self.inside.events c.self.inside.contexts c.self.inside.families c.self.inside.processors c.self.inside.tasks c.self.inside.used c.self.inside.mapped c.self.inside.next_id c.join-key.result c.args.event c.args.attr.now c.args.leader c.args.origin c.args.context
-    ∙ ap (add c.join-key.result (newcomer c.args.event c.args.attr.now c.args.leader c.args.origin c.args.context)) c.self.view_is))
-    ∙ add-stage c.args.self.now.hardware c.args.self.now c.join-key.result (newcomer c.args.event c.args.attr.now c.args.leader c.args.origin c.args.context) (kept-now (seen c.self.inside.pmus c.self.inside.events c.self.inside.contexts c.self.inside.families c.self.inside.processors c.self.inside.tasks c.self.inside.used c.self.inside.mapped c.self.inside.next_id) c.args.self.now c.self.view_is c.self.invariant) (may-come c.args.self.now (newcomer c.args.event c.args.attr.now c.args.leader c.args.origin c.args.context) c.join-key.result c.requires.may fresh) c.requires.may.group
+    ∙ ap (add c.join-key.result (newcomer c.args.event c.args.attr.now c.args.leader c.args.origin c.args.context)) c.self.view_is)))
+    ∙ add-stage c.args.self.now.hardware c.args.self.now c.join-key.result (newcomer c.args.event c.args.attr.now c.args.leader c.args.origin c.args.context) (kept-now (seen c.self.inside.pmus c.self.inside.events c.self.inside.contexts c.self.inside.families c.self.inside.processors c.self.inside.tasks c.self.inside.used c.self.inside.mapped c.self.inside.next_id) c.args.self.now c.self.view_is c.self.invariant.kept) (may-come c.args.self.now (newcomer c.args.event c.args.attr.now c.args.leader c.args.origin c.args.context) c.join-key.result c.requires.may fresh) c.requires.may.group

@@ -3,10 +3,16 @@ use Rattle.world_spec.specs.Changes as change
 use Rattle.world_spec.proofs.Keeping.{lost-kept}
 use Rattle.perf_world.specs.Seen.{seen}
 use Rattle.perf_world.proofs.Kept.{kept-now, kept-after}
+use Rattle.perf_world.proofs.Turning.{stored-after, stay-turned}
+use Rattle.world_spec.proofs.Ways.{other-ways}
+use Rattle.std.proofs.Common.{refl, sym}
 use Rattle.perf_world.proofs.world.World.add_lost.Goals as goal
 
 pub invariant_of-self : goal.invariant_of-self
 invariant_of-self c =
-    kept-after _ (change.add_lost c.args.key c.args.self.now)
-    (ap (λ t. seen c.self.inside.pmus c.self.inside.events c.self.inside.contexts t c.self.inside.processors c.self.inside.tasks c.self.inside.used c.self.inside.mapped c.self.inside.next_id) c.add_lost.ensures ∙ (ap (λ x. seen c.self.inside.pmus c.self.inside.events c.self.inside.contexts (record c.self.inside.families { lost = slice_set c.self.inside.families.lost x.event.0 (slice_index_or c.self.inside.families.lost x.event.0 0 + 1) }) c.self.inside.processors c.self.inside.tasks c.self.inside.used c.self.inside.mapped c.self.inside.next_id) c.instance.ensures ∙ ap (change.add_lost c.args.key) c.self.view_is))
-    (lost-kept c.args.self.now.hardware c.args.self.now c.args.key c.requires.fits (kept-now (seen c.self.inside.pmus c.self.inside.events c.self.inside.contexts c.self.inside.families c.self.inside.processors c.self.inside.tasks c.self.inside.used c.self.inside.mapped c.self.inside.next_id) c.args.self.now c.self.view_is c.self.invariant))
+    stored-after c.self.inside.events _ (change.add_lost c.args.key c.args.self.now) (ap (λ t. seen c.self.inside.pmus c.self.inside.events c.self.inside.contexts t c.self.inside.processors c.self.inside.tasks c.self.inside.used c.self.inside.mapped c.self.inside.next_id) c.add_lost.ensures ∙ (ap (λ x. seen c.self.inside.pmus c.self.inside.events c.self.inside.contexts (record c.self.inside.families { lost = slice_set c.self.inside.families.lost x.event.0 (slice_index_or c.self.inside.families.lost x.event.0 0 + 1) }) c.self.inside.processors c.self.inside.tasks c.self.inside.used c.self.inside.mapped c.self.inside.next_id) c.instance.ensures ∙ ap (change.add_lost c.args.key) c.self.view_is))
+    (lost-kept c.args.self.now.hardware c.args.self.now c.args.key c.requires.fits (kept-now (seen c.self.inside.pmus c.self.inside.events c.self.inside.contexts c.self.inside.families c.self.inside.processors c.self.inside.tasks c.self.inside.used c.self.inside.mapped c.self.inside.next_id) c.args.self.now c.self.view_is c.self.invariant.kept))
+    (stay-turned c.self.inside.events c.self.inside.events (seen c.self.inside.pmus c.self.inside.events c.self.inside.contexts c.self.inside.families c.self.inside.processors c.self.inside.tasks c.self.inside.used c.self.inside.mapped c.self.inside.next_id) c.args.self.now (change.add_lost c.args.key c.args.self.now) c.self.view_is c.self.invariant.turned
+    (λ k live. refl)
+    (λ k live. live)
+    (λ k live. other-ways c.args.self.now (change.add_lost c.args.key c.args.self.now) k refl refl refl))

@@ -15,7 +15,7 @@ use Rattle.perf_world.proofs.world.World.eligible.Goals as goal
 pub are_counted_on-requires-clause-there : goal.are_counted_on-requires-clause-there
 are_counted_on-requires-clause-there c i d low =
     let k : Key = slice_index_or c.members.result.now i d in
-    member-live c.self.inside.pmus (seen c.self.inside.pmus c.self.inside.events c.self.inside.contexts c.self.inside.families c.self.inside.processors c.self.inside.tasks c.self.inside.used c.self.inside.mapped c.self.inside.next_id) c.self.invariant c.args.leader k (subst (λ (keys : List Key). 1 ≤ times k keys) c.members.ensures (times-at c.members.result.now i d low))
+    member-live c.self.inside.pmus (seen c.self.inside.pmus c.self.inside.events c.self.inside.contexts c.self.inside.families c.self.inside.processors c.self.inside.tasks c.self.inside.used c.self.inside.mapped c.self.inside.next_id) c.self.invariant.kept c.args.leader k (subst (λ (keys : List Key). 1 ≤ times k keys) c.members.ensures (times-at c.members.result.now i d low))
 
 pub returns : goal.returns
 returns c =
@@ -25,5 +25,5 @@ returns c =
     ap (λ i. may_count_on c.args.cpu i.attr.cpu) (sym c.instance-instance.ensures) ∙ (sym c.may_count_on.ensures ∙ c.if-not-may_count_on.false) in
     c.are_counted_on.ensures
     ∙ (ap (list_all (λ k. is_counted_on c.self.inside.pmus c.args.cpu (instance_at (seen c.self.inside.pmus c.self.inside.events c.self.inside.contexts c.self.inside.families c.self.inside.processors c.self.inside.tasks c.self.inside.used c.self.inside.mapped c.self.inside.next_id) k).attr.kind)) c.members.ensures
-    ∙ (sym (eligible-by c.self.inside.pmus c.args.cpu (seen c.self.inside.pmus c.self.inside.events c.self.inside.contexts c.self.inside.families c.self.inside.processors c.self.inside.tasks c.self.inside.used c.self.inside.mapped c.self.inside.next_id) c.self.invariant c.args.leader lead ready place)
+    ∙ (sym (eligible-by c.self.inside.pmus c.args.cpu (seen c.self.inside.pmus c.self.inside.events c.self.inside.contexts c.self.inside.families c.self.inside.processors c.self.inside.tasks c.self.inside.used c.self.inside.mapped c.self.inside.next_id) c.self.invariant.kept c.args.leader lead ready place)
     ∙ ap (λ (w : World). is_eligible w.hardware c.args.cpu (group_at w c.args.leader)) c.self.view_is))

@@ -1,18 +1,24 @@
-use Rattle.std.proofs.Common.{◌∙◌, ap, length}
+use Rattle.std.specs.FinMap.{get-empty}
+use Rattle.std.specs.Ordering.{nat_cmp}
+use Rattle.std.specs.Prelude.{is_some}
+use Rattle.std.proofs.Common.{◌∙◌, ap, length, sym}
 use Rattle.world_spec.specs.StageOf.{stage_of}
 use Rattle.world_spec.specs.First.{first_world}
 use Rattle.world_spec.proofs.First.{first-kept, first-stage}
 use Rattle.perf_world.specs.Seen.{seen}
-use Rattle.perf_world.proofs.Kept.{kept-after}
+use Rattle.std.proofs.lemmas.Bool.{false≢true}
+use Rattle.world_tables.specs.Columns.{no_columns}
+use Rattle.perf_world.proofs.Turning.{stored-after}
 use Rattle.perf_world.proofs.world.World.new.Goals as goal
 
 pub returns-clause-world : goal.returns-clause-world
-returns-clause-world c = (λ i. seen c.args.pmus (c.in_ok-events.ensures i) (c.in_ok-contexts.ensures i) (c.in_ok-families.ensures i) (c.in_ok-processors.ensures.idle i) (c.first_tasks.ensures (length c.args.pmus.cpu_pmus) i) (c.in_ok-used.ensures i) (c.in_ok-mapped.ensures i) 1)
+returns-clause-world c = (λ i. seen c.args.pmus ((c.in_ok-events.ensures ∙ ap no_columns c.cpus.ensures.number) i) (c.in_ok-contexts.ensures i) (c.in_ok-families.ensures i) (c.in_ok-processors.ensures.idle i) (c.first_tasks.ensures (length c.args.pmus.cpu_pmus) i) (c.in_ok-used.ensures i) (c.in_ok-mapped.ensures i) 1)
 
 pub returns-clause-stage : goal.returns-clause-stage
-returns-clause-stage c = ap stage_of (λ i. seen c.args.pmus (c.in_ok-events.ensures i) (c.in_ok-contexts.ensures i) (c.in_ok-families.ensures i) (c.in_ok-processors.ensures.idle i) (c.first_tasks.ensures (length c.args.pmus.cpu_pmus) i) (c.in_ok-used.ensures i) (c.in_ok-mapped.ensures i) 1) ∙ first-stage c.args.pmus c.args.tasks.now
+returns-clause-stage c = ap stage_of (λ i. seen c.args.pmus ((c.in_ok-events.ensures ∙ ap no_columns c.cpus.ensures.number) i) (c.in_ok-contexts.ensures i) (c.in_ok-families.ensures i) (c.in_ok-processors.ensures.idle i) (c.first_tasks.ensures (length c.args.pmus.cpu_pmus) i) (c.in_ok-used.ensures i) (c.in_ok-mapped.ensures i) 1) ∙ first-stage c.args.pmus c.args.tasks.now
 
 pub invariant_of-result : goal.invariant_of-result
 invariant_of-result c =
-    kept-after _ (first_world c.args.pmus c.args.tasks.now) (λ i. seen c.args.pmus (c.in_ok-events.ensures i) (c.in_ok-contexts.ensures i) (c.in_ok-families.ensures i) (c.in_ok-processors.ensures.idle i) (c.first_tasks.ensures (length c.args.pmus.cpu_pmus) i) (c.in_ok-used.ensures i) (c.in_ok-mapped.ensures i) 1)
+    stored-after _ _ (first_world c.args.pmus c.args.tasks.now) (λ i. seen c.args.pmus ((c.in_ok-events.ensures ∙ ap no_columns c.cpus.ensures.number) i) (c.in_ok-contexts.ensures i) (c.in_ok-families.ensures i) (c.in_ok-processors.ensures.idle i) (c.first_tasks.ensures (length c.args.pmus.cpu_pmus) i) (c.in_ok-used.ensures i) (c.in_ok-mapped.ensures i) 1)
     (first-kept c.args.pmus c.args.tasks.now c.new.ensures.sound)
+    (λ k live. absurd (false≢true (sym (ap is_some (get-empty nat_cmp k.0)) ∙ live)))

@@ -1,17 +1,28 @@
-use Rattle.std.proofs.Common.{arith, ◌≡◌, ◌∙◌, sym, subst, Some}
-use Rattle.slab.specs.Slab.{Updates, slab_len, HasRoomFor}
+use Rattle.std.proofs.Common.{arith, Some}
+use Rattle.slab.specs.Slab.{Updates}
 use Rattle.perf_base.specs.declared.numbers.Key.{Key}
-use Rattle.world_tables.specs.Rows.{Row, fresh_row, leader_entry, sibling_entry}
+use Rattle.world_tables.specs.Rows.{Kept, fresh_kept, sibling_entry, meter_at}
 use Rattle.world_tables.proofs.Written.{no-row, row-comes, len-entries}
+use Rattle.world_tables.proofs.Tallies.{tally-fresh}
+use Rattle.world_tables.proofs.Tables.{table-put}
 use Rattle.world_tables.proofs.event_table.EventTable.insert_sibling.Goals as goal
 
+pub insert_reserved-requires : goal.insert_reserved-requires
+insert_reserved-requires c = omega (arith, c.requires, c.self.invariant.room, len-entries c.self.inside.meters.items c.self.inside.events c.args.self.now c.self.view_is)
+
 pub returns-clause-fresh : goal.returns-clause-fresh
-returns-clause-fresh c = no-row c.self.inside.events c.args.self.now (record { 0 = c.insert_reserved.result }) c.self.view_is c.insert_reserved.ensures.was_vacant
+returns-clause-fresh c = no-row c.self.inside.meters.items c.self.inside.events c.args.self.now (record { 0 = c.insert_reserved.result }) c.self.view_is c.insert_reserved.ensures.was_vacant
 
 pub returns-clause-added : goal.returns-clause-added
 returns-clause-added c =
     let k : Key = record { 0 = c.insert_reserved.result } in
-    row-comes c.self.inside.events c.insert_reserved.new.self c.args.self.now k _ c.self.view_is (rw (← c.new-event.ensures) c.insert_reserved.ensures.updates)
+    let new : Kept = fresh_kept (sibling_entry c.args.instance c.args.context c.args.leader c.args.pinned) in
+    let up : Updates c.self.inside.events c.insert_reserved.new.self k.0 (Some new) = rw (← c.new-event.ensures) c.insert_reserved.ensures.updates in
+    row-comes c.self.inside.meters.items c.self.inside.events c.insert_reserved.new.self c.args.self.now k new c.self.view_is up
 
-pub insert_reserved-requires : goal.insert_reserved-requires
-insert_reserved-requires c = omega (arith, c.requires, c.self.invariant, len-entries c.self.inside.events c.args.self.now c.self.view_is)
+pub invariant_of-self : goal.invariant_of-self
+invariant_of-self c =
+    let k : Key = record { 0 = c.insert_reserved.result } in
+    let new : Kept = fresh_kept (sibling_entry c.args.instance c.args.context c.args.leader c.args.pinned) in
+    let up : Updates c.self.inside.events c.insert_reserved.new.self k.0 (Some new) = rw (← c.new-event.ensures) c.insert_reserved.ensures.updates in
+    table-put c.self.inside.meters.items c.self.inside.idle c.self.inside.events c.insert_reserved.new.self k.0 new c.self.invariant up c.insert_reserved.ensures.capacity (tally-fresh (meter_at c.self.inside.meters.items (record { 0 = 0 })) c.args.instance.attr)

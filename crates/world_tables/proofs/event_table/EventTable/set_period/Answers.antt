@@ -1,22 +1,35 @@
-use Rattle.std.proofs.Common.{◌≡◌, ◌≢◌, ℕ, ◌+◌, ◌<◌, ◌^◌, length, sym, ap, subst, ◌∙◌}
-use Rattle.slab.specs.Slab.{with_value}
-use Rattle.perf_base.specs.declared.numbers.Key.{Key}
-use Rattle.stage_spec.specs.declared.instance.Instance.{Instance}
-use Rattle.world_spec.specs.Value.{Entry, Account}
-use Rattle.world_spec.specs.Changes.{all_but}
-use Rattle.world_tables.specs.Rows.{Row, without_count, after_hit, after_pass, freed_entry}
-use Rattle.world_tables.specs.Columns.{Columns, columns, row_in, entry_in, account_in, put_entry, put_account, put_standing, put_instance}
-use Rattle.world_tables.proofs.Written.{there-row, row-is, written-entry, written-account, written-standing, written-counted, written-stood}
+use Rattle.std.proofs.Common.{◌≡◌, ◌≢◌, refl, subst}
+use Rattle.world_tables.specs.Rows.{row_by, meter_at}
+use Rattle.world_tables.specs.Columns.{row_in}
+use Rattle.world_tables.proofs.Written.{there-row, row-is, written-counted}
+use Rattle.world_tables.proofs.Tallies.{sums-period, tally-period}
+use Rattle.world_tables.proofs.Tables.{tally-at, table-wrote}
 use Rattle.world_tables.proofs.event_table.EventTable.set_period.Goals as goal
 
 pub index_mut-requires : goal.index_mut-requires
-index_mut-requires c = there-row c.self.inside.events c.args.self.now c.args.key c.self.view_is c.requires.there
-
-pub returns : goal.returns
-returns c =
-    rw c.set_period.ensures (written-counted c.self.inside.events c.args.self.now c.args.key c.index_mut.result.now c.self.view_is c.index_mut.ensures.value (λ e. record e { instance = record e.instance { attr = record e.instance.attr { period = c.args.period } } }) (λ a. record a { left = c.args.period }))
+index_mut-requires c = there-row c.self.inside.meters.items c.self.inside.events c.args.self.now c.args.key c.self.view_is c.requires.there
 
 pub set_period-requires-clause-samples : goal.set_period-requires-clause-samples
 set_period-requires-clause-samples c =
-    let here : row_in c.args.self.now c.args.key ≡ c.index_mut.result.now = row-is c.self.inside.events c.args.self.now c.args.key c.index_mut.result.now c.self.view_is c.index_mut.ensures.value in
+    let here : row_in c.args.self.now c.args.key ≡ row_by (meter_at c.self.inside.meters.items c.index_mut.result.now.tally.cpu) c.index_mut.result.now = row-is c.self.inside.meters.items c.self.inside.events c.args.self.now c.args.key c.index_mut.result.now c.self.view_is c.index_mut.ensures.value in
     subst (λ r. r.entry.instance.attr.period ≢ 0) here c.requires.samples
+
+pub returns : goal.returns
+returns c =
+    let here : row_in c.args.self.now c.args.key ≡ row_by (meter_at c.self.inside.meters.items c.index_mut.result.now.tally.cpu) c.index_mut.result.now = row-is c.self.inside.meters.items c.self.inside.events c.args.self.now c.args.key c.index_mut.result.now c.self.view_is c.index_mut.ensures.value in
+    let samples : c.index_mut.result.now.entry.instance.attr.period ≢ 0 = subst (λ r. r.entry.instance.attr.period ≢ 0) here c.requires.samples in
+    rw c.set_period.ensures (written-counted c.self.inside.meters.items c.self.inside.events c.args.self.now c.args.key c.index_mut.result.now c.self.view_is c.index_mut.ensures.value
+    (λ e. record e { instance = record e.instance { attr = record e.instance.attr { period = c.args.period } } })
+    (record c.index_mut.result.now.tally { counts = record c.index_mut.result.now.tally.counts { period = c.args.period; left = c.args.period } })
+    (λ a. record a { left = c.args.period }) refl
+    (λ i. record {
+      sums = sums-period (meter_at c.self.inside.meters.items c.index_mut.result.now.tally.cpu) c.index_mut.result.now.entry.instance.attr c.index_mut.result.now.tally c.args.period (tally-at c.self.inside.meters.items c.self.inside.idle c.self.inside.events c.args.key.0 c.index_mut.result.now c.self.invariant c.index_mut.ensures.value) samples c.requires.still_samples i;
+      left = c.args.period;
+    }))
+
+pub invariant_of-self : goal.invariant_of-self
+invariant_of-self c =
+    let here : row_in c.args.self.now c.args.key ≡ row_by (meter_at c.self.inside.meters.items c.index_mut.result.now.tally.cpu) c.index_mut.result.now = row-is c.self.inside.meters.items c.self.inside.events c.args.self.now c.args.key c.index_mut.result.now c.self.view_is c.index_mut.ensures.value in
+    let samples : c.index_mut.result.now.entry.instance.attr.period ≢ 0 = subst (λ r. r.entry.instance.attr.period ≢ 0) here c.requires.samples in
+    table-wrote c.self.inside.meters.items c.self.inside.idle c.self.inside.events c.args.key.0 c.index_mut.result.now _ _ c.set_period.ensures c.self.invariant c.index_mut.ensures.value
+    (tally-period (meter_at c.self.inside.meters.items c.index_mut.result.now.tally.cpu) c.index_mut.result.now.entry.instance.attr c.index_mut.result.now.tally c.args.period (tally-at c.self.inside.meters.items c.self.inside.idle c.self.inside.events c.args.key.0 c.index_mut.result.now c.self.invariant c.index_mut.ensures.value) samples c.requires.still_samples)

@@ -4,4 +4,4 @@ use Rattle.world_tables.proofs.processors.Processors.new.Given as goal
 
 abbrev pub invariant-loop-cpu : goal.invariant-loop-cpu
 invariant-loop-cpu l =
-    l.rows.items ≡ map (λ pmu. record { running = None; clock = 0; seats = empty_seating (slice_index l.pmus.counters pmu) }) (take l.cpu l.pmus.cpu_pmus)
+    l.rows.items ≡ map (λ pmu. record { running = None; seats = empty_seating (slice_index l.pmus.counters pmu) }) (take l.cpu l.pmus.cpu_pmus)

@@ -1,0 +1,383 @@
+-- Accounts that are turned, and those whose ways stay.
+use Rattle.std.specs.Prelude.{◌≡◌, ℕ, zero, suc, ◌+◌, ◌<◌, ◌≤◌, ◌==◌, Bool, true, false, ◌&&◌, List, [], ◌∷◌, ◌++◌, length, take, flat_map, Option, Some, None, IfSome, IfNone, slice_index_or, if◌then◌else◌}
+use Rattle.std.specs.FinMap.{FinMap, get, contains_key, insert}
+use Rattle.std.specs.Option.{unwrap_or}
+use Rattle.std.specs.Ordering.{nat_cmp}
+use Rattle.std.proofs.Common.{arith, refl, sym, ap, subst, ◌∙◌, inl, inr}
+use Rattle.std.proofs.lemmas.Bool.{cases_eq, cases_lt, cases_Bool, false≢true}
+use Rattle.std.proofs.lemmas.Bool.Decides.{nat_tests}
+use Rattle.std.proofs.lemmas.Grind.{flat_map-append}
+use Rattle.std.proofs.lemmas.List.{append-nil, get_or_past}
+use Rattle.std.proofs.Math.Seq.{take-suc}
+use Rattle.perf_base.specs.declared.lines.CpuLine.TheVariants as cpu_line
+use Rattle.perf_base.specs.declared.lines.Work.{Work}
+use Rattle.perf_base.specs.declared.numbers.CpuNo.{CpuNo}
+use Rattle.perf_base.specs.declared.numbers.Key.{Key}
+use Rattle.perf_base.specs.declared.numbers.TaskNo.{TaskNo}
+use Rattle.perf_base.specs.declared.standing.Context.{Context}
+use Rattle.perf_base.specs.declared.standing.Context.TheVariants as context
+use Rattle.stage_spec.specs.Hardware.{Hardware}
+use Rattle.stage_spec.specs.declared.instance.TaskStatus.{TaskStatus}
+use Rattle.stage_spec.specs.Stage.{is_task, task_on, place_of, unknown_task, is_live as is_live_task}
+use Rattle.stage_laws.specs.Bounds.{most_of_line}
+use Rattle.stage_laws.proofs.Counts.{count-append}
+use Rattle.stage_laws.proofs.Tasks.{is_task-some}
+use Rattle.stage_laws.specs.Narrowing.{has_context}
+use Rattle.world_spec.specs.StageOf.{after_first, stage_of}
+use Rattle.world_spec.specs.Value.{World, Entry, Leaders, no_entry, no_leaders, is_live, instance_at, standing_at, leaders_of, entry_at, is_key, times}
+use Rattle.world_spec.specs.Kept.{post_at, leads, once_if, is_member_of, IsKept}
+use Rattle.world_spec.specs.Changes.{place}
+use Rattle.world_spec.specs.Metering.{goes_along, IsWorked, HasMeterRoom}
+use Rattle.world_spec.specs.Shares.{HaveRoom}
+use Rattle.world_spec.specs.Working.{is_effective}
+use Rattle.perf_base.specs.Standings.{stands_on}
+use Rattle.world_spec.specs.Ways.{Way, IsTurned, KeepsWay, is_context_of, is_on_at}
+use Rattle.world_spec.proofs.Keys.{key-is, is_key-same, is_key-other, times-cons, once-true, once-false}
+use Rattle.world_spec.proofs.Metering.{work-kept, work-ways}
+use Rattle.world_spec.proofs.Moving.{leads-parts}
+use Rattle.world_spec.proofs.Tables.{get-here, get-there}
+use Rattle.world_spec.proofs.Ways.{still-turned, outside-context}
+use Rattle.world_tables.specs.Columns.{Columns, is_there, entry_in, way_in, put_way}
+use Rattle.world_tables.specs.Meters.{goes_along as along, no_way}
+use Rattle.world_tables.specs.Places.{Places}
+use Rattle.perf_world.specs.Seen.{IsWorld}
+use Rattle.perf_world.specs.Settling.{bare, RunOnce, AreLed, HasSettled, AreTurned, IsStored, group_keys, list_keys, task_leaders, task_keys}
+
+-- what is stored goes along an equation
+pub stored-after : (t : Columns) (seen after : World) → seen ≡ after → IsWorld after → AreTurned t after → IsStored t seen
+stored-after t seen after e kept turned = subst (IsStored t) (sym e) (record { kept = kept; turned = turned })
+
+-- where no way was turned
+pub stay-turned : (t new : Columns) (first now after : World) → first ≡ now → AreTurned t first → ((k : Key) → is_live after k ≡ true → way_in new k ≡ way_in t k)
+    → ((k : Key) → is_live after k ≡ true → is_live now k ≡ true) → ((k : Key) → is_live after k ≡ true → KeepsWay now after k) → AreTurned new after
+stay-turned t new first now after view turned same lives keeps k live =
+    still-turned now after (way_in new k) k (keeps k live)
+    (subst (λ (u : Way). IsTurned now u k) (sym (same k live)) (subst (AreTurned t) view turned k (lives k live)))
+
+-- where some were
+pub record Stays (t mid : Columns) (now after : World) (k : Key) : Type 0 where
+  pub live : is_live now k ≡ true
+  pub keeps : KeepsWay now after k
+  pub same : way_in mid k ≡ way_in t k
+
+pub settled-turned : (p : Places) (keys : List Key) (t mid new : Columns) (first now after : World) → first ≡ now → AreTurned t first → HasSettled keys p mid new
+    → ((u : Way) (k : Key) → IsTurned (bare mid p) u k → IsTurned after u k)
+    → ((k : Key) → is_live after k ≡ true → times k keys ≡ 0 → Stays t mid now after k) → AreTurned new after
+settled-turned p keys t mid new first now after view turned s transfers others k live = elim (cases_eq (times k keys) 0) [
+  | inl none ↦
+      let o : Stays t mid now after k = others k live none in
+      still-turned now after (way_in new k) k o.keeps
+      (subst (λ (u : Way). IsTurned now u k) (sym (s.others k none ∙ o.same)) (subst (AreTurned t) view turned k o.live))
+  | inr some ↦ transfers (way_in new k) k (s.turned k (omega (arith, some)))
+]
+
+-- settling nobody, one more, and more
+pub none-settled : (p : Places) (t : Columns) → HasSettled [] p t t
+none-settled p t = record { same = refl; turned = λ k some. absurd (omega (arith, some)); others = λ k none. refl }
+
+pub both-times : (k : Key) (xs ys : List Key) → times k (xs ++ ys) ≡ times k xs + times k ys
+both-times k xs ys = count-append (is_key k) xs ys
+
+pub more-settled : (p : Places) (xs ys : List Key) (t mid new : Columns) → HasSettled xs p t mid → HasSettled ys p mid new → HasSettled (xs ++ ys) p t new
+more-settled p xs ys t mid new a b = record {
+  same = b.same ∙ ap {A = Columns} {B = Columns} (λ x. record x { ways = new.ways }) a.same;
+  turned = λ k some. elim (cases_eq (times k ys) 0) [
+    | inr later ↦ subst (λ (x : Columns). IsTurned (bare x p) (way_in new k) k) a.same (b.turned k (omega (arith, later)))
+    | inl none ↦ subst (λ (u : Way). IsTurned (bare t p) u k) (sym (b.others k none)) (a.turned k (omega (arith, some, none, both-times k xs ys)))
+  ];
+  others = λ k none. b.others k (omega (arith, none, both-times k xs ys)) ∙ a.others k (omega (arith, none, both-times k xs ys));
+}
+
+take-next : (keys : List Key) (i : ℕ) (d : Key) → i < length keys → take (i + 1) keys ≡ take i keys ++ slice_index_or keys i d ∷ []
+take-next keys i d low = ap (λ n. take n keys) (let e : i + 1 ≡ suc i = omega arith in e) ∙ take-suc keys i d low
+
+pub next-settled : (p : Places) (keys : List Key) (i : ℕ) (d : Key) (t mid new : Columns) → i < length keys → HasSettled (take i keys) p t mid
+    → HasSettled (slice_index_or keys i d ∷ []) p mid new → HasSettled (take (i + 1) keys) p t new
+next-settled p keys i d t mid new low a b =
+    subst (λ (ks : List Key). HasSettled ks p t new) (sym (take-next keys i d low)) (more-settled p (take i keys) (slice_index_or keys i d ∷ []) t mid new a b)
+
+-- one group more; its members are those that it had
+list-next : (t : Columns) (leaders : List Key) (i : ℕ) (d : Key) → i < length leaders
+    → list_keys t (take (i + 1) leaders) ≡ list_keys t (take i leaders) ++ group_keys t (slice_index_or leaders i d)
+list-next t leaders i d low =
+    ap (list_keys t) (take-next leaders i d low)
+    ∙ (flat_map-append (group_keys t) (take i leaders) (slice_index_or leaders i d ∷ [])
+    ∙ ap (λ (keys : List Key). list_keys t (take i leaders) ++ keys) (append-nil (group_keys t (slice_index_or leaders i d))))
+
+pub group-settled : (p : Places) (leaders : List Key) (i : ℕ) (d : Key) (t mid new : Columns) → i < length leaders → HasSettled (list_keys t (take i leaders)) p t mid
+    → HasSettled (group_keys mid (slice_index_or leaders i d)) p mid new → HasSettled (list_keys t (take (i + 1) leaders)) p t new
+group-settled p leaders i d t mid new low a b =
+    subst (λ (ks : List Key). HasSettled ks p t new) (sym (list-next t leaders i d low))
+    (more-settled p (list_keys t (take i leaders)) (group_keys t (slice_index_or leaders i d)) t mid new a
+    (subst (λ (x : Columns). HasSettled (group_keys x (slice_index_or leaders i d)) p mid new) a.same b))
+
+-- where ways alone changed, the same keys name events
+pub still-led : (t mid : Columns) (keys : List Key) → mid ≡ record t { ways = mid.ways } → AreLed t keys → AreLed mid keys
+still-led t mid keys same led = subst (λ (x : Columns). AreLed x keys) (sym same) led
+
+-- a key in a list is there
+pub times-at : (keys : List Key) (i : ℕ) (d : Key) → i < length keys → 1 ≤ times (slice_index_or keys i d) keys
+times-at [] i d low = absurd (omega (arith, low))
+times-at (k ∷ keys) zero d low = (let own : is_key k k ≡ true = grind (arith, nat_tests) in omega (arith, times-cons k k keys, once-true (is_key k k) own))
+times-at (k ∷ keys) (suc i) d low =
+    omega (arith, times-at keys i d (omega (arith, low)), times-cons (slice_index_or keys i d) k keys)
+
+-- a member of one of some groups
+pub group-in : (t : Columns) (leaders : List Key) (i : ℕ) (d : Key) (k : Key) → i < length leaders → 1 ≤ times k (group_keys t (slice_index_or leaders i d)) → 1 ≤ times k (list_keys t leaders)
+group-in t [] i d k low some = absurd (omega (arith, low))
+group-in t (q ∷ leaders) zero d k low some = omega (arith, some, both-times k (group_keys t q) (list_keys t leaders))
+group-in t (q ∷ leaders) (suc i) d k low some =
+    omega (arith, group-in t leaders i d k (omega (arith, low)) some, both-times k (group_keys t q) (list_keys t leaders))
+
+-- a part of an entry that a write keeps
+pub written-part : {X : Type 0} (f : Entry → X) (w : World) (k : Key) (e : Entry) → f e ≡ f (entry_at w k) → (j : Key)
+    → f (unwrap_or (get (insert w.entries k.0 e) j.0) no_entry) ≡ f (entry_at w j)
+written-part f w k e same j = elim (cases_eq j.0 k.0) [
+  | inl here ↦ ap (λ o. f (unwrap_or o no_entry)) (get-here w.entries k.0 e j.0 here) ∙ (same ∙ ap (λ x. f (entry_at w x)) (sym (key-is j k here)))
+  | inr apart ↦ ap (λ o. f (unwrap_or o no_entry)) (get-there w.entries k.0 e j.0 apart)
+]
+
+-- In a kept world the leader of an event is there, and so are the members of groups.
+pub leader-live : (hw : Hardware) (w : World) (k : Key) → IsKept hw w → is_live w k ≡ true → is_live w (entry_at w k).leader ≡ true
+leader-live hw w k h live = (leads-parts (is_live w (entry_at w k).leader) (is_key (entry_at w k).leader (entry_at w (entry_at w k).leader).leader) (h.grouped.led k live)).0
+
+member-live : (hw : Hardware) (w : World) (q k : Key) → IsKept hw w → 1 ≤ times k (entry_at w q).members → is_live w k ≡ true
+member-live hw w q k h some =
+    (leads-parts (is_live w k) (is_key q (entry_at w k).leader) (once-both (is_member_of (post_at w) q k) (omega (arith, some, h.linked.members k q)))).0
+  where
+    once-both : (b : Bool) → 1 ≤ once_if b → b ≡ true
+    once-both true some = refl
+    once-both false some = absurd (omega (arith, some))
+
+pub group-led : (hw : Hardware) (w : World) (q : Key) → IsKept hw w → (k : Key) → 1 ≤ times k (entry_at w q).members
+    → (is_live w k ≡ true) × (is_live w (entry_at w k).leader ≡ true)
+group-led hw w q h k some = let live : is_live w k ≡ true = member-live hw w q k h some in (live, leader-live hw w k h live)
+
+pub list-led : (hw : Hardware) (w : World) (leaders : List Key) → IsKept hw w → (k : Key) → 1 ≤ times k (flat_map (λ q. (entry_at w q).members) leaders)
+    → (is_live w k ≡ true) × (is_live w (entry_at w k).leader ≡ true)
+list-led hw w [] h k some = absurd (omega (arith, some))
+list-led hw w (q ∷ leaders) h k some = elim (cases_eq (times k (entry_at w q).members) 0) [
+  | inr here ↦ group-led hw w q h k (omega (arith, here))
+  | inl none ↦ list-led hw w leaders h k (omega (arith, some, none, both-times k (entry_at w q).members (flat_map (λ x. (entry_at w x).members) leaders)))
+]
+
+-- The processor that a context is on.
+pub own-only : (c cpu : CpuNo) → (c.0 == cpu.0) ≡ (c.0 == cpu.0)
+own-only c cpu = refl
+
+pub task-only : (running : List (Option TaskNo)) (task : TaskNo) (c : CpuNo) → RunOnce running → slice_index_or running c.0 None ≡ Some task → (cpu : CpuNo)
+    → is_task (slice_index_or running cpu.0 None) task ≡ (c.0 == cpu.0)
+task-only running task c once on cpu = elim (cases_eq c.0 cpu.0) [
+  | inl same ↦
+      let own : is_task (Some task) task ≡ true = grind (arith, nat_tests) in
+      let is : (c.0 == cpu.0) ≡ true = grind (arith, nat_tests, same) in
+      ap (λ n. is_task (slice_index_or running n None) task) (sym same) ∙ (ap (λ o. is_task o task) on ∙ (own ∙ sym is))
+  | inr apart ↦ elim (cases_Bool (is_task (slice_index_or running cpu.0 None) task)) [
+    | inl there ↦ absurd (apart (once c cpu task on (is_task-some (slice_index_or running cpu.0 None) task there)))
+    | inr off ↦ (let is : (c.0 == cpu.0) ≡ false = grind (arith, nat_tests, apart) in off ∙ sym is)
+  ]
+]
+
+pub task-nowhere : (running : List (Option TaskNo)) (task : TaskNo) → ((cpu : CpuNo) → slice_index_or running cpu.0 None ≡ Some task → ⊥) → (cpu : CpuNo)
+    → is_task (slice_index_or running cpu.0 None) task ≡ false
+task-nowhere running task none cpu = elim (cases_Bool (is_task (slice_index_or running cpu.0 None) task)) [
+  | inl there ↦ absurd (none cpu (is_task-some (slice_index_or running cpu.0 None) task there))
+  | inr off ↦ off
+]
+
+-- the tests of a way, part by part
+pub on-there : (ready stands there : Bool) → ((ready && stands) && there) ≡ ((ready && there) && stands)
+on-there true true there = sym (both-right there)
+  where
+    both-right : (b : Bool) → (b && true) ≡ b
+    both-right true = refl
+    both-right false = refl
+on-there true false true = refl
+on-there true false false = refl
+on-there false stands there = refl
+
+pub off-there : (ready there : Bool) → there ≡ false → false ≡ (ready && there)
+off-there true there off = sym off
+off-there false there off = refl
+
+pub on-ready : (ready stands : Bool) → (ready && stands) ≡ true → ready ≡ true
+on-ready true stands h = refl
+on-ready false stands h = absurd (false≢true h)
+
+-- The leaders that stand in the lists of a context lead, and so all members of a task's groups are there.
+listed-leads : (lead other third : Bool) → 1 ≤ once_if (lead && other && third) → lead ≡ true
+listed-leads true other third h = refl
+listed-leads false other third h = absurd (omega (arith, h))
+
+pub pinned-live : (hw : Hardware) (w : World) (c : Context) (q : Key) → IsKept hw w → 1 ≤ times q (leaders_of w c).pinned → is_live w q ≡ true
+pinned-live hw w c q h some =
+    (leads-parts (is_live w q) (is_key q (entry_at w q).leader)
+    (listed-leads (leads (post_at w) q) (place_of (entry_at w q).context == place_of c) (if (entry_at w q).pinned then true else false) (omega (arith, some, h.linked.pinned q (place_of c))))).0
+
+pub flexible-live : (hw : Hardware) (w : World) (c : Context) (q : Key) → IsKept hw w → 1 ≤ times q (leaders_of w c).flexible → is_live w q ≡ true
+flexible-live hw w c q h some =
+    (leads-parts (is_live w q) (is_key q (entry_at w q).leader)
+    (listed-leads (leads (post_at w) q) (place_of (entry_at w q).context == place_of c) (if (entry_at w q).pinned then false else true) (omega (arith, some, h.linked.flexible q (place_of c))))).0
+
+-- The events of a task, in the tables of a world.
+module _ (hw : Hardware) (w : World) (h : IsKept hw w) (t : Columns) (contexts : List Leaders) (entries : t.entries ≡ w.entries) (lists : contexts ≡ w.contexts) where
+  pub task-leaders-there : (o : Option TaskNo) (k : Key) → 1 ≤ times k (task_leaders contexts o) → is_there t k ≡ true
+  task-leaders-there None k some = absurd (omega (arith, some))
+  task-leaders-there (Some task) k some =
+      let c : Context = context.Task task in
+      let all : 1 ≤ times k (leaders_of w c).pinned + times k (leaders_of w c).flexible =
+      omega (arith, some, ap (λ (l : List Leaders). times k (task_leaders l (Some task))) lists, both-times k (leaders_of w c).pinned (leaders_of w c).flexible) in
+      ap (λ (m : FinMap nat_cmp Entry). contains_key m k.0) entries ∙ elim (cases_eq (times k (leaders_of w c).pinned) 0) [
+        | inr more ↦ pinned-live hw w c k h (omega (arith, more))
+        | inl none ↦ flexible-live hw w c k h (omega (arith, all, none))
+      ]
+
+  pub task-led : (o : Option TaskNo) → AreLed t (task_keys t contexts o)
+  task-led None k some = absurd (omega (arith, some))
+  task-led (Some task) k some =
+      let c : Context = context.Task task in
+      let m : List Key → List Key = flat_map (λ q. (entry_at w q).members) in
+      let keys : task_keys t contexts (Some task) ≡ m (leaders_of w c).pinned ++ m (leaders_of w c).flexible =
+      (λ i. flat_map (λ q. (unwrap_or (get (entries i) q.0) no_entry).members) (slice_index_or (lists i) (place_of c) no_leaders).pinned
+      ++ flat_map (λ q. (unwrap_or (get (entries i) q.0) no_entry).members) (slice_index_or (lists i) (place_of c) no_leaders).flexible) in
+      let all : 1 ≤ times k (m (leaders_of w c).pinned) + times k (m (leaders_of w c).flexible) =
+      omega (arith, some, ap (times k) keys, both-times k (m (leaders_of w c).pinned) (m (leaders_of w c).flexible)) in
+      let both : (is_live w k ≡ true) × (is_live w (entry_at w k).leader ≡ true) = (elim (cases_eq (times k (m (leaders_of w c).pinned)) 0) [
+        | inr more ↦ list-led hw w (leaders_of w c).pinned h k (omega (arith, more))
+        | inl none ↦ list-led hw w (leaders_of w c).flexible h k (omega (arith, all, none))
+      ]) in
+      subst (λ (e : FinMap nat_cmp Entry). (contains_key e k.0 ≡ true) × (contains_key e (unwrap_or (get e k.0) no_entry).leader.0 ≡ true)) (sym entries) both
+
+  pub task-outside : (o : Option TaskNo) (k : Key) → is_live w k ≡ true → times k (task_keys t contexts o) ≡ 0 → is_context_of o (entry_at w k).context ≡ false
+  task-outside None k live none = nobody-of (entry_at w k).context
+    where
+      nobody-of : (c : Context) → is_context_of None c ≡ false
+      nobody-of (context.Processor cpu) = refl
+      nobody-of (context.Task task) = refl
+  task-outside (Some task) k live none =
+      let c : Context = context.Task task in
+      let m : List Key → List Key = flat_map (λ q. (entry_at w q).members) in
+      let keys : task_keys t contexts (Some task) ≡ m (leaders_of w c).pinned ++ m (leaders_of w c).flexible =
+      (λ i. flat_map (λ q. (unwrap_or (get (entries i) q.0) no_entry).members) (slice_index_or (lists i) (place_of c) no_leaders).pinned
+      ++ flat_map (λ q. (unwrap_or (get (entries i) q.0) no_entry).members) (slice_index_or (lists i) (place_of c) no_leaders).flexible) in
+      outside-context hw w task k h live
+      (ap (times k) (flat_map-append (λ q. (entry_at w q).members) (leaders_of w c).pinned (leaders_of w c).flexible) ∙ (ap (times k) (sym keys) ∙ none))
+
+-- a task on a processor has a number below 64
+live-below : (tasks : List TaskStatus) (n : ℕ) → is_live_task (slice_index_or tasks n unknown_task).state ≡ true → n < length tasks
+live-below tasks n live = elim (cases_lt n (length tasks)) [
+  | inl low ↦ low
+  | inr past ↦ absurd (false≢true (ap (λ t. is_live_task t.state) (sym (get_or_past tasks n unknown_task past)) ∙ live))
+]
+
+pub running-below : (hw : Hardware) (w : World) (cpu : CpuNo) (o : Option TaskNo) → IsKept hw w → o ≡ task_on (stage_of w) cpu → IfSome o (λ t. t.0 < 64)
+running-below hw w cpu None h on = tt
+running-below hw w cpu (Some task) h on = omega (arith, live-below w.quiet.tasks task.0 (h.running.live cpu task (sym on)), h.shape.tasks)
+
+pub placed-below : (w : World) (o : Option TaskNo) → ((t : TaskNo) → o ≡ Some t → t.0 < 64) → IfSome o (λ t. t.0 < 64)
+placed-below w None h = tt
+placed-below w (Some task) h = h task refl
+
+pub placed-live : (w : World) (cpu : CpuNo) (to : Option TaskNo) (k : Key) → is_live (place cpu to w) k ≡ true → is_live w k ≡ true
+placed-live w cpu None k live = live
+placed-live w cpu (Some task) k live = live
+
+-- an instance that goes along no total where it is on goes along none by its way
+pub follows-none : (t : Columns) (now w : World) (k : Key) → w ≡ now → AreTurned t w → is_live now k ≡ true
+    → ((cpu : CpuNo) → is_on_at now cpu k ≡ true → goes_along (instance_at now k).attr ≡ false)
+    → along (instance_at w k).attr (way_in t k).on ≡ false
+follows-none t now w k view turned live alone = one (way_in t k).on refl
+  where
+    same : (instance_at now k).attr ≡ (instance_at w k).attr
+    same = ap (λ (x : World). (instance_at x k).attr) (sym view)
+
+    one : (on : Bool) → (way_in t k).on ≡ on → along (instance_at w k).attr on ≡ false
+    one false is = refl
+    one true is =
+        let cpu : CpuNo = (way_in t k).cpu in
+        let own : (cpu.0 == cpu.0) ≡ true = grind (arith, nat_tests) in
+        let turns : IsTurned w (way_in t k) k = turned k (ap (λ (x : World). is_live x k) view ∙ live) in
+        let on : is_on_at now cpu k ≡ true = ap (λ (x : World). is_on_at x cpu k) (sym view) ∙ (sym (turns.on cpu) ∙ (ap (λ b. b && cpu.0 == cpu.0) is ∙ own)) in
+        ap goes_along (sym same) ∙ alone cpu on
+
+-- work keeps what is stored
+pub stored-worked : (t new : Columns) (w after : World) (cpu : CpuNo) (work : Work) → IsStored t w → IsWorked w after cpu work → HaveRoom w (most_of_line (cpu_line.Work work))
+    → HasMeterRoom w cpu work → new.ways ≡ t.ways → IsStored new after
+stored-worked t new w after cpu work h worked room meter ways = record {
+  kept = subst (λ (m : Hardware). IsKept m after) (sym (ap (λ (x : World). x.hardware) worked.rest)) (work-kept w.hardware w after cpu work h.kept worked room meter);
+  turned = λ k live.
+      still-turned w after (way_in new k) k (work-ways w after cpu work k worked)
+      (subst (λ (u : Way). IsTurned w u k) (sym (ap (λ (m : FinMap nat_cmp Way). unwrap_or (get m k.0) no_way) ways)) (h.turned k (ap (λ (x : World). is_live x k) (sym worked.rest) ∙ live)));
+}
+
+-- what is found of a context is the processor that it is on
+pub some-only : (running : List (Option TaskNo)) (task : TaskNo) → RunOnce running → (r : Option CpuNo) → IfSome r (λ cpu. slice_index_or running cpu.0 None ≡ Some task)
+    → IfSome r (λ c. (cpu : CpuNo) → is_task (slice_index_or running cpu.0 None) task ≡ (c.0 == cpu.0))
+some-only running task once None there = tt
+some-only running task once (Some c) there = task-only running task c once there
+
+pub none-only : (running : List (Option TaskNo)) (task : TaskNo) (r : Option CpuNo) → IfNone r ((cpu : CpuNo) → slice_index_or running cpu.0 None ≡ Some task → ⊥)
+    → IfNone r ((cpu : CpuNo) → is_task (slice_index_or running cpu.0 None) task ≡ false)
+none-only running task None nowhere = task-nowhere running task nowhere
+none-only running task (Some c) nowhere = tt
+
+-- the way of an instance whose context is on a processor, or on none
+pub turned-on : (w : World) (k : Key) (c : CpuNo) (ready on : Bool) → ready ≡ is_effective w k → on ≡ (ready && stands_on (standing_at w (entry_at w k).leader))
+    → ((cpu : CpuNo) → has_context (stage_of w) cpu (entry_at w k).context ≡ (c.0 == cpu.0)) → IsTurned w (record { cpu = c; ready = ready; on = on }) k
+turned-on w k c ready on is_ready is_on there = record {
+  ready = λ cpu. (λ i. is_ready i && sym (there cpu) i);
+  on = λ cpu. ap (λ b. b && c.0 == cpu.0) is_on
+      ∙ (on-there ready (stands_on (standing_at w (entry_at w k).leader)) (c.0 == cpu.0)
+      ∙ (λ i. (is_ready i && sym (there cpu) i) && stands_on (standing_at w (entry_at w k).leader)));
+}
+
+pub turned-off : (w : World) (k : Key) → ((cpu : CpuNo) → has_context (stage_of w) cpu (entry_at w k).context ≡ false)
+    → IsTurned w (record { cpu = record { 0 = 0 }; ready = false; on = false }) k
+turned-off w k nowhere = record {
+  ready = λ cpu. off-there (is_effective w k) _ (nowhere cpu);
+  on = λ cpu. sym (ap (λ b. b && stands_on (standing_at w (entry_at w k).leader)) (sym (off-there (is_effective w k) _ (nowhere cpu))));
+}
+
+-- one account that was turned
+pub one-settled : (p : Places) (t new : Columns) (k : Key) (u : Way) → new ≡ put_way k u t → IsTurned (bare t p) u k → HasSettled (k ∷ []) p t new
+one-settled p t new k u is turned = record {
+  same = is ∙ ap (λ (ways : FinMap nat_cmp Way). record t { ways = ways }) (sym (ap (λ (x : Columns). x.ways) is));
+  turned = λ j some.
+      let here : j ≡ k = key-is j k (only j some) in
+      subst (λ (v : Way). IsTurned (bare t p) v j) (sym (ap (λ (x : Columns). way_in x j) is ∙ ap (λ o. unwrap_or o no_way) (get-here t.ways k.0 u j.0 (only j some))))
+      (subst (λ (q : Key). IsTurned (bare t p) u q) (sym here) turned);
+  others = λ j none. ap (λ (x : Columns). way_in x j) is ∙ ap (λ o. unwrap_or o no_way) (get-there t.ways k.0 u j.0 (apart j none));
+}
+  where
+    only : (j : Key) → 1 ≤ times j (k ∷ []) → j.0 ≡ k.0
+    only j some = elim (cases_eq j.0 k.0) [
+      | inl e ↦ e
+      | inr off ↦ absurd (omega (arith, some, times-cons j k [], once-false (is_key j k) (is_key-other j k (λ e. off (sym e)))))
+    ]
+
+    apart : (j : Key) → times j (k ∷ []) ≡ 0 → j.0 ≡ k.0 → ⊥
+    apart j none e = omega (arith, none, times-cons j k [], once-true (is_key j k) (is_key-same j k (sym e)))
+
+-- a key that is not the only one of a list
+pub not-only : (k j : Key) → times j (k ∷ []) ≡ 0 → j.0 ≡ k.0 → ⊥
+not-only k j none e = omega (arith, none, times-cons j k [], once-true (is_key j k) (is_key-same j k (sym e)))
+
+-- a sibling is not its leader
+pub sibling-apart : (hw : Hardware) (w : World) (key k : Key) → IsKept hw w → 1 ≤ times k (after_first (entry_at w key).members) → k.0 ≡ key.0 → ⊥
+sibling-apart hw w key k h among same =
+    let is : k ≡ key = key-is k key same in
+    let all : times key (entry_at w key).members ≡ once_if (is_member_of (post_at w) key key) = h.linked.members key key in
+    let some : 1 ≤ times key (after_first (entry_at w key).members) = subst (λ (q : Key). 1 ≤ times q (after_first (entry_at w key).members)) is among in
+    let more : times key (after_first (entry_at w key).members) ≤ times key (entry_at w key).members = after-few key (entry_at w key).members in
+    let mine : is_member_of (post_at w) key key ≡ true = once-both (is_member_of (post_at w) key key) (omega (arith, some, more, all)) in
+    let first : (entry_at w key).members ≡ key ∷ after_first (entry_at w key).members = h.grouped.leader_first key mine in
+    let own : is_key key key ≡ true = grind (arith, nat_tests) in
+    omega (arith, some, all, ap (times key) first, times-cons key key (after_first (entry_at w key).members), once-true (is_key key key) own, once-true (is_member_of (post_at w) key key) mine)
+  where
+    once-both : (b : Bool) → 1 ≤ once_if b → b ≡ true
+    once-both true some = refl
+    once-both false some = absurd (omega (arith, some))
+
+    after-few : (q : Key) (keys : List Key) → times q (after_first keys) ≤ times q keys
+    after-few q [] = omega arith
+    after-few q (x ∷ keys) = omega (arith, times-cons q x keys)

@@ -1,0 +1,96 @@
+-- A line of work, in the tables of a world.
+use Rattle.std.specs.Prelude.{◌≡◌, ℕ, ◌+◌, ◌^◌, ◌<◌, ◌==◌, max, Bool, true, false, ◌&&◌, List, Option, slice_index_or, if◌then◌else◌}
+use Rattle.std.proofs.Common.{arith, refl, sym, ap, subst, ◌∙◌, inl, inr}
+use Rattle.std.proofs.lemmas.Bool.{cases_Bool}
+use Rattle.std.proofs.lemmas.Bool.Decides.{nat_tests}
+use Rattle.perf_base.specs.declared.attr.Attr.{Attr}
+use Rattle.perf_base.specs.declared.lines.CpuLine.TheVariants as cpu_line
+use Rattle.perf_base.specs.declared.lines.Work.{Work}
+use Rattle.perf_base.specs.declared.numbers.CpuNo.{CpuNo}
+use Rattle.perf_base.specs.declared.numbers.EventNo.{EventNo}
+use Rattle.perf_base.specs.declared.numbers.Key.{Key}
+use Rattle.perf_base.specs.declared.numbers.RingNo.{RingNo}
+use Rattle.perf_base.specs.declared.reply.Sums.{Sums}
+use Rattle.stage_spec.specs.declared.instance.TaskStatus.{TaskStatus}
+use Rattle.stage_spec.specs.Families.{plus}
+use Rattle.stage_spec.specs.Hardware.{Hardware}
+use Rattle.stage_spec.specs.Shares.{counted_by, work_hits, no_sums}
+use Rattle.stage_laws.specs.Bounds.{most_of_line, greatest}
+use Rattle.world_spec.specs.Value.{World, Leaders, is_live, instance_at, account_at}
+use Rattle.world_spec.specs.Kept.{family_sums, IsKept}
+use Rattle.world_spec.specs.Metering.{IsWorked, HasMeterRoom, work_given, goes_along}
+use Rattle.world_spec.specs.Shares.{HaveRoom}
+use Rattle.world_spec.specs.Ways.{Way, is_ready_at, is_on_at, IsTurned}
+use Rattle.world_spec.proofs.Along.{along-is}
+use Rattle.world_spec.proofs.Metering.{counted-most}
+use Rattle.world_tables.specs.Columns.{Columns, HasRoomForWork, way_in, given_in}
+use Rattle.world_tables.specs.Columns as tables
+use Rattle.world_tables.specs.Meters.{given, given_on}
+use Rattle.world_tables.specs.Meters as meters
+use Rattle.world_tables.specs.Places.{Slots, Places}
+use Rattle.perf_world.specs.Seen.{seen, IsWorld}
+use Rattle.perf_world.specs.Settling.{AreTurned}
+use Rattle.perf_world.proofs.Kept.{own-count, own-time}
+
+-- what an account is given by its way is what its instance is given
+module _ (work : Work) (cpu : CpuNo) (a : Attr) where
+  by-tests : (ready on there ready_at on_at : Bool) (g : Sums) → (ready && there) ≡ ready_at → (on && there) ≡ on_at
+      → g.count ≡ (if on_at && goes_along a then counted_by work a a.kind else 0) → g.enabled ≡ (if ready_at then work.length else 0) → g.running ≡ (if on_at then work.length else 0)
+      → (if there then given work (record { cpu = cpu; ready = ready; on = on }) a else no_sums) ≡ g
+  by-tests ready on true ready_at on_at g r o count enabled running =
+      let is_ready : ready ≡ ready_at = sym (both ready) ∙ r in
+      let is_on : on ≡ on_at = sym (both on) ∙ o in
+      λ i. record {
+        count = (ap (λ b. if b && goes_along a then counted_by work a a.kind else 0) is_on ∙ sym count) i;
+        enabled = (ap (λ b. if b then work.length else 0) is_ready ∙ sym enabled) i;
+        running = (ap (λ b. if b then work.length else 0) is_on ∙ sym running) i;
+      }
+    where
+      both : (b : Bool) → (b && true) ≡ b
+      both true = refl
+      both false = refl
+  by-tests ready on false ready_at on_at g r o count enabled running =
+      let not_ready : ready_at ≡ false = sym r ∙ none ready in
+      let not_on : on_at ≡ false = sym o ∙ none on in
+      λ i. record {
+        count = sym (count ∙ ap (λ b. if b && goes_along a then counted_by work a a.kind else 0) not_on) i;
+        enabled = sym (enabled ∙ ap (λ b. if b then work.length else 0) not_ready) i;
+        running = sym (running ∙ ap (λ b. if b then work.length else 0) not_on) i;
+      }
+    where
+      none : (b : Bool) → (b && false) ≡ false
+      none true = refl
+      none false = refl
+
+module _ (hw : Hardware) (t : Columns) (contexts : List Leaders) (families : Slots) (processors : Places) (tasks : List TaskStatus) (used : List EventNo) (mapped : List RingNo) (next : ℕ) where
+  abbrev world : Columns → World
+  world x = seen hw x contexts families processors tasks used mapped next
+
+  module _ (cpu : CpuNo) (work : Work) where
+    pub room-for : IsWorld (world t) → HaveRoom (world t) (most_of_line (cpu_line.Work work)) → HasMeterRoom (world t) cpu work → HasRoomForWork t cpu work
+    room-for h room meter = record {
+      clock = meter.clock;
+      totals = meter.totals;
+      enabled = λ k live here ready. omega (arith, room.times k live, own-time hw (world t) k h live);
+      count = λ k live here goes.
+          omega (
+            arith,
+            room.counts k live,
+            own-count hw (world t) k h live,
+            counted-most work (instance_at (world t) k).attr (instance_at (world t) k).attr.kind,
+          );
+    }
+
+    given-is : AreTurned t (world t) → (k : Key) → is_live (world t) k ≡ true → given_in t cpu work k ≡ work_given (world t) cpu work k
+    given-is turned k live =
+        let u : Way = way_in t k in
+        let turns : IsTurned (world t) u k = turned k live in
+        by-tests work u.cpu (instance_at (world t) k).attr u.ready u.on (u.cpu.0 == cpu.0) (is_ready_at (world t) cpu k) (is_on_at (world t) cpu k) (work_given (world t) cpu work k)
+        (turns.ready cpu) (turns.on cpu) (along-is (world t) cpu work k) refl refl
+
+    pub was-worked : (after : Columns) → AreTurned t (world t) → tables.IsWorked t after cpu work → IsWorked (world t) (world after) cpu work
+    was-worked after turned h = record {
+      accounts = λ k live. h.accounts k live ∙ ap (λ (s : Sums). record (account_at (world t) k) { sums = plus (account_at (world t) k).sums s }) (given-is turned k live);
+      keys = h.keys;
+      rest = ap world h.rest;
+    }
