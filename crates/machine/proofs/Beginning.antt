@@ -28,12 +28,13 @@ use Rattle.world_spec.specs.Agreement.{AgreesWith}
 use Rattle.world_spec.specs.First.{first_world}
 use Rattle.world_spec.specs.Rescheduled.{AreServed, IsRescheduled}
 use Rattle.world_spec.specs.StageOf.{stage_of}
-use Rattle.world_spec.specs.Value.{is_live, is_key, entry_at, seats_at}
+use Rattle.world_spec.specs.Value.{Totals, no_totals, is_live, is_key, entry_at, seats_at, totals_at}
 use Rattle.world_spec.proofs.Agreement.{first-agrees}
 use Rattle.world_spec.proofs.First.{first-stage, none-live, replicated}
 use Rattle.world_spec.proofs.Moving.{leads-parts}
 use Rattle.machine.specs.Stepped.{IsReady}
 use Rattle.machine.specs.Leading.{IsWhole, LeadTo}
+use Rattle.machine.specs.Totals.{AreUpTo}
 
 -- a stage without groups has no verdicts
 first-lists : (cpus : ℕ) (declared : List TaskNo) (c : Context) → lists_of (first_stage cpus declared) c ≡ no_groups
@@ -105,9 +106,20 @@ first-ready l hw declared h tasks =
       homes = λ k cpu live. absurd (false≢true (sym (none-live hw declared k) ∙ live));
     }
 
+-- nothing occurred
+first-totals : (hw : Hardware) (declared : List TaskNo) (cpu : CpuNo) → totals_at (first_world hw declared) cpu ≡ no_totals
+first-totals hw declared cpu = replicated {X = Totals} (length hw.cpu_pmus) cpu.0 no_totals
+
+zeros : (size number : ℕ) → slice_index (replicate size 0) number ≡ 0
+zeros size number = replicated {X = ℕ} size number 0
+
+none-total : (hw : Hardware) (declared : List TaskNo) (cpu : CpuNo) (most : ℕ) → AreUpTo most (totals_at (first_world hw declared) cpu)
+none-total hw declared cpu most =
+    subst (AreUpTo most) (sym (first-totals hw declared cpu)) (record { user = λ number. omega (arith, zeros 16 number); kernel = λ number. omega (arith, zeros 16 number) })
+
 pub first-whole : (l : Limits) (hw : Hardware) (declared : List TaskNo) → IsMachine l hw → (outs : OutList) → AreTaskNumbers declared
     → IsWhole (record { cpus = replicate 8 0; tools = replicate 4 0; world = first_world hw declared; outs = outs })
-first-whole l hw declared h outs tasks = record { cpus = refl; tools = refl; ready = first-ready l hw declared h tasks }
+first-whole l hw declared h outs tasks = record { cpus = refl; tools = refl; ready = first-ready l hw declared h tasks; totals = λ cpu. none-total hw declared cpu _ }
 
 -- No act leads to a machine that has done nothing.
 none-done : (n i : ℕ) → ◌≡◌ {A = ℕ} (slice_index_or (replicate n 0) i 0) 0

@@ -10,10 +10,8 @@ use Rattle.perf_base.specs.declared.lines.CpuLine.{CpuLine}
 use Rattle.perf_base.specs.declared.lines.ToolLine.{ToolLine}
 use Rattle.perf_base.specs.declared.numbers.CpuNo.{CpuNo}
 use Rattle.perf_base.specs.declared.numbers.CpuSet.{CpuSet}
-use Rattle.perf_base.specs.declared.numbers.EventNo.{EventNo}
 use Rattle.perf_base.specs.declared.reasons.Reason.{Reason}
 use Rattle.perf_base.specs.declared.standing.Standing.{Standing}
-use Rattle.stage_spec.specs.declared.instance.Instance.{Instance}
 use Rattle.stage_spec.specs.Effective.{counted_members}
 use Rattle.stage_spec.specs.Hardware.{Hardware, mask_of}
 use Rattle.stage_spec.specs.History.{Step, CpuStep, ToolStep, cpu_refusal, tool_refusal, cpu_changed, tool_changed}
@@ -22,7 +20,8 @@ use Rattle.stage_spec.specs.Replies.{seated}
 use Rattle.stage_spec.specs.Stage.{Stage, Group, all_cpus}
 use Rattle.stage_spec.specs.Verdict.{Judged, is_eligible, passes, verdicts, with_masks}
 use Rattle.stage_laws.specs.Narrowing.{changed, cpu_touches, tool_touches, touches, unless_left, unless_no}
-use Rattle.stage_laws.specs.Standings.{Brief, brief_of, briefs, standings}
+use Rattle.stage_laws.specs.Briefs.{GroupBrief}
+use Rattle.stage_laws.specs.Standings.{brief_of, briefs, standings}
 use Rattle.stage_laws.proofs.Briefs.{by_briefs}
 use Rattle.world_spec.specs.Rescheduled.{IsRescheduled}
 use Rattle.world_spec.specs.StageOf.{stage_of}
@@ -39,10 +38,10 @@ pub seats-count : (hw : Hardware) (w : World) (cpu : CpuNo) → IsRescheduled hw
 seats-count hw w cpu h = ap length h.judged.served.events ∙ length-map (seated hw (stage_of w) cpu) (λ i. (i.event, mask_of hw i.attr.kind))
 
 -- what is tried for goes by briefs
-abbrev tried_one : Brief → Standing → ℕ
+abbrev tried_one : GroupBrief ℕ → Standing → ℕ
 tried_one b s = tries_for s (length b.counted)
 
-tried_by : List Brief → List (ℕ × Standing) → ℕ
+tried_by : List (GroupBrief ℕ) → List (ℕ × Standing) → ℕ
 tried_by [] xs = 0
 tried_by (b ∷ bs) [] = 0
 tried_by (b ∷ bs) (x ∷ xs) = tried_one b x.1 + tried_by bs xs

@@ -1,7 +1,6 @@
 -- An exit.
-use Rattle.std.specs.Prelude.{◌≡◌, ◌≢◌, ℕ, ◌<◌, ◌≤◌, ◌↔◌, ◌&&◌, ◌==◌, Bool, true, false, not, List, [], length, map, filter, Option, Some, None, slice_index_or}
-use Rattle.std.proofs.Common.{arith, refl, sym, ap, subst, ◌∙◌, inl, inr}
-use Rattle.std.proofs.lemmas.Bool.{cases_eq}
+use Rattle.std.specs.Prelude.{◌≡◌, ℕ, ◌<◌, ◌≤◌, ◌↔◌, ◌&&◌, ◌==◌, Bool, true, false, not, List, [], length, map, filter, Option, Some, None, slice_index_or}
+use Rattle.std.proofs.Common.{arith, refl, sym, ap, subst, ◌∙◌}
 use Rattle.std.proofs.lemmas.List.{length-set}
 use Rattle.perf_base.specs.Cpus.{HasCpu}
 use Rattle.perf_base.specs.declared.lines.CpuLine.TheVariants as line

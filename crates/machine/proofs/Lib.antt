@@ -36,6 +36,7 @@ pub mod Spacious
 pub mod Stepped
 pub mod TaskChange
 pub mod Ticking
+pub mod Totals
 pub mod Unlawful
 pub mod Unswitched
 pub mod Working

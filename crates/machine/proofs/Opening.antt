@@ -107,6 +107,10 @@ added-clocks : (w : World) (key : Key) (n : Newcomer) (leader : Option Key) → 
 added-clocks w key n None = refl
 added-clocks w key n (Some leader) = refl
 
+pub added-totals : (w : World) (key : Key) (n : Newcomer) (leader : Option Key) → (add key (record n { leader = leader }) w).quiet.totals ≡ w.quiet.totals
+added-totals w key n None = refl
+added-totals w key n (Some leader) = refl
+
 -- Of each instance after the rescheduling, all but the own state is as it was before it.
 pub same-instance : (v x : World) (k : Key) → OnlyRescheduled v x → instance_at x k ≡ record (instance_at v k) { own = (instance_at x k).own }
 same-instance v x k rest = ap (λ e. e.instance) (rest.entries k)

@@ -1,5 +1,5 @@
 -- Where acts of a script lead to a machine, its world has room for one line more.
-use Rattle.std.specs.Prelude.{◌≡◌, ℕ, ◌+◌, ◌*◌, ◌^◌, ◌<◌, ◌≤◌, true, is_some, List, [], ◌∷◌, length, sum_by, slice_index_or}
+use Rattle.std.specs.Prelude.{◌≡◌, ℕ, zero, suc, ◌+◌, ◌*◌, ◌^◌, ◌<◌, ◌≤◌, true, is_some, List, [], ◌∷◌, length, sum_by, slice_index_or}
 use Rattle.std.proofs.Common.{arith, refl, sym, ap, subst, ◌∙◌}
 use Rattle.std.proofs.Math.Nat.{mul-suc}
 use Rattle.std.proofs.Math.Path.{fun_ext}
@@ -27,12 +27,14 @@ use Rattle.ring_laws.proofs.Orders.{by_cpus, by_tools, cpus_from, tools_from, no
 use Rattle.ring_laws.proofs.Small.{clock_of_script, sums_of_script}
 use Rattle.world_spec.specs.Kept.{IsKept, family_sums}
 use Rattle.world_spec.specs.StageOf.{stage_of}
-use Rattle.world_spec.specs.Value.{World, is_live, instance_at}
+use Rattle.world_spec.specs.Value.{World, is_live, instance_at, totals_at}
 use Rattle.world_spec.proofs.Agreement.{family-agrees}
 use Rattle.world_spec.proofs.Families.{open-is}
 use Rattle.world_spec.proofs.Staying.{origin-is}
-use Rattle.machine.specs.Leading.{Kept, LeadTo, record_in}
+use Rattle.machine.specs.Leading.{IsWhole, Kept, LeadTo, record_in}
 use Rattle.machine.specs.Room.{HasRoom}
+use Rattle.machine.specs.Totals.{AreUpTo}
+use Rattle.machine.proofs.Totals.{further}
 
 -- what an event has counted by the record of acts is what the definitions over the history say, and small
 family-is : (s : Scripted) (acts : List Act) (e : EventNo) → family_by (record_in s acts) e ≡ family_over (hardware_of s) (opening_stage s) (history s acts) e
@@ -150,12 +152,26 @@ small-ids s acts m h covered led =
     let few = few_ids (limits_of s) (hardware_of s) s.tasks (history s acts) (script_machine s h covered) h.tasks (within s [] acts h) in
     omega (arith, ap (λ st. st.next_id) stage, few, few-drawn s acts h)
 
-pub has-room : (s : Scripted) (acts : List Act) (m : Kept) → IsScript s → IsCovered s → LeadTo s acts m → IsKept m.world.hardware m.world → HasRoom m.world
-has-room s acts m h covered led kept = record {
+-- totals: each processor has few lines
+few-of : {X : Type 0} (lists : List (List X)) (i : ℕ) → length (slice_index_or lists i []) ≤ sum_by length lists
+few-of [] i = omega arith
+few-of (xs ∷ lists) zero = omega (arith, sum_by-cons length xs lists)
+few-of (xs ∷ lists) (suc i) = omega (arith, few-of lists i, sum_by-cons length xs lists)
+
+small-totals : (s : Scripted) (acts : List Act) (m : Kept) (cpu : CpuNo) → IsScript s → LeadTo s acts m → AreUpTo (slice_index_or m.cpus cpu.0 0 * 1000000000) (totals_at m.world cpu)
+    → AreUpTo (2 ^ 62) (totals_at m.world cpu)
+small-totals s acts m cpu h led up =
+    let lines : ℕ = slice_index_or m.cpus cpu.0 0 in
+    let few : lines ≤ 16384 = omega (arith, led.cpus cpu, led.counted.cpus cpu, few-of s.cpu_lines cpu.0, h.lines_few) in
+    further (lines * 1000000000) (2 ^ 62) (totals_at m.world cpu) (omega (arith, few)) up
+
+pub has-room : (s : Scripted) (acts : List Act) (m : Kept) → IsScript s → IsCovered s → LeadTo s acts m → IsKept m.world.hardware m.world → IsWhole m → HasRoom m.world
+has-room s acts m h covered led kept whole = record {
   sums = record {
     counts = λ k live. omega (arith, (small-sums s acts m k h covered led kept live).count);
     times = λ k live. omega (arith, (small-sums s acts m k h covered led kept live).enabled);
   };
   clocks = λ cpu. omega (arith, small-clock s acts m cpu h led);
+  totals = λ cpu. small-totals s acts m cpu h led (whole.totals cpu);
   ids = omega (arith, small-ids s acts m h covered led);
 }

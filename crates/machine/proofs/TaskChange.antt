@@ -1,5 +1,5 @@
 -- A switch that is done.
-use Rattle.std.specs.Prelude.{◌≡◌, ◌≢◌, ℕ, zero, suc, ◌+◌, ◌<◌, ◌==◌, Bool, true, false, cond, List, [], ◌∷◌, length, filter, Option, Some, None, slice_index_or, if◌then◌else◌}
+use Rattle.std.specs.Prelude.{◌≡◌, ℕ, zero, suc, ◌+◌, ◌<◌, ◌==◌, Bool, true, false, cond, List, [], ◌∷◌, length, filter, Option, Some, None, slice_index_or, if◌then◌else◌}
 use Rattle.std.proofs.Common.{arith, refl, sym, ap, subst, ◌∙◌, inl, inr}
 use Rattle.std.proofs.lemmas.Bool.{cases_eq}
 use Rattle.std.proofs.lemmas.List.{length-set}
@@ -71,6 +71,10 @@ pub record KeepsCounts (w x : World) : Type 0 where
 placed-keeps : (cpu : CpuNo) (to : Option TaskNo) (w : World) → KeepsCounts w (place cpu to w)
 placed-keeps cpu None w = record { hardware = refl; entries = refl; accounts = refl; families = refl; folded = refl; lost = refl; size = length-set w.quiet.running cpu.0 None; clocks = refl; used = refl; next_id = refl }
 placed-keeps cpu (Some task) w = record { hardware = refl; entries = refl; accounts = refl; families = refl; folded = refl; lost = refl; size = length-set w.quiet.running cpu.0 (Some task); clocks = refl; used = refl; next_id = refl }
+
+pub placed-totals : (cpu : CpuNo) (to : Option TaskNo) (w : World) → (place cpu to w).quiet.totals ≡ w.quiet.totals
+placed-totals cpu None w = refl
+placed-totals cpu (Some task) w = refl
 
 -- What is told of a switch: the worlds before it, after its own count, after the task came, and after the processor was
 -- rescheduled.

@@ -20,8 +20,8 @@ use Rattle.stage_spec.specs.Shares.{no_sums}
 use Rattle.stage_spec.proofs.Recurrence.{plus-none}
 use Rattle.stage_laws.specs.Sound.{IsSound}
 use Rattle.ring_spec.specs.Agreement.{IsCurrentSlot}
-use Rattle.world_spec.specs.Changes.{pass_time}
 use Rattle.world_spec.specs.Kept.{IsKept}
+use Rattle.world_spec.specs.Metering.{metered}
 use Rattle.world_spec.specs.Rescheduled.{AreRescheduled, IsRescheduled}
 use Rattle.world_spec.specs.StageOf.{stage_of}
 use Rattle.world_spec.specs.Value.{World, is_live, entry_at, instance_at, account_at}
@@ -46,7 +46,7 @@ pub record Course (w x : World) (cpu : CpuNo) (work : Work) : Type 0 where
   pub low : cpu.0 < length w.quiet.running
   pub shares : HaveShares w x (work_shares w cpu work)
   pub stage : stage_of x ≡ stage_of w
-  pub rest : x ≡ pass_time cpu work.length (record w { accounts = x.accounts })
+  pub rest : x ≡ record w { accounts = x.accounts; quiet = metered cpu work w.quiet }
 
 -- What is told of it with them: the ends before and after it, too.
 pub record Sending (w x : World) (cpu : CpuNo) (work : Work) (outs sent : OutList) : Type 0 where
@@ -55,7 +55,7 @@ pub record Sending (w x : World) (cpu : CpuNo) (work : Work) (outs sent : OutLis
   pub low : cpu.0 < length w.quiet.running
   pub shares : HaveShares w x (work_shares w cpu work)
   pub stage : stage_of x ≡ stage_of w
-  pub rest : x ≡ pass_time cpu work.length (record w { accounts = x.accounts; lost = x.lost })
+  pub rest : x ≡ record w { accounts = x.accounts; lost = x.lost; quiet = metered cpu work w.quiet }
   pub rescheduled : (other : CpuNo) → IsRescheduled w.hardware w other → IsRescheduled w.hardware x other
   pub kept_then : IsKept x.hardware x
   pub ends : (left : ℕ → ℕ) (accounts : List RingAccount) → AreLeft w left → HaveAccounts outs accounts

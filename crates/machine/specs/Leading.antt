@@ -1,6 +1,6 @@
 -- What a machine keeps, which acts of a script lead to it, and what an act answers after them. This project's own
 -- profile.
-use Rattle.std.specs.Prelude.{◌≡◌, ℕ, ◌<◌, List, [], ◌∷◌, length, slice_index_or}
+use Rattle.std.specs.Prelude.{◌≡◌, ℕ, ◌*◌, ◌<◌, List, [], ◌∷◌, length, slice_index_or}
 use Rattle.perf_base.specs.declared.acts.Act.{Act}
 use Rattle.perf_base.specs.declared.acts.Act.TheVariants as act
 use Rattle.perf_base.specs.declared.acts.Actor.{Actor}
@@ -18,8 +18,9 @@ use Rattle.ring_spec.specs.Running.{Running, record_of}
 use Rattle.sample_ring.specs.RingLists.{OutList}
 use Rattle.work_account.specs.Ends.{HaveAccounts}
 use Rattle.world_spec.specs.Agreement.{AgreesWith}
-use Rattle.world_spec.specs.Value.{World}
+use Rattle.world_spec.specs.Value.{World, totals_at}
 use Rattle.machine.specs.Stepped.{IsReady}
+use Rattle.machine.specs.Totals.{AreUpTo}
 
 -- how many lines each processor and each tool has done, the events with what they have counted, and the ends of the
 -- rings that send
@@ -29,11 +30,13 @@ pub record Kept : Type 0 where
   pub world : World
   pub outs : OutList
 
--- It has a count for each of eight processors and four tools, and its world is ready for a line.
+-- It has a count for each of eight processors and four tools, and its world is ready for a line. No total of a processor
+-- is above a thousand million for each line that the processor has done.
 pub record IsWhole (m : Kept) : Type 0 where
   pub cpus : length m.cpus ≡ 8
   pub tools : length m.tools ≡ 4
   pub ready : IsReady m.world
+  pub totals : (cpu : CpuNo) → AreUpTo (slice_index_or m.cpus cpu.0 0 * 1000000000) (totals_at m.world cpu)
 
 -- the record of a script's acts: the stage that they leave, and what each event has counted
 abbrev pub record_in : Scripted → List Act → Running

@@ -11,3 +11,4 @@ pub mod Shown
 pub mod Stepped
 pub mod Stepping
 pub mod Switched
+pub mod Totals

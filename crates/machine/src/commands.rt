@@ -26,6 +26,7 @@ pub fn enable<L: Ledger>(
     ensures done { IsDone (ToolStep (line.Enable event group)) world.old world.new result }
     ensures same { StaysIfRefused world.old world.new result }
     ensures hardware { world.new.hardware ≡ world.old.hardware }
+    ensures totals { world.new.quiet.totals ≡ world.old.quiet.totals }
     ensures counted { IsCounted (ToolStep (line.Enable event group)) world.old world.new tests.old tests.new }
 {
     world.use_invariant();
@@ -52,6 +53,7 @@ pub fn disable<L: Ledger>(
     ensures done { IsDone (ToolStep (line.Disable event group)) world.old world.new result }
     ensures same { StaysIfRefused world.old world.new result }
     ensures hardware { world.new.hardware ≡ world.old.hardware }
+    ensures totals { world.new.quiet.totals ≡ world.old.quiet.totals }
     ensures counted { IsCounted (ToolStep (line.Disable event group)) world.old world.new tests.old tests.new }
 {
     world.use_invariant();
@@ -73,6 +75,7 @@ pub fn reset(world: &mut World, event: EventNo, group: bool) -> Reply
     ensures done { IsDone (ToolStep (line.Reset event group)) world.old world.new result }
     ensures same { StaysIfRefused world.old world.new result }
     ensures hardware { world.new.hardware ≡ world.old.hardware }
+    ensures totals { world.new.quiet.totals ≡ world.old.quiet.totals }
 {
     world.use_invariant();
     match event_commands::reset(world, event, group) {
@@ -94,6 +97,7 @@ pub fn period(world: &mut World, event: EventNo, period: u64) -> Reply
     ensures done { IsDone (ToolStep (line.Period event period)) world.old world.new result }
     ensures same { StaysIfRefused world.old world.new result }
     ensures hardware { world.new.hardware ≡ world.old.hardware }
+    ensures totals { world.new.quiet.totals ≡ world.old.quiet.totals }
 {
     world.use_invariant();
     match event_commands::period(world, event, period) {
@@ -114,6 +118,7 @@ pub fn close<L: Ledger>(world: &mut World, event: EventNo, tests: &mut Steps<L>)
     ensures done { IsDone (ToolStep (line.Close event)) world.old world.new result }
     ensures same { StaysIfRefused world.old world.new result }
     ensures hardware { world.new.hardware ≡ world.old.hardware }
+    ensures totals { world.new.quiet.totals ≡ world.old.quiet.totals }
     ensures counted { IsCounted (ToolStep (line.Close event)) world.old world.new tests.old tests.new }
 {
     world.use_invariant();

@@ -9,11 +9,13 @@ ghost use Rattle.machine.specs.Stepped.{IsReady, IsDone, IsDoneWith, StaysIfRefu
 ghost use Rattle.work_account.specs.Ends.{AreTogether};
 ghost use Rattle.work_account.specs.Sampling.{HaveRings, HaveSpaceToSend, ends_of};
 ghost use Rattle.machine.specs.Room.{HasRoom, IsLineFor};
+ghost use Rattle.machine.specs.Totals.{HaveGrown};
 
 use crate::{commands, processors, rings as ring_lines, switching, tools};
 use perf_base::{CpuLine, CpuNo, Reply, Steps, ToolLine};
 use perf_world::World;
 use sample_ring::{Outs, Rings};
+use std::marker::Brand;
 use std::sync::ledger::{Blank, Ledger};
 
 /// Does a given line of a processor, with the records that it sends, and every rescheduling that it makes necessary.
@@ -40,13 +42,21 @@ pub fn cpu_line<L: Ledger>(
     ensures same { StaysIfRefused world.old world.new result }
     ensures ends { StaysIfRefused outs.old outs.new result }
     ensures hardware { world.new.hardware ≡ world.old.hardware }
+    ensures totals { HaveGrown cpu world.old world.new }
     ensures together { AreTogether rings.now outs.new }
     ensures seen { seen_of outs.new ≡ seen_of outs.old }
 {
     let mut tests = Steps::<L>::new(blank);
     match line {
         CpuLine::Switch(to) => switching::switch(world, cpu, *to, &mut tests),
-        CpuLine::Work(work) => processors::work(world, cpu, work, rings, outs),
+        CpuLine::Work(work) => processors::work::<Brand>(
+            world,
+            cpu,
+            *work,
+            rings,
+            outs,
+            Blank::new(1),
+        ),
         CpuLine::Tick => processors::tick(world, cpu, &mut tests),
         CpuLine::Fork(child) => processors::fork(world, cpu, *child),
         CpuLine::Exit => processors::exit(world, cpu, &mut tests),
@@ -65,6 +75,7 @@ pub fn tool_line<L: Ledger>(world: &mut World, line: &ToolLine, blank: Blank) ->
     ensures done { IsDone (ToolStep line.now) world.old world.new result }
     ensures same { StaysIfRefused world.old world.new result }
     ensures hardware { world.new.hardware ≡ world.old.hardware }
+    ensures totals { world.new.quiet.totals ≡ world.old.quiet.totals }
 {
     let mut tests = Steps::<L>::new(blank);
     match line {

@@ -1,22 +1,24 @@
 //! Lines of processors.
 
-ghost use Rattle.std.specs.Prelude.{◌≡◌, ◌+◌, ◌^◌, ◌<◌, ◌≤◌, length, slice_index_or};
+ghost use Rattle.std.specs.Prelude.{◌≡◌, ◌+◌, ◌^◌, ◌<◌, ◌≤◌, length};
 ghost use Rattle.perf_base.specs.Scripts.{IsCpuLine};
 ghost use Rattle.perf_base.specs.declared.lines.CpuLine.TheVariants as line;
 ghost use Rattle.stage_spec.specs.History.{CpuStep};
 ghost use Rattle.stage_laws.specs.Bounds.{most_of_line};
 ghost use Rattle.work_account.specs.Ends.{AreTogether};
 ghost use Rattle.work_account.specs.Sampling.{HaveRings, HaveSpaceToSend, ends_of};
+ghost use Rattle.world_spec.specs.Metering.{HasMeterRoom};
 ghost use Rattle.world_spec.specs.Shares.{HaveRoom};
 ghost use Rattle.machine.specs.Counted.{IsCounted};
 ghost use Rattle.machine.specs.Stepped.{IsReady, IsDone, IsDoneWith, StaysIfRefused, seen_of};
+ghost use Rattle.machine.specs.Totals.{HaveGrown};
 
 use crate::rescheduling::resched_each;
 use cpu_sched::resched;
 use perf_base::{CpuNo, Reply, Steps, TaskNo, Work};
 use perf_world::World;
 use sample_ring::{Outs, Rings};
-use std::sync::ledger::Ledger;
+use std::sync::ledger::{Blank, Ledger};
 use task_moves::rotate;
 
 /// A tick of a processor: the groups of its two contexts take turns, and it is rescheduled.
@@ -27,6 +29,7 @@ pub fn tick<L: Ledger>(world: &mut World, cpu: CpuNo, tests: &mut Steps<L>) -> R
     ensures done { IsDone (CpuStep cpu line.Tick) world.old world.new result }
     ensures same { StaysIfRefused world.old world.new result }
     ensures hardware { world.new.hardware ≡ world.old.hardware }
+    ensures totals { world.new.quiet.totals ≡ world.old.quiet.totals }
     ensures counted { IsCounted (CpuStep cpu line.Tick) world.old world.new tests.old tests.new }
 {
     world.use_invariant();
@@ -36,26 +39,39 @@ pub fn tick<L: Ledger>(world: &mut World, cpu: CpuNo, tests: &mut Steps<L>) -> R
     Reply::Ok
 }
 
-/// A stretch of work on a processor, with the records that it sends. No tail is loaded.
-pub fn work(world: &mut World, cpu: CpuNo, work: &Work, rings: &Rings, outs: &mut Outs) -> Reply
+/// A stretch of work on a processor, with the records that it sends. No tail is loaded. Its steps are counted on a
+/// ledger of their own.
+pub fn work<L: Ledger>(
+    world: &mut World,
+    cpu: CpuNo,
+    work: Work,
+    rings: &Rings,
+    outs: &mut Outs,
+    blank: Blank,
+) -> Reply
+    requires name { blank.name ≡ L.name }
+    requires parts { blank.parts ≡ L.parts }
+    requires some { 0 < blank.parts }
     requires ready { IsReady world.old }
     requires cpu { cpu.0 < length world.old.quiet.running }
-    requires line { IsCpuLine (length world.old.hardware.kind_pmus) (line.Work work.now) }
-    requires room { HaveRoom world.old (most_of_line (line.Work work.now)) }
-    requires clock { slice_index_or world.old.quiet.clocks cpu.0 0 + work.now.length < 2 ^ 63 }
+    requires line { IsCpuLine (length world.old.hardware.kind_pmus) (line.Work work) }
+    requires room { HaveRoom world.old (most_of_line (line.Work work)) }
+    requires meter { HasMeterRoom world.old cpu work }
     requires together { AreTogether rings.now outs.old }
     requires rings { HaveRings world.old outs.old.numbers }
-    requires space { HaveSpaceToSend world.old (ends_of outs.old world.old) cpu work.now }
+    requires space { HaveSpaceToSend world.old (ends_of outs.old world.old) cpu work }
     ensures ready { IsReady world.new }
-    ensures done { IsDoneWith (CpuStep cpu (line.Work work.now)) world.old world.new outs.old outs.new result }
+    ensures done { IsDoneWith (CpuStep cpu (line.Work work)) world.old world.new outs.old outs.new result }
     ensures same { StaysIfRefused world.old world.new result }
     ensures ends { StaysIfRefused outs.old outs.new result }
     ensures hardware { world.new.hardware ≡ world.old.hardware }
+    ensures totals { HaveGrown cpu world.old world.new }
     ensures together { AreTogether rings.now outs.new }
     ensures seen { seen_of outs.new ≡ seen_of outs.old }
 {
+    let mut steps = Steps::<L>::new(blank);
     world.use_invariant();
-    work_account::work(world, outs, rings, cpu, work);
+    work_account::work(world, outs, rings, cpu, &work, &mut steps);
     world.use_invariant();
     Reply::Ok
 }
@@ -71,6 +87,7 @@ pub fn fork(world: &mut World, cpu: CpuNo, child: TaskNo) -> Reply
     ensures done { IsDone (CpuStep cpu (line.Fork child)) world.old world.new result }
     ensures same { StaysIfRefused world.old world.new result }
     ensures hardware { world.new.hardware ≡ world.old.hardware }
+    ensures totals { world.new.quiet.totals ≡ world.old.quiet.totals }
 {
     world.use_invariant();
     let answer = fork_inherit::fork(world, cpu, child);
@@ -90,6 +107,7 @@ pub fn exit<L: Ledger>(world: &mut World, cpu: CpuNo, tests: &mut Steps<L>) -> R
     ensures done { IsDone (CpuStep cpu line.Exit) world.old world.new result }
     ensures same { StaysIfRefused world.old world.new result }
     ensures hardware { world.new.hardware ≡ world.old.hardware }
+    ensures totals { world.new.quiet.totals ≡ world.old.quiet.totals }
     ensures counted { IsCounted (CpuStep cpu line.Exit) world.old world.new tests.old tests.new }
 {
     world.use_invariant();

@@ -19,6 +19,7 @@ pub fn map(world: &mut World, event: EventNo, ring: RingNo) -> Reply
     ensures done { IsDone (ToolStep (line.Map event ring)) world.old world.new result }
     ensures same { StaysIfRefused world.old world.new result }
     ensures hardware { world.new.hardware ≡ world.old.hardware }
+    ensures totals { world.new.quiet.totals ≡ world.old.quiet.totals }
 {
     world.use_invariant();
     match ring_table::map(world, event, ring) {
@@ -42,6 +43,7 @@ pub fn output(world: &mut World, event: EventNo, target: EventNo) -> Reply
     ensures done { IsDone (ToolStep (line.Output event target)) world.old world.new result }
     ensures same { StaysIfRefused world.old world.new result }
     ensures hardware { world.new.hardware ≡ world.old.hardware }
+    ensures totals { world.new.quiet.totals ≡ world.old.quiet.totals }
 {
     world.use_invariant();
     match ring_table::output(world, event, target) {

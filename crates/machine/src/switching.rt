@@ -49,6 +49,7 @@ fn change_task<L: Ledger>(world: &mut World, cpu: CpuNo, to: Option<TaskNo>, tes
     ensures ready { IsReady world.new }
     ensures done { IsDone (CpuStep cpu (line.Switch to)) world.old world.new reply.Ok }
     ensures hardware { world.new.hardware ≡ world.old.hardware }
+    ensures totals { world.new.quiet.totals ≡ world.old.quiet.totals }
     ensures counted { IsCounted (CpuStep cpu (line.Switch to)) world.old world.new tests.old tests.new }
 {
     world.use_invariant();
@@ -75,6 +76,7 @@ pub fn switch<L: Ledger>(
     ensures done { IsDone (CpuStep cpu (line.Switch to)) world.old world.new result }
     ensures same { StaysIfRefused world.old world.new result }
     ensures hardware { world.new.hardware ≡ world.old.hardware }
+    ensures totals { world.new.quiet.totals ≡ world.old.quiet.totals }
     ensures counted { IsCounted (CpuStep cpu (line.Switch to)) world.old world.new tests.old tests.new }
 {
     world.use_invariant();

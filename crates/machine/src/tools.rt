@@ -29,6 +29,7 @@ pub fn open<L: Ledger>(
     ensures done { IsDone (ToolStep (line.Open slot attr.now leader)) world.old world.new result }
     ensures same { StaysIfRefused world.old world.new result }
     ensures hardware { world.new.hardware ≡ world.old.hardware }
+    ensures totals { world.new.quiet.totals ≡ world.old.quiet.totals }
     ensures counted { IsCounted (ToolStep (line.Open slot attr.now leader)) world.old world.new tests.old tests.new }
 {
     world.use_invariant();

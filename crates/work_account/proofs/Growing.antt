@@ -1,110 +1,144 @@
--- A family grows by no more than one instance may get, since no two of its instances are gone over.
-use Rattle.std.specs.Prelude.{◌≡◌, ℕ, ◌+◌, ◌≤◌, true, List, [], ◌∷◌, count_by, slice_index_or}
-use Rattle.std.proofs.Common.{arith, refl, ap, ◌∙◌, inl, inr}
-use Rattle.std.proofs.lemmas.Bool.{cases_eq, cases_Bool}
-use Rattle.std.proofs.lemmas.Bool.Decides.{nat_tests}
+-- A family grows by no more than one instance is given, since a processor reaches one of it at most.
+use Rattle.std.specs.Prelude.{◌≡◌, ℕ, ◌+◌, ◌≤◌, ◌==◌, max, Bool, true, false, not, ◌&&◌, List, slice_index_or, if◌then◌else◌}
+use Rattle.std.proofs.Common.{arith, refl, sym, ap, ◌∙◌, inl, inr}
+use Rattle.std.proofs.lemmas.Bool.{cases_Bool, false≢true}
+use Rattle.perf_base.specs.declared.attr.Kind.{Kind}
+use Rattle.perf_base.specs.declared.attr.Kind.TheVariants as kind
+use Rattle.perf_base.specs.declared.lines.CpuLine.TheVariants as cpu_line
+use Rattle.perf_base.specs.declared.lines.Work.{Work}
+use Rattle.perf_base.specs.declared.numbers.CpuNo.{CpuNo}
 use Rattle.perf_base.specs.declared.numbers.Key.{Key}
 use Rattle.perf_base.specs.declared.reply.Sums.{Sums}
+use Rattle.stage_spec.specs.declared.instance.Instance.{Instance}
 use Rattle.stage_spec.specs.Families.{plus}
-use Rattle.stage_spec.specs.Shares.{no_sums}
-use Rattle.stage_laws.specs.Bounds.{AreAtMost}
-use Rattle.stage_laws.proofs.Counts.{count-cons}
-use Rattle.world_spec.specs.Value.{World, no_family, instance_at, account_at, is_key, times}
-use Rattle.world_spec.specs.Kept.{post_at, keys_of, plus_keys, family_sums, AreLinked}
+use Rattle.stage_spec.specs.Shares.{no_sums, work_hits}
+use Rattle.stage_laws.specs.Bounds.{most_of_line, greatest, AreAtMost}
+use Rattle.world_spec.specs.Value.{World, no_family, is_live, entry_at, instance_at, account_at, times}
+use Rattle.world_spec.specs.Kept.{keys_of, plus_keys, family_sums, IsKept}
+use Rattle.world_spec.specs.Metering.{work_given}
+use Rattle.world_spec.specs.Rescheduled.{IsJudged}
+use Rattle.world_spec.specs.Shares.{work_shares, soft_hits, soft_shares, one_hit, HaveShares}
+use Rattle.world_spec.specs.Ways.{is_ready_at, is_on_at}
 use Rattle.world_spec.proofs.Accounts.{IsSum, counts_are_sums, times_are_sums, family-once}
-use Rattle.world_spec.proofs.Keys.{key-is, is_key-same, times-cons, once-true}
-use Rattle.work_account.specs.declared.happening.Happening.{Happening}
-use Rattle.work_account.specs.declared.happening.Happening.TheVariants as happening
-use Rattle.work_account.specs.Visits.{lasts, occurs, most_given, is_effective, is_on, visit, visited, is_in}
-use Rattle.work_account.proofs.Passing.{cond-most, plus-other, family-stays, visit-own, visit-other}
-use Rattle.work_account.proofs.Shared.{occurs-most, lasts-most}
+use Rattle.world_spec.proofs.Along.{on-share, share-is}
+use Rattle.world_spec.proofs.Folding.{run_times_are_sums}
+use Rattle.world_spec.proofs.Metering.{counted-most, where-most, off-first, none-unready, given-most, one-given, family-key, plus-same}
+use Rattle.world_spec.proofs.Moving.{leads-parts}
+use Rattle.world_spec.proofs.Reaching.{one-reached}
 
--- sums of keys of which one grows, and stands there once at most
-plus-one : (p : Sums → ℕ) → IsSum p → (s t : Key → Sums) (k : Key) (m : ℕ) → ((q : Key) → (q.0 ≡ k.0 → ⊥) → t q ≡ s q) → p (t k) ≤ p (s k) + m
-    → (keys : List Key) → times k keys ≤ 1 → p (plus_keys t keys) ≤ p (plus_keys s keys) + m
-plus-one p is s t k m same more [] once = omega arith
-plus-one p is s t k m same more (q ∷ keys) once = elim (cases_eq q.0 k.0) [
-  | inl e ↦
-      let none : times k keys ≡ 0 = omega (arith, once, times-cons k q keys, once-true (is_key k q) (is_key-same k q e)) in
-      omega (
-        arith,
-        more,
-        is.both (s q) (plus_keys s keys),
-        is.both (t q) (plus_keys t keys),
-        ap (λ x. p (s x)) (key-is q k e),
-        ap (λ x. p (t x)) (key-is q k e),
-        ap p (plus-other t s k same keys none),
-      )
-  | inr apart ↦
-      omega (
-        arith,
-        is.both (s q) (plus_keys s keys),
-        is.both (t q) (plus_keys t keys),
-        ap p (same q apart),
-        plus-one p is s t k m same more keys (omega (arith, once, times-cons k q keys)),
-      )
-]
+module _ (w new : World) (cpu : CpuNo) (given : ℕ → Sums) (most : Sums) (h : IsKept w.hardware w) (shared : HaveShares w new given)
+    (families : new.families ≡ w.families) (folded : new.folded ≡ w.folded)
+    (none : (k : Key) → is_live w k ≡ true → is_ready_at w cpu k ≡ false → given (instance_at w k).id ≡ no_sums)
+    (few : (k : Key) → is_live w k ≡ true → AreAtMost (given (instance_at w k).id) most) where
+  abbrev old : Key → Sums
+  old q = (account_at w q).sums
 
--- a family of which one key is visited, and one of which none is or one at most
-module _ (p : Sums → ℕ) (is : IsSum p) (x : Happening) (m : ℕ) (more : (w : World) (k : Key) → p (account_at (visit x w k) k).sums ≤ p (account_at w k).sums + m) where
-  one-grows : (w : World) → AreLinked (post_at w) w.contexts w.families → (k : Key) (slot : ℕ) → p (family_sums (visit x w k) slot) ≤ p (family_sums w slot) + m
-  one-grows w linked k slot =
+  abbrev mine : Key → Sums
+  mine q = if is_live w q then given (instance_at w q).id else no_sums
+
+  mine-live : (q : Key) → is_live w q ≡ true → mine q ≡ given (instance_at w q).id
+  mine-live q live = ap {B = Sums} (λ b. if b then given (instance_at w q).id else no_sums) live
+
+  mine-dead : (q : Key) → is_live w q ≡ false → mine q ≡ no_sums
+  mine-dead q dead = ap {B = Sums} (λ b. if b then given (instance_at w q).id else no_sums) dead
+
+  mine-none : (q : Key) → is_ready_at w cpu q ≡ false → mine q ≡ no_sums
+  mine-none q off = elim (cases_Bool (is_live w q)) [
+    | inl live ↦ mine-live q live ∙ none q live off
+    | inr dead ↦ mine-dead q dead
+  ]
+
+  sums-are : (slot : ℕ) → family_sums new slot ≡ plus (plus_keys (λ q. plus (old q) (mine q)) (keys_of (slice_index_or w.families slot no_family))) (slice_index_or w.folded slot no_sums)
+  sums-are slot =
       let keys : List Key = keys_of (slice_index_or w.families slot no_family) in
-      let old : Key → Sums = λ q. (account_at w q).sums in
-      let new : Key → Sums = λ q. (account_at (visit x w k) q).sums in
-      omega (
-        arith,
-        plus-one p is old new k m (λ q apart. ap (λ a. a.sums) (visit-other x w k q apart)) (more w k) keys (family-once w linked k slot),
-        is.both (plus_keys old keys) (slice_index_or w.folded slot no_sums),
-        is.both (plus_keys new keys) (slice_index_or w.folded slot no_sums),
-      )
+      (λ i. plus (plus_keys (λ q. (account_at new q).sums) (keys_of (slice_index_or (families i) slot no_family))) (slice_index_or (folded i) slot no_sums))
+      ∙ ap (λ x. plus x (slice_index_or w.folded slot no_sums))
+      (plus-same (λ q. plus (old q) (mine q)) (λ q. (account_at new q).sums) keys
+      (λ q some.
+      let live : is_live w q ≡ true = (family-key w.hardware w h slot q some).0 in
+      ap (λ a. a.sums) (shared.accounts q live) ∙ ap (plus (old q)) (sym (mine-live q live))))
 
-  none-grows : (keys : List Key) (w : World) → AreLinked (post_at w) w.contexts w.families → (slot : ℕ) → count_by (is_in w slot) keys ≡ 0
-      → family_sums (visited x keys w) slot ≡ family_sums w slot
-  unfolding visited
-  none-grows [] w linked slot none = refl
-  none-grows (k ∷ keys) w linked slot none = elim (cases_Bool (is_in w slot k)) [
-    | inl its ↦ absurd (omega (arith, none, count-cons (is_in w slot) k keys, once-true (is_in w slot k) its))
-    | inr other ↦
-        none-grows keys (visit x w k) linked slot (omega (arith, none, count-cons (is_in w slot) k keys))
-        ∙ family-stays x w linked k slot (λ e. (let its : is_in w slot k ≡ true = grind (arith, nat_tests, e) in cc (its, other)))
-  ]
+  module _ (p : Sums → ℕ) (is : IsSum p) (lower : (s t : Sums) → AreAtMost s t → p s ≤ p t) where
+    mine-most : (q : Key) → p (mine q) ≤ p most
+    mine-most q = elim (cases_Bool (is_live w q)) [
+      | inl live ↦ omega (arith, ap p (mine-live q live), lower (given (instance_at w q).id) most (few q live))
+      | inr dead ↦ omega (arith, ap p (mine-dead q dead), is.none)
+    ]
 
-  pub grows : (keys : List Key) (w : World) → AreLinked (post_at w) w.contexts w.families → (slot : ℕ) → count_by (is_in w slot) keys ≤ 1
-      → p (family_sums (visited x keys w) slot) ≤ p (family_sums w slot) + m
-  unfolding visited
-  grows [] w linked slot once = omega arith
-  grows (k ∷ keys) w linked slot once = elim (cases_Bool (is_in w slot k)) [
-    | inl its ↦
+    grows-by : (slot : ℕ) → p (family_sums new slot) ≤ p (plus (family_sums w slot) most)
+    grows-by slot =
+        let keys : List Key = keys_of (slice_index_or w.families slot no_family) in
+        let away : Sums = slice_index_or w.folded slot no_sums in
+        let all : Sums = plus_keys (λ q. plus (old q) (mine q)) keys in
         omega (
           arith,
-          one-grows w linked k slot,
-          ap p (none-grows keys (visit x w k) linked slot (omega (arith, once, count-cons (is_in w slot) k keys, once-true (is_in w slot k) its))),
+          ap p (sums-are slot),
+          is.both all away,
+          is.both (plus_keys old keys) away,
+          is.both (family_sums w slot) most,
+          one-given p is old mine (is_ready_at w cpu) (p most) mine-none mine-most keys (λ q. family-once w h.linked q slot)
+              (λ j k some_j some_k on_j on_k.
+              let its_j : (is_live w j ≡ true) × ((instance_at w j).event.0 ≡ slot) = family-key w.hardware w h slot j some_j in
+              let its_k : (is_live w k ≡ true) × ((instance_at w k).event.0 ≡ slot) = family-key w.hardware w h slot k some_k in
+              ap (λ x. x.0) (one-reached w.hardware w cpu j k h its_j.0 its_k.0 (its_j.1 ∙ sym its_k.1) (leads-parts _ _ on_j).1 (leads-parts _ _ on_k).1)),
         )
-    | inr other ↦
-        omega (
-          arith,
-          grows keys (visit x w k) linked slot (omega (arith, once, count-cons (is_in w slot) k keys)),
-          ap p (family-stays x w linked k slot (λ e. (let its : is_in w slot k ≡ true = grind (arith, nat_tests, e) in cc (its, other)))),
-        )
-  ]
 
--- each of the three sums
-ran_are_sums : IsSum (λ s. s.running)
-ran_are_sums = record { none = refl; both = λ a b. refl }
+  pub shares-grow : (slot : ℕ) → AreAtMost (family_sums new slot) (plus (family_sums w slot) most)
+  shares-grow slot = record {
+    count = grows-by (λ s. s.count) counts_are_sums (λ s t a. a.count) slot;
+    enabled = grows-by (λ s. s.enabled) times_are_sums (λ s t a. a.enabled) slot;
+    running = grows-by (λ s. s.running) run_times_are_sums (λ s t a. a.running) slot;
+  }
 
-runs-most : (x : Happening) → lasts x ≡ (most_given x).running
-runs-most (happening.Work work) = refl
-runs-most (happening.Soft occurring) = refl
+-- a stretch of work
+module _ (w : World) (cpu : CpuNo) (work : Work) (h : IsKept w.hardware w) (judged : IsJudged w.hardware w cpu) where
+  work-none : (k : Key) → is_live w k ≡ true → is_ready_at w cpu k ≡ false → work_shares w cpu work (instance_at w k).id ≡ no_sums
+  work-none k live off =
+      let g : work_given w cpu work k ≡ no_sums = none-unready w cpu work k off in
+      let count : (if is_on_at w cpu k then work_hits work (instance_at w k) else 0) ≡ 0 = ap {B = ℕ} (λ b. if b then work_hits work (instance_at w k) else 0) (off-first (is_ready_at w cpu k) _ off) in
+      share-is w cpu work k h judged live ∙ (λ i. record (g i) { count = count i })
 
-pub families-grow : (x : Happening) (keys : List Key) (w : World) → AreLinked (post_at w) w.contexts w.families → (slot : ℕ) → count_by (is_in w slot) keys ≤ 1
-    → AreAtMost (family_sums (visited x keys w) slot) (plus (family_sums w slot) (most_given x))
-families-grow x keys w linked slot once = record {
-  count = grows (λ s. s.count) counts_are_sums x (most_given x).count
-      (λ v k. omega (arith, ap (λ a. a.sums.count) (visit-own x v k), cond-most (is_on v k) (occurs x (instance_at v k)), occurs-most x (instance_at v k)))
-      keys w linked slot once;
-  enabled = grows (λ s. s.enabled) times_are_sums x (most_given x).enabled
-      (λ v k. omega (arith, ap (λ a. a.sums.enabled) (visit-own x v k), cond-most (is_effective v k) (lasts x), lasts-most x)) keys w linked slot once;
-  running = grows (λ s. s.running) ran_are_sums x (most_given x).running
-      (λ v k. omega (arith, ap (λ a. a.sums.running) (visit-own x v k), cond-most (is_on v k) (lasts x), runs-most x)) keys w linked slot once;
-}
+  work-few : (k : Key) → is_live w k ≡ true → AreAtMost (work_shares w cpu work (instance_at w k).id) (most_of_line (cpu_line.Work work))
+  work-few k live =
+      let m = given-most w cpu work k in
+      let is = share-is w cpu work k h judged live in
+      let i : Instance = instance_at w k in
+      record {
+        count = omega (arith, ap (λ s. s.count) is, where-most (is_on_at w cpu k) (work_hits work i) (max work.length (greatest work.hits)) (counted-most work i.attr i.attr.kind));
+        enabled = omega (arith, ap (λ s. s.enabled) is, m.enabled);
+        running = omega (arith, ap (λ s. s.running) is, m.running);
+      }
+
+  pub work-grows : (new : World) → HaveShares w new (work_shares w cpu work) → new.families ≡ w.families → new.folded ≡ w.folded
+      → (slot : ℕ) → AreAtMost (family_sums new slot) (plus (family_sums w slot) (most_of_line (cpu_line.Work work)))
+  work-grows new shared families folded = shares-grow w new cpu (work_shares w cpu work) (most_of_line (cpu_line.Work work)) h shared families folded work-none work-few
+
+-- one occurrence
+pub soft-small : (occurring : Kind) (i : Instance) → soft_hits occurring i ≤ 1
+soft-small (kind.Hard n) i = omega arith
+soft-small kind.ContextSwitches i = where-most _ 1 1 (omega arith)
+soft-small kind.CpuMigrations i = where-most _ 1 1 (omega arith)
+soft-small kind.TaskClock i = omega arith
+soft-small kind.Dummy i = omega arith
+
+module _ (w : World) (cpu : CpuNo) (occurring : Kind) (h : IsKept w.hardware w) (judged : IsJudged w.hardware w cpu) where
+  soft-none : (k : Key) → is_live w k ≡ true → is_ready_at w cpu k ≡ false → soft_shares w cpu occurring (instance_at w k).id ≡ no_sums
+  soft-none k live off =
+      let count : (soft_shares w cpu occurring (instance_at w k).id).count ≡ 0 =
+      on-share w cpu h judged (soft_hits occurring) k live ∙ ap {B = ℕ} (λ b. if b then soft_hits occurring (instance_at w k) else 0) (off-first (is_ready_at w cpu k) _ off) in
+      λ i. record no_sums { count = count i }
+
+  soft-few : (k : Key) → is_live w k ≡ true → AreAtMost (soft_shares w cpu occurring (instance_at w k).id) one_hit
+  soft-few k live = record {
+    count = omega (
+      arith,
+      on-share w cpu h judged (soft_hits occurring) k live,
+      where-most (is_on_at w cpu k) (soft_hits occurring (instance_at w k)) 1 (soft-small occurring (instance_at w k)),
+    );
+    enabled = omega arith;
+    running = omega arith;
+  }
+
+  pub soft-grows : (new : World) → HaveShares w new (soft_shares w cpu occurring) → new.families ≡ w.families → new.folded ≡ w.folded
+      → (slot : ℕ) → AreAtMost (family_sums new slot) (plus (family_sums w slot) one_hit)
+  soft-grows new shared families folded = shares-grow w new cpu (soft_shares w cpu occurring) one_hit h shared families folded soft-none soft-few

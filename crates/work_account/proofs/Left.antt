@@ -1,24 +1,35 @@
--- What is left as it was where accounts and clocks alone change.
+-- What is left as it was where accounts, clocks, totals and counts of lost records alone change.
 use Rattle.std.specs.Prelude.{◌≡◌, ℕ, List}
 use Rattle.std.specs.FinMap.{FinMap}
 use Rattle.std.specs.Ordering.{nat_cmp}
 use Rattle.std.proofs.Common.{sym, ap, subst, ◌∙◌}
+use Rattle.perf_base.specs.declared.lines.Work.{Work}
 use Rattle.perf_base.specs.declared.numbers.CpuNo.{CpuNo}
 use Rattle.perf_base.specs.declared.reply.Sums.{Sums}
 use Rattle.stage_spec.specs.Families.{plus}
 use Rattle.stage_spec.specs.Hardware.{Hardware}
 use Rattle.stage_laws.specs.Bounds.{AreAtMost}
-use Rattle.world_spec.specs.Value.{World, Account}
+use Rattle.world_spec.specs.Value.{World, Account, Totals}
 use Rattle.world_spec.specs.StageOf.{stage_of}
 use Rattle.world_spec.specs.Kept.{family_sums}
-use Rattle.world_spec.specs.Changes.{pass_time}
+use Rattle.world_spec.specs.Metering.{metered}
 use Rattle.world_spec.specs.Rescheduled.{IsRescheduled}
 use Rattle.world_spec.specs.Shares.{HaveShares}
-use Rattle.work_account.proofs.Going.{IsButAccounts}
 
-stays : (hw : Hardware) (w : World) (accounts : FinMap nat_cmp Account) (clocks : List ℕ) (other : CpuNo) → IsRescheduled hw w other
-    → IsRescheduled hw (record w { accounts = accounts; quiet = record w.quiet { clocks = clocks } }) other
-stays hw w accounts clocks other h = record {
+-- a world that is another one but for its accounts; but for these and what work adds to a meter; and but for the counts
+-- of lost records too
+abbrev pub IsButAccounts : World → World → Type 0
+IsButAccounts w after = after ≡ record w { accounts = after.accounts }
+
+abbrev pub IsMetered : World → World → CpuNo → Work → Type 0
+IsMetered w after cpu work = after ≡ record w { accounts = after.accounts; quiet = metered cpu work w.quiet }
+
+abbrev pub IsDone : World → World → CpuNo → Work → Type 0
+IsDone w after cpu work = after ≡ record w { accounts = after.accounts; lost = after.lost; quiet = metered cpu work w.quiet }
+
+stays : (hw : Hardware) (w : World) (accounts : FinMap nat_cmp Account) (lost clocks : List ℕ) (totals : List Totals) (other : CpuNo) → IsRescheduled hw w other
+    → IsRescheduled hw (record w { accounts = accounts; lost = lost; quiet = record w.quiet { clocks = clocks; totals = totals } }) other
+stays hw w accounts lost clocks totals other h = record {
   settled = h.settled;
   judged = record { standings = h.judged.standings; served = record { events = h.judged.served.events; assigned = h.judged.served.assigned } };
 }
@@ -28,25 +39,34 @@ pub soft-stage : (w new : World) → IsButAccounts w new → stage_of new ≡ st
 soft-stage w new rest = ap stage_of rest
 
 pub soft-stays : (hw : Hardware) (w new : World) (other : CpuNo) → IsButAccounts w new → IsRescheduled hw w other → IsRescheduled hw new other
-soft-stays hw w new other rest h = subst (λ v. IsRescheduled hw v other) (sym rest) (stays hw w new.accounts w.quiet.clocks other h)
+soft-stays hw w new other rest h = subst (λ v. IsRescheduled hw v other) (sym rest) (stays hw w new.accounts w.lost w.quiet.clocks w.quiet.totals other h)
 
--- and then a clock
-pub work-rest : (w mid new : World) (cpu : CpuNo) (length : ℕ) → IsButAccounts w mid → new ≡ pass_time cpu length mid → new ≡ pass_time cpu length (record w { accounts = new.accounts })
-work-rest w mid new cpu length rest is =
-    is ∙ (ap (pass_time cpu length) rest ∙ ap (λ a. pass_time cpu length (record w { accounts = a })) (sym (ap (λ v. v.accounts) is)))
+-- after work, and then further changes of accounts
+pub metered-on : (w mid new : World) (cpu : CpuNo) (work : Work) → IsMetered w mid cpu work → IsButAccounts mid new → IsMetered w new cpu work
+metered-on w mid new cpu work is rest =
+    rest
+    ∙ (ap {A = World} {B = World} (λ x. record x { accounts = new.accounts }) is)
 
-pub work-stage : (w mid new : World) (cpu : CpuNo) (length : ℕ) → IsButAccounts w mid → new ≡ pass_time cpu length mid → stage_of new ≡ stage_of w
-work-stage w mid new cpu length rest is = ap stage_of (work-rest w mid new cpu length rest is)
+-- and then of the counts of lost records
+pub done-on : (w mid new : World) (cpu : CpuNo) (work : Work) → IsMetered w mid cpu work → new ≡ record mid { lost = new.lost } → IsDone w new cpu work
+done-on w mid new cpu work is more =
+    more
+    ∙ (ap {A = World} {B = World} (λ x. record x { lost = new.lost }) is
+    ∙ ap {B = World} (λ a. record w { accounts = a; lost = new.lost; quiet = metered cpu work w.quiet }) (sym (ap (λ (x : World). x.accounts) more)))
 
-pub work-shares : (w mid new : World) (cpu : CpuNo) (length : ℕ) (given : ℕ → Sums) → new ≡ pass_time cpu length mid → HaveShares w mid given → HaveShares w new given
-work-shares w mid new cpu length given is h = subst (λ v. HaveShares w v given) (sym is) (record { accounts = h.accounts; keys = h.keys })
+module _ (w new : World) (cpu : CpuNo) (work : Work) (done : IsDone w new cpu work) where
+  pub work-stage : stage_of new ≡ stage_of w
+  work-stage = ap stage_of done
 
-pub work-grown : (w mid new : World) (cpu : CpuNo) (length slot : ℕ) (most : Sums) → new ≡ pass_time cpu length mid
-    → AreAtMost (family_sums mid slot) (plus (family_sums w slot) most) → AreAtMost (family_sums new slot) (plus (family_sums w slot) most)
-work-grown w mid new cpu length slot most is h = subst (λ v. AreAtMost (family_sums v slot) (plus (family_sums w slot) most)) (sym is) h
+  pub work-stays : (hw : Hardware) (other : CpuNo) → IsRescheduled hw w other → IsRescheduled hw new other
+  work-stays hw other h =
+      subst (λ v. IsRescheduled hw v other) (sym done)
+      (stays hw w new.accounts new.lost (metered cpu work w.quiet).clocks (metered cpu work w.quiet).totals other h)
 
-pub work-stays : (hw : Hardware) (w mid new : World) (cpu : CpuNo) (length : ℕ) (other : CpuNo) → IsButAccounts w mid → new ≡ pass_time cpu length mid
-    → IsRescheduled hw w other → IsRescheduled hw new other
-work-stays hw w mid new cpu length other rest is h =
-    subst (λ v. IsRescheduled hw v other) (sym (work-rest w mid new cpu length rest is))
-    (stays hw w new.accounts (pass_time cpu length w).quiet.clocks other h)
+-- shares and sums where a count of lost records changed besides
+module _ (w mid new : World) (more : new ≡ record mid { lost = new.lost }) where
+  pub lost-shares : (given : ℕ → Sums) → HaveShares w mid given → HaveShares w new given
+  lost-shares given h = subst (λ (v : World). HaveShares w v given) (sym more) (record { accounts = h.accounts; keys = h.keys })
+
+  pub lost-grown : (slot : ℕ) (most : Sums) → AreAtMost (family_sums mid slot) (plus (family_sums w slot) most) → AreAtMost (family_sums new slot) (plus (family_sums w slot) most)
+  lost-grown slot most h = subst (λ (v : World). AreAtMost (family_sums v slot) (plus (family_sums w slot) most)) (sym more) h

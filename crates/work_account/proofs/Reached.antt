@@ -1,198 +1,156 @@
--- The keys that a processor reaches: they live, no two are of one family, and those that are on and those that are
--- ready are the stage's.
-use Rattle.std.specs.Prelude.{◌≡◌, ℕ, ◌≤◌, ◌==◌, Bool, true, false, ◌&&◌, cond, List, [], ◌∷◌, ◌++◌, map, filter, flat_map, count_by}
-use Rattle.std.proofs.Common.{arith, refl, sym, ap, ◌∙◌, inl, inr}
-use Rattle.std.proofs.lemmas.Bool.{cases_eq, cases_Bool, false≢true}
-use Rattle.std.proofs.lemmas.List.Elements.{filter-append}
+-- The keys that a processor reaches: no two are of one family, so they are few.
+use Rattle.std.specs.Prelude.{◌≡◌, ℕ, zero, suc, ◌+◌, ◌<◌, ◌≤◌, ◌==◌, Bool, true, false, not, ◌&&◌, cond, List, [], ◌∷◌, ◌++◌, length, map, filter, flat_map, count_by, Option, Some, None, IfSome, slice_index_or, if◌then◌else◌}
+use Rattle.std.proofs.Common.{arith, refl, sym, ap, ◌∙◌, inl, inr, append_assoc}
+use Rattle.std.proofs.lemmas.List.{get_or_past, length-append}
+use Rattle.std.proofs.lemmas.Bool.{cases_eq, cases_lt, cases_Bool, false≢true}
+use Rattle.std.proofs.lemmas.Bool.Decides.{nat_tests}
 use Rattle.perf_base.specs.declared.numbers.CpuNo.{CpuNo}
 use Rattle.perf_base.specs.declared.numbers.EventNo.{EventNo}
 use Rattle.perf_base.specs.declared.numbers.Key.{Key}
-use Rattle.perf_base.specs.declared.standing.Own.{Own}
-use Rattle.perf_base.specs.declared.standing.Own.TheVariants as own
-use Rattle.perf_base.specs.declared.standing.Standing.TheVariants as standing
+use Rattle.perf_base.specs.declared.numbers.TaskNo.{TaskNo}
+use Rattle.perf_base.specs.declared.standing.Context.{Context}
+use Rattle.perf_base.specs.declared.standing.Context.TheVariants as context
+use Rattle.stage_spec.specs.declared.instance.TaskStatus.{TaskStatus}
 use Rattle.stage_spec.specs.declared.instance.Instance.{Instance}
-use Rattle.stage_spec.specs.Effective.{effective, is_ready}
 use Rattle.stage_spec.specs.Hardware.{Hardware}
-use Rattle.stage_spec.specs.Reading.{is_error}
-use Rattle.stage_spec.specs.Shares.{ready_instances}
-use Rattle.stage_spec.specs.Stage.{Group, members, is_of_family}
-use Rattle.stage_spec.specs.Verdict.{Judged, is_eligible, passes, verdicts, on_instances, reached}
-use Rattle.perf_base.specs.Standings.{stands_on}
-use Rattle.stage_laws.proofs.Counts.{count-cons, count-append}
-use Rattle.world_spec.specs.Value.{World, is_live, entry_at, instance_at, standing_at, is_key, times}
+use Rattle.stage_spec.specs.Stage.{members, is_of_family, task_on, place_of, unknown_task, is_live as is_live_task}
+use Rattle.stage_spec.specs.Verdict.{reached}
+use Rattle.stage_laws.proofs.Counts.{count-cons, count-filter}
+use Rattle.world_spec.specs.Value.{World, Leaders, is_live, entry_at, instance_at, leaders_of, is_key, times}
 use Rattle.world_spec.specs.StageOf.{group_at, stage_of}
-use Rattle.world_spec.specs.Kept.{post_at, once_if, leads, is_member_of, IsKept}
-use Rattle.world_spec.specs.Listings.{pass_leaders}
-use Rattle.world_spec.specs.Rescheduled.{IsJudged}
-use Rattle.world_spec.specs.Working.{leaders_by_pass, ready_in, effective_in}
-use Rattle.world_spec.proofs.Keys.{key-is, is_key-same, is_key-true, times-cons, once-true, once-false}
+use Rattle.world_spec.specs.Kept.{post_at, leads, once_if, IsKept}
+use Rattle.world_spec.specs.Listings.{pass_leaders, task_leaders}
+use Rattle.world_tables.specs.Places.{picked}
+use Rattle.work_account.specs.declared.happening.Happening.{Happening}
+use Rattle.work_account.specs.declared.overflowing.Hit.{Hit}
+use Rattle.work_account.specs.Visits.{hits_among, own_keys, task_keys}
+use Rattle.work_account.proofs.Among.{flat-four, hits-four}
+use Rattle.world_spec.specs.Working.{keys_by_pass, leaders_by_pass}
+use Rattle.world_spec.proofs.Along.{keys-live}
+use Rattle.world_spec.proofs.Counting.{times-filter}
 use Rattle.world_spec.proofs.Families.{members-are}
-use Rattle.world_spec.proofs.Listings.{passes-are, flat-mapped, reached-leading, reached-context, one-on_processor}
-use Rattle.world_spec.proofs.Moving.{leads-parts}
-use Rattle.world_spec.proofs.Rescheduling.{is_led, is_about, about-groups, among-none, same-id}
-use Rattle.world_spec.proofs.Standing.{passes-groups}
-use Rattle.world_spec.proofs.Working.{on-is, ready-is}
-use Rattle.work_account.specs.Visits.{is_effective, is_on, is_in, members_at, all_members}
+use Rattle.world_spec.proofs.Keys.{is_key-same, times-cons, once-true, once-false}
+use Rattle.world_spec.proofs.Listings.{passes-are, flat-mapped, reached-leading, one-on_processor}
 
--- the members of groups
-once-both : (b : Bool) → 1 ≤ once_if b → b ≡ true
-once-both true h = refl
-once-both false h = absurd (omega (arith, h))
+-- whether an instance is of the family of a slot
+abbrev pub is_in : World → ℕ → Key → Bool
+is_in w slot k = (instance_at w k).event.0 == slot
 
-pub member-of : (hw : Hardware) (w : World) → IsKept hw w → (q k : Key) → 1 ≤ times k (members_at w q) → (is_live w k ≡ true) × ((entry_at w k).leader ≡ q)
-member-of hw w h q k some =
-    let both = leads-parts (is_live w k) (is_key q (entry_at w k).leader) (once-both (is_member_of (post_at w) q k) (omega (arith, some, h.linked.members k q))) in
-    (both.0, key-is (entry_at w k).leader q (is_key-true q (entry_at w k).leader both.1))
-
-pub members-live : (hw : Hardware) (w : World) → IsKept hw w → (leaders : List Key) (k : Key) → 1 ≤ times k (all_members w leaders) → is_live w k ≡ true
-members-live hw w h [] k some = absurd (omega (arith, some))
-members-live hw w h (q ∷ leaders) k some = elim (cases_eq (times k (members_at w q)) 0) [
-  | inl none ↦ members-live hw w h leaders k (omega (arith, some, none, count-append (is_key k) (members_at w q) (all_members w leaders)))
-  | inr more ↦ (member-of hw w h q k (omega (arith, more))).0
-]
-
--- one of each family
 counted-image : (w : World) (p : Instance → Bool) (keys : List Key) → count_by p (map (instance_at w) keys) ≡ count_by (λ k. p (instance_at w k)) keys
 counted-image w p [] = refl
 counted-image w p (k ∷ keys) =
     omega (arith, count-cons p (instance_at w k) (map (instance_at w) keys), count-cons (λ q. p (instance_at w q)) k keys, counted-image w p keys)
 
-pub one-each : (hw : Hardware) (w : World) (cpu : CpuNo) → IsKept hw w → (slot : ℕ) → count_by (is_in w slot) (all_members w (leaders_by_pass w cpu)) ≤ 1
+pub one-each : (hw : Hardware) (w : World) (cpu : CpuNo) → IsKept hw w → (slot : ℕ) → count_by (is_in w slot) (keys_by_pass w cpu) ≤ 1
 one-each hw w cpu h slot =
     let e : EventNo = record { 0 = slot } in
     let leaders : List Key = leaders_by_pass w cpu in
-    let are : reached (stage_of w) cpu ≡ map (instance_at w) (all_members w leaders) =
+    let are : reached (stage_of w) cpu ≡ map (instance_at w) (keys_by_pass w cpu) =
     ap (λ ps. members (flat_map (λ p. p) ps)) (passes-are w cpu) ∙ (ap members (flat-mapped (group_at w) (pass_leaders w cpu)) ∙ members-are hw w h leaders (reached-leading hw w h cpu)) in
-    omega (arith, one-on_processor hw w cpu e h, ap (count_by (is_of_family e)) are, counted-image w (is_of_family e) (all_members w leaders))
+    omega (arith, one-on_processor hw w cpu e h, ap (count_by (is_of_family e)) are, counted-image w (is_of_family e) (keys_by_pass w cpu))
 
--- tests that agree on the keys of a list
-filter-same : (p q : Key → Bool) (keys : List Key) → ((k : Key) → 1 ≤ times k keys → p k ≡ q k) → filter p keys ≡ filter q keys
-filter-same p q [] h = refl
-filter-same p q (k ∷ keys) h =
-    let first : p k ≡ q k = h k (omega (arith, times-cons k k keys, once-true (is_key k k) (is_key-same k k refl))) in
-    rw (first, filter-same p q keys (λ j some. h j (omega (arith, some, times-cons j k keys)))) refl
+pub stands-first : (k : Key) (keys : List Key) → 1 ≤ times k (k ∷ keys)
+stands-first k keys = omega (arith, times-cons k k keys, once-true (is_key k k) (is_key-same k k refl))
 
-filter-no : (keys : List Key) → filter (λ k. false) keys ≡ []
-filter-no [] = refl
-filter-no (k ∷ keys) = filter-no keys
+-- some of a list
+pub chosen-some : (p : Key → Bool) (keys : List Key) (q : Key) → 1 ≤ times q (filter p keys) → 1 ≤ times q keys
+chosen-some p keys q some = at-most (p q) (omega (arith, some, times-filter q p keys))
+  where
+    at-most : (b : Bool) → 1 ≤ cond b (times q keys) 0 → 1 ≤ times q keys
+    at-most true h = h
+    at-most false h = absurd (omega (arith, h))
 
--- those that are ready
-pub effective-are : (hw : Hardware) (w : World) → IsKept hw w → (leaders : List Key) → flat_map (effective_in w) leaders ≡ filter (is_effective w) (all_members w leaders)
-effective-are hw w h [] = refl
-effective-are hw w h (q ∷ leaders) =
-    let here : effective_in w q ≡ filter (is_effective w) (members_at w q) =
-    filter-same (λ k. is_ready (effective (instance_at w q).own (instance_at w k).own)) (is_effective w) (members_at w q)
-    (λ k some. ap (λ l. is_ready (effective (instance_at w l).own (instance_at w k).own)) (sym (member-of hw w h q k some).1)) in
-    ap (λ keys. keys ++ flat_map (effective_in w) leaders) here
-    ∙ (ap (λ keys. filter (is_effective w) (members_at w q) ++ keys) (effective-are hw w h leaders)
-    ∙ sym (filter-append (is_effective w) (members_at w q) (all_members w leaders)))
+pub chosen-passes : (p : Key → Bool) (keys : List Key) (q : Key) → 1 ≤ times q (filter p keys) → p q ≡ true
+chosen-passes p keys q some = elim (cases_Bool (p q)) [
+  | inl e ↦ e
+  | inr e ↦ absurd (omega (arith, some, times-filter q p keys, ap (λ b. cond b (times q keys) 0) e))
+]
 
-pub ready-keys : (hw : Hardware) (w : World) (cpu : CpuNo) → IsKept hw w
-    → ready_instances (stage_of w) cpu ≡ map (instance_at w) (filter (is_effective w) (all_members w (leaders_by_pass w cpu)))
-ready-keys hw w cpu h = ready-is hw w cpu h ∙ ap (map (instance_at w)) (effective-are hw w h (leaders_by_pass w cpu))
-
--- A group that stands on is eligible, and so its leader is ready.
-none-eligible : (hw : Hardware) (w : World) (cpu : CpuNo) (id : ℕ) (keys : List Key)
-    → ((k : Key) → 1 ≤ times k keys → ((instance_at w k).id == id) ≡ true → is_eligible hw cpu (group_at w k) ≡ false)
-    → count_by (is_led id) (filter (is_eligible hw cpu) (map (group_at w) keys)) ≡ 0
-none-eligible hw w cpu id [] none = refl
-none-eligible hw w cpu id (k ∷ keys) none =
-    let rest : count_by (is_led id) (filter (is_eligible hw cpu) (map (group_at w) keys)) ≡ 0 =
-    none-eligible hw w cpu id keys (λ j some. none j (omega (arith, some, times-cons j k keys))) in
-    elim (cases_Bool (is_eligible hw cpu (group_at w k))) [
-      | inl goes ↦ elim (cases_Bool ((instance_at w k).id == id)) [
-        | inl its ↦ absurd (false≢true (sym (none k (omega (arith, times-cons k k keys, once-true (is_key k k) (is_key-same k k refl))) its) ∙ goes))
-        | inr other ↦
-            ap (λ b. count_by (is_led id) (cond b (group_at w k ∷ filter (is_eligible hw cpu) (map (group_at w) keys)) (filter (is_eligible hw cpu) (map (group_at w) keys)))) goes
-            ∙ omega (arith, rest, count-cons (is_led id) (group_at w k) (filter (is_eligible hw cpu) (map (group_at w) keys)), once-false (is_led id (group_at w k)) other)
-      ]
-      | inr stays ↦
-          ap (λ b. count_by (is_led id) (cond b (group_at w k ∷ filter (is_eligible hw cpu) (map (group_at w) keys)) (filter (is_eligible hw cpu) (map (group_at w) keys)))) stays ∙ rest
+-- A processor reaches at most one key of each of 256 slots.
+split-length : (p : Key → Bool) (keys : List Key) → length keys ≡ count_by p keys + length (filter (λ k. not (p k)) keys)
+split-length p [] = refl
+split-length p (k ∷ keys) =
+    let rest : List Key = filter (λ q. not (p q)) keys in
+    let kept : (b : Bool) → p k ≡ b → length (filter (λ q. not (p q)) (k ∷ keys)) ≡ length (cond (not b) (k ∷ rest) rest) = λ b e. ap (λ c. length (cond (not c) (k ∷ rest) rest)) e in
+    elim (cases_Bool (p k)) [
+      | inl e ↦ omega (arith, split-length p keys, kept true e, count-cons p k keys, once-true (p k) e)
+      | inr e ↦ omega (arith, split-length p keys, kept false e, count-cons p k keys, once-false (p k) e)
     ]
 
-joined : (test : Group → Bool) (ps : List (List Group)) → flat_map (λ p. p) (map (filter test) ps) ≡ filter test (flat_map (λ p. p) ps)
-joined test [] = refl
-joined test (p ∷ ps) = ap (λ gs. filter test p ++ gs) (joined test ps) ∙ sym (filter-append test p (flat_map (λ x. x) ps))
+not-in : (w : World) (n : ℕ) (q : Key) → not (is_in w n q) ≡ true → (instance_at w q).event.0 ≡ n → ⊥
+not-in w n q out same = let its : is_in w n q ≡ true = grind (arith, nat_tests, same) in false≢true (sym (ap not its) ∙ out)
 
-judged-are : (hw : Hardware) (w : World) (cpu : CpuNo) → map (λ j. j.group) (verdicts hw (stage_of w) cpu) ≡ filter (is_eligible hw cpu) (map (group_at w) (leaders_by_pass w cpu))
-unfolding verdicts
-judged-are hw w cpu =
-    passes-groups hw [] (map (filter (is_eligible hw cpu)) (passes (stage_of w) cpu))
-    ∙ (joined (is_eligible hw cpu) (passes (stage_of w) cpu)
-    ∙ ap (filter (is_eligible hw cpu)) (ap (flat_map (λ p. p)) (passes-are w cpu) ∙ flat-mapped (group_at w) (pass_leaders w cpu)))
+below-few : (w : World) (n : ℕ) (keys : List Key) → ((slot : ℕ) → count_by (is_in w slot) keys ≤ 1) → ((q : Key) → 1 ≤ times q keys → (instance_at w q).event.0 < n)
+    → length keys ≤ n
+below-few w zero [] each low = omega arith
+below-few w zero (k ∷ keys) each low = absurd (omega (arith, low k (stands-first k keys)))
+below-few w (suc n) keys each low =
+    let p : Key → Bool = λ k. not (is_in w n k) in
+    let rest : length (filter p keys) ≤ n = below-few w n (filter p keys)
+    (λ slot. omega (arith, each slot, count-filter (is_in w slot) p keys))
+    (λ q some. below (instance_at w q).event.0 (low q (chosen-some p keys q some)) (not-in w n q (chosen-passes p keys q some))) in
+    omega (arith, rest, each n, split-length (is_in w n) keys)
+  where
+    below : (e : ℕ) → e < suc n → (e ≡ n → ⊥) → e < n
+    below e l off = elim (cases_eq e n) [
+      | inl same ↦ absurd (off same)
+      | inr other ↦ omega (arith, l, other)
+    ]
 
-not-eligible : (ready here counted : Bool) → ready ≡ false → (ready && here && counted) ≡ false
-not-eligible false here counted h = refl
-not-eligible true here counted h = absurd (false≢true (sym h))
+pub reached-few : (w : World) (cpu : CpuNo) → IsKept w.hardware w → length (keys_by_pass w cpu) ≤ 256
+reached-few w cpu h = below-few w 256 (keys_by_pass w cpu) (one-each w.hardware w cpu h) (λ q some. h.numbered.slots q (keys-live w.hardware w cpu h q some))
 
-pub on-ready : (hw : Hardware) (w : World) (cpu : CpuNo) → IsKept hw w → IsJudged hw w cpu → (q : Key) → 1 ≤ times q (leaders_by_pass w cpu) → stands_on (standing_at w q) ≡ true
-    → is_ready (instance_at w q).own ≡ true
-on-ready hw w cpu h judged q some on = elim (cases_Bool (is_ready (instance_at w q).own)) [
-  | inl ready ↦ ready
-  | inr off ↦
-      let js : List Judged = verdicts hw (stage_of w) cpu in
-      let id : ℕ = (instance_at w q).id in
-      let lead : (k : Key) → 1 ≤ times k (leaders_by_pass w cpu) → leads (post_at w) k ≡ true = reached-leading hw w h cpu in
-      let none : count_by (is_about id) js ≡ 0 =
-      about-groups id js ∙ (ap (count_by (is_led id)) (judged-are hw w cpu)
-      ∙ none-eligible hw w cpu id (leaders_by_pass w cpu) (λ k there same.
-      not-eligible (is_ready (instance_at w k).own) _ _ (ap (λ x. is_ready (instance_at w x).own) (same-id hw w h k q (lead k there) (lead q some) same) ∙ off))) in
-      let out : standing_at w q ≡ standing.Out = judged.standings q (lead q some) (reached-context hw w h cpu q some) ∙ among-none js (group_at w q) none in
-      absurd (false≢true (sym (ap stands_on out) ∙ on))
+-- who stands in a list of a context leads, and a task that runs has a number below 64
+leads-where : (lead other third : Bool) → 1 ≤ once_if (lead && other && third) → lead ≡ true
+leads-where true other third h = refl
+leads-where false other third h = absurd (omega (arith, h))
+
+pub listed-leads : (hw : Hardware) (w : World) (c : Context) (pinned : Bool) (q : Key) → IsKept hw w → 1 ≤ times q (picked pinned (leaders_of w c)) → leads (post_at w) q ≡ true
+listed-leads hw w c true q h some =
+    leads-where (leads (post_at w) q) (place_of (entry_at w q).context == place_of c) (if (entry_at w q).pinned then true else false) (omega (arith, some, h.linked.pinned q (place_of c)))
+listed-leads hw w c false q h some =
+    leads-where (leads (post_at w) q) (place_of (entry_at w q).context == place_of c) (if (entry_at w q).pinned then false else true) (omega (arith, some, h.linked.flexible q (place_of c)))
+
+live-below : (tasks : List TaskStatus) (n : ℕ) → is_live_task (slice_index_or tasks n unknown_task).state ≡ true → n < length tasks
+live-below tasks n live = elim (cases_lt n (length tasks)) [
+  | inl low ↦ low
+  | inr past ↦ absurd (false≢true (ap (λ t. is_live_task t.state) (sym (get_or_past tasks n unknown_task past)) ∙ live))
 ]
 
--- those that are on
-under-ready : (leader mine : Own) → is_ready leader ≡ true → (is_error mine ≡ true → mine ≡ leader) → is_ready (effective leader mine) ≡ is_ready mine
-under-ready own.Ready own.Off ready h = refl
-under-ready own.Ready own.Ready ready h = refl
-under-ready own.Ready (own.Error cause) ready h = absurd (false≢true (ap is_ready (h refl)))
-under-ready own.Off mine ready h = absurd (false≢true ready)
-under-ready (own.Error cause) mine ready h = absurd (false≢true ready)
+pub task-below : (hw : Hardware) (w : World) (cpu : CpuNo) (o : Option TaskNo) → IsKept hw w → o ≡ task_on (stage_of w) cpu → IfSome o (λ t. t.0 < 64)
+task-below hw w cpu None h on = tt
+task-below hw w cpu (Some task) h on = omega (arith, live-below w.quiet.tasks task.0 (h.running.live cpu task (sym on)), h.shape.tasks)
 
-both-true : (a b : Bool) → b ≡ true → (a && b) ≡ a
-both-true true true h = refl
-both-true false b h = refl
-both-true true false h = absurd (false≢true h)
+-- the four lists of a processor
+module _ (w : World) (cpu : CpuNo) (task : Option TaskNo) (on : task ≡ task_on (stage_of w) cpu) where
+  four : keys_by_pass w cpu ≡ own_keys w cpu true ++ (task_keys w task true ++ (own_keys w cpu false ++ (task_keys w task false ++ [])))
+  four =
+      let own : Leaders = leaders_of w (context.Processor cpu) in
+      let its : Leaders = task_leaders w (task_on (stage_of w) cpu) in
+      flat-four w own.pinned its.pinned own.flexible its.flexible
+      ∙ ap (λ t. own_keys w cpu true ++ (task_keys w t true ++ (own_keys w cpu false ++ (task_keys w t false ++ [])))) (sym on)
 
-not-both : (a b : Bool) → b ≡ false → (a && b) ≡ false
-not-both true b h = h
-not-both false b h = refl
+  pub four-lengths : IsKept w.hardware w
+      → length (own_keys w cpu true) + (length (task_keys w task true) + (length (own_keys w cpu false) + length (task_keys w task false))) ≤ 256
+  four-lengths h =
+      omega (
+        arith,
+        reached-few w cpu h,
+        ap (λ (keys : List Key). length keys) four,
+        length-append (own_keys w cpu true) (task_keys w task true ++ (own_keys w cpu false ++ (task_keys w task false ++ []))),
+        length-append (task_keys w task true) (own_keys w cpu false ++ (task_keys w task false ++ [])),
+        length-append (own_keys w cpu false) (task_keys w task false ++ []),
+        length-append (task_keys w task false) [],
+      )
 
-on-in : (hw : Hardware) (w : World) → IsKept hw w → (q : Key) → (stands_on (standing_at w q) ≡ true → is_ready (instance_at w q).own ≡ true)
-    → cond (stands_on (standing_at w q)) (ready_in w q) [] ≡ filter (is_on w) (members_at w q)
-on-in hw w h q ready = elim (cases_Bool (stands_on (standing_at w q))) [
-  | inl on ↦
-      ap (λ b. cond b (ready_in w q) []) on
-      ∙ filter-same (λ k. is_ready (instance_at w k).own) (is_on w) (members_at w q) (λ k some.
-      let m = member-of hw w h q k some in
-      let l : Key = (entry_at w k).leader in
-      let stands : stands_on (standing_at w l) ≡ true = ap (λ x. stands_on (standing_at w x)) m.1 ∙ on in
-      let led : is_ready (instance_at w l).own ≡ true = ap (λ x. is_ready (instance_at w x).own) m.1 ∙ ready on in
-      sym (both-true (is_effective w k) (stands_on (standing_at w l)) stands
-      ∙ under-ready (instance_at w l).own (instance_at w k).own led
-      (λ error. ap (λ x. (instance_at w x).own) (sym (key-is l k (is_key-true k l (h.lawful.errors k m.0 error)))))))
-  | inr off ↦
-      ap (λ b. cond b (ready_in w q) []) off
-      ∙ sym (filter-same (is_on w) (λ k. false) (members_at w q) (λ k some.
-      not-both (is_effective w k) (stands_on (standing_at w (entry_at w k).leader)) (ap (λ x. stands_on (standing_at w x)) (member-of hw w h q k some).1 ∙ off))
-      ∙ filter-no (members_at w q))
-]
-
-flat-chosen : (b : Bool) (f : Key → List Key) (q : Key) (rest : List Key) → flat_map f (cond b (q ∷ rest) rest) ≡ cond b (f q) [] ++ flat_map f rest
-flat-chosen true f q rest = refl
-flat-chosen false f q rest = refl
-
-on-are : (hw : Hardware) (w : World) → IsKept hw w → (leaders : List Key) → ((q : Key) → 1 ≤ times q leaders → stands_on (standing_at w q) ≡ true → is_ready (instance_at w q).own ≡ true)
-    → flat_map (ready_in w) (filter (λ k. stands_on (standing_at w k)) leaders) ≡ filter (is_on w) (all_members w leaders)
-on-are hw w h [] ready = refl
-on-are hw w h (q ∷ leaders) ready =
-    let more : List Key = filter (λ k. stands_on (standing_at w k)) leaders in
-    flat-chosen (stands_on (standing_at w q)) (ready_in w) q more
-    ∙ (ap (λ keys. keys ++ flat_map (ready_in w) more) (on-in hw w h q (ready q (omega (arith, times-cons q q leaders, once-true (is_key q q) (is_key-same q q refl)))))
-    ∙ (ap (λ keys. filter (is_on w) (members_at w q) ++ keys) (on-are hw w h leaders (λ j some. ready j (omega (arith, some, times-cons j q leaders))))
-    ∙ sym (filter-append (is_on w) (members_at w q) (all_members w leaders))))
-
-pub on-keys : (hw : Hardware) (w : World) (cpu : CpuNo) → IsKept hw w → IsJudged hw w cpu
-    → on_instances hw (stage_of w) cpu ≡ map (instance_at w) (filter (is_on w) (all_members w (leaders_by_pass w cpu)))
-on-keys hw w cpu h judged =
-    on-is hw w cpu h judged ∙ ap (map (instance_at w)) (on-are hw w h (leaders_by_pass w cpu) (on-ready hw w cpu h judged))
+  pub four-found : (x : Happening) (a b c d : List Hit) → a ≡ [] ++ hits_among x w (own_keys w cpu true) → b ≡ a ++ hits_among x w (task_keys w task true)
+      → c ≡ b ++ hits_among x w (own_keys w cpu false) → d ≡ c ++ hits_among x w (task_keys w task false) → d ≡ hits_among x w (keys_by_pass w cpu)
+  four-found x a b c d first second third last =
+      let h1 : List Hit = hits_among x w (own_keys w cpu true) in
+      let h2 : List Hit = hits_among x w (task_keys w task true) in
+      let h3 : List Hit = hits_among x w (own_keys w cpu false) in
+      let h4 : List Hit = hits_among x w (task_keys w task false) in
+      last
+      ∙ (ap (λ (l : List Hit). l ++ h4) (third ∙ ap (λ (l : List Hit). l ++ h3) (second ∙ ap (λ (l : List Hit). l ++ h2) first))
+      ∙ (append_assoc (h1 ++ h2) h3 h4 ∙ (append_assoc h1 h2 (h3 ++ h4)
+      ∙ sym (ap (hits_among x w) four ∙ hits-four x w (own_keys w cpu true) (task_keys w task true) (own_keys w cpu false) (task_keys w task false)))))

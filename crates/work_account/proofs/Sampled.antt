@@ -1,8 +1,8 @@
 -- The records of the overflows that a stretch of work gives are those of the definitions, and what is left once they
 -- were sent.
-use Rattle.std.specs.Prelude.{◌≡◌, ℕ, ◌+◌, ◌<◌, ◌≤◌, Bool, true, false, cond, All, List, [], ◌∷◌, ◌++◌, length, map, filter, flat_map, slice_index_or, Option, Some, None, if◌then◌else◌}
+use Rattle.std.specs.Prelude.{◌≡◌, ℕ, zero, suc, ◌+◌, ◌==◌, not, ◌&&◌, ◌<◌, ◌≤◌, Bool, true, false, cond, All, List, [], ◌∷◌, ◌++◌, length, map, filter, flat_map, slice_index_or, Option, Some, None, if◌then◌else◌}
 use Rattle.std.proofs.Common.{arith, refl, sym, ap, subst, ◌∙◌, inl, inr}
-use Rattle.std.proofs.lemmas.Bool.{cases_Bool}
+use Rattle.std.proofs.lemmas.Bool.{false≢true}
 use Rattle.std.proofs.lemmas.List.{get_or-set_same}
 use Rattle.std.proofs.lemmas.List.Elements.{All-nil, All-cons}
 use Rattle.perf_base.specs.declared.lines.CpuLine.TheVariants as cpu_line
@@ -11,47 +11,52 @@ use Rattle.perf_base.specs.declared.numbers.CpuNo.{CpuNo}
 use Rattle.perf_base.specs.declared.numbers.EventNo.{EventNo}
 use Rattle.perf_base.specs.declared.numbers.Key.{Key}
 use Rattle.perf_base.specs.declared.numbers.RingNo.{RingNo}
-use Rattle.perf_base.specs.declared.reply.Sums.{Sums}
 use Rattle.stage_spec.specs.declared.instance.Instance.{Instance}
-use Rattle.stage_spec.specs.Families.{plus}
-use Rattle.stage_spec.specs.Hardware.{Hardware}
 use Rattle.stage_spec.specs.History.{CpuStep}
-use Rattle.stage_spec.specs.Occurrences.{overflows}
+use Rattle.stage_spec.specs.Occurrences.{left_after_one, overflows}
 use Rattle.stage_spec.specs.Shares.{work_hits}
 use Rattle.stage_spec.specs.Stage.{original_of}
 use Rattle.stage_spec.specs.Verdict.{on_instances}
-use Rattle.stage_laws.specs.Bounds.{AreAtMost}
 use Rattle.ring_spec.specs.Running.{RingAccount, ring_after, losses_on, more_lost}
 use Rattle.ring_spec.specs.Sending.{SentSample, to_ring, sent_by_family, overflows_by}
 use Rattle.sample_ring.specs.RingLists.{RingList, OutList}
 use Rattle.world_spec.specs.Value.{World, is_live, instance_at, account_at, is_key, times}
 use Rattle.world_spec.specs.StageOf.{stage_of}
-use Rattle.world_spec.specs.Kept.{family_sums, IsKept}
-use Rattle.world_spec.specs.Changes.{pass_time}
-use Rattle.world_spec.specs.Rescheduled.{IsJudged, IsRescheduled}
+use Rattle.world_spec.specs.Kept.{IsKept}
+use Rattle.world_spec.specs.Metering.{metered, IsWorked}
+use Rattle.world_spec.specs.Rescheduled.{IsJudged}
+use Rattle.world_spec.specs.Working.{is_on, keys_by_pass}
+use Rattle.world_spec.proofs.Along.{keys-live, on-keys}
+use Rattle.world_spec.proofs.Counting.{times-filter}
 use Rattle.world_spec.proofs.Keys.{is_key-same, times-cons, once-true}
 use Rattle.work_account.specs.declared.happening.Happening.TheVariants as happening
 use Rattle.work_account.specs.declared.overflowing.Overflow.{Overflow}
 use Rattle.work_account.specs.declared.samples.Stretch.{Stretch}
 use Rattle.work_account.specs.Ends.{Ends, AreTogether, HaveAccounts, HaveSpace, send_all}
 use Rattle.work_account.specs.Sampling.{AreLeft, HasInstance, HaveRings, HaveSpaceToSend, ends_of, sent_by, sents_of, sents_all}
-use Rattle.world_spec.specs.Shares.{HaveShares}
-use Rattle.work_account.specs.Visits.{is_on, overflow_at, pass_keys}
+use Rattle.work_account.specs.Visits.{samples, takes, hit_at, hits_among, overflow_of}
 use Rattle.work_account.proofs.Accounts.{AreSized, accounts-after, lost-after}
-use Rattle.work_account.proofs.Going.{IsButAccounts}
-use Rattle.work_account.proofs.Left.{work-rest}
-use Rattle.work_account.proofs.Reached.{members-live, on-keys}
+use Rattle.work_account.proofs.Left.{IsMetered}
 use Rattle.work_account.proofs.Sequences.{together-after}
+use Rattle.work_account.proofs.Shared.{is-zero}
 use Rattle.work_account.proofs.Sized.{all-sized}
 
--- no occurrence gives no overflow, and no overflow sends nothing
-no-overflows : (period left : ℕ) → overflows 0 period left ≡ 0
+-- without a period there is no overflow, and no overflow sends nothing
+never-over : (n left : ℕ) → overflows n 0 left ≡ 0
 unfolding overflows
-no-overflows period left = refl
+never-over zero left = refl
+never-over (suc n) left = omega (arith, never-over n (left_after_one 0 left))
 
 nothing-to : (o : Option RingNo) (sent : SentSample) → to_ring o 0 sent ≡ []
 nothing-to None sent = refl
 nothing-to (Some ring) sent = refl
+
+period-zero : (i : Instance) → samples i ≡ false → i.attr.period ≡ 0
+period-zero i off = is-zero i.attr.period (opposite (i.attr.period == 0) off)
+  where
+    opposite : (b : Bool) → not b ≡ false → b ≡ true
+    opposite true h = refl
+    opposite false h = absurd (false≢true (sym h))
 
 module _ (w : World) (cpu : CpuNo) (work : Work) (clock : ℕ) (left : ℕ → ℕ) where
   abbrev line : Stretch
@@ -63,72 +68,95 @@ module _ (w : World) (cpu : CpuNo) (work : Work) (clock : ℕ) (left : ℕ → �
   abbrev of_instance : Instance → List (RingNo × SentSample)
   of_instance i = sends (overflows_by work (left i.id) i) i
 
-  abbrev of_key : Key → List (RingNo × SentSample)
-  of_key k = sents_of w line (overflow_at (happening.Work work) w k)
+  -- the overflow of a key that is hit
+  abbrev over : Key → Overflow
+  over k = record { key = k; count = overflows (work_hits work (instance_at w k)) (instance_at w k).attr.period (account_at w k).left }
 
   nothing-sent : (o : Option Instance) (i : Instance) → sent_by_family o (stage_of w) cpu work clock 0 i ≡ []
   nothing-sent None i = refl
   nothing-sent (Some original) i = nothing-to original.ring _
 
-  on-sends : (k : Key) → left (instance_at w k).id ≡ (account_at w k).left → is_on w k ≡ true → of_key k ≡ of_instance (instance_at w k)
-  on-sends k same on =
+  on-sends : (k : Key) → left (instance_at w k).id ≡ (account_at w k).left → sents_of w line (over k) ≡ of_instance (instance_at w k)
+  on-sends k same =
       let i : Instance = instance_at w k in
-      ap (λ (b : Bool). sends (overflows (if b then work_hits work i else 0) i.attr.period (account_at w k).left) i) on
-      ∙ ap (λ (m : ℕ). sends (overflows (work_hits work i) i.attr.period m) i) (sym same)
+      ap (λ (m : ℕ). sends (overflows (work_hits work i) i.attr.period m) i) (sym same)
 
-  off-sends : (k : Key) → is_on w k ≡ false → of_key k ≡ []
-  off-sends k off =
-      let i : Instance = instance_at w k in
-      ap (λ (b : Bool). sends (overflows (if b then work_hits work i else 0) i.attr.period (account_at w k).left) i) off
-      ∙ (ap (λ (n : ℕ). sends n i) (no-overflows i.attr.period (account_at w k).left) ∙ nothing-sent (original_of (stage_of w) i.event) i)
+  none-sends : (i : Instance) → samples i ≡ false → of_instance i ≡ []
+  none-sends i off =
+      ap (λ (n : ℕ). sends n i) (ap (λ (p : ℕ). overflows (work_hits work i) p (left i.id)) (period-zero i off) ∙ never-over (work_hits work i) (left i.id))
+      ∙ nothing-sent (original_of (stage_of w) i.event) i
 
   all-sends : AreLeft w left → (keys : List Key) → ((k : Key) → 1 ≤ times k keys → is_live w k ≡ true)
-      → sents_all w line (map (overflow_at (happening.Work work) w) keys) ≡ flat_map of_instance (map (instance_at w) (filter (is_on w) keys))
+      → sents_all w line (map over (filter (takes (happening.Work work) w) keys)) ≡ flat_map of_instance (map (instance_at w) (filter (is_on w) keys))
   all-sends are [] lives = refl
   all-sends are (k ∷ keys) lives =
-      let rest : List Key = filter (is_on w) keys in
-      let live : is_live w k ≡ true = lives k (omega (arith, times-cons k k keys, once-true (is_key k k) (is_key-same k k refl))) in
-      let more : sents_all w line (map (overflow_at (happening.Work work) w) keys) ≡ flat_map of_instance (map (instance_at w) rest) =
-      all-sends are keys (λ j some. lives j (omega (arith, some, times-cons j k keys))) in
-      let chosen : (b : Bool) → is_on w k ≡ b → flat_map of_instance (map (instance_at w) (filter (is_on w) (k ∷ keys))) ≡ flat_map of_instance (map (instance_at w) (cond b (k ∷ rest) rest)) =
-      λ b e. ap (λ (c : Bool). flat_map of_instance (map (instance_at w) (cond c (k ∷ rest) rest))) e in
-      ap (λ (l : List (RingNo × SentSample)). of_key k ++ l) more
-      ∙ elim (cases_Bool (is_on w k)) [
-        | inl on ↦ ap (λ (l : List (RingNo × SentSample)). l ++ flat_map of_instance (map (instance_at w) rest)) (on-sends k (are k live) on) ∙ sym (chosen true on)
-        | inr off ↦ ap (λ (l : List (RingNo × SentSample)). l ++ flat_map of_instance (map (instance_at w) rest)) (off-sends k off) ∙ sym (chosen false off)
-      ]
+      one (samples (instance_at w k)) (is_on w k) refl
+      (are k (lives k (omega (arith, times-cons k k keys, once-true (is_key k k) (is_key-same k k refl)))))
+      (all-sends are keys (λ j some. lives j (omega (arith, some, times-cons j k keys))))
+    where
+      one : (s on : Bool) → samples (instance_at w k) ≡ s → left (instance_at w k).id ≡ (account_at w k).left
+          → sents_all w line (map over (filter (takes (happening.Work work) w) keys)) ≡ flat_map of_instance (map (instance_at w) (filter (is_on w) keys))
+          → sents_all w line (map over (cond (s && on) (k ∷ filter (takes (happening.Work work) w) keys) (filter (takes (happening.Work work) w) keys)))
+          ≡ flat_map of_instance (map (instance_at w) (cond on (k ∷ filter (is_on w) keys) (filter (is_on w) keys)))
+      one true true is same rest =
+          ap (λ (l : List (RingNo × SentSample)). sents_of w line (over k) ++ l) rest
+          ∙ ap (λ (l : List (RingNo × SentSample)). l ++ flat_map of_instance (map (instance_at w) (filter (is_on w) keys))) (on-sends k same)
+      one true false is same rest = rest
+      one false true is same rest =
+          rest ∙ ap (λ (l : List (RingNo × SentSample)). l ++ flat_map of_instance (map (instance_at w) (filter (is_on w) keys))) (sym (none-sends (instance_at w k) is))
+      one false false is same rest = rest
 
 -- the instances of the overflows live
-live-noted : (w : World) (work : Work) (keys : List Key) → ((k : Key) → 1 ≤ times k keys → is_live w k ≡ true)
-    → All (λ o. is_live w o.key ≡ true) (map (overflow_at (happening.Work work) w) keys)
-live-noted w work [] lives = All-nil (λ (o : Overflow). is_live w o.key ≡ true)
-live-noted w work (k ∷ keys) lives =
-    All-cons (λ (o : Overflow). is_live w o.key ≡ true) (overflow_at (happening.Work work) w k) (map (overflow_at (happening.Work work) w) keys)
+live-over : (w : World) (cpu : CpuNo) (work : Work) (clock : ℕ) (left : ℕ → ℕ) (keys : List Key) → ((k : Key) → 1 ≤ times k keys → is_live w k ≡ true)
+    → All (λ o. is_live w o.key ≡ true) (map (over w cpu work clock left) keys)
+live-over w cpu work clock left [] lives = All-nil (λ (o : Overflow). is_live w o.key ≡ true)
+live-over w cpu work clock left (k ∷ keys) lives =
+    All-cons (λ (o : Overflow). is_live w o.key ≡ true) (over w cpu work clock left k) (map (over w cpu work clock left) keys)
     (lives k (omega (arith, times-cons k k keys, once-true (is_key k k) (is_key-same k k refl))))
-    (live-noted w work keys (λ j some. lives j (omega (arith, some, times-cons j k keys))))
+    (live-over w cpu work clock left keys (λ j some. lives j (omega (arith, some, times-cons j k keys))))
 
--- A world whose accounts and a clock were changed, the overflows that were found, and the clock that was read then.
-pub record Timed (w timed : World) (cpu : CpuNo) (work : Work) (found : List Overflow) (clock : ℕ) : Type 0 where
+chosen : (p : Key → Bool) (keys : List Key) (q : Key) → 1 ≤ times q (filter p keys) → 1 ≤ times q keys
+chosen p keys q some = one (p q) (omega (arith, some, times-filter q p keys))
+  where
+    one : (b : Bool) → 1 ≤ cond b (times q keys) 0 → 1 ≤ times q keys
+    one true h = h
+    one false h = absurd (omega (arith, h))
+
+-- A world that was worked on, and whose instances were then hit; the overflows that were found; and the clock that was
+-- read then.
+pub record Timed (w worked timed : World) (cpu : CpuNo) (work : Work) (found : List Overflow) (clock : ℕ) : Type 0 where
   pub kept : IsKept w.hardware w
   pub cpu_there : cpu.0 < length w.quiet.running
-  pub world : timed ≡ pass_time cpu work.length (record w { accounts = timed.accounts })
-  pub overflows : found ≡ map (overflow_at (happening.Work work) w) (pass_keys w cpu)
+  pub work_done : IsWorked w worked cpu work
+  pub world : IsMetered w timed cpu work
+  pub overflows : found ≡ map (overflow_of worked) (hits_among (happening.Work work) w (keys_by_pass w cpu))
   pub read : clock ≡ slice_index_or timed.quiet.clocks cpu.0 0
 
-pub timed-by : (w mid timed : World) (cpu : CpuNo) (work : Work) (found : List Overflow) (clock : ℕ) → IsKept w.hardware w → cpu.0 < length w.quiet.running → IsButAccounts w mid
-    → timed ≡ pass_time cpu work.length mid → found ≡ map (overflow_at (happening.Work work) w) (pass_keys w cpu) → clock ≡ slice_index_or timed.quiet.clocks cpu.0 0
-    → Timed w timed cpu work found clock
-timed-by w mid timed cpu work found clock kept there rest is noted read = record {
-  kept = kept;
-  cpu_there = there;
-  world = work-rest w mid timed cpu work.length rest is;
-  overflows = noted;
-  read = read;
-}
+module _ (w worked timed : World) (cpu : CpuNo) (work : Work) (found : List Overflow) (clock : ℕ) (t : Timed w worked timed cpu work found clock) where
+  lives : (k : Key) → 1 ≤ times k (keys_by_pass w cpu) → is_live w k ≡ true
+  lives = keys-live w.hardware w cpu t.kept
 
-module _ (w timed : World) (cpu : CpuNo) (work : Work) (found : List Overflow) (clock : ℕ) (t : Timed w timed cpu work found clock) where
-  lives : (k : Key) → 1 ≤ times k (pass_keys w cpu) → is_live w k ≡ true
-  lives = λ k some. members-live w.hardware w t.kept _ k some
+  abbrev taken : List Key
+  taken = filter (takes (happening.Work work) w) (keys_by_pass w cpu)
+
+  taken-live : (k : Key) → 1 ≤ times k taken → is_live w k ≡ true
+  taken-live k some = lives k (chosen (takes (happening.Work work) w) (keys_by_pass w cpu) k some)
+
+  overs : (n : ℕ) (left : ℕ → ℕ) (keys : List Key) → ((k : Key) → 1 ≤ times k keys → is_live w k ≡ true)
+      → map (overflow_of worked) (map (hit_at (happening.Work work) w) keys) ≡ map (over w cpu work n left) keys
+  overs n left [] lives = refl
+  overs n left (k ∷ keys) lives =
+      let i : Instance = instance_at w k in
+      let live : is_live w k ≡ true = lives k (omega (arith, times-cons k k keys, once-true (is_key k k) (is_key-same k k refl))) in
+      let period : (instance_at worked k).attr.period ≡ i.attr.period = ap (λ (v : World). (instance_at v k).attr.period) t.work_done.rest in
+      let here : overflow_of worked (hit_at (happening.Work work) w k) ≡ over w cpu work n left k =
+      (λ j. record { key = k; count = overflows (work_hits work i) (period j) (t.work_done.accounts k live j).left }) in
+      let rest : map (overflow_of worked) (map (hit_at (happening.Work work) w) keys) ≡ map (over w cpu work n left) keys =
+      overs n left keys (λ q some. lives q (omega (arith, some, times-cons q k keys))) in
+      λ j. here j ∷ rest j
+
+  found-are : (n : ℕ) (left : ℕ → ℕ) → found ≡ map (over w cpu work n left) taken
+  found-are n left = t.overflows ∙ overs n left taken taken-live
 
   clock-is : clock ≡ slice_index_or w.quiet.clocks cpu.0 0 + work.length
   clock-is =
@@ -142,8 +170,8 @@ module _ (w timed : World) (cpu : CpuNo) (work : Work) (found : List Overflow) (
       let n : ℕ = slice_index_or w.quiet.clocks cpu.0 0 + work.length in
       ap (λ (v : World). sents_all v (record { cpu = cpu; work = work; clock = clock }) found) t.world
       ∙ (ap (λ (c : ℕ). sents_all w (record { cpu = cpu; work = work; clock = c }) found) clock-is
-      ∙ (ap (sents_all w (record { cpu = cpu; work = work; clock = n })) t.overflows
-      ∙ (all-sends w cpu work n left are (pass_keys w cpu) lives
+      ∙ (ap (sents_all w (record { cpu = cpu; work = work; clock = n })) (found-are n left)
+      ∙ (all-sends w cpu work n left are (keys_by_pass w cpu) lives
       ∙ ap (flat_map (of_instance w cpu work n left)) (sym (on-keys w.hardware w cpu t.kept judged)))))
 
   pub ends-same : (outs : OutList) → ends_of outs timed ≡ ends_of outs w
@@ -152,7 +180,7 @@ module _ (w timed : World) (cpu : CpuNo) (work : Work) (found : List Overflow) (
   pub live-found : All (λ o. is_live timed o.key ≡ true) found
   live-found =
       subst (λ (v : World). All (λ o. is_live v o.key ≡ true) found) (sym t.world)
-      (subst (λ (l : List Overflow). All (λ o. is_live w o.key ≡ true) l) (sym t.overflows) (live-noted w work (pass_keys w cpu) lives))
+      (subst (λ (l : List Overflow). All (λ o. is_live w o.key ≡ true) l) (sym (found-are 0 (λ id. 0))) (live-over w cpu work 0 (λ id. 0) taken taken-live))
 
   pub rings-there : (numbers : List RingNo) → HaveRings w numbers → HaveRings timed numbers
   rings-there numbers h = subst (λ (v : World). HaveRings v numbers) (sym t.world) h
@@ -191,26 +219,3 @@ module _ (w new : World) (cpu : CpuNo) (work : Work) (left : ℕ → ℕ) (befor
   lost-are kept e low =
       ap (λ (x : Ends). slice_index_or x.lost e.0 0) is
       ∙ lost-after cpu (cpu_line.Work work) (sent_by w left cpu work) (ends_of before w) accounts (sized w left cpu work) h e (omega (arith, low, kept.tables.lost))
-
--- what is left where counts of lost records changed besides
-module _ (w timed new : World) (cpu : CpuNo) (length : ℕ) (is : timed ≡ pass_time cpu length (record w { accounts = timed.accounts })) (more : new ≡ record timed { lost = new.lost }) where
-  pub sampled-rest : new ≡ pass_time cpu length (record w { accounts = new.accounts; lost = new.lost })
-  sampled-rest =
-      more
-      ∙ (ap {A = World} {B = World} (λ v. record v { lost = new.lost }) is
-      ∙ ap (λ a. pass_time cpu length (record w { accounts = a; lost = new.lost })) (sym (ap (λ (v : World). v.accounts) more)))
-
-  pub sampled-stage : stage_of new ≡ stage_of w
-  sampled-stage = ap stage_of sampled-rest
-
-  pub sampled-shares : (given : ℕ → Sums) → HaveShares w timed given → HaveShares w new given
-  sampled-shares given h = subst (λ (v : World). HaveShares w v given) (sym more) (record { accounts = h.accounts; keys = h.keys })
-
-  pub sampled-grown : (slot : ℕ) (most : Sums) → AreAtMost (family_sums timed slot) (plus (family_sums w slot) most) → AreAtMost (family_sums new slot) (plus (family_sums w slot) most)
-  sampled-grown slot most h = subst (λ (v : World). AreAtMost (family_sums v slot) (plus (family_sums w slot) most)) (sym more) h
-
-  pub sampled-stays : (hw : Hardware) (other : CpuNo) → IsRescheduled hw timed other → IsRescheduled hw new other
-  sampled-stays hw other h = subst (λ (v : World). IsRescheduled hw v other) (sym more) (record {
-    settled = h.settled;
-    judged = record { standings = h.judged.standings; served = record { events = h.judged.served.events; assigned = h.judged.served.assigned } };
-  })

@@ -1,144 +1,168 @@
--- All that a processor reaches may be gone over, and is given its shares.
-use Rattle.std.specs.Prelude.{◌≡◌, ℕ, zero, suc, ◌≤◌, max, Bool, true, false, List, [], ◌∷◌, length, slice_index, if◌then◌else◌}
-use Rattle.std.specs.List.{fold}
-use Rattle.std.proofs.Common.{arith, refl, ap, ◌∙◌}
-use Rattle.std.proofs.Math.Nat.{le-max_left, le-max_right}
-use Rattle.perf_base.specs.declared.attr.Attr.{Attr}
+-- The accounts after work and after one occurrence are those of the definitions' shares.
+use Rattle.std.specs.Prelude.{◌≡◌, ℕ, zero, suc, ◌+◌, ◌-◌, ◌≤◌, ◌==◌, Bool, true, false, not, ◌&&◌, cond, List, [], ◌∷◌, map, filter, if◌then◌else◌}
+use Rattle.std.specs.FinMap.{contains_key}
+use Rattle.std.proofs.Common.{arith, refl, sym, ap, subst, ◌∙◌, inl, inr}
+use Rattle.std.proofs.lemmas.Bool.{cases_Bool}
+use Rattle.std.proofs.lemmas.Bool.Decides.{nat_tests}
 use Rattle.perf_base.specs.declared.attr.Kind.{Kind}
-use Rattle.perf_base.specs.declared.attr.Kind.TheVariants as kind
 use Rattle.perf_base.specs.declared.lines.Work.{Work}
 use Rattle.perf_base.specs.declared.numbers.CpuNo.{CpuNo}
 use Rattle.perf_base.specs.declared.numbers.Key.{Key}
 use Rattle.perf_base.specs.declared.reply.Sums.{Sums}
 use Rattle.stage_spec.specs.declared.instance.Instance.{Instance}
-use Rattle.stage_spec.specs.Hardware.{Hardware}
-use Rattle.stage_spec.specs.Shares.{no_sums, of_instance, excludes, counted_by, work_hits, share, ready_instances}
-use Rattle.stage_spec.specs.Verdict.{on_instances}
-use Rattle.stage_laws.specs.Bounds.{greatest}
-use Rattle.world_spec.specs.Value.{World, is_live, instance_at, times}
+use Rattle.stage_spec.specs.Families.{plus}
+use Rattle.stage_spec.specs.Occurrences.{left_after}
+use Rattle.stage_spec.specs.Shares.{no_sums, work_hits}
+use Rattle.stage_laws.specs.Narrowing.{has_context}
+use Rattle.world_spec.specs.Value.{World, Account, is_live, entry_at, instance_at, account_at, standing_at, times}
 use Rattle.world_spec.specs.StageOf.{stage_of}
-use Rattle.world_spec.specs.Kept.{IsKept}
+use Rattle.world_spec.specs.Kept.{once_if, IsKept}
+use Rattle.world_spec.specs.Metering.{IsWorked, metered, work_given}
 use Rattle.world_spec.specs.Rescheduled.{IsJudged}
+use Rattle.world_spec.specs.Shares.{with_share, work_shares, soft_hits, soft_shares, HaveShares}
+use Rattle.world_spec.specs.Ways.{is_on_at}
+use Rattle.world_spec.specs.Working.{is_effective, is_on, keys_by_pass}
+use Rattle.perf_base.specs.Standings.{stands_on}
+use Rattle.world_spec.proofs.Along.{keys-live, on-share, reached-keys, share-is}
+use Rattle.world_spec.proofs.Counting.{times-filter}
 use Rattle.work_account.specs.declared.happening.Happening.{Happening}
 use Rattle.work_account.specs.declared.happening.Happening.TheVariants as happening
-use Rattle.world_spec.specs.Shares.{soft_hits, HaveRoom, HaveShares}
-use Rattle.work_account.specs.Visits.{lasts, occurs, shares_of, most_given, is_effective, is_on, visited, pass_keys, MayVisit}
-use Rattle.work_account.proofs.Passing.{cond-most}
-use Rattle.work_account.proofs.Reached.{members-live, one-each, on-keys, ready-keys}
-use Rattle.work_account.proofs.Given.{given_at, chosen-measure, chosen-none, times-once, shares-are}
+use Rattle.work_account.specs.Visits.{occurs, samples, is_hit_by, takes, hit_at, hits_among, hit_all}
+use Rattle.work_account.proofs.Struck.{after_hits, hit-out, hit-in, hit-keys}
 
--- no instance gets more than the most that is given
-abbrev IsBound : ℕ → List ℕ → Type 0
-IsBound bound numbers = (place : ℕ) → slice_index numbers place ≤ bound
+-- tests that stand together
+regrouped : (i e c s : Bool) → (i && ((e && c) && s)) ≡ ((i && (e && s)) && c)
+regrouped false e c s = refl
+regrouped true false c s = refl
+regrouped true true true true = refl
+regrouped true true true false = refl
+regrouped true true false true = refl
+regrouped true true false false = refl
 
-bound-both : (bound n : ℕ) (numbers : List ℕ) → n ≤ bound → IsBound bound numbers → IsBound bound (n ∷ numbers)
-bound-both bound n numbers first rest zero = first
-bound-both bound n numbers first rest (suc place) = rest place
+no-left : (period left : ℕ) → left_after 0 period left ≡ left
+unfolding left_after
+no-left period left = refl
 
-within : (bound : ℕ) (numbers : List ℕ) (first : ℕ) → fold max first numbers ≤ bound → (first ≤ bound) × IsBound bound numbers
-within bound [] first h = (h, λ place. omega arith)
-within bound (n ∷ numbers) first h =
-    let rest : (max first n ≤ bound) × IsBound bound numbers = within bound numbers (max first n) h in
-    (omega (arith, rest.0, le-max_left first n), bound-both bound n numbers (omega (arith, rest.0, le-max_right first n)) rest.1)
+none-left : (n : ℕ) → left_after n 0 0 ≡ 0
+unfolding left_after
+none-left zero = refl
+none-left (suc n) = none-left n
 
-none-or : (excluded : Bool) (n bound : ℕ) → n ≤ bound → (if excluded then 0 else n) ≤ bound
-none-or true n bound h = omega arith
-none-or false n bound h = h
+-- an account that nothing was hit of
+no-hits : (period : ℕ) (a : Account) → a ≡ after_hits 0 period a
+no-hits period a =
+    let count : a.sums.count ≡ a.sums.count + 0 = omega arith in
+    let left : a.left ≡ left_after 0 period a.left = sym (no-left period a.left) in
+    λ j. record { sums = record a.sums { count = count j }; left = left j }
 
-work-most : (work : Work) (a : Attr) (k : Kind) → counted_by work a k ≤ max work.length (greatest work.hits)
-work-most work a (kind.Hard n) =
-    none-or (excludes work.mode a) (slice_index work.hits n) _ ((within (max work.length (greatest work.hits)) work.hits 0 (le-max_right work.length (greatest work.hits))).1 n)
-work-most work a kind.TaskClock = le-max_left work.length (greatest work.hits)
-work-most work a kind.ContextSwitches = omega arith
-work-most work a kind.CpuMigrations = omega arith
-work-most work a kind.Dummy = omega arith
+-- the account of an instance after those on a processor that take it were hit
+module _ (x : Happening) (w : World) (cpu : CpuNo) (h : IsKept w.hardware w) (v : World) where
+  abbrev keys : List Key
+  keys = filter (takes x w) (keys_by_pass w cpu)
 
-soft-small : (occurring : Kind) (i : Instance) → soft_hits occurring i ≤ 1
-soft-small (kind.Hard n) i = omega arith
-soft-small kind.ContextSwitches i = cond-most _ 1
-soft-small kind.CpuMigrations i = cond-most _ 1
-soft-small kind.TaskClock i = omega arith
-soft-small kind.Dummy i = omega arith
+  abbrev given : Key → ℕ
+  given k = if is_hit_by x (instance_at w k) && is_on_at w cpu k then occurs x (instance_at w k) else 0
 
-pub occurs-most : (x : Happening) (i : Instance) → occurs x i ≤ (most_given x).count
-occurs-most (happening.Work work) i = work-most work i.attr i.attr.kind
-occurs-most (happening.Soft occurring) i = soft-small occurring i
+  times-hit : (k : Key) → is_live w k ≡ true → times k keys ≡ cond (takes x w k) (once_if (has_context (stage_of w) cpu (entry_at w k).context)) 0
+  times-hit k live = times-filter k (takes x w) (keys_by_pass w cpu) ∙ ap (λ n. cond (takes x w k) n 0) (reached-keys w.hardware w cpu k h live)
 
-pub lasts-most : (x : Happening) → lasts x ≡ (most_given x).enabled
-lasts-most (happening.Work work) = refl
-lasts-most (happening.Soft occurring) = refl
+  given-is : (k : Key) → given k ≡ (if takes x w k && has_context (stage_of w) cpu (entry_at w k).context then occurs x (instance_at w k) else 0)
+  given-is k =
+      ap (λ b. if b then occurs x (instance_at w k) else 0)
+      (regrouped (is_hit_by x (instance_at w k)) (is_effective w k) (has_context (stage_of w) cpu (entry_at w k).context) (stands_on (standing_at w (entry_at w k).leader)))
 
-pub reached-may : (hw : Hardware) (w : World) (cpu : CpuNo) → IsKept hw w → length w.hardware.kind_pmus ≤ 16 → (x : Happening) → HaveRoom w (most_given x) → MayVisit x w (pass_keys w cpu)
-reached-may hw w cpu h few x room =
-    let lives : (k : Key) → 1 ≤ times k (pass_keys w cpu) → is_live w k ≡ true = λ k some. members-live hw w h _ k some in
-    record {
-      live = lives;
-      one_each = one-each hw w cpu h;
-      counts = λ k some. omega (arith, room.counts k (lives k some), occurs-most x (instance_at w k));
-      times = λ k some. omega (arith, room.times k (lives k some), lasts-most x);
-      kinds = few;
-    }
+  by-tests : (k : Key) (takes_it there : Bool) → times k keys ≡ cond takes_it (once_if there) 0
+      → account_at (hit_all (map (hit_at x w) keys) v) k ≡ after_hits (if takes_it && there then occurs x (instance_at w k) else 0) (instance_at v k).attr.period (account_at v k)
+  by-tests k true true one = hit-in x w keys v k one
+  by-tests k true false none = hit-out x w keys v k none ∙ no-hits (instance_at v k).attr.period (account_at v k)
+  by-tests k false there none = hit-out x w keys v k none ∙ no-hits (instance_at v k).attr.period (account_at v k)
 
--- the shares, by the keys
-same-sums : (a b c d e f : ℕ) → a ≡ d → b ≡ e → c ≡ f → ◌≡◌ {A = Sums} (record { count = a; enabled = b; running = c }) (record { count = d; enabled = e; running = f })
-same-sums a b c d e f x y z = λ i. record { count = x i; enabled = y i; running = z i }
+  pub account-hit : (k : Key) → is_live w k ≡ true → account_at (hit_all (hits_among x w (keys_by_pass w cpu)) v) k ≡ after_hits (given k) (instance_at v k).attr.period (account_at v k)
+  account-hit k live =
+      by-tests k (takes x w k) (has_context (stage_of w) cpu (entry_at w k).context) (times-hit k live)
+      ∙ ap (λ n. after_hits n (instance_at v k).attr.period (account_at v k)) (sym (given-is k))
 
-no-time : (b : Bool) → ◌≡◌ {A = ℕ} 0 (if b then 0 else 0)
-no-time true = refl
-no-time false = refl
+  pub keys-hit : ((q : Key) → contains_key v.accounts q.0 ≡ contains_key w.accounts q.0)
+      → (k : Key) → contains_key (hit_all (hits_among x w (keys_by_pass w cpu)) v).accounts k.0 ≡ contains_key w.accounts k.0
+  keys-hit same k =
+      hit-keys x w keys v (λ q some. same q ∙ (h.tables.accounts q ∙ keys-live w.hardware w cpu h q (chosen q (takes x w q) (omega (arith, some, times-filter q (takes x w) (keys_by_pass w cpu)))))) k
+      ∙ same k
+    where
+      chosen : (q : Key) (b : Bool) → 1 ≤ cond b (times q (keys_by_pass w cpu)) 0 → 1 ≤ times q (keys_by_pass w cpu)
+      chosen q true some = some
+      chosen q false some = absurd (omega (arith, some))
 
--- a share by what an instance gives among those that are on, and among those that are ready
-abbrev measured_by : Happening → (on ready : (Instance → ℕ) → ℕ) → Sums
-measured_by (happening.Work work) on ready = record { count = on (work_hits work); enabled = ready (λ i. work.length); running = on (λ i. work.length) }
-measured_by (happening.Soft occurring) on ready = record no_sums { count = on (soft_hits occurring) }
+-- one occurrence
+pub is-zero : (n : ℕ) → (n == 0) ≡ true → n ≡ 0
+is-zero n h = grind (arith, nat_tests, h)
 
-measured-nowhere : (x : Happening) → measured_by x (λ f. 0) (λ f. 0) ≡ no_sums
-measured-nowhere (happening.Work work) = refl
-measured-nowhere (happening.Soft occurring) = refl
+soft-by : (m : ℕ) (zero on : Bool) → (m == 0) ≡ zero → (if not zero && on then m else 0) ≡ (if on then m else 0)
+soft-by m true true is = sym (is-zero m is)
+soft-by m true false is = refl
+soft-by m false true is = refl
+soft-by m false false is = refl
 
-module _ (w : World) (cpu : CpuNo) (h : IsKept w.hardware w) (judged : IsJudged w.hardware w cpu) where
-  abbrev lives : (q : Key) → 1 ≤ times q (pass_keys w cpu) → is_live w q ≡ true
-  lives q some = members-live w.hardware w h _ q some
+soft-given : (m : ℕ) (on : Bool) → (if not (m == 0) && on then m else 0) ≡ (if on then m else 0)
+soft-given m on = soft-by m (m == 0) on refl
 
-  on-given : (f : Instance → ℕ) (k : Key) → is_live w k ≡ true → 1 ≤ times k (pass_keys w cpu)
-      → of_instance f (instance_at w k).id (on_instances w.hardware (stage_of w) cpu) ≡ if is_on w k then f (instance_at w k) else 0
-  on-given f k live some =
-      ap (of_instance f (instance_at w k).id) (on-keys w.hardware w cpu h judged) ∙ chosen-measure w.hardware w h f (is_on w) (pass_keys w cpu) k lives live some
+pub soft-shared : (w : World) (cpu : CpuNo) (occurring : Kind) → IsKept w.hardware w → IsJudged w.hardware w cpu
+    → HaveShares w (hit_all (hits_among (happening.Soft occurring) w (keys_by_pass w cpu)) w) (soft_shares w cpu occurring)
+soft-shared w cpu occurring h judged = record {
+  accounts = λ k live.
+      (let i : Instance = instance_at w k in
+      let a : Account = account_at w k in
+      let n : ℕ = if not (soft_hits occurring i == 0) && is_on_at w cpu k then soft_hits occurring i else 0 in
+      let m : ℕ = (soft_shares w cpu occurring i.id).count in
+      let same : n ≡ m = soft-given (soft_hits occurring i) (is_on_at w cpu k) ∙ sym (on-share w cpu h judged (soft_hits occurring) k live) in
+      let enabled : a.sums.enabled ≡ a.sums.enabled + 0 = omega arith in
+      let running : a.sums.running ≡ a.sums.running + 0 = omega arith in
+      account-hit (happening.Soft occurring) w cpu h w k live
+      ∙ (λ j. record { sums = record { count = a.sums.count + same j; enabled = enabled j; running = running j }; left = left_after (same j) i.attr.period a.left }));
+  keys = keys-hit (happening.Soft occurring) w cpu h w (λ q. refl);
+}
 
-  on-none : (f : Instance → ℕ) (k : Key) → is_live w k ≡ true → times k (pass_keys w cpu) ≡ 0 → of_instance f (instance_at w k).id (on_instances w.hardware (stage_of w) cpu) ≡ 0
-  on-none f k live none =
-      ap (of_instance f (instance_at w k).id) (on-keys w.hardware w cpu h judged) ∙ chosen-none w.hardware w h f (is_on w) (pass_keys w cpu) k lives live none
+-- a stretch of work: what goes along the totals, and what is hit, come to the share
+both-given : (on zero : Bool) (m : ℕ) → (if on && zero then m else 0) + (if not zero && on then m else 0) ≡ (if on then m else 0)
+both-given true true m = omega arith
+both-given true false m = omega arith
+both-given false true m = omega arith
+both-given false false m = omega arith
 
-  ready-given : (f : Instance → ℕ) (k : Key) → is_live w k ≡ true → 1 ≤ times k (pass_keys w cpu)
-      → of_instance f (instance_at w k).id (ready_instances (stage_of w) cpu) ≡ if is_effective w k then f (instance_at w k) else 0
-  ready-given f k live some =
-      ap (of_instance f (instance_at w k).id) (ready-keys w.hardware w cpu h) ∙ chosen-measure w.hardware w h f (is_effective w) (pass_keys w cpu) k lives live some
+both-left : (on zero : Bool) (m period left : ℕ) → (zero ≡ true → period ≡ 0) → (period ≡ 0 → left ≡ 0)
+    → left_after (if not zero && on then m else 0) period left ≡ left_after (if on then m else 0) period left
+both-left on false m period left is whole = refl
+both-left on true m period left is whole =
+    let p : period ≡ 0 = is refl in
+    let l : left ≡ 0 = whole p in
+    let all : (n : ℕ) → left_after n period left ≡ 0 = λ n. (ap (λ q. left_after n q left) p ∙ ap (λ q. left_after n 0 q) l) ∙ none-left n in
+    all 0 ∙ sym (all (if on then m else 0))
 
-  ready-none : (f : Instance → ℕ) (k : Key) → is_live w k ≡ true → times k (pass_keys w cpu) ≡ 0 → of_instance f (instance_at w k).id (ready_instances (stage_of w) cpu) ≡ 0
-  ready-none f k live none =
-      ap (of_instance f (instance_at w k).id) (ready-keys w.hardware w cpu h) ∙ chosen-none w.hardware w h f (is_effective w) (pass_keys w cpu) k lives live none
+-- a world that was worked on has the same keys to hit
+pub same-hits : (x : Happening) (w v : World) (cpu : CpuNo) (work : Work) → IsWorked w v cpu work → hits_among x v (keys_by_pass v cpu) ≡ hits_among x w (keys_by_pass w cpu)
+same-hits x w v cpu work worked = ap (λ (u : World). hits_among x u (keys_by_pass u cpu)) worked.rest
 
-  shares-by : (x : Happening) (k : Key) (on ready : (Instance → ℕ) → ℕ)
-      → ((f : Instance → ℕ) → of_instance f (instance_at w k).id (on_instances w.hardware (stage_of w) cpu) ≡ on f)
-      → ((f : Instance → ℕ) → of_instance f (instance_at w k).id (ready_instances (stage_of w) cpu) ≡ ready f)
-      → shares_of x w cpu (instance_at w k).id ≡ measured_by x on ready
-  unfolding share
-  shares-by (happening.Work work) k on ready on-is ready-is =
-      same-sums _ _ _ _ _ _ (on-is (work_hits work)) (ready-is (λ i. work.length)) (on-is (λ i. work.length))
-  shares-by (happening.Soft occurring) k on ready on-is ready-is =
-      same-sums _ _ _ _ _ _ (on-is (soft_hits occurring)) refl refl
-
-  measured-here : (x : Happening) (k : Key)
-      → measured_by x (λ f. if is_on w k then f (instance_at w k) else 0) (λ f. if is_effective w k then f (instance_at w k) else 0) ≡ given_at x w k
-  measured-here (happening.Work work) k = refl
-  measured-here (happening.Soft occurring) k = same-sums _ _ _ _ _ _ refl (no-time (is_effective w k)) (no-time (is_on w k))
-
-  shares-given : (x : Happening) (k : Key) → is_live w k ≡ true → 1 ≤ times k (pass_keys w cpu) → shares_of x w cpu (instance_at w k).id ≡ given_at x w k
-  shares-given x k live some = shares-by x k _ _ (λ f. on-given f k live some) (λ f. ready-given f k live some) ∙ measured-here x k
-
-  shares-none : (x : Happening) (k : Key) → is_live w k ≡ true → times k (pass_keys w cpu) ≡ 0 → shares_of x w cpu (instance_at w k).id ≡ no_sums
-  shares-none x k live none = shares-by x k (λ f. 0) (λ f. 0) (λ f. on-none f k live none) (λ f. ready-none f k live none) ∙ measured-nowhere x
-
-  pub processor-shares : (x : Happening) → HaveShares w (visited x (pass_keys w cpu) w) (shares_of x w cpu)
-  processor-shares x =
-      shares-are w.hardware w h x (pass_keys w cpu) (shares_of x w cpu) lives (times-once w (pass_keys w cpu) (one-each w.hardware w cpu h)) (shares-given x) (shares-none x)
+pub work-shared : (w v : World) (cpu : CpuNo) (work : Work) → IsKept w.hardware w → IsJudged w.hardware w cpu → IsWorked w v cpu work
+    → ((k : Key) → is_live w k ≡ true → (instance_at w k).attr.period ≡ 0 → (account_at w k).left ≡ 0)
+    → HaveShares w (hit_all (hits_among (happening.Work work) w (keys_by_pass w cpu)) v) (work_shares w cpu work)
+work-shared w v cpu work h judged worked whole = record {
+  accounts = λ k live.
+      (let i : Instance = instance_at w k in
+      let a : Account = account_at w k in
+      let g : Sums = work_given w cpu work k in
+      let on : Bool = is_on_at w cpu k in
+      let m : ℕ = work_hits work i in
+      let n : ℕ = if samples i && on then m else 0 in
+      let s : Sums = work_shares w cpu work i.id in
+      let is : s ≡ record g { count = if on then m else 0 } = share-is w cpu work k h judged live in
+      let period : (instance_at v k).attr.period ≡ i.attr.period = ap (λ (u : World). (instance_at u k).attr.period) worked.rest in
+      let count : (a.sums.count + g.count) + n ≡ a.sums.count + s.count = omega (arith, both-given on (i.attr.period == 0) m, ap (λ (t : Sums). t.count) is) in
+      let enabled : a.sums.enabled + g.enabled ≡ a.sums.enabled + s.enabled = ap (λ (t : Sums). a.sums.enabled + t.enabled) (sym is) in
+      let running : a.sums.running + g.running ≡ a.sums.running + s.running = ap (λ (t : Sums). a.sums.running + t.running) (sym is) in
+      let left : left_after n i.attr.period a.left ≡ left_after s.count i.attr.period a.left =
+      both-left on (i.attr.period == 0) m i.attr.period a.left (is-zero i.attr.period) (whole k live)
+      ∙ ap (λ (t : Sums). left_after t.count i.attr.period a.left) (sym is) in
+      account-hit (happening.Work work) w cpu h v k live
+      ∙ ((λ j. after_hits n (period j) (worked.accounts k live j))
+      ∙ (λ j. record { sums = record { count = count j; enabled = enabled j; running = running j }; left = left j })));
+  keys = keys-hit (happening.Work work) w cpu h v worked.keys;
+}

@@ -1,72 +1,53 @@
--- How the keys that a processor reaches are gone over, one after the other, and what each is given. After
--- perf_event_update_time and perf_swevent_event of kernel/events/core.c; the order is this project's own profile.
-use Rattle.std.specs.Prelude.{◌≡◌, ℕ, ◌+◌, ◌^◌, ◌<◌, ◌≤◌, ◌==◌, Bool, true, ◌&&◌, List, [], ◌∷◌, length, flat_map, count_by, Option, if◌then◌else◌}
+-- Which instances a stretch of work, or one occurrence of a software kind, is given to one by one, and what that does.
+-- After perf_swevent_event and __perf_event_overflow of kernel/events/core.c; the order is this project's own profile.
+use Rattle.std.specs.Prelude.{◌≡◌, ℕ, ◌+◌, ◌^◌, ◌<◌, ◌≤◌, ◌==◌, Bool, true, false, not, ◌&&◌, List, length, map, filter, flat_map, count_by, Option, slice_index_or}
 use Rattle.std.specs.List.{fold}
-use Rattle.perf_base.specs.declared.lines.CpuLine.TheVariants as cpu_line
 use Rattle.perf_base.specs.declared.numbers.CpuNo.{CpuNo}
 use Rattle.perf_base.specs.declared.numbers.Key.{Key}
 use Rattle.perf_base.specs.declared.numbers.TaskNo.{TaskNo}
-use Rattle.perf_base.specs.declared.reply.Sums.{Sums}
 use Rattle.perf_base.specs.declared.standing.Context.TheVariants as context
 use Rattle.stage_spec.specs.declared.instance.Instance.{Instance}
-use Rattle.stage_spec.specs.Effective.{effective, is_ready}
 use Rattle.stage_spec.specs.Occurrences.{overflows}
 use Rattle.stage_spec.specs.Shares.{work_hits}
-use Rattle.perf_base.specs.Standings.{stands_on}
-use Rattle.stage_laws.specs.Bounds.{most_of_line}
-use Rattle.world_spec.specs.Value.{World, is_live, entry_at, instance_at, account_at, standing_at, leaders_of, times}
-use Rattle.world_spec.specs.Kept.{family_sums}
-use Rattle.world_spec.specs.Changes.{hit, pass}
+use Rattle.stage_spec.specs.Verdict.{on_instances}
+use Rattle.world_spec.specs.Value.{World, is_live, entry_at, instance_at, account_at, leaders_of}
+use Rattle.world_spec.specs.StageOf.{stage_of}
+use Rattle.world_spec.specs.Kept.{post_at, family_sums, AreLinked}
+use Rattle.world_spec.specs.Changes as change
 use Rattle.world_spec.specs.Listings.{task_leaders}
-use Rattle.world_spec.specs.Working.{leaders_by_pass}
+use Rattle.world_spec.specs.Metering.{goes_along}
+use Rattle.world_spec.specs.Shares.{soft_hits}
+use Rattle.world_spec.specs.Ways.{is_on_at}
+use Rattle.world_spec.specs.Working.{is_on}
 use Rattle.world_tables.specs.Places.{picked}
 use Rattle.work_account.specs.declared.happening.Happening.{Happening}
 use Rattle.work_account.specs.declared.happening.Happening.TheVariants as happening
+use Rattle.work_account.specs.declared.overflowing.Hit.{Hit}
 use Rattle.work_account.specs.declared.overflowing.Overflow.{Overflow}
-use Rattle.world_spec.specs.Shares.{work_shares, soft_hits, soft_shares, one_hit}
 
--- how long what happens takes, and what an instance that is on counts of it
-abbrev pub lasts : Happening → ℕ
-lasts (happening.Work work) = work.length
-lasts (happening.Soft occurring) = 0
-
+-- what an instance that is on counts of it
 abbrev pub occurs : Happening → Instance → ℕ
 occurs (happening.Work work) i = work_hits work i
 occurs (happening.Soft occurring) i = soft_hits occurring i
 
--- what is given by it to the instances of a processor, and the most that one of them may get
-abbrev pub shares_of : Happening → World → CpuNo → ℕ → Sums
-shares_of (happening.Work work) w cpu = work_shares w cpu work
-shares_of (happening.Soft occurring) w cpu = soft_shares w cpu occurring
+-- Whether an instance that is on is given it one by one: of work one that samples, as the others count along totals, and
+-- of an occurrence each that counts it.
+abbrev pub samples : Instance → Bool
+samples i = not (i.attr.period == 0)
 
-abbrev pub most_given : Happening → Sums
-most_given (happening.Work work) = most_of_line (cpu_line.Work work)
-most_given (happening.Soft occurring) = one_hit
+abbrev pub is_hit_by : Happening → Instance → Bool
+is_hit_by (happening.Work work) i = samples i
+is_hit_by (happening.Soft occurring) i = not (soft_hits occurring i == 0)
 
--- An instance is ready by its leader's own state and its own one, and on where its group stands on, too.
-abbrev pub is_effective : World → Key → Bool
-is_effective w k = is_ready (effective (instance_at w (entry_at w k).leader).own (instance_at w k).own)
+abbrev pub takes : Happening → World → Key → Bool
+takes x w k = is_hit_by x (instance_at w k) && is_on w k
 
-abbrev pub is_on : World → Key → Bool
-is_on w k = is_effective w k && stands_on (standing_at w (entry_at w k).leader)
+-- what an instance is hit by, and so those among some keys that take it
+abbrev pub hit_at : Happening → World → Key → Hit
+hit_at x w k = record { key = k; occurrences = occurs x (instance_at w k) }
 
--- what a key is given, and so some keys, one after the other
-abbrev pub counted : Happening → World → Key → ℕ
-counted x w k = if is_on w k then occurs x (instance_at w k) else 0
-
-abbrev pub visit : Happening → World → Key → World
-visit x w k = hit k (counted x w k) (pass k (lasts x) (is_effective w k) (is_on w k) w)
-
-unfoldable pub visited : Happening → List Key → World → World
-visited x keys w = fold (visit x) w keys
-
--- how often a key's period is over by what it is given, and so of some keys that are gone over one after the other
-abbrev pub overflow_at : Happening → World → Key → Overflow
-overflow_at x w k = record { key = k; count = overflows (counted x w k) (instance_at w k).attr.period (account_at w k).left }
-
-unfoldable pub noted : Happening → List Key → World → List Overflow
-noted x [] w = []
-noted x (k ∷ keys) w = overflow_at x w k ∷ noted x keys (visit x w k)
+abbrev pub hits_among : Happening → World → List Key → List Hit
+hits_among x w keys = map (hit_at x w) (filter (takes x w) keys)
 
 -- the members of some groups, group by group
 abbrev pub members_at : World → Key → List Key
@@ -82,19 +63,33 @@ own_keys w cpu pinned = all_members w (picked pinned (leaders_of w (context.Proc
 abbrev pub task_keys : World → Option TaskNo → (pinned : Bool) → List Key
 task_keys w task pinned = all_members w (picked pinned (task_leaders w task))
 
--- all that a processor reaches, in pass order
-abbrev pub pass_keys : World → CpuNo → List Key
-pass_keys w cpu = all_members w (leaders_by_pass w cpu)
+-- whether a hit is of the family of a slot
+abbrev pub is_of : World → ℕ → Hit → Bool
+is_of w slot h = (instance_at w h.key).event.0 == slot
 
--- whether an instance is of the family of a slot
-abbrev pub is_in : World → ℕ → Key → Bool
-is_in w slot k = (instance_at w k).event.0 == slot
+-- a world after some hits, one after the other, and how often the period of each was over
+abbrev pub hit_one : World → Hit → World
+hit_one w h = change.hit h.key h.occurrences w
 
--- Keys may be gone over: they are live, no two of one family, and each family has room for what its instance is given.
--- Sixteen kinds at most are counted.
-pub record MayVisit (x : Happening) (w : World) (keys : List Key) : Type 0 where
-  pub live : (k : Key) → 1 ≤ times k keys → is_live w k ≡ true
-  pub one_each : (slot : ℕ) → count_by (is_in w slot) keys ≤ 1
-  pub counts : (k : Key) → 1 ≤ times k keys → (family_sums w (instance_at w k).event.0).count + occurs x (instance_at w k) < 2 ^ 63
-  pub times : (k : Key) → 1 ≤ times k keys → (family_sums w (instance_at w k).event.0).enabled + lasts x < 2 ^ 63
-  pub kinds : length w.hardware.kind_pmus ≤ 16
+unfoldable pub hit_all : List Hit → World → World
+hit_all hits w = fold hit_one w hits
+
+abbrev pub overflow_of : World → Hit → Overflow
+overflow_of w h = record { key = h.key; count = overflows h.occurrences (instance_at w h.key).attr.period (account_at w h.key).left }
+
+-- Instances may be hit: each is live, does not count along totals where it is on, and is the only one of its family; the
+-- family has room.
+pub record MayHit (w : World) (h : Hit) : Type 0 where
+  pub live : is_live w h.key ≡ true
+  pub alone : (cpu : CpuNo) → is_on_at w cpu h.key ≡ true → goes_along (instance_at w h.key).attr ≡ false
+  pub counts : (family_sums w (instance_at w h.key).event.0).count + h.occurrences < 2 ^ 63
+
+pub record MayHitAll (w : World) (hits : List Hit) : Type 0 where
+  pub each : (place : ℕ) (none : Hit) → place < length hits → MayHit w (slice_index_or hits place none)
+  pub one_each : (slot : ℕ) → count_by (is_of w slot) hits ≤ 1
+  pub few : length hits ≤ 256
+  pub linked : AreLinked (post_at w) w.contexts w.families
+
+-- how many instances with a period are on there
+abbrev pub sampling_on : World → CpuNo → ℕ
+sampling_on w cpu = count_by samples (on_instances w.hardware (stage_of w) cpu)

@@ -10,9 +10,11 @@ ghost use Rattle.world_spec.specs.Rescheduled.{IsJudged, IsRescheduled};
 ghost use Rattle.world_spec.specs.Shares.{HaveRoom, HaveShares, one_hit, soft_shares};
 
 use crate::happening::Happening;
-use crate::visits::visit_processor;
+use crate::hitting::hit_found;
 use perf_base::{CpuNo, Kind};
 use perf_world::World;
+use std::marker::Brand;
+use std::sync::ledger::Blank;
 
 /// One switch or one migration on a processor, in kernel mode: each event there that is on, counts that kind and does
 /// not leave out the kernel counts one more. No other kind occurs by itself, and none changes anything.
@@ -26,5 +28,7 @@ pub fn soft(world: &mut World, cpu: CpuNo, kind: Kind)
     ensures rest { world.new ≡ record world.old { accounts = world.new.accounts } }
     ensures rescheduled { (other : Cpu) → IsRescheduled world.old.hardware world.old other → IsRescheduled world.old.hardware world.new other }
 {
-    visit_processor(world, &Happening::Soft(kind), cpu);
+    world.use_invariant();
+    let what = Happening::Soft(kind);
+    hit_found::<Brand>(world, &what, cpu, Blank::new(1));
 }

@@ -55,13 +55,14 @@ fn soft_hits(occurring: Kind, instance: &Instance) -> u64
 }
 
 impl Happening {
-    /// How long it takes.
-    pub fn length(&self) -> u64
-        ensures { result ≡ visits.lasts self.now }
+    /// Whether it is given one by one to an instance that is on: work to one that samples, and an occurrence to one that
+    /// counts it.
+    pub fn hits(&self, instance: &Instance) -> bool
+        ensures { result ≡ visits.is_hit_by self.now instance.now }
     {
         match self {
-            Happening::Work(work) => work.length,
-            Happening::Soft(_) => 0,
+            Happening::Work(_) => instance.attr.period != 0,
+            Happening::Soft(occurring) => soft_hits(*occurring, instance) != 0,
         }
     }
 

@@ -3,14 +3,15 @@
 #![tactic(auto)]
 
 mod account;
+mod finding;
 mod happening;
+mod hitting;
 mod overflowing;
 mod samples;
 mod sampling;
 mod sending;
 #[cfg(test)]
 mod tests;
-mod visits;
 
 pub use account::soft;
 pub use sampling::work;

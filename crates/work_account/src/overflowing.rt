@@ -1,8 +1,26 @@
-//! How often the periods of the instances on a processor were over.
+//! How often instances are hit, and how often their periods are over by it.
 
 ghost use Rattle.std.specs.Prelude.{◌≡◌};
 
 use perf_base::{Filling, Key, ShortList};
+
+/// An instance that is given occurrences one by one, and how many.
+#[derive(Clone, Copy)]
+pub struct Hit {
+    pub key: Key,
+    pub occurrences: u64,
+}
+
+impl Filling for Hit {
+    ghost filling = { record { key = record { 0 = 0 }; occurrences = 0 } };
+
+    fn filling() -> Hit {
+        Hit {
+            key: Key(0),
+            occurrences: 0,
+        }
+    }
+}
 
 /// How often the period of an instance was over.
 #[derive(Clone, Copy)]
@@ -22,5 +40,8 @@ impl Filling for Overflow {
     }
 }
 
-/// The overflows of the instances that a processor reaches, no two of one event.
+/// What some of the instances that a processor reaches are hit by, no two of one event.
+pub type Hits = ShortList<Hit, 256>;
+
+/// Their overflows.
 pub type Overflows = ShortList<Overflow, 256>;

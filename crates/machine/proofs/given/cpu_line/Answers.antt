@@ -6,11 +6,17 @@ use Rattle.machine.specs.Stepped.{IsDoneWith}
 use Rattle.machine.proofs.Refused.{stays-same}
 use Rattle.machine.proofs.Lines.{work-room}
 use Rattle.machine.proofs.Stepped.{cpu-sends}
+use Rattle.machine.proofs.Totals.{meter-room, none-grow}
 use Rattle.machine.proofs.given.cpu_line.Goals as goal
 
 pub work-requires-clause-room : goal.work-requires-clause-room
 work-requires-clause-room g c =
     work-room c.args.world.now (length c.args.world.now.hardware.kind_pmus) c.in-Work.work c.requires.room
+    (subst (IsCpuLine (length c.args.world.now.hardware.kind_pmus)) c.in-Work.is c.requires.line)
+
+pub work-requires-clause-meter : goal.work-requires-clause-meter
+work-requires-clause-meter g c =
+    meter-room c.args.world.now (length c.args.world.now.hardware.kind_pmus) c.args.cpu c.in-Work.work c.requires.room
     (subst (IsCpuLine (length c.args.world.now.hardware.kind_pmus)) c.in-Work.is c.requires.line)
 
 pub work-requires-clause-space : goal.work-requires-clause-space
@@ -51,3 +57,15 @@ returns-in-Fork-clause-ends g c = stays-same c.args.outs.now c.fork.result
 
 pub returns-clause-ends : goal.returns-clause-ends
 returns-clause-ends g c = stays-same c.args.outs.now c.exit.result
+
+pub returns-in-Switch-clause-totals : goal.returns-in-Switch-clause-totals
+returns-in-Switch-clause-totals g c = none-grow c.args.cpu c.args.world.now c.switch.new.world c.switch.ensures.totals
+
+pub returns-in-Tick-clause-totals : goal.returns-in-Tick-clause-totals
+returns-in-Tick-clause-totals g c = none-grow c.args.cpu c.args.world.now c.tick.new.world c.tick.ensures.totals
+
+pub returns-in-Fork-clause-totals : goal.returns-in-Fork-clause-totals
+returns-in-Fork-clause-totals g c = none-grow c.args.cpu c.args.world.now c.fork.new.world c.fork.ensures.totals
+
+pub returns-clause-totals : goal.returns-clause-totals
+returns-clause-totals g c = none-grow c.args.cpu c.args.world.now c.exit.new.world c.exit.ensures.totals

@@ -1,5 +1,6 @@
-use Rattle.std.proofs.Common.{arith, length, refl}
+use Rattle.std.proofs.Common.{arith, length, refl, ap, ◌∙◌}
 use Rattle.perf_base.specs.declared.lines.CpuLine.TheVariants as line
+use Rattle.world_spec.specs.Value.{World}
 use Rattle.world_spec.specs.StageOf.{stage_of}
 use Rattle.machine.proofs.Counting.{counted-alone, counted-own, refused-cpu_counted}
 use Rattle.machine.proofs.Exits.{exit-done, exit-ready, exit-settled, exit-size, exit-untouched}
@@ -54,3 +55,6 @@ returns-in-Ok-clause-counted g c =
     c.in-Ok.ensures.gone.gone.hardware c.in-Ok.ensures.stage
     (counted-alone c.exit.new.world.hardware (stage_of c.exit.new.world) (stage_of c.resched_each.new.world) c.args.cpu c.in-Ok.set (length c.exit.new.world.quiet.running) c.args.tests.now c.resched_each.new.tests
     (omega (arith, c.requires.cpu, exit-size c.args.world.now c.exit.new.world c.args.cpu c.in-Ok.ensures.stage)) c.in-Ok.ensures.processors c.resched_each.ensures.counted)
+
+pub returns-in-Ok-clause-totals : goal.returns-in-Ok-clause-totals
+returns-in-Ok-clause-totals g c = ap (λ (y : World). y.quiet.totals) c.resched_each.ensures.rest.world ∙ ap (λ q. q.totals) c.in-Ok.ensures.gone.quiet

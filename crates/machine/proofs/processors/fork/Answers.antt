@@ -1,3 +1,4 @@
+use Rattle.std.proofs.Common.{ap}
 use Rattle.perf_base.specs.declared.lines.CpuLine.TheVariants as line
 use Rattle.machine.proofs.Forks.{fork-done, fork-ready}
 use Rattle.machine.proofs.Refused.{refused-cpu}
@@ -34,3 +35,6 @@ returns-in-Ok-clause-done c =
       others = c.in-Ok.ensures.others;
       kept_then = c.use_invariant-2.ensures;
     })
+
+pub returns-in-Ok-clause-totals : goal.returns-in-Ok-clause-totals
+returns-in-Ok-clause-totals c = ap (λ q. q.totals) c.in-Ok.ensures.stays.quiet

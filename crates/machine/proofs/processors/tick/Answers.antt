@@ -1,4 +1,4 @@
-use Rattle.std.proofs.Common.{ap, refl}
+use Rattle.std.proofs.Common.{ap, refl, ◌∙◌}
 use Rattle.perf_base.specs.declared.lines.CpuLine.TheVariants as line
 use Rattle.world_spec.specs.StageOf.{stage_of}
 use Rattle.world_spec.specs.Value.{World}
@@ -38,3 +38,8 @@ returns-clause-counted g c =
     counted-own w v c.resched.new.world c.args.cpu line.Tick c.args.tests.now c.resched.new.tests c.requires.cpu refl refl (λ other. refl)
     (ap (λ (y : World). y.hardware) (only-lists c.args.cpu w v c.rotate.ensures.world)) c.rotate.ensures.stage
     (one-counted v.hardware (stage_of v) (stage_of c.resched.new.world) c.args.cpu c.args.tests.now c.resched.new.tests c.resched.ensures.least c.resched.ensures.most)
+
+pub returns-clause-totals : goal.returns-clause-totals
+returns-clause-totals g c =
+    ap (λ (y : World). y.quiet.totals) c.resched.ensures.rest.world
+    ∙ ap (λ (y : World). y.quiet.totals) (only-lists c.args.cpu c.args.world.now c.rotate.new.world c.rotate.ensures.world)

@@ -1,12 +1,15 @@
+use Rattle.std.proofs.Common.{ap, length}
+use Rattle.world_spec.specs.Value.{World}
+use Rattle.machine.proofs.Totals.{work-grows}
 use Rattle.machine.proofs.Working.{work-done, work-seen, work-ready}
 use Rattle.machine.proofs.processors.work.Goals as goal
 
 pub work-requires-clause-judged : goal.work-requires-clause-judged
-work-requires-clause-judged c = (c.requires.ready.rescheduled c.args.cpu c.requires.cpu).judged
+work-requires-clause-judged g c = (c.requires.ready.rescheduled c.args.cpu c.requires.cpu).judged
 
 pub returns-clause-ready : goal.returns-clause-ready
-returns-clause-ready c =
-    work-ready c.args.world.now c.work.new.world c.args.cpu c.args.work.now c.args.outs.now c.work.new.outs (record {
+returns-clause-ready g c =
+    work-ready c.args.world.now c.work.new.world c.args.cpu c.args.work c.args.outs.now c.work.new.outs (record {
       kept = c.use_invariant.ensures;
       ready = c.requires.ready;
       low = c.requires.cpu;
@@ -20,8 +23,8 @@ returns-clause-ready c =
     })
 
 pub returns-clause-done : goal.returns-clause-done
-returns-clause-done c =
-    work-done c.args.world.now c.work.new.world c.args.cpu c.args.work.now c.args.outs.now c.work.new.outs (record {
+returns-clause-done g c =
+    work-done c.args.world.now c.work.new.world c.args.cpu c.args.work c.args.outs.now c.work.new.outs (record {
       kept = c.use_invariant.ensures;
       ready = c.requires.ready;
       low = c.requires.cpu;
@@ -35,6 +38,11 @@ returns-clause-done c =
     })
 
 pub returns-clause-seen : goal.returns-clause-seen
-returns-clause-seen c =
-    work-seen c.args.world.now c.work.new.world c.args.cpu c.args.work.now c.args.outs.now c.work.new.outs c.requires.space.left
+returns-clause-seen g c =
+    work-seen c.args.world.now c.work.new.world c.args.cpu c.args.work c.args.outs.now c.work.new.outs c.requires.space.left
     (c.work.ensures.sent c.requires.space.left c.requires.space.are_left)
+
+pub returns-clause-totals : goal.returns-clause-totals
+returns-clause-totals g c =
+    work-grows (length c.args.world.now.hardware.kind_pmus) c.args.world.now c.work.new.world c.args.cpu c.args.work c.requires.line c.use_invariant.ensures c.requires.cpu
+    (ap (λ (y : World). y.quiet.totals) c.work.ensures.rest)

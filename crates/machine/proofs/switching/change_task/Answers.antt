@@ -6,7 +6,7 @@ use Rattle.world_spec.specs.StageOf.{stage_of}
 use Rattle.world_spec.specs.Value.{World}
 use Rattle.machine.specs.Counted.{AreCounted}
 use Rattle.machine.proofs.Counting.{counted-own, one-counted}
-use Rattle.machine.proofs.TaskChange.{End, hardware-then, room-then, switch-done, switch-ready, switch-rescheduled}
+use Rattle.machine.proofs.TaskChange.{End, hardware-then, room-then, switch-done, switch-ready, switch-rescheduled, placed-totals}
 use Rattle.machine.proofs.switching.change_task.Goals as goal
 
 pub migrate_if-requires-clause-room : goal.migrate_if-requires-clause-room
@@ -106,3 +106,10 @@ returns-clause-counted g c =
     (c.move_to-migrates.ensures.stage ∙ ap (λ y. switched c.args.cpu c.args.to (stage_of y)) c.soft.ensures.rest)
     (subst (λ s. AreCounted b.hardware (stage_of b) s (c.args.cpu ∷ []) c.args.tests.now c.resched.new.tests) (sym c.migrate_if.ensures.stage)
     (one-counted b.hardware (stage_of b) (stage_of c.resched.new.world) c.args.cpu c.args.tests.now c.resched.new.tests c.resched.ensures.least c.resched.ensures.most))
+
+pub returns-clause-totals : goal.returns-clause-totals
+returns-clause-totals g c =
+    let a : World = c.soft.new.world in
+    let moved : c.move_to-migrates.new.world.quiet.totals ≡ a.quiet.totals = ap (λ (y : World). y.quiet.totals) c.move_to-migrates.ensures.world ∙ placed-totals c.args.cpu c.args.to a in
+    ap (λ (y : World). y.quiet.totals) c.migrate_if.ensures.rest
+    ∙ (ap (λ (y : World). y.quiet.totals) c.resched.ensures.rest.world ∙ (moved ∙ ap (λ (y : World). y.quiet.totals) c.soft.ensures.rest))

@@ -1,9 +1,10 @@
-use Rattle.std.proofs.Common.{ap, length}
+use Rattle.std.proofs.Common.{ap, length, ◌∙◌}
 use Rattle.perf_base.specs.declared.lines.ToolLine.TheVariants as line
+use Rattle.world_spec.specs.Adding.{Newcomer}
 use Rattle.world_spec.specs.Value.{World}
 use Rattle.event_open.specs.Opened.{opened_as, IsOpenedAs}
 use Rattle.machine.proofs.Counting.{counted-step, refused-counted}
-use Rattle.machine.proofs.Opening.{hardware-stays, running-stays, untouched, is-ready, is-done}
+use Rattle.machine.proofs.Opening.{hardware-stays, running-stays, untouched, is-ready, is-done, added-totals}
 use Rattle.machine.proofs.Refused.{refused-line}
 use Rattle.machine.proofs.tools.open.Goals as goal
 
@@ -67,3 +68,9 @@ returns-in-Ok-clause-counted g c =
       into = λ cpu low there. (c.in-Ok.ensures.processors cpu low).0 there;
       back = λ cpu low there. (c.in-Ok.ensures.processors cpu low).1 there;
     }) c.resched_each.ensures.counted
+
+pub returns-in-Ok-clause-totals : goal.returns-in-Ok-clause-totals
+returns-in-Ok-clause-totals g c =
+    let n : Newcomer = opened_as c.args.world.now c.args.slot c.args.attr.now c.args.leader in
+    ap (λ (y : World). y.quiet.totals) c.resched_each.ensures.rest.world
+    ∙ (ap (λ (y : World). y.quiet.totals) c.in-Ok.ensures.world.world ∙ added-totals c.args.world.now c.in-Ok.ensures.world.key n n.leader)

@@ -1,76 +1,285 @@
-use Rattle.std.proofs.Common.{◌+◌, ◌<◌, ◌^◌, length, slice_index_or, sym, subst}
+use Rattle.std.proofs.Common.{◌≡◌, ◌+◌, ◌<◌, ◌≤◌, ◌∙◌, ℕ, arith, List, ap, sym, subst, map, length}
+use Rattle.world_spec.specs.Metering.{IsWorked}
+use Rattle.world_spec.specs.Shares.{HaveShares, work_shares}
 use Rattle.world_spec.specs.Value.{World}
-use Rattle.work_account.proofs.Left.{work-grown, work-rest, work-stays}
-use Rattle.work_account.proofs.Sampled.{timed-by, ends-are, live-found, rings-there, space-there, together-are, accounts-are, lost-are, sampled-stage, sampled-grown, sampled-stays}
+use Rattle.world_spec.specs.Working.{keys_by_pass}
+use Rattle.work_account.specs.declared.happening.Happening.TheVariants as happening
+use Rattle.work_account.specs.declared.overflowing.Hit.{Hit}
+use Rattle.work_account.specs.Ends.{send_all}
+use Rattle.work_account.specs.Sampling.{AreLeft, ends_of, sent_by}
+use Rattle.work_account.specs.Visits.{hits_among, hit_all, overflow_of, MayHitAll}
+use Rattle.work_account.proofs.Growing.{work-grows}
+use Rattle.work_account.proofs.Left.{IsMetered, IsDone, metered-on, done-on, work-stage, work-stays, lost-shares}
+use Rattle.work_account.proofs.May.{work-may}
+use Rattle.work_account.proofs.Sampled.{Timed, live-found, rings-there, space-there, ends-are, together-are, accounts-are, lost-are}
+use Rattle.work_account.proofs.Shared.{same-hits, work-shared}
+use Rattle.work_account.proofs.Steps.{hits-on}
+use Rattle.work_account.proofs.Struck.{but-all}
 use Rattle.work_account.proofs.sampling.work.Goals as goal
 
-pub pass_time-requires-clause-cpu : goal.pass_time-requires-clause-cpu
-pass_time-requires-clause-cpu c = subst (λ (w : World). c.args.cpu.0 < length w.quiet.running) (sym c.visit_processor-found.ensures.rest) c.requires.cpu
+pub hit_each-overflows-requires : goal.hit_each-overflows-requires
+hit_each-overflows-requires g c =
+    subst (MayHitAll c.add_work.new.self) (sym c.find_on-hits.ensures.hits)
+    (work-may c.args.world.now c.add_work.new.self c.args.cpu c.args.work.now c.add_work.ensures.kept c.add_work.ensures.worked c.requires.room c.find_on-hits.ensures.kept)
 
-pub pass_time-requires-clause-fits : goal.pass_time-requires-clause-fits
-pass_time-requires-clause-fits c =
-    subst (λ (w : World). slice_index_or w.quiet.clocks c.args.cpu.0 0 + c.args.work.now.length < 2 ^ 63) (sym c.visit_processor-found.ensures.rest) c.requires.clock
-
-pub send_overflows-requires : goal.send_overflows-requires
-send_overflows-requires c =
+pub clock-requires : goal.clock-requires
+clock-requires g c =
     let w : World = c.args.world.now in
-    let timed : World = c.pass_time.new.self in
-    let found = c.visit_processor-found.result in
-    let t = timed-by c.args.world.now c.visit_processor-found.new.world c.pass_time.new.self c.args.cpu c.args.work.now c.visit_processor-found.result c.clock.result
-    c.visit_processor-found.ensures.kept c.requires.cpu c.visit_processor-found.ensures.rest c.pass_time.ensures.world c.visit_processor-found.ensures.overflows c.clock.ensures.clock in
-    record {
-      live = live-found w timed c.args.cpu c.args.work.now found c.clock.result t;
-      together = c.requires.together;
-      rings = rings-there w timed c.args.cpu c.args.work.now found c.clock.result t c.args.outs.now.numbers c.requires.rings;
-      space = space-there w timed c.args.cpu c.args.work.now found c.clock.result t c.args.outs.now c.requires.judged c.requires.space;
-    }
+    let v : World = c.add_work.new.self in
+    let u : World = c.hit_each-overflows.new.world in
+    let x = happening.Work c.args.work.now in
+    let worked : IsWorked w v c.args.cpu c.args.work.now = c.add_work.ensures.worked in
+    let hits : c.find_on-hits.result ≡ hits_among x w (keys_by_pass w c.args.cpu) = c.find_on-hits.ensures.hits ∙ same-hits x w v c.args.cpu c.args.work.now worked in
+    let is : u ≡ hit_all (hits_among x w (keys_by_pass w c.args.cpu)) v = c.hit_each-overflows.ensures.world ∙ ap (λ l. hit_all l v) hits in
+    let metered : IsMetered w u c.args.cpu c.args.work.now = metered-on w v u c.args.cpu c.args.work.now worked.rest (but-all c.find_on-hits.result v u c.hit_each-overflows.ensures.world) in
+    subst (λ (y : World). c.args.cpu.0 < length y.quiet.running) (sym metered) c.requires.cpu
+
+pub send_overflows-requires-clause-live : goal.send_overflows-requires-clause-live
+send_overflows-requires-clause-live g c =
+    let w : World = c.args.world.now in
+    let v : World = c.add_work.new.self in
+    let u : World = c.hit_each-overflows.new.world in
+    let x = happening.Work c.args.work.now in
+    let worked : IsWorked w v c.args.cpu c.args.work.now = c.add_work.ensures.worked in
+    let hits : c.find_on-hits.result ≡ hits_among x w (keys_by_pass w c.args.cpu) = c.find_on-hits.ensures.hits ∙ same-hits x w v c.args.cpu c.args.work.now worked in
+    let is : u ≡ hit_all (hits_among x w (keys_by_pass w c.args.cpu)) v = c.hit_each-overflows.ensures.world ∙ ap (λ l. hit_all l v) hits in
+    let metered : IsMetered w u c.args.cpu c.args.work.now = metered-on w v u c.args.cpu c.args.work.now worked.rest (but-all c.find_on-hits.result v u c.hit_each-overflows.ensures.world) in
+    let timed : Timed w v u c.args.cpu c.args.work.now c.hit_each-overflows.result c.clock.result = record {
+      kept = c.add_work.ensures.kept;
+      cpu_there = c.requires.cpu;
+      work_done = worked;
+      world = metered;
+      overflows = c.hit_each-overflows.ensures.overflows ∙ ap (map (overflow_of v)) hits;
+      read = c.clock.ensures.clock;
+    } in
+    live-found w v u c.args.cpu c.args.work.now c.hit_each-overflows.result c.clock.result timed
+
+pub send_overflows-requires-clause-rings : goal.send_overflows-requires-clause-rings
+send_overflows-requires-clause-rings g c =
+    let w : World = c.args.world.now in
+    let v : World = c.add_work.new.self in
+    let u : World = c.hit_each-overflows.new.world in
+    let x = happening.Work c.args.work.now in
+    let worked : IsWorked w v c.args.cpu c.args.work.now = c.add_work.ensures.worked in
+    let hits : c.find_on-hits.result ≡ hits_among x w (keys_by_pass w c.args.cpu) = c.find_on-hits.ensures.hits ∙ same-hits x w v c.args.cpu c.args.work.now worked in
+    let is : u ≡ hit_all (hits_among x w (keys_by_pass w c.args.cpu)) v = c.hit_each-overflows.ensures.world ∙ ap (λ l. hit_all l v) hits in
+    let metered : IsMetered w u c.args.cpu c.args.work.now = metered-on w v u c.args.cpu c.args.work.now worked.rest (but-all c.find_on-hits.result v u c.hit_each-overflows.ensures.world) in
+    let timed : Timed w v u c.args.cpu c.args.work.now c.hit_each-overflows.result c.clock.result = record {
+      kept = c.add_work.ensures.kept;
+      cpu_there = c.requires.cpu;
+      work_done = worked;
+      world = metered;
+      overflows = c.hit_each-overflows.ensures.overflows ∙ ap (map (overflow_of v)) hits;
+      read = c.clock.ensures.clock;
+    } in
+    rings-there w v u c.args.cpu c.args.work.now c.hit_each-overflows.result c.clock.result timed c.args.outs.now.numbers c.requires.rings
+
+pub send_overflows-requires-clause-space : goal.send_overflows-requires-clause-space
+send_overflows-requires-clause-space g c =
+    let w : World = c.args.world.now in
+    let v : World = c.add_work.new.self in
+    let u : World = c.hit_each-overflows.new.world in
+    let x = happening.Work c.args.work.now in
+    let worked : IsWorked w v c.args.cpu c.args.work.now = c.add_work.ensures.worked in
+    let hits : c.find_on-hits.result ≡ hits_among x w (keys_by_pass w c.args.cpu) = c.find_on-hits.ensures.hits ∙ same-hits x w v c.args.cpu c.args.work.now worked in
+    let is : u ≡ hit_all (hits_among x w (keys_by_pass w c.args.cpu)) v = c.hit_each-overflows.ensures.world ∙ ap (λ l. hit_all l v) hits in
+    let metered : IsMetered w u c.args.cpu c.args.work.now = metered-on w v u c.args.cpu c.args.work.now worked.rest (but-all c.find_on-hits.result v u c.hit_each-overflows.ensures.world) in
+    let timed : Timed w v u c.args.cpu c.args.work.now c.hit_each-overflows.result c.clock.result = record {
+      kept = c.add_work.ensures.kept;
+      cpu_there = c.requires.cpu;
+      work_done = worked;
+      world = metered;
+      overflows = c.hit_each-overflows.ensures.overflows ∙ ap (map (overflow_of v)) hits;
+      read = c.clock.ensures.clock;
+    } in
+    space-there w v u c.args.cpu c.args.work.now c.hit_each-overflows.result c.clock.result timed c.args.outs.now c.requires.judged c.requires.space
 
 pub returns-clause-stage : goal.returns-clause-stage
-returns-clause-stage c =
+returns-clause-stage g c =
     let w : World = c.args.world.now in
-    let visited = c.visit_processor-found in
-    let timed : World = c.pass_time.new.self in
-    let n = c.args.work.now.length in
-    let is = work-rest w visited.new.world timed c.args.cpu n visited.ensures.rest c.pass_time.ensures.world in
-    sampled-stage w timed c.send_overflows.new.world c.args.cpu n is c.send_overflows.ensures.rest
+    let v : World = c.add_work.new.self in
+    let u : World = c.hit_each-overflows.new.world in
+    let x = happening.Work c.args.work.now in
+    let worked : IsWorked w v c.args.cpu c.args.work.now = c.add_work.ensures.worked in
+    let hits : c.find_on-hits.result ≡ hits_among x w (keys_by_pass w c.args.cpu) = c.find_on-hits.ensures.hits ∙ same-hits x w v c.args.cpu c.args.work.now worked in
+    let is : u ≡ hit_all (hits_among x w (keys_by_pass w c.args.cpu)) v = c.hit_each-overflows.ensures.world ∙ ap (λ l. hit_all l v) hits in
+    let metered : IsMetered w u c.args.cpu c.args.work.now = metered-on w v u c.args.cpu c.args.work.now worked.rest (but-all c.find_on-hits.result v u c.hit_each-overflows.ensures.world) in
+    let new : World = c.send_overflows.new.world in
+    let done : IsDone w new c.args.cpu c.args.work.now = done-on w u new c.args.cpu c.args.work.now metered c.send_overflows.ensures.rest in
+    work-stage w new c.args.cpu c.args.work.now done
+
+pub returns-clause-shares : goal.returns-clause-shares
+returns-clause-shares g c =
+    let w : World = c.args.world.now in
+    let v : World = c.add_work.new.self in
+    let u : World = c.hit_each-overflows.new.world in
+    let x = happening.Work c.args.work.now in
+    let worked : IsWorked w v c.args.cpu c.args.work.now = c.add_work.ensures.worked in
+    let hits : c.find_on-hits.result ≡ hits_among x w (keys_by_pass w c.args.cpu) = c.find_on-hits.ensures.hits ∙ same-hits x w v c.args.cpu c.args.work.now worked in
+    let is : u ≡ hit_all (hits_among x w (keys_by_pass w c.args.cpu)) v = c.hit_each-overflows.ensures.world ∙ ap (λ l. hit_all l v) hits in
+    let metered : IsMetered w u c.args.cpu c.args.work.now = metered-on w v u c.args.cpu c.args.work.now worked.rest (but-all c.find_on-hits.result v u c.hit_each-overflows.ensures.world) in
+    let new : World = c.send_overflows.new.world in
+    let done : IsDone w new c.args.cpu c.args.work.now = done-on w u new c.args.cpu c.args.work.now metered c.send_overflows.ensures.rest in
+    let shares : HaveShares w new (work_shares w c.args.cpu c.args.work.now) =
+    lost-shares w u new c.send_overflows.ensures.rest _ (subst (λ (y : World). HaveShares w y (work_shares w c.args.cpu c.args.work.now)) (sym is)
+    (work-shared w v c.args.cpu c.args.work.now c.add_work.ensures.kept c.requires.judged worked c.add_work.ensures.whole)) in
+    shares
 
 pub returns-clause-grown : goal.returns-clause-grown
-returns-clause-grown c = λ slot.
-    (let w : World = c.args.world.now in
-    let visited = c.visit_processor-found in
-    let timed : World = c.pass_time.new.self in
-    let n = c.args.work.now.length in
-    let is = work-rest w visited.new.world timed c.args.cpu n visited.ensures.rest c.pass_time.ensures.world in
-    sampled-grown w timed c.send_overflows.new.world c.args.cpu n is c.send_overflows.ensures.rest slot _
-    (work-grown w visited.new.world timed c.args.cpu n slot _ c.pass_time.ensures.world (visited.ensures.grown slot)))
+returns-clause-grown g c =
+    let w : World = c.args.world.now in
+    let v : World = c.add_work.new.self in
+    let u : World = c.hit_each-overflows.new.world in
+    let x = happening.Work c.args.work.now in
+    let worked : IsWorked w v c.args.cpu c.args.work.now = c.add_work.ensures.worked in
+    let hits : c.find_on-hits.result ≡ hits_among x w (keys_by_pass w c.args.cpu) = c.find_on-hits.ensures.hits ∙ same-hits x w v c.args.cpu c.args.work.now worked in
+    let is : u ≡ hit_all (hits_among x w (keys_by_pass w c.args.cpu)) v = c.hit_each-overflows.ensures.world ∙ ap (λ l. hit_all l v) hits in
+    let metered : IsMetered w u c.args.cpu c.args.work.now = metered-on w v u c.args.cpu c.args.work.now worked.rest (but-all c.find_on-hits.result v u c.hit_each-overflows.ensures.world) in
+    let new : World = c.send_overflows.new.world in
+    let done : IsDone w new c.args.cpu c.args.work.now = done-on w u new c.args.cpu c.args.work.now metered c.send_overflows.ensures.rest in
+    let shares : HaveShares w new (work_shares w c.args.cpu c.args.work.now) =
+    lost-shares w u new c.send_overflows.ensures.rest _ (subst (λ (y : World). HaveShares w y (work_shares w c.args.cpu c.args.work.now)) (sym is)
+    (work-shared w v c.args.cpu c.args.work.now c.add_work.ensures.kept c.requires.judged worked c.add_work.ensures.whole)) in
+    work-grows w c.args.cpu c.args.work.now c.add_work.ensures.kept c.requires.judged new shares (ap (λ (y : World). y.families) done) (ap (λ (y : World). y.folded) done)
+
+pub returns-clause-rest : goal.returns-clause-rest
+returns-clause-rest g c =
+    let w : World = c.args.world.now in
+    let v : World = c.add_work.new.self in
+    let u : World = c.hit_each-overflows.new.world in
+    let x = happening.Work c.args.work.now in
+    let worked : IsWorked w v c.args.cpu c.args.work.now = c.add_work.ensures.worked in
+    let hits : c.find_on-hits.result ≡ hits_among x w (keys_by_pass w c.args.cpu) = c.find_on-hits.ensures.hits ∙ same-hits x w v c.args.cpu c.args.work.now worked in
+    let is : u ≡ hit_all (hits_among x w (keys_by_pass w c.args.cpu)) v = c.hit_each-overflows.ensures.world ∙ ap (λ l. hit_all l v) hits in
+    let metered : IsMetered w u c.args.cpu c.args.work.now = metered-on w v u c.args.cpu c.args.work.now worked.rest (but-all c.find_on-hits.result v u c.hit_each-overflows.ensures.world) in
+    let new : World = c.send_overflows.new.world in
+    let done : IsDone w new c.args.cpu c.args.work.now = done-on w u new c.args.cpu c.args.work.now metered c.send_overflows.ensures.rest in
+    done
 
 pub returns-clause-rescheduled : goal.returns-clause-rescheduled
-returns-clause-rescheduled c = λ other h.
+returns-clause-rescheduled g c = λ other h.
     (let w : World = c.args.world.now in
-    let visited = c.visit_processor-found in
-    let timed : World = c.pass_time.new.self in
-    let n = c.args.work.now.length in
-    let is = work-rest w visited.new.world timed c.args.cpu n visited.ensures.rest c.pass_time.ensures.world in
-    sampled-stays w timed c.send_overflows.new.world c.args.cpu n is c.send_overflows.ensures.rest w.hardware other
-    (work-stays w.hardware w visited.new.world timed c.args.cpu n other visited.ensures.rest c.pass_time.ensures.world h))
-
-pub returns-clause-sent : goal.returns-clause-sent
-returns-clause-sent c = λ left are.
-    ends-are c.args.world.now c.pass_time.new.self c.args.cpu c.args.work.now c.visit_processor-found.result c.clock.result
-    (timed-by c.args.world.now c.visit_processor-found.new.world c.pass_time.new.self c.args.cpu c.args.work.now c.visit_processor-found.result c.clock.result
-    c.visit_processor-found.ensures.kept c.requires.cpu c.visit_processor-found.ensures.rest c.pass_time.ensures.world c.visit_processor-found.ensures.overflows c.clock.ensures.clock)
-    c.args.outs.now c.send_overflows.new.outs c.send_overflows.new.world c.requires.judged left are c.send_overflows.ensures.ends
+    let v : World = c.add_work.new.self in
+    let u : World = c.hit_each-overflows.new.world in
+    let x = happening.Work c.args.work.now in
+    let worked : IsWorked w v c.args.cpu c.args.work.now = c.add_work.ensures.worked in
+    let hits : c.find_on-hits.result ≡ hits_among x w (keys_by_pass w c.args.cpu) = c.find_on-hits.ensures.hits ∙ same-hits x w v c.args.cpu c.args.work.now worked in
+    let is : u ≡ hit_all (hits_among x w (keys_by_pass w c.args.cpu)) v = c.hit_each-overflows.ensures.world ∙ ap (λ l. hit_all l v) hits in
+    let metered : IsMetered w u c.args.cpu c.args.work.now = metered-on w v u c.args.cpu c.args.work.now worked.rest (but-all c.find_on-hits.result v u c.hit_each-overflows.ensures.world) in
+    let new : World = c.send_overflows.new.world in
+    let done : IsDone w new c.args.cpu c.args.work.now = done-on w u new c.args.cpu c.args.work.now metered c.send_overflows.ensures.rest in
+    work-stays w new c.args.cpu c.args.work.now done w.hardware other h)
 
 pub returns-clause-together : goal.returns-clause-together
-returns-clause-together c =
-    together-are c.args.rings.now c.args.world.now c.send_overflows.new.world c.args.cpu c.args.work.now c.requires.space.left c.args.outs.now c.send_overflows.new.outs
-    (returns-clause-sent c c.requires.space.left c.requires.space.are_left) c.requires.together
+returns-clause-together g c =
+    let w : World = c.args.world.now in
+    let v : World = c.add_work.new.self in
+    let u : World = c.hit_each-overflows.new.world in
+    let x = happening.Work c.args.work.now in
+    let worked : IsWorked w v c.args.cpu c.args.work.now = c.add_work.ensures.worked in
+    let hits : c.find_on-hits.result ≡ hits_among x w (keys_by_pass w c.args.cpu) = c.find_on-hits.ensures.hits ∙ same-hits x w v c.args.cpu c.args.work.now worked in
+    let is : u ≡ hit_all (hits_among x w (keys_by_pass w c.args.cpu)) v = c.hit_each-overflows.ensures.world ∙ ap (λ l. hit_all l v) hits in
+    let metered : IsMetered w u c.args.cpu c.args.work.now = metered-on w v u c.args.cpu c.args.work.now worked.rest (but-all c.find_on-hits.result v u c.hit_each-overflows.ensures.world) in
+    let timed : Timed w v u c.args.cpu c.args.work.now c.hit_each-overflows.result c.clock.result = record {
+      kept = c.add_work.ensures.kept;
+      cpu_there = c.requires.cpu;
+      work_done = worked;
+      world = metered;
+      overflows = c.hit_each-overflows.ensures.overflows ∙ ap (map (overflow_of v)) hits;
+      read = c.clock.ensures.clock;
+    } in
+    let new : World = c.send_overflows.new.world in
+    let done : IsDone w new c.args.cpu c.args.work.now = done-on w u new c.args.cpu c.args.work.now metered c.send_overflows.ensures.rest in
+    let sents : (left : ℕ → ℕ) → AreLeft w left → ends_of c.send_overflows.new.outs new ≡ send_all (ends_of c.args.outs.now w) (sent_by w left c.args.cpu c.args.work.now) = λ left are.
+    ends-are w v u c.args.cpu c.args.work.now c.hit_each-overflows.result c.clock.result timed c.args.outs.now c.send_overflows.new.outs new c.requires.judged left are c.send_overflows.ensures.ends in
+    together-are c.args.rings.now w new c.args.cpu c.args.work.now c.requires.space.left c.args.outs.now c.send_overflows.new.outs (sents c.requires.space.left c.requires.space.are_left) c.requires.together
+
+pub returns-clause-steps : goal.returns-clause-steps
+returns-clause-steps g c =
+    let w : World = c.args.world.now in
+    let v : World = c.add_work.new.self in
+    let u : World = c.hit_each-overflows.new.world in
+    let x = happening.Work c.args.work.now in
+    let worked : IsWorked w v c.args.cpu c.args.work.now = c.add_work.ensures.worked in
+    let hits : c.find_on-hits.result ≡ hits_among x w (keys_by_pass w c.args.cpu) = c.find_on-hits.ensures.hits ∙ same-hits x w v c.args.cpu c.args.work.now worked in
+    let is : u ≡ hit_all (hits_among x w (keys_by_pass w c.args.cpu)) v = c.hit_each-overflows.ensures.world ∙ ap (λ l. hit_all l v) hits in
+    let metered : IsMetered w u c.args.cpu c.args.work.now = metered-on w v u c.args.cpu c.args.work.now worked.rest (but-all c.find_on-hits.result v u c.hit_each-overflows.ensures.world) in
+    omega (
+      arith,
+      c.add_work.ensures.steps,
+      c.hit_each-overflows.ensures.steps,
+      ap (λ (l : List Hit). length l) hits,
+      hits-on w c.args.cpu c.args.work.now c.add_work.ensures.kept c.requires.judged,
+    )
+
+pub returns-clause-sent : goal.returns-clause-sent
+returns-clause-sent g c =
+    let w : World = c.args.world.now in
+    let v : World = c.add_work.new.self in
+    let u : World = c.hit_each-overflows.new.world in
+    let x = happening.Work c.args.work.now in
+    let worked : IsWorked w v c.args.cpu c.args.work.now = c.add_work.ensures.worked in
+    let hits : c.find_on-hits.result ≡ hits_among x w (keys_by_pass w c.args.cpu) = c.find_on-hits.ensures.hits ∙ same-hits x w v c.args.cpu c.args.work.now worked in
+    let is : u ≡ hit_all (hits_among x w (keys_by_pass w c.args.cpu)) v = c.hit_each-overflows.ensures.world ∙ ap (λ l. hit_all l v) hits in
+    let metered : IsMetered w u c.args.cpu c.args.work.now = metered-on w v u c.args.cpu c.args.work.now worked.rest (but-all c.find_on-hits.result v u c.hit_each-overflows.ensures.world) in
+    let timed : Timed w v u c.args.cpu c.args.work.now c.hit_each-overflows.result c.clock.result = record {
+      kept = c.add_work.ensures.kept;
+      cpu_there = c.requires.cpu;
+      work_done = worked;
+      world = metered;
+      overflows = c.hit_each-overflows.ensures.overflows ∙ ap (map (overflow_of v)) hits;
+      read = c.clock.ensures.clock;
+    } in
+    let new : World = c.send_overflows.new.world in
+    let done : IsDone w new c.args.cpu c.args.work.now = done-on w u new c.args.cpu c.args.work.now metered c.send_overflows.ensures.rest in
+    let sents : (left : ℕ → ℕ) → AreLeft w left → ends_of c.send_overflows.new.outs new ≡ send_all (ends_of c.args.outs.now w) (sent_by w left c.args.cpu c.args.work.now) = λ left are.
+    ends-are w v u c.args.cpu c.args.work.now c.hit_each-overflows.result c.clock.result timed c.args.outs.now c.send_overflows.new.outs new c.requires.judged left are c.send_overflows.ensures.ends in
+    sents
 
 pub returns-clause-accounts : goal.returns-clause-accounts
-returns-clause-accounts c = λ left accounts are h.
-    accounts-are c.args.world.now c.send_overflows.new.world c.args.cpu c.args.work.now left c.args.outs.now c.send_overflows.new.outs accounts (returns-clause-sent c left are) h
+returns-clause-accounts g c = λ left accounts are h.
+    (let w : World = c.args.world.now in
+    let v : World = c.add_work.new.self in
+    let u : World = c.hit_each-overflows.new.world in
+    let x = happening.Work c.args.work.now in
+    let worked : IsWorked w v c.args.cpu c.args.work.now = c.add_work.ensures.worked in
+    let hits : c.find_on-hits.result ≡ hits_among x w (keys_by_pass w c.args.cpu) = c.find_on-hits.ensures.hits ∙ same-hits x w v c.args.cpu c.args.work.now worked in
+    let is : u ≡ hit_all (hits_among x w (keys_by_pass w c.args.cpu)) v = c.hit_each-overflows.ensures.world ∙ ap (λ l. hit_all l v) hits in
+    let metered : IsMetered w u c.args.cpu c.args.work.now = metered-on w v u c.args.cpu c.args.work.now worked.rest (but-all c.find_on-hits.result v u c.hit_each-overflows.ensures.world) in
+    let timed : Timed w v u c.args.cpu c.args.work.now c.hit_each-overflows.result c.clock.result = record {
+      kept = c.add_work.ensures.kept;
+      cpu_there = c.requires.cpu;
+      work_done = worked;
+      world = metered;
+      overflows = c.hit_each-overflows.ensures.overflows ∙ ap (map (overflow_of v)) hits;
+      read = c.clock.ensures.clock;
+    } in
+    let new : World = c.send_overflows.new.world in
+    let done : IsDone w new c.args.cpu c.args.work.now = done-on w u new c.args.cpu c.args.work.now metered c.send_overflows.ensures.rest in
+    let sents : (left : ℕ → ℕ) → AreLeft w left → ends_of c.send_overflows.new.outs new ≡ send_all (ends_of c.args.outs.now w) (sent_by w left c.args.cpu c.args.work.now) = λ left are.
+    ends-are w v u c.args.cpu c.args.work.now c.hit_each-overflows.result c.clock.result timed c.args.outs.now c.send_overflows.new.outs new c.requires.judged left are c.send_overflows.ensures.ends in
+    accounts-are w new c.args.cpu c.args.work.now left c.args.outs.now c.send_overflows.new.outs accounts (sents left are) h)
 
 pub returns-clause-lost : goal.returns-clause-lost
-returns-clause-lost c = λ left accounts are h e low.
-    lost-are c.args.world.now c.send_overflows.new.world c.args.cpu c.args.work.now left c.args.outs.now c.send_overflows.new.outs accounts (returns-clause-sent c left are) h
-    c.visit_processor-found.ensures.kept e low
+returns-clause-lost g c = λ left accounts are h e low.
+    (let w : World = c.args.world.now in
+    let v : World = c.add_work.new.self in
+    let u : World = c.hit_each-overflows.new.world in
+    let x = happening.Work c.args.work.now in
+    let worked : IsWorked w v c.args.cpu c.args.work.now = c.add_work.ensures.worked in
+    let hits : c.find_on-hits.result ≡ hits_among x w (keys_by_pass w c.args.cpu) = c.find_on-hits.ensures.hits ∙ same-hits x w v c.args.cpu c.args.work.now worked in
+    let is : u ≡ hit_all (hits_among x w (keys_by_pass w c.args.cpu)) v = c.hit_each-overflows.ensures.world ∙ ap (λ l. hit_all l v) hits in
+    let metered : IsMetered w u c.args.cpu c.args.work.now = metered-on w v u c.args.cpu c.args.work.now worked.rest (but-all c.find_on-hits.result v u c.hit_each-overflows.ensures.world) in
+    let timed : Timed w v u c.args.cpu c.args.work.now c.hit_each-overflows.result c.clock.result = record {
+      kept = c.add_work.ensures.kept;
+      cpu_there = c.requires.cpu;
+      work_done = worked;
+      world = metered;
+      overflows = c.hit_each-overflows.ensures.overflows ∙ ap (map (overflow_of v)) hits;
+      read = c.clock.ensures.clock;
+    } in
+    let new : World = c.send_overflows.new.world in
+    let done : IsDone w new c.args.cpu c.args.work.now = done-on w u new c.args.cpu c.args.work.now metered c.send_overflows.ensures.rest in
+    let sents : (left : ℕ → ℕ) → AreLeft w left → ends_of c.send_overflows.new.outs new ≡ send_all (ends_of c.args.outs.now w) (sent_by w left c.args.cpu c.args.work.now) = λ left are.
+    ends-are w v u c.args.cpu c.args.work.now c.hit_each-overflows.result c.clock.result timed c.args.outs.now c.send_overflows.new.outs new c.requires.judged left are c.send_overflows.ensures.ends in
+    lost-are w new c.args.cpu c.args.work.now left c.args.outs.now c.send_overflows.new.outs accounts (sents left are) h c.add_work.ensures.kept e low)

@@ -1,5 +1,6 @@
-use Rattle.std.specs.Prelude.{◌≡◌}
-use Rattle.std.proofs.Common.{arith, sym, subst}
+use Rattle.std.specs.Prelude.{◌≡◌, ◌<◌, length}
+use Rattle.std.proofs.Common.{arith, sym, subst, ◌∙◌}
+use Rattle.std.proofs.lemmas.List.{length-set}
 use Rattle.perf_base.specs.declared.acts.Actor.{Actor}
 use Rattle.perf_base.specs.declared.acts.Actor.TheVariants as actor
 use Rattle.perf_base.specs.Scripts.{Scripted}
@@ -9,6 +10,7 @@ use Rattle.machine.proofs.Roomy.{has-room}
 use Rattle.machine.proofs.Spacious.{is-left, work-space}
 use Rattle.machine.proofs.Stepped.{cpu-reply, cpu-led, tool-reply, tool-led}
 use Rattle.machine.proofs.RingsThere.{rings-there}
+use Rattle.machine.proofs.Totals.{cpu-totals}
 use Rattle.machine.proofs.machine.Machine.line.Goals as goal
 
 own-line : (s : Scripted) (m now : Kept) (who own : Actor) → m ≡ now → who ≡ own → HasLine s now who → HasLine s m own
@@ -38,7 +40,7 @@ pub cpu_line-requires-clause-room : goal.cpu_line-requires-clause-room
 cpu_line-requires-clause-room c =
     let m : Kept = record { cpus = c.self.inside.cpus; tools = c.self.inside.tools; world = c.self.inside.world; outs = c.self.inside.outs } in
     let of : IsOf c.args.script.now m = subst (IsOf c.args.script.now) (sym c.self.view_is) c.requires.script in
-    has-room c.args.script.now of.0 m c.use_invariant.ensures c.requires.covered of.1 c.use_invariant-2.ensures
+    has-room c.args.script.now of.0 m c.use_invariant.ensures c.requires.covered of.1 c.use_invariant-2.ensures c.self.invariant
 
 pub cpu_line-requires-clause-rings : goal.cpu_line-requires-clause-rings
 cpu_line-requires-clause-rings c =
@@ -53,6 +55,18 @@ cpu_line-requires-clause-space c = λ work is.
     let has : HasLine c.args.script.now m (actor.Processor c.in-Processor.cpu) = own-line c.args.script.now m c.args.self.now c.args.actor (actor.Processor c.in-Processor.cpu) c.self.view_is c.in-Processor.is c.requires.line in
     work-space c.args.script.now of.0 m c.in-Processor.cpu _ work c.use_invariant.ensures c.requires.covered c.requires.light c.use_invariant-2.ensures of.1
     (line-is c.cpu_lines.result.now _ _ _ c.cpu_lines.ensures.lines has) is
+
+pub invariant_of-self : goal.invariant_of-self
+invariant_of-self c =
+    let m : Kept = record { cpus = c.self.inside.cpus; tools = c.self.inside.tools; world = c.self.inside.world; outs = c.self.inside.outs } in
+    let has : HasLine c.args.script.now m (actor.Processor c.in-Processor.cpu) = own-line c.args.script.now m c.args.self.now c.args.actor (actor.Processor c.in-Processor.cpu) c.self.view_is c.in-Processor.is c.requires.line in
+    let low : c.in-Processor.cpu.0 < length c.self.inside.cpus = omega (arith, c.self.invariant.cpus, cpu-low c.args.script.now m c.in-Processor.cpu c.use_invariant.ensures has) in
+    record {
+      cpus = length-set c.self.inside.cpus c.in-Processor.cpu.0 _ ∙ c.self.invariant.cpus;
+      tools = c.self.invariant.tools;
+      ready = c.cpu_line.ensures.ready;
+      totals = cpu-totals m c.in-Processor.cpu c.cpu_line.new.world low c.cpu_line.ensures.totals c.self.invariant.totals;
+    }
 
 pub returns-in-Processor-clause-reply : goal.returns-in-Processor-clause-reply
 returns-in-Processor-clause-reply c = λ acts led.
@@ -86,7 +100,7 @@ pub tool_line-requires-clause-room : goal.tool_line-requires-clause-room
 tool_line-requires-clause-room c =
     let m : Kept = record { cpus = c.self.inside.cpus; tools = c.self.inside.tools; world = c.self.inside.world; outs = c.self.inside.outs } in
     let of : IsOf c.args.script.now m = subst (IsOf c.args.script.now) (sym c.self.view_is) c.requires.script in
-    has-room c.args.script.now of.0 m c.use_invariant.ensures c.requires.covered of.1 c.use_invariant-2.ensures
+    has-room c.args.script.now of.0 m c.use_invariant.ensures c.requires.covered of.1 c.use_invariant-2.ensures c.self.invariant
 
 pub returns-in-Tool-clause-reply : goal.returns-in-Tool-clause-reply
 returns-in-Tool-clause-reply c = λ acts led.
