@@ -54,7 +54,7 @@ parts-reached w cpu q =
 pub same-number : (m n : ℕ) → (m == n) ≡ true → m ≡ n
 same-number m n h = grind (arith, nat_tests, h)
 
-is-number : (m n : ℕ) → m ≡ n → (m == n) ≡ true
+pub is-number : (m n : ℕ) → m ≡ n → (m == n) ≡ true
 is-number m n h = grind (arith, nat_tests, h)
 
 in-task : (hw : Hardware) (w : World) → IsKept hw w → (q : Key) → leads (post_at w) q ≡ true → (task : TaskNo) → (entry_at w q).context ≡ context.Task task → (o : Option TaskNo) → is_task o task ≡ true

@@ -29,19 +29,19 @@ use Rattle.cpu_sched.specs.Passes.{AreOfTold, told_before}
 use Rattle.cpu_sched.proofs.Telling.{told_all}
 
 -- how often an event stands in a list, and how many instances of it groups have
-abbrev slots : EventNo → List (EventNo × ℕ) → ℕ
+abbrev pub slots : EventNo → List (EventNo × ℕ) → ℕ
 slots e events = count_by (λ event. event.0.0 == e.0) events
 
-abbrev held : World → EventNo → List Key → ℕ
+abbrev pub held : World → EventNo → List Key → ℕ
 held w e keys = count_by (is_of_family e) (members (map (group_at w) keys))
 
-held-parts : (w : World) (e : EventNo) (xs ys : List Key) → held w e (xs ++ ys) ≡ held w e xs + held w e ys
+pub held-parts : (w : World) (e : EventNo) (xs ys : List Key) → held w e (xs ++ ys) ≡ held w e xs + held w e ys
 held-parts w e xs ys =
     ap (λ gs. count_by (is_of_family e) (members gs)) (map-append (group_at w) xs ys)
     ∙ (ap (count_by (is_of_family e)) (flat_map-append members_of (map (group_at w) xs) (map (group_at w) ys))
     ∙ count-append (is_of_family e) (members (map (group_at w) xs)) (members (map (group_at w) ys)))
 
-held-one : (w : World) (e : EventNo) (k : Key) → held w e (k ∷ []) ≡ count_by (is_of_family e) (members_of (group_at w k))
+pub held-one : (w : World) (e : EventNo) (k : Key) → held w e (k ∷ []) ≡ count_by (is_of_family e) (members_of (group_at w k))
 held-one w e k = ap (count_by (is_of_family e)) (append-nil (members_of (group_at w k)))
 
 held-pass : (w : World) (e : EventNo) (ps : List (List Key)) (pass : ℕ) → held w e (told_all (take pass ps)) + held w e (slice_index_or ps pass []) ≤ held w e (told_all ps)
@@ -56,7 +56,7 @@ held-front w e (suc n) [] = omega arith
 held-front w e (suc n) (k ∷ keys) = omega (arith, held-parts w e (k ∷ []) keys, held-parts w e (k ∷ []) (take n keys), held-front w e n keys)
 
 -- the members of a group that need counters
-slots-of : (hw : Hardware) (e : EventNo) (p : Instance → Bool) (is : List Instance) → slots e (with_masks hw (filter p is)) ≤ count_by (is_of_family e) is
+pub slots-of : (hw : Hardware) (e : EventNo) (p : Instance → Bool) (is : List Instance) → slots e (with_masks hw (filter p is)) ≤ count_by (is_of_family e) is
 slots-of hw e p [] = omega arith
 slots-of hw e p (i ∷ is) = elim (cases_Bool (p i)) [
   | inl on ↦
@@ -92,7 +92,7 @@ told-push hw w told k standing.On events h e =
 told-push hw w told k (standing.Refused cause) events h e = omega (arith, h e, held-parts w e told (k ∷ []))
 
 -- what a processor reaches, by its leaders
-held-reached : (hw : Hardware) (w : World) (cpu : CpuNo) (e : EventNo) → IsKept hw w → held w e (reached_leaders w cpu) ≤ 1
+pub held-reached : (hw : Hardware) (w : World) (cpu : CpuNo) (e : EventNo) → IsKept hw w → held w e (reached_leaders w cpu) ≤ 1
 held-reached hw w cpu e h =
     subst (λ gs. count_by (is_of_family e) (members gs) ≤ 1) (ap (flat_map (λ p. p)) (passes-are w cpu) ∙ flat-mapped (group_at w) (pass_leaders w cpu)) (one-on_processor hw w cpu e h)
 
@@ -102,7 +102,7 @@ counted-at p [] i d low h = absurd (omega (arith, low))
 counted-at p (x ∷ xs) zero d low h = omega (arith, count-cons p x xs, once-true (p x) h)
 counted-at p (x ∷ xs) (suc i) d low h = omega (arith, count-cons p x xs, counted-at p xs i d (omega (arith, low)) h)
 
-distinct-once : (xs : List (EventNo × ℕ)) → ((e : EventNo) → slots e xs ≤ 1) → AreDistinct xs
+pub distinct-once : (xs : List (EventNo × ℕ)) → ((e : EventNo) → slots e xs ≤ 1) → AreDistinct xs
 distinct-once [] once = λ i j d low high. absurd (omega (arith, low, high))
 distinct-once (x ∷ xs) once =
     let own : (x.0.0 == x.0.0) ≡ true = grind (arith, nat_tests) in

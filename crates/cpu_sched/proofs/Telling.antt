@@ -40,7 +40,7 @@ abbrev pub stand_at : FinMap nat_cmp Standing → Key → Standing
 stand_at t k = unwrap_or (get t k.0) standing.Out
 
 -- the first that passes a test, with one more behind
-first-stays : (name : EventNo) (o : Option EventNo) → first_or false name o ≡ o
+pub first-stays : (name : EventNo) (o : Option EventNo) → first_or false name o ≡ o
 first-stays name None = refl
 first-stays name (Some group) = refl
 
@@ -52,7 +52,7 @@ first-by name test xs x true None found is =
 first-by name test xs x false None found is =
     ap (option_map name) (find-append test xs (x ∷ []) ∙ (ap (λ o. option_or o (find test (x ∷ []))) found ∙ find-later test x [] is))
 
-first-push : {X : Type 0} (name : X → EventNo) (test : X → Bool) (xs : List X) (x : X)
+pub first-push : {X : Type 0} (name : X → EventNo) (test : X → Bool) (xs : List X) (x : X)
     → option_map name (find test (xs ++ x ∷ [])) ≡ first_or (test x) (name x) (option_map name (find test xs))
 first-push name test xs x = first-by name test xs x (test x) (find test xs) refl refl
 

@@ -1,5 +1,9 @@
+pub mod Adopting
+pub mod After
 pub mod Briefs
 pub mod Judging
 pub mod Passes
+pub mod Plans
 pub mod Resched
+pub mod Sheets
 pub mod Tried

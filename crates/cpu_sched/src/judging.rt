@@ -14,11 +14,10 @@ ghost use Rattle.world_spec.specs.Changes as change;
 ghost use Rattle.world_spec.specs.Kept.{leads, post_at};
 ghost use Rattle.world_spec.specs.StageOf.{group_at};
 ghost use Rattle.world_spec.specs.Value.{seats_at};
-ghost use Rattle.cpu_sched.specs.Briefs.{events_of};
 ghost use Rattle.cpu_sched.specs.Judging.{first_or, noted, events_next, told_of, tally_in, IsTold};
 ghost use Rattle.cpu_sched.specs.Tried.{tries_for, tries};
 
-use crate::brief::{Brief, brief_of};
+use crate::group_brief::{GroupBrief, brief_of};
 use perf_base::{Cause, CpuNo, EventNo, Key, Standing, Steps};
 use perf_world::World;
 use sched_rules::{Facts, may_go};
@@ -68,7 +67,7 @@ impl SoFar {
     }
 
     /// What the rules look at for a group.
-    fn facts(&self, brief: &Brief) -> Facts
+    pub fn facts(&self, brief: &GroupBrief) -> Facts
         ensures { result ≡ record {
           software = brief.now.software;
           exclusive = brief.now.exclusive;
@@ -87,7 +86,7 @@ impl SoFar {
     }
 
     /// With a group that was judged.
-    fn with(&self, brief: &Brief, standing: &Standing) -> SoFar
+    pub fn with(&self, brief: &GroupBrief, standing: &Standing) -> SoFar
         ensures { result ≡ noted brief.now.name brief.now.software brief.now.exclusive standing.now self.now }
     {
         let on = standing.is_on();
@@ -104,22 +103,21 @@ impl SoFar {
 fn judge<L: Ledger>(
     world: &mut World,
     cpu: CpuNo,
-    brief: &Brief,
+    brief: &GroupBrief,
     so_far: &SoFar,
     tests: &mut Steps<L>,
 ) -> Standing
     requires cpu { cpu.0 < length world.old.quiet.running }
-    requires few { brief.now.events.used ≤ 8 }
-    requires software { brief.now.software ≡ true → (events_of brief.now.events) ≡ [] }
-    requires distinct { AreDistinct ((seats_at world.old cpu).events ++ (events_of brief.now.events)) }
-    requires masks { All (IsMask (seats_at world.old cpu).counters) (masks_of (events_of brief.now.events)) }
+    requires software { brief.now.software ≡ true → brief.now.events ≡ [] }
+    requires distinct { AreDistinct ((seats_at world.old cpu).events ++ brief.now.events) }
+    requires masks { All (IsMask (seats_at world.old cpu).counters) (masks_of brief.now.events) }
     ensures standing { result ≡ by_ruling
         (ruling_of brief.now.software brief.now.exclusive so_far.now.exclusive_on so_far.now.first_on so_far.now.refused)
-        ((seats_at world.old cpu).events ++ (events_of brief.now.events)) }
-    ensures events { (seats_at world.new cpu).events ≡ events_next result (events_of brief.now.events) (seats_at world.old cpu).events }
+        ((seats_at world.old cpu).events ++ brief.now.events) }
+    ensures events { (seats_at world.new cpu).events ≡ events_next result brief.now.events (seats_at world.old cpu).events }
     ensures world { world.new ≡ change.with_seats cpu (seats_at world.new cpu) world.old }
-    ensures least { tests.old + (if stands_on result then length (events_of brief.now.events) else 0) ≤ tests.new }
-    ensures most { tests.new ≤ tests.old + 272 * tries_for result (length (events_of brief.now.events)) }
+    ensures least { tests.old + (if stands_on result then length brief.now.events else 0) ≤ tests.new }
+    ensures most { tests.new ≤ tests.old + 272 * tries_for result (length brief.now.events) }
 {
     if let Err(rule) = may_go(&so_far.facts(brief)) {
         return Standing::Refused(Cause::Rule(rule));

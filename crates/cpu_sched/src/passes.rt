@@ -1,11 +1,12 @@
 //! The four passes over the groups of a processor: its own pinned groups and then its task's, its own flexible groups
 //! and then its task's.
 
-ghost use Rattle.std.specs.Prelude.{◌≡◌, ◌+◌, ◌*◌, ◌<◌, ◌≤◌, false, [], length, take, flat_map, slice_index_or};
+ghost use Rattle.std.specs.Prelude.{◌≡◌, ◌+◌, ◌*◌, ◌<◌, ◌≤◌, false, Some, [], length, take, flat_map, slice_index_or};
 ghost use Rattle.counter_match.specs.Seating.{empty_seating};
 ghost use Rattle.world_spec.specs.Changes as change;
 ghost use Rattle.perf_base.specs.declared.standing.Context.TheVariants as context;
 ghost use Rattle.perf_base.specs.declared.numbers.Key.{Key as KeyNo};
+ghost use Rattle.perf_base.specs.declared.numbers.TaskNo.{TaskNo as Task};
 ghost use Rattle.stage_spec.specs.Hardware.{IsHardware};
 ghost use Rattle.stage_spec.specs.Stage.{task_on};
 ghost use Rattle.stage_laws.specs.Narrowing.{has_context};
@@ -20,7 +21,7 @@ ghost use Rattle.cpu_sched.specs.Passes.{AreOfTold, told_before};
 ghost use Rattle.cpu_sched.specs.Tried.{tried};
 
 use crate::judging::{SoFar, tell};
-use perf_base::{Context, CpuNo, Key, Steps};
+use perf_base::{Context, CpuNo, Key, Steps, TaskNo};
 use perf_world::World;
 use std::sync::ledger::Ledger;
 
@@ -48,15 +49,23 @@ fn own_context(world: &World, cpu: CpuNo) -> Context
     Context::Processor(cpu)
 }
 
+/// The leaders of the groups of a task, pinned or flexible: none where no task is given.
+pub fn leaders_of(world: &World, task: Option<TaskNo>, pinned: bool) -> &[Key]
+    requires { (t : Task) → task ≡ Some t → t.0 < 64 }
+    ensures { result.now ≡ leaders_in pinned (task_leaders world.now task) }
+{
+    match task {
+        Some(task) => world.list(Context::Task(task), pinned),
+        None => &[],
+    }
+}
+
 /// The leaders of the groups of the task on a processor, pinned or flexible: none while it is idle.
 fn leaders_of_task(world: &World, cpu: CpuNo, pinned: bool) -> &[Key]
     requires { IsWorld world.now }
     ensures { result.now ≡ leaders_in pinned (task_leaders world.now (task_on (stage_of world.now) cpu)) }
 {
-    match world.task_on(cpu) {
-        Some(task) => world.list(Context::Task(task), pinned),
-        None => &[],
-    }
+    leaders_of(world, world.task_on(cpu), pinned)
 }
 
 /// The leaders of the groups of a pass, 0 to 3.

@@ -1,10 +1,10 @@
 //! Lines, and changes that leave the stage, each done to a world where it may be.
 
-ghost use Rattle.std.specs.Prelude.{◌≡◌, ◌+◌, ◌*◌, ◌^◌, ◌<◌, ◌≤◌, Some, true, length, IfOk, IfSome};
+ghost use Rattle.std.specs.Prelude.{◌≡◌, ℕ, ◌+◌, ◌*◌, ◌^◌, ◌<◌, ◌≤◌, Some, true, length, IfOk, IfSome};
 ghost use Rattle.perf_base.specs.Scripts.{IsAttr, IsSlot};
 ghost use Rattle.perf_base.specs.declared.numbers.TaskNo.{TaskNo as Task};
 ghost use Rattle.world_spec.specs.Value.{is_live};
-ghost use Rattle.world_tests.specs.Steady.{IsSteady};
+ghost use Rattle.world_tests.specs.Steady.{HasSlotRoom, IsSteady};
 
 use cpu_sched::resched;
 use event_commands::close;
@@ -13,7 +13,8 @@ use event_reads::family_sums;
 use exit_fold::exit;
 use fork_inherit::fork;
 use perf_base::{
-    Attr, AttrFlags, CpuNo, CpuSel, EventNo, Key, Kind, NoMemory, Steps, TaskNo, TaskSel,
+    Attr, AttrFlags, CpuNo, CpuSel, EventNo, Key, Kind, Mode, NoMemory, Steps, TaskNo, TaskSel,
+    Work,
 };
 use perf_world::World;
 use pmu_model::Pmus;
@@ -49,14 +50,13 @@ pub enum Change {
     Exit(u8),
     /// A processor is rescheduled.
     Reschedule(u8),
-    /// An instance counts so many occurrences, and its period is over so often.
+    /// An instance that samples counts so many occurrences, and its period is over so often.
     Hit(Who, u64, u64),
-    /// A stretch of work of such a length, with whether the instance is ready and whether it is on.
-    Pass(Who, u64, bool, bool),
+    /// A stretch of work on a processor, in user mode: its length, and how often the first hardware kind occurs, which
+    /// is at most its length.
+    Work(u8, u64, u64),
     /// The count of an instance is cleared.
     Reset(Who),
-    /// A processor's clock goes on by so much.
-    Time(u8, u64),
 }
 
 /// Two processors of a PMU with two counters and one of a PMU with one, and the tasks 5, 6 and 7.
@@ -241,8 +241,11 @@ fn reschedule_cpu(world: &mut World, cpu: CpuNo) -> bool
     reschedule::<Brand>(world, cpu, Blank::new(1))
 }
 
-/// Counts occurrences of an instance, whose period is to be over so often.
-fn hit(world: &mut World, who: Who, n: u64, times: u64) -> bool
+/// Counts occurrences of an instance that samples, whose period is to be over so often.
+fn hit<L: Ledger>(world: &mut World, who: Who, n: u64, times: u64, blank: Blank) -> bool
+    requires name { blank.name ≡ L.name }
+    requires parts { blank.parts ≡ L.parts }
+    requires some { 0 < blank.parts }
     requires steady { IsSteady world.old }
     ensures steady { IsSteady world.new }
     ensures drawn { world.new.quiet.next_id ≡ world.old.quiet.next_id }
@@ -254,26 +257,66 @@ fn hit(world: &mut World, who: Who, n: u64, times: u64) -> bool
     if event.0 >= 256 || n >= LIMIT || family_sums(world, event).count >= LIMIT - n {
         return false;
     }
-    world.hit(key, n) == times
+    if world.attr(key).period == 0 {
+        return false;
+    }
+    let mut steps = Steps::<L>::new(blank);
+    world.hit(key, n, &mut steps) == times
 }
 
-/// Passes a stretch of work of an instance.
-fn pass(world: &mut World, who: Who, duration: u64, ready: bool, on: bool) -> bool
+/// Whether the family of a slot has room for so much more, in occurrences and in time.
+fn has_room(world: &World, slot: u16, more: u64) -> bool
+    requires slot { slot < 256 }
+    requires more { more < 2 ^ 63 }
+    ensures { result ≡ true → HasSlotRoom world.now slot more }
+{
+    let sums = family_sums(world, EventNo(slot));
+    sums.count < LIMIT - more && sums.enabled < LIMIT - more
+}
+
+/// Whether each family has.
+fn have_room(world: &World, more: u64) -> bool
+    requires { more < 2 ^ 63 }
+    ensures { result ≡ true → (slot : ℕ) → slot < 256 → HasSlotRoom world.now slot more }
+{
+    for slot in 0..256 {
+        if !has_room(world, slot, more) {
+            return false;
+        }
+    }
+    true
+}
+
+/// Work is done on a processor in user mode, in which the first hardware kind occurs so often.
+fn work<L: Ledger>(
+    world: &mut World,
+    cpu: CpuNo,
+    duration: u64,
+    occurrences: u64,
+    blank: Blank,
+) -> bool
+    requires name { blank.name ≡ L.name }
+    requires parts { blank.parts ≡ L.parts }
+    requires some { 0 < blank.parts }
     requires steady { IsSteady world.old }
     ensures steady { IsSteady world.new }
     ensures drawn { world.new.quiet.next_id ≡ world.old.quiet.next_id }
 {
-    let Some(key) = key_at(world, who) else {
+    if cpu.0 >= world.pmus().cpus() || duration >= LIMIT || occurrences > duration {
         return false;
+    }
+    if world.clock(cpu) >= LIMIT - duration || !have_room(world, duration) {
+        return false;
+    }
+    let work = Work {
+        length: duration,
+        mode: Mode::User,
+        ip: 0,
+        hits: [occurrences, 0, 0, 0, 0, 0, 0, 0, 0, 0, 0, 0, 0, 0, 0, 0],
     };
-    let event = world.event_of(key);
-    if event.0 >= 256 || (on && !ready) || duration >= LIMIT {
-        return false;
-    }
-    if family_sums(world, event).enabled >= LIMIT - duration {
-        return false;
-    }
-    world.pass(key, duration, ready, on);
+    let mut steps = Steps::<L>::new(blank);
+    world.use_invariant();
+    world.add_work(cpu, &work, &mut steps);
     true
 }
 
@@ -287,22 +330,6 @@ fn reset(world: &mut World, who: Who) -> bool
         return false;
     };
     world.reset_count(key);
-    true
-}
-
-/// A processor's clock goes on.
-fn pass_time(world: &mut World, cpu: CpuNo, duration: u64) -> bool
-    requires steady { IsSteady world.old }
-    ensures steady { IsSteady world.new }
-    ensures drawn { world.new.quiet.next_id ≡ world.old.quiet.next_id }
-{
-    if cpu.0 >= world.pmus().cpus() || duration >= LIMIT {
-        return false;
-    }
-    if world.clock(cpu) >= LIMIT - duration {
-        return false;
-    }
-    world.pass_time(cpu, duration);
     true
 }
 
@@ -331,10 +358,15 @@ fn apply(world: &mut World, change: &Change) -> bool
         Change::Fork(cpu, child) => fork_task(world, CpuNo(cpu), TaskNo(child)),
         Change::Exit(cpu) => exit_task(world, CpuNo(cpu)),
         Change::Reschedule(cpu) => reschedule_cpu(world, CpuNo(cpu)),
-        Change::Hit(who, n, times) => hit(world, who, n, times),
-        Change::Pass(who, duration, ready, on) => pass(world, who, duration, ready, on),
+        Change::Hit(who, n, times) => hit::<Brand>(world, who, n, times, Blank::new(1)),
+        Change::Work(cpu, duration, occurrences) => work::<Brand>(
+            world,
+            CpuNo(cpu),
+            duration,
+            occurrences,
+            Blank::new(1),
+        ),
         Change::Reset(who) => reset(world, who),
-        Change::Time(cpu, duration) => pass_time(world, CpuNo(cpu), duration),
     }
 }
 

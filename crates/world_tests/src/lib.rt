@@ -5,6 +5,8 @@
 #[cfg(test)]
 mod driving;
 #[cfg(test)]
+mod planning;
+#[cfg(test)]
 mod reading;
 #[cfg(test)]
 mod singles;

@@ -1,6 +1,6 @@
 //! Worlds that are driven and read back, as the rules have it.
 
-use crate::driving::Change::{Close, Exit, Fork, Hit, Open, Pass, Reschedule, Reset, Switch, Time};
+use crate::driving::Change::{Close, Exit, Fork, Hit, Open, Reschedule, Reset, Switch, Work};
 use crate::driving::{Place, What, first_undone, machine};
 use crate::reading::Look::{
     Asks, Copies, Count, Cpu, Folded, Group, Instance, List, Mapped, Nobody, Ring, Sibling, Slot,
@@ -54,6 +54,8 @@ const P0: Context = Context::Processor(CpuNo(0));
 const NO_TASK: Option<TaskNo> = None;
 
 const TASK_5: Option<TaskNo> = Some(TaskNo(5));
+
+const TASK_8: Option<TaskNo> = Some(TaskNo(8));
 
 const TASK_9: Option<TaskNo> = Some(TaskNo(9));
 
@@ -175,7 +177,8 @@ fn copies_come_with_their_leader_and_go(rt: HostRuntime) -> Result<(), Fail> {
 #[test]
 fn counts_and_times_of_copies_are_folded(rt: HostRuntime) -> Result<(), Fail> {
     let mut world = machine(rt.alloc())?;
-    // Of a period of 10, a burst of 25 leaves 5; a reset leaves what is left.
+    // Of a period of 10, a burst of 25 leaves 5; a reset leaves what is left. Work gives an event that samples its time
+    // alone, and before the processor is rescheduled no time on a counter.
     let changes = [
         Open(0, SAMPLED, TASK, HEIR, None),
         Switch(0, Some(5)),
@@ -183,55 +186,91 @@ fn counts_and_times_of_copies_are_folded(rt: HostRuntime) -> Result<(), Fail> {
         Hit((0, 0), 25, 2),
         Hit((0, 0), 4, 0),
         Hit((0, 0), 1, 1),
-        Pass((0, 0), 100, true, true),
-        Pass((0, 0), 50, true, false),
-        Pass((0, 0), 30, false, false),
+        Work(0, 50, 20),
+        Reschedule(0),
+        Work(0, 100, 30),
+        Switch(1, Some(8)),
+        Reschedule(1),
         Hit((0, 1), 4, 0),
-        Pass((0, 1), 40, true, true),
+        Work(1, 40, 40),
         Reset((0, 1)),
         Hit((0, 1), 6, 1),
-        Time(0, 190),
-        Time(0, 10),
+        Work(2, 30, 1),
     ];
     assert_eq!(rt; first_undone(&mut world, &changes), None);
     let looks = [
         Instance(
             (0, 0),
-            (1, IsReady, T5, false, Out),
+            (1, IsReady, T5, false, On),
             (1, 1, 2),
             (30, 150, 100),
         ),
-        Instance((0, 1), (2, IsReady, T8, false, Out), (2, 1, 0), (6, 40, 40)),
-        Cpu(0, TASK_5, 200, [256, 256]),
-        Cpu(1, NO_TASK, 0, [256, 256]),
+        Instance((0, 1), (2, IsReady, T8, false, On), (2, 1, 0), (6, 40, 40)),
+        Cpu(0, TASK_5, 150, [0, 256]),
+        Cpu(1, TASK_8, 40, [0, 256]),
+        Cpu(2, NO_TASK, 30, [256, 256]),
         Folded(0, (0, 0, 0), 0),
     ];
     assert_eq!(rt; first_other(&world, &looks), None);
-    assert_eq!(rt;
-        first_undone(&mut world, &[Switch(0, Some(8)), Exit(0)]),
-        None
-    );
+    assert_eq!(rt; first_undone(&mut world, &[Exit(1)]), None);
     assert_eq!(rt;
         first_other(&world, &[Folded(0, (6, 40, 40), 0), Count(0)]),
         None
     );
     let again = [
-        Switch(0, Some(5)),
         Fork(0, 9),
+        Switch(1, Some(9)),
         Hit((0, 1), 5, 0),
-        Pass((0, 1), 3, true, false),
-        Switch(0, Some(9)),
-        Exit(0),
+        Work(1, 3, 2),
+        Exit(1),
     ];
     assert_eq!(rt; first_undone(&mut world, &again), None);
     let looks = [
         Folded(0, (11, 43, 40), 0),
         Instance(
             (0, 0),
-            (1, IsReady, T5, false, Out),
+            (1, IsReady, T5, false, On),
             (1, 1, 0),
             (30, 150, 100),
         ),
+    ];
+    assert_eq!(rt; first_other(&world, &looks), None);
+    Ok(())
+}
+
+#[test]
+fn work_counts_where_an_event_is_on(rt: HostRuntime) -> Result<(), Fail> {
+    let mut world = machine(rt.alloc())?;
+    let changes = [
+        Open(0, WIDE, TASK, NONE, None),
+        Open(1, FIRST, TASK, NONE, None),
+        Switch(0, Some(5)),
+        Work(0, 10, 5),
+        Reschedule(0),
+        Work(0, 20, 7),
+        Work(1, 1000, 1000),
+        Switch(0, None),
+        Switch(1, Some(5)),
+        Reschedule(0),
+        Reschedule(1),
+        Work(0, 100, 100),
+        Work(1, 5, 2),
+    ];
+    assert_eq!(rt; first_undone(&mut world, &changes), None);
+    // Occurrences of the first kind are none of the second's.
+    let looks = [
+        Instance((0, 0), (1, IsReady, T5, false, On), (1, 1, 0), (9, 35, 25)),
+        Instance((1, 0), (2, IsReady, T5, false, On), (2, 2, 0), (0, 35, 25)),
+        Cpu(0, NO_TASK, 130, [256, 256]),
+        Cpu(1, TASK_5, 1005, [0, 1]),
+    ];
+    assert_eq!(rt; first_other(&world, &looks), None);
+    // It counts from 0 on again, and goes on from there. An event that does not sample is hit by work alone.
+    let later = [Reset((0, 0)), Work(1, 4, 3), Hit((0, 0), 1, 0)];
+    assert_eq!(rt; first_undone(&mut world, &later), Some(2));
+    let looks = [
+        Instance((0, 0), (1, IsReady, T5, false, On), (1, 1, 0), (3, 39, 29)),
+        Cpu(1, TASK_5, 1009, [0, 1]),
     ];
     assert_eq!(rt; first_other(&world, &looks), None);
     Ok(())
@@ -295,7 +334,6 @@ fn single_changes_reach_one_instance(rt: HostRuntime) -> Result<(), Fail> {
         Fork(0, 8),
         Fork(0, 9),
         Hit((0, 1), 7, 0),
-        Pass((0, 1), 9, true, true),
         Hit((0, 2), 2, 0),
     ];
     assert_eq!(rt; first_undone(&mut world, &changes), None);
@@ -322,7 +360,7 @@ fn single_changes_reach_one_instance(rt: HostRuntime) -> Result<(), Fail> {
         Instance((1, 0), (2, IsReady, T5, false, Out), (1, 2, 4), (0, 0, 0)),
         Instance((1, 1), (4, IsReady, T8, false, Out), (4, 2, 6), (0, 0, 0)),
         Instance((1, 2), (6, IsOff, T9, false, On), (6, 2, 0), (0, 0, 0)),
-        Folded(0, (7, 9, 9), 0),
+        Folded(0, (7, 0, 0), 0),
         Folded(1, (0, 0, 0), 1),
         Copies(0, [0, 0, 0, 0, 0, 0]),
         List(T8, false, [4, 0, 0, 0, 0, 0]),

@@ -1,7 +1,6 @@
 use Rattle.std.proofs.Common.{arith, ◌∙◌, ◌<◌, length, sym}
 use Rattle.world_spec.specs.StageOf.{group_at}
 use Rattle.world_spec.specs.Value.{seats_at}
-use Rattle.cpu_sched.specs.Briefs.{events_of}
 use Rattle.cpu_sched.proofs.Briefs.{software-uncounted, group-fits}
 use Rattle.cpu_sched.proofs.judging.tell.Goals as goal
 
@@ -12,6 +11,6 @@ judge-standing-requires-clause-software g c =
 pub judge-standing-requires-clause-masks : goal.judge-standing-requires-clause-masks
 judge-standing-requires-clause-masks g c =
     let low : c.args.cpu.0 < length c.args.world.now.quiet.seats = omega (arith, c.requires.cpu, c.brief_of-brief.ensures.kept.tables.seats) in
-    group-fits c.args.world.now.hardware c.args.cpu (group_at c.args.world.now c.args.leader) (events_of c.brief_of-brief.result.events) (seats_at c.args.world.now c.args.cpu).counters
+    group-fits c.args.world.now.hardware c.args.cpu (group_at c.args.world.now c.args.leader) c.brief_of-brief.result.events (seats_at c.args.world.now c.args.cpu).counters
     c.requires.hardware (sym c.eligible.ensures ∙ c.if-not-eligible.false) c.brief_of-brief.ensures.events c.brief_of-brief.ensures.some
     (c.brief_of-brief.ensures.kept.seated.counters c.args.cpu low)

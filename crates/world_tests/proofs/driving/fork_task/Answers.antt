@@ -9,7 +9,11 @@ pub returns-in-Ok-clause-steady : goal.returns-in-Ok-clause-steady
 returns-in-Ok-clause-steady c =
     let low : c.args.cpu.0 < 3 = below-three c.args.world.now _ _ c.args.cpu c.requires.steady c.pmus.ensures.pmus c.cpus.ensures.number c.if-cpu-cpus.false in
     cpu-steady c.args.world.now c.fork.new.world c.args.cpu (line.Fork c.args.child) c.requires.steady
-    (low, c.if-child-ge64.false) c.in-Ok.ensures.accepted c.in-Ok.ensures.stays.hardware c.in-Ok.ensures.stage
+    (low, c.if-child-ge64.false) c.in-Ok.ensures.accepted (record {
+      hardware = c.in-Ok.ensures.stays.hardware;
+      clocks = ap (λ q. q.clocks) c.in-Ok.ensures.stays.quiet;
+      totals = ap (λ q. q.totals) c.in-Ok.ensures.stays.quiet;
+    }) c.in-Ok.ensures.stage
 
 pub returns-in-Ok-clause-drawn : goal.returns-in-Ok-clause-drawn
 returns-in-Ok-clause-drawn c =

@@ -1,7 +1,7 @@
 use Rattle.std.proofs.Common.{◌∙◌, ◌&&◌, not}
 use Rattle.stage_spec.specs.Flags.{is_exclusive}
 use Rattle.cpu_sched.proofs.Briefs.{members-live}
-use Rattle.cpu_sched.proofs.brief.brief_of.Goals as goal
+use Rattle.cpu_sched.proofs.group_brief.brief_of.Goals as goal
 
 pub counted_among-requires-clause-there : goal.counted_among-requires-clause-there
 counted_among-requires-clause-there c = members-live c.args.world.now.hardware c.args.world.now c.args.leader c.members-members.result.now c.members-members.ensures.kept c.members-members.ensures.members

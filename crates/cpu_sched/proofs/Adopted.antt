@@ -1,0 +1,214 @@
+-- A processor that takes over the plan of its present brief is judged.
+use Rattle.std.specs.Prelude.{◌≡◌, ℕ, ◌<◌, ◌≤◌, ◌==◌, Bool, true, false, cond, All, List, [], ◌∷◌, ◌++◌, length, map, slice_index_or}
+use Rattle.std.specs.FinMap.{FinMap}
+use Rattle.std.specs.Ordering.{nat_cmp}
+use Rattle.std.proofs.Common.{arith, refl, sym, ap, subst, ◌∙◌, inl, inr, append_assoc}
+use Rattle.std.proofs.lemmas.Bool.{cases_Bool, cases_eq, false≢true}
+use Rattle.std.proofs.lemmas.List.{append-nil, length-set, length-map, get_or-map, get_or-set_same, map-id}
+use Rattle.std.proofs.lemmas.Simd.{map-map}
+use Rattle.perf_base.specs.declared.numbers.CpuNo.{CpuNo}
+use Rattle.perf_base.specs.declared.numbers.Key.{Key}
+use Rattle.perf_base.specs.declared.standing.Standing.{Standing}
+use Rattle.perf_base.specs.declared.standing.Standing.TheVariants as standing
+use Rattle.stage_spec.specs.Stage.{Group}
+use Rattle.stage_spec.specs.Verdict.{Judged, is_eligible, standing_among, verdicts}
+use Rattle.stage_laws.specs.Narrowing.{has_context}
+use Rattle.stage_laws.specs.Standings.{standings}
+use Rattle.stage_laws.proofs.Counts.{count-filter}
+use Rattle.counter_match.specs.Seating.{empty_seating}
+use Rattle.world_spec.specs.Changes.{with_seats}
+use Rattle.world_spec.specs.Kept.{leads, post_at, IsKept}
+use Rattle.world_spec.specs.Listings.{pass_leaders}
+use Rattle.world_spec.specs.Rescheduled.{IsJudged}
+use Rattle.world_spec.specs.StageOf.{group_at, stage_of}
+use Rattle.world_spec.specs.Value.{World, entry_at, is_live, standing_at, seats_at, is_key, times}
+use Rattle.world_spec.proofs.Copies.{times-at}
+use Rattle.world_spec.proofs.GoneStage.{AreLeading}
+use Rattle.world_spec.proofs.Keys.{key-is, is_key-true, is_key-false, times-cons, once-true}
+use Rattle.world_spec.proofs.Listings.{reached_leaders, reached-once, reached-context, reached-leading}
+use Rattle.world_spec.proofs.Moving.{leads-parts}
+use Rattle.world_spec.proofs.Rescheduling.{same-id}
+use Rattle.cpu_sched.specs.Adopting.{with_standings, told_standings, out_standings}
+use Rattle.cpu_sched.specs.Briefs.{present_brief}
+use Rattle.cpu_sched.specs.Judging.{retold}
+use Rattle.cpu_sched.specs.Plans.{Planned, IsPlanOf}
+use Rattle.cpu_sched.proofs.Judged.{reached-there, is-number}
+use Rattle.cpu_sched.proofs.Relabelled.{id_at, eligible_leaders, present-leaders, present-seated, present-standings}
+use Rattle.cpu_sched.proofs.Telling.{stand_at}
+use Rattle.cpu_sched.proofs.Told.{last_told, last-none, last-out, out-append, told-at}
+
+-- the keys of a plan are leaders that the processor reaches, each once
+abbrev keys_of_plan : Planned → List Key
+keys_of_plan p = map (λ x. x.0) p.standings
+
+plan-keys : (w : World) (cpu : CpuNo) (p : Planned) → IsPlanOf (present_brief w cpu) p → keys_of_plan p ≡ eligible_leaders w cpu (reached_leaders w cpu)
+plan-keys w cpu p is = ap (map (λ x. x.0)) is.standings ∙ present-leaders w cpu
+
+few-keys : (w : World) (cpu : CpuNo) (p : Planned) → IsPlanOf (present_brief w cpu) p → (q : Key) → times q (keys_of_plan p) ≤ times q (reached_leaders w cpu)
+few-keys w cpu p is q =
+    omega (arith, ap (times q) (plan-keys w cpu p is), count-filter (is_key q) (λ k. is_eligible w.hardware cpu (group_at w k)) (reached_leaders w cpu))
+
+-- so each group that is planned is there
+pub planned-live : (w : World) (cpu : CpuNo) (p : Planned) → IsKept w.hardware w → IsPlanOf (present_brief w cpu) p → All (λ told. is_live w told.0 ≡ true) p.standings
+planned-live w cpu p kept is i d low =
+    let k : Key = (slice_index_or p.standings i d).0 in
+    let at : slice_index_or (keys_of_plan p) i d.0 ≡ k = get_or-map (λ x. x.0) p.standings i d d.0 low in
+    let there : 1 ≤ times k (reached_leaders w cpu) =
+    omega (
+      arith,
+      few-keys w cpu p is k,
+      ap (λ q. times q (keys_of_plan p)) at,
+      times-at (keys_of_plan p) i d.0 (omega (arith, low, length-map p.standings (λ x. x.0))),
+    ) in
+    (leads-parts (is_live w k) (is_key k (entry_at w k).leader) (reached-leading w.hardware w kept cpu k there)).0
+
+-- a standing by a leader's id
+standing_by : List (ℕ × Standing) → ℕ → Standing
+standing_by [] id = standing.Out
+standing_by (x ∷ xs) id = elim (x.0 == id) [ true ↦ x.1 | false ↦ standing_by xs id ]
+
+standing-is : (js : List Judged) (g : Group) → standing_among js g ≡ standing_by (map (λ j. (j.group.leader.id, j.standing)) js) g.leader.id
+unfolding standing_by
+standing-is [] g = refl
+standing-is (j ∷ js) g = ap {B = Standing} (λ x. elim (j.group.leader.id == g.leader.id) as (λ b. Standing) [ true ↦ j.standing | false ↦ x ]) (standing-is js g)
+
+-- what a key was told last is its standing by its id
+by-id : (w : World) (k : Key) (x : Key × Standing) (xs : List (Key × Standing)) (b : Bool) → (id_at w x.0 == id_at w k) ≡ b
+    → standing_by (map (λ y. (id_at w y.0, y.1)) (x ∷ xs)) (id_at w k) ≡ cond b x.1 (standing_by (map (λ y. (id_at w y.0, y.1)) xs) (id_at w k))
+unfolding standing_by
+by-id w k x xs true e =
+    ap {B = Standing} (λ b. elim b as (λ c. Standing) [ true ↦ x.1 | false ↦ standing_by (map (λ y. (id_at w y.0, y.1)) xs) (id_at w k) ]) e
+by-id w k x xs false e =
+    ap {B = Standing} (λ b. elim b as (λ c. Standing) [ true ↦ x.1 | false ↦ standing_by (map (λ y. (id_at w y.0, y.1)) xs) (id_at w k) ]) e
+
+apart-ids : (w : World) → IsKept w.hardware w → (q k : Key) → leads (post_at w) q ≡ true → leads (post_at w) k ≡ true → is_key k q ≡ false → (id_at w q == id_at w k) ≡ false
+apart-ids w kept q k lead_q lead_k off = elim (cases_Bool (id_at w q == id_at w k)) [
+  | inl same ↦ absurd (is_key-false k q off (ap (λ x. x.0) (same-id w.hardware w kept q k lead_q lead_k same)))
+  | inr apart ↦ apart
+]
+
+none-by : (id : ℕ) → standing_by [] id ≡ standing.Out
+unfolding standing_by
+none-by id = refl
+
+last-next : (x : Key × Standing) (xs : List (Key × Standing)) (k : Key) (s : Standing) (b : Bool) → is_key k x.0 ≡ b → last_told (x ∷ xs) k s ≡ last_told xs k (cond b x.1 s)
+unfolding last_told
+last-next x xs k s b e = ap (λ c. last_told xs k (cond c x.1 s)) e
+
+last-empty : (k : Key) (s : Standing) → last_told [] k s ≡ s
+unfolding last_told
+last-empty k s = refl
+
+told-by-id : (w : World) → IsKept w.hardware w → (xs : List (Key × Standing)) → AreLeading w (map (λ x. x.0) xs) → ((q : Key) → times q (map (λ x. x.0) xs) ≤ 1)
+    → (k : Key) → leads (post_at w) k ≡ true → last_told xs k standing.Out ≡ standing_by (map (λ x. (id_at w x.0, x.1)) xs) (id_at w k)
+told-by-id w kept [] all once k lead = last-empty k standing.Out ∙ sym (none-by (id_at w k))
+told-by-id w kept (x ∷ xs) all once k lead =
+    let keys : List Key = map (λ y. y.0) xs in
+    let own : is_key x.0 x.0 ≡ true = is-number x.0.0 x.0.0 refl in
+    let lead_x : leads (post_at w) x.0 ≡ true = all x.0 (omega (arith, times-cons x.0 x.0 keys, once-true (is_key x.0 x.0) own)) in
+    elim (cases_Bool (is_key k x.0)) [
+      | inl e ↦
+          let same : x.0 ≡ k = key-is x.0 k (is_key-true k x.0 e) in
+          let ids : (id_at w x.0 == id_at w k) ≡ true = is-number (id_at w x.0) (id_at w k) (ap (id_at w) same) in
+          last-next x xs k standing.Out true e
+          ∙ (last-none xs k x.1 (omega (arith, once k, times-cons k x.0 keys, once-true (is_key k x.0) e)) ∙ sym (by-id w k x xs true ids))
+      | inr e ↦
+          last-next x xs k standing.Out false e
+          ∙ (told-by-id w kept xs (λ q some. all q (omega (arith, some, times-cons q x.0 keys))) (λ q. omega (arith, once q, times-cons q x.0 keys)) k lead
+          ∙ sym (by-id w k x xs false (apart-ids w kept x.0 k lead_x lead e)))
+    ]
+
+-- What is known of a world that took over a plan.
+pub record TookOver (w x : World) (cpu : CpuNo) (p : Planned) : Type 0 where
+  pub kept : IsKept w.hardware w
+  pub kept_now : IsKept w.hardware x
+  pub low : cpu.0 < length w.quiet.seats
+  pub plan : IsPlanOf (present_brief w cpu) p
+  pub world : x ≡ retold cpu w x
+  pub standings : x.standings ≡ told_standings p.standings (out_standings (reached_leaders w cpu) w.standings)
+  pub seats : seats_at x cpu ≡ p.seats
+
+told-last : (w x : World) (cpu : CpuNo) (p : Planned) → TookOver w x cpu p → (q : Key)
+    → standing_at x q ≡ last_told p.standings q (last_told (map (λ k. (k, standing.Out)) (reached_leaders w cpu)) q (standing_at w q))
+told-last w x cpu p h q =
+    ap (λ t. stand_at t q) h.standings
+    ∙ (told-at p.standings (out_standings (reached_leaders w cpu) w.standings) q
+    ∙ ap (last_told p.standings q) (told-at (map (λ k. (k, standing.Out)) (reached_leaders w cpu)) w.standings q))
+
+stands-by-plan : (w x : World) (cpu : CpuNo) (p : Planned) → TookOver w x cpu p → (q : Key) → leads (post_at w) q ≡ true → has_context (stage_of w) cpu (entry_at w q).context ≡ true
+    → standing_at x q ≡ standing_by (standings w.hardware (stage_of w) cpu) (id_at w q)
+stands-by-plan w x cpu p h q lead has =
+    let there : 1 ≤ times q (reached_leaders w cpu) = reached-there w.hardware w cpu h.kept q lead has in
+    told-last w x cpu p h q
+    ∙ (ap (last_told p.standings q) (last-out (reached_leaders w cpu) q (standing_at w q) there)
+    ∙ (told-by-id w h.kept p.standings (λ k some. reached-leading w.hardware w h.kept cpu k (omega (arith, some, few-keys w cpu p h.plan k)))
+    (λ k. omega (arith, few-keys w cpu p h.plan k, reached-once w.hardware w h.kept cpu k)) q lead
+    ∙ ap (λ xs. standing_by xs (id_at w q)) (ap (map (λ y. (id_at w y.0, y.1))) h.plan.standings ∙ sym (present-standings w cpu))))
+
+pub adopted-judged : (w x : World) (cpu : CpuNo) (p : Planned) → TookOver w x cpu p → IsJudged w.hardware x cpu
+adopted-judged w x cpu p h =
+    let judged_now : IsJudged w.hardware (retold cpu w x) cpu = record {
+      standings = λ q lead has. stands-by-plan w x cpu p h q lead has ∙ sym (standing-is (verdicts w.hardware (stage_of w) cpu) (group_at w q));
+      served = record {
+        events =
+            ap (λ s. s.events) (get_or-set_same w.quiet.seats cpu.0 (seats_at x cpu) (empty_seating 0) h.low)
+            ∙ (ap (λ s. s.events) h.seats ∙ (h.plan.events ∙ sym (present-seated w cpu)));
+        assigned = ((subst (λ y. IsKept w.hardware y) h.world h.kept_now).seated.sound cpu (omega (arith, h.low, length-set w.quiet.seats cpu.0 (seats_at x cpu)))).assigned;
+      };
+    } in
+    subst (λ y. IsJudged w.hardware y cpu) (sym h.world) judged_now
+
+-- standings of groups elsewhere stay
+outs-keys : (keys : List Key) → map (λ (x : Key × Standing). x.0) (map (λ k. (k, standing.Out)) keys) ≡ keys
+outs-keys keys = map-map (λ (x : Key × Standing). x.0) (λ k. (k, standing.Out)) keys ∙ map-id keys
+
+pub adopted-others : (w x : World) (cpu : CpuNo) (p : Planned) → TookOver w x cpu p → (q : Key) → has_context (stage_of w) cpu (entry_at w q).context ≡ false → standing_at x q ≡ standing_at w q
+adopted-others w x cpu p h q away =
+    let none : times q (reached_leaders w cpu) ≡ 0 = elim (cases_eq (times q (reached_leaders w cpu)) 0) [
+      | inl none ↦ none
+      | inr more ↦ absurd (false≢true (sym away ∙ reached-context w.hardware w h.kept cpu q (omega (arith, more))))
+    ] in
+    told-last w x cpu p h q
+    ∙ (last-none p.standings q (last_told (map (λ k. (k, standing.Out)) (reached_leaders w cpu)) q (standing_at w q)) (omega (arith, none, few-keys w cpu p h.plan q))
+    ∙ last-none (map (λ k. (k, standing.Out)) (reached_leaders w cpu)) q (standing_at w q) (ap (times q) (outs-keys (reached_leaders w cpu)) ∙ none))
+
+-- the passes stand out one after the other
+pub out-then : (v w x : World) (cpu : CpuNo) (pass : ℕ) (done : List Key) → w ≡ with_standings (out_standings done v.standings) v
+    → x ≡ with_standings (out_standings (slice_index_or (pass_leaders w cpu) pass []) w.standings) w
+    → x ≡ with_standings (out_standings (done ++ slice_index_or (pass_leaders v cpu) pass []) v.standings) v
+out-then v w x cpu pass done before now =
+    now
+    ∙ ((λ i. with_standings (out_standings (slice_index_or (pass_leaders (before i) cpu) pass []) (before i).standings) (before i))
+    ∙ ap (λ m. with_standings m v) (sym (out-append done (slice_index_or (pass_leaders v cpu) pass []) v.standings)))
+
+abbrev leaders_at : World → CpuNo → ℕ → List Key
+leaders_at w cpu pass = slice_index_or (pass_leaders w cpu) pass []
+
+four-passes : (w : World) (cpu : CpuNo) → ((leaders_at w cpu 0 ++ leaders_at w cpu 1) ++ leaders_at w cpu 2) ++ leaders_at w cpu 3 ≡ reached_leaders w cpu
+four-passes w cpu =
+    let a : List Key = leaders_at w cpu 0 in
+    let b : List Key = leaders_at w cpu 1 in
+    let c : List Key = leaders_at w cpu 2 in
+    let d : List Key = leaders_at w cpu 3 in
+    append_assoc (a ++ b) c d ∙ (append_assoc a b (c ++ d) ∙ ap (λ xs. a ++ (b ++ (c ++ xs))) (sym (append-nil d)))
+
+-- all that stood out, and then were told their standings and got their seats
+pub took-over : (v o t x : World) (cpu : CpuNo) (p : Planned) → IsKept v.hardware v → IsKept x.hardware x → cpu.0 < length v.quiet.running → IsPlanOf (present_brief v cpu) p
+    → o ≡ with_standings (out_standings (((leaders_at v cpu 0 ++ leaders_at v cpu 1) ++ leaders_at v cpu 2) ++ leaders_at v cpu 3) v.standings) v
+    → t ≡ with_standings (told_standings p.standings o.standings) o → x ≡ with_seats cpu p.seats t → TookOver v x cpu p
+took-over v o t x cpu p kept kept_now low plan outs told seated =
+    let out : FinMap nat_cmp Standing = out_standings (reached_leaders v cpu) v.standings in
+    let cleared : o ≡ with_standings out v = outs ∙ ap (λ keys. with_standings (out_standings keys v.standings) v) (four-passes v cpu) in
+    let standing : t ≡ with_standings (told_standings p.standings out) v = told ∙ (λ i. with_standings (told_standings p.standings (cleared i).standings) (cleared i)) in
+    let all : x ≡ with_seats cpu p.seats (with_standings (told_standings p.standings out) v) = seated ∙ ap (with_seats cpu p.seats) standing in
+    let within : cpu.0 < length v.quiet.seats = omega (arith, low, kept.tables.seats) in
+    let seats : seats_at x cpu ≡ p.seats = ap (λ (w : World). seats_at w cpu) all ∙ get_or-set_same v.quiet.seats cpu.0 p.seats (empty_seating 0) within in
+    record {
+      kept = kept;
+      kept_now = subst (λ hw. IsKept hw x) (ap (λ (w : World). w.hardware) all) kept_now;
+      low = within;
+      plan = plan;
+      world = all ∙ sym (λ i. record (with_seats cpu (seats i) v) { standings = (all i).standings });
+      standings = ap (λ (w : World). w.standings) all;
+      seats = seats;
+    }

@@ -1,0 +1,44 @@
+use Rattle.std.proofs.Common.{arith, ◌∙◌, ap, sym, subst}
+use Rattle.stage_spec.specs.Hardware.{Hardware}
+use Rattle.stage_spec.specs.Settle.{settle}
+use Rattle.world_spec.specs.Kept.{IsKept}
+use Rattle.world_spec.specs.Rescheduled.{IsRescheduled}
+use Rattle.world_spec.specs.StageOf.{stage_of}
+use Rattle.world_spec.specs.Value.{World}
+use Rattle.world_spec.proofs.Rescheduling.{fail-stage, fail-rescheduled}
+use Rattle.cpu_sched.proofs.Staying.{stays-but, others-stay}
+use Rattle.cpu_sched.proofs.adopting.adopt.Goals as goal
+
+pub returns-clause-stage : goal.returns-clause-stage
+returns-clause-stage c =
+    let hw : Hardware = c.args.world.now.hardware in
+    let w : World = c.take_over.new.world in
+    let kept : IsKept hw w = subst (λ h. IsKept h w) (ap (λ (x : World). x.hardware) c.take_over.ensures.world) c.take_over.ensures.kept in
+    ap stage_of c.fail_refused.ensures
+    ∙ (fail-stage hw w c.args.cpu c.take_over.ensures.low kept c.take_over.ensures.judged
+    ∙ ap (λ (x : World). settle hw c.args.cpu (stage_of x)) c.take_over.ensures.world)
+
+pub returns-clause-rescheduled : goal.returns-clause-rescheduled
+returns-clause-rescheduled c =
+    let hw : Hardware = c.args.world.now.hardware in
+    let w : World = c.take_over.new.world in
+    let kept : IsKept hw w = subst (λ h. IsKept h w) (ap (λ (x : World). x.hardware) c.take_over.ensures.world) c.take_over.ensures.kept in
+    subst (λ (x : World). IsRescheduled hw x c.args.cpu) (sym c.fail_refused.ensures) (fail-rescheduled hw w c.args.cpu c.take_over.ensures.low kept c.take_over.ensures.judged)
+
+pub returns-clause-others : goal.returns-clause-others
+returns-clause-others c =
+    let hw : Hardware = c.args.world.now.hardware in
+    let w : World = c.take_over.new.world in
+    let kept : IsKept hw w = subst (λ h. IsKept h w) (ap (λ (x : World). x.hardware) c.take_over.ensures.world) c.take_over.ensures.kept in
+    λ other low apart.
+    others-stay hw c.args.world.now w c.fail_refused.new.world c.args.cpu other
+    (record { kept = kept; told = c.take_over.ensures.world; others = c.take_over.ensures.others; failed = c.fail_refused.ensures })
+    c.use_processor.ensures.kept (omega (arith, low, c.use_processor.ensures.kept.shape.running, c.use_processor.ensures.hardware.cpus)) apart
+
+pub returns-clause-rest : goal.returns-clause-rest
+returns-clause-rest c =
+    let hw : Hardware = c.args.world.now.hardware in
+    let w : World = c.take_over.new.world in
+    let kept : IsKept hw w = subst (λ h. IsKept h w) (ap (λ (x : World). x.hardware) c.take_over.ensures.world) c.take_over.ensures.kept in
+    stays-but hw c.args.world.now w c.fail_refused.new.world c.args.cpu
+    (record { kept = kept; told = c.take_over.ensures.world; others = c.take_over.ensures.others; failed = c.fail_refused.ensures })
