@@ -1,5 +1,6 @@
 mod Answered
 mod Answering
+mod FewOn
 mod Runs
 mod Shapes
 mod Unlawful
