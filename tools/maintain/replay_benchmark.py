@@ -9,6 +9,7 @@ Usage: replay_benchmark.py PROGRAM
 """
 
 import os
+import statistics
 import subprocess
 import sys
 import tempfile
@@ -16,6 +17,7 @@ import time
 
 RUNS = 5
 LINES = 16000
+WORK_LINES = 16000
 
 
 def in_lines(acts):
@@ -88,6 +90,13 @@ def sampling():
     return script_of(head, cpus, tool, order)
 
 
+def counting(events):
+    """Work on one processor, of some length, beside so many events that count it: four of a hardware kind, the others clocks."""
+    head = "perf 1\nmachine cpus=1 counters=4\nkind cycles mask=f\n"
+    opens = [f"open {e} kind={'cycles' if e < 4 else 'task-clock'} task=all cpu=0 format=3" for e in range(events)]
+    return script_of(head, {0: ["work 100 user cycles=50"] * WORK_LINES}, opens, ["t0"] * events + ["p0"] * WORK_LINES)
+
+
 def stored(name):
     """A worked case, and its order."""
     path = os.path.join(os.path.dirname(os.path.abspath(__file__)), "..", "..", "crates", "worked_cases", "data", name + ".script")
@@ -121,6 +130,31 @@ def measured(program, words, text, status):
     return seconds, usage.ru_maxrss * 1024
 
 
+def processor_time(program, text):
+    """The median processor time of replays, in seconds."""
+    times = []
+    for _ in range(RUNS):
+        with tempfile.TemporaryFile() as given:
+            given.write(text.encode())
+            given.seek(0)
+            run = subprocess.Popen([program, "replay"], stdin=given, stdout=subprocess.DEVNULL, stderr=subprocess.DEVNULL)
+            _, code, usage = os.wait4(run.pid, 0)
+        if os.waitstatus_to_exitcode(code) != 0:
+            raise ValueError(f"status {os.waitstatus_to_exitcode(code)}")
+        times.append(usage.ru_utime + usage.ru_stime)
+    return statistics.median(times)
+
+
+def beside_counting(program):
+    """Work lines beside more and more counting events, with the time of a start taken off."""
+    start = processor_time(program, "perf 1\nmachine cpus=1 counters=1\nend\n")
+    first = None
+    for events in (1, 16, 64, 200):
+        spent = processor_time(program, whole_text(*counting(events))) - start
+        first = spent if first is None else first
+        print(f"{WORK_LINES} work lines beside {events} counting events: {1000 * spent:.1f} ms of processor time, {spent / first:.2f} times that beside 1; median of {RUNS}")
+
+
 def best(program, words, text, status):
     runs = [measured(program, words, text, status) for _ in range(RUNS)]
     return min(seconds for seconds, _ in runs), max(peak for _, peak in runs)
@@ -148,6 +182,7 @@ def main(program):
     print(f"the script of 1,000 rounds, run by threads: {1000 * run:.1f} ms; {peak / 2**20:.1f} MiB; the best of {RUNS}")
     summary, peak = best(program, ["make", "1000"], "", 0)
     print(f"make 1000: {1000 * summary:.1f} ms; {peak / 2**20:.1f} MiB; the best of {RUNS}")
+    beside_counting(program)
 
 
 if __name__ == "__main__":
