@@ -1,5 +1,5 @@
--- Verdicts do not go by how leaders are named. So the verdicts of the present brief, which names them by their keys, are
--- the stage's.
+-- Verdicts do not go by how leaders are named. So the verdicts of the present brief, which names them by their keys,
+-- are the stage's.
 use Rattle.std.specs.Prelude.{◌≡◌, ℕ, not, List, [], ◌∷◌, ◌++◌, map, filter, flat_map, Option}
 use Rattle.std.proofs.Common.{refl, sym, ap, ◌∙◌, append_assoc}
 use Rattle.std.proofs.lemmas.List.{append-nil, map-append, map-id}

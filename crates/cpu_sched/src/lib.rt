@@ -1,6 +1,6 @@
 //! Rescheduling: which groups of a processor go on its counters, and why the others do not. Its model is the world as
-//! one value, and what it leaves is the definitions' settling and verdicts. A schedule can be planned ahead, from a brief
-//! of the processor alone, and adopted where that brief is still the present one. It serves whoever does a line.
+//! one value, and what it leaves is the definitions' settling and verdicts. A schedule can be planned ahead, from a
+//! brief of the processor alone, and adopted where that brief is still the present one. It serves whoever does a line.
 #![tactic(auto)]
 
 mod adopting;

@@ -1,4 +1,4 @@
-//! Planning from a brief alone, with no world at hand: each group's standing, and the counters of the events that are on.
+//! Planning from a brief alone, with no world at hand: each group's standing, and the counters of events that are on.
 
 ghost use Rattle.std.specs.Prelude.{◌≡◌, ◌+◌, ◌*◌, ◌<◌, ◌≤◌, ◌==◌, ◌++◌, true, All, IfOk, [], length, map, count_by, vec_len, vec_capacity, if◌then◌else◌};
 ghost use Rattle.perf_base.specs.Masks.{IsMask};

@@ -1,12 +1,12 @@
 -- The count and the remainder of one event instance, after count, sample_period and period_left of
 -- kernel/events/core.c. One that does not sample follows a running total, as event->count follows the counter by
--- prev_count there: the stamp is what the total had up to which the count is kept. That occurrences are taken one by one
--- is this project's own profile.
+-- prev_count there: the stamp is what the total had up to which the count is kept. That occurrences are taken one by
+-- one is this project's own profile.
 use Rattle.std.specs.Prelude.{◌≡◌, ◌≢◌, ℕ, ◌+◌, ◌-◌, ◌<◌, ◌≤◌, Bool, true, false, if◌then◌else◌}
 use Rattle.stage_spec.specs.Occurrences.{left_after}
 
--- How often an instance was hit up to its stamp, its period, 0 where it does not sample, what is left of the period, and
--- whether it counts along with its total since then.
+-- How often an instance was hit up to its stamp, its period, 0 where it does not sample, what is left of the period,
+-- and whether it counts along with its total since then.
 pub record Counts : Type 0 where
   pub count : ℕ
   pub period : ℕ

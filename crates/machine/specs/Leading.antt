@@ -30,8 +30,8 @@ pub record Kept : Type 0 where
   pub world : World
   pub outs : OutList
 
--- It has a count for each of eight processors and four tools, and its world is ready for a line. No total of a processor
--- is above a thousand million for each line that the processor has done.
+-- It has a count for each of eight processors and four tools, and its world is ready for a line. No total of a
+-- processor is above a thousand million for each line that the processor has done.
 pub record IsWhole (m : Kept) : Type 0 where
   pub cpus : length m.cpus ≡ 8
   pub tools : length m.tools ≡ 4

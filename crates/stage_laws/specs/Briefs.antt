@@ -21,7 +21,8 @@ pub record JudgedBrief (Leader : Type 0) : Type 0 where
   pub brief : GroupBrief Leader
   pub standing : Standing
 
--- the briefs of the groups that are on, the slot of the first that passes a test, and that of the first that was refused
+-- the briefs of the groups that are on, the slot of the first that passes a test, and that of the first that was
+-- refused
 abbrev pub briefs_on : {Leader : Type 0} → List (JudgedBrief Leader) → List (GroupBrief Leader)
 briefs_on judged = map (λ j. j.brief) (filter (λ j. stands_on j.standing) judged)
 

@@ -1,5 +1,5 @@
--- What a table says of an event after some acts of a script: whether it is there, what its family has counted, whether it
--- is in error, and what it counts. After perf_event_open(2) and the rows of perf stat.
+-- What a table says of an event after some acts of a script: whether it is there, what its family has counted, whether
+-- it is in error, and what it counts. After perf_event_open(2) and the rows of perf stat.
 use Rattle.std.specs.Prelude.{Bool, false, List, option_map, Option, Some, None, if◌then◌else◌}
 use Rattle.perf_base.specs.declared.acts.Act.{Act}
 use Rattle.perf_base.specs.declared.attr.Kind.{Kind}

@@ -155,7 +155,8 @@ module _ (w : World) (hits : List Hit) (may : MayHitAll w hits) (i : ℕ) (d : H
         ap (λ v. record { key = next.key; count = overflows next.occurrences (instance_at v next.key).attr.period (account_at now next.key).left }) rest
         ∙ ap (λ (a : Account). record { key = next.key; count = overflows next.occurrences (instance_at w next.key).attr.period a.left }) same
 
--- the account of a key after hits: as it was where it is not among them, and with what it is hit by where it is there once
+-- the account of a key after hits: as it was where it is not among them, and with what it is hit by where it is there
+-- once
 module _ (x : Happening) (w : World) where
   pub hit-out : (keys : List Key) (v : World) (k : Key) → times k keys ≡ 0 → account_at (hit_all (map (hit_at x w) keys) v) k ≡ account_at v k
   unfolding hit_all

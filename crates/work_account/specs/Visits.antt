@@ -30,8 +30,8 @@ abbrev pub occurs : Happening → Instance → ℕ
 occurs (happening.Work work) i = work_hits work i
 occurs (happening.Soft occurring) i = soft_hits occurring i
 
--- Whether an instance that is on is given it one by one: of work one that samples, as the others count along totals, and
--- of an occurrence each that counts it.
+-- Whether an instance that is on is given it one by one: of work one that samples, as the others count along totals,
+-- and of an occurrence each that counts it.
 abbrev pub samples : Instance → Bool
 samples i = not (i.attr.period == 0)
 
@@ -77,8 +77,8 @@ hit_all hits w = fold hit_one w hits
 abbrev pub overflow_of : World → Hit → Overflow
 overflow_of w h = record { key = h.key; count = overflows h.occurrences (instance_at w h.key).attr.period (account_at w h.key).left }
 
--- Instances may be hit: each is live, does not count along totals where it is on, and is the only one of its family; the
--- family has room.
+-- Instances may be hit: each is live, does not count along totals where it is on, and is the only one of its family;
+-- the family has room.
 pub record MayHit (w : World) (h : Hit) : Type 0 where
   pub live : is_live w h.key ≡ true
   pub alone : (cpu : CpuNo) → is_on_at w cpu h.key ≡ true → goes_along (instance_at w h.key).attr ≡ false

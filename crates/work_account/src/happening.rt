@@ -55,8 +55,8 @@ fn soft_hits(occurring: Kind, instance: &Instance) -> u64
 }
 
 impl Happening {
-    /// Whether it is given one by one to an instance that is on: work to one that samples, and an occurrence to one that
-    /// counts it.
+    /// Whether it is given one by one to an instance that is on: work to one that samples, and an occurrence to one
+    /// that counts it.
     pub fn hits(&self, instance: &Instance) -> bool
         ensures { result ≡ visits.is_hit_by self.now instance.now }
     {

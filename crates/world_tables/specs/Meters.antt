@@ -1,7 +1,7 @@
 -- The meters of processors, and the accounts that run along them. A meter is a clock with totals, as a processor's
 -- counters are in the kernel; an account keeps what its meter showed at its last turn, as tstamp and prev_count are
--- kept for perf_event_update_time and x86_perf_event_update of kernel/events. That counts follow totals by kind and mode
--- is this project's own profile.
+-- kept for perf_event_update_time and x86_perf_event_update of kernel/events. That counts follow totals by kind and
+-- mode is this project's own profile.
 use Rattle.std.specs.Prelude.{◌≡◌, ℕ, ◌+◌, ◌^◌, ◌<◌, ◌≤◌, ◌==◌, Bool, true, false, ◌&&◌, slice_index, if◌then◌else◌}
 use Rattle.perf_base.specs.declared.attr.Attr.{Attr}
 use Rattle.perf_base.specs.declared.attr.Kind.{Kind}
