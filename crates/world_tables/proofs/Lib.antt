@@ -2,6 +2,7 @@ mod Listed
 mod Marked
 mod Parts
 mod Retained
+mod Sampling
 mod Tables
 mod Tallies
 mod Written

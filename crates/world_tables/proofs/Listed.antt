@@ -1,6 +1,6 @@
 -- How often a key stands in a list, where it stands, and how long the list is without it.
-use Rattle.std.specs.Prelude.{◌≡◌, ℕ, ◌+◌, ◌<◌, ◌≤◌, ◌==◌, Bool, true, false, not, cond, List, [], ◌∷◌, length, Contains, slice_index_or}
-use Rattle.std.proofs.Common.{arith, refl, sym, ap, ◌∙◌, inl, inr, zero, suc}
+use Rattle.std.specs.Prelude.{◌≡◌, ◌+◌, ◌≤◌, not, cond, List, [], ◌∷◌, length, Contains}
+use Rattle.std.proofs.Common.{arith, refl, ap, inl, inr, zero, suc}
 use Rattle.std.proofs.lemmas.Bool.{cases_Bool}
 use Rattle.perf_base.specs.declared.numbers.Key.{Key}
 use Rattle.world_spec.specs.Value.{is_key, times}

@@ -1,5 +1,5 @@
 -- The table after what it keeps at a key changed, and after a line of work on a processor.
-use Rattle.std.specs.Prelude.{◌≡◌, ◌≢◌, ℕ, ◌+◌, ◌^◌, ◌<◌, ◌≤◌, ◌==◌, Bool, true, false, if◌then◌else◌, List, [], ◌∷◌, length, map, replicate, slice_index_or, slice_set, Option, Some, None, is_some}
+use Rattle.std.specs.Prelude.{◌≡◌, ◌≢◌, ◌↔◌, ℕ, ◌+◌, ◌^◌, ◌<◌, ◌≤◌, ◌==◌, Bool, true, false, if◌then◌else◌, List, [], ◌∷◌, length, map, replicate, slice_index_or, slice_set, Option, Some, None, is_some}
 use Rattle.std.specs.FinMap.{contains_key}
 use Rattle.std.proofs.Common.{arith, refl, sym, ap, subst, ◌∙◌, inl, inr, zero, suc}
 use Rattle.std.proofs.lemmas.Bool.{cases_eq}
@@ -11,23 +11,28 @@ use Rattle.perf_base.specs.declared.attr.Attr.{Attr}
 use Rattle.perf_base.specs.declared.lines.Work.{Work}
 use Rattle.perf_base.specs.declared.numbers.CpuNo.{CpuNo}
 use Rattle.perf_base.specs.declared.numbers.Key.{Key}
+use Rattle.perf_base.specs.declared.standing.Context.{Context}
 use Rattle.stage_spec.specs.Families.{plus}
+use Rattle.stage_spec.specs.Stage.{place_of}
 use Rattle.stage_spec.specs.Shares.{counted_by, no_sums}
 use Rattle.event_counts.specs.Counts.{restarted}
 use Rattle.world_spec.specs.Value.{Totals, no_totals}
 use Rattle.world_spec.specs.Metering.{add_hits}
 use Rattle.world_spec.specs.Ways.{Way}
 use Rattle.world_tables.specs.Meters.{Metered, Tallied, IsTally, no_meter, metered, total_of, given, given_on, goes_along, way_of, sums_at, tally_to}
+use Rattle.world_tables.specs.Samplers.{samples_at, AreCounted}
 use Rattle.world_tables.specs.Rows.{Kept, account_by, row_by, meter_at, without_count}
-use Rattle.world_tables.specs.Columns.{entry_in, Columns, IsTable, IsWorked, HasRoomForWork, columns, is_there, account_in, row_in, given_in, totals_in, no_columns}
+use Rattle.world_tables.specs.Columns.{entry_in, Columns, IsTable, SomeSamples, IsWorked, HasRoomForWork, columns, is_there, account_in, row_in, given_in, totals_in, no_columns}
 use Rattle.world_tables.proofs.Parts.{part-put, part-at}
+use Rattle.world_tables.proofs.Sampling.{counted-written, counted-none, count-some, count-there, sampler-kept, sampler-at}
 use Rattle.world_tables.proofs.Tallies.{sums-worked, tally-worked, sums-moved, left-kept, tally-moved, sums-reset, tally-reset, plus-none}
 use Rattle.world_tables.proofs.Written.{there-is, there-row, row-is, account-is_there, shown}
 
 -- something comes or is written
-pub table-put : (ms : List Metered) (idle : Metered) (s after : Slab Kept) (k : ℕ) (new : Kept) → IsTable ms idle s → Updates s after k (Some new) → after.capacity ≡ s.capacity
-    → IsTally (meter_at ms new.tally.cpu) new.entry.instance.attr new.tally → IsTable ms idle after
-table-put ms idle s after k new table up room tally = record {
+pub table-put : (ms : List Metered) (idle : Metered) (counts now : List ℕ) (s after : Slab Kept) (k : ℕ) (new : Kept) → IsTable ms idle counts s → Updates s after k (Some new)
+    → after.capacity ≡ s.capacity → IsTally (meter_at ms new.tally.cpu) new.entry.instance.attr new.tally → AreCounted now after → IsTable ms idle now after
+table-put ms idle counts now s after k new table up room tally counted = record {
+  samplers = counted;
   room = omega (arith, table.room, room);
   idle = table.idle;
   tallies = λ q e at.
@@ -39,18 +44,25 @@ table-put ms idle s after k new table up room tally = record {
       ];
 }
 
-pub table-written : (ms : List Metered) (idle : Metered) (s : Slab Kept) (k : ℕ) (r new : Kept) → IsTable ms idle s → slab_get s k ≡ Some r
-    → IsTally (meter_at ms new.tally.cpu) new.entry.instance.attr new.tally → IsTable ms idle (with_value s k new)
-table-written ms idle s k r new table at tally = table-put ms idle s (with_value s k new) k new table (Updates-with_value s k new (ap is_some at)) refl tally
+pub table-written : (ms : List Metered) (idle : Metered) (counts : List ℕ) (s : Slab Kept) (k : ℕ) (r new : Kept) → IsTable ms idle counts s → slab_get s k ≡ Some r
+    → IsTally (meter_at ms new.tally.cpu) new.entry.instance.attr new.tally → ((place : ℕ) → samples_at place (Some new) ≡ samples_at place (Some r))
+    → IsTable ms idle counts (with_value s k new)
+table-written ms idle counts s k r new table at tally same =
+    let up : Updates s (with_value s k new) k (Some new) = Updates-with_value s k new (ap is_some at) in
+    table-put ms idle counts counts s (with_value s k new) k new table up refl tally (counted-written counts s (with_value s k new) k new table.samplers r at up same)
 
-pub table-wrote : (ms : List Metered) (idle : Metered) (s : Slab Kept) (k : ℕ) (r new by : Kept) → new ≡ by → IsTable ms idle s → slab_get s k ≡ Some r
-    → IsTally (meter_at ms by.tally.cpu) by.entry.instance.attr by.tally → IsTable ms idle (with_value s k new)
-table-wrote ms idle s k r new by is table at tally =
-    table-written ms idle s k r new table at (subst (λ x. IsTally (meter_at ms x.tally.cpu) x.entry.instance.attr x.tally) (sym is) tally)
+pub table-wrote : (ms : List Metered) (idle : Metered) (counts : List ℕ) (s : Slab Kept) (k : ℕ) (r new by : Kept) → new ≡ by → IsTable ms idle counts s → slab_get s k ≡ Some r
+    → IsTally (meter_at ms by.tally.cpu) by.entry.instance.attr by.tally → ((place : ℕ) → samples_at place (Some by) ≡ samples_at place (Some r))
+    → IsTable ms idle counts (with_value s k new)
+table-wrote ms idle counts s k r new by is table at tally same =
+    table-written ms idle counts s k r new table at (subst (λ x. IsTally (meter_at ms x.tally.cpu) x.entry.instance.attr x.tally) (sym is) tally)
+    (λ place. ap (λ x. samples_at place (Some x)) is ∙ same place)
 
 -- something goes
-pub table-taken : (ms : List Metered) (idle : Metered) (s after : Slab Kept) (k : ℕ) → IsTable ms idle s → Updates s after k None → after.capacity ≡ s.capacity → IsTable ms idle after
-table-taken ms idle s after k table up room = record {
+pub table-taken : (ms : List Metered) (idle : Metered) (counts now : List ℕ) (s after : Slab Kept) (k : ℕ) → IsTable ms idle counts s → Updates s after k None → after.capacity ≡ s.capacity
+    → AreCounted now after → IsTable ms idle now after
+table-taken ms idle counts now s after k table up room counted = record {
+  samplers = counted;
   room = omega (arith, table.room, room);
   idle = table.idle;
   tallies = λ q e at.
@@ -61,16 +73,18 @@ table-taken ms idle s after k table up room = record {
 }
 
 -- nothing is kept at first
-pub table-new : (ms : List Metered) (idle : Metered) (s : Slab Kept) → idle ≡ no_meter → s.slots ≡ [] → 4352 ≤ s.capacity → IsTable ms idle s
-table-new ms idle s none empty room = record {
+pub table-new : (ms : List Metered) (idle : Metered) (counts : List ℕ) (s : Slab Kept) → idle ≡ no_meter → counts ≡ replicate 72 0 → s.slots ≡ [] → 4352 ≤ s.capacity
+    → IsTable ms idle counts s
+table-new ms idle counts s none nobody empty room = record {
+  samplers = counted-none counts s nobody empty;
   room = room;
   idle = none;
   tallies = λ q e at. absurd (let bad : None ≡ Some e = ap (λ (l : List (Option Kept)). slice_index_or l q None) (sym empty) ∙ at in cc);
 }
 
-pub tally-at : (ms : List Metered) (idle : Metered) (s : Slab Kept) (k : ℕ) (r : Kept) → IsTable ms idle s → slab_get s k ≡ Some r
+pub tally-at : (ms : List Metered) (idle : Metered) (counts : List ℕ) (s : Slab Kept) (k : ℕ) (r : Kept) → IsTable ms idle counts s → slab_get s k ≡ Some r
     → IsTally (meter_at ms r.tally.cpu) r.entry.instance.attr r.tally
-tally-at ms idle s k r table at = table.tallies k r at
+tally-at ms idle counts s k r table at = table.tallies k r at
 
 some-of : (o : Option Kept) → is_some o ≡ true → (e : Kept) × (o ≡ Some e)
 some-of None bad = absurd (cc)
@@ -152,7 +166,7 @@ columns-none ms s n none empty =
     ∙ (ap (λ (x : List Metered). columns x (record s { slots = [] })) none
     ∙ (λ i. record (no_columns n) { clocks = clocks-none n i; totals = totals-none n i }))
 
-module _ (ms : List Metered) (idle : Metered) (s : Slab Kept) (t : Columns) (cpu : CpuNo) (w : Work) (m : Metered) (view : columns ms s ≡ t) (table : IsTable ms idle s)
+module _ (ms : List Metered) (idle : Metered) (counts : List ℕ) (s : Slab Kept) (t : Columns) (cpu : CpuNo) (w : Work) (m : Metered) (view : columns ms s ≡ t) (table : IsTable ms idle counts s)
     (at : m ≡ slice_index_or ms cpu.0 m) (low : cpu.0 < length t.clocks)
     (gains : (a : Attr) → total_of (metered w m).clock (metered w m).totals a ≡ total_of m.clock m.totals a + counted_by w a a.kind) where
   abbrev after : List Metered
@@ -246,5 +260,29 @@ module _ (ms : List Metered) (idle : Metered) (s : Slab Kept) (t : Columns) (cpu
           | inr other ↦ subst (λ x. IsTally x a e.tally) (sym (elsewhere e.tally.cpu other)) (table.tallies k e kept)
         ]
 
-    pub table-worked : IsTable after idle s
-    table-worked = record { room = table.room; idle = table.idle; tallies = tally-after }
+    pub table-worked : IsTable after idle counts s
+    table-worked = record { room = table.room; idle = table.idle; tallies = tally-after; samplers = table.samplers }
+
+-- a context has events that sample where their number is not 0
+pub samplers-are : (ms : List Metered) (idle : Metered) (counts : List ℕ) (s : Slab Kept) (t : Columns) (c : Context) → columns ms s ≡ t → IsTable ms idle counts s → place_of c < 72
+    → (1 ≤ slice_index_or counts (place_of c) 0) ↔ SomeSamples t c
+samplers-are ms idle counts s t c view table low = (
+  λ some.
+      let found = count-some (samples_at (place_of c)) s.slots (omega (arith, some, table.samplers.each (place_of c) low)) in
+      let kept = sampler-kept (place_of c) (slab_get s found.0) found.1 in
+      let k : Key = record { 0 = found.0 } in
+      let here : row_in t k ≡ row_by (meter_at ms kept.0.tally.cpu) kept.0 = row-is ms s t k kept.0 view kept.1 in (
+        k,
+        there-is ms s t k view ∙ ap is_some kept.1,
+        ap (λ x. place_of x.entry.context) here ∙ kept.2,
+        subst (λ x. x.entry.instance.attr.period ≢ 0) (sym here) kept.3,
+      ),
+  λ some.
+      let k : Key = some.0 in
+      let found = some-of (slab_get s k.0) (there-row ms s t k view some.1) in
+      let here : row_in t k ≡ row_by (meter_at ms found.0.tally.cpu) found.0 = row-is ms s t k found.0 view found.1 in
+      let is : samples_at (place_of c) (slab_get s k.0) ≡ true =
+      ap (samples_at (place_of c)) found.1
+      ∙ sampler-at (place_of c) found.0 (ap (λ x. place_of x.entry.context) (sym here) ∙ some.2) (subst (λ x. x.entry.instance.attr.period ≢ 0) here some.3) in
+      omega (arith, table.samplers.each (place_of c) low, count-there (samples_at (place_of c)) refl s.slots k.0 is),
+)

@@ -1,6 +1,6 @@
 -- The tables of events by key: entries, accounts, standings and ways; the clocks and totals of the processors; and what
 -- each change does to them. This project's own profile.
-use Rattle.std.specs.Prelude.{◌≡◌, ℕ, ◌+◌, ◌^◌, ◌<◌, ◌≤◌, Bool, true, List, map, replicate, Some, slice_index_or, slice_set}
+use Rattle.std.specs.Prelude.{◌≡◌, ◌≢◌, ℕ, ◌+◌, ◌^◌, ◌<◌, ◌≤◌, Bool, true, List, map, replicate, Some, slice_index_or, slice_set}
 use Rattle.std.specs.FinMap.{FinMap, empty, get, contains_key, insert, remove, from_entries}
 use Rattle.std.specs.Option.{unwrap_or}
 use Rattle.std.specs.Ordering.{nat_cmp}
@@ -8,11 +8,13 @@ use Rattle.perf_base.specs.declared.lines.Work.{Work}
 use Rattle.perf_base.specs.declared.numbers.CpuNo.{CpuNo}
 use Rattle.perf_base.specs.declared.numbers.Key.{Key}
 use Rattle.perf_base.specs.declared.reply.Sums.{Sums}
+use Rattle.perf_base.specs.declared.standing.Context.{Context}
 use Rattle.perf_base.specs.declared.standing.Standing.{Standing}
 use Rattle.perf_base.specs.declared.standing.Standing.TheVariants as standing
 use Rattle.stage_spec.specs.declared.instance.Instance.{Instance}
 use Rattle.stage_spec.specs.Families.{plus}
 use Rattle.stage_spec.specs.Shares.{counted_by}
+use Rattle.stage_spec.specs.Stage.{place_of}
 use Rattle.slab.specs.Slab.{Slab, entries, get as slab_get}
 use Rattle.world_spec.specs.Value.{Entry, Account, no_entry, no_account, Totals, no_totals}
 use Rattle.world_spec.specs.Kept.{AreSmallTotals}
@@ -20,6 +22,7 @@ use Rattle.world_spec.specs.Metering.{add_hits}
 use Rattle.world_spec.specs.Ways.{Way}
 use Rattle.world_tables.specs.Meters.{Metered, IsTally, no_meter, no_way, given_on, goes_along, way_of}
 use Rattle.world_tables.specs.Rows.{Row, Kept, account_by, meter_at}
+use Rattle.world_tables.specs.Samplers.{AreCounted}
 
 -- the four tables, and of each processor its clock and its totals
 pub record Columns : Type 0 where
@@ -59,6 +62,10 @@ way_in t k = unwrap_or (get t.ways k.0) no_way
 
 abbrev pub row_in : Columns → Key → Row
 row_in t k = record { entry = entry_in t k; account = account_in t k; standing = standing_in t k; way = way_in t k }
+
+-- some event of a context samples
+abbrev pub SomeSamples : Columns → Context → Type 0
+SomeSamples t c = (k : Key) × (is_there t k ≡ true) × (place_of (entry_in t k).context ≡ place_of c) × ((entry_in t k).instance.attr.period ≢ 0)
 
 -- the totals of a processor
 abbrev pub totals_in : Columns → CpuNo → Totals
@@ -131,9 +138,10 @@ columns meters s = record {
   totals = map (λ m. m.totals) meters;
 }
 
--- There is room for all events, a meter for what is no processor shows nothing, and each account is in step with the
--- meter of its processor.
-pub record IsTable (meters : List Metered) (spare : Metered) (s : Slab Kept) : Type 0 where
+-- There is room for all events, a meter for what is no processor shows nothing, each account is in step with the meter
+-- of its processor, and of each context the events that sample are counted.
+pub record IsTable (meters : List Metered) (spare : Metered) (counts : List ℕ) (s : Slab Kept) : Type 0 where
   pub room : 4352 ≤ s.capacity
   pub idle : spare ≡ no_meter
   pub tallies : (k : ℕ) (e : Kept) → slab_get s k ≡ Some e → IsTally (meter_at meters e.tally.cpu) e.entry.instance.attr e.tally
+  pub samplers : AreCounted counts s

@@ -4,3 +4,4 @@ pub mod Marks
 pub mod Meters
 pub mod Places
 pub mod Rows
+pub mod Samplers

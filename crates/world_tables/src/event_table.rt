@@ -1,18 +1,20 @@
 //! The events by key, with the meters that their accounts run along.
 
-ghost use Rattle.std.specs.Prelude.{◌≡◌, ◌≢◌, ◌+◌, ◌^◌, ◌<◌, ◌≤◌, IfOk, Some, true, false, [], ◌∷◌, ◌++◌, length, replicate, slice_index_or};
+ghost use Rattle.std.specs.Prelude.{◌≡◌, ◌≢◌, ◌+◌, ◌^◌, ◌<◌, ◌≤◌, IfOk, Some, true, false, IsTrue, ◌↔◌, [], ◌∷◌, ◌++◌, length, replicate, slice_index_or};
 ghost use Rattle.std.specs.FinMap.{len};
 ghost use Rattle.perf_base.specs.declared.numbers.Key.{Key as KeyNo};
 ghost use Rattle.perf_base.specs.declared.standing.Standing.TheVariants as standing;
 ghost use Rattle.stage_spec.specs.Occurrences.{overflows};
+ghost use Rattle.stage_spec.specs.Stage.{place_of};
 ghost use Rattle.world_spec.specs.StageOf.{after_first};
 ghost use Rattle.world_spec.specs.Changes.{all_but};
 ghost use Rattle.world_tables.specs.Meters.{goes_along, way_of, no_meter};
 ghost use Rattle.world_tables.specs.Rows.{fresh_row, leader_entry, sibling_entry, without_count, after_hit, freed_entry};
-ghost use Rattle.world_tables.specs.Columns.{IsWorked, HasRoomForWork, is_there, entry_in, account_in, standing_in, way_in, put_entry, put_account, put_standing, put_way, put_instance, put_row, taken, no_columns};
+ghost use Rattle.world_tables.specs.Columns.{IsWorked, HasRoomForWork, SomeSamples, is_there, entry_in, account_in, standing_in, way_in, put_entry, put_account, put_standing, put_way, put_instance, put_row, taken, no_columns};
 
 use crate::event::Event;
 use crate::meter::Meter;
+use crate::samplers::Samplers;
 use crate::way::Way;
 use perf_base::{Context, CpuNo, Key, NoMemory, Own, RingNo, Standing, Steps, Sums, Work};
 use slab::Slab;
@@ -32,6 +34,7 @@ pub struct EventTable {
     meters: Vec<Meter>,
     /// The meter for what is no processor.
     idle: Meter,
+    samplers: Samplers,
 }
 
 impl Model for EventTable {
@@ -46,7 +49,7 @@ impl Model for EventTable {
 
     ghost view = { λ t. columns t.meters.items t.events };
 
-    ghost invariant = { λ t. IsTable t.meters.items t.idle t.events };
+    ghost invariant = { λ t. IsTable t.meters.items t.idle t.samplers t.events };
 }
 
 /// The meter of a processor, or another one where there is no such processor.
@@ -80,6 +83,7 @@ impl EventTable {
             events: Slab::with_capacity(alloc, 4352)?,
             meters: idle_meters(alloc, cpus)?,
             idle: Meter::new(),
+            samplers: Samplers::new(),
         })
     }
 
@@ -113,6 +117,14 @@ impl EventTable {
         ensures { result ≡ (entry_in self.now key).context }
     {
         self.event(key).context()
+    }
+
+    /// Whether any event of a context, of one of the eight processors or of the 64 tasks, has a period.
+    pub fn samples(&self, context: Context) -> bool
+        requires { place_of context < 72 }
+        ensures { IsTrue result ↔ SomeSamples self.now context }
+    {
+        self.samplers.has_any(context)
     }
 
     /// The leader of an event's group.
@@ -194,6 +206,7 @@ impl EventTable {
         ensures fresh { is_there self.old result ≡ false }
         ensures added { self.new ≡ put_row result (fresh_row (leader_entry result instance context pinned)) self.old }
     {
+        self.samplers.add(&instance, context);
         let key = Key(self.events.vacant_key());
         let event = Event::leader_of_one(self.alloc, key, instance, context, pinned);
         self.events.insert_reserved(event);
@@ -213,6 +226,7 @@ impl EventTable {
         ensures fresh { is_there self.old result ≡ false }
         ensures added { self.new ≡ put_row result (fresh_row (sibling_entry instance context leader pinned)) self.old }
     {
+        self.samplers.add(&instance, context);
         let event = Event::new(self.alloc, instance, context, leader, pinned);
         Key(self.events.insert_reserved(event))
     }
@@ -222,7 +236,8 @@ impl EventTable {
         requires { is_there self.old key ≡ true }
         ensures { self.new ≡ taken key self.old }
     {
-        self.events.remove(key.0);
+        let event = self.events.remove(key.0);
+        self.samplers.remove(event.instance(), event.context());
     }
 
     /// Sets the own state of an event.

@@ -10,6 +10,7 @@ mod families;
 mod marks;
 mod meter;
 mod processors;
+mod samplers;
 mod tally;
 mod way;
 

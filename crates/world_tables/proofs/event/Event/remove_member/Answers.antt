@@ -1,5 +1,4 @@
-use Rattle.std.proofs.Common.{◌≡◌, List, rules}
-use Rattle.perf_base.specs.declared.numbers.Key.{Key}
+use Rattle.std.proofs.Common.{◌≡◌, rules}
 use Rattle.world_spec.specs.Changes.{all_but}
 use Rattle.world_tables.proofs.Retained.{filter-retained}
 use Rattle.world_tables.proofs.event.Event.remove_member.Goals as goal

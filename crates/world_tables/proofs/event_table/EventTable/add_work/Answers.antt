@@ -22,17 +22,17 @@ returns-clause-worked g c =
     let gains : (a : Attr) → total_of (metered c.args.work.now c.index_mut-meter.result.now).clock (metered c.args.work.now c.index_mut-meter.result.now).totals a ≡ total_of c.index_mut-meter.result.now.clock c.index_mut-meter.result.now.totals a + counted_by c.args.work.now a a.kind =
     subst (λ x. (a : Attr) → total_of x.clock x.totals a ≡ total_of c.index_mut-meter.result.now.clock c.index_mut-meter.result.now.totals a + counted_by c.args.work.now a a.kind) c.add_work.ensures.meter c.add_work.ensures.total in
     rw c.add_work.ensures.meter
-    (is-worked c.self.inside.meters.items c.self.inside.idle c.self.inside.events c.args.self.now c.args.cpu c.args.work.now c.index_mut-meter.result.now c.self.view_is c.self.invariant c.index_mut-meter.ensures.value c.requires.cpu gains)
+    (is-worked c.self.inside.meters.items c.self.inside.idle c.self.inside.samplers c.self.inside.events c.args.self.now c.args.cpu c.args.work.now c.index_mut-meter.result.now c.self.view_is c.self.invariant c.index_mut-meter.ensures.value c.requires.cpu gains)
 
 pub invariant_of-self : goal.invariant_of-self
 invariant_of-self g c =
     let gains : (a : Attr) → total_of (metered c.args.work.now c.index_mut-meter.result.now).clock (metered c.args.work.now c.index_mut-meter.result.now).totals a ≡ total_of c.index_mut-meter.result.now.clock c.index_mut-meter.result.now.totals a + counted_by c.args.work.now a a.kind =
     subst (λ x. (a : Attr) → total_of x.clock x.totals a ≡ total_of c.index_mut-meter.result.now.clock c.index_mut-meter.result.now.totals a + counted_by c.args.work.now a a.kind) c.add_work.ensures.meter c.add_work.ensures.total in
     rw c.add_work.ensures.meter
-    (table-worked c.self.inside.meters.items c.self.inside.idle c.self.inside.events c.args.self.now c.args.cpu c.args.work.now c.index_mut-meter.result.now c.self.view_is c.self.invariant c.index_mut-meter.ensures.value c.requires.cpu gains c.requires.room)
+    (table-worked c.self.inside.meters.items c.self.inside.idle c.self.inside.samplers c.self.inside.events c.args.self.now c.args.cpu c.args.work.now c.index_mut-meter.result.now c.self.view_is c.self.invariant c.index_mut-meter.ensures.value c.requires.cpu gains c.requires.room)
 
 pub returns-clause-whole : goal.returns-clause-whole
 returns-clause-whole g c =
     let gains : (a : Attr) → total_of (metered c.args.work.now c.index_mut-meter.result.now).clock (metered c.args.work.now c.index_mut-meter.result.now).totals a ≡ total_of c.index_mut-meter.result.now.clock c.index_mut-meter.result.now.totals a + counted_by c.args.work.now a a.kind =
     subst (λ x. (a : Attr) → total_of x.clock x.totals a ≡ total_of c.index_mut-meter.result.now.clock c.index_mut-meter.result.now.totals a + counted_by c.args.work.now a a.kind) c.add_work.ensures.meter c.add_work.ensures.total in
-    are-whole c.self.inside.meters.items c.self.inside.idle c.self.inside.events c.args.self.now c.args.cpu c.args.work.now c.index_mut-meter.result.now c.self.view_is c.self.invariant c.index_mut-meter.ensures.value c.requires.cpu gains
+    are-whole c.self.inside.meters.items c.self.inside.idle c.self.inside.samplers c.self.inside.events c.args.self.now c.args.cpu c.args.work.now c.index_mut-meter.result.now c.self.view_is c.self.invariant c.index_mut-meter.ensures.value c.requires.cpu gains

@@ -1,11 +1,18 @@
-use Rattle.std.proofs.Common.{arith, Some}
+use Rattle.std.proofs.Common.{ℕ, List, arith, sym, subst, Some}
 use Rattle.slab.specs.Slab.{Updates}
 use Rattle.perf_base.specs.declared.numbers.Key.{Key}
 use Rattle.world_tables.specs.Rows.{Kept, fresh_kept, sibling_entry, meter_at}
+use Rattle.world_tables.specs.Samplers.{AreCounted}
+use Rattle.world_tables.proofs.Sampling.{counted-comes, counted-room}
 use Rattle.world_tables.proofs.Written.{no-row, row-comes, len-entries}
 use Rattle.world_tables.proofs.Tallies.{tally-fresh}
 use Rattle.world_tables.proofs.Tables.{table-put}
 use Rattle.world_tables.proofs.event_table.EventTable.insert_sibling.Goals as goal
+
+pub add-requires : goal.add-requires
+add-requires c =
+    counted-room c.self.inside.samplers c.self.inside.events c.args.context c.self.invariant.samplers
+    (omega (arith, c.requires, len-entries c.self.inside.meters.items c.self.inside.events c.args.self.now c.self.view_is))
 
 pub insert_reserved-requires : goal.insert_reserved-requires
 insert_reserved-requires c = omega (arith, c.requires, c.self.invariant.room, len-entries c.self.inside.meters.items c.self.inside.events c.args.self.now c.self.view_is)
@@ -25,4 +32,5 @@ invariant_of-self c =
     let k : Key = record { 0 = c.insert_reserved.result } in
     let new : Kept = fresh_kept (sibling_entry c.args.instance c.args.context c.args.leader c.args.pinned) in
     let up : Updates c.self.inside.events c.insert_reserved.new.self k.0 (Some new) = rw (← c.new-event.ensures) c.insert_reserved.ensures.updates in
-    table-put c.self.inside.meters.items c.self.inside.idle c.self.inside.events c.insert_reserved.new.self k.0 new c.self.invariant up c.insert_reserved.ensures.capacity (tally-fresh (meter_at c.self.inside.meters.items (record { 0 = 0 })) c.args.instance.attr)
+    table-put c.self.inside.meters.items c.self.inside.idle c.self.inside.samplers c.add.new.self c.self.inside.events c.insert_reserved.new.self k.0 new c.self.invariant up c.insert_reserved.ensures.capacity (tally-fresh (meter_at c.self.inside.meters.items (record { 0 = 0 })) c.args.instance.attr)
+    (subst (λ (l : List ℕ). AreCounted l c.insert_reserved.new.self) (sym c.add.ensures) (counted-comes c.self.inside.samplers c.self.inside.events c.insert_reserved.new.self k.0 new c.self.invariant.samplers c.insert_reserved.ensures.was_vacant up))

@@ -13,8 +13,8 @@ returns c = rw c.push_member.ensures (written-entry c.self.inside.meters.items c
 
 pub invariant_of-self : goal.invariant_of-self
 invariant_of-self c =
-    table-wrote c.self.inside.meters.items c.self.inside.idle c.self.inside.events c.args.leader.0 c.index_mut.result.now _ _ c.push_member.ensures c.self.invariant c.index_mut.ensures.value
-    (tally-at c.self.inside.meters.items c.self.inside.idle c.self.inside.events c.args.leader.0 c.index_mut.result.now c.self.invariant c.index_mut.ensures.value)
+    table-wrote c.self.inside.meters.items c.self.inside.idle c.self.inside.samplers c.self.inside.events c.args.leader.0 c.index_mut.result.now _ _ c.push_member.ensures c.self.invariant c.index_mut.ensures.value
+    (tally-at c.self.inside.meters.items c.self.inside.idle c.self.inside.samplers c.self.inside.events c.args.leader.0 c.index_mut.result.now c.self.invariant c.index_mut.ensures.value) (λ place. refl)
 
 pub push_member-requires : goal.push_member-requires
 push_member-requires c =

@@ -12,5 +12,5 @@ returns c = rw c.remove_member.ensures (written-entry c.self.inside.meters.items
 
 pub invariant_of-self : goal.invariant_of-self
 invariant_of-self c =
-    table-wrote c.self.inside.meters.items c.self.inside.idle c.self.inside.events c.args.leader.0 c.index_mut.result.now _ _ c.remove_member.ensures c.self.invariant c.index_mut.ensures.value
-    (tally-at c.self.inside.meters.items c.self.inside.idle c.self.inside.events c.args.leader.0 c.index_mut.result.now c.self.invariant c.index_mut.ensures.value)
+    table-wrote c.self.inside.meters.items c.self.inside.idle c.self.inside.samplers c.self.inside.events c.args.leader.0 c.index_mut.result.now _ _ c.remove_member.ensures c.self.invariant c.index_mut.ensures.value
+    (tally-at c.self.inside.meters.items c.self.inside.idle c.self.inside.samplers c.self.inside.events c.args.leader.0 c.index_mut.result.now c.self.invariant c.index_mut.ensures.value) (λ place. refl)

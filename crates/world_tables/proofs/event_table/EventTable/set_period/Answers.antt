@@ -2,6 +2,7 @@ use Rattle.std.proofs.Common.{◌≡◌, ◌≢◌, refl, subst}
 use Rattle.world_tables.specs.Rows.{row_by, meter_at}
 use Rattle.world_tables.specs.Columns.{row_in}
 use Rattle.world_tables.proofs.Written.{there-row, row-is, written-counted}
+use Rattle.world_tables.proofs.Sampling.{sampler-at-same}
 use Rattle.world_tables.proofs.Tallies.{sums-period, tally-period}
 use Rattle.world_tables.proofs.Tables.{tally-at, table-wrote}
 use Rattle.world_tables.proofs.event_table.EventTable.set_period.Goals as goal
@@ -23,7 +24,7 @@ returns c =
     (record c.index_mut.result.now.tally { counts = record c.index_mut.result.now.tally.counts { period = c.args.period; left = c.args.period } })
     (λ a. record a { left = c.args.period }) refl
     (λ i. record {
-      sums = sums-period (meter_at c.self.inside.meters.items c.index_mut.result.now.tally.cpu) c.index_mut.result.now.entry.instance.attr c.index_mut.result.now.tally c.args.period (tally-at c.self.inside.meters.items c.self.inside.idle c.self.inside.events c.args.key.0 c.index_mut.result.now c.self.invariant c.index_mut.ensures.value) samples c.requires.still_samples i;
+      sums = sums-period (meter_at c.self.inside.meters.items c.index_mut.result.now.tally.cpu) c.index_mut.result.now.entry.instance.attr c.index_mut.result.now.tally c.args.period (tally-at c.self.inside.meters.items c.self.inside.idle c.self.inside.samplers c.self.inside.events c.args.key.0 c.index_mut.result.now c.self.invariant c.index_mut.ensures.value) samples c.requires.still_samples i;
       left = c.args.period;
     }))
 
@@ -31,5 +32,6 @@ pub invariant_of-self : goal.invariant_of-self
 invariant_of-self c =
     let here : row_in c.args.self.now c.args.key ≡ row_by (meter_at c.self.inside.meters.items c.index_mut.result.now.tally.cpu) c.index_mut.result.now = row-is c.self.inside.meters.items c.self.inside.events c.args.self.now c.args.key c.index_mut.result.now c.self.view_is c.index_mut.ensures.value in
     let samples : c.index_mut.result.now.entry.instance.attr.period ≢ 0 = subst (λ r. r.entry.instance.attr.period ≢ 0) here c.requires.samples in
-    table-wrote c.self.inside.meters.items c.self.inside.idle c.self.inside.events c.args.key.0 c.index_mut.result.now _ _ c.set_period.ensures c.self.invariant c.index_mut.ensures.value
-    (tally-period (meter_at c.self.inside.meters.items c.index_mut.result.now.tally.cpu) c.index_mut.result.now.entry.instance.attr c.index_mut.result.now.tally c.args.period (tally-at c.self.inside.meters.items c.self.inside.idle c.self.inside.events c.args.key.0 c.index_mut.result.now c.self.invariant c.index_mut.ensures.value) samples c.requires.still_samples)
+    table-wrote c.self.inside.meters.items c.self.inside.idle c.self.inside.samplers c.self.inside.events c.args.key.0 c.index_mut.result.now _ _ c.set_period.ensures c.self.invariant c.index_mut.ensures.value
+    (tally-period (meter_at c.self.inside.meters.items c.index_mut.result.now.tally.cpu) c.index_mut.result.now.entry.instance.attr c.index_mut.result.now.tally c.args.period (tally-at c.self.inside.meters.items c.self.inside.idle c.self.inside.samplers c.self.inside.events c.args.key.0 c.index_mut.result.now c.self.invariant c.index_mut.ensures.value) samples c.requires.still_samples)
+    (λ place. sampler-at-same place c.index_mut.result.now (record c.index_mut.result.now.entry.instance { attr = record c.index_mut.result.now.entry.instance.attr { period = c.args.period } }) samples c.requires.still_samples)

@@ -11,5 +11,5 @@ returns c = rw c.set_ring.ensures (written-entry c.self.inside.meters.items c.se
 
 pub invariant_of-self : goal.invariant_of-self
 invariant_of-self c =
-    table-wrote c.self.inside.meters.items c.self.inside.idle c.self.inside.events c.args.key.0 c.index_mut.result.now _ _ c.set_ring.ensures c.self.invariant c.index_mut.ensures.value
-    (tally-at c.self.inside.meters.items c.self.inside.idle c.self.inside.events c.args.key.0 c.index_mut.result.now c.self.invariant c.index_mut.ensures.value)
+    table-wrote c.self.inside.meters.items c.self.inside.idle c.self.inside.samplers c.self.inside.events c.args.key.0 c.index_mut.result.now _ _ c.set_ring.ensures c.self.invariant c.index_mut.ensures.value
+    (tally-at c.self.inside.meters.items c.self.inside.idle c.self.inside.samplers c.self.inside.events c.args.key.0 c.index_mut.result.now c.self.invariant c.index_mut.ensures.value) (λ place. refl)

@@ -1,3 +1,4 @@
+use Rattle.std.proofs.Common.{refl}
 use Rattle.world_tables.proofs.Written.{there-row, written-standing}
 use Rattle.world_tables.proofs.Tables.{tally-at, table-wrote}
 use Rattle.world_tables.proofs.event_table.EventTable.set_standing.Goals as goal
@@ -10,5 +11,5 @@ returns c = rw c.set_standing.ensures (written-standing c.self.inside.meters.ite
 
 pub invariant_of-self : goal.invariant_of-self
 invariant_of-self c =
-    table-wrote c.self.inside.meters.items c.self.inside.idle c.self.inside.events c.args.key.0 c.index_mut.result.now _ _ c.set_standing.ensures c.self.invariant c.index_mut.ensures.value
-    (tally-at c.self.inside.meters.items c.self.inside.idle c.self.inside.events c.args.key.0 c.index_mut.result.now c.self.invariant c.index_mut.ensures.value)
+    table-wrote c.self.inside.meters.items c.self.inside.idle c.self.inside.samplers c.self.inside.events c.args.key.0 c.index_mut.result.now _ _ c.set_standing.ensures c.self.invariant c.index_mut.ensures.value
+    (tally-at c.self.inside.meters.items c.self.inside.idle c.self.inside.samplers c.self.inside.events c.args.key.0 c.index_mut.result.now c.self.invariant c.index_mut.ensures.value) (λ place. refl)

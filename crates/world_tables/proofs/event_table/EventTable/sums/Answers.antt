@@ -11,7 +11,7 @@ index-event-requires c = there-row c.self.inside.meters.items c.self.inside.even
 pub sums-requires : goal.sums-requires
 sums-requires c =
     let m_is : c.meter_of.result.now ≡ (meter_at c.self.inside.meters.items c.index-event.result.now.tally.cpu) = meter-found c.self.inside.meters.items c.deref.result.now c.self.inside.idle c.meter_of.result.now c.cpu.result c.index-event.result.now.tally.cpu c.deref.ensures.value c.self.invariant.idle c.meter_of.ensures c.cpu.ensures in
-    subst (λ x. IsTally x c.index-event.result.now.entry.instance.attr c.index-event.result.now.tally) (sym m_is) (tally-at c.self.inside.meters.items c.self.inside.idle c.self.inside.events c.args.key.0 c.index-event.result.now c.self.invariant c.index-event.ensures)
+    subst (λ x. IsTally x c.index-event.result.now.entry.instance.attr c.index-event.result.now.tally) (sym m_is) (tally-at c.self.inside.meters.items c.self.inside.idle c.self.inside.samplers c.self.inside.events c.args.key.0 c.index-event.result.now c.self.invariant c.index-event.ensures)
 
 pub returns : goal.returns
 returns c =

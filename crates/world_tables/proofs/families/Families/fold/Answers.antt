@@ -1,6 +1,6 @@
-use Rattle.std.proofs.Common.{arith, ap, length, List, ◌≡◌, ℕ, ◌+◌, length-append}
+use Rattle.std.proofs.Common.{arith, ap, length}
 use Rattle.stage_spec.specs.Families.{plus}
-use Rattle.world_tables.specs.Places.{Slot, Slots, slots}
+use Rattle.world_tables.specs.Places.{Slot, Slots}
 use Rattle.world_spec.specs.Kept.{copies_in}
 use Rattle.world_tables.proofs.Parts.{put-copies, put-folded}
 use Rattle.world_tables.proofs.families.Families.fold.Goals as goal

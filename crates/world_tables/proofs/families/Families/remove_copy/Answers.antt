@@ -1,9 +1,8 @@
-use Rattle.std.proofs.Common.{arith, ap, length, List, ◌≡◌, ℕ, ◌+◌, ◌≤◌, slice_index_or, subst}
+use Rattle.std.proofs.Common.{arith, ap, length, ◌≡◌, ◌≤◌, slice_index_or, subst}
 use Rattle.std.proofs.lemmas.List.Sums.{get_or-le-sum_by}
-use Rattle.perf_base.specs.declared.numbers.Key.{Key}
 use Rattle.world_spec.specs.Value.{times, no_family}
 use Rattle.world_spec.specs.Changes.{all_but}
-use Rattle.world_tables.specs.Places.{Slot, Slots, slots}
+use Rattle.world_tables.specs.Places.{Slot, Slots}
 use Rattle.world_spec.specs.Kept.{copies_in}
 use Rattle.world_tables.proofs.Listed.{length_all_but}
 use Rattle.world_tables.proofs.Parts.{put-family, put-copies, part-at, slots-low}

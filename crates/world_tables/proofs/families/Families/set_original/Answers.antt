@@ -1,5 +1,5 @@
-use Rattle.std.proofs.Common.{arith, ap, length, List, ◌≡◌, ℕ, ◌+◌, length-append}
-use Rattle.world_tables.specs.Places.{Slot, Slots, slots}
+use Rattle.std.proofs.Common.{arith, ap, length}
+use Rattle.world_tables.specs.Places.{Slot, Slots}
 use Rattle.world_spec.specs.Kept.{copies_in}
 use Rattle.world_tables.proofs.Parts.{put-copies, put-family}
 use Rattle.world_tables.proofs.families.Families.set_original.Goals as goal

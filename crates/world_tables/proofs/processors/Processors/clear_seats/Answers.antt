@@ -1,4 +1,3 @@
-use Rattle.std.proofs.Common.{◌≡◌, sym, ap, ◌∙◌, slice_set}
 use Rattle.counter_match.specs.Seating.{empty_seating}
 use Rattle.world_tables.proofs.Parts.{put-seats, seats-at}
 use Rattle.world_tables.proofs.processors.Processors.clear_seats.Goals as goal
