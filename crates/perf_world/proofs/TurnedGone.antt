@@ -1,6 +1,6 @@
 -- The ways of accounts where an instance comes or goes.
-use Rattle.std.specs.Prelude.{◌≡◌, ℕ, ◌+◌, ◌≤◌, ◌==◌, cond, Bool, true, false, is_some, List, [], ◌∷◌, Option, Some, None}
-use Rattle.std.specs.FinMap.{FinMap, get, remove}
+use Rattle.std.specs.Prelude.{◌≡◌, ◌==◌, cond, Bool, true, false, is_some, List, [], ◌∷◌, Option, Some, None}
+use Rattle.std.specs.FinMap.{FinMap, get}
 use Rattle.std.specs.List.{fold}
 use Rattle.std.specs.Option.{unwrap_or}
 use Rattle.std.specs.Ordering.{nat_cmp}

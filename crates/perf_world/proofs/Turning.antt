@@ -37,7 +37,7 @@ use Rattle.world_spec.proofs.Metering.{work-kept, work-ways}
 use Rattle.world_spec.proofs.Moving.{leads-parts}
 use Rattle.world_spec.proofs.Tables.{get-here, get-there}
 use Rattle.world_spec.proofs.Ways.{still-turned, outside-context}
-use Rattle.world_tables.specs.Columns.{Columns, is_there, entry_in, way_in, put_way}
+use Rattle.world_tables.specs.Columns.{Columns, is_there, way_in, put_way}
 use Rattle.world_tables.specs.Meters.{goes_along as along, no_way}
 use Rattle.world_tables.specs.Places.{Places}
 use Rattle.perf_world.specs.Seen.{IsWorld}

@@ -1,8 +1,6 @@
 -- A line of work, in the tables of a world.
-use Rattle.std.specs.Prelude.{◌≡◌, ℕ, ◌+◌, ◌^◌, ◌<◌, ◌==◌, max, Bool, true, false, ◌&&◌, List, Option, slice_index_or, if◌then◌else◌}
-use Rattle.std.proofs.Common.{arith, refl, sym, ap, subst, ◌∙◌, inl, inr}
-use Rattle.std.proofs.lemmas.Bool.{cases_Bool}
-use Rattle.std.proofs.lemmas.Bool.Decides.{nat_tests}
+use Rattle.std.specs.Prelude.{◌≡◌, ℕ, ◌==◌, Bool, true, false, ◌&&◌, List, if◌then◌else◌}
+use Rattle.std.proofs.Common.{arith, refl, sym, ap, ◌∙◌}
 use Rattle.perf_base.specs.declared.attr.Attr.{Attr}
 use Rattle.perf_base.specs.declared.lines.CpuLine.TheVariants as cpu_line
 use Rattle.perf_base.specs.declared.lines.Work.{Work}
@@ -14,10 +12,9 @@ use Rattle.perf_base.specs.declared.reply.Sums.{Sums}
 use Rattle.stage_spec.specs.declared.instance.TaskStatus.{TaskStatus}
 use Rattle.stage_spec.specs.Families.{plus}
 use Rattle.stage_spec.specs.Hardware.{Hardware}
-use Rattle.stage_spec.specs.Shares.{counted_by, work_hits, no_sums}
-use Rattle.stage_laws.specs.Bounds.{most_of_line, greatest}
+use Rattle.stage_spec.specs.Shares.{counted_by, no_sums}
+use Rattle.stage_laws.specs.Bounds.{most_of_line}
 use Rattle.world_spec.specs.Value.{World, Leaders, is_live, instance_at, account_at}
-use Rattle.world_spec.specs.Kept.{family_sums, IsKept}
 use Rattle.world_spec.specs.Metering.{IsWorked, HasMeterRoom, work_given, goes_along}
 use Rattle.world_spec.specs.Shares.{HaveRoom}
 use Rattle.world_spec.specs.Ways.{Way, is_ready_at, is_on_at, IsTurned}
@@ -25,8 +22,7 @@ use Rattle.world_spec.proofs.Along.{along-is}
 use Rattle.world_spec.proofs.Metering.{counted-most}
 use Rattle.world_tables.specs.Columns.{Columns, HasRoomForWork, way_in, given_in}
 use Rattle.world_tables.specs.Columns as tables
-use Rattle.world_tables.specs.Meters.{given, given_on}
-use Rattle.world_tables.specs.Meters as meters
+use Rattle.world_tables.specs.Meters.{given}
 use Rattle.world_tables.specs.Places.{Slots, Places}
 use Rattle.perf_world.specs.Seen.{seen, IsWorld}
 use Rattle.perf_world.specs.Settling.{AreTurned}

@@ -1,14 +1,16 @@
 -- A world as its tables show it. This project's own profile.
-use Rattle.std.specs.Prelude.{ℕ, List, Option, Some, None, slice_index_or, slice_set}
+use Rattle.std.specs.Prelude.{◌≡◌, ◌≢◌, ℕ, true, List, Option, Some, None, slice_index_or, slice_set}
 use Rattle.perf_base.specs.declared.numbers.CpuNo.{CpuNo}
 use Rattle.perf_base.specs.declared.numbers.EventNo.{EventNo}
+use Rattle.perf_base.specs.declared.numbers.Key.{Key}
 use Rattle.perf_base.specs.declared.numbers.RingNo.{RingNo}
 use Rattle.perf_base.specs.declared.numbers.TaskNo.{TaskNo}
+use Rattle.perf_base.specs.declared.standing.Context.{Context}
 use Rattle.stage_spec.specs.declared.instance.TaskStatus.{TaskStatus}
 use Rattle.stage_spec.specs.Hardware.{Hardware}
-use Rattle.stage_spec.specs.Stage.{unknown_task}
+use Rattle.stage_spec.specs.Stage.{place_of, unknown_task}
 use Rattle.world_spec.specs.Kept.{IsKept}
-use Rattle.world_spec.specs.Value.{World, Leaders}
+use Rattle.world_spec.specs.Value.{World, Leaders, is_live, entry_at, instance_at}
 use Rattle.world_tables.specs.Columns.{Columns}
 use Rattle.world_tables.specs.Places.{Slots, Places}
 
@@ -37,6 +39,10 @@ seen hw events contexts families processors tasks used mapped next = record {
 -- what always holds of one
 abbrev pub IsWorld : World → Type 0
 IsWorld w = IsKept w.hardware w
+
+-- Some instance of a context samples, as is_sampling_event of include/linux/perf_event.h has it.
+abbrev pub SomeSamples : World → Context → Type 0
+SomeSamples w c = (k : Key) × (is_live w k ≡ true) × (place_of (entry_at w k).context ≡ place_of c) × ((instance_at w k).attr.period ≢ 0)
 
 -- the statuses of tasks after one came onto a processor
 abbrev pub noted : CpuNo → Option TaskNo → List TaskStatus → List TaskStatus

@@ -7,6 +7,7 @@ mod coming;
 mod finding;
 mod going;
 mod settling;
+mod tasks;
 mod world;
 
 pub use world::World;

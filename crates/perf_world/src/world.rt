@@ -42,12 +42,13 @@ ghost use Rattle.stage_laws.specs.Bounds.{AreAtMost, most_of_line};
 ghost use Rattle.world_spec.specs.Moves.{group_goes_last};
 ghost use Rattle.world_tables.specs.Places.{picked};
 ghost use Rattle.perf_world.specs.Parts.{MayAdd, newcomer};
-ghost use Rattle.perf_world.specs.Seen.{IsWorld, noted};
+ghost use Rattle.perf_world.specs.Seen.{IsWorld, SomeSamples, noted};
 
 use crate::coming::{enter_family, join, new_instance};
 use crate::finding::{are_counted_on, are_software, first_after, is_ready, may_count_on};
 use crate::going::{leave_family, leave_group};
 use crate::settling::{processor_with, settle, settle_each, settle_group, settle_task};
+use crate::tasks::{first_tasks, note_last};
 use counter_match::Seats;
 use perf_base::{
     Attr, Context, CpuNo, EventNo, Key, NoMemory, Own, RingNo, Standing, Steps, Sums, TaskNo,
@@ -269,6 +270,15 @@ impl World {
         ensures { result ≡ (entry_at self.now key).context }
     {
         self.events.context(key)
+    }
+
+    /// Whether any instance of a context, of one of the eight processors or of the 64 tasks, has a period.
+    pub fn samples(&self, context: Context) -> bool
+        requires { stage.place_of context < 72 }
+        ensures samples { IsTrue result ↔ SomeSamples self.now context }
+        ensures kept { IsWorld self.now }
+    {
+        self.events.samples(context)
     }
 
     /// The leader of an instance's group.
@@ -753,39 +763,5 @@ fn remember_own(mapped: &mut MappedRings, ring: RingNo, owner: bool)
 {
     if owner {
         mapped.remember(ring);
-    }
-}
-
-fn no_tasks() -> [TaskStatus; 64]
-    ensures { result ≡ replicate 64 stage.unknown_task }
-{
-    [TaskStatus {
-        state: TaskState::Unknown,
-        last: None,
-    }; 64]
-}
-
-/// The tasks that are there from the start, and no others.
-fn first_tasks(declared: &[TaskNo]) -> [TaskStatus; 64]
-    requires { AreTaskNumbers declared.now }
-    ensures { (cpus : ℕ) → result ≡ (stage.first_stage cpus declared.now).tasks }
-{
-    let mut tasks = no_tasks();
-    for task in declared {
-        tasks[task.0 as usize] = TaskStatus {
-            state: TaskState::Live,
-            last: None,
-        };
-    }
-    tasks
-}
-
-/// A processor is the last that a task ran on.
-fn note_last(tasks: &mut [TaskStatus; 64], cpu: CpuNo, task: Option<TaskNo>)
-    requires { (t : Task) → task ≡ Some t → t.0 < 64 }
-    ensures { tasks.new ≡ noted cpu task tasks.old }
-{
-    if let Some(task) = task {
-        tasks[task.0 as usize].last = Some(cpu);
     }
 }

@@ -1,7 +1,6 @@
-use Rattle.std.proofs.Common.{◌≡◌, ◌<◌, ◌∙◌, Some, None, Option, arith, ap, sym, inl, inr, slice_index_or}
+use Rattle.std.proofs.Common.{◌≡◌, ◌∙◌, Some, None, arith, sym, inl, inr}
 use Rattle.std.proofs.lemmas.Bool.{cases_lt}
 use Rattle.std.proofs.lemmas.List.{get_or_past}
-use Rattle.perf_base.specs.declared.numbers.TaskNo.{TaskNo}
 use Rattle.perf_world.proofs.settling.processor_with.Goals as goal
 
 pub returns-clause-nowhere : goal.returns-clause-nowhere

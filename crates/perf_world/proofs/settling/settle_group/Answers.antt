@@ -1,4 +1,4 @@
-use Rattle.std.proofs.Common.{◌≡◌, ◌<◌, ◌∙◌, arith, List, [], ◌∷◌, ap, sym, subst, take, length, true, slice_index_or}
+use Rattle.std.proofs.Common.{◌≡◌, ◌<◌, ◌∙◌, arith, List, [], ◌∷◌, ap, subst, take, length, slice_index_or}
 use Rattle.std.proofs.lemmas.List.{take_all}
 use Rattle.perf_base.specs.declared.numbers.Key.{Key}
 use Rattle.world_tables.specs.Columns.{Columns, is_there, entry_in}

@@ -1,4 +1,4 @@
-use Rattle.std.proofs.Common.{◌≡◌, ◌+◌, ◌≤◌, ◌++◌, ◌∙◌, arith, List, ap, sym, subst, slice_index_or}
+use Rattle.std.proofs.Common.{◌≡◌, ◌++◌, ◌∙◌, arith, List, ap, sym, subst, slice_index_or}
 use Rattle.perf_base.specs.declared.numbers.Key.{Key}
 use Rattle.perf_base.specs.declared.standing.Context.TheVariants as context
 use Rattle.stage_spec.specs.Stage.{place_of}

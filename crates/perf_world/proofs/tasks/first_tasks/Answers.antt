@@ -5,7 +5,7 @@ use Rattle.perf_base.specs.declared.numbers.TaskNo.{TaskNo}
 use Rattle.stage_spec.specs.declared.instance.TaskStatus.{TaskStatus}
 use Rattle.stage_spec.specs.Stage.{unknown_task, fresh_task}
 use Rattle.perf_world.proofs.Seats.{status_by, status-more, statuses-are, first-tasks}
-use Rattle.perf_world.proofs.world.first_tasks.Goals as goal
+use Rattle.perf_world.proofs.tasks.first_tasks.Goals as goal
 
 pub loop-task-init : goal.loop-task-init
 loop-task-init c = record {

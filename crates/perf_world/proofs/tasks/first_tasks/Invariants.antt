@@ -1,7 +1,7 @@
 use Rattle.std.proofs.Common.{◌≡◌, ℕ, ◌<◌, length, take, slice_index_or}
 use Rattle.stage_spec.specs.Stage.{unknown_task}
 use Rattle.perf_world.proofs.Seats.{status_by}
-use Rattle.perf_world.proofs.world.first_tasks.Given as goal
+use Rattle.perf_world.proofs.tasks.first_tasks.Given as goal
 
 abbrev pub invariant-loop-task : goal.invariant-loop-task
 invariant-loop-task l = record {

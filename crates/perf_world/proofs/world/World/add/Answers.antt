@@ -18,7 +18,7 @@ use Rattle.perf_world.proofs.TurnedGone.{joined-there, joined-ways}
 use Rattle.perf_world.proofs.Turning.{stored-after, settled-turned, leader-live, not-only}
 use Rattle.perf_world.proofs.Added.{added, added-kept, may-come}
 use Rattle.perf_world.proofs.Counted.{room-for-copy, room-for-original}
-use Rattle.perf_world.proofs.Kept.{kept-now, kept-after}
+use Rattle.perf_world.proofs.Kept.{kept-now}
 use Rattle.perf_world.proofs.Room.{list-room, unlisted, copies-room}
 use Rattle.perf_world.proofs.world.World.add.Goals as goal
 

@@ -2,10 +2,10 @@ use Rattle.std.proofs.Common.{◌+◌, ap, ◌∙◌, slice_set, slice_index_or}
 use Rattle.world_spec.specs.Changes as change
 use Rattle.world_spec.proofs.Keeping.{lost-kept}
 use Rattle.perf_world.specs.Seen.{seen}
-use Rattle.perf_world.proofs.Kept.{kept-now, kept-after}
+use Rattle.perf_world.proofs.Kept.{kept-now}
 use Rattle.perf_world.proofs.Turning.{stored-after, stay-turned}
 use Rattle.world_spec.proofs.Ways.{other-ways}
-use Rattle.std.proofs.Common.{refl, sym}
+use Rattle.std.proofs.Common.{refl}
 use Rattle.perf_world.proofs.world.World.add_lost.Goals as goal
 
 pub invariant_of-self : goal.invariant_of-self

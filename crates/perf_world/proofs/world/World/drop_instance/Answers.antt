@@ -6,7 +6,7 @@ use Rattle.world_tables.specs.Columns.{Columns, is_there, entry_in, taken}
 use Rattle.world_tables.specs.Places.{with_family}
 use Rattle.perf_world.specs.Seen.{seen}
 use Rattle.perf_world.proofs.Gone.{gone, left-there, members-there, copy-once, both-true, dropped-kept}
-use Rattle.perf_world.proofs.Kept.{kept-now, kept-after, listed-once}
+use Rattle.perf_world.proofs.Kept.{kept-now, listed-once}
 use Rattle.perf_world.proofs.Room.{room-behind}
 use Rattle.perf_world.proofs.Gone.{leader-there}
 use Rattle.world_spec.proofs.Dropping.{go-kept, go-stage}

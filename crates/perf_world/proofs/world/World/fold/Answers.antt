@@ -8,7 +8,7 @@ use Rattle.stage_spec.specs.Shares.{no_sums}
 use Rattle.world_tables.specs.Places.{Slots, IsBelow, with_family}
 use Rattle.perf_world.specs.Seen.{seen}
 use Rattle.perf_world.proofs.Gone.{gone, left-there, members-there, copy-once, fold-room, both-true, dropped-kept}
-use Rattle.perf_world.proofs.Kept.{kept-now, kept-after, listed-once}
+use Rattle.perf_world.proofs.Kept.{kept-now, listed-once}
 use Rattle.perf_world.proofs.Room.{room-behind}
 use Rattle.perf_world.proofs.Gone.{leader-there}
 use Rattle.perf_world.proofs.Gone.{fold_families, folded-in}

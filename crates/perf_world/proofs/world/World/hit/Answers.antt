@@ -5,11 +5,11 @@ use Rattle.world_spec.specs.Changes as change
 use Rattle.world_spec.proofs.Accounts.{hit-kept, hit-stage}
 use Rattle.perf_world.proofs.Kept.{own-count}
 use Rattle.perf_world.specs.Seen.{seen}
-use Rattle.perf_world.proofs.Kept.{kept-now, kept-after}
+use Rattle.perf_world.proofs.Kept.{kept-now}
 use Rattle.perf_world.proofs.Turning.{stored-after, stay-turned, follows-none}
 use Rattle.world_spec.proofs.Ways.{other-ways}
 use Rattle.world_tables.specs.Columns.{way_in}
-use Rattle.std.proofs.Common.{refl, sym}
+use Rattle.std.proofs.Common.{refl}
 use Rattle.perf_world.proofs.world.World.hit.Goals as goal
 
 pub invariant_of-self : goal.invariant_of-self

@@ -9,7 +9,7 @@ use Rattle.world_tables.specs.Places.{picked}
 use Rattle.world_spec.proofs.Moving.{move-kept, move-stage}
 use Rattle.perf_world.proofs.Kept.{listed-once}
 use Rattle.perf_world.specs.Seen.{seen}
-use Rattle.perf_world.proofs.Kept.{kept-now, kept-after}
+use Rattle.perf_world.proofs.Kept.{kept-now}
 use Rattle.perf_world.proofs.Turning.{stored-after, stay-turned}
 use Rattle.world_spec.proofs.Ways.{other-ways}
 use Rattle.std.proofs.Common.{refl, sym}

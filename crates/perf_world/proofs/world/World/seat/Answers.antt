@@ -5,11 +5,11 @@ use Rattle.world_spec.specs.Changes as change
 use Rattle.world_spec.proofs.Keeping.{seats-kept}
 use Rattle.world_tables.specs.Places.{Places, no_seats}
 use Rattle.perf_world.specs.Seen.{seen}
-use Rattle.perf_world.proofs.Kept.{kept-now, kept-after}
+use Rattle.perf_world.proofs.Kept.{kept-now}
 use Rattle.perf_world.proofs.Seats.{seats-sound, on-err}
 use Rattle.perf_world.proofs.Turning.{stored-after, stay-turned}
 use Rattle.world_spec.proofs.Ways.{other-ways}
-use Rattle.std.proofs.Common.{refl, sym}
+use Rattle.std.proofs.Common.{refl}
 use Rattle.perf_world.proofs.world.World.seat.Goals as goal
 
 pub invariant_of-self : goal.invariant_of-self

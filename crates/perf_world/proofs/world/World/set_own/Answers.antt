@@ -2,7 +2,7 @@ use Rattle.std.proofs.Common.{◌≡◌, ◌≤◌, true, refl, ap, subst, sym, 
 use Rattle.perf_base.specs.declared.numbers.Key.{Key}
 use Rattle.world_spec.specs.Changes as change
 use Rattle.world_spec.specs.StageOf.{stage_of}
-use Rattle.world_spec.specs.Value.{World, is_live, entry_at, instance_at, times}
+use Rattle.world_spec.specs.Value.{World, is_live, entry_at, times}
 use Rattle.world_spec.specs.Ways.{IsTurned}
 use Rattle.world_spec.proofs.Keeping.{own-kept, own-stage}
 use Rattle.world_spec.proofs.Tables.{keys-written}

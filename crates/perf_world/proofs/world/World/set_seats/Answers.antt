@@ -3,7 +3,7 @@ use Rattle.world_spec.specs.Changes as change
 use Rattle.world_spec.specs.Value.{seats_at}
 use Rattle.world_spec.proofs.Keeping.{seats-kept}
 use Rattle.perf_world.specs.Seen.{seen, IsWorld}
-use Rattle.perf_world.proofs.Kept.{kept-now, kept-after}
+use Rattle.perf_world.proofs.Kept.{kept-now}
 use Rattle.perf_world.proofs.Turning.{stored-after, stay-turned}
 use Rattle.world_spec.proofs.Ways.{other-ways}
 use Rattle.std.proofs.Common.{refl}
