@@ -1,7 +1,7 @@
 -- A family grows by no more than one instance is given, since a processor reaches one of it at most.
-use Rattle.std.specs.Prelude.{◌≡◌, ℕ, ◌+◌, ◌≤◌, ◌==◌, max, Bool, true, false, not, ◌&&◌, List, slice_index_or, if◌then◌else◌}
-use Rattle.std.proofs.Common.{arith, refl, sym, ap, ◌∙◌, inl, inr}
-use Rattle.std.proofs.lemmas.Bool.{cases_Bool, false≢true}
+use Rattle.std.specs.Prelude.{◌≡◌, ℕ, ◌≤◌, max, true, false, List, slice_index_or, if◌then◌else◌}
+use Rattle.std.proofs.Common.{arith, sym, ap, ◌∙◌, inl, inr}
+use Rattle.std.proofs.lemmas.Bool.{cases_Bool}
 use Rattle.perf_base.specs.declared.attr.Kind.{Kind}
 use Rattle.perf_base.specs.declared.attr.Kind.TheVariants as kind
 use Rattle.perf_base.specs.declared.lines.CpuLine.TheVariants as cpu_line
@@ -13,7 +13,7 @@ use Rattle.stage_spec.specs.declared.instance.Instance.{Instance}
 use Rattle.stage_spec.specs.Families.{plus}
 use Rattle.stage_spec.specs.Shares.{no_sums, work_hits}
 use Rattle.stage_laws.specs.Bounds.{most_of_line, greatest, AreAtMost}
-use Rattle.world_spec.specs.Value.{World, no_family, is_live, entry_at, instance_at, account_at, times}
+use Rattle.world_spec.specs.Value.{World, no_family, is_live, instance_at, account_at}
 use Rattle.world_spec.specs.Kept.{keys_of, plus_keys, family_sums, IsKept}
 use Rattle.world_spec.specs.Metering.{work_given}
 use Rattle.world_spec.specs.Rescheduled.{IsJudged}

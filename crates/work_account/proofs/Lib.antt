@@ -10,5 +10,6 @@ pub mod Sends
 pub mod Sequences
 pub mod Shared
 pub mod Sized
-pub mod Space
+pub mod Skipped
+mod Space
 pub mod Steps

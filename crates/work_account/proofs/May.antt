@@ -1,9 +1,7 @@
 -- What a processor's instances that take work, or an occurrence, may be hit by.
-use Rattle.std.specs.Prelude.{◌≡◌, ℕ, zero, suc, ◌+◌, ◌^◌, ◌<◌, ◌≤◌, ◌==◌, max, Bool, true, false, not, ◌&&◌, cond, List, [], ◌∷◌, length, map, filter, count_by, slice_index_or, if◌then◌else◌}
+use Rattle.std.specs.Prelude.{◌≡◌, ℕ, zero, suc, ◌+◌, ◌^◌, ◌<◌, ◌≤◌, ◌==◌, Bool, true, false, not, ◌&&◌, List, [], ◌∷◌, length, map, filter, count_by, slice_index_or, if◌then◌else◌}
 use Rattle.std.proofs.Common.{arith, refl, sym, ap, subst, ◌∙◌, inl, inr}
 use Rattle.std.proofs.lemmas.Bool.{cases_Bool, false≢true}
-use Rattle.std.proofs.lemmas.Bool.Decides.{nat_tests}
-use Rattle.perf_base.specs.declared.attr.Attr.{Attr}
 use Rattle.perf_base.specs.declared.attr.Kind.{Kind}
 use Rattle.perf_base.specs.declared.attr.Kind.TheVariants as kind
 use Rattle.perf_base.specs.declared.lines.CpuLine.TheVariants as cpu_line
@@ -14,19 +12,19 @@ use Rattle.perf_base.specs.declared.reply.Sums.{Sums}
 use Rattle.stage_spec.specs.declared.instance.Instance.{Instance}
 use Rattle.stage_spec.specs.Families.{plus}
 use Rattle.stage_spec.specs.Shares.{no_sums, work_hits}
-use Rattle.stage_laws.specs.Bounds.{most_of_line, greatest}
+use Rattle.stage_laws.specs.Bounds.{most_of_line}
 use Rattle.stage_laws.specs.Narrowing.{has_context}
 use Rattle.stage_laws.proofs.Counts.{count-cons, count-filter}
-use Rattle.world_spec.specs.Value.{World, Account, no_family, is_live, entry_at, instance_at, account_at, is_key, times}
+use Rattle.world_spec.specs.Value.{World, no_family, is_live, entry_at, instance_at, account_at, times}
 use Rattle.world_spec.specs.StageOf.{stage_of}
-use Rattle.world_spec.specs.Kept.{once_if, keys_of, plus_keys, family_sums, IsKept}
+use Rattle.world_spec.specs.Kept.{keys_of, plus_keys, family_sums, IsKept}
 use Rattle.world_spec.specs.Metering.{IsWorked, work_given, is_metered, goes_along}
 use Rattle.world_spec.specs.Shares.{HaveRoom, soft_hits, one_hit}
 use Rattle.world_spec.specs.Ways.{is_ready_at, is_on_at}
 use Rattle.world_spec.specs.Working.{is_on, keys_by_pass}
 use Rattle.world_spec.proofs.Accounts.{IsSum, counts_are_sums}
 use Rattle.world_spec.proofs.Along.{keys-live, reached-keys}
-use Rattle.world_spec.proofs.Keys.{is_key-same, times-cons, once-true, once-false, key-is}
+use Rattle.world_spec.proofs.Keys.{times-cons, once-false}
 use Rattle.world_spec.proofs.Metering.{counted-most, none-unready, family-key}
 use Rattle.world_spec.proofs.Moving.{leads-parts}
 use Rattle.world_spec.proofs.Reaching.{one-reached}

@@ -16,7 +16,7 @@ use Rattle.stage_spec.specs.Hardware.{Hardware}
 use Rattle.stage_spec.specs.Stage.{members, is_of_family, task_on, place_of, unknown_task, is_live as is_live_task}
 use Rattle.stage_spec.specs.Verdict.{reached}
 use Rattle.stage_laws.proofs.Counts.{count-cons, count-filter}
-use Rattle.world_spec.specs.Value.{World, Leaders, is_live, entry_at, instance_at, leaders_of, is_key, times}
+use Rattle.world_spec.specs.Value.{World, Leaders, entry_at, instance_at, leaders_of, is_key, times}
 use Rattle.world_spec.specs.StageOf.{group_at, stage_of}
 use Rattle.world_spec.specs.Kept.{post_at, leads, once_if, IsKept}
 use Rattle.world_spec.specs.Listings.{pass_leaders, task_leaders}

@@ -1,7 +1,7 @@
 -- The records of the overflows that a stretch of work gives are those of the definitions, and what is left once they
 -- were sent.
-use Rattle.std.specs.Prelude.{◌≡◌, ℕ, zero, suc, ◌+◌, ◌==◌, not, ◌&&◌, ◌<◌, ◌≤◌, Bool, true, false, cond, All, List, [], ◌∷◌, ◌++◌, length, map, filter, flat_map, slice_index_or, Option, Some, None, if◌then◌else◌}
-use Rattle.std.proofs.Common.{arith, refl, sym, ap, subst, ◌∙◌, inl, inr}
+use Rattle.std.specs.Prelude.{◌≡◌, ℕ, zero, suc, ◌+◌, ◌==◌, not, ◌&&◌, ◌<◌, ◌≤◌, Bool, true, false, cond, All, List, [], ◌∷◌, ◌++◌, length, map, filter, flat_map, slice_index_or, Option, Some, None}
+use Rattle.std.proofs.Common.{arith, refl, sym, ap, subst, ◌∙◌}
 use Rattle.std.proofs.lemmas.Bool.{false≢true}
 use Rattle.std.proofs.lemmas.List.{get_or-set_same}
 use Rattle.std.proofs.lemmas.List.Elements.{All-nil, All-cons}
@@ -23,7 +23,7 @@ use Rattle.sample_ring.specs.RingLists.{RingList, OutList}
 use Rattle.world_spec.specs.Value.{World, is_live, instance_at, account_at, is_key, times}
 use Rattle.world_spec.specs.StageOf.{stage_of}
 use Rattle.world_spec.specs.Kept.{IsKept}
-use Rattle.world_spec.specs.Metering.{metered, IsWorked}
+use Rattle.world_spec.specs.Metering.{IsWorked}
 use Rattle.world_spec.specs.Rescheduled.{IsJudged}
 use Rattle.world_spec.specs.Working.{is_on, keys_by_pass}
 use Rattle.world_spec.proofs.Along.{keys-live, on-keys}

@@ -1,6 +1,6 @@
 //! Which of the instances that a processor reaches are hit one by one.
 
-ghost use Rattle.std.specs.Prelude.{◌≡◌, ◌+◌, ◌<◌, ◌≤◌, ◌++◌, IfSome, [], ◌∷◌, length, true};
+ghost use Rattle.std.specs.Prelude.{◌≡◌, ◌+◌, ◌<◌, ◌≤◌, ◌++◌, IfSome, [], ◌∷◌, length, Bool, true, false};
 ghost use Rattle.stage_spec.specs.Effective as effective;
 ghost use Rattle.stage_spec.specs.Stage as stage;
 ghost use Rattle.world_spec.specs.Kept.{leads, post_at};
@@ -63,6 +63,17 @@ fn find_in_group(world: &World, what: &Happening, leader: Key, found: &mut Hits)
     }
 }
 
+/// Whether an instance of a context may take it: of work only where one samples.
+fn may_be_taken(world: &World, what: &Happening, context: Context) -> bool
+    requires { stage.place_of context < 72 }
+    ensures { result ≡ false → (pinned : Bool) → spec.hits_among what.now world.now (spec.all_members world.now (picked pinned (leaders_of world.now context))) ≡ [] }
+{
+    match what {
+        Happening::Work(_) => world.samples(context),
+        Happening::Soft(_) => true,
+    }
+}
+
 /// Those of the pinned or of the flexible groups of a context, one group after the other.
 fn find_in_list(world: &World, what: &Happening, context: Context, pinned: bool, found: &mut Hits)
     requires kinds { length world.now.hardware.kind_pmus ≤ 16 }
@@ -70,8 +81,10 @@ fn find_in_list(world: &World, what: &Happening, context: Context, pinned: bool,
     requires room { length found.old + length (spec.all_members world.now (picked pinned (leaders_of world.now context))) ≤ 256 }
     ensures { found.new ≡ found.old ++ spec.hits_among what.now world.now (spec.all_members world.now (picked pinned (leaders_of world.now context))) }
 {
-    for leader in world.list(context, pinned) {
-        find_in_group(world, what, *leader, found);
+    if may_be_taken(world, what, context) {
+        for leader in world.list(context, pinned) {
+            find_in_group(world, what, *leader, found);
+        }
     }
 }
 

@@ -1,4 +1,4 @@
-use Rattle.std.proofs.Common.{◌≡◌, ap, sym, subst, ◌∙◌}
+use Rattle.std.proofs.Common.{ap, sym, subst}
 use Rattle.world_spec.specs.Shares.{HaveShares, soft_shares}
 use Rattle.world_spec.specs.Value.{World}
 use Rattle.world_spec.specs.Working.{keys_by_pass}

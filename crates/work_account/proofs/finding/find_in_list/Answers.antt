@@ -1,8 +1,9 @@
-use Rattle.std.proofs.Common.{◌≡◌, ◌+◌, ◌≤◌, ◌++◌, ◌∙◌, arith, List, ap, sym, subst, take, length, slice_index_or}
+use Rattle.std.proofs.Common.{◌+◌, ◌≤◌, ◌++◌, ◌∙◌, arith, List, ap, sym, subst, length, slice_index_or}
 use Rattle.std.proofs.lemmas.List.{append-nil, take_all}
 use Rattle.perf_base.specs.declared.numbers.Key.{Key}
 use Rattle.world_spec.specs.Value.{times}
 use Rattle.world_spec.proofs.Copies.{times-at}
+use Rattle.work_account.specs.declared.overflowing.Hit.{Hit}
 use Rattle.work_account.specs.Visits.{hits_among, all_members}
 use Rattle.work_account.proofs.Among.{groups-next, group-room}
 use Rattle.work_account.proofs.Reached.{listed-leads}
@@ -30,9 +31,12 @@ loop-leader-preserved c =
     groups-next c.args.what.now c.args.world.now c.args.found.now c.loop-leader.found c.find_in_group.new.found c.list-leader-items.result.now c.loop-leader.leader-index (record { 0 = 0 })
     c.loop-leader-test.true c.loop-leader.invariant c.find_in_group.ensures
 
-pub returns : goal.returns
-returns c =
+pub returns-after-loop-leader : goal.returns-after-loop-leader
+returns-after-loop-leader c =
     let items : List Key = c.list-leader-items.result.now in
     c.loop-leader.invariant
     ∙ ap (λ (keys : List Key). c.args.found.now ++ hits_among c.args.what.now c.args.world.now (all_members c.args.world.now keys))
     (take_all c.loop-leader.leader-index items (omega (arith, c.loop-leader-test.false)) ∙ c.list-leader-items.ensures.list)
+
+pub returns-else-may_be_taken : goal.returns-else-may_be_taken
+returns-else-may_be_taken c = sym (ap (λ (l : List Hit). c.args.found.now ++ l) (c.may_be_taken.ensures c.if-may_be_taken.false c.args.pinned) ∙ append-nil c.args.found.now)

@@ -1,4 +1,4 @@
-use Rattle.std.proofs.Common.{arith, ◌+◌, ◌≤◌, ◌++◌, ◌∙◌, List, [], length, true, false, ap}
+use Rattle.std.proofs.Common.{arith, ◌++◌, ◌∙◌, List, length, true, false, ap}
 use Rattle.std.proofs.lemmas.List.{length-append}
 use Rattle.work_account.specs.declared.overflowing.Hit.{Hit}
 use Rattle.work_account.specs.Visits.{hits_among, own_keys, task_keys}

@@ -1,7 +1,6 @@
-use Rattle.std.proofs.Common.{◌≡◌, ◌+◌, ◌<◌, ◌≤◌, ◌++◌, [], ◌∷◌, ◌∙◌, arith, List, ap, sym, subst, map, take, length, slice_index_or}
+use Rattle.std.proofs.Common.{◌≡◌, ◌<◌, ◌++◌, [], ◌∷◌, ◌∙◌, arith, List, ap, sym, subst, map, take, length, slice_index_or}
 use Rattle.std.proofs.lemmas.List.{length-map, take_all}
-use Rattle.world_spec.specs.Value.{World, instance_at, account_at}
-use Rattle.stage_spec.specs.Occurrences.{overflows}
+use Rattle.world_spec.specs.Value.{World}
 use Rattle.work_account.specs.declared.overflowing.Hit.{Hit}
 use Rattle.work_account.specs.declared.overflowing.Overflow.{Overflow}
 use Rattle.work_account.specs.Visits.{hit_one, hit_all, overflow_of, MayHit}

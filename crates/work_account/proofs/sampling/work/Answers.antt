@@ -1,4 +1,4 @@
-use Rattle.std.proofs.Common.{◌≡◌, ◌+◌, ◌<◌, ◌≤◌, ◌∙◌, ℕ, arith, List, ap, sym, subst, map, length}
+use Rattle.std.proofs.Common.{◌≡◌, ◌<◌, ◌∙◌, ℕ, arith, List, ap, sym, subst, map, length}
 use Rattle.world_spec.specs.Metering.{IsWorked}
 use Rattle.world_spec.specs.Shares.{HaveShares, work_shares}
 use Rattle.world_spec.specs.Value.{World}
