@@ -1,7 +1,7 @@
 -- The set of one processor has that one and no other.
-use Rattle.std.specs.Prelude.{◌≡◌, ℕ, ◌^◌, ◌↔◌, max, bit_or}
+use Rattle.std.specs.Prelude.{◌≡◌, ◌^◌, ◌↔◌, max, bit_or}
 use Rattle.std.specs.Int.{bit_at}
-use Rattle.std.proofs.Common.{arith, sym, ap, ◌∙◌, inl, inr}
+use Rattle.std.proofs.Common.{arith, ap, ◌∙◌, inl, inr}
 use Rattle.std.proofs.lemmas.Bool.{cases_eq}
 use Rattle.std.proofs.lemmas.Nat.Bits.{bit_at_or, bit_at-zero, bit_at-pow_same, bit_at-pow_other}
 use Rattle.perf_base.specs.Cpus.{HasCpu}

@@ -1,20 +1,25 @@
 -- A world while the copies of a task are folded one by one, each of which leads a group when it goes.
-use Rattle.std.specs.Prelude.{◌≡◌, ℕ, ◌≤◌, ◌==◌, Bool, true, false, not, ◌&&◌, cond, List, [], ◌∷◌, ◌++◌, map, filter, Some, slice_index_or}
+use Rattle.std.specs.Prelude.{◌≡◌, ◌≢◌, ℕ, ◌<◌, ◌≤◌, ◌==◌, Bool, true, false, not, ◌&&◌, cond, List, [], ◌∷◌, ◌++◌, map, filter, Some, slice_index_or}
 use Rattle.std.proofs.Common.{arith, refl, sym, ap, subst, ◌∙◌, inl, inr}
 use Rattle.std.proofs.lemmas.Bool.{cases_eq, cases_Bool, false≢true}
 use Rattle.std.proofs.lemmas.Bool.Decides.{nat_tests}
-use Rattle.std.proofs.lemmas.List.{map-append}
+use Rattle.std.proofs.lemmas.List.{map-append, get_or-set_other}
 use Rattle.std.proofs.lemmas.List.Sums.{fold-append}
+use Rattle.perf_base.specs.declared.numbers.CpuNo.{CpuNo}
 use Rattle.perf_base.specs.declared.numbers.EventNo.{EventNo}
 use Rattle.perf_base.specs.declared.numbers.Key.{Key}
 use Rattle.perf_base.specs.declared.numbers.TaskNo.{TaskNo}
 use Rattle.perf_base.specs.declared.reply.Sums.{Sums}
+use Rattle.perf_base.specs.declared.standing.Context.{Context}
+use Rattle.perf_base.specs.declared.standing.Context.TheVariants as context
 use Rattle.stage_spec.specs.Families.{plus}
 use Rattle.stage_spec.specs.Hardware.{Hardware}
 use Rattle.stage_spec.specs.Shares.{no_sums}
+use Rattle.stage_spec.specs.Stage.{place_of}
 use Rattle.stage_spec.proofs.Recurrence.{plus-assoc, plus-none}
 use Rattle.stage_laws.specs.OneByOne.{drop_one, drop_ones}
-use Rattle.world_spec.specs.Value.{World, is_live, entry_at, instance_at, account_at, standing_at, family_of, is_key, times}
+use Rattle.stage_laws.proofs.Others.{cpu-task_apart}
+use Rattle.world_spec.specs.Value.{World, no_leaders, is_live, entry_at, instance_at, account_at, standing_at, leaders_of, family_of, is_key, times}
 use Rattle.world_spec.specs.StageOf.{stage_of}
 use Rattle.world_spec.specs.Kept.{post_at, leads, once_if, is_member_of, plus_keys, family_sums, IsKept}
 use Rattle.world_spec.specs.Adding.{drop_instance, folded_away}
@@ -53,6 +58,7 @@ pub record AreFolding (hw : Hardware) (task : TaskNo) (v w : World) : Type 0 whe
   pub sums : (slot : ℕ) → family_sums w slot ≡ family_sums v slot
   pub lost : w.lost ≡ v.lost
   pub hardware : w.hardware ≡ v.hardware
+  pub leaders : (cpu : CpuNo) → leaders_of w (context.Processor cpu) ≡ leaders_of v (context.Processor cpu)
   pub quiet : w.quiet ≡ v.quiet
 
 -- at first
@@ -85,6 +91,7 @@ folding-none hw task v h alike = record {
   sums = λ slot. refl;
   lost = refl;
   hardware = refl;
+  leaders = λ cpu. refl;
   quiet = refl;
 }
 
@@ -264,6 +271,20 @@ taken-then v w t q k taken there live g before = elim (cases_eq k.0 q.0) [
       omega (arith, times-push k taken q, before k, same, once-false (is_key k q) (is_key-other k q (λ e. off (sym e))))
 ]
 
+-- the lists of processors' own contexts stay
+task-apart : (cpu : CpuNo) (task : TaskNo) (c : Context) → is_of_task task c ≡ true → place_of c < 72 → place_of (context.Processor cpu) ≢ place_of c
+task-apart cpu task (context.Processor other) there low = absurd (false≢true there)
+task-apart cpu task (context.Task other) there low = λ same. omega (arith, low, same, cpu-task_apart cpu other same)
+
+own-lists : (hw : Hardware) (w : World) (task : TaskNo) (q : Key) (cpu : CpuNo) → IsKept hw w → IsNext w task q
+    → leaders_of (folded_away q w) (context.Processor cpu) ≡ leaders_of w (context.Processor cpu)
+own-lists hw w task q cpu h x =
+    let c : Context = (entry_at w q).context in
+    let own : is_key q (entry_at w q).leader ≡ true = (leads-parts (is_live w q) (is_key q (entry_at w q).leader) x.lead).1 in
+    ap (λ y. leaders_of y (context.Processor cpu)) (folded-is w q)
+    ∙ (ap (λ y. leaders_of y (context.Processor cpu)) (dropped-leader w q own)
+    ∙ get_or-set_other w.contexts (place_of c) (place_of (context.Processor cpu)) _ no_leaders (task-apart cpu task c x.there (h.numbered.places q (next-live w task q x))))
+
 -- one copy more
 pub folding-more : (hw : Hardware) (task : TaskNo) (v w : World) (q : Key) → IsKept hw v → AreFolding hw task v w → IsNext w task q → AreFolding hw task v (folded_away q w)
 folding-more hw task v w q h f x =
@@ -309,5 +330,6 @@ folding-more hw task v w q h f x =
       sums = λ number. fold-sums hw w q f.kept there x.copy number ∙ f.sums number;
       lost = g.others.lost ∙ f.lost;
       hardware = same-hardware w q ∙ f.hardware;
+      leaders = λ cpu. own-lists hw w task q cpu f.kept x ∙ f.leaders cpu;
       quiet = g.quiet ∙ f.quiet;
     }

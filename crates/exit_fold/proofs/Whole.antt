@@ -137,5 +137,6 @@ whole-folded hw task v w h grouped low f none = record {
   stage = f.stage ∙ exited_one_by_one hw task (stage_of v) (map (λ k. (instance_at v k).id) f.taken) (is-numbered hw v h) grouped (ids-gone hw task v w h low f none);
   sums = f.sums;
   away = f.away;
+  leaders = f.leaders;
   quiet = f.quiet;
 }

@@ -57,12 +57,14 @@ pub record IsFolded (task : TaskNo) (w after : World) : Type 0 where
   pub stage : stage_of after ≡ change_context (context.Task task) (without is_copy) (stage_of w)
   pub sums : (slot : ℕ) → family_sums after slot ≡ family_sums w slot
   pub away : (k : Key) → is_of_task task (entry_at w k).context ≡ false → (post_at after k ≡ post_at w k) × (standing_at after k ≡ standing_at w k)
+  pub leaders : (cpu : CpuNo) → leaders_of after (context.Processor cpu) ≡ leaders_of w (context.Processor cpu)
   pub quiet : after.quiet ≡ w.quiet
 
--- What an exit leaves: what a processor runs and whether tasks are there may change, too, and no clock, seat, slot,
--- ring or id.
+-- What an exit leaves: what a processor runs and whether tasks are there may change, too, and no processor's own list
+-- of leaders, clock, seat, slot, ring or id.
 pub record HasExited (w after : World) (to : Option TaskNo) : Type 0 where
   pub gone : HaveGone w after to
+  pub leaders : (cpu : CpuNo) → leaders_of after (context.Processor cpu) ≡ leaders_of w (context.Processor cpu)
   pub quiet : after.quiet ≡ record w.quiet { tasks = after.quiet.tasks; running = after.quiet.running }
 
 -- the leaders of a task's groups, the pinned ones first
