@@ -25,7 +25,7 @@ use Rattle.world_spec.proofs.Listings.{passes-are, reached_leaders}
 use Rattle.cpu_sched.specs.Briefs.{brief_at, briefs_at, present_brief}
 use Rattle.cpu_sched.specs.Plans.{judged_groups}
 
-abbrev relabel : (Key → ℕ) → GroupBrief Key → GroupBrief ℕ
+abbrev pub relabel : (Key → ℕ) → GroupBrief Key → GroupBrief ℕ
 relabel f b = record { leader = f b.leader; slot = b.slot; software = b.software; exclusive = b.exclusive; counted = b.counted }
 
 abbrev relabelled : (Key → ℕ) → JudgedBrief Key → JudgedBrief ℕ
@@ -80,7 +80,7 @@ passes-relabelled f before (p ∷ ps) =
 abbrev pub id_at : World → Key → ℕ
 id_at w k = (instance_at w k).id
 
-one-pass : (w : World) (cpu : CpuNo) (keys : List Key)
+pub one-pass : (w : World) (cpu : CpuNo) (keys : List Key)
     → map (relabel (id_at w)) (briefs_at w cpu keys) ≡ map (brief_of w.hardware) (filter (is_eligible w.hardware cpu) (map (group_at w) keys))
 one-pass w cpu keys =
     let those : List Key = filter (λ k. is_eligible w.hardware cpu (group_at w k)) keys in
@@ -88,7 +88,7 @@ one-pass w cpu keys =
     ∙ (sym (map-map (brief_of w.hardware) (group_at w) those)
     ∙ ap (map (brief_of w.hardware)) (sym (filter-map (is_eligible w.hardware cpu) (λ k. is_eligible w.hardware cpu (group_at w k)) (group_at w) (λ k. refl) keys)))
 
-briefs-relabelled : (w : World) (cpu : CpuNo) → map (map (relabel (id_at w))) (present_brief w cpu).passes ≡ briefs w.hardware (stage_of w) cpu
+pub briefs-relabelled : (w : World) (cpu : CpuNo) → map (map (relabel (id_at w))) (present_brief w cpu).passes ≡ briefs w.hardware (stage_of w) cpu
 briefs-relabelled w cpu =
     let of_pass : List Group → List (GroupBrief ℕ) = λ pass. map (brief_of w.hardware) (filter (is_eligible w.hardware cpu) pass) in
     map-map (map (relabel (id_at w))) (briefs_at w cpu) (pass_leaders w cpu)

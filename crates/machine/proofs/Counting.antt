@@ -1,13 +1,15 @@
 -- How many tests of counters rescheduling some processors takes.
-use Rattle.std.specs.Prelude.{◌≡◌, ℕ, suc, zero, ◌+◌, ◌*◌, ◌<◌, ◌≤◌, ◌==◌, ◌↔◌, Bool, true, false, not, ◌&&◌, List, [], ◌∷◌, ◌++◌, length, map, filter, flat_map, cond, Some, None, if◌then◌else◌}
+use Rattle.std.specs.Prelude.{◌≡◌, ℕ, suc, zero, ◌+◌, ◌*◌, ◌<◌, ◌≤◌, ◌==◌, Bool, true, false, not, ◌&&◌, List, [], ◌∷◌, ◌++◌, length, map, filter, flat_map, cond, Option, Some, None, if◌then◌else◌}
 use Rattle.std.specs.List.{sum_by}
-use Rattle.std.proofs.Common.{arith, refl, sym, ap, subst, ◌∙◌}
+use Rattle.std.proofs.Common.{arith, refl, sym, ap, subst, ◌∙◌, inl, inr}
+use Rattle.std.proofs.lemmas.Bool.{cases_lt}
 use Rattle.std.proofs.lemmas.List.{length-map, map-append}
 use Rattle.std.proofs.lemmas.List.Elements.{filter-append}
 use Rattle.std.proofs.lemmas.List.Sums.{sum_by-append, sum_by-cons}
-use Rattle.perf_base.specs.Cpus.{HasCpu}
 use Rattle.perf_base.specs.declared.lines.CpuLine.{CpuLine}
+use Rattle.perf_base.specs.declared.lines.CpuLine.TheVariants as line
 use Rattle.perf_base.specs.declared.lines.ToolLine.{ToolLine}
+use Rattle.perf_base.specs.declared.lines.Work.{Work}
 use Rattle.perf_base.specs.declared.numbers.CpuNo.{CpuNo}
 use Rattle.perf_base.specs.declared.numbers.CpuSet.{CpuSet}
 use Rattle.perf_base.specs.declared.reasons.Reason.{Reason}
@@ -27,10 +29,13 @@ use Rattle.world_spec.specs.Rescheduled.{IsRescheduled}
 use Rattle.world_spec.specs.StageOf.{stage_of}
 use Rattle.world_spec.specs.Value.{World, seats_at}
 use Rattle.world_spec.proofs.Standing.{briefs-joined, passes-groups}
+use Rattle.cpu_sched.specs.After.{after_brief}
+use Rattle.cpu_sched.specs.Briefs.{present_brief}
+use Rattle.cpu_sched.specs.Sheets.{Held}
 use Rattle.cpu_sched.specs.Tried.{tried, tries, tries_for}
-use Rattle.machine.specs.Counted.{AreCounted, IsCounted, is_idle_line, rescheduled_by}
+use Rattle.machine.specs.Counted.{AreCounted, AreCountedUnless, IsCounted, IsCountedBy, IsServedBy, Serves, is_idle_line, rescheduled_by}
 use Rattle.machine.specs.Settled.{is_in}
-use Rattle.machine.proofs.Keeping.{Touched, filter-below, in-by, is-alone, one-below}
+use Rattle.machine.proofs.Keeping.{Touched, filter-below, in-by, one-below}
 use Rattle.machine.proofs.Settling.{cpus_below}
 
 -- as many events are seated as are on
@@ -145,34 +150,33 @@ counted-step w v x l set before now c h =
     (subst (λ t. AreCounted hw t (stage_of x) (filter (is_in set) (all_cpus (stage_of v))) before now) made
     (subst (λ h. AreCounted h (stage_of v) (stage_of x) (filter (is_in set) (all_cpus (stage_of v))) before now) c.hardware h))
 
--- one processor alone
-pub one-counted : (hw : Hardware) (s after : Stage) (cpu : CpuNo) (before now : ℕ) → before + length (seated hw after cpu) ≤ now → now ≤ before + 272 * tried hw s cpu
-    → AreCounted hw s after (cpu ∷ []) before now
-one-counted hw s after cpu before now least most = record {
-  least = omega (arith, least, sum_by-cons (λ c. length (seated hw after c)) cpu []);
+-- a line of a processor that touches its own one takes the tests of that one, and by a sheet none where the sheet
+-- serves
+pub one-unless : (served : Type 0) (hw : Hardware) (s after : Stage) (cpu : CpuNo) (before now : ℕ) → (served → now ≡ before) → ((served → ⊥) → before + length (seated hw after cpu) ≤ now)
+    → now ≤ before + 272 * tried hw s cpu → AreCountedUnless served hw s after (cpu ∷ []) before now
+one-unless served hw s after cpu before now free least most = record {
+  free = free;
+  least = λ out. omega (arith, least out, sum_by-cons (λ c. length (seated hw after c)) cpu []);
   most = omega (arith, most, sum_by-cons (tried hw s) cpu []);
 }
 
-pub counted-alone : (hw : Hardware) (s after : Stage) (cpu : CpuNo) (set : CpuSet) (size before now : ℕ) → cpu.0 < size → ((other : CpuNo) → HasCpu set other ↔ (other.0 ≡ cpu.0))
-    → AreCounted hw s after (filter (is_in set) (cpus_below size)) before now → AreCounted hw s after (cpu ∷ []) before now
-counted-alone hw s after cpu set size before now low alone h =
-    subst (λ cs. AreCounted hw s after cs before now)
-    (filter-below (is_in set) (λ other. cpu.0 == other.0) size (λ other within. is-alone cpu set other (alone other)) ∙ one-below cpu size low) h
-
--- a line of a processor that touches its own one takes the tests of that one
-pub counted-own : (w v x : World) (cpu : CpuNo) (l : CpuLine) (before now : ℕ) → cpu.0 < length w.quiet.running → cpu_refusal (stage_of w) cpu l ≡ None → is_idle_line (stage_of w) cpu l ≡ false
-    → ((other : CpuNo) → cpu_touches cpu l other ≡ (cpu.0 == other.0)) → v.hardware ≡ w.hardware → stage_of v ≡ cpu_changed w.hardware cpu l (stage_of w)
-    → AreCounted v.hardware (stage_of v) (stage_of x) (cpu ∷ []) before now → IsCounted (CpuStep cpu l) w x before now
-counted-own w v x cpu l before now low accepted busy own hardware stage h =
+pub counted-by : (sheet : Option Held) (w v x : World) (cpu : CpuNo) (l : CpuLine) (before now : ℕ) → cpu.0 < length w.quiet.running → cpu_refusal (stage_of w) cpu l ≡ None
+    → is_idle_line (stage_of w) cpu l ≡ false → ((other : CpuNo) → cpu_touches cpu l other ≡ (cpu.0 == other.0)) → v.hardware ≡ w.hardware → stage_of v ≡ cpu_changed w.hardware cpu l (stage_of w)
+    → present_brief v cpu ≡ after_brief w cpu l → AreCountedUnless (IsServedBy sheet (present_brief v cpu)) v.hardware (stage_of v) (stage_of x) (cpu ∷ []) before now
+    → IsCountedBy sheet (CpuStep cpu l) w x before now
+counted-by sheet w v x cpu l before now low accepted busy own hardware stage foreseen h =
     let hw : Hardware = w.hardware in
     let s : Stage = stage_of w in
+    let served : Type 0 = Serves sheet w (CpuStep cpu l) in
     let touched : (other : CpuNo) → other.0 < length w.quiet.running → (not (is_idle_line s cpu l) && touches hw s (CpuStep cpu l) other) ≡ (cpu.0 == other.0) = λ other within.
     (λ i. not (busy i) && unless_no (accepted i) (own other i)) in
     let made : stage_of v ≡ changed hw s (CpuStep cpu l) = stage ∙ sym (ap (λ o. unless_left o (cpu_changed hw cpu l) s) accepted) in
     let cpus : rescheduled_by hw s (CpuStep cpu l) ≡ cpu ∷ [] =
     filter-below (λ other. not (is_idle_line s cpu l) && touches hw s (CpuStep cpu l) other) (λ other. cpu.0 == other.0) (length w.quiet.running) touched ∙ one-below cpu (length w.quiet.running) low in
-    subst (λ cs. AreCounted hw (changed hw s (CpuStep cpu l)) (stage_of x) cs before now) (sym cpus)
-    (subst (λ t. AreCounted hw t (stage_of x) (cpu ∷ []) before now) made (subst (λ h. AreCounted h (stage_of v) (stage_of x) (cpu ∷ []) before now) hardware h))
+    subst (λ cs. AreCountedUnless served hw (changed hw s (CpuStep cpu l)) (stage_of x) cs before now) (sym cpus)
+    (subst (λ t. AreCountedUnless served hw t (stage_of x) (cpu ∷ []) before now) made
+    (subst (λ h. AreCountedUnless served h (stage_of v) (stage_of x) (cpu ∷ []) before now) hardware
+    (subst (λ b. AreCountedUnless (IsServedBy sheet b) v.hardware (stage_of v) (stage_of x) (cpu ∷ []) before now) foreseen h)))
 
 -- a line that reschedules nobody takes none
 none-among : (p : CpuNo → Bool) (cs : List CpuNo) → ((cpu : CpuNo) → p cpu ≡ false) → filter p cs ≡ []
@@ -183,23 +187,69 @@ counted-none : (x : Step) (w after : World) (n : ℕ) → rescheduled_by w.hardw
 counted-none x w after n none =
     subst (λ cs. AreCounted w.hardware (changed w.hardware (stage_of w) x) (stage_of after) cs n n) (sym none) (record { least = omega arith; most = omega arith })
 
+none-by : (sheet : Option Held) (x : Step) (w after : World) (n : ℕ) → rescheduled_by w.hardware (stage_of w) x ≡ [] → IsCountedBy sheet x w after n n
+none-by sheet x w after n none =
+    subst (λ cs. AreCountedUnless (Serves sheet w x) w.hardware (changed w.hardware (stage_of w) x) (stage_of after) cs n n) (sym none) (record {
+      free = λ served. refl;
+      least = λ out. omega arith;
+      most = omega arith;
+    })
+
 pub refused-counted : (w after : World) (l : ToolLine) (r : Reason) (n : ℕ) → tool_refusal w.hardware (stage_of w) l ≡ Some r → IsCounted (ToolStep l) w after n n
 refused-counted w after l r n refused =
     counted-none (ToolStep l) w after n
     (none-among (touches w.hardware (stage_of w) (ToolStep l)) (all_cpus (stage_of w)) (λ cpu. ap (λ o. unless_no o (tool_touches (stage_of w) l cpu)) refused))
 
+-- a line of a tool that touches no processor
+pub never-touched : (o : Option Reason) → unless_no o false ≡ false
+never-touched None = refl
+never-touched (Some r) = refl
+
+pub still-counted : (w after : World) (l : ToolLine) (n : ℕ) → ((cpu : CpuNo) → tool_touches (stage_of w) l cpu ≡ false) → IsCounted (ToolStep l) w after n n
+still-counted w after l n still =
+    counted-none (ToolStep l) w after n
+    (none-among (touches w.hardware (stage_of w) (ToolStep l)) (all_cpus (stage_of w))
+    (λ cpu. ap (unless_no (tool_refusal w.hardware (stage_of w) l)) (still cpu) ∙ never-touched (tool_refusal w.hardware (stage_of w) l)))
+
+-- by a sheet, which serves no line of a tool
+pub tool-counted : (sheet : Option Held) (w after : World) (l : ToolLine) (before now : ℕ) → IsCounted (ToolStep l) w after before now → IsCountedBy sheet (ToolStep l) w after before now
+tool-counted sheet w after l before now h = record { free = λ served. absurd served; least = λ out. h.least; most = h.most }
+
 both-off : (a b : Bool) → b ≡ false → (a && b) ≡ false
 both-off true b off = off
 both-off false b off = refl
 
-pub refused-cpu_counted : (w after : World) (cpu : CpuNo) (l : CpuLine) (r : Reason) (n : ℕ) → cpu_refusal (stage_of w) cpu l ≡ Some r → IsCounted (CpuStep cpu l) w after n n
-refused-cpu_counted w after cpu l r n refused =
-    counted-none (CpuStep cpu l) w after n
-    (none-among (λ other. not (is_idle_line (stage_of w) cpu l) && touches w.hardware (stage_of w) (CpuStep cpu l) other) (all_cpus (stage_of w))
-    (λ other. both-off (not (is_idle_line (stage_of w) cpu l)) (touches w.hardware (stage_of w) (CpuStep cpu l) other) (ap (λ o. unless_no o (cpu_touches cpu l other)) refused)))
+none-on : (w : World) (cpu : CpuNo) (l : CpuLine) → ((other : CpuNo) → touches w.hardware (stage_of w) (CpuStep cpu l) other ≡ false) → rescheduled_by w.hardware (stage_of w) (CpuStep cpu l) ≡ []
+none-on w cpu l off =
+    none-among (λ other. not (is_idle_line (stage_of w) cpu l) && touches w.hardware (stage_of w) (CpuStep cpu l) other) (all_cpus (stage_of w))
+    (λ other. both-off (not (is_idle_line (stage_of w) cpu l)) (touches w.hardware (stage_of w) (CpuStep cpu l) other) (off other))
 
-pub idle-counted : (w after : World) (cpu : CpuNo) (l : CpuLine) (n : ℕ) → is_idle_line (stage_of w) cpu l ≡ true → IsCounted (CpuStep cpu l) w after n n
-idle-counted w after cpu l n idle =
-    counted-none (CpuStep cpu l) w after n
+pub refused-cpu_counted : (sheet : Option Held) (w after : World) (cpu : CpuNo) (l : CpuLine) (r : Reason) (n : ℕ) → cpu_refusal (stage_of w) cpu l ≡ Some r
+    → IsCountedBy sheet (CpuStep cpu l) w after n n
+refused-cpu_counted sheet w after cpu l r n refused =
+    none-by sheet (CpuStep cpu l) w after n (none-on w cpu l (λ other. ap (λ o. unless_no o (cpu_touches cpu l other)) refused))
+
+pub still-cpu_counted : (sheet : Option Held) (w after : World) (cpu : CpuNo) (l : CpuLine) (n : ℕ) → ((other : CpuNo) → cpu_touches cpu l other ≡ false)
+    → IsCountedBy sheet (CpuStep cpu l) w after n n
+still-cpu_counted sheet w after cpu l n still =
+    none-by sheet (CpuStep cpu l) w after n
+    (none-on w cpu l (λ other. ap (unless_no (cpu_refusal (stage_of w) cpu l)) (still other) ∙ never-touched (cpu_refusal (stage_of w) cpu l)))
+
+pub idle-counted : (sheet : Option Held) (w after : World) (cpu : CpuNo) (l : CpuLine) (n : ℕ) → is_idle_line (stage_of w) cpu l ≡ true → IsCountedBy sheet (CpuStep cpu l) w after n n
+idle-counted sheet w after cpu l n idle =
+    none-by sheet (CpuStep cpu l) w after n
     (none-among (λ other. not (is_idle_line (stage_of w) cpu l) && touches w.hardware (stage_of w) (CpuStep cpu l) other) (all_cpus (stage_of w))
     (λ other. ap (λ b. not b && touches w.hardware (stage_of w) (CpuStep cpu l) other) idle))
+
+-- a line of work tests no counter
+pub work-free : (sheet : Option Held) (w after : World) (cpu : CpuNo) (work : Work) (before now : ℕ) → IsCountedBy sheet (CpuStep cpu (line.Work work)) w after before now → now ≡ before
+work-free sheet w after cpu work before now h =
+    let none : rescheduled_by w.hardware (stage_of w) (CpuStep cpu (line.Work work)) ≡ [] =
+    none-on w cpu (line.Work work) (λ other. never-touched (cpu_refusal (stage_of w) cpu (line.Work work))) in
+    let served : Type 0 = Serves sheet w (CpuStep cpu (line.Work work)) in
+    let counted : AreCountedUnless served w.hardware (changed w.hardware (stage_of w) (CpuStep cpu (line.Work work))) (stage_of after) [] before now =
+    subst (λ cs. AreCountedUnless served w.hardware (changed w.hardware (stage_of w) (CpuStep cpu (line.Work work))) (stage_of after) cs before now) none h in
+    elim (cases_lt now before) [
+      | inl less ↦ absurd (let least : before + 0 ≤ now = counted.least (λ serves. omega (arith, less, counted.free serves)) in omega (arith, less, least))
+      | inr most ↦ let few : now ≤ before + 272 * 0 = counted.most in omega (arith, most, few)
+    ]

@@ -1,11 +1,10 @@
 -- An exit.
-use Rattle.std.specs.Prelude.{◌≡◌, ℕ, ◌<◌, ◌≤◌, ◌↔◌, ◌&&◌, ◌==◌, Bool, true, false, not, List, [], length, map, filter, Option, Some, None, slice_index_or}
-use Rattle.std.proofs.Common.{arith, refl, sym, ap, subst, ◌∙◌}
+use Rattle.std.specs.Prelude.{◌≡◌, ℕ, ◌<◌, ◌≤◌, ◌&&◌, ◌==◌, Bool, true, false, not, List, [], length, map, filter, Option, Some, None, slice_index_or}
+use Rattle.std.proofs.Common.{arith, refl, sym, ap, subst, ◌∙◌, inl, inr}
+use Rattle.std.proofs.lemmas.Bool.{cases_eq}
 use Rattle.std.proofs.lemmas.List.{length-set}
-use Rattle.perf_base.specs.Cpus.{HasCpu}
 use Rattle.perf_base.specs.declared.lines.CpuLine.TheVariants as line
 use Rattle.perf_base.specs.declared.numbers.CpuNo.{CpuNo}
-use Rattle.perf_base.specs.declared.numbers.CpuSet.{CpuSet}
 use Rattle.perf_base.specs.declared.numbers.EventNo.{EventNo}
 use Rattle.perf_base.specs.declared.numbers.Key.{Key}
 use Rattle.perf_base.specs.declared.numbers.TaskNo.{TaskNo}
@@ -30,6 +29,7 @@ use Rattle.world_spec.specs.Rescheduled.{AreRescheduled, AreUntouchedBut, IsResc
 use Rattle.world_spec.specs.StageOf.{stage_of}
 use Rattle.world_spec.specs.Value.{World, is_live, entry_at, instance_at, account_at, family_of, times}
 use Rattle.world_spec.proofs.Moving.{leads-parts}
+use Rattle.cpu_sched.specs.Resched.{StaysBut}
 use Rattle.exit_fold.specs.Leaving.{leaves, leaving_copies, leaving_sums, HasExited}
 use Rattle.exit_fold.proofs.Copies.{leaving-times, no-one, same-sums}
 use Rattle.exit_fold.proofs.Exited.{task-low}
@@ -38,10 +38,9 @@ use Rattle.world_spec.specs.Quiet.{KeepsAccount}
 use Rattle.world_spec.specs.Stepping.{HasStepped, HasFolded}
 use Rattle.world_spec.proofs.Quiet.{quiet-keeps}
 use Rattle.world_spec.proofs.Stepping.{stepped}
-use Rattle.machine.specs.Settled.{OnlyRescheduled, is_in}
 use Rattle.machine.specs.Stepped.{limits_in, IsReady}
 use Rattle.machine.specs.Stepped as stepped_line
-use Rattle.machine.proofs.Keeping.{filter-below, is-alone, none-lost, one-below, slots-same}
+use Rattle.machine.proofs.Keeping.{none-lost, one-below, slots-same}
 use Rattle.machine.proofs.Refused.{accepted-cpu}
 use Rattle.machine.proofs.Settling.{one-settled}
 use Rattle.machine.proofs.TaskChange.{filter-alike}
@@ -55,25 +54,8 @@ pub record Course (w v x : World) (cpu : CpuNo) : Type 0 where
   pub stage : stage_of v ≡ exited cpu (stage_of w)
   pub gone : HasExited w v (task_on (stage_of w) cpu)
   pub settled : stage_of x ≡ settle v.hardware cpu (stage_of v)
-  pub rest : OnlyRescheduled v x
+  pub rest : StaysBut cpu v x
   pub kept_then : IsKept x.hardware x
-
--- the processors but this one are not in the set, and stand as they stood
-pub exit-untouched : (w v : World) (cpu : CpuNo) (set : CpuSet) → AreRescheduled w.hardware w → v.hardware ≡ w.hardware → length v.quiet.running ≡ length w.quiet.running → AreUntouchedBut cpu w v
-    → ((other : CpuNo) → HasCpu set other ↔ (other.0 ≡ cpu.0)) → (other : CpuNo) → other.0 < length v.quiet.running → (HasCpu set other → ⊥) → IsRescheduled v.hardware v other
-exit-untouched w v cpu set before hardware size others alone other low out =
-    let within : other.0 < length w.quiet.running = omega (arith, low, size) in
-    subst (λ (hw : Hardware). IsRescheduled hw v other) (sym hardware)
-    ((others other within (λ same. out ((alone other).1 same))).rescheduled (before other within))
-
--- settling those of the set is settling this one
-pub exit-settled : (v x : World) (cpu : CpuNo) (set : CpuSet) → cpu.0 < length v.quiet.running → ((other : CpuNo) → HasCpu set other ↔ (other.0 ≡ cpu.0))
-    → stage_of x ≡ settle_each v.hardware (filter (is_in set) (all_cpus (stage_of v))) (stage_of v) → stage_of x ≡ settle v.hardware cpu (stage_of v)
-exit-settled v x cpu set low alone settled =
-    settled
-    ∙ (ap (λ cs. settle_each v.hardware cs (stage_of v))
-    (filter-below (is_in set) (λ other. cpu.0 == other.0) (length v.quiet.running) (λ other within. is-alone cpu set other (alone other)) ∙ one-below cpu (length v.quiet.running) low)
-    ∙ one-settled v.hardware cpu (stage_of v))
 
 -- as many processors stay
 size-by : (cpu : CpuNo) (o : Option TaskNo) (s : Stage) → length (exited_by cpu o s).running ≡ length s.running
@@ -203,9 +185,22 @@ exit-done w v x cpu c by agrees = record {
 }
 
 -- the world is ready for the next line
-pub exit-ready : (w v x : World) (cpu : CpuNo) → Course w v x cpu → AreRescheduled v.hardware x → IsReady x
-exit-ready w v x cpu c rescheduled =
+-- each processor stands as rescheduling leaves it
+exit-rescheduled : (w v x : World) (cpu : CpuNo) → Course w v x cpu → IsRescheduled v.hardware x cpu → AreUntouchedBut cpu w v → AreUntouchedBut cpu v x → AreRescheduled v.hardware x
+exit-rescheduled w v x cpu c own left rescheduled other low = elim (cases_eq other.0 cpu.0) [
+  | inl e ↦ subst (λ (n : ℕ). IsRescheduled v.hardware x (record { 0 = n })) (sym e) own
+  | inr apart ↦
+      let keeps : KeepsRest w x = rest-kept w v x cpu c in
+      let within : other.0 < length w.quiet.running = omega (arith, low, keeps.size) in
+      let before : IsRescheduled v.hardware v other =
+      subst (λ (hw : Hardware). IsRescheduled hw v other) (sym c.gone.gone.hardware) ((left other within apart).rescheduled (c.ready.rescheduled other within)) in
+      (rescheduled other (omega (arith, within, exit-size w v cpu c.stage)) apart).rescheduled before
+]
+
+pub exit-ready : (w v x : World) (cpu : CpuNo) → Course w v x cpu → IsRescheduled v.hardware x cpu → AreUntouchedBut cpu w v → AreUntouchedBut cpu v x → IsReady x
+exit-ready w v x cpu c own left others =
     let keeps : KeepsRest w x = rest-kept w v x cpu c in
+    let rescheduled : AreRescheduled v.hardware x = exit-rescheduled w v x cpu c own left others in
     record {
       machine = subst (λ (n : ℕ). IsMachine (record { cpus = n; kinds = length x.hardware.kind_pmus; rings = [] }) x.hardware) (sym keeps.size)
           (subst (λ (hw : Hardware). IsMachine (record { cpus = length w.quiet.running; kinds = length hw.kind_pmus; rings = [] }) hw) (sym keeps.hardware) c.ready.machine);

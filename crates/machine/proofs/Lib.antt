@@ -9,6 +9,7 @@ pub mod Counting
 pub mod Declared
 pub mod Exits
 pub mod Following
+pub mod Foreseen
 pub mod Forks
 pub mod History
 pub mod Keeping
@@ -16,10 +17,12 @@ pub mod Lines
 pub mod Looks
 pub mod Mapped
 pub mod New
+pub mod NextSteps
 pub mod Opened
 pub mod Opening
 pub mod Pairs
 pub mod Places
+pub mod PreparedBriefs
 pub mod Refused
 pub mod Rest
 pub mod Restarting

@@ -1,6 +1,6 @@
 -- How many tests of counters a line takes. After ctx_resched of kernel/events/core.c; the bounds are this project's own
 -- profile.
-use Rattle.std.specs.Prelude.{ℕ, ◌+◌, ◌*◌, ◌≤◌, Bool, false, not, ◌&&◌, List, filter, length}
+use Rattle.std.specs.Prelude.{◌≡◌, ℕ, ◌+◌, ◌*◌, ◌≤◌, Bool, false, not, ◌&&◌, List, filter, length, Option, Some, None}
 use Rattle.std.specs.List.{sum_by}
 use Rattle.perf_base.specs.declared.lines.CpuLine.{CpuLine}
 use Rattle.perf_base.specs.declared.lines.CpuLine.TheVariants as line
@@ -13,6 +13,9 @@ use Rattle.stage_spec.specs.Switching.{is_running}
 use Rattle.stage_laws.specs.Narrowing.{changed, touches}
 use Rattle.world_spec.specs.StageOf.{stage_of}
 use Rattle.world_spec.specs.Value.{World}
+use Rattle.cpu_sched.specs.After.{after_brief}
+use Rattle.cpu_sched.specs.Briefs.{ProcessorBrief}
+use Rattle.cpu_sched.specs.Sheets.{Held, IsPlannedFor}
 use Rattle.cpu_sched.specs.Tried.{tried}
 
 -- Some processors of a stage are rescheduled, which leads to another stage: at least one test for each hardware event
@@ -39,3 +42,26 @@ rescheduled_by hw s x = filter (λ cpu. not (is_idle s x) && touches hw s x cpu)
 -- none.
 abbrev pub IsCounted : Step → (w after : World) → (before now : ℕ) → Type 0
 IsCounted x w after before now = AreCounted w.hardware (changed w.hardware (stage_of w) x) (stage_of after) (rescheduled_by w.hardware (stage_of w) x) before now
+
+-- There is a sheet, and it holds that brief with its plan.
+abbrev pub IsServedBy : Option Held → ProcessorBrief → Type 0
+IsServedBy None b = ⊥
+IsServedBy (Some sheet) b = IsPlannedFor b sheet
+
+-- A line's sheet serves: it holds the plan of the brief that the line's own change leads to. No sheet serves a line of
+-- a tool.
+abbrev pub Serves : Option Held → World → Step → Type 0
+Serves sheet w (CpuStep cpu line) = IsServedBy sheet (after_brief w cpu line)
+Serves sheet w (ToolStep line) = ⊥
+Serves sheet w (SeenStep ring place) = ⊥
+
+-- Some processors of a stage are rescheduled, by a sheet where that serves: then no counter is tested.
+pub record AreCountedUnless (served : Type 0) (hw : Hardware) (s after : Stage) (cpus : List CpuNo) (before now : ℕ) : Type 0 where
+  pub free : served → now ≡ before
+  pub least : (served → ⊥) → before + sum_by (λ cpu. length (seated hw after cpu)) cpus ≤ now
+  pub most : now ≤ before + 272 * sum_by (tried hw s) cpus
+
+-- A line with a sheet takes none where the sheet serves, and else as many as without it.
+abbrev pub IsCountedBy : Option Held → Step → (w after : World) → (before now : ℕ) → Type 0
+IsCountedBy sheet x w after before now =
+    AreCountedUnless (Serves sheet w x) w.hardware (changed w.hardware (stage_of w) x) (stage_of after) (rescheduled_by w.hardware (stage_of w) x) before now

@@ -1,6 +1,6 @@
 -- What a machine keeps, which acts of a script lead to it, and what an act answers after them. This project's own
 -- profile.
-use Rattle.std.specs.Prelude.{◌≡◌, ℕ, ◌*◌, ◌<◌, List, [], ◌∷◌, length, slice_index_or}
+use Rattle.std.specs.Prelude.{◌≡◌, ℕ, ◌*◌, ◌<◌, List, [], ◌∷◌, length, option_map, Option, None, slice_get, slice_index_or}
 use Rattle.perf_base.specs.declared.acts.Act.{Act}
 use Rattle.perf_base.specs.declared.acts.Act.TheVariants as act
 use Rattle.perf_base.specs.declared.acts.Actor.{Actor}
@@ -10,7 +10,7 @@ use Rattle.perf_base.specs.declared.numbers.ToolNo.{ToolNo}
 use Rattle.perf_base.specs.declared.reply.Reply.{Reply}
 use Rattle.perf_base.specs.Scripts.{Scripted, lines_of_cpu, lines_of_tool}
 use Rattle.stage_spec.specs.Hardware.{hardware_of}
-use Rattle.stage_spec.specs.History.{steps_of, history, opening_stage}
+use Rattle.stage_spec.specs.History.{Step, CpuStep, ToolStep, steps_of, history, opening_stage}
 use Rattle.stage_spec.specs.Order.{IsCounted, done_by_cpu, done_by_tool}
 use Rattle.stage_spec.specs.Replies.{AreReplies}
 use Rattle.ring_spec.specs.Rings.{IsLawfulOrder, lost_count}
@@ -69,6 +69,12 @@ abbrev pub HasLine : Scripted → Kept → Actor → Type 0
 HasLine s m (actor.Processor cpu) = slice_index_or m.cpus cpu.0 0 < length (lines_of_cpu s cpu)
 HasLine s m (actor.Tool tool) = slice_index_or m.tools tool.0 0 < length (lines_of_tool s tool)
 HasLine s m (actor.Reader ring) = ⊥
+
+-- the line that an actor does next, as a step; a reader does none
+abbrev pub next_step : Scripted → Kept → Actor → Option Step
+next_step s m (actor.Processor cpu) = option_map (CpuStep cpu) (slice_get (lines_of_cpu s cpu) (slice_index_or m.cpus cpu.0 0))
+next_step s m (actor.Tool tool) = option_map ToolStep (slice_get (lines_of_tool s tool) (slice_index_or m.tools tool.0 0))
+next_step s m (actor.Reader ring) = None
 
 -- the act that does an actor's next line; a reader has none
 abbrev pub act_of : Actor → Act

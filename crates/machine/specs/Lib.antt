@@ -4,6 +4,7 @@ pub mod Ended
 pub mod Events
 pub mod Leading
 pub mod Left
+pub mod Prepared
 pub mod Readers
 pub mod Room
 pub mod Settled

@@ -9,8 +9,10 @@ mod ended;
 mod ending;
 mod events;
 mod given;
+mod laws;
 mod looking;
 mod machine;
+mod preparing;
 mod processors;
 mod rescheduling;
 mod rings;
@@ -20,5 +22,6 @@ mod tools;
 
 pub use ended::Ended;
 pub use ending::RingEnd;
+pub use laws::lines_are_planned_from_the_stages_briefs;
 pub use machine::Machine;
 pub use stepping::OrderFault;

@@ -1,22 +1,26 @@
 //! The machine and its one step.
 
-ghost use Rattle.std.specs.Prelude.{◌≡◌, ◌<◌, ◌≤◌, ◌↔◌, List, [], ◌∷◌, ◌++◌, IfOk, IsTrue, map};
+ghost use Rattle.std.specs.Prelude.{◌≡◌, ◌<◌, ◌≤◌, ◌↔◌, List, [], ◌∷◌, ◌++◌, IfOk, IsTrue, Some, map};
+ghost use Rattle.std.specs.Option.{option_copied};
 ghost use Rattle.perf_base.specs.declared.acts.Act.{Act};
 ghost use Rattle.perf_base.specs.Scripts.{IsCovered};
 ghost use Rattle.perf_base.specs.Weight.{weight};
+ghost use Rattle.stage_spec.specs.History.{Step};
 ghost use Rattle.ring_spec.specs.Running.{empty_ring};
+ghost use Rattle.machine.specs.Counted.{IsCountedBy};
 ghost use Rattle.machine.specs.Stepped.{StaysIfRefused, seen_of};
 ghost use Rattle.work_account.specs.Ends.{AreTogether, HaveAccounts};
-ghost use Rattle.machine.specs.Leading.{HasLine, IsOf, IsReplyTo, LeadTo, act_of, done_by};
+ghost use Rattle.machine.specs.Leading.{HasLine, IsOf, IsReplyTo, LeadTo, act_of, done_by, next_step};
 
 use crate::counters::pmus_of;
 use crate::given::{cpu_line, tool_line};
-use perf_base::{Actor, NoMemory, Reply, Script};
+use cpu_sched::Sheet;
+use perf_base::{Actor, NoMemory, Reply, Script, Steps};
 use perf_world::World;
 use sample_ring::{Outs, Rings};
 use std::alloc::Global;
-use std::marker::{Brand, Model};
-use std::sync::ledger::Blank;
+use std::marker::Model;
+use std::sync::ledger::Ledger;
 
 /// A machine that has done some lines of a script. Between two lines every processor stands as rescheduling leaves it,
 /// seats included.
@@ -89,7 +93,19 @@ impl Machine {
     /// Does the actor's next line, with the records that it sends, then every rescheduling that it makes necessary, and
     /// answers it. The script is the one that the machine was made for, of a weight of at most 65,536, and the rings
     /// are those of its ends. No tail is loaded. A line that is refused leaves the world and the ends as they were.
-    pub fn line(&mut self, script: &Script, rings: &Rings, actor: Actor) -> Reply
+    ///
+    /// A sheet whose brief is planned, and is the processor's after the line's own change, is adopted: then no counter
+    /// is tested. Else a step of `tests` is one test of one counter for one event: for each processor that is
+    /// rescheduled at least one for each hardware event that is on afterwards, and at most 272 for each event that
+    /// counters are tried for. Where none is rescheduled, as by work, none is tested.
+    pub fn line<L: Ledger>(
+        &mut self,
+        script: &Script,
+        rings: &Rings,
+        actor: Actor,
+        sheet: Option<&Sheet>,
+        tests: &mut Steps<L>,
+    ) -> Reply
         requires covered { IsCovered script.now }
         requires light { weight script.now ≤ 65536 }
         requires together { AreTogether rings.now self.old.outs }
@@ -103,6 +119,8 @@ impl Machine {
         ensures ends { StaysIfRefused self.old.outs self.new.outs result }
         ensures together { AreTogether rings.now self.new.outs }
         ensures seen { seen_of self.new.outs ≡ seen_of self.old.outs }
+        ensures counted { (x : Step) → next_step script.now self.old actor ≡ Some x
+            → IsCountedBy (option_copied sheet.entry) x self.old.world self.new.world tests.old tests.new }
     {
         script.use_invariant();
         self.world.use_invariant();
@@ -111,20 +129,21 @@ impl Machine {
                 let done = self.cpus[cpu.0 as usize];
                 let line = &script.cpu_lines(cpu)[done as usize];
                 self.cpus[cpu.0 as usize] = done + 1;
-                cpu_line::<Brand>(
+                cpu_line(
                     &mut self.world,
                     cpu,
                     line,
                     rings,
                     &mut self.outs,
-                    Blank::new(1),
+                    sheet,
+                    tests,
                 )
             }
             Actor::Tool(tool) => {
                 let done = self.tools[tool.0 as usize];
                 let line = &script.tool_lines(tool)[done as usize];
                 self.tools[tool.0 as usize] = done + 1;
-                tool_line::<Brand>(&mut self.world, line, Blank::new(1))
+                tool_line(&mut self.world, line, tests)
             }
             Actor::Reader(_) => unreachable!(),
         }

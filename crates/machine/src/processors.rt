@@ -1,6 +1,7 @@
 //! Lines of processors.
 
 ghost use Rattle.std.specs.Prelude.{◌≡◌, ◌+◌, ◌^◌, ◌<◌, ◌≤◌, length};
+ghost use Rattle.std.specs.Option.{option_copied};
 ghost use Rattle.perf_base.specs.Scripts.{IsCpuLine};
 ghost use Rattle.perf_base.specs.declared.lines.CpuLine.TheVariants as line;
 ghost use Rattle.stage_spec.specs.History.{CpuStep};
@@ -9,12 +10,12 @@ ghost use Rattle.work_account.specs.Ends.{AreTogether};
 ghost use Rattle.work_account.specs.Sampling.{HaveRings, HaveSpaceToSend, ends_of};
 ghost use Rattle.world_spec.specs.Metering.{HasMeterRoom};
 ghost use Rattle.world_spec.specs.Shares.{HaveRoom};
-ghost use Rattle.machine.specs.Counted.{IsCounted};
+ghost use Rattle.machine.specs.Counted.{IsCountedBy};
 ghost use Rattle.machine.specs.Stepped.{IsReady, IsDone, IsDoneWith, StaysIfRefused, seen_of};
 ghost use Rattle.machine.specs.Totals.{HaveGrown};
 
-use crate::rescheduling::resched_each;
-use cpu_sched::resched;
+use crate::rescheduling::resched_with;
+use cpu_sched::Sheet;
 use perf_base::{CpuNo, Reply, Steps, TaskNo, Work};
 use perf_world::World;
 use sample_ring::{Outs, Rings};
@@ -22,7 +23,12 @@ use std::sync::ledger::{Blank, Ledger};
 use task_moves::rotate;
 
 /// A tick of a processor: the groups of its two contexts take turns, and it is rescheduled.
-pub fn tick<L: Ledger>(world: &mut World, cpu: CpuNo, tests: &mut Steps<L>) -> Reply
+pub fn tick<L: Ledger>(
+    world: &mut World,
+    cpu: CpuNo,
+    sheet: Option<&Sheet>,
+    tests: &mut Steps<L>,
+) -> Reply
     requires ready { IsReady world.old }
     requires cpu { cpu.0 < length world.old.quiet.running }
     ensures ready { IsReady world.new }
@@ -30,11 +36,11 @@ pub fn tick<L: Ledger>(world: &mut World, cpu: CpuNo, tests: &mut Steps<L>) -> R
     ensures same { StaysIfRefused world.old world.new result }
     ensures hardware { world.new.hardware ≡ world.old.hardware }
     ensures totals { world.new.quiet.totals ≡ world.old.quiet.totals }
-    ensures counted { IsCounted (CpuStep cpu line.Tick) world.old world.new tests.old tests.new }
+    ensures counted { IsCountedBy (option_copied sheet.entry) (CpuStep cpu line.Tick) world.old world.new tests.old tests.new }
 {
     world.use_invariant();
     rotate(world, cpu);
-    resched(world, cpu, tests);
+    resched_with(world, cpu, sheet, tests);
     world.use_invariant();
     Reply::Ok
 }
@@ -100,7 +106,12 @@ pub fn fork(world: &mut World, cpu: CpuNo, child: TaskNo) -> Reply
 
 /// The exit of the task on a processor: its copies go, what they have counted stays with their originals, and the
 /// processor is idle and rescheduled. Refused with Idle where no task is on.
-pub fn exit<L: Ledger>(world: &mut World, cpu: CpuNo, tests: &mut Steps<L>) -> Reply
+pub fn exit<L: Ledger>(
+    world: &mut World,
+    cpu: CpuNo,
+    sheet: Option<&Sheet>,
+    tests: &mut Steps<L>,
+) -> Reply
     requires ready { IsReady world.old }
     requires cpu { cpu.0 < length world.old.quiet.running }
     ensures ready { IsReady world.new }
@@ -108,13 +119,14 @@ pub fn exit<L: Ledger>(world: &mut World, cpu: CpuNo, tests: &mut Steps<L>) -> R
     ensures same { StaysIfRefused world.old world.new result }
     ensures hardware { world.new.hardware ≡ world.old.hardware }
     ensures totals { world.new.quiet.totals ≡ world.old.quiet.totals }
-    ensures counted { IsCounted (CpuStep cpu line.Exit) world.old world.new tests.old tests.new }
+    ensures counted { IsCountedBy (option_copied sheet.entry) (CpuStep cpu line.Exit) world.old world.new tests.old tests.new }
 {
     world.use_invariant();
     match exit_fold::exit(world, cpu) {
         Err(reason) => Reply::Refused(reason),
-        Ok(set) => {
-            resched_each(world, set, tests);
+        Ok(_) => {
+            resched_with(world, cpu, sheet, tests);
+            world.use_invariant();
             Reply::Ok
         }
     }

@@ -1,6 +1,7 @@
 //! Rescheduling the processors that a line touches.
 
-ghost use Rattle.std.specs.Prelude.{◌≡◌, ◌+◌, ◌*◌, ◌<◌, ◌≤◌, true, length, filter, if◌then◌else◌};
+ghost use Rattle.std.specs.Prelude.{◌≡◌, ◌+◌, ◌*◌, ◌<◌, ◌≤◌, true, [], ◌∷◌, length, filter, if◌then◌else◌};
+ghost use Rattle.std.specs.Option.{option_copied};
 ghost use Rattle.perf_base.specs.Cpus.{HasCpu};
 ghost use Rattle.perf_base.specs.declared.numbers.CpuNo.{CpuNo as Cpu};
 ghost use Rattle.stage_spec.specs.Replies.{seated};
@@ -9,11 +10,13 @@ ghost use Rattle.stage_spec.specs.Stage.{all_cpus};
 ghost use Rattle.world_spec.specs.Rescheduled.{AreRescheduled, AreUntouchedBut, IsRescheduled};
 ghost use Rattle.world_spec.specs.StageOf.{stage_of};
 ghost use Rattle.perf_world.specs.Seen.{IsWorld};
+ghost use Rattle.cpu_sched.specs.Briefs.{present_brief};
+ghost use Rattle.cpu_sched.specs.Resched.{StaysBut};
 ghost use Rattle.cpu_sched.specs.Tried.{tried};
-ghost use Rattle.machine.specs.Counted.{AreCounted};
+ghost use Rattle.machine.specs.Counted.{AreCounted, AreCountedUnless, IsServedBy};
 ghost use Rattle.machine.specs.Settled.{OnlyRescheduled, is_in};
 
-use cpu_sched::resched;
+use cpu_sched::{Sheet, resched, resched_by};
 use perf_base::{CpuNo, CpuSet, Steps};
 use perf_world::World;
 use std::sync::ledger::Ledger;
@@ -31,6 +34,27 @@ fn resched_if<L: Ledger>(world: &mut World, cpu: CpuNo, touched: bool, tests: &m
 {
     if touched {
         resched(world, cpu, tests);
+    }
+}
+
+/// Reschedules a processor, by a sheet if there is one.
+pub fn resched_with<L: Ledger>(
+    world: &mut World,
+    cpu: CpuNo,
+    sheet: Option<&Sheet>,
+    tests: &mut Steps<L>,
+)
+    requires cpu { cpu.0 < length world.old.quiet.running }
+    ensures stage { stage_of world.new ≡ settle world.old.hardware cpu (stage_of world.old) }
+    ensures rescheduled { IsRescheduled world.old.hardware world.new cpu }
+    ensures others { AreUntouchedBut cpu world.old world.new }
+    ensures rest { StaysBut cpu world.old world.new }
+    ensures counted { AreCountedUnless (IsServedBy (option_copied sheet.entry) (present_brief world.old cpu)) world.old.hardware
+        (stage_of world.old) (stage_of world.new) (cpu ∷ []) tests.old tests.new }
+{
+    match sheet {
+        Some(sheet) => resched_by(world, cpu, sheet, tests),
+        None => resched(world, cpu, tests),
     }
 }
 

@@ -1,20 +1,22 @@
 //! The acts of a replay.
 
-ghost use Rattle.std.specs.Prelude.{◌≡◌, ℕ, ◌*◌, ◌≤◌, ◌↔◌, List, [], ◌∷◌, ◌++◌, Err, IfOk, OnErr, OnOk, slice_get, Some};
+ghost use Rattle.std.specs.Prelude.{◌≡◌, ℕ, ◌*◌, ◌<◌, ◌≤◌, ◌↔◌, List, [], ◌∷◌, ◌++◌, Err, IfOk, OnErr, OnOk, slice_get, Some};
 ghost use Rattle.perf_base.specs.declared.acts.Act.{Act as ActNo};
 ghost use Rattle.perf_base.specs.declared.numbers.RingNo.{RingNo as Ring};
 ghost use Rattle.perf_base.specs.Scripts.{IsCovered, HasRing};
 ghost use Rattle.perf_base.specs.Weight.{weight};
-ghost use Rattle.machine.specs.Stepped.{StaysIfRefused};
+ghost use Rattle.machine.specs.Stepped.{StaysIfRefused, seen_of};
 ghost use Rattle.ring_words.specs.Ends.{IsStop, head_place as head_place};
 ghost use Rattle.work_account.specs.Ends.{AreTogether};
-ghost use Rattle.machine.specs.Leading.{IsOf, LeadTo};
+ghost use Rattle.machine.specs.Leading.{HasLine, IsOf, IsReplyTo, LeadTo, act_of};
 ghost use Rattle.machine.specs.Readers.{AreFollowing};
 ghost use Rattle.machine.specs.Stepping.{HasNoLine, IsAnswerTo, IsUnlawful, LeavesReaders, NamesRing};
 
 use crate::machine::Machine;
-use perf_base::{Act, Actor, Reply, RingNo, Script};
+use perf_base::{Act, Actor, Reply, RingNo, Script, Steps};
 use sample_ring::{Ins, Out, Outs, Rings, take_to};
+use std::marker::Brand;
+use std::sync::ledger::{Blank, Ledger};
 
 /// Why an act can't be done.
 #[derive(Clone, Copy, PartialEq, Eq, Debug)]
@@ -50,6 +52,33 @@ fn check_seen(out: &Out, ring: RingNo, given: u64) -> Result<(), OrderFault>
 }
 
 impl Machine {
+    /// Does the actor's next line without a sheet, for a caller that counts no tests.
+    fn line_alone<L: Ledger>(
+        &mut self,
+        script: &Script,
+        rings: &Rings,
+        actor: Actor,
+        blank: Blank,
+    ) -> Reply
+        requires name { blank.name ≡ L.name }
+        requires parts { blank.parts ≡ L.parts }
+        requires some { 0 < blank.parts }
+        requires covered { IsCovered script.now }
+        requires light { weight script.now ≤ 65536 }
+        requires together { AreTogether rings.now self.old.outs }
+        requires script { IsOf script.now self.old }
+        requires line { HasLine script.now self.old actor }
+        ensures reply { (acts : List ActNo) → LeadTo script.now acts self.old → IsReplyTo script.now acts (act_of actor) result }
+        ensures done { (acts : List ActNo) → LeadTo script.now acts self.old → LeadTo script.now (acts ++ act_of actor ∷ []) self.new }
+        ensures same { StaysIfRefused self.old.world self.new.world result }
+        ensures ends { StaysIfRefused self.old.outs self.new.outs result }
+        ensures together { AreTogether rings.now self.new.outs }
+        ensures seen { seen_of self.new.outs ≡ seen_of self.old.outs }
+    {
+        let mut tests = Steps::<L>::new(blank);
+        self.line(script, rings, actor, None, &mut tests)
+    }
+
     /// Sees the tail of a ring at a place, if that is lawful: its reader takes what stands before it.
     fn seen(
         &mut self,
@@ -133,6 +162,6 @@ impl Machine {
         if !self.has_line(script, actor) {
             return Err(OrderFault::NoLine);
         }
-        Ok(self.line(script, rings, actor))
+        Ok(self.line_alone::<Brand>(script, rings, actor, Blank::new(1)))
     }
 }

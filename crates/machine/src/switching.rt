@@ -1,6 +1,7 @@
 //! A switch of a processor.
 
 ghost use Rattle.std.specs.Prelude.{◌≡◌, ◌<◌, ◌≤◌, false, Some, None, length};
+ghost use Rattle.std.specs.Option.{option_copied};
 ghost use Rattle.perf_base.specs.declared.lines.CpuLine.TheVariants as line;
 ghost use Rattle.perf_base.specs.declared.numbers.CpuNo.{CpuNo as Cpu};
 ghost use Rattle.perf_base.specs.declared.numbers.TaskNo.{TaskNo as Task};
@@ -12,10 +13,11 @@ ghost use Rattle.world_spec.specs.Shares.{HaveRoom, HaveShares, one_hit};
 ghost use Rattle.world_spec.specs.Rescheduled.{IsJudged, IsRescheduled};
 ghost use Rattle.world_spec.specs.StageOf.{stage_of};
 ghost use Rattle.machine.specs.Switched.{migration_shares, two_hits};
-ghost use Rattle.machine.specs.Counted.{IsCounted};
+ghost use Rattle.machine.specs.Counted.{IsCountedBy};
 ghost use Rattle.machine.specs.Stepped.{IsReady, IsDone, StaysIfRefused};
 
-use cpu_sched::resched;
+use crate::rescheduling::resched_with;
+use cpu_sched::Sheet;
 use perf_base::{CpuNo, Kind, Reply, Steps, TaskNo};
 use perf_world::World;
 use std::sync::ledger::Ledger;
@@ -39,7 +41,13 @@ fn migrate_if(world: &mut World, cpu: CpuNo, migrates: bool)
 
 /// A switch that is not refused and changes what runs: it counts for the events on before it, a migration for those on
 /// after it.
-fn change_task<L: Ledger>(world: &mut World, cpu: CpuNo, to: Option<TaskNo>, tests: &mut Steps<L>)
+fn change_task<L: Ledger>(
+    world: &mut World,
+    cpu: CpuNo,
+    to: Option<TaskNo>,
+    sheet: Option<&Sheet>,
+    tests: &mut Steps<L>,
+)
     requires ready { IsReady world.old }
     requires cpu { cpu.0 < length world.old.quiet.running }
     requires task { (task : Task) → to ≡ Some task → task.0 < 64 }
@@ -50,12 +58,12 @@ fn change_task<L: Ledger>(world: &mut World, cpu: CpuNo, to: Option<TaskNo>, tes
     ensures done { IsDone (CpuStep cpu (line.Switch to)) world.old world.new reply.Ok }
     ensures hardware { world.new.hardware ≡ world.old.hardware }
     ensures totals { world.new.quiet.totals ≡ world.old.quiet.totals }
-    ensures counted { IsCounted (CpuStep cpu (line.Switch to)) world.old world.new tests.old tests.new }
+    ensures counted { IsCountedBy (option_copied sheet.entry) (CpuStep cpu (line.Switch to)) world.old world.new tests.old tests.new }
 {
     world.use_invariant();
     soft(world, cpu, Kind::ContextSwitches);
     let migrates = move_to(world, cpu, to);
-    resched(world, cpu, tests);
+    resched_with(world, cpu, sheet, tests);
     migrate_if(world, cpu, migrates);
     world.use_invariant();
 }
@@ -66,6 +74,7 @@ pub fn switch<L: Ledger>(
     world: &mut World,
     cpu: CpuNo,
     to: Option<TaskNo>,
+    sheet: Option<&Sheet>,
     tests: &mut Steps<L>,
 ) -> Reply
     requires ready { IsReady world.old }
@@ -77,14 +86,14 @@ pub fn switch<L: Ledger>(
     ensures same { StaysIfRefused world.old world.new result }
     ensures hardware { world.new.hardware ≡ world.old.hardware }
     ensures totals { world.new.quiet.totals ≡ world.old.quiet.totals }
-    ensures counted { IsCounted (CpuStep cpu (line.Switch to)) world.old world.new tests.old tests.new }
+    ensures counted { IsCountedBy (option_copied sheet.entry) (CpuStep cpu (line.Switch to)) world.old world.new tests.old tests.new }
 {
     world.use_invariant();
     match check_switch(world, cpu, to) {
         Err(reason) => Reply::Refused(reason),
         Ok(false) => Reply::Ok,
         Ok(true) => {
-            change_task(world, cpu, to, tests);
+            change_task(world, cpu, to, sheet, tests);
             Reply::Ok
         }
     }

@@ -4,6 +4,7 @@ pub mod Left
 pub mod Loads
 pub mod Looked
 pub mod Parts
+pub mod Planning
 pub mod Reading
 pub mod Ready
 pub mod Rooms

@@ -1,5 +1,5 @@
 -- Lists that have room for all acts of a script have room for the next ones.
-use Rattle.std.specs.Prelude.{◌≡◌, ℕ, ◌+◌, ◌*◌, ◌<◌, ◌≤◌, ◌==◌, Bool, true, false, List, [], ◌∷◌, ◌++◌, count_by, length, map}
+use Rattle.std.specs.Prelude.{◌≡◌, ℕ, ◌+◌, ◌*◌, ◌<◌, ◌≤◌, ◌==◌, Bool, true, false, List, [], ◌∷◌, ◌++◌, count_by, length, option_map, slice_get}
 use Rattle.std.proofs.Common.{arith, refl, sym, ap, subst, ◌∙◌, append_assoc, append-nil, cond, inl, inr}
 use Rattle.std.proofs.lemmas.Bool.{cases_eq}
 use Rattle.std.proofs.lemmas.Bool.Decides.{nat_tests}
@@ -11,13 +11,13 @@ use Rattle.perf_base.specs.declared.acts.Actor.{Actor}
 use Rattle.perf_base.specs.declared.acts.Actor.TheVariants as actor
 use Rattle.perf_base.specs.declared.numbers.CpuNo.{CpuNo}
 use Rattle.perf_base.specs.declared.numbers.ToolNo.{ToolNo}
-use Rattle.perf_base.specs.declared.reply.Reply.{Reply}
 use Rattle.perf_base.specs.Weight.{weight}
 use Rattle.perf_base.specs.Scripts.{Scripted, IsCovered, IsScript, line_count, lines_of_cpu, lines_of_tool}
 use Rattle.stage_spec.specs.Order.{IsCounted, done_by_cpu, done_by_tool, is_of_cpu, is_of_tool}
 use Rattle.stage_spec.specs.Replies.{AnswerOrder, lines_from}
 use Rattle.perf_base.specs.declared.reply.Answer.{Answer}
-use Rattle.machine.specs.Leading.{Kept, HasLine, LeadTo, act_of, done_by}
+use Rattle.stage_spec.specs.History.{CpuStep, ToolStep}
+use Rattle.machine.specs.Leading.{Kept, HasLine, LeadTo, act_of, done_by, next_step}
 use Rattle.machine.proofs.Answers.{answers-look, no-answers}
 use Rattle.report_spec.specs.Answers.{lost_in}
 use Rattle.run_laws.specs.Growing.{AreLooks, does_line, is_cpu_act, is_look}
@@ -249,3 +249,9 @@ booked-none s m script covered light led = record {
   answered = record { counted = led.counted; lawful = led.lawful; answered = no-answers s (lost_in s) };
   looks = omega arith;
 }
+
+-- looks leave what an actor does next
+pub step-after : (s : Scripted) (m n : Kept) (who : Actor) → done_by who n ≡ done_by who m → next_step s n who ≡ next_step s m who
+step-after s m n (actor.Processor cpu) same = ap (λ k. option_map (CpuStep cpu) (slice_get (lines_of_cpu s cpu) k)) same
+step-after s m n (actor.Tool tool) same = ap (λ k. option_map ToolStep (slice_get (lines_of_tool s tool) k)) same
+step-after s m n (actor.Reader ring) same = refl

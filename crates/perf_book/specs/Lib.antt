@@ -4,3 +4,4 @@ pub mod Ending
 pub mod Keeping
 pub mod Plans
 pub mod Running
+pub mod Sheets

@@ -1,5 +1,5 @@
 -- What threads make of a book: the order that they leave, and what the readers do. This project's own profile.
-use Rattle.std.specs.Prelude.{◌≡◌, ◌+◌, ◌*◌, ◌≤◌, ◌==◌, All, List, find, length, slice_get, Option, Some, MatchOption}
+use Rattle.std.specs.Prelude.{◌≡◌, ◌+◌, ◌*◌, ◌≤◌, All, List, length, slice_get, Option, Some, MatchOption}
 use Rattle.perf_base.specs.declared.acts.Act.{Act}
 use Rattle.perf_base.specs.declared.lines.ReaderLine.{ReaderLine}
 use Rattle.perf_base.specs.declared.numbers.RingNo.{RingNo}

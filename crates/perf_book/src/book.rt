@@ -7,20 +7,28 @@ ghost use Rattle.perf_base.specs.Scripts.{IsCovered};
 ghost use Rattle.perf_base.specs.Weight.{weight};
 ghost use Rattle.ring_spec.specs.Running.{empty_ring};
 ghost use Rattle.work_account.specs.Ends.{AreTogether, HaveAccounts};
-ghost use Rattle.machine.specs.Leading.{HasLine, act_of, done_by};
+ghost use Rattle.perf_base.specs.declared.lines.CpuLine.TheVariants as cpu_line;
+ghost use Rattle.perf_base.specs.declared.lines.Work.{Work as Stretch};
+ghost use Rattle.perf_base.specs.declared.numbers.CpuNo.{CpuNo as Cpu};
+ghost use Rattle.stage_spec.specs.History.{Step, CpuStep};
+ghost use Rattle.machine.specs.Counted.{IsCountedBy};
+ghost use Rattle.machine.specs.Leading.{HasLine, act_of, done_by, next_step};
 ghost use Rattle.machine.specs.Readers.{AreFollowing, loads_of};
 ghost use Rattle.machine.specs.Stepping.{HasNoLine, IsUnlawful, NamesRing};
 ghost use Rattle.perf_book.specs.Book.{AreLooksOf, Booked, IsBooked, MayAct, loads_by};
 ghost use Rattle.perf_book.specs.Keeping.{KeepsAnswer, next_line};
+ghost use Rattle.perf_book.specs.Sheets.{MayBring, sheet_after};
 
-use crate::doing::{do_line, keep, line_of};
+use crate::doing::{do_line, keep, line_of, prepare_next};
 use crate::looking::look_before;
 use crate::making::count_acts;
+use cpu_sched::Sheet;
 use machine::{Machine, OrderFault, RingEnd};
-use perf_base::{Act, Actor, Answer, NoMemory, Script};
+use perf_base::{Act, Actor, Answer, NoMemory, Script, Steps};
 use sample_ring::{Ins, Outs, Rings};
 use std::alloc::Global;
 use std::marker::Model;
+use std::sync::ledger::Ledger;
 
 /// A script, the machine that does its lines, the order in which they were done, with the looks at rings between them,
 /// and the answers to them. It has room for all acts of a run.
@@ -102,15 +110,31 @@ impl Book {
     /// What an actor does that has a line left. A processor first loads the tail of each ring once, by rising number,
     /// and keeps each that it saw further than the last look did as an act. Then the line is done, and kept as an act
     /// with its answer. A line that is refused leaves the machine's world as it was. It takes no memory.
-    pub fn advance(&mut self, rings: &Rings, actor: Actor)
+    ///
+    /// A processor brings a sheet that is blank or planned. Where its brief is the processor's after the line's own
+    /// change, its plan is adopted and no counter is tested; a line of work tests none in any case. Else a step of
+    /// `tests` is one test of one counter for one event. Then the sheet holds the brief that the processor's next line
+    /// leads to, not planned, or is blank where there is none. A tool's sheet is as it was.
+    pub fn advance<L: Ledger>(
+        &mut self,
+        rings: &Rings,
+        actor: Actor,
+        sheet: &mut Sheet,
+        tests: &mut Steps<L>,
+    )
         requires together { AreTogether rings.now self.old.machine.outs }
         requires line { HasLine self.old.script self.old.machine actor }
+        requires sheet { MayBring actor sheet.old }
         ensures script { self.new.script ≡ self.old.script }
         ensures order { (looks : List ActNo) × AreLooksOf actor self.old.order looks × (self.new.order ≡ self.old.order ++ (looks ++ act_of actor ∷ [])) }
         ensures answer { KeepsAnswer (Some (actor, done_by actor self.old.machine)) self.old.machine self.new.machine self.old.answers self.new.answers }
         ensures loads { loads_of self.new.machine.outs ≡ map (λ n. n + loads_by actor) (loads_of self.old.machine.outs) }
         ensures together { AreTogether rings.now self.new.machine.outs }
         ensures sound { IsBooked self.new }
+        ensures counted { (x : Step) → next_step self.old.script self.old.machine actor ≡ Some x
+            → IsCountedBy (Some sheet.old) x self.old.machine.world self.new.machine.world tests.old tests.new }
+        ensures work { (cpu : Cpu) (work : Stretch) → next_step self.old.script self.old.machine actor ≡ Some (CpuStep cpu (cpu_line.Work work)) → tests.new ≡ tests.old }
+        ensures sheet { sheet.new ≡ sheet_after self.new.script self.new.machine actor sheet.old }
     {
         look_before(
             &mut self.machine,
@@ -126,7 +150,10 @@ impl Book {
             &mut self.order,
             &mut self.answers,
             actor,
+            sheet,
+            tests,
         );
+        prepare_next(&self.machine, &self.script, actor, sheet);
     }
 
     /// Does one act of a given order. A processor or a tool does its next line. A look at a ring, which is one of the

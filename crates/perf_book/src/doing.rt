@@ -6,14 +6,19 @@ ghost use Rattle.perf_base.specs.Scripts.{IsCovered, Scripted};
 ghost use Rattle.perf_base.specs.Weight.{weight};
 ghost use Rattle.stage_spec.specs.Replies.{AnswerOrder, lines_of_act};
 ghost use Rattle.work_account.specs.Ends.{AreTogether};
-ghost use Rattle.machine.specs.Leading.{HasLine, LeadTo, act_of, done_by};
+ghost use Rattle.stage_spec.specs.History.{Step};
+ghost use Rattle.machine.specs.Counted.{IsCountedBy};
+ghost use Rattle.machine.specs.Leading.{HasLine, IsOf, LeadTo, act_of, done_by, next_step};
 ghost use Rattle.machine.specs.Readers.{loads_of};
 ghost use Rattle.report_spec.specs.Answers.{lost_in};
 ghost use Rattle.perf_book.specs.Keeping.{KeepsAnswer, kept, line_in, next_line};
+ghost use Rattle.perf_book.specs.Sheets.{IsReady, sheet_after};
 
+use cpu_sched::Sheet;
 use machine::Machine;
-use perf_base::{Act, Actor, Answer, Reply, Script, StoredReply};
+use perf_base::{Act, Actor, Answer, Reply, Script, Steps, StoredReply};
 use sample_ring::Rings;
+use std::sync::ledger::Ledger;
 
 /// The act that does an actor's next line. A reader has no line, and its look sees nothing.
 fn act_of(actor: Actor) -> Act
@@ -26,14 +31,16 @@ fn act_of(actor: Actor) -> Act
     }
 }
 
-/// Does an actor's next line, and keeps its act and its answer in lists that have room for them.
-pub fn do_line(
+/// Does an actor's next line by a sheet, and keeps its act and its answer in lists that have room for them.
+pub fn do_line<L: Ledger>(
     machine: &mut Machine,
     script: &Script,
     rings: &Rings,
     order: &mut Vec<Act>,
     answers: &mut Vec<Answer>,
     actor: Actor,
+    sheet: &Sheet,
+    tests: &mut Steps<L>,
 )
     requires covered { IsCovered script.now }
     requires light { weight script.now ≤ 65536 }
@@ -51,15 +58,41 @@ pub fn do_line(
     ensures together { AreTogether rings.now machine.new.outs }
     ensures order_capacity { vec_capacity order.new ≡ vec_capacity order.old }
     ensures answer_capacity { vec_capacity answers.new ≡ vec_capacity answers.old }
+    ensures counted { (x : Step) → next_step script.now machine.old actor ≡ Some x
+        → IsCountedBy (Some sheet.now) x machine.old.world machine.new.world tests.old tests.new }
 {
     let number = machine.done(actor);
-    let reply = machine.line(script, rings, actor);
+    let reply = machine.line(script, rings, actor, Some(sheet), tests);
     order.push_reserved(act_of(actor));
     answers.push_reserved(Answer {
         actor,
         number,
         reply: StoredReply::new(reply),
     });
+}
+
+/// Puts the brief that a processor's next line leads to into its sheet, or makes it blank where there is none. A tool's
+/// sheet stays.
+pub fn prepare_next(machine: &Machine, script: &Script, actor: Actor, sheet: &mut Sheet)
+    requires covered { IsCovered script.now }
+    requires script { IsOf script.now machine.now }
+    ensures { sheet.new ≡ sheet_after script.now machine.now actor sheet.old }
+{
+    match actor {
+        Actor::Processor(cpu) => machine.prepare(script, cpu, sheet),
+        Actor::Tool(_) | Actor::Reader(_) => {}
+    }
+}
+
+/// Plans a sheet that is not blank, so that it is ready for the next line of its processor.
+pub fn plan_next<L: Ledger>(sheet: &mut Sheet, tests: &mut Steps<L>)
+    ensures brief { sheet.new.brief ≡ sheet.old.brief }
+    ensures ready { IsReady sheet.new }
+{
+    if sheet.blank() {
+        return;
+    }
+    sheet.plan(tests);
 }
 
 /// Whose line an act does next, and the line's number. A look at a ring does none.

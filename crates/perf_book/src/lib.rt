@@ -16,7 +16,9 @@ mod workers;
 pub use book::Book;
 pub use gate::{Gate, OpenGate};
 pub use machine::OrderFault;
-pub use running::run_all;
+pub use running::{NotRun, run_all};
 
+#[cfg(test)]
+mod planning_tests;
 #[cfg(test)]
 mod tests;

@@ -5,12 +5,15 @@ ghost use Rattle.perf_base.specs.declared.acts.Act.{Act};
 ghost use Rattle.machine.specs.Leading.{HasLine, act_of};
 ghost use Rattle.perf_book.specs.Book.{AreLooksOf, IsBooked};
 ghost use Rattle.perf_book.specs.Running.{IsUnderWay};
+ghost use Rattle.perf_book.specs.Sheets.{IsReady};
 ghost use Rattle.work_account.specs.Ends.{AreTogether};
 
 use crate::book::Book;
-use perf_base::Actor;
+use cpu_sched::Sheet;
+use perf_base::{Actor, Steps};
 use sample_ring::Rings;
 use std::marker::{Brand, Model, PhantomData};
+use std::sync::ledger::Ledger;
 
 /// Which run it is: its script as contracts see it, and its rings. Each call of a program picks it.
 pub trait Naming {
@@ -57,17 +60,24 @@ impl<J: Naming> Model for Named<J> {
 
 /// Does the next line of an actor that has one left, in a book whose order is one that a run makes and ends with a
 /// line: so it is then.
-pub fn advance_one(book: &mut Book, rings: &Rings, actor: Actor)
+pub fn advance_one<L: Ledger>(
+    book: &mut Book,
+    rings: &Rings,
+    actor: Actor,
+    sheet: &mut Sheet,
+    tests: &mut Steps<L>,
+)
     requires together { AreTogether rings.now book.old.machine.outs }
     requires under_way { IsUnderWay book.old.order }
     requires line { HasLine book.old.script book.old.machine actor }
+    requires sheet { IsReady sheet.old }
     ensures script { book.new.script ≡ book.old.script }
     ensures order { (looks : List Act) × AreLooksOf actor book.old.order looks × (book.new.order ≡ book.old.order ++ (looks ++ act_of actor ∷ [])) }
     ensures together { AreTogether rings.now book.new.machine.outs }
     ensures under_way { IsUnderWay book.new.order }
     ensures sound { IsBooked book.new }
 {
-    book.advance(rings, actor);
+    book.advance(rings, actor, sheet, tests);
 }
 
 impl<J: Naming> Named<J> {
@@ -95,14 +105,21 @@ impl<J: Naming> Named<J> {
     }
 
     /// Does the next line of an actor, where it has one left.
-    pub fn advance_if(&mut self, rings: &Rings, actor: Actor)
-        requires { rings.now ≡ J.rings }
+    pub fn advance_if<L: Ledger>(
+        &mut self,
+        rings: &Rings,
+        actor: Actor,
+        sheet: &mut Sheet,
+        tests: &mut Steps<L>,
+    )
+        requires rings { rings.now ≡ J.rings }
+        requires sheet { IsReady sheet.old }
         ensures line { HasLine self.old.script self.old.machine actor → (looks : List Act) × AreLooksOf actor self.old.order looks
             × (self.new.order ≡ self.old.order ++ (looks ++ act_of actor ∷ [])) }
         ensures none { (HasLine self.old.script self.old.machine actor → ⊥) → self.new ≡ self.old }
     {
         if self.book.has_line(actor) {
-            advance_one(&mut self.book, rings, actor);
+            advance_one(&mut self.book, rings, actor, sheet, tests);
         }
     }
 }

@@ -1,6 +1,6 @@
 //! A run by threads.
 
-ghost use Rattle.std.specs.Prelude.{◌≡◌, ◌*◌, ◌≤◌, All, [], take};
+ghost use Rattle.std.specs.Prelude.{◌≡◌, ◌*◌, ◌<◌, ◌≤◌, All, IfErr, IfOk, [], take};
 ghost use mathlib.Core.List.{IsPrefix};
 ghost use Rattle.perf_base.specs.Weight.{weight};
 ghost use Rattle.report_spec.specs.Answers.{IsRunShaped};
@@ -12,14 +12,19 @@ ghost use Rattle.machine.specs.Readers.{AreReaders};
 ghost use Rattle.perf_book.specs.Book.{IsBooked};
 ghost use Rattle.perf_book.specs.Plans.{AreTurns, IsPlanned, actor_at, count_of};
 ghost use Rattle.perf_book.specs.Running.{IsRead, IsUnderWay};
+ghost use Rattle.perf_book.specs.Sheets.{IsReady};
 
 use crate::book::Book;
+use crate::doing::plan_next;
 use crate::gate::Gate;
 use crate::named::{Named, Naming, advance_one};
-use crate::workers::run_readers;
-use perf_base::{Actor, CpuNo, ReaderLine, RingNo, Script, ToolNo};
+use crate::workers::{Worker, run_readers};
+use cpu_sched::Sheet;
+use perf_base::{Actor, CpuNo, NoMemory, ReaderLine, RingNo, Script, Steps, ToolNo};
 use sample_ring::{Ins, Rings};
+use std::alloc::Global;
 use std::marker::Brand;
+use std::sync::ledger::{Blank, Ledger};
 use std::sync::{Mutex, Wait};
 use std::thread::Threads;
 
@@ -47,20 +52,17 @@ fn count_of(script: &Script, actor: Actor) -> u32
     count as u32
 }
 
-/// What the threads of a run need of its script: the lines of the readers, and each processor and tool with the number
-/// of its lines.
+/// What the threads of a run need of its script while it lies behind the lock: the lines of the readers.
 #[derive(Drop)]
 struct Plan {
     readers: [ReaderLine; 16],
     reader_count: usize,
-    turns: [(Actor, u32); 12],
 }
 
 impl Plan {
     /// The plan of a script.
     fn of(script: &Script) -> Plan
         ensures readers { IsPlanned script.now.readers result.readers result.reader_count }
-        ensures turns { AreTurns script.now result.turns }
     {
         let lines = script.readers();
         let mut readers = [ReaderLine {
@@ -72,7 +74,6 @@ impl Plan {
         Plan {
             readers,
             reader_count: lines.len(),
-            turns: turns_of(script),
         }
     }
 
@@ -83,6 +84,28 @@ impl Plan {
     {
         &self.readers[..self.reader_count]
     }
+}
+
+/// Adds the worker of a processor or tool, if it has lines.
+fn add_worker(
+    alloc: Global,
+    workers: &mut Vec<Worker>,
+    actor: Actor,
+    lines: u32,
+) -> Result<(), NoMemory>
+    requires { All (λ w. IsReady w.sheet) workers.old.items }
+    ensures { All (λ w. IsReady w.sheet) workers.new.items }
+{
+    if lines == 0 {
+        return Ok(());
+    }
+    let sheet = Sheet::new(alloc)?;
+    workers.push(Worker {
+        actor,
+        lines,
+        sheet,
+    })?;
+    Ok(())
 }
 
 /// Each processor and tool with the number of its lines.
@@ -97,34 +120,95 @@ fn turns_of(script: &Script) -> [(Actor, u32); 12]
     turns
 }
 
+/// A worker for each processor and tool that has lines, the last one first, each with a blank sheet. It fails only
+/// where memory runs out.
+fn workers_of(alloc: Global, turns: &[(Actor, u32); 12]) -> Result<Vec<Worker>, NoMemory>
+    ensures { IfOk result (λ workers. All (λ w. IsReady w.sheet) workers.items) }
+{
+    let mut workers = Vec::with_capacity(alloc, 12)?;
+    for place in 0..12 {
+        let (actor, lines) = turns[11 - place];
+        add_worker(alloc, &mut workers, actor, lines)?;
+    }
+    Ok(workers)
+}
+
 /// Does the lines that an actor has left.
-fn do_rest_of(book: &mut Book, rings: &Rings, actor: Actor)
+fn do_rest_of<L: Ledger>(
+    book: &mut Book,
+    rings: &Rings,
+    actor: Actor,
+    sheet: &mut Sheet,
+    tests: &mut Steps<L>,
+)
     requires together { AreTogether rings.now book.old.machine.outs }
     requires under_way { IsUnderWay book.old.order }
+    requires sheet { IsReady sheet.old }
     ensures script { book.new.script ≡ book.old.script }
     ensures grows { IsPrefix book.old.order book.new.order }
     ensures none { HasLine book.new.script book.new.machine actor → ⊥ }
     ensures together { AreTogether rings.now book.new.machine.outs }
     ensures under_way { IsUnderWay book.new.order }
     ensures sound { IsBooked book.new }
+    ensures sheet { IsReady sheet.new }
 {
     while book.has_line(actor) {
-        advance_one(book, rings, actor);
+        advance_one(book, rings, actor, sheet, tests);
+        plan_next(sheet, tests);
     }
 }
 
 /// Does all lines that are left.
-fn do_rest(book: &mut Book, rings: &Rings)
+fn do_rest<L: Ledger>(book: &mut Book, rings: &Rings, mut sheet: Sheet, blank: Blank)
     requires together { AreTogether rings.now book.old.machine.outs }
     requires under_way { IsUnderWay book.old.order }
+    requires sheet { IsReady sheet }
+    requires name { blank.name ≡ L.name }
+    requires parts { blank.parts ≡ L.parts }
+    requires some { 0 < blank.parts }
     ensures script { book.new.script ≡ book.old.script }
     ensures complete { IsComplete book.new.script book.new.order }
     ensures together { AreTogether rings.now book.new.machine.outs }
     ensures under_way { IsUnderWay book.new.order }
     ensures sound { IsBooked book.new }
 {
+    let mut tests = Steps::<L>::new(blank);
     for place in 0..12u8 {
-        do_rest_of(book, rings, actor_at(place));
+        do_rest_of(book, rings, actor_at(place), &mut sheet, &mut tests);
+    }
+}
+
+/// The same, for a caller that counts no tests.
+fn do_rest_alone(book: &mut Book, rings: &Rings, sheet: Sheet)
+    requires together { AreTogether rings.now book.old.machine.outs }
+    requires under_way { IsUnderWay book.old.order }
+    requires sheet { IsReady sheet }
+    ensures script { book.new.script ≡ book.old.script }
+    ensures complete { IsComplete book.new.script book.new.order }
+    ensures together { AreTogether rings.now book.new.machine.outs }
+    ensures under_way { IsUnderWay book.new.order }
+    ensures sound { IsBooked book.new }
+{
+    do_rest::<Brand>(book, rings, sheet, Blank::new(1));
+}
+
+/// The sheets of a run: those of its workers, and one for the lines that are done after the joins.
+#[derive(Drop)]
+struct Sheets {
+    workers: Vec<Worker>,
+    rest: Sheet,
+}
+
+impl Sheets {
+    /// The sheets of a run, all blank. It fails only where memory runs out.
+    fn new(alloc: Global, turns: &[(Actor, u32); 12]) -> Result<Sheets, NoMemory>
+        ensures workers { IfOk result (λ s. All (λ w. IsReady w.sheet) s.workers.items) }
+        ensures rest { IfOk result (λ s. IsReady s.rest) }
+    {
+        Ok(Sheets {
+            workers: workers_of(alloc, turns)?,
+            rest: Sheet::new(alloc)?,
+        })
     }
 }
 
@@ -134,6 +218,7 @@ fn run_named<J: Naming + Send + Sync, R: Threads + Wait + Sync, G: Gate + Sync>(
     book: Book,
     rings: &Rings,
     ins: Ins,
+    sheets: Sheets,
     gate: &G,
 ) -> (Book, Ins)
     requires script { book.script ≡ J.script }
@@ -141,6 +226,8 @@ fn run_named<J: Naming + Send + Sync, R: Threads + Wait + Sync, G: Gate + Sync>(
     requires empty { book.order ≡ [] }
     requires together { AreTogether rings.now book.machine.outs }
     requires readers { AreReaders (9 * weight book.script) book.machine.outs ins }
+    requires workers { All (λ w. IsReady w.sheet) sheets.workers.items }
+    requires rest { IsReady sheets.rest }
     ensures script { result.0.script ≡ book.script }
     ensures together { AreTogether rings.now result.0.machine.outs }
     ensures complete { IsComplete result.0.script result.0.order }
@@ -149,35 +236,53 @@ fn run_named<J: Naming + Send + Sync, R: Threads + Wait + Sync, G: Gate + Sync>(
     ensures read { (result.1.numbers ≡ ins.numbers) × All (λ r. IsRead book.script ins result.1 r.0) book.script.rings }
 {
     let plan = Plan::of(book.script());
+    let Sheets { workers, rest } = sheets;
     let shared = Mutex::new(Named::<J>::new(book));
-    let ins = run_readers::<J, R, G>(rt, &shared, rings, ins, plan.lines(), &plan.turns, gate);
+    let ins = run_readers::<J, R, G>(rt, &shared, rings, ins, plan.lines(), workers, gate);
     let mut book = shared.into_inner().into_book();
-    do_rest(&mut book, rings);
+    do_rest_alone(&mut book, rings, rest);
     (book, ins)
+}
+
+/// Memory ran out before a run's first act. The book is gone; the readers are as they were.
+#[derive(Drop)]
+pub struct NotRun {
+    pub ins: Ins,
 }
 
 /// Runs a script to its end by threads: one for each processor and tool that has lines, and one for each reader that
 /// has a line. Where a thread can't be started its work is done by the thread that would have started it. The book is
 /// that of a script of which no line was done; it comes back with every line done. A reader is of the same ring as the
 /// end that sends, has released all that it has taken, and has room for 9 words for each unit of the script's weight;
-/// it comes back so. Each worker passes the gate before each line or try. It takes no memory.
+/// it comes back so. Each worker passes the gate before each line or try. A worker of a processor plans its next line
+/// without the lock.
+///
+/// Before the first act it makes a sheet for each worker of a processor or tool, and one for the lines that are left
+/// after the joins. It fails only where memory runs out by that; then the book is gone, and rings and readers are as
+/// they were.
 pub fn run_all<R: Threads + Wait + Sync, G: Gate + Sync>(
     rt: &R,
+    alloc: Global,
     book: Book,
     rings: &Rings,
     ins: Ins,
     gate: &G,
-) -> (Book, Ins)
+) -> Result<(Book, Ins), NotRun>
     requires empty { book.order ≡ [] }
     requires together { AreTogether rings.now book.machine.outs }
     requires readers { AreReaders (9 * weight book.script) book.machine.outs ins }
-    ensures script { result.0.script ≡ book.script }
-    ensures together { AreTogether rings.now result.0.machine.outs }
-    ensures complete { IsComplete result.0.script result.0.order }
-    ensures shaped { IsRunShaped result.0.order × EndsWithLine result.0.order }
-    ensures readers { AreReaders (9 * weight result.0.script) result.0.machine.outs result.1 }
+    ensures script { IfOk result (λ r. r.0.script ≡ book.script) }
+    ensures together { IfOk result (λ r. AreTogether rings.now r.0.machine.outs) }
+    ensures complete { IfOk result (λ r. IsComplete r.0.script r.0.order) }
+    ensures shaped { IfOk result (λ r. IsRunShaped r.0.order × EndsWithLine r.0.order) }
+    ensures readers { IfOk result (λ r. AreReaders (9 * weight r.0.script) r.0.machine.outs r.1) }
     // Each reader with a line made its tries, and took no more than they allow; every other reader is as it was.
-    ensures read { (result.1.numbers ≡ ins.numbers) × All (λ r. IsRead book.script ins result.1 r.0) book.script.rings }
+    ensures read { IfOk result (λ r. (r.1.numbers ≡ ins.numbers) × All (λ ring. IsRead book.script ins r.1 ring.0) book.script.rings) }
+    ensures same { IfErr result (λ left. left.ins ≡ ins) }
 {
-    run_named::<Brand, R, G>(rt, book, rings, ins, gate)
+    let turns = turns_of(book.script());
+    match Sheets::new(alloc, &turns) {
+        Err(_) => Err(NotRun { ins }),
+        Ok(sheets) => Ok(run_named::<Brand, R, G>(rt, book, rings, ins, sheets, gate)),
+    }
 }

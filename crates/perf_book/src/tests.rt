@@ -88,7 +88,7 @@ fn book_of(alloc: Global, script: Script) -> Result<(Book, Rings, Ins), NoMemory
 }
 
 // The same of any script that a book may be of.
-fn begin(rt: &impl Abort, alloc: Global, script: Script) -> Result<(Book, Rings, Ins), Fail>
+pub fn begin(rt: &impl Abort, alloc: Global, script: Script) -> Result<(Book, Rings, Ins), Fail>
     ensures empty { IfOk result (λ r. r.0.order ≡ []) }
     ensures together { IfOk result (λ r. AreTogether r.1 r.0.machine.outs) }
     ensures readers { IfOk result (λ r. AreReaders (9 * weight r.0.script) r.0.machine.outs r.2) }
@@ -111,7 +111,9 @@ fn processors_work_at_one_time(rt: HostRuntime) -> Result<(), Fail> {
         begun: Signal::new(),
         met: Signal::new(),
     };
-    let (_book, _ins) = run_all(&rt, book, &rings, ins, &gate);
+    run_all(&rt, alloc, book, &rings, ins, &gate)
+        .ok()
+        .ok_or("memory")?;
     assert!(rt; gate.met.is_there());
     Ok(())
 }
@@ -121,7 +123,9 @@ fn open_gate_holds_nobody(rt: HostRuntime) -> Result<(), Fail> {
     let alloc: Global = rt.alloc();
     let script = two_processors(alloc).ok().ok_or("memory")?;
     let (book, rings, ins) = begin(&rt, alloc, script)?;
-    let (book, _ins) = run_all(&rt, book, &rings, ins, &OpenGate);
+    let (book, _ins) = run_all(&rt, alloc, book, &rings, ins, &OpenGate)
+        .ok()
+        .ok_or("memory")?;
     assert!(rt; !book.has_line(Actor::Processor(CpuNo(0))));
     Ok(())
 }

@@ -1,16 +1,21 @@
 //! What each thread of a run does.
 
-ghost use Rattle.std.specs.Prelude.{◌≡◌, ◌<◌, ◌∷◌, AllPairs, None, Some, length, slice_get};
+ghost use Rattle.std.specs.Prelude.{◌≡◌, ◌<◌, ◌∷◌, All, AllPairs, IfSome, None, Some, length, slice_get};
 ghost use Rattle.std.specs.Thread.{IsSend, IsSync};
 ghost use Rattle.perf_base.specs.declared.numbers.RingNo.{RingNo as Ring};
 ghost use Rattle.sample_ring.specs.RingLists.{HasRing, ring_index, with_slot};
 ghost use Rattle.report_spec.specs.Answers.{line_for};
 ghost use Rattle.perf_book.specs.Running.{AreReady, HasRead, IsReadBy, slot_of};
+ghost use Rattle.perf_book.specs.Sheets.{IsReady};
 
+use crate::doing::plan_next;
 use crate::gate::Gate;
 use crate::named::{Named, Naming};
-use perf_base::{Actor, ReaderLine};
+use cpu_sched::Sheet;
+use perf_base::{Actor, ReaderLine, Steps};
 use sample_ring::{In, Ins, Rings};
+use std::marker::Brand;
+use std::sync::ledger::{Blank, Ledger};
 use std::sync::{Mutex, Wait};
 use std::thread::{Threads, join};
 
@@ -28,48 +33,90 @@ fn read<G: Gate>(rings: &Rings, mut reader: In, line: ReaderLine, gate: &G) -> I
     reader
 }
 
-/// The lines of a processor or tool. The lock is held in a line alone.
-fn act<J: Naming, R: Wait, G: Gate>(
+/// The thread of a processor or tool: how many lines it does, and the sheet on which it plans.
+#[derive(Drop)]
+pub struct Worker {
+    pub actor: Actor,
+    pub lines: u32,
+    pub sheet: Sheet,
+}
+
+/// The lines of a worker. The lock is held in a line alone: the next one is planned without it.
+fn act<J: Naming, R: Wait, G: Gate, L: Ledger>(
     rt: &R,
     shared: &Mutex<Named<J>>,
     rings: &Rings,
-    actor: Actor,
-    lines: u32,
+    worker: Worker,
     gate: &G,
+    blank: Blank,
 )
-    requires { rings.now ≡ J.rings }
+    requires rings { rings.now ≡ J.rings }
+    requires sheet { IsReady worker.sheet }
+    requires name { blank.name ≡ L.name }
+    requires parts { blank.parts ≡ L.parts }
+    requires some { 0 < blank.parts }
 {
+    let mut tests = Steps::<L>::new(blank);
+    let Worker {
+        actor,
+        lines,
+        mut sheet,
+    } = worker;
     for line in 0..lines {
         gate.before(actor, line);
-        shared.lock(rt).advance_if(rings, actor);
+        shared
+            .lock(rt)
+            .advance_if(rings, actor, &mut sheet, &mut tests);
+        plan_next(&mut sheet, &mut tests);
     }
 }
 
-/// A thread for each processor and tool that has lines, of which the second part says how many.
+/// The lines of a worker, whose tests nobody reads.
+fn work<J: Naming, R: Wait, G: Gate>(
+    rt: &R,
+    shared: &Mutex<Named<J>>,
+    rings: &Rings,
+    worker: Worker,
+    gate: &G,
+)
+    requires rings { rings.now ≡ J.rings }
+    requires sheet { IsReady worker.sheet }
+{
+    act::<J, R, G, Brand>(rt, shared, rings, worker, gate, Blank::new(1));
+}
+
+/// Takes the last worker, if there is one.
+fn take_worker(workers: &mut Vec<Worker>) -> Option<Worker>
+    requires { All (λ w. IsReady w.sheet) workers.old.items }
+    ensures ready { IfSome result (λ w. IsReady w.sheet) }
+    ensures rest { All (λ w. IsReady w.sheet) workers.new.items }
+    ensures fewer { IfSome result (λ w. length workers.new.items < length workers.old.items) }
+{
+    workers.pop()
+}
+
+/// A thread for each worker, the last one first.
 fn run_actors<J: Naming + Send + Sync, R: Threads + Wait + Sync, G: Gate + Sync>(
     rt: &R,
     shared: &Mutex<Named<J>>,
     rings: &Rings,
-    turns: &[(Actor, u32)],
+    mut workers: Vec<Worker>,
     gate: &G,
 )
-    requires { rings.now ≡ J.rings }
+    requires rings { rings.now ≡ J.rings }
+    requires sheets { All (λ w. IsReady w.sheet) workers.items }
 {
-    let Some(((actor, lines), rest)) = turns.split_first() else {
+    let Some(worker) = take_worker(&mut workers) else {
         return;
     };
-    let (actor, lines) = (*actor, *lines);
-    if lines == 0 {
-        return run_actors::<J, R, G>(rt, shared, rings, rest, gate);
-    }
     join(
         rt,
         ||
-            requires { rings.now ≡ J.rings }
-        { act::<J, R, G>(rt, shared, rings, actor, lines, gate) },
+            requires { (rings.now ≡ J.rings) × IsReady worker.sheet }
+        { work::<J, R, G>(rt, shared, rings, worker, gate) },
         ||
-            requires { IsSend J.row × IsSync J.row × IsSync R.row × IsSync G.row × (rings.now ≡ J.rings) }
-        { run_actors::<J, R, G>(rt, shared, rings, rest, gate) },
+            requires { IsSend J.row × IsSync J.row × IsSync R.row × IsSync G.row × (rings.now ≡ J.rings) × All (λ w. IsReady w.sheet) workers.items }
+        { run_actors::<J, R, G>(rt, shared, rings, workers, gate) },
     );
 }
 
@@ -96,17 +143,18 @@ pub fn run_readers<J: Naming + Send + Sync, R: Threads + Wait + Sync, G: Gate + 
     rings: &Rings,
     mut ins: Ins,
     lines: &[ReaderLine],
-    turns: &[(Actor, u32)],
+    workers: Vec<Worker>,
     gate: &G,
 ) -> Ins
     requires rings { rings.now ≡ J.rings }
     requires rise { AllPairs (λ q r. q.ring.0 < r.ring.0) lines.now }
     requires ready { AreReady rings.now ins lines.now }
+    requires sheets { All (λ w. IsReady w.sheet) workers.items }
     ensures numbers { result.numbers ≡ ins.numbers }
     ensures read { (ring : Ring) → IsReadBy (line_for lines.now ring) ins result ring }
 {
     let Some((line, rest)) = lines.split_first() else {
-        run_actors::<J, R, G>(rt, shared, rings, turns, gate);
+        run_actors::<J, R, G>(rt, shared, rings, workers, gate);
         return ins;
     };
     let line = *line;
@@ -119,9 +167,10 @@ pub fn run_readers<J: Naming + Send + Sync, R: Threads + Wait + Sync, G: Gate + 
             ensures { HasRead line reader result }
         { read(rings, reader, line, gate) },
         || -> Ins
-            requires { IsSend J.row × IsSync J.row × IsSync R.row × IsSync G.row × (rings.now ≡ J.rings) × AllPairs (λ q r. q.ring.0 < r.ring.0) rest.now × AreReady rings.now ins rest.now }
+            requires { IsSend J.row × IsSync J.row × IsSync R.row × IsSync G.row × (rings.now ≡ J.rings) × AllPairs (λ q r. q.ring.0 < r.ring.0) rest.now × AreReady rings.now ins rest.now
+                × All (λ w. IsReady w.sheet) workers.items }
             ensures { (result.numbers ≡ ins.numbers) × ((ring : Ring) → IsReadBy (line_for rest.entry.now ring) ins result ring) }
-        { run_readers::<J, R, G>(rt, shared, rings, ins, rest, turns, gate) },
+        { run_readers::<J, R, G>(rt, shared, rings, ins, rest, workers, gate) },
     );
     ins.give_reader(line.ring, reader);
     ins

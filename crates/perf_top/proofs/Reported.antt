@@ -1,5 +1,5 @@
 -- What is written of a run that has ended is its report.
-use Rattle.std.specs.Prelude.{◌≡◌, List, map}
+use Rattle.std.specs.Prelude.{◌≡◌, List}
 use Rattle.std.proofs.Common.{subst}
 use Rattle.perf_base.specs.declared.acts.Act.{Act}
 use Rattle.perf_base.specs.Scripts.{Scripted}

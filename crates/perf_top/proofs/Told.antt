@@ -11,7 +11,6 @@ use Rattle.ring_spec.specs.Records.{words_of}
 use Rattle.ring_spec.specs.Rings.{account_in, bytes_of}
 use Rattle.ring_spec.proofs.Sizes.{sizes_law}
 use Rattle.sample_ring.specs.RingLists.{InList}
-use Rattle.sample_ring.specs.declared.sent.RingNumbers.{RingNumbers}
 use Rattle.machine.specs.declared.ending.RingEnd.{RingEnd}
 use Rattle.machine.specs.Readers.{HasTaken, HaveTaken, IsShown, words_in}
 use Rattle.perf_book.proofs.Declared.{IsDeclared, all-declared}

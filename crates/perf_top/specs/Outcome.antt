@@ -1,5 +1,5 @@
 -- What a call of the program reads, does and leaves. This project's own profile.
-use Rattle.std.specs.Prelude.{◌≡◌, ℕ, ◌+◌, ◌≤◌, ◌⊎◌, All, List, [], ◌∷◌, count_by, length, map, sum_by, take, Option, Some, Result, codes, decimal, slice_get}
+use Rattle.std.specs.Prelude.{◌≡◌, ℕ, ◌+◌, ◌≤◌, ◌⊎◌, All, List, [], ◌∷◌, count_by, length, sum_by, take, Option, Some, Result, codes, decimal, slice_get}
 use Rattle.perf_base.specs.declared.acts.Act.{Act}
 use Rattle.perf_base.specs.declared.acts.Act.TheVariants as act
 use Rattle.perf_base.specs.declared.numbers.RingNo.{RingNo}
@@ -19,7 +19,6 @@ use Rattle.script_spec.specs.Texts.{StandsFor, IsRefused}
 use Rattle.make_spec.specs.Rounds.{script_of_rounds}
 use Rattle.report.specs.Summary.{summary_text, totals_of}
 use Rattle.perf_top.specs.Attributes.{IsAttrCommand, IsLineOf}
-use Rattle.machine.specs.Ended.{Ran}
 use Rattle.report_spec.specs.Answers.{AreReadersParts, IsAnswered, IsRunShaped}
 use Rattle.report_spec.specs.Report.{report, rings_after}
 use Rattle.stat_rows.specs.Rows.{rows_of}

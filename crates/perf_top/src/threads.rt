@@ -22,27 +22,35 @@ use crate::run::{Report, send};
 use crate::status::Status;
 use crate::stop::{BadLook, RunStop};
 use machine::Ended;
+use perf_base::NoMemory;
 use perf_book::{Gate, run_all};
 use perf_io::{Sink, Source};
 use std::alloc::Global;
 use std::sync::Wait;
 use std::thread::Threads;
 
-/// Runs a script to its end.
-fn run_ready<R: Threads + Wait + Sync, G: Gate + Sync>(rt: &R, ready: Ready, gate: &G) -> Ended
+/// Runs a script to its end. It fails only where memory runs out, before the first act.
+fn run_ready<R: Threads + Wait + Sync, G: Gate + Sync>(
+    rt: &R,
+    alloc: Global,
+    ready: Ready,
+    gate: &G,
+) -> Result<Ended, NoMemory>
     requires empty { ready.book.order ≡ [] }
     requires together { AreTogether ready.rings ready.book.machine.outs }
     requires following { AreFollowing (9 * weight ready.book.script) ready.book.machine.outs ready.ins }
     requires unread { AreUnread ready.ins }
-    ensures script { result.script ≡ ready.book.script }
-    ensures ended { IsEnd result }
-    ensures complete { IsComplete result.script result.order }
-    ensures shaped { IsRunShaped result.order }
-    ensures parts { AreReadersParts result.script result.order }
+    ensures script { IfOk result (λ e. e.script ≡ ready.book.script) }
+    ensures ended { IfOk result (λ e. IsEnd e) }
+    ensures complete { IfOk result (λ e. IsComplete e.script e.order) }
+    ensures shaped { IfOk result (λ e. IsRunShaped e.order) }
+    ensures parts { IfOk result (λ e. AreReadersParts e.script e.order) }
 {
     let Ready { rings, ins, book } = ready;
-    let (book, ins) = run_all(rt, book, &rings, ins, gate);
-    book.finish(rings, ins)
+    match run_all(rt, alloc, book, &rings, ins, gate) {
+        Err(_) => Err(NoMemory),
+        Ok((book, ins)) => Ok(book.finish(rings, ins)),
+    }
 }
 
 /// What is left of the script that a source has left, once it was run. All memory is taken before the first act.
@@ -63,7 +71,8 @@ fn run_source<R: Threads + Wait + Sync, S: Source, G: Gate + Sync>(
 {
     let loaded = load(alloc, source)?;
     let ready = prepare(alloc, loaded.script)?;
-    Ok(run_ready::<R, G>(rt, ready, gate))
+    let ended = run_ready::<R, G>(rt, alloc, ready, gate)?;
+    Ok(ended)
 }
 
 /// Reads a script, runs it with a thread for each processor, tool and reader, and writes the report.

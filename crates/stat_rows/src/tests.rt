@@ -10,11 +10,13 @@ use crate::fill_rows;
 use machine::Machine;
 use perf_base::{
     Actor, Attr, AttrFlags, CpuLine, CpuNo, CpuSel, EventNo, Kind, Mode, Name, NoMemory, Script,
-    Sums, TaskSel, ToolLine, ToolNo, Work,
+    Steps, Sums, TaskSel, ToolLine, ToolNo, Work,
 };
 use sample_ring::{Rings, make_rings};
 use stat_table::StatRow;
 use std::alloc::Global;
+use std::marker::Brand;
+use std::sync::ledger::{Blank, Ledger};
 use std::test::Fail;
 
 fn name(byte: u8) -> Name
@@ -72,16 +74,26 @@ fn script(alloc: Global) -> Result<Script, NoMemory> {
 }
 
 /// Does the lines of some actors, but for those that have none left.
-fn do_lines(machine: &mut Machine, script: &Script, rings: &Rings, actors: &[Actor])
+fn do_lines<L: Ledger>(
+    machine: &mut Machine,
+    script: &Script,
+    rings: &Rings,
+    actors: &[Actor],
+    blank: Blank,
+)
+    requires name { blank.name ≡ L.name }
+    requires parts { blank.parts ≡ L.parts }
+    requires some { 0 < blank.parts }
     requires covered { IsCovered script.now }
     requires light { weight script.now ≤ 65536 }
     requires script { IsOf script.now machine.old }
     requires together { AreTogether rings.now machine.old.outs }
     ensures { IsOf script.now machine.new }
 {
+    let mut tests = Steps::<L>::new(blank);
     for actor in actors {
         if machine.has_line(script, *actor) {
-            machine.line(script, rings, *actor);
+            machine.line(script, rings, *actor, None, &mut tests);
         }
     }
 }
@@ -93,7 +105,7 @@ fn rows_after(alloc: Global, script: &Script, actors: &[Actor]) -> Result<Vec<St
 {
     let (rings, outs, _ins) = make_rings(alloc, script.rings(), 0)?;
     let mut machine = Machine::new(alloc, script, outs)?;
-    do_lines(&mut machine, script, &rings, actors);
+    do_lines::<Brand>(&mut machine, script, &rings, actors, Blank::new(1));
     let mut rows = Vec::with_capacity(alloc, 256)?;
     fill_rows(&machine, script, &mut rows);
     Ok(rows)

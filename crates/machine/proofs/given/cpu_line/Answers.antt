@@ -1,8 +1,11 @@
+use Rattle.std.specs.Option.{option_copied}
 use Rattle.std.proofs.Common.{length, refl, sym, subst}
 use Rattle.perf_base.specs.Scripts.{IsCpuLine}
 use Rattle.perf_base.specs.declared.lines.CpuLine.TheVariants as line
 use Rattle.stage_spec.specs.History.{CpuStep}
+use Rattle.machine.specs.Counted.{IsCountedBy}
 use Rattle.machine.specs.Stepped.{IsDoneWith}
+use Rattle.machine.proofs.Counting.{still-cpu_counted}
 use Rattle.machine.proofs.Refused.{stays-same}
 use Rattle.machine.proofs.Lines.{work-room}
 use Rattle.machine.proofs.Stepped.{cpu-sends}
@@ -41,8 +44,8 @@ returns-in-Fork-clause-done g c =
     subst (λ l. IsDoneWith (CpuStep c.args.cpu l) c.args.world.now c.fork.new.world c.args.outs.now c.args.outs.now c.fork.result) (sym c.in-Fork.is)
     (cpu-sends c.args.world.now c.fork.new.world c.args.cpu (line.Fork c.in-Fork.child) c.args.outs.now c.fork.result (λ r. refl) c.fork.ensures.done)
 
-pub returns-clause-done : goal.returns-clause-done
-returns-clause-done g c =
+pub returns-in-Exit-clause-done : goal.returns-in-Exit-clause-done
+returns-in-Exit-clause-done g c =
     subst (λ l. IsDoneWith (CpuStep c.args.cpu l) c.args.world.now c.exit.new.world c.args.outs.now c.args.outs.now c.exit.result) (sym c.in-Exit.is)
     (cpu-sends c.args.world.now c.exit.new.world c.args.cpu line.Exit c.args.outs.now c.exit.result (λ r. refl) c.exit.ensures.done)
 
@@ -55,8 +58,8 @@ returns-in-Tick-clause-ends g c = stays-same c.args.outs.now c.tick.result
 pub returns-in-Fork-clause-ends : goal.returns-in-Fork-clause-ends
 returns-in-Fork-clause-ends g c = stays-same c.args.outs.now c.fork.result
 
-pub returns-clause-ends : goal.returns-clause-ends
-returns-clause-ends g c = stays-same c.args.outs.now c.exit.result
+pub returns-in-Exit-clause-ends : goal.returns-in-Exit-clause-ends
+returns-in-Exit-clause-ends g c = stays-same c.args.outs.now c.exit.result
 
 pub returns-in-Switch-clause-totals : goal.returns-in-Switch-clause-totals
 returns-in-Switch-clause-totals g c = none-grow c.args.cpu c.args.world.now c.switch.new.world c.switch.ensures.totals
@@ -67,5 +70,27 @@ returns-in-Tick-clause-totals g c = none-grow c.args.cpu c.args.world.now c.tick
 pub returns-in-Fork-clause-totals : goal.returns-in-Fork-clause-totals
 returns-in-Fork-clause-totals g c = none-grow c.args.cpu c.args.world.now c.fork.new.world c.fork.ensures.totals
 
-pub returns-clause-totals : goal.returns-clause-totals
-returns-clause-totals g c = none-grow c.args.cpu c.args.world.now c.exit.new.world c.exit.ensures.totals
+pub returns-in-Exit-clause-totals : goal.returns-in-Exit-clause-totals
+returns-in-Exit-clause-totals g c = none-grow c.args.cpu c.args.world.now c.exit.new.world c.exit.ensures.totals
+
+pub returns-in-Switch-clause-counted : goal.returns-in-Switch-clause-counted
+returns-in-Switch-clause-counted g c =
+    subst (λ l. IsCountedBy (option_copied c.args.sheet) (CpuStep c.args.cpu l) c.args.world.now c.switch.new.world c.args.tests.now c.switch.new.tests) (sym c.in-Switch.is) c.switch.ensures.counted
+
+pub returns-in-Tick-clause-counted : goal.returns-in-Tick-clause-counted
+returns-in-Tick-clause-counted g c =
+    subst (λ l. IsCountedBy (option_copied c.args.sheet) (CpuStep c.args.cpu l) c.args.world.now c.tick.new.world c.args.tests.now c.tick.new.tests) (sym c.in-Tick.is) c.tick.ensures.counted
+
+pub returns-in-Work-clause-counted : goal.returns-in-Work-clause-counted
+returns-in-Work-clause-counted g c =
+    subst (λ l. IsCountedBy (option_copied c.args.sheet) (CpuStep c.args.cpu l) c.args.world.now c.work.new.world c.args.tests.now c.args.tests.now) (sym c.in-Work.is)
+    (still-cpu_counted (option_copied c.args.sheet) c.args.world.now c.work.new.world c.args.cpu (line.Work c.in-Work.work) c.args.tests.now (λ other. refl))
+
+pub returns-in-Fork-clause-counted : goal.returns-in-Fork-clause-counted
+returns-in-Fork-clause-counted g c =
+    subst (λ l. IsCountedBy (option_copied c.args.sheet) (CpuStep c.args.cpu l) c.args.world.now c.fork.new.world c.args.tests.now c.args.tests.now) (sym c.in-Fork.is)
+    (still-cpu_counted (option_copied c.args.sheet) c.args.world.now c.fork.new.world c.args.cpu (line.Fork c.in-Fork.child) c.args.tests.now (λ other. refl))
+
+pub returns-in-Exit-clause-counted : goal.returns-in-Exit-clause-counted
+returns-in-Exit-clause-counted g c =
+    subst (λ l. IsCountedBy (option_copied c.args.sheet) (CpuStep c.args.cpu l) c.args.world.now c.exit.new.world c.args.tests.now c.exit.new.tests) (sym c.in-Exit.is) c.exit.ensures.counted

@@ -1,3 +1,4 @@
+use Rattle.std.specs.Option.{option_copied}
 use Rattle.std.proofs.Common.{refl, sym, ◌∙◌}
 use Rattle.perf_base.specs.declared.lines.CpuLine.TheVariants as line
 use Rattle.machine.proofs.Counting.{idle-counted, refused-cpu_counted}
@@ -17,8 +18,8 @@ returns-in-Ok-false-clause-done g c = unswitched-still c.args.world.now c.args.c
 })
 
 pub returns-in-Err-clause-counted : goal.returns-in-Err-clause-counted
-returns-in-Err-clause-counted g c = refused-cpu_counted c.args.world.now c.args.world.now c.args.cpu (line.Switch c.args.to) c.in-Err.reason c.args.tests.now c.in-Err.ensures.refused
+returns-in-Err-clause-counted g c = refused-cpu_counted (option_copied c.args.sheet) c.args.world.now c.args.world.now c.args.cpu (line.Switch c.args.to) c.in-Err.reason c.args.tests.now c.in-Err.ensures.refused
 
 pub returns-in-Ok-false-clause-counted : goal.returns-in-Ok-false-clause-counted
 returns-in-Ok-false-clause-counted g c =
-    idle-counted c.args.world.now c.args.world.now c.args.cpu (line.Switch c.args.to) c.args.tests.now (runs-there _ (sym c.in-Ok-false.ensures.changes ∙ c.in-Ok-false.field-0-test))
+    idle-counted (option_copied c.args.sheet) c.args.world.now c.args.world.now c.args.cpu (line.Switch c.args.to) c.args.tests.now (runs-there _ (sym c.in-Ok-false.ensures.changes ∙ c.in-Ok-false.field-0-test))

@@ -1,4 +1,4 @@
-use Rattle.std.specs.Prelude.{◌≡◌, ℕ, List, ◌∷◌, [], ◌++◌, map}
+use Rattle.std.specs.Prelude.{◌≡◌, List, ◌∷◌, [], ◌++◌}
 use Rattle.perf_base.specs.declared.acts.Act.{Act}
 use Rattle.perf_base.specs.declared.reply.Answer.{Answer}
 use Rattle.std.proofs.Common.{ap, subst, sym, ◌∙◌}
@@ -9,7 +9,7 @@ use Rattle.perf_book.proofs.Answering.{answered-line, same-loads}
 use Rattle.perf_book.proofs.doing.do_line.Goals as goal
 
 pub returns-clause-answered : goal.returns-clause-answered
-returns-clause-answered c =
+returns-clause-answered g c =
     let acts : List Act = c.args.order.now.items in
     let answers : List Answer = c.args.answers.now.items in
     let act : c.push_reserved.new.self.items ≡ acts ++ act_of c.args.actor ∷ [] = c.push_reserved.ensures.items ∙ ap (λ a. acts ++ a ∷ []) c.act_of.ensures in
@@ -20,4 +20,4 @@ returns-clause-answered c =
     (answered-line c.args.script.now acts c.args.machine.now c.args.actor c.line-reply.result answers c.requires.line c.requires.led (c.line-reply.ensures.reply acts c.requires.led) c.requires.answered))
 
 pub returns-clause-loads : goal.returns-clause-loads
-returns-clause-loads c = same-loads c.args.machine.now.outs c.line-reply.new.self.outs c.line-reply.ensures.seen
+returns-clause-loads g c = same-loads c.args.machine.now.outs c.line-reply.new.self.outs c.line-reply.ensures.seen

@@ -2,5 +2,5 @@ use Rattle.perf_book.proofs.UnderWay.{grown-under-way}
 use Rattle.perf_book.proofs.named.advance_one.Goals as goal
 
 pub returns-clause-under_way : goal.returns-clause-under_way
-returns-clause-under_way c =
+returns-clause-under_way g c =
     grown-under-way c.args.book.now.script c.args.book.now.machine c.args.actor c.args.book.now.order c.advance.new.self.order c.requires.line c.requires.under_way c.advance.ensures.order

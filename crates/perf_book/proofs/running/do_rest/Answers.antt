@@ -6,7 +6,7 @@ use Rattle.perf_book.proofs.Left.{all-done, still-none}
 use Rattle.perf_book.proofs.running.do_rest.Goals as goal
 
 pub loop-place-preserved : goal.loop-place-preserved
-loop-place-preserved c = record {
+loop-place-preserved g c = record {
   script = c.do_rest_of.ensures.script ∙ c.loop-place.invariant.script;
   none = λ place low. (
     c.do_rest_of.ensures.sound,
@@ -19,12 +19,13 @@ loop-place-preserved c = record {
   );
   together = c.do_rest_of.ensures.together;
   under_way = c.do_rest_of.ensures.under_way;
+  sheet = c.do_rest_of.ensures.sheet;
 }
 
 pub returns-clause-complete : goal.returns-clause-complete
-returns-clause-complete c =
+returns-clause-complete g c =
     let past : 12 ≤ c.loop-place.place = c.loop-place-test.false in
     all-done c.loop-place.book (c.loop-place.invariant.none 0 (omega (arith, past))).0 (λ place low. (c.loop-place.invariant.none place (omega (arith, low, past))).1)
 
 pub returns-clause-sound : goal.returns-clause-sound
-returns-clause-sound c = let past : 12 ≤ c.loop-place.place = c.loop-place-test.false in (c.loop-place.invariant.none 0 (omega (arith, past))).0
+returns-clause-sound g c = let past : 12 ≤ c.loop-place.place = c.loop-place-test.false in (c.loop-place.invariant.none 0 (omega (arith, past))).0

@@ -4,12 +4,14 @@ use Rattle.work_account.specs.Ends.{AreTogether}
 use Rattle.perf_book.specs.Book.{IsBooked}
 use Rattle.perf_book.specs.Plans.{actor_at}
 use Rattle.perf_book.specs.Running.{IsUnderWay}
+use Rattle.perf_book.specs.Sheets.{IsReady}
 use Rattle.perf_book.proofs.running.do_rest.Given as goal
 
 abbrev pub invariant-loop-place : goal.invariant-loop-place
-invariant-loop-place l = record {
+invariant-loop-place g l = record {
   script : l.book.script ≡ l.initial.book.script;
   none : (place : ℕ) → place < l.place → IsBooked l.book × (HasLine l.book.script l.book.machine (actor_at place) → ⊥);
   together : AreTogether l.rings l.book.machine.outs;
   under_way : IsUnderWay l.book.order;
+  sheet : IsReady l.sheet;
 }

@@ -23,10 +23,10 @@ run_readers-ins-requires-clause-ready g c κs within =
 pub returns-clause-readers : goal.returns-clause-readers
 returns-clause-readers g c =
     let lines = planned c.args.book.script c.script.result.now c.lines.result.now c.of-plan.result.readers c.of-plan.result.reader_count c.lines.ensures c.of-plan.ensures.readers c.script.ensures.script in
-    let same : c.do_rest.new.book.script ≡ c.args.book.script = c.do_rest.ensures.script ∙ (c.into_book-book.ensures.script ∙ sym c.requires.script) in
-    subst (λ (s : Scripted). AreReaders (9 * weight s) c.do_rest.new.book.machine.outs c.run_readers-ins.result) (sym same)
-    (readers-back c.args.book c.do_rest.new.book (9 * weight c.args.book.script) c.args.rings.now c.args.ins c.run_readers-ins.result c.script.ensures.sound c.do_rest.ensures.sound same
-    c.requires.together c.do_rest.ensures.together c.run_readers-ins.ensures.numbers
+    let same : c.do_rest_alone.new.book.script ≡ c.args.book.script = c.do_rest_alone.ensures.script ∙ (c.into_book-book.ensures.script ∙ sym c.requires.script) in
+    subst (λ (s : Scripted). AreReaders (9 * weight s) c.do_rest_alone.new.book.machine.outs c.run_readers-ins.result) (sym same)
+    (readers-back c.args.book c.do_rest_alone.new.book (9 * weight c.args.book.script) c.args.rings.now c.args.ins c.run_readers-ins.result c.script.ensures.sound c.do_rest_alone.ensures.sound same
+    c.requires.together c.do_rest_alone.ensures.together c.run_readers-ins.ensures.numbers
     (λ ring. subst (λ (l : List ReaderLine). IsReadBy (line_for l ring) c.args.ins c.run_readers-ins.result ring) lines (c.run_readers-ins.ensures.read ring)) c.requires.readers)
 
 pub returns-clause-read : goal.returns-clause-read

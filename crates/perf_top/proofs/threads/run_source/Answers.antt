@@ -14,16 +14,16 @@ run_ready-requires-clause-following g c = λ κs lives.
 pub returns-clause-ok : goal.returns-clause-ok
 returns-clause-ok g c =
     let loaded = c.in_ok-loaded.ensures.ok in
-    let e = c.run_ready.result in (
+    let e = c.in_ok-ended.ended in (
       loaded.0,
       loaded.1,
       record {
         script = e.script;
         order = e.order;
-        stands = subst (λ (s : Scripted). StandsFor loaded.0 s) (sym (c.run_ready.ensures.script ∙ c.in_ok-ready.ensures.script)) loaded.2;
-        complete = c.run_ready.ensures.complete;
-        shaped = c.run_ready.ensures.shaped;
-        parts = c.run_ready.ensures.parts;
-        reported = end-reported e c.run_ready.ensures.ended;
+        stands = subst (λ (s : Scripted). StandsFor loaded.0 s) (sym (c.in_ok-ended.ensures.script ∙ c.in_ok-ready.ensures.script)) loaded.2;
+        complete = c.in_ok-ended.ensures.complete;
+        shaped = c.in_ok-ended.ensures.shaped;
+        parts = c.in_ok-ended.ensures.parts;
+        reported = end-reported e c.in_ok-ended.ensures.ended;
       },
     )

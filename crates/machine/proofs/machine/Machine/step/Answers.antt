@@ -63,12 +63,12 @@ returns-clause-no_line c =
 pub returns-clause-reply : goal.returns-clause-reply
 returns-clause-reply c =
     let own : IsOwn c.match-act.actor c.args.act = elim c.match-act.branch [ in-Processor w ↦ subst (λ (x : Actor). IsOwn x c.args.act) (sym w.actor-is) w.in-Processor.is | in-Tool w ↦ subst (λ (x : Actor). IsOwn x c.args.act) (sym w.actor-is) w.in-Tool.is ] in
-    λ acts led. own-answer c.args.script.now acts c.match-act.actor c.args.act c.line.result own (c.line.ensures.reply acts led)
+    λ acts led. own-answer c.args.script.now acts c.match-act.actor c.args.act c.line_alone.result own (c.line_alone.ensures.reply acts led)
 
 pub returns-clause-done : goal.returns-clause-done
 returns-clause-done c =
     let own : IsOwn c.match-act.actor c.args.act = elim c.match-act.branch [ in-Processor w ↦ subst (λ (x : Actor). IsOwn x c.args.act) (sym w.actor-is) w.in-Processor.is | in-Tool w ↦ subst (λ (x : Actor). IsOwn x c.args.act) (sym w.actor-is) w.in-Tool.is ] in
-    λ acts led. subst (λ (a : Act). LeadTo c.args.script.now (acts ++ a ∷ []) c.line.new.self) (own-act c.match-act.actor c.args.act own) (c.line.ensures.done acts led)
+    λ acts led. subst (λ (a : Act). LeadTo c.args.script.now (acts ++ a ∷ []) c.line_alone.new.self) (own-act c.match-act.actor c.args.act own) (c.line_alone.ensures.done acts led)
 
 pub returns-clause-readers : goal.returns-clause-readers
 returns-clause-readers c =
@@ -77,5 +77,5 @@ returns-clause-readers c =
 
 pub returns-clause-following : goal.returns-clause-following
 returns-clause-following c =
-    following-still (9 * weight c.args.script.now) c.args.rings.now c.args.self.now.outs c.line.new.self.outs c.args.ins.now c.requires.following c.requires.together
-    c.line.ensures.together c.line.ensures.seen
+    following-still (9 * weight c.args.script.now) c.args.rings.now c.args.self.now.outs c.line_alone.new.self.outs c.args.ins.now c.requires.following c.requires.together
+    c.line_alone.ensures.together c.line_alone.ensures.seen

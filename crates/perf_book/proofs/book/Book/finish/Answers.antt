@@ -1,4 +1,4 @@
-use Rattle.std.specs.Prelude.{◌≡◌, ◌*◌, List, ◌++◌, map}
+use Rattle.std.specs.Prelude.{◌≡◌, ◌*◌, List, ◌++◌}
 use Rattle.std.proofs.Common.{arith, sym, ap, subst, ◌∙◌}
 use Rattle.perf_base.specs.declared.acts.Act.{Act}
 use Rattle.perf_base.specs.Weight.{weight}

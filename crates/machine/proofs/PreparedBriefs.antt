@@ -1,0 +1,110 @@
+-- What a line that reschedules its processor is planned from is the brief of the stage that its own change leads to.
+use Rattle.std.specs.Prelude.{◌≡◌, ◌<◌, ℕ, Bool, true, false, List, [], ◌∷◌, map, filter, length, Option, Some, None}
+use Rattle.std.proofs.Common.{arith, refl, sym, ap, ◌∙◌, inl, inr}
+use Rattle.std.proofs.lemmas.Bool.{cases_Bool, false≢true}
+use Rattle.perf_base.specs.declared.lines.CpuLine.TheVariants as line
+use Rattle.perf_base.specs.declared.numbers.CpuNo.{CpuNo}
+use Rattle.perf_base.specs.declared.numbers.Key.{Key}
+use Rattle.perf_base.specs.declared.numbers.TaskNo.{TaskNo}
+use Rattle.perf_base.specs.declared.reasons.Reason.{Reason}
+use Rattle.perf_base.specs.declared.standing.Context.{Context}
+use Rattle.perf_base.specs.declared.standing.Context.TheVariants as context
+use Rattle.stage_spec.specs.Exits.{exit_refusal, exited}
+use Rattle.stage_spec.specs.History.{cpu_refusal}
+use Rattle.stage_spec.specs.Stage.{Stage, Group, lists_of, task_on}
+use Rattle.stage_spec.specs.Switching.{is_running, put_on, switch_refusal, switched}
+use Rattle.stage_spec.specs.Verdict.{is_eligible, task_lists}
+use Rattle.stage_laws.specs.Briefs.{GroupBrief}
+use Rattle.stage_laws.specs.Narrowing.{unless_left, unless_no}
+use Rattle.stage_laws.specs.Standings.{brief_of, briefs}
+use Rattle.stage_laws.proofs.Tasks.{is_task-some}
+use Rattle.world_spec.specs.Changes.{place}
+use Rattle.world_spec.specs.Kept.{IsKept}
+use Rattle.world_spec.specs.StageOf.{lists_at, stage_of}
+use Rattle.world_spec.specs.Value.{World, leaders_of}
+use Rattle.world_spec.proofs.Placing.{place-stage}
+use Rattle.cpu_sched.specs.After.{after_brief, brief_with}
+use Rattle.cpu_sched.specs.Briefs.{briefs_at, present_brief}
+use Rattle.cpu_sched.proofs.Relabelled.{briefs-relabelled, id_at, one-pass, relabel}
+use Rattle.task_moves.specs.Turning.{turned_world}
+use Rattle.task_moves.proofs.Rotating.{is-rotated}
+use Rattle.task_moves.proofs.Switching.{switched-on}
+use Rattle.machine.specs.Prepared.{PreparedLaw, by_ids}
+use Rattle.machine.specs.Stepped.{IsReady}
+use Rattle.machine.proofs.Counting.{never-touched}
+use Rattle.machine.proofs.Foreseen.{idle-then, lists-are, own-then, switch-foreseen, tick-foreseen}
+use Rattle.machine.proofs.Ticking.{only-lists}
+
+accepted-of : (o : Option Reason) (b : Bool) → unless_no o b ≡ true → o ≡ None
+accepted-of None b on = refl
+accepted-of (Some r) b on = absurd (false≢true on)
+
+-- a tick
+tick-prepared : (w : World) (cpu : CpuNo) → IsKept w.hardware w → IsReady w → cpu.0 < length w.quiet.running → cpu.0 < 8
+    → by_ids w (after_brief w cpu line.Tick).passes ≡ briefs w.hardware (unless_left (cpu_refusal (stage_of w) cpu line.Tick) (λ s. stage_of (turned_world cpu w)) (stage_of w)) cpu
+tick-prepared w cpu kept ready low small =
+    let v : World = turned_world cpu w in
+    let only : v ≡ record w { contexts = v.contexts } = only-lists cpu w v refl in
+    ap (λ b. by_ids w b.passes) (sym (tick-foreseen w v cpu kept small refl))
+    ∙ (sym (ap (λ (y : World). by_ids y (present_brief v cpu).passes) only)
+    ∙ (briefs-relabelled v cpu ∙ ap (λ (y : World). briefs y.hardware (stage_of v) cpu) only))
+
+-- a switch
+same-running : (o to : Option TaskNo) → is_running o to ≡ true → o ≡ to
+same-running None None on = refl
+same-running (Some task) None on = absurd (false≢true on)
+same-running o (Some task) on = is_task-some o task on
+
+by-placed : (w : World) (cpu : CpuNo) (to : Option TaskNo) (ps : List (List (GroupBrief Key))) → by_ids (place cpu to w) ps ≡ by_ids w ps
+by-placed w cpu None ps = refl
+by-placed w cpu (Some task) ps = refl
+
+hardware-placed : (w : World) (cpu : CpuNo) (to : Option TaskNo) → (place cpu to w).hardware ≡ w.hardware
+hardware-placed w cpu None = refl
+hardware-placed w cpu (Some task) = refl
+
+switch-prepared : (w : World) (cpu : CpuNo) (to : Option TaskNo) → cpu.0 < length w.quiet.running
+    → by_ids w (after_brief w cpu (line.Switch to)).passes ≡ briefs w.hardware (switched cpu to (stage_of w)) cpu
+unfolding switched
+switch-prepared w cpu to low = elim (cases_Bool (is_running (task_on (stage_of w) cpu) to)) [
+  | inl runs ↦
+      ap (λ o. by_ids w (brief_with w cpu o).passes) (sym (same-running (task_on (stage_of w) cpu) to runs))
+      ∙ (briefs-relabelled w cpu
+      ∙ ap (λ s. briefs w.hardware s cpu) (let same : stage_of w ≡ switched cpu to (stage_of w) = λ i. elim (sym runs i) as (λ b. Stage) [ true ↦ stage_of w | false ↦ put_on cpu to (stage_of w) ] in same))
+  | inr off ↦
+      let v : World = place cpu to w in
+      ap (λ b. by_ids w b.passes) (sym (switch-foreseen w w v cpu to low refl refl))
+      ∙ (sym (by-placed w cpu to (present_brief v cpu).passes)
+      ∙ (briefs-relabelled v cpu
+      ∙ ((λ i. briefs (hardware-placed w cpu to i) (place-stage w cpu to i) cpu) ∙ ap (λ s. briefs w.hardware s cpu) (switched-on (stage_of w) cpu to off))))
+]
+
+-- an exit
+exit-prepared : (w : World) (cpu : CpuNo) → cpu.0 < 8 → cpu.0 < length w.quiet.running
+    → by_ids w (after_brief w cpu line.Exit).passes ≡ briefs w.hardware (exited cpu (stage_of w)) cpu
+unfolding exited
+exit-prepared w cpu small low =
+    let s : Stage = stage_of w in
+    let t : Stage = exited cpu s in
+    let own : Context = context.Processor cpu in
+    let of_pass : List Group → List (GroupBrief ℕ) = λ pass. map (brief_of w.hardware) (filter (is_eligible w.hardware cpu) pass) in
+    let idle : task_on t cpu ≡ None = idle-then s cpu (task_on s cpu) refl low in
+    let lists : lists_at w (leaders_of w own) ≡ lists_of t own = sym (own-then s cpu (task_on s cpu) small ∙ lists-are w own) in
+    let pinned : map (relabel (id_at w)) (briefs_at w cpu (leaders_of w own).pinned) ≡ of_pass (lists_of t own).pinned = one-pass w cpu (leaders_of w own).pinned ∙ ap (λ l. of_pass l.pinned) lists in
+    let flexible : map (relabel (id_at w)) (briefs_at w cpu (leaders_of w own).flexible) ≡ of_pass (lists_of t own).flexible =
+    one-pass w cpu (leaders_of w own).flexible ∙ ap (λ l. of_pass l.flexible) lists in
+    let task : task_lists t None ≡ task_lists t (task_on t cpu) = ap (task_lists t) (sym idle) in
+    λ i. pinned i ∷ of_pass (task i).pinned ∷ flexible i ∷ of_pass (task i).flexible ∷ []
+
+pub prepared-briefs : PreparedLaw
+prepared-briefs w cpu (line.Switch to) kept ready low touched =
+    switch-prepared w cpu to low ∙ ap (λ o. briefs w.hardware (unless_left o (switched cpu to) (stage_of w)) cpu) (sym (accepted-of (switch_refusal (stage_of w) cpu to) _ touched))
+prepared-briefs w cpu (line.Work work) kept ready low touched = absurd (false≢true (sym (never-touched (cpu_refusal (stage_of w) cpu (line.Work work))) ∙ touched))
+prepared-briefs w cpu line.Tick kept ready low touched =
+    let small : cpu.0 < 8 = omega (arith, low, ready.machine.sound.cpus.1, ready.machine.cpus) in
+    tick-prepared w cpu kept ready low small
+    ∙ ap (λ s. briefs w.hardware s cpu) (is-rotated w.hardware w cpu kept refl (ready.rescheduled cpu low).judged small)
+prepared-briefs w cpu (line.Fork child) kept ready low touched = absurd (false≢true (sym (never-touched (cpu_refusal (stage_of w) cpu (line.Fork child))) ∙ touched))
+prepared-briefs w cpu line.Exit kept ready low touched =
+    let small : cpu.0 < 8 = omega (arith, low, ready.machine.sound.cpus.1, ready.machine.cpus) in
+    exit-prepared w cpu small low ∙ ap (λ o. briefs w.hardware (unless_left o (exited cpu) (stage_of w)) cpu) (sym (accepted-of (exit_refusal (stage_of w) cpu) _ touched))

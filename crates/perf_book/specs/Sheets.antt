@@ -1,0 +1,25 @@
+-- What becomes of the sheet that an actor brings to its line. This project's own profile.
+use Rattle.std.specs.Prelude.{◌≡◌, ◌⊎◌, true, ⊤, None}
+use Rattle.perf_base.specs.Scripts.{Scripted}
+use Rattle.perf_base.specs.declared.acts.Actor.{Actor}
+use Rattle.perf_base.specs.declared.acts.Actor.TheVariants as actor
+use Rattle.cpu_sched.specs.Sheets.{Held}
+use Rattle.machine.specs.Leading.{Kept}
+use Rattle.machine.specs.Prepared.{prepared}
+
+-- it is blank, or its brief is planned
+abbrev pub IsReady : Held → Type 0
+IsReady sheet = (sheet.brief ≡ None) ⊎ (sheet.planned ≡ true)
+
+-- A processor brings such a sheet. A tool's is not looked at.
+abbrev pub MayBring : Actor → Held → Type 0
+MayBring (actor.Processor cpu) sheet = IsReady sheet
+MayBring (actor.Tool tool) sheet = ⊤
+MayBring (actor.Reader ring) sheet = ⊤
+
+-- After its line a processor's sheet holds the brief of its next one, not planned, or is blank where there is none. A
+-- tool's is as it was.
+abbrev pub sheet_after : Scripted → Kept → Actor → Held → Held
+sheet_after s m (actor.Processor cpu) sheet = prepared s m cpu
+sheet_after s m (actor.Tool tool) sheet = sheet
+sheet_after s m (actor.Reader ring) sheet = sheet
