@@ -1,11 +1,13 @@
 """Tests of the tools that keep the repository: python3 -m unittest discover -s tools/maintain/tests"""
 
 import os
+import subprocess
 import sys
 import tempfile
 import unittest
 
-sys.path.insert(0, os.path.join(os.path.dirname(os.path.abspath(__file__)), ".."))
+TOOLS = os.path.join(os.path.dirname(os.path.abspath(__file__)), "..")
+sys.path.insert(0, TOOLS)
 
 import definition_lines
 import run_then_replay
@@ -31,6 +33,12 @@ class DefinitionLines(unittest.TestCase):
 
     def test_no_file_no_line(self):
         self.assertIsNone(definition_lines.line_of("no/such/file", "judge"))
+
+    def test_the_pages_name_the_lines_at_which_definitions_stand(self):
+        top = os.path.join(TOOLS, "..", "..")
+        check = [sys.executable, os.path.abspath(os.path.join(TOOLS, "definition_lines.py")), "--check"]
+        run = subprocess.run(check, cwd=top, capture_output=True, text=True)
+        self.assertEqual((run.returncode, run.stderr), (0, ""))
 
 
 class Runs(unittest.TestCase):
