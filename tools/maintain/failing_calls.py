@@ -22,7 +22,7 @@ the report is known.
 
 The flush of standard output is no call of the system, so it can't fail here; the tests of perf_top let it fail.
 
-Prints a table: the words, the piece, and how many calls of each stream there were, of which each failed in a run of its
+Prints a table: the words, the piece, and how many calls of each stream there were; each failed in a run of its
 own. Ends with 1 where a run ended otherwise.
 """
 
@@ -64,7 +64,7 @@ def plain(program, words, text):
 
 
 def one_tool(reads):
-    """A script of which one tool has all lines: an open, and so many reads."""
+    """A script whose lines are all one tool's: an open, and a number of reads."""
     head = "perf 1\nmachine cpus=1 counters=1\nkind a mask=1\ntool 0\nopen 0 kind=a task=all cpu=0 format=3\n"
     return (head + "read 0\n" * reads + "order" + " t0" * (reads + 1) + "\nend\n").encode()
 

@@ -21,7 +21,7 @@ case's report. What a run by threads reports has to be what a replay of its orde
 `seats` names.
 
 Under `run` the threads take turns as they come, so the request of a number is not the same one in each run, and there
-may be fewer. So each number has three runs there, and the last number is the first one of which no run had a request.
+may be fewer. So each number has three runs there, and the last number is the first one that no run reached.
 
 Prints a table: the case, the word, the kind, how many numbers there are, and how many runs with a refused request ended
 in the first way and how many in the second. Ends with 1 where a run ended otherwise.
@@ -48,7 +48,7 @@ HEADS = ["Case", "Word", "Requests", "Numbers", "No memory", "Done"]
 
 
 def is_report(program, word, text, report, out):
-    """Whether this is a whole report of the text, of which the report of its own order is known."""
+    """Whether this is a whole report of the text, which the replay of its own order gives too."""
     if word == "replay":
         return out == report
     status, again, note = run_then_replay.call(program, "replay", run_then_replay.with_order(text, out.split(b"\n")[0]))
@@ -66,7 +66,7 @@ def ending(ended, is_whole):
 
 
 def refused_runs(call, runs, step=1):
-    """Yields each number with the ends of its runs, up to the first number of which no run had a request."""
+    """Yields each number with the ends of its runs, up to the first number that no run reached."""
     for number in itertools.count(0, step):
         ends = [call(number) for _ in range(runs)]
         yield number, ends

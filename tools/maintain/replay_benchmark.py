@@ -66,7 +66,7 @@ def large():
 
 
 def copies(tasks):
-    """Tasks that are forked, work and exit: so many, with 64 copies each."""
+    """Tasks that are forked, work and exit, with 64 copies each."""
     head = "perf 1\nmachine cpus=1 counters=4\nkind cycles mask=f\ntask 0\n"
     opens = [f"open {e} kind=cycles task=0 cpu=any format=3 flags=inherit" for e in range(64)]
     reads = [f"read {e}" for e in range(64)]
@@ -91,7 +91,7 @@ def sampling():
 
 
 def counting(events):
-    """Work on one processor, of some length, beside so many events that count it: four of a hardware kind, the others clocks."""
+    """Work on one processor, of some length, beside a number of events that count it: four of a hardware kind, the others clocks."""
     head = "perf 1\nmachine cpus=1 counters=4\nkind cycles mask=f\n"
     opens = [f"open {e} kind={'cycles' if e < 4 else 'task-clock'} task=all cpu=0 format=3" for e in range(events)]
     return script_of(head, {0: ["work 100 user cycles=50"] * WORK_LINES}, opens, ["t0"] * events + ["p0"] * WORK_LINES)

@@ -39,7 +39,7 @@ class EndsOfRefusedMemory(unittest.TestCase):
         self.assertIsNone(self.ending(-6, b"", b""))
 
     def counts(self, numbers, last):
-        """Of a program that has so many requests and says each time that memory ran out, but at the end this."""
+        """Of a program that makes a number of requests and says each time that memory ran out, but at the end this."""
         refused = ended(4, b"", b"perf_run: no memory\n")
         return refused_memory.counts(lambda number: refused if number < numbers else last, 3, lambda out: out == REPORT)
 
