@@ -16,7 +16,7 @@ use Rattle.stage_spec.specs.Stage.{Stage}
 use Rattle.machine.proofs.History.{history-grows}
 
 -- replies to some steps and to some more
-replies-append : (hw : Hardware) (st : Stage) (lost : List Step → EventNo → ℕ) (before steps more : List Step) (replies others : List Reply)
+pub replies-append : (hw : Hardware) (st : Stage) (lost : List Step → EventNo → ℕ) (before steps more : List Step) (replies others : List Reply)
     → AreReplies hw st lost before steps replies → AreReplies hw st lost (before ++ steps) more others → AreReplies hw st lost before (steps ++ more) (replies ++ others)
 unfolding AreReplies
 replies-append hw st lost before [] more [] others h g = subst (λ bs. AreReplies hw st lost bs more others) (append-nil before) g

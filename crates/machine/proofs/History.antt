@@ -15,6 +15,7 @@ use Rattle.stage_spec.specs.Hardware.{hardware_of}
 use Rattle.stage_spec.specs.History.{Step, steps_of, steps_from, history, opening_stage}
 use Rattle.stage_spec.specs.Order.{is_of_cpu, is_of_tool, done_by_cpu, done_by_tool}
 use Rattle.ring_spec.specs.Running.{first_record, record_after, record_of}
+use Rattle.machine.specs.Given.{record_by}
 use Rattle.machine.specs.Leading.{record_in}
 
 steps-push : (s : Scripted) (before acts : List Act) (a : Act) → steps_from s before (acts ++ a ∷ []) ≡ steps_from s before acts ++ steps_of s (before ++ acts) a
@@ -35,12 +36,13 @@ fold-push : {X Y : Type 0} (f : Y → X → Y) (y : Y) (xs : List X) (x : X) →
 fold-push f y [] x = refl
 fold-push f y (z ∷ xs) x = fold-push f (f y z) xs x
 
--- the record with one act more is the one after that act's step
-pub record-push : (s : Scripted) (acts : List Act) (a : Act) (x : Step) → steps_of s acts a ≡ x ∷ [] → record_in s (acts ++ a ∷ []) ≡ record_after (hardware_of s) (record_in s acts) x
+-- the record with one step more is the one after that step, and so it is with one act more
+pub record-more : (s : Scripted) (steps : List Step) (x : Step) → record_by s (steps ++ x ∷ []) ≡ record_after (hardware_of s) (record_by s steps) x
 unfolding record_of
-record-push s acts a x e =
-    ap (fold (record_after (hardware_of s)) (first_record (opening_stage s) s.rings)) (history-push s acts a x e)
-    ∙ fold-push (record_after (hardware_of s)) (first_record (opening_stage s) s.rings) (history s acts) x
+record-more s steps x = fold-push (record_after (hardware_of s)) (first_record (opening_stage s) s.rings) steps x
+
+pub record-push : (s : Scripted) (acts : List Act) (a : Act) (x : Step) → steps_of s acts a ≡ x ∷ [] → record_in s (acts ++ a ∷ []) ≡ record_after (hardware_of s) (record_in s acts) x
+record-push s acts a x e = ap (record_by s) (history-push s acts a x e) ∙ record-more s (history s acts) x
 
 -- one of the counts in a list rises
 pub raised : (counts : List ℕ) (i j : ℕ) → i < length counts → get_or (set counts i (get_or counts i 0 + 1)) j 0 ≡ get_or counts j 0 + cond (i == j) 1 0

@@ -11,13 +11,16 @@ pub mod Exits
 pub mod Following
 pub mod Foreseen
 pub mod Forks
+pub mod GivenLines
 pub mod History
 pub mod Keeping
+pub mod Led
 pub mod Lines
 pub mod Looks
 pub mod Mapped
 pub mod New
 pub mod NextSteps
+pub mod NoRings
 pub mod Opened
 pub mod Opening
 pub mod Pairs

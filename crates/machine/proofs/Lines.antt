@@ -14,6 +14,7 @@ use Rattle.perf_base.specs.declared.lines.Work.{Work}
 use Rattle.perf_base.specs.declared.numbers.CpuNo.{CpuNo}
 use Rattle.perf_base.specs.declared.numbers.ToolNo.{ToolNo}
 use Rattle.perf_base.specs.Scripts.{Scripted, IsCovered, IsScript, IsCpuLine, IsToolLine, lines_of_cpu, lines_of_tool}
+use Rattle.stage_spec.specs.Hardware.{hardware_of}
 use Rattle.stage_spec.proofs.Machines.{script_machine}
 use Rattle.stage_laws.specs.Bounds.{greatest, most_of_line}
 use Rattle.world_spec.specs.Shares.{HaveRoom}
@@ -60,11 +61,17 @@ busy-low s cpu h some = elim (cases_lt cpu.0 s.cpus) [
 ]
 
 -- the machine has as many processors and kinds as the script
-pub machine-cpus : (s : Scripted) (acts : List Act) (m : Kept) → IsScript s → IsCovered s → IsReady m.world → LeadTo s acts m → length m.world.quiet.running ≡ s.cpus
-machine-cpus s acts m h covered ready led = sym ready.machine.cpus ∙ (ap (λ hw. length hw.cpu_pmus) led.hardware ∙ (script_machine s h covered).cpus)
+pub as-many-cpus : (s : Scripted) (w : World) → IsScript s → IsCovered s → IsReady w → w.hardware ≡ hardware_of s → length w.quiet.running ≡ s.cpus
+as-many-cpus s w h covered ready is = sym ready.machine.cpus ∙ (ap (λ hw. length hw.cpu_pmus) is ∙ (script_machine s h covered).cpus)
 
-machine-kinds : (s : Scripted) (acts : List Act) (m : Kept) → IsScript s → IsCovered s → LeadTo s acts m → length m.world.hardware.kind_pmus ≡ length s.kinds
-machine-kinds s acts m h covered led = ap (λ hw. length hw.kind_pmus) led.hardware ∙ (script_machine s h covered).kinds.0
+pub as-many-kinds : (s : Scripted) (w : World) → IsScript s → IsCovered s → w.hardware ≡ hardware_of s → length w.hardware.kind_pmus ≡ length s.kinds
+as-many-kinds s w h covered is = ap (λ hw. length hw.kind_pmus) is ∙ (script_machine s h covered).kinds.0
+
+pub machine-cpus : (s : Scripted) (acts : List Act) (m : Kept) → IsScript s → IsCovered s → IsReady m.world → LeadTo s acts m → length m.world.quiet.running ≡ s.cpus
+machine-cpus s acts m h covered ready led = as-many-cpus s m.world h covered ready led.hardware
+
+pub machine-kinds : (s : Scripted) (acts : List Act) (m : Kept) → IsScript s → IsCovered s → LeadTo s acts m → length m.world.hardware.kind_pmus ≡ length s.kinds
+machine-kinds s acts m h covered led = as-many-kinds s m.world h covered led.hardware
 
 pub cpu-there : (s : Scripted) (acts : List Act) (m : Kept) (cpu : CpuNo) → IsScript s → IsCovered s → IsReady m.world → LeadTo s acts m → HasLine s m (actor.Processor cpu)
     → cpu.0 < length m.world.quiet.running

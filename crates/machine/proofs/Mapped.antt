@@ -86,6 +86,8 @@ none-mapped : (rings : List (RingNo × ℕ)) (cpus : ℕ) (tasks : List TaskNo) 
 unfolding first_stage
 none-mapped rings cpus tasks = All-nil (HasRing rings)
 
+pub mapped-by : (s : Scripted) (steps : List Step) → All (IsLineWithin (limits_of s)) steps → All (HasRing s.rings) (stage_after (hardware_of s) (opening_stage s) steps).mapped
+mapped-by s steps within = steps-map (limits_of s) (hardware_of s) (opening_stage s) steps within (none-mapped s.rings s.cpus s.tasks)
+
 pub mapped-declared : (s : Scripted) (acts : List Act) → IsScript s → All (HasRing s.rings) (stage_after (hardware_of s) (opening_stage s) (history s acts)).mapped
-mapped-declared s acts h =
-    steps-map (limits_of s) (hardware_of s) (opening_stage s) (history s acts) (within s [] acts h) (none-mapped s.rings s.cpus s.tasks)
+mapped-declared s acts h = mapped-by s (history s acts) (within s [] acts h)

@@ -73,7 +73,7 @@ of-key w P k (x ∷ keys) h some = elim (cases_Bool (is_key k x)) [
   | inr other ↦ of-key w P k keys (All-tail P (instance_at w x) (map (instance_at w) keys) h) (omega (arith, some, times-cons k x keys, once-false (is_key k x) other))
 ]
 
-of-live : (hw : Hardware) (w : World) (P : Instance → Type 0) (k : Key) → IsKept hw w → All P (all_instances (stage_of w)) → is_live w k ≡ true → P (instance_at w k)
+pub of-live : (hw : Hardware) (w : World) (P : Instance → Type 0) (k : Key) → IsKept hw w → All P (all_instances (stage_of w)) → is_live w k ≡ true → P (instance_at w k)
 of-live hw w P k kept h live =
     of-key w P k (all_keys w) (subst (All P) (instances-are hw w kept) h) (omega (arith, times-keys hw w kept k, once-true (is_live w k) live))
 

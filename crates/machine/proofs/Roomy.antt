@@ -1,7 +1,6 @@
--- Where acts of a script lead to a machine, its world has room for one line more.
-use Rattle.std.specs.Prelude.{◌≡◌, ℕ, zero, suc, ◌+◌, ◌*◌, ◌^◌, ◌<◌, ◌≤◌, true, is_some, List, [], ◌∷◌, length, sum_by, slice_index_or}
+-- Where given lines, or acts of a script, lead to a machine, its world has room for one line more.
+use Rattle.std.specs.Prelude.{◌≡◌, ℕ, ◌+◌, ◌*◌, ◌^◌, ◌<◌, ◌≤◌, ◌==◌, Bool, true, false, cond, is_some, List, [], ◌∷◌, count_by, sum_by, slice_index_or}
 use Rattle.std.proofs.Common.{arith, refl, sym, ap, subst, ◌∙◌}
-use Rattle.std.proofs.Math.Nat.{mul-suc}
 use Rattle.std.proofs.Math.Path.{fun_ext}
 use Rattle.std.proofs.lemmas.List.Sums.{sum_by-cons}
 use Rattle.perf_base.specs.declared.acts.Act.{Act}
@@ -19,65 +18,70 @@ use Rattle.stage_spec.specs.History.{Step, CpuStep, ToolStep, SeenStep, history,
 use Rattle.stage_spec.specs.Limits.{limits_of}
 use Rattle.stage_spec.specs.Stage.{is_open}
 use Rattle.stage_spec.proofs.Machines.{script_machine}
-use Rattle.stage_laws.specs.Bounds.{most_drawn, most_drawn_by, most_opened_by, AreSmall}
-use Rattle.stage_laws.proofs.BoundsWhole.{few_ids}
+use Rattle.stage_laws.specs.Bounds.{most_drawn, most_drawn_by, most_opened_by, is_line, AreSmall}
+use Rattle.stage_laws.proofs.BoundsWhole.{family_small, few_ids}
 use Rattle.ring_spec.specs.Running.{Running, IsRecordOf, family_by}
 use Rattle.ring_spec.proofs.Running.{record_law}
-use Rattle.ring_laws.proofs.Orders.{by_cpus, by_tools, cpus_from, tools_from, none_done, within}
-use Rattle.ring_laws.proofs.Small.{clock_of_script, sums_of_script}
+use Rattle.ring_laws.proofs.Clocks.{clock_small}
+use Rattle.ring_laws.proofs.Reached.{count-one}
+use Rattle.world_spec.specs.Agreement.{AgreesWith}
 use Rattle.world_spec.specs.Kept.{IsKept, family_sums}
 use Rattle.world_spec.specs.StageOf.{stage_of}
 use Rattle.world_spec.specs.Value.{World, is_live, instance_at, totals_at}
 use Rattle.world_spec.proofs.Agreement.{family-agrees}
 use Rattle.world_spec.proofs.Families.{open-is}
 use Rattle.world_spec.proofs.Staying.{origin-is}
-use Rattle.machine.specs.Leading.{IsWhole, Kept, LeadTo, record_in}
+use Rattle.machine.specs.Given.{IsLedBy, is_line_of, record_by}
+use Rattle.machine.specs.Leading.{IsWhole, Kept, LeadTo}
 use Rattle.machine.specs.Room.{HasRoom}
 use Rattle.machine.specs.Totals.{AreUpTo}
+use Rattle.machine.proofs.Led.{led-by-acts}
 use Rattle.machine.proofs.Totals.{further}
 
--- what an event has counted by the record of acts is what the definitions over the history say, and small
-family-is : (s : Scripted) (acts : List Act) (e : EventNo) → family_by (record_in s acts) e ≡ family_over (hardware_of s) (opening_stage s) (history s acts) e
+-- what an event has counted by the record of steps is what the definitions over them say
+family-is : (s : Scripted) (steps : List Step) (e : EventNo) → family_by (record_by s steps) e ≡ family_over (hardware_of s) (opening_stage s) steps e
 unfolding family_over
-family-is s acts e =
-    let r : Running = record_in s acts in
-    let is : IsRecordOf (hardware_of s) (opening_stage s) s.rings (history s acts) r = record_law (hardware_of s) (opening_stage s) s.rings (history s acts) in
+family-is s steps e =
+    let r : Running = record_by s steps in
+    let is : IsRecordOf (hardware_of s) (opening_stage s) s.rings steps r = record_law (hardware_of s) (opening_stage s) s.rings steps in
     let sums = fun_ext is.sums in
     rw (is.stage, sums, is.folded e) refl
 
 -- The slot of an event that is there is open.
-slot-open : (hw : Hardware) (w : World) (k : Key) → IsKept hw w → is_live w k ≡ true → is_open (stage_of w) (instance_at w k).event ≡ true
+pub slot-open : (hw : Hardware) (w : World) (k : Key) → IsKept hw w → is_live w k ≡ true → is_open (stage_of w) (instance_at w k).event ≡ true
 slot-open hw w k h live =
     let origin = origin-is hw w k h live in
     open-is hw w (instance_at w k).event h ∙ ap is_some origin.1.named
 
 -- what a world has of an open event is what the definitions over the history say, and its stage is the one after it
+family-by : (s : Scripted) (steps : List Step) (w : World) (e : EventNo) → AgreesWith w (record_by s steps) → IsKept w.hardware w → is_open (stage_of w) e ≡ true
+    → family_sums w e.0 ≡ family_over (hardware_of s) (opening_stage s) steps e
+family-by s steps w e agrees kept there = sym (family-agrees w.hardware w (record_by s steps) e kept agrees there) ∙ family-is s steps e
+
 pub family-then : (s : Scripted) (acts : List Act) (m : Kept) (e : EventNo) → LeadTo s acts m → IsKept m.world.hardware m.world → is_open (stage_of m.world) e ≡ true
     → family_sums m.world e.0 ≡ family_over (hardware_of s) (opening_stage s) (history s acts) e
-family-then s acts m e led kept there = sym (family-agrees m.world.hardware m.world (record_in s acts) e kept led.agrees there) ∙ family-is s acts e
+family-then s acts m e led kept there = family-by s (history s acts) m.world e led.agrees kept there
+
+pub stage-by : (s : Scripted) (steps : List Step) (w : World) → AgreesWith w (record_by s steps) → stage_of w ≡ stage_after (hardware_of s) (opening_stage s) steps
+stage-by s steps w agrees = sym agrees.stage ∙ (record_law (hardware_of s) (opening_stage s) s.rings steps).stage
 
 pub stage-then : (s : Scripted) (acts : List Act) (m : Kept) → LeadTo s acts m → stage_of m.world ≡ stage_after (hardware_of s) (opening_stage s) (history s acts)
-stage-then s acts m led = sym led.agrees.stage ∙ (record_law (hardware_of s) (opening_stage s) s.rings (history s acts)).stage
+stage-then s acts m led = stage-by s (history s acts) m.world led.agrees
 
-small-sums : (s : Scripted) (acts : List Act) (m : Kept) (k : Key) → IsScript s → IsCovered s → LeadTo s acts m → IsKept m.world.hardware m.world → is_live m.world k ≡ true
+small-sums : (s : Scripted) (steps : List Step) (m : Kept) (k : Key) → IsScript s → IsCovered s → IsLedBy s steps m → IsKept m.world.hardware m.world → is_live m.world k ≡ true
     → AreSmall (family_sums m.world (instance_at m.world k).event.0)
-small-sums s acts m k h covered led kept live =
+small-sums s steps m k h covered led kept live =
     let e : EventNo = (instance_at m.world k).event in
-    subst AreSmall (sym (family-then s acts m e led kept (slot-open m.world.hardware m.world k kept live))) (sums_of_script s acts e h covered)
+    subst AreSmall (sym (family-by s steps m.world e led.agrees kept (slot-open m.world.hardware m.world k kept live)))
+    (family_small (limits_of s) (hardware_of s) s.tasks steps e (script_machine s h covered) h.tasks led.within led.few)
 
 -- clocks
-small-clock : (s : Scripted) (acts : List Act) (m : Kept) (cpu : CpuNo) → IsScript s → LeadTo s acts m → slice_index_or m.world.quiet.clocks cpu.0 0 < 2 ^ 44
-small-clock s acts m cpu h led =
-    let is : IsRecordOf (hardware_of s) (opening_stage s) s.rings (history s acts) (record_in s acts) = record_law (hardware_of s) (opening_stage s) s.rings (history s acts) in
-    omega (arith, led.agrees.clock cpu, is.clock cpu, clock_of_script s acts cpu h)
+small-clock : (s : Scripted) (steps : List Step) (m : Kept) (cpu : CpuNo) → IsLedBy s steps m → slice_index_or m.world.quiet.clocks cpu.0 0 < 2 ^ 44
+small-clock s steps m cpu led =
+    let is : IsRecordOf (hardware_of s) (opening_stage s) s.rings steps (record_by s steps) = record_law (hardware_of s) (opening_stage s) s.rings steps in
+    omega (arith, led.agrees.clock cpu, is.clock cpu, clock_small (limits_of s) steps cpu led.within led.few)
 
 -- ids: each line draws at most 4,096
-abbrev cpu_most : CpuLine → ℕ
-cpu_most line = 4096
-
-abbrev tool_most : ToolLine → ℕ
-tool_most line = 4096
-
 cpu-draws : (line : CpuLine) → most_drawn_by line ≤ 4096
 cpu-draws (cpu_line.Switch to) = omega arith
 cpu-draws (cpu_line.Work w) = omega arith
@@ -98,80 +102,48 @@ tool-draws (tool_line.Close event) = omega arith
 tool-draws (tool_line.Why event) = omega arith
 tool-draws (tool_line.Seats cpu) = omega arith
 
-drawn-by : (steps : List Step) → sum_by most_drawn steps ≤ sum_by (by_tools tool_most) steps + sum_by (by_cpus cpu_most) steps
-drawn-by [] = omega arith
-drawn-by (CpuStep cpu line ∷ steps) = omega (
-  arith,
-  drawn-by steps,
-  cpu-draws line,
-  sum_by-cons most_drawn (CpuStep cpu line) steps,
-  sum_by-cons (by_tools tool_most) (CpuStep cpu line) steps,
-  sum_by-cons (by_cpus cpu_most) (CpuStep cpu line) steps,
-)
-drawn-by (ToolStep line ∷ steps) = omega (
-  arith,
-  drawn-by steps,
-  tool-draws line,
-  sum_by-cons most_drawn (ToolStep line) steps,
-  sum_by-cons (by_tools tool_most) (ToolStep line) steps,
-  sum_by-cons (by_cpus cpu_most) (ToolStep line) steps,
-)
-drawn-by (SeenStep ring place ∷ steps) = omega (
-  arith,
-  drawn-by steps,
-  sum_by-cons most_drawn (SeenStep ring place) steps,
-  sum_by-cons (by_tools tool_most) (SeenStep ring place) steps,
-  sum_by-cons (by_cpus cpu_most) (SeenStep ring place) steps,
-)
+few-drawn : (steps : List Step) → sum_by most_drawn steps ≤ 4096 * count_by is_line steps
+few-drawn [] = omega arith
+few-drawn (CpuStep cpu line ∷ steps) = omega (arith, few-drawn steps, cpu-draws line, sum_by-cons most_drawn (CpuStep cpu line) steps, count-one is_line (CpuStep cpu line) steps)
+few-drawn (ToolStep line ∷ steps) = omega (arith, few-drawn steps, tool-draws line, sum_by-cons most_drawn (ToolStep line) steps, count-one is_line (ToolStep line) steps)
+few-drawn (SeenStep ring place ∷ steps) = omega (arith, few-drawn steps, sum_by-cons most_drawn (SeenStep ring place) steps, count-one is_line (SeenStep ring place) steps)
 
-each-most : {X : Type 0} (n : ℕ) (xs : List X) → sum_by (λ x. n) xs ≡ n * length xs
-each-most n [] = omega arith
-each-most n (x ∷ xs) = omega (arith, each-most n xs, sum_by-cons (λ y. n) x xs, mul-suc n (length xs))
+small-ids : (s : Scripted) (steps : List Step) (m : Kept) → IsScript s → IsCovered s → IsLedBy s steps m → m.world.quiet.next_id ≤ 1 + 4096 * 16384
+small-ids s steps m h covered led =
+    let stage : stage_of m.world ≡ stage_after (hardware_of s) (opening_stage s) steps = stage-by s steps m.world led.agrees in
+    let few = few_ids (limits_of s) (hardware_of s) s.tasks steps (script_machine s h covered) h.tasks led.within in
+    omega (arith, ap (λ st. st.next_id) stage, few, few-drawn steps, led.few)
 
-all-most : {X : Type 0} (lists : List (List X)) → sum_by (sum_by (λ x. 4096)) lists ≡ 4096 * sum_by length lists
-all-most [] = refl
-all-most (xs ∷ lists) = omega (arith, each-most 4096 xs, all-most lists, sum_by-cons (sum_by (λ x. 4096)) xs lists, sum_by-cons length xs lists)
+-- totals: each processor did few lines
+pub one-at-most : (b : Bool) → cond b 1 0 ≤ 1
+one-at-most true = omega arith
+one-at-most false = omega arith
 
-few-drawn : (s : Scripted) (acts : List Act) → IsScript s → sum_by most_drawn (history s acts) ≤ 4096 * 16384
-few-drawn s acts h = omega (
-  arith,
-  drawn-by (history s acts),
-  tools_from s tool_most [] acts,
-  cpus_from s cpu_most [] acts,
-  none_done tool_most s.tool_lines,
-  none_done cpu_most s.cpu_lines,
-  all-most s.tool_lines,
-  all-most s.cpu_lines,
-  h.lines_few,
-)
+pub lines-of-one : (cpu : CpuNo) (steps : List Step) → count_by (is_line_of cpu) steps ≤ count_by is_line steps
+lines-of-one cpu [] = omega arith
+lines-of-one cpu (CpuStep other line ∷ steps) =
+    omega (arith, lines-of-one cpu steps, one-at-most (other.0 == cpu.0), count-one (is_line_of cpu) (CpuStep other line) steps, count-one is_line (CpuStep other line) steps)
+lines-of-one cpu (ToolStep line ∷ steps) = omega (arith, lines-of-one cpu steps, count-one (is_line_of cpu) (ToolStep line) steps, count-one is_line (ToolStep line) steps)
+lines-of-one cpu (SeenStep ring place ∷ steps) =
+    omega (arith, lines-of-one cpu steps, count-one (is_line_of cpu) (SeenStep ring place) steps, count-one is_line (SeenStep ring place) steps)
 
-small-ids : (s : Scripted) (acts : List Act) (m : Kept) → IsScript s → IsCovered s → LeadTo s acts m → m.world.quiet.next_id ≤ 1 + 4096 * 16384
-small-ids s acts m h covered led =
-    let is : IsRecordOf (hardware_of s) (opening_stage s) s.rings (history s acts) (record_in s acts) = record_law (hardware_of s) (opening_stage s) s.rings (history s acts) in
-    let stage : stage_of m.world ≡ stage_after (hardware_of s) (opening_stage s) (history s acts) = sym led.agrees.stage ∙ is.stage in
-    let few = few_ids (limits_of s) (hardware_of s) s.tasks (history s acts) (script_machine s h covered) h.tasks (within s [] acts h) in
-    omega (arith, ap (λ st. st.next_id) stage, few, few-drawn s acts h)
-
--- totals: each processor has few lines
-few-of : {X : Type 0} (lists : List (List X)) (i : ℕ) → length (slice_index_or lists i []) ≤ sum_by length lists
-few-of [] i = omega arith
-few-of (xs ∷ lists) zero = omega (arith, sum_by-cons length xs lists)
-few-of (xs ∷ lists) (suc i) = omega (arith, few-of lists i, sum_by-cons length xs lists)
-
-small-totals : (s : Scripted) (acts : List Act) (m : Kept) (cpu : CpuNo) → IsScript s → LeadTo s acts m → AreUpTo (slice_index_or m.cpus cpu.0 0 * 1000000000) (totals_at m.world cpu)
+small-totals : (s : Scripted) (steps : List Step) (m : Kept) (cpu : CpuNo) → IsLedBy s steps m → AreUpTo (slice_index_or m.cpus cpu.0 0 * 1000000000) (totals_at m.world cpu)
     → AreUpTo (2 ^ 62) (totals_at m.world cpu)
-small-totals s acts m cpu h led up =
+small-totals s steps m cpu led up =
     let lines : ℕ = slice_index_or m.cpus cpu.0 0 in
-    let few : lines ≤ 16384 = omega (arith, led.cpus cpu, led.counted.cpus cpu, few-of s.cpu_lines cpu.0, h.lines_few) in
+    let few : lines ≤ 16384 = omega (arith, led.cpus cpu, lines-of-one cpu steps, led.few) in
     further (lines * 1000000000) (2 ^ 62) (totals_at m.world cpu) (omega (arith, few)) up
 
-pub has-room : (s : Scripted) (acts : List Act) (m : Kept) → IsScript s → IsCovered s → LeadTo s acts m → IsKept m.world.hardware m.world → IsWhole m → HasRoom m.world
-has-room s acts m h covered led kept whole = record {
+pub room-by : (s : Scripted) (steps : List Step) (m : Kept) → IsScript s → IsCovered s → IsLedBy s steps m → IsKept m.world.hardware m.world → IsWhole m → HasRoom m.world
+room-by s steps m h covered led kept whole = record {
   sums = record {
-    counts = λ k live. omega (arith, (small-sums s acts m k h covered led kept live).count);
-    times = λ k live. omega (arith, (small-sums s acts m k h covered led kept live).enabled);
+    counts = λ k live. omega (arith, (small-sums s steps m k h covered led kept live).count);
+    times = λ k live. omega (arith, (small-sums s steps m k h covered led kept live).enabled);
   };
-  clocks = λ cpu. omega (arith, small-clock s acts m cpu h led);
-  totals = λ cpu. small-totals s acts m cpu h led (whole.totals cpu);
-  ids = omega (arith, small-ids s acts m h covered led);
+  clocks = λ cpu. omega (arith, small-clock s steps m cpu led);
+  totals = λ cpu. small-totals s steps m cpu led (whole.totals cpu);
+  ids = omega (arith, small-ids s steps m h covered led);
 }
+
+pub has-room : (s : Scripted) (acts : List Act) (m : Kept) → IsScript s → IsCovered s → LeadTo s acts m → IsKept m.world.hardware m.world → IsWhole m → HasRoom m.world
+has-room s acts m h covered led kept whole = room-by s (history s acts) m h covered (led-by-acts s acts m h led) kept whole

@@ -67,11 +67,11 @@ pub tool-sends : (w after : World) (l : ToolLine) (outs : OutList) (reply : Repl
 tool-sends w after l outs reply = sends-none (ToolStep l) w after outs reply (λ r. refl) (λ ring. refl)
 
 -- one reply by the record is the reply
-one-cpu : (hw : Hardware) (r : Running) (cpu : CpuNo) (line : CpuLine) (reply : Reply) → IsAnswerBy hw r (CpuStep cpu line) reply → AreRepliesBy hw r (CpuStep cpu line ∷ []) (reply ∷ [])
+pub one-cpu : (hw : Hardware) (r : Running) (cpu : CpuNo) (line : CpuLine) (reply : Reply) → IsAnswerBy hw r (CpuStep cpu line) reply → AreRepliesBy hw r (CpuStep cpu line ∷ []) (reply ∷ [])
 unfolding AreRepliesBy
 one-cpu hw r cpu line reply h = (h, tt)
 
-one-tool : (hw : Hardware) (r : Running) (line : ToolLine) (reply : Reply) → IsAnswerBy hw r (ToolStep line) reply → AreRepliesBy hw r (ToolStep line ∷ []) (reply ∷ [])
+pub one-tool : (hw : Hardware) (r : Running) (line : ToolLine) (reply : Reply) → IsAnswerBy hw r (ToolStep line) reply → AreRepliesBy hw r (ToolStep line ∷ []) (reply ∷ [])
 unfolding AreRepliesBy
 one-tool hw r line reply h = (h, tt)
 

@@ -2,6 +2,7 @@ pub mod Codes
 pub mod Counted
 pub mod Ended
 pub mod Events
+pub mod Given
 pub mod Leading
 pub mod Left
 pub mod Prepared

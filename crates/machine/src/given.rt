@@ -90,3 +90,53 @@ pub fn tool_line<L: Ledger>(world: &mut World, line: &ToolLine, tests: &mut Step
         ToolLine::Seats { cpu } => tools::seats(world, *cpu),
     }
 }
+
+/// Does a given line of a processor without a sheet, for a caller that counts no tests.
+pub fn cpu_line_alone<L: Ledger>(
+    world: &mut World,
+    cpu: CpuNo,
+    line: &CpuLine,
+    rings: &Rings,
+    outs: &mut Outs,
+    blank: Blank,
+) -> Reply
+    requires name { blank.name ≡ L.name }
+    requires parts { blank.parts ≡ L.parts }
+    requires some { 0 < blank.parts }
+    requires ready { IsReady world.old }
+    requires cpu { cpu.0 < length world.old.quiet.running }
+    requires line { IsCpuLine (length world.old.hardware.kind_pmus) line.now }
+    requires room { HasRoom world.old }
+    requires together { AreTogether rings.now outs.old }
+    requires rings { HaveRings world.old outs.old.numbers }
+    requires space { (work : Stretch) → line.now ≡ cpu_line.Work work → HaveSpaceToSend world.old (ends_of outs.old world.old) cpu work }
+    ensures ready { IsReady world.new }
+    ensures done { IsDoneWith (CpuStep cpu line.now) world.old world.new outs.old outs.new result }
+    ensures same { StaysIfRefused world.old world.new result }
+    ensures ends { StaysIfRefused outs.old outs.new result }
+    ensures hardware { world.new.hardware ≡ world.old.hardware }
+    ensures totals { HaveGrown cpu world.old world.new }
+    ensures together { AreTogether rings.now outs.new }
+    ensures seen { seen_of outs.new ≡ seen_of outs.old }
+{
+    let mut tests = Steps::<L>::new(blank);
+    cpu_line(world, cpu, line, rings, outs, None, &mut tests)
+}
+
+/// Does a given line of a tool, for a caller that counts no tests.
+pub fn tool_line_alone<L: Ledger>(world: &mut World, line: &ToolLine, blank: Blank) -> Reply
+    requires name { blank.name ≡ L.name }
+    requires parts { blank.parts ≡ L.parts }
+    requires some { 0 < blank.parts }
+    requires ready { IsReady world.old }
+    requires line { IsLineFor world.old line.now }
+    requires room { HasRoom world.old }
+    ensures ready { IsReady world.new }
+    ensures done { IsDone (ToolStep line.now) world.old world.new result }
+    ensures same { StaysIfRefused world.old world.new result }
+    ensures hardware { world.new.hardware ≡ world.old.hardware }
+    ensures totals { world.new.quiet.totals ≡ world.old.quiet.totals }
+{
+    let mut tests = Steps::<L>::new(blank);
+    tool_line(world, line, &mut tests)
+}

@@ -9,6 +9,7 @@ mod ended;
 mod ending;
 mod events;
 mod given;
+mod giving;
 mod laws;
 mod looking;
 mod machine;
@@ -22,6 +23,6 @@ mod tools;
 
 pub use ended::Ended;
 pub use ending::RingEnd;
-pub use laws::lines_are_planned_from_the_stages_briefs;
+pub use laws::{acts_lead_as_given_lines, lines_are_planned_from_the_stages_briefs};
 pub use machine::Machine;
 pub use stepping::OrderFault;
