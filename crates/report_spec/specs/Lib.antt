@@ -1,2 +1,4 @@
 pub mod Answers
+pub mod Laws
+pub mod Published
 pub mod Report

@@ -1,0 +1,74 @@
+-- The looks at an event that are published on a page while a script is run, and what `watch` writes of them. This
+-- project's own profile, in the place of struct perf_event_mmap_page of perf_event_open(2).
+use Rattle.std.specs.Prelude.{◌≡◌, ℕ, Bool, true, false, List, [], ◌∷◌, ◌++◌, length, Contains, codes, decimal, Some}
+use Rattle.perf_base.specs.declared.numbers.EventNo.{EventNo}
+use Rattle.perf_base.specs.declared.acts.Act.{Act}
+use Rattle.perf_base.specs.declared.acts.Act.TheVariants as act
+use Rattle.perf_base.specs.declared.reply.Sums.{Sums}
+use Rattle.perf_base.specs.Scripts.{Scripted}
+use Rattle.stage_spec.specs.Hardware.{hardware_of}
+use Rattle.stage_spec.specs.Stage.{is_open}
+use Rattle.stage_spec.specs.History.{stage_after, history, opening_stage}
+use Rattle.stage_spec.specs.Families.{family_sums}
+use Rattle.user_page.specs.declared.look.Look.{Look}
+use Rattle.user_page.specs.Looks.{zero_look, last_look}
+use Rattle.report_spec.specs.Report.{numbers_text}
+
+-- whether an event is open after some acts of a script
+abbrev pub is_open_after : Scripted → List Act → EventNo → Bool
+is_open_after s acts e = is_open (stage_after (hardware_of s) (opening_stage s) (history s acts)) e
+
+-- what the event has then counted with its copies
+abbrev pub sums_after : Scripted → List Act → EventNo → Sums
+sums_after s acts e = family_sums (hardware_of s) (opening_stage s) (history s acts) e
+
+-- a look with these sums after so many acts, and the look at an event after some acts, looks at rings among them
+abbrev pub look_of : ℕ → Sums → Look
+look_of at sums = record { at = at; count = sums.count; enabled = sums.enabled; running = sums.running }
+
+abbrev pub look_after : Scripted → List Act → EventNo → Look
+look_after s acts e = look_of (length acts) (sums_after s acts e)
+
+-- Whether an act publishes a look, after the acts before it. A line of a processor or of a tool does where the event is
+-- open after it. A look at a ring does not.
+abbrev pub publishes : Scripted → (before : List Act) → Act → EventNo → Bool
+publishes s before (act.Processor cpu) e = is_open_after s (before ++ act.Processor cpu ∷ []) e
+publishes s before (act.Tool tool) e = is_open_after s (before ++ act.Tool tool ∷ []) e
+publishes s before (act.Seen ring place) e = false
+
+-- what it publishes: the look after it, or none
+abbrev pub looks_if : Bool → Look → List Look
+looks_if true look = look ∷ []
+looks_if false look = []
+
+abbrev pub looks_by : Scripted → (before : List Act) → Act → EventNo → List Look
+looks_by s before a e = looks_if (publishes s before a e) (look_after s (before ++ a ∷ []) e)
+
+-- what acts publish, the first of them after some acts
+unfoldable pub looks_from : Scripted → (before acts : List Act) → EventNo → List Look
+looks_from s before [] e = []
+looks_from s before (a ∷ acts) e = looks_by s before a e ++ looks_from s (before ++ a ∷ []) acts e
+
+-- The looks that an order publishes: one of zeros, and then those of its acts.
+unfoldable pub published_looks : Scripted → List Act → EventNo → List Look
+published_looks s order e = zero_look ∷ looks_from s [] order e
+
+-- the three sums of a look, a space before each
+abbrev pub look_text : Look → List ℕ
+look_text look = numbers_text (look.count ∷ look.enabled ∷ look.running ∷ [])
+
+-- the line of the watcher's last look, and that of the last look that was published
+abbrev pub watch_line : EventNo → Look → List ℕ
+watch_line e look = codes "watch " ++ decimal e.0 ++ codes " at=" ++ decimal look.at ++ look_text look ++ 10 ∷ []
+
+abbrev pub final_line : EventNo → Look → List ℕ
+final_line e look = codes "final " ++ decimal e.0 ++ look_text look ++ 10 ∷ []
+
+-- What `watch` writes behind the report of an order: the look that the watcher saw last, which is one of those published,
+-- and the last one of these.
+pub record IsWatched (s : Scripted) (order : List Act) (e : EventNo) (text : List ℕ) : Type 0 where
+  pub seen : Look
+  pub final : Look
+  pub published : Contains (published_looks s order e) seen
+  pub last : last_look (published_looks s order e) ≡ Some final
+  pub written : text ≡ watch_line e seen ++ final_line e final
