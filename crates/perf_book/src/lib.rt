@@ -19,6 +19,8 @@ pub use machine::OrderFault;
 pub use running::{NotRun, run_all};
 
 #[cfg(test)]
+mod late_open_tests;
+#[cfg(test)]
 mod planning_tests;
 #[cfg(test)]
 mod tests;

@@ -1,11 +1,12 @@
 //! Lines of a processor by sheets that are planned in time.
 
-ghost use Rattle.std.specs.Prelude.{◌≡◌, ◌<◌, true, []};
+ghost use Rattle.std.specs.Prelude.{◌≡◌, ◌<◌, ◌≤◌, true, []};
 ghost use Rattle.perf_base.specs.Scripts.{IsCpuLine, IsToolLine};
 ghost use Rattle.perf_base.specs.declared.acts.Actor.TheVariants as actor;
 ghost use Rattle.work_account.specs.Ends.{AreTogether};
 ghost use Rattle.machine.specs.Leading.{HasLine};
 ghost use Rattle.machine.specs.Prepared.{prepared};
+ghost use Rattle.perf_book.specs.LateOpen.{opening, stretch};
 ghost use Rattle.perf_book.specs.Sheets.{IsReady};
 
 use crate::Book;
@@ -66,39 +67,25 @@ fn two_by_plan<L: Ledger, P: Ledger>(
     true
 }
 
-// A stretch of work in which the kind occurs so often, a thousand million times at most.
-fn stretch(occurrences: u64) -> CpuLine
-    ensures { IsCpuLine 1 result }
+// A stretch of work in which the kind occurs so often.
+pub fn stretch(occurrences: u64) -> CpuLine
+    requires { occurrences ≤ 1000000000 }
+    ensures line { result ≡ stretch occurrences }
+    ensures fits { IsCpuLine 1 result }
 {
     CpuLine::Work(Work {
         length: 10,
         mode: Mode::User,
         ip: 0,
-        hits: [
-            occurrences.min(1000000000),
-            0,
-            0,
-            0,
-            0,
-            0,
-            0,
-            0,
-            0,
-            0,
-            0,
-            0,
-            0,
-            0,
-            0,
-            0,
-        ],
+        hits: [occurrences, 0, 0, 0, 0, 0, 0, 0, 0, 0, 0, 0, 0, 0, 0, 0],
     })
 }
 
 // An event of the kind on the processor, in a slot.
-fn open(slot: u16) -> ToolLine
+pub fn open(slot: u16) -> ToolLine
     requires { slot < 256 }
-    ensures { IsToolLine 1 1 [] result }
+    ensures line { result ≡ opening slot }
+    ensures fits { IsToolLine 1 1 [] result }
 {
     let attr = Attr {
         kind: Kind::Hard(0),

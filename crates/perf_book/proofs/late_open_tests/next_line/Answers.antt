@@ -1,0 +1,12 @@
+use Rattle.std.specs.Prelude.{◌≤◌}
+use Rattle.std.proofs.Common.{subst, sym}
+use Rattle.perf_base.specs.Scripts.{IsCovered, Scripted}
+use Rattle.perf_base.specs.Weight.{weight}
+use Rattle.perf_book.proofs.LateOpens.{covered, light}
+use Rattle.perf_book.proofs.late_open_tests.next_line.Goals as goal
+
+pub line-requires-clause-covered : goal.line-requires-clause-covered
+line-requires-clause-covered g c = subst IsCovered (sym c.requires.script) covered
+
+pub line-requires-clause-light : goal.line-requires-clause-light
+line-requires-clause-light g c = subst (λ (s : Scripted). weight s ≤ 65536) (sym c.requires.script) light
