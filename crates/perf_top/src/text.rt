@@ -1,6 +1,6 @@
 //! Reading a source to its end, or past the limit.
 
-ghost use Rattle.std.specs.Prelude.{◌≡◌, ◌+◌, ◌<◌, ◌≤◌, length, take, vec_len, IfOk, IfErr, IfSome, Err};
+ghost use Rattle.std.specs.Prelude.{◌≡◌, ◌+◌, ◌<◌, ◌≤◌, [], ◌++◌, length, vec_capacity, vec_len, IfOk, IfErr, IfSome, OnOk, Err};
 ghost use Rattle.perf_io.specs.Outside.{Takes, IsAtEnd, Rose};
 
 use perf_io::Source;
@@ -17,24 +17,40 @@ pub enum TextStop {
     TooLong,
 }
 
-/// Reads to the end into the front of the room, and answers how many bytes. A source that has as many bytes
-/// as the room or more is read so far and no further.
-fn fill<S: Source>(source: &mut S, room: &mut [u8]) -> Result<usize, TextStop>
-    requires { 0 < length room.old }
+/// How many bytes are asked for at a time.
+const PIECE_BYTES: usize = 16384;
+
+/// Adds bytes to a text that has room for them.
+fn push_all(text: &mut Vec<u8>, bytes: &[u8])
+    requires { vec_len text.old + length bytes.now ≤ vec_capacity text.old }
+    ensures items { text.new.items ≡ text.old.items ++ bytes.now }
+    ensures len { vec_len text.new ≡ vec_len text.old + length bytes.now }
+    ensures capacity { vec_capacity text.old ≤ vec_capacity text.new }
+{
+    let _ = text.extend_from_slice(bytes);
+}
+
+/// Reads all that a source has left into a text that is empty and has room for one byte more than a text may have. It
+/// touches no more of the room than there are bytes. A source that has more than a text may have is read so far and no
+/// further.
+fn fill<S: Source>(source: &mut S, text: &mut Vec<u8>) -> Result<(), TextStop>
+    requires empty { text.old.items ≡ [] }
+    requires room { MOST_BYTES + 1 ≤ vec_capacity text.old }
     ensures count { S.faults source.old ≤ S.faults source.new }
-    ensures ok { IfOk result (λ n. (n < length room.new) × Takes (S.left source.old) (S.left source.new) (take n room.new) × IsAtEnd (S.left source.new)) }
+    ensures ok { OnOk result ((length text.new.items ≤ MOST_BYTES) × Takes (S.left source.old) (S.left source.new) text.new.items × IsAtEnd (S.left source.new)) }
     ensures no_memory { result ≡ Err TextStop.NoMemory → ⊥ }
     ensures fault { result ≡ Err TextStop.ReadFault → Rose S.last_fault (S.faults source.old) (S.faults source.new) }
-    ensures long { result ≡ Err TextStop.TooLong → IfSome (S.left source.old) (λ bytes. length room.old ≤ length bytes) }
+    ensures long { result ≡ Err TextStop.TooLong → IfSome (S.left source.old) (λ bytes. MOST_BYTES < length bytes) }
 {
-    let mut len = 0;
-    for _ in 0..room.len() {
-        match source.read(&mut room[len..]) {
+    let mut piece = [0; PIECE_BYTES];
+    for _ in 0..=MOST_BYTES {
+        let room = PIECE_BYTES.min(MOST_BYTES + 1 - text.len());
+        match source.read(&mut piece[..room]) {
             Err(_) => return Err(TextStop::ReadFault),
-            Ok(0) => return Ok(len),
+            Ok(0) => return Ok(()),
             Ok(n) => {
-                len += n;
-                if len == room.len() {
+                push_all(text, &piece[..n]);
+                if text.len() > MOST_BYTES {
                     return Err(TextStop::TooLong);
                 }
             }
@@ -45,10 +61,11 @@ fn fill<S: Source>(source: &mut S, room: &mut [u8]) -> Result<usize, TextStop>
 
 /// Room for a text and one byte more.
 fn room(alloc: Global) -> Result<Vec<u8>, TextStop>
-    ensures len { IfOk result (λ room. vec_len room ≡ MOST_BYTES + 1) }
+    ensures empty { IfOk result (λ room. room.items ≡ []) }
+    ensures room { IfOk result (λ room. MOST_BYTES + 1 ≤ vec_capacity room) }
     ensures err { IfErr result (λ stop. stop ≡ TextStop.NoMemory) }
 {
-    match vec![in alloc; 0u8; MOST_BYTES + 1] {
+    match Vec::with_capacity(alloc, MOST_BYTES + 1) {
         Ok(room) => Ok(room),
         Err(_) => Err(TextStop::NoMemory),
     }
@@ -63,7 +80,6 @@ pub fn read_text<S: Source>(alloc: Global, source: &mut S) -> Result<Vec<u8>, Te
     ensures long { result ≡ Err TextStop.TooLong → IfSome (S.left source.old) (λ bytes. MOST_BYTES < length bytes) }
 {
     let mut text = room(alloc)?;
-    let len = fill(source, &mut text)?;
-    text.truncate(len);
+    fill(source, &mut text)?;
     Ok(text)
 }
