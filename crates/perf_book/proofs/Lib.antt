@@ -10,5 +10,6 @@ pub mod Reading
 pub mod Ready
 pub mod Rooms
 pub mod Taken
+pub mod Turns
 pub mod UnderWay
 pub mod Visits

@@ -11,12 +11,14 @@ mod looking;
 mod making;
 mod named;
 mod running;
+mod sheets;
 mod workers;
 
 pub use book::Book;
 pub use gate::{Gate, OpenGate};
 pub use machine::OrderFault;
-pub use running::{NotRun, run_all};
+pub use running::{NotRun, run_all, run_with};
+pub use sheets::Sheets;
 
 #[cfg(test)]
 mod late_open_tests;

@@ -10,7 +10,7 @@ ghost use Rattle.work_account.specs.Ends.{AreTogether};
 ghost use Rattle.machine.specs.Leading.{HasLine};
 ghost use Rattle.machine.specs.Readers.{AreReaders};
 ghost use Rattle.perf_book.specs.Book.{IsBooked};
-ghost use Rattle.perf_book.specs.Plans.{AreTurns, IsPlanned, actor_at, count_of};
+ghost use Rattle.perf_book.specs.Plans.{IsPlanned};
 ghost use Rattle.perf_book.specs.Running.{IsRead, IsUnderWay};
 ghost use Rattle.perf_book.specs.Sheets.{IsReady};
 
@@ -18,39 +18,16 @@ use crate::book::Book;
 use crate::doing::plan_next;
 use crate::gate::Gate;
 use crate::named::{Named, Naming, advance_one};
-use crate::workers::{Worker, run_readers};
+use crate::sheets::{Sheets, actor_at};
+use crate::workers::run_readers;
 use cpu_sched::Sheet;
-use perf_base::{Actor, CpuNo, NoMemory, ReaderLine, RingNo, Script, Steps, ToolNo};
+use perf_base::{Actor, ReaderLine, RingNo, Script, Steps};
 use sample_ring::{Ins, Rings};
 use std::alloc::Global;
 use std::marker::Brand;
 use std::sync::ledger::{Blank, Ledger};
 use std::sync::{Mutex, Wait};
 use std::thread::Threads;
-
-/// The processors and tools by number: 8 processors, then 4 tools.
-fn actor_at(place: u8) -> Actor
-    ensures { result ≡ actor_at place }
-{
-    if place < 8 {
-        Actor::Processor(CpuNo(place))
-    } else {
-        Actor::Tool(ToolNo(place - 8))
-    }
-}
-
-/// How many lines a script gives a processor or tool. A reader has none.
-fn count_of(script: &Script, actor: Actor) -> u32
-    ensures { result ≡ count_of script.now actor }
-{
-    script.use_invariant();
-    let count = match actor {
-        Actor::Processor(cpu) if cpu.0 < 8 => script.cpu_lines(cpu).len(),
-        Actor::Tool(tool) if tool.0 < 4 => script.tool_lines(tool).len(),
-        _ => 0,
-    };
-    count as u32
-}
 
 /// What the threads of a run need of its script while it lies behind the lock: the lines of the readers.
 #[derive(Drop)]
@@ -84,53 +61,6 @@ impl Plan {
     {
         &self.readers[..self.reader_count]
     }
-}
-
-/// Adds the worker of a processor or tool, if it has lines.
-fn add_worker(
-    alloc: Global,
-    workers: &mut Vec<Worker>,
-    actor: Actor,
-    lines: u32,
-) -> Result<(), NoMemory>
-    requires { All (λ w. IsReady w.sheet) workers.old.items }
-    ensures { All (λ w. IsReady w.sheet) workers.new.items }
-{
-    if lines == 0 {
-        return Ok(());
-    }
-    let sheet = Sheet::new(alloc)?;
-    workers.push(Worker {
-        actor,
-        lines,
-        sheet,
-    })?;
-    Ok(())
-}
-
-/// Each processor and tool with the number of its lines.
-fn turns_of(script: &Script) -> [(Actor, u32); 12]
-    ensures { AreTurns script.now result }
-{
-    let mut turns = [(Actor::Tool(ToolNo(0)), 0); 12];
-    for place in 0..12u8 {
-        let actor = actor_at(place);
-        turns[place as usize] = (actor, count_of(script, actor));
-    }
-    turns
-}
-
-/// A worker for each processor and tool that has lines, the last one first, each with a blank sheet. It fails only
-/// where memory runs out.
-fn workers_of(alloc: Global, turns: &[(Actor, u32); 12]) -> Result<Vec<Worker>, NoMemory>
-    ensures { IfOk result (λ workers. All (λ w. IsReady w.sheet) workers.items) }
-{
-    let mut workers = Vec::with_capacity(alloc, 12)?;
-    for place in 0..12 {
-        let (actor, lines) = turns[11 - place];
-        add_worker(alloc, &mut workers, actor, lines)?;
-    }
-    Ok(workers)
 }
 
 /// Does the lines that an actor has left.
@@ -192,26 +122,6 @@ fn do_rest_alone(book: &mut Book, rings: &Rings, sheet: Sheet)
     do_rest::<Brand>(book, rings, sheet, Blank::new(1));
 }
 
-/// The sheets of a run: those of its workers, and one for the lines that are done after the joins.
-#[derive(Drop)]
-struct Sheets {
-    workers: Vec<Worker>,
-    rest: Sheet,
-}
-
-impl Sheets {
-    /// The sheets of a run, all blank. It fails only where memory runs out.
-    fn new(alloc: Global, turns: &[(Actor, u32); 12]) -> Result<Sheets, NoMemory>
-        ensures workers { IfOk result (λ s. All (λ w. IsReady w.sheet) s.workers.items) }
-        ensures rest { IfOk result (λ s. IsReady s.rest) }
-    {
-        Ok(Sheets {
-            workers: workers_of(alloc, turns)?,
-            rest: Sheet::new(alloc)?,
-        })
-    }
-}
-
 /// A run under a name.
 fn run_named<J: Naming + Send + Sync, R: Threads + Wait + Sync, G: Gate + Sync>(
     rt: &R,
@@ -226,8 +136,6 @@ fn run_named<J: Naming + Send + Sync, R: Threads + Wait + Sync, G: Gate + Sync>(
     requires empty { book.order ≡ [] }
     requires together { AreTogether rings.now book.machine.outs }
     requires readers { AreReaders (9 * weight book.script) book.machine.outs ins }
-    requires workers { All (λ w. IsReady w.sheet) sheets.workers.items }
-    requires rest { IsReady sheets.rest }
     ensures script { result.0.script ≡ book.script }
     ensures together { AreTogether rings.now result.0.machine.outs }
     ensures complete { IsComplete result.0.script result.0.order }
@@ -236,12 +144,40 @@ fn run_named<J: Naming + Send + Sync, R: Threads + Wait + Sync, G: Gate + Sync>(
     ensures read { (result.1.numbers ≡ ins.numbers) × All (λ r. IsRead book.script ins result.1 r.0) book.script.rings }
 {
     let plan = Plan::of(book.script());
-    let Sheets { workers, rest } = sheets;
+    let (workers, rest) = sheets.into_parts();
     let shared = Mutex::new(Named::<J>::new(book));
     let ins = run_readers::<J, R, G>(rt, &shared, rings, ins, plan.lines(), workers, gate);
     let mut book = shared.into_inner().into_book();
     do_rest_alone(&mut book, rings, rest);
     (book, ins)
+}
+
+/// Runs a script to its end by threads: one for each worker that has a sheet, and one for each reader that has a line.
+/// Where a thread can't be started its work is done by the thread that would have started it, and lines whose actor has
+/// no sheet are done after the joins. The book is that of a script of which no line was done; it comes back with every
+/// line done. A reader is of the same ring as the end that sends, has released all that it has taken, and has room for
+/// 9 words for each unit of the script's weight; it comes back so. Each worker passes the gate before each line or try.
+/// A worker of a processor plans its next line without the lock. It takes no memory, and can't fail.
+pub fn run_with<R: Threads + Wait + Sync, G: Gate + Sync>(
+    rt: &R,
+    book: Book,
+    rings: &Rings,
+    ins: Ins,
+    sheets: Sheets,
+    gate: &G,
+) -> (Book, Ins)
+    requires empty { book.order ≡ [] }
+    requires together { AreTogether rings.now book.machine.outs }
+    requires readers { AreReaders (9 * weight book.script) book.machine.outs ins }
+    ensures script { result.0.script ≡ book.script }
+    ensures together { AreTogether rings.now result.0.machine.outs }
+    ensures complete { IsComplete result.0.script result.0.order }
+    ensures shaped { IsRunShaped result.0.order × EndsWithLine result.0.order }
+    ensures readers { AreReaders (9 * weight result.0.script) result.0.machine.outs result.1 }
+    // Each reader with a line made its tries, and took no more than they allow; every other reader is as it was.
+    ensures read { (result.1.numbers ≡ ins.numbers) × All (λ ring. IsRead book.script ins result.1 ring.0) book.script.rings }
+{
+    run_named::<Brand, R, G>(rt, book, rings, ins, sheets, gate)
 }
 
 /// Memory ran out before a run's first act. The book is gone; the readers are as they were.
@@ -250,16 +186,9 @@ pub struct NotRun {
     pub ins: Ins,
 }
 
-/// Runs a script to its end by threads: one for each processor and tool that has lines, and one for each reader that
-/// has a line. Where a thread can't be started its work is done by the thread that would have started it. The book is
-/// that of a script of which no line was done; it comes back with every line done. A reader is of the same ring as the
-/// end that sends, has released all that it has taken, and has room for 9 words for each unit of the script's weight;
-/// it comes back so. Each worker passes the gate before each line or try. A worker of a processor plans its next line
-/// without the lock.
-///
-/// Before the first act it makes a sheet for each worker of a processor or tool, and one for the lines that are left
-/// after the joins. It fails only where memory runs out by that; then the book is gone, and rings and readers are as
-/// they were.
+/// Runs a script to its end by threads, as `run_with` does, from sheets that it takes before the first act: one for
+/// each processor and tool that has lines, and one for the lines that are left after the joins. It fails only where
+/// memory runs out by that; then the book is gone, and rings and readers are as they were.
 pub fn run_all<R: Threads + Wait + Sync, G: Gate + Sync>(
     rt: &R,
     alloc: Global,
@@ -280,9 +209,8 @@ pub fn run_all<R: Threads + Wait + Sync, G: Gate + Sync>(
     ensures read { IfOk result (λ r. (r.1.numbers ≡ ins.numbers) × All (λ ring. IsRead book.script ins r.1 ring.0) book.script.rings) }
     ensures same { IfErr result (λ left. left.ins ≡ ins) }
 {
-    let turns = turns_of(book.script());
-    match Sheets::new(alloc, &turns) {
+    match Sheets::new(alloc, book.script()) {
         Err(_) => Err(NotRun { ins }),
-        Ok(sheets) => Ok(run_named::<Brand, R, G>(rt, book, rings, ins, sheets, gate)),
+        Ok(sheets) => Ok(run_with::<R, G>(rt, book, rings, ins, sheets, gate)),
     }
 }

@@ -1,4 +1,4 @@
-use Rattle.perf_book.proofs.running.run_all.Given as goal
+use Rattle.perf_book.proofs.running.run_with.Given as goal
 
 -- the run of the book that is given
 abbrev pub ghosts-run_named : goal.ghosts-run_named
