@@ -63,24 +63,28 @@ abbrev pub done_by : Actor → Kept → ℕ
 done_by (actor.Processor cpu) m = slice_index_or m.cpus cpu.0 0
 done_by (actor.Tool tool) m = slice_index_or m.tools tool.0 0
 done_by (actor.Reader ring) m = 0
+done_by actor.Watcher m = 0
 
 -- The actor is a processor or a tool that has done fewer lines than the script gives it.
 abbrev pub HasLine : Scripted → Kept → Actor → Type 0
 HasLine s m (actor.Processor cpu) = slice_index_or m.cpus cpu.0 0 < length (lines_of_cpu s cpu)
 HasLine s m (actor.Tool tool) = slice_index_or m.tools tool.0 0 < length (lines_of_tool s tool)
 HasLine s m (actor.Reader ring) = ⊥
+HasLine s m actor.Watcher = ⊥
 
--- the line that an actor does next, as a step; a reader does none
+-- the line that an actor does next, as a step; readers and watchers do none
 abbrev pub next_step : Scripted → Kept → Actor → Option Step
 next_step s m (actor.Processor cpu) = option_map (CpuStep cpu) (slice_get (lines_of_cpu s cpu) (slice_index_or m.cpus cpu.0 0))
 next_step s m (actor.Tool tool) = option_map ToolStep (slice_get (lines_of_tool s tool) (slice_index_or m.tools tool.0 0))
 next_step s m (actor.Reader ring) = None
+next_step s m actor.Watcher = None
 
--- the act that does an actor's next line; a reader has none
+-- the act that does an actor's next line; readers and watchers have no line, and what stands here for them does none
 abbrev pub act_of : Actor → Act
 act_of (actor.Processor cpu) = act.Processor cpu
 act_of (actor.Tool tool) = act.Tool tool
 act_of (actor.Reader ring) = act.Seen ring 0
+act_of actor.Watcher = act.Seen (record { 0 = 0 }) 0
 
 -- This is the reply to an act after the acts before it, by what a script's rings have lost until then.
 abbrev pub IsReplyTo : Scripted → List Act → Act → Reply → Type 0

@@ -75,11 +75,11 @@ impl Machine {
             Actor::Tool(tool) => {
                 tool.0 < 4 && (self.tools[tool.0 as usize] as usize) < script.tool_lines(tool).len()
             }
-            Actor::Reader(_) => false,
+            Actor::Reader(_) | Actor::Watcher => false,
         }
     }
 
-    /// How many lines an actor has done. A reader has none.
+    /// How many lines an actor has done. A reader and a watcher have none.
     pub fn done(&self, actor: Actor) -> u32
         ensures { result ≡ done_by actor self.now }
     {
@@ -145,7 +145,7 @@ impl Machine {
                 self.tools[tool.0 as usize] = done + 1;
                 tool_line(&mut self.world, line, tests)
             }
-            Actor::Reader(_) => unreachable!(),
+            Actor::Reader(_) | Actor::Watcher => unreachable!(),
         }
     }
 }

@@ -64,7 +64,7 @@ pub enum Reason {
 }
 
 impl Reason {
-    /// The number by which documents name the reason, 1 to 26.
+    /// The number of the reason, 1 to 26, in the order of the reasons above.
     pub fn number(&self) -> u8
         ensures { result ≡ number_of self.now }
     {

@@ -42,6 +42,7 @@ answered-line s acts m (actor.Processor cpu) reply answers has led r h =
 answered-line s acts m (actor.Tool tool) reply answers has led r h =
     answered-then s acts (act.Tool tool) (Some (actor.Tool tool, done_by (actor.Tool tool) m)) reply answers (ap (λ n. (actor.Tool tool, n) ∷ []) (sym (led.tools tool))) r h
 answered-line s acts m (actor.Reader ring) reply answers has led r h = absurd has
+answered-line s acts m actor.Watcher reply answers has led r h = absurd has
 
 -- where ends have seen the same, they have loaded as often
 pub same-loads : (outs sent : OutList) → seen_of sent ≡ seen_of outs → loads_of sent ≡ loads_of outs

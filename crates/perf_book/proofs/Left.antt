@@ -23,23 +23,27 @@ abbrev pub lines_left : Scripted → List Act → Actor → ℕ
 lines_left s order (actor.Processor cpu) = length (lines_of_cpu s cpu) - done_by_cpu cpu order
 lines_left s order (actor.Tool tool) = length (lines_of_tool s tool) - done_by_tool tool order
 lines_left s order (actor.Reader ring) = 0
+lines_left s order actor.Watcher = 0
 
 -- an actor has a line where some are left
 pub has-left : (x : Booked) (a : Actor) → IsBooked x → HasLine x.script x.machine a → 0 < lines_left x.script x.order a
 has-left x (actor.Processor cpu) h line = omega (arith, line, h.led.cpus cpu)
 has-left x (actor.Tool tool) h line = omega (arith, line, h.led.tools tool)
 has-left x (actor.Reader ring) h line = absurd line
+has-left x actor.Watcher h line = absurd line
 
 pub left-has : (x : Booked) (a : Actor) → IsBooked x → 0 < lines_left x.script x.order a → HasLine x.script x.machine a
 left-has x (actor.Processor cpu) h left = omega (arith, left, h.led.cpus cpu)
 left-has x (actor.Tool tool) h left = omega (arith, left, h.led.tools tool)
 left-has x (actor.Reader ring) h left = omega (arith, left)
+left-has x actor.Watcher h left = omega (arith, left)
 
 -- no more are left behind a longer order
 left-more : (s : Scripted) (a : Actor) (order more : List Act) → lines_left s (order ++ more) a ≤ lines_left s order a
 left-more s (actor.Processor cpu) order more = omega (arith, count-append (is_of_cpu cpu) order more)
 left-more s (actor.Tool tool) order more = omega (arith, count-append (is_of_tool tool) order more)
 left-more s (actor.Reader ring) order more = omega arith
+left-more s actor.Watcher order more = omega arith
 
 -- an actor that has no line left has none later
 pub still-none : (x y : Booked) (a : Actor) → IsBooked x → IsBooked y → y.script ≡ x.script → IsPrefix x.order y.order → (HasLine x.script x.machine a → ⊥) → HasLine y.script y.machine a → ⊥
@@ -61,6 +65,7 @@ one-fewer s (actor.Processor cpu) order looks left =
 one-fewer s (actor.Tool tool) order looks left =
     omega (arith, left, count-append (is_of_tool tool) order (looks ++ act.Tool tool ∷ []), count-append (is_of_tool tool) looks (act.Tool tool ∷ []), one-tool tool)
 one-fewer s (actor.Reader ring) order looks left = absurd (omega (arith, left))
+one-fewer s actor.Watcher order looks left = absurd (omega (arith, left))
 
 pub fewer-left : (x y : Booked) (a : Actor) → IsBooked x → HasLine x.script x.machine a → y.script ≡ x.script
     → (looks : List Act) × AreLooksOf a x.order looks × (y.order ≡ x.order ++ (looks ++ act_of a ∷ [])) → lines_left y.script y.order a < lines_left x.script x.order a

@@ -67,6 +67,7 @@ counted-next s acts m (actor.Tool tool) led has = record { cpus = cpus; tools = 
       | inr off ↦ omega (arith, count-push (is_of_tool other) acts (act.Tool tool), led.counted.tools other, cond-off tool.0 other.0 off)
     ]
 counted-next s acts m (actor.Reader ring) led has = absurd has
+counted-next s acts m actor.Watcher led has = absurd has
 
 -- an order with a line left does fewer lines than the script has
 pub line-left : (s : Scripted) (acts : List Act) (m : Kept) (who : Actor) → LeadTo s acts m → HasLine s m who → count_by does_line acts < line_count s
@@ -75,6 +76,7 @@ line-left s acts m (actor.Processor cpu) led has =
 line-left s acts m (actor.Tool tool) led has =
     omega (arith, count-push does_line acts (act.Tool tool), counted-lines s (acts ++ act.Tool tool ∷ []) (counted-next s acts m (actor.Tool tool) led has))
 line-left s acts m (actor.Reader ring) led has = absurd has
+line-left s acts m actor.Watcher led has = absurd has
 
 -- there are as many answers as lines
 lines-count : (before acts : List Act) → length (lines_from before acts) ≡ count_by does_line acts
@@ -172,6 +174,7 @@ few-looks s acts looks then (actor.Tool tool) m script has are few h e =
     let cpus : count_by is_cpu_act then ≡ count_by is_cpu_act (acts ++ act.Tool tool ∷ []) = ap (count_by is_cpu_act) plain in
     omega (arith, all, cpus, count-push is_look acts (act.Tool tool), count-push is_cpu_act acts (act.Tool tool), h)
 few-looks s acts looks then (actor.Reader ring) m script has are few h e = absurd has
+few-looks s acts looks then actor.Watcher m script has are few h e = absurd has
 
 -- looks leave the answers, and who has a line
 pub answered-looks : (s : Scripted) (acts looks then : List Act) (who : Actor) (answers : List Answer) → AreLooksOf who acts looks → then ≡ acts ++ looks → AnswerOrder s (lost_in s) acts answers
@@ -179,6 +182,7 @@ pub answered-looks : (s : Scripted) (acts looks then : List Act) (who : Actor) (
 answered-looks s acts looks then (actor.Processor cpu) answers are e h = subst (λ o. AnswerOrder s (lost_in s) o answers) (sym e) (seen-answers s 0 acts acts looks answers are h)
 answered-looks s acts looks then (actor.Tool tool) answers are e h = subst (λ o. AnswerOrder s (lost_in s) o answers) (sym (e ∙ (ap (λ ls. acts ++ ls) are ∙ append-nil acts))) h
 answered-looks s acts looks then (actor.Reader ring) answers are e h = subst (λ o. AnswerOrder s (lost_in s) o answers) (sym (e ∙ (ap (λ ls. acts ++ ls) are ∙ append-nil acts))) h
+answered-looks s acts looks then actor.Watcher answers are e h = subst (λ o. AnswerOrder s (lost_in s) o answers) (sym (e ∙ (ap (λ ls. acts ++ ls) are ∙ append-nil acts))) h
 
 pub line-after : (s : Scripted) (acts looks then : List Act) (m n : Kept) (who : Actor) → LeadTo s acts m → LeadTo s then n → AreLooksOf who acts looks → then ≡ acts ++ looks → HasLine s m who
     → HasLine s n who
@@ -187,12 +191,14 @@ line-after s acts looks then m n (actor.Processor cpu) before after are e has =
 line-after s acts looks then m n (actor.Tool tool) before after are e has =
     omega (arith, has, before.tools tool, after.tools tool, ap (done_by_tool tool) (e ∙ (ap (λ ls. acts ++ ls) are ∙ append-nil acts)))
 line-after s acts looks then m n (actor.Reader ring) before after are e has = absurd has
+line-after s acts looks then m n actor.Watcher before after are e has = absurd has
 
 -- and they are few
 pub looks-length : (s : Scripted) (who : Actor) (looks : List Act) → length looks ≤ loads_by who * length s.rings → length looks ≤ length s.rings
 looks-length s (actor.Processor cpu) looks few = omega (arith, few)
 looks-length s (actor.Tool tool) looks few = omega (arith, few)
 looks-length s (actor.Reader ring) looks few = omega (arith, few)
+looks-length s actor.Watcher looks few = omega (arith, few)
 
 -- a book with one line more
 pub booked-then : (b : Booked) (who : Actor) (looks then : List Act) (m : Kept) (answers : List Answer) → IsBooked b → HasLine b.script b.machine who → AreLooksOf who b.order looks
@@ -214,6 +220,7 @@ done-after s acts looks then m n (actor.Processor cpu) before after are e =
 done-after s acts looks then m n (actor.Tool tool) before after are e =
     after.tools tool ∙ (ap (done_by_tool tool) (e ∙ (ap (λ ls. acts ++ ls) are ∙ append-nil acts)) ∙ sym (before.tools tool))
 done-after s acts looks then m n (actor.Reader ring) before after are e = refl
+done-after s acts looks then m n actor.Watcher before after are e = refl
 
 -- an act of an order
 pub room-for-act : (b : Booked) (order_room answer_room end_room : ℕ) → IsBooked b → HasRoomFor b.script order_room answer_room end_room
@@ -255,3 +262,4 @@ pub step-after : (s : Scripted) (m n : Kept) (who : Actor) → done_by who n ≡
 step-after s m n (actor.Processor cpu) same = ap (λ k. option_map (CpuStep cpu) (slice_get (lines_of_cpu s cpu) k)) same
 step-after s m n (actor.Tool tool) same = ap (λ k. option_map ToolStep (slice_get (lines_of_tool s tool) k)) same
 step-after s m n (actor.Reader ring) same = refl
+step-after s m n actor.Watcher same = refl

@@ -17,6 +17,7 @@ under-way s m (actor.Processor cpu) order looks line h are = shaped-cpu order lo
 under-way s m (actor.Tool tool) order looks line h are =
     subst (λ (l : List Act). IsUnderWay (order ++ (l ++ act.Tool tool ∷ []))) (sym are) (shaped-tool order tool h.0 h.1)
 under-way s m (actor.Reader ring) order looks line h are = absurd line
+under-way s m actor.Watcher order looks line h are = absurd line
 
 pub grown-under-way : (s : Scripted) (m : Kept) (a : Actor) (order grown : List Act) → HasLine s m a → IsUnderWay order
     → (looks : List Act) × AreLooksOf a order looks × (grown ≡ order ++ (looks ++ act_of a ∷ [])) → IsUnderWay grown

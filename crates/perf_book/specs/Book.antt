@@ -52,9 +52,11 @@ abbrev pub AreLooksOf : Actor → (before looks : List Act) → Type 0
 AreLooksOf (actor.Processor cpu) before looks = AreLooks 0 before looks
 AreLooksOf (actor.Tool tool) before looks = looks ≡ []
 AreLooksOf (actor.Reader ring) before looks = looks ≡ []
+AreLooksOf actor.Watcher before looks = looks ≡ []
 
 -- how often an actor loads the tail of each ring before its line
 abbrev pub loads_by : Actor → ℕ
 loads_by (actor.Processor cpu) = 1
 loads_by (actor.Tool tool) = 0
 loads_by (actor.Reader ring) = 0
+loads_by actor.Watcher = 0

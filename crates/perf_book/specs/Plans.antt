@@ -16,6 +16,7 @@ abbrev pub count_of : Scripted → Actor → ℕ
 count_of s (actor.Processor cpu) = length (lines_of_cpu s cpu)
 count_of s (actor.Tool tool) = length (lines_of_tool s tool)
 count_of s (actor.Reader ring) = 0
+count_of s actor.Watcher = 0
 
 -- those of some processors and tools that have lines
 abbrev pub with_lines : List (Actor × ℕ) → List (Actor × ℕ)

@@ -16,6 +16,7 @@ abbrev pub MayBring : Actor → Held → Type 0
 MayBring (actor.Processor cpu) sheet = IsReady sheet
 MayBring (actor.Tool tool) sheet = ⊤
 MayBring (actor.Reader ring) sheet = ⊤
+MayBring actor.Watcher sheet = ⊤
 
 -- After its line a processor's sheet holds the brief of its next one, not planned, or is blank where there is none. A
 -- tool's is as it was.
@@ -23,3 +24,4 @@ abbrev pub sheet_after : Scripted → Kept → Actor → Held → Held
 sheet_after s m (actor.Processor cpu) sheet = prepared s m cpu
 sheet_after s m (actor.Tool tool) sheet = sheet
 sheet_after s m (actor.Reader ring) sheet = sheet
+sheet_after s m actor.Watcher sheet = sheet

@@ -16,11 +16,11 @@ ghost use Rattle.perf_book.specs.Sheets.{IsReady, sheet_after};
 
 use cpu_sched::Sheet;
 use machine::Machine;
-use perf_base::{Act, Actor, Answer, Reply, Script, Steps, StoredReply};
+use perf_base::{Act, Actor, Answer, Reply, RingNo, Script, Steps, StoredReply};
 use sample_ring::Rings;
 use std::sync::ledger::Ledger;
 
-/// The act that does an actor's next line. A reader has no line, and its look sees nothing.
+/// The act that does an actor's next line. A reader and a watcher have no line, and their looks see nothing.
 fn act_of(actor: Actor) -> Act
     ensures { result ≡ act_of actor }
 {
@@ -28,6 +28,7 @@ fn act_of(actor: Actor) -> Act
         Actor::Processor(cpu) => Act::Processor(cpu),
         Actor::Tool(tool) => Act::Tool(tool),
         Actor::Reader(ring) => Act::Seen(ring, 0),
+        Actor::Watcher => Act::Seen(RingNo(0), 0),
     }
 }
 
@@ -80,7 +81,7 @@ pub fn prepare_next(machine: &Machine, script: &Script, actor: Actor, sheet: &mu
 {
     match actor {
         Actor::Processor(cpu) => machine.prepare(script, cpu, sheet),
-        Actor::Tool(_) | Actor::Reader(_) => {}
+        Actor::Tool(_) | Actor::Reader(_) | Actor::Watcher => {}
     }
 }
 

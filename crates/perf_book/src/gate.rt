@@ -2,8 +2,8 @@
 
 use perf_base::Actor;
 
-/// Passed by a worker before each line of a processor or tool, and before each try of a reader, without the lock. The
-/// number is the line's or the try's, from 0. It promises nothing.
+/// Passed by a worker before each line of a processor or tool, before each try of a reader, and before each look of a
+/// watcher, without the lock. The number is the line's, the try's or the look's, from 0. It promises nothing.
 pub trait Gate {
     fn before(&self, actor: Actor, line: u32);
 }

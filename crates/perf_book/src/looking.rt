@@ -78,6 +78,6 @@ pub fn look_before(
 {
     match actor {
         Actor::Processor(_) => look_all(machine, script, rings, order),
-        Actor::Tool(_) | Actor::Reader(_) => {}
+        Actor::Tool(_) | Actor::Reader(_) | Actor::Watcher => {}
     }
 }

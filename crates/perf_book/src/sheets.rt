@@ -21,7 +21,7 @@ pub fn actor_at(place: u8) -> Actor
     }
 }
 
-/// How many lines a script gives a processor or tool. A reader has none.
+/// How many lines a script gives a processor or tool. A reader and a watcher have none.
 fn count_of(script: &Script, actor: Actor) -> u32
     ensures { result ≡ count_of script.now actor }
 {

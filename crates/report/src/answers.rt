@@ -10,7 +10,7 @@ use crate::said::put_reply;
 use perf_base::{Actor, Answer, Reply, Script};
 use perf_io::{Failed, Sink, write_all, write_numbered};
 
-/// Writes the name of an actor. A reader has none.
+/// Writes the name of an actor. A reader and a watcher have none.
 fn put_actor<K: Sink>(sink: &mut K, actor: Actor) -> Result<(), Failed>
     ensures wrote { Wrote K.held K.faults K.last_fault sink.old sink.new result (actor_text actor) }
     ensures flushed { K.flushed sink.new ≡ K.flushed sink.old }
@@ -18,7 +18,7 @@ fn put_actor<K: Sink>(sink: &mut K, actor: Actor) -> Result<(), Failed>
     match actor {
         Actor::Processor(cpu) => write_numbered(sink, b"p", u64::from(cpu.0)),
         Actor::Tool(tool) => write_numbered(sink, b"t", u64::from(tool.0)),
-        Actor::Reader(_) => Ok(()),
+        Actor::Reader(_) | Actor::Watcher => Ok(()),
     }
 }
 

@@ -85,16 +85,18 @@ tool_word (Some (tool_line.Close event)) = codes "close"
 tool_word (Some (tool_line.Why event)) = codes "why"
 tool_word (Some (tool_line.Seats cpu)) = codes "seats"
 
--- an actor's name, and the first word of its line of a number; a reader has neither
+-- an actor's name, and the first word of its line of a number; readers and watchers have neither
 abbrev pub actor_text : Actor → List ℕ
 actor_text (actor.Processor cpu) = act_text (act.Processor cpu)
 actor_text (actor.Tool tool) = act_text (act.Tool tool)
 actor_text (actor.Reader ring) = []
+actor_text actor.Watcher = []
 
 abbrev pub line_word : Scripted → Actor → ℕ → List ℕ
 line_word s (actor.Processor cpu) n = cpu_word (slice_get (lines_of_cpu s cpu) n)
 line_word s (actor.Tool tool) n = tool_word (slice_get (lines_of_tool s tool) n)
 line_word s (actor.Reader ring) n = []
+line_word s actor.Watcher n = []
 
 -- the line of an answer: the actor, a dot, the number of its line, that line's first word, the answer
 abbrev pub answer_line : Scripted → Actor → ℕ → Option (List ℕ) → List ℕ

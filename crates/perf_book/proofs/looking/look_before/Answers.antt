@@ -17,7 +17,10 @@ returns-in-Tool c =
     let loads : List ℕ = loads_of c.args.machine.now.outs in
     let none : MakesNone before loads c.args.actor = elim c.in-Tool.is [
       | inl tool ↦ subst (MakesNone before loads) (sym tool.1) (refl, none-more loads)
-      | inr reader ↦ subst (MakesNone before loads) (sym reader.1) (refl, none-more loads)
+      | inr other ↦ elim other [
+        | inl reader ↦ subst (MakesNone before loads) (sym reader.1) (refl, none-more loads)
+        | inr watcher ↦ subst (MakesNone before loads) (sym watcher) (refl, none-more loads)
+      ]
     ] in
     record {
       led = c.requires.led;

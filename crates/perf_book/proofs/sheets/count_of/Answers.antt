@@ -17,5 +17,5 @@ returns c = elim c.match-actor.branch [
       let none : lines_of_tool c.args.script.now w.in-Tool.tool ≡ [] =
       get_or_past c.args.script.now.tool_lines w.in-Tool.tool.0 [] (omega (arith, w.if-tool-lt4.false, c.use_invariant.ensures.tools)) in
       w.count-is ∙ sym (ap (count_of c.args.script.now) w.in-Tool.is ∙ ap length none)
-  | in_default w ↦ w.count-is ∙ sym (ap (count_of c.args.script.now) w.in_default.is)
+  | in_default w ↦ search rules
 ]

@@ -19,31 +19,37 @@ abbrev IsOwn : Actor → Act → Type 0
 IsOwn (actor.Processor cpu) a = a ≡ act.Processor cpu
 IsOwn (actor.Tool tool) a = a ≡ act.Tool tool
 IsOwn (actor.Reader ring) a = ⊥
+IsOwn actor.Watcher a = ⊥
 
 own-act : (who : Actor) (a : Act) → IsOwn who a → act_of who ≡ a
 own-act (actor.Processor cpu) a own = sym own
 own-act (actor.Tool tool) a own = sym own
 own-act (actor.Reader ring) a own = absurd own
+own-act actor.Watcher a own = absurd own
 
 own-none : (s : Scripted) (m : Kept) (who : Actor) (a : Act) → IsOwn who a → (HasLine s m who → ⊥) → HasNoLine s m a
 own-none s m (actor.Processor cpu) a own none = subst (HasNoLine s m) (sym own) none
 own-none s m (actor.Tool tool) a own none = subst (HasNoLine s m) (sym own) none
 own-none s m (actor.Reader ring) a own none = absurd own
+own-none s m actor.Watcher a own none = absurd own
 
 own-some : (s : Scripted) (m : Kept) (who : Actor) (a : Act) → IsOwn who a → HasLine s m who → HasNoLine s m a → ⊥
 own-some s m (actor.Processor cpu) a own has none = (subst (HasNoLine s m) own none) has
 own-some s m (actor.Tool tool) a own has none = (subst (HasNoLine s m) own none) has
 own-some s m (actor.Reader ring) a own has none = absurd own
+own-some s m actor.Watcher a own has none = absurd own
 
 own-answer : (s : Scripted) (acts : List Act) (who : Actor) (a : Act) (r : Reply) → IsOwn who a → IsReplyTo s acts (act_of who) r → IsAnswerTo s acts a r
 own-answer s acts (actor.Processor cpu) a r own is = subst (λ (x : Act). IsAnswerTo s acts x r) (sym own) is
 own-answer s acts (actor.Tool tool) a r own is = subst (λ (x : Act). IsAnswerTo s acts x r) (sym own) is
 own-answer s acts (actor.Reader ring) a r own is = absurd own
+own-answer s acts actor.Watcher a r own is = absurd own
 
 own-leaves : (who : Actor) (a : Act) (ins : InList) → IsOwn who a → LeavesReaders a ins ins
 own-leaves (actor.Processor cpu) a ins own = subst (λ (x : Act). LeavesReaders x ins ins) (sym own) refl
 own-leaves (actor.Tool tool) a ins own = subst (λ (x : Act). LeavesReaders x ins ins) (sym own) refl
 own-leaves (actor.Reader ring) a ins own = absurd own
+own-leaves actor.Watcher a ins own = absurd own
 
 pub returns-then-not-has_line-clause-no_line : goal.returns-then-not-has_line-clause-no_line
 returns-then-not-has_line-clause-no_line c =
