@@ -13,3 +13,4 @@ pub mod Taken
 pub mod Turns
 pub mod UnderWay
 pub mod Visits
+pub mod Watching

@@ -6,3 +6,4 @@ pub mod LateOpen
 pub mod Plans
 pub mod Running
 pub mod Sheets
+pub mod Watching

@@ -6,8 +6,13 @@ use Rattle.perf_base.specs.declared.numbers.RingNo.{RingNo}
 use Rattle.perf_base.specs.Scripts.{Scripted}
 use Rattle.sample_ring.specs.InEnds.{InEnd}
 use Rattle.sample_ring.specs.RingLists.{HasRing, InList, RingList, ring_index}
+use Rattle.perf_base.specs.Weight.{weight}
 use Rattle.report_spec.specs.Answers.{IsRunShaped, reader_of}
 use Rattle.run_laws.specs.Growing.{EndsWithLine}
+use Rattle.stage_spec.specs.Order.{IsComplete}
+use Rattle.work_account.specs.Ends.{AreTogether}
+use Rattle.machine.specs.Readers.{AreReaders}
+use Rattle.perf_book.specs.Book.{Booked}
 
 -- the order of a run between two of its lines: each look is one that a run makes, and the last act, if there is one, is
 -- a line
@@ -47,3 +52,13 @@ pub record IsReady (rings : RingList) (ins : InList) (ring : RingNo) : Type 0 wh
 
 abbrev pub AreReady : RingList → InList → List ReaderLine → Type 0
 AreReady rings ins lines = All (λ line. IsReady rings ins line.ring) lines
+
+-- A script was run to its end by threads from a book of which no line was done.
+pub record HasRun (rings : RingList) (before : Booked) (ins : InList) (after : Booked) (left : InList) : Type 0 where
+  pub script : after.script ≡ before.script
+  pub together : AreTogether rings after.machine.outs
+  pub complete : IsComplete after.script after.order
+  pub shaped : IsUnderWay after.order
+  pub readers : AreReaders (9 * weight after.script) after.machine.outs left
+  pub numbers : left.numbers ≡ ins.numbers
+  pub read : All (λ ring. IsRead before.script ins left ring.0) before.script.rings

@@ -11,6 +11,7 @@ ghost use Rattle.perf_base.specs.declared.lines.CpuLine.TheVariants as cpu_line;
 ghost use Rattle.perf_base.specs.declared.lines.Work.{Work as Stretch};
 ghost use Rattle.perf_base.specs.declared.numbers.CpuNo.{CpuNo as Cpu};
 ghost use Rattle.stage_spec.specs.History.{Step, CpuStep};
+ghost use Rattle.stage_spec.specs.Tables.{family_if_open};
 ghost use Rattle.machine.specs.Counted.{IsCountedBy};
 ghost use Rattle.machine.specs.Leading.{HasLine, act_of, done_by, next_step};
 ghost use Rattle.machine.specs.Readers.{AreFollowing, loads_of};
@@ -24,7 +25,7 @@ use crate::looking::look_before;
 use crate::making::count_acts;
 use cpu_sched::Sheet;
 use machine::{Machine, OrderFault, RingEnd};
-use perf_base::{Act, Actor, Answer, NoMemory, Script, Steps};
+use perf_base::{Act, Actor, Answer, EventNo, NoMemory, Script, Steps, Sums};
 use sample_ring::{Ins, Outs, Rings};
 use std::alloc::Global;
 use std::marker::Model;
@@ -97,6 +98,22 @@ impl Book {
         ensures sound { IsBooked self.now }
     {
         &self.machine
+    }
+
+    /// How many acts were done, looks at rings among them.
+    pub(crate) fn act_count(&self) -> u64
+        ensures { result ≡ length self.now.order }
+    {
+        self.order.len() as u64
+    }
+
+    /// What an event has counted, and the lengths of work for which it was enabled and on a counter: its own and those
+    /// of its copies, the copies that have exited among them. None exactly where the event is not open.
+    pub fn family(&self, event: EventNo) -> Option<Sums>
+        ensures sums { result ≡ family_if_open self.now.script self.now.order event }
+        ensures sound { IsBooked self.now }
+    {
+        self.machine.family(event)
     }
 
     /// Whether the actor is a processor or a tool that has done fewer lines than the script gives it.

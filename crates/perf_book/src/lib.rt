@@ -10,8 +10,10 @@ mod gate;
 mod looking;
 mod making;
 mod named;
+mod publishing;
 mod running;
 mod sheets;
+mod watch_run;
 mod workers;
 
 pub use book::Book;
@@ -19,6 +21,7 @@ pub use gate::{Gate, OpenGate};
 pub use machine::OrderFault;
 pub use running::{NotRun, run_all, run_with};
 pub use sheets::Sheets;
+pub use watch_run::{NotWatched, Watch, Watched, run_watched, run_watched_with};
 
 #[cfg(test)]
 mod late_open_tests;
@@ -26,3 +29,5 @@ mod late_open_tests;
 mod planning_tests;
 #[cfg(test)]
 mod tests;
+#[cfg(test)]
+mod watch_tests;

@@ -1,6 +1,6 @@
 //! A run by threads.
 
-ghost use Rattle.std.specs.Prelude.{◌≡◌, ◌*◌, ◌<◌, ◌≤◌, All, IfErr, IfOk, [], take};
+ghost use Rattle.std.specs.Prelude.{◌≡◌, ◌*◌, ◌<◌, ◌≤◌, All, IfErr, IfOk, IfSome, [], take};
 ghost use mathlib.Core.List.{IsPrefix};
 ghost use Rattle.perf_base.specs.Weight.{weight};
 ghost use Rattle.report_spec.specs.Answers.{IsRunShaped};
@@ -11,13 +11,15 @@ ghost use Rattle.machine.specs.Leading.{HasLine};
 ghost use Rattle.machine.specs.Readers.{AreReaders};
 ghost use Rattle.perf_book.specs.Book.{IsBooked};
 ghost use Rattle.perf_book.specs.Plans.{IsPlanned};
-ghost use Rattle.perf_book.specs.Running.{IsRead, IsUnderWay};
+ghost use Rattle.perf_book.specs.Running.{IsRead};
 ghost use Rattle.perf_book.specs.Sheets.{IsReady};
+ghost use Rattle.perf_book.specs.Watching.{HasPublished, page_of, watched_by};
 
 use crate::book::Book;
 use crate::doing::plan_next;
 use crate::gate::Gate;
-use crate::named::{Named, Naming, advance_one};
+use crate::named::{Named, Naming};
+use crate::publishing::{Nowhere, Publisher, Publishing};
 use crate::sheets::{Sheets, actor_at};
 use crate::workers::run_readers;
 use cpu_sched::Sheet;
@@ -64,75 +66,91 @@ impl Plan {
 }
 
 /// Does the lines that an actor has left.
-fn do_rest_of<L: Ledger>(
-    book: &mut Book,
+fn do_rest_of<J: Naming, P: Publishing, L: Ledger>(
+    book: &mut Named<J>,
     rings: &Rings,
+    page: &P,
     actor: Actor,
     sheet: &mut Sheet,
     tests: &mut Steps<L>,
 )
-    requires together { AreTogether rings.now book.old.machine.outs }
-    requires under_way { IsUnderWay book.old.order }
+    requires rings { rings.now ≡ J.rings }
+    requires page { P.page page.now ≡ page_of J.watched }
     requires sheet { IsReady sheet.old }
     ensures script { book.new.script ≡ book.old.script }
     ensures grows { IsPrefix book.old.order book.new.order }
     ensures none { HasLine book.new.script book.new.machine actor → ⊥ }
-    ensures together { AreTogether rings.now book.new.machine.outs }
-    ensures under_way { IsUnderWay book.new.order }
     ensures sound { IsBooked book.new }
     ensures sheet { IsReady sheet.new }
 {
     while book.has_line(actor) {
-        advance_one(book, rings, actor, sheet, tests);
+        book.advance(rings, page, actor, sheet, tests);
         plan_next(sheet, tests);
     }
 }
 
 /// Does all lines that are left.
-fn do_rest<L: Ledger>(book: &mut Book, rings: &Rings, mut sheet: Sheet, blank: Blank)
-    requires together { AreTogether rings.now book.old.machine.outs }
-    requires under_way { IsUnderWay book.old.order }
+fn do_rest<J: Naming, P: Publishing, L: Ledger>(
+    book: &mut Named<J>,
+    rings: &Rings,
+    page: &P,
+    mut sheet: Sheet,
+    blank: Blank,
+)
+    requires rings { rings.now ≡ J.rings }
+    requires page { P.page page.now ≡ page_of J.watched }
     requires sheet { IsReady sheet }
     requires name { blank.name ≡ L.name }
     requires parts { blank.parts ≡ L.parts }
     requires some { 0 < blank.parts }
     ensures script { book.new.script ≡ book.old.script }
     ensures complete { IsComplete book.new.script book.new.order }
-    ensures together { AreTogether rings.now book.new.machine.outs }
-    ensures under_way { IsUnderWay book.new.order }
     ensures sound { IsBooked book.new }
 {
     let mut tests = Steps::<L>::new(blank);
     for place in 0..12u8 {
-        do_rest_of(book, rings, actor_at(place), &mut sheet, &mut tests);
+        do_rest_of(book, rings, page, actor_at(place), &mut sheet, &mut tests);
     }
 }
 
 /// The same, for a caller that counts no tests.
-fn do_rest_alone(book: &mut Book, rings: &Rings, sheet: Sheet)
-    requires together { AreTogether rings.now book.old.machine.outs }
-    requires under_way { IsUnderWay book.old.order }
+fn do_rest_alone<J: Naming, P: Publishing>(
+    book: &mut Named<J>,
+    rings: &Rings,
+    page: &P,
+    sheet: Sheet,
+)
+    requires rings { rings.now ≡ J.rings }
+    requires page { P.page page.now ≡ page_of J.watched }
     requires sheet { IsReady sheet }
     ensures script { book.new.script ≡ book.old.script }
     ensures complete { IsComplete book.new.script book.new.order }
-    ensures together { AreTogether rings.now book.new.machine.outs }
-    ensures under_way { IsUnderWay book.new.order }
     ensures sound { IsBooked book.new }
 {
-    do_rest::<Brand>(book, rings, sheet, Blank::new(1));
+    do_rest::<J, P, Brand>(book, rings, page, sheet, Blank::new(1));
 }
 
-/// A run under a name.
-fn run_named<J: Naming + Send + Sync, R: Threads + Wait + Sync, G: Gate + Sync>(
+/// A run under a name. Where it is watched, the looks of its order are published on the page.
+pub fn run_named<
+    J: Naming + Send + Sync,
+    R: Threads + Wait + Sync,
+    P: Publishing + Sync,
+    G: Gate + Sync,
+>(
     rt: &R,
     book: Book,
+    publisher: Option<Publisher>,
     rings: &Rings,
+    page: &P,
     ins: Ins,
     sheets: Sheets,
     gate: &G,
-) -> (Book, Ins)
+) -> (Book, Ins, Option<Publisher>)
     requires script { book.script ≡ J.script }
     requires rings { rings.now ≡ J.rings }
+    requires watched { watched_by publisher ≡ J.watched }
+    requires page { P.page page.now ≡ page_of J.watched }
+    requires published { IfSome publisher (HasPublished book.script book.order) }
     requires empty { book.order ≡ [] }
     requires together { AreTogether rings.now book.machine.outs }
     requires readers { AreReaders (9 * weight book.script) book.machine.outs ins }
@@ -142,14 +160,17 @@ fn run_named<J: Naming + Send + Sync, R: Threads + Wait + Sync, G: Gate + Sync>(
     ensures shaped { IsRunShaped result.0.order × EndsWithLine result.0.order }
     ensures readers { AreReaders (9 * weight result.0.script) result.0.machine.outs result.1 }
     ensures read { (result.1.numbers ≡ ins.numbers) × All (λ r. IsRead book.script ins result.1 r.0) book.script.rings }
+    ensures watched { watched_by result.2 ≡ J.watched }
+    ensures published { IfSome result.2 (HasPublished result.0.script result.0.order) }
 {
     let plan = Plan::of(book.script());
     let (workers, rest) = sheets.into_parts();
-    let shared = Mutex::new(Named::<J>::new(book));
-    let ins = run_readers::<J, R, G>(rt, &shared, rings, ins, plan.lines(), workers, gate);
-    let mut book = shared.into_inner().into_book();
-    do_rest_alone(&mut book, rings, rest);
-    (book, ins)
+    let shared = Mutex::new(Named::<J>::new(book, publisher));
+    let ins = run_readers::<J, R, P, G>(rt, &shared, rings, page, ins, plan.lines(), workers, gate);
+    let mut named = shared.into_inner();
+    do_rest_alone(&mut named, rings, page, rest);
+    let (book, publisher) = named.into_parts();
+    (book, ins, publisher)
 }
 
 /// Runs a script to its end by threads: one for each worker that has a sheet, and one for each reader that has a line.
@@ -177,7 +198,10 @@ pub fn run_with<R: Threads + Wait + Sync, G: Gate + Sync>(
     // Each reader with a line made its tries, and took no more than they allow; every other reader is as it was.
     ensures read { (result.1.numbers ≡ ins.numbers) × All (λ ring. IsRead book.script ins result.1 ring.0) book.script.rings }
 {
-    run_named::<Brand, R, G>(rt, book, rings, ins, sheets, gate)
+    let (book, ins, _) = run_named::<Brand, R, Nowhere, G>(
+        rt, book, None, rings, &Nowhere, ins, sheets, gate,
+    );
+    (book, ins)
 }
 
 /// Memory ran out before a run's first act. The book is gone; the readers are as they were.

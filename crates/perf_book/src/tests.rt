@@ -19,14 +19,14 @@ const MOST: u64 = 100_000_000;
 
 // What one worker announces and another waits for.
 #[derive(Drop)]
-struct Signal(AtomicU64);
+pub struct Signal(AtomicU64);
 
 impl Signal {
-    fn new() -> Signal {
+    pub fn new() -> Signal {
         Signal(AtomicU64::new(0))
     }
 
-    fn announce(&self) {
+    pub fn announce(&self) {
         self.0.store(1, Ordering::SeqCst);
     }
 
@@ -35,7 +35,7 @@ impl Signal {
     }
 
     // Waits for it, and says whether it came.
-    fn wait(&self) -> bool {
+    pub fn wait(&self) -> bool {
         for _ in 0..MOST {
             if self.is_there() {
                 return true;

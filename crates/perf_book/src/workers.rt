@@ -7,10 +7,12 @@ ghost use Rattle.sample_ring.specs.RingLists.{HasRing, ring_index, with_slot};
 ghost use Rattle.report_spec.specs.Answers.{line_for};
 ghost use Rattle.perf_book.specs.Running.{AreReady, HasRead, IsReadBy, slot_of};
 ghost use Rattle.perf_book.specs.Sheets.{IsReady};
+ghost use Rattle.perf_book.specs.Watching.{page_of};
 
 use crate::doing::plan_next;
 use crate::gate::Gate;
 use crate::named::{Named, Naming};
+use crate::publishing::Publishing;
 use cpu_sched::Sheet;
 use perf_base::{Actor, ReaderLine, Steps};
 use sample_ring::{In, Ins, Rings};
@@ -42,15 +44,17 @@ pub struct Worker {
 }
 
 /// The lines of a worker. The lock is held in a line alone: the next one is planned without it.
-fn act<J: Naming, R: Wait, G: Gate, L: Ledger>(
+fn act<J: Naming, R: Wait, P: Publishing, G: Gate, L: Ledger>(
     rt: &R,
     shared: &Mutex<Named<J>>,
     rings: &Rings,
+    page: &P,
     worker: Worker,
     gate: &G,
     blank: Blank,
 )
     requires rings { rings.now ≡ J.rings }
+    requires page { P.page page.now ≡ page_of J.watched }
     requires sheet { IsReady worker.sheet }
     requires name { blank.name ≡ L.name }
     requires parts { blank.parts ≡ L.parts }
@@ -66,23 +70,25 @@ fn act<J: Naming, R: Wait, G: Gate, L: Ledger>(
         gate.before(actor, line);
         shared
             .lock(rt)
-            .advance_if(rings, actor, &mut sheet, &mut tests);
+            .advance_if(rings, page, actor, &mut sheet, &mut tests);
         plan_next(&mut sheet, &mut tests);
     }
 }
 
 /// The lines of a worker, whose tests nobody reads.
-fn work<J: Naming, R: Wait, G: Gate>(
+fn work<J: Naming, R: Wait, P: Publishing, G: Gate>(
     rt: &R,
     shared: &Mutex<Named<J>>,
     rings: &Rings,
+    page: &P,
     worker: Worker,
     gate: &G,
 )
     requires rings { rings.now ≡ J.rings }
+    requires page { P.page page.now ≡ page_of J.watched }
     requires sheet { IsReady worker.sheet }
 {
-    act::<J, R, G, Brand>(rt, shared, rings, worker, gate, Blank::new(1));
+    act::<J, R, P, G, Brand>(rt, shared, rings, page, worker, gate, Blank::new(1));
 }
 
 /// Takes the last worker, if there is one.
@@ -96,14 +102,14 @@ fn take_worker(workers: &mut Vec<Worker>) -> Option<Worker>
 }
 
 /// A thread for each worker, the last one first.
-fn run_actors<J: Naming + Send + Sync, R: Threads + Wait + Sync, G: Gate + Sync>(
-    rt: &R,
-    shared: &Mutex<Named<J>>,
-    rings: &Rings,
-    mut workers: Vec<Worker>,
-    gate: &G,
-)
+fn run_actors<
+    J: Naming + Send + Sync,
+    R: Threads + Wait + Sync,
+    P: Publishing + Sync,
+    G: Gate + Sync,
+>(rt: &R, shared: &Mutex<Named<J>>, rings: &Rings, page: &P, mut workers: Vec<Worker>, gate: &G)
     requires rings { rings.now ≡ J.rings }
+    requires page { P.page page.now ≡ page_of J.watched }
     requires sheets { All (λ w. IsReady w.sheet) workers.items }
 {
     let Some(worker) = take_worker(&mut workers) else {
@@ -112,11 +118,12 @@ fn run_actors<J: Naming + Send + Sync, R: Threads + Wait + Sync, G: Gate + Sync>
     join(
         rt,
         ||
-            requires { (rings.now ≡ J.rings) × IsReady worker.sheet }
-        { work::<J, R, G>(rt, shared, rings, worker, gate) },
+            requires { (rings.now ≡ J.rings) × (P.page page.now ≡ page_of J.watched) × IsReady worker.sheet }
+        { work::<J, R, P, G>(rt, shared, rings, page, worker, gate) },
         ||
-            requires { IsSend J.row × IsSync J.row × IsSync R.row × IsSync G.row × (rings.now ≡ J.rings) × All (λ w. IsReady w.sheet) workers.items }
-        { run_actors::<J, R, G>(rt, shared, rings, workers, gate) },
+            requires { IsSend J.row × IsSync J.row × IsSync R.row × IsSync P.row × IsSync G.row × (rings.now ≡ J.rings) × (P.page page.now ≡ page_of J.watched)
+                × All (λ w. IsReady w.sheet) workers.items }
+        { run_actors::<J, R, P, G>(rt, shared, rings, page, workers, gate) },
     );
 }
 
@@ -137,16 +144,23 @@ fn take_out(ins: &mut Ins, rings: &Rings, line: ReaderLine, rest: &[ReaderLine])
 }
 
 /// A thread for each reader that has a line, beside those of the processors and tools. The readers come back.
-pub fn run_readers<J: Naming + Send + Sync, R: Threads + Wait + Sync, G: Gate + Sync>(
+pub fn run_readers<
+    J: Naming + Send + Sync,
+    R: Threads + Wait + Sync,
+    P: Publishing + Sync,
+    G: Gate + Sync,
+>(
     rt: &R,
     shared: &Mutex<Named<J>>,
     rings: &Rings,
+    page: &P,
     mut ins: Ins,
     lines: &[ReaderLine],
     workers: Vec<Worker>,
     gate: &G,
 ) -> Ins
     requires rings { rings.now ≡ J.rings }
+    requires page { P.page page.now ≡ page_of J.watched }
     requires rise { AllPairs (λ q r. q.ring.0 < r.ring.0) lines.now }
     requires ready { AreReady rings.now ins lines.now }
     requires sheets { All (λ w. IsReady w.sheet) workers.items }
@@ -154,7 +168,7 @@ pub fn run_readers<J: Naming + Send + Sync, R: Threads + Wait + Sync, G: Gate + 
     ensures read { (ring : Ring) → IsReadBy (line_for lines.now ring) ins result ring }
 {
     let Some((line, rest)) = lines.split_first() else {
-        run_actors::<J, R, G>(rt, shared, rings, workers, gate);
+        run_actors::<J, R, P, G>(rt, shared, rings, page, workers, gate);
         return ins;
     };
     let line = *line;
@@ -167,10 +181,10 @@ pub fn run_readers<J: Naming + Send + Sync, R: Threads + Wait + Sync, G: Gate + 
             ensures { HasRead line reader result }
         { read(rings, reader, line, gate) },
         || -> Ins
-            requires { IsSend J.row × IsSync J.row × IsSync R.row × IsSync G.row × (rings.now ≡ J.rings) × AllPairs (λ q r. q.ring.0 < r.ring.0) rest.now × AreReady rings.now ins rest.now
-                × All (λ w. IsReady w.sheet) workers.items }
+            requires { IsSend J.row × IsSync J.row × IsSync R.row × IsSync P.row × IsSync G.row × (rings.now ≡ J.rings) × (P.page page.now ≡ page_of J.watched)
+                × AllPairs (λ q r. q.ring.0 < r.ring.0) rest.now × AreReady rings.now ins rest.now × All (λ w. IsReady w.sheet) workers.items }
             ensures { (result.numbers ≡ ins.numbers) × ((ring : Ring) → IsReadBy (line_for rest.entry.now ring) ins result ring) }
-        { run_readers::<J, R, G>(rt, shared, rings, ins, rest, workers, gate) },
+        { run_readers::<J, R, P, G>(rt, shared, rings, page, ins, rest, workers, gate) },
     );
     ins.give_reader(line.ring, reader);
     ins

@@ -17,8 +17,6 @@ loop-place-preserved g c = record {
           still-none c.loop-place.book c.do_rest_of.new.book (actor_at place) before.0 c.do_rest_of.ensures.sound c.do_rest_of.ensures.script c.do_rest_of.ensures.grows before.1
     ],
   );
-  together = c.do_rest_of.ensures.together;
-  under_way = c.do_rest_of.ensures.under_way;
   sheet = c.do_rest_of.ensures.sheet;
 }
 

@@ -1,9 +1,7 @@
 use Rattle.std.proofs.Common.{◌≡◌, ℕ, ◌<◌}
 use Rattle.machine.specs.Leading.{HasLine}
-use Rattle.work_account.specs.Ends.{AreTogether}
 use Rattle.perf_book.specs.Book.{IsBooked}
 use Rattle.perf_book.specs.Plans.{actor_at}
-use Rattle.perf_book.specs.Running.{IsUnderWay}
 use Rattle.perf_book.specs.Sheets.{IsReady}
 use Rattle.perf_book.proofs.running.do_rest.Given as goal
 
@@ -11,7 +9,5 @@ abbrev pub invariant-loop-place : goal.invariant-loop-place
 invariant-loop-place g l = record {
   script : l.book.script ≡ l.initial.book.script;
   none : (place : ℕ) → place < l.place → IsBooked l.book × (HasLine l.book.script l.book.machine (actor_at place) → ⊥);
-  together : AreTogether l.rings l.book.machine.outs;
-  under_way : IsUnderWay l.book.order;
   sheet : IsReady l.sheet;
 }

@@ -1,7 +1,5 @@
 use Rattle.std.proofs.Common.{◌≡◌}
 use mathlib.Core.List.{IsPrefix}
-use Rattle.work_account.specs.Ends.{AreTogether}
-use Rattle.perf_book.specs.Running.{IsUnderWay}
 use Rattle.perf_book.specs.Sheets.{IsReady}
 use Rattle.perf_book.proofs.Left.{lines_left}
 use Rattle.perf_book.proofs.running.do_rest_of.Given as goal
@@ -10,8 +8,6 @@ abbrev pub invariant-loop-actor : goal.invariant-loop-actor
 invariant-loop-actor g l = record {
   script : l.book.script ≡ l.initial.book.script;
   grows : IsPrefix l.initial.book.order l.book.order;
-  together : AreTogether l.rings l.book.machine.outs;
-  under_way : IsUnderWay l.book.order;
   sheet : IsReady l.sheet;
 }
 
