@@ -4,7 +4,7 @@ use Rattle.std.specs.Prelude.{OnOk, OnErr}
 use Rattle.std.specs.Result.{IsErr}
 use Rattle.std.proofs.Math.Seq.{take-length}
 use Rattle.std.proofs.lemmas.Bool.{false≢true}
-use Rattle.perf_io.specs.Outside.{Adds, Rose}
+use Rattle.perf_io.specs.Outside.{Adds, Rose, SinkShows}
 use Rattle.perf_io.specs.Wrote.{Wrote}
 use Rattle.perf_io.specs.declared.outside.Failed.{Failed}
 use Rattle.buffered_sink.specs.Rooms.{with_room, Grew}
@@ -35,29 +35,29 @@ whole_at start a b before room text e z g none p =
     let r : Adds (with_room start start []) (with_room start b []) text = subst (λ xs. Adds (with_room start start []) (with_room start b xs) text) none q in
     subst (λ o. Adds o b text) (sym e) (added_behind start b text r g)
 
-module _ {K : Type 0} {held : K → Option (List ℕ)} {faults : K → ℕ} {last : Option ℕ} where
+module _ {K : Type 0} {shows : SinkShows K} where
   -- a write into the room failed
   pub wrote_part : {a b : K} {r : Result (Unit {0}) Failed} (start : Option (List ℕ)) (before room text : List ℕ) (n : ℕ)
-      → held a ≡ start → before ≡ [] → Grew start (held b) → faults a ≤ faults b → IsErr r → Rose last (faults a) (faults b)
-      → n ≤ length text → Adds (with_room start (held a) before) (with_room start (held b) room) (take n text) → Wrote held faults last a b r text
+      → shows.held a ≡ start → before ≡ [] → Grew start (shows.held b) → shows.faults a ≤ shows.faults b → IsErr r → Rose shows.last_fault (shows.faults a) (shows.faults b)
+      → n ≤ length text → Adds (with_room start (shows.held a) before) (with_room start (shows.held b) room) (take n text) → Wrote shows a b r text
   wrote_part {r = Ok u} start before room text n e z g k x w l p = absurd (false≢true x)
   wrote_part {a = a} {b = b} {r = Err d} start before room text n e z g k x w l p =
-      record { count = k; written = (w, front_at start (held a) (held b) before room text n e z g l p) }
+      record { count = k; written = (w, front_at start (shows.held a) (shows.held b) before room text n e z g l p) }
 
   -- the whole text came into the room, and what waited there was sent, or a front of it
   pub wrote_whole : {a b : K} {r : Result (Unit {0}) Failed} (m : K) (start : Option (List ℕ)) (before between room text : List ℕ)
-      → held a ≡ start → before ≡ [] → Grew start (held b) → faults a ≤ faults m → faults m ≤ faults b
-      → OnErr r (Rose last (faults m) (faults b)) → OnOk r (room ≡ [])
-      → Adds (with_room start (held a) before) (with_room start (held m) between) text
-      → with_room start (held b) room ≡ with_room start (held m) between → Wrote held faults last a b r text
+      → shows.held a ≡ start → before ≡ [] → Grew start (shows.held b) → shows.faults a ≤ shows.faults m → shows.faults m ≤ shows.faults b
+      → OnErr r (Rose shows.last_fault (shows.faults m) (shows.faults b)) → OnOk r (room ≡ [])
+      → Adds (with_room start (shows.held a) before) (with_room start (shows.held m) between) text
+      → with_room start (shows.held b) room ≡ with_room start (shows.held m) between → Wrote shows a b r text
   wrote_whole {a = a} {b = b} {r = Ok u} m start before between room text e z g j k w s p h =
-      let q : Adds (with_room start (held a) before) (with_room start (held b) room) text = subst (λ o. Adds (with_room start (held a) before) o text) (sym h) p in
-      record { count = omega (arith, j, k); written = whole_at start (held a) (held b) before room text e z g s q }
+      let q : Adds (with_room start (shows.held a) before) (with_room start (shows.held b) room) text = subst (λ o. Adds (with_room start (shows.held a) before) o text) (sym h) p in
+      record { count = omega (arith, j, k); written = whole_at start (shows.held a) (shows.held b) before room text e z g s q }
   wrote_whole {a = a} {b = b} {r = Err d} m start before between room text e z g j k w s p h =
-      let q : Adds (with_room start (held a) before) (with_room start (held b) room) text = subst (λ o. Adds (with_room start (held a) before) o text) (sym h) p in
-      let t : Adds (with_room start (held a) before) (with_room start (held b) room) (take (length text) text) =
-      subst (Adds (with_room start (held a) before) (with_room start (held b) room)) (sym (take-length text)) q in
+      let q : Adds (with_room start (shows.held a) before) (with_room start (shows.held b) room) text = subst (λ o. Adds (with_room start (shows.held a) before) o text) (sym h) p in
+      let t : Adds (with_room start (shows.held a) before) (with_room start (shows.held b) room) (take (length text) text) =
+      subst (Adds (with_room start (shows.held a) before) (with_room start (shows.held b) room)) (sym (take-length text)) q in
       record {
         count = omega (arith, j, k);
-        written = (rose_after last (faults a) (faults m) (faults b) j w, front_at start (held a) (held b) before room text (length text) e z g (omega arith) t);
+        written = (rose_after shows.last_fault (shows.faults a) (shows.faults m) (shows.faults b) j w, front_at start (shows.held a) (shows.held b) before room text (length text) e z g (omega arith) t);
       }

@@ -1,7 +1,7 @@
 //! A sink over a sink, with a room in which bytes wait.
 
 ghost use Rattle.std.specs.Prelude.{◌≡◌, ◌-◌, ◌<◌, ◌≤◌, [], ◌++◌, ℕ, Option, None, List, OnErr, OnOk, length, drop};
-ghost use Rattle.perf_io.specs.Outside.{Rose};
+ghost use Rattle.perf_io.specs.Outside.{Flushes, Rose, no_flushes};
 ghost use Rattle.buffered_sink.specs.Rooms.{with_room, Grew};
 
 use perf_base::ShortList;
@@ -11,19 +11,24 @@ use std::marker::{Brand, PhantomData};
 /// How many bytes wait at most.
 const ROOM: usize = 4096;
 
-/// Which reference a buffered sink writes through, and what the sink behind it held at the start.
+/// Which reference a buffered sink writes through, what the sink behind it held at the start, and how it had been flushed.
 pub(crate) trait Behind {
     // The reference's ghost name.
     ghost name: { ℕ };
 
     // What the sink held, where it told its bytes.
     ghost start: { Option (List ℕ) };
+
+    // How it had been flushed.
+    ghost flushed: { Flushes };
 }
 
 impl Behind for Brand {
     ghost name = { 0 };
 
     ghost start = { None };
+
+    ghost flushed = { no_flushes };
 }
 
 /// A sink over a sink, with a room in which bytes wait. What waits there is lost where the buffered sink is let go.
@@ -31,10 +36,13 @@ impl Behind for Brand {
 pub(crate) struct BufferedSink<'a, K: Sink, B: Behind> {
     sink: &'a mut K,
     room: ShortList<u8, ROOM>,
+    // How often this sink was flushed.
+    flushes: u64,
     behind: PhantomData<B>,
     ghost same_reference: { sink.ghost_name ≡ B.name },
     ghost fits: { length room ≤ 4096 },
-    ghost grew: { Grew B.start (K.held sink.now) },
+    ghost grew: { Grew B.start (K.shows.held sink.now) },
+    ghost unflushed: { flushes ≡ 0 → K.shows.flushed sink.now ≡ B.flushed },
 }
 
 /// Adds bytes for which the list has room.
@@ -62,14 +70,17 @@ impl<'a, K: Sink, B: Behind> BufferedSink<'a, K, B> {
     /// An empty room before this sink.
     pub(crate) fn new(sink: &'a mut K) -> BufferedSink<'a, K, B>
         requires name { sink.ghost_name ≡ B.name }
-        requires start { K.held sink.old ≡ B.start }
+        requires start { K.shows.held sink.old ≡ B.start }
+        requires flushed { K.shows.flushed sink.old ≡ B.flushed }
         ensures same_reference { result.sink.ghost_name ≡ sink.entry.ghost_name }
         ensures sink { result.sink.now ≡ sink.old }
         ensures room { result.room ≡ [] }
+        ensures flushes { result.flushes ≡ 0 }
     {
         BufferedSink {
             sink,
             room: ShortList::new(),
+            flushes: 0,
             behind: PhantomData,
         }
     }
@@ -86,10 +97,11 @@ impl<'a, K: Sink, B: Behind> BufferedSink<'a, K, B> {
     fn send(&mut self) -> Result<(), Failed>
         requires { 0 < length self.old.room }
         ensures same_reference { self.new.sink.ghost_name ≡ self.old.sink.ghost_name }
-        ensures count { K.faults self.old.sink.now ≤ K.faults self.new.sink.now }
-        ensures cause { OnErr result (Rose K.last_fault (K.faults self.old.sink.now) (K.faults self.new.sink.now)) }
-        ensures held { with_room B.start (K.held self.new.sink.now) self.new.room ≡ with_room B.start (K.held self.old.sink.now) self.old.room }
-        ensures flushed { K.flushed self.new.sink.now ≡ K.flushed self.old.sink.now }
+        ensures count { K.shows.faults self.old.sink.now ≤ K.shows.faults self.new.sink.now }
+        ensures cause { OnErr result (Rose K.shows.last_fault (K.shows.faults self.old.sink.now) (K.shows.faults self.new.sink.now)) }
+        ensures held { with_room B.start (K.shows.held self.new.sink.now) self.new.room ≡ with_room B.start (K.shows.held self.old.sink.now) self.old.room }
+        ensures flushed { K.shows.flushed self.new.sink.now ≡ K.shows.flushed self.old.sink.now }
+        ensures flushes { self.new.flushes ≡ self.old.flushes }
         ensures shorter { OnOk result (length self.new.room < length self.old.room) }
         ensures failed { OnErr result (self.new.room ≡ self.old.room) }
     {
@@ -101,10 +113,11 @@ impl<'a, K: Sink, B: Behind> BufferedSink<'a, K, B> {
     /// Sends a front of what waits where the room is full, by one call of the sink. A call that fails sends nothing.
     fn make_place(&mut self) -> Result<(), Failed>
         ensures same_reference { self.new.sink.ghost_name ≡ self.old.sink.ghost_name }
-        ensures count { K.faults self.old.sink.now ≤ K.faults self.new.sink.now }
-        ensures cause { OnErr result (Rose K.last_fault (K.faults self.old.sink.now) (K.faults self.new.sink.now)) }
-        ensures held { with_room B.start (K.held self.new.sink.now) self.new.room ≡ with_room B.start (K.held self.old.sink.now) self.old.room }
-        ensures flushed { K.flushed self.new.sink.now ≡ K.flushed self.old.sink.now }
+        ensures count { K.shows.faults self.old.sink.now ≤ K.shows.faults self.new.sink.now }
+        ensures cause { OnErr result (Rose K.shows.last_fault (K.shows.faults self.old.sink.now) (K.shows.faults self.new.sink.now)) }
+        ensures held { with_room B.start (K.shows.held self.new.sink.now) self.new.room ≡ with_room B.start (K.shows.held self.old.sink.now) self.old.room }
+        ensures flushed { K.shows.flushed self.new.sink.now ≡ K.shows.flushed self.old.sink.now }
+        ensures flushes { self.new.flushes ≡ self.old.flushes }
         ensures place { OnOk result (length self.new.room < 4096) }
     {
         if self.room.len() < ROOM {
@@ -116,10 +129,11 @@ impl<'a, K: Sink, B: Behind> BufferedSink<'a, K, B> {
     /// Sends all that waits. Where a call of the sink fails, the rest waits on.
     pub(crate) fn send_all(&mut self) -> Result<(), Failed>
         ensures same_reference { self.new.sink.ghost_name ≡ self.old.sink.ghost_name }
-        ensures count { K.faults self.old.sink.now ≤ K.faults self.new.sink.now }
-        ensures cause { OnErr result (Rose K.last_fault (K.faults self.old.sink.now) (K.faults self.new.sink.now)) }
-        ensures held { with_room B.start (K.held self.new.sink.now) self.new.room ≡ with_room B.start (K.held self.old.sink.now) self.old.room }
-        ensures flushed { K.flushed self.new.sink.now ≡ K.flushed self.old.sink.now }
+        ensures count { K.shows.faults self.old.sink.now ≤ K.shows.faults self.new.sink.now }
+        ensures cause { OnErr result (Rose K.shows.last_fault (K.shows.faults self.old.sink.now) (K.shows.faults self.new.sink.now)) }
+        ensures held { with_room B.start (K.shows.held self.new.sink.now) self.new.room ≡ with_room B.start (K.shows.held self.old.sink.now) self.old.room }
+        ensures flushed { K.shows.flushed self.new.sink.now ≡ K.shows.flushed self.old.sink.now }
+        ensures flushes { self.new.flushes ≡ self.old.flushes }
         ensures sent { OnOk result (self.new.room ≡ []) }
     {
         while !self.room.is_empty() {
@@ -130,13 +144,7 @@ impl<'a, K: Sink, B: Behind> BufferedSink<'a, K, B> {
 }
 
 impl<K: Sink, B: Behind> Sink for BufferedSink<'_, K, B> {
-    ghost held = { λ b. with_room B.start (K.held b.sink.now) b.room };
-
-    ghost flushed = { λ b. K.flushed b.sink.now };
-
-    ghost faults = { λ b. K.faults b.sink.now };
-
-    ghost last_fault = { K.last_fault };
+    ghost shows = { record { held = λ b. with_room B.start (K.shows.held b.sink.now) b.room; flushed = λ b. record { calls = b.flushes; bytes = (K.shows.flushed b.sink.now).bytes }; faults = λ b. K.shows.faults b.sink.now; last_fault = K.shows.last_fault } };
 
     fn write(&mut self, piece: &[u8]) -> Result<usize, Failed> {
         self.make_place()?;
@@ -146,6 +154,7 @@ impl<K: Sink, B: Behind> Sink for BufferedSink<'_, K, B> {
     }
 
     fn flush(&mut self) -> Result<(), Failed> {
+        self.flushes = self.flushes.saturating_add(1);
         self.send_all()?;
         self.sink.flush()
     }

@@ -31,8 +31,8 @@ impl Written for Slow<'_> {
 
 /// Writes the bytes. So a caller that writes a text in small pieces hands it on.
 fn write_slow<K: Sink>(sink: &mut K, bytes: &[u8]) -> Result<(), Failed>
-    ensures wrote { Wrote K.held K.faults K.last_fault sink.old sink.new result bytes.now }
-    ensures flushed { K.flushed sink.new ≡ K.flushed sink.old }
+    ensures wrote { Wrote K.shows sink.old sink.new result bytes.now }
+    ensures flushed { K.shows.flushed sink.new ≡ K.shows.flushed sink.old }
 {
     write_buffered(sink, &Slow { bytes })
 }

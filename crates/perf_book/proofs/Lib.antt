@@ -1,4 +1,5 @@
 pub mod Answering
+pub mod Conserved
 pub mod Declared
 pub mod LateOpens
 pub mod Left

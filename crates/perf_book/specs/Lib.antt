@@ -1,5 +1,6 @@
 pub mod Book
 pub mod Codes
+pub mod Conserved
 pub mod Ending
 pub mod Keeping
 pub mod LateOpen

@@ -7,6 +7,7 @@ mod book;
 mod doing;
 mod ending;
 mod gate;
+mod laws;
 mod looking;
 mod making;
 mod named;
@@ -18,6 +19,7 @@ mod workers;
 
 pub use book::Book;
 pub use gate::{Gate, OpenGate};
+pub use laws::records_are_conserved;
 pub use machine::OrderFault;
 pub use running::{NotRun, run_all, run_with};
 pub use sheets::Sheets;

@@ -5,7 +5,7 @@ use Rattle.std.proofs.lemmas.Bool.{false≢true}
 use Rattle.std.proofs.lemmas.Grind.{common_steps}
 use Rattle.std.proofs.lemmas.List.{append-nil, take-append-le}
 use Rattle.std.proofs.Math.Seq.{take-append-add}
-use Rattle.perf_io.specs.Outside.{Adds, Rose}
+use Rattle.perf_io.specs.Outside.{Adds, Rose, SinkShows}
 use Rattle.perf_io.specs.Wrote.{Wrote}
 use Rattle.perf_io.specs.declared.outside.Failed.{Failed}
 
@@ -23,27 +23,27 @@ Rose-before : (last : Option ℕ) (f g h : ℕ) → f ≤ g → Rose last g h �
 Rose-before last f g h l (inl more) = inl (omega arith)
 Rose-before last f g h l (inr end) = inr end
 
-module _ {K : Type 0} {held : K → Option (List ℕ)} {faults : K → ℕ} {last_fault : Option ℕ} where
+module _ {K : Type 0} {shows : SinkShows K} where
   -- a text was written, and then another, or its front
   pub wrote_then : {a b c : K} {r : Result (Unit {0}) Failed} {x y : List ℕ}
-      → Wrote held faults last_fault a b (Ok tt) x → Wrote held faults last_fault b c r y → Wrote held faults last_fault a c r (x ++ y)
+      → Wrote shows a b (Ok tt) x → Wrote shows b c r y → Wrote shows a c r (x ++ y)
   wrote_then {a = a} {b = b} {c = c} {r = Ok u} {x = x} {y = y} p q =
-      record { count = omega (arith, p.count, q.count); written = Adds-then (held a) (held b) (held c) x y p.written q.written }
+      record { count = omega (arith, p.count, q.count); written = Adds-then (shows.held a) (shows.held b) (shows.held c) x y p.written q.written }
   wrote_then {a = a} {b = b} {c = c} {r = Err e} {x = x} {y = y} p q = record {
     count = omega (arith, p.count, q.count);
     written = (
-      Rose-before last_fault (faults a) (faults b) (faults c) p.count q.written.0,
+      Rose-before shows.last_fault (shows.faults a) (shows.faults b) (shows.faults c) p.count q.written.0,
       (
         length x + q.written.1.0,
         omega (arith, length-append x y, q.written.1.1),
-        rw take-append-add (Adds-then (held a) (held b) (held c) x (take q.written.1.0 y) p.written q.written.1.2),
+        rw take-append-add (Adds-then (shows.held a) (shows.held b) (shows.held c) x (take q.written.1.0 y) p.written q.written.1.2),
       ),
     );
   }
 
   -- a fault within a text is one within a longer text
   pub wrote_exit : {a b : K} {e : Failed} {r : Result (Unit {0}) Failed} {x : List ℕ} (y : List ℕ)
-      → IsErr r → Wrote held faults last_fault a b (Err e) x → Wrote held faults last_fault a b r (x ++ y)
+      → IsErr r → Wrote shows a b (Err e) x → Wrote shows a b r (x ++ y)
   wrote_exit {r = Ok u} y q p = absurd (false≢true q)
   wrote_exit {r = Err d} {x = x} y q p =
       let l = p.written.1.1 in
@@ -51,16 +51,16 @@ module _ {K : Type 0} {held : K → Option (List ℕ)} {faults : K → ℕ} {las
 
   -- the same where a single byte comes first
   pub wrote_byte_then : {a b c : K} {r : Result (Unit {0}) Failed} {n : ℕ} {y : List ℕ}
-      → Wrote held faults last_fault a b (Ok tt) (n ∷ []) → Wrote held faults last_fault b c r y → Wrote held faults last_fault a c r (n ∷ y)
+      → Wrote shows a b (Ok tt) (n ∷ []) → Wrote shows b c r y → Wrote shows a c r (n ∷ y)
   wrote_byte_then p q = wrote_then p q
 
   -- the same text
-  pub wrote_text : {a b : K} {r : Result (Unit {0}) Failed} {x y : List ℕ} → x ≡ y → Wrote held faults last_fault a b r x → Wrote held faults last_fault a b r y
-  wrote_text {a = a} {b = b} {r = r} e p = subst (Wrote held faults last_fault a b r) e p
+  pub wrote_text : {a b : K} {r : Result (Unit {0}) Failed} {x y : List ℕ} → x ≡ y → Wrote shows a b r x → Wrote shows a b r y
+  wrote_text {a = a} {b = b} {r = r} e p = subst (Wrote shows a b r) e p
 
   -- nothing was written
-  pub wrote_nothing : {a : K} → Wrote held faults last_fault a a (Ok tt) []
-  wrote_nothing {a = a} = record { count = omega arith; written = Adds-nothing (held a) }
+  pub wrote_nothing : {a : K} → Wrote shows a a (Ok tt) []
+  wrote_nothing {a = a} = record { count = omega arith; written = Adds-nothing (shows.held a) }
 
 -- a front of at most a single byte
 pub take_byte : (n c : ℕ) (y : List ℕ) → n ≤ 1 → take n (c ∷ y) ≡ take n (c ∷ [])

@@ -1,4 +1,5 @@
 pub mod Outside
+pub mod Streams
 pub mod Counts
 pub mod MemSource
 pub mod MemSink

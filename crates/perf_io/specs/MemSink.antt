@@ -1,13 +1,14 @@
 -- A place in memory for bytes. This project's own profile of reading and writing.
 use Rattle.std.specs.Prelude.{ℕ, ◌-◌, ◌<◌, ◌≤◌, ◌⊎◌, List, ◌++◌, length, take, min, Contains}
 use Rattle.perf_io.specs.Counts.{count_after}
+use Rattle.perf_io.specs.Outside.{Flushes}
 
 -- What a contract sees of such a sink.
 pub record SinkState : Type 0 where
   -- The bytes that it holds.
   pub held : List ℕ
-  -- How many it held when the last flush that did not fail came, 0 before the first.
-  pub flushed : ℕ
+  -- How often it was flushed, and how many it held when the last flush that did not fail came, 0 before the first.
+  pub flushed : Flushes
   -- The most bytes that one write adds, at least 1.
   pub piece : ℕ
   -- The numbers of the calls that fail. A flush is a call too.
@@ -33,8 +34,12 @@ after_write sink bytes n = record sink { held = sink.held ++ take n bytes; calls
 
 -- The sink after a flush that did not fail.
 abbrev pub after_flush : SinkState → SinkState
-after_flush sink = record sink { flushed = length sink.held; calls = count_after sink.calls 1 }
+after_flush sink = record sink { flushed = record { calls = count_after sink.flushed.calls 1; bytes = length sink.held }; calls = count_after sink.calls 1 }
 
--- The sink after a write or a flush that failed.
-abbrev pub after_failed_call : SinkState → SinkState
-after_failed_call sink = record sink { calls = count_after sink.calls 1; faults = count_after sink.faults 1 }
+-- The sink after a write that failed, and after such a flush.
+abbrev pub after_failed_write : SinkState → SinkState
+after_failed_write sink = record sink { calls = count_after sink.calls 1; faults = count_after sink.faults 1 }
+
+abbrev pub after_failed_flush : SinkState → SinkState
+after_failed_flush sink =
+    record sink { flushed = record sink.flushed { calls = count_after sink.flushed.calls 1 }; calls = count_after sink.calls 1; faults = count_after sink.faults 1 }

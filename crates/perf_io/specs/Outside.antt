@@ -1,4 +1,4 @@
--- What a source has left, what a sink holds, and when a count of faults rose. This project's own profile
+-- What a source has left, what a sink holds, when a count of faults rose, and how a sink was flushed. This project's own profile
 -- of reading and writing.
 use Rattle.std.specs.Prelude.{◌≡◌, ℕ, ◌<◌, ◌⊎◌, List, [], ◌++◌, ⊤, Option, None, Some}
 
@@ -23,3 +23,27 @@ IsAtEnd (Some left) = left ≡ []
 -- A count of faults rose: it is greater now, or it stands at the last value that its type has.
 abbrev pub Rose : Option ℕ → ℕ → ℕ → Type 0
 Rose last before after = (before < after) ⊎ (last ≡ Some after)
+
+-- How often a sink was flushed, a count that stays at `last_count`, and how many bytes it held when that last succeeded,
+-- 0 before.
+pub record Flushes : Type 0 where
+  pub calls : ℕ
+  pub bytes : ℕ
+
+abbrev pub no_flushes : Flushes
+no_flushes = record { calls = 0; bytes = 0 }
+
+-- What a contract sees of a source: the bytes left, where it shows them; how many faults there were, and the last value
+-- of that count, where it has one.
+pub record SourceShows (S : Type 0) : Type 0 where
+  pub left : S → Option (List ℕ)
+  pub faults : S → ℕ
+  pub last_fault : Option ℕ
+
+-- What a contract sees of a sink: the bytes that it holds, where it shows them; how it was flushed; how many faults there
+-- were, and the last value of that count, where it has one.
+pub record SinkShows (K : Type 0) : Type 0 where
+  pub held : K → Option (List ℕ)
+  pub flushed : K → Flushes
+  pub faults : K → ℕ
+  pub last_fault : Option ℕ

@@ -2,6 +2,7 @@
 
 ghost use Rattle.std.specs.Prelude.{◌≡◌, ◌<◌, ◌≤◌, ◌++◌, [], Some, None, Ok, IfOk, IsOk, length, take, drop, min};
 ghost use Rattle.perf_io.specs.Counts.{count_after};
+ghost use Rattle.perf_io.specs.Streams.{only_calls};
 
 use crate::copying::copy_front;
 use crate::outside::{Failed, Sink, Source};
@@ -35,11 +36,7 @@ impl CalmSource {
 }
 
 impl Source for CalmSource {
-    ghost left = { λ s. Some s };
-
-    ghost faults = { λ _. 0 };
-
-    ghost last_fault = { None };
+    ghost shows = { record { left = λ s. Some s; faults = λ _. 0; last_fault = None } };
 
     fn read(&mut self, buf: &mut [u8]) -> Result<usize, Failed>
         ensures taken { IfOk result (λ n. self.old ≡ take n buf.new ++ self.new) }
@@ -57,49 +54,47 @@ impl Source for CalmSource {
 }
 
 /// Takes bytes and keeps only how many they were, a number that stays at 2^64 - 1 once it is there. A
-/// contract sees that number.
+/// contract sees that number, and how often it was flushed.
 #[derive(Drop)]
 pub struct CalmSink {
     written: u64,
+    flushes: u64,
 }
 
 impl Model for CalmSink {
-    ghost use Rattle.std.specs.Prelude.{ℕ};
+    ghost use Rattle.perf_io.specs.Streams.{CalmState};
 
-    ghost Value = { ℕ };
+    ghost Value = { CalmState };
 
-    ghost view = { λ s. s.written };
+    ghost view = { λ s. record { written = s.written; flushes = s.flushes } };
 }
 
 impl CalmSink {
     /// Has taken nothing yet.
     pub fn new() -> CalmSink
-        ensures { result ≡ 0 }
+        ensures { result ≡ record { written = 0; flushes = 0 } }
     {
-        CalmSink { written: 0 }
+        CalmSink {
+            written: 0,
+            flushes: 0,
+        }
     }
 
     /// How many bytes were written, at most 2^64 - 1.
     pub fn written(&self) -> u64
-        ensures { result ≡ self.now }
+        ensures { result ≡ self.now.written }
     {
         self.written
     }
 }
 
 impl Sink for CalmSink {
-    ghost held = { λ _. None };
-
-    ghost flushed = { λ _. 0 };
-
-    ghost faults = { λ _. 0 };
-
-    ghost last_fault = { None };
+    ghost shows = { record { held = λ _. None; flushed = λ s. only_calls s.flushes; faults = λ _. 0; last_fault = None } };
 
     fn write(&mut self, piece: &[u8]) -> Result<usize, Failed>
         // It never fails, and takes the whole piece.
         ensures amount { result ≡ Ok (length piece.now) }
-        ensures state { self.new ≡ count_after self.old (length piece.now) }
+        ensures state { self.new ≡ record self.old { written = count_after self.old.written (length piece.now) } }
     {
         self.written = self.written.saturating_add(piece.len() as u64);
         Ok(piece.len())
@@ -107,8 +102,9 @@ impl Sink for CalmSink {
 
     fn flush(&mut self) -> Result<(), Failed>
         ensures ok { IsOk result }
-        ensures state { self.new ≡ self.old }
+        ensures state { self.new ≡ record self.old { flushes = count_after self.old.flushes 1 } }
     {
+        self.flushes = self.flushes.saturating_add(1);
         Ok(())
     }
 }

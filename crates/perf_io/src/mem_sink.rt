@@ -1,9 +1,9 @@
 //! A place for bytes in memory that takes them in pieces, has so much room and fails at the calls of a list.
 
 ghost use Rattle.std.specs.Prelude.{◌≡◌, ◌<◌, ◌≤◌, ◌+◌, ◌↔◌, [], ◌++◌, Some, IfOk, OnOk, OnErr, IsErr, Contains, length, take, vec_len, vec_capacity};
-ghost use Rattle.perf_io.specs.Outside.{Rose};
-ghost use Rattle.perf_io.specs.Counts.{last_count};
-ghost use Rattle.perf_io.specs.MemSink.{FailsToWrite, write_count, after_write, after_flush, after_failed_call};
+ghost use Rattle.perf_io.specs.Outside.{Rose, no_flushes};
+ghost use Rattle.perf_io.specs.Counts.{last_count, count_after};
+ghost use Rattle.perf_io.specs.MemSink.{FailsToWrite, write_count, after_write, after_flush, after_failed_write, after_failed_flush};
 
 use crate::copying::is_listed;
 use crate::outside::{Failed, Sink};
@@ -17,7 +17,9 @@ use std::marker::Model;
 #[derive(Drop)]
 pub struct MemSink {
     bytes: Vec<u8>,
+    // How many bytes there were at the last flush that did not fail.
     flushed: usize,
+    flushes: u64,
     piece: usize,
     fail: Vec<u64>,
     room: usize,
@@ -33,7 +35,7 @@ impl Model for MemSink {
 
     ghost view = { λ s. record {
       held = s.bytes.items;
-      flushed = s.flushed;
+      flushed = record { calls = s.flushes; bytes = s.flushed };
       piece = s.piece;
       fail = s.fail.items;
       room = s.room;
@@ -56,7 +58,7 @@ impl MemSink {
         requires { 0 < piece }
         ensures { IfOk result (λ sink. sink ≡ record {
           held = [];
-          flushed = 0;
+          flushed = no_flushes;
           piece = piece;
           fail = fail.items;
           room = room;
@@ -67,6 +69,7 @@ impl MemSink {
         Ok(MemSink {
             bytes: Vec::with_capacity(alloc, room)?,
             flushed: 0,
+            flushes: 0,
             piece,
             fail,
             room,
@@ -94,13 +97,7 @@ fn push_all(to: &mut Vec<u8>, bytes: &[u8])
 }
 
 impl Sink for MemSink {
-    ghost held = { λ s. Some s.held };
-
-    ghost flushed = { λ s. s.flushed };
-
-    ghost faults = { λ s. s.faults };
-
-    ghost last_fault = { Some last_count };
+    ghost shows = { record { held = λ s. Some s.held; flushed = λ s. s.flushed; faults = λ s. s.faults; last_fault = Some last_count } };
 
     fn write(&mut self, piece: &[u8]) -> Result<usize, Failed>
         ensures count { self.old.faults ≤ self.new.faults }
@@ -115,7 +112,7 @@ impl Sink for MemSink {
         ensures fails { IsErr result ↔ FailsToWrite self.old piece.now }
         ensures amount { IfOk result (λ n. n ≡ write_count self.old (length piece.now)) }
         ensures state { IfOk result (λ n. self.new ≡ after_write self.old piece.now n) }
-        ensures fault { OnErr result (self.new ≡ after_failed_call self.old) }
+        ensures fault { OnErr result (self.new ≡ after_failed_write self.old) }
     {
         let fails = is_listed(&self.fail, self.calls);
         self.calls = self.calls.saturating_add(1);
@@ -133,15 +130,17 @@ impl Sink for MemSink {
         ensures count { self.old.faults ≤ self.new.faults }
         ensures cause { OnErr result (Rose (Some last_count) self.old.faults self.new.faults) }
         ensures held { self.new.held ≡ self.old.held }
-        ensures ok { OnOk result (self.new.flushed ≡ length self.new.held) }
-        ensures failed { OnErr result (self.new.flushed ≡ self.old.flushed) }
+        ensures ok { OnOk result (self.new.flushed.bytes ≡ length self.new.held) }
+        ensures once { self.new.flushed.calls ≡ count_after self.old.flushed.calls 1 }
+        ensures failed { OnErr result (self.new.flushed.bytes ≡ self.old.flushed.bytes) }
 
         // It fails exactly at the calls of the list.
         ensures fails { IsErr result ↔ Contains self.old.fail self.old.calls }
         ensures state { OnOk result (self.new ≡ after_flush self.old) }
-        ensures fault { OnErr result (self.new ≡ after_failed_call self.old) }
+        ensures fault { OnErr result (self.new ≡ after_failed_flush self.old) }
     {
         let fails = is_listed(&self.fail, self.calls);
+        self.flushes = self.flushes.saturating_add(1);
         self.calls = self.calls.saturating_add(1);
         if fails {
             self.faults = self.faults.saturating_add(1);

@@ -63,11 +63,7 @@ impl MemSource {
 }
 
 impl Source for MemSource {
-    ghost left = { λ s. Some s.left };
-
-    ghost faults = { λ s. s.faults };
-
-    ghost last_fault = { Some last_count };
+    ghost shows = { record { left = λ s. Some s.left; faults = λ s. s.faults; last_fault = Some last_count } };
 
     fn read(&mut self, buf: &mut [u8]) -> Result<usize, Failed>
         ensures count { self.old.faults ≤ self.new.faults }

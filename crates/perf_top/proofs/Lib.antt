@@ -1,13 +1,14 @@
-mod Words
-pub mod Commands
-pub mod Conserved
-pub mod Ends
+pub mod Asking
+pub mod Ending
 pub mod Filling
 pub mod LineCounts
 pub mod Lines
 pub mod Made
 pub mod OrderLength
 pub mod Parts
+pub mod Refusing
 pub mod Reported
 pub mod Rooms
 pub mod Told
+pub mod Whole
+pub mod Words

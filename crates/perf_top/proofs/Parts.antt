@@ -14,7 +14,10 @@ use Rattle.report_spec.specs.Answers.{AreReadersParts, IsNoLook, IsRunShaped, re
 use Rattle.run_laws.proofs.Taken.{never-seen}
 use Rattle.perf_book.specs.Ending.{AreParts}
 use Rattle.perf_book.specs.Running.{IsRead, IsReadBy}
-use Rattle.perf_top.specs.Keeping.{AreUnread}
+
+-- no reader has taken or released anything
+abbrev AreUnread : InList → Type 0
+AreUnread ins = (place : ℕ) (i : InEnd) → slice_get ins.readers place ≡ Some (Some i) → (i.records ≡ 0) × (i.consumer.released ≡ 0)
 
 -- a reader that has taken nothing has released nothing
 none-released : (ins : InList) (ring : RingNo) → AreUnread ins → released_in ins ring ≡ 0

@@ -9,14 +9,12 @@ use Rattle.report.proofs.Told.{told_whole}
 use Rattle.report_spec.specs.Report.{rings_after}
 use Rattle.perf_top.specs.Outcome.{IsReported}
 use Rattle.report.specs.Told.{report_by, rings_of}
-use Rattle.perf_top.proofs.Conserved.{all-conserved}
 use Rattle.perf_top.proofs.Told.{are-told}
 
 pub end-reported : (e : Ran) → IsEnd e → IsReported e.script e.order (report_by e)
 end-reported e h = record {
   answers = e.answers;
   answered = h.answered;
-  conserved = all-conserved e.script e.order;
   is = told_whole e.script e.order e.answers (rings_of e) (rings_after e.script e.order) (are-told e.script e.order e.ins e.ends h.script h.rings h.shown h.taken);
 }
 

@@ -1,6 +1,6 @@
 -- The line of an attribute's bytes has room.
 use Rattle.std.proofs.Common.{◌≡◌, ℕ, zero, suc, ◌+◌, ◌/◌, ◌%◌, ◌<◌, ◌≤◌, inl, inr, Bool, true, false, eqb, ltb, List, [], ◌∷◌, ◌++◌, length, take, map, filter, Some, refl, ap, ◌∙◌, arith, length-append, length-take}
-use Rattle.std.specs.Prelude.{codes, decimal}
+use Rattle.std.specs.Prelude.{codes, decimal, nat_lt, if◌then◌else◌}
 use Rattle.std.specs.Fmt.{digits, digits_onto, digit_glyph}
 use Rattle.std.specs.List.{join_with_byte}
 use Rattle.std.specs.Int.{bit_at}
@@ -11,7 +11,6 @@ use Rattle.script_spec.specs.Printing.{some_of}
 use Rattle.perf_io.specs.Outside.{Rose}
 use Rattle.perf_io.specs.Wrote.{WroteFront}
 use Rattle.perf_top.specs.Attributes.{words_of_attr, line_of_words}
-use Rattle.perf_top.specs.Rooms.{full_count}
 use Rattle.perf_top.specs.declared.line.Line.{Line}
 
 length_digits : (base k n : ℕ) (written : List ℕ) → length (digits_onto k base false n written) ≤ k + length written
@@ -86,6 +85,10 @@ attr_fits raw =
       length_hexadecimal raw.format,
     )
 
+-- that a line of 512 bytes is full is its one fault
+abbrev full_count : ℕ → ℕ
+full_count held = if nat_lt held 512 then 0 else 1
+
 rose_to_full : (held : ℕ) → held < 512 → Rose (Some 1) 0 (full_count held) → ⊥
 rose_to_full held l rose =
     let e : ltb held 512 ≡ true = lt-ltb _ _ l in
@@ -97,7 +100,7 @@ rose_to_full held l rose =
 
 -- a line does not fail at a text that has room in it
 pub never_full : (before after : Line) (text : List ℕ) → before.text ≡ [] → length text < 512
-    → WroteFront (λ (s : Line). Some s.text) (λ (s : Line). full_count (length s.text)) (Some 1) before after text → ⊥
+    → WroteFront (record { held = λ (s : Line). Some s.text; flushed = λ (s : Line). record { calls = s.flushes; bytes = s.flushed }; faults = λ (s : Line). full_count (length s.text); last_fault = Some 1 }) before after text → ⊥
 never_full before after text empty short h =
     let all : after.text ≡ take h.1.0 text = h.1.2 ∙ ap (λ t. t ++ take h.1.0 text) empty in
     let few : length after.text < 512 = omega (arith, ap length all, length-take h.1.0 text, short) in

@@ -1,17 +1,12 @@
--- What `attr BYTES` writes of the bytes of a struct perf_event_attr (perf_event_open(2)). The words and the line are
--- this project's own profile.
-use Rattle.std.specs.Prelude.{◌≡◌, ◌⊎◌, ℕ, List, [], ◌∷◌, ◌++◌, flat_map, Some, codes, decimal}
+-- What is written of the bytes of a struct perf_event_attr (perf_event_open(2)). The line is this project's own profile.
+use Rattle.std.specs.Prelude.{◌≡◌, ◌⊎◌, ℕ, List, [], ◌∷◌, ◌++◌, Some, codes, decimal}
 use Rattle.std.specs.List.{join_with_byte}
 use Rattle.attr_bytes.specs.declared.raw.RawAttr.{RawAttr}
 use Rattle.attr_bytes.specs.declared.fault.AttrFault.{AttrFault}
 use Rattle.attr_bytes.specs.Standing as standing
 use Rattle.attr_bytes.specs.Faults.{fault_of, word_of}
-use Rattle.script_spec.specs.Forms.{AreBytes, byte_text, hexadecimal, flags_text, word_if}
+use Rattle.script_spec.specs.Forms.{hexadecimal, flags_text, word_if}
 use Rattle.script_spec.specs.Printing.{some_of}
-
--- the words, and the bytes that the second one spells, two hexadecimal digits each
-abbrev pub IsAttrCommand : List (List ℕ) → List ℕ → Type 0
-IsAttrCommand words bytes = AreBytes bytes × (words ≡ codes "attr" ∷ flat_map byte_text bytes ∷ [])
 
 -- the words of an attribute: the bits of its samples and of its reads in hexadecimal, and its flags where it has some
 abbrev pub words_of_attr : RawAttr → List (List ℕ)

@@ -1,6 +1,4 @@
-mod Stops
+pub mod Asking
 pub mod Attributes
-pub mod Keeping
 pub mod Notes
 pub mod Outcome
-pub mod Rooms

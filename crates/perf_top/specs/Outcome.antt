@@ -1,66 +1,35 @@
 -- What a call of the program reads, does and leaves. This project's own profile.
-use Rattle.std.specs.Prelude.{◌≡◌, ℕ, ◌+◌, ◌≤◌, ◌⊎◌, All, List, [], ◌∷◌, count_by, length, sum_by, take, Option, Some, Result, codes, decimal, slice_get}
+use Rattle.std.specs.Prelude.{◌≡◌, ◌⊎◌, ◌<◌, ◌≤◌, ℕ, List, length, take, IfSome, Option, Some, Result, slice_get}
 use Rattle.perf_base.specs.declared.acts.Act.{Act}
 use Rattle.perf_base.specs.declared.acts.Act.TheVariants as act
 use Rattle.perf_base.specs.declared.numbers.RingNo.{RingNo}
-use Rattle.perf_base.specs.Scripts.{Scripted}
-use Rattle.ring_spec.specs.Account.{head_of, is_sample, losses_in}
-use Rattle.ring_spec.specs.Rings.{IsLawfulOrder, account_in, bytes_of, is_to, sizes_in}
-use Rattle.ring_spec.specs.Sending.{sent_by_steps}
-use Rattle.stage_spec.specs.Hardware.{hardware_of}
-use Rattle.stage_spec.specs.History.{history, opening_stage}
-use Rattle.stage_spec.specs.Order.{IsComplete, IsLawfulSeen, last_seen}
 use Rattle.perf_base.specs.declared.reply.Answer.{Answer}
 use Rattle.perf_base.specs.declared.reasons.SReason.{SReason}
 use Rattle.perf_base.specs.declared.reasons.SReason.TheVariants as s_reason
+use Rattle.perf_base.specs.Scripts.{Scripted}
+use Rattle.perf_io.specs.declared.outside.Failed.{Failed}
+use Rattle.perf_io.specs.Counts.{count_after}
+use Rattle.perf_io.specs.Outside.{Adds, Flushes, IsAtEnd, Rose, SinkShows, SourceShows, Takes}
+use Rattle.perf_io.specs.Wrote.{Wrote, WroteFront}
+use Rattle.stage_spec.specs.Order.{IsComplete, IsLawfulSeen, last_seen}
+use Rattle.ring_spec.specs.Account.{head_of}
+use Rattle.ring_spec.specs.Rings.{IsLawfulOrder, account_in, bytes_of, sizes_in}
 use Rattle.script_spec.specs.Lines.{lines_of}
 use Rattle.script_spec.specs.Printing.{printed}
-use Rattle.script_spec.specs.Texts.{StandsFor, IsRefused}
-use Rattle.make_spec.specs.Rounds.{script_of_rounds}
-use Rattle.report.specs.Summary.{summary_text, totals_of}
-use Rattle.perf_top.specs.Attributes.{IsAttrCommand, IsLineOf}
+use Rattle.script_spec.specs.Texts.{IsRefused, StandsFor}
 use Rattle.report_spec.specs.Answers.{AreReadersParts, IsAnswered, IsRunShaped}
 use Rattle.report_spec.specs.Report.{report, rings_after}
+use Rattle.make_spec.specs.Rounds.{script_of_rounds}
+use Rattle.report.specs.Summary.{summary_text, totals_of}
 use Rattle.stat_rows.specs.Rows.{rows_of}
 use Rattle.stat_table.specs.Table.{table_text}
-use Rattle.perf_io.specs.Outside.{Takes, IsAtEnd}
-use Rattle.perf_io.specs.Wrote.{Wrote}
-use Rattle.perf_io.specs.declared.outside.Failed.{Failed}
-
--- the words that have the script's own order done, and those that have the script run by threads
-abbrev pub IsReplay : List (List ℕ) → Type 0
-IsReplay words = words ≡ codes "replay" ∷ []
-
-abbrev pub IsRun : List (List ℕ) → Type 0
-IsRun words = words ≡ codes "run" ∷ []
-
--- the words that have the script's own order done and a table of its events made
-abbrev pub IsStat : List (List ℕ) → Type 0
-IsStat words = words ≡ codes "stat" ∷ []
-
--- the words for which the script's own order is done
-abbrev pub DoesOrder : List (List ℕ) → Type 0
-DoesOrder words = IsReplay words ⊎ IsStat words
-
--- the words for which a script is read
-abbrev pub ReadsScript : List (List ℕ) → Type 0
-ReadsScript words = DoesOrder words ⊎ IsRun words
-
--- the words that have the script of N rounds made and its own order done, and those that have it made and printed: from
--- 1 round to 1000, in decimal without leading zeros
-abbrev pub IsMake : List (List ℕ) → ℕ → Type 0
-IsMake words n = (1 ≤ n) × (n ≤ 1000) × (words ≡ codes "make" ∷ decimal n ∷ [])
-
-abbrev pub IsMakeScript : List (List ℕ) → ℕ → Type 0
-IsMakeScript words n = (1 ≤ n) × (n ≤ 1000) × (words ≡ codes "make" ∷ decimal n ∷ codes "script" ∷ [])
-
--- the words for which the script of N rounds is made
-abbrev pub MakesScript : List (List ℕ) → ℕ → Type 0
-MakesScript words n = IsMake words n ⊎ IsMakeScript words n
-
--- the words that the program knows
-abbrev pub AreKnown : List (List ℕ) → Type 0
-AreKnown words = ReadsScript words ⊎ (((n : ℕ) × MakesScript words n) ⊎ ((bytes : List ℕ) × IsAttrCommand words bytes))
+use Rattle.perf_top.specs.Asking.{DoesOrder, ReadsScript, TakesMemory}
+use Rattle.perf_top.specs.Attributes.{IsLineOf}
+use Rattle.perf_top.specs.Notes.{note_of}
+use Rattle.perf_top.specs.declared.asked.Asked.{Asked}
+use Rattle.perf_top.specs.declared.asked.Asked.TheVariants as asked
+use Rattle.perf_top.specs.declared.status.Status.{Status}
+use Rattle.perf_top.specs.declared.status.Status.TheVariants as status
 
 -- The source was read to its end, and this is all that it gave.
 pub record Gave (before after : Option (List ℕ)) (text : List ℕ) : Type 0 where
@@ -68,47 +37,42 @@ pub record Gave (before after : Option (List ℕ)) (text : List ℕ) : Type 0 wh
   pub taken : Takes before after text
   pub ended : IsAtEnd after
 
--- Over an order of a script the records that are sent to a ring are the samples written on it and those that it lost,
--- and LOST records state those lost or they are pending.
-pub record IsConserved (s : Scripted) (order : List Act) (ring : RingNo × ℕ) : Type 0 where
-  pub sent : count_by (is_to ring.0) (sent_by_steps (hardware_of s) (opening_stage s) (history s order))
-      ≡ count_by is_sample (account_in s order ring).written + length (account_in s order ring).lost
-  pub told : length (account_in s order ring).lost ≡ sum_by losses_in (account_in s order ring).written + (account_in s order ring).pending
+-- The script of what is asked, and what was read for it: the script that the text of the source stands for, whose own
+-- order is complete where that is to be done; or a made one. An attribute has none.
+abbrev pub IsGiven : {S : Type 0} → (S → Option (List ℕ)) → Asked → S → S → Scripted → Type 0
+IsGiven left (asked.Make n) before after s = (after ≡ before) × (s ≡ script_of_rounds n)
+IsGiven left (asked.MadeScript n) before after s = (after ≡ before) × (s ≡ script_of_rounds n)
+IsGiven left (asked.Attr bytes) before after s = after ≡ before
+IsGiven left a before after s =
+    (text : List ℕ) × Gave (left before) (left after) text × StandsFor text s × (DoesOrder a → IsComplete s s.order)
 
--- These bytes are the report of an order of a script, with answers to it, and on each ring of it records are conserved.
-pub record IsReported (script : Scripted) (order : List Act) (out : List ℕ) : Type 0 where
+-- These bytes are the report of an order of a script, with answers to it.
+pub record IsReported (s : Scripted) (order : List Act) (out : List ℕ) : Type 0 where
   pub answers : List Answer
-  pub answered : IsAnswered script order answers
-  pub conserved : All (IsConserved script order) script.rings
-  pub is : out ≡ report script order answers (rings_after script order)
+  pub answered : IsAnswered s order answers
+  pub is : out ≡ report s order answers (rings_after s order)
 
--- The text stands for a script whose order is complete, and these bytes are the report of that order.
-pub record IsReplayed (text out : List ℕ) : Type 0 where
-  pub script : Scripted
-  pub stands : StandsFor text script
-  pub complete : IsComplete script script.order
-  pub reported : IsReported script script.order out
-
--- The text stands for a script, and these bytes are the report of a complete order that a run may leave: looks at rings
--- stand before a processor's line or at the end, by rising rings, each further than the last one, and each reader took
--- no more records than its tries allow.
-pub record IsRunOf (text out : List ℕ) : Type 0 where
-  pub script : Scripted
-  pub order : List Act
-  pub stands : StandsFor text script
-  pub complete : IsComplete script order
+-- A run may leave this order: it is complete, looks at rings stand before a processor's line or at the end, by rising
+-- rings, each further than the last one, and each reader took no more records than its tries allow.
+pub record IsRun (s : Scripted) (order : List Act) : Type 0 where
+  pub complete : IsComplete s order
   pub shaped : IsRunShaped order
-  pub parts : AreReadersParts script order
-  pub reported : IsReported script order out
+  pub parts : AreReadersParts s order
 
--- The text stands for a script whose order is complete and lawful, and these bytes are the table of what its events
--- have counted over that order.
-pub record IsTabled (text out : List ℕ) : Type 0 where
-  pub script : Scripted
-  pub stands : StandsFor text script
-  pub complete : IsComplete script script.order
-  pub lawful : IsLawfulOrder script script.order
-  pub is : out ≡ table_text (rows_of script script.order)
+-- These bytes are the summary of a made script: of answers to its own order, and of what its rings came to over that.
+pub record IsSummary (n : ℕ) (s : Scripted) (out : List ℕ) : Type 0 where
+  pub answers : List Answer
+  pub answered : IsAnswered s s.order answers
+  pub is : out ≡ summary_text n (totals_of s answers (rings_after s s.order))
+
+-- What is written of a script, or of the bytes of an attribute.
+abbrev pub IsOutput : Asked → Scripted → List ℕ → Type 0
+IsOutput asked.Replay s out = IsReported s s.order out
+IsOutput asked.Run s out = (order : List Act) × IsRun s order × IsReported s order out
+IsOutput asked.Stat s out = IsLawfulOrder s s.order × (out ≡ table_text (rows_of s s.order))
+IsOutput (asked.Make n) s out = IsSummary n s out
+IsOutput (asked.MadeScript n) s out = out ≡ printed s
+IsOutput (asked.Attr bytes) s out = IsLineOf bytes out
 
 -- The act of this number, from 0, is the first look of a script's own order that is not lawful: the acts before it
 -- leave the ring's tail seen last at `last`, and its head at `head`, and there it can't be seen at the place given.
@@ -119,13 +83,6 @@ pub record HasBadLook (s : Scripted) (index : ℕ) (ring : RingNo) (last head gi
   pub headed : head ≡ head_of (account_in s (take index s.order) (ring, bytes_of s ring))
   pub unlawful : IsLawfulSeen (sizes_in s (take index s.order) ring) last given → ⊥
 
--- The text stands for a script whose order is complete and has such a look.
-pub record IsBadOrder (text : List ℕ) (index : ℕ) (ring : RingNo) (last head given : ℕ) : Type 0 where
-  pub script : Scripted
-  pub stands : StandsFor text script
-  pub complete : IsComplete script script.order
-  pub bad : HasBadLook script index ring last head given
-
 -- The text stands for a script whose order is not complete. The line is that of its `end`.
 pub record HasOpenOrder (text : List ℕ) (line : ℕ) (reason : SReason) : Type 0 where
   pub script : Scripted
@@ -134,37 +91,50 @@ pub record HasOpenOrder (text : List ℕ) (line : ℕ) (reason : SReason) : Type
   pub at_end : line ≡ length (lines_of text)
   pub is_order : reason ≡ s_reason.Order
 
--- The text is no script, by its first faulty line; or, where the script's own order is to be done, one whose order is
--- not complete.
-abbrev pub IsBadScript : List (List ℕ) → List ℕ → ℕ → SReason → Type 0
-IsBadScript words text line reason = IsRefused text line reason ⊎ (DoesOrder words × HasOpenOrder text line reason)
+-- Why nothing is done, by the answer and what the source shows.
+abbrev pub IsRefusal : {S : Type 0} → SourceShows S → Asked → Status → S → S → Type 0
+IsRefusal shows a status.NoMemory before after =
+    TakesMemory a × ((after ≡ before) ⊎ (ReadsScript a × ((text : List ℕ) × Gave (shows.left before) (shows.left after) text)))
+IsRefusal shows a status.ReadFault before after = ReadsScript a × Rose shows.last_fault (shows.faults before) (shows.faults after)
+IsRefusal shows a status.TooLong before after = ReadsScript a × IfSome (shows.left before) (λ bytes. 4194304 < length bytes)
+IsRefusal shows a (status.BadScript line reason) before after = ReadsScript a
+    × ((text : List ℕ) × Gave (shows.left before) (shows.left after) text × (IsRefused text line reason ⊎ (DoesOrder a × HasOpenOrder text line reason)))
+IsRefusal shows a other before after = ⊥
 
--- These bytes are the summary of the script of N rounds: of answers to its own order, and of what its rings came to
--- over that order.
-pub record IsSummary (n : ℕ) (out : List ℕ) : Type 0 where
-  pub answers : List Answer
-  pub answered : IsAnswered (script_of_rounds n) (script_of_rounds n).order answers
-  pub is : out ≡ summary_text n (totals_of (script_of_rounds n) answers (rings_after (script_of_rounds n) (script_of_rounds n).order))
+-- One flush more, behind the last byte.
+abbrev pub IsFlushed : Option (List ℕ) → Flushes → Flushes → Type 0
+IsFlushed held before after = (after.calls ≡ count_after before.calls 1) × IfSome held (λ bytes. after.bytes ≡ length bytes)
 
--- What the words have written of the script of N rounds: its summary, or its text.
-abbrev pub IsMade : List (List ℕ) → ℕ → List ℕ → Type 0
-IsMade words n out = (IsMake words n × IsSummary n out) ⊎ (IsMakeScript words n × (out ≡ printed (script_of_rounds n)))
+-- At most one flush more.
+abbrev pub IsFlushedOnce : Flushes → Flushes → Type 0
+IsFlushedOnce before after = (after.calls ≡ before.calls) ⊎ (after.calls ≡ count_after before.calls 1)
 
--- What the words have written: under `replay` and `run` the report of the text that the source gave, to its end, and
--- under `stat` its table; under `make` the summary or the text of a made script, and under `attr` the line of the bytes
--- that the second word spells, for which no source is read.
-abbrev pub IsOutput : List (List ℕ) → Option (List ℕ) → Option (List ℕ) → List ℕ → Type 0
-IsOutput words before after out =
-    (IsReplay words × ((text : List ℕ) × Gave before after text × IsReplayed text out))
-    ⊎ ((IsRun words × ((text : List ℕ) × Gave before after text × IsRunOf text out))
-    ⊎ ((IsStat words × ((text : List ℕ) × Gave before after text × IsTabled text out))
-    ⊎ (((n : ℕ) × IsMade words n out)
-    ⊎ ((bytes : List ℕ) × IsAttrCommand words bytes × IsLineOf bytes out))))
+-- How what is asked of a script ended, by the answer and what the sink shows.
+abbrev pub IsEnding : {K : Type 0} → SinkShows K → Asked → Scripted → Status → K → K → Type 0
+IsEnding shows a s status.Done before after =
+    (out : List ℕ) × IsOutput a s out × Adds (shows.held before) (shows.held after) out × IsFlushed (shows.held after) (shows.flushed before) (shows.flushed after)
+IsEnding shows a s status.WriteFault before after =
+    (out : List ℕ) × IsOutput a s out × WroteFront shows before after out × IsFlushedOnce (shows.flushed before) (shows.flushed after)
+IsEnding shows a s (status.BadOrder index ring last head given) before after = DoesOrder a × HasBadLook s index ring last head given × (after ≡ before)
+IsEnding shows a s other before after = ⊥
 
--- Nothing was read, or all that the source had left, which is a text that is not too long.
-abbrev pub ReadNoneOrAll : {S : Type 0} → (S → Option (List ℕ)) → S → S → Type 0
-ReadNoneOrAll left before after = (after ≡ before) ⊎ ((text : List ℕ) × Gave (left before) (left after) text)
+-- What is asked was answered so: it was refused, and the sink is as it was; or it was done of a script that was given.
+abbrev pub IsAnswer : {S K : Type 0} → SourceShows S → SinkShows K → Asked → Status → S → S → K → K → Type 0
+IsAnswer source_shows shows a answer source read sink written =
+    (IsRefusal source_shows a answer source read × (written ≡ sink))
+    ⊎ ((s : Scripted) × IsGiven source_shows.left a source read s × IsEnding shows a s answer sink written)
 
--- The note was written, whether or not that failed.
-abbrev pub Noted : {N : Type 0} → (N → Option (List ℕ)) → (N → ℕ) → Option ℕ → N → N → List ℕ → Type 0
-Noted held faults last_fault before after note = (answer : Result (Unit {0}) Failed) × Wrote held faults last_fault before after answer note
+-- It can be done with the bytes that are left: a script is read only where they are one, whose own order is complete
+-- and lawful where that is to be done.
+abbrev pub CanBeDone : Asked → Option (List ℕ) → Type 0
+CanBeDone a left = ReadsScript a → (text : List ℕ) × (s : Scripted) × (left ≡ Some text) × (length text ≤ 4194304) × StandsFor text s
+    × (DoesOrder a → IsComplete s s.order × IsLawfulOrder s s.order)
+
+-- It was done, or memory ran out.
+abbrev pub IsDone : Asked → Status → Type 0
+IsDone a answer = (answer ≡ status.Done) ⊎ (TakesMemory a × (answer ≡ status.NoMemory))
+
+-- The note of an answer other than Done was written, whether or not that failed.
+abbrev pub IsNoted : {N : Type 0} → SinkShows N → Status → N → N → Type 0
+IsNoted shows status.Done before after = after ≡ before
+IsNoted shows answer before after = (wrote : Result (Unit {0}) Failed) × Wrote shows before after wrote (note_of answer)

@@ -4,86 +4,107 @@
 //! and the notes hold. It serves the program.
 #![tactic(auto)]
 
-ghost use Rattle.std.specs.Prelude.{◌≡◌, ◌⊎◌, ◌↔◌, ℕ, ◌∷◌, [], ◌≤◌, ◌<◌, List, length, map, codes, IsTrue, IfSome, MatchOption, string_bytes};
-ghost use Rattle.perf_io.specs.Outside.{Adds, Rose};
-ghost use Rattle.perf_io.specs.Wrote.{WroteFront};
-ghost use Rattle.perf_top.specs.Attributes.{IsAttrCommand};
-ghost use Rattle.perf_top.specs.Notes.{note_of};
-ghost use Rattle.perf_top.specs.Outcome.{AreKnown, DoesOrder, IsReplay, IsRun, IsStat, IsOutput, MakesScript, Noted, Gave, ReadNoneOrAll, ReadsScript, IsBadOrder, IsBadScript};
+ghost use Rattle.std.specs.Prelude.{◌≡◌, ◌⊎◌, ◌↔◌, ◌≤◌, map, string_bytes};
+ghost use Rattle.perf_io.specs.Outside.{Rose};
+ghost use Rattle.perf_top.specs.Asking.{AreKnown, Asks};
+ghost use Rattle.perf_top.specs.Outcome.{CanBeDone, IsAnswer, IsDone, IsNoted};
 
+mod asked;
 mod attr;
 #[cfg(test)]
 mod calling;
+mod job;
 mod line;
 mod load;
 mod make;
 #[cfg(test)]
 mod make_tests;
 mod notes;
-mod replay;
+mod ready;
 mod run;
+mod running;
 mod stat;
 mod status;
-mod stop;
 #[cfg(test)]
 mod tests;
 mod text;
 #[cfg(test)]
 mod thread_tests;
-mod threads;
 
+pub use asked::{Asked, Rounds, asked_by, words_ask_one_thing};
+pub use job::Job;
 pub use notes::put_note;
-use perf_base::{RingNo, SReason};
 use perf_book::Gate;
 pub use perf_book::OpenGate;
-use perf_io::{Sink, Source};
+use perf_io::{CalmSink, CalmSource, Sink, Source};
+pub use running::RunJob;
 pub use status::Status;
 use std::alloc::Global;
 use std::sync::Wait;
 use std::thread::Threads;
 
-/// Whether the words are those of a replay.
-fn is_replay(words: &[String]) -> bool
-    ensures { IsTrue result ↔ IsReplay (map string_bytes words.now) }
+/// Answers what is asked for, but a run by threads: it reads, judges and takes all memory by `Job::reserve`, and then
+/// does and writes by `Job::finish`. It starts no thread and waits for nobody, so it returns.
+pub fn answer_alone<S: Source, K: Sink>(
+    alloc: Global,
+    asked: Asked,
+    source: &mut S,
+    sink: &mut K,
+) -> Status
+    requires alone { asked ≡ Asked.Run → ⊥ }
+    ensures counts { (S.shows.faults source.old ≤ S.shows.faults source.new) × (K.shows.faults sink.old ≤ K.shows.faults sink.new) }
+    ensures answer { IsAnswer S.shows K.shows asked result source.old source.new sink.old sink.new }
 {
-    words.len() == 1 && words[0].as_str() == "replay"
+    match Job::reserve(alloc, asked, source) {
+        Err(status) => status,
+        Ok(job) => job.finish(sink),
+    }
 }
 
-/// Whether the words are those of a run by threads.
-fn is_run(words: &[String]) -> bool
-    ensures { IsTrue result ↔ IsRun (map string_bytes words.now) }
+/// Answers where a run by threads is asked for: it takes all memory by `RunJob::reserve`, and then runs and writes by
+/// `RunJob::finish`.
+fn answer_run<R: Threads + Wait + Sync, S: Source, K: Sink, G: Gate + Sync>(
+    rt: &R,
+    alloc: Global,
+    source: &mut S,
+    sink: &mut K,
+    gate: &G,
+) -> Status
+    ensures counts { (S.shows.faults source.old ≤ S.shows.faults source.new) × (K.shows.faults sink.old ≤ K.shows.faults sink.new) }
+    ensures answer { IsAnswer S.shows K.shows Asked.Run result source.old source.new sink.old sink.new }
 {
-    words.len() == 1 && words[0].as_str() == "run"
+    match RunJob::reserve(alloc, source) {
+        Err(status) => status,
+        Ok(job) => job.finish::<R, K, G>(rt, sink, gate),
+    }
 }
 
-/// Whether the words are those of a table.
-fn is_stat(words: &[String]) -> bool
-    ensures { IsTrue result ↔ IsStat (map string_bytes words.now) }
+/// Answers what is asked for.
+fn answer<R: Threads + Wait + Sync, S: Source, K: Sink, G: Gate + Sync>(
+    rt: &R,
+    alloc: Global,
+    asked: Asked,
+    source: &mut S,
+    sink: &mut K,
+    gate: &G,
+) -> Status
+    ensures counts { (S.shows.faults source.old ≤ S.shows.faults source.new) × (K.shows.faults sink.old ≤ K.shows.faults sink.new) }
+    ensures answer { IsAnswer S.shows K.shows asked result source.old source.new sink.old sink.new }
 {
-    words.len() == 1 && words[0].as_str() == "stat"
-}
-
-/// The second of two words, where the first is `attr`.
-fn attr_word(words: &[String]) -> Option<&str>
-    ensures { MatchOption result
-        ((t : List ℕ) → map string_bytes words.now ≡ codes "attr" ∷ t ∷ [] → ⊥)
-        (λ t. map string_bytes words.now ≡ codes "attr" ∷ t.now ∷ []) }
-{
-    if words.len() == 2 && words[0].as_str() == "attr" {
-        Some(words[1].as_str())
+    if asked.is_run() {
+        answer_run::<R, S, K, G>(rt, alloc, source, sink, gate)
     } else {
-        None
+        answer_alone(alloc, asked, source, sink)
     }
 }
 
 /// Writes the note of an answer other than Done, and gives the answer.
 fn noted<N: Sink>(notes: &mut N, status: Status) -> Status
     ensures same { result ≡ status }
-    ensures count { N.faults notes.old ≤ N.faults notes.new }
-    ensures done { result ≡ Status.Done → notes.new ≡ notes.old }
-    ensures note { (result ≡ Status.Done → ⊥) → Noted N.held N.faults N.last_fault notes.old notes.new (note_of result) }
+    ensures count { N.shows.faults notes.old ≤ N.shows.faults notes.new }
+    ensures note { IsNoted N.shows result notes.old notes.new }
 {
-    if status == Status::Done {
+    if status.is_done() {
         return status;
     }
     match notes::put_note(notes, &status) {
@@ -100,7 +121,10 @@ fn noted<N: Sink>(notes: &mut N, status: Status) -> Status
 /// report; with `script` behind, it writes that script. It reads nothing. `attr` and the bytes of an attribute, two
 /// hexadecimal digits each, writes what they say, or their first fault; it reads nothing and takes no memory. Other
 /// words are not known. Each answer but Done is written to the notes as one line. All memory is taken before the first
-/// write, and none between the first read and the last: where it runs out, nothing was read, or the whole text.
+/// act: where it runs out, nothing was read, or the whole text, and nothing was written.
+///
+/// Words ask for at most one thing (`words_ask_one_thing`), and on each ring of a report records are conserved
+/// (`perf_book::records_are_conserved`). It goes by `answer_alone` for all but `run`.
 pub fn perf_main<R: Threads + Wait + Sync, S: Source, K: Sink, N: Sink, G: Gate + Sync>(
     rt: &R,
     alloc: Global,
@@ -110,47 +134,37 @@ pub fn perf_main<R: Threads + Wait + Sync, S: Source, K: Sink, N: Sink, G: Gate 
     notes: &mut N,
     gate: &G,
 ) -> Status
-    ensures counts { (S.faults source.old ≤ S.faults source.new) × (K.faults sink.old ≤ K.faults sink.new) × (N.faults notes.old ≤ N.faults notes.new) }
+    ensures counts { (S.shows.faults source.old ≤ S.shows.faults source.new) × (K.shows.faults sink.old ≤ K.shows.faults sink.new) × (N.shows.faults notes.old ≤ N.shows.faults notes.new) }
     ensures usage { result ≡ Status.Usage ↔ (AreKnown (map string_bytes words.now) → ⊥) }
-    ensures unread { (ReadsScript (map string_bytes words.now) → ⊥) → source.new ≡ source.old }
-    // Under `make` all is written, or the sink failed, or memory ran out: a made script is never refused.
-    ensures make { (n : ℕ) → MakesScript (map string_bytes words.now) n → (result ≡ Status.Done) ⊎ ((result ≡ Status.WriteFault) ⊎ (result ≡ Status.NoMemory)) }
-    // Under `attr` all is written or the sink failed: memory never runs out there.
-    ensures attr { (bytes : List ℕ) → IsAttrCommand (map string_bytes words.now) bytes → (result ≡ Status.Done) ⊎ (result ≡ Status.WriteFault) }
-    ensures bad_order { (index : ℕ) → (ring : RingNo) → (last : ℕ) → (head : ℕ) → (given : ℕ) → result ≡ Status.BadOrder index ring last head given →
-        DoesOrder (map string_bytes words.now) × ((text : List ℕ) × Gave (S.left source.old) (S.left source.new) text × IsBadOrder text index ring last head given) }
-    ensures read_fault { result ≡ Status.ReadFault → Rose S.last_fault (S.faults source.old) (S.faults source.new) }
-    ensures too_long { result ≡ Status.TooLong → IfSome (S.left source.old) (λ bytes. 4194304 < length bytes) }
-    ensures bad_script { (line : ℕ) → (reason : SReason) → result ≡ Status.BadScript line reason →
-        (text : List ℕ) × Gave (S.left source.old) (S.left source.new) text × IsBadScript (map string_bytes words.now) text line reason }
-    ensures done { result ≡ Status.Done → (out : List ℕ) × IsOutput (map string_bytes words.now) (S.left source.old) (S.left source.new) out
-        × Adds (K.held sink.old) (K.held sink.new) out × IfSome (K.held sink.new) (λ bytes. K.flushed sink.new ≡ length bytes) × (notes.new ≡ notes.old) }
-    ensures write_fault { result ≡ Status.WriteFault → (out : List ℕ) × IsOutput (map string_bytes words.now) (S.left source.old) (S.left source.new) out
-        × WroteFront K.held K.faults K.last_fault sink.old sink.new out }
-    ensures no_memory { result ≡ Status.NoMemory → ReadNoneOrAll S.left source.old source.new }
-    ensures unwritten { (result ≡ Status.Done → ⊥) → (result ≡ Status.WriteFault → ⊥) → sink.new ≡ sink.old }
-    ensures note { (result ≡ Status.Done → ⊥) → Noted N.held N.faults N.last_fault notes.old notes.new (note_of result) }
+    ensures unknown { result ≡ Status.Usage → (source.new ≡ source.old) × (sink.new ≡ sink.old) }
+    ensures answer { (result ≡ Status.Usage → ⊥) → (a : Asked) × Asks (map string_bytes words.now) a
+        × IsAnswer S.shows K.shows a result source.old source.new sink.old sink.new }
+    // Where no count of faults rose, all that can be done is done, or memory runs out.
+    ensures complete { (a : Asked) → Asks (map string_bytes words.now) a → CanBeDone a (S.shows.left source.old)
+        → (Rose S.shows.last_fault (S.shows.faults source.old) (S.shows.faults source.new) → ⊥) → (Rose K.shows.last_fault (K.shows.faults sink.old) (K.shows.faults sink.new) → ⊥) → IsDone a result }
+    ensures note { IsNoted N.shows result notes.old notes.new }
 {
-    if is_replay(words) {
-        return noted(notes, replay::replay_all(alloc, source, sink));
-    }
-    if is_run(words) {
-        return noted(
-            notes,
-            threads::run_by_threads::<R, S, K, G>(rt, alloc, source, sink, gate),
-        );
-    }
-    if is_stat(words) {
-        return noted(notes, stat::tabulate_all(alloc, source, sink));
-    }
-    if let Some(rounds) = make::rounds_to_do(words) {
-        return noted(notes, make::print_summary(alloc, rounds, sink));
-    }
-    if let Some(rounds) = make::rounds_to_print(words) {
-        return noted(notes, make::print_made(alloc, rounds, sink));
-    }
-    match attr_word(words) {
-        Some(word) => noted(notes, attr::print_attr(sink, word.as_bytes())),
+    match asked_by(words) {
         None => noted(notes, Status::Usage),
+        Some(asked) => noted(
+            notes,
+            answer::<R, S, K, G>(rt, alloc, asked, source, sink, gate),
+        ),
     }
+}
+
+/// `perf_main` over a source and a sink that never fail: there neither fault is answered.
+pub fn calm_main<R: Threads + Wait + Sync, N: Sink, G: Gate + Sync>(
+    rt: &R,
+    alloc: Global,
+    words: &[String],
+    source: &mut CalmSource,
+    sink: &mut CalmSink,
+    notes: &mut N,
+    gate: &G,
+) -> Status
+    ensures read { result ≡ Status.ReadFault → ⊥ }
+    ensures write { result ≡ Status.WriteFault → ⊥ }
+{
+    perf_main::<R, CalmSource, CalmSink, N, G>(rt, alloc, words, source, sink, notes, gate)
 }

@@ -1,14 +1,15 @@
 //! From the source's bytes to the script.
 
-ghost use Rattle.std.specs.Prelude.{◌≡◌, ℕ, ◌≤◌, ◌<◌, ◌==◌, List, length, count_by, IfOk, IfSome, Err};
+ghost use Rattle.std.specs.Prelude.{◌≡◌, ◌⊎◌, ◌≤◌, ◌==◌, ℕ, List, length, count_by, IfErr, IfOk};
 ghost use Rattle.perf_base.specs.Scripts.{IsCovered};
 ghost use Rattle.perf_base.specs.Weight.{weight};
-ghost use Rattle.perf_io.specs.Outside.{Rose};
 ghost use Rattle.script_spec.specs.Lines.{lines_of};
 ghost use Rattle.script_spec.specs.Texts.{StandsFor, IsRefused};
-ghost use Rattle.perf_top.specs.Outcome.{Gave, ReadNoneOrAll};
+ghost use Rattle.perf_top.specs.Asking.{ReadsScript};
+ghost use Rattle.perf_top.specs.Outcome.{Gave, IsRefusal};
+ghost use Rattle.perf_top.specs.declared.asked.Asked.{Asked};
 
-use crate::stop::{BadLook, RunStop};
+use crate::status::Status;
 use crate::text::{self, TextStop};
 use perf_base::{SReason, Script};
 use perf_io::Source;
@@ -37,21 +38,19 @@ pub struct Loaded {
     pub last_line: u32,
 }
 
-/// The script that a text stands for.
-fn script_of(alloc: Global, text: &[u8]) -> Result<Loaded, RunStop>
+/// The script that a text stands for. It fails where the text is no script, or memory runs out.
+fn script_of(alloc: Global, text: &[u8]) -> Result<Loaded, Status>
     requires short { length text.now ≤ 4194304 }
     ensures stands { IfOk result (λ l. StandsFor text.now l.script × (l.last_line ≡ length (lines_of text.now))) }
     ensures covered { IfOk result (λ l. IsCovered l.script) }
     ensures light { IfOk result (λ l. weight l.script ≤ 65536) }
     ensures short { IfOk result (λ l. length l.script.order ≤ 4194304) }
-    ensures bad { (line : ℕ) → (reason : SReason) → result ≡ Err (RunStop.Bad line reason) → IsRefused text.now line reason }
-    ensures order { (b : BadLook) → result ≡ Err (RunStop.BadOrder b) → ⊥ }
-    ensures fault { result ≡ Err RunStop.ReadFault → ⊥ }
-    ensures long { result ≡ Err RunStop.TooLong → ⊥ }
+    ensures refused { IfErr result (λ status. (status ≡ Status.NoMemory)
+        ⊎ ((line : ℕ) × (reason : SReason) × (status ≡ Status.BadScript line reason) × IsRefused text.now line reason)) }
 {
     match read_script(alloc, text) {
-        Err(ScriptFault::NoMemory) => Err(RunStop::NoMemory),
-        Err(ScriptFault::Bad { line, reason }) => Err(RunStop::Bad(line, reason)),
+        Err(ScriptFault::NoMemory) => Err(Status::NoMemory),
+        Err(ScriptFault::Bad { line, reason }) => Err(Status::BadScript { line, reason }),
         Ok(script) => Ok(Loaded {
             script,
             last_line: last_line(text),
@@ -60,23 +59,18 @@ fn script_of(alloc: Global, text: &[u8]) -> Result<Loaded, RunStop>
 }
 
 /// The script that a source has left, to its end.
-pub fn load<S: Source>(alloc: Global, source: &mut S) -> Result<Loaded, RunStop>
-    ensures count { S.faults source.old ≤ S.faults source.new }
-    ensures ok { IfOk result (λ l. (bytes : List ℕ) × Gave (S.left source.old) (S.left source.new) bytes × StandsFor bytes l.script × (l.last_line ≡ length (lines_of bytes))) }
+pub fn load<S: Source>(alloc: Global, source: &mut S) -> Result<Loaded, Status>
+    ensures count { S.shows.faults source.old ≤ S.shows.faults source.new }
+    ensures ok { IfOk result (λ l. (bytes : List ℕ) × Gave (S.shows.left source.old) (S.shows.left source.new) bytes × StandsFor bytes l.script × (l.last_line ≡ length (lines_of bytes))) }
     ensures covered { IfOk result (λ l. IsCovered l.script) }
     ensures light { IfOk result (λ l. weight l.script ≤ 65536) }
     ensures short { IfOk result (λ l. length l.script.order ≤ 4194304) }
-    ensures bad { (line : ℕ) → (reason : SReason) → result ≡ Err (RunStop.Bad line reason) →
-        (bytes : List ℕ) × Gave (S.left source.old) (S.left source.new) bytes × IsRefused bytes line reason }
-    ensures order { (b : BadLook) → result ≡ Err (RunStop.BadOrder b) → ⊥ }
-    ensures no_memory { result ≡ Err RunStop.NoMemory → ReadNoneOrAll S.left source.old source.new }
-    ensures fault { result ≡ Err RunStop.ReadFault → Rose S.last_fault (S.faults source.old) (S.faults source.new) }
-    ensures long { result ≡ Err RunStop.TooLong → IfSome (S.left source.old) (λ bytes. 4194304 < length bytes) }
+    ensures refused { IfErr result (λ status. (a : Asked) → ReadsScript a → IsRefusal S.shows a status source.old source.new) }
 {
     match text::read_text(alloc, source) {
-        Err(TextStop::NoMemory) => Err(RunStop::NoMemory),
-        Err(TextStop::ReadFault) => Err(RunStop::ReadFault),
-        Err(TextStop::TooLong) => Err(RunStop::TooLong),
+        Err(TextStop::NoMemory) => Err(Status::NoMemory),
+        Err(TextStop::ReadFault) => Err(Status::ReadFault),
+        Err(TextStop::TooLong) => Err(Status::TooLong),
         Ok(text) => script_of(alloc, &text),
     }
 }

@@ -11,6 +11,21 @@ use perf_io::{Failed, Sink, write_all, write_numbered};
 /// A part of a note: a text, and the number behind it.
 type Part<'a> = (&'a [u8], u64);
 
+/// Writes three texts.
+#[tactic(auto, using(perf_io::proofs::Wrote::writes))]
+fn put_texts<N: Sink>(
+    notes: &mut N,
+    first: &[u8],
+    second: &[u8],
+    third: &[u8],
+) -> Result<(), Failed>
+    ensures { Wrote N.shows notes.old notes.new result (first.now ++ second.now ++ third.now) }
+{
+    write_all(notes, first)?;
+    write_all(notes, second)?;
+    write_all(notes, third)
+}
+
 /// Writes a part, and three texts behind it.
 #[tactic(auto, using(perf_io::proofs::Wrote::writes))]
 fn put_worded<N: Sink>(
@@ -20,17 +35,15 @@ fn put_worded<N: Sink>(
     word: &[u8],
     end: &[u8],
 ) -> Result<(), Failed>
-    ensures { Wrote N.held N.faults N.last_fault notes.old notes.new result (part.entry.0.now ++ decimal part.entry.1 ++ between.now ++ word.now ++ end.now) }
+    ensures { Wrote N.shows notes.old notes.new result (part.entry.0.now ++ decimal part.entry.1 ++ between.now ++ word.now ++ end.now) }
 {
     write_numbered(notes, part.0, part.1)?;
-    write_all(notes, between)?;
-    write_all(notes, word)?;
-    write_all(notes, end)
+    put_texts(notes, between, word, end)
 }
 
 /// Writes the note of a text that is no script.
 fn put_line<N: Sink>(notes: &mut N, line: u64, reason: SReason) -> Result<(), Failed>
-    ensures { Wrote N.held N.faults N.last_fault notes.old notes.new result (note_of (Status.BadScript line reason)) }
+    ensures { Wrote N.shows notes.old notes.new result (note_of (Status.BadScript line reason)) }
 {
     put_worded(
         notes,
@@ -44,7 +57,7 @@ fn put_line<N: Sink>(notes: &mut N, line: u64, reason: SReason) -> Result<(), Fa
 /// Writes three parts.
 #[tactic(auto, using(perf_io::proofs::Wrote::writes))]
 fn put_three<N: Sink>(notes: &mut N, first: Part, second: Part, third: Part) -> Result<(), Failed>
-    ensures { Wrote N.held N.faults N.last_fault notes.old notes.new result (first.entry.0.now ++ decimal first.entry.1 ++ (second.entry.0.now ++ decimal second.entry.1) ++ (third.entry.0.now ++ decimal third.entry.1)) }
+    ensures { Wrote N.shows notes.old notes.new result (first.entry.0.now ++ decimal first.entry.1 ++ (second.entry.0.now ++ decimal second.entry.1) ++ (third.entry.0.now ++ decimal third.entry.1)) }
 {
     write_numbered(notes, first.0, first.1)?;
     write_numbered(notes, second.0, second.1)?;
@@ -54,7 +67,7 @@ fn put_three<N: Sink>(notes: &mut N, first: Part, second: Part, third: Part) -> 
 /// Writes two parts and the end of the note.
 #[tactic(auto, using(perf_io::proofs::Wrote::writes))]
 fn put_last<N: Sink>(notes: &mut N, first: Part, second: Part, end: &[u8]) -> Result<(), Failed>
-    ensures { Wrote N.held N.faults N.last_fault notes.old notes.new result (first.entry.0.now ++ decimal first.entry.1 ++ (second.entry.0.now ++ decimal second.entry.1) ++ end.now) }
+    ensures { Wrote N.shows notes.old notes.new result (first.entry.0.now ++ decimal first.entry.1 ++ (second.entry.0.now ++ decimal second.entry.1) ++ end.now) }
 {
     write_numbered(notes, first.0, first.1)?;
     write_numbered(notes, second.0, second.1)?;
@@ -72,7 +85,7 @@ fn put_five<N: Sink>(
     fifth: Part,
     end: &[u8],
 ) -> Result<(), Failed>
-    ensures { Wrote N.held N.faults N.last_fault notes.old notes.new result (first.entry.0.now ++ decimal first.entry.1 ++ (second.entry.0.now ++ decimal second.entry.1) ++ (third.entry.0.now ++ decimal third.entry.1)
+    ensures { Wrote N.shows notes.old notes.new result (first.entry.0.now ++ decimal first.entry.1 ++ (second.entry.0.now ++ decimal second.entry.1) ++ (third.entry.0.now ++ decimal third.entry.1)
         ++ (fourth.entry.0.now ++ decimal fourth.entry.1 ++ (fifth.entry.0.now ++ decimal fifth.entry.1) ++ end.now)) }
 {
     put_three(notes, first, second, third)?;
@@ -88,7 +101,7 @@ fn put_order<N: Sink>(
     head: u64,
     given: u64,
 ) -> Result<(), Failed>
-    ensures { Wrote N.held N.faults N.last_fault notes.old notes.new result (act_note index ring last ++ places_note head given) }
+    ensures { Wrote N.shows notes.old notes.new result (act_note index ring last ++ places_note head given) }
 {
     put_five(
         notes,
@@ -103,7 +116,7 @@ fn put_order<N: Sink>(
 
 /// Writes the note of an answer; there is none where all was done.
 pub fn put_note<N: Sink>(notes: &mut N, status: &Status) -> Result<(), Failed>
-    ensures { Wrote N.held N.faults N.last_fault notes.old notes.new result (note_of status.now) }
+    ensures { Wrote N.shows notes.old notes.new result (note_of status.now) }
 {
     match status {
         Status::Done => write_all(notes, b""),

@@ -1,8 +1,9 @@
 //! From what is left of a run to the sink.
 
-ghost use Rattle.std.specs.Prelude.{◌≡◌, ◌≤◌, ◌⊎◌, length, IfSome};
+ghost use Rattle.std.specs.Prelude.{◌≡◌, ◌≤◌, ◌⊎◌};
 ghost use Rattle.perf_io.specs.Outside.{Adds};
 ghost use Rattle.perf_io.specs.Wrote.{WroteFront};
+ghost use Rattle.perf_top.specs.Outcome.{IsFlushed, IsFlushedOnce};
 
 use crate::status::Status;
 use buffered_sink::{Written, write_buffered};
@@ -28,10 +29,12 @@ impl Written for Report<'_> {
 
 /// Writes a text and flushes.
 pub fn send<K: Sink, W: Written>(sink: &mut K, text: &W) -> Status
-    ensures count { K.faults sink.old ≤ K.faults sink.new }
+    ensures count { K.shows.faults sink.old ≤ K.shows.faults sink.new }
     ensures only { (result ≡ Status.Done) ⊎ (result ≡ Status.WriteFault) }
-    ensures done { result ≡ Status.Done → Adds (K.held sink.old) (K.held sink.new) (W.text text.now) × IfSome (K.held sink.new) (λ bytes. K.flushed sink.new ≡ length bytes) }
-    ensures fault { result ≡ Status.WriteFault → WroteFront K.held K.faults K.last_fault sink.old sink.new (W.text text.now) }
+    ensures done { result ≡ Status.Done → Adds (K.shows.held sink.old) (K.shows.held sink.new) (W.text text.now)
+        × IsFlushed (K.shows.held sink.new) (K.shows.flushed sink.old) (K.shows.flushed sink.new) }
+    ensures fault { result ≡ Status.WriteFault → WroteFront K.shows sink.old sink.new (W.text text.now)
+        × IsFlushedOnce (K.shows.flushed sink.old) (K.shows.flushed sink.new) }
 {
     match write_buffered(sink, text) {
         Err(_) => Status::WriteFault,

@@ -1,6 +1,6 @@
 //! The answer of the top call, its number, and its note.
 
-ghost use Rattle.std.specs.Prelude.{◌≡◌};
+ghost use Rattle.std.specs.Prelude.{◌≡◌, ◌↔◌, IsTrue};
 
 use perf_base::{RingNo, SReason};
 
@@ -37,6 +37,13 @@ pub enum Status {
 
 impl Status {
     ghost use Rattle.perf_top.specs.Notes.{number_of};
+
+    /// Whether all was written and flushed.
+    pub fn is_done(&self) -> bool
+        ensures { IsTrue result ↔ (self.now ≡ Status.Done) }
+    {
+        matches!(self, Status::Done)
+    }
 
     /// The number with which the program ends.
     pub fn number(&self) -> u8

@@ -36,11 +36,11 @@ fn push_all(text: &mut Vec<u8>, bytes: &[u8])
 fn fill<S: Source>(source: &mut S, text: &mut Vec<u8>) -> Result<(), TextStop>
     requires empty { text.old.items ≡ [] }
     requires room { MOST_BYTES + 1 ≤ vec_capacity text.old }
-    ensures count { S.faults source.old ≤ S.faults source.new }
-    ensures ok { OnOk result ((length text.new.items ≤ MOST_BYTES) × Takes (S.left source.old) (S.left source.new) text.new.items × IsAtEnd (S.left source.new)) }
+    ensures count { S.shows.faults source.old ≤ S.shows.faults source.new }
+    ensures ok { OnOk result ((length text.new.items ≤ MOST_BYTES) × Takes (S.shows.left source.old) (S.shows.left source.new) text.new.items × IsAtEnd (S.shows.left source.new)) }
     ensures no_memory { result ≡ Err TextStop.NoMemory → ⊥ }
-    ensures fault { result ≡ Err TextStop.ReadFault → Rose S.last_fault (S.faults source.old) (S.faults source.new) }
-    ensures long { result ≡ Err TextStop.TooLong → IfSome (S.left source.old) (λ bytes. MOST_BYTES < length bytes) }
+    ensures fault { result ≡ Err TextStop.ReadFault → Rose S.shows.last_fault (S.shows.faults source.old) (S.shows.faults source.new) }
+    ensures long { result ≡ Err TextStop.TooLong → IfSome (S.shows.left source.old) (λ bytes. MOST_BYTES < length bytes) }
 {
     let mut piece = [0; PIECE_BYTES];
     for _ in 0..=MOST_BYTES {
@@ -73,11 +73,11 @@ fn room(alloc: Global) -> Result<Vec<u8>, TextStop>
 
 /// All that a source has left. Its memory is taken before the first read.
 pub fn read_text<S: Source>(alloc: Global, source: &mut S) -> Result<Vec<u8>, TextStop>
-    ensures count { S.faults source.old ≤ S.faults source.new }
-    ensures ok { IfOk result (λ text. (length text.items ≤ MOST_BYTES) × Takes (S.left source.old) (S.left source.new) text.items × IsAtEnd (S.left source.new)) }
+    ensures count { S.shows.faults source.old ≤ S.shows.faults source.new }
+    ensures ok { IfOk result (λ text. (length text.items ≤ MOST_BYTES) × Takes (S.shows.left source.old) (S.shows.left source.new) text.items × IsAtEnd (S.shows.left source.new)) }
     ensures no_memory { result ≡ Err TextStop.NoMemory → source.new ≡ source.old }
-    ensures fault { result ≡ Err TextStop.ReadFault → Rose S.last_fault (S.faults source.old) (S.faults source.new) }
-    ensures long { result ≡ Err TextStop.TooLong → IfSome (S.left source.old) (λ bytes. MOST_BYTES < length bytes) }
+    ensures fault { result ≡ Err TextStop.ReadFault → Rose S.shows.last_fault (S.shows.faults source.old) (S.shows.faults source.new) }
+    ensures long { result ≡ Err TextStop.TooLong → IfSome (S.shows.left source.old) (λ bytes. MOST_BYTES < length bytes) }
 {
     let mut text = room(alloc)?;
     fill(source, &mut text)?;

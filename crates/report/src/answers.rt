@@ -12,8 +12,8 @@ use perf_io::{Failed, Sink, write_all, write_numbered};
 
 /// Writes the name of an actor. A reader and a watcher have none.
 fn put_actor<K: Sink>(sink: &mut K, actor: Actor) -> Result<(), Failed>
-    ensures wrote { Wrote K.held K.faults K.last_fault sink.old sink.new result (actor_text actor) }
-    ensures flushed { K.flushed sink.new ≡ K.flushed sink.old }
+    ensures wrote { Wrote K.shows sink.old sink.new result (actor_text actor) }
+    ensures flushed { K.shows.flushed sink.new ≡ K.shows.flushed sink.old }
 {
     match actor {
         Actor::Processor(cpu) => write_numbered(sink, b"p", u64::from(cpu.0)),
@@ -25,8 +25,8 @@ fn put_actor<K: Sink>(sink: &mut K, actor: Actor) -> Result<(), Failed>
 /// Writes a word with a space before it.
 #[tactic(auto, using(perf_io::proofs::Wrote::writes))]
 fn put_word<K: Sink>(sink: &mut K, word: &[u8]) -> Result<(), Failed>
-    ensures wrote { Wrote K.held K.faults K.last_fault sink.old sink.new result (codes " " ++ word.now) }
-    ensures flushed { K.flushed sink.new ≡ K.flushed sink.old }
+    ensures wrote { Wrote K.shows sink.old sink.new result (codes " " ++ word.now) }
+    ensures flushed { K.shows.flushed sink.new ≡ K.shows.flushed sink.old }
 {
     write_all(sink, b" ")?;
     write_all(sink, word)
@@ -34,8 +34,8 @@ fn put_word<K: Sink>(sink: &mut K, word: &[u8]) -> Result<(), Failed>
 
 /// Writes the number of a line behind a dot.
 fn put_number<K: Sink>(sink: &mut K, number: u32) -> Result<(), Failed>
-    ensures wrote { Wrote K.held K.faults K.last_fault sink.old sink.new result (codes "." ++ decimal number) }
-    ensures flushed { K.flushed sink.new ≡ K.flushed sink.old }
+    ensures wrote { Wrote K.shows sink.old sink.new result (codes "." ++ decimal number) }
+    ensures flushed { K.shows.flushed sink.new ≡ K.shows.flushed sink.old }
 {
     write_numbered(sink, b".", u64::from(number))
 }
@@ -47,8 +47,8 @@ fn put_start<K: Sink>(
     actor: Actor,
     number: u32,
 ) -> Result<(), Failed>
-    ensures wrote { Wrote K.held K.faults K.last_fault sink.old sink.new result (line_start script.now actor number) }
-    ensures flushed { K.flushed sink.new ≡ K.flushed sink.old }
+    ensures wrote { Wrote K.shows sink.old sink.new result (line_start script.now actor number) }
+    ensures flushed { K.shows.flushed sink.new ≡ K.shows.flushed sink.old }
 {
     put_actor(sink, actor)?;
     put_number(sink, number)?;
@@ -65,8 +65,8 @@ fn put_line<K: Sink>(
     number: u32,
     reply: &Reply,
 ) -> Result<(), Failed>
-    ensures wrote { Wrote K.held K.faults K.last_fault sink.old sink.new result (line_start script.now actor number ++ (said reply.now ++ 10 ∷ [])) }
-    ensures flushed { K.flushed sink.new ≡ K.flushed sink.old }
+    ensures wrote { Wrote K.shows sink.old sink.new result (line_start script.now actor number ++ (said reply.now ++ 10 ∷ [])) }
+    ensures flushed { K.shows.flushed sink.new ≡ K.shows.flushed sink.old }
 {
     put_start(sink, script, actor, number)?;
     put_reply(sink, reply)?;
@@ -82,8 +82,8 @@ fn write_answer<K: Sink>(
     number: u32,
     reply: &Reply,
 ) -> Result<(), Failed>
-    ensures wrote { Wrote K.held K.faults K.last_fault sink.old sink.new result (answer_line script.now actor number (answer_text reply.now)) }
-    ensures flushed { K.flushed sink.new ≡ K.flushed sink.old }
+    ensures wrote { Wrote K.shows sink.old sink.new result (answer_line script.now actor number (answer_text reply.now)) }
+    ensures flushed { K.shows.flushed sink.new ≡ K.shows.flushed sink.old }
 {
     match reply {
         Reply::Ok => Ok(()),
@@ -93,8 +93,8 @@ fn write_answer<K: Sink>(
 
 /// Writes the line of an answer.
 fn put_kept<K: Sink>(sink: &mut K, script: &Script, answer: &Answer) -> Result<(), Failed>
-    ensures wrote { Wrote K.held K.faults K.last_fault sink.old sink.new result (answer_line script.now answer.now.actor answer.now.number (answer_text answer.now.reply)) }
-    ensures flushed { K.flushed sink.new ≡ K.flushed sink.old }
+    ensures wrote { Wrote K.shows sink.old sink.new result (answer_line script.now answer.now.actor answer.now.number (answer_text answer.now.reply)) }
+    ensures flushed { K.shows.flushed sink.new ≡ K.shows.flushed sink.old }
 {
     write_answer(
         sink,
@@ -111,8 +111,8 @@ pub(crate) fn write_answers<K: Sink>(
     script: &Script,
     answers: &[Answer],
 ) -> Result<(), Failed>
-    ensures wrote { Wrote K.held K.faults K.last_fault sink.old sink.new result (answer_lines script.now answers.now) }
-    ensures flushed { K.flushed sink.new ≡ K.flushed sink.old }
+    ensures wrote { Wrote K.shows sink.old sink.new result (answer_lines script.now answers.now) }
+    ensures flushed { K.shows.flushed sink.new ≡ K.shows.flushed sink.old }
 {
     for answer in answers {
         put_kept(sink, script, answer)?;

@@ -18,8 +18,8 @@ use script_print::put_acts;
 /// Writes the line of an order. Where a call of the sink fails, some front of the line stays added.
 #[tactic(auto, using(perf_io::proofs::Wrote::writes))]
 pub(crate) fn write_order<K: Sink>(sink: &mut K, order: &[Act]) -> Result<(), Failed>
-    ensures wrote { Wrote K.held K.faults K.last_fault sink.old sink.new result (codes "order" ++ (acts_text order.now ++ 10 ∷ [])) }
-    ensures flushed { K.flushed sink.new ≡ K.flushed sink.old }
+    ensures wrote { Wrote K.shows sink.old sink.new result (codes "order" ++ (acts_text order.now ++ 10 ∷ [])) }
+    ensures flushed { K.shows.flushed sink.new ≡ K.shows.flushed sink.old }
 {
     write_all(sink, b"order")?;
     put_acts(sink, order)?;
@@ -28,8 +28,8 @@ pub(crate) fn write_order<K: Sink>(sink: &mut K, order: &[Act]) -> Result<(), Fa
 
 /// Writes the end of a report.
 pub(crate) fn write_end<K: Sink>(sink: &mut K) -> Result<(), Failed>
-    ensures wrote { Wrote K.held K.faults K.last_fault sink.old sink.new result (codes "end\n") }
-    ensures flushed { K.flushed sink.new ≡ K.flushed sink.old }
+    ensures wrote { Wrote K.shows sink.old sink.new result (codes "end\n") }
+    ensures flushed { K.shows.flushed sink.new ≡ K.shows.flushed sink.old }
 {
     write_all(sink, b"end\n")
 }
@@ -37,10 +37,10 @@ pub(crate) fn write_end<K: Sink>(sink: &mut K) -> Result<(), Failed>
 /// Writes the report of a run that has ended: the order in which its lines were done, a line for each answer but a
 /// plain Ok, what each ring came to, and the end. Where a call of the sink fails, some front of the report stays added.
 pub fn write_report<K: Sink>(ended: &Ended, sink: &mut K) -> Result<(), Failed>
-    ensures wrote { Wrote K.held K.faults K.last_fault sink.old sink.new result (report_by ended.now) }
+    ensures wrote { Wrote K.shows sink.old sink.new result (report_by ended.now) }
     ensures accounts { (accounts : List (RingNo × Account)) → AreTold (rings_of ended.now) accounts
-        → Wrote K.held K.faults K.last_fault sink.old sink.new result (report ended.now.script ended.now.order ended.now.answers accounts) }
-    ensures flushed { K.flushed sink.new ≡ K.flushed sink.old }
+        → Wrote K.shows sink.old sink.new result (report ended.now.script ended.now.order ended.now.answers accounts) }
+    ensures flushed { K.shows.flushed sink.new ≡ K.shows.flushed sink.old }
 {
     write_order(sink, ended.order())?;
     write_answers(sink, ended.script(), ended.answers())?;

@@ -36,8 +36,8 @@ fn word_text(word: u64) -> [u8; 17]
 
 /// Writes words with a space before each.
 fn put_words<K: Sink>(sink: &mut K, words: &[u64]) -> Result<(), Failed>
-    ensures wrote { Wrote K.held K.faults K.last_fault sink.old sink.new result (words_text words.now) }
-    ensures flushed { K.flushed sink.new ≡ K.flushed sink.old }
+    ensures wrote { Wrote K.shows sink.old sink.new result (words_text words.now) }
+    ensures flushed { K.shows.flushed sink.new ≡ K.shows.flushed sink.old }
 {
     for word in words {
         write_all(sink, &word_text(*word))?;
@@ -54,8 +54,8 @@ fn fate(taken: bool) -> &'static [u8]
 
 /// Writes the line of a record.
 fn put_record<K: Sink>(sink: &mut K, taken: bool, words: &[u64]) -> Result<(), Failed>
-    ensures wrote { Wrote K.held K.faults K.last_fault sink.old sink.new result (words_line taken words.now) }
-    ensures flushed { K.flushed sink.new ≡ K.flushed sink.old }
+    ensures wrote { Wrote K.shows sink.old sink.new result (words_line taken words.now) }
+    ensures flushed { K.shows.flushed sink.new ≡ K.shows.flushed sink.old }
 {
     write_all(sink, fate(taken))?;
     put_words(sink, words)?;
@@ -76,8 +76,8 @@ fn first_length(words: &[u64]) -> usize
 
 /// Writes the lines of the records that words are cut into.
 fn put_records<K: Sink>(sink: &mut K, tail: u64, words: &[u64]) -> Result<(), Failed>
-    ensures wrote { Wrote K.held K.faults K.last_fault sink.old sink.new result (cut_lines tail 0 (cut_records words.now)) }
-    ensures flushed { K.flushed sink.new ≡ K.flushed sink.old }
+    ensures wrote { Wrote K.shows sink.old sink.new result (cut_lines tail 0 (cut_records words.now)) }
+    ensures flushed { K.shows.flushed sink.new ≡ K.shows.flushed sink.old }
 {
     let mut place = 0;
     let mut rest = words;
@@ -92,16 +92,16 @@ fn put_records<K: Sink>(sink: &mut K, tail: u64, words: &[u64]) -> Result<(), Fa
 
 /// Writes the number of a ring.
 fn put_ring<K: Sink>(sink: &mut K, ring: RingNo) -> Result<(), Failed>
-    ensures wrote { Wrote K.held K.faults K.last_fault sink.old sink.new result (codes "ring " ++ decimal ring.0) }
-    ensures flushed { K.flushed sink.new ≡ K.flushed sink.old }
+    ensures wrote { Wrote K.shows sink.old sink.new result (codes "ring " ++ decimal ring.0) }
+    ensures flushed { K.shows.flushed sink.new ≡ K.shows.flushed sink.old }
 {
     write_numbered(sink, b"ring ", u64::from(ring.0))
 }
 
 /// Writes the number of a ring and what it came to.
 fn put_numbers<K: Sink>(sink: &mut K, ring: RingNo, numbers: &RingNumbers) -> Result<(), Failed>
-    ensures wrote { Wrote K.held K.faults K.last_fault sink.old sink.new result (numbers_line ring numbers.now) }
-    ensures flushed { K.flushed sink.new ≡ K.flushed sink.old }
+    ensures wrote { Wrote K.shows sink.old sink.new result (numbers_line ring numbers.now) }
+    ensures flushed { K.shows.flushed sink.new ≡ K.shows.flushed sink.old }
 {
     put_ring(sink, ring)?;
     write_numbered(sink, b" head=", numbers.head)?;
@@ -121,9 +121,9 @@ pub(crate) fn write_ring<K: Sink>(
     numbers: &RingNumbers,
     words: &[u64],
 ) -> Result<(), Failed>
-    ensures wrote { Wrote K.held K.faults K.last_fault sink.old sink.new result (told_lines ring numbers.now words.now) }
-    ensures account { (a : Account) → IsTold numbers.now words.now a → Wrote K.held K.faults K.last_fault sink.old sink.new result (ring_lines (ring, a)) }
-    ensures flushed { K.flushed sink.new ≡ K.flushed sink.old }
+    ensures wrote { Wrote K.shows sink.old sink.new result (told_lines ring numbers.now words.now) }
+    ensures account { (a : Account) → IsTold numbers.now words.now a → Wrote K.shows sink.old sink.new result (ring_lines (ring, a)) }
+    ensures flushed { K.shows.flushed sink.new ≡ K.shows.flushed sink.old }
 {
     put_numbers(sink, ring, numbers)?;
     put_records(sink, numbers.tail, words)
@@ -132,8 +132,8 @@ pub(crate) fn write_ring<K: Sink>(
 /// Writes what the rings of a run came to, by rising number. Where a call of the sink fails, some front of the lines
 /// stays added.
 pub(crate) fn write_rings<K: Sink>(sink: &mut K, ended: &Ended) -> Result<(), Failed>
-    ensures wrote { Wrote K.held K.faults K.last_fault sink.old sink.new result (all_told (rings_of ended.now)) }
-    ensures flushed { K.flushed sink.new ≡ K.flushed sink.old }
+    ensures wrote { Wrote K.shows sink.old sink.new result (all_told (rings_of ended.now)) }
+    ensures flushed { K.shows.flushed sink.new ≡ K.shows.flushed sink.old }
 {
     for end in ended.ring_ends() {
         write_ring(sink, end.ring, &end.numbers, ended.words(end.ring))?;

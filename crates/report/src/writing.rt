@@ -11,8 +11,8 @@ use perf_io::{Failed, Sink, write_all};
 /// Writes the line of a number, behind a word that ends in a space.
 #[tactic(auto, using(perf_io::proofs::Wrote::writes))]
 fn put_line<K: Sink>(sink: &mut K, word: &[u8], number: u128) -> Result<(), Failed>
-    ensures wrote { Wrote K.held K.faults K.last_fault sink.old sink.new result (number_line word.now number) }
-    ensures flushed { K.flushed sink.new ≡ K.flushed sink.old }
+    ensures wrote { Wrote K.shows sink.old sink.new result (number_line word.now number) }
+    ensures flushed { K.shows.flushed sink.new ≡ K.shows.flushed sink.old }
 {
     let mut buffer = Buffer::new();
     write_all(sink, word)?;
@@ -25,8 +25,8 @@ fn put_line<K: Sink>(sink: &mut K, word: &[u8], number: u128) -> Result<(), Fail
 /// Where a call of the sink fails, some front of the lines stays added.
 #[tactic(auto, using(perf_io::proofs::Wrote::writes))]
 pub fn write_summary<K: Sink>(sink: &mut K, summary: &Summary) -> Result<(), Failed>
-    ensures wrote { Wrote K.held K.faults K.last_fault sink.old sink.new result (summary_text summary.now.rounds summary.now.totals) }
-    ensures flushed { K.flushed sink.new ≡ K.flushed sink.old }
+    ensures wrote { Wrote K.shows sink.old sink.new result (summary_text summary.now.rounds summary.now.totals) }
+    ensures flushed { K.shows.flushed sink.new ≡ K.shows.flushed sink.old }
 {
     let totals = summary.totals;
     put_line(sink, b"make ", u128::from(summary.rounds))?;

@@ -4,6 +4,7 @@ use Rattle.std.specs.Result.{IsErr}
 use Rattle.std.specs.Prelude.{IfSome}
 use Rattle.std.specs.List.{slice_get, join_with_byte}
 use Rattle.std.proofs.lemmas.List.{append-nil}
+use Rattle.perf_io.specs.Outside.{SinkShows}
 use Rattle.perf_io.specs.Wrote.{Wrote}
 use Rattle.perf_io.specs.declared.outside.Failed.{Failed}
 use Rattle.perf_io.proofs.Wrote.{wrote_then, wrote_exit, wrote_text}
@@ -11,9 +12,9 @@ use Rattle.std.proofs.lemmas.Grind.{flat_map-append}
 use Rattle.script_print.specs.Words.{word_texts, all_word_texts, spaced}
 
 -- a text was written so far, and nothing was flushed
-pub record IsWritten {K : Type 0} (held : K → Option (List ℕ)) (faults : K → ℕ) (last_fault : Option ℕ) (flushed_by : K → ℕ) (first now : K) (text : List ℕ) : Type 0 where
-  pub wrote : Wrote held faults last_fault first now (Ok tt) text
-  pub flushed : flushed_by now ≡ flushed_by first
+pub record IsWritten {K : Type 0} (shows : SinkShows K) (first now : K) (text : List ℕ) : Type 0 where
+  pub wrote : Wrote shows first now (Ok tt) text
+  pub flushed : shows.flushed now ≡ shows.flushed first
 
 -- a list is written entry by entry
 pub record IsText {X : Type 0} (text : List X → List ℕ) (piece : X → List ℕ) : Type 0 where
@@ -47,33 +48,33 @@ module _ {S X : Type 0} {next : S → X → S} {text : S → List X → List ℕ
   text_split s (x ∷ xs) zero d l = rw (is.cons s x xs, is.nil s) refl
   text_split s (x ∷ xs) (suc i) d l = rw (is.cons s x xs, is.cons s x (take i xs), text_split (next s x) xs i d (omega (arith, l))) (sym (append_assoc (piece s x) _ _))
 
-  module _ {K : Type 0} {held : K → Option (List ℕ)} {faults : K → ℕ} {last_fault : Option ℕ} where
+  module _ {K : Type 0} {shows : SinkShows K} where
     -- one entry more was written
-    pub state_more : (s : S) (xs : List X) (i : ℕ) (d : X) {a b c : K} → i < length xs → Wrote held faults last_fault a b (Ok tt) (text s (take i xs))
-        → Wrote held faults last_fault b c (Ok tt) (piece (behind next s (take i xs)) (get_or xs i d)) → Wrote held faults last_fault a c (Ok tt) (text s (take (i + 1) xs))
+    pub state_more : (s : S) (xs : List X) (i : ℕ) (d : X) {a b c : K} → i < length xs → Wrote shows a b (Ok tt) (text s (take i xs))
+        → Wrote shows b c (Ok tt) (piece (behind next s (take i xs)) (get_or xs i d)) → Wrote shows a c (Ok tt) (text s (take (i + 1) xs))
     state_more s xs i d l p q = rw add-one (wrote_text (sym (text_more s xs i d l)) (wrote_then p q))
 
     -- the front of an entry was written
-    pub state_exit : (s : S) (xs : List X) (i : ℕ) (d : X) {a b c : K} {e : Failed} {r : Result (Unit {0}) Failed} → i < length xs → Wrote held faults last_fault a b (Ok tt) (text s (take i xs)) → IsErr r
-        → Wrote held faults last_fault b c (Err e) (piece (behind next s (take i xs)) (get_or xs i d)) → Wrote held faults last_fault a c r (text s xs)
+    pub state_exit : (s : S) (xs : List X) (i : ℕ) (d : X) {a b c : K} {e : Failed} {r : Result (Unit {0}) Failed} → i < length xs → Wrote shows a b (Ok tt) (text s (take i xs)) → IsErr r
+        → Wrote shows b c (Err e) (piece (behind next s (take i xs)) (get_or xs i d)) → Wrote shows a c r (text s xs)
     state_exit s xs i d l p q w = wrote_text (sym (text_split s xs i d l)) (wrote_then p (wrote_exit _ q w))
 
 -- a list without a state
 pub stateless : {X : Type 0} {text : List X → List ℕ} {piece : X → List ℕ} → IsText text piece → IsTextFrom (λ (s : Unit {0}) (x : X). s) (λ s xs. text xs) (λ s x. piece x)
 stateless is = record { nil = λ s. is.nil; cons = λ s x xs. is.cons x xs }
 
-module _ {X : Type 0} {text : List X → List ℕ} {piece : X → List ℕ} (is : IsText text piece) {K : Type 0} {held : K → Option (List ℕ)} {faults : K → ℕ} {last_fault : Option ℕ} where
+module _ {X : Type 0} {text : List X → List ℕ} {piece : X → List ℕ} (is : IsText text piece) {K : Type 0} {shows : SinkShows K} where
   pub loop_exit : (xs : List X) (i : ℕ) (d : X) {a b c : K} {e : Failed} {r : Result (Unit {0}) Failed} → i < length xs
-      → Wrote held faults last_fault a b (Ok tt) (text (take i xs)) → IsErr r → Wrote held faults last_fault b c (Err e) (piece (get_or xs i d)) → Wrote held faults last_fault a c r (text xs)
+      → Wrote shows a b (Ok tt) (text (take i xs)) → IsErr r → Wrote shows b c (Err e) (piece (get_or xs i d)) → Wrote shows a c r (text xs)
   loop_exit xs i d l p q w = state_exit (stateless is) tt xs i d l p q w
 
   -- where the entry was read
   pub loop_more_is : (xs : List X) (i : ℕ) (x : X) {a b c : K} → i < length xs → x ≡ get_or xs i x
-      → Wrote held faults last_fault a b (Ok tt) (text (take i xs)) → Wrote held faults last_fault b c (Ok tt) (piece x) → Wrote held faults last_fault a c (Ok tt) (text (take (i + 1) xs))
+      → Wrote shows a b (Ok tt) (text (take i xs)) → Wrote shows b c (Ok tt) (piece x) → Wrote shows a c (Ok tt) (text (take (i + 1) xs))
   loop_more_is xs i x l e p q = state_more (stateless is) tt xs i x l p (wrote_text (ap piece e) q)
 
   pub loop_exit_is : (xs : List X) (i : ℕ) (x : X) {a b c : K} {e : Failed} {r : Result (Unit {0}) Failed} → i < length xs → x ≡ get_or xs i x
-      → Wrote held faults last_fault a b (Ok tt) (text (take i xs)) → IsErr r → Wrote held faults last_fault b c (Err e) (piece x) → Wrote held faults last_fault a c r (text xs)
+      → Wrote shows a b (Ok tt) (text (take i xs)) → IsErr r → Wrote shows b c (Err e) (piece x) → Wrote shows a c r (text xs)
   loop_exit_is xs i x l e p q w = loop_exit xs i x l p q (wrote_text (ap piece e) w)
 
 -- a place of a list that has an entry

@@ -4,6 +4,7 @@ use Rattle.std.specs.Prelude.{flat_map}
 use Rattle.std.specs.Result.{IsErr}
 use Rattle.std.specs.List.{range_with_len}
 use Rattle.std.proofs.lemmas.List.FromFn.{length-range_with_len}
+use Rattle.perf_io.specs.Outside.{SinkShows}
 use Rattle.perf_io.specs.Wrote.{Wrote}
 use Rattle.perf_io.specs.declared.outside.Failed.{Failed}
 use Rattle.perf_io.proofs.Wrote.{wrote_text}
@@ -24,13 +25,13 @@ module _ {X : Type 0} (forms : ℕ → List X → List Form) (written : ℕ → 
   at : (i : ℕ) (lines : List X) → lines ≡ get_or lists i [] → written i lines ≡ text (section_of i)
   at i lines e = is i lines ∙ ap (λ ls. text (forms i ls)) e
 
-  module _ {K : Type 0} {held : K → Option (List ℕ)} {faults : K → ℕ} {last_fault : Option ℕ} where
+  module _ {K : Type 0} {shows : SinkShows K} where
     -- one section more
-    pub section_more : (i : ℕ) (lines : List X) {a b c : K} → i < n → lines ≡ get_or lists i [] → Wrote held faults last_fault a b (Ok tt) (text (flat_map section_of (take i (range_with_len 0 n))))
-        → Wrote held faults last_fault b c (Ok tt) (written i lines) → Wrote held faults last_fault a c (Ok tt) (text (flat_map section_of (take (i + 1) (range_with_len 0 n))))
+    pub section_more : (i : ℕ) (lines : List X) {a b c : K} → i < n → lines ≡ get_or lists i [] → Wrote shows a b (Ok tt) (text (flat_map section_of (take i (range_with_len 0 n))))
+        → Wrote shows b c (Ok tt) (written i lines) → Wrote shows a c (Ok tt) (text (flat_map section_of (take (i + 1) (range_with_len 0 n))))
     section_more i lines l e p q = loop_more_is (all_text section_of) (range_with_len 0 n) i i (within i l) (sym (number_at n i i l)) p (wrote_text (at i lines e) q)
 
     -- the front of a section
-    pub section_exit : (i : ℕ) (lines : List X) {a b c : K} {f : Failed} {r : Result (Unit {0}) Failed} → i < n → lines ≡ get_or lists i [] → Wrote held faults last_fault a b (Ok tt) (text (flat_map section_of (take i (range_with_len 0 n))))
-        → IsErr r → Wrote held faults last_fault b c (Err f) (written i lines) → Wrote held faults last_fault a c r (text (flat_map section_of (range_with_len 0 n)))
+    pub section_exit : (i : ℕ) (lines : List X) {a b c : K} {f : Failed} {r : Result (Unit {0}) Failed} → i < n → lines ≡ get_or lists i [] → Wrote shows a b (Ok tt) (text (flat_map section_of (take i (range_with_len 0 n))))
+        → IsErr r → Wrote shows b c (Err f) (written i lines) → Wrote shows a c r (text (flat_map section_of (range_with_len 0 n)))
     section_exit i lines l e p q w = loop_exit_is (all_text section_of) (range_with_len 0 n) i i (within i l) (sym (number_at n i i l)) p q (wrote_text (at i lines e) w)

@@ -16,8 +16,8 @@ fn put_pair<K: Sink>(
     second: &[u8],
     m: u64,
 ) -> Result<(), Failed>
-    ensures wrote { Wrote K.held K.faults K.last_fault sink.old sink.new result ((first.now ++ decimal n) ++ (second.now ++ decimal m)) }
-    ensures flushed { K.flushed sink.new ≡ K.flushed sink.old }
+    ensures wrote { Wrote K.shows sink.old sink.new result ((first.now ++ decimal n) ++ (second.now ++ decimal m)) }
+    ensures flushed { K.shows.flushed sink.new ≡ K.shows.flushed sink.old }
 {
     write_numbered(sink, first, n)?;
     write_numbered(sink, second, m)
@@ -25,8 +25,8 @@ fn put_pair<K: Sink>(
 
 /// Writes the text of an act. It takes no memory. Where a call of the sink fails, some front of the text stays added.
 pub fn write_act<K: Sink>(act: &Act, sink: &mut K) -> Result<(), Failed>
-    ensures wrote { Wrote K.held K.faults K.last_fault sink.old sink.new result (act_text act.now) }
-    ensures flushed { K.flushed sink.new ≡ K.flushed sink.old }
+    ensures wrote { Wrote K.shows sink.old sink.new result (act_text act.now) }
+    ensures flushed { K.shows.flushed sink.new ≡ K.shows.flushed sink.old }
 {
     match act {
         Act::Processor(cpu) => write_numbered(sink, b"p", u64::from(cpu.0)),

@@ -15,8 +15,8 @@ use perf_io::{Failed, Sink, write_all, write_numbered};
 
 /// Writes a switch.
 fn put_switch<K: Sink>(sink: &mut K, to: Option<TaskNo>) -> Result<(), Failed>
-    ensures wrote { Wrote K.held K.faults K.last_fault sink.old sink.new result (line_text (cpu_form [] (cpu_line.Switch to))) }
-    ensures flushed { K.flushed sink.new ≡ K.flushed sink.old }
+    ensures wrote { Wrote K.shows sink.old sink.new result (line_text (cpu_form [] (cpu_line.Switch to))) }
+    ensures flushed { K.shows.flushed sink.new ≡ K.shows.flushed sink.old }
 {
     match to {
         None => put_line(sink, b"switch", &[Word::Plain(b"idle")]),
@@ -36,8 +36,8 @@ fn mode_name(mode: Mode) -> &'static [u8]
 /// Writes how often a kind occurs.
 #[tactic(auto, using(perf_io::proofs::Wrote::writes))]
 fn put_times<K: Sink>(sink: &mut K, name: &Name, times: u64) -> Result<(), Failed>
-    ensures wrote { Wrote K.held K.faults K.last_fault sink.old sink.new result (32 ∷ hit_text (record { name = name.now; times = times })) }
-    ensures flushed { K.flushed sink.new ≡ K.flushed sink.old }
+    ensures wrote { Wrote K.shows sink.old sink.new result (32 ∷ hit_text (record { name = name.now; times = times })) }
+    ensures flushed { K.shows.flushed sink.new ≡ K.shows.flushed sink.old }
 {
     write_all(sink, b" ")?;
     write_all(sink, name.as_bytes())?;
@@ -46,8 +46,8 @@ fn put_times<K: Sink>(sink: &mut K, name: &Name, times: u64) -> Result<(), Faile
 
 /// Writes how often a kind occurs, or nothing where it does not.
 fn put_hit<K: Sink>(sink: &mut K, name: &Name, times: u64) -> Result<(), Failed>
-    ensures wrote { Wrote K.held K.faults K.last_fault sink.old sink.new result (hit_piece name.now times) }
-    ensures flushed { K.flushed sink.new ≡ K.flushed sink.old }
+    ensures wrote { Wrote K.shows sink.old sink.new result (hit_piece name.now times) }
+    ensures flushed { K.shows.flushed sink.new ≡ K.shows.flushed sink.old }
 {
     if times == 0 {
         return Ok(());
@@ -57,8 +57,8 @@ fn put_hit<K: Sink>(sink: &mut K, name: &Name, times: u64) -> Result<(), Failed>
 
 /// Writes how often each kind occurs that does, in their declared order.
 fn put_hits<K: Sink>(sink: &mut K, script: &Script, hits: &[u64; 16]) -> Result<(), Failed>
-    ensures wrote { Wrote K.held K.faults K.last_fault sink.old sink.new result (spaced (map hit_text (hits_of script.now.kinds hits.now))) }
-    ensures flushed { K.flushed sink.new ≡ K.flushed sink.old }
+    ensures wrote { Wrote K.shows sink.old sink.new result (spaced (map hit_text (hits_of script.now.kinds hits.now))) }
+    ensures flushed { K.shows.flushed sink.new ≡ K.shows.flushed sink.old }
 {
     for kind in 0..script.kinds() {
         put_hit(sink, &script.name(kind), hits[kind])?;
@@ -75,8 +75,8 @@ fn put_hits_line<K: Sink>(
     script: &Script,
     hits: &[u64; 16],
 ) -> Result<(), Failed>
-    ensures wrote { Wrote K.held K.faults K.last_fault sink.old sink.new result ((first.now ++ spaced (all_word_texts words.now)) ++ (spaced (map hit_text (hits_of script.now.kinds hits.now)) ++ 10 ∷ [])) }
-    ensures flushed { K.flushed sink.new ≡ K.flushed sink.old }
+    ensures wrote { Wrote K.shows sink.old sink.new result ((first.now ++ spaced (all_word_texts words.now)) ++ (spaced (map hit_text (hits_of script.now.kinds hits.now)) ++ 10 ∷ [])) }
+    ensures flushed { K.shows.flushed sink.new ≡ K.shows.flushed sink.old }
 {
     put_start(sink, first, words)?;
     put_hits(sink, script, hits)?;
@@ -85,8 +85,8 @@ fn put_hits_line<K: Sink>(
 
 /// Writes a stretch of work.
 fn put_work<K: Sink>(sink: &mut K, script: &Script, work: &Work) -> Result<(), Failed>
-    ensures wrote { Wrote K.held K.faults K.last_fault sink.old sink.new result (line_text (cpu_form script.now.kinds (cpu_line.Work work.now))) }
-    ensures flushed { K.flushed sink.new ≡ K.flushed sink.old }
+    ensures wrote { Wrote K.shows sink.old sink.new result (line_text (cpu_form script.now.kinds (cpu_line.Work work.now))) }
+    ensures flushed { K.shows.flushed sink.new ≡ K.shows.flushed sink.old }
 {
     let words = [
         Word::Decimal(b"", work.length),
@@ -116,8 +116,8 @@ impl Entry for CpuLine {
 
 /// Writes all processors that have lines.
 pub fn put_processors<K: Sink>(sink: &mut K, script: &Script) -> Result<(), Failed>
-    ensures wrote { Wrote K.held K.faults K.last_fault sink.old sink.new result (flat_map line_text (all_processor_forms script.now)) }
-    ensures flushed { K.flushed sink.new ≡ K.flushed sink.old }
+    ensures wrote { Wrote K.shows sink.old sink.new result (flat_map line_text (all_processor_forms script.now)) }
+    ensures flushed { K.shows.flushed sink.new ≡ K.shows.flushed sink.old }
 {
     for cpu in 0..8 {
         put_section(

@@ -13,16 +13,16 @@ use perf_io::{Failed, Sink};
 
 /// Writes the version.
 fn put_version<K: Sink>(sink: &mut K, version: &[u8]) -> Result<(), Failed>
-    ensures wrote { Wrote K.held K.faults K.last_fault sink.old sink.new result ((codes "perf " ++ version.now) ++ 10 ∷ []) }
-    ensures flushed { K.flushed sink.new ≡ K.flushed sink.old }
+    ensures wrote { Wrote K.shows sink.old sink.new result ((codes "perf " ++ version.now) ++ 10 ∷ []) }
+    ensures flushed { K.shows.flushed sink.new ≡ K.shows.flushed sink.old }
 {
     put_line(sink, b"perf", &[Word::Plain(version)])
 }
 
 /// Writes the machine of a script with one PMU.
 fn put_machine<K: Sink>(sink: &mut K, cpus: u8, counters: u8) -> Result<(), Failed>
-    ensures wrote { Wrote K.held K.faults K.last_fault sink.old sink.new result (line_text (form.Machine cpus counters)) }
-    ensures flushed { K.flushed sink.new ≡ K.flushed sink.old }
+    ensures wrote { Wrote K.shows sink.old sink.new result (line_text (form.Machine cpus counters)) }
+    ensures flushed { K.shows.flushed sink.new ≡ K.shows.flushed sink.old }
 {
     put_line(
         sink,
@@ -36,8 +36,8 @@ fn put_machine<K: Sink>(sink: &mut K, cpus: u8, counters: u8) -> Result<(), Fail
 
 /// Writes the machine of a script with PMUs of its own.
 fn put_machine_of_pmus<K: Sink>(sink: &mut K, cpus: u8) -> Result<(), Failed>
-    ensures wrote { Wrote K.held K.faults K.last_fault sink.old sink.new result (line_text (form.MachineOfPmus cpus)) }
-    ensures flushed { K.flushed sink.new ≡ K.flushed sink.old }
+    ensures wrote { Wrote K.shows sink.old sink.new result (line_text (form.MachineOfPmus cpus)) }
+    ensures flushed { K.shows.flushed sink.new ≡ K.shows.flushed sink.old }
 {
     put_line(
         sink,
@@ -65,8 +65,8 @@ fn cpus_of(script: &Script, pmu: u8) -> CpuSet
 fn put_pmu<K: Sink>(sink: &mut K, script: &Script, pmu: u8) -> Result<(), Failed>
     requires covered { IsCovered script.now }
     requires within { pmu < length script.now.pmus }
-    ensures wrote { IfSome (slice_get script.now.pmus pmu) (λ p. Wrote K.held K.faults K.last_fault sink.old sink.new result (line_text (form.Pmu pmu p.counters p.cpus.0))) }
-    ensures flushed { K.flushed sink.new ≡ K.flushed sink.old }
+    ensures wrote { IfSome (slice_get script.now.pmus pmu) (λ p. Wrote K.shows sink.old sink.new result (line_text (form.Pmu pmu p.counters p.cpus.0))) }
+    ensures flushed { K.shows.flushed sink.new ≡ K.shows.flushed sink.old }
 {
     let counters = u64::from(script.counters(pmu));
     let cpus = u64::from(cpus_of(script, pmu).0);
@@ -83,8 +83,8 @@ fn put_pmu<K: Sink>(sink: &mut K, script: &Script, pmu: u8) -> Result<(), Failed
 
 fn put_pmus<K: Sink>(sink: &mut K, script: &Script) -> Result<(), Failed>
     requires { IsCovered script.now }
-    ensures wrote { Wrote K.held K.faults K.last_fault sink.old sink.new result (flat_map line_text (pmu_forms 0 script.now.pmus)) }
-    ensures flushed { K.flushed sink.new ≡ K.flushed sink.old }
+    ensures wrote { Wrote K.shows sink.old sink.new result (flat_map line_text (pmu_forms 0 script.now.pmus)) }
+    ensures flushed { K.shows.flushed sink.new ≡ K.shows.flushed sink.old }
 {
     for pmu in 0..script.pmus() {
         put_pmu(sink, script, pmu)?;
@@ -95,8 +95,8 @@ fn put_pmus<K: Sink>(sink: &mut K, script: &Script) -> Result<(), Failed>
 /// Writes the version and the machine of a script with one PMU, which is on all its processors.
 fn put_one_pmu<K: Sink>(sink: &mut K, script: &Script) -> Result<(), Failed>
     requires { length script.now.pmus ≡ 1 }
-    ensures wrote { Wrote K.held K.faults K.last_fault sink.old sink.new result (flat_map line_text (head_forms script.now.cpus script.now.pmus)) }
-    ensures flushed { K.flushed sink.new ≡ K.flushed sink.old }
+    ensures wrote { Wrote K.shows sink.old sink.new result (flat_map line_text (head_forms script.now.cpus script.now.pmus)) }
+    ensures flushed { K.shows.flushed sink.new ≡ K.shows.flushed sink.old }
 {
     put_version(sink, b"1")?;
     put_machine(sink, script.cpus(), script.counters(0))
@@ -106,8 +106,8 @@ fn put_one_pmu<K: Sink>(sink: &mut K, script: &Script) -> Result<(), Failed>
 fn put_several_pmus<K: Sink>(sink: &mut K, script: &Script) -> Result<(), Failed>
     requires covered { IsCovered script.now }
     requires several { length script.now.pmus ≢ 1 }
-    ensures wrote { Wrote K.held K.faults K.last_fault sink.old sink.new result (flat_map line_text (head_forms script.now.cpus script.now.pmus)) }
-    ensures flushed { K.flushed sink.new ≡ K.flushed sink.old }
+    ensures wrote { Wrote K.shows sink.old sink.new result (flat_map line_text (head_forms script.now.cpus script.now.pmus)) }
+    ensures flushed { K.shows.flushed sink.new ≡ K.shows.flushed sink.old }
 {
     put_version(sink, b"2")?;
     put_machine_of_pmus(sink, script.cpus())?;
@@ -117,8 +117,8 @@ fn put_several_pmus<K: Sink>(sink: &mut K, script: &Script) -> Result<(), Failed
 /// Writes the version, the machine and its PMUs.
 pub fn put_head<K: Sink>(sink: &mut K, script: &Script) -> Result<(), Failed>
     requires { IsCovered script.now }
-    ensures wrote { Wrote K.held K.faults K.last_fault sink.old sink.new result (flat_map line_text (head_forms script.now.cpus script.now.pmus)) }
-    ensures flushed { K.flushed sink.new ≡ K.flushed sink.old }
+    ensures wrote { Wrote K.shows sink.old sink.new result (flat_map line_text (head_forms script.now.cpus script.now.pmus)) }
+    ensures flushed { K.shows.flushed sink.new ≡ K.shows.flushed sink.old }
 {
     if script.pmus() == 1 {
         put_one_pmu(sink, script)
@@ -130,8 +130,8 @@ pub fn put_head<K: Sink>(sink: &mut K, script: &Script) -> Result<(), Failed>
 /// Writes a kind.
 fn put_kind<K: Sink>(sink: &mut K, script: &Script, kind: usize) -> Result<(), Failed>
     requires { kind < length script.now.kinds }
-    ensures wrote { IfSome (slice_get script.now.kinds kind) (λ k. Wrote K.held K.faults K.last_fault sink.old sink.new result (line_text (kind_form (length script.now.pmus) k))) }
-    ensures flushed { K.flushed sink.new ≡ K.flushed sink.old }
+    ensures wrote { IfSome (slice_get script.now.kinds kind) (λ k. Wrote K.shows sink.old sink.new result (line_text (kind_form (length script.now.pmus) k))) }
+    ensures flushed { K.shows.flushed sink.new ≡ K.shows.flushed sink.old }
 {
     let name = script.name(kind);
     let mask = u64::from(script.mask(kind));
@@ -157,8 +157,8 @@ fn put_kind<K: Sink>(sink: &mut K, script: &Script, kind: usize) -> Result<(), F
 
 /// Writes all kinds.
 pub fn put_kinds<K: Sink>(sink: &mut K, script: &Script) -> Result<(), Failed>
-    ensures wrote { Wrote K.held K.faults K.last_fault sink.old sink.new result (flat_map line_text (map (kind_form (length script.now.pmus)) script.now.kinds)) }
-    ensures flushed { K.flushed sink.new ≡ K.flushed sink.old }
+    ensures wrote { Wrote K.shows sink.old sink.new result (flat_map line_text (map (kind_form (length script.now.pmus)) script.now.kinds)) }
+    ensures flushed { K.shows.flushed sink.new ≡ K.shows.flushed sink.old }
 {
     for kind in 0..script.kinds() {
         put_kind(sink, script, kind)?;

@@ -23,8 +23,8 @@ pub trait Entry {
     /// Writes its line.
     fn put<K: Sink>(&self, sink: &mut K, script: &Script) -> Result<(), Failed>
         requires { fits script.now self.now }
-        ensures wrote { Wrote K.held K.faults K.last_fault sink.old sink.new result (line_text (form script.now self.now)) }
-        ensures flushed { K.flushed sink.new ≡ K.flushed sink.old };
+        ensures wrote { Wrote K.shows sink.old sink.new result (line_text (form script.now self.now)) }
+        ensures flushed { K.shows.flushed sink.new ≡ K.shows.flushed sink.old };
 }
 
 /// Writes a line for each entry.
@@ -34,8 +34,8 @@ pub fn put_entries<K: Sink, E: Entry>(
     entries: &[E],
 ) -> Result<(), Failed>
     requires { All (E.fits script.now) entries.now }
-    ensures wrote { Wrote K.held K.faults K.last_fault sink.old sink.new result (text (map (E.form script.now) entries.now)) }
-    ensures flushed { K.flushed sink.new ≡ K.flushed sink.old }
+    ensures wrote { Wrote K.shows sink.old sink.new result (text (map (E.form script.now) entries.now)) }
+    ensures flushed { K.shows.flushed sink.new ≡ K.shows.flushed sink.old }
 {
     for entry in entries {
         entry.put(sink, script)?;
@@ -52,8 +52,8 @@ pub fn put_section<K: Sink, E: Entry>(
     lines: &[E],
 ) -> Result<(), Failed>
     requires { All (E.fits script.now) lines.now }
-    ensures wrote { Wrote K.held K.faults K.last_fault sink.old sink.new result (section_text header.now number (map (E.form script.now) lines.now)) }
-    ensures flushed { K.flushed sink.new ≡ K.flushed sink.old }
+    ensures wrote { Wrote K.shows sink.old sink.new result (section_text header.now number (map (E.form script.now) lines.now)) }
+    ensures flushed { K.shows.flushed sink.new ≡ K.shows.flushed sink.old }
 {
     if lines.is_empty() {
         return Ok(());

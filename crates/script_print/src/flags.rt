@@ -26,8 +26,8 @@ fn is_set(flags: AttrFlags, flag: u8) -> bool
 
 /// Writes the names of the flags that are set, in their order, with a comma between each two.
 pub fn put_flags<K: Sink>(sink: &mut K, flags: AttrFlags) -> Result<(), Failed>
-    ensures wrote { Wrote K.held K.faults K.last_fault sink.old sink.new result (flags_text flags.0) }
-    ensures flushed { K.flushed sink.new ≡ K.flushed sink.old }
+    ensures wrote { Wrote K.shows sink.old sink.new result (flags_text flags.0) }
+    ensures flushed { K.shows.flushed sink.new ≡ K.shows.flushed sink.old }
 {
     let mut comma: &[u8] = b"";
     for flag in 0..7 {

@@ -10,8 +10,8 @@ use perf_io::{Failed, Sink, write_all};
 /// Writes a text and another behind it.
 #[tactic(auto, using(perf_io::proofs::Wrote::writes))]
 pub fn put_two<K: Sink>(sink: &mut K, first: &[u8], second: &[u8]) -> Result<(), Failed>
-    ensures wrote { Wrote K.held K.faults K.last_fault sink.old sink.new result (first.now ++ second.now) }
-    ensures flushed { K.flushed sink.new ≡ K.flushed sink.old }
+    ensures wrote { Wrote K.shows sink.old sink.new result (first.now ++ second.now) }
+    ensures flushed { K.shows.flushed sink.new ≡ K.shows.flushed sink.old }
 {
     write_all(sink, first)?;
     write_all(sink, second)
@@ -44,8 +44,8 @@ fn hexadecimal_digits(n: u64) -> ([u8; 16], usize)
 
 /// Writes a hexadecimal number.
 pub fn put_hexadecimal<K: Sink>(sink: &mut K, n: u64) -> Result<(), Failed>
-    ensures wrote { Wrote K.held K.faults K.last_fault sink.old sink.new result (hexadecimal n) }
-    ensures flushed { K.flushed sink.new ≡ K.flushed sink.old }
+    ensures wrote { Wrote K.shows sink.old sink.new result (hexadecimal n) }
+    ensures flushed { K.shows.flushed sink.new ≡ K.shows.flushed sink.old }
 {
     let (places, start) = hexadecimal_digits(n);
     write_all(sink, &places[start..])

@@ -22,8 +22,8 @@ use perf_io::{Failed, Sink, write_all};
 #[tactic(auto, using(perf_io::proofs::Wrote::writes), unfolding(crate::specs::Words::declared_text))]
 fn put_declared<K: Sink>(sink: &mut K, script: &Script) -> Result<(), Failed>
     requires { IsCovered script.now }
-    ensures wrote { Wrote K.held K.faults K.last_fault sink.old sink.new result (declared_text script.now) }
-    ensures flushed { K.flushed sink.new ≡ K.flushed sink.old }
+    ensures wrote { Wrote K.shows sink.old sink.new result (declared_text script.now) }
+    ensures flushed { K.shows.flushed sink.new ≡ K.shows.flushed sink.old }
 {
     put_head(sink, script)?;
     put_kinds(sink, script)?;
@@ -34,8 +34,8 @@ fn put_declared<K: Sink>(sink: &mut K, script: &Script) -> Result<(), Failed>
 /// Writes the lines of processors, tools and readers.
 #[tactic(auto, using(perf_io::proofs::Wrote::writes), unfolding(crate::specs::Words::lines_text))]
 fn put_lines<K: Sink>(sink: &mut K, script: &Script) -> Result<(), Failed>
-    ensures wrote { Wrote K.held K.faults K.last_fault sink.old sink.new result (lines_text script.now) }
-    ensures flushed { K.flushed sink.new ≡ K.flushed sink.old }
+    ensures wrote { Wrote K.shows sink.old sink.new result (lines_text script.now) }
+    ensures flushed { K.shows.flushed sink.new ≡ K.shows.flushed sink.old }
 {
     put_processors(sink, script)?;
     put_tools(sink, script)?;
@@ -45,8 +45,8 @@ fn put_lines<K: Sink>(sink: &mut K, script: &Script) -> Result<(), Failed>
 /// Writes an act with a space before it.
 #[tactic(auto, using(perf_io::proofs::Wrote::writes))]
 fn put_act<K: Sink>(sink: &mut K, act: &Act) -> Result<(), Failed>
-    ensures wrote { Wrote K.held K.faults K.last_fault sink.old sink.new result (32 ∷ act_text act.now) }
-    ensures flushed { K.flushed sink.new ≡ K.flushed sink.old }
+    ensures wrote { Wrote K.shows sink.old sink.new result (32 ∷ act_text act.now) }
+    ensures flushed { K.shows.flushed sink.new ≡ K.shows.flushed sink.old }
 {
     write_all(sink, b" ")?;
     write_act(act, sink)
@@ -54,8 +54,8 @@ fn put_act<K: Sink>(sink: &mut K, act: &Act) -> Result<(), Failed>
 
 /// Writes acts, a space before each. Where a call of the sink fails, some front of the text stays added.
 pub fn put_acts<K: Sink>(sink: &mut K, acts: &[Act]) -> Result<(), Failed>
-    ensures wrote { Wrote K.held K.faults K.last_fault sink.old sink.new result (acts_text acts.now) }
-    ensures flushed { K.flushed sink.new ≡ K.flushed sink.old }
+    ensures wrote { Wrote K.shows sink.old sink.new result (acts_text acts.now) }
+    ensures flushed { K.shows.flushed sink.new ≡ K.shows.flushed sink.old }
 {
     for act in acts {
         put_act(sink, act)?;
@@ -66,8 +66,8 @@ pub fn put_acts<K: Sink>(sink: &mut K, acts: &[Act]) -> Result<(), Failed>
 /// Writes a line of a word and acts.
 #[tactic(auto, using(perf_io::proofs::Wrote::writes))]
 fn put_acts_line<K: Sink>(sink: &mut K, first: &[u8], acts: &[Act]) -> Result<(), Failed>
-    ensures wrote { Wrote K.held K.faults K.last_fault sink.old sink.new result (first.now ++ (acts_text acts.now ++ 10 ∷ [])) }
-    ensures flushed { K.flushed sink.new ≡ K.flushed sink.old }
+    ensures wrote { Wrote K.shows sink.old sink.new result (first.now ++ (acts_text acts.now ++ 10 ∷ [])) }
+    ensures flushed { K.shows.flushed sink.new ≡ K.shows.flushed sink.old }
 {
     write_all(sink, first)?;
     put_acts(sink, acts)?;
@@ -76,8 +76,8 @@ fn put_acts_line<K: Sink>(sink: &mut K, first: &[u8], acts: &[Act]) -> Result<()
 
 /// Writes the order line, or nothing where the order is empty.
 fn put_order<K: Sink>(sink: &mut K, acts: &[Act]) -> Result<(), Failed>
-    ensures wrote { Wrote K.held K.faults K.last_fault sink.old sink.new result (text (order_forms acts.now)) }
-    ensures flushed { K.flushed sink.new ≡ K.flushed sink.old }
+    ensures wrote { Wrote K.shows sink.old sink.new result (text (order_forms acts.now)) }
+    ensures flushed { K.shows.flushed sink.new ≡ K.shows.flushed sink.old }
 {
     if acts.is_empty() {
         return Ok(());
@@ -88,8 +88,8 @@ fn put_order<K: Sink>(sink: &mut K, acts: &[Act]) -> Result<(), Failed>
 /// Writes the order and the end.
 #[tactic(auto, using(perf_io::proofs::Wrote::writes), unfolding(crate::specs::Words::last_text))]
 fn put_last<K: Sink>(sink: &mut K, acts: &[Act]) -> Result<(), Failed>
-    ensures wrote { Wrote K.held K.faults K.last_fault sink.old sink.new result (last_text acts.now) }
-    ensures flushed { K.flushed sink.new ≡ K.flushed sink.old }
+    ensures wrote { Wrote K.shows sink.old sink.new result (last_text acts.now) }
+    ensures flushed { K.shows.flushed sink.new ≡ K.shows.flushed sink.old }
 {
     put_order(sink, acts)?;
     put_line(sink, b"end", &[])
@@ -99,8 +99,8 @@ fn put_last<K: Sink>(sink: &mut K, acts: &[Act]) -> Result<(), Failed>
 #[tactic(auto, using(perf_io::proofs::Wrote::writes))]
 fn put_parts<K: Sink>(sink: &mut K, script: &Script, acts: &[Act]) -> Result<(), Failed>
     requires { IsCovered script.now }
-    ensures wrote { Wrote K.held K.faults K.last_fault sink.old sink.new result (declared_text script.now ++ (lines_text script.now ++ last_text acts.now)) }
-    ensures flushed { K.flushed sink.new ≡ K.flushed sink.old }
+    ensures wrote { Wrote K.shows sink.old sink.new result (declared_text script.now ++ (lines_text script.now ++ last_text acts.now)) }
+    ensures flushed { K.shows.flushed sink.new ≡ K.shows.flushed sink.old }
 {
     put_declared(sink, script)?;
     put_lines(sink, script)?;
@@ -113,8 +113,8 @@ fn put_parts<K: Sink>(sink: &mut K, script: &Script, acts: &[Act]) -> Result<(),
 #[tactic(auto, using(crate::proofs::Stands::printed_stands))]
 pub fn print_script<K: Sink>(script: &Script, sink: &mut K) -> Result<(), Failed>
     requires { IsCovered script.now }
-    ensures wrote { Wrote K.held K.faults K.last_fault sink.old sink.new result (printed script.now) }
-    ensures flushed { K.flushed sink.new ≡ K.flushed sink.old }
+    ensures wrote { Wrote K.shows sink.old sink.new result (printed script.now) }
+    ensures flushed { K.shows.flushed sink.new ≡ K.shows.flushed sink.old }
     // The text stands for the script, unless it is too heavy to be read.
     ensures stands { weight script.now ≤ 65536 → StandsFor (printed script.now) script.now }
 {

@@ -98,8 +98,8 @@ fn put_open<K: Sink>(
     leader: Option<EventNo>,
 ) -> Result<(), Failed>
     requires { IsKind (length script.now.kinds) attr.now.kind }
-    ensures wrote { Wrote K.held K.faults K.last_fault sink.old sink.new result (line_text (tool_form script.now.kinds (tool_line.Open slot attr.now leader))) }
-    ensures flushed { K.flushed sink.new ≡ K.flushed sink.old }
+    ensures wrote { Wrote K.shows sink.old sink.new result (line_text (tool_form script.now.kinds (tool_line.Open slot attr.now leader))) }
+    ensures flushed { K.shows.flushed sink.new ≡ K.shows.flushed sink.old }
 {
     put_line(
         sink,
@@ -170,8 +170,8 @@ impl Entry for ToolLine {
 
 /// Writes all tools that have lines.
 pub fn put_tools<K: Sink>(sink: &mut K, script: &Script) -> Result<(), Failed>
-    ensures wrote { Wrote K.held K.faults K.last_fault sink.old sink.new result (flat_map line_text (all_tool_forms script.now)) }
-    ensures flushed { K.flushed sink.new ≡ K.flushed sink.old }
+    ensures wrote { Wrote K.shows sink.old sink.new result (flat_map line_text (all_tool_forms script.now)) }
+    ensures flushed { K.shows.flushed sink.new ≡ K.shows.flushed sink.old }
 {
     for tool in 0..4 {
         put_section(sink, script, b"tool", tool, script.tool_lines(ToolNo(tool)))?;

@@ -61,8 +61,8 @@ impl<'a> Word<'a> {
 /// Writes a word with a decimal number.
 #[tactic(auto, using(perf_io::proofs::Wrote::writes))]
 fn put_decimal_word<K: Sink>(sink: &mut K, key: &[u8], n: u64) -> Result<(), Failed>
-    ensures wrote { Wrote K.held K.faults K.last_fault sink.old sink.new result ((codes " " ++ key.now) ++ decimal n) }
-    ensures flushed { K.flushed sink.new ≡ K.flushed sink.old }
+    ensures wrote { Wrote K.shows sink.old sink.new result ((codes " " ++ key.now) ++ decimal n) }
+    ensures flushed { K.shows.flushed sink.new ≡ K.shows.flushed sink.old }
 {
     write_all(sink, b" ")?;
     write_numbered(sink, key, n)
@@ -71,8 +71,8 @@ fn put_decimal_word<K: Sink>(sink: &mut K, key: &[u8], n: u64) -> Result<(), Fai
 /// Writes a word with a hexadecimal number.
 #[tactic(auto, using(perf_io::proofs::Wrote::writes))]
 fn put_hexadecimal_word<K: Sink>(sink: &mut K, key: &[u8], n: u64) -> Result<(), Failed>
-    ensures wrote { Wrote K.held K.faults K.last_fault sink.old sink.new result ((codes " " ++ key.now) ++ hexadecimal n) }
-    ensures flushed { K.flushed sink.new ≡ K.flushed sink.old }
+    ensures wrote { Wrote K.shows sink.old sink.new result ((codes " " ++ key.now) ++ hexadecimal n) }
+    ensures flushed { K.shows.flushed sink.new ≡ K.shows.flushed sink.old }
 {
     write_all(sink, b" ")?;
     write_all(sink, key)?;
@@ -82,28 +82,26 @@ fn put_hexadecimal_word<K: Sink>(sink: &mut K, key: &[u8], n: u64) -> Result<(),
 /// Writes a word with a name.
 #[tactic(auto, using(perf_io::proofs::Wrote::writes))]
 fn put_named_word<K: Sink>(sink: &mut K, key: &[u8], name: &Name) -> Result<(), Failed>
-    ensures wrote { Wrote K.held K.faults K.last_fault sink.old sink.new result ((codes " " ++ key.now) ++ name.now) }
-    ensures flushed { K.flushed sink.new ≡ K.flushed sink.old }
+    ensures wrote { Wrote K.shows sink.old sink.new result ((codes " " ++ key.now) ++ name.now) }
+    ensures flushed { K.shows.flushed sink.new ≡ K.shows.flushed sink.old }
 {
     write_all(sink, b" ")?;
     put_two(sink, key, name.as_bytes())
 }
 
 /// Writes a word with flags.
-#[tactic(auto, using(perf_io::proofs::Wrote::writes))]
 fn put_flags_word<K: Sink>(sink: &mut K, key: &[u8], flags: AttrFlags) -> Result<(), Failed>
-    ensures wrote { Wrote K.held K.faults K.last_fault sink.old sink.new result ((codes " " ++ key.now) ++ flags_text flags.0) }
-    ensures flushed { K.flushed sink.new ≡ K.flushed sink.old }
+    ensures wrote { Wrote K.shows sink.old sink.new result ((codes " " ++ key.now) ++ flags_text flags.0) }
+    ensures flushed { K.shows.flushed sink.new ≡ K.shows.flushed sink.old }
 {
-    write_all(sink, b" ")?;
-    write_all(sink, key)?;
+    put_two(sink, b" ", key)?;
     put_flags(sink, flags)
 }
 
 /// Writes a word with a space before it, or nothing.
 pub fn put_word<K: Sink>(sink: &mut K, word: &Word) -> Result<(), Failed>
-    ensures wrote { Wrote K.held K.faults K.last_fault sink.old sink.new result (spaced (word_texts word.now)) }
-    ensures flushed { K.flushed sink.new ≡ K.flushed sink.old }
+    ensures wrote { Wrote K.shows sink.old sink.new result (spaced (word_texts word.now)) }
+    ensures flushed { K.shows.flushed sink.new ≡ K.shows.flushed sink.old }
 {
     match word {
         Word::Missing => Ok(()),
@@ -117,8 +115,8 @@ pub fn put_word<K: Sink>(sink: &mut K, word: &Word) -> Result<(), Failed>
 
 /// Writes words with a space before each.
 pub fn put_words<K: Sink>(sink: &mut K, words: &[Word]) -> Result<(), Failed>
-    ensures wrote { Wrote K.held K.faults K.last_fault sink.old sink.new result (spaced (all_word_texts words.now)) }
-    ensures flushed { K.flushed sink.new ≡ K.flushed sink.old }
+    ensures wrote { Wrote K.shows sink.old sink.new result (spaced (all_word_texts words.now)) }
+    ensures flushed { K.shows.flushed sink.new ≡ K.shows.flushed sink.old }
 {
     for word in words {
         put_word(sink, word)?;
@@ -129,8 +127,8 @@ pub fn put_words<K: Sink>(sink: &mut K, words: &[Word]) -> Result<(), Failed>
 /// Writes the first words of a line.
 #[tactic(auto, using(perf_io::proofs::Wrote::writes))]
 pub fn put_start<K: Sink>(sink: &mut K, first: &[u8], words: &[Word]) -> Result<(), Failed>
-    ensures wrote { Wrote K.held K.faults K.last_fault sink.old sink.new result (first.now ++ spaced (all_word_texts words.now)) }
-    ensures flushed { K.flushed sink.new ≡ K.flushed sink.old }
+    ensures wrote { Wrote K.shows sink.old sink.new result (first.now ++ spaced (all_word_texts words.now)) }
+    ensures flushed { K.shows.flushed sink.new ≡ K.shows.flushed sink.old }
 {
     write_all(sink, first)?;
     put_words(sink, words)
@@ -139,8 +137,8 @@ pub fn put_start<K: Sink>(sink: &mut K, first: &[u8], words: &[Word]) -> Result<
 /// Writes a line.
 #[tactic(auto, using(perf_io::proofs::Wrote::writes, crate::proofs::Loops::join_spaced))]
 pub fn put_line<K: Sink>(sink: &mut K, first: &[u8], words: &[Word]) -> Result<(), Failed>
-    ensures wrote { Wrote K.held K.faults K.last_fault sink.old sink.new result (join_with_byte 32 (first.now ∷ all_word_texts words.now) ++ 10 ∷ []) }
-    ensures flushed { K.flushed sink.new ≡ K.flushed sink.old }
+    ensures wrote { Wrote K.shows sink.old sink.new result (join_with_byte 32 (first.now ∷ all_word_texts words.now) ++ 10 ∷ []) }
+    ensures flushed { K.shows.flushed sink.new ≡ K.shows.flushed sink.old }
 {
     put_start(sink, first, words)?;
     write_all(sink, b"\n")

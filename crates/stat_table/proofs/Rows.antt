@@ -6,6 +6,7 @@ use Rattle.std.specs.Result.{IsErr}
 use Rattle.std.proofs.Math.Seq.{drop-cons}
 use Rattle.std.proofs.lemmas.List.{append-nil, take_more, take-append-drop}
 use Rattle.std.proofs.lemmas.List.Concat.{flat_map-append, flat_map-cons}
+use Rattle.perf_io.specs.Outside.{SinkShows}
 use Rattle.perf_io.specs.Wrote.{Wrote}
 use Rattle.perf_io.specs.declared.outside.Failed.{Failed}
 use Rattle.perf_io.proofs.Wrote.{wrote_then, wrote_exit, wrote_text}
@@ -44,18 +45,18 @@ module _ {X : Type 0} (piece : X → List ℕ) where
       ap (λ t. flat_map piece (take i xs) ++ t) (sym (ap (flat_map piece) rest ∙ flat_map-cons piece (get_or xs i d) (drop (i + 1) xs)))
       ∙ (sym (flat_map-append piece (take i xs) (drop i xs)) ∙ ap (flat_map piece) (take-append-drop i xs))
 
-  module _ {K : Type 0} {held : K → Option (List ℕ)} {faults : K → ℕ} {last_fault : Option ℕ} where
+  module _ {K : Type 0} {shows : SinkShows K} where
     -- one entry more was written
     pub rows_more : (xs : List X) (i : ℕ) (x : X) {a b c : K} → i < length xs → x ≡ get_or xs i x
-        → Wrote held faults last_fault a b (Ok tt) (flat_map piece (take i xs)) → Wrote held faults last_fault b c (Ok tt) (piece x)
-        → Wrote held faults last_fault a c (Ok tt) (flat_map piece (take (i + 1) xs))
+        → Wrote shows a b (Ok tt) (flat_map piece (take i xs)) → Wrote shows b c (Ok tt) (piece x)
+        → Wrote shows a c (Ok tt) (flat_map piece (take (i + 1) xs))
     rows_more xs i x l e p q = wrote_text (sym (one_more xs i x l)) (wrote_then p (wrote_text (ap piece e) q))
 
     -- the front of an entry was written
     pub rows_exit : (xs : List X) (i : ℕ) (x : X) {a b c : K} {e : Failed} {r : Result (Unit {0}) Failed}
         → i < length xs → x ≡ get_or xs i x
-        → Wrote held faults last_fault a b (Ok tt) (flat_map piece (take i xs)) → IsErr r
-        → Wrote held faults last_fault b c (Err e) (piece x)
-        → Wrote held faults last_fault a c r (flat_map piece xs)
+        → Wrote shows a b (Ok tt) (flat_map piece (take i xs)) → IsErr r
+        → Wrote shows b c (Err e) (piece x)
+        → Wrote shows a c r (flat_map piece xs)
     rows_exit xs i x l e p q w =
         wrote_text (split_at xs i x l) (wrote_then p (wrote_exit (flat_map piece (drop (i + 1) xs)) q (wrote_text (ap piece e) w)))

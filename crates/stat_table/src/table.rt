@@ -93,8 +93,8 @@ fn write_three<K: Sink>(
     second: &[u8],
     third: &[u8],
 ) -> Result<(), Failed>
-    ensures wrote { Wrote K.held K.faults K.last_fault sink.old sink.new result (first.now ++ second.now ++ third.now) }
-    ensures flushed { K.flushed sink.new ≡ K.flushed sink.old }
+    ensures wrote { Wrote K.shows sink.old sink.new result (first.now ++ second.now ++ third.now) }
+    ensures flushed { K.shows.flushed sink.new ≡ K.shows.flushed sink.old }
 {
     write_all(sink, first)?;
     write_all(sink, second)?;
@@ -104,8 +104,8 @@ fn write_three<K: Sink>(
 /// Writes a row, by three calls where the sink takes all that it is given.
 fn write_row<K: Sink>(sink: &mut K, row: &StatRow) -> Result<(), Failed>
     requires { row.now.sums.running < 2 ^ 44 }
-    ensures wrote { Wrote K.held K.faults K.last_fault sink.old sink.new result (row_text row.now) }
-    ensures flushed { K.flushed sink.new ≡ K.flushed sink.old }
+    ensures wrote { Wrote K.shows sink.old sink.new result (row_text row.now) }
+    ensures flushed { K.shows.flushed sink.new ≡ K.shows.flushed sink.old }
 {
     let head = head_of(row);
     let tail = tail_of(row);
@@ -115,13 +115,23 @@ fn write_row<K: Sink>(sink: &mut K, row: &StatRow) -> Result<(), Failed>
 /// Writes rows.
 fn write_rows<K: Sink>(sink: &mut K, rows: &[StatRow]) -> Result<(), Failed>
     requires { All (λ row. row.sums.running < 2 ^ 44) rows.now }
-    ensures wrote { Wrote K.held K.faults K.last_fault sink.old sink.new result (flat_map row_text rows.now) }
-    ensures flushed { K.flushed sink.new ≡ K.flushed sink.old }
+    ensures wrote { Wrote K.shows sink.old sink.new result (flat_map row_text rows.now) }
+    ensures flushed { K.shows.flushed sink.new ≡ K.shows.flushed sink.old }
 {
     for row in rows {
         write_row(sink, row)?;
     }
     Ok(())
+}
+
+/// Writes a text, a number and another text.
+#[tactic(auto, using(perf_io::proofs::Wrote::writes))]
+fn write_head<K: Sink>(sink: &mut K, head: &[u8], count: u64, between: &[u8]) -> Result<(), Failed>
+    ensures wrote { Wrote K.shows sink.old sink.new result (head.now ++ decimal count ++ between.now) }
+    ensures flushed { K.shows.flushed sink.new ≡ K.shows.flushed sink.old }
+{
+    write_numbered(sink, head, count)?;
+    write_all(sink, between)
 }
 
 /// Writes a text, the number of rows, another text, the rows and a third text.
@@ -134,11 +144,10 @@ fn write_framed<K: Sink>(
     end: &[u8],
 ) -> Result<(), Failed>
     requires { All (λ row. row.sums.running < 2 ^ 44) rows.now }
-    ensures wrote { Wrote K.held K.faults K.last_fault sink.old sink.new result (head.now ++ decimal (length rows.now) ++ between.now ++ flat_map row_text rows.now ++ end.now) }
-    ensures flushed { K.flushed sink.new ≡ K.flushed sink.old }
+    ensures wrote { Wrote K.shows sink.old sink.new result (head.now ++ decimal (length rows.now) ++ between.now ++ flat_map row_text rows.now ++ end.now) }
+    ensures flushed { K.shows.flushed sink.new ≡ K.shows.flushed sink.old }
 {
-    write_numbered(sink, head, rows.len() as u64)?;
-    write_all(sink, between)?;
+    write_head(sink, head, rows.len() as u64, between)?;
     write_rows(sink, rows)?;
     write_all(sink, end)
 }
@@ -147,8 +156,8 @@ fn write_framed<K: Sink>(
 /// the sink fails, some front of the table stays added.
 pub fn write_table<K: Sink>(rows: &[StatRow], sink: &mut K) -> Result<(), Failed>
     requires { All (λ row. row.sums.running < 2 ^ 44) rows.now }
-    ensures wrote { Wrote K.held K.faults K.last_fault sink.old sink.new result (table_text rows.now) }
-    ensures flushed { K.flushed sink.new ≡ K.flushed sink.old }
+    ensures wrote { Wrote K.shows sink.old sink.new result (table_text rows.now) }
+    ensures flushed { K.shows.flushed sink.new ≡ K.shows.flushed sink.old }
 {
     write_framed(sink, b"stat ", rows, b"\n", b"end\n")
 }

@@ -1,12 +1,21 @@
--- A text that was read to its end is all that the source had.
-use Rattle.std.proofs.Common.{◌≡◌, ◌↔◌, ℕ, List, [], ◌++◌, Option, Some, None, refl, sym, ap, subst, ◌∙◌, arith, append-nil}
+-- What a call wrote and answered, beside what its source had.
+use Rattle.std.specs.Prelude.{codes, ◌⊎◌}
+use Rattle.std.proofs.Common.{◌≡◌, ◌↔◌, ℕ, List, [], ◌∷◌, Option, Some, inl, inr, refl, sym, ap, subst, ◌∙◌, arith}
+use Rattle.perf_base.specs.declared.numbers.RingNo.{RingNo}
+use Rattle.perf_base.specs.Scripts.{Scripted}
+use Rattle.script_spec.specs.Texts.{IsRefused, StandsFor}
 use Rattle.perf_base.specs.declared.reasons.SReason.{SReason}
 use Rattle.script_read.specs.declared.fault.ScriptFault.TheVariants as fault
-use Rattle.perf_io.specs.Outside.{Takes, Adds, IsAtEnd}
+use Rattle.perf_io.specs.Outside.{Adds, SinkShows, SourceShows}
 use Rattle.perf_top.specs.declared.status.Status.{Status}
 use Rattle.perf_top.specs.declared.status.Status.TheVariants as status
 use Rattle.perf_top.specs.Notes.{number_of}
-use Rattle.perf_top.specs.Outcome.{Gave, IsReplayed, AreKnown, IsOutput}
+use Rattle.perf_top.specs.Asking.{AreKnown, Asks, DoesOrder}
+use Rattle.perf_top.specs.Outcome.{HasOpenOrder, IsAnswer, IsGiven, IsOutput}
+use Rattle.perf_top.proofs.Asking.{one-asked}
+use Rattle.perf_top.proofs.Whole.{gave-is}
+use Rattle.perf_top.specs.declared.asked.Asked.{Asked}
+use Rattle.perf_top.specs.declared.asked.Asked.TheVariants as asked
 use Rattle.worked_cases.specs.declared.case.Expected.{Expected}
 use Rattle.worked_cases.specs.declared.again.Again.{Again}
 use Rattle.worked_cases.specs.declared.again.Again.TheVariants as again
@@ -16,23 +25,57 @@ use Rattle.worked_cases.specs.declared.verdict.Verdict.{Verdict}
 use Rattle.worked_cases.specs.declared.verdict.Verdict.TheVariants as verdict
 use Rattle.worked_cases.specs.Expectations.{Allows}
 use Rattle.worked_cases.specs.Words.{AreAsExpected}
+use Rattle.worked_cases.specs.Written.{IsBadOrder, IsBadScript, IsReplayed, IsWritten}
 use Rattle.worked_cases.specs.Printed.{IsPrintedOf, IsRunOf, AllowsAgain, HasSameReport, IsAsExpected}
 
-given_is : (left : List ℕ) (after : Option (List ℕ)) (text : List ℕ) → Takes (Some left) after text → IsAtEnd after → text ≡ left
-given_is left None text t e = absurd t
-given_is left (Some rest) text t e = sym (t ∙ (ap (λ r. text ++ r) e ∙ append-nil text))
-
--- what holds of the text that the source gave holds of what it had
-pub of_all : (P : List ℕ → Type 0) (had left : List ℕ) (after : Option (List ℕ)) (text : List ℕ)
-    → left ≡ had → Gave (Some left) after text → P text → P had
-of_all P had left after text e gave p = subst P (given_is left after text gave.taken gave.ended ∙ e) p
+-- what is given over a source is given over its bytes
+over-bytes : {S : Type 0} (left : S → Option (List ℕ)) (a : Asked) (before after : S) (s : Scripted) → IsGiven left a before after s → IsGiven (λ bytes. bytes) a (left before) (left after) s
+over-bytes left asked.Replay before after s g = g
+over-bytes left asked.Run before after s g = g
+over-bytes left asked.Stat before after s g = g
+over-bytes left (asked.Make n) before after s g = (ap left g.0, g.1)
+over-bytes left (asked.MadeScript n) before after s g = (ap left g.0, g.1)
+over-bytes left (asked.Attr bytes) before after s g = ap left g
 
 -- the sink was empty, and holds what the words have written beside what the source had
-pub output_of : (words : List (List ℕ)) (had left : List ℕ) (after : Option (List ℕ)) (before held out : List ℕ)
-    → left ≡ had → before ≡ [] → IsOutput words (Some left) after out → Adds (Some before) (Some held) out → (rest : Option (List ℕ)) × IsOutput words (Some had) rest held
-output_of words had left after before held out e empty is added =
-    let is_out : held ≡ out = added ∙ ap (λ b. b ++ out) empty in
-    (after, subst (λ l. IsOutput words (Some l) after held) e (subst (λ o. IsOutput words (Some left) after o) (sym is_out) is))
+pub written-by : {S K : Type 0} (source_shows : SourceShows S) (shows : SinkShows K)
+    (words : List (List ℕ)) (had now : List ℕ) (a : Asked) (source read : S) (sink written : K) → Asks words a
+    → IsAnswer source_shows shows a status.Done source read sink written → source_shows.left source ≡ Some had → shows.held sink ≡ Some [] → shows.held written ≡ Some now
+    → IsWritten words had now
+written-by source_shows shows words had now a source read sink written asks (inl h) e empty full = absurd h.0
+written-by source_shows shows words had now a source read sink written asks (inr h) e empty full =
+    let given : IsGiven (λ bytes. bytes) a (Some had) (source_shows.left read) h.0 = subst (λ b. IsGiven (λ bytes. bytes) a b (source_shows.left read) h.0) e (over-bytes source_shows.left a source read h.0 h.1) in
+    let added : Adds (Some []) (Some now) h.2.0 = subst (λ b. Adds (Some []) b h.2.0) full (subst (λ b. Adds b (shows.held written) h.2.0) empty h.2.2) in
+    (a, source_shows.left read, h.0, asks, given, subst (IsOutput a h.0) (sym added) h.2.1)
+
+-- a text that is no script, or whose order is not complete
+pub refused-by : {S K : Type 0} (source_shows : SourceShows S) (shows : SinkShows K)
+    (words : List (List ℕ)) (had : List ℕ) (line : ℕ) (reason : SReason) (a : Asked) (source read : S) (sink written : K) → Asks words a
+    → IsAnswer source_shows shows a (status.BadScript line reason) source read sink written → source_shows.left source ≡ Some had → IsBadScript words had line reason
+refused-by source_shows shows words had line reason a source read sink written asks (inr h) e = absurd h.2
+refused-by source_shows shows words had line reason a source read sink written asks (inl h) e =
+    let why = h.0.1 in
+    let same : why.0 ≡ had = gave-is (source_shows.left source) (source_shows.left read) had why.0 e why.1 in
+    (a, asks, subst (λ t. IsRefused t line reason ⊎ (DoesOrder a × HasOpenOrder t line reason)) same why.2)
+
+-- a text whose order has a look that is not lawful
+pub bad-by : {S K : Type 0} (source_shows : SourceShows S) (shows : SinkShows K)
+    (had : List ℕ) (index : ℕ) (ring : RingNo) (seen head given : ℕ) (a : Asked) (source read : S) (sink written : K)
+    → IsAnswer source_shows shows a (status.BadOrder index ring seen head given) source read sink written → source_shows.left source ≡ Some had
+    → IsBadOrder had index ring seen head given
+bad-by source_shows shows had index ring seen head given a source read sink written (inl h) e = absurd h.0
+bad-by source_shows shows had index ring seen head given asked.Replay source read sink written (inr h) e =
+    (h.0, subst (λ t. StandsFor t h.0) (gave-is (source_shows.left source) (source_shows.left read) had h.1.0 e h.1.1) h.1.2, h.1.3 tt, h.2.1)
+bad-by source_shows shows had index ring seen head given asked.Stat source read sink written (inr h) e =
+    (h.0, subst (λ t. StandsFor t h.0) (gave-is (source_shows.left source) (source_shows.left read) had h.1.0 e h.1.1) h.1.2, h.1.3 tt, h.2.1)
+bad-by source_shows shows had index ring seen head given a source read sink written (inr h) e = absurd h.2.0
+
+-- what `replay` has written
+pub replayed-by : (text out : List ℕ) → IsWritten (codes "replay" ∷ []) text out → IsReplayed text out
+replayed-by text out (a, left, s, asks, given, is) =
+    let replay : a ≡ asked.Replay = one-asked (codes "replay" ∷ []) a asked.Replay asks refl in
+    let g = subst (λ (x : Asked). IsGiven (λ bytes. bytes) x (Some text) left s) replay given in
+    (s, subst (λ t. StandsFor t s) (gave-is (Some text) left text g.0 refl g.1) g.2, g.3 tt, subst (λ (x : Asked). IsOutput x s out) replay is)
 
 -- only Done has the number 0
 pub is_done : (s : Status) → number_of s ≡ 0 → s ≡ status.Done
@@ -49,10 +92,10 @@ usage_number s e = ap number_of e
 
 pub words_as_expected : (v : Verdict) (e : Expected) (report : List ℕ) (words : List (List ℕ)) (text : List ℕ) (s : Status) (number : ℕ) (out held note : List ℕ)
     → (v ≡ verdict.AsExpected → Allows e report number out note) → number ≡ number_of s → out ≡ held
-    → (s ≡ status.Done → (left : Option (List ℕ)) × IsOutput words (Some text) left held) → (s ≡ status.Usage ↔ (AreKnown words → ⊥))
+    → (s ≡ status.Done → IsWritten words text held) → (s ≡ status.Usage ↔ (AreKnown words → ⊥))
     → v ≡ verdict.AsExpected → AreAsExpected e report words text
 words_as_expected v e report words text s number out held note h n o done usage expected =
-    let written : number ≡ 0 → (left : Option (List ℕ)) × IsOutput words (Some text) left out = λ z. let d = done (is_done s (sym n ∙ z)) in (d.0, subst (λ t. IsOutput words (Some text) d.0 t) (sym o) d.1) in
+    let written : number ≡ 0 → IsWritten words text out = λ z. subst (IsWritten words text) (sym o) (done (is_done s (sym n ∙ z))) in
     record {
       number = number;
       out = out;

@@ -1,3 +1,4 @@
 pub mod Expectations
 pub mod Printed
 pub mod Words
+pub mod Written

@@ -4,8 +4,8 @@ use Rattle.perf_base.specs.Scripts.{Scripted}
 use Rattle.script_spec.specs.Texts.{StandsFor}
 use Rattle.script_spec.specs.Printing as printing
 use Rattle.perf_top.specs.Notes.{number_of}
-use Rattle.perf_top.specs.Outcome.{IsReplayed}
 use Rattle.worked_cases.specs.Expectations.{Allows, has_script}
+use Rattle.worked_cases.specs.Written.{IsReplayed}
 use Rattle.worked_cases.specs.declared.case.Expected.{Expected}
 use Rattle.worked_cases.specs.declared.again.Again.{Again}
 use Rattle.worked_cases.specs.declared.again.Again.TheVariants as again

@@ -1,7 +1,8 @@
 -- How the words of a worked case went, with the text that was given to them. This project's own profile.
-use Rattle.std.specs.Prelude.{◌≡◌, ◌↔◌, ℕ, List, Option, Some}
-use Rattle.perf_top.specs.Outcome.{AreKnown, IsOutput}
+use Rattle.std.specs.Prelude.{◌≡◌, ◌↔◌, ℕ, List}
+use Rattle.perf_top.specs.Asking.{AreKnown}
 use Rattle.worked_cases.specs.Expectations.{Allows}
+use Rattle.worked_cases.specs.Written.{IsWritten}
 use Rattle.worked_cases.specs.declared.case.Expected.{Expected}
 
 -- The words ended as the case allows, beside a source that had the text: what was written under 0 is what they have
@@ -11,5 +12,5 @@ pub record AreAsExpected (e : Expected) (report : List ℕ) (words : List (List 
   pub out : List ℕ
   pub note : List ℕ
   pub allowed : Allows e report number out note
-  pub written : number ≡ 0 → (left : Option (List ℕ)) × IsOutput words (Some text) left out
+  pub written : number ≡ 0 → IsWritten words text out
   pub unknown : number ≡ 5 ↔ (AreKnown words → ⊥)

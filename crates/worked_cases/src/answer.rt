@@ -1,8 +1,9 @@
 //! The top call over memory.
 
-ghost use Rattle.std.specs.Prelude.{◌≡◌, ◌↔◌, ℕ, List, [], ◌∷◌, codes, map, Option, Some, IfOk, string_bytes};
+ghost use Rattle.std.specs.Prelude.{◌≡◌, ◌↔◌, ℕ, [], ◌∷◌, codes, map, IfOk, string_bytes};
 ghost use Rattle.perf_top.specs.Notes.{number_of};
-ghost use Rattle.perf_top.specs.Outcome.{AreKnown, IsOutput, IsReplayed, IsBadOrder, IsBadScript};
+ghost use Rattle.perf_top.specs.Asking.{AreKnown};
+ghost use Rattle.worked_cases.specs.Written.{IsBadOrder, IsBadScript, IsReplayed, IsWritten};
 
 use crate::verdict::Ending;
 use perf_base::{NoMemory, RingNo, SReason};
@@ -53,7 +54,7 @@ pub fn answer_of<R: Threads + Wait + Sync>(
     words: &[String],
     text: Vec<u8>,
 ) -> Result<Answer, NoMemory>
-    ensures done { IfOk result (λ answer. answer.status ≡ Status.Done → (left : Option (List ℕ)) × IsOutput (map string_bytes words.now) (Some text.items) left answer.out.held) }
+    ensures done { IfOk result (λ answer. answer.status ≡ Status.Done → IsWritten (map string_bytes words.now) text.items answer.out.held) }
     ensures bad_script { IfOk result (λ answer. (line : ℕ) → (reason : SReason) → answer.status ≡ Status.BadScript line reason → IsBadScript (map string_bytes words.now) text.items line reason) }
     ensures bad_order { IfOk result (λ answer. (index : ℕ) → (ring : RingNo) → (last : ℕ) → (head : ℕ) → (given : ℕ) → answer.status ≡ Status.BadOrder index ring last head given → IsBadOrder text.items index ring last head given) }
     ensures usage { IfOk result (λ answer. answer.status ≡ Status.Usage ↔ (AreKnown (map string_bytes words.now) → ⊥)) }

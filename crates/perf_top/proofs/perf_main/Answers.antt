@@ -1,23 +1,18 @@
-use Rattle.std.proofs.Common.{inl, inr, sym, ◌∙◌}
-use Rattle.perf_top.proofs.Commands.{attr_of}
+use Rattle.std.specs.Prelude.{map, string_bytes}
+use Rattle.std.proofs.Common.{subst, sym}
+use Rattle.perf_top.specs.Outcome.{IsAnswer, IsDone}
+use Rattle.perf_top.specs.declared.asked.Asked.{Asked}
+use Rattle.perf_top.proofs.Asking.{for-asked}
+use Rattle.perf_top.proofs.Whole.{whole}
 use Rattle.perf_top.proofs.perf_main.Goals as goal
 
-pub returns-in-Some-attr_word-clause-done : goal.returns-in-Some-attr_word-clause-done
-returns-in-Some-attr_word-clause-done g c = λ e.
-    let h = c.print_attr.ensures.done (sym c.noted-in-Some-attr_word.ensures.same ∙ e) in (
-      h.1,
-      inr (inr (inr (inr (h.0, attr_of _ _ h.0 c.in-Some-attr_word.ensures h.2 (sym c.as_bytes.ensures.value ∙ h.3), h.4)))),
-      h.5,
-      h.6,
-      c.noted-in-Some-attr_word.ensures.done e,
-    )
-
-pub returns-in-Some-attr_word-clause-write_fault : goal.returns-in-Some-attr_word-clause-write_fault
-returns-in-Some-attr_word-clause-write_fault g c = λ e.
-    let h = c.print_attr.ensures.fault (sym c.noted-in-Some-attr_word.ensures.same ∙ e) in
-    (h.1, inr (inr (inr (inr (h.0, attr_of _ _ h.0 c.in-Some-attr_word.ensures h.2 (sym c.as_bytes.ensures.value ∙ h.3), h.4)))), h.5)
-
-pub returns-then-is_stat-clause-write_fault : goal.returns-then-is_stat-clause-write_fault
-returns-then-is_stat-clause-write_fault g c = λ e.
-    let h = c.tabulate_all.ensures.write_fault (sym c.noted-then-is_stat.ensures.same ∙ e) in
-    (h.1, inr (inr (inl (c.is_stat.ensures.0 c.if-is_stat.true, (h.0, h.2, h.3)))), h.4)
+pub returns-in-Some-clause-complete : goal.returns-in-Some-clause-complete
+returns-in-Some-clause-complete g c = λ a asks can calm_source calm_sink.
+    subst (IsDone a) (sym c.noted-in-Some.ensures.same)
+    (whole g.S.Source.shows g.K.Sink.shows a c.answer.result c.args.source.now c.answer.new.source
+    c.args.sink.now c.answer.new.sink
+    (for-asked
+    (λ (x : Asked). IsAnswer g.S.Source.shows g.K.Sink.shows x c.answer.result c.args.source.now
+    c.answer.new.source c.args.sink.now c.answer.new.sink)
+    (map string_bytes c.args.words.now) c.in-Some.asked a c.in-Some.ensures c.answer.ensures.answer asks)
+    can calm_source calm_sink)

@@ -5,9 +5,9 @@ use Rattle.perf_io.proofs.writing.write_all.Given as goal
 abbrev pub invariant-loop-done : goal.invariant-loop-done
 invariant-loop-done g l = record {
   within : l.done ≤ length l.piece;
-  count : g.K.Sink.faults l.initial.sink ≤ g.K.Sink.faults l.sink;
-  added : Adds (g.K.Sink.held l.initial.sink) (g.K.Sink.held l.sink) (take l.done l.piece);
-  flushed : g.K.Sink.flushed l.sink ≡ g.K.Sink.flushed l.initial.sink;
+  count : g.K.Sink.shows.faults l.initial.sink ≤ g.K.Sink.shows.faults l.sink;
+  added : Adds (g.K.Sink.shows.held l.initial.sink) (g.K.Sink.shows.held l.sink) (take l.done l.piece);
+  flushed : g.K.Sink.shows.flushed l.sink ≡ g.K.Sink.shows.flushed l.initial.sink;
   nothing : length l.piece ≡ 0 → l.sink ≡ l.initial.sink;
 }
 

@@ -7,6 +7,6 @@ invariant-loop g l = record {
   room : 4194305 ≤ vec_capacity l.text;
   short : length l.text.items ≤ 4194304;
   counted : l.counter ≤ length l.text.items;
-  taken : Takes (g.S.Source.left l.fn.source) (g.S.Source.left l.source) l.text.items;
-  count : g.S.Source.faults l.fn.source ≤ g.S.Source.faults l.source;
+  taken : Takes (g.S.Source.shows.left l.fn.source) (g.S.Source.shows.left l.source) l.text.items;
+  count : g.S.Source.shows.faults l.fn.source ≤ g.S.Source.shows.faults l.source;
 }

@@ -5,6 +5,6 @@ use Rattle.report.proofs.answers.write_answers.Given as goal
 
 abbrev pub invariant-loop-answer : goal.invariant-loop-answer
 invariant-loop-answer g l = record {
-  wrote : Wrote g.K.Sink.held g.K.Sink.faults g.K.Sink.last_fault l.fn.sink l.sink (Ok tt) (answer_lines l.script (take l.answer-index l.answers));
-  flushed : g.K.Sink.flushed l.sink ≡ g.K.Sink.flushed l.fn.sink;
+  wrote : Wrote g.K.Sink.shows l.fn.sink l.sink (Ok tt) (answer_lines l.script (take l.answer-index l.answers));
+  flushed : g.K.Sink.shows.flushed l.sink ≡ g.K.Sink.shows.flushed l.fn.sink;
 }

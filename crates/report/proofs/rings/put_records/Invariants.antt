@@ -8,9 +8,9 @@ use Rattle.report.proofs.rings.put_records.Given as goal
 abbrev pub invariant-loop-rest : goal.invariant-loop-rest
 invariant-loop-rest g l = record {
   place : l.place + 8 * length l.rest ≡ 8 * length l.words;
-  wrote : (after : g.row.K.Denot) (r : Result (Unit {0}) Failed) → Wrote g.K.Sink.held g.K.Sink.faults g.K.Sink.last_fault l.sink after r (cut_lines l.tail l.place (cut_records l.rest))
-      → Wrote g.K.Sink.held g.K.Sink.faults g.K.Sink.last_fault l.fn.sink after r (cut_lines l.tail 0 (cut_records l.words));
-  flushed : g.K.Sink.flushed l.sink ≡ g.K.Sink.flushed l.fn.sink;
+  wrote : (after : g.row.K.Denot) (r : Result (Unit {0}) Failed) → Wrote g.K.Sink.shows l.sink after r (cut_lines l.tail l.place (cut_records l.rest))
+      → Wrote g.K.Sink.shows l.fn.sink after r (cut_lines l.tail 0 (cut_records l.words));
+  flushed : g.K.Sink.shows.flushed l.sink ≡ g.K.Sink.shows.flushed l.fn.sink;
 }
 
 abbrev pub decreases-loop-rest : goal.decreases-loop-rest

@@ -5,6 +5,6 @@ use Rattle.report.proofs.rings.put_words.Given as goal
 
 abbrev pub invariant-loop-word : goal.invariant-loop-word
 invariant-loop-word g l = record {
-  wrote : Wrote g.K.Sink.held g.K.Sink.faults g.K.Sink.last_fault l.fn.sink l.sink (Ok tt) (words_text (take l.word-index l.words));
-  flushed : g.K.Sink.flushed l.sink ≡ g.K.Sink.flushed l.fn.sink;
+  wrote : Wrote g.K.Sink.shows l.fn.sink l.sink (Ok tt) (words_text (take l.word-index l.words));
+  flushed : g.K.Sink.shows.flushed l.sink ≡ g.K.Sink.shows.flushed l.fn.sink;
 }

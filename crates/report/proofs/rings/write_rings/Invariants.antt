@@ -6,7 +6,7 @@ use Rattle.report.proofs.rings.write_rings.Given as goal
 
 abbrev pub invariant-loop-end : goal.invariant-loop-end
 invariant-loop-end g l = record {
-  wrote : Wrote g.K.Sink.held g.K.Sink.faults g.K.Sink.last_fault l.fn.sink l.sink (Ok tt)
+  wrote : Wrote g.K.Sink.shows l.fn.sink l.sink (Ok tt)
       (all_told (map (λ e. (e.ring, e.numbers, words_in l.ended.ins e.ring)) (take l.end-index l.end-items)));
-  flushed : g.K.Sink.flushed l.sink ≡ g.K.Sink.flushed l.fn.sink;
+  flushed : g.K.Sink.shows.flushed l.sink ≡ g.K.Sink.shows.flushed l.fn.sink;
 }

@@ -6,6 +6,6 @@ use Rattle.report.proofs.said.put_seats.Given as goal
 
 abbrev pub invariant-loop-seat : goal.invariant-loop-seat
 invariant-loop-seat g l = record {
-  wrote : Wrote g.K.Sink.held g.K.Sink.faults g.K.Sink.last_fault l.fn.sink l.sink (Ok tt) (flat_map seat_text (take l.seat-index l.seats));
-  flushed : g.K.Sink.flushed l.sink ≡ g.K.Sink.flushed l.fn.sink;
+  wrote : Wrote g.K.Sink.shows l.fn.sink l.sink (Ok tt) (flat_map seat_text (take l.seat-index l.seats));
+  flushed : g.K.Sink.shows.flushed l.sink ≡ g.K.Sink.shows.flushed l.fn.sink;
 }

@@ -5,6 +5,6 @@ use Rattle.report.proofs.said.put_slots.Given as goal
 
 abbrev pub invariant-loop-slot : goal.invariant-loop-slot
 invariant-loop-slot g l = record {
-  wrote : Wrote g.K.Sink.held g.K.Sink.faults g.K.Sink.last_fault l.fn.sink l.sink (Ok tt) (slots_text (take l.slot-index l.slots));
-  flushed : g.K.Sink.flushed l.sink ≡ g.K.Sink.flushed l.fn.sink;
+  wrote : Wrote g.K.Sink.shows l.fn.sink l.sink (Ok tt) (slots_text (take l.slot-index l.slots));
+  flushed : g.K.Sink.shows.flushed l.sink ≡ g.K.Sink.shows.flushed l.fn.sink;
 }

@@ -4,4 +4,4 @@ use Rattle.script_print.proofs.Loops.{IsWritten}
 use Rattle.script_print.proofs.cpu_lines.put_hits.Given as goal
 
 abbrev pub invariant-loop-kind : goal.invariant-loop-kind
-invariant-loop-kind g l = IsWritten g.K.Sink.held g.K.Sink.faults g.K.Sink.last_fault g.K.Sink.flushed l.fn.sink l.sink (hits_text (take l.kind l.script.kinds) l.hits)
+invariant-loop-kind g l = IsWritten g.K.Sink.shows l.fn.sink l.sink (hits_text (take l.kind l.script.kinds) l.hits)

@@ -6,4 +6,4 @@ use Rattle.script_print.proofs.Loops.{IsWritten}
 use Rattle.script_print.proofs.cpu_lines.put_processors.Given as goal
 
 abbrev pub invariant-loop-cpu : goal.invariant-loop-cpu
-invariant-loop-cpu g l = IsWritten g.K.Sink.held g.K.Sink.faults g.K.Sink.last_fault g.K.Sink.flushed l.fn.sink l.sink (flat_map line_text (flat_map (λ p. processor_forms l.script.kinds p (slice_index_or l.script.cpu_lines p [])) (take l.cpu all_cpus)))
+invariant-loop-cpu g l = IsWritten g.K.Sink.shows l.fn.sink l.sink (flat_map line_text (flat_map (λ p. processor_forms l.script.kinds p (slice_index_or l.script.cpu_lines p [])) (take l.cpu all_cpus)))

@@ -5,4 +5,4 @@ use Rattle.script_print.proofs.Loops.{IsWritten}
 use Rattle.script_print.proofs.declared.put_kinds.Given as goal
 
 abbrev pub invariant-loop-kind : goal.invariant-loop-kind
-invariant-loop-kind g l = IsWritten g.K.Sink.held g.K.Sink.faults g.K.Sink.last_fault g.K.Sink.flushed l.fn.sink l.sink (flat_map line_text (map (kind_form (length l.script.pmus)) (take l.kind l.script.kinds)))
+invariant-loop-kind g l = IsWritten g.K.Sink.shows l.fn.sink l.sink (flat_map line_text (map (kind_form (length l.script.pmus)) (take l.kind l.script.kinds)))

@@ -5,4 +5,4 @@ use Rattle.script_print.proofs.Loops.{IsWritten}
 use Rattle.script_print.proofs.declared.put_pmus.Given as goal
 
 abbrev pub invariant-loop-pmu : goal.invariant-loop-pmu
-invariant-loop-pmu g l = IsWritten g.K.Sink.held g.K.Sink.faults g.K.Sink.last_fault g.K.Sink.flushed l.fn.sink l.sink (flat_map line_text (pmu_forms 0 (take l.pmu l.script.pmus)))
+invariant-loop-pmu g l = IsWritten g.K.Sink.shows l.fn.sink l.sink (flat_map line_text (pmu_forms 0 (take l.pmu l.script.pmus)))

@@ -5,4 +5,4 @@ use Rattle.script_print.proofs.Loops.{IsWritten}
 use Rattle.script_print.proofs.entries.put_entries.Given as goal
 
 abbrev pub invariant-loop-entry : goal.invariant-loop-entry
-invariant-loop-entry g l = IsWritten g.K.Sink.held g.K.Sink.faults g.K.Sink.last_fault g.K.Sink.flushed l.fn.sink l.sink (text (map (g.E.Entry.form l.script) (take l.entry-index l.entries)))
+invariant-loop-entry g l = IsWritten g.K.Sink.shows l.fn.sink l.sink (text (map (g.E.Entry.form l.script) (take l.entry-index l.entries)))

@@ -6,4 +6,4 @@ use Rattle.script_print.proofs.Loops.{IsWritten}
 use Rattle.script_print.proofs.tool_lines.put_tools.Given as goal
 
 abbrev pub invariant-loop-tool : goal.invariant-loop-tool
-invariant-loop-tool g l = IsWritten g.K.Sink.held g.K.Sink.faults g.K.Sink.last_fault g.K.Sink.flushed l.fn.sink l.sink (flat_map line_text (flat_map (λ p. tool_forms l.script.kinds p (slice_index_or l.script.tool_lines p [])) (take l.tool all_tools)))
+invariant-loop-tool g l = IsWritten g.K.Sink.shows l.fn.sink l.sink (flat_map line_text (flat_map (λ p. tool_forms l.script.kinds p (slice_index_or l.script.tool_lines p [])) (take l.tool all_tools)))

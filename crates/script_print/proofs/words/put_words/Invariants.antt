@@ -4,4 +4,4 @@ use Rattle.script_print.proofs.Loops.{IsWritten}
 use Rattle.script_print.proofs.words.put_words.Given as goal
 
 abbrev pub invariant-loop-word : goal.invariant-loop-word
-invariant-loop-word g l = IsWritten g.K.Sink.held g.K.Sink.faults g.K.Sink.last_fault g.K.Sink.flushed l.fn.sink l.sink (spaced (all_word_texts (take l.word-index l.words)))
+invariant-loop-word g l = IsWritten g.K.Sink.shows l.fn.sink l.sink (spaced (all_word_texts (take l.word-index l.words)))

@@ -9,9 +9,10 @@ invariant-loop-self g l =
     let before = l.initial.self.sink.now in
     record {
       same_reference : l.self.sink.ghost_name ≡ l.initial.self.sink.ghost_name;
-      count : K.faults before ≤ K.faults now;
-      held : with_room g.B.Behind.start (K.held now) l.self.room ≡ with_room g.B.Behind.start (K.held before) l.initial.self.room;
-      flushed : K.flushed now ≡ K.flushed before;
+      count : K.shows.faults before ≤ K.shows.faults now;
+      held : with_room g.B.Behind.start (K.shows.held now) l.self.room ≡ with_room g.B.Behind.start (K.shows.held before) l.initial.self.room;
+      flushed : K.shows.flushed now ≡ K.shows.flushed before;
+      flushes : l.self.flushes ≡ l.initial.self.flushes;
     }
 
 abbrev pub decreases-loop-self : goal.decreases-loop-self

@@ -7,8 +7,8 @@ invariant-loop-done g l =
     let K = g.K.Sink in
     record {
       within : l.done ≤ length l.bytes;
-      wrote : Wrote K.held K.faults K.last_fault l.initial.sink l.sink (Ok tt) (take l.done l.bytes);
-      flushed : K.flushed l.sink ≡ K.flushed l.initial.sink;
+      wrote : Wrote K.shows l.initial.sink l.sink (Ok tt) (take l.done l.bytes);
+      flushed : K.shows.flushed l.sink ≡ K.shows.flushed l.initial.sink;
     }
 
 abbrev pub decreases-loop-done : goal.decreases-loop-done
