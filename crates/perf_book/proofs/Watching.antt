@@ -66,7 +66,7 @@ look-follows follows s order p sums h is =
     (subst (λ (looks : List Look). MayFollow looks (look_after s (h.front ++ h.last ∷ []) p.event)) (sym h.published) (follows s h.front h.last p.event).1)
 
 -- looks at rings add none
-rings-add : RingsLaw → (s : Scripted) (order looks : List Act) (from : ℕ) (before : List Act) (e : EventNo) → AreLooks from before looks
+pub rings-add : RingsLaw → (s : Scripted) (order looks : List Act) (from : ℕ) (before : List Act) (e : EventNo) → AreLooks from before looks
     → published_looks s (order ++ looks) e ≡ published_looks s order e
 rings-add add-none s order [] from before e h = ap (λ o. published_looks s o e) (append-nil order)
 rings-add add-none s order (act.Processor cpu ∷ looks) from before e h = absurd h

@@ -1,5 +1,5 @@
 -- What words ask for.
-use Rattle.std.specs.Prelude.{◌≡◌, ℕ, ◌+◌, ◌*◌, ◌≤◌, List, [], ◌∷◌, codes, decimal, flat_map, length, MatchOption, Option, Ok, Result}
+use Rattle.std.specs.Prelude.{◌≡◌, ℕ, ◌+◌, ◌*◌, ◌<◌, ◌≤◌, List, [], ◌∷◌, codes, decimal, flat_map, length, MatchOption, Option, Ok, Result}
 use Rattle.std.specs.Str.Parse.{ParsesUnsigned}
 use Rattle.std.proofs.Common.{arith, ap, refl, subst, sym, ◌∙◌}
 use Rattle.std.proofs.lemmas.Fmt.{decimal_injective, parse-decimal}
@@ -39,6 +39,7 @@ mark_of asked.Run = 103114
 mark_of asked.Stat = 104115
 mark_of (asked.Make n) = 204109
 mark_of (asked.MadeScript n) = 304109
+mark_of (asked.Watch w) = 305119
 mark_of (asked.Attr bytes) = 204097
 
 marked : (words : List (List ℕ)) (a : Asked) → Asks words a → mark words ≡ mark_of a
@@ -47,6 +48,7 @@ marked words asked.Run h = ap mark h
 marked words asked.Stat h = ap mark h
 marked words (asked.Make n) h = ap mark h.1
 marked words (asked.MadeScript n) h = ap mark h.1
+marked words (asked.Watch w) h = ap mark h.1
 marked words (asked.Attr bytes) h = ap mark h.1
 
 same-bytes : (bs cs : List ℕ) → AreBytes bs → AreBytes cs → flat_map byte_text bs ≡ flat_map byte_text cs → bs ≡ cs
@@ -63,6 +65,11 @@ same words (asked.Make m) (asked.Make n) h k e = ap asked.Make (decimal_injectiv
 same words (asked.Make m) b h k e = absurd (omega (arith, e))
 same words (asked.MadeScript m) (asked.MadeScript n) h k e = ap asked.MadeScript (decimal_injective m n (omega (arith, h.0.1)) (omega (arith, k.0.1)) (ap second_word (sym h.1 ∙ k.1)))
 same words (asked.MadeScript m) b h k e = absurd (omega (arith, e))
+same words (asked.Watch v) (asked.Watch w) h k e =
+    let slot : v.0 ≡ w.0 = decimal_injective v.0 w.0 (omega (arith, h.0.0)) (omega (arith, k.0.0)) (ap second_word (sym h.1 ∙ k.1)) in
+    let looks : v.1 ≡ w.1 = decimal_injective v.1 w.1 (omega (arith, h.0.2)) (omega (arith, k.0.2)) (ap third_word (sym h.1 ∙ k.1)) in
+    λ i. asked.Watch (slot i, looks i)
+same words (asked.Watch v) b h k e = absurd (omega (arith, e))
 same words (asked.Attr bs) (asked.Attr cs) h k e = ap asked.Attr (same-bytes bs cs h.0 k.0 (ap second_word (sym h.1 ∙ k.1)))
 same words (asked.Attr bs) b h k e = absurd (omega (arith, e))
 
@@ -74,13 +81,13 @@ one-asked words a b h k = same words a b h k (sym (marked words a h) ∙ marked 
 pub for-asked : (P : Asked → Type 0) (words : List (List ℕ)) (a b : Asked) → Asks words a → P a → Asks words b → P b
 for-asked P words a b h p k = subst P (one-asked words a b h k) p
 
--- a word that is the number of some rounds is read as that number
-pub read-rounds : {E : Type 0} (n : ℕ) (word : List ℕ) (r : Result ℕ E) → n ≤ 1000 → word ≡ decimal n → ParsesUnsigned 32 10 word r → r ≡ Ok n
-read-rounds n word r few is parsed = parse-decimal 32 n word r (omega (arith, few)) (omega (arith, few)) is parsed
+-- a word that is a small number is read as that number
+pub read-number : {E : Type 0} (n : ℕ) (word : List ℕ) (r : Result ℕ E) → n < 4294967296 → word ≡ decimal n → ParsesUnsigned 32 10 word r → r ≡ Ok n
+read-number n word r few is parsed = parse-decimal 32 n word r (omega (arith, few)) (omega (arith, few)) is parsed
 
-pub same-rounds : {E : Type 0} (m n : ℕ) (word : List ℕ) (r : Result ℕ E) → n ≤ 1000 → word ≡ decimal n → ParsesUnsigned 32 10 word r → r ≡ Ok m → n ≡ m
-same-rounds m n word r few is parsed e =
-    let read : r ≡ Ok n = read-rounds n word r few is parsed in
+pub same-number : {E : Type 0} (m n : ℕ) (word : List ℕ) (r : Result ℕ E) → n < 4294967296 → word ≡ decimal n → ParsesUnsigned 32 10 word r → r ≡ Ok m → n ≡ m
+same-number m n word r few is parsed e =
+    let read : r ≡ Ok n = read-number n word r few is parsed in
     cc
 
 -- the words that ask for nothing
@@ -90,6 +97,7 @@ none-one word p q r (asked.Run, h) = q (ap head_word h)
 none-one word p q r (asked.Stat, h) = r (ap head_word h)
 none-one word p q r (asked.Make n, h) = let l : 1 ≡ 2 = ap length h.1 in omega (arith, l)
 none-one word p q r (asked.MadeScript n, h) = let l : 1 ≡ 3 = ap length h.1 in omega (arith, l)
+none-one word p q r (asked.Watch w, h) = let l : 1 ≡ 3 = ap length h.1 in omega (arith, l)
 none-one word p q r (asked.Attr bytes, h) = let l : 1 ≡ 2 = ap length h.1 in omega (arith, l)
 
 pub none-two : (first second : List ℕ) → (first ≡ codes "make" → ⊥) → (first ≡ codes "attr" → ⊥) → AreKnown (first ∷ second ∷ []) → ⊥
@@ -98,15 +106,17 @@ none-two first second p q (asked.Run, h) = let l : 2 ≡ 1 = ap length h in omeg
 none-two first second p q (asked.Stat, h) = let l : 2 ≡ 1 = ap length h in omega (arith, l)
 none-two first second p q (asked.Make n, h) = p (ap head_word h.1)
 none-two first second p q (asked.MadeScript n, h) = let l : 2 ≡ 3 = ap length h.1 in omega (arith, l)
+none-two first second p q (asked.Watch w, h) = let l : 2 ≡ 3 = ap length h.1 in omega (arith, l)
 none-two first second p q (asked.Attr bytes, h) = q (ap head_word h.1)
 
-pub none-three : (first second third : List ℕ) → (first ≡ codes "make" → third ≡ codes "script" → ⊥) → AreKnown (first ∷ second ∷ third ∷ []) → ⊥
-none-three first second third p (asked.Replay, h) = let l : 3 ≡ 1 = ap length h in omega (arith, l)
-none-three first second third p (asked.Run, h) = let l : 3 ≡ 1 = ap length h in omega (arith, l)
-none-three first second third p (asked.Stat, h) = let l : 3 ≡ 1 = ap length h in omega (arith, l)
-none-three first second third p (asked.Make n, h) = let l : 3 ≡ 2 = ap length h.1 in omega (arith, l)
-none-three first second third p (asked.MadeScript n, h) = p (ap head_word h.1) (ap third_word h.1)
-none-three first second third p (asked.Attr bytes, h) = let l : 3 ≡ 2 = ap length h.1 in omega (arith, l)
+pub none-three : (first second third : List ℕ) → (first ≡ codes "make" → third ≡ codes "script" → ⊥) → (first ≡ codes "watch" → ⊥) → AreKnown (first ∷ second ∷ third ∷ []) → ⊥
+none-three first second third p q (asked.Replay, h) = let l : 3 ≡ 1 = ap length h in omega (arith, l)
+none-three first second third p q (asked.Run, h) = let l : 3 ≡ 1 = ap length h in omega (arith, l)
+none-three first second third p q (asked.Stat, h) = let l : 3 ≡ 1 = ap length h in omega (arith, l)
+none-three first second third p q (asked.Make n, h) = let l : 3 ≡ 2 = ap length h.1 in omega (arith, l)
+none-three first second third p q (asked.MadeScript n, h) = p (ap head_word h.1) (ap third_word h.1)
+none-three first second third p q (asked.Watch w, h) = q (ap head_word h.1)
+none-three first second third p q (asked.Attr bytes, h) = let l : 3 ≡ 2 = ap length h.1 in omega (arith, l)
 
 pub none-other : (words : List (List ℕ)) → (length words ≡ 1 → ⊥) → (length words ≡ 2 → ⊥) → (length words ≡ 3 → ⊥) → AreKnown words → ⊥
 none-other words p q r (asked.Replay, h) = p (ap length h)
@@ -114,6 +124,7 @@ none-other words p q r (asked.Run, h) = p (ap length h)
 none-other words p q r (asked.Stat, h) = p (ap length h)
 none-other words p q r (asked.Make n, h) = q (ap length h.1)
 none-other words p q r (asked.MadeScript n, h) = r (ap length h.1)
+none-other words p q r (asked.Watch w, h) = r (ap length h.1)
 none-other words p q r (asked.Attr bytes, h) = q (ap length h.1)
 
 -- `make` and a word that says no rounds, and `attr` and one that spells no bytes
@@ -123,6 +134,7 @@ none-make word none (asked.Replay, h) = let l : 2 ≡ 1 = ap length h in omega (
 none-make word none (asked.Run, h) = let l : 2 ≡ 1 = ap length h in omega (arith, l)
 none-make word none (asked.Stat, h) = let l : 2 ≡ 1 = ap length h in omega (arith, l)
 none-make word none (asked.MadeScript n, h) = let l : 2 ≡ 3 = ap length h.1 in omega (arith, l)
+none-make word none (asked.Watch w, h) = let l : 2 ≡ 3 = ap length h.1 in omega (arith, l)
 none-make word none (asked.Attr bytes, h) = let l : 109 ≡ 97 = ap (λ ws. first_byte (head_word ws)) h.1 in omega (arith, l)
 
 pub none-script : (word : List ℕ) → ((n : ℕ) → 1 ≤ n → n ≤ 1000 → word ≡ decimal n → ⊥) → AreKnown (codes "make" ∷ word ∷ codes "script" ∷ []) → ⊥
@@ -131,6 +143,7 @@ none-script word none (asked.Replay, h) = let l : 3 ≡ 1 = ap length h in omega
 none-script word none (asked.Run, h) = let l : 3 ≡ 1 = ap length h in omega (arith, l)
 none-script word none (asked.Stat, h) = let l : 3 ≡ 1 = ap length h in omega (arith, l)
 none-script word none (asked.Make n, h) = let l : 3 ≡ 2 = ap length h.1 in omega (arith, l)
+none-script word none (asked.Watch w, h) = let l : 109 ≡ 119 = ap (λ ws. first_byte (head_word ws)) h.1 in omega (arith, l)
 none-script word none (asked.Attr bytes, h) = let l : 3 ≡ 2 = ap length h.1 in omega (arith, l)
 
 pub none-attr : (word : List ℕ) → ((bytes : List ℕ) → AreBytes bytes → word ≡ flat_map byte_text bytes → ⊥) → AreKnown (codes "attr" ∷ word ∷ []) → ⊥
@@ -139,7 +152,17 @@ none-attr word none (asked.Replay, h) = let l : 2 ≡ 1 = ap length h in omega (
 none-attr word none (asked.Run, h) = let l : 2 ≡ 1 = ap length h in omega (arith, l)
 none-attr word none (asked.Stat, h) = let l : 2 ≡ 1 = ap length h in omega (arith, l)
 none-attr word none (asked.Make n, h) = let l : 97 ≡ 109 = ap (λ ws. first_byte (head_word ws)) h.1 in omega (arith, l)
+none-attr word none (asked.Watch w, h) = let l : 2 ≡ 3 = ap length h.1 in omega (arith, l)
 none-attr word none (asked.MadeScript n, h) = let l : 2 ≡ 3 = ap length h.1 in omega (arith, l)
+
+pub none-watch : (slot looks : List ℕ) → ((n m : ℕ) → n ≤ 255 → 1 ≤ m → m ≤ 65536 → slot ≡ decimal n → looks ≡ decimal m → ⊥) → AreKnown (codes "watch" ∷ slot ∷ looks ∷ []) → ⊥
+none-watch slot looks none (asked.Watch w, h) = none w.0 w.1 h.0.0 h.0.1 h.0.2 (ap second_word h.1) (ap third_word h.1)
+none-watch slot looks none (asked.Replay, h) = let l : 3 ≡ 1 = ap length h in omega (arith, l)
+none-watch slot looks none (asked.Run, h) = let l : 3 ≡ 1 = ap length h in omega (arith, l)
+none-watch slot looks none (asked.Stat, h) = let l : 3 ≡ 1 = ap length h in omega (arith, l)
+none-watch slot looks none (asked.Make n, h) = let l : 3 ≡ 2 = ap length h.1 in omega (arith, l)
+none-watch slot looks none (asked.MadeScript n, h) = let l : 119 ≡ 109 = ap (λ ws. first_byte (head_word ws)) h.1 in omega (arith, l)
+none-watch slot looks none (asked.Attr bytes, h) = let l : 3 ≡ 2 = ap length h.1 in omega (arith, l)
 
 -- what words ask for is what the same words ask for
 pub by-words : (ws vs : List (List ℕ)) (r : Option Asked) → ws ≡ vs → MatchOption r (AreKnown vs → ⊥) (Asks vs) → MatchOption r (AreKnown ws → ⊥) (Asks ws)

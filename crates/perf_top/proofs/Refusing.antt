@@ -25,6 +25,7 @@ takes-memory a h = tt
 
 pub reads-script : (a : Asked) → DoesOrder a → ReadsScript a
 reads-script asked.Run h = tt
+reads-script (asked.Watch w) h = tt
 reads-script a h = h
 
 -- memory ran out before the first read, or behind the last one

@@ -8,13 +8,18 @@ use Rattle.perf_top.specs.declared.asked.Asked.TheVariants as asked
 abbrev pub AreRounds : ℕ → Type 0
 AreRounds n = (1 ≤ n) × (n ≤ 1000)
 
--- The words ask for this. Rounds stand in decimal without leading zeros, and bytes as two hexadecimal digits each.
+-- a slot of an event, and how often a watcher looks at it
+abbrev pub IsWatching : ℕ × ℕ → Type 0
+IsWatching w = (w.0 ≤ 255) × (1 ≤ w.1) × (w.1 ≤ 65536)
+
+-- The words ask for this. Numbers stand in decimal without leading zeros, and bytes as two hexadecimal digits each.
 abbrev pub Asks : List (List ℕ) → Asked → Type 0
 Asks words asked.Replay = words ≡ codes "replay" ∷ []
 Asks words asked.Run = words ≡ codes "run" ∷ []
 Asks words asked.Stat = words ≡ codes "stat" ∷ []
 Asks words (asked.Make n) = AreRounds n × (words ≡ codes "make" ∷ decimal n ∷ [])
 Asks words (asked.MadeScript n) = AreRounds n × (words ≡ codes "make" ∷ decimal n ∷ codes "script" ∷ [])
+Asks words (asked.Watch w) = IsWatching w × (words ≡ codes "watch" ∷ decimal w.0 ∷ decimal w.1 ∷ [])
 Asks words (asked.Attr bytes) = AreBytes bytes × (words ≡ codes "attr" ∷ flat_map byte_text bytes ∷ [])
 
 -- Words ask for at most one thing.
@@ -31,9 +36,16 @@ DoesOrder asked.Replay = ⊤
 DoesOrder asked.Stat = ⊤
 DoesOrder a = ⊥
 
+-- A script is run by threads.
+abbrev pub StartsThreads : Asked → Type 0
+StartsThreads asked.Run = ⊤
+StartsThreads (asked.Watch w) = ⊤
+StartsThreads a = ⊥
+
 -- A script is read.
 abbrev pub ReadsScript : Asked → Type 0
 ReadsScript asked.Run = ⊤
+ReadsScript (asked.Watch w) = ⊤
 ReadsScript a = DoesOrder a
 
 -- Memory is taken: only the line of an attribute takes none.

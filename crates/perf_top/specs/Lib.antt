@@ -2,3 +2,4 @@ pub mod Asking
 pub mod Attributes
 pub mod Notes
 pub mod Outcome
+pub mod Seeing

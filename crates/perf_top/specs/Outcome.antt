@@ -1,5 +1,5 @@
 -- What a call of the program reads, does and leaves. This project's own profile.
-use Rattle.std.specs.Prelude.{◌≡◌, ◌⊎◌, ◌<◌, ◌≤◌, ℕ, List, length, take, IfSome, Option, Some, Result, slice_get}
+use Rattle.std.specs.Prelude.{◌≡◌, ◌⊎◌, ◌<◌, ◌≤◌, ℕ, List, ◌++◌, length, take, IfSome, Option, Some, Result, slice_get}
 use Rattle.perf_base.specs.declared.acts.Act.{Act}
 use Rattle.perf_base.specs.declared.acts.Act.TheVariants as act
 use Rattle.perf_base.specs.declared.numbers.RingNo.{RingNo}
@@ -18,6 +18,7 @@ use Rattle.script_spec.specs.Lines.{lines_of}
 use Rattle.script_spec.specs.Printing.{printed}
 use Rattle.script_spec.specs.Texts.{IsRefused, StandsFor}
 use Rattle.report_spec.specs.Answers.{AreReadersParts, IsAnswered, IsRunShaped}
+use Rattle.report_spec.specs.Published.{IsWatched}
 use Rattle.report_spec.specs.Report.{report, rings_after}
 use Rattle.make_spec.specs.Rounds.{script_of_rounds}
 use Rattle.report.specs.Summary.{summary_text, totals_of}
@@ -65,11 +66,14 @@ pub record IsSummary (n : ℕ) (s : Scripted) (out : List ℕ) : Type 0 where
   pub answered : IsAnswered s s.order answers
   pub is : out ≡ summary_text n (totals_of s answers (rings_after s s.order))
 
--- What is written of a script, or of the bytes of an attribute.
+-- What is written of a script, or of the bytes of an attribute. Behind the report of a watched run stand the watcher's
+-- last look and the last one published.
 abbrev pub IsOutput : Asked → Scripted → List ℕ → Type 0
 IsOutput asked.Replay s out = IsReported s s.order out
 IsOutput asked.Run s out = (order : List Act) × IsRun s order × IsReported s order out
 IsOutput asked.Stat s out = IsLawfulOrder s s.order × (out ≡ table_text (rows_of s s.order))
+IsOutput (asked.Watch w) s out = (order : List Act) × (report_part : List ℕ) × (watch_part : List ℕ) × IsRun s order × IsReported s order report_part
+    × IsWatched s order (record { 0 = w.0 }) watch_part × (out ≡ report_part ++ watch_part)
 IsOutput (asked.Make n) s out = IsSummary n s out
 IsOutput (asked.MadeScript n) s out = out ≡ printed s
 IsOutput (asked.Attr bytes) s out = IsLineOf bytes out

@@ -1,11 +1,11 @@
 //! What words ask for.
 
 ghost use Rattle.std.specs.Prelude.{◌≡◌, ◌≤◌, ◌↔◌, ℕ, IsTrue, MatchOption, [], ◌∷◌, codes, decimal, map, string_bytes};
-ghost use Rattle.perf_top.specs.Asking.{AreKnown, AreRounds, Asks, OneAskedLaw};
+ghost use Rattle.perf_top.specs.Asking.{AreKnown, Asks, IsWatching, OneAskedLaw};
 
 use itoa::Buffer;
 use line_forms::{MOST_BYTES, read_bytes};
-use perf_base::ShortList;
+use perf_base::{EventNo, ShortList};
 use std::marker::Model;
 
 /// The fewest and the most rounds that a made script may have.
@@ -47,6 +47,53 @@ impl Rounds {
     }
 }
 
+/// The most looks of a watcher, and the greatest slot of an event.
+const MOST_LOOKS: u32 = 65536;
+
+const LAST_SLOT: u32 = 255;
+
+/// What a watcher looks at, and how often: the slot of an event, 0 to 255, and 1 to 65536 looks. Contracts see both.
+#[derive(Drop)]
+pub struct Watching {
+    slot: u16,
+    looks: u32,
+}
+
+impl Model for Watching {
+    ghost use Rattle.std.specs.Prelude.{◌≤◌, ℕ};
+
+    ghost Value = { ℕ × ℕ };
+
+    ghost view = { λ w. (w.slot, w.looks) };
+
+    ghost invariant = { λ w. (w.slot ≤ 255) × (1 ≤ w.looks) × (w.looks ≤ 65536) };
+}
+
+impl Watching {
+    /// So many looks at this slot.
+    fn new(slot: u16, looks: u32) -> Watching
+        requires { IsWatching (slot, looks) }
+        ensures { result ≡ (slot, looks) }
+    {
+        Watching { slot, looks }
+    }
+
+    /// The event.
+    pub fn event(&self) -> EventNo
+        ensures { result ≡ record { 0 = self.now.0 } }
+    {
+        EventNo(self.slot)
+    }
+
+    /// How many looks.
+    pub fn looks(&self) -> u32
+        ensures number { result ≡ self.now.1 }
+        ensures some { 1 ≤ result }
+    {
+        self.looks
+    }
+}
+
 /// What words ask for.
 #[derive(Drop)]
 pub enum Asked {
@@ -54,6 +101,8 @@ pub enum Asked {
     Replay,
     /// A script is read and run by threads; its report is written.
     Run,
+    /// A script is read and run by threads, with a watcher beside them; its report is written, and what was seen.
+    Watch(Watching),
     /// A script is read and its own order done; a table of what its events have counted is written.
     Stat,
     /// The script of so many rounds is made and its own order done; what its report sums up to is written.
@@ -64,15 +113,6 @@ pub enum Asked {
     Attr(ShortList<u8, MOST_BYTES>),
 }
 
-impl Asked {
-    /// Whether a run by threads is asked for.
-    pub fn is_run(&self) -> bool
-        ensures { IsTrue result ↔ (self.now ≡ Asked.Run) }
-    {
-        matches!(self, Asked::Run)
-    }
-}
-
 /// Whether a word is a number, in decimal without leading zeros.
 fn says(word: &str, number: u32) -> bool
     ensures { IsTrue result ↔ (word.now ≡ decimal number) }
@@ -81,23 +121,31 @@ fn says(word: &str, number: u32) -> bool
     word == buffer.format(number)
 }
 
-/// The number of rounds that a word says. None exactly where it says no number from 1 to 1000, or one with a zero too
-/// many in front.
-fn rounds_of(word: &str) -> Option<u32>
+/// The number that a word says. None exactly where it says no number between two, or one with a zero too many in front.
+fn number_of(word: &str, least: u32, most: u32) -> Option<u32>
     ensures { MatchOption result
-        ((n : ℕ) → 1 ≤ n → n ≤ 1000 → word.now ≡ decimal n → ⊥)
-        (λ n. (1 ≤ n) × (n ≤ 1000) × (word.now ≡ decimal n)) }
+        ((n : ℕ) → least ≤ n → n ≤ most → word.now ≡ decimal n → ⊥)
+        (λ n. (least ≤ n) × (n ≤ most) × (word.now ≡ decimal n)) }
 {
     match word.parse::<u32>() {
         Err(_) => None,
-        Ok(rounds) => {
-            if LEAST_ROUNDS <= rounds && rounds <= MOST_ROUNDS && says(word, rounds) {
-                Some(rounds)
+        Ok(number) => {
+            if least <= number && number <= most && says(word, number) {
+                Some(number)
             } else {
                 None
             }
         }
     }
+}
+
+/// The number of rounds that a word says.
+fn rounds_of(word: &str) -> Option<u32>
+    ensures { MatchOption result
+        ((n : ℕ) → 1 ≤ n → n ≤ 1000 → word.now ≡ decimal n → ⊥)
+        (λ n. (1 ≤ n) × (n ≤ 1000) × (word.now ≡ decimal n)) }
+{
+    number_of(word, LEAST_ROUNDS, MOST_ROUNDS)
 }
 
 /// What `make` and a word behind it ask for.
@@ -117,6 +165,19 @@ fn asked_by_script(word: &str) -> Option<Asked>
     match rounds_of(word) {
         None => None,
         Some(rounds) => Some(Asked::MadeScript(Rounds::new(rounds))),
+    }
+}
+
+/// What `watch` and two words behind it ask for.
+fn asked_by_watch(slot: &str, looks: &str) -> Option<Asked>
+    ensures { MatchOption result (AreKnown (codes "watch" ∷ slot.now ∷ looks.now ∷ []) → ⊥) (Asks (codes "watch" ∷ slot.now ∷ looks.now ∷ [])) }
+{
+    match number_of(slot, 0, LAST_SLOT) {
+        None => None,
+        Some(slot) => match number_of(looks, 1, MOST_LOOKS) {
+            None => None,
+            Some(looks) => Some(Asked::Watch(Watching::new(slot as u16, looks))),
+        },
     }
 }
 
@@ -160,6 +221,8 @@ fn asked_by_three(first: &str, second: &str, third: &str) -> Option<Asked>
 {
     if first == "make" && third == "script" {
         asked_by_script(second)
+    } else if first == "watch" {
+        asked_by_watch(second, third)
     } else {
         None
     }

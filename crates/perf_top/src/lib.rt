@@ -6,7 +6,7 @@
 
 ghost use Rattle.std.specs.Prelude.{◌≡◌, ◌⊎◌, ◌↔◌, ◌≤◌, map, string_bytes};
 ghost use Rattle.perf_io.specs.Outside.{Rose};
-ghost use Rattle.perf_top.specs.Asking.{AreKnown, Asks};
+ghost use Rattle.perf_top.specs.Asking.{AreKnown, Asks, StartsThreads};
 ghost use Rattle.perf_top.specs.Outcome.{CanBeDone, IsAnswer, IsDone, IsNoted};
 
 mod asked;
@@ -30,8 +30,9 @@ mod tests;
 mod text;
 #[cfg(test)]
 mod thread_tests;
+mod watching;
 
-pub use asked::{Asked, Rounds, asked_by, words_ask_one_thing};
+pub use asked::{Asked, Rounds, Watching, asked_by, words_ask_one_thing};
 pub use job::Job;
 pub use notes::put_note;
 use perf_book::Gate;
@@ -42,6 +43,7 @@ pub use status::Status;
 use std::alloc::Global;
 use std::sync::Wait;
 use std::thread::Threads;
+pub use watching::WatchJob;
 
 /// Answers what is asked for, but a run by threads: it reads, judges and takes all memory by `Job::reserve`, and then
 /// does and writes by `Job::finish`. It starts no thread and waits for nobody, so it returns.
@@ -51,7 +53,7 @@ pub fn answer_alone<S: Source, K: Sink>(
     source: &mut S,
     sink: &mut K,
 ) -> Status
-    requires alone { asked ≡ Asked.Run → ⊥ }
+    requires alone { StartsThreads asked → ⊥ }
     ensures counts { (S.shows.faults source.old ≤ S.shows.faults source.new) × (K.shows.faults sink.old ≤ K.shows.faults sink.new) }
     ensures answer { IsAnswer S.shows K.shows asked result source.old source.new sink.old sink.new }
 {
@@ -79,6 +81,24 @@ fn answer_run<R: Threads + Wait + Sync, S: Source, K: Sink, G: Gate + Sync>(
     }
 }
 
+/// The same where a watcher is asked for, by `WatchJob`.
+fn answer_watch<R: Threads + Wait + Sync, S: Source, K: Sink, G: Gate + Sync>(
+    rt: &R,
+    alloc: Global,
+    watching: Watching,
+    source: &mut S,
+    sink: &mut K,
+    gate: &G,
+) -> Status
+    ensures counts { (S.shows.faults source.old ≤ S.shows.faults source.new) × (K.shows.faults sink.old ≤ K.shows.faults sink.new) }
+    ensures answer { IsAnswer S.shows K.shows (Asked.Watch watching) result source.old source.new sink.old sink.new }
+{
+    match WatchJob::reserve(alloc, watching, source) {
+        Err(status) => status,
+        Ok(job) => job.finish::<R, K, G>(rt, sink, gate),
+    }
+}
+
 /// Answers what is asked for.
 fn answer<R: Threads + Wait + Sync, S: Source, K: Sink, G: Gate + Sync>(
     rt: &R,
@@ -91,10 +111,12 @@ fn answer<R: Threads + Wait + Sync, S: Source, K: Sink, G: Gate + Sync>(
     ensures counts { (S.shows.faults source.old ≤ S.shows.faults source.new) × (K.shows.faults sink.old ≤ K.shows.faults sink.new) }
     ensures answer { IsAnswer S.shows K.shows asked result source.old source.new sink.old sink.new }
 {
-    if asked.is_run() {
-        answer_run::<R, S, K, G>(rt, alloc, source, sink, gate)
-    } else {
-        answer_alone(alloc, asked, source, sink)
+    match asked {
+        Asked::Run => answer_run::<R, S, K, G>(rt, alloc, source, sink, gate),
+        Asked::Watch(watching) => {
+            answer_watch::<R, S, K, G>(rt, alloc, watching, source, sink, gate)
+        }
+        alone => answer_alone(alloc, alone, source, sink),
     }
 }
 
@@ -116,7 +138,9 @@ fn noted<N: Sink>(notes: &mut N, status: Status) -> Status
 /// does its own order, and writes that order and what its lines answered to the sink. `stat` does the same, and writes
 /// a table with a row for each event that is open then, by its slot, as perf stat does. `run` reads a script too, and
 /// runs it with a thread for each processor, tool and reader: it writes the order that came of it, and its report; each
-/// worker passes the gate before each line or try. A text may have 4194304 bytes. `make` and a number of rounds, 1 to
+/// worker passes the gate before each line or try. `watch`, the slot of an event and a number of looks, 1 to 65536, runs
+/// it with one thread more, which looks so often at what the event has counted with its copies; behind the report stand
+/// its last look and the last one published. A text may have 4194304 bytes. `make` and a number of rounds, 1 to
 /// 1000 in decimal, has the script of N rounds made and its own order done, and writes six lines that sum up its
 /// report; with `script` behind, it writes that script. It reads nothing. `attr` and the bytes of an attribute, two
 /// hexadecimal digits each, writes what they say, or their first fault; it reads nothing and takes no memory. Other
@@ -124,7 +148,8 @@ fn noted<N: Sink>(notes: &mut N, status: Status) -> Status
 /// act: where it runs out, nothing was read, or the whole text, and nothing was written.
 ///
 /// Words ask for at most one thing (`words_ask_one_thing`), and on each ring of a report records are conserved
-/// (`perf_book::records_are_conserved`). It goes by `answer_alone` for all but `run`.
+/// (`perf_book::records_are_conserved`). It goes by `answer_alone` for all but `run` and
+/// `watch`.
 pub fn perf_main<R: Threads + Wait + Sync, S: Source, K: Sink, N: Sink, G: Gate + Sync>(
     rt: &R,
     alloc: Global,

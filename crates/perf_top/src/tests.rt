@@ -205,7 +205,25 @@ const ROWS: [Row; 14] = [
 ];
 
 /// The same by threads, and the flush that fails.
-const RUN_ROWS: [Row; 8] = [
+const RUN_ROWS: [Row; 10] = [
+    (
+        "watch 0 1",
+        EMPTY,
+        9,
+        [CALM, CALM],
+        Status::Done,
+        "order\nend\nwatch 0 at=0 0 0 0\nfinal 0 0 0 0\n",
+        "",
+    ),
+    (
+        "watch 256 1",
+        EMPTY,
+        9,
+        [CALM, CALM],
+        Status::Usage,
+        "",
+        "perf_run: usage: run, replay, make N, make N script\n",
+    ),
     (
         "run",
         OPEN_ORDER,

@@ -113,6 +113,29 @@ impl Gate for TakeTurns {
     }
 }
 
+/// Holds processor 0's line 0 until tool 0's line 1 is announced, and that line and the watcher until processor 0's line 1
+/// is.
+#[derive(Drop)]
+struct WatcherLast {
+    opened: Signal,
+    worked: Signal,
+}
+
+impl Gate for WatcherLast {
+    fn before(&self, actor: Actor, line: u32) {
+        match (actor, line) {
+            (Actor::Processor(CpuNo(0)), 0) => self.opened.wait(),
+            (Actor::Tool(ToolNo(0)), 1) => {
+                self.opened.announce();
+                self.worked.wait();
+            }
+            (Actor::Processor(CpuNo(0)), 1) => self.worked.announce(),
+            (Actor::Watcher, 0) => self.worked.wait(),
+            _ => {}
+        }
+    }
+}
+
 /// Two processors that work for a task and its child, and a tool that counts six inherited events of both on four
 /// counters.
 const TWO_PROCESSORS: &str =
@@ -163,6 +186,11 @@ const OF_EACH_ORDER: [&[u8]; 3] = [
     b"order p0 t0 t0\nt0.1 read 0 0 0\nend\n",
 ];
 
+/// One event, a stretch of work, a tick and a read.
+const WATCHED: &str =
+    "perf 1\nmachine cpus=1 counters=1\nkind cycles mask=1\nprocessor 0\nwork 100 user cycles=500\ntick\n\
+    tool 0\nopen 0 kind=cycles task=all cpu=0 format=3\nread 0\nend\n";
+
 /// What a run of a text writes, with its answer.
 fn run<R: Threads + Wait + Sync, G: Gate + Sync>(
     rt: &R,
@@ -170,7 +198,21 @@ fn run<R: Threads + Wait + Sync, G: Gate + Sync>(
     text: &str,
     gate: &G,
 ) -> Result<(Status, MemSink), Fail> {
-    let words = vec![in alloc; String::from_str(alloc, "run")?]?;
+    call(rt, alloc, "run", text, gate)
+}
+
+/// What a call with the words of a text writes, at one space each, with its answer.
+fn call<R: Threads + Wait + Sync, G: Gate + Sync>(
+    rt: &R,
+    alloc: Global,
+    said: &str,
+    text: &str,
+    gate: &G,
+) -> Result<(Status, MemSink), Fail> {
+    let mut words = Vec::new(alloc);
+    for word in said.split_whitespace() {
+        words.push(String::from_str(alloc, word)?)?;
+    }
     let bytes = Vec::from_slice(alloc, text.as_bytes())?;
     let mut source = MemSource::new(bytes, 9, Vec::new(alloc));
     let mut sink = MemSink::new(alloc, 9, Vec::new(alloc), 10000)?;
@@ -227,5 +269,22 @@ fn each_look_is_a_new_one(rt: HostRuntime) -> Result<(), Fail> {
     let text = str::from_utf8(sink.bytes()).ok().ok_or("text")?;
     let between = text.split("p0").nth(1).ok_or("second act")?;
     assert!(rt; between.ends_with("s0=16 "));
+    Ok(())
+}
+
+#[test]
+fn a_watcher_sees_what_was_counted(rt: HostRuntime) -> Result<(), Fail> {
+    let gate = WatcherLast {
+        opened: Signal::new(),
+        worked: Signal::new(),
+    };
+    let (status, sink) = call(&rt, rt.alloc(), "watch 0 1", WATCHED, &gate)?;
+    assert_eq!(rt; status, Status::Done);
+    assert!(rt; gate.opened.is_met() && gate.worked.is_met());
+    let text = str::from_utf8(sink.bytes()).ok().ok_or("text")?;
+    let seen = text.split("watch 0 at=").nth(1).ok_or("watch line")?;
+    assert!(rt; seen.ends_with(" 500 100 100\nfinal 0 500 100 100\n"));
+    let look = seen.split("\n").nth(0).ok_or("look")?;
+    assert!(rt; look.ends_with(" 500 100 100"));
     Ok(())
 }

@@ -33,6 +33,7 @@ over-bytes : {S : Type 0} (left : S → Option (List ℕ)) (a : Asked) (before a
 over-bytes left asked.Replay before after s g = g
 over-bytes left asked.Run before after s g = g
 over-bytes left asked.Stat before after s g = g
+over-bytes left (asked.Watch w) before after s g = g
 over-bytes left (asked.Make n) before after s g = (ap left g.0, g.1)
 over-bytes left (asked.MadeScript n) before after s g = (ap left g.0, g.1)
 over-bytes left (asked.Attr bytes) before after s g = ap left g
