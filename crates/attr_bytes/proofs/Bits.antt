@@ -1,8 +1,6 @@
 -- The bits of a flag word.
 use Rattle.std.proofs.Common.{◌≡◌, ◌<◌, ◌^◌, ℕ, ◌+◌, ◌*◌, ◌/◌, ◌%◌, min, max, refl, sym, ap, ◌∙◌, arith, bit_and, bit_or}
-use Rattle.std.specs.Int.{bit_at}
-use Rattle.std.proofs.lemmas.Nat.{shr-shr, or_lt, and_le_r}
-use Rattle.std.proofs.lemmas.Nat.Bits.{bit_at_and, bit_at_or, bit_at-lt, same_from_bits}
+use Rattle.std.{proofs.lemmas.Nat.{shr-shr, or_lt, and_le_r, Bits.{bit_at_and, bit_at_or, bit_at-lt, same_from_bits}}, specs.Int.{bit_at}}
 use Rattle.attr_bytes.specs.Flags.{HasOnlyReadBits, read_bits, flags_of_word}
 
 -- a bit of two masked numbers put together

@@ -1,18 +1,12 @@
 -- Bytes stand for an attribute exactly where they have no fault, and for one at most.
 use Rattle.std.proofs.Common.{◌≡◌, ◌<◌, ◌≤◌, ℕ, ◌+◌, ◌-◌, inl, inr, ◌↔◌, Bool, true, false, not, cond, nat_eq, ◌||◌, List, ◌++◌, length, drop, get_or, Option, Some, None, refl, sym, ap, subst, ◌∙◌, arith, length-take, length-drop, length-append}
-use Rattle.std.specs.Option.{option_or}
-use Rattle.std.specs.List.{list_any, slice_range, slice_index}
 use Rattle.std.proofs.lemmas.Bool.{ltb-false, le-ltb, eqb-true, eq-eqb, ne_eqb, not-false, not_from_true, or_parts, or_from, or_left, or_right, or_cases, and_parts, and_from, cases_eq, cond-false, both_ways, not_from_false}
-use Rattle.std.proofs.lemmas.List.{get_or-take, get_or-drop}
-use Rattle.std.proofs.lemmas.List.Folds.{list_any_none, list_any_at}
-use Rattle.std.proofs.lemmas.Grind.{get_or_default_zero}
-use Rattle.attr_bytes.specs.declared.raw.RawAttr.{RawAttr}
-use Rattle.attr_bytes.specs.declared.fault.AttrFault.{AttrFault}
+use Rattle.std.proofs.lemmas.{List.{get_or-take, get_or-drop, Folds.{list_any_none, list_any_at}}, Grind.{get_or_default_zero}}
+use Rattle.std.specs.{Option.{option_or}, List.{list_any, slice_range, slice_index}}
+use Rattle.attr_bytes.specs.declared.{raw.RawAttr.{RawAttr}, fault.AttrFault.{AttrFault}}
 use Rattle.attr_bytes.specs.Layout.{number_at, type_in, size_in, config_in, sample_period_in, sample_type_in, read_format_in, flag_word_in, bp_type_in, config1_in, attr_size}
-use Rattle.attr_bytes.specs.Flags.{HasOnlyReadBits, flags_of_word}
-use Rattle.attr_bytes.specs.Standing.{StandsFor, IsClass}
-use Rattle.attr_bytes.specs.Faults.{has_unknown, frame_fault, field_fault, fault_of}
-use Rattle.attr_bytes.proofs.Numbers.{number_at-append}
+use Rattle.attr_bytes.specs.{Flags.{HasOnlyReadBits, flags_of_word}, Standing.{StandsFor, IsClass}}
+use Rattle.attr_bytes.{specs.Faults.{has_unknown, frame_fault, field_fault, fault_of}, proofs.Numbers.{number_at-append}}
 
 -- an element of a part
 get_or-part : (bytes : List ℕ) (from to k : ℕ) → from + k < to → get_or (slice_range bytes from to) k 0 ≡ get_or bytes (from + k) 0

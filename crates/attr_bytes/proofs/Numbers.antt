@@ -2,8 +2,7 @@
 use Rattle.std.proofs.Common.{◌≡◌, ◌<◌, ◌≤◌, ◌^◌, ℕ, ◌+◌, ◌-◌, List, [], ◌++◌, length, take, drop, replicate, refl, sym, ap, ◌∙◌, arith, length-append, length-drop, length-take}
 use Rattle.std.proofs.lemmas.List.{take-append-drop, drop-append-le, drop-drop, drop_at, drop_all, take_rest, append-nil}
 use borrow.Rule.Slice.PartMut.{put_mid}
-use Rattle.byteorder.specs.Endian.{little_number, little_bytes}
-use Rattle.byteorder.specs.Numbers.{little_from-append, little_number-reads_back, length-bytes_low_first}
+use Rattle.byteorder.specs.{Endian.{little_number, little_bytes}, Numbers.{little_from-append, little_number-reads_back, length-bytes_low_first}}
 use Rattle.attr_bytes.specs.Layout.{number_at, PutsNumber}
 
 -- a number at an offset is that at the front of what is left from there

@@ -1,11 +1,8 @@
 -- The faults of bytes that are no attribute: their order, and their words.
 use Rattle.std.specs.Prelude.{ℕ, nat_lt, ◌==◌, ◌||◌, ◌&&◌, not, Bool, if◌then◌else◌, List, length, slice_range, Option, Some, None, codes, bit_and}
-use Rattle.std.specs.List.{list_any}
-use Rattle.std.specs.Option.{option_or}
-use Rattle.attr_bytes.specs.declared.fault.AttrFault.{AttrFault}
-use Rattle.attr_bytes.specs.declared.fault.AttrFault.TheVariants.{Short, TooBig, BadClass, BadFlags, BadField}
-use Rattle.attr_bytes.specs.Layout.{type_in, flag_word_in, bp_type_in, config1_in, attr_size}
-use Rattle.attr_bytes.specs.Flags.{read_bits}
+use Rattle.std.specs.{List.{list_any}, Option.{option_or}}
+use Rattle.attr_bytes.specs.declared.fault.AttrFault.{AttrFault, TheVariants.{Short, TooBig, BadClass, BadFlags, BadField}}
+use Rattle.attr_bytes.specs.{Layout.{type_in, flag_word_in, bp_type_in, config1_in, attr_size}, Flags.{read_bits}}
 
 -- the word of a fault
 abbrev pub word_of : AttrFault → List ℕ

@@ -1,6 +1,5 @@
 -- The flag bits of struct perf_event_attr (perf_event_open(2)), and where perf_base's AttrFlags has them.
-use Rattle.std.specs.Prelude.{◌≡◌, ℕ, ◌+◌, ◌*◌, ◌^◌, bit_and}
-use Rattle.std.specs.Int.{bit_at}
+use Rattle.std.specs.{Prelude.{◌≡◌, ℕ, ◌+◌, ◌*◌, ◌^◌, bit_and}, Int.{bit_at}}
 
 -- the bits that this project's own profile reads: disabled 0, inherit 1, pinned 2, exclusive 3,
 -- exclude_user 4, exclude_kernel 5, exclude_hv 6, sample_id_all 18 and exclude_guest 20

@@ -1,7 +1,6 @@
 -- Which kind of event an attribute names.
 use Rattle.std.specs.Prelude.{ℕ, ◌==◌, ◌||◌, ◌&&◌, nat_lt, Option, Some, None, if◌then◌else◌}
-use Rattle.perf_base.specs.declared.attr.Kind.{Kind}
-use Rattle.perf_base.specs.declared.attr.Kind.TheVariants.{Hard, ContextSwitches, CpuMigrations, TaskClock, Dummy}
+use Rattle.perf_base.specs.declared.attr.Kind.{Kind, TheVariants.{Hard, ContextSwitches, CpuMigrations, TaskClock, Dummy}}
 
 -- the software kind of a config, by the numbers of PERF_COUNT_SW_ (perf_event_open(2))
 abbrev pub software_numbered : ℕ → Option Kind

@@ -1,14 +1,8 @@
 -- What was written to a sink through a room.
-use Rattle.std.proofs.Common.{◌≡◌, ℕ, ◌≤◌, List, [], length, take, Option, Result, Ok, Err, inl, inr, arith, sym, subst}
-use Rattle.std.specs.Prelude.{OnOk, OnErr}
-use Rattle.std.specs.Result.{IsErr}
-use Rattle.std.proofs.Math.Seq.{take-length}
-use Rattle.std.proofs.lemmas.Bool.{false≢true}
-use Rattle.perf_io.specs.Outside.{Adds, Rose, SinkShows}
-use Rattle.perf_io.specs.Wrote.{Wrote}
-use Rattle.perf_io.specs.declared.outside.Failed.{Failed}
-use Rattle.buffered_sink.specs.Rooms.{with_room, Grew}
-use Rattle.buffered_sink.proofs.Rooms.{added_behind, front_of_front}
+use Rattle.std.proofs.{Common.{◌≡◌, ℕ, ◌≤◌, List, [], length, take, Option, Result, Ok, Err, inl, inr, arith, sym, subst}, Math.Seq.{take-length}}
+use Rattle.std.{proofs.lemmas.Bool.{false≢true}, specs.{Prelude.{OnOk, OnErr}, Result.{IsErr}}}
+use Rattle.perf_io.specs.{Outside.{Adds, Rose, SinkShows}, Wrote.{Wrote}, declared.outside.Failed.{Failed}}
+use Rattle.buffered_sink.{specs.Rooms.{with_room, Grew}, proofs.Rooms.{added_behind, front_of_front}}
 
 rose_after : (last : Option ℕ) (f g h : ℕ) → f ≤ g → Rose last g h → Rose last f h
 rose_after last f g h l (inl more) = inl (omega arith)

@@ -1,6 +1,5 @@
 -- A text in pieces, one behind another.
-use Rattle.std.proofs.Common.{◌≡◌, ℕ, ◌+◌, ◌-◌, ◌≤◌, List, ◌++◌, take, drop, arith, sym, ap, ◌∙◌}
-use Rattle.std.proofs.Math.Seq.{take-add}
+use Rattle.std.proofs.{Common.{◌≡◌, ℕ, ◌+◌, ◌-◌, ◌≤◌, List, ◌++◌, take, drop, arith, sym, ap, ◌∙◌}, Math.Seq.{take-add}}
 use Rattle.std.proofs.lemmas.List.{take-append-drop}
 
 -- the front up to i and the piece from there to j are the front up to j

@@ -11,7 +11,8 @@ use std::marker::{Brand, PhantomData};
 /// How many bytes wait at most.
 const ROOM: usize = 4096;
 
-/// Which reference a buffered sink writes through, what the sink behind it held at the start, and how it had been flushed.
+/// Which reference a buffered sink writes through, what the sink behind it held at the start, and how it had been
+/// flushed.
 pub(crate) trait Behind {
     // The reference's ghost name.
     ghost name: { ℕ };

@@ -1,6 +1,5 @@
 -- One more event at the end of a list that has counters.
-use Rattle.std.proofs.Common.{ℕ, ◌+◌, ◌<◌, List, [], ◌∷◌, ◌++◌, length, sym, ap, ◌∙◌, arith}
-use Rattle.std.proofs.lemmas.List.{length_push, get_or_append_left}
+use Rattle.std.proofs.{Common.{ℕ, ◌+◌, ◌<◌, List, [], ◌∷◌, ◌++◌, length, sym, ap, ◌∙◌, arith}, lemmas.List.{length_push, get_or_append_left}}
 use Rattle.stage_spec.specs.Fits.{IsAssignment}
 use Rattle.counter_match.specs.Search.{SeatsAllBut}
 

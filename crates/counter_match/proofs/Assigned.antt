@@ -2,10 +2,8 @@
 use Rattle.std.proofs.Common.{◌≡◌, ℕ, ◌+◌, ◌<◌, ◌≤◌, true, false, List, [], ◌∷◌, ◌++◌, length, get_or, take, sym, ap, ◌∙◌, arith, length-append, length-take, append-nil, append_assoc}
 use Rattle.std.proofs.lemmas.List.{get_or_append_left, get_or-take, length-take-le, map-append}
 use Rattle.perf_base.specs.declared.numbers.EventNo.{EventNo}
-use Rattle.stage_spec.specs.Fits.{can_count, fits, IsAssignment}
-use Rattle.stage_spec.specs.Tight.{masks_of, unfit_after, shortest_unfit}
-use Rattle.counter_match.proofs.Fitting.{assignment_of, fits-IsAssignment, can_count-below}
-use Rattle.counter_match.proofs.Growth.{length-le_below}
+use Rattle.stage_spec.specs.{Fits.{can_count, fits, IsAssignment}, Tight.{masks_of, unfit_after, shortest_unfit}}
+use Rattle.counter_match.proofs.{Fitting.{assignment_of, fits-IsAssignment, can_count-below}, Growth.{length-le_below}}
 
 -- no more events than counters
 pub length-assigned : (masks counters : List ℕ) → IsAssignment masks counters → length masks ≤ 16

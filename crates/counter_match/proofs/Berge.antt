@@ -1,14 +1,10 @@
 -- A list does not fit exactly where there is no augmenting path.
 use Rattle.std.specs.Prelude.{◌≢◌}
 use Rattle.std.proofs.Common.{◌≡◌, ℕ, zero, suc, ◌+◌, ◌-◌, ◌<◌, ◌≤◌, true, List, [], ◌∷◌, ◌++◌, length, get_or, refl, sym, ap, ◌∙◌, arith, inl, inr, subst}
-use Rattle.std.proofs.lemmas.Bool.{cases_eq, both_ways}
-use Rattle.std.proofs.lemmas.List.{get_or_append_left, get_or_push, length_push}
+use Rattle.std.proofs.lemmas.{Bool.{cases_eq, both_ways}, List.{get_or_append_left, get_or_push, length_push}}
 use Rattle.stage_spec.specs.Fits.{can_count, fits}
-use Rattle.counter_match.specs.Search.{SeatsAllBut, IsSearch, IsShift, IsFree}
-use Rattle.counter_match.specs.Paths.{IsAugmentingPath, PathLaw}
-use Rattle.counter_match.proofs.Closing.{closed_search}
-use Rattle.counter_match.proofs.Shift.{IsShift-start, fits_from_shift}
-use Rattle.counter_match.proofs.Tightness.{unfit}
+use Rattle.counter_match.{specs.{Search.{SeatsAllBut, IsSearch, IsShift, IsFree}, Paths.{IsAugmentingPath, PathLaw}}, proofs.Closing.{closed_search}}
+use Rattle.counter_match.proofs.{Shift.{IsShift-start, fits_from_shift}, Tightness.{unfit}}
 
 -- the position before each
 predecessors : ℕ → ℕ → List ℕ

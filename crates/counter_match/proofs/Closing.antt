@@ -1,13 +1,10 @@
 -- Where no reached event can take a free counter, some search is closed.
-use Rattle.std.specs.Prelude.{◌≢◌, nat_eq}
+use Rattle.std.specs.{Prelude.{◌≢◌, nat_eq}, List.{list_any}}
 use Rattle.std.proofs.Common.{◌≡◌, ℕ, zero, suc, ◌+◌, ◌<◌, ◌≤◌, true, false, List, [], ◌∷◌, ◌++◌, length, get_or, take, refl, sym, ap, ◌∙◌, arith, inl, inr, subst, add-one, length-take}
-use Rattle.std.specs.List.{list_any}
-use Rattle.std.proofs.lemmas.Bool.{cases_Bool, cases_lt, both_ways}
-use Rattle.std.proofs.lemmas.List.{get_or-take, length_push, get_or_push}
+use Rattle.std.proofs.lemmas.{Bool.{cases_Bool, cases_lt, both_ways}, List.{get_or-take, length_push, get_or_push}}
 use Rattle.stage_spec.specs.Fits.{can_count, fits}
 use Rattle.counter_match.specs.Search.{SeatsAllBut, IsSearch, IsHeld, IsClosedBelow, IsClosedAt, IsExtended, IsShift}
-use Rattle.counter_match.proofs.Fitting.{can_count-below}
-use Rattle.counter_match.proofs.Lists.{In-from_any, any-from_In}
+use Rattle.counter_match.proofs.{Fitting.{can_count-below}, Lists.{In-from_any, any-from_In}}
 use Rattle.counter_match.proofs.Growth.{IsExtended-same, IsExtended-push, IsExtended-trans, IsHeld-reached, IsClosedBelow-extended, IsClosedAt-extended, IsClosedAt-more, IsClosedBelow-more, IsSearch-push, IsSearch-start, length-search}
 use Rattle.counter_match.proofs.Shift.{IsShift-start, fits_from_shift}
 

@@ -1,19 +1,14 @@
 -- The members of a tight set have one allowed counter fewer than there are members.
-use Rattle.std.specs.Prelude.{◌≢◌, nat_eq, count_by}
+use Rattle.std.specs.{Prelude.{◌≢◌, nat_eq, count_by}, List.{list_any}}
 use Rattle.std.proofs.Common.{◌≡◌, ℕ, zero, suc, ◌+◌, ◌<◌, ◌≤◌, Bool, true, List, [], ◌∷◌, ◌++◌, length, get_or, map, drop, cond, refl, sym, ap, ◌∙◌, arith, inl, inr, ◌⊎◌, subst, length-drop}
-use Rattle.std.specs.List.{list_any}
-use Rattle.std.proofs.lemmas.List.Sums.{sum_by-cons}
+use Rattle.std.proofs.lemmas.List.{length-map, get_or-map, get_or-drop, map-append, length_push, Sums.{sum_by-cons}}
 use Rattle.std.proofs.lemmas.Bool.{cases_Bool, cases_eq, cases_order, or_cases, or_left, or_right}
-use Rattle.std.proofs.lemmas.List.{length-map, get_or-map, get_or-drop, map-append, length_push}
 use Rattle.perf_base.specs.declared.numbers.EventNo.{EventNo}
-use Rattle.stage_spec.specs.Fits.{can_count}
-use Rattle.stage_spec.specs.Tight.{masks_of, tight_set, allowed_count, TightLaw}
+use Rattle.stage_spec.specs.{Fits.{can_count}, Tight.{masks_of, tight_set, allowed_count, TightLaw}}
 use Rattle.counter_match.specs.Search.{SeatsAllBut, IsSearch, IsHeld, IsClosedBelow, picked}
 use Rattle.counter_match.proofs.Fitting.{can_count-below, assignment_of, different-cons}
 use Rattle.counter_match.proofs.Lists.{In, In-from_any, any-from_In, AreDifferent, length-le_from_In}
-use Rattle.counter_match.proofs.Closing.{Closed, closed_search, IsStuck-unfit}
-use Rattle.counter_match.proofs.Tightness.{tight_set-picked}
-use Rattle.counter_match.proofs.Appended.{SeatsAllBut-appended}
+use Rattle.counter_match.proofs.{Closing.{Closed, closed_search, IsStuck-unfit}, Tightness.{tight_set-picked}, Appended.{SeatsAllBut-appended}}
 
 -- the n numbers from k on
 abbrev pub numbers_from : ℕ → ℕ → List ℕ

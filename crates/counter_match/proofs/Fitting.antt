@@ -1,7 +1,6 @@
 -- The plain search finds counters exactly where an assignment exists.
-use Rattle.std.specs.Prelude.{◌≢◌, nat_eq}
+use Rattle.std.specs.{Prelude.{◌≢◌, nat_eq}, List.{list_any}}
 use Rattle.std.proofs.Common.{◌≡◌, ℕ, zero, suc, ◌<◌, Bool, true, false, not, ◌&&◌, List, [], ◌∷◌, length, get_or, refl, sym, ap, ◌∙◌, arith, inl, inr}
-use Rattle.std.specs.List.{list_any}
 use Rattle.std.proofs.lemmas.Bool.{cases_Bool, and_parts, and_from, not-true, not_from_false, cases_eq, or_parts, or_from, ne_eqb, eqb-false}
 use Rattle.stage_spec.specs.Fits.{can_count, fits_below, fits_beside, fits, IsAssignment}
 

@@ -1,9 +1,7 @@
 -- A search as its queue grows.
-use Rattle.std.specs.Prelude.{◌≢◌, nat_eq}
+use Rattle.std.specs.{Prelude.{◌≢◌, nat_eq}, List.{list_any}}
 use Rattle.std.proofs.Common.{◌≡◌, ℕ, zero, suc, ◌+◌, ◌<◌, ◌≤◌, true, false, List, [], ◌∷◌, ◌++◌, length, get_or, refl, sym, ap, ◌∙◌, arith, inl, inr}
-use Rattle.std.specs.List.{list_any}
-use Rattle.std.proofs.lemmas.Bool.{cases_eq, both_ways}
-use Rattle.std.proofs.lemmas.List.{get_or_append_left, get_or_push, length_push}
+use Rattle.std.proofs.lemmas.{Bool.{cases_eq, both_ways}, List.{get_or_append_left, get_or_push, length_push}}
 use Rattle.stage_spec.specs.Fits.{can_count}
 use Rattle.counter_match.specs.Search.{IsSearch, IsHeld, IsClosedBelow, IsClosedAt, IsExtended}
 use Rattle.counter_match.proofs.Lists.{In, In-from_any, any-from_In, AreDifferent, length-le_from_In}

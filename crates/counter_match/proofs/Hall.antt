@@ -1,11 +1,9 @@
 -- A search that finds no free counter shows which events are to blame.
 use Rattle.std.specs.Prelude.{◌≢◌}
 use Rattle.std.proofs.Common.{◌≡◌, ℕ, zero, suc, ◌<◌, ◌≤◌, true, List, length, get_or, set, map, drop, refl, sym, ap, ◌∙◌, arith, inl, inr, length-set, get_or-set_same, get_or-set_other, length-drop}
-use Rattle.std.proofs.lemmas.Bool.{cases_eq, cases_order}
-use Rattle.std.proofs.lemmas.List.{get_or-map, length-map, get_or-drop}
+use Rattle.std.proofs.lemmas.{Bool.{cases_eq, cases_order}, List.{get_or-map, length-map, get_or-drop}}
 use Rattle.stage_spec.specs.Fits.{can_count, IsAssignment}
-use Rattle.counter_match.specs.Search.{SeatsAllBut, IsSearch, IsClosedBelow}
-use Rattle.counter_match.proofs.Lists.{In, AreDifferent, length-le_from_In}
+use Rattle.counter_match.{specs.Search.{SeatsAllBut, IsSearch, IsClosedBelow}, proofs.Lists.{In, AreDifferent, length-le_from_In}}
 
 -- different numbers at places of one kind stay different where a place gets a number that no other of them has
 pub different_set : (xs : List ℕ) (place x : ℕ) (Of : ℕ → Type 0) → place < length xs

@@ -1,8 +1,6 @@
 -- Events beside their counters, one by one.
 use Rattle.std.proofs.Common.{◌≡◌, ℕ, ◌+◌, ◌<◌, ◌≤◌, List, [], ◌∷◌, ◌++◌, length, get_or, take, refl, ap, ◌∙◌, arith, length-take}
-use Rattle.std.specs.List.{zip}
-use Rattle.std.proofs.lemmas.List.{take_more, map-append, length-map}
-use Rattle.std.proofs.lemmas.Slice.Zip.{length-zip}
+use Rattle.std.{proofs.lemmas.{List.{take_more, map-append, length-map}, Slice.Zip.{length-zip}}, specs.List.{zip}}
 use Rattle.perf_base.specs.declared.numbers.EventNo.{EventNo}
 use Rattle.counter_match.specs.Seating.{slots_of}
 

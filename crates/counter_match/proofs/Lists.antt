@@ -1,13 +1,8 @@
 -- Lists of numbers by their places.
-use Rattle.std.specs.Prelude.{◌≢◌, nat_eq}
+use Rattle.std.specs.{Prelude.{◌≢◌, nat_eq}, List.{list_any, IsDistinct}, Cmp.{nat_eq_equiv}}
 use Rattle.std.proofs.Common.{◌≡◌, ℕ, suc, ◌<◌, ◌≤◌, true, List, [], ◌∷◌, length, get_or, sym, ◌∙◌, arith, inl, inr}
-use Rattle.std.specs.List.{list_any, IsDistinct}
-use Rattle.std.specs.Cmp.{nat_eq_equiv}
-use Rattle.std.proofs.lemmas.Bool.{cases_Bool, eq-eqb, eqb-true, ne_eqb}
-use Rattle.std.proofs.lemmas.List.{get_or_default}
-use Rattle.std.proofs.lemmas.List.Folds.{list_any_at}
-use Rattle.std.proofs.lemmas.Map.Keys.{IsDistinct-from_apart}
-use Rattle.std.proofs.lemmas.Map.Made.{length-le_from_is_member}
+use Rattle.std.proofs.lemmas.{Bool.{cases_Bool, eq-eqb, eqb-true, ne_eqb}, List.{get_or_default, Folds.{list_any_at}}}
+use Rattle.std.proofs.lemmas.Map.{Keys.{IsDistinct-from_apart}, Made.{length-le_from_is_member}}
 
 -- the number stands at some place of the list
 pub record In (xs : List ℕ) (x : ℕ) : Type 0 where

@@ -1,16 +1,12 @@
 -- A search when one more counter is looked at.
-use Rattle.std.specs.Prelude.{◌≢◌, ◌^◌, ◌==◌, nat_lt, nat_eq, All, if◌then◌else◌}
+use Rattle.std.specs.{Prelude.{◌≢◌, ◌^◌, ◌==◌, nat_lt, nat_eq, All, if◌then◌else◌}, List.{list_any}, Int.{bit_at}}
 use Rattle.std.proofs.Common.{◌≡◌, ℕ, ◌+◌, ◌<◌, ◌≤◌, true, false, List, [], ◌∷◌, ◌++◌, length, get_or, refl, sym, ap, ◌∙◌, arith, inl, inr, subst}
-use Rattle.std.specs.List.{list_any}
-use Rattle.std.proofs.lemmas.Bool.{cases_Bool, cases_eq, cases_lt, both_ways, and_parts, eqb-true}
-use Rattle.std.proofs.lemmas.Nat.Bits.{bit_at_above}
-use Rattle.std.specs.Int.{bit_at}
+use Rattle.std.proofs.lemmas.{Bool.{cases_Bool, cases_eq, cases_lt, both_ways, and_parts, eqb-true}, Nat.Bits.{bit_at_above}}
 use Rattle.std.proofs.lemmas.List.{get_or_push, length_push, get_or_append_left}
 use Rattle.stage_spec.specs.Fits.{can_count}
-use Rattle.counter_match.specs.Search.{IsSearch, IsHeld, IsExtended, IsClosedAt, CanTake}
-use Rattle.perf_base.specs.Masks.{IsMask}
-use Rattle.counter_match.proofs.Lists.{any-from_In}
+use Rattle.counter_match.{specs.Search.{IsSearch, IsHeld, IsExtended, IsClosedAt, CanTake}, proofs.Lists.{any-from_In}}
 use Rattle.counter_match.proofs.Growth.{IsExtended-same, IsExtended-push, IsHeld-reached, IsSearch-push, length-le_below}
+use Rattle.perf_base.specs.Masks.{IsMask}
 
 -- after an event that has the counter is reached
 pub record IsLooked (masks counters queue wide parents : List ℕ) (counter : ℕ) : Type 0 where

@@ -1,10 +1,8 @@
 -- Where an event of a group does not fit on a seating, the group does not.
 use Rattle.std.proofs.Common.{◌≡◌, ℕ, ◌+◌, ◌<◌, true, false, List, [], ◌∷◌, ◌++◌, length, get_or, take, drop, sym, ap, ◌∙◌, append_assoc}
-use Rattle.std.proofs.lemmas.Bool.{false_from_ne_true, both_ways}
-use Rattle.std.proofs.lemmas.List.{take-append-drop, drop_more}
+use Rattle.std.proofs.lemmas.{Bool.{false_from_ne_true, both_ways}, List.{take-append-drop, drop_more}}
 use Rattle.perf_base.specs.declared.numbers.EventNo.{EventNo}
-use Rattle.stage_spec.specs.Fits.{fits}
-use Rattle.stage_spec.specs.Tight.{masks_of, shortest_unfit}
+use Rattle.stage_spec.specs.{Fits.{fits}, Tight.{masks_of, shortest_unfit}}
 use Rattle.counter_match.proofs.Assigned.{fits-front_events, shortest_unfit-first}
 
 -- the list with the group is the events seated so far, the next one and the rest

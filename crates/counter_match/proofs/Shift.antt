@@ -3,8 +3,7 @@ use Rattle.std.specs.Prelude.{◌≢◌}
 use Rattle.std.proofs.Common.{◌≡◌, ℕ, zero, suc, ◌<◌, true, List, length, get_or, set, refl, sym, ap, ◌∙◌, arith, inl, inr, length-set, get_or-set_same, get_or-set_other}
 use Rattle.std.proofs.lemmas.Bool.{cases_eq, cases_order}
 use Rattle.stage_spec.specs.Fits.{can_count, fits, IsAssignment}
-use Rattle.counter_match.specs.Search.{SeatsAllBut, IsSearch, IsShift}
-use Rattle.counter_match.proofs.Fitting.{fits-IsAssignment}
+use Rattle.counter_match.{specs.Search.{SeatsAllBut, IsSearch, IsShift}, proofs.Fitting.{fits-IsAssignment}}
 use Rattle.counter_match.proofs.Hall.{different_set, IsAssignment-from_free}
 
 -- an event with a counter takes one that no event has

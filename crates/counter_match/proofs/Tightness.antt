@@ -1,17 +1,11 @@
 -- The tight set is what a search without a free counter reached, in list order.
-use Rattle.std.specs.Prelude.{nat_eq}
+use Rattle.std.specs.{Prelude.{nat_eq}, List.{list_any}}
 use Rattle.std.proofs.Common.{◌≡◌, ℕ, suc, ◌<◌, Bool, false, List, [], ◌∷◌, ◌++◌, length, get_or, cond, refl, sym, ap, ◌∙◌, arith, inl, inr, append_assoc, subst}
-use Rattle.std.specs.List.{list_any}
-use Rattle.std.proofs.lemmas.Bool.{cases_Bool, false_from_ne_true, both_ways}
-use Rattle.std.proofs.lemmas.List.{map-append, length-map, length_push}
+use Rattle.std.proofs.lemmas.{Bool.{cases_Bool, false_from_ne_true, both_ways}, List.{map-append, length-map, length_push}}
 use Rattle.perf_base.specs.declared.numbers.EventNo.{EventNo}
-use Rattle.stage_spec.specs.Fits.{fits}
-use Rattle.stage_spec.specs.Tight.{masks_of, tight_after, tight_set}
-use Rattle.counter_match.specs.Search.{SeatsAllBut, IsSearch, IsClosedBelow, picked}
-use Rattle.counter_match.proofs.Fitting.{assignment_of}
-use Rattle.counter_match.proofs.Lists.{In-from_any, any-from_In}
-use Rattle.counter_match.proofs.Hall.{vacated, unfit_from_closed}
-use Rattle.counter_match.proofs.Without.{fits_without, seats_without}
+use Rattle.stage_spec.specs.{Fits.{fits}, Tight.{masks_of, tight_after, tight_set}}
+use Rattle.counter_match.{specs.Search.{SeatsAllBut, IsSearch, IsClosedBelow, picked}, proofs.Fitting.{assignment_of}}
+use Rattle.counter_match.proofs.{Lists.{In-from_any, any-from_In}, Hall.{vacated, unfit_from_closed}, Without.{fits_without, seats_without}}
 
 pub tight_after-picked : (p : ℕ → Bool) (before rest : List (EventNo × ℕ))
     → ((front : List (EventNo × ℕ)) (event : EventNo × ℕ) (back : List (EventNo × ℕ)) → front ++ event ∷ back ≡ before ++ rest → fits (masks_of (front ++ back)) ≡ p (length front))

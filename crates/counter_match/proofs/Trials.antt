@@ -1,11 +1,8 @@
 -- What the tests need of lists of events.
-use Rattle.std.specs.Prelude.{All}
-use Rattle.std.proofs.Common.{◌≡◌, ℕ, zero, suc, ◌<◌, List, [], ◌∷◌, take, drop, refl, sym, ap, ◌∙◌, arith, subst, length-take}
-use Rattle.std.proofs.lemmas.List.{get_or-take, take-map}
-use Rattle.std.proofs.lemmas.List.Elements.{All-take, All-drop}
-use Rattle.perf_base.specs.declared.numbers.EventNo.{EventNo}
+use Rattle.std.{specs.Prelude.{All}, proofs.Common.{◌≡◌, ℕ, zero, suc, ◌<◌, List, [], ◌∷◌, take, drop, refl, sym, ap, ◌∙◌, arith, subst, length-take}}
+use Rattle.std.proofs.lemmas.List.{get_or-take, take-map, Elements.{All-take, All-drop}}
+use Rattle.perf_base.specs.{declared.numbers.EventNo.{EventNo}, Masks.{IsMask}}
 use Rattle.stage_spec.specs.Tight.{masks_of}
-use Rattle.perf_base.specs.Masks.{IsMask}
 use Rattle.counter_match.specs.Seating.{AreDistinct}
 
 pub AreDistinct-take : (n : ℕ) (events : List (EventNo × ℕ)) → AreDistinct events → AreDistinct (take n events)

@@ -1,11 +1,9 @@
 -- A list without one of its events fits where the others can have counters.
 use Rattle.std.specs.Prelude.{◌≢◌}
 use Rattle.std.proofs.Common.{◌≡◌, ℕ, zero, suc, ◌+◌, ◌<◌, ◌≤◌, true, List, [], ◌∷◌, ◌++◌, length, get_or, take, drop, refl, sym, ap, ◌∙◌, arith, inl, inr, length-append, length-take, length-drop, add-one}
-use Rattle.std.proofs.lemmas.Bool.{cases_order}
-use Rattle.std.proofs.lemmas.List.{length-take-le, take-append-drop, drop_more}
+use Rattle.std.proofs.lemmas.{Bool.{cases_order}, List.{length-take-le, take-append-drop, drop_more}}
 use Rattle.stage_spec.specs.Fits.{can_count, fits, IsAssignment}
-use Rattle.counter_match.specs.Search.{SeatsAllBut}
-use Rattle.counter_match.proofs.Fitting.{assignment_of, fits-IsAssignment}
+use Rattle.counter_match.{specs.Search.{SeatsAllBut}, proofs.Fitting.{assignment_of, fits-IsAssignment}}
 
 -- the place in a list of what stands at a place of the list without the one at the gap
 abbrev pub past : ℕ → ℕ → ℕ

@@ -1,10 +1,7 @@
 -- Hardware events on the counters of one processor. This project's own profile.
-use Rattle.std.specs.Prelude.{◌≢◌, ℕ, ◌<◌, ◌≤◌, List, [], map, All}
-use Rattle.std.specs.List.{AllPairs, zip}
-use Rattle.perf_base.specs.Masks.{IsMask}
-use Rattle.perf_base.specs.declared.numbers.EventNo.{EventNo}
-use Rattle.stage_spec.specs.Fits.{IsAssignment}
-use Rattle.stage_spec.specs.Tight.{masks_of}
+use Rattle.std.specs.{Prelude.{◌≢◌, ℕ, ◌<◌, ◌≤◌, List, [], map, All}, List.{AllPairs, zip}}
+use Rattle.perf_base.specs.{Masks.{IsMask}, declared.numbers.EventNo.{EventNo}}
+use Rattle.stage_spec.specs.{Fits.{IsAssignment}, Tight.{masks_of}}
 
 -- what is known of a seating: how many counters the processor has, the events with their masks in order of coming,
 -- and the counter of each

@@ -1,11 +1,8 @@
 -- How a seating is stored: arrays, whose first places are in use. This project's own profile.
 use Rattle.std.specs.Prelude.{ℕ, ◌<◌, ◌≤◌, List, take, All}
-use Rattle.perf_base.specs.declared.numbers.EventNo.{EventNo}
-use Rattle.stage_spec.specs.Fits.{IsAssignment}
-use Rattle.stage_spec.specs.Tight.{masks_of}
-use Rattle.perf_base.specs.Masks.{IsMask}
-use Rattle.counter_match.specs.Seating.{AreDistinct, Seated}
-use Rattle.counter_match.specs.declared.seating.Seating.{Seating}
+use Rattle.perf_base.specs.{declared.numbers.EventNo.{EventNo}, Masks.{IsMask}}
+use Rattle.stage_spec.specs.{Fits.{IsAssignment}, Tight.{masks_of}}
+use Rattle.counter_match.specs.{Seating.{AreDistinct, Seated}, declared.seating.Seating.{Seating}}
 
 -- the events, and their counters
 abbrev pub events_of : Seating → List (EventNo × ℕ)

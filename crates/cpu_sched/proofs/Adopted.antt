@@ -1,40 +1,21 @@
 -- A processor that takes over the plan of its present brief is judged.
 use Rattle.std.specs.Prelude.{◌≡◌, ℕ, ◌<◌, ◌≤◌, ◌==◌, Bool, true, false, cond, All, List, [], ◌∷◌, ◌++◌, length, map, slice_index_or}
-use Rattle.std.specs.FinMap.{FinMap}
-use Rattle.std.specs.Ordering.{nat_cmp}
-use Rattle.std.proofs.Common.{arith, refl, sym, ap, subst, ◌∙◌, inl, inr, append_assoc}
-use Rattle.std.proofs.lemmas.Bool.{cases_Bool, cases_eq, false≢true}
-use Rattle.std.proofs.lemmas.List.{append-nil, length-set, length-map, get_or-map, get_or-set_same, map-id}
+use Rattle.std.{specs.{FinMap.{FinMap}, Ordering.{nat_cmp}}, proofs.Common.{arith, refl, sym, ap, subst, ◌∙◌, inl, inr, append_assoc}}
+use Rattle.std.proofs.lemmas.{Bool.{cases_Bool, cases_eq, false≢true}, List.{append-nil, length-set, length-map, get_or-map, get_or-set_same, map-id}}
 use Rattle.std.proofs.lemmas.Simd.{map-map}
-use Rattle.perf_base.specs.declared.numbers.CpuNo.{CpuNo}
-use Rattle.perf_base.specs.declared.numbers.Key.{Key}
-use Rattle.perf_base.specs.declared.standing.Standing.{Standing}
+use Rattle.perf_base.specs.declared.{numbers.{CpuNo.{CpuNo}, Key.{Key}}, standing.Standing.{Standing}}
 use Rattle.perf_base.specs.declared.standing.Standing.TheVariants as standing
-use Rattle.stage_spec.specs.Stage.{Group}
-use Rattle.stage_spec.specs.Verdict.{Judged, is_eligible, standing_among, verdicts}
-use Rattle.stage_laws.specs.Narrowing.{has_context}
-use Rattle.stage_laws.specs.Standings.{standings}
-use Rattle.stage_laws.proofs.Counts.{count-filter}
+use Rattle.stage_spec.specs.{Stage.{Group}, Verdict.{Judged, is_eligible, standing_among, verdicts}}
+use Rattle.stage_laws.{specs.{Narrowing.{has_context}, Standings.{standings}}, proofs.Counts.{count-filter}}
 use Rattle.counter_match.specs.Seating.{empty_seating}
-use Rattle.world_spec.specs.Changes.{with_seats}
-use Rattle.world_spec.specs.Kept.{leads, post_at, IsKept}
-use Rattle.world_spec.specs.Listings.{pass_leaders}
-use Rattle.world_spec.specs.Rescheduled.{IsJudged}
-use Rattle.world_spec.specs.StageOf.{group_at, stage_of}
-use Rattle.world_spec.specs.Value.{World, entry_at, is_live, standing_at, seats_at, is_key, times}
-use Rattle.world_spec.proofs.Copies.{times-at}
-use Rattle.world_spec.proofs.GoneStage.{AreLeading}
-use Rattle.world_spec.proofs.Keys.{key-is, is_key-true, is_key-false, times-cons, once-true}
-use Rattle.world_spec.proofs.Listings.{reached_leaders, reached-once, reached-context, reached-leading}
-use Rattle.world_spec.proofs.Moving.{leads-parts}
+use Rattle.world_spec.specs.{Changes.{with_seats}, Kept.{leads, post_at, IsKept}, Listings.{pass_leaders}, Rescheduled.{IsJudged}}
+use Rattle.world_spec.specs.{StageOf.{group_at, stage_of}, Value.{World, entry_at, is_live, standing_at, seats_at, is_key, times}}
+use Rattle.world_spec.proofs.{Copies.{times-at}, GoneStage.{AreLeading}, Keys.{key-is, is_key-true, is_key-false, times-cons, once-true}}
+use Rattle.world_spec.proofs.{Listings.{reached_leaders, reached-once, reached-context, reached-leading}, Moving.{leads-parts}}
 use Rattle.world_spec.proofs.Rescheduling.{same-id}
-use Rattle.cpu_sched.specs.Adopting.{with_standings, told_standings, out_standings}
-use Rattle.cpu_sched.specs.Briefs.{present_brief}
-use Rattle.cpu_sched.specs.Judging.{retold}
-use Rattle.cpu_sched.specs.Plans.{Planned, IsPlanOf}
-use Rattle.cpu_sched.proofs.Judged.{reached-there, is-number}
-use Rattle.cpu_sched.proofs.Relabelled.{id_at, eligible_leaders, present-leaders, present-seated, present-standings}
-use Rattle.cpu_sched.proofs.Telling.{stand_at}
+use Rattle.cpu_sched.specs.{Adopting.{with_standings, told_standings, out_standings}, Briefs.{present_brief}, Judging.{retold}}
+use Rattle.cpu_sched.{specs.Plans.{Planned, IsPlanOf}, proofs.Judged.{reached-there, is-number}}
+use Rattle.cpu_sched.proofs.{Relabelled.{id_at, eligible_leaders, present-leaders, present-seated, present-standings}, Telling.{stand_at}}
 use Rattle.cpu_sched.proofs.Told.{last_told, last-none, last-out, out-append, told-at}
 
 -- the keys of a plan are leaders that the processor reaches, each once

@@ -1,33 +1,16 @@
 -- The present brief of a processor has at most 256 groups and 256 events, each once.
 use Rattle.std.specs.Prelude.{◌≡◌, ℕ, zero, suc, ◌+◌, ◌<◌, ◌≤◌, ◌==◌, nat_lt, Bool, true, false, ◌&&◌, cond, All, List, [], ◌∷◌, ◌++◌, length, map, filter, flat_map, count_by, take, slice_index_or}
-use Rattle.std.proofs.Common.{arith, refl, sym, ap, subst, ◌∙◌, inl, inr}
-use Rattle.std.proofs.lemmas.Bool.{cases_Bool}
-use Rattle.std.proofs.lemmas.Bool.Decides.{nat_tests}
-use Rattle.std.proofs.lemmas.List.{get_or-map, length-append, length-map, map-append}
-use Rattle.std.proofs.lemmas.List.Elements.{All-append, All-cons, filter-append}
-use Rattle.perf_base.specs.declared.numbers.CpuNo.{CpuNo}
-use Rattle.perf_base.specs.declared.numbers.EventNo.{EventNo}
-use Rattle.perf_base.specs.declared.numbers.Key.{Key}
-use Rattle.stage_spec.specs.declared.instance.Instance.{Instance}
-use Rattle.stage_spec.specs.Effective.{is_ready, is_hardware}
-use Rattle.stage_spec.specs.Hardware.{counters_of, mask_of}
-use Rattle.stage_spec.specs.Stage.{members_of, is_of_family}
-use Rattle.stage_spec.specs.Verdict.{is_eligible, with_masks}
-use Rattle.stage_laws.specs.Briefs.{GroupBrief}
-use Rattle.stage_laws.proofs.Counts.{count-cons, count-append}
-use Rattle.stage_laws.proofs.Totals.{as_number}
-use Rattle.world_spec.specs.Kept.{leads, post_at, IsKept}
-use Rattle.world_spec.specs.Listings.{pass_leaders}
-use Rattle.world_spec.specs.StageOf.{group_at}
-use Rattle.world_spec.specs.Value.{World, entry_at, instance_at, is_live, is_key}
-use Rattle.world_spec.proofs.Copies.{times-at}
-use Rattle.world_spec.proofs.GoneStage.{AreLeading}
-use Rattle.world_spec.proofs.Keys.{times-cons, once-true}
-use Rattle.world_spec.proofs.Listings.{reached_leaders, reached-leading}
-use Rattle.world_spec.proofs.Moving.{leads-parts}
+use Rattle.std.proofs.{Common.{arith, refl, sym, ap, subst, ◌∙◌, inl, inr}, lemmas.Bool.{cases_Bool, Decides.{nat_tests}}}
+use Rattle.std.proofs.lemmas.List.{get_or-map, length-append, length-map, map-append, Elements.{All-append, All-cons, filter-append}}
+use Rattle.perf_base.specs.declared.numbers.{CpuNo.{CpuNo}, EventNo.{EventNo}, Key.{Key}}
+use Rattle.stage_spec.specs.{declared.instance.Instance.{Instance}, Effective.{is_ready, is_hardware}, Hardware.{counters_of, mask_of}}
+use Rattle.stage_spec.specs.{Stage.{members_of, is_of_family}, Verdict.{is_eligible, with_masks}}
+use Rattle.stage_laws.{specs.Briefs.{GroupBrief}, proofs.{Counts.{count-cons, count-append}, Totals.{as_number}}}
+use Rattle.world_spec.specs.{Kept.{leads, post_at, IsKept}, Listings.{pass_leaders}, StageOf.{group_at}}
+use Rattle.world_spec.{specs.Value.{World, entry_at, instance_at, is_live, is_key}, proofs.{Copies.{times-at}, GoneStage.{AreLeading}}}
+use Rattle.world_spec.proofs.{Keys.{times-cons, once-true}, Listings.{reached_leaders, reached-leading}, Moving.{leads-parts}}
 use Rattle.cpu_sched.specs.Briefs.{groups_in, events_in, brief_at, briefs_at, present_brief, IsGroupBrief, IsBrief}
-use Rattle.cpu_sched.proofs.Briefs.{by-members, members-live}
-use Rattle.cpu_sched.proofs.Judged.{is-number}
+use Rattle.cpu_sched.proofs.{Briefs.{by-members, members-live}, Judged.{is-number}}
 use Rattle.cpu_sched.proofs.Served.{slots, held, held-parts, held-one, slots-of, held-reached}
 
 -- Slots below 256 of which each stands once at most are 256 at most.

@@ -1,31 +1,15 @@
 -- What is looked at of a group by its keys, and that its events can be put on the counters of a processor on which it
 -- is eligible.
 use Rattle.std.specs.Prelude.{◌≡◌, ℕ, suc, ◌<◌, ◌≤◌, Bool, true, false, not, ◌&&◌, cond, All, List, [], ◌∷◌, length, map, filter, slice_index, slice_index_or}
-use Rattle.std.specs.List.{list_all}
-use Rattle.std.proofs.Common.{arith, refl, sym, ap, subst, ◌∙◌, inl, inr}
-use Rattle.std.proofs.lemmas.Bool.{cases_Bool, cases_lt}
-use Rattle.std.proofs.lemmas.Bool.Decides.{nat_tests}
-use Rattle.std.proofs.lemmas.List.{get_or_past}
-use Rattle.std.proofs.lemmas.List.Elements.{All-cons}
-use Rattle.perf_base.specs.Masks.{IsMask}
-use Rattle.perf_base.specs.declared.attr.Kind.{Kind}
+use Rattle.std.{specs.List.{list_all}, proofs.{Common.{arith, refl, sym, ap, subst, ◌∙◌, inl, inr}, lemmas.Bool.{cases_Bool, cases_lt}}}
+use Rattle.std.proofs.lemmas.{Bool.Decides.{nat_tests}, List.{get_or_past, Elements.{All-cons}}}
+use Rattle.perf_base.specs.{Masks.{IsMask}, declared.{attr.Kind.{Kind}, numbers.{CpuNo.{CpuNo}, EventNo.{EventNo}, Key.{Key}}}}
 use Rattle.perf_base.specs.declared.attr.Kind.TheVariants as kind
-use Rattle.perf_base.specs.declared.numbers.CpuNo.{CpuNo}
-use Rattle.perf_base.specs.declared.numbers.EventNo.{EventNo}
-use Rattle.perf_base.specs.declared.numbers.Key.{Key}
-use Rattle.stage_spec.specs.declared.instance.Instance.{Instance}
-use Rattle.stage_spec.specs.Effective.{is_ready, is_hardware, is_wholly_software, counted_members}
-use Rattle.stage_spec.specs.Hardware.{Hardware, IsHardware, is_software, mask_of, counters_of, pmu_of_cpu, is_counted_on}
-use Rattle.stage_spec.specs.Places.{may_count_on}
-use Rattle.stage_spec.specs.Stage.{Group, members_of}
-use Rattle.stage_spec.specs.Tight.{masks_of}
-use Rattle.stage_spec.specs.Verdict.{is_eligible, with_masks}
-use Rattle.world_spec.specs.Kept.{leads, post_at, once_if, IsKept}
-use Rattle.world_spec.specs.StageOf.{group_at}
-use Rattle.world_spec.specs.Value.{World, entry_at, instance_at, is_live, is_key, times}
-use Rattle.world_spec.proofs.Copies.{times-at}
-use Rattle.world_spec.proofs.Families.{group-members}
-use Rattle.world_spec.proofs.Moving.{leads-parts}
+use Rattle.stage_spec.specs.{declared.instance.Instance.{Instance}, Effective.{is_ready, is_hardware, is_wholly_software, counted_members}}
+use Rattle.stage_spec.specs.{Hardware.{Hardware, IsHardware, is_software, mask_of, counters_of, pmu_of_cpu, is_counted_on}, Places.{may_count_on}}
+use Rattle.stage_spec.specs.{Stage.{Group, members_of}, Tight.{masks_of}, Verdict.{is_eligible, with_masks}}
+use Rattle.world_spec.specs.{Kept.{leads, post_at, once_if, IsKept}, StageOf.{group_at}, Value.{World, entry_at, instance_at, is_live, is_key, times}}
+use Rattle.world_spec.proofs.{Copies.{times-at}, Families.{group-members}, Moving.{leads-parts}}
 
 -- the members of a group are there
 counted : (a b : Bool) → 1 ≤ once_if (a && b) → a ≡ true

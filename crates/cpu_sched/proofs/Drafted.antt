@@ -1,24 +1,13 @@
 -- A draft with one group more, and the events of the groups that were taken.
-use Rattle.std.specs.Prelude.{◌≡◌, ℕ, zero, suc, ◌+◌, ◌<◌, ◌≤◌, ◌==◌, All, List, [], ◌∷◌, ◌++◌, length, map, take, slice_index_or}
-use Rattle.std.specs.List.{fold}
-use Rattle.std.proofs.Common.{arith, refl, sym, ap, subst, ◌∙◌}
-use Rattle.std.proofs.Math.Seq.{take-suc}
-use Rattle.std.proofs.lemmas.Grind.{flat_map-append}
-use Rattle.std.proofs.lemmas.List.{get_or-map, length-map, map-append}
-use Rattle.std.proofs.lemmas.List.Sums.{fold-append}
-use Rattle.perf_base.specs.declared.numbers.EventNo.{EventNo}
-use Rattle.perf_base.specs.declared.numbers.Key.{Key}
-use Rattle.perf_base.specs.declared.standing.Standing.{Standing}
+use Rattle.std.specs.{Prelude.{◌≡◌, ℕ, zero, suc, ◌+◌, ◌<◌, ◌≤◌, ◌==◌, All, List, [], ◌∷◌, ◌++◌, length, map, take, slice_index_or}, List.{fold}}
+use Rattle.std.proofs.{Common.{arith, refl, sym, ap, subst, ◌∙◌}, Math.Seq.{take-suc}, lemmas.Grind.{flat_map-append}}
+use Rattle.std.proofs.lemmas.List.{get_or-map, length-map, map-append, Sums.{fold-append}}
+use Rattle.perf_base.specs.declared.{numbers.{EventNo.{EventNo}, Key.{Key}}, standing.Standing.{Standing}}
 use Rattle.perf_base.specs.declared.standing.Standing.TheVariants as standing
-use Rattle.stage_laws.specs.Briefs.{GroupBrief}
-use Rattle.stage_laws.proofs.Counts.{count-append}
+use Rattle.stage_laws.{specs.Briefs.{GroupBrief}, proofs.Counts.{count-append}}
 use Rattle.counter_match.specs.Seating.{AreDistinct}
-use Rattle.cpu_sched.specs.declared.group_brief.GroupBrief.{GroupBrief as Stored}
-use Rattle.cpu_sched.specs.declared.judging.SoFar.{SoFar}
-use Rattle.cpu_sched.specs.Briefs.{seen, events_in, IsGroupBrief}
-use Rattle.cpu_sched.specs.Judging.{events_next}
-use Rattle.cpu_sched.specs.Plans.{Draft, draft_of, plan_one, planned_of}
-use Rattle.cpu_sched.specs.Tried.{tries_for}
+use Rattle.cpu_sched.specs.{declared.{group_brief.GroupBrief.{GroupBrief as Stored}, judging.SoFar.{SoFar}}, Briefs.{seen, events_in, IsGroupBrief}}
+use Rattle.cpu_sched.specs.{Judging.{events_next}, Plans.{Draft, draft_of, plan_one, planned_of}, Tried.{tries_for}}
 use Rattle.cpu_sched.proofs.Served.{slots, distinct-once}
 
 -- a draft is told by its three parts

@@ -1,34 +1,19 @@
 -- A processor all of whose groups were told is judged.
 use Rattle.std.specs.Prelude.{◌≡◌, ℕ, ◌+◌, ◌<◌, ◌≤◌, ◌==◌, Bool, true, false, ◌&&◌, cond, nat_lt, List, [], ◌∷◌, ◌++◌, length, map, filter, flat_map, Option, Some, None, if◌then◌else◌}
-use Rattle.std.specs.List.{fold}
-use Rattle.std.proofs.Common.{arith, refl, sym, ap, subst, ◌∙◌, inl, inr}
-use Rattle.std.proofs.lemmas.Bool.{cases_eq, false≢true}
-use Rattle.std.proofs.lemmas.Bool.Decides.{nat_tests}
-use Rattle.std.proofs.lemmas.List.{append-nil, length-set, get_or-set_same}
-use Rattle.std.proofs.lemmas.List.Elements.{filter-append}
-use Rattle.perf_base.specs.declared.numbers.CpuNo.{CpuNo}
-use Rattle.perf_base.specs.declared.numbers.Key.{Key}
-use Rattle.perf_base.specs.declared.numbers.TaskNo.{TaskNo}
-use Rattle.perf_base.specs.declared.standing.Context.{Context}
+use Rattle.std.{specs.List.{fold}, proofs.{Common.{arith, refl, sym, ap, subst, ◌∙◌, inl, inr}, lemmas.Bool.{cases_eq, false≢true}}}
+use Rattle.std.proofs.lemmas.{Bool.Decides.{nat_tests}, List.{append-nil, length-set, get_or-set_same, Elements.{filter-append}}}
+use Rattle.perf_base.specs.declared.{numbers.{CpuNo.{CpuNo}, Key.{Key}, TaskNo.{TaskNo}}, standing.Context.{Context}}
 use Rattle.perf_base.specs.declared.standing.Context.TheVariants as context
-use Rattle.stage_spec.specs.declared.instance.Instance.{Instance}
-use Rattle.stage_spec.specs.Effective.{is_ready, is_hardware, counted_members}
-use Rattle.stage_spec.specs.Hardware.{Hardware}
+use Rattle.stage_spec.specs.{declared.instance.Instance.{Instance}, Effective.{is_ready, is_hardware, counted_members}, Hardware.{Hardware}}
 use Rattle.stage_spec.specs.Stage.{Group, members_of, place_of, task_on, is_task}
 use Rattle.stage_spec.specs.Verdict.{Judged, is_eligible, judge_passes, verdicts, groups_on, with_masks, standing_among}
-use Rattle.stage_laws.specs.Narrowing.{has_context}
-use Rattle.stage_laws.proofs.Counts.{count-append}
+use Rattle.stage_laws.{specs.Narrowing.{has_context}, proofs.Counts.{count-append}}
 use Rattle.counter_match.specs.Seating.{empty_seating}
-use Rattle.world_spec.specs.Kept.{leads, post_at, once_if, IsKept}
-use Rattle.world_spec.specs.Listings.{pass_leaders, task_leaders}
-use Rattle.world_spec.specs.Rescheduled.{IsJudged}
-use Rattle.world_spec.specs.StageOf.{group_at, stage_of}
-use Rattle.world_spec.specs.Value.{World, Leaders, leaders_of, entry_at, standing_at, seats_at, is_key, times}
+use Rattle.world_spec.specs.{Kept.{leads, post_at, once_if, IsKept}, Listings.{pass_leaders, task_leaders}, Rescheduled.{IsJudged}}
+use Rattle.world_spec.specs.{StageOf.{group_at, stage_of}, Value.{World, Leaders, leaders_of, entry_at, standing_at, seats_at, is_key, times}}
 use Rattle.world_spec.proofs.Families.{leaders_both, leaders-at}
 use Rattle.world_spec.proofs.Listings.{passes-are, reached_leaders, reached-once, reached-context, reached-leading}
-use Rattle.cpu_sched.specs.declared.judging.SoFar.{SoFar}
-use Rattle.cpu_sched.specs.Judging.{tally_in, tell_pass, retold}
-use Rattle.cpu_sched.proofs.Telling.{Stands, passes-told}
+use Rattle.cpu_sched.{specs.{declared.judging.SoFar.{SoFar}, Judging.{tally_in, tell_pass, retold}}, proofs.Telling.{Stands, passes-told}}
 
 -- A leader in one of a processor's contexts is among those that it reaches.
 led-here : (live here : Bool) → live ≡ true → here ≡ true → once_if (live && here) ≡ 1

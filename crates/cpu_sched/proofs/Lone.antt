@@ -1,28 +1,16 @@
 -- A world in which a processor runs a given task, every task is live, and no other processor runs one, is kept. So what
 -- holds of a processor's brief holds of it with the groups of any task.
 use Rattle.std.specs.Prelude.{◌≡◌, ℕ, zero, suc, ◌<◌, ◌≤◌, Bool, true, false, All, List, [], ◌∷◌, length, map, Option, Some, None, slice_index_or, slice_set}
-use Rattle.std.proofs.Common.{arith, refl, sym, ap, subst, ◌∙◌, inl, inr}
-use Rattle.std.proofs.lemmas.Bool.{cases_eq}
-use Rattle.std.proofs.lemmas.Option.{none-some}
+use Rattle.std.proofs.{Common.{arith, refl, sym, ap, subst, ◌∙◌, inl, inr}, lemmas.{Bool.{cases_eq}, Option.{none-some}}}
 use Rattle.std.proofs.lemmas.List.{get_or-map, get_or-set_same, get_or-set_other, length-map, length-set}
-use Rattle.perf_base.specs.declared.numbers.CpuNo.{CpuNo}
-use Rattle.perf_base.specs.declared.numbers.Key.{Key}
-use Rattle.perf_base.specs.declared.numbers.TaskNo.{TaskNo}
+use Rattle.perf_base.specs.declared.numbers.{CpuNo.{CpuNo}, Key.{Key}, TaskNo.{TaskNo}}
 use Rattle.perf_base.specs.declared.standing.Context.TheVariants as context
+use Rattle.stage_spec.specs.{declared.instance.TaskStatus.{TaskStatus}, Hardware.{counters_of}, Stage.{task_on, is_live, unknown_task}}
 use Rattle.stage_spec.specs.declared.instance.TaskState.TheVariants as task_state
-use Rattle.stage_spec.specs.declared.instance.TaskStatus.{TaskStatus}
-use Rattle.stage_spec.specs.Hardware.{counters_of}
-use Rattle.stage_spec.specs.Stage.{task_on, is_live, unknown_task}
 use Rattle.stage_laws.specs.Briefs.{GroupBrief}
-use Rattle.world_spec.specs.Copying.{leaders_in}
-use Rattle.world_spec.specs.Kept.{HaveTotals, IsKept}
-use Rattle.world_spec.specs.Listings.{task_leaders}
-use Rattle.world_spec.specs.StageOf.{stage_of}
-use Rattle.world_spec.specs.Value.{World, leaders_of}
+use Rattle.world_spec.specs.{Copying.{leaders_in}, Kept.{HaveTotals, IsKept}, Listings.{task_leaders}, StageOf.{stage_of}, Value.{World, leaders_of}}
 use Rattle.world_spec.proofs.GoneStage.{AreLeading}
-use Rattle.cpu_sched.specs.After.{brief_with}
-use Rattle.cpu_sched.specs.Briefs.{briefs_at, IsGroupBrief, IsBrief}
-use Rattle.cpu_sched.proofs.Bounded.{pass-few, present-sound}
+use Rattle.cpu_sched.{specs.{After.{brief_with}, Briefs.{briefs_at, IsGroupBrief, IsBrief}}, proofs.Bounded.{pass-few, present-sound}}
 use Rattle.cpu_sched.proofs.Passing.{pass-leads}
 
 abbrev nobody : List (Option TaskNo) → List (Option TaskNo)

@@ -1,14 +1,10 @@
 -- A brief by its four passes.
 use Rattle.std.specs.Prelude.{◌≡◌, ℕ, ◌+◌, ◌≤◌, ◌==◌, All, List, [], ◌∷◌, ◌++◌, length, slice_index_or}
-use Rattle.std.proofs.Common.{arith, refl, sym, ap, subst, ◌∙◌}
-use Rattle.std.proofs.lemmas.Grind.{flat_map-append}
+use Rattle.std.proofs.{Common.{arith, refl, sym, ap, subst, ◌∙◌}, lemmas.Grind.{flat_map-append}}
 use Rattle.std.proofs.lemmas.List.{get_or_append_left, get_or-append-add, length-append}
-use Rattle.perf_base.specs.declared.numbers.EventNo.{EventNo}
-use Rattle.perf_base.specs.declared.numbers.Key.{Key}
-use Rattle.stage_laws.specs.Briefs.{GroupBrief}
-use Rattle.stage_laws.proofs.Counts.{count-append}
-use Rattle.cpu_sched.specs.Briefs.{ProcessorBrief, events_in, IsGroupBrief, IsBrief}
-use Rattle.cpu_sched.proofs.Served.{slots}
+use Rattle.perf_base.specs.declared.numbers.{EventNo.{EventNo}, Key.{Key}}
+use Rattle.stage_laws.{specs.Briefs.{GroupBrief}, proofs.Counts.{count-append}}
+use Rattle.cpu_sched.{specs.Briefs.{ProcessorBrief, events_in, IsGroupBrief, IsBrief}, proofs.Served.{slots}}
 
 all-left : {X : Type 0} (P : X → Type 0) (xs ys : List X) → All P (xs ++ ys) → All P xs
 all-left P xs ys all i d low = subst P (get_or_append_left xs ys d i low) (all i d (omega (arith, low, length-append xs ys)))

@@ -1,25 +1,13 @@
 -- What the passes of a processor have, also after some groups went to error.
 use Rattle.std.specs.Prelude.{◌≡◌, ℕ, zero, suc, ◌+◌, ◌<◌, ◌≤◌, true, List, [], ◌∷◌, length, Some, take, slice_index_or}
-use Rattle.std.proofs.Common.{arith, sym, ap, subst, ◌∙◌, inl, inr}
-use Rattle.std.proofs.Math.Seq.{take-suc}
-use Rattle.std.proofs.lemmas.List.{get_or_past}
-use Rattle.std.proofs.lemmas.List.Sums.{fold-append}
+use Rattle.std.proofs.{Common.{arith, sym, ap, subst, ◌∙◌, inl, inr}, Math.Seq.{take-suc}, lemmas.List.{get_or_past, Sums.{fold-append}}}
 use Rattle.std.proofs.lemmas.Bool.{cases_lt, false≢true}
-use Rattle.perf_base.specs.declared.numbers.CpuNo.{CpuNo}
-use Rattle.perf_base.specs.declared.numbers.Key.{Key}
-use Rattle.perf_base.specs.declared.numbers.TaskNo.{TaskNo}
-use Rattle.stage_spec.specs.Hardware.{Hardware}
-use Rattle.stage_spec.specs.Stage.{task_on, status_of, unknown_task, is_live}
+use Rattle.perf_base.specs.declared.numbers.{CpuNo.{CpuNo}, Key.{Key}, TaskNo.{TaskNo}}
+use Rattle.stage_spec.specs.{Hardware.{Hardware}, Stage.{task_on, status_of, unknown_task, is_live}}
 use Rattle.stage_laws.proofs.Counts.{count-append}
-use Rattle.world_spec.specs.Kept.{leads, post_at, IsKept}
-use Rattle.world_spec.specs.Listings.{pass_leaders}
-use Rattle.world_spec.specs.Rescheduled.{fail_group, fail_groups, pinned_leaders}
-use Rattle.world_spec.specs.StageOf.{stage_of}
-use Rattle.world_spec.specs.Value.{World, is_key, times}
-use Rattle.world_spec.proofs.Failing.{failed-rest}
-use Rattle.world_spec.proofs.GoneStage.{AreLeading}
-use Rattle.world_spec.proofs.Listings.{reached-leading}
-use Rattle.world_spec.proofs.Copies.{times-at}
+use Rattle.world_spec.specs.{Kept.{leads, post_at, IsKept}, Listings.{pass_leaders}, Rescheduled.{fail_group, fail_groups, pinned_leaders}}
+use Rattle.world_spec.{specs.{StageOf.{stage_of}, Value.{World, is_key, times}}, proofs.{Failing.{failed-rest}, GoneStage.{AreLeading}}}
+use Rattle.world_spec.proofs.{Listings.{reached-leading}, Copies.{times-at}}
 use Rattle.cpu_sched.proofs.Telling.{told_all}
 
 -- the task on a processor has a number

@@ -1,26 +1,15 @@
 -- A plan that grows group by group has the verdicts of the brief.
-use Rattle.std.specs.Prelude.{◌≡◌, ℕ, ◌+◌, Bool, not, ◌&&◌, List, [], ◌∷◌, ◌++◌, length, map, filter, flat_map, None}
-use Rattle.std.specs.List.{fold}
-use Rattle.std.proofs.Common.{arith, refl, sym, ap, subst, ◌∙◌, append_assoc}
-use Rattle.std.proofs.lemmas.Grind.{flat_map-append}
-use Rattle.std.proofs.lemmas.List.{append-nil, map-append}
-use Rattle.std.proofs.lemmas.List.Elements.{filter-append}
-use Rattle.std.proofs.lemmas.List.Sums.{sum_by-append}
-use Rattle.perf_base.specs.declared.numbers.EventNo.{EventNo}
-use Rattle.perf_base.specs.declared.numbers.Key.{Key}
-use Rattle.perf_base.specs.declared.standing.Standing.{Standing}
+use Rattle.std.specs.{Prelude.{◌≡◌, ℕ, ◌+◌, Bool, not, ◌&&◌, List, [], ◌∷◌, ◌++◌, length, map, filter, flat_map, None}, List.{fold}}
+use Rattle.std.proofs.{Common.{arith, refl, sym, ap, subst, ◌∙◌, append_assoc}, lemmas.{Grind.{flat_map-append}, List.{append-nil, map-append}}}
+use Rattle.std.proofs.lemmas.List.{Elements.{filter-append}, Sums.{sum_by-append}}
+use Rattle.perf_base.specs.{declared.{numbers.{EventNo.{EventNo}, Key.{Key}}, standing.Standing.{Standing}}, Standings.{stands_on, stands_refused}}
 use Rattle.perf_base.specs.declared.standing.Standing.TheVariants as standing
-use Rattle.perf_base.specs.Standings.{stands_on, stands_refused}
-use Rattle.stage_spec.specs.Rules.{ruling_of}
-use Rattle.stage_spec.specs.Verdict.{by_ruling}
+use Rattle.stage_spec.specs.{Rules.{ruling_of}, Verdict.{by_ruling}}
 use Rattle.stage_laws.specs.Briefs.{GroupBrief, JudgedBrief, briefs_on, first_slot, first_brief_refused, judge_brief, judge_briefs, judge_brief_passes, standings_by, seated_by}
-use Rattle.cpu_sched.specs.declared.judging.SoFar.{SoFar}
-use Rattle.cpu_sched.specs.Judging.{first_or, events_next}
-use Rattle.counter_match.specs.Seating.{Seated}
-use Rattle.cpu_sched.specs.Briefs.{ProcessorBrief}
+use Rattle.cpu_sched.specs.{declared.judging.SoFar.{SoFar}, Judging.{first_or, events_next}, Briefs.{ProcessorBrief}}
 use Rattle.cpu_sched.specs.Plans.{Draft, IsPlanOf, judged_groups, planned_of, with_planned, plan_one, plan_pass_of, draft_of, tried_by}
-use Rattle.cpu_sched.specs.Tried.{tries_for}
-use Rattle.cpu_sched.proofs.Telling.{first-stays, first-push}
+use Rattle.cpu_sched.{specs.Tried.{tries_for}, proofs.Telling.{first-stays, first-push}}
+use Rattle.counter_match.specs.Seating.{Seated}
 
 abbrev judged : GroupBrief Key → Standing → JudgedBrief Key
 judged b s = record { brief = b; standing = s }

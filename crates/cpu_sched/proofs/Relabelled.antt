@@ -1,29 +1,16 @@
 -- Verdicts do not go by how leaders are named. So the verdicts of the present brief, which names them by their keys,
 -- are the stage's.
-use Rattle.std.specs.Prelude.{◌≡◌, ℕ, not, List, [], ◌∷◌, ◌++◌, map, filter, flat_map, Option}
-use Rattle.std.proofs.Common.{refl, sym, ap, ◌∙◌, append_assoc}
-use Rattle.std.proofs.lemmas.List.{append-nil, map-append, map-id}
-use Rattle.std.proofs.lemmas.List.Elements.{filter-append}
-use Rattle.std.proofs.lemmas.Simd.{map-map}
-use Rattle.perf_base.specs.declared.numbers.CpuNo.{CpuNo}
-use Rattle.perf_base.specs.declared.numbers.EventNo.{EventNo}
-use Rattle.perf_base.specs.declared.numbers.Key.{Key}
-use Rattle.perf_base.specs.declared.standing.Standing.{Standing}
+use Rattle.std.{specs.Prelude.{◌≡◌, ℕ, not, List, [], ◌∷◌, ◌++◌, map, filter, flat_map, Option}, proofs.Common.{refl, sym, ap, ◌∙◌, append_assoc}}
+use Rattle.std.proofs.lemmas.{List.{append-nil, map-append, map-id, Elements.{filter-append}}, Simd.{map-map}}
+use Rattle.perf_base.specs.declared.{numbers.{CpuNo.{CpuNo}, EventNo.{EventNo}, Key.{Key}}, standing.Standing.{Standing}}
 use Rattle.perf_base.specs.Standings.{stands_on, stands_refused}
-use Rattle.stage_spec.specs.Replies.{seated}
-use Rattle.stage_spec.specs.Rules.{ruling_of}
-use Rattle.stage_spec.specs.Stage.{Group}
-use Rattle.stage_spec.specs.Verdict.{is_eligible, by_ruling, with_masks}
+use Rattle.stage_spec.specs.{Replies.{seated}, Rules.{ruling_of}, Stage.{Group}, Verdict.{is_eligible, by_ruling, with_masks}}
 use Rattle.stage_laws.specs.Briefs.{GroupBrief, JudgedBrief, briefs_on, first_slot, first_brief_refused, judge_brief, judge_briefs, judge_brief_passes, standings_by, seated_by}
-use Rattle.stage_laws.specs.Standings.{brief_of, briefs, standings}
-use Rattle.stage_laws.proofs.Briefs.{standings-are, seated-are}
+use Rattle.stage_laws.{specs.Standings.{brief_of, briefs, standings}, proofs.Briefs.{standings-are, seated-are}}
 use Rattle.stage_laws.proofs.Images.{map-same, filter-map, find-image}
-use Rattle.world_spec.specs.Listings.{pass_leaders}
-use Rattle.world_spec.specs.StageOf.{group_at, stage_of}
-use Rattle.world_spec.specs.Value.{World, instance_at}
+use Rattle.world_spec.specs.{Listings.{pass_leaders}, StageOf.{group_at, stage_of}, Value.{World, instance_at}}
 use Rattle.world_spec.proofs.Listings.{passes-are, reached_leaders}
-use Rattle.cpu_sched.specs.Briefs.{brief_at, briefs_at, present_brief}
-use Rattle.cpu_sched.specs.Plans.{judged_groups}
+use Rattle.cpu_sched.specs.{Briefs.{brief_at, briefs_at, present_brief}, Plans.{judged_groups}}
 
 abbrev pub relabel : (Key → ℕ) → GroupBrief Key → GroupBrief ℕ
 relabel f b = record { leader = f b.leader; slot = b.slot; software = b.software; exclusive = b.exclusive; counted = b.counted }

@@ -1,25 +1,13 @@
 -- A world that differs in standings and in the seats of one processor: what it shares, and how such changes follow each
 -- other.
-use Rattle.std.specs.Prelude.{◌≡◌, ℕ, zero, suc, ◌+◌, ◌<◌, List, [], ◌∷◌, ◌++◌, length, take, slice_index_or, slice_set}
-use Rattle.std.specs.List.{fold}
-use Rattle.std.proofs.Common.{arith, refl, sym, ap, subst, ◌∙◌}
-use Rattle.std.proofs.Math.Seq.{take-suc}
-use Rattle.std.proofs.lemmas.Grind.{flat_map-append}
-use Rattle.std.proofs.lemmas.List.{append-nil, set-get_or, get_or-set_same}
-use Rattle.std.proofs.lemmas.List.Sums.{fold-append}
-use Rattle.perf_base.specs.declared.numbers.CpuNo.{CpuNo}
-use Rattle.perf_base.specs.declared.numbers.EventNo.{EventNo}
-use Rattle.perf_base.specs.declared.numbers.Key.{Key}
+use Rattle.std.specs.{Prelude.{◌≡◌, ℕ, zero, suc, ◌+◌, ◌<◌, List, [], ◌∷◌, ◌++◌, length, take, slice_index_or, slice_set}, List.{fold}}
+use Rattle.std.proofs.{Common.{arith, refl, sym, ap, subst, ◌∙◌}, Math.Seq.{take-suc}, lemmas.Grind.{flat_map-append}}
+use Rattle.std.proofs.lemmas.List.{append-nil, set-get_or, get_or-set_same, Sums.{fold-append}}
+use Rattle.perf_base.specs.declared.numbers.{CpuNo.{CpuNo}, EventNo.{EventNo}, Key.{Key}}
 use Rattle.counter_match.specs.Seating.{Seated, empty_seating}
-use Rattle.world_spec.specs.Changes.{with_seats}
-use Rattle.world_spec.specs.Listings.{pass_leaders}
-use Rattle.world_spec.specs.StageOf.{group_at}
-use Rattle.world_spec.specs.Value.{World, seats_at}
-use Rattle.cpu_sched.specs.declared.judging.SoFar.{SoFar}
-use Rattle.cpu_sched.specs.Judging.{tally_in, tell, told_of, tell_pass, retold, IsTold}
-use Rattle.cpu_sched.specs.Passes.{AreOfTold, told_before}
-use Rattle.cpu_sched.proofs.Served.{told-push}
-use Rattle.cpu_sched.proofs.Telling.{told_all}
+use Rattle.world_spec.specs.{Changes.{with_seats}, Listings.{pass_leaders}, StageOf.{group_at}, Value.{World, seats_at}}
+use Rattle.cpu_sched.specs.{declared.judging.SoFar.{SoFar}, Judging.{tally_in, tell, told_of, tell_pass, retold, IsTold}}
+use Rattle.cpu_sched.{specs.Passes.{AreOfTold, told_before}, proofs.{Served.{told-push}, Telling.{told_all}}}
 
 -- a world is itself with its own seats, and a second change takes the place of the first
 pub retold-self : (cpu : CpuNo) (w : World) → w ≡ retold cpu w w

@@ -1,16 +1,11 @@
 -- When two events are equal, and two lists of groups.
-use Rattle.std.specs.Prelude.{◌≡◌, ℕ, suc, ◌+◌, ◌<◌, ◌==◌, ◌&&◌, true, List, [], ◌∷◌, ◌++◌, length, map, take, slice_index_or}
-use Rattle.std.specs.Bool.{Decides}
-use Rattle.std.proofs.Common.{arith, sym, ap, subst, ◌∙◌}
-use Rattle.std.proofs.Math.Seq.{get_or-append_seam, take-suc}
+use Rattle.std.specs.{Prelude.{◌≡◌, ℕ, suc, ◌+◌, ◌<◌, ◌==◌, ◌&&◌, true, List, [], ◌∷◌, ◌++◌, length, map, take, slice_index_or}, Bool.{Decides}}
+use Rattle.std.proofs.{Common.{arith, sym, ap, subst, ◌∙◌}, Math.Seq.{get_or-append_seam, take-suc}}
 use Rattle.std.proofs.lemmas.List.{get_or-map, length-map, length-take, map-append}
-use Rattle.perf_base.specs.declared.numbers.EventNo.{EventNo}
-use Rattle.perf_base.specs.declared.numbers.Key.{Key}
+use Rattle.perf_base.specs.declared.numbers.{EventNo.{EventNo}, Key.{Key}}
 use Rattle.stage_laws.specs.Briefs.{GroupBrief}
 use Rattle.world_spec.proofs.Moving.{leads-parts}
-use Rattle.cpu_sched.specs.declared.group_brief.GroupBrief.{GroupBrief as Stored}
-use Rattle.cpu_sched.specs.Briefs.{seen}
-use Rattle.cpu_sched.proofs.Judged.{same-number, is-number}
+use Rattle.cpu_sched.{specs.{declared.group_brief.GroupBrief.{GroupBrief as Stored}, Briefs.{seen}}, proofs.Judged.{same-number, is-number}}
 
 pub event-decides : (a b : EventNo × ℕ) → Decides (a.0.0 == b.0.0 && a.1 == b.1) (a ≡ b)
 event-decides a b = (

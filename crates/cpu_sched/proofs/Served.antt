@@ -1,32 +1,16 @@
 -- The events of the groups that were told are each there once, so that the next group can be put beside them.
 use Rattle.std.specs.Prelude.{◌≡◌, ◌≢◌, ℕ, zero, suc, ◌+◌, ◌<◌, ◌≤◌, ◌==◌, Bool, true, ◌&&◌, cond, List, [], ◌∷◌, ◌++◌, length, map, filter, flat_map, count_by, take, slice_index_or}
-use Rattle.std.proofs.Common.{arith, sym, ap, subst, ◌∙◌, inl, inr}
-use Rattle.std.proofs.lemmas.Bool.{cases_Bool}
-use Rattle.std.proofs.lemmas.Bool.Decides.{nat_tests}
-use Rattle.std.proofs.lemmas.Grind.{flat_map-append}
-use Rattle.std.proofs.lemmas.List.{append-nil, map-append}
-use Rattle.std.proofs.lemmas.List.Kept.{AllPairs-cons}
-use Rattle.perf_base.specs.declared.numbers.CpuNo.{CpuNo}
-use Rattle.perf_base.specs.declared.numbers.EventNo.{EventNo}
-use Rattle.perf_base.specs.declared.numbers.Key.{Key}
-use Rattle.perf_base.specs.declared.standing.Standing.{Standing}
+use Rattle.std.proofs.{Common.{arith, sym, ap, subst, ◌∙◌, inl, inr}, lemmas.{Bool.{cases_Bool, Decides.{nat_tests}}, Grind.{flat_map-append}}}
+use Rattle.std.proofs.lemmas.List.{append-nil, map-append, Kept.{AllPairs-cons}}
+use Rattle.perf_base.specs.declared.{numbers.{CpuNo.{CpuNo}, EventNo.{EventNo}, Key.{Key}}, standing.Standing.{Standing}}
 use Rattle.perf_base.specs.declared.standing.Standing.TheVariants as standing
-use Rattle.stage_spec.specs.declared.instance.Instance.{Instance}
-use Rattle.stage_spec.specs.Effective.{is_ready, is_hardware, counted_members}
-use Rattle.stage_spec.specs.Hardware.{Hardware}
-use Rattle.stage_spec.specs.Stage.{members_of, members, is_of_family}
-use Rattle.stage_spec.specs.Verdict.{with_masks}
+use Rattle.stage_spec.specs.{declared.instance.Instance.{Instance}, Effective.{is_ready, is_hardware, counted_members}, Hardware.{Hardware}}
+use Rattle.stage_spec.specs.{Stage.{members_of, members, is_of_family}, Verdict.{with_masks}}
 use Rattle.stage_laws.proofs.Counts.{count-cons, count-append}
 use Rattle.counter_match.specs.Seating.{AreDistinct}
-use Rattle.world_spec.specs.Kept.{IsKept}
-use Rattle.world_spec.specs.Listings.{pass_leaders}
-use Rattle.world_spec.specs.StageOf.{group_at}
-use Rattle.world_spec.specs.Value.{World}
-use Rattle.world_spec.proofs.Keys.{once-true}
+use Rattle.world_spec.{specs.{Kept.{IsKept}, Listings.{pass_leaders}, StageOf.{group_at}, Value.{World}}, proofs.Keys.{once-true}}
 use Rattle.world_spec.proofs.Listings.{passes-are, reached_leaders, flat-mapped, one-on_processor}
-use Rattle.cpu_sched.specs.Judging.{events_next}
-use Rattle.cpu_sched.specs.Passes.{AreOfTold, told_before}
-use Rattle.cpu_sched.proofs.Telling.{told_all}
+use Rattle.cpu_sched.{specs.{Judging.{events_next}, Passes.{AreOfTold, told_before}}, proofs.Telling.{told_all}}
 
 -- how often an event stands in a list, and how many instances of it groups have
 abbrev pub slots : EventNo → List (EventNo × ℕ) → ℕ

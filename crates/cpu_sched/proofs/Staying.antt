@@ -1,38 +1,20 @@
 -- What rescheduling leaves: all that is not of the processor, and that other processors stand as they stood.
 use Rattle.std.specs.Prelude.{◌≡◌, ◌≢◌, ◌<◌, ◌≤◌, Bool, true, false, List, [], ◌∷◌, ◌++◌, map, filter, flat_map, Option, Some, None, slice_index_or, slice_set}
-use Rattle.std.proofs.Common.{arith, refl, sym, ap, ◌∙◌, inl, inr}
-use Rattle.std.proofs.lemmas.Bool.{cases_eq, cases_Bool, false≢true}
-use Rattle.std.proofs.lemmas.List.{get_or-set_other}
-use Rattle.perf_base.specs.declared.numbers.CpuNo.{CpuNo}
-use Rattle.perf_base.specs.declared.numbers.Key.{Key}
-use Rattle.perf_base.specs.declared.numbers.TaskNo.{TaskNo}
-use Rattle.perf_base.specs.declared.standing.Context.{Context}
+use Rattle.std.proofs.{Common.{arith, refl, sym, ap, ◌∙◌, inl, inr}, lemmas.{Bool.{cases_eq, cases_Bool, false≢true}, List.{get_or-set_other}}}
+use Rattle.perf_base.specs.declared.{numbers.{CpuNo.{CpuNo}, Key.{Key}, TaskNo.{TaskNo}}, standing.{Context.{Context}, Standing.{Standing}}}
 use Rattle.perf_base.specs.declared.standing.Context.TheVariants as context
-use Rattle.perf_base.specs.declared.standing.Standing.{Standing}
 use Rattle.perf_base.specs.declared.standing.Standing.TheVariants as standing
-use Rattle.stage_spec.specs.declared.instance.Instance.{Instance}
-use Rattle.stage_spec.specs.Hardware.{Hardware}
-use Rattle.stage_spec.specs.Stage.{Group, is_task, task_on}
+use Rattle.stage_spec.specs.{declared.instance.Instance.{Instance}, Hardware.{Hardware}, Stage.{Group, is_task, task_on}}
 use Rattle.stage_spec.specs.Verdict.{is_eligible, passes}
-use Rattle.stage_laws.specs.Narrowing.{has_context}
-use Rattle.stage_laws.specs.Standings.{brief_of}
-use Rattle.stage_laws.specs.Sound.{AreRunning}
-use Rattle.stage_laws.proofs.Counts.{count-append}
+use Rattle.stage_laws.{specs.{Narrowing.{has_context}, Standings.{brief_of}, Sound.{AreRunning}}, proofs.Counts.{count-append}}
 use Rattle.counter_match.specs.Seating.{empty_seating}
-use Rattle.world_spec.specs.Kept.{post_at, leads, once_if, is_member_of, IsKept}
-use Rattle.world_spec.specs.Listings.{pass_leaders, task_leaders}
-use Rattle.world_spec.specs.Rescheduled.{IsUntouched, pinned_leaders, fail_by, fail_group, fail_groups}
-use Rattle.world_spec.specs.StageOf.{after_first, group_at, stage_of}
+use Rattle.world_spec.specs.{Kept.{post_at, leads, once_if, is_member_of, IsKept}, Listings.{pass_leaders, task_leaders}}
+use Rattle.world_spec.specs.{Rescheduled.{IsUntouched, pinned_leaders, fail_by, fail_group, fail_groups}, StageOf.{after_first, group_at, stage_of}}
 use Rattle.world_spec.specs.Value.{World, Leaders, leaders_of, is_live, entry_at, instance_at, standing_at, seats_at, is_key, times}
-use Rattle.world_spec.proofs.Failing.{failed_instance, are-failed, failed-rest, AllLead, failed-posts}
-use Rattle.world_spec.proofs.GoneLeaderStage.{map-within}
-use Rattle.world_spec.proofs.Keys.{key-is, is_key-true, times-cons}
-use Rattle.world_spec.proofs.Listings.{passes-are, reached_leaders, reached-context, reached-leading}
-use Rattle.world_spec.proofs.Moving.{leads-parts}
-use Rattle.world_spec.proofs.Standing.{left-untouched}
-use Rattle.cpu_sched.specs.Judging.{retold}
-use Rattle.cpu_sched.specs.Resched.{StaysBut}
-use Rattle.cpu_sched.proofs.Judged.{same-number}
+use Rattle.world_spec.proofs.{Failing.{failed_instance, are-failed, failed-rest, AllLead, failed-posts}, GoneLeaderStage.{map-within}}
+use Rattle.world_spec.proofs.{Keys.{key-is, is_key-true, times-cons}, Listings.{passes-are, reached_leaders, reached-context, reached-leading}}
+use Rattle.world_spec.proofs.{Moving.{leads-parts}, Standing.{left-untouched}}
+use Rattle.cpu_sched.{specs.{Judging.{retold}, Resched.{StaysBut}}, proofs.Judged.{same-number}}
 
 -- the pinned leaders of a processor are some that it reaches
 pinned-reached : (w : World) (cpu : CpuNo) (q : Key) → times q (pinned_leaders w cpu) ≤ times q (reached_leaders w cpu)

@@ -1,35 +1,18 @@
 -- The tally of groups that were told one after the other, by the definitions' verdicts.
 use Rattle.std.specs.Prelude.{◌≡◌, ℕ, ◌≤◌, ◌==◌, Bool, true, false, not, ◌&&◌, cond, List, [], ◌∷◌, ◌++◌, map, filter, find, flat_map, count_by, Option, Some, None, option_map, if◌then◌else◌}
-use Rattle.std.specs.FinMap.{FinMap, get}
-use Rattle.std.specs.List.{fold}
-use Rattle.std.specs.Option.{unwrap_or, option_or}
-use Rattle.std.specs.Ordering.{nat_cmp}
-use Rattle.std.proofs.Common.{arith, refl, sym, ap, subst, ◌∙◌, inl, inr, append_assoc}
-use Rattle.std.proofs.lemmas.Bool.{cases_eq, cases_Bool}
-use Rattle.std.proofs.lemmas.List.{append-nil, map-append}
-use Rattle.std.proofs.lemmas.List.Elements.{filter-append}
-use Rattle.std.proofs.lemmas.List.Folds.{find-append}
-use Rattle.std.proofs.lemmas.Grind.{flat_map-append}
-use Rattle.perf_base.specs.declared.numbers.CpuNo.{CpuNo}
-use Rattle.perf_base.specs.declared.numbers.EventNo.{EventNo}
-use Rattle.perf_base.specs.declared.numbers.Key.{Key}
-use Rattle.perf_base.specs.declared.standing.Standing.{Standing}
-use Rattle.perf_base.specs.declared.standing.Standing.TheVariants as standing
-use Rattle.stage_spec.specs.declared.instance.Instance.{Instance}
-use Rattle.stage_spec.specs.Effective.{name_of, is_wholly_software, is_exclusive_group, counted_members}
-use Rattle.stage_spec.specs.Hardware.{Hardware, mask_of}
-use Rattle.stage_spec.specs.Rules.{ruling_of}
-use Rattle.stage_spec.specs.Stage.{Group}
-use Rattle.stage_spec.specs.Verdict.{Judged, is_eligible, by_ruling, judge, judge_pass, judge_passes, groups_on, first_named, first_refused, with_masks, standing_among}
+use Rattle.std.specs.{FinMap.{FinMap, get}, List.{fold}, Option.{unwrap_or, option_or}, Ordering.{nat_cmp}}
+use Rattle.std.proofs.{Common.{arith, refl, sym, ap, subst, ◌∙◌, inl, inr, append_assoc}, lemmas.Bool.{cases_eq, cases_Bool}}
+use Rattle.std.proofs.lemmas.{List.{append-nil, map-append, Elements.{filter-append}, Folds.{find-append}}, Grind.{flat_map-append}}
+use Rattle.perf_base.specs.declared.{numbers.{CpuNo.{CpuNo}, EventNo.{EventNo}, Key.{Key}}, standing.Standing.{Standing}}
 use Rattle.perf_base.specs.Standings.{stands_on, stands_refused}
+use Rattle.perf_base.specs.declared.standing.Standing.TheVariants as standing
+use Rattle.stage_spec.specs.{declared.instance.Instance.{Instance}, Effective.{name_of, is_wholly_software, is_exclusive_group, counted_members}}
+use Rattle.stage_spec.specs.{Hardware.{Hardware, mask_of}, Rules.{ruling_of}, Stage.{Group}}
+use Rattle.stage_spec.specs.Verdict.{Judged, is_eligible, by_ruling, judge, judge_pass, judge_passes, groups_on, first_named, first_refused, with_masks, standing_among}
 use Rattle.stage_spec.proofs.Settling.{judged, groups_on-append}
-use Rattle.stage_laws.proofs.Counts.{count-cons, count-append, count-filter}
-use Rattle.stage_laws.proofs.Leaders.{find-first, find-later}
-use Rattle.world_spec.specs.Kept.{leads, post_at, IsKept}
-use Rattle.world_spec.specs.StageOf.{group_at}
-use Rattle.world_spec.specs.Value.{World, instance_at, is_key, times}
-use Rattle.world_spec.proofs.Keys.{key-is, is_key-same, is_key-other, times-push, once-true, once-false}
-use Rattle.world_spec.proofs.GoneStage.{AreLeading}
+use Rattle.stage_laws.proofs.{Counts.{count-cons, count-append, count-filter}, Leaders.{find-first, find-later}}
+use Rattle.world_spec.specs.{Kept.{leads, post_at, IsKept}, StageOf.{group_at}, Value.{World, instance_at, is_key, times}}
+use Rattle.world_spec.proofs.{Keys.{key-is, is_key-same, is_key-other, times-push, once-true, once-false}, GoneStage.{AreLeading}}
 use Rattle.world_spec.proofs.Listings.{count-none}
 use Rattle.world_spec.proofs.Rescheduling.{is_led, is_about, about-groups, own_id, among-none, among-later, among-cons, same-id}
 use Rattle.world_spec.proofs.Tables.{get-here, get-there}

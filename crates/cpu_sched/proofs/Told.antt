@@ -1,23 +1,12 @@
 -- Where a group stands after standings were told one after the other.
 use Rattle.std.specs.Prelude.{◌≡◌, ℕ, suc, ◌+◌, ◌<◌, ◌≤◌, Bool, true, false, cond, List, [], ◌∷◌, ◌++◌, length, map, take, slice_index_or}
-use Rattle.std.specs.FinMap.{FinMap, insert}
-use Rattle.std.specs.Option.{unwrap_or}
-use Rattle.std.specs.Ordering.{nat_cmp}
-use Rattle.std.proofs.Common.{arith, refl, sym, ap, ◌∙◌, inl, inr}
-use Rattle.std.proofs.Math.Seq.{take-suc}
-use Rattle.std.proofs.lemmas.Bool.{cases_Bool}
-use Rattle.std.proofs.lemmas.List.{map-append}
-use Rattle.std.proofs.lemmas.List.Sums.{fold-append}
-use Rattle.perf_base.specs.declared.numbers.Key.{Key}
-use Rattle.perf_base.specs.declared.standing.Standing.{Standing}
+use Rattle.std.{specs.{FinMap.{FinMap, insert}, Option.{unwrap_or}, Ordering.{nat_cmp}}, proofs.Common.{arith, refl, sym, ap, ◌∙◌, inl, inr}}
+use Rattle.std.proofs.{Math.Seq.{take-suc}, lemmas.{Bool.{cases_Bool}, List.{map-append, Sums.{fold-append}}}}
+use Rattle.perf_base.specs.declared.{numbers.Key.{Key}, standing.Standing.{Standing}}
 use Rattle.perf_base.specs.declared.standing.Standing.TheVariants as standing
-use Rattle.world_spec.specs.Value.{is_key, times}
-use Rattle.world_spec.proofs.Keys.{is_key-true, is_key-false, times-cons, once-true, once-false}
+use Rattle.world_spec.{specs.Value.{is_key, times}, proofs.Keys.{is_key-true, is_key-false, times-cons, once-true, once-false}}
 use Rattle.world_spec.proofs.Tables.{get-here, get-there}
-use Rattle.cpu_sched.specs.Adopting.{told_standings, out_standings}
-use Rattle.cpu_sched.specs.Plans.{told_by}
-use Rattle.cpu_sched.specs.declared.plan.Verdict.{Verdict}
-use Rattle.cpu_sched.proofs.Retold.{next-key}
+use Rattle.cpu_sched.{specs.{Adopting.{told_standings, out_standings}, Plans.{told_by}, declared.plan.Verdict.{Verdict}}, proofs.Retold.{next-key}}
 use Rattle.cpu_sched.proofs.Telling.{stand_at}
 
 -- the last that a key was told, or what it was before

@@ -1,31 +1,14 @@
 -- For how many events counters are tried, group by group, and so by the definitions' verdicts.
 use Rattle.std.specs.Prelude.{◌≡◌, ℕ, suc, ◌+◌, ◌<◌, ◌≤◌, Bool, true, false, cond, List, [], ◌∷◌, ◌++◌, length, map, filter, None, take, slice_index_or}
-use Rattle.std.specs.FinMap.{FinMap}
-use Rattle.std.specs.List.{fold, sum_by}
-use Rattle.std.specs.Ordering.{nat_cmp}
-use Rattle.std.proofs.Common.{arith, refl, sym, ap, subst, ◌∙◌, append_assoc}
-use Rattle.std.proofs.Math.Seq.{take-suc}
-use Rattle.std.proofs.lemmas.List.{append-nil, length-map}
-use Rattle.std.proofs.lemmas.List.Sums.{sum_by_push}
-use Rattle.perf_base.specs.declared.numbers.CpuNo.{CpuNo}
-use Rattle.perf_base.specs.declared.numbers.EventNo.{EventNo}
-use Rattle.perf_base.specs.declared.numbers.Key.{Key}
-use Rattle.perf_base.specs.declared.standing.Standing.{Standing}
-use Rattle.stage_spec.specs.declared.instance.Instance.{Instance}
-use Rattle.stage_spec.specs.Hardware.{Hardware, mask_of}
-use Rattle.stage_spec.specs.Stage.{Group}
-use Rattle.stage_spec.specs.Verdict.{Judged, is_eligible, judge, judge_pass, judge_passes, with_masks}
-use Rattle.stage_spec.proofs.Settling.{judged}
-use Rattle.world_spec.specs.Kept.{IsKept}
-use Rattle.world_spec.specs.Listings.{pass_leaders}
-use Rattle.world_spec.specs.StageOf.{group_at, stage_of}
-use Rattle.world_spec.specs.Value.{World, seats_at, times}
-use Rattle.world_spec.proofs.GoneStage.{AreLeading}
-use Rattle.world_spec.proofs.Listings.{reached-once, reached-leading}
-use Rattle.cpu_sched.specs.declared.judging.SoFar.{SoFar}
-use Rattle.cpu_sched.specs.Judging.{Tally, told_of, tell, tell_pass, tried_in, tried_passes, tally_in, retold}
-use Rattle.cpu_sched.specs.Tried.{tries, tried}
-use Rattle.cpu_sched.proofs.Judged.{all-verdicts, none-told}
+use Rattle.std.{specs.{FinMap.{FinMap}, List.{fold, sum_by}, Ordering.{nat_cmp}}, proofs.Common.{arith, refl, sym, ap, subst, ◌∙◌, append_assoc}}
+use Rattle.std.proofs.{Math.Seq.{take-suc}, lemmas.List.{append-nil, length-map, Sums.{sum_by_push}}}
+use Rattle.perf_base.specs.declared.{numbers.{CpuNo.{CpuNo}, EventNo.{EventNo}, Key.{Key}}, standing.Standing.{Standing}}
+use Rattle.stage_spec.specs.{declared.instance.Instance.{Instance}, Hardware.{Hardware, mask_of}, Stage.{Group}}
+use Rattle.stage_spec.{specs.Verdict.{Judged, is_eligible, judge, judge_pass, judge_passes, with_masks}, proofs.Settling.{judged}}
+use Rattle.world_spec.specs.{Kept.{IsKept}, Listings.{pass_leaders}, StageOf.{group_at, stage_of}, Value.{World, seats_at, times}}
+use Rattle.world_spec.proofs.{GoneStage.{AreLeading}, Listings.{reached-once, reached-leading}}
+use Rattle.cpu_sched.specs.{declared.judging.SoFar.{SoFar}, Judging.{Tally, told_of, tell, tell_pass, tried_in, tried_passes, tally_in, retold}}
+use Rattle.cpu_sched.{specs.Tried.{tries, tried}, proofs.Judged.{all-verdicts, none-told}}
 use Rattle.cpu_sched.proofs.Telling.{Stands, told-out, told-in, step, judge-next, judge-none, judges-next, judges-none, seam, first-of_all, next-fresh, next-some, fold-told, pass-over, told_all}
 
 pub masks-length : (hw : Hardware) (is : List Instance) → length (with_masks hw is) ≡ length is

@@ -1,28 +1,15 @@
 -- A brief whose flexible groups are turned is a brief still: the same groups stand there.
 use Rattle.std.specs.Prelude.{◌≡◌, ℕ, zero, suc, ◌+◌, ◌<◌, ◌==◌, Bool, true, false, All, List, [], ◌∷◌, ◌++◌, length, map, filter, take, slice_index_or, if◌then◌else◌}
-use Rattle.std.specs.List.{remove}
-use Rattle.std.proofs.Common.{arith, refl, sym, ap, subst, ◌∙◌}
-use Rattle.std.proofs.Math.Seq.{take-suc}
-use Rattle.std.proofs.lemmas.Grind.{flat_map-append}
-use Rattle.std.proofs.lemmas.List.{get_or-map, length-append, length-map, map-append}
-use Rattle.std.proofs.lemmas.List.Elements.{All-append, All-cons}
-use Rattle.perf_base.specs.declared.numbers.CpuNo.{CpuNo}
-use Rattle.perf_base.specs.declared.numbers.EventNo.{EventNo}
-use Rattle.perf_base.specs.declared.numbers.Key.{Key}
-use Rattle.stage_laws.specs.Briefs.{GroupBrief}
+use Rattle.std.{specs.List.{remove}, proofs.{Common.{arith, refl, sym, ap, subst, ◌∙◌}, Math.Seq.{take-suc}, lemmas.Grind.{flat_map-append}}}
+use Rattle.std.proofs.lemmas.List.{get_or-map, length-append, length-map, map-append, Elements.{All-append, All-cons}}
+use Rattle.perf_base.specs.declared.numbers.{CpuNo.{CpuNo}, EventNo.{EventNo}, Key.{Key}}
+use Rattle.stage_laws.{specs.Briefs.{GroupBrief}, proofs.Counts.{count-append, count-filter}}
 use Rattle.stage_spec.specs.Verdict.{is_eligible}
-use Rattle.stage_laws.proofs.Counts.{count-append, count-filter}
-use Rattle.world_spec.specs.Kept.{leads, post_at}
-use Rattle.world_spec.specs.StageOf.{group_at}
-use Rattle.world_spec.specs.Value.{World, entry_at, is_live, is_key}
-use Rattle.world_spec.proofs.Copies.{times-at}
-use Rattle.world_spec.proofs.GoneStage.{AreLeading}
-use Rattle.world_spec.proofs.Moving.{leads-parts}
+use Rattle.world_spec.{specs.{Kept.{leads, post_at}, StageOf.{group_at}, Value.{World, entry_at, is_live, is_key}}, proofs.Copies.{times-at}}
+use Rattle.world_spec.proofs.{GoneStage.{AreLeading}, Moving.{leads-parts}}
 use Rattle.cpu_sched.specs.After.{hardware_goes_last, some_wait, turned_groups}
 use Rattle.cpu_sched.specs.Briefs.{events_in, seen, brief_at, briefs_at, IsGroupBrief, IsBrief}
-use Rattle.cpu_sched.specs.declared.group_brief.GroupBrief.{GroupBrief as Stored}
-use Rattle.cpu_sched.proofs.Parted.{HasParts, has-parts}
-use Rattle.cpu_sched.proofs.Served.{slots}
+use Rattle.cpu_sched.{specs.declared.group_brief.GroupBrief.{GroupBrief as Stored}, proofs.{Parted.{HasParts, has-parts}, Served.{slots}}}
 
 -- two lists of the same groups
 record SameGroups (xs ys : List (GroupBrief Key)) : Type 0 where

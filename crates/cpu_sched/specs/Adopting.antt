@@ -1,10 +1,6 @@
 -- Standings that are told to a world, one after the other. This project's own profile.
-use Rattle.std.specs.Prelude.{List, map}
-use Rattle.std.specs.FinMap.{FinMap, insert}
-use Rattle.std.specs.List.{fold}
-use Rattle.std.specs.Ordering.{nat_cmp}
-use Rattle.perf_base.specs.declared.numbers.Key.{Key}
-use Rattle.perf_base.specs.declared.standing.Standing.{Standing}
+use Rattle.std.specs.{Prelude.{List, map}, FinMap.{FinMap, insert}, List.{fold}, Ordering.{nat_cmp}}
+use Rattle.perf_base.specs.declared.{numbers.Key.{Key}, standing.Standing.{Standing}}
 use Rattle.perf_base.specs.declared.standing.Standing.TheVariants as standing
 use Rattle.world_spec.specs.Value.{World}
 

@@ -1,20 +1,12 @@
 -- The brief of a processor after a line's own change, before it is rescheduled. After perf_event_task_sched_in,
 -- perf_event_exit_task and perf_rotate_context of kernel/events/core.c.
-use Rattle.std.specs.Prelude.{Bool, not, List, [], ◌∷◌, ◌++◌, Option, None, if◌then◌else◌}
-use Rattle.std.specs.List.{list_any}
-use Rattle.perf_base.specs.declared.lines.CpuLine.{CpuLine}
+use Rattle.std.specs.{Prelude.{Bool, not, List, [], ◌∷◌, ◌++◌, Option, None, if◌then◌else◌}, List.{list_any}}
+use Rattle.perf_base.specs.{declared.{lines.CpuLine.{CpuLine}, numbers.{CpuNo.{CpuNo}, Key.{Key}, TaskNo.{TaskNo}}}, Standings.{stands_on}}
 use Rattle.perf_base.specs.declared.lines.CpuLine.TheVariants as cpu_line
-use Rattle.perf_base.specs.declared.numbers.CpuNo.{CpuNo}
-use Rattle.perf_base.specs.declared.numbers.Key.{Key}
-use Rattle.perf_base.specs.declared.numbers.TaskNo.{TaskNo}
 use Rattle.perf_base.specs.declared.standing.Context.TheVariants as context
-use Rattle.perf_base.specs.Standings.{stands_on}
-use Rattle.stage_spec.specs.Hardware.{counters_of}
-use Rattle.stage_spec.specs.Stage.{task_on}
+use Rattle.stage_spec.specs.{Hardware.{counters_of}, Stage.{task_on}}
 use Rattle.stage_laws.specs.Briefs.{GroupBrief}
-use Rattle.world_spec.specs.Listings.{task_leaders}
-use Rattle.world_spec.specs.StageOf.{stage_of}
-use Rattle.world_spec.specs.Value.{World, leaders_of, standing_at}
+use Rattle.world_spec.specs.{Listings.{task_leaders}, StageOf.{stage_of}, Value.{World, leaders_of, standing_at}}
 use Rattle.cpu_sched.specs.Briefs.{ProcessorBrief, briefs_at, present_brief}
 
 -- with the groups of a task, or of none, in the place of those of the task that is on the processor

@@ -1,18 +1,10 @@
 -- What a processor's schedule is planned from: its eligible groups, pass by pass. The passes are those of ctx_sched_in
 -- of kernel/events/core.c; the bounds are this project's own profile.
 use Rattle.std.specs.Prelude.{◌≡◌, ℕ, ◌<◌, ◌≤◌, ◌==◌, true, All, List, [], ◌∷◌, length, map, filter, flat_map, count_by}
-use Rattle.perf_base.specs.Masks.{IsMask}
-use Rattle.perf_base.specs.declared.numbers.CpuNo.{CpuNo}
-use Rattle.perf_base.specs.declared.numbers.EventNo.{EventNo}
-use Rattle.perf_base.specs.declared.numbers.Key.{Key}
-use Rattle.stage_spec.specs.Hardware.{counters_of}
-use Rattle.stage_spec.specs.Tight.{masks_of}
-use Rattle.stage_spec.specs.Verdict.{is_eligible}
-use Rattle.stage_laws.specs.Briefs.{GroupBrief}
-use Rattle.stage_laws.specs.Standings.{brief_of}
-use Rattle.world_spec.specs.Listings.{pass_leaders}
-use Rattle.world_spec.specs.StageOf.{group_at}
-use Rattle.world_spec.specs.Value.{World}
+use Rattle.perf_base.specs.{Masks.{IsMask}, declared.numbers.{CpuNo.{CpuNo}, EventNo.{EventNo}, Key.{Key}}}
+use Rattle.stage_spec.specs.{Hardware.{counters_of}, Tight.{masks_of}, Verdict.{is_eligible}}
+use Rattle.stage_laws.specs.{Briefs.{GroupBrief}, Standings.{brief_of}}
+use Rattle.world_spec.specs.{Listings.{pass_leaders}, StageOf.{group_at}, Value.{World}}
 use Rattle.cpu_sched.specs.declared.group_brief.GroupBrief.{GroupBrief as Stored}
 
 -- a group's brief as it is stored

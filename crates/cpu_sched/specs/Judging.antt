@@ -1,25 +1,14 @@
 -- How the groups of a processor are judged one after the other, by what those before leave. After ctx_sched_in,
 -- merge_sched_in and group_can_go_on of kernel/events/core.c; the tally is this project's own profile.
 use Rattle.std.specs.Prelude.{◌≡◌, ℕ, ◌+◌, Bool, true, false, not, ◌&&◌, List, [], ◌∷◌, ◌++◌, Option, Some, None, if◌then◌else◌}
-use Rattle.std.specs.FinMap.{FinMap, insert}
-use Rattle.std.specs.List.{fold}
-use Rattle.std.specs.Ordering.{nat_cmp}
-use Rattle.perf_base.specs.declared.numbers.CpuNo.{CpuNo}
-use Rattle.perf_base.specs.declared.numbers.EventNo.{EventNo}
-use Rattle.perf_base.specs.declared.numbers.Key.{Key}
-use Rattle.perf_base.specs.declared.standing.Standing.{Standing}
-use Rattle.perf_base.specs.declared.standing.Standing.TheVariants as standing
-use Rattle.stage_spec.specs.Effective.{name_of, is_wholly_software, is_exclusive_group, counted_members}
-use Rattle.stage_spec.specs.Hardware.{Hardware}
-use Rattle.stage_spec.specs.Rules.{ruling_of}
-use Rattle.stage_spec.specs.Stage.{Group}
-use Rattle.stage_spec.specs.Verdict.{is_eligible, by_ruling, with_masks}
+use Rattle.std.specs.{FinMap.{FinMap, insert}, List.{fold}, Ordering.{nat_cmp}}
+use Rattle.perf_base.specs.declared.{numbers.{CpuNo.{CpuNo}, EventNo.{EventNo}, Key.{Key}}, standing.Standing.{Standing}}
 use Rattle.perf_base.specs.Standings.{stands_on, stands_refused}
-use Rattle.world_spec.specs.Changes.{with_seats}
-use Rattle.world_spec.specs.StageOf.{group_at}
-use Rattle.world_spec.specs.Value.{World, seats_at}
-use Rattle.cpu_sched.specs.declared.judging.SoFar.{SoFar}
-use Rattle.cpu_sched.specs.Tried.{tries}
+use Rattle.perf_base.specs.declared.standing.Standing.TheVariants as standing
+use Rattle.stage_spec.specs.{Effective.{name_of, is_wholly_software, is_exclusive_group, counted_members}, Hardware.{Hardware}, Rules.{ruling_of}}
+use Rattle.stage_spec.specs.{Stage.{Group}, Verdict.{is_eligible, by_ruling, with_masks}}
+use Rattle.world_spec.specs.{Changes.{with_seats}, StageOf.{group_at}, Value.{World, seats_at}}
+use Rattle.cpu_sched.specs.{declared.judging.SoFar.{SoFar}, Tried.{tries}}
 
 -- the name that is there, or the one that comes where a test holds
 abbrev pub first_or : Bool → EventNo → Option EventNo → Option EventNo

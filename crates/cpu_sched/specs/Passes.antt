@@ -1,12 +1,8 @@
 -- The keys whose groups were judged, and that the events on the counters are theirs. This project's own profile.
 use Rattle.std.specs.Prelude.{ℕ, ◌≤◌, ◌==◌, List, map, take, flat_map, count_by}
-use Rattle.perf_base.specs.declared.numbers.CpuNo.{CpuNo}
-use Rattle.perf_base.specs.declared.numbers.EventNo.{EventNo}
-use Rattle.perf_base.specs.declared.numbers.Key.{Key}
+use Rattle.perf_base.specs.declared.numbers.{CpuNo.{CpuNo}, EventNo.{EventNo}, Key.{Key}}
 use Rattle.stage_spec.specs.Stage.{members, is_of_family}
-use Rattle.world_spec.specs.Listings.{pass_leaders}
-use Rattle.world_spec.specs.StageOf.{group_at}
-use Rattle.world_spec.specs.Value.{World}
+use Rattle.world_spec.specs.{Listings.{pass_leaders}, StageOf.{group_at}, Value.{World}}
 
 -- the leaders of the first passes
 abbrev pub told_before : World → CpuNo → ℕ → List Key

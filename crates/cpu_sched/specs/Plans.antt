@@ -1,18 +1,11 @@
 -- The plan of a brief: each group's standing, and the counters that serve the events of the groups that are on. After
 -- ctx_sched_in and merge_sched_in of kernel/events/core.c; that this is planned ahead is this project's own profile.
-use Rattle.std.specs.Prelude.{◌≡◌, ℕ, ◌+◌, List, [], ◌∷◌, ◌++◌, length, map, None}
-use Rattle.std.specs.List.{fold, sum_by}
-use Rattle.perf_base.specs.declared.numbers.EventNo.{EventNo}
-use Rattle.perf_base.specs.declared.numbers.Key.{Key}
-use Rattle.perf_base.specs.declared.standing.Standing.{Standing}
-use Rattle.stage_spec.specs.Rules.{ruling_of}
-use Rattle.stage_spec.specs.Verdict.{by_ruling}
+use Rattle.std.specs.{Prelude.{◌≡◌, ℕ, ◌+◌, List, [], ◌∷◌, ◌++◌, length, map, None}, List.{fold, sum_by}}
+use Rattle.perf_base.specs.declared.{numbers.{EventNo.{EventNo}, Key.{Key}}, standing.Standing.{Standing}}
+use Rattle.stage_spec.specs.{Rules.{ruling_of}, Verdict.{by_ruling}}
 use Rattle.stage_laws.specs.Briefs.{GroupBrief, JudgedBrief, judge_brief_passes, standings_by, seated_by}
 use Rattle.counter_match.specs.Seating.{Seated}
-use Rattle.cpu_sched.specs.declared.judging.SoFar.{SoFar}
-use Rattle.cpu_sched.specs.declared.plan.Verdict.{Verdict}
-use Rattle.cpu_sched.specs.Briefs.{ProcessorBrief}
-use Rattle.cpu_sched.specs.Judging.{events_next, noted}
+use Rattle.cpu_sched.specs.{declared.{judging.SoFar.{SoFar}, plan.Verdict.{Verdict}}, Briefs.{ProcessorBrief}, Judging.{events_next, noted}}
 use Rattle.cpu_sched.specs.Tried.{tries_for}
 
 -- what a plan tells: the leaders with the standings of their groups, in pass order, and the seats

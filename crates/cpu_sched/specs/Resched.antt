@@ -1,10 +1,8 @@
 -- What rescheduling a processor leaves as it was. After ctx_resched of kernel/events/core.c.
 use Rattle.std.specs.Prelude.{◌≡◌, ◌≢◌, false}
-use Rattle.perf_base.specs.declared.numbers.CpuNo.{CpuNo}
-use Rattle.perf_base.specs.declared.numbers.Key.{Key}
+use Rattle.perf_base.specs.declared.numbers.{CpuNo.{CpuNo}, Key.{Key}}
 use Rattle.stage_laws.specs.Narrowing.{has_context}
-use Rattle.world_spec.specs.StageOf.{stage_of}
-use Rattle.world_spec.specs.Value.{World, is_live, entry_at, instance_at, standing_at, seats_at}
+use Rattle.world_spec.specs.{StageOf.{stage_of}, Value.{World, is_live, entry_at, instance_at, standing_at, seats_at}}
 
 -- Own states and standings in the processor's two contexts may change, and its seats. All else stays.
 pub record StaysBut (cpu : CpuNo) (w after : World) : Type 0 where

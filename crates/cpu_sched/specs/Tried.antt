@@ -1,15 +1,10 @@
 -- For how many events a rescheduling tries counters. After group_sched_in and merge_sched_in of kernel/events/core.c;
 -- that all events of a group are tried together is this project's own profile.
-use Rattle.std.specs.Prelude.{ℕ, length}
-use Rattle.std.specs.List.{sum_by}
-use Rattle.perf_base.specs.declared.numbers.CpuNo.{CpuNo}
+use Rattle.std.specs.{Prelude.{ℕ, length}, List.{sum_by}}
+use Rattle.perf_base.specs.declared.{numbers.CpuNo.{CpuNo}, standing.Standing.{Standing}}
 use Rattle.perf_base.specs.declared.standing.Cause.TheVariants as cause
-use Rattle.perf_base.specs.declared.standing.Standing.{Standing}
 use Rattle.perf_base.specs.declared.standing.Standing.TheVariants as standing
-use Rattle.stage_spec.specs.Effective.{counted_members}
-use Rattle.stage_spec.specs.Hardware.{Hardware}
-use Rattle.stage_spec.specs.Stage.{Stage, Group}
-use Rattle.stage_spec.specs.Verdict.{verdicts}
+use Rattle.stage_spec.specs.{Effective.{counted_members}, Hardware.{Hardware}, Stage.{Stage, Group}, Verdict.{verdicts}}
 
 -- of a group's events, those that counters are tried for: none where the group is not eligible or a rule refuses it,
 -- and else all

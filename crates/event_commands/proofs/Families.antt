@@ -1,50 +1,22 @@
 -- The copies of an original go one after the other, and then the original: what is left of the family, and that
 -- processors that do not reach it stand as they stood.
 use Rattle.std.specs.Prelude.{◌≡◌, ℕ, ◌+◌, ◌<◌, ◌≤◌, ◌==◌, Bool, true, false, ◌&&◌, suc, List, [], ◌∷◌, ◌++◌, count_by, length, map, take, drop, Some, None, slice_index_or, slice_set}
-use Rattle.std.specs.List.{list_any}
-use Rattle.std.proofs.Common.{arith, refl, sym, ap, subst, ◌∙◌, inl, inr, take_all}
-use Rattle.std.proofs.Math.ListN.{drop_of_length-le}
-use Rattle.std.proofs.Math.Seq.{take-suc, drop-cons}
-use Rattle.std.proofs.lemmas.Bool.{cases_eq, cases_Bool, false≢true}
-use Rattle.std.proofs.lemmas.Bool.Decides.{nat_tests}
+use Rattle.std.{specs.List.{list_any}, proofs.{Common.{arith, refl, sym, ap, subst, ◌∙◌, inl, inr, take_all}, Math.ListN.{drop_of_length-le}}}
+use Rattle.std.proofs.{Math.Seq.{take-suc, drop-cons}, lemmas.Bool.{cases_eq, cases_Bool, false≢true, Decides.{nat_tests}}}
 use Rattle.std.proofs.lemmas.List.{map-append, get_or-set_same}
-use Rattle.perf_base.specs.declared.numbers.CpuNo.{CpuNo}
-use Rattle.perf_base.specs.declared.numbers.EventNo.{EventNo}
-use Rattle.perf_base.specs.declared.numbers.Key.{Key}
-use Rattle.stage_spec.specs.Closing.{closed}
-use Rattle.stage_spec.specs.Hardware.{Hardware}
-use Rattle.stage_spec.specs.Stage.{is_of_family}
-use Rattle.stage_laws.specs.Narrowing.{has_context, reaches}
-use Rattle.stage_laws.specs.OneByOne.{drop_one}
-use Rattle.stage_laws.specs.Sound.{IsSound}
-use Rattle.stage_laws.specs.Standings.{briefs}
-use Rattle.stage_laws.proofs.Counts.{count-append}
-use Rattle.stage_laws.proofs.EachSettled.{briefs-of_passes}
-use Rattle.stage_laws.proofs.OneByOne.{map-none}
-use Rattle.stage_laws.proofs.OneByOneDrops.{closed_one_by_one}
-use Rattle.stage_laws.proofs.Others.{passes-same}
-use Rattle.stage_laws.proofs.Untouched.{close-reaches}
-use Rattle.world_spec.specs.Value.{World, no_family, is_live, entry_at, instance_at, seats_at, family_of, is_key, times}
-use Rattle.world_spec.specs.StageOf.{stage_of}
-use Rattle.world_spec.specs.Kept.{in_option, is_copy_in, is_original_in, once_if, post_at, IsKept}
-use Rattle.world_spec.specs.Changes.{all_but}
-use Rattle.world_spec.specs.Adding.{drop_instance, out_of_family}
-use Rattle.world_spec.specs.Goings.{MayGo}
-use Rattle.world_spec.specs.Rescheduled.{IsUntouched}
-use Rattle.world_spec.proofs.Coming.{number_true, three}
-use Rattle.world_spec.proofs.Copies.{times-at}
-use Rattle.world_spec.proofs.Counting.{any-there}
-use Rattle.world_spec.proofs.Families.{family-ids}
-use Rattle.world_spec.proofs.Keys.{all_but-cons, all_but-none, is_key-same, once-true, times-cons}
-use Rattle.world_spec.proofs.Listings.{is-numbered}
-use Rattle.world_spec.proofs.Moving.{leads-parts}
+use Rattle.perf_base.specs.declared.numbers.{CpuNo.{CpuNo}, EventNo.{EventNo}, Key.{Key}}
+use Rattle.stage_spec.specs.{Closing.{closed}, Hardware.{Hardware}, Stage.{is_of_family}}
+use Rattle.stage_laws.specs.{Narrowing.{has_context, reaches}, OneByOne.{drop_one}, Sound.{IsSound}, Standings.{briefs}}
+use Rattle.stage_laws.proofs.{Counts.{count-append}, EachSettled.{briefs-of_passes}, OneByOne.{map-none}, OneByOneDrops.{closed_one_by_one}}
+use Rattle.stage_laws.proofs.{Others.{passes-same}, Untouched.{close-reaches}}
+use Rattle.world_spec.specs.{Value.{World, no_family, is_live, entry_at, instance_at, seats_at, family_of, is_key, times}, StageOf.{stage_of}}
+use Rattle.world_spec.specs.{Kept.{in_option, is_copy_in, is_original_in, once_if, post_at, IsKept}, Changes.{all_but}}
+use Rattle.world_spec.{specs.{Adding.{drop_instance, out_of_family}, Goings.{MayGo}, Rescheduled.{IsUntouched}}, proofs.Coming.{number_true, three}}
+use Rattle.world_spec.proofs.{Copies.{times-at}, Counting.{any-there}, Families.{family-ids}}
+use Rattle.world_spec.proofs.{Keys.{all_but-cons, all_but-none, is_key-same, once-true, times-cons}, Listings.{is-numbered}, Moving.{leads-parts}}
 use Rattle.world_spec.proofs.Standing.{left-untouched}
-use Rattle.event_commands.specs.Changing.{family_keys, keys_named}
-use Rattle.event_commands.specs.Closing.{HaveGone, IsClosed}
-use Rattle.event_commands.specs.Reaching.{reaches_key}
-use Rattle.event_commands.proofs.Going.{drop-families, one-key, none-gone, one-gone, both-gone}
-use Rattle.event_commands.proofs.Named.{in-family, at-family}
-use Rattle.event_commands.proofs.Reached.{reaches-are}
+use Rattle.event_commands.specs.{Changing.{family_keys, keys_named}, Closing.{HaveGone, IsClosed}, Reaching.{reaches_key}}
+use Rattle.event_commands.proofs.{Going.{drop-families, one-key, none-gone, one-gone, both-gone}, Named.{in-family, at-family}, Reached.{reaches-are}}
 use Rattle.event_commands.proofs.Targets.{original-in}
 
 -- a copy of an original

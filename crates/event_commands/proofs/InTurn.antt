@@ -1,24 +1,15 @@
 -- Keys that are changed one after the other: what they leave, and that lists of keys and families stay while they are
 -- gone over.
 use Rattle.std.specs.Prelude.{◌≡◌, ℕ, ◌+◌, ◌<◌, ◌≤◌, suc, Bool, true, List, [], ◌∷◌, ◌++◌, length, take, Option, Some, None, slice_index_or}
-use Rattle.std.proofs.Common.{arith, refl, sym, ap, ◌∙◌, inl, inr, take_all}
-use Rattle.std.proofs.Math.Seq.{take-suc}
-use Rattle.std.proofs.lemmas.Bool.{cases_eq}
-use Rattle.std.proofs.lemmas.Grind.{flat_map-append}
-use Rattle.std.proofs.lemmas.List.{append-nil}
-use Rattle.std.proofs.lemmas.List.Sums.{fold-append}
-use Rattle.perf_base.specs.declared.numbers.EventNo.{EventNo}
-use Rattle.perf_base.specs.declared.numbers.Key.{Key}
+use Rattle.std.proofs.{Common.{arith, refl, sym, ap, ◌∙◌, inl, inr, take_all}, Math.Seq.{take-suc}, lemmas.{Bool.{cases_eq}, Grind.{flat_map-append}}}
+use Rattle.std.proofs.lemmas.List.{append-nil, Sums.{fold-append}}
+use Rattle.perf_base.specs.declared.numbers.{EventNo.{EventNo}, Key.{Key}}
 use Rattle.stage_spec.specs.Hardware.{Hardware}
 use Rattle.stage_laws.proofs.Counts.{count-append}
-use Rattle.world_spec.specs.Value.{World, is_live, family_of, is_key, times}
-use Rattle.world_spec.specs.Kept.{in_option, IsKept}
-use Rattle.world_spec.proofs.Copies.{times-at}
+use Rattle.world_spec.{specs.{Value.{World, is_live, family_of, is_key, times}, Kept.{in_option, IsKept}}, proofs.Copies.{times-at}}
 use Rattle.world_spec.proofs.Keys.{key-is, is_key-same, is_key-other, times-cons, once-true, once-false}
-use Rattle.event_commands.specs.declared.changing.Command.{Command}
+use Rattle.event_commands.{specs.{declared.changing.Command.{Command}, Changing.{change, changed, family_keys, keys_named}}, proofs.Named.{in-family}}
 use Rattle.event_commands.specs.declared.changing.Command.TheVariants as command
-use Rattle.event_commands.specs.Changing.{change, changed, family_keys, keys_named}
-use Rattle.event_commands.proofs.Named.{in-family}
 
 -- entries and accounts alone change
 one-shape : (c : Command) (w : World) (k : Key) → change c w k ≡ record w { entries = (change c w k).entries; accounts = (change c w k).accounts }

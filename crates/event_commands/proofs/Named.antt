@@ -1,19 +1,11 @@
 -- The keys of a family and of some families are those of the instances that are reached.
 use Rattle.std.specs.Prelude.{◌≡◌, ℕ, ◌+◌, ◌≤◌, ◌==◌, Bool, true, false, not, ◌&&◌, ◌||◌, List, [], ◌∷◌}
-use Rattle.std.proofs.Common.{arith, refl, sym, ap, ◌∙◌, inl, inr}
-use Rattle.std.proofs.lemmas.Bool.{cases_Bool, cases_eq, false≢true}
-use Rattle.std.proofs.lemmas.Bool.Decides.{nat_tests}
-use Rattle.perf_base.specs.declared.numbers.EventNo.{EventNo}
-use Rattle.perf_base.specs.declared.numbers.Key.{Key}
-use Rattle.stage_spec.specs.Commands.{is_reached}
-use Rattle.stage_spec.specs.Hardware.{Hardware}
+use Rattle.std.proofs.{Common.{arith, refl, sym, ap, ◌∙◌, inl, inr}, lemmas.Bool.{cases_Bool, cases_eq, false≢true, Decides.{nat_tests}}}
+use Rattle.perf_base.specs.declared.numbers.{EventNo.{EventNo}, Key.{Key}}
+use Rattle.stage_spec.specs.{Commands.{is_reached}, Hardware.{Hardware}}
 use Rattle.stage_laws.proofs.Counts.{count-append}
-use Rattle.world_spec.specs.Value.{World, is_live, instance_at, is_key, times}
-use Rattle.world_spec.specs.Kept.{once_if, IsKept}
-use Rattle.world_spec.proofs.Accounts.{family-times}
-use Rattle.world_spec.proofs.Coming.{number_true}
-use Rattle.world_spec.proofs.Keys.{once-true}
-use Rattle.world_spec.proofs.Moving.{leads-parts}
+use Rattle.world_spec.{specs.{Value.{World, is_live, instance_at, is_key, times}, Kept.{once_if, IsKept}}, proofs.Accounts.{family-times}}
+use Rattle.world_spec.proofs.{Coming.{number_true}, Keys.{once-true}, Moving.{leads-parts}}
 use Rattle.event_commands.specs.Changing.{family_keys, keys_named}
 
 both-kinds : (a b c : Bool) → once_if (a && b && not c) + once_if (a && b && c) ≡ once_if (a && b)

@@ -1,32 +1,15 @@
 -- A new period of an original: for what it is refused, what it is on the stage, and that processors stand as they
 -- stood.
 use Rattle.std.specs.Prelude.{◌≡◌, ◌≢◌, ℕ, ◌^◌, ◌<◌, ◌≤◌, ◌==◌, Bool, true, false, not, ◌||◌, bit_and, [], ◌∷◌, Option, Some, None, is_some, length, option_map}
-use Rattle.std.specs.Option.{unwrap_or}
-use Rattle.std.proofs.Common.{arith, refl, sym, ap, subst, ◌∙◌}
-use Rattle.std.proofs.lemmas.Bool.{false≢true}
-use Rattle.std.proofs.lemmas.Bool.Decides.{nat_tests}
-use Rattle.perf_base.specs.declared.numbers.CpuNo.{CpuNo}
-use Rattle.perf_base.specs.declared.numbers.EventNo.{EventNo}
-use Rattle.perf_base.specs.declared.numbers.Key.{Key}
-use Rattle.perf_base.specs.declared.reasons.Reason.{Reason}
+use Rattle.std.{specs.Option.{unwrap_or}, proofs.{Common.{arith, refl, sym, ap, subst, ◌∙◌}, lemmas.Bool.{false≢true, Decides.{nat_tests}}}}
+use Rattle.perf_base.specs.declared.{numbers.{CpuNo.{CpuNo}, EventNo.{EventNo}, Key.{Key}}, reasons.Reason.{Reason}}
 use Rattle.perf_base.specs.declared.reasons.Reason.TheVariants as reason
-use Rattle.stage_spec.specs.Commands.{period_refusal, with_period}
-use Rattle.stage_spec.specs.Hardware.{Hardware}
-use Rattle.stage_spec.specs.Refusals.{first_of, holds_of}
-use Rattle.stage_laws.proofs.OneByOne.{period-one}
-use Rattle.stage_laws.proofs.Untouched.{period-briefs}
-use Rattle.stage_laws.specs.Narrowing.{has_context}
-use Rattle.stage_laws.specs.OneByOne.{change_one}
+use Rattle.stage_spec.specs.{Commands.{period_refusal, with_period}, Hardware.{Hardware}, Refusals.{first_of, holds_of}}
+use Rattle.stage_laws.{proofs.{OneByOne.{period-one}, Untouched.{period-briefs}}, specs.{Narrowing.{has_context}, OneByOne.{change_one}}}
 use Rattle.stage_laws.specs.Standings.{briefs}
-use Rattle.world_spec.specs.Value.{World, no_account, is_live, instance_at, account_at, standing_at, seats_at, family_of}
-use Rattle.world_spec.specs.StageOf.{stage_of}
-use Rattle.world_spec.specs.Kept.{leads, post_at, IsKept}
-use Rattle.world_spec.specs.Changes.{set_period}
-use Rattle.world_spec.specs.Rescheduled.{IsUntouched}
-use Rattle.world_spec.proofs.Families.{open-is, original-is}
-use Rattle.world_spec.proofs.Listings.{is-numbered}
-use Rattle.world_spec.proofs.Standing.{left-untouched}
-use Rattle.world_spec.proofs.Tables.{get-here, get-there, posts-same}
+use Rattle.world_spec.specs.{Value.{World, no_account, is_live, instance_at, account_at, standing_at, seats_at, family_of}, StageOf.{stage_of}}
+use Rattle.world_spec.{specs.{Kept.{leads, post_at, IsKept}, Changes.{set_period}, Rescheduled.{IsUntouched}}, proofs.Families.{open-is, original-is}}
+use Rattle.world_spec.proofs.{Listings.{is-numbered}, Standing.{left-untouched}, Tables.{get-here, get-there, posts-same}}
 use Rattle.event_commands.specs.Commands.{HasPeriod}
 
 -- the first of the three reasons

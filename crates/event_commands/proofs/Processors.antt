@@ -1,25 +1,13 @@
 -- Sets to which the processors that reach some keys are added, and that these processors are those that reach the
 -- families on the stage.
 use Rattle.std.specs.Prelude.{◌≡◌, ℕ, ◌+◌, ◌^◌, ◌<◌, ◌≤◌, ◌==◌, suc, max, Bool, true, false, ◌&&◌, ◌||◌, bit_or, List, [], ◌∷◌, ◌++◌, length, take, Option, Some, None, slice_index_or, if◌then◌else◌}
-use Rattle.std.specs.Int.{bit_at}
-use Rattle.std.specs.List.{list_any}
-use Rattle.std.proofs.Common.{arith, refl, sym, ap, ◌∙◌, inl, inr, take_all}
-use Rattle.std.proofs.Math.Seq.{take-suc}
-use Rattle.std.proofs.lemmas.Bool.{cases_eq, cases_Bool, false≢true}
-use Rattle.std.proofs.lemmas.Bool.Decides.{nat_tests}
-use Rattle.std.proofs.lemmas.Grind.{flat_map-append}
-use Rattle.std.proofs.lemmas.List.{append-nil}
-use Rattle.std.proofs.lemmas.List.Folds.{list_any-append}
-use Rattle.std.proofs.lemmas.Nat.Bits.{bit_at_or, bit_at-zero, bit_at-lt, bit_at-pow_same, bit_at-pow_other}
-use Rattle.perf_base.specs.declared.numbers.CpuNo.{CpuNo}
-use Rattle.perf_base.specs.declared.numbers.CpuSet.{CpuSet}
-use Rattle.perf_base.specs.declared.numbers.EventNo.{EventNo}
-use Rattle.perf_base.specs.declared.numbers.Key.{Key}
+use Rattle.std.{specs.{Int.{bit_at}, List.{list_any}}, proofs.{Common.{arith, refl, sym, ap, ◌∙◌, inl, inr, take_all}, Math.Seq.{take-suc}}}
+use Rattle.std.proofs.lemmas.{Bool.{cases_eq, cases_Bool, false≢true, Decides.{nat_tests}}, Grind.{flat_map-append}, List.{append-nil}}
+use Rattle.std.proofs.lemmas.{List.Folds.{list_any-append}, Nat.Bits.{bit_at_or, bit_at-zero, bit_at-lt, bit_at-pow_same, bit_at-pow_other}}
+use Rattle.perf_base.specs.declared.numbers.{CpuNo.{CpuNo}, CpuSet.{CpuSet}, EventNo.{EventNo}, Key.{Key}}
 use Rattle.stage_spec.specs.Hardware.{has_cpu}
-use Rattle.world_spec.specs.Value.{World}
-use Rattle.world_spec.specs.Kept.{in_option}
-use Rattle.event_commands.specs.Changing.{family_keys, keys_named}
-use Rattle.event_commands.specs.Reaching.{reaches_key, is_there, is_reaching, AreReaching, AddsReaching}
+use Rattle.world_spec.specs.{Value.{World}, Kept.{in_option}}
+use Rattle.event_commands.specs.{Changing.{family_keys, keys_named}, Reaching.{reaches_key, is_there, is_reaching, AreReaching, AddsReaching}}
 
 -- one processor more
 one-more : (b n : ℕ) → n ≡ max b 1 → b < 2 → (n == 1) ≡ true

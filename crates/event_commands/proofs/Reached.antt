@@ -1,39 +1,20 @@
 -- The processors that reach some families on the stage are those that reach the instances of their keys.
-use Rattle.std.specs.Prelude.{◌≡◌, ℕ, ◌+◌, ◌<◌, ◌≤◌, ◌==◌, ◌↔◌, Bool, true, false, ◌&&◌, List, [], ◌∷◌, ◌++◌, length, map, flat_map}
-use Rattle.std.specs.Int.{bit_at}
-use Rattle.std.specs.List.{list_any}
-use Rattle.std.proofs.Common.{arith, refl, sym, ap, ◌∙◌, inl, inr}
-use Rattle.std.proofs.lemmas.Bool.{cases_eq, cases_Bool, false≢true}
+use Rattle.std.specs.{Prelude.{◌≡◌, ℕ, ◌+◌, ◌<◌, ◌≤◌, ◌==◌, ◌↔◌, Bool, true, false, ◌&&◌, List, [], ◌∷◌, ◌++◌, length, map, flat_map}, Int.{bit_at}}
+use Rattle.std.{specs.List.{list_any}, proofs.{Common.{arith, refl, sym, ap, ◌∙◌, inl, inr}, lemmas.Bool.{cases_eq, cases_Bool, false≢true}}}
 use Rattle.std.proofs.lemmas.Bool.Decides.{nat_tests}
-use Rattle.perf_base.specs.Cpus.{HasCpu}
-use Rattle.perf_base.specs.declared.numbers.CpuNo.{CpuNo}
-use Rattle.perf_base.specs.declared.numbers.CpuSet.{CpuSet}
-use Rattle.perf_base.specs.declared.numbers.EventNo.{EventNo}
-use Rattle.perf_base.specs.declared.numbers.Key.{Key}
+use Rattle.perf_base.specs.{Cpus.{HasCpu}, declared.numbers.{CpuNo.{CpuNo}, CpuSet.{CpuSet}, EventNo.{EventNo}, Key.{Key}}}
 use Rattle.perf_base.specs.declared.standing.Context.{Context}
 use Rattle.perf_base.specs.declared.standing.Context.TheVariants as context
-use Rattle.stage_spec.specs.Commands.{is_reached}
-use Rattle.stage_spec.specs.Hardware.{Hardware, has_cpu}
-use Rattle.stage_spec.specs.Stage.{members, place_of, task_on}
-use Rattle.stage_spec.specs.Verdict.{reached}
-use Rattle.stage_laws.specs.Narrowing.{has_context, reaches}
-use Rattle.stage_laws.proofs.Counts.{count-append}
-use Rattle.stage_laws.proofs.OneByOne.{map-none}
-use Rattle.stage_laws.proofs.Tasks.{is_task-some}
+use Rattle.stage_spec.specs.{Commands.{is_reached}, Hardware.{Hardware, has_cpu}, Stage.{members, place_of, task_on}, Verdict.{reached}}
+use Rattle.stage_laws.{specs.Narrowing.{has_context, reaches}, proofs.{Counts.{count-append}, OneByOne.{map-none}, Tasks.{is_task-some}}}
 use Rattle.stage_laws.proofs.Totals.{total-cons, total-nil}
-use Rattle.world_spec.specs.Value.{World, Leaders, leaders_of, is_live, entry_at, instance_at, is_key, times}
-use Rattle.world_spec.specs.StageOf.{group_at, stage_of}
-use Rattle.world_spec.specs.Kept.{is_member_of, leads, once_if, post_at, IsKept}
-use Rattle.world_spec.specs.Listings.{pass_leaders, task_leaders}
-use Rattle.world_spec.proofs.Coming.{number_true}
-use Rattle.world_spec.proofs.Counting.{any-key, any-there, times-flat}
+use Rattle.world_spec.specs.{Value.{World, Leaders, leaders_of, is_live, entry_at, instance_at, is_key, times}, StageOf.{group_at, stage_of}}
+use Rattle.world_spec.specs.{Kept.{is_member_of, leads, once_if, post_at, IsKept}, Listings.{pass_leaders, task_leaders}}
+use Rattle.world_spec.proofs.{Coming.{number_true}, Counting.{any-key, any-there, times-flat}}
 use Rattle.world_spec.proofs.Families.{leaders_both, leaders-at, members_at, members-are}
 use Rattle.world_spec.proofs.Keys.{key-is, is_key-same, is_key-true, once-true, once-false, times-cons}
-use Rattle.world_spec.proofs.Listings.{passes-are, flat-mapped, reached_leaders, reached-context, reached-leading}
-use Rattle.world_spec.proofs.Moving.{leads-parts}
-use Rattle.event_commands.specs.Changing.{keys_named}
-use Rattle.event_commands.specs.Commands.{AreReached}
-use Rattle.event_commands.specs.Reaching.{reaches_key, is_there, AreReaching}
+use Rattle.world_spec.proofs.{Listings.{passes-are, flat-mapped, reached_leaders, reached-context, reached-leading}, Moving.{leads-parts}}
+use Rattle.event_commands.specs.{Changing.{keys_named}, Commands.{AreReached}, Reaching.{reaches_key, is_there, AreReaching}}
 use Rattle.event_commands.proofs.Named.{named-reached, reached-named}
 
 -- the keys that a processor reaches

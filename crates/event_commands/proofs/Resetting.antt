@@ -1,26 +1,13 @@
 -- Counts that are cleared one after the other, and that processors stand as they stood.
-use Rattle.std.specs.Prelude.{◌≡◌, List, [], ◌∷◌, if◌then◌else◌}
-use Rattle.std.specs.FinMap.{FinMap, contains_key}
-use Rattle.std.specs.Option.{unwrap_or}
-use Rattle.std.specs.Ordering.{nat_cmp}
-use Rattle.std.proofs.Common.{arith, refl, sym, ap, subst, ◌∙◌, inl, inr}
-use Rattle.std.proofs.lemmas.Bool.{cases_eq, cases_Bool, false≢true}
-use Rattle.perf_base.specs.declared.numbers.CpuNo.{CpuNo}
-use Rattle.perf_base.specs.declared.numbers.EventNo.{EventNo}
-use Rattle.perf_base.specs.declared.numbers.Key.{Key}
-use Rattle.stage_spec.specs.Commands.{is_reached}
-use Rattle.stage_spec.specs.Hardware.{Hardware}
-use Rattle.world_spec.specs.Value.{World, Account, no_account, instance_at, account_at, times}
-use Rattle.world_spec.specs.StageOf.{stage_of}
-use Rattle.world_spec.specs.Kept.{IsKept}
-use Rattle.world_spec.specs.Changes.{reset_count}
-use Rattle.world_spec.specs.Rescheduled.{IsRescheduled, IsUntouched}
-use Rattle.world_spec.proofs.Tables.{get-here, get-there, keys-written}
+use Rattle.std.specs.{Prelude.{◌≡◌, List, [], ◌∷◌, if◌then◌else◌}, FinMap.{FinMap, contains_key}, Option.{unwrap_or}, Ordering.{nat_cmp}}
+use Rattle.std.proofs.{Common.{arith, refl, sym, ap, subst, ◌∙◌, inl, inr}, lemmas.Bool.{cases_eq, cases_Bool, false≢true}}
+use Rattle.perf_base.specs.declared.numbers.{CpuNo.{CpuNo}, EventNo.{EventNo}, Key.{Key}}
+use Rattle.stage_spec.specs.{Commands.{is_reached}, Hardware.{Hardware}}
+use Rattle.world_spec.specs.{Value.{World, Account, no_account, instance_at, account_at, times}, StageOf.{stage_of}, Kept.{IsKept}}
+use Rattle.world_spec.{specs.{Changes.{reset_count}, Rescheduled.{IsRescheduled, IsUntouched}}, proofs.Tables.{get-here, get-there, keys-written}}
+use Rattle.event_commands.specs.{Changing.{changed, keys_named}, Commands.{from_zero, IsReset}}
+use Rattle.event_commands.proofs.{InTurn.{Updates, updates-in, updates-out, keys-stay}, Named.{named-reached, reached-named}}
 use Rattle.event_commands.specs.declared.changing.Command.TheVariants as command
-use Rattle.event_commands.specs.Changing.{changed, keys_named}
-use Rattle.event_commands.specs.Commands.{from_zero, IsReset}
-use Rattle.event_commands.proofs.InTurn.{Updates, updates-in, updates-out, keys-stay}
-use Rattle.event_commands.proofs.Named.{named-reached, reached-named}
 
 -- accounts alone change
 reset-shape : (keys : List Key) (w : World) → changed command.Reset keys w ≡ record w { accounts = (changed command.Reset keys w).accounts }

@@ -1,36 +1,21 @@
 -- Own states that are set one after the other: what is left, that the stage has the command, and that processors that
 -- are not reached stand as they stood.
 use Rattle.std.specs.Prelude.{◌≡◌, ◌<◌, ◌≤◌, ◌==◌, Bool, true, false, All, List, [], ◌∷◌, if◌then◌else◌}
-use Rattle.std.proofs.Common.{arith, refl, sym, ap, subst, ◌∙◌, inl, inr}
-use Rattle.std.proofs.lemmas.Bool.{cases_eq, cases_Bool}
-use Rattle.std.proofs.lemmas.Bool.Decides.{nat_tests}
+use Rattle.std.proofs.{Common.{arith, refl, sym, ap, subst, ◌∙◌, inl, inr}, lemmas.Bool.{cases_eq, cases_Bool, Decides.{nat_tests}}}
 use Rattle.std.proofs.lemmas.List.Folds.{list_any_none}
-use Rattle.perf_base.specs.declared.numbers.CpuNo.{CpuNo}
-use Rattle.perf_base.specs.declared.numbers.EventNo.{EventNo}
-use Rattle.perf_base.specs.declared.numbers.Key.{Key}
-use Rattle.perf_base.specs.declared.standing.Own.{Own}
+use Rattle.perf_base.specs.declared.{numbers.{CpuNo.{CpuNo}, EventNo.{EventNo}, Key.{Key}}, standing.Own.{Own}}
 use Rattle.perf_base.specs.declared.standing.Own.TheVariants as own
-use Rattle.stage_spec.specs.Commands.{command_each, is_reached}
-use Rattle.stage_spec.specs.Hardware.{Hardware}
-use Rattle.stage_laws.proofs.EachSettled.{briefs-of_passes}
-use Rattle.stage_laws.proofs.Others.{passes-same}
-use Rattle.stage_laws.proofs.Untouched.{command-reaches}
-use Rattle.stage_laws.specs.Narrowing.{has_context, reaches}
-use Rattle.stage_laws.specs.Standings.{briefs}
-use Rattle.world_spec.specs.Value.{World, Entry, no_instance, is_live, entry_at, instance_at, standing_at, seats_at, times}
-use Rattle.world_spec.specs.StageOf.{stage_of}
-use Rattle.world_spec.specs.Kept.{leads, post_at, IsKept}
-use Rattle.world_spec.specs.Rescheduled.{IsUntouched}
-use Rattle.world_spec.proofs.Renaming.{dead-entry, renamed-all}
-use Rattle.world_spec.proofs.Standing.{left-untouched}
-use Rattle.world_spec.proofs.Tables.{post_of, entry-here, entry-there, live-written}
-use Rattle.event_commands.specs.declared.changing.Command.TheVariants as command
-use Rattle.event_commands.specs.declared.changing.Switch.{Switch}
-use Rattle.event_commands.specs.declared.changing.Switch.TheVariants as switch
-use Rattle.event_commands.specs.Changing.{change, changed, keys_named, state_of, switched}
-use Rattle.event_commands.specs.Commands.{commanded, HaveStates}
-use Rattle.event_commands.proofs.InTurn.{Updates, updates-in, updates-out, keys-stay}
+use Rattle.stage_spec.specs.{Commands.{command_each, is_reached}, Hardware.{Hardware}}
+use Rattle.stage_laws.proofs.{EachSettled.{briefs-of_passes}, Others.{passes-same}, Untouched.{command-reaches}}
+use Rattle.stage_laws.specs.{Narrowing.{has_context, reaches}, Standings.{briefs}}
+use Rattle.world_spec.specs.{Value.{World, Entry, no_instance, is_live, entry_at, instance_at, standing_at, seats_at, times}, StageOf.{stage_of}}
+use Rattle.world_spec.{specs.{Kept.{leads, post_at, IsKept}, Rescheduled.{IsUntouched}}, proofs.Renaming.{dead-entry, renamed-all}}
+use Rattle.world_spec.proofs.{Standing.{left-untouched}, Tables.{post_of, entry-here, entry-there, live-written}}
+use Rattle.event_commands.specs.{declared.changing.Switch.{Switch}, Changing.{change, changed, keys_named, state_of, switched}}
+use Rattle.event_commands.{specs.Commands.{commanded, HaveStates}, proofs.InTurn.{Updates, updates-in, updates-out, keys-stay}}
 use Rattle.event_commands.proofs.Named.{named-reached, reached-named}
+use Rattle.event_commands.specs.declared.changing.Command.TheVariants as command
+use Rattle.event_commands.specs.declared.changing.Switch.TheVariants as switch
 
 -- a switch sets one own state, whatever was there
 one-state : (s : Switch) (o : Own) → switched s o ≡ state_of s

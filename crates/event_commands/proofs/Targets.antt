@@ -1,20 +1,13 @@
 -- The slots that a command names, as they are told.
 use Rattle.std.specs.Prelude.{◌≡◌, ◌≤◌, Bool, true, false, not, [], ◌∷◌, All, map, Some, None, option_map, is_some, slice_index_or}
-use Rattle.std.proofs.Common.{arith, refl, sym, ap, ◌∙◌}
-use Rattle.std.proofs.lemmas.Simd.{map-map}
-use Rattle.perf_base.specs.declared.numbers.EventNo.{EventNo}
-use Rattle.perf_base.specs.declared.numbers.Key.{Key}
+use Rattle.std.proofs.{Common.{arith, refl, sym, ap, ◌∙◌}, lemmas.Simd.{map-map}}
+use Rattle.perf_base.specs.declared.numbers.{EventNo.{EventNo}, Key.{Key}}
 use Rattle.perf_base.specs.declared.reasons.Reason.TheVariants as reason
-use Rattle.stage_spec.specs.Commands.{closed_refusal, slots_of, targets}
-use Rattle.stage_spec.specs.Hardware.{Hardware}
-use Rattle.stage_spec.specs.Refusals.{first_of}
+use Rattle.stage_spec.specs.{Commands.{closed_refusal, slots_of, targets}, Hardware.{Hardware}, Refusals.{first_of}}
 use Rattle.stage_laws.proofs.Counts.{count-append}
 use Rattle.world_spec.specs.Value.{World, is_live, entry_at, instance_at, family_of, is_key, times}
-use Rattle.world_spec.specs.Kept.{in_option, is_member_of, leads, once_if, post_at, IsKept}
-use Rattle.world_spec.specs.StageOf.{stage_of, group_at}
-use Rattle.world_spec.proofs.Copies.{times-at}
-use Rattle.world_spec.proofs.Families.{open-is, group-is, group-members}
-use Rattle.world_spec.proofs.Keys.{is_key-same, once-true, times-cons}
+use Rattle.world_spec.specs.{Kept.{in_option, is_member_of, leads, once_if, post_at, IsKept}, StageOf.{stage_of, group_at}}
+use Rattle.world_spec.proofs.{Copies.{times-at}, Families.{open-is, group-is, group-members}, Keys.{is_key-same, once-true, times-cons}}
 use Rattle.world_spec.proofs.Moving.{leads-parts}
 use Rattle.event_commands.proofs.Named.{in-family}
 

@@ -1,18 +1,12 @@
 -- What a command does to the instances that it reaches, key by key. After perf_event_for_each and
 -- perf_event_for_each_child of kernel/events/core.c; the tables are this project's own profile.
-use Rattle.std.specs.Prelude.{ℕ, ◌<◌, ◌≤◌, List, All, flat_map}
-use Rattle.std.specs.List.{fold}
-use Rattle.perf_base.specs.declared.numbers.EventNo.{EventNo}
-use Rattle.perf_base.specs.declared.numbers.Key.{Key}
-use Rattle.perf_base.specs.declared.standing.Own.{Own}
+use Rattle.std.specs.{Prelude.{ℕ, ◌<◌, ◌≤◌, List, All, flat_map}, List.{fold}}
+use Rattle.perf_base.specs.declared.{numbers.{EventNo.{EventNo}, Key.{Key}}, standing.Own.{Own}}
 use Rattle.perf_base.specs.declared.standing.Own.TheVariants as own
 use Rattle.stage_spec.specs.Commands.{disabled, enabled}
-use Rattle.world_spec.specs.Changes.{set_own, reset_count}
-use Rattle.world_spec.specs.Kept.{keys_of}
-use Rattle.world_spec.specs.Value.{World, family_of}
-use Rattle.event_commands.specs.declared.changing.Command.{Command}
+use Rattle.world_spec.specs.{Changes.{set_own, reset_count}, Kept.{keys_of}, Value.{World, family_of}}
+use Rattle.event_commands.specs.declared.changing.{Command.{Command}, Switch.{Switch}}
 use Rattle.event_commands.specs.declared.changing.Command.TheVariants as command
-use Rattle.event_commands.specs.declared.changing.Switch.{Switch}
 use Rattle.event_commands.specs.declared.changing.Switch.TheVariants as switch
 
 -- eight slots at most, each below 256

@@ -1,14 +1,11 @@
 -- What is left of a world when instances went, key by key. After perf_release, perf_event_release_kernel and
 -- perf_group_detach of kernel/events/core.c; the tables are this project's own profile.
 use Rattle.std.specs.Prelude.{◌≡◌, ◌≢◌, ◌≤◌, true, false, List, map, if◌then◌else◌}
-use Rattle.perf_base.specs.declared.numbers.EventNo.{EventNo}
-use Rattle.perf_base.specs.declared.numbers.Key.{Key}
-use Rattle.perf_base.specs.declared.standing.Standing.{Standing}
+use Rattle.perf_base.specs.declared.{numbers.{EventNo.{EventNo}, Key.{Key}}, standing.Standing.{Standing}}
 use Rattle.perf_base.specs.declared.standing.Standing.TheVariants as standing
 use Rattle.stage_spec.specs.Stage.{is_of_family}
 use Rattle.stage_laws.specs.OneByOne.{drop_ones}
-use Rattle.world_spec.specs.Kept.{leads, post_at}
-use Rattle.world_spec.specs.StageOf.{stage_of}
+use Rattle.world_spec.specs.{Kept.{leads, post_at}, StageOf.{stage_of}}
 use Rattle.world_spec.specs.Value.{World, no_family, is_live, entry_at, instance_at, account_at, standing_at, family_of, times}
 
 -- Keys, groups and families alone change: not the machine, what copies that exited had counted, lost counts, clocks,

@@ -1,19 +1,10 @@
 -- What the commands of a tool leave of a world. After perf_event_enable, perf_event_disable, perf_event_reset,
 -- perf_event_period and perf_release of kernel/events/core.c; the tables are this project's own profile.
-use Rattle.std.specs.Prelude.{◌≡◌, ◌≢◌, ◌<◌, ◌↔◌, ℕ, true, List, length, Some, if◌then◌else◌}
-use Rattle.std.specs.FinMap.{contains_key}
-use Rattle.perf_base.specs.Cpus.{HasCpu}
-use Rattle.perf_base.specs.declared.numbers.CpuNo.{CpuNo}
-use Rattle.perf_base.specs.declared.numbers.CpuSet.{CpuSet}
-use Rattle.perf_base.specs.declared.numbers.EventNo.{EventNo}
-use Rattle.perf_base.specs.declared.numbers.Key.{Key}
-use Rattle.perf_base.specs.declared.standing.Own.{Own}
-use Rattle.stage_spec.specs.declared.instance.Instance.{Instance}
-use Rattle.stage_spec.specs.Commands.{is_reached}
+use Rattle.std.specs.{Prelude.{◌≡◌, ◌≢◌, ◌<◌, ◌↔◌, ℕ, true, List, length, Some, if◌then◌else◌}, FinMap.{contains_key}}
+use Rattle.perf_base.specs.{Cpus.{HasCpu}, declared.{numbers.{CpuNo.{CpuNo}, CpuSet.{CpuSet}, EventNo.{EventNo}, Key.{Key}}, standing.Own.{Own}}}
+use Rattle.stage_spec.specs.{declared.instance.Instance.{Instance}, Commands.{is_reached}}
 use Rattle.stage_laws.specs.Narrowing.{reaches}
-use Rattle.world_spec.specs.StageOf.{stage_of}
-use Rattle.world_spec.specs.Value.{World, Account, is_live, entry_at, instance_at, account_at, family_of}
-use Rattle.world_spec.specs.Changes.{set_period}
+use Rattle.world_spec.specs.{StageOf.{stage_of}, Value.{World, Account, is_live, entry_at, instance_at, account_at, family_of}, Changes.{set_period}}
 
 -- The processors that reach an instance of some families: of the machine's processors just these are in a set, and none
 -- that it does not have.

@@ -1,14 +1,10 @@
 -- The processors that reach the instances of some keys: each in its own context or in that of the task on it. After the
 -- calls of ctx_resched in kernel/events/core.c.
-use Rattle.std.specs.Prelude.{◌≡◌, nat_lt, Bool, ◌&&◌, ◌||◌, List, length}
-use Rattle.std.specs.List.{list_any}
-use Rattle.perf_base.specs.declared.numbers.CpuNo.{CpuNo}
-use Rattle.perf_base.specs.declared.numbers.CpuSet.{CpuSet}
-use Rattle.perf_base.specs.declared.numbers.Key.{Key}
+use Rattle.std.specs.{Prelude.{◌≡◌, nat_lt, Bool, ◌&&◌, ◌||◌, List, length}, List.{list_any}}
+use Rattle.perf_base.specs.declared.numbers.{CpuNo.{CpuNo}, CpuSet.{CpuSet}, Key.{Key}}
 use Rattle.stage_spec.specs.Hardware.{has_cpu}
 use Rattle.stage_laws.specs.Narrowing.{has_context}
-use Rattle.world_spec.specs.StageOf.{stage_of}
-use Rattle.world_spec.specs.Value.{World, entry_at}
+use Rattle.world_spec.specs.{StageOf.{stage_of}, Value.{World, entry_at}}
 
 abbrev pub reaches_key : World → CpuNo → Key → Bool
 reaches_key w cpu k = has_context (stage_of w) cpu (entry_at w k).context

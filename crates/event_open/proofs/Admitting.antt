@@ -1,27 +1,16 @@
 -- What an open that is not refused gives of the leader's group and of the new event, by the keys of a world.
 use Rattle.std.specs.Prelude.{◌≡◌, ◌≢◌, ◌≤◌, ◌==◌, Bool, true, false, List, [], ◌∷◌, ◌++◌, length, map, Option, Some, None, slice_index_or}
-use Rattle.std.specs.List.{AllPairs}
-use Rattle.std.proofs.Common.{arith, refl, sym, ap, subst, ◌∙◌, inl, inr}
-use Rattle.std.proofs.lemmas.Bool.{cases_Bool, false≢true}
-use Rattle.std.proofs.lemmas.List.{get_or-map, length-map}
-use Rattle.std.proofs.lemmas.List.Quantifiers.{all_pairs_push}
-use Rattle.perf_base.specs.declared.attr.Attr.{Attr}
-use Rattle.perf_base.specs.declared.numbers.EventNo.{EventNo}
-use Rattle.perf_base.specs.declared.numbers.Key.{Key}
-use Rattle.stage_spec.specs.declared.instance.Instance.{Instance}
-use Rattle.stage_spec.specs.Opening.{is_used, group_led, group_with, new_original}
+use Rattle.std.{specs.List.{AllPairs}, proofs.{Common.{arith, refl, sym, ap, subst, ◌∙◌, inl, inr}, lemmas.Bool.{cases_Bool, false≢true}}}
+use Rattle.std.proofs.lemmas.List.{get_or-map, length-map, Quantifiers.{all_pairs_push}}
+use Rattle.perf_base.specs.declared.{attr.Attr.{Attr}, numbers.{EventNo.{EventNo}, Key.{Key}}}
+use Rattle.stage_spec.specs.{declared.instance.Instance.{Instance}, Opening.{is_used, group_led, group_with, new_original}}
 use Rattle.stage_spec.specs.Stage.{Group, members_of, place_of}
 use Rattle.counter_match.specs.Seating.{AreDistinct}
-use Rattle.world_spec.specs.Value.{World, is_live, entry_at, instance_at, times}
-use Rattle.world_spec.specs.StageOf.{stage_of}
-use Rattle.world_spec.specs.Kept.{post_at, once_if, is_member_of, is_original_in}
-use Rattle.world_spec.proofs.Coming.{three, number_true}
-use Rattle.world_spec.proofs.Copies.{times-at}
+use Rattle.world_spec.specs.{Value.{World, is_live, entry_at, instance_at, times}, StageOf.{stage_of}}
+use Rattle.world_spec.{specs.Kept.{post_at, once_if, is_member_of, is_original_in}, proofs.{Coming.{three, number_true}, Copies.{times-at}}}
 use Rattle.perf_world.specs.Seen.{IsWorld}
-use Rattle.event_open.specs.Demanded.{demanded, demanded_with}
-use Rattle.event_open.specs.Opened.{keys_led, members_led, members_with}
-use Rattle.event_open.proofs.Demanding.{demanded-distinct, demanded-push, pairs-mapped, pairs-of_keys}
-use Rattle.event_open.proofs.Leaders.{member-lives}
+use Rattle.event_open.specs.{Demanded.{demanded, demanded_with}, Opened.{keys_led, members_led, members_with}}
+use Rattle.event_open.proofs.{Demanding.{demanded-distinct, demanded-push, pairs-mapped, pairs-of_keys}, Leaders.{member-lives}}
 
 at-most-one : (b : Bool) → once_if b ≤ 1
 at-most-one true = omega arith

@@ -1,28 +1,14 @@
 -- What groups ask for: lists of demands that grow, and their slots, of which no two are one.
 use Rattle.std.specs.Prelude.{◌≡◌, ◌≢◌, ℕ, ◌+◌, ◌≤◌, IsTrue, Bool, true, false, not, cond, All, List, [], ◌∷◌, ◌++◌, length, map, filter, slice_index, slice_index_or, if◌then◌else◌}
-use Rattle.std.specs.List.{AllPairs}
-use Rattle.std.proofs.Common.{arith, refl, sym, ap, subst, ◌∙◌, inl, inr}
-use Rattle.std.proofs.Math.Nat.{pow-le-pow_right}
-use Rattle.std.proofs.lemmas.Bool.{cases_lt, false≢true, true≢false}
-use Rattle.std.proofs.lemmas.List.{length-map, map-append, get_or-map, get_or_past}
-use Rattle.std.proofs.lemmas.List.Elements.{filter-append}
-use Rattle.std.proofs.lemmas.List.Kept.{AllPairs-filter, AllPairs-cons}
-use Rattle.std.proofs.lemmas.List.Sums.{length-filter, count_by-le-length}
-use Rattle.perf_base.specs.Masks.{IsMask}
-use Rattle.perf_base.specs.Scripts.{IsKind}
-use Rattle.perf_base.specs.declared.attr.Kind.{Kind}
+use Rattle.std.{specs.List.{AllPairs}, proofs.{Common.{arith, refl, sym, ap, subst, ◌∙◌, inl, inr}, Math.Nat.{pow-le-pow_right}}}
+use Rattle.std.proofs.lemmas.{Bool.{cases_lt, false≢true, true≢false}, List.{length-map, map-append, get_or-map, get_or_past}}
+use Rattle.std.proofs.lemmas.List.{Elements.{filter-append}, Kept.{AllPairs-filter, AllPairs-cons}, Sums.{length-filter, count_by-le-length}}
+use Rattle.perf_base.specs.{Masks.{IsMask}, Scripts.{IsKind}, declared.{attr.Kind.{Kind}, numbers.{EventNo.{EventNo}, Key.{Key}}}}
 use Rattle.perf_base.specs.declared.attr.Kind.TheVariants as kind
-use Rattle.perf_base.specs.declared.numbers.EventNo.{EventNo}
-use Rattle.perf_base.specs.declared.numbers.Key.{Key}
-use Rattle.stage_spec.specs.declared.instance.Instance.{Instance}
-use Rattle.stage_spec.specs.Effective.{is_hardware}
-use Rattle.stage_spec.specs.Hardware.{Hardware, IsHardware, is_software, mask_of}
-use Rattle.stage_spec.specs.Tight.{masks_of}
-use Rattle.stage_spec.specs.Verdict.{with_masks}
+use Rattle.stage_spec.specs.{declared.instance.Instance.{Instance}, Effective.{is_hardware}, Hardware.{Hardware, IsHardware, is_software, mask_of}}
+use Rattle.stage_spec.specs.{Tight.{masks_of}, Verdict.{with_masks}}
 use Rattle.counter_match.specs.Seating.{AreDistinct}
-use Rattle.world_spec.specs.Value.{is_key, times}
-use Rattle.world_spec.proofs.Copies.{times-at}
-use Rattle.world_spec.proofs.Keys.{times-cons, once-true, is_key-same}
+use Rattle.world_spec.{specs.Value.{is_key, times}, proofs.{Copies.{times-at}, Keys.{times-cons, once-true, is_key-same}}}
 use Rattle.event_open.specs.Demanded.{demanded, demanded_by}
 
 -- demands of one, and of two lists

@@ -1,46 +1,23 @@
 -- That a world may take the new event of an open that is not refused, and what stage it is of then.
 use Rattle.std.specs.Prelude.{◌≡◌, ℕ, zero, suc, ◌+◌, ◌^◌, ◌<◌, ◌≤◌, ◌==◌, nat_lt, Bool, true, false, not, ◌&&◌, IsTrue, List, [], ◌∷◌, ◌++◌, length, map, filter, Option, Some, None, option_map, slice_index_or}
-use Rattle.std.specs.List.{list_any}
-use Rattle.std.proofs.Common.{arith, refl, sym, ap, subst, ◌∙◌}
-use Rattle.std.proofs.lemmas.Bool.{false≢true, true≢false, and_parts, or_parts, not-false}
-use Rattle.std.proofs.lemmas.Bool.Decides.{nat_tests}
-use Rattle.std.proofs.lemmas.List.{get_or-map, length-map, map-append}
-use Rattle.std.proofs.lemmas.List.Quantifiers.{all_pairs_push}
-use Rattle.std.proofs.lemmas.Simd.{map-map}
-use Rattle.perf_base.specs.Scripts.{IsAttr, IsTaskSel, IsCpuSel}
-use Rattle.perf_base.specs.declared.attr.Attr.{Attr}
-use Rattle.perf_base.specs.declared.attr.CpuSel.{CpuSel}
+use Rattle.std.{specs.List.{list_any}, proofs.Common.{arith, refl, sym, ap, subst, ◌∙◌}}
+use Rattle.std.proofs.lemmas.Bool.{false≢true, true≢false, and_parts, or_parts, not-false, Decides.{nat_tests}}
+use Rattle.std.proofs.lemmas.{List.{get_or-map, length-map, map-append, Quantifiers.{all_pairs_push}}, Simd.{map-map}}
+use Rattle.perf_base.specs.{Scripts.{IsAttr, IsTaskSel, IsCpuSel}, declared.attr.{Attr.{Attr}, CpuSel.{CpuSel}, Kind.{Kind}, TaskSel.{TaskSel}}}
+use Rattle.perf_base.specs.{declared.numbers.{EventNo.{EventNo}, Key.{Key}}, Contexts.{context_of, context_by}}
 use Rattle.perf_base.specs.declared.attr.CpuSel.TheVariants as cpus
-use Rattle.perf_base.specs.declared.attr.Kind.{Kind}
-use Rattle.perf_base.specs.declared.attr.TaskSel.{TaskSel}
 use Rattle.perf_base.specs.declared.attr.TaskSel.TheVariants as tasks
-use Rattle.perf_base.specs.declared.numbers.EventNo.{EventNo}
-use Rattle.perf_base.specs.declared.numbers.Key.{Key}
-use Rattle.stage_spec.specs.declared.instance.Instance.{Instance}
-use Rattle.stage_spec.specs.Hardware.{is_software, mask_of, is_pmu, pmu_of_kind}
-use Rattle.stage_spec.specs.Fits.{fits}
-use Rattle.stage_spec.specs.Opening.{is_other_pmu, new_original, open_refusal, opened}
-use Rattle.stage_spec.specs.Places.{is_same_task, is_same_cpu}
-use Rattle.perf_base.specs.Contexts.{context_of, context_by}
-use Rattle.stage_spec.specs.Refusals.{holds_of}
-use Rattle.stage_spec.specs.Stage.{group_of, place_of}
-use Rattle.stage_spec.specs.Tight.{masks_of}
-use Rattle.stage_laws.proofs.Accepted.{IsAccepted, accepted}
-use Rattle.stage_laws.proofs.Grouped.{same_task, same_cpu}
-use Rattle.world_spec.specs.Value.{World, is_live, entry_at, instance_at, family_of, is_key}
-use Rattle.world_spec.specs.StageOf.{stage_of}
-use Rattle.world_spec.specs.Kept.{leads, post_at, kinds_in, AreFitting}
-use Rattle.world_spec.specs.Adding.{Newcomer, add}
-use Rattle.world_spec.specs.Comings.{new_kinds, slot_led, MayCome, HasRoom, IsLedByOriginal}
-use Rattle.world_spec.proofs.AddedStage.{open-stage}
-use Rattle.world_spec.proofs.Coming.{number_true}
+use Rattle.stage_spec.specs.{declared.instance.Instance.{Instance}, Hardware.{is_software, mask_of, is_pmu, pmu_of_kind}, Fits.{fits}}
+use Rattle.stage_spec.specs.{Opening.{is_other_pmu, new_original, open_refusal, opened}, Places.{is_same_task, is_same_cpu}, Refusals.{holds_of}}
+use Rattle.stage_spec.specs.{Stage.{group_of, place_of}, Tight.{masks_of}}
+use Rattle.stage_laws.proofs.{Accepted.{IsAccepted, accepted}, Grouped.{same_task, same_cpu}}
+use Rattle.world_spec.specs.{Value.{World, is_live, entry_at, instance_at, family_of, is_key}, StageOf.{stage_of}}
+use Rattle.world_spec.specs.{Kept.{leads, post_at, kinds_in, AreFitting}, Adding.{Newcomer, add}}
+use Rattle.world_spec.{specs.Comings.{new_kinds, slot_led, MayCome, HasRoom, IsLedByOriginal}, proofs.{AddedStage.{open-stage}, Coming.{number_true}}}
 use Rattle.world_spec.proofs.Families.{original-is}
-use Rattle.perf_world.specs.Parts.{MayAdd}
-use Rattle.perf_world.specs.Seen.{IsWorld}
-use Rattle.event_open.specs.Demanded.{demanded}
-use Rattle.event_open.specs.Opened.{leader_key, members_led, members_with, opened_as}
-use Rattle.event_open.proofs.Admitting.{members-with, slot-free}
-use Rattle.event_open.proofs.Demanding.{masks-by_kinds}
+use Rattle.perf_world.specs.{Parts.{MayAdd}, Seen.{IsWorld}}
+use Rattle.event_open.specs.{Demanded.{demanded}, Opened.{leader_key, members_led, members_with, opened_as}}
+use Rattle.event_open.proofs.{Admitting.{members-with, slot-free}, Demanding.{masks-by_kinds}}
 use Rattle.event_open.proofs.Leaders.{IsOriginal, slot-original, closed-is, sibling-is, led-members, other-pmu-is, room-is}
 use Rattle.event_open.proofs.Refusing.{none-holds, first-free}
 

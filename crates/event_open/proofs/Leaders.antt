@@ -1,31 +1,19 @@
 -- What an open's tests of its leader are by the keys of a world.
 use Rattle.std.specs.Prelude.{◌≡◌, ◌<◌, ◌≤◌, ◌==◌, ◌&&◌, ◌||◌, nat_lt, Bool, true, false, not, All, List, [], ◌∷◌, map, length, Option, Some, None, IfSome, is_some, option_map}
-use Rattle.std.specs.List.{list_any}
-use Rattle.std.proofs.Common.{arith, refl, sym, ap, ◌∙◌, inl, inr}
-use Rattle.std.proofs.lemmas.Bool.{cases_Bool, ltb-true, not-false}
-use Rattle.std.proofs.lemmas.Bool.Decides.{nat_tests}
-use Rattle.std.proofs.lemmas.List.{length-map}
-use Rattle.perf_base.specs.declared.attr.Attr.{Attr}
-use Rattle.perf_base.specs.declared.numbers.EventNo.{EventNo}
-use Rattle.perf_base.specs.declared.numbers.Key.{Key}
+use Rattle.std.{specs.List.{list_any}, proofs.{Common.{arith, refl, sym, ap, ◌∙◌, inl, inr}, lemmas.Bool.{cases_Bool, ltb-true, not-false}}}
+use Rattle.std.proofs.lemmas.{Bool.Decides.{nat_tests}, List.{length-map}}
+use Rattle.perf_base.specs.declared.{attr.Attr.{Attr}, numbers.{EventNo.{EventNo}, Key.{Key}}}
 use Rattle.perf_base.specs.declared.reasons.Reason.TheVariants as reason
-use Rattle.stage_spec.specs.declared.instance.Instance.{Instance}
-use Rattle.stage_spec.specs.Effective.{name_of}
-use Rattle.stage_spec.specs.Flags.{is_inherited, is_pinned, is_exclusive}
+use Rattle.stage_spec.specs.{declared.instance.Instance.{Instance}, Effective.{name_of}, Flags.{is_inherited, is_pinned, is_exclusive}}
 use Rattle.stage_spec.specs.Opening.{is_other_pmu, is_same_flag, leader_is_closed, leader_is_sibling, group_is_of_other_pmu, group_is_full, group_led}
-use Rattle.stage_spec.specs.Places.{is_same_task, is_same_cpu}
-use Rattle.stage_spec.specs.Refusals.{holds_of}
+use Rattle.stage_spec.specs.{Places.{is_same_task, is_same_cpu}, Refusals.{holds_of}}
 use Rattle.stage_spec.specs.Stage.{Group, members_of, group_of, group_size, original_of, place_of}
-use Rattle.world_spec.specs.Value.{World, is_live, entry_at, instance_at, family_of, is_key, times}
-use Rattle.world_spec.specs.StageOf.{group_at, stage_of}
-use Rattle.world_spec.specs.Kept.{leads, post_at, in_option, is_member_of, is_original_in}
-use Rattle.world_spec.proofs.Coming.{three, number_true}
+use Rattle.world_spec.specs.{Value.{World, is_live, entry_at, instance_at, family_of, is_key, times}, StageOf.{group_at, stage_of}}
+use Rattle.world_spec.{specs.Kept.{leads, post_at, in_option, is_member_of, is_original_in}, proofs.Coming.{three, number_true}}
 use Rattle.world_spec.proofs.Families.{group-is, open-is, original-is, group-members}
-use Rattle.world_spec.proofs.Keys.{key-is, is_key-true, is_key-false, times-cons, once-true, once-false}
-use Rattle.world_spec.proofs.Moving.{leads-parts}
+use Rattle.world_spec.proofs.{Keys.{key-is, is_key-true, is_key-false, times-cons, once-true, once-false}, Moving.{leads-parts}}
 use Rattle.perf_world.specs.Seen.{IsWorld}
-use Rattle.event_open.specs.Faults.{joining_faults, group_faults, leader_faults}
-use Rattle.event_open.specs.Opened.{keys_led, leader_key, members_led}
+use Rattle.event_open.specs.{Faults.{joining_faults, group_faults, leader_faults}, Opened.{keys_led, leader_key, members_led}}
 use Rattle.event_open.proofs.Demanding.{all-keys}
 
 -- the group that a leader's original is in

@@ -1,49 +1,23 @@
 -- What an open leaves of the processors that do not have the new event's context.
 use Rattle.std.specs.Prelude.{◌≡◌, ◌+◌, ◌<◌, ◌≤◌, ◌↔◌, ◌&&◌, true, false, List, [], ◌∷◌, ◌++◌, length, map, filter, flat_map, Option, Some, None}
-use Rattle.std.specs.Option.{unwrap_or}
-use Rattle.std.proofs.Common.{arith, refl, sym, ap, subst, ◌∙◌, inl, inr}
+use Rattle.std.{specs.Option.{unwrap_or}, proofs.Common.{arith, refl, sym, ap, subst, ◌∙◌, inl, inr}}
 use Rattle.std.proofs.lemmas.Bool.{cases_eq, cases_Bool, false≢true}
-use Rattle.perf_base.specs.declared.attr.Attr.{Attr}
-use Rattle.perf_base.specs.declared.numbers.CpuNo.{CpuNo}
-use Rattle.perf_base.specs.declared.numbers.EventNo.{EventNo}
-use Rattle.perf_base.specs.declared.numbers.Key.{Key}
-use Rattle.perf_base.specs.declared.numbers.TaskNo.{TaskNo}
-use Rattle.perf_base.specs.declared.standing.Context.{Context}
+use Rattle.perf_base.specs.declared.{attr.Attr.{Attr}, numbers.{CpuNo.{CpuNo}, EventNo.{EventNo}, Key.{Key}, TaskNo.{TaskNo}}}
+use Rattle.perf_base.specs.{declared.standing.Context.{Context}, Contexts.{context_of}}
 use Rattle.perf_base.specs.declared.standing.Context.TheVariants as context
 use Rattle.perf_base.specs.declared.standing.Standing.TheVariants as standing
-use Rattle.stage_spec.specs.Hardware.{Hardware}
-use Rattle.stage_spec.specs.Flags.{is_pinned}
-use Rattle.stage_spec.specs.Opening.{add_group, new_original, open_refusal, opened}
-use Rattle.perf_base.specs.Contexts.{context_of}
-use Rattle.stage_spec.specs.Stage.{Stage, alone, change_context, task_on}
-use Rattle.stage_spec.specs.Verdict.{is_eligible, judge_passes, passes, verdicts}
-use Rattle.stage_laws.specs.Narrowing.{has_context}
-use Rattle.stage_laws.specs.Standings.{brief_of}
-use Rattle.stage_laws.proofs.Accepted.{accepted}
-use Rattle.stage_laws.proofs.Counts.{count-append}
-use Rattle.stage_laws.proofs.Others.{ReachesSame, passes-same}
-use Rattle.stage_laws.proofs.Untouched.{context-changed}
+use Rattle.stage_spec.specs.{Hardware.{Hardware}, Flags.{is_pinned}, Opening.{add_group, new_original, open_refusal, opened}}
+use Rattle.stage_spec.specs.{Stage.{Stage, alone, change_context, task_on}, Verdict.{is_eligible, judge_passes, passes, verdicts}}
+use Rattle.stage_laws.{specs.{Narrowing.{has_context}, Standings.{brief_of}}, proofs.{Accepted.{accepted}, Counts.{count-append}}}
+use Rattle.stage_laws.proofs.{Others.{ReachesSame, passes-same}, Untouched.{context-changed}}
 use Rattle.world_spec.specs.Value.{World, Leaders, is_live, entry_at, standing_at, seats_at, leaders_of, family_of, is_key, times}
-use Rattle.world_spec.specs.StageOf.{group_at, stage_of}
-use Rattle.world_spec.specs.Kept.{post_at}
-use Rattle.world_spec.specs.Adding.{Newcomer, add}
-use Rattle.world_spec.specs.Listings.{task_leaders, pass_leaders}
-use Rattle.world_spec.specs.Rescheduled.{IsUntouched}
-use Rattle.world_spec.specs.Staying.{HasCome}
-use Rattle.world_spec.proofs.Added.{added, comes-by, joined-members}
-use Rattle.world_spec.proofs.AddedStage.{group-other}
-use Rattle.world_spec.proofs.Coming.{Comes}
-use Rattle.world_spec.proofs.GoneLeaderStage.{map-within}
-use Rattle.world_spec.proofs.Keys.{key-is}
-use Rattle.world_spec.proofs.Listings.{passes-are, reached_leaders, reached-context, reached-leading}
-use Rattle.world_spec.proofs.Moving.{leads-parts}
-use Rattle.world_spec.proofs.Standing.{left-untouched}
-use Rattle.world_spec.proofs.Staying.{add-stays}
-use Rattle.world_spec.proofs.Tables.{get-there}
-use Rattle.perf_world.specs.Parts.{MayAdd}
-use Rattle.perf_world.specs.Seen.{IsWorld}
-use Rattle.event_open.specs.Opened.{opened_as}
-use Rattle.event_open.proofs.Joining.{led-by, may-come, stage-opened}
+use Rattle.world_spec.specs.{StageOf.{group_at, stage_of}, Kept.{post_at}, Adding.{Newcomer, add}, Listings.{task_leaders, pass_leaders}}
+use Rattle.world_spec.{specs.{Rescheduled.{IsUntouched}, Staying.{HasCome}}, proofs.Added.{added, comes-by, joined-members}}
+use Rattle.world_spec.proofs.{AddedStage.{group-other}, Coming.{Comes}, GoneLeaderStage.{map-within}, Keys.{key-is}}
+use Rattle.world_spec.proofs.{Listings.{passes-are, reached_leaders, reached-context, reached-leading}, Moving.{leads-parts}}
+use Rattle.world_spec.proofs.{Standing.{left-untouched}, Staying.{add-stays}, Tables.{get-there}}
+use Rattle.perf_world.specs.{Parts.{MayAdd}, Seen.{IsWorld}}
+use Rattle.event_open.{specs.Opened.{opened_as}, proofs.Joining.{led-by, may-come, stage-opened}}
 
 -- the passes of such a processor where the event is a group of its own
 open-alone : (s : Stage) (e : EventNo) (a : Attr) (cpu : CpuNo) → length s.contexts ≡ 72 → has_context s cpu (context_of a) ≡ false → ReachesSame s (opened s e a None) cpu

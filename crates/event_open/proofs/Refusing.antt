@@ -1,28 +1,16 @@
 -- The first reason of lists that are put together, and so the refusal of an open part by part.
-use Rattle.std.specs.Prelude.{◌≡◌, Bool, false, List, [], ◌∷◌, ◌++◌, map, Option, Some, None}
-use Rattle.std.specs.Option.{option_or}
-use Rattle.std.proofs.Common.{refl, sym, ap, ◌∙◌, inl, inr}
-use Rattle.std.proofs.lemmas.Bool.{cases_Bool}
-use Rattle.perf_base.specs.declared.attr.Attr.{Attr}
-use Rattle.perf_base.specs.declared.numbers.EventNo.{EventNo}
-use Rattle.perf_base.specs.declared.numbers.Key.{Key}
-use Rattle.perf_base.specs.declared.reasons.Reason.{Reason}
+use Rattle.std.specs.{Prelude.{◌≡◌, Bool, false, List, [], ◌∷◌, ◌++◌, map, Option, Some, None}, Option.{option_or}}
+use Rattle.std.proofs.{Common.{refl, sym, ap, ◌∙◌, inl, inr}, lemmas.Bool.{cases_Bool}}
+use Rattle.perf_base.specs.declared.{attr.Attr.{Attr}, numbers.{EventNo.{EventNo}, Key.{Key}}, reasons.Reason.{Reason}}
 use Rattle.perf_base.specs.declared.reasons.Reason.TheVariants as reason
-use Rattle.stage_spec.specs.Checks.{has_unknown_sample}
-use Rattle.stage_spec.specs.Hardware.{Hardware}
+use Rattle.stage_spec.specs.{Checks.{has_unknown_sample}, Hardware.{Hardware}}
 use Rattle.stage_spec.specs.Opening.{is_used, group_is_of_other_pmu, group_is_full, group_led, open_faults, open_refusal, unassignable}
-use Rattle.stage_spec.specs.Refusals.{first_of}
-use Rattle.stage_spec.specs.Stage.{Stage}
-use Rattle.stage_spec.proofs.Each.{Each}
+use Rattle.stage_spec.{specs.{Refusals.{first_of}, Stage.{Stage}}, proofs.Each.{Each}}
 use Rattle.stage_laws.proofs.Accepted.{no_reason}
-use Rattle.world_spec.specs.StageOf.{stage_of}
-use Rattle.world_spec.specs.Value.{World, instance_at, family_of}
+use Rattle.world_spec.specs.{StageOf.{stage_of}, Value.{World, instance_at, family_of}}
 use Rattle.perf_world.specs.Seen.{IsWorld}
-use Rattle.event_open.specs.Demanded.{demanded, demanded_with}
-use Rattle.event_open.specs.Faults.{event_faults, leader_faults, group_faults}
-use Rattle.event_open.specs.Opened.{members_led, members_with}
-use Rattle.event_open.proofs.Admitting.{demands-whole}
-use Rattle.event_open.proofs.Leaders.{closed-is, group-faults}
+use Rattle.event_open.specs.{Demanded.{demanded, demanded_with}, Faults.{event_faults, leader_faults, group_faults}}
+use Rattle.event_open.{specs.Opened.{members_led, members_with}, proofs.{Admitting.{demands-whole}, Leaders.{closed-is, group-faults}}}
 
 first-append : (xs ys : List (Reason × Bool)) → first_of (xs ++ ys) ≡ option_or (first_of xs) (first_of ys)
 first-append [] ys = refl

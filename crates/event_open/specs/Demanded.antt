@@ -1,13 +1,8 @@
 -- The counters that events ask for: each hardware event with its mask. This project's own profile.
 use Rattle.std.specs.Prelude.{ℕ, ◌≤◌, List, [], ◌∷◌, ◌++◌, All, filter, if◌then◌else◌}
-use Rattle.perf_base.specs.Masks.{IsMask}
-use Rattle.perf_base.specs.declared.attr.Kind.{Kind}
-use Rattle.perf_base.specs.declared.numbers.EventNo.{EventNo}
-use Rattle.stage_spec.specs.declared.instance.Instance.{Instance}
-use Rattle.stage_spec.specs.Effective.{is_hardware}
-use Rattle.stage_spec.specs.Hardware.{Hardware, is_software, mask_of}
-use Rattle.stage_spec.specs.Tight.{masks_of}
-use Rattle.stage_spec.specs.Verdict.{with_masks}
+use Rattle.perf_base.specs.{Masks.{IsMask}, declared.{attr.Kind.{Kind}, numbers.EventNo.{EventNo}}}
+use Rattle.stage_spec.specs.{declared.instance.Instance.{Instance}, Effective.{is_hardware}, Hardware.{Hardware, is_software, mask_of}}
+use Rattle.stage_spec.specs.{Tight.{masks_of}, Verdict.{with_masks}}
 
 -- of one event by its kind, of some instances, and of both
 abbrev pub demanded_by : Hardware → EventNo → Kind → List (EventNo × ℕ)

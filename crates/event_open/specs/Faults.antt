@@ -1,20 +1,12 @@
 -- The reasons for which an open is refused, in parts: those of the event alone, those of the leader that is given, and
 -- those of its group. After the system call perf_event_open of kernel/events/core.c; their order is this project's own
 -- profile.
-use Rattle.std.specs.Prelude.{Bool, not, nat_lt, ◌&&◌, ◌||◌, List, [], ◌∷◌, ◌++◌, length, Option, is_some}
-use Rattle.std.specs.List.{list_any}
-use Rattle.perf_base.specs.declared.numbers.EventNo.{EventNo}
-use Rattle.perf_base.specs.declared.numbers.Key.{Key}
-use Rattle.perf_base.specs.declared.attr.Attr.{Attr}
-use Rattle.perf_base.specs.declared.attr.Kind.{Kind}
-use Rattle.perf_base.specs.declared.reasons.Reason.{Reason}
+use Rattle.std.specs.{Prelude.{Bool, not, nat_lt, ◌&&◌, ◌||◌, List, [], ◌∷◌, ◌++◌, length, Option, is_some}, List.{list_any}}
+use Rattle.perf_base.specs.declared.{numbers.{EventNo.{EventNo}, Key.{Key}}, attr.{Attr.{Attr}, Kind.{Kind}}, reasons.Reason.{Reason}}
 use Rattle.perf_base.specs.declared.reasons.Reason.TheVariants as reason
-use Rattle.stage_spec.specs.Checks.{faults_of}
-use Rattle.stage_spec.specs.Flags.{is_inherited, is_pinned, is_exclusive}
-use Rattle.stage_spec.specs.Hardware.{Hardware}
+use Rattle.stage_spec.specs.{Checks.{faults_of}, Flags.{is_inherited, is_pinned, is_exclusive}, Hardware.{Hardware}}
 use Rattle.stage_spec.specs.Opening.{is_same_flag, is_used, is_other_pmu, names_other_pmu, names_no_task, leader_is_closed, leader_is_sibling, leader_is_elsewhere, leader_inherits_otherwise}
-use Rattle.stage_spec.specs.Places.{is_same_task, is_same_cpu}
-use Rattle.stage_spec.specs.Stage.{Stage}
+use Rattle.stage_spec.specs.{Places.{is_same_task, is_same_cpu}, Stage.{Stage}}
 use Rattle.world_spec.specs.Value.{World, entry_at, instance_at, is_key}
 
 -- the place is of another PMU, or its task is not there

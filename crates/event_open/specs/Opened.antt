@@ -1,16 +1,9 @@
 -- What an open that is not refused does to a world. After the system call perf_event_open, perf_install_in_context and
 -- perf_group_attach of kernel/events/core.c; the tables are this project's own profile.
 use Rattle.std.specs.Prelude.{◌≡◌, false, List, [], Option, Some, None}
-use Rattle.perf_base.specs.declared.attr.Attr.{Attr}
-use Rattle.perf_base.specs.declared.numbers.EventNo.{EventNo}
-use Rattle.perf_base.specs.declared.numbers.Key.{Key}
-use Rattle.stage_spec.specs.declared.instance.Instance.{Instance}
-use Rattle.stage_spec.specs.Opening.{group_led, group_with, new_original}
-use Rattle.perf_base.specs.Contexts.{context_of}
-use Rattle.stage_spec.specs.Stage.{Stage, Group, members_of}
-use Rattle.world_spec.specs.Adding.{Newcomer, add}
-use Rattle.world_spec.specs.Staying.{HasCome}
-use Rattle.world_spec.specs.Value.{World, is_live, entry_at, family_of}
+use Rattle.perf_base.specs.{declared.{attr.Attr.{Attr}, numbers.{EventNo.{EventNo}, Key.{Key}}}, Contexts.{context_of}}
+use Rattle.stage_spec.specs.{declared.instance.Instance.{Instance}, Opening.{group_led, group_with, new_original}, Stage.{Stage, Group, members_of}}
+use Rattle.world_spec.specs.{Adding.{Newcomer, add}, Staying.{HasCome}, Value.{World, is_live, entry_at, family_of}}
 use Rattle.perf_world.specs.Parts.{newcomer}
 
 -- the original in a leader's slot, where a leader is given

@@ -1,28 +1,16 @@
 -- On which processor a context is, and that a group is out on every other one.
 use Rattle.std.specs.Prelude.{◌≡◌, ℕ, ◌≤◌, ◌==◌, Bool, true, false, List, [], ◌∷◌, map, filter, flat_map, count_by}
-use Rattle.std.proofs.Common.{arith, refl, sym, ap, ◌∙◌}
-use Rattle.std.proofs.lemmas.Bool.{false≢true}
-use Rattle.perf_base.specs.declared.numbers.CpuNo.{CpuNo}
-use Rattle.perf_base.specs.declared.numbers.Key.{Key}
-use Rattle.perf_base.specs.declared.standing.Context.{Context}
+use Rattle.std.proofs.{Common.{arith, refl, sym, ap, ◌∙◌}, lemmas.Bool.{false≢true}}
+use Rattle.perf_base.specs.declared.{numbers.{CpuNo.{CpuNo}, Key.{Key}}, standing.Context.{Context}}
 use Rattle.perf_base.specs.declared.standing.Context.TheVariants as context
 use Rattle.perf_base.specs.declared.standing.Standing.TheVariants as standing
-use Rattle.stage_spec.specs.Hardware.{Hardware}
-use Rattle.stage_spec.specs.Stage.{Stage, Group, task_on}
-use Rattle.stage_spec.specs.Verdict.{is_eligible, passes, verdicts, standing_of}
-use Rattle.stage_laws.specs.Narrowing.{has_context}
-use Rattle.stage_laws.proofs.Counts.{count-append, count-cons, count-filter}
-use Rattle.stage_laws.proofs.Tasks.{is_task-some, runs-within}
-use Rattle.world_spec.specs.Kept.{leads, post_at, IsKept}
-use Rattle.world_spec.specs.Listings.{pass_leaders}
-use Rattle.world_spec.specs.Rescheduled.{IsRescheduled}
-use Rattle.world_spec.specs.StageOf.{group_at, stage_of}
-use Rattle.world_spec.specs.Value.{World, entry_at, instance_at, is_live}
-use Rattle.event_reads.specs.Homes.{StandRescheduled}
-use Rattle.world_spec.proofs.Coming.{number_true}
+use Rattle.stage_spec.specs.{Hardware.{Hardware}, Stage.{Stage, Group, task_on}, Verdict.{is_eligible, passes, verdicts, standing_of}}
+use Rattle.stage_laws.{specs.Narrowing.{has_context}, proofs.{Counts.{count-append, count-cons, count-filter}, Tasks.{is_task-some, runs-within}}}
+use Rattle.world_spec.specs.{Kept.{leads, post_at, IsKept}, Listings.{pass_leaders}, Rescheduled.{IsRescheduled}, StageOf.{group_at, stage_of}}
+use Rattle.world_spec.{specs.Value.{World, entry_at, instance_at, is_live}, proofs.Coming.{number_true}}
 use Rattle.world_spec.proofs.Listings.{count-none, passes-are, reached_leaders, reached-context, reached-leading}
-use Rattle.world_spec.proofs.Rescheduling.{about-groups, among-none, is_led, same-id}
-use Rattle.world_spec.proofs.Standing.{passes-groups}
+use Rattle.world_spec.proofs.{Rescheduling.{about-groups, among-none, is_led, same-id}, Standing.{passes-groups}}
+use Rattle.event_reads.specs.Homes.{StandRescheduled}
 
 -- a processor that has the context of a leader stands as rescheduling leaves it
 pub has-stood : (w : World) (k : Key) (cpu : CpuNo) (c : Context) → StandRescheduled w → is_live w k ≡ true → (entry_at w k).context ≡ c → has_context (stage_of w) cpu c ≡ true

@@ -1,18 +1,10 @@
 -- What is asked of an event goes by the key of its original.
-use Rattle.std.specs.Prelude.{◌≡◌, not, [], ◌∷◌, is_some, Option, Some, None, option_map}
-use Rattle.std.proofs.Common.{sym, ap, ◌∙◌}
-use Rattle.perf_base.specs.declared.numbers.EventNo.{EventNo}
-use Rattle.perf_base.specs.declared.numbers.Key.{Key}
+use Rattle.std.{specs.Prelude.{◌≡◌, not, [], ◌∷◌, is_some, Option, Some, None, option_map}, proofs.Common.{sym, ap, ◌∙◌}}
+use Rattle.perf_base.specs.declared.numbers.{EventNo.{EventNo}, Key.{Key}}
 use Rattle.perf_base.specs.declared.reasons.Reason.TheVariants as reason
-use Rattle.stage_spec.specs.Commands.{closed_refusal}
-use Rattle.stage_spec.specs.Effective.{state_in}
-use Rattle.stage_spec.specs.Hardware.{Hardware}
-use Rattle.stage_spec.specs.Refusals.{first_of}
-use Rattle.stage_spec.specs.Replies.{why_of, why_by, why_in}
-use Rattle.stage_spec.specs.Stage.{group_of, is_open, original_of}
-use Rattle.world_spec.specs.Kept.{IsKept}
-use Rattle.world_spec.specs.StageOf.{group_at, stage_of}
-use Rattle.world_spec.specs.Value.{World, entry_at, instance_at, family_of}
+use Rattle.stage_spec.specs.{Commands.{closed_refusal}, Effective.{state_in}, Hardware.{Hardware}, Refusals.{first_of}}
+use Rattle.stage_spec.specs.{Replies.{why_of, why_by, why_in}, Stage.{group_of, is_open, original_of}}
+use Rattle.world_spec.specs.{Kept.{IsKept}, StageOf.{group_at, stage_of}, Value.{World, entry_at, instance_at, family_of}}
 use Rattle.world_spec.proofs.Families.{group-is, open-is, original-is}
 
 -- the slot is open where there is one

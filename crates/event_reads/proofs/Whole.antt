@@ -1,16 +1,10 @@
 -- The sums of a family by its parts: each part is at most the whole, and no family ran longer than it was enabled.
 use Rattle.std.specs.Prelude.{◌≡◌, ℕ, ◌^◌, ◌<◌, ◌≤◌, true, false, List, [], ◌∷◌, ◌++◌, Option, Some, None, All, slice_index_or}
-use Rattle.std.proofs.Common.{arith, ap, sym, ◌∙◌, inl, inr}
-use Rattle.std.proofs.lemmas.Bool.{cases_Bool}
-use Rattle.perf_base.specs.declared.numbers.Key.{Key}
-use Rattle.perf_base.specs.declared.reply.Sums.{Sums}
-use Rattle.stage_spec.specs.Families.{plus}
-use Rattle.stage_spec.specs.Hardware.{Hardware}
-use Rattle.stage_spec.specs.Shares.{no_sums}
-use Rattle.world_spec.specs.Kept.{IsKept, family_sums, in_option, is_copy_in, plus_keys, post_at}
-use Rattle.world_spec.specs.Value.{World, account_at, is_live, no_family}
-use Rattle.world_spec.proofs.Copies.{times-at}
-use Rattle.world_spec.proofs.Keys.{once-false}
+use Rattle.std.proofs.{Common.{arith, ap, sym, ◌∙◌, inl, inr}, lemmas.Bool.{cases_Bool}}
+use Rattle.perf_base.specs.declared.{numbers.Key.{Key}, reply.Sums.{Sums}}
+use Rattle.stage_spec.specs.{Families.{plus}, Hardware.{Hardware}, Shares.{no_sums}}
+use Rattle.world_spec.specs.{Kept.{IsKept, family_sums, in_option, is_copy_in, plus_keys, post_at}, Value.{World, account_at, is_live, no_family}}
+use Rattle.world_spec.proofs.{Copies.{times-at}, Keys.{once-false}}
 
 sums-are : (a b : Sums) → a.count ≡ b.count → a.enabled ≡ b.enabled → a.running ≡ b.running → a ≡ b
 sums-are a b p q r = λ i. record { count = p i; enabled = q i; running = r i }

@@ -1,28 +1,16 @@
 -- How many words a read gives does not go by what was counted, and a group's words go by the keys of its members.
 use Rattle.std.specs.Prelude.{◌≡◌, ℕ, ◌+◌, ◌*◌, suc, nat_lt, Bool, true, false, not, List, [], ◌∷◌, ◌++◌, length, flat_map, Option, Some, None, All, slice_index_or, if◌then◌else◌}
-use Rattle.std.proofs.Common.{arith, refl, ap, sym, ◌∙◌, inl, inr, length-append}
-use Rattle.std.proofs.lemmas.Bool.{cases_Bool}
-use Rattle.std.proofs.lemmas.List.{length-map}
+use Rattle.std.proofs.{Common.{arith, refl, ap, sym, ◌∙◌, inl, inr, length-append}, lemmas.{Bool.{cases_Bool}, List.{length-map}}}
 use Rattle.std.proofs.lemmas.List.Folds.{flat_map-map}
-use Rattle.perf_base.specs.declared.numbers.EventNo.{EventNo}
-use Rattle.perf_base.specs.declared.numbers.Key.{Key}
-use Rattle.perf_base.specs.declared.reasons.Reason.{Reason}
+use Rattle.perf_base.specs.declared.{numbers.{EventNo.{EventNo}, Key.{Key}}, reasons.Reason.{Reason}, reply.Sums.{Sums}}
 use Rattle.perf_base.specs.declared.reasons.Reason.TheVariants as reason
-use Rattle.perf_base.specs.declared.reply.Sums.{Sums}
-use Rattle.stage_spec.specs.declared.instance.Instance.{Instance}
-use Rattle.stage_spec.specs.Effective.{state_in}
-use Rattle.stage_spec.specs.Hardware.{Hardware}
+use Rattle.stage_spec.specs.{declared.instance.Instance.{Instance}, Effective.{state_in}, Hardware.{Hardware}}
 use Rattle.stage_spec.specs.Reading.{asked, times_of, marks_of, has_format, is_error, word_count, read_refusal, read_words, read_words_of, words_by, words_in, words_of_group, words_of_member, words_unless_error}
-use Rattle.stage_spec.specs.Refusals.{first_of, holds_of}
-use Rattle.stage_spec.specs.Stage.{Stage, Group, group_of, members_of, original_of}
-use Rattle.world_spec.specs.Kept.{IsKept, is_member_of, leads, post_at}
-use Rattle.world_spec.specs.StageOf.{group_at, stage_of}
-use Rattle.world_spec.specs.Value.{World, entry_at, instance_at, is_live, family_of}
-use Rattle.world_spec.proofs.Copies.{times-at}
-use Rattle.world_spec.proofs.Families.{group-members}
+use Rattle.stage_spec.specs.{Refusals.{first_of, holds_of}, Stage.{Stage, Group, group_of, members_of, original_of}}
+use Rattle.world_spec.specs.{Kept.{IsKept, is_member_of, leads, post_at}, StageOf.{group_at, stage_of}}
+use Rattle.world_spec.{specs.Value.{World, entry_at, instance_at, is_live, family_of}, proofs.{Copies.{times-at}, Families.{group-members}}}
 use Rattle.world_spec.proofs.Keys.{once-false}
-use Rattle.event_reads.specs.Counted.{sums_in, lost_in, words_of_key}
-use Rattle.event_reads.proofs.Opened.{group-by, is-open, original-at}
+use Rattle.event_reads.{specs.Counted.{sums_in, lost_in, words_of_key}, proofs.Opened.{group-by, is-open, original-at}}
 
 -- the words of a group, by the keys of its members
 pub group-words : (hw : Hardware) (w : World) (format : ℕ) (leader : Key) → IsKept hw w → leads (post_at w) leader ≡ true

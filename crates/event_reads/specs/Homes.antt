@@ -1,11 +1,9 @@
 -- That every processor stands as rescheduling leaves it: each that the machine has, and each that an open event counts.
 -- After ctx_sched_in and merge_sched_in of kernel/events/core.c.
 use Rattle.std.specs.Prelude.{◌≡◌, true}
-use Rattle.perf_base.specs.declared.numbers.CpuNo.{CpuNo}
-use Rattle.perf_base.specs.declared.numbers.Key.{Key}
+use Rattle.perf_base.specs.declared.numbers.{CpuNo.{CpuNo}, Key.{Key}}
 use Rattle.perf_base.specs.declared.standing.Context.TheVariants as context
-use Rattle.world_spec.specs.Rescheduled.{AreRescheduled, IsRescheduled}
-use Rattle.world_spec.specs.Value.{World, entry_at, is_live}
+use Rattle.world_spec.specs.{Rescheduled.{AreRescheduled, IsRescheduled}, Value.{World, entry_at, is_live}}
 
 pub record StandRescheduled (w : World) : Type 0 where
   pub machine : AreRescheduled w.hardware w

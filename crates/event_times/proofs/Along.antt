@@ -1,6 +1,5 @@
 -- The times along stretches, from any times at the first turn.
-use Rattle.std.proofs.Common.{◌≡◌, ℕ, ◌+◌, ◌-◌, Bool, true, false, List, [], ◌∷◌, refl, ap, ◌∙◌, arith}
-use Rattle.std.proofs.lemmas.List.Sums.{sum_by-cons}
+use Rattle.std.proofs.{Common.{◌≡◌, ℕ, ◌+◌, ◌-◌, Bool, true, false, List, [], ◌∷◌, refl, ap, ◌∙◌, arith}, lemmas.List.Sums.{sum_by-cons}}
 use Rattle.std.specs.Prelude.{if◌then◌else◌}
 use Rattle.event_times.specs.Times.{Times, fresh_times, enabled_at, running_at, turned}
 use Rattle.event_times.specs.Stretches.{Stretch, StretchLaw, turned_along, over_at, ready_for, on_for}

@@ -1,12 +1,7 @@
 -- The set of one processor has that one and no other.
-use Rattle.std.specs.Prelude.{◌≡◌, ◌^◌, ◌↔◌, max, bit_or}
-use Rattle.std.specs.Int.{bit_at}
-use Rattle.std.proofs.Common.{arith, ap, ◌∙◌, inl, inr}
-use Rattle.std.proofs.lemmas.Bool.{cases_eq}
+use Rattle.std.{specs.{Prelude.{◌≡◌, ◌^◌, ◌↔◌, max, bit_or}, Int.{bit_at}}, proofs.{Common.{arith, ap, ◌∙◌, inl, inr}, lemmas.Bool.{cases_eq}}}
 use Rattle.std.proofs.lemmas.Nat.Bits.{bit_at_or, bit_at-zero, bit_at-pow_same, bit_at-pow_other}
-use Rattle.perf_base.specs.Cpus.{HasCpu}
-use Rattle.perf_base.specs.declared.numbers.CpuNo.{CpuNo}
-use Rattle.perf_base.specs.declared.numbers.CpuSet.{CpuSet}
+use Rattle.perf_base.specs.{Cpus.{HasCpu}, declared.numbers.{CpuNo.{CpuNo}, CpuSet.{CpuSet}}}
 
 -- the bits of one after those of none
 bit-of_one : (set now : CpuSet) (c cpu : CpuNo) → set.0 ≡ 0 → now.0 ≡ bit_or set.0 (2 ^ c.0) → bit_at now.0 cpu.0 ≡ max 0 (bit_at (2 ^ c.0) cpu.0)

@@ -1,22 +1,13 @@
 -- Copies by their families and contexts, and sums by keys.
 use Rattle.std.specs.Prelude.{◌≡◌, ℕ, ◌+◌, ◌≤◌, ◌==◌, Bool, true, false, ◌&&◌, cond, List, [], ◌∷◌, filter, Some}
-use Rattle.std.proofs.Common.{arith, refl, sym, ap, ◌∙◌}
-use Rattle.std.proofs.lemmas.Bool.{false≢true}
-use Rattle.std.proofs.lemmas.Bool.Decides.{nat_tests}
-use Rattle.perf_base.specs.declared.numbers.EventNo.{EventNo}
-use Rattle.perf_base.specs.declared.numbers.Key.{Key}
-use Rattle.perf_base.specs.declared.numbers.TaskNo.{TaskNo}
-use Rattle.perf_base.specs.declared.reply.Sums.{Sums}
-use Rattle.perf_base.specs.declared.standing.Context.{Context}
+use Rattle.std.proofs.{Common.{arith, refl, sym, ap, ◌∙◌}, lemmas.Bool.{false≢true, Decides.{nat_tests}}}
+use Rattle.perf_base.specs.declared.{numbers.{EventNo.{EventNo}, Key.{Key}, TaskNo.{TaskNo}}, reply.Sums.{Sums}, standing.Context.{Context}}
 use Rattle.perf_base.specs.declared.standing.Context.TheVariants as context
-use Rattle.stage_spec.specs.Families.{plus}
-use Rattle.stage_spec.specs.Hardware.{Hardware}
+use Rattle.stage_spec.specs.{Families.{plus}, Hardware.{Hardware}}
 use Rattle.stage_laws.proofs.Totals.{total, total-nil, total-cons}
 use Rattle.world_spec.specs.Value.{World, is_live, entry_at, instance_at, family_of, is_key, times}
-use Rattle.world_spec.specs.Kept.{post_at, once_if, is_copy_in, plus_keys, IsKept}
-use Rattle.world_spec.proofs.Accounts.{IsSum, counts_are_sums, times_are_sums}
-use Rattle.world_spec.proofs.Counting.{times-filter, AreSameKeys, same-total}
-use Rattle.world_spec.proofs.Folding.{run_times_are_sums}
+use Rattle.world_spec.{specs.Kept.{post_at, once_if, is_copy_in, plus_keys, IsKept}, proofs.Accounts.{IsSum, counts_are_sums, times_are_sums}}
+use Rattle.world_spec.proofs.{Counting.{times-filter, AreSameKeys, same-total}, Folding.{run_times_are_sums}}
 use Rattle.world_spec.proofs.Keys.{is_key-same, times-cons, once-true}
 use Rattle.exit_fold.specs.Leaving.{is_of_task, leaves, leaving_copies}
 

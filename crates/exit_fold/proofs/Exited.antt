@@ -1,34 +1,19 @@
 -- An exit after the copies were folded: the task has exited, its processor is idle, and other processors stand as they
 -- stood.
 use Rattle.std.specs.Prelude.{◌≡◌, ◌≢◌, ◌<◌, ◌==◌, true, false, ◌&&◌, Some, None, slice_index_or}
-use Rattle.std.proofs.Common.{arith, refl, sym, ap, subst, ◌∙◌, inl, inr}
-use Rattle.std.proofs.lemmas.Bool.{cases_Bool, cases_lt, false≢true}
+use Rattle.std.proofs.{Common.{arith, refl, sym, ap, subst, ◌∙◌, inl, inr}, lemmas.Bool.{cases_Bool, cases_lt, false≢true}}
 use Rattle.std.proofs.lemmas.List.{get_or-set_other, get_or_past}
-use Rattle.perf_base.specs.declared.numbers.CpuNo.{CpuNo}
-use Rattle.perf_base.specs.declared.numbers.TaskNo.{TaskNo}
-use Rattle.perf_base.specs.declared.standing.Context.{Context}
+use Rattle.perf_base.specs.declared.{numbers.{CpuNo.{CpuNo}, TaskNo.{TaskNo}}, standing.Context.{Context}}
 use Rattle.perf_base.specs.declared.standing.Context.TheVariants as context
-use Rattle.stage_spec.specs.declared.instance.TaskState.{TaskState}
-use Rattle.stage_spec.specs.declared.instance.TaskState.TheVariants as state
-use Rattle.stage_spec.specs.Closing.{without}
-use Rattle.stage_spec.specs.Exits.{exited, exited_by}
-use Rattle.stage_spec.specs.Hardware.{Hardware}
+use Rattle.stage_spec.specs.{declared.instance.TaskState.{TaskState}, Closing.{without}, Exits.{exited, exited_by}, Hardware.{Hardware}}
 use Rattle.stage_spec.specs.Stage.{Stage, task_on, status_of, unknown_task, is_live as is_live_task, is_copy, is_task, set_running, set_status}
-use Rattle.stage_laws.specs.Narrowing.{has_context}
-use Rattle.stage_laws.specs.Sound.{AreRunning}
-use Rattle.stage_laws.proofs.EachSettled.{briefs-of_passes}
-use Rattle.stage_laws.proofs.Others.{ReachesSame, passes-same, task-changed, tasks-apart}
-use Rattle.stage_laws.proofs.Tasks.{is_task-some}
+use Rattle.stage_spec.specs.declared.instance.TaskState.TheVariants as state
+use Rattle.stage_laws.{specs.{Narrowing.{has_context}, Sound.{AreRunning}}, proofs.EachSettled.{briefs-of_passes}}
+use Rattle.stage_laws.proofs.{Others.{ReachesSame, passes-same, task-changed, tasks-apart}, Tasks.{is_task-some}}
 use Rattle.counter_match.specs.Seating.{empty_seating}
-use Rattle.world_spec.specs.Value.{World, is_live, entry_at, standing_at, is_key}
-use Rattle.world_spec.specs.StageOf.{stage_of}
-use Rattle.world_spec.specs.Kept.{post_at, IsKept}
-use Rattle.world_spec.specs.Changes.{place, end_task}
-use Rattle.world_spec.specs.Rescheduled.{IsUntouched}
-use Rattle.world_spec.proofs.Moving.{leads-parts}
-use Rattle.world_spec.proofs.Standing.{left-untouched}
-use Rattle.exit_fold.specs.Leaving.{is_of_task, IsFolded}
-use Rattle.exit_fold.proofs.Copies.{same-number}
+use Rattle.world_spec.specs.{Value.{World, is_live, entry_at, standing_at, is_key}, StageOf.{stage_of}, Kept.{post_at, IsKept}}
+use Rattle.world_spec.{specs.{Changes.{place, end_task}, Rescheduled.{IsUntouched}}, proofs.{Moving.{leads-parts}, Standing.{left-untouched}}}
+use Rattle.exit_fold.{specs.Leaving.{is_of_task, IsFolded}, proofs.Copies.{same-number}}
 
 -- the task on a processor has a number, and is there
 pub task-low : (hw : Hardware) (w : World) (cpu : CpuNo) (task : TaskNo) → IsKept hw w → task_on (stage_of w) cpu ≡ Some task → task.0 < 64

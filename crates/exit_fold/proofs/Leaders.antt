@@ -1,40 +1,21 @@
 -- The leaders of a task's groups while copies among them go.
 use Rattle.std.specs.Prelude.{◌≡◌, ℕ, zero, suc, ◌+◌, ◌-◌, ◌<◌, ◌≤◌, ◌==◌, Bool, true, false, not, ◌&&◌, List, [], ◌∷◌, ◌++◌, length, map, flat_map, slice_get, Option, Some, None, slice_index_or, slice_set, if◌then◌else◌}
-use Rattle.std.proofs.Common.{arith, refl, sym, ap, subst, ◌∙◌, inl, inr, get_or-set_same}
-use Rattle.std.proofs.lemmas.Bool.{cases_eq, cases_Bool, false≢true}
-use Rattle.std.proofs.lemmas.Bool.Decides.{nat_tests}
-use Rattle.std.proofs.lemmas.List.{append_assoc, length-append, length-map, map-append}
-use Rattle.std.proofs.lemmas.List.Elements.{filter-append}
-use Rattle.std.proofs.Math.ListN.{get_or-map}
-use Rattle.std.proofs.lemmas.Option.{slice_get_within}
-use Rattle.perf_base.specs.declared.numbers.Key.{Key}
-use Rattle.perf_base.specs.declared.numbers.TaskNo.{TaskNo}
-use Rattle.perf_base.specs.declared.standing.Context.{Context}
+use Rattle.std.proofs.{Common.{arith, refl, sym, ap, subst, ◌∙◌, inl, inr, get_or-set_same}, lemmas.Bool.{cases_eq, cases_Bool, false≢true}}
+use Rattle.std.proofs.lemmas.{Bool.Decides.{nat_tests}, List.{append_assoc, length-append, length-map, map-append, Elements.{filter-append}}}
+use Rattle.std.proofs.{lemmas.Option.{slice_get_within}, Math.ListN.{get_or-map}}
+use Rattle.perf_base.specs.declared.{numbers.{Key.{Key}, TaskNo.{TaskNo}}, standing.Context.{Context}}
 use Rattle.perf_base.specs.declared.standing.Context.TheVariants as context
-use Rattle.stage_spec.specs.Hardware.{Hardware}
-use Rattle.stage_spec.specs.Stage.{Stage, place_of, groups_in, all_groups, lists_of, no_groups}
-use Rattle.stage_spec.proofs.Each.{Each, none-Each, get_or-Each}
-use Rattle.stage_spec.proofs.Parts.{Each-from_All, joined-Each}
-use Rattle.stage_laws.specs.Sound.{IsGroup, IsGrouped, AreAlike}
-use Rattle.stage_laws.proofs.Tasks.{some-same}
-use Rattle.stage_laws.proofs.Totals.{total, total-nil, total-cons}
+use Rattle.stage_spec.specs.{Hardware.{Hardware}, Stage.{Stage, place_of, groups_in, all_groups, lists_of, no_groups}}
+use Rattle.stage_spec.proofs.{Each.{Each, none-Each, get_or-Each}, Parts.{Each-from_All, joined-Each}}
+use Rattle.stage_laws.{specs.Sound.{IsGroup, IsGrouped, AreAlike}, proofs.{Tasks.{some-same}, Totals.{total, total-nil, total-cons}}}
 use Rattle.world_spec.specs.Value.{World, Leaders, no_leaders, is_live, entry_at, instance_at, leaders_of, is_key, times}
-use Rattle.world_spec.specs.StageOf.{after_first, group_at, lists_at, stage_of}
-use Rattle.world_spec.specs.Kept.{post_at, leads, once_if, IsKept}
-use Rattle.world_spec.specs.Adding.{folded_away}
-use Rattle.world_spec.specs.Changes.{all_but}
-use Rattle.world_spec.specs.Listings.{keys_in}
-use Rattle.world_spec.specs.Staying.{HasGone}
-use Rattle.world_spec.proofs.Counting.{AreSameKeys, same-total}
-use Rattle.world_spec.proofs.Disbanding.{disband}
-use Rattle.world_spec.proofs.Families.{leaders_both, leaders-at}
-use Rattle.world_spec.proofs.Folding.{folded-is, fold-kept}
+use Rattle.world_spec.specs.{StageOf.{after_first, group_at, lists_at, stage_of}, Kept.{post_at, leads, once_if, IsKept}, Adding.{folded_away}}
+use Rattle.world_spec.{specs.{Changes.{all_but}, Listings.{keys_in}, Staying.{HasGone}}, proofs.Counting.{AreSameKeys, same-total}}
+use Rattle.world_spec.proofs.{Disbanding.{disband}, Families.{leaders_both, leaders-at}, Folding.{folded-is, fold-kept}}
 use Rattle.world_spec.proofs.GoneLeader.{led_world, entries_freed, standings_freed, dropped-leader}
 use Rattle.world_spec.proofs.Keys.{key-is, is_key-same, is_key-other, all_but-cons, all_but-none, times-cons, once-true, once-false}
 use Rattle.world_spec.proofs.Moving.{leads-parts}
-use Rattle.exit_fold.specs.Leaving.{is_of_task, leaders_in, fold_copy}
-use Rattle.exit_fold.proofs.Contexts.{by-place, keys-at}
-use Rattle.exit_fold.proofs.Copies.{of-task-is, once-some}
+use Rattle.exit_fold.{specs.Leaving.{is_of_task, leaders_in, fold_copy}, proofs.{Contexts.{by-place, keys-at}, Copies.{of-task-is, once-some}}}
 use Rattle.exit_fold.proofs.Walked.{AreFolding, IsNext, next-live, next-gone, folding-none, folding-more}
 
 -- small facts

@@ -1,28 +1,15 @@
 -- The copies that go are the stage's.
 use Rattle.std.specs.Prelude.{◌≡◌, ◌+◌, ◌<◌, Bool, true, false, ◌&&◌, cond, List, [], ◌∷◌, map, filter, Option, Some, None}
 use Rattle.std.proofs.Common.{refl, sym, ap, ◌∙◌}
-use Rattle.perf_base.specs.declared.numbers.CpuNo.{CpuNo}
-use Rattle.perf_base.specs.declared.numbers.EventNo.{EventNo}
-use Rattle.perf_base.specs.declared.numbers.Key.{Key}
-use Rattle.perf_base.specs.declared.numbers.TaskNo.{TaskNo}
-use Rattle.perf_base.specs.declared.reply.Sums.{Sums}
+use Rattle.perf_base.specs.declared.{numbers.{CpuNo.{CpuNo}, EventNo.{EventNo}, Key.{Key}, TaskNo.{TaskNo}}, reply.Sums.{Sums}}
 use Rattle.perf_base.specs.declared.standing.Context.TheVariants as context
-use Rattle.stage_spec.specs.declared.instance.Instance.{Instance}
-use Rattle.stage_spec.specs.Families.{plus, plus_each}
-use Rattle.stage_spec.specs.Hardware.{Hardware}
-use Rattle.stage_spec.specs.Stage.{members, groups_in, is_of_family, task_on}
-use Rattle.stage_spec.specs.Verdict.{task_lists}
+use Rattle.stage_spec.specs.{declared.instance.Instance.{Instance}, Families.{plus, plus_each}, Hardware.{Hardware}}
+use Rattle.stage_spec.specs.{Stage.{members, groups_in, is_of_family, task_on}, Verdict.{task_lists}}
 use Rattle.stage_laws.proofs.Images.{filter-map}
-use Rattle.world_spec.specs.Value.{World, is_live, entry_at, instance_at, family_of}
-use Rattle.world_spec.specs.StageOf.{stage_of}
-use Rattle.world_spec.specs.Kept.{once_if, plus_keys, IsKept}
-use Rattle.world_spec.specs.Listings.{keys_in}
-use Rattle.world_spec.proofs.Counting.{times-filter, AreSameKeys}
-use Rattle.world_spec.proofs.Listings.{context-is}
-use Rattle.exit_fold.specs.Leaving.{is_of_task, leaving_copies, LeavingLaw}
-use Rattle.exit_fold.proofs.Contexts.{by-place, keys-at}
-use Rattle.exit_fold.proofs.Copies.{leaving-times, no-one, same-sums}
-use Rattle.exit_fold.proofs.Exited.{task-low}
+use Rattle.world_spec.specs.{Value.{World, is_live, entry_at, instance_at, family_of}, StageOf.{stage_of}, Kept.{once_if, plus_keys, IsKept}}
+use Rattle.world_spec.{specs.Listings.{keys_in}, proofs.{Counting.{times-filter, AreSameKeys}, Listings.{context-is}}}
+use Rattle.exit_fold.{specs.Leaving.{is_of_task, leaving_copies, LeavingLaw}, proofs.Contexts.{by-place, keys-at}}
+use Rattle.exit_fold.proofs.{Copies.{leaving-times, no-one, same-sums}, Exited.{task-low}}
 
 -- sums by the keys
 sums-by_keys : (f : Instance → Sums) (w : World) (keys : List Key) → plus_each f (map (instance_at w) keys) ≡ plus_keys (λ k. f (instance_at w k)) keys

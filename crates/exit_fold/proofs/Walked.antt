@@ -1,37 +1,19 @@
 -- A world while the copies of a task are folded one by one, each of which leads a group when it goes.
 use Rattle.std.specs.Prelude.{◌≡◌, ◌≢◌, ℕ, ◌<◌, ◌≤◌, ◌==◌, Bool, true, false, not, ◌&&◌, cond, List, [], ◌∷◌, ◌++◌, map, filter, Some, slice_index_or}
-use Rattle.std.proofs.Common.{arith, refl, sym, ap, subst, ◌∙◌, inl, inr}
-use Rattle.std.proofs.lemmas.Bool.{cases_eq, cases_Bool, false≢true}
-use Rattle.std.proofs.lemmas.Bool.Decides.{nat_tests}
-use Rattle.std.proofs.lemmas.List.{map-append, get_or-set_other}
-use Rattle.std.proofs.lemmas.List.Sums.{fold-append}
-use Rattle.perf_base.specs.declared.numbers.CpuNo.{CpuNo}
-use Rattle.perf_base.specs.declared.numbers.EventNo.{EventNo}
-use Rattle.perf_base.specs.declared.numbers.Key.{Key}
-use Rattle.perf_base.specs.declared.numbers.TaskNo.{TaskNo}
-use Rattle.perf_base.specs.declared.reply.Sums.{Sums}
+use Rattle.std.proofs.{Common.{arith, refl, sym, ap, subst, ◌∙◌, inl, inr}, lemmas.Bool.{cases_eq, cases_Bool, false≢true, Decides.{nat_tests}}}
+use Rattle.std.proofs.lemmas.List.{map-append, get_or-set_other, Sums.{fold-append}}
+use Rattle.perf_base.specs.declared.{numbers.{CpuNo.{CpuNo}, EventNo.{EventNo}, Key.{Key}, TaskNo.{TaskNo}}, reply.Sums.{Sums}}
 use Rattle.perf_base.specs.declared.standing.Context.{Context}
 use Rattle.perf_base.specs.declared.standing.Context.TheVariants as context
-use Rattle.stage_spec.specs.Families.{plus}
-use Rattle.stage_spec.specs.Hardware.{Hardware}
-use Rattle.stage_spec.specs.Shares.{no_sums}
-use Rattle.stage_spec.specs.Stage.{place_of}
-use Rattle.stage_spec.proofs.Recurrence.{plus-assoc, plus-none}
-use Rattle.stage_laws.specs.OneByOne.{drop_one, drop_ones}
-use Rattle.stage_laws.proofs.Others.{cpu-task_apart}
+use Rattle.stage_spec.{specs.{Families.{plus}, Hardware.{Hardware}, Shares.{no_sums}, Stage.{place_of}}, proofs.Recurrence.{plus-assoc, plus-none}}
+use Rattle.stage_laws.{specs.OneByOne.{drop_one, drop_ones}, proofs.Others.{cpu-task_apart}}
 use Rattle.world_spec.specs.Value.{World, no_leaders, is_live, entry_at, instance_at, account_at, standing_at, leaders_of, family_of, is_key, times}
-use Rattle.world_spec.specs.StageOf.{stage_of}
-use Rattle.world_spec.specs.Kept.{post_at, leads, once_if, is_member_of, plus_keys, family_sums, IsKept}
-use Rattle.world_spec.specs.Adding.{drop_instance, folded_away}
-use Rattle.world_spec.specs.Changes.{all_but}
-use Rattle.world_spec.specs.Staying.{HasGone}
-use Rattle.world_spec.proofs.Counting.{times-filter, AreSameKeys}
-use Rattle.world_spec.proofs.Disbanding.{Disbands}
-use Rattle.world_spec.proofs.Folding.{fold-stage, fold-sums, fold-kept, folded-is}
+use Rattle.world_spec.specs.{StageOf.{stage_of}, Kept.{post_at, leads, once_if, is_member_of, plus_keys, family_sums, IsKept}}
+use Rattle.world_spec.{specs.{Adding.{drop_instance, folded_away}, Changes.{all_but}, Staying.{HasGone}}, proofs.Counting.{times-filter, AreSameKeys}}
+use Rattle.world_spec.proofs.{Disbanding.{Disbands}, Folding.{fold-stage, fold-sums, fold-kept, folded-is}}
 use Rattle.world_spec.proofs.GoneLeader.{entries_freed, standings_freed, dropped-leader, tables-freed, led-disbands}
 use Rattle.world_spec.proofs.Keys.{key-is, is_key-same, is_key-other, is_key-true, all_but-none, times-cons, times-push, once-true, once-false}
-use Rattle.world_spec.proofs.Moving.{leads-parts}
-use Rattle.world_spec.proofs.Staying.{fold-stays}
+use Rattle.world_spec.proofs.{Moving.{leads-parts}, Staying.{fold-stays}}
 use Rattle.exit_fold.specs.Leaving.{is_of_task, leaves}
 use Rattle.exit_fold.proofs.Copies.{copy-there, same-number, filter-within, filter-all, filter-none, filter-twice, same-sums, plus-turned}
 use Rattle.exit_fold.proofs.Going.{folded-apart, folded-untouched, own-family, own-folded, same-hardware}

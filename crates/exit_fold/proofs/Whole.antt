@@ -1,34 +1,16 @@
 -- Where no copy is left in a task's context, all have gone that go with it, and the stage is without them.
 use Rattle.std.specs.Prelude.{◌≡◌, ℕ, ◌+◌, ◌<◌, ◌≤◌, ◌==◌, Bool, true, false, not, ◌&&◌, cond, List, map, filter, count_by, Some, slice_index_or}
-use Rattle.std.proofs.Common.{arith, refl, sym, ap, ◌∙◌, inl, inr}
-use Rattle.std.proofs.lemmas.Bool.{cases_Bool, false≢true}
-use Rattle.std.proofs.lemmas.Bool.Decides.{nat_tests}
-use Rattle.perf_base.specs.declared.numbers.EventNo.{EventNo}
-use Rattle.perf_base.specs.declared.numbers.Key.{Key}
-use Rattle.perf_base.specs.declared.numbers.TaskNo.{TaskNo}
-use Rattle.perf_base.specs.declared.standing.Context.{Context}
+use Rattle.std.proofs.{Common.{arith, refl, sym, ap, ◌∙◌, inl, inr}, lemmas.Bool.{cases_Bool, false≢true, Decides.{nat_tests}}}
+use Rattle.perf_base.specs.declared.{numbers.{EventNo.{EventNo}, Key.{Key}, TaskNo.{TaskNo}}, standing.Context.{Context}}
 use Rattle.perf_base.specs.declared.standing.Context.TheVariants as context
-use Rattle.stage_spec.specs.Families.{plus}
-use Rattle.stage_spec.specs.Hardware.{Hardware}
-use Rattle.stage_spec.specs.Shares.{no_sums}
-use Rattle.stage_spec.specs.Stage.{is_copy}
-use Rattle.stage_spec.specs.Verdict.{instances_in}
-use Rattle.stage_laws.specs.OneByOne.{AreIdsOf}
-use Rattle.stage_laws.specs.Sound.{IsGrouped, has_id}
-use Rattle.stage_laws.proofs.Images.{filter-map}
-use Rattle.stage_laws.proofs.OneByOneDrops.{exited_one_by_one}
+use Rattle.stage_spec.specs.{Families.{plus}, Hardware.{Hardware}, Shares.{no_sums}, Stage.{is_copy}, Verdict.{instances_in}}
+use Rattle.stage_laws.{specs.{OneByOne.{AreIdsOf}, Sound.{IsGrouped, has_id}}, proofs.{Images.{filter-map}, OneByOneDrops.{exited_one_by_one}}}
 use Rattle.stage_laws.proofs.Totals.{one_if, as_number, total-map, total-same, count_by-is-total}
-use Rattle.world_spec.specs.Value.{World, is_live, entry_at, instance_at, account_at, standing_at, family_of, times}
-use Rattle.world_spec.specs.StageOf.{stage_of}
-use Rattle.world_spec.specs.Kept.{post_at, once_if, plus_keys, IsKept}
-use Rattle.world_spec.specs.Listings.{keys_in}
-use Rattle.world_spec.proofs.Counting.{times-filter, AreSameKeys, same-total}
-use Rattle.world_spec.proofs.Listings.{context-is, is-numbered}
-use Rattle.world_spec.proofs.Moving.{leads-parts}
-use Rattle.exit_fold.specs.Leaving.{is_of_task, leaves, HaveGone, IsFolded}
-use Rattle.exit_fold.proofs.Contexts.{by-place, keys-at}
-use Rattle.exit_fold.proofs.Copies.{copy-there, filter-within}
-use Rattle.exit_fold.proofs.Walked.{AreFolding}
+use Rattle.world_spec.specs.{Value.{World, is_live, entry_at, instance_at, account_at, standing_at, family_of, times}, StageOf.{stage_of}}
+use Rattle.world_spec.specs.{Kept.{post_at, once_if, plus_keys, IsKept}, Listings.{keys_in}}
+use Rattle.world_spec.proofs.{Counting.{times-filter, AreSameKeys, same-total}, Listings.{context-is, is-numbered}, Moving.{leads-parts}}
+use Rattle.exit_fold.{specs.Leaving.{is_of_task, leaves, HaveGone, IsFolded}, proofs.Contexts.{by-place, keys-at}}
+use Rattle.exit_fold.proofs.{Copies.{copy-there, filter-within}, Walked.{AreFolding}}
 
 -- no copy of the task is there
 abbrev pub AreNone : TaskNo → World → Type 0

@@ -1,24 +1,14 @@
 -- Which instances go when a task exits, and what stays then. After perf_event_exit_task_context and sync_child_event of
 -- kernel/events/core.c.
 use Rattle.std.specs.Prelude.{◌≡◌, ℕ, ◌==◌, Bool, true, false, not, ◌&&◌, List, ◌++◌, filter, Option, Some, None, slice_index_or}
-use Rattle.perf_base.specs.declared.lines.CpuLine.TheVariants as cpu_line
-use Rattle.perf_base.specs.declared.numbers.CpuNo.{CpuNo}
-use Rattle.perf_base.specs.declared.numbers.EventNo.{EventNo}
-use Rattle.perf_base.specs.declared.numbers.Key.{Key}
-use Rattle.perf_base.specs.declared.numbers.TaskNo.{TaskNo}
-use Rattle.perf_base.specs.declared.reply.Sums.{Sums}
+use Rattle.perf_base.specs.declared.{numbers.{CpuNo.{CpuNo}, EventNo.{EventNo}, Key.{Key}, TaskNo.{TaskNo}}, reply.Sums.{Sums}}
 use Rattle.perf_base.specs.declared.standing.Context.{Context}
+use Rattle.perf_base.specs.declared.lines.CpuLine.TheVariants as cpu_line
 use Rattle.perf_base.specs.declared.standing.Context.TheVariants as context
-use Rattle.stage_spec.specs.declared.instance.Instance.{Instance}
-use Rattle.stage_spec.specs.Closing.{without}
-use Rattle.stage_spec.specs.Families.{plus, plus_each, leaving_by}
-use Rattle.stage_spec.specs.Hardware.{Hardware}
-use Rattle.stage_spec.specs.Shares.{no_sums}
-use Rattle.stage_spec.specs.Stage.{is_copy, task_on, change_context}
-use Rattle.world_spec.specs.Value.{World, is_live, entry_at, instance_at, account_at, standing_at, family_of, leaders_of}
-use Rattle.world_spec.specs.StageOf.{stage_of}
-use Rattle.world_spec.specs.Kept.{post_at, plus_keys, family_sums, IsKept}
-use Rattle.world_spec.specs.Adding.{folded_away}
+use Rattle.stage_spec.specs.{declared.instance.Instance.{Instance}, Closing.{without}, Families.{plus, plus_each, leaving_by}, Hardware.{Hardware}}
+use Rattle.stage_spec.specs.{Shares.{no_sums}, Stage.{is_copy, task_on, change_context}}
+use Rattle.world_spec.specs.{Value.{World, is_live, entry_at, instance_at, account_at, standing_at, family_of, leaders_of}, StageOf.{stage_of}}
+use Rattle.world_spec.specs.{Kept.{post_at, plus_keys, family_sums, IsKept}, Adding.{folded_away}}
 
 -- the context is that of a task
 abbrev pub is_of_task : TaskNo → Context → Bool

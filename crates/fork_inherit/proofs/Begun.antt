@@ -1,37 +1,21 @@
 -- A group whose leader was copied, and how its copies grow.
 use Rattle.std.specs.Prelude.{◌≡◌, ℕ, zero, suc, take, drop, ◌+◌, ◌<◌, ◌≤◌, Bool, true, false, ◌&&◌, List, [], ◌∷◌, ◌++◌, length, map, Some, None, slice_index_or}
-use Rattle.std.specs.Option.{unwrap_or}
-use Rattle.std.proofs.Common.{arith, refl, sym, ap, subst, ◌∙◌, get_or-set_same}
-use Rattle.std.proofs.lemmas.Bool.{false≢true}
+use Rattle.std.{specs.Option.{unwrap_or}, proofs.{Common.{arith, refl, sym, ap, subst, ◌∙◌, get_or-set_same}, lemmas.Bool.{false≢true}}}
 use Rattle.std.proofs.lemmas.List.{length-map, length-append, map-append, take_more}
-use Rattle.perf_base.specs.declared.attr.Kind.{Kind}
-use Rattle.perf_base.specs.declared.numbers.Key.{Key}
-use Rattle.perf_base.specs.declared.numbers.TaskNo.{TaskNo}
+use Rattle.perf_base.specs.declared.{attr.Kind.{Kind}, numbers.{Key.{Key}, TaskNo.{TaskNo}}}
 use Rattle.perf_base.specs.declared.standing.Context.TheVariants as context
-use Rattle.stage_spec.specs.declared.instance.Instance.{Instance}
-use Rattle.stage_spec.specs.Flags.{is_pinned}
-use Rattle.stage_spec.specs.Forks.{copied_state}
-use Rattle.stage_spec.specs.Stage.{place_of}
-use Rattle.stage_laws.proofs.Counts.{count-append}
-use Rattle.stage_laws.proofs.Tasks.{some-same}
-use Rattle.world_spec.specs.Adding.{Newcomer, new_entry, add}
-use Rattle.world_spec.specs.Changes.{in_list}
-use Rattle.world_spec.specs.Comings.{HasRoom}
-use Rattle.world_spec.specs.Copying.{leaders_in, LeadsLast, FollowsParent, copy_from, copy_comes}
-use Rattle.world_spec.specs.Kept.{post_at, leads, kinds_in, IsKept}
-use Rattle.world_spec.specs.Staying.{HasCome}
-use Rattle.world_spec.specs.StageOf.{after_first, lists_at}
+use Rattle.stage_spec.specs.{declared.instance.Instance.{Instance}, Flags.{is_pinned}, Forks.{copied_state}, Stage.{place_of}}
+use Rattle.stage_laws.proofs.{Counts.{count-append}, Tasks.{some-same}}
+use Rattle.world_spec.specs.{Adding.{Newcomer, new_entry, add}, Changes.{in_list}, Comings.{HasRoom}}
+use Rattle.world_spec.specs.{Copying.{leaders_in, LeadsLast, FollowsParent, copy_from, copy_comes}, Kept.{post_at, leads, kinds_in, IsKept}}
+use Rattle.world_spec.specs.{Staying.{HasCome}, StageOf.{after_first, lists_at}}
 use Rattle.world_spec.specs.Value.{World, Entry, Leaders, no_entry, no_leaders, leaders_of, is_live, entry_at, instance_at, is_key, times}
-use Rattle.world_spec.proofs.Added.{new-entry_at}
-use Rattle.world_spec.proofs.GoneLeaderStage.{map-within}
-use Rattle.world_spec.proofs.Keys.{key-is, is_key-same, is_key-other, is_key-true, times-cons, once-true}
-use Rattle.world_spec.proofs.Moving.{leads-parts}
+use Rattle.world_spec.proofs.{Added.{new-entry_at}, GoneLeaderStage.{map-within}}
+use Rattle.world_spec.proofs.{Keys.{key-is, is_key-same, is_key-other, is_key-true, times-cons, once-true}, Moving.{leads-parts}}
 use Rattle.world_spec.proofs.Tables.{get-here, get-there, entry-here, entry-there, live-written}
 use Rattle.perf_world.specs.Parts.{MayAdd}
-use Rattle.fork_inherit.specs.Copies.{parent_of, MayCopy, AreCopied}
-use Rattle.fork_inherit.proofs.Copied.{copied-none, next-copied}
-use Rattle.fork_inherit.proofs.Group.{IsMember, IsNext, member-of, stands, not-before, may-add}
-use Rattle.fork_inherit.proofs.Single.{has-come}
+use Rattle.fork_inherit.{specs.Copies.{parent_of, MayCopy, AreCopied}, proofs.Copied.{copied-none, next-copied}}
+use Rattle.fork_inherit.proofs.{Group.{IsMember, IsNext, member-of, stands, not-before, may-add}, Single.{has-come}}
 
 -- The copies of some members were made, the leader's first, and it leads the others in the last group of its list.
 pub record IsBegun (child : TaskNo) (v w : World) (leader first : Key) (done : List Key) : Type 0 where

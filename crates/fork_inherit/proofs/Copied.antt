@@ -1,33 +1,18 @@
 -- The copies of some instances, one after the other.
 use Rattle.std.specs.Prelude.{◌≡◌, ℕ, ◌+◌, ◌<◌, true, false, List, [], ◌∷◌, ◌++◌, length, map, Option, Some, None, slice_index_or, slice_set}
-use Rattle.std.specs.Option.{unwrap_or}
-use Rattle.std.proofs.Common.{arith, refl, sym, ap, subst, ◌∙◌, inl, inr}
-use Rattle.std.proofs.lemmas.Bool.{cases_eq, false≢true}
-use Rattle.std.proofs.lemmas.List.{length-append, map-append, get_or-set_same, get_or-set_other}
-use Rattle.std.proofs.lemmas.List.Sums.{fold-append, sum_by-set}
-use Rattle.perf_base.specs.declared.numbers.EventNo.{EventNo}
-use Rattle.perf_base.specs.declared.numbers.Key.{Key}
-use Rattle.perf_base.specs.declared.numbers.TaskNo.{TaskNo}
+use Rattle.std.{specs.Option.{unwrap_or}, proofs.{Common.{arith, refl, sym, ap, subst, ◌∙◌, inl, inr}, lemmas.Bool.{cases_eq, false≢true}}}
+use Rattle.std.proofs.lemmas.List.{length-append, map-append, get_or-set_same, get_or-set_other, Sums.{fold-append, sum_by-set}}
+use Rattle.perf_base.specs.declared.numbers.{EventNo.{EventNo}, Key.{Key}, TaskNo.{TaskNo}}
 use Rattle.perf_base.specs.declared.standing.Context.TheVariants as context
 use Rattle.perf_base.specs.declared.standing.Standing.TheVariants as standing
-use Rattle.stage_spec.specs.declared.instance.Instance.{Instance}
-use Rattle.stage_spec.specs.Forks.{copied_state, copy_of}
-use Rattle.stage_spec.specs.Shares.{no_sums}
-use Rattle.stage_spec.specs.Stage.{Stage, place_of}
-use Rattle.stage_laws.specs.OneByOne.{Parent, add_instance, add_copies}
-use Rattle.stage_laws.proofs.Counts.{count-append}
+use Rattle.stage_spec.specs.{declared.instance.Instance.{Instance}, Forks.{copied_state, copy_of}, Shares.{no_sums}, Stage.{Stage, place_of}}
+use Rattle.stage_laws.{specs.OneByOne.{Parent, add_instance, add_copies}, proofs.Counts.{count-append}}
 use Rattle.world_spec.specs.Value.{World, Family, no_entry, no_family, no_leaders, is_live, entry_at, instance_at, standing_at, family_of, is_key}
-use Rattle.world_spec.specs.StageOf.{stage_of}
-use Rattle.world_spec.specs.Kept.{copies_in, IsKept}
-use Rattle.world_spec.specs.Adding.{Newcomer, in_family, add}
-use Rattle.world_spec.specs.Copying.{copy_from, copy_comes, FollowsParent}
-use Rattle.world_spec.specs.Staying.{HasCome}
-use Rattle.world_spec.proofs.Copying.{copy-stage, copy-kept}
-use Rattle.world_spec.proofs.Keys.{key-is, is_key-same, times-push, once-true}
-use Rattle.world_spec.proofs.Tables.{get-here, get-there, entry-here, entry-there, live-written}
+use Rattle.world_spec.specs.{StageOf.{stage_of}, Kept.{copies_in, IsKept}, Adding.{Newcomer, in_family, add}}
+use Rattle.world_spec.{specs.{Copying.{copy_from, copy_comes, FollowsParent}, Staying.{HasCome}}, proofs.Copying.{copy-stage, copy-kept}}
+use Rattle.world_spec.proofs.{Keys.{key-is, is_key-same, times-push, once-true}, Tables.{get-here, get-there, entry-here, entry-there, live-written}}
 use Rattle.perf_world.specs.Parts.{MayAdd}
-use Rattle.fork_inherit.specs.Copies.{parent_of, IsNewCopy, AreCopied}
-use Rattle.fork_inherit.proofs.Single.{may-come, has-come}
+use Rattle.fork_inherit.{specs.Copies.{parent_of, IsNewCopy, AreCopied}, proofs.Single.{may-come, has-come}}
 
 -- what a copy that comes leaves
 record IsBeside (w u : World) (k : Key) (n : Newcomer) (leader : Option Key) : Type 0 where

@@ -1,43 +1,24 @@
 -- What a fork leaves: the stage is the definitions', and processors stand as they stood.
 use Rattle.std.specs.Prelude.{◌≡◌, ◌+◌, ◌^◌, ◌<◌, ◌≤◌, Bool, true, false, ◌&&◌, cond, List, [], ◌∷◌, ◌++◌, length, map, flat_map, slice_index_or, if◌then◌else◌}
-use Rattle.std.proofs.Common.{arith, refl, sym, ap, subst, ◌∙◌, inl, inr}
-use Rattle.std.proofs.lemmas.Bool.{cases_Bool, false≢true}
-use Rattle.std.proofs.lemmas.List.{map-append}
-use Rattle.std.proofs.lemmas.Simd.{map-map}
+use Rattle.std.proofs.{Common.{arith, refl, sym, ap, subst, ◌∙◌, inl, inr}, lemmas.{Bool.{cases_Bool, false≢true}, List.{map-append}, Simd.{map-map}}}
 use Rattle.std.proofs.Math.ListN.{get_or-map}
-use Rattle.perf_base.specs.declared.numbers.CpuNo.{CpuNo}
-use Rattle.perf_base.specs.declared.numbers.Key.{Key}
-use Rattle.perf_base.specs.declared.numbers.TaskNo.{TaskNo}
-use Rattle.perf_base.specs.declared.standing.Context.{Context}
+use Rattle.perf_base.specs.declared.{numbers.{CpuNo.{CpuNo}, Key.{Key}, TaskNo.{TaskNo}}, standing.Context.{Context}}
 use Rattle.perf_base.specs.declared.standing.Context.TheVariants as context
-use Rattle.stage_spec.specs.Flags.{is_inherited, is_pinned}
-use Rattle.stage_spec.specs.Forks.{inherited_groups, copied, forked}
-use Rattle.stage_spec.specs.Stage.{Stage, Group, lists_of, place_of, task_on, is_task, set_status, fresh_task}
-use Rattle.stage_spec.specs.Verdict.{task_lists}
-use Rattle.stage_laws.specs.Narrowing.{has_context}
-use Rattle.stage_laws.specs.OneByOne.{parents_in, fork_parents, add_copies}
-use Rattle.stage_laws.specs.Sound.{IsSound}
-use Rattle.stage_laws.proofs.EachSettled.{briefs-of_passes}
-use Rattle.stage_laws.proofs.OneByOneCopies.{forked_one_by_one}
-use Rattle.stage_laws.proofs.Others.{ReachesSame, passes-same, task-changed}
+use Rattle.stage_spec.specs.{Flags.{is_inherited, is_pinned}, Forks.{inherited_groups, copied, forked}}
+use Rattle.stage_spec.specs.{Stage.{Stage, Group, lists_of, place_of, task_on, is_task, set_status, fresh_task}, Verdict.{task_lists}}
+use Rattle.stage_laws.specs.{Narrowing.{has_context}, OneByOne.{parents_in, fork_parents, add_copies}, Sound.{IsSound}}
+use Rattle.stage_laws.proofs.{EachSettled.{briefs-of_passes}, OneByOneCopies.{forked_one_by_one}, Others.{ReachesSame, passes-same, task-changed}}
 use Rattle.stage_laws.proofs.Tasks.{is_task-some}
 use Rattle.counter_match.specs.Seating.{empty_seating}
-use Rattle.world_spec.specs.Changes.{add_task}
-use Rattle.world_spec.specs.Kept.{post_at, leads, IsKept}
-use Rattle.world_spec.specs.Rescheduled.{IsUntouched}
+use Rattle.world_spec.specs.{Changes.{add_task}, Kept.{post_at, leads, IsKept}, Rescheduled.{IsUntouched}}
 use Rattle.world_spec.specs.StageOf.{after_first, group_at, lists_at, stage_of}
-use Rattle.world_spec.specs.Value.{World, Entry, no_leaders, is_live, entry_at, instance_at, is_key, times}
-use Rattle.world_spec.proofs.GoneLeader.{siblings-stand}
-use Rattle.world_spec.proofs.GoneLeaderStage.{map-within, leading-first, leading-rest}
-use Rattle.world_spec.proofs.GoneStage.{AreLeading}
-use Rattle.world_spec.proofs.Keys.{key-is, is_key-same, is_key-other, is_key-true, times-cons, once-true}
-use Rattle.world_spec.proofs.Moving.{leads-parts}
+use Rattle.world_spec.{specs.Value.{World, Entry, no_leaders, is_live, entry_at, instance_at, is_key, times}, proofs.GoneLeader.{siblings-stand}}
+use Rattle.world_spec.proofs.{GoneLeaderStage.{map-within, leading-first, leading-rest}, GoneStage.{AreLeading}}
+use Rattle.world_spec.proofs.{Keys.{key-is, is_key-same, is_key-other, is_key-true, times-cons, once-true}, Moving.{leads-parts}}
 use Rattle.world_spec.proofs.Standing.{left-untouched}
 use Rattle.fork_inherit.specs.Copies.{parent_of, inherited_members, inherited_keys, leaders_from, IsNewCopy, AreCopied, MayCopyList, HasForked}
-use Rattle.fork_inherit.proofs.Group.{IsMember, member-of}
-use Rattle.fork_inherit.proofs.Listed.{IsInherited, inherited-key, led-place, same-list, copied-then}
-use Rattle.fork_inherit.proofs.Room.{task-low, list-leads}
-use Rattle.fork_inherit.proofs.Starting.{IsFree, not-on, none-in, listed, flag-is, all-fit}
+use Rattle.fork_inherit.proofs.{Group.{IsMember, member-of}, Listed.{IsInherited, inherited-key, led-place, same-list, copied-then}}
+use Rattle.fork_inherit.proofs.{Room.{task-low, list-leads}, Starting.{IsFree, not-on, none-in, listed, flag-is, all-fit}}
 
 -- the flexible groups, after the pinned ones
 same-inherited : (child : TaskNo) (v w : World) (done keys : List Key) → AreCopied child v w done → ((q : Key) → 1 ≤ times q keys → is_live v q ≡ true) → inherited_keys w keys ≡ inherited_keys v keys

@@ -1,29 +1,17 @@
 -- A group that is copied, member by member.
 use Rattle.std.specs.Prelude.{◌≡◌, ℕ, ◌+◌, ◌≤◌, ◌==◌, Bool, true, false, not, ◌&&◌, List, [], ◌∷◌, ◌++◌, length, map, Option, slice_index_or}
-use Rattle.std.proofs.Common.{arith, refl, sym, ap, subst, ◌∙◌, inl, inr, append_assoc}
-use Rattle.std.proofs.lemmas.Bool.{cases_Bool, false≢true}
+use Rattle.std.proofs.{Common.{arith, refl, sym, ap, subst, ◌∙◌, inl, inr, append_assoc}, lemmas.Bool.{cases_Bool, false≢true}}
 use Rattle.std.proofs.lemmas.List.{length-append, map-append, get_or_append_left}
-use Rattle.perf_base.specs.Scripts.{IsKind}
-use Rattle.perf_base.specs.declared.attr.Kind.{Kind}
-use Rattle.perf_base.specs.declared.numbers.Key.{Key}
-use Rattle.perf_base.specs.declared.numbers.TaskNo.{TaskNo}
-use Rattle.stage_spec.specs.Fits.{fits, fits_beside}
-use Rattle.stage_spec.specs.Hardware.{Hardware, is_software, mask_of}
-use Rattle.stage_spec.specs.Opening.{is_other_pmu}
-use Rattle.stage_laws.proofs.Fitting.{fits_beside-others, fits_beside-none}
-use Rattle.stage_spec.specs.Stage.{place_of}
-use Rattle.stage_laws.proofs.Counts.{count-append}
-use Rattle.world_spec.specs.Comings.{new_kinds, HasRoom}
-use Rattle.world_spec.specs.Copying.{copy_from}
+use Rattle.perf_base.specs.{Scripts.{IsKind}, declared.{attr.Kind.{Kind}, numbers.{Key.{Key}, TaskNo.{TaskNo}}}}
+use Rattle.stage_spec.specs.{Fits.{fits, fits_beside}, Hardware.{Hardware, is_software, mask_of}, Opening.{is_other_pmu}, Stage.{place_of}}
+use Rattle.stage_laws.proofs.{Fitting.{fits_beside-others, fits_beside-none}, Counts.{count-append}}
+use Rattle.world_spec.specs.{Comings.{new_kinds, HasRoom}, Copying.{copy_from}}
 use Rattle.world_spec.specs.Kept.{Post, post_at, once_if, is_original_in, is_member_of, is_of_task, AreFitting, IsKept}
 use Rattle.world_spec.specs.Value.{World, is_live, entry_at, instance_at, is_key, times}
-use Rattle.world_spec.proofs.Keys.{key-is, is_key-same, is_key-true, times-cons, once-true}
-use Rattle.world_spec.proofs.Moving.{leads-parts}
-use Rattle.world_spec.proofs.Reaching.{is-original}
-use Rattle.world_spec.proofs.Tables.{post_of}
+use Rattle.world_spec.proofs.{Keys.{key-is, is_key-same, is_key-true, times-cons, once-true}, Moving.{leads-parts}, Reaching.{is-original}}
+use Rattle.world_spec.proofs.{Tables.{post_of}, GoneSibling.{hardware_masks, masks-cons}}
 use Rattle.perf_world.specs.Parts.{MayAdd}
 use Rattle.fork_inherit.specs.Copies.{MayCopy, IsNewCopy, AreCopied}
-use Rattle.world_spec.proofs.GoneSibling.{hardware_masks, masks-cons}
 
 -- the first of some kinds that fit together fit, too
 front-masks : (hw : Hardware) (xs ys : List Kind) (taken : List ℕ) → fits_beside (hardware_masks hw (xs ++ ys)) taken ≡ true → fits_beside (hardware_masks hw xs) taken ≡ true

@@ -1,35 +1,18 @@
 -- The groups of a list that are copied, one after the other.
 use Rattle.std.specs.Prelude.{◌≡◌, ℕ, ◌+◌, ◌<◌, ◌≤◌, ◌==◌, suc, Bool, true, false, not, ◌&&◌, List, [], ◌∷◌, ◌++◌, length, map, take, drop, flat_map, slice_index_or, if◌then◌else◌}
-use Rattle.std.proofs.Common.{arith, refl, sym, ap, subst, ◌∙◌, inl, inr}
-use Rattle.std.proofs.lemmas.Bool.{cases_eq, cases_Bool, false≢true}
-use Rattle.std.proofs.lemmas.Bool.Decides.{nat_tests}
-use Rattle.std.proofs.lemmas.List.{append-nil, length-append, map-append, take_more}
-use Rattle.std.proofs.lemmas.List.Folds.{length-flat_map-take}
-use Rattle.std.proofs.lemmas.List.Sums.{fold-append}
+use Rattle.std.proofs.{Common.{arith, refl, sym, ap, subst, ◌∙◌, inl, inr}, lemmas.Bool.{cases_eq, cases_Bool, false≢true, Decides.{nat_tests}}}
+use Rattle.std.proofs.lemmas.List.{append-nil, length-append, map-append, take_more, Folds.{length-flat_map-take}, Sums.{fold-append}}
 use Rattle.std.proofs.lemmas.Grind.{flat_map-append}
-use Rattle.perf_base.specs.declared.numbers.Key.{Key}
-use Rattle.perf_base.specs.declared.numbers.TaskNo.{TaskNo}
-use Rattle.perf_base.specs.declared.standing.Context.{Context}
+use Rattle.perf_base.specs.declared.{numbers.{Key.{Key}, TaskNo.{TaskNo}}, standing.Context.{Context}}
 use Rattle.perf_base.specs.declared.standing.Context.TheVariants as context
-use Rattle.stage_spec.specs.Flags.{is_inherited, is_pinned}
-use Rattle.stage_spec.specs.Forks.{copy_of}
-use Rattle.stage_spec.specs.Shares.{no_sums}
-use Rattle.stage_spec.specs.Stage.{Stage, place_of}
-use Rattle.stage_laws.specs.OneByOne.{Parent, add_instance, add_copies}
-use Rattle.stage_laws.proofs.Counts.{count-append}
-use Rattle.stage_laws.proofs.Others.{place-cases}
-use Rattle.world_spec.specs.Copying.{leaders_in}
-use Rattle.world_spec.specs.Kept.{post_at, leads, leads_in, is_of_task, once_if, IsKept}
-use Rattle.world_spec.specs.StageOf.{stage_of}
-use Rattle.world_spec.specs.Value.{World, Leaders, leaders_of, is_live, entry_at, instance_at, is_key, times}
-use Rattle.world_spec.proofs.GoneLeaderStage.{map-within}
-use Rattle.world_spec.proofs.Keys.{key-is, is_key-same, is_key-true, times-cons, once-true, once-false}
-use Rattle.world_spec.proofs.Moving.{leads-parts}
+use Rattle.stage_spec.specs.{Flags.{is_inherited, is_pinned}, Forks.{copy_of}, Shares.{no_sums}, Stage.{Stage, place_of}}
+use Rattle.stage_laws.{specs.OneByOne.{Parent, add_instance, add_copies}, proofs.{Counts.{count-append}, Others.{place-cases}}}
+use Rattle.world_spec.specs.{Copying.{leaders_in}, Kept.{post_at, leads, leads_in, is_of_task, once_if, IsKept}, StageOf.{stage_of}}
+use Rattle.world_spec.{specs.Value.{World, Leaders, leaders_of, is_live, entry_at, instance_at, is_key, times}, proofs.GoneLeaderStage.{map-within}}
+use Rattle.world_spec.proofs.{Keys.{key-is, is_key-same, is_key-true, times-cons, once-true, once-false}, Moving.{leads-parts}}
 use Rattle.fork_inherit.specs.Copies.{parent_of, inherited_members, inherited_keys, leaders_from, IsNewCopy, AreCopied, MayCopy, MayCopyList}
+use Rattle.fork_inherit.proofs.{Begun.{split-at}, Group.{IsMember, member-of}, Room.{list-leads}}
 use Rattle.world_tables.specs.Places.{picked}
-use Rattle.fork_inherit.proofs.Begun.{split-at}
-use Rattle.fork_inherit.proofs.Group.{IsMember, member-of}
-use Rattle.fork_inherit.proofs.Room.{list-leads}
 
 -- more copies after some
 same-parent : (child : TaskNo) (v w : World) (done : List Key) → IsKept v.hardware v → AreCopied child v w done → (q : Key) → is_live v q ≡ true → parent_of w q ≡ parent_of v q

@@ -1,26 +1,13 @@
 -- How many copies a fork makes, by the keys of its parent's context.
 use Rattle.std.specs.Prelude.{◌≡◌, ℕ, ◌+◌, ◌<◌, ◌≤◌, nat_lt, Bool, true, false, not, cond, is_some, IfSome, IfNone, List, [], ◌∷◌, length, map, Option, Some, None, if◌then◌else◌}
-use Rattle.std.specs.List.{sum_by}
-use Rattle.std.proofs.Common.{arith, refl, sym, ap, ◌∙◌, inl, inr}
-use Rattle.std.proofs.lemmas.Bool.{cases_lt, false≢true}
-use Rattle.std.proofs.lemmas.Bool.Decides.{nat_tests}
-use Rattle.std.proofs.lemmas.List.{length-map, get_or_past}
-use Rattle.std.proofs.Math.ListN.{get_or-map}
-use Rattle.perf_base.specs.declared.numbers.CpuNo.{CpuNo}
-use Rattle.perf_base.specs.declared.numbers.Key.{Key}
-use Rattle.perf_base.specs.declared.numbers.TaskNo.{TaskNo}
-use Rattle.perf_base.specs.declared.standing.Context.{Context}
-use Rattle.stage_spec.specs.Flags.{is_inherited}
-use Rattle.stage_spec.specs.Forks.{inherited_groups, new_copies}
-use Rattle.stage_spec.specs.Hardware.{Hardware}
+use Rattle.std.{specs.List.{sum_by}, proofs.{Common.{arith, refl, sym, ap, ◌∙◌, inl, inr}, lemmas.Bool.{cases_lt, false≢true, Decides.{nat_tests}}}}
+use Rattle.std.proofs.{lemmas.List.{length-map, get_or_past}, Math.ListN.{get_or-map}}
+use Rattle.perf_base.specs.declared.{numbers.{CpuNo.{CpuNo}, Key.{Key}, TaskNo.{TaskNo}}, standing.Context.{Context}}
+use Rattle.stage_spec.specs.{Flags.{is_inherited}, Forks.{inherited_groups, new_copies}, Hardware.{Hardware}}
 use Rattle.stage_spec.specs.Stage.{Group, group_size, lists_of, place_of, task_on, status_of, unknown_task, is_live as is_live_task}
 use Rattle.stage_laws.proofs.Totals.{total-nil, total-cons, sum_by-is-total}
-use Rattle.world_spec.specs.Value.{World, no_leaders, leaders_of, entry_at, instance_at}
-use Rattle.world_spec.specs.StageOf.{group_at, lists_at, stage_of}
-use Rattle.world_spec.specs.Kept.{IsKept}
-use Rattle.world_spec.specs.Copying.{leaders_in}
-use Rattle.world_spec.proofs.Families.{group-members}
-use Rattle.world_spec.proofs.GoneLeaderStage.{leading-first, leading-rest}
+use Rattle.world_spec.specs.{Value.{World, no_leaders, leaders_of, entry_at, instance_at}, StageOf.{group_at, lists_at, stage_of}, Kept.{IsKept}}
+use Rattle.world_spec.{specs.Copying.{leaders_in}, proofs.{Families.{group-members}, GoneLeaderStage.{leading-first, leading-rest}}}
 use Rattle.world_spec.proofs.GoneStage.{AreLeading, listed-lead}
 use Rattle.fork_inherit.specs.Copies.{copies_of, copies_of_all}
 

@@ -1,24 +1,10 @@
 -- One copy that comes.
-use Rattle.std.specs.Prelude.{◌≡◌, ℕ, true, false, Some, None, Option}
-use Rattle.std.proofs.Common.{sym, ap, ◌∙◌}
-use Rattle.perf_base.specs.declared.attr.Attr.{Attr}
-use Rattle.perf_base.specs.declared.numbers.EventNo.{EventNo}
-use Rattle.perf_base.specs.declared.numbers.Key.{Key}
-use Rattle.perf_base.specs.declared.numbers.TaskNo.{TaskNo}
+use Rattle.std.{specs.Prelude.{◌≡◌, ℕ, true, false, Some, None, Option}, proofs.Common.{sym, ap, ◌∙◌}}
+use Rattle.perf_base.specs.declared.{attr.Attr.{Attr}, numbers.{EventNo.{EventNo}, Key.{Key}, TaskNo.{TaskNo}}}
 use Rattle.perf_base.specs.declared.standing.Context.TheVariants as context
-use Rattle.stage_spec.specs.declared.instance.Instance.{Instance}
-use Rattle.stage_spec.specs.Forks.{present_period}
-use Rattle.stage_spec.specs.Hardware.{Hardware}
-use Rattle.stage_spec.specs.Stage.{original_of}
-use Rattle.world_spec.specs.Value.{World, is_live, instance_at, family_of}
-use Rattle.world_spec.specs.StageOf.{stage_of}
-use Rattle.world_spec.specs.Kept.{IsKept}
-use Rattle.world_spec.specs.Adding.{Newcomer, add}
-use Rattle.world_spec.specs.Comings.{MayCome}
-use Rattle.world_spec.specs.Copying.{copy_from}
-use Rattle.world_spec.specs.Staying.{HasCome}
-use Rattle.world_spec.proofs.Families.{original-is}
-use Rattle.world_spec.proofs.Staying.{add-stays}
+use Rattle.stage_spec.specs.{declared.instance.Instance.{Instance}, Forks.{present_period}, Hardware.{Hardware}, Stage.{original_of}}
+use Rattle.world_spec.specs.{Value.{World, is_live, instance_at, family_of}, StageOf.{stage_of}, Kept.{IsKept}, Adding.{Newcomer, add}}
+use Rattle.world_spec.{specs.{Comings.{MayCome}, Copying.{copy_from}, Staying.{HasCome}}, proofs.{Families.{original-is}, Staying.{add-stays}}}
 use Rattle.perf_world.specs.Parts.{MayAdd, newcomer}
 
 -- the present period is that of the original

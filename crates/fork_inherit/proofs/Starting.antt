@@ -1,35 +1,21 @@
 -- That a fork which is not refused may copy both lists of its parent.
 use Rattle.std.specs.Prelude.{◌≡◌, ℕ, suc, zero, ◌+◌, ◌^◌, ◌<◌, ◌≤◌, ◌==◌, nat_lt, Bool, true, false, not, ◌&&◌, All, List, [], ◌∷◌, length, map, Some, None, slice_index_or, if◌then◌else◌}
-use Rattle.std.proofs.Common.{arith, refl, sym, ap, subst, ◌∙◌, inl, inr}
-use Rattle.std.proofs.lemmas.Bool.{cases_Bool, false≢true}
-use Rattle.std.proofs.lemmas.Bool.Decides.{nat_tests}
-use Rattle.std.proofs.lemmas.List.{length-map}
-use Rattle.std.proofs.lemmas.List.Concat.{length-flat_map}
-use Rattle.std.proofs.Math.ListN.{get_or-map}
-use Rattle.perf_base.specs.declared.numbers.CpuNo.{CpuNo}
-use Rattle.perf_base.specs.declared.numbers.Key.{Key}
-use Rattle.perf_base.specs.declared.numbers.TaskNo.{TaskNo}
+use Rattle.std.proofs.{Common.{arith, refl, sym, ap, subst, ◌∙◌, inl, inr}, lemmas.Bool.{cases_Bool, false≢true, Decides.{nat_tests}}}
+use Rattle.std.proofs.{lemmas.List.{length-map, Concat.{length-flat_map}}, Math.ListN.{get_or-map}}
+use Rattle.perf_base.specs.declared.numbers.{CpuNo.{CpuNo}, Key.{Key}, TaskNo.{TaskNo}}
 use Rattle.perf_base.specs.declared.reasons.Reason.TheVariants as reason
 use Rattle.perf_base.specs.declared.standing.Context.TheVariants as context
-use Rattle.stage_spec.specs.Flags.{is_inherited, is_pinned}
-use Rattle.stage_spec.specs.Forks.{fork_refusal, new_copies}
+use Rattle.stage_spec.specs.{Flags.{is_inherited, is_pinned}, Forks.{fork_refusal, new_copies}}
 use Rattle.stage_spec.specs.Stage.{Group, no_groups, lists_of, live_copies, place_of, task_on, is_idle, status_of, was_used, unknown_task, is_live as is_live_task}
-use Rattle.stage_spec.specs.Verdict.{task_lists}
-use Rattle.stage_spec.specs.declared.instance.TaskState.{TaskState}
+use Rattle.stage_spec.specs.{Verdict.{task_lists}, declared.instance.TaskState.{TaskState}}
 use Rattle.stage_spec.specs.declared.instance.TaskState.TheVariants as state
-use Rattle.stage_laws.specs.Sound.{IsSound, AreListed}
-use Rattle.stage_laws.proofs.RunningTasks.{live-used}
-use Rattle.stage_laws.proofs.Tasks.{first-clear, rest-clear}
-use Rattle.stage_laws.proofs.Totals.{total-same, sum_by-is-total}
-use Rattle.world_spec.specs.Kept.{post_at, leads, once_if, copies_in, IsKept}
-use Rattle.world_spec.specs.StageOf.{group_at, lists_at, stage_of}
+use Rattle.stage_laws.{specs.Sound.{IsSound, AreListed}, proofs.{RunningTasks.{live-used}, Tasks.{first-clear, rest-clear}}}
+use Rattle.stage_laws.proofs.{Totals.{total-same, sum_by-is-total}, Counts.{count-append}}
+use Rattle.world_spec.specs.{Kept.{post_at, leads, once_if, copies_in, IsKept}, StageOf.{group_at, lists_at, stage_of}}
 use Rattle.world_spec.specs.Value.{World, Leaders, no_leaders, leaders_of, is_live, entry_at, instance_at, is_key, times}
-use Rattle.world_spec.proofs.Families.{leaders_both, leaders-at, copies-are}
-use Rattle.world_spec.proofs.Keys.{key-is, is_key-true, times-cons, once-false}
-use Rattle.stage_laws.proofs.Counts.{count-append}
+use Rattle.world_spec.proofs.{Families.{leaders_both, leaders-at, copies-are}, Keys.{key-is, is_key-true, times-cons, once-false}}
 use Rattle.fork_inherit.specs.Copies.{copies_of, copies_of_all, inherited_members, inherited_keys, leaders_from, AreCopied, MayCopyList}
-use Rattle.fork_inherit.proofs.Listed.{in-list}
-use Rattle.fork_inherit.proofs.Room.{task-low, copies-new}
+use Rattle.fork_inherit.proofs.{Listed.{in-list}, Room.{task-low, copies-new}}
 
 -- what a fork that is not refused says
 pub record IsFree (v : World) (cpu : CpuNo) (child parent : TaskNo) : Type 0 where

@@ -1,18 +1,12 @@
 -- The copies that a fork makes of the groups of a world. After inherit_group and inherit_event of kernel/events/core.c.
 use Rattle.std.specs.Prelude.{◌≡◌, ℕ, ◌+◌, ◌^◌, ◌<◌, ◌≤◌, Bool, true, false, List, [], length, map, flat_map, slice_index_or, if◌then◌else◌}
 use Rattle.std.specs.List.{sum_by}
-use Rattle.perf_base.specs.declared.numbers.EventNo.{EventNo}
-use Rattle.perf_base.specs.declared.numbers.Key.{Key}
-use Rattle.perf_base.specs.declared.numbers.TaskNo.{TaskNo}
+use Rattle.perf_base.specs.declared.numbers.{EventNo.{EventNo}, Key.{Key}, TaskNo.{TaskNo}}
 use Rattle.perf_base.specs.declared.standing.Context.TheVariants as context
 use Rattle.perf_base.specs.declared.standing.Standing.TheVariants as standing
-use Rattle.stage_spec.specs.Flags.{is_inherited, is_pinned}
-use Rattle.stage_spec.specs.Shares.{no_sums}
-use Rattle.stage_spec.specs.Stage.{place_of}
+use Rattle.stage_spec.specs.{Flags.{is_inherited, is_pinned}, Shares.{no_sums}, Stage.{place_of}}
 use Rattle.stage_laws.specs.OneByOne.{Parent, add_copies}
-use Rattle.world_spec.specs.Kept.{post_at, leads, is_of_task, copies_in, IsKept}
-use Rattle.world_spec.specs.Copying.{leaders_in}
-use Rattle.world_spec.specs.StageOf.{stage_of}
+use Rattle.world_spec.specs.{Kept.{post_at, leads, is_of_task, copies_in, IsKept}, Copying.{leaders_in}, StageOf.{stage_of}}
 use Rattle.world_spec.specs.Value.{World, no_leaders, leaders_of, is_live, entry_at, instance_at, account_at, standing_at, family_of, is_key, times}
 
 -- how many copies a leader's group gets: one of each member where it is inherited; and so those of some leaders

@@ -1,10 +1,7 @@
 -- A list of distinct leaders after a push and without one of them.
 use Rattle.std.proofs.Common.{◌≡◌, ◌≢◌, ℕ, ◌+◌, Bool, true, false, suc, not, ◌==◌, List, [], ◌∷◌, ◌++◌, length, refl, sym, ap, ◌∙◌, subst, arith, Contains}
-use Rattle.std.proofs.lemmas.Bool.Decides.{nat_tests}
-use Rattle.std.proofs.lemmas.List.Elements.{All-contains, filter_passes, Contains-get_or}
-use Rattle.std.proofs.lemmas.List.Kept.{AllPairs-filter}
-use Rattle.std.proofs.lemmas.List.Quantifiers.{all_pairs_push}
-use Rattle.std.proofs.lemmas.Map.Made.{Contains-tail}
+use Rattle.std.proofs.lemmas.{Bool.Decides.{nat_tests}, List.{Elements.{All-contains, filter_passes, Contains-get_or}, Kept.{AllPairs-filter}}}
+use Rattle.std.proofs.lemmas.{List.Quantifiers.{all_pairs_push}, Map.Made.{Contains-tail}}
 use Rattle.perf_base.specs.declared.numbers.Key.{Key}
 use Rattle.group_lists.specs.Groups.{IsWithoutRepeats, without}
 

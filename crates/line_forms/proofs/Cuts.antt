@@ -1,12 +1,9 @@
 -- A text that is cut at a byte, and its pieces.
 use Rattle.std.proofs.Common.{◌≡◌, ℕ, suc, ◌<◌, ◌≤◌, Bool, true, false, not, eqb, ltb, List, [], ◌∷◌, length, Option, Some, None, inl, inr, refl, sym, ap, ◌∙◌, Bor, arith, add-one}
-use Rattle.std.specs.List.{prefix_len}
-use Rattle.std.proofs.Math.Numerals.{one-add}
-use Rattle.std.proofs.lemmas.Bool.{cases_Bool, lt-ltb, ltb-true, ltb-false, le-ltb}
-use Rattle.script_spec.specs.Lines.{pieces}
+use Rattle.std.{proofs.{Math.Numerals.{one-add}, lemmas.Bool.{cases_Bool, lt-ltb, ltb-true, ltb-false, le-ltb}}, specs.List.{prefix_len}}
 use Rattle.std.specs.Option.{option_map}
-use Rattle.line_forms.specs.declared.words.Words.{Words}
-use Rattle.line_forms.specs.Words.{cut, left, next_of, end_of}
+use Rattle.script_spec.specs.Lines.{pieces}
+use Rattle.line_forms.specs.{declared.words.Words.{Words}, Words.{cut, left, next_of, end_of}}
 
 -- the pieces of what stands behind a cut
 abbrev pub pieces_behind : ℕ → Option (List ℕ) → List (List ℕ)

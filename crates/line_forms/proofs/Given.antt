@@ -1,13 +1,8 @@
 -- What a reader that takes memory gives, by the forms of a line.
-use Rattle.std.proofs.Common.{◌≡◌, ℕ, List, Result, Ok, Err, sym, ap, ◌∙◌}
-use Rattle.std.proofs.lemmas.Option.{same_Some, none-some}
-use Rattle.std.specs.Prelude.{IfOk}
+use Rattle.std.{proofs.{Common.{◌≡◌, ℕ, List, Result, Ok, Err, sym, ap, ◌∙◌}, lemmas.Option.{same_Some, none-some}}, specs.Prelude.{IfOk}}
 use Rattle.script_spec.specs.Forms.{Version, Form, IsOfForm}
-use Rattle.line_forms.specs.declared.stop.LineStop.{LineStop}
+use Rattle.line_forms.{specs.{declared.stop.LineStop.{LineStop}, Stop.{Gives}, Reading.{form_at}}, proofs.Laws.{form-takes, form-again}}
 use Rattle.line_forms.specs.declared.stop.LineStop.TheVariants as stop
-use Rattle.line_forms.specs.Stop.{Gives}
-use Rattle.line_forms.specs.Reading.{form_at}
-use Rattle.line_forms.proofs.Laws.{form-takes, form-again}
 
 pub ok_is_of_form : {X : Type 0} (view : X → Form) (r : Result X LineStop) (v : Version) (ws own : List (List ℕ)) → ws ≡ own → Gives view r (form_at v ws) → IfOk r (λ f. IsOfForm v own (view f))
 ok_is_of_form view (Ok x) v ws own e h = form-takes v own (view x) (ap (form_at v) (sym e) ∙ h)

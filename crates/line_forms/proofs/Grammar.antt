@@ -1,18 +1,13 @@
 -- The forms, one by one: what is read is of the form, and what is of the form is read.
 use Rattle.std.proofs.Common.{◌≡◌, ℕ, List, [], ◌∷◌, ◌++◌, map, Option, Some, None, inl, inr, refl, sym, ap, subst, ◌∙◌, arith}
-use Rattle.std.proofs.lemmas.Option.{same_Some, none-some}
-use Rattle.std.specs.Prelude.{codes, decimal, IfSome}
-use Rattle.std.specs.Str.{bytes_eq}
-use Rattle.std.proofs.lemmas.Bool.{cases_Bool}
+use Rattle.std.{proofs.lemmas.{Option.{same_Some, none-some}, Bool.{cases_Bool}}, specs.{Prelude.{codes, decimal, IfSome}, Str.{bytes_eq}}}
 use Rattle.perf_base.specs.declared.lines.Mode.{Mode}
 use Rattle.perf_base.specs.declared.lines.Mode.TheVariants as mode
-use Rattle.script_spec.specs.Forms as form
 use Rattle.script_spec.specs.Forms.{Version, Working, CpuForm, Form}
-use Rattle.line_forms.specs.Leaves.{number, number_at, number_if}
-use Rattle.line_forms.specs.Lists.{each_word, hit_in}
+use Rattle.script_spec.specs.Forms as form
+use Rattle.line_forms.specs.{Leaves.{number, number_at, number_if}, Lists.{each_word, hit_in}}
 use Rattle.line_forms.specs.Declarations.{perf_at, machine_at, machine_of_pmus_at, pmu_at, kind_at, kind_of_pmu_at, ring_at, reader_at}
-use Rattle.line_forms.specs.CpuForms.{mode_in, stretch_at, work_at, switch_at}
-use Rattle.line_forms.proofs.Spelling.{guard_some}
+use Rattle.line_forms.{specs.CpuForms.{mode_in, stretch_at, work_at, switch_at}, proofs.Spelling.{guard_some}}
 use Rattle.line_forms.proofs.Singles.{number_at-takes, bind_some, bytes_eq-true, bytes_eq_self, name_at-again, decimal_or-again}
 use Rattle.line_forms.proofs.Optionals.{number_at-none, number_if-none, number_if-takes, number_if-again}
 use Rattle.line_forms.proofs.Sequences.{each-takes, each-again, hit-takes, hit-again}

@@ -1,27 +1,18 @@
 -- A whole line: what is read is of the form, and what is of the form is read. So a line is of at most one form.
 use Rattle.std.proofs.Common.{◌≡◌, ℕ, Bool, List, [], ◌∷◌, Option, Some, None, option_map, inl, inr, refl, sym, ap, subst, ◌∙◌}
-use Rattle.std.proofs.lemmas.Option.{same_Some, none-some}
-use Rattle.std.specs.Prelude.{codes, decimal}
-use Rattle.std.specs.Str.{bytes_eq}
-use Rattle.std.proofs.lemmas.Bool.{cases_Bool}
-use Rattle.script_spec.specs.Acts.{act_text}
+use Rattle.std.{proofs.lemmas.{Option.{same_Some, none-some}, Bool.{cases_Bool}}, specs.{Prelude.{codes, decimal}, Str.{bytes_eq}}}
+use Rattle.script_spec.specs.{Acts.{act_text}, Forms.{Version, CpuForm, ToolForm, Form, IsOfForm}}
 use Rattle.script_spec.specs.Forms as form
-use Rattle.script_spec.specs.Forms.{Version, CpuForm, ToolForm, Form, IsOfForm}
-use Rattle.line_forms.specs.declared.keyword.Keyword.{Keyword}
-use Rattle.line_forms.specs.declared.keyword.Keyword.TheVariants as keyword
-use Rattle.line_forms.specs.Keyword.{looked_up, keywords, keyword_of}
-use Rattle.line_forms.specs.Shapes.{at_end, one_number, two_numbers, slot_and_group}
-use Rattle.line_forms.specs.Lists.{each_word}
-use Rattle.line_forms.specs.Acts.{act_in, order_at}
-use Rattle.line_forms.specs.Declarations.{end_at}
-use Rattle.line_forms.specs.CpuForms.{switch_at, work_at, tick_at, fork_at, exit_at}
+use Rattle.line_forms.specs.{declared.keyword.Keyword.{Keyword}, Keyword.{looked_up, keywords, keyword_of}}
+use Rattle.line_forms.specs.{Shapes.{at_end, one_number, two_numbers, slot_and_group}, Lists.{each_word}, Acts.{act_in, order_at}}
+use Rattle.line_forms.specs.{Declarations.{end_at}, CpuForms.{switch_at, work_at, tick_at, fork_at, exit_at}}
 use Rattle.line_forms.specs.ToolForms.{open_at, enable_at, disable_at, reset_at, period_at, read_at, map_at, output_at, close_at, why_at, seats_at}
-use Rattle.line_forms.specs.Reading.{body_at, form_at}
-use Rattle.line_forms.proofs.Singles.{bind_some, bytes_eq-true}
+use Rattle.line_forms.{specs.Reading.{body_at, form_at}, proofs.Singles.{bind_some, bytes_eq-true}}
 use Rattle.line_forms.proofs.Sequences.{each-takes, each-again, act-takes, act-again}
 use Rattle.line_forms.proofs.Steps.{end_then, next_then, more, one-takes, one-again, two-takes, two-again}
 use Rattle.line_forms.proofs.Grammar.{IsSpelled, IsCpuSpelled, perf-takes, perf-again, machine-takes, machine-again, machine_of_pmus-takes, machine_of_pmus-again, pmu-takes, pmu-again, kind-takes, kind-again, kind_of_pmu-takes, kind_of_pmu-again, ring-takes, ring-again, reader-takes, reader-again, switch-takes, switch-again, work-takes, work-again}
 use Rattle.line_forms.proofs.Tools.{IsToolSpelled, open-takes, open-again_kind, open-again_attr, slot_and_group-takes, slot_and_group-again, read-takes, read-again}
+use Rattle.line_forms.specs.declared.keyword.Keyword.TheVariants as keyword
 
 -- ---- first words
 

@@ -1,20 +1,10 @@
 -- Reading one word after the other, as a loop does.
 use Rattle.std.proofs.Common.{◌≡◌, ℕ, ◌+◌, ◌*◌, ◌-◌, ◌<◌, ◌≤◌, true, false, Bor, List, [], ◌∷◌, ◌++◌, map, length, get_or, take, drop, Option, Some, None, refl, sym, ap, ◌∙◌, append_assoc, arith, length-take, length-drop}
-use Rattle.std.proofs.Math.Seq.{take-length}
-use Rattle.std.proofs.lemmas.List.{append-nil}
-use Rattle.std.specs.Str.{bytes_eq}
-use Rattle.std.proofs.lemmas.List.{drop_more}
-use Rattle.std.proofs.Math.ListN.{drop_of_length-le}
-use Rattle.line_forms.specs.declared.keyword.Keyword.{Keyword}
-use Rattle.line_forms.specs.Keyword.{looked_up}
-use Rattle.line_forms.specs.declared.stop.LineStop.{LineStop}
+use Rattle.std.{proofs.{Math.{Seq.{take-length}, ListN.{drop_of_length-le}}, lemmas.List.{append-nil, drop_more}}, specs.Str.{bytes_eq}}
+use Rattle.line_forms.specs.{declared.{keyword.Keyword.{Keyword}, stop.LineStop.{LineStop}}, Keyword.{looked_up}, Words.{◌>>=◌, next_of}}
+use Rattle.line_forms.specs.{Lists.{each_word, pair_of, pairs_in}, Acts.{act_in, acts_in}, Stop.{Stops}}
 use Rattle.line_forms.specs.declared.stop.LineStop.TheVariants as stop
-use Rattle.line_forms.specs.Words.{◌>>=◌, next_of}
 use Rattle.perf_base.specs.declared.acts.Act.{Act}
-use Rattle.line_forms.specs.Lists.{each_word, pair_of, pairs_in}
-use Rattle.line_forms.specs.Acts.{act_in}
-use Rattle.line_forms.specs.Acts.{acts_in}
-use Rattle.line_forms.specs.Stop.{Stops}
 
 -- what was read before, and what is still read
 abbrev pub with_front : {A : Type 0} → List A → Option (List A) → Option (List A)

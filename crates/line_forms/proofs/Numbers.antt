@@ -1,14 +1,10 @@
 -- Numbers and flags: that their sums fit, and what a chain of steps gives.
 use Rattle.std.proofs.Common.{◌≡◌, ℕ, ◌+◌, ◌*◌, ◌^◌, ◌<◌, ◌≤◌, Bool, true, false, List, [], ◌∷◌, length, map, drop, get_or, Option, Some, None, refl, sym, ap, ◌∙◌, arith}
-use Rattle.std.specs.Prelude.{sum_by}
-use Rattle.std.proofs.lemmas.List.{drop_more, get_or-map, length-map}
-use Rattle.std.proofs.lemmas.List.Sums.{sum_by-cons}
-use Rattle.std.proofs.Math.ListN.{drop_of_length-le}
-use Rattle.std.proofs.Math.Nat.{mul-le-mul_left, pow-le-pow_right}
+use Rattle.std.proofs.{lemmas.List.{drop_more, get_or-map, length-map, Sums.{sum_by-cons}}, Math.ListN.{drop_of_length-le}}
+use Rattle.std.{proofs.Math.Nat.{mul-le-mul_left, pow-le-pow_right}, specs.Prelude.{sum_by}}
 use Rattle.perf_base.specs.Flags.{flag_table}
 use Rattle.script_spec.specs.Lines.{pieces}
-use Rattle.line_forms.specs.Words.{◌>>=◌, end_of}
-use Rattle.line_forms.specs.Leaves.{word_if, bit, flag_if, flags_in, flags}
+use Rattle.line_forms.specs.{Words.{◌>>=◌, end_of}, Leaves.{word_if, bit, flag_if, flags_in, flags}}
 
 power_le : (i : ℕ) → i < 20 → 16 ^ i ≤ 16 ^ 19
 power_le i l = let le : i ≤ 19 = omega arith in pow-le-pow_right {n = 16} (omega arith) le

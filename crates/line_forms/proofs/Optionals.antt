@@ -1,11 +1,7 @@
 -- Words that may be missing: what is read is what is spelled so, and what is spelled so is read.
 use Rattle.std.proofs.Common.{◌≡◌, ℕ, ◌+◌, ◌*◌, ◌^◌, ◌<◌, ◌≤◌, Bool, true, false, ◌&&◌, ◌||◌, eqb, List, [], ◌∷◌, ◌++◌, length, Option, Some, None, inl, inr, refl, sym, ap, subst, ◌∙◌, arith}
-use Rattle.std.proofs.lemmas.Option.{same_Some}
-use Rattle.std.specs.Prelude.{codes, IfSome}
-use Rattle.std.specs.List.{join_with_byte}
-use Rattle.std.specs.Str.{bytes_eq}
-use Rattle.std.specs.Fmt.{digits}
-use Rattle.std.proofs.lemmas.Bool.{cases_Bool, cases_lt, and_parts, agree_below_at, agree_below, ne_eqb, eqb-true}
+use Rattle.std.proofs.lemmas.{Option.{same_Some}, Bool.{cases_Bool, cases_lt, and_parts, agree_below_at, agree_below, ne_eqb, eqb-true}}
+use Rattle.std.specs.{Prelude.{codes, IfSome}, List.{join_with_byte}, Str.{bytes_eq}, Fmt.{digits}}
 use Rattle.script_spec.specs.Lines.{pieces, put_before}
 use Rattle.script_spec.specs.Forms as form
 use Rattle.line_forms.specs.Words.{◌>>=◌, cut, strip, next_of, end_of}

@@ -1,23 +1,15 @@
 -- Occurrences, acts and bytes: what is read is what is spelled so, and what is spelled so is read.
 use Rattle.std.proofs.Common.{◌≡◌, ℕ, ◌+◌, ◌*◌, ◌/◌, ◌%◌, ◌<◌, ◌≤◌, true, false, ◌&&◌, eqb, leb, ltb, List, [], ◌∷◌, ◌++◌, map, take, length, All, Option, Some, None, option_map, inl, inr, refl, sym, ap, subst, ◌∙◌, arith, append_assoc}
 use Rattle.std.proofs.lemmas.Option.{same_Some, none-some}
-use Rattle.std.specs.Prelude.{decimal, IfSome}
-use Rattle.std.specs.List.{list_all, flat_map}
-use Rattle.std.specs.Fmt.{digit_glyph}
 use Rattle.std.proofs.lemmas.Bool.{cases_Bool, eqb-true, ltb-true, leb-true, lt-ltb, le-leb, eq-eqb, ne_eqb, and_parts, and_from}
-use Rattle.std.proofs.lemmas.Nat.{div-mul-add, mod-mul-add, div-add-mod'}
-use Rattle.std.proofs.Math.Nat.{mod-eq_of_lt}
-use Rattle.std.proofs.lemmas.List.Elements.{All-cons, All-head, All-tail}
-use Rattle.perf_base.specs.Scripts.{IsNameByte, IsName}
-use Rattle.perf_base.specs.declared.acts.Act.{Act}
+use Rattle.std.proofs.{lemmas.{Nat.{div-mul-add, mod-mul-add, div-add-mod'}, List.Elements.{All-cons, All-head, All-tail}}, Math.Nat.{mod-eq_of_lt}}
+use Rattle.std.specs.{Prelude.{decimal, IfSome}, List.{list_all, flat_map}, Fmt.{digit_glyph}}
+use Rattle.perf_base.specs.{Scripts.{IsNameByte, IsName}, declared.acts.Act.{Act}}
 use Rattle.perf_base.specs.declared.acts.Act.TheVariants as act
 use Rattle.script_spec.specs.Acts.{act_text}
 use Rattle.script_spec.specs.Forms as form
-use Rattle.line_forms.specs.Words.{◌>>=◌, cut}
-use Rattle.line_forms.specs.Leaves.{digit_of, number, name}
-use Rattle.line_forms.specs.Lists.{each_word, hit_in, is_bytes, pair_of, pairs_in, bytes_in}
-use Rattle.line_forms.specs.Acts.{seen_in, act_in, processor_in, tool_in}
-use Rattle.line_forms.proofs.Cuts.{cut_here, cut_later, cut_nothing}
+use Rattle.line_forms.specs.{Words.{◌>>=◌, cut}, Leaves.{digit_of, number, name}, Lists.{each_word, hit_in, is_bytes, pair_of, pairs_in, bytes_in}}
+use Rattle.line_forms.{specs.Acts.{seen_in, act_in, processor_in, tool_in}, proofs.Cuts.{cut_here, cut_later, cut_nothing}}
 use Rattle.line_forms.proofs.Spelling.{guard_some, number_takes, number_again, decimal_below, digit_of-glyph, glyph-digit_of}
 use Rattle.line_forms.proofs.Singles.{bind_some, name_takes, name_again}
 

@@ -1,17 +1,10 @@
 -- Single words: what is read is what is spelled so, and what is spelled so is read.
 use Rattle.std.proofs.Common.{◌≡◌, ℕ, ◌^◌, ◌<◌, ◌≤◌, true, false, ◌&&◌, ◌||◌, eqb, leb, List, [], ◌∷◌, ◌++◌, length, take, drop, All, Option, Some, None, inl, inr, refl, sym, ap, subst, ◌∙◌, arith}
-use Rattle.std.proofs.lemmas.Option.{same_Some, none-some}
-use Rattle.std.specs.Prelude.{nat_eq, decimal, IfSome}
-use Rattle.std.specs.List.{starts_with, list_all}
-use Rattle.std.specs.Str.{bytes_eq}
-use Rattle.std.specs.Fmt.{digits}
-use Rattle.std.specs.Cmp.Lexicographic.{same_text}
-use lib.Pointwise.{pointwise}
-use Rattle.std.proofs.lemmas.Cmp.{nat_list_eq_equiv}
-use Rattle.std.proofs.lemmas.Slice.Eq.{bytes_eq-Decides}
+use Rattle.std.proofs.lemmas.{Option.{same_Some, none-some}, Cmp.{nat_list_eq_equiv}, Slice.Eq.{bytes_eq-Decides}}
 use Rattle.std.proofs.lemmas.Bool.{cases_Bool, eqb-true, leb-true, le-leb, and_parts, and_from, or_cases, false_from_ne_true}
-use Rattle.std.proofs.lemmas.List.{take_at, drop_at, take-append-drop}
-use Rattle.std.proofs.lemmas.List.Elements.{All-cons, All-head, All-tail}
+use Rattle.std.proofs.lemmas.List.{take_at, drop_at, take-append-drop, Elements.{All-cons, All-head, All-tail}}
+use Rattle.std.specs.{Prelude.{nat_eq, decimal, IfSome}, List.{starts_with, list_all}, Str.{bytes_eq}, Fmt.{digits}, Cmp.Lexicographic.{same_text}}
+use lib.Pointwise.{pointwise}
 use Rattle.perf_base.specs.Scripts.{IsLetter, IsNameByte}
 use Rattle.script_spec.specs.Forms as form
 use Rattle.line_forms.specs.Words.{◌>>=◌, strip, next_of, end_of}

@@ -1,13 +1,11 @@
 -- Numbers: what is read is what is spelled so, and what is spelled so is read.
 use Rattle.std.proofs.Common.{◌≡◌, ◌≢◌, ℕ, suc, ◌+◌, ◌-◌, ◌*◌, ◌/◌, ◌%◌, ◌^◌, ◌<◌, ◌≤◌, Bool, true, false, not, ◌&&◌, ◌||◌, cond, eqb, leb, ltb, List, [], ◌∷◌, ◌++◌, map, length, get_or, Some, None, inl, inr, refl, sym, ap, subst, ◌∙◌, arith}
-use Rattle.std.specs.List.{list_all}
-use Rattle.std.specs.Fmt.{digits, digits_onto, digit_glyph}
-use Rattle.std.specs.Int.Digits.{number_from_digits_after, number_from_digits, digits_of, AllBelowBase}
 use Rattle.std.proofs.lemmas.Int.Digits.{all_below_base_digits_of, number_digits_of, length-digits_of-le, first_digits_of, number_lt}
 use Rattle.std.proofs.lemmas.Nat.{div-mul-add, mod-mul-add}
-use Rattle.std.proofs.Math.Nat.{pow-le-pow_right, le-mul_of_pos_right, div-eq_of_lt, mod-eq_of_lt}
 use Rattle.std.proofs.lemmas.Bool.{cases_Bool, cases_lt, eqb-true, ltb-true, leb-true, lt-ltb, le-ltb, le-leb, lt-leb, eq-eqb, ne_eqb, and_parts, and_from}
-use Rattle.std.proofs.lemmas.List.{append-nil, length-map}
+use Rattle.std.proofs.{lemmas.List.{append-nil, length-map}, Math.Nat.{pow-le-pow_right, le-mul_of_pos_right, div-eq_of_lt, mod-eq_of_lt}}
+use Rattle.std.specs.{List.{list_all}, Fmt.{digits, digits_onto, digit_glyph}}
+use Rattle.std.specs.Int.Digits.{number_from_digits_after, number_from_digits, digits_of, AllBelowBase}
 use Rattle.line_forms.specs.Leaves.{digit_of, value_after, is_number, number}
 
 -- ---- single digits

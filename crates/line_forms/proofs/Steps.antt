@@ -1,10 +1,8 @@
 -- One step of reading a line, with what follows: what was read stands there.
-use Rattle.std.proofs.Common.{◌≡◌, ℕ, List, [], ◌∷◌, ◌++◌, Option, Some, refl, ap, ◌∙◌, arith}
-use Rattle.std.proofs.lemmas.Option.{same_Some}
+use Rattle.std.proofs.{Common.{◌≡◌, ℕ, List, [], ◌∷◌, ◌++◌, Option, Some, refl, ap, ◌∙◌, arith}, lemmas.Option.{same_Some}}
 use Rattle.std.specs.Prelude.{decimal, IfSome}
 use Rattle.script_spec.specs.Forms as form
-use Rattle.line_forms.specs.Words.{◌>>=◌, next_of, end_of}
-use Rattle.line_forms.specs.Leaves.{decimal_at, hexadecimal_at, name_at, decimal_or}
+use Rattle.line_forms.specs.{Words.{◌>>=◌, next_of, end_of}, Leaves.{decimal_at, hexadecimal_at, name_at, decimal_or}}
 use Rattle.line_forms.specs.Shapes.{one_number, two_numbers}
 use Rattle.line_forms.proofs.Singles.{bind_some, next_takes, end_takes, number_at-takes, number_at-again, name_at-takes, decimal_or-takes}
 

@@ -1,20 +1,13 @@
 -- The forms under a tool, one by one: what is read is of the form, and what is of the form is read.
 use Rattle.std.proofs.Common.{◌≡◌, ℕ, Bool, true, false, List, [], ◌∷◌, ◌++◌, Option, Some, None, refl, sym, ap, subst, ◌∙◌, arith}
-use Rattle.std.proofs.lemmas.Option.{same_Some}
-use Rattle.std.specs.Prelude.{codes, decimal, IfSome}
-use Rattle.std.specs.List.{flat_map}
-use Rattle.std.proofs.lemmas.List.{append-nil}
-use Rattle.script_spec.specs.Forms as form
+use Rattle.std.{proofs.lemmas.{Option.{same_Some}, List.{append-nil}}, specs.{Prelude.{codes, decimal, IfSome}, List.{flat_map}}}
 use Rattle.script_spec.specs.Forms.{Opening, Asked, ToolForm}
-use Rattle.line_forms.specs.Words.{strip}
-use Rattle.line_forms.specs.Leaves.{name_at, number_at, number_if, word_if, flags_if}
-use Rattle.line_forms.specs.Shapes.{slot_and_group}
-use Rattle.line_forms.specs.Lists.{bytes_in}
+use Rattle.script_spec.specs.Forms as form
+use Rattle.line_forms.specs.{Words.{strip}, Leaves.{name_at, number_at, number_if, word_if, flags_if}, Shapes.{slot_and_group}, Lists.{bytes_in}}
 use Rattle.line_forms.specs.ToolForms.{place_at, asked_at, open_kind_at, attr_place_at, open_attr_at, first_or, open_at, read_at}
 use Rattle.line_forms.proofs.Singles.{bind_some, strip_takes, strip_again, name_at-again, decimal_or-again}
 use Rattle.line_forms.proofs.Optionals.{IsNotKeyed, number_at-none, not_keyed_if, number_if-takes, number_if-again, word_where, word_if-takes, flags_if-takes, flags_if-again}
-use Rattle.line_forms.proofs.Sequences.{bytes-takes, bytes-again}
-use Rattle.line_forms.proofs.Grammar.{no_number_all, no_number_any}
+use Rattle.line_forms.proofs.{Sequences.{bytes-takes, bytes-again}, Grammar.{no_number_all, no_number_any}}
 use Rattle.line_forms.proofs.Steps.{decimal_then, name_then, other_then, end_then, next_then, more, decimal-again}
 
 abbrev pub IsToolSpelled : List ℕ → List (List ℕ) → ToolForm → Type 0

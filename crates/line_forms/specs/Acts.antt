@@ -2,12 +2,9 @@
 use Rattle.std.specs.Prelude.{◌≡◌, ℕ, All, List, [], ◌∷◌, Option, Some, None, MatchOption, ◌==◌, option_map, if◌then◌else◌}
 use Rattle.perf_base.specs.declared.acts.Act.{Act}
 use Rattle.perf_base.specs.declared.acts.Act.TheVariants as act
+use Rattle.script_spec.specs.{Forms.{Form}, Acts.{IsActInRange}}
 use Rattle.script_spec.specs.Forms as form
-use Rattle.script_spec.specs.Acts.{IsActInRange}
-use Rattle.script_spec.specs.Forms.{Form}
-use Rattle.line_forms.specs.Words.{◌>>=◌, cut}
-use Rattle.line_forms.specs.Leaves.{number}
-use Rattle.line_forms.specs.Lists.{each_word}
+use Rattle.line_forms.specs.{Words.{◌>>=◌, cut}, Leaves.{number}, Lists.{each_word}}
 
 unfoldable pub seen_in : List ℕ → Option Act
 seen_in text = do

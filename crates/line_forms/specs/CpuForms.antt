@@ -1,13 +1,10 @@
 -- What the words of a line under a processor give, behind its first. This project's own profile.
-use Rattle.std.specs.Prelude.{ℕ, List, [], length, codes, Option, Some, None, option_map, if◌then◌else◌}
-use Rattle.std.specs.Str.{bytes_eq}
+use Rattle.std.specs.{Prelude.{ℕ, List, [], length, codes, Option, Some, None, option_map, if◌then◌else◌}, Str.{bytes_eq}}
 use Rattle.perf_base.specs.declared.lines.Mode.{Mode}
 use Rattle.perf_base.specs.declared.lines.Mode.TheVariants as mode
-use Rattle.script_spec.specs.Forms as form
 use Rattle.script_spec.specs.Forms.{CpuForm}
-use Rattle.line_forms.specs.Words.{◌>>=◌, next_of}
-use Rattle.line_forms.specs.Leaves.{decimal_at, decimal_or, number_if}
-use Rattle.line_forms.specs.Shapes.{at_end, one_number}
+use Rattle.script_spec.specs.Forms as form
+use Rattle.line_forms.specs.{Words.{◌>>=◌, next_of}, Leaves.{decimal_at, decimal_or, number_if}, Shapes.{at_end, one_number}}
 use Rattle.line_forms.specs.Lists.{each_word, hit_in}
 
 abbrev pub mode_in : List ℕ → Option Mode

@@ -1,11 +1,8 @@
 -- What the words of a line that declares something give, behind its first. This project's own profile.
-use Rattle.std.specs.Prelude.{ℕ, List, [], codes, Option, Some, None, option_map, if◌then◌else◌}
-use Rattle.std.specs.Str.{bytes_eq}
-use Rattle.script_spec.specs.Forms as form
+use Rattle.std.specs.{Prelude.{ℕ, List, [], codes, Option, Some, None, option_map, if◌then◌else◌}, Str.{bytes_eq}}
 use Rattle.script_spec.specs.Forms.{Version, Form, version_text}
-use Rattle.line_forms.specs.Words.{◌>>=◌, next_of, end_of}
-use Rattle.line_forms.specs.Leaves.{decimal_at, hexadecimal_at, name_at}
-use Rattle.line_forms.specs.Shapes.{at_end, one_number}
+use Rattle.script_spec.specs.Forms as form
+use Rattle.line_forms.specs.{Words.{◌>>=◌, next_of, end_of}, Leaves.{decimal_at, hexadecimal_at, name_at}, Shapes.{at_end, one_number}}
 
 unfoldable pub perf_at : Version → List (List ℕ) → Option Form
 perf_at version words = do

@@ -3,20 +3,13 @@ use Rattle.std.specs.Prelude.{map}
 use Rattle.perf_base.specs.declared.acts.Act.{Act}
 use Rattle.perf_base.specs.declared.acts.Act.TheVariants as act
 use Rattle.script_spec.specs.Forms as form
-use Rattle.line_forms.specs.declared.forms.Version.{Version}
+use Rattle.line_forms.specs.declared.forms.{Version.{Version}, Hit.{Hit}, Working.{Working}, CpuForm.{CpuForm}, Opening.{Opening}, Asked.{Asked}}
+use Rattle.line_forms.specs.declared.{forms.{ToolForm.{ToolForm}, Form.{Form}}, acts.SpelledAct.{SpelledAct}}
 use Rattle.line_forms.specs.declared.forms.Version.TheVariants as version
-use Rattle.line_forms.specs.declared.forms.Hit.{Hit}
-use Rattle.line_forms.specs.declared.forms.Working.{Working}
-use Rattle.line_forms.specs.declared.forms.CpuForm.{CpuForm}
 use Rattle.line_forms.specs.declared.forms.CpuForm.TheVariants as cpu_form
-use Rattle.line_forms.specs.declared.forms.Opening.{Opening}
-use Rattle.line_forms.specs.declared.forms.Asked.{Asked}
-use Rattle.line_forms.specs.declared.forms.ToolForm.{ToolForm}
 use Rattle.line_forms.specs.declared.forms.ToolForm.TheVariants as tool_form
-use Rattle.line_forms.specs.declared.acts.SpelledAct.{SpelledAct}
-use Rattle.line_forms.specs.declared.acts.SpelledAct.TheVariants as spelled
-use Rattle.line_forms.specs.declared.forms.Form.{Form}
 use Rattle.line_forms.specs.declared.forms.Form.TheVariants as read
+use Rattle.line_forms.specs.declared.acts.SpelledAct.TheVariants as spelled
 
 abbrev pub version_of : Version → form.Version
 version_of version.One = form.One

@@ -1,6 +1,5 @@
 -- The first words of lines. This project's own profile.
-use Rattle.std.specs.Prelude.{ℕ, List, [], ◌∷◌, codes, Option, Some, None, if◌then◌else◌}
-use Rattle.std.specs.Str.{bytes_eq}
+use Rattle.std.specs.{Prelude.{ℕ, List, [], ◌∷◌, codes, Option, Some, None, if◌then◌else◌}, Str.{bytes_eq}}
 use Rattle.line_forms.specs.declared.keyword.Keyword.{Keyword}
 use Rattle.line_forms.specs.declared.keyword.Keyword.TheVariants as keyword
 

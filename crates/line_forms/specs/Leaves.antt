@@ -1,7 +1,6 @@
 -- Reading numbers, names and other single words: what each step gives. This project's own profile.
 use Rattle.std.specs.Prelude.{ℕ, ◌+◌, ◌-◌, ◌*◌, Bool, true, false, not, ◌==◌, ◌&&◌, ◌||◌, nat_lt, nat_le, List, [], ◌∷◌, length, slice_index, codes, Option, Some, None, if◌then◌else◌}
-use Rattle.std.specs.List.{list_all}
-use Rattle.std.specs.Str.{bytes_eq}
+use Rattle.std.specs.{List.{list_all}, Str.{bytes_eq}}
 use Rattle.perf_base.specs.Flags.{flag_table}
 use Rattle.script_spec.specs.Lines.{pieces}
 use Rattle.line_forms.specs.Words.{◌>>=◌, strip, next_of, end_of}

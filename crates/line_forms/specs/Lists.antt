@@ -2,8 +2,7 @@
 use Rattle.std.specs.Prelude.{ℕ, ◌+◌, ◌*◌, ◌%◌, Bool, ◌==◌, ◌&&◌, nat_lt, nat_le, List, [], ◌∷◌, length, Option, Some, None, if◌then◌else◌}
 use Rattle.std.specs.List.{list_all}
 use Rattle.script_spec.specs.Forms.{Hit}
-use Rattle.line_forms.specs.Words.{◌>>=◌, cut}
-use Rattle.line_forms.specs.Leaves.{digit_of, number, name}
+use Rattle.line_forms.specs.{Words.{◌>>=◌, cut}, Leaves.{digit_of, number, name}}
 
 -- what each word gives, where each gives something
 unfoldable pub each_word : {A : Type 0} → (List ℕ → Option A) → List (List ℕ) → Option (List A)

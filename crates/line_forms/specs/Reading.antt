@@ -1,15 +1,12 @@
 -- Reading a whole line from the left: what is given, by the first word. This project's own profile.
 use Rattle.std.specs.Prelude.{ℕ, List, Option, None, option_map}
-use Rattle.script_spec.specs.Forms as form
 use Rattle.script_spec.specs.Forms.{Version, Form}
-use Rattle.line_forms.specs.declared.keyword.Keyword.{Keyword}
-use Rattle.line_forms.specs.declared.keyword.Keyword.TheVariants as keyword
-use Rattle.line_forms.specs.Words.{◌>>=◌, next_of}
-use Rattle.line_forms.specs.Keyword.{keyword_of}
-use Rattle.line_forms.specs.Acts.{order_at}
+use Rattle.script_spec.specs.Forms as form
+use Rattle.line_forms.specs.{declared.keyword.Keyword.{Keyword}, Words.{◌>>=◌, next_of}, Keyword.{keyword_of}, Acts.{order_at}}
 use Rattle.line_forms.specs.Declarations.{perf_at, machine_at, machine_of_pmus_at, pmu_at, kind_at, kind_of_pmu_at, task_at, ring_at, processor_at, tool_at, reader_at, end_at}
 use Rattle.line_forms.specs.CpuForms.{switch_at, work_at, tick_at, fork_at, exit_at}
 use Rattle.line_forms.specs.ToolForms.{open_at, enable_at, disable_at, reset_at, period_at, read_at, map_at, output_at, close_at, why_at, seats_at}
+use Rattle.line_forms.specs.declared.keyword.Keyword.TheVariants as keyword
 
 -- the words behind the first, by the first
 unfoldable pub body_at : Version → Keyword → List (List ℕ) → Option Form

@@ -1,7 +1,6 @@
 -- What the words behind the first give, in the shapes that several forms share. This project's own profile.
 use Rattle.std.specs.Prelude.{ℕ, Bool, List, [], codes, Option, Some}
-use Rattle.line_forms.specs.Words.{◌>>=◌, end_of}
-use Rattle.line_forms.specs.Leaves.{decimal_at, word_if}
+use Rattle.line_forms.specs.{Words.{◌>>=◌, end_of}, Leaves.{decimal_at, word_if}}
 
 -- a value is given where no word is left
 abbrev pub at_end : {A : Type 0} → List (List ℕ) → A → Option A

@@ -1,11 +1,9 @@
 -- What the words of a line under a tool give, behind its first. This project's own profile.
 use Rattle.std.specs.Prelude.{ℕ, List, [], codes, Option, Some, None, option_map}
-use Rattle.script_spec.specs.Forms as form
 use Rattle.script_spec.specs.Forms.{Opening, Asked, ToolForm}
-use Rattle.line_forms.specs.Words.{◌>>=◌, strip, next_of, end_of}
-use Rattle.line_forms.specs.Leaves.{decimal_at, name_at, decimal_or, number_if, flags_if}
-use Rattle.line_forms.specs.Shapes.{at_end, one_number, two_numbers, slot_and_group}
-use Rattle.line_forms.specs.Lists.{bytes_in}
+use Rattle.script_spec.specs.Forms as form
+use Rattle.line_forms.specs.{Words.{◌>>=◌, strip, next_of, end_of}, Leaves.{decimal_at, name_at, decimal_or, number_if, flags_if}}
+use Rattle.line_forms.specs.{Shapes.{at_end, one_number, two_numbers, slot_and_group}, Lists.{bytes_in}}
 
 -- where an event is opened, behind the word of its kind
 unfoldable pub place_at : ℕ → List (List ℕ) → Option (Opening × List (List ℕ))

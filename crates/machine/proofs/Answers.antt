@@ -1,18 +1,12 @@
 -- Answers to an order with one act more.
-use Rattle.std.specs.Prelude.{◌≡◌, ℕ, List, [], ◌∷◌, ◌++◌, map}
-use Rattle.std.proofs.Common.{refl, sym, ap, subst, ◌∙◌, append_assoc, append-nil}
+use Rattle.std.{specs.Prelude.{◌≡◌, ℕ, List, [], ◌∷◌, ◌++◌, map}, proofs.Common.{refl, sym, ap, subst, ◌∙◌, append_assoc, append-nil}}
 use Rattle.std.proofs.lemmas.List.{map-append}
-use Rattle.perf_base.specs.declared.acts.Act.{Act}
-use Rattle.perf_base.specs.declared.acts.Act.TheVariants as act
-use Rattle.perf_base.specs.declared.numbers.EventNo.{EventNo}
-use Rattle.perf_base.specs.declared.numbers.RingNo.{RingNo}
-use Rattle.perf_base.specs.declared.reply.Reply.{Reply}
+use Rattle.perf_base.specs.declared.{acts.Act.{Act}, numbers.{EventNo.{EventNo}, RingNo.{RingNo}}, reply.{Reply.{Reply}, Answer.{Answer}}}
 use Rattle.perf_base.specs.Scripts.{Scripted}
+use Rattle.perf_base.specs.declared.acts.Act.TheVariants as act
 use Rattle.stage_spec.specs.Hardware.{Hardware, hardware_of}
 use Rattle.stage_spec.specs.History.{Step, CpuStep, ToolStep, SeenStep, steps_of, steps_from, history, opening_stage}
-use Rattle.stage_spec.specs.Replies.{AnswerOrder, AreReplies, lines_from, lines_of_act}
-use Rattle.perf_base.specs.declared.reply.Answer.{Answer}
-use Rattle.stage_spec.specs.Stage.{Stage}
+use Rattle.stage_spec.specs.{Replies.{AnswerOrder, AreReplies, lines_from, lines_of_act}, Stage.{Stage}}
 use Rattle.machine.proofs.History.{history-grows}
 
 -- replies to some steps and to some more

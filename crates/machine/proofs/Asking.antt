@@ -1,31 +1,15 @@
 -- Lines of tools that ask: the world is as it was.
 use Rattle.std.specs.Prelude.{◌≡◌, ℕ, zero, suc, ◌<◌, true, [], ◌∷◌, ◌++◌, length, None, slice_index_or}
-use Rattle.std.proofs.Common.{arith, refl, sym, ap, subst, ◌∙◌}
-use Rattle.std.proofs.lemmas.List.{map-append}
-use Rattle.perf_base.specs.declared.lines.ToolLine.{ToolLine}
-use Rattle.perf_base.specs.declared.numbers.CpuNo.{CpuNo}
-use Rattle.perf_base.specs.declared.reply.Reply.{Reply}
-use Rattle.stage_spec.specs.Hardware.{Hardware}
-use Rattle.stage_spec.specs.History.{ToolStep, stage_step, unless_refused, tool_refusal, tool_changed}
-use Rattle.stage_spec.specs.Numbers.{numbers_below}
-use Rattle.stage_spec.specs.Replies.{UnlessRefused, IsToolReply}
-use Rattle.stage_spec.specs.Settle.{settle, settle_each, settle_all, IsSettled}
-use Rattle.stage_spec.specs.Shares.{no_sums}
-use Rattle.stage_spec.specs.Stage.{Stage}
-use Rattle.stage_spec.proofs.Recurrence.{plus-none}
-use Rattle.world_spec.specs.Kept.{IsKept, family_sums}
-use Rattle.world_spec.specs.StageOf.{stage_of}
-use Rattle.world_spec.specs.Value.{World, instance_at}
+use Rattle.std.proofs.{Common.{arith, refl, sym, ap, subst, ◌∙◌}, lemmas.List.{map-append}}
+use Rattle.perf_base.specs.declared.{lines.ToolLine.{ToolLine}, numbers.CpuNo.{CpuNo}, reply.Reply.{Reply}}
+use Rattle.stage_spec.specs.{Hardware.{Hardware}, History.{ToolStep, stage_step, unless_refused, tool_refusal, tool_changed}, Numbers.{numbers_below}}
+use Rattle.stage_spec.specs.{Replies.{UnlessRefused, IsToolReply}, Settle.{settle, settle_each, settle_all, IsSettled}, Shares.{no_sums}}
+use Rattle.stage_spec.{specs.Stage.{Stage}, proofs.Recurrence.{plus-none}}
+use Rattle.world_spec.specs.{Kept.{IsKept, family_sums}, StageOf.{stage_of}, Value.{World, instance_at}, Quiet.{is_quiet_call}, Stepping.{HasStepped}}
+use Rattle.world_spec.proofs.{Asking.{answers-by}, Quiet.{quiet-keeps}, Stepping.{stepped}}
 use Rattle.event_reads.specs.Homes.{StandRescheduled}
-use Rattle.world_spec.specs.Quiet.{is_quiet_call}
-use Rattle.world_spec.specs.Stepping.{HasStepped}
-use Rattle.world_spec.proofs.Asking.{answers-by}
-use Rattle.world_spec.proofs.Quiet.{quiet-keeps}
-use Rattle.world_spec.proofs.Stepping.{stepped}
-use Rattle.machine.specs.Stepped.{IsReady}
+use Rattle.machine.{specs.Stepped.{IsReady}, proofs.{Refused.{tools-lose_none}, Settling.{cpus_below, settle-parts}}}
 use Rattle.machine.specs.Stepped as stepped_line
-use Rattle.machine.proofs.Refused.{tools-lose_none}
-use Rattle.machine.proofs.Settling.{cpus_below, settle-parts}
 
 -- settling settled processors changes nothing
 pub settled-below : (hw : Hardware) (n : ℕ) (s : Stage) → ((cpu : CpuNo) → cpu.0 < n → IsSettled hw cpu s) → settle_each hw (cpus_below n) s ≡ s

@@ -1,40 +1,22 @@
 -- The first world of a script stands ready.
 use Rattle.std.specs.Prelude.{◌≡◌, ℕ, ◌<◌, List, [], ◌∷◌, length, map, replicate, Option, Some, None, slice_index, slice_index_or}
-use Rattle.std.proofs.Common.{arith, refl, sym, ap, subst, ◌∙◌, inl, inr}
-use Rattle.std.proofs.lemmas.Bool.{cases_lt, false≢true}
-use Rattle.std.proofs.lemmas.List.Elements.{All-nil}
-use Rattle.std.proofs.lemmas.List.{length-append, length-map, length-replicate, get_or-map, get_or_past}
-use Rattle.perf_base.specs.declared.numbers.CpuNo.{CpuNo}
-use Rattle.perf_base.specs.declared.numbers.TaskNo.{TaskNo}
-use Rattle.perf_base.specs.declared.standing.Context.{Context}
+use Rattle.std.proofs.{Common.{arith, refl, sym, ap, subst, ◌∙◌, inl, inr}, lemmas.Bool.{cases_lt, false≢true}}
+use Rattle.std.proofs.lemmas.List.{length-append, length-map, length-replicate, get_or-map, get_or_past, Elements.{All-nil}}
+use Rattle.perf_base.specs.{declared.{numbers.{CpuNo.{CpuNo}, TaskNo.{TaskNo}}, standing.Context.{Context}}, Scripts.{Scripted, IsCovered, IsScript}}
 use Rattle.perf_base.specs.declared.standing.Context.TheVariants as context
-use Rattle.perf_base.specs.Scripts.{Scripted, IsCovered, IsScript}
-use Rattle.stage_spec.specs.Hardware.{Hardware, hardware_of}
-use Rattle.stage_spec.specs.History.{stage_after, steps_from}
-use Rattle.stage_spec.specs.Limits.{Limits, IsMachine, IsWithin, AreTaskNumbers, limits_of}
-use Rattle.stage_spec.specs.Replies.{seated}
-use Rattle.stage_spec.specs.Settle.{IsSettled}
+use Rattle.stage_spec.specs.{Hardware.{Hardware, hardware_of}, History.{stage_after, steps_from}}
+use Rattle.stage_spec.specs.{Limits.{Limits, IsMachine, IsWithin, AreTaskNumbers, limits_of}, Replies.{seated}, Settle.{IsSettled}}
 use Rattle.stage_spec.specs.Stage.{first_stage, lists_of, no_groups, place_of, task_on}
-use Rattle.stage_spec.specs.Verdict.{verdicts, judge_passes, judge_pass, task_lists, with_masks}
-use Rattle.stage_spec.proofs.Machines.{script_machine}
-use Rattle.stage_laws.specs.Sound.{IsSound}
-use Rattle.stage_laws.proofs.ReachedSettled.{reached_settled}
-use Rattle.stage_laws.proofs.Sound.{first_sound}
+use Rattle.stage_spec.{specs.Verdict.{verdicts, judge_passes, judge_pass, task_lists, with_masks}, proofs.Machines.{script_machine}}
+use Rattle.stage_laws.{specs.Sound.{IsSound}, proofs.{ReachedSettled.{reached_settled}, Sound.{first_sound}}}
 use Rattle.counter_match.specs.Seating.{Seated, empty_seating}
 use Rattle.ring_spec.specs.Running.{empty_ring, first_record, record_of}
 use Rattle.sample_ring.specs.RingLists.{OutList}
 use Rattle.work_account.specs.Ends.{HaveAccounts}
-use Rattle.world_spec.specs.Agreement.{AgreesWith}
-use Rattle.world_spec.specs.First.{first_world}
-use Rattle.world_spec.specs.Rescheduled.{AreServed, IsRescheduled}
-use Rattle.world_spec.specs.StageOf.{stage_of}
-use Rattle.world_spec.specs.Value.{Totals, no_totals, is_live, is_key, entry_at, seats_at, totals_at}
-use Rattle.world_spec.proofs.Agreement.{first-agrees}
-use Rattle.world_spec.proofs.First.{first-stage, none-live, replicated}
-use Rattle.world_spec.proofs.Moving.{leads-parts}
-use Rattle.machine.specs.Stepped.{IsReady}
-use Rattle.machine.specs.Leading.{IsWhole, LeadTo}
-use Rattle.machine.specs.Totals.{AreUpTo}
+use Rattle.world_spec.specs.{Agreement.{AgreesWith}, First.{first_world}, Rescheduled.{AreServed, IsRescheduled}, StageOf.{stage_of}}
+use Rattle.world_spec.{specs.Value.{Totals, no_totals, is_live, is_key, entry_at, seats_at, totals_at}, proofs.Agreement.{first-agrees}}
+use Rattle.world_spec.proofs.{First.{first-stage, none-live, replicated}, Moving.{leads-parts}}
+use Rattle.machine.specs.{Stepped.{IsReady}, Leading.{IsWhole, LeadTo}, Totals.{AreUpTo}}
 
 -- a stage without groups has no verdicts
 first-lists : (cpus : ℕ) (declared : List TaskNo) (c : Context) → lists_of (first_stage cpus declared) c ≡ no_groups

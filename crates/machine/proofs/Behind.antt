@@ -1,25 +1,15 @@
 -- Readers that are behind the ends that send, one ring after the other.
 use Rattle.std.specs.Prelude.{◌≡◌, ℕ, zero, suc, ◌+◌, ◌*◌, ◌<◌, ◌≤◌, AllPairs, List, [], ◌∷◌, length, map, Some, slice_get}
-use Rattle.std.proofs.Common.{arith, refl, sym, ap, subst, ◌∙◌, get_or, inl, inr}
-use Rattle.std.proofs.lemmas.Bool.{cases_eq}
-use Rattle.std.proofs.lemmas.List.{length-map}
+use Rattle.std.proofs.{Common.{arith, refl, sym, ap, subst, ◌∙◌, get_or, inl, inr}, lemmas.{Bool.{cases_eq}, List.{length-map}}}
 use Rattle.std.proofs.lemmas.Option.{none-some, same_Some, slice_get_cases, slice_get_within, get_or_from_slice_get}
-use Rattle.perf_base.specs.declared.acts.Act.{Act}
-use Rattle.perf_base.specs.declared.numbers.RingNo.{RingNo}
-use Rattle.perf_base.specs.Scripts.{Scripted}
-use Rattle.sample_ring.specs.Taking.{with_tail}
-use Rattle.sample_ring.specs.InEnds.{InEnd}
-use Rattle.sample_ring.specs.Lending.{with_out}
-use Rattle.sample_ring.specs.OutEnds.{OutEnd}
+use Rattle.perf_base.specs.{declared.{acts.Act.{Act}, numbers.RingNo.{RingNo}}, Scripts.{Scripted}}
+use Rattle.sample_ring.specs.{Taking.{with_tail}, InEnds.{InEnd}, Lending.{with_out}, OutEnds.{OutEnd}}
 use Rattle.sample_ring.specs.RingLists.{InList, OutList, ring_index, with_slot}
 use Rattle.ring_spec.specs.Running.{RingAccount}
 use Rattle.work_account.specs.Ends.{AreAccounts}
-use Rattle.machine.proofs.RingsThere.{script-numbers}
+use Rattle.machine.proofs.{RingsThere.{script-numbers}, Pairs.{paired-set}, Places.{place-here, place-later, set-here, set-other}, Spacious.{is-left}}
 use Rattle.machine.specs.Leading.{Kept, LeadTo}
 use Rattle.machine.specs.Readers.{AreBehind, AreFollowing, AreReaders, BehindTo, HasItsReader, HasMet, IsBehind, IsReaderOf, out_of, released_in, released_of_slot}
-use Rattle.machine.proofs.Pairs.{paired-set}
-use Rattle.machine.proofs.Places.{place-here, place-later, set-here, set-other}
-use Rattle.machine.proofs.Spacious.{is-left}
 
 -- readers that follow the ends are behind them, and have released all that they took
 pub following-behind : (words : ℕ) (outs : OutList) (ins : InList) → AreFollowing words outs ins → AreBehind words outs ins

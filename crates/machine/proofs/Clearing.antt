@@ -1,45 +1,23 @@
 -- A line that clears the counts of the families of an event or of its group.
 use Rattle.std.specs.Prelude.{◌≡◌, ℕ, ◌<◌, ◌≤◌, ◌==◌, Bool, true, false, not, ◌&&◌, [], ◌∷◌, map, length, None, slice_index_or, if◌then◌else◌}
-use Rattle.std.specs.List.{list_any}
-use Rattle.std.proofs.Common.{arith, refl, sym, ap, subst, ◌∙◌, inl, inr}
-use Rattle.std.proofs.lemmas.Bool.{cases_Bool, false≢true}
+use Rattle.std.{specs.List.{list_any}, proofs.{Common.{arith, refl, sym, ap, subst, ◌∙◌, inl, inr}, lemmas.Bool.{cases_Bool, false≢true}}}
 use Rattle.std.proofs.lemmas.Bool.Decides.{nat_tests}
+use Rattle.perf_base.specs.declared.numbers.{CpuNo.{CpuNo}, EventNo.{EventNo}, Key.{Key}}
 use Rattle.perf_base.specs.declared.lines.ToolLine.TheVariants as line
-use Rattle.perf_base.specs.declared.numbers.CpuNo.{CpuNo}
-use Rattle.perf_base.specs.declared.numbers.EventNo.{EventNo}
-use Rattle.perf_base.specs.declared.numbers.Key.{Key}
 use Rattle.perf_base.specs.declared.reasons.Reason.TheVariants as reason
 use Rattle.perf_base.specs.declared.reply.Reply.TheVariants as reply
 use Rattle.perf_base.specs.declared.standing.Context.TheVariants as context
-use Rattle.stage_spec.specs.declared.instance.Instance.{Instance}
-use Rattle.stage_spec.specs.Commands.{targets, is_reached, closed_refusal}
-use Rattle.stage_spec.specs.Hardware.{Hardware}
-use Rattle.stage_spec.specs.History.{Step, ToolStep}
-use Rattle.stage_spec.specs.Limits.{IsMachine}
-use Rattle.stage_spec.specs.Recurrence.{after_reset}
-use Rattle.stage_spec.specs.Refusals.{first_of}
-use Rattle.stage_spec.specs.Remainders.{left_by_hits}
-use Rattle.stage_spec.specs.Shares.{share, no_sums}
-use Rattle.stage_spec.specs.Stage.{is_open, all_instances}
-use Rattle.stage_spec.specs.Sums.{resets}
-use Rattle.stage_spec.proofs.Recurrence.{plus-none}
+use Rattle.stage_spec.specs.{declared.instance.Instance.{Instance}, Commands.{targets, is_reached, closed_refusal}, Hardware.{Hardware}}
+use Rattle.stage_spec.specs.{History.{Step, ToolStep}, Limits.{IsMachine}, Recurrence.{after_reset}, Refusals.{first_of}, Remainders.{left_by_hits}}
+use Rattle.stage_spec.{specs.{Shares.{share, no_sums}, Stage.{is_open, all_instances}, Sums.{resets}}, proofs.Recurrence.{plus-none}}
 use Rattle.stage_laws.specs.Sound.{IsSound}
-use Rattle.world_spec.specs.Kept.{IsKept}
-use Rattle.world_spec.specs.Rescheduled.{AreRescheduled, AreUntouched}
-use Rattle.world_spec.specs.StageOf.{stage_of}
-use Rattle.world_spec.specs.Value.{World, Account, is_live, entry_at, instance_at, account_at, times}
-use Rattle.world_spec.proofs.Counting.{any-there, any-key}
-use Rattle.world_spec.proofs.Families.{all_keys, times-keys, instances-are, key-lives}
-use Rattle.world_spec.proofs.Keys.{once-true}
+use Rattle.world_spec.specs.{Kept.{IsKept}, Rescheduled.{AreRescheduled, AreUntouched}, StageOf.{stage_of}}
+use Rattle.world_spec.specs.{Value.{World, Account, is_live, entry_at, instance_at, account_at, times}, Stepping.{HasStepped, HasItsShare}}
+use Rattle.world_spec.proofs.{Counting.{any-there, any-key}, Families.{all_keys, times-keys, instances-are, key-lives}, Keys.{once-true}}
+use Rattle.world_spec.proofs.{Quiet.{none-after}, Stepping.{instance-found}}
 use Rattle.event_commands.specs.Commands.{IsReset, from_zero}
-use Rattle.world_spec.specs.Stepping.{HasStepped, HasItsShare}
-use Rattle.world_spec.proofs.Quiet.{none-after}
-use Rattle.world_spec.proofs.Stepping.{instance-found}
-use Rattle.machine.specs.Stepped.{limits_in, IsReady}
+use Rattle.machine.{specs.Stepped.{limits_in, IsReady}, proofs.{Asking.{asks-stage}, CommandLines.{accepted-line}, Keeping.{slots-current}}}
 use Rattle.machine.specs.Stepped as stepped_line
-use Rattle.machine.proofs.Asking.{asks-stage}
-use Rattle.machine.proofs.CommandLines.{accepted-line}
-use Rattle.machine.proofs.Keeping.{slots-current}
 
 -- of all instances, the one with the id of a live key is its own
 pub is-number : (n : ℕ) → (n == n) ≡ true

@@ -1,46 +1,21 @@
 -- A line that closes an event.
-use Rattle.std.specs.Prelude.{◌≡◌, ℕ, ◌<◌, ◌==◌, true, false, is_some, [], length, filter, Option, Some, None, slice_index_or}
-use Rattle.std.specs.FinMap.{get}
-use Rattle.std.specs.List.{list_any}
-use Rattle.std.specs.Option.{unwrap_or}
-use Rattle.std.proofs.Common.{arith, refl, sym, ap, subst, ◌∙◌, inl, inr}
-use Rattle.std.proofs.lemmas.Bool.{cases_Bool, cases_eq, false≢true}
-use Rattle.std.proofs.lemmas.Bool.Decides.{nat_tests}
-use Rattle.perf_base.specs.Cpus.{HasCpu}
-use Rattle.perf_base.specs.Scripts.{IsSlot}
+use Rattle.std.specs.{Prelude.{◌≡◌, ℕ, ◌<◌, ◌==◌, true, false, is_some, [], length, filter, Option, Some, None, slice_index_or}, FinMap.{get}}
+use Rattle.std.{specs.{List.{list_any}, Option.{unwrap_or}}, proofs.Common.{arith, refl, sym, ap, subst, ◌∙◌, inl, inr}}
+use Rattle.std.proofs.lemmas.Bool.{cases_Bool, cases_eq, false≢true, Decides.{nat_tests}}
+use Rattle.perf_base.specs.{Cpus.{HasCpu}, Scripts.{IsSlot}, declared.numbers.{CpuNo.{CpuNo}, CpuSet.{CpuSet}, EventNo.{EventNo}, Key.{Key}}}
 use Rattle.perf_base.specs.declared.lines.ToolLine.TheVariants as line
-use Rattle.perf_base.specs.declared.numbers.CpuNo.{CpuNo}
-use Rattle.perf_base.specs.declared.numbers.CpuSet.{CpuSet}
-use Rattle.perf_base.specs.declared.numbers.EventNo.{EventNo}
-use Rattle.perf_base.specs.declared.numbers.Key.{Key}
 use Rattle.perf_base.specs.declared.reply.Reply.TheVariants as reply
-use Rattle.stage_spec.specs.Closing.{closed}
-use Rattle.stage_spec.specs.Commands.{closed_refusal}
-use Rattle.stage_spec.specs.Hardware.{Hardware}
-use Rattle.stage_spec.specs.History.{ToolStep, stage_step}
-use Rattle.stage_spec.specs.Limits.{IsMachine}
-use Rattle.stage_spec.specs.Settle.{settle_each}
-use Rattle.stage_spec.specs.Shares.{no_sums}
-use Rattle.stage_spec.specs.Stage.{all_cpus, is_of_family}
-use Rattle.stage_spec.proofs.Recurrence.{plus-none}
-use Rattle.stage_laws.specs.Narrowing.{tool_touches}
-use Rattle.stage_laws.specs.Sound.{IsSound}
-use Rattle.stage_laws.proofs.Sound.{step_sound}
+use Rattle.stage_spec.specs.{Closing.{closed}, Commands.{closed_refusal}, Hardware.{Hardware}, History.{ToolStep, stage_step}, Limits.{IsMachine}}
+use Rattle.stage_spec.{specs.{Settle.{settle_each}, Shares.{no_sums}, Stage.{all_cpus, is_of_family}}, proofs.Recurrence.{plus-none}}
+use Rattle.stage_laws.{specs.{Narrowing.{tool_touches}, Sound.{IsSound}}, proofs.Sound.{step_sound}}
 use Rattle.ring_spec.specs.Agreement.{IsCurrentSlot}
-use Rattle.world_spec.specs.Kept.{IsKept}
-use Rattle.world_spec.specs.Rescheduled.{AreRescheduled}
-use Rattle.world_spec.specs.StageOf.{stage_of}
-use Rattle.world_spec.specs.Value.{World, Entry, no_entry, no_family, is_live, entry_at, instance_at, account_at, family_of}
-use Rattle.world_spec.proofs.Families.{open-is}
+use Rattle.world_spec.specs.{Kept.{IsKept}, Rescheduled.{AreRescheduled}, StageOf.{stage_of}}
+use Rattle.world_spec.specs.{Value.{World, Entry, no_entry, no_family, is_live, entry_at, instance_at, account_at, family_of}, Quiet.{KeepsAccount}}
+use Rattle.world_spec.{specs.Stepping.{HasStepped}, proofs.{Families.{open-is}, Quiet.{quiet-keeps}}}
 use Rattle.event_commands.specs.Closing.{IsClosed}
-use Rattle.world_spec.specs.Quiet.{KeepsAccount}
-use Rattle.world_spec.specs.Stepping.{HasStepped}
-use Rattle.world_spec.proofs.Quiet.{quiet-keeps}
-use Rattle.machine.specs.Settled.{OnlyRescheduled, is_in}
-use Rattle.machine.specs.Stepped.{limits_in, IsReady}
-use Rattle.machine.specs.Stepped as stepped_line
-use Rattle.machine.proofs.CommandLines.{accepted-line}
+use Rattle.machine.{specs.{Settled.{OnlyRescheduled, is_in}, Stepped.{limits_in, IsReady}}, proofs.CommandLines.{accepted-line}}
 use Rattle.machine.proofs.Keeping.{narrowed-step}
+use Rattle.machine.specs.Stepped as stepped_line
 
 -- What is told of a close: the worlds before it, after it, and after the processors were rescheduled.
 pub record Course (w v x : World) (e : EventNo) (set : CpuSet) : Type 0 where

@@ -1,37 +1,19 @@
 -- Lines that switch the families of an event or of its group.
-use Rattle.std.specs.Prelude.{◌≡◌, ℕ, ◌<◌, true, false, List, length, filter, None, if◌then◌else◌}
-use Rattle.std.proofs.Common.{refl, sym, ap, subst, ◌∙◌}
-use Rattle.perf_base.specs.Cpus.{HasCpu}
-use Rattle.perf_base.specs.declared.lines.ToolLine.{ToolLine}
-use Rattle.perf_base.specs.declared.numbers.CpuNo.{CpuNo}
-use Rattle.perf_base.specs.declared.numbers.CpuSet.{CpuSet}
-use Rattle.perf_base.specs.declared.numbers.EventNo.{EventNo}
+use Rattle.std.{specs.Prelude.{◌≡◌, ℕ, ◌<◌, true, false, List, length, filter, None, if◌then◌else◌}, proofs.Common.{refl, sym, ap, subst, ◌∙◌}}
+use Rattle.perf_base.specs.{Cpus.{HasCpu}, declared.{lines.ToolLine.{ToolLine}, numbers.{CpuNo.{CpuNo}, CpuSet.{CpuSet}, EventNo.{EventNo}}}}
+use Rattle.perf_base.specs.declared.{reply.Sums.{Sums}, standing.Own.{Own}}
 use Rattle.perf_base.specs.declared.reply.Reply.TheVariants as reply
-use Rattle.perf_base.specs.declared.reply.Sums.{Sums}
-use Rattle.perf_base.specs.declared.standing.Own.{Own}
-use Rattle.stage_spec.specs.declared.instance.Instance.{Instance}
-use Rattle.stage_spec.specs.Commands.{is_reached}
-use Rattle.stage_spec.specs.Hardware.{Hardware}
-use Rattle.stage_spec.specs.History.{ToolStep, tool_refusal, tool_changed, stage_step}
-use Rattle.stage_spec.specs.Limits.{IsWithin}
-use Rattle.stage_spec.specs.Replies.{UnlessRefused, IsToolReply}
-use Rattle.stage_spec.specs.Settle.{settle_each}
-use Rattle.stage_spec.specs.Stage.{Stage, all_cpus}
+use Rattle.stage_spec.specs.{declared.instance.Instance.{Instance}, Commands.{is_reached}, Hardware.{Hardware}}
+use Rattle.stage_spec.specs.{History.{ToolStep, tool_refusal, tool_changed, stage_step}, Limits.{IsWithin}, Replies.{UnlessRefused, IsToolReply}}
+use Rattle.stage_spec.specs.{Settle.{settle_each}, Stage.{Stage, all_cpus}}
 use Rattle.stage_laws.specs.Narrowing.{tool_touches}
 use Rattle.ring_spec.specs.Running.{family_by}
-use Rattle.world_spec.specs.Kept.{IsKept}
-use Rattle.world_spec.specs.Rescheduled.{AreRescheduled, AreUntouchedOutside, IsRescheduled}
-use Rattle.world_spec.specs.StageOf.{stage_of}
-use Rattle.world_spec.specs.Value.{World, instance_at}
+use Rattle.world_spec.specs.{Kept.{IsKept}, Rescheduled.{AreRescheduled, AreUntouchedOutside, IsRescheduled}, StageOf.{stage_of}}
+use Rattle.world_spec.{specs.{Value.{World, instance_at}, Quiet.{is_quiet_call}, Stepping.{HasStepped}}, proofs.Stepping.{stepped}}
 use Rattle.event_commands.specs.Commands.{HaveStates, commanded}
-use Rattle.world_spec.specs.Quiet.{is_quiet_call}
-use Rattle.world_spec.specs.Stepping.{HasStepped}
-use Rattle.world_spec.proofs.Stepping.{stepped}
-use Rattle.machine.specs.Settled.{OnlyRescheduled, is_in}
-use Rattle.machine.specs.Stepped.{limits_in, IsReady}
+use Rattle.machine.specs.{Settled.{OnlyRescheduled, is_in}, Stepped.{limits_in, IsReady}}
+use Rattle.machine.proofs.{Keeping.{KeepsAll, kept-stepped, kept-ready, narrowed-step, left-rescheduled}, Refused.{tools-lose_none}}
 use Rattle.machine.specs.Stepped as stepped_line
-use Rattle.machine.proofs.Keeping.{KeepsAll, kept-stepped, kept-ready, narrowed-step, left-rescheduled}
-use Rattle.machine.proofs.Refused.{tools-lose_none}
 
 -- What is told of a switch of families: the worlds before it, after it, and after the processors were rescheduled.
 pub record Course (w v x : World) (l : ToolLine) (f : Own → Own) (events : List EventNo) (set : CpuSet) : Type 0 where

@@ -1,42 +1,20 @@
 -- How many tests of counters rescheduling some processors takes.
 use Rattle.std.specs.Prelude.{◌≡◌, ℕ, suc, zero, ◌+◌, ◌*◌, ◌<◌, ◌≤◌, ◌==◌, Bool, true, false, not, ◌&&◌, List, [], ◌∷◌, ◌++◌, length, map, filter, flat_map, cond, Option, Some, None, if◌then◌else◌}
-use Rattle.std.specs.List.{sum_by}
-use Rattle.std.proofs.Common.{arith, refl, sym, ap, subst, ◌∙◌, inl, inr}
-use Rattle.std.proofs.lemmas.Bool.{cases_lt}
-use Rattle.std.proofs.lemmas.List.{length-map, map-append}
-use Rattle.std.proofs.lemmas.List.Elements.{filter-append}
-use Rattle.std.proofs.lemmas.List.Sums.{sum_by-append, sum_by-cons}
-use Rattle.perf_base.specs.declared.lines.CpuLine.{CpuLine}
+use Rattle.std.{specs.List.{sum_by}, proofs.{Common.{arith, refl, sym, ap, subst, ◌∙◌, inl, inr}, lemmas.Bool.{cases_lt}}}
+use Rattle.std.proofs.lemmas.List.{length-map, map-append, Elements.{filter-append}, Sums.{sum_by-append, sum_by-cons}}
+use Rattle.perf_base.specs.declared.{lines.{CpuLine.{CpuLine}, ToolLine.{ToolLine}, Work.{Work}}, numbers.{CpuNo.{CpuNo}, CpuSet.{CpuSet}}}
+use Rattle.perf_base.specs.declared.{reasons.Reason.{Reason}, standing.Standing.{Standing}}
 use Rattle.perf_base.specs.declared.lines.CpuLine.TheVariants as line
-use Rattle.perf_base.specs.declared.lines.ToolLine.{ToolLine}
-use Rattle.perf_base.specs.declared.lines.Work.{Work}
-use Rattle.perf_base.specs.declared.numbers.CpuNo.{CpuNo}
-use Rattle.perf_base.specs.declared.numbers.CpuSet.{CpuSet}
-use Rattle.perf_base.specs.declared.reasons.Reason.{Reason}
-use Rattle.perf_base.specs.declared.standing.Standing.{Standing}
-use Rattle.stage_spec.specs.Effective.{counted_members}
-use Rattle.stage_spec.specs.Hardware.{Hardware, mask_of}
-use Rattle.stage_spec.specs.History.{Step, CpuStep, ToolStep, cpu_refusal, tool_refusal, cpu_changed, tool_changed}
-use Rattle.stage_spec.specs.Numbers.{numbers_below}
-use Rattle.stage_spec.specs.Replies.{seated}
-use Rattle.stage_spec.specs.Stage.{Stage, Group, all_cpus}
-use Rattle.stage_spec.specs.Verdict.{Judged, is_eligible, passes, verdicts, with_masks}
-use Rattle.stage_laws.specs.Narrowing.{changed, cpu_touches, tool_touches, touches, unless_left, unless_no}
-use Rattle.stage_laws.specs.Briefs.{GroupBrief}
-use Rattle.stage_laws.specs.Standings.{brief_of, briefs, standings}
-use Rattle.stage_laws.proofs.Briefs.{by_briefs}
-use Rattle.world_spec.specs.Rescheduled.{IsRescheduled}
-use Rattle.world_spec.specs.StageOf.{stage_of}
-use Rattle.world_spec.specs.Value.{World, seats_at}
+use Rattle.stage_spec.specs.{Effective.{counted_members}, Hardware.{Hardware, mask_of}}
+use Rattle.stage_spec.specs.{History.{Step, CpuStep, ToolStep, cpu_refusal, tool_refusal, cpu_changed, tool_changed}, Numbers.{numbers_below}}
+use Rattle.stage_spec.specs.{Replies.{seated}, Stage.{Stage, Group, all_cpus}, Verdict.{Judged, is_eligible, passes, verdicts, with_masks}}
+use Rattle.stage_laws.specs.{Narrowing.{changed, cpu_touches, tool_touches, touches, unless_left, unless_no}, Briefs.{GroupBrief}}
+use Rattle.stage_laws.{specs.Standings.{brief_of, briefs, standings}, proofs.Briefs.{by_briefs}}
+use Rattle.world_spec.specs.{Rescheduled.{IsRescheduled}, StageOf.{stage_of}, Value.{World, seats_at}}
 use Rattle.world_spec.proofs.Standing.{briefs-joined, passes-groups}
-use Rattle.cpu_sched.specs.After.{after_brief}
-use Rattle.cpu_sched.specs.Briefs.{present_brief}
-use Rattle.cpu_sched.specs.Sheets.{Held}
-use Rattle.cpu_sched.specs.Tried.{tried, tries, tries_for}
+use Rattle.cpu_sched.specs.{After.{after_brief}, Briefs.{present_brief}, Sheets.{Held}, Tried.{tried, tries, tries_for}}
 use Rattle.machine.specs.Counted.{AreCounted, AreCountedUnless, IsCounted, IsCountedBy, IsServedBy, Serves, is_idle_line, rescheduled_by}
-use Rattle.machine.specs.Settled.{is_in}
-use Rattle.machine.proofs.Keeping.{Touched, filter-below, in-by, one-below}
-use Rattle.machine.proofs.Settling.{cpus_below}
+use Rattle.machine.{specs.Settled.{is_in}, proofs.{Keeping.{Touched, filter-below, in-by, one-below}, Settling.{cpus_below}}}
 
 -- as many events are seated as are on
 pub seats-count : (hw : Hardware) (w : World) (cpu : CpuNo) → IsRescheduled hw w cpu → length (seats_at w cpu).events ≡ length (seated hw (stage_of w) cpu)

@@ -1,24 +1,13 @@
 -- The counters of a machine, read off a script's declarations.
 use Rattle.std.specs.Prelude.{◌≡◌, ℕ, zero, suc, ◌+◌, ◌<◌, ◌≤◌, ◌==◌, Bool, true, false, min, AllPairs, List, [], ◌-◌, ◌∷◌, ◌++◌, length, map, take, position, replicate, IfSome, Some, slice_get, slice_index, slice_set}
-use Rattle.std.specs.Option.{unwrap_or}
-use Rattle.std.specs.Int.{bit_at}
-use Rattle.std.specs.List.{position_or_len}
-use Rattle.std.proofs.Common.{arith, refl, sym, ap, subst, ◌∙◌, get_or, inl, inr}
-use Rattle.std.proofs.lemmas.Bool.{cases_eq, cases_lt}
-use Rattle.std.proofs.lemmas.Bool.Decides.{nat_tests}
+use Rattle.std.{specs.{Option.{unwrap_or}, Int.{bit_at}, List.{position_or_len}}, proofs.Common.{arith, refl, sym, ap, subst, ◌∙◌, get_or, inl, inr}}
+use Rattle.std.proofs.lemmas.Bool.{cases_eq, cases_lt, Decides.{nat_tests}}
 use Rattle.std.proofs.lemmas.List.{ext_get_or, length-append, length-map, length-take, get_or-take, get_or-map, get_or_append_left, get_or-append-add, get_or-replicate, get_or-set_other}
-use Rattle.std.proofs.lemmas.Grind.{get_or-set_at}
-use Rattle.std.proofs.lemmas.List.Sums.{position_or_len_is}
+use Rattle.std.proofs.lemmas.{List.Sums.{position_or_len_is}, Grind.{get_or-set_at}}
 use Rattle.std.proofs.lemmas.Option.{get_or_from_slice_get, slice_get-get_or, slice_get_within}
-use Rattle.perf_base.specs.Cpus.{HasCpu}
-use Rattle.perf_base.specs.declared.lines.KindLine.{KindLine}
-use Rattle.perf_base.specs.declared.lines.PmuLine.{PmuLine}
-use Rattle.perf_base.specs.declared.numbers.CpuNo.{CpuNo}
-use Rattle.perf_base.specs.Scripts.{Scripted, AreApart, IsCovered, IsScript}
-use Rattle.perf_base.proofs.Bits.{apart_bits}
-use Rattle.stage_spec.specs.Hardware.{IsHardware, hardware_of, has_cpu, pmu_with}
-use Rattle.stage_spec.specs.Numbers.{numbers_below}
-use Rattle.stage_spec.proofs.Machines.{script_machine}
+use Rattle.perf_base.specs.{Cpus.{HasCpu}, declared.{lines.{KindLine.{KindLine}, PmuLine.{PmuLine}}, numbers.CpuNo.{CpuNo}}}
+use Rattle.perf_base.{specs.Scripts.{Scripted, AreApart, IsCovered, IsScript}, proofs.Bits.{apart_bits}}
+use Rattle.stage_spec.{specs.{Hardware.{IsHardware, hardware_of, has_cpu, pmu_with}, Numbers.{numbers_below}}, proofs.Machines.{script_machine}}
 use Rattle.pmu_model.specs.Pmus.{seen, IsTable}
 
 -- what stands for a PMU and a kind that are not declared

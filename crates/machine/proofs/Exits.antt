@@ -1,49 +1,24 @@
 -- An exit.
 use Rattle.std.specs.Prelude.{◌≡◌, ℕ, ◌<◌, ◌≤◌, ◌&&◌, ◌==◌, Bool, true, false, not, List, [], length, map, filter, Option, Some, None, slice_index_or}
-use Rattle.std.proofs.Common.{arith, refl, sym, ap, subst, ◌∙◌, inl, inr}
-use Rattle.std.proofs.lemmas.Bool.{cases_eq}
-use Rattle.std.proofs.lemmas.List.{length-set}
+use Rattle.std.proofs.{Common.{arith, refl, sym, ap, subst, ◌∙◌, inl, inr}, lemmas.{Bool.{cases_eq}, List.{length-set}}}
+use Rattle.perf_base.specs.declared.numbers.{CpuNo.{CpuNo}, EventNo.{EventNo}, Key.{Key}, TaskNo.{TaskNo}}
 use Rattle.perf_base.specs.declared.lines.CpuLine.TheVariants as line
-use Rattle.perf_base.specs.declared.numbers.CpuNo.{CpuNo}
-use Rattle.perf_base.specs.declared.numbers.EventNo.{EventNo}
-use Rattle.perf_base.specs.declared.numbers.Key.{Key}
-use Rattle.perf_base.specs.declared.numbers.TaskNo.{TaskNo}
 use Rattle.perf_base.specs.declared.reply.Reply.TheVariants as reply
 use Rattle.perf_base.specs.declared.standing.Context.TheVariants as context
-use Rattle.stage_spec.specs.Exits.{exit_refusal, exited, exited_by}
-use Rattle.stage_spec.specs.Families.{plus}
-use Rattle.stage_spec.specs.Hardware.{Hardware}
-use Rattle.stage_spec.specs.History.{Step, CpuStep, stage_step}
-use Rattle.stage_spec.specs.Limits.{IsMachine}
-use Rattle.stage_spec.specs.Settle.{settle, settle_each}
-use Rattle.stage_spec.specs.Shares.{no_sums}
-use Rattle.stage_spec.specs.Stage.{Stage, all_cpus, task_on, members, groups_in, is_of_family}
-use Rattle.stage_spec.specs.Verdict.{task_lists}
-use Rattle.stage_laws.specs.Narrowing.{IsNarrow, changed, unless_left, unless_no, touches}
-use Rattle.stage_laws.specs.Sound.{IsSound}
-use Rattle.stage_laws.proofs.Narrow.{narrows}
+use Rattle.stage_spec.specs.{Exits.{exit_refusal, exited, exited_by}, Families.{plus}, Hardware.{Hardware}, History.{Step, CpuStep, stage_step}}
+use Rattle.stage_spec.specs.{Limits.{IsMachine}, Settle.{settle, settle_each}, Shares.{no_sums}}
+use Rattle.stage_spec.specs.{Stage.{Stage, all_cpus, task_on, members, groups_in, is_of_family}, Verdict.{task_lists}}
+use Rattle.stage_laws.{specs.{Narrowing.{IsNarrow, changed, unless_left, unless_no, touches}, Sound.{IsSound}}, proofs.Narrow.{narrows}}
 use Rattle.stage_laws.proofs.Sound.{step_sound}
-use Rattle.world_spec.specs.Kept.{once_if, plus_keys, IsKept}
-use Rattle.world_spec.specs.Listings.{keys_in}
-use Rattle.world_spec.specs.Rescheduled.{AreRescheduled, AreUntouchedBut, IsRescheduled}
-use Rattle.world_spec.specs.StageOf.{stage_of}
-use Rattle.world_spec.specs.Value.{World, is_live, entry_at, instance_at, account_at, family_of, times}
-use Rattle.world_spec.proofs.Moving.{leads-parts}
+use Rattle.world_spec.specs.{Kept.{once_if, plus_keys, IsKept}, Listings.{keys_in}, Rescheduled.{AreRescheduled, AreUntouchedBut, IsRescheduled}}
+use Rattle.world_spec.specs.{StageOf.{stage_of}, Value.{World, is_live, entry_at, instance_at, account_at, family_of, times}, Quiet.{KeepsAccount}}
+use Rattle.world_spec.{specs.Stepping.{HasStepped, HasFolded}, proofs.{Moving.{leads-parts}, Quiet.{quiet-keeps}, Stepping.{stepped}}}
 use Rattle.cpu_sched.specs.Resched.{StaysBut}
-use Rattle.exit_fold.specs.Leaving.{leaves, leaving_copies, leaving_sums, HasExited}
-use Rattle.exit_fold.proofs.Copies.{leaving-times, no-one, same-sums}
-use Rattle.exit_fold.proofs.Exited.{task-low}
-use Rattle.exit_fold.proofs.Leaving.{of_event, leaving-mapped, same-keys}
-use Rattle.world_spec.specs.Quiet.{KeepsAccount}
-use Rattle.world_spec.specs.Stepping.{HasStepped, HasFolded}
-use Rattle.world_spec.proofs.Quiet.{quiet-keeps}
-use Rattle.world_spec.proofs.Stepping.{stepped}
-use Rattle.machine.specs.Stepped.{limits_in, IsReady}
+use Rattle.exit_fold.{specs.Leaving.{leaves, leaving_copies, leaving_sums, HasExited}, proofs.Copies.{leaving-times, no-one, same-sums}}
+use Rattle.exit_fold.proofs.{Exited.{task-low}, Leaving.{of_event, leaving-mapped, same-keys}}
+use Rattle.machine.{specs.Stepped.{limits_in, IsReady}, proofs.{Keeping.{none-lost, one-below, slots-same}, Refused.{accepted-cpu}}}
+use Rattle.machine.proofs.{Settling.{one-settled}, TaskChange.{filter-alike}}
 use Rattle.machine.specs.Stepped as stepped_line
-use Rattle.machine.proofs.Keeping.{none-lost, one-below, slots-same}
-use Rattle.machine.proofs.Refused.{accepted-cpu}
-use Rattle.machine.proofs.Settling.{one-settled}
-use Rattle.machine.proofs.TaskChange.{filter-alike}
 
 -- What is told of an exit: the worlds before it, after it, and after the processor was rescheduled.
 pub record Course (w v x : World) (cpu : CpuNo) : Type 0 where

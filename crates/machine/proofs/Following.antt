@@ -1,17 +1,10 @@
 -- Readers go on following the ends that send.
 use Rattle.std.specs.Prelude.{◌≡◌, ℕ, List, map, option_map, Option, Some, None, slice_get, slice_set}
-use Rattle.std.proofs.Common.{refl, sym, ap, subst, ◌∙◌, inl, inr}
-use Rattle.std.proofs.lemmas.Bool.{cases_eq}
-use Rattle.std.proofs.lemmas.Option.{none-some, same_Some, slice_get-map}
-use Rattle.sample_ring.specs.Taking.{IsUpTo}
+use Rattle.std.proofs.{Common.{refl, sym, ap, subst, ◌∙◌, inl, inr}, lemmas.{Bool.{cases_eq}, Option.{none-some, same_Some, slice_get-map}}}
+use Rattle.sample_ring.specs.{Taking.{IsUpTo}, InEnds.{InEnd}, OutEnds.{OutEnd}, RingLists.{InList, OutList, RingList, with_slot}}
 use Rattle.ring_words.specs.Ends.{Ring}
-use Rattle.sample_ring.specs.InEnds.{InEnd}
-use Rattle.sample_ring.specs.OutEnds.{OutEnd}
-use Rattle.sample_ring.specs.RingLists.{InList, OutList, RingList, with_slot}
-use Rattle.machine.specs.Stepped.{seen_of}
+use Rattle.machine.{specs.{Stepped.{seen_of}, Readers.{AreFollowing, Follows}}, proofs.Places.{set-here, set-other}}
 use Rattle.work_account.specs.Ends.{AreTogether}
-use Rattle.machine.specs.Readers.{AreFollowing, Follows}
-use Rattle.machine.proofs.Places.{set-here, set-other}
 
 -- what stands at a place of a list whose image is another's
 mapped-at : {X Y : Type 0} (f : X → Y) (o : Option X) (y : X) → option_map f o ≡ Some (f y) → (x : X) × (o ≡ Some x) × (f x ≡ f y)

@@ -1,39 +1,21 @@
 -- The brief of a processor after a line's own change is the one that was foreseen before the line.
 use Rattle.std.specs.Prelude.{◌≡◌, ◌≢◌, ◌<◌, ◌≤◌, Bool, true, false, not, ◌&&◌, ◌||◌, cond, List, [], ◌∷◌, ◌++◌, map, filter, find, length, Option, Some, None, if◌then◌else◌}
-use Rattle.std.specs.List.{list_any}
-use Rattle.std.proofs.Common.{arith, refl, sym, ap, ◌∙◌, inl, inr, get_or-set_same, get_or-set_other}
-use Rattle.std.proofs.lemmas.Bool.{cases_Bool, false≢true}
-use Rattle.std.proofs.lemmas.List.{length-map, length-set, map-append}
-use Rattle.std.proofs.lemmas.List.Elements.{filter-append}
+use Rattle.std.{specs.List.{list_any}, proofs.Common.{arith, refl, sym, ap, ◌∙◌, inl, inr, get_or-set_same, get_or-set_other}}
+use Rattle.std.proofs.lemmas.{Bool.{cases_Bool, false≢true}, List.{length-map, length-set, map-append, Elements.{filter-append}}}
 use Rattle.std.proofs.Math.ListN.{get_or-map}
+use Rattle.perf_base.specs.{declared.{numbers.{CpuNo.{CpuNo}, Key.{Key}, TaskNo.{TaskNo}}, standing.Context.{Context}}, Standings.{stands_on}}
 use Rattle.perf_base.specs.declared.lines.CpuLine.TheVariants as line
-use Rattle.perf_base.specs.declared.numbers.CpuNo.{CpuNo}
-use Rattle.perf_base.specs.declared.numbers.Key.{Key}
-use Rattle.perf_base.specs.declared.numbers.TaskNo.{TaskNo}
-use Rattle.perf_base.specs.declared.standing.Context.{Context}
 use Rattle.perf_base.specs.declared.standing.Context.TheVariants as context
-use Rattle.perf_base.specs.Standings.{stands_on}
-use Rattle.stage_spec.specs.Effective.{is_wholly_software}
-use Rattle.stage_spec.specs.Exits.{exited, exited_by}
-use Rattle.stage_spec.specs.Hardware.{Hardware, counters_of}
-use Rattle.stage_spec.specs.Rotation.{takes_turns}
-use Rattle.stage_spec.specs.Closing.{without}
-use Rattle.stage_spec.specs.Stage.{Stage, Group, no_groups, is_copy, lists_of, place_of, task_on}
-use Rattle.stage_spec.specs.Verdict.{is_eligible}
+use Rattle.stage_spec.specs.{Effective.{is_wholly_software}, Exits.{exited, exited_by}, Hardware.{Hardware, counters_of}, Rotation.{takes_turns}}
+use Rattle.stage_spec.specs.{Closing.{without}, Stage.{Stage, Group, no_groups, is_copy, lists_of, place_of, task_on}, Verdict.{is_eligible}}
 use Rattle.stage_spec.proofs.Settled.{place_of-cpu}
-use Rattle.stage_laws.specs.Briefs.{GroupBrief}
-use Rattle.stage_laws.specs.Standings.{brief_of}
-use Rattle.stage_laws.proofs.Leaders.{find-first, find-later}
-use Rattle.world_spec.specs.Changes.{all_but, place}
-use Rattle.world_spec.specs.Kept.{IsKept}
-use Rattle.world_spec.specs.Listings.{task_leaders}
-use Rattle.world_spec.specs.StageOf.{group_at, lists_at, stage_of}
+use Rattle.stage_laws.{specs.{Briefs.{GroupBrief}, Standings.{brief_of}}, proofs.Leaders.{find-first, find-later}}
+use Rattle.world_spec.specs.{Changes.{all_but, place}, Kept.{IsKept}, Listings.{task_leaders}, StageOf.{group_at, lists_at, stage_of}}
 use Rattle.world_spec.specs.Value.{World, no_leaders, leaders_of, standing_at, is_key, times}
 use Rattle.world_spec.proofs.Keys.{is_key-same, is_key-other, times-cons, once-true, all_but-cons, all_but-none}
 use Rattle.cpu_sched.specs.After.{after_brief, brief_with, hardware_goes_last, some_wait, turned_groups}
 use Rattle.cpu_sched.specs.Briefs.{ProcessorBrief, brief_at, briefs_at, present_brief}
-use Rattle.exit_fold.specs.Leaving.{HasExited}
-use Rattle.exit_fold.proofs.Exited.{task-low}
+use Rattle.exit_fold.{specs.Leaving.{HasExited}, proofs.Exited.{task-low}}
 use Rattle.task_moves.specs.Turning.{last_if, turn_in, turn_keys, turn_of_task, turned_world, turning, waits_there}
 use Rattle.task_moves.proofs.Turning.{flexible-once, found-there}
 

@@ -1,38 +1,19 @@
 -- A fork.
 use Rattle.std.specs.Prelude.{◌≡◌, ℕ, ◌<◌, ◌≤◌, true, false, List, [], ◌∷◌, length, filter, None, slice_index_or}
-use Rattle.std.proofs.Common.{arith, refl, sym, ap, subst, ◌∙◌, inl, inr}
-use Rattle.std.proofs.lemmas.Bool.{cases_Bool}
+use Rattle.std.proofs.{Common.{arith, refl, sym, ap, subst, ◌∙◌, inl, inr}, lemmas.Bool.{cases_Bool}}
+use Rattle.perf_base.specs.declared.numbers.{CpuNo.{CpuNo}, Key.{Key}, TaskNo.{TaskNo}}
 use Rattle.perf_base.specs.declared.lines.CpuLine.TheVariants as line
-use Rattle.perf_base.specs.declared.numbers.CpuNo.{CpuNo}
-use Rattle.perf_base.specs.declared.numbers.Key.{Key}
-use Rattle.perf_base.specs.declared.numbers.TaskNo.{TaskNo}
 use Rattle.perf_base.specs.declared.reply.Reply.TheVariants as reply
 use Rattle.perf_base.specs.declared.standing.Context.TheVariants as context
-use Rattle.stage_spec.specs.Forks.{fork_refusal, forked}
-use Rattle.stage_spec.specs.Hardware.{Hardware}
-use Rattle.stage_spec.specs.History.{Step, CpuStep, stage_step}
-use Rattle.stage_spec.specs.Limits.{IsMachine}
-use Rattle.stage_spec.specs.Settle.{settle_each}
-use Rattle.stage_spec.specs.Shares.{no_sums}
-use Rattle.stage_spec.specs.Stage.{Stage, all_cpus}
-use Rattle.stage_spec.proofs.Recurrence.{plus-none}
-use Rattle.stage_laws.specs.Narrowing.{IsNarrow, changed, unless_left, unless_no, touches}
-use Rattle.stage_laws.specs.Sound.{IsSound}
-use Rattle.stage_laws.proofs.Narrow.{narrows}
+use Rattle.stage_spec.specs.{Forks.{fork_refusal, forked}, Hardware.{Hardware}, History.{Step, CpuStep, stage_step}, Limits.{IsMachine}}
+use Rattle.stage_spec.{specs.{Settle.{settle_each}, Shares.{no_sums}, Stage.{Stage, all_cpus}}, proofs.Recurrence.{plus-none}}
+use Rattle.stage_laws.{specs.{Narrowing.{IsNarrow, changed, unless_left, unless_no, touches}, Sound.{IsSound}}, proofs.Narrow.{narrows}}
 use Rattle.stage_laws.proofs.Sound.{step_sound}
-use Rattle.world_spec.specs.Kept.{IsKept}
-use Rattle.world_spec.specs.Rescheduled.{AreRescheduled, AreUntouched}
-use Rattle.world_spec.specs.StageOf.{stage_of}
-use Rattle.world_spec.specs.Value.{World, is_live, instance_at}
+use Rattle.world_spec.specs.{Kept.{IsKept}, Rescheduled.{AreRescheduled, AreUntouched}, StageOf.{stage_of}, Value.{World, is_live, instance_at}}
+use Rattle.world_spec.{specs.Stepping.{HasStepped}, proofs.{Quiet.{quiet-keeps}, Stepping.{stepped}}}
 use Rattle.fork_inherit.specs.Copies.{HasForked}
-use Rattle.world_spec.specs.Stepping.{HasStepped}
-use Rattle.world_spec.proofs.Quiet.{quiet-keeps}
-use Rattle.world_spec.proofs.Stepping.{stepped}
-use Rattle.machine.specs.Stepped.{limits_in, IsReady}
+use Rattle.machine.{specs.Stepped.{limits_in, IsReady}, proofs.{Keeping.{none-lost, slots-same}, Refused.{accepted-cpu}, TaskChange.{filter-alike}}}
 use Rattle.machine.specs.Stepped as stepped_line
-use Rattle.machine.proofs.Keeping.{none-lost, slots-same}
-use Rattle.machine.proofs.Refused.{accepted-cpu}
-use Rattle.machine.proofs.TaskChange.{filter-alike}
 
 -- What is told of a fork: the worlds before and after it.
 pub record Course (w x : World) (cpu : CpuNo) (child : TaskNo) : Type 0 where

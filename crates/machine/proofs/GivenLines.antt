@@ -1,31 +1,18 @@
 -- One given line leads from the steps before it to those steps and one more.
 use Rattle.std.specs.Prelude.{◌≡◌, ℕ, ◌+◌, ◌<◌, ◌≤◌, cond, List, [], ◌∷◌, ◌++◌, length, slice_index_or, slice_set}
-use Rattle.std.proofs.Common.{arith, sym, ap, subst, ◌∙◌}
-use Rattle.std.proofs.lemmas.List.Elements.{All-push}
-use Rattle.perf_base.specs.declared.lines.CpuLine.{CpuLine}
-use Rattle.perf_base.specs.declared.lines.ToolLine.{ToolLine}
-use Rattle.perf_base.specs.declared.numbers.CpuNo.{CpuNo}
-use Rattle.perf_base.specs.declared.reply.Reply.{Reply}
+use Rattle.std.proofs.{Common.{arith, sym, ap, subst, ◌∙◌}, lemmas.List.Elements.{All-push}}
+use Rattle.perf_base.specs.declared.{lines.{CpuLine.{CpuLine}, ToolLine.{ToolLine}}, numbers.CpuNo.{CpuNo}, reply.Reply.{Reply}}
 use Rattle.perf_base.specs.Scripts.{Scripted, IsCovered, IsCpuLine, IsScript, IsToolLine}
-use Rattle.stage_spec.specs.Hardware.{hardware_of}
-use Rattle.stage_spec.specs.History.{Step, CpuStep, ToolStep, opening_stage}
-use Rattle.stage_spec.specs.Limits.{limits_of}
+use Rattle.stage_spec.specs.{Hardware.{hardware_of}, History.{Step, CpuStep, ToolStep, opening_stage}, Limits.{limits_of}}
 use Rattle.stage_laws.specs.Bounds.{IsLineWithin, is_line}
 use Rattle.ring_laws.proofs.Reached.{count-both, count-one}
-use Rattle.ring_spec.specs.Running.{Running, AreRepliesBy, IsAnswerBy, record_after}
-use Rattle.ring_spec.proofs.Running.{replies_law}
+use Rattle.ring_spec.{specs.Running.{Running, AreRepliesBy, IsAnswerBy, record_after}, proofs.Running.{replies_law}}
 use Rattle.sample_ring.specs.RingLists.{OutList}
 use Rattle.work_account.specs.Ends.{HaveAccounts}
-use Rattle.world_spec.specs.Agreement.{AgreesWith}
-use Rattle.world_spec.specs.Value.{World}
-use Rattle.machine.specs.Given.{IsLedBy, IsNext, IsReplyAfter, Takes, is_line_of, record_by}
-use Rattle.machine.specs.Leading.{Kept}
-use Rattle.machine.specs.Room.{IsLineFor}
-use Rattle.machine.specs.Stepped.{IsDone, IsDoneSending, IsDoneWith, IsReady}
-use Rattle.machine.proofs.History.{raised, record-more}
-use Rattle.machine.proofs.Lines.{as-many-cpus, as-many-kinds}
-use Rattle.machine.proofs.Roomy.{lines-of-one, one-at-most}
-use Rattle.machine.proofs.Stepped.{one-cpu, one-tool, tool-sends}
+use Rattle.world_spec.specs.{Agreement.{AgreesWith}, Value.{World}}
+use Rattle.machine.specs.{Given.{IsLedBy, IsNext, IsReplyAfter, Takes, is_line_of, record_by}, Leading.{Kept}, Room.{IsLineFor}}
+use Rattle.machine.{specs.Stepped.{IsDone, IsDoneSending, IsDoneWith, IsReady}, proofs.History.{raised, record-more}}
+use Rattle.machine.proofs.{Lines.{as-many-cpus, as-many-kinds}, Roomy.{lines-of-one, one-at-most}, Stepped.{one-cpu, one-tool, tool-sends}}
 
 -- The line keeps the limits of the machine's world too.
 pub given-tool : (s : Scripted) (steps : List Step) (m : Kept) (line : ToolLine) → IsScript s → IsCovered s → IsReady m.world → IsNext s steps m (ToolStep line) → IsLineFor m.world line

@@ -1,22 +1,13 @@
 -- The history of an order with one act more, its record, and how many lines each actor has done then.
 use Rattle.std.specs.Prelude.{◌≡◌, ℕ, ◌+◌, ◌<◌, ◌≤◌, ◌==◌, List, [], ◌∷◌, ◌++◌, fold, length}
-use Rattle.std.proofs.Common.{arith, refl, sym, ap, ◌∙◌, cond, get_or, set, append_assoc, append-nil, inl, inr}
-use Rattle.std.proofs.lemmas.Bool.{cases_eq}
-use Rattle.std.proofs.lemmas.Bool.Decides.{nat_tests}
-use Rattle.std.proofs.lemmas.Grind.{get_or-set_at}
-use Rattle.std.proofs.lemmas.List.{get_or-set_other}
-use Rattle.std.proofs.lemmas.List.Sums.{sum_by_push}
-use Rattle.perf_base.specs.declared.acts.Act.{Act}
+use Rattle.std.proofs.{Common.{arith, refl, sym, ap, ◌∙◌, cond, get_or, set, append_assoc, append-nil, inl, inr}, lemmas.Bool.{cases_eq}}
+use Rattle.std.proofs.lemmas.{Bool.Decides.{nat_tests}, Grind.{get_or-set_at}, List.{get_or-set_other, Sums.{sum_by_push}}}
+use Rattle.perf_base.specs.{declared.{acts.Act.{Act}, numbers.{CpuNo.{CpuNo}, ToolNo.{ToolNo}}}, Scripts.{Scripted}}
 use Rattle.perf_base.specs.declared.acts.Act.TheVariants as act
-use Rattle.perf_base.specs.declared.numbers.CpuNo.{CpuNo}
-use Rattle.perf_base.specs.declared.numbers.ToolNo.{ToolNo}
-use Rattle.perf_base.specs.Scripts.{Scripted}
-use Rattle.stage_spec.specs.Hardware.{hardware_of}
-use Rattle.stage_spec.specs.History.{Step, steps_of, steps_from, history, opening_stage}
+use Rattle.stage_spec.specs.{Hardware.{hardware_of}, History.{Step, steps_of, steps_from, history, opening_stage}}
 use Rattle.stage_spec.specs.Order.{is_of_cpu, is_of_tool, done_by_cpu, done_by_tool}
 use Rattle.ring_spec.specs.Running.{first_record, record_after, record_of}
-use Rattle.machine.specs.Given.{record_by}
-use Rattle.machine.specs.Leading.{record_in}
+use Rattle.machine.specs.{Given.{record_by}, Leading.{record_in}}
 
 steps-push : (s : Scripted) (before acts : List Act) (a : Act) → steps_from s before (acts ++ a ∷ []) ≡ steps_from s before acts ++ steps_of s (before ++ acts) a
 unfolding steps_from

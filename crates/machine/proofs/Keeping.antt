@@ -1,49 +1,20 @@
 -- A quiet line after which all events are there that were, with their accounts.
 use Rattle.std.specs.Prelude.{◌≡◌, ℕ, zero, suc, ◌<◌, ◌≤◌, ◌↔◌, ◌==◌, Bool, true, false, cond, is_some, List, [], ◌∷◌, ◌++◌, length, filter, flat_map, slice_index_or, None}
-use Rattle.std.specs.FinMap.{FinMap, get}
-use Rattle.std.specs.List.{list_any}
-use Rattle.std.specs.Option.{unwrap_or}
-use Rattle.std.specs.Ordering.{nat_cmp}
-use Rattle.std.proofs.Common.{arith, refl, sym, ap, subst, ◌∙◌, inl, inr}
-use Rattle.std.proofs.lemmas.Bool.{cases_eq, cases_Bool, false≢true}
-use Rattle.std.proofs.lemmas.Bool.Decides.{nat_tests}
-use Rattle.std.proofs.lemmas.List.{append-nil, map-append}
-use Rattle.std.proofs.lemmas.List.Elements.{filter-append}
-use Rattle.perf_base.specs.Cpus.{HasCpu}
-use Rattle.perf_base.specs.declared.lines.CpuLine.{CpuLine}
-use Rattle.perf_base.specs.declared.lines.ToolLine.{ToolLine}
-use Rattle.perf_base.specs.declared.numbers.CpuNo.{CpuNo}
-use Rattle.perf_base.specs.declared.numbers.CpuSet.{CpuSet}
-use Rattle.perf_base.specs.declared.numbers.EventNo.{EventNo}
-use Rattle.perf_base.specs.declared.numbers.Key.{Key}
-use Rattle.stage_spec.specs.Families.{leaving}
-use Rattle.stage_spec.specs.Hardware.{Hardware}
-use Rattle.stage_spec.specs.History.{Step, CpuStep, ToolStep, tool_refusal, tool_changed, stage_step}
-use Rattle.stage_spec.specs.Limits.{Limits, IsMachine, IsWithin}
-use Rattle.stage_spec.specs.Numbers.{numbers_below}
-use Rattle.stage_spec.specs.Settle.{settle_each}
-use Rattle.stage_spec.specs.Shares.{no_sums}
-use Rattle.stage_spec.specs.Stage.{Stage, all_cpus}
-use Rattle.stage_laws.specs.Narrowing.{touches, tool_touches, changed, unless_no, unless_left, AreSettled, IsNarrow}
-use Rattle.stage_spec.proofs.Recurrence.{plus-none}
-use Rattle.stage_laws.specs.Sound.{IsSound}
-use Rattle.stage_laws.proofs.Narrow.{narrows}
-use Rattle.stage_laws.proofs.Sound.{step_sound}
-use Rattle.ring_spec.specs.Agreement.{IsCurrentSlot}
-use Rattle.ring_spec.specs.Running.{RingAccount, losses_on}
-use Rattle.ring_spec.specs.Sending.{length_by}
-use Rattle.world_spec.specs.Kept.{IsKept}
-use Rattle.world_spec.specs.Rescheduled.{AreRescheduled, AreUntouchedOutside, IsRescheduled}
-use Rattle.world_spec.specs.StageOf.{stage_of}
-use Rattle.world_spec.specs.Value.{World, Account, Family, no_account, no_family, is_live, entry_at, instance_at, family_of}
-use Rattle.world_spec.proofs.Coming.{number_true}
-use Rattle.world_spec.proofs.Families.{open-is}
-use Rattle.world_spec.specs.Quiet.{is_quiet}
-use Rattle.world_spec.specs.Stepping.{HasStepped}
-use Rattle.world_spec.proofs.Quiet.{quiet-keeps}
-use Rattle.machine.specs.Settled.{is_in}
-use Rattle.machine.specs.Stepped.{limits_in, IsReady}
-use Rattle.machine.proofs.Settling.{cpus_below, is-in_set}
+use Rattle.std.specs.{FinMap.{FinMap, get}, List.{list_any}, Option.{unwrap_or}, Ordering.{nat_cmp}}
+use Rattle.std.proofs.{Common.{arith, refl, sym, ap, subst, ◌∙◌, inl, inr}, lemmas.Bool.{cases_eq, cases_Bool, false≢true, Decides.{nat_tests}}}
+use Rattle.std.proofs.lemmas.List.{append-nil, map-append, Elements.{filter-append}}
+use Rattle.perf_base.specs.{Cpus.{HasCpu}, declared.{lines.{CpuLine.{CpuLine}, ToolLine.{ToolLine}}, numbers.{CpuNo.{CpuNo}, CpuSet.{CpuSet}}}}
+use Rattle.perf_base.specs.declared.numbers.{EventNo.{EventNo}, Key.{Key}}
+use Rattle.stage_spec.specs.{Families.{leaving}, Hardware.{Hardware}, History.{Step, CpuStep, ToolStep, tool_refusal, tool_changed, stage_step}}
+use Rattle.stage_spec.specs.{Limits.{Limits, IsMachine, IsWithin}, Numbers.{numbers_below}, Settle.{settle_each}, Shares.{no_sums}}
+use Rattle.stage_spec.{specs.Stage.{Stage, all_cpus}, proofs.Recurrence.{plus-none}}
+use Rattle.stage_laws.specs.{Narrowing.{touches, tool_touches, changed, unless_no, unless_left, AreSettled, IsNarrow}, Sound.{IsSound}}
+use Rattle.stage_laws.proofs.{Narrow.{narrows}, Sound.{step_sound}}
+use Rattle.ring_spec.specs.{Agreement.{IsCurrentSlot}, Running.{RingAccount, losses_on}, Sending.{length_by}}
+use Rattle.world_spec.specs.{Kept.{IsKept}, Rescheduled.{AreRescheduled, AreUntouchedOutside, IsRescheduled}, StageOf.{stage_of}}
+use Rattle.world_spec.specs.{Value.{World, Account, Family, no_account, no_family, is_live, entry_at, instance_at, family_of}, Quiet.{is_quiet}}
+use Rattle.world_spec.{specs.Stepping.{HasStepped}, proofs.{Coming.{number_true}, Families.{open-is}, Quiet.{quiet-keeps}}}
+use Rattle.machine.{specs.{Settled.{is_in}, Stepped.{limits_in, IsReady}}, proofs.Settling.{cpus_below, is-in_set}}
 
 -- What such a line leaves: the keys with their ids and contexts, and all that is counted by account, slot and
 -- processor.

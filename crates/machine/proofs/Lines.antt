@@ -1,27 +1,16 @@
 -- A line of a script, and the room that it has.
 use Rattle.std.specs.Prelude.{◌≡◌, ℕ, ◌+◌, ◌-◌, ◌<◌, ◌≤◌, max, All, List, [], ◌∷◌, drop, fold, length, Some, slice_get, slice_index_or}
-use Rattle.std.proofs.Common.{arith, sym, ap, subst, ◌∙◌, get_or, inl, inr}
-use Rattle.std.proofs.lemmas.Bool.{cases_lt}
-use Rattle.std.proofs.lemmas.List.{get_or_past, get_or-drop, length-drop}
-use Rattle.std.proofs.lemmas.List.Elements.{All-head, All-tail}
-use Rattle.std.proofs.lemmas.Option.{slice_get-get_or}
-use Rattle.perf_base.specs.declared.acts.Act.{Act}
-use Rattle.perf_base.specs.declared.acts.Actor.TheVariants as actor
-use Rattle.perf_base.specs.declared.lines.CpuLine.{CpuLine}
-use Rattle.perf_base.specs.declared.lines.CpuLine.TheVariants as line
-use Rattle.perf_base.specs.declared.lines.ToolLine.{ToolLine}
-use Rattle.perf_base.specs.declared.lines.Work.{Work}
-use Rattle.perf_base.specs.declared.numbers.CpuNo.{CpuNo}
+use Rattle.std.proofs.{Common.{arith, sym, ap, subst, ◌∙◌, get_or, inl, inr}, lemmas.{Bool.{cases_lt}, List.{get_or_past, get_or-drop, length-drop}}}
+use Rattle.std.proofs.lemmas.{List.Elements.{All-head, All-tail}, Option.{slice_get-get_or}}
+use Rattle.perf_base.specs.declared.{acts.Act.{Act}, lines.{CpuLine.{CpuLine}, ToolLine.{ToolLine}, Work.{Work}}, numbers.CpuNo.{CpuNo}}
 use Rattle.perf_base.specs.declared.numbers.ToolNo.{ToolNo}
 use Rattle.perf_base.specs.Scripts.{Scripted, IsCovered, IsScript, IsCpuLine, IsToolLine, lines_of_cpu, lines_of_tool}
-use Rattle.stage_spec.specs.Hardware.{hardware_of}
-use Rattle.stage_spec.proofs.Machines.{script_machine}
+use Rattle.perf_base.specs.declared.acts.Actor.TheVariants as actor
+use Rattle.perf_base.specs.declared.lines.CpuLine.TheVariants as line
+use Rattle.stage_spec.{specs.Hardware.{hardware_of}, proofs.Machines.{script_machine}}
 use Rattle.stage_laws.specs.Bounds.{greatest, most_of_line}
-use Rattle.world_spec.specs.Shares.{HaveRoom}
-use Rattle.world_spec.specs.Value.{World}
-use Rattle.machine.specs.Stepped.{IsReady}
-use Rattle.machine.specs.Leading.{Kept, HasLine, LeadTo}
-use Rattle.machine.specs.Room.{HasRoom, IsLineFor}
+use Rattle.world_spec.specs.{Shares.{HaveRoom}, Value.{World}}
+use Rattle.machine.specs.{Stepped.{IsReady}, Leading.{Kept, HasLine, LeadTo}, Room.{HasRoom, IsLineFor}}
 
 -- what no processor and no tool has
 pub no-cpu : (s : Scripted) (m : Kept) (cpu : CpuNo) → IsScript s → 8 ≤ cpu.0 → HasLine s m (actor.Processor cpu) → ⊥

@@ -1,24 +1,14 @@
 -- What a look counts, and what is left of the two ends of a ring where they meet.
 use Rattle.std.specs.Prelude.{◌≡◌, ℕ, ◌+◌, ◌≤◌, List, map, option_map, Some, slice_get, slice_index_or, slice_set, take}
-use Rattle.std.proofs.Common.{sym, ap, subst, ◌∙◌}
-use Rattle.std.proofs.lemmas.List.{map-set}
-use Rattle.std.proofs.lemmas.Option.{get_or_from_slice_get, slice_get-map}
-use Rattle.perf_base.specs.declared.acts.Act.{Act}
-use Rattle.perf_base.specs.declared.numbers.RingNo.{RingNo}
-use Rattle.perf_base.specs.Scripts.{Scripted}
+use Rattle.std.proofs.{Common.{sym, ap, subst, ◌∙◌}, lemmas.{List.{map-set}, Option.{get_or_from_slice_get, slice_get-map}}}
+use Rattle.perf_base.specs.{declared.{acts.Act.{Act}, numbers.RingNo.{RingNo}}, Scripts.{Scripted}}
 use Rattle.stage_spec.specs.Order.{IsLawfulSeen, last_seen}
-use Rattle.ring_spec.specs.Records.{Record, words_of}
-use Rattle.ring_spec.specs.Rings.{sizes_in}
-use Rattle.sample_ring.specs.Taking.{with_tail}
-use Rattle.ring_words.specs.Ends.{IsStop}
-use Rattle.sample_ring.specs.InEnds.{InEnd}
-use Rattle.sample_ring.specs.Lending.{with_out, with_reader}
-use Rattle.sample_ring.specs.OutEnds.{OutEnd, IsSoundOut}
+use Rattle.ring_spec.specs.{Records.{Record, words_of}, Rings.{sizes_in}}
+use Rattle.sample_ring.specs.{Taking.{with_tail}, InEnds.{InEnd}, Lending.{with_out, with_reader}, OutEnds.{OutEnd, IsSoundOut}}
 use Rattle.sample_ring.specs.RingLists.{HasRing, InList, OutList, ring_index}
-use Rattle.machine.specs.Leading.{Kept, LeadTo}
-use Rattle.machine.specs.Readers.{loads_of, records_taken, records_of_slot, words_in, words_of_slot}
-use Rattle.machine.proofs.Places.{set-here}
-use Rattle.machine.proofs.Seen.{lawful-stop}
+use Rattle.ring_words.specs.Ends.{IsStop}
+use Rattle.machine.specs.{Leading.{Kept, LeadTo}, Readers.{loads_of, records_taken, records_of_slot, words_in, words_of_slot}}
+use Rattle.machine.proofs.{Places.{set-here}, Seen.{lawful-stop}}
 
 -- one end has loaded its tail once more
 pub one-load : (outs : OutList) (place : ℕ) (o p : OutEnd) → slice_get outs.outs place ≡ Some o → p.producer.loads ≡ o.producer.loads + 1

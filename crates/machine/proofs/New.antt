@@ -1,17 +1,11 @@
 -- Rings that were just made, their ends and readers.
 use Rattle.std.specs.Prelude.{◌≡◌, ◌≢◌, ℕ, ◌<◌, ◌≤◌, AllPairs, List, [], ◌∷◌, length, map, option_map, Option, Some, None, slice_get, slice_index_or}
-use Rattle.std.proofs.Common.{arith, refl, sym, ap, subst, ◌∙◌}
-use Rattle.std.proofs.lemmas.List.{get_or-map, length-map}
-use Rattle.std.proofs.lemmas.List.Elements.{All-nil}
+use Rattle.std.proofs.{Common.{arith, refl, sym, ap, subst, ◌∙◌}, lemmas.List.{get_or-map, length-map, Elements.{All-nil}}}
 use Rattle.std.proofs.lemmas.Option.{none-some, same_Some, slice_get-map}
-use Rattle.perf_base.specs.declared.numbers.RingNo.{RingNo}
-use Rattle.perf_base.specs.Scripts.{Scripted, IsScript}
-use Rattle.ring_spec.specs.Records.{IsRecord}
-use Rattle.ring_spec.specs.Running.{empty_ring}
+use Rattle.perf_base.specs.{declared.numbers.RingNo.{RingNo}, Scripts.{Scripted, IsScript}}
+use Rattle.ring_spec.specs.{Records.{IsRecord}, Running.{empty_ring}}
 use Rattle.ring_words.specs.Ends.{Ring}
-use Rattle.sample_ring.specs.InEnds.{InEnd, new_in}
-use Rattle.sample_ring.specs.OutEnds.{OutEnd, new_out}
-use Rattle.sample_ring.specs.RingLists.{AreNew, InList, OutList, RingList}
+use Rattle.sample_ring.specs.{InEnds.{InEnd, new_in}, OutEnds.{OutEnd, new_out}, RingLists.{AreNew, InList, OutList, RingList}}
 use Rattle.work_account.specs.Ends.{AreAccounts, AreTogether, HaveAccounts, IsAccountOf}
 use Rattle.machine.specs.Readers.{AreFollowing, Follows}
 

@@ -1,20 +1,13 @@
 -- The tests of an actor's next line, by the script.
-use Rattle.std.specs.Prelude.{◌≡◌, ℕ, option_map, Option, Some, slice_get, slice_index_or}
-use Rattle.std.proofs.Common.{sym, ap, subst, ◌∙◌}
+use Rattle.std.{specs.Prelude.{◌≡◌, ℕ, option_map, Option, Some, slice_get, slice_index_or}, proofs.Common.{sym, ap, subst, ◌∙◌}}
 use Rattle.std.proofs.lemmas.Option.{same_Some}
-use Rattle.perf_base.specs.Scripts.{Scripted, lines_of_cpu, lines_of_tool}
-use Rattle.perf_base.specs.declared.acts.Actor.{Actor}
+use Rattle.perf_base.specs.{Scripts.{Scripted, lines_of_cpu, lines_of_tool}, declared.{acts.Actor.{Actor}, lines.CpuLine.{CpuLine}}}
+use Rattle.perf_base.specs.declared.{lines.ToolLine.{ToolLine}, numbers.{CpuNo.{CpuNo}, ToolNo.{ToolNo}}}
 use Rattle.perf_base.specs.declared.acts.Actor.TheVariants as actor
-use Rattle.perf_base.specs.declared.lines.CpuLine.{CpuLine}
-use Rattle.perf_base.specs.declared.lines.ToolLine.{ToolLine}
-use Rattle.perf_base.specs.declared.numbers.CpuNo.{CpuNo}
-use Rattle.perf_base.specs.declared.numbers.ToolNo.{ToolNo}
 use Rattle.stage_spec.specs.History.{Step, CpuStep, ToolStep}
 use Rattle.world_spec.specs.Value.{World}
 use Rattle.cpu_sched.specs.Sheets.{Held}
-use Rattle.machine.specs.Counted.{IsCounted, IsCountedBy}
-use Rattle.machine.specs.Leading.{Kept, next_step}
-use Rattle.machine.proofs.Counting.{tool-counted}
+use Rattle.machine.{specs.{Counted.{IsCounted, IsCountedBy}, Leading.{Kept, next_step}}, proofs.Counting.{tool-counted}}
 
 -- the step that is done is the next one
 next-counted : (sheet : Option Held) (s : Scripted) (m self : Kept) (who own : Actor) (done : Step) (after : World) (t u : ℕ) → m ≡ self → who ≡ own → next_step s m own ≡ Some done

@@ -1,37 +1,18 @@
 -- Without rings no event writes to one, and work sends nothing and leaves the ends that send.
 use Rattle.std.specs.Prelude.{◌≡◌, ℕ, ◌+◌, ◌*◌, ◌^◌, ◌<◌, ◌==◌, true, All, List, [], ◌∷◌, ◌++◌, flat_map, length, map, slice_index_or, Option, Some, None}
-use Rattle.std.specs.List.{list_any}
-use Rattle.std.proofs.Common.{arith, get_or, refl, sym, ap, subst, ◌∙◌, inl}
-use Rattle.std.proofs.lemmas.List.Elements.{All-nil, All-weaker}
+use Rattle.std.{specs.List.{list_any}, proofs.{Common.{arith, get_or, refl, sym, ap, subst, ◌∙◌, inl}, lemmas.List.Elements.{All-nil, All-weaker}}}
 use Rattle.std.proofs.lemmas.List.Folds.{Any-from_list_any}
-use Rattle.perf_base.specs.declared.lines.Work.{Work}
-use Rattle.perf_base.specs.declared.numbers.CpuNo.{CpuNo}
-use Rattle.perf_base.specs.declared.numbers.EventNo.{EventNo}
-use Rattle.perf_base.specs.declared.numbers.RingNo.{RingNo}
-use Rattle.perf_base.specs.Scripts.{Scripted, HasRing}
-use Rattle.stage_spec.specs.declared.instance.Instance.{Instance}
-use Rattle.stage_spec.specs.Hardware.{Hardware, hardware_of}
-use Rattle.stage_spec.specs.History.{Step, opening_stage, stage_after}
-use Rattle.stage_spec.specs.Stage.{Stage, all_instances, is_original, original_of}
-use Rattle.stage_spec.specs.Verdict.{on_instances}
-use Rattle.stage_laws.specs.Sound.{AreMapped, IsSound}
-use Rattle.stage_laws.proofs.Found.{found_has}
-use Rattle.ring_spec.specs.Rings.{account_of, lost_count}
-use Rattle.ring_spec.specs.Running.{RingAccount, Running}
-use Rattle.ring_spec.specs.Sending.{fields_of, overflows_by, sent_at, sent_by_family, sent_of, to_ring}
-use Rattle.ring_spec.proofs.Running.{in_account, record_law}
+use Rattle.perf_base.specs.{declared.{lines.Work.{Work}, numbers.{CpuNo.{CpuNo}, EventNo.{EventNo}, RingNo.{RingNo}}}, Scripts.{Scripted, HasRing}}
+use Rattle.stage_spec.specs.{declared.instance.Instance.{Instance}, Hardware.{Hardware, hardware_of}, History.{Step, opening_stage, stage_after}}
+use Rattle.stage_spec.specs.{Stage.{Stage, all_instances, is_original, original_of}, Verdict.{on_instances}}
+use Rattle.stage_laws.{specs.Sound.{AreMapped, IsSound}, proofs.Found.{found_has}}
+use Rattle.ring_spec.specs.{Rings.{account_of, lost_count}, Running.{RingAccount, Running}}
+use Rattle.ring_spec.{specs.Sending.{fields_of, overflows_by, sent_at, sent_by_family, sent_of, to_ring}, proofs.Running.{in_account, record_law}}
 use Rattle.ring_words.specs.Ends.{head_place}
-use Rattle.sample_ring.specs.OutEnds.{OutEnd}
-use Rattle.sample_ring.specs.RingLists.{OutList, RingList}
-use Rattle.world_spec.specs.Kept.{IsKept}
-use Rattle.world_spec.specs.StageOf.{stage_of}
-use Rattle.world_spec.specs.Value.{World, instance_at}
-use Rattle.work_account.specs.Ends.{AreAccounts, AreTogether}
-use Rattle.work_account.specs.Sampling.{HasInstance, HaveRings, HaveSpaceToSend, ends_of, sent_by}
-use Rattle.machine.specs.Given.{IsLedBy, record_by}
-use Rattle.machine.specs.Leading.{Kept}
-use Rattle.machine.proofs.Mapped.{mapped-by}
-use Rattle.machine.proofs.RingsThere.{of-live}
+use Rattle.sample_ring.specs.{OutEnds.{OutEnd}, RingLists.{OutList, RingList}}
+use Rattle.world_spec.specs.{Kept.{IsKept}, StageOf.{stage_of}, Value.{World, instance_at}}
+use Rattle.work_account.specs.{Ends.{AreAccounts, AreTogether}, Sampling.{HasInstance, HaveRings, HaveSpaceToSend, ends_of, sent_by}}
+use Rattle.machine.{specs.{Given.{IsLedBy, record_by}, Leading.{Kept}}, proofs.{Mapped.{mapped-by}, RingsThere.{of-live}}}
 use Rattle.machine.proofs.Roomy.{slot-open, stage-by}
 
 -- no instance writes to a ring

@@ -1,20 +1,10 @@
 -- What a world says of an open event, by the key of its original.
-use Rattle.std.specs.Prelude.{◌≡◌, true, Some, None, option_map}
-use Rattle.std.proofs.Common.{refl, sym, ap, ◌∙◌}
-use Rattle.std.proofs.lemmas.Bool.{false≢true}
-use Rattle.perf_base.specs.declared.numbers.EventNo.{EventNo}
-use Rattle.perf_base.specs.declared.numbers.Key.{Key}
-use Rattle.perf_base.specs.declared.standing.Own.{Own}
+use Rattle.std.{specs.Prelude.{◌≡◌, true, Some, None, option_map}, proofs.{Common.{refl, sym, ap, ◌∙◌}, lemmas.Bool.{false≢true}}}
+use Rattle.perf_base.specs.declared.{numbers.{EventNo.{EventNo}, Key.{Key}}, standing.Own.{Own}}
 use Rattle.perf_base.specs.declared.standing.Own.TheVariants as own
-use Rattle.stage_spec.specs.Effective.{effective}
-use Rattle.stage_spec.specs.Hardware.{Hardware}
-use Rattle.stage_spec.specs.Reading.{is_error}
-use Rattle.stage_spec.specs.Stage.{is_open}
+use Rattle.stage_spec.specs.{Effective.{effective}, Hardware.{Hardware}, Reading.{is_error}, Stage.{is_open}, Tables.{in_error_by, in_error, kind_in}}
 use Rattle.event_reads.proofs.Opened.{group-by, is-open, original-at}
-use Rattle.world_spec.specs.Kept.{IsKept}
-use Rattle.world_spec.specs.StageOf.{stage_of}
-use Rattle.world_spec.specs.Value.{World, entry_at, family_of, instance_at}
-use Rattle.stage_spec.specs.Tables.{in_error_by, in_error, kind_in}
+use Rattle.world_spec.specs.{Kept.{IsKept}, StageOf.{stage_of}, Value.{World, entry_at, family_of, instance_at}}
 
 -- there is none where the slot is not open
 pub not-closed : (hw : Hardware) (w : World) (e : EventNo) → IsKept hw w → is_open (stage_of w) e ≡ true → (family_of w e).original ≡ None → ⊥

@@ -1,56 +1,26 @@
 -- A line that opens an event.
 use Rattle.std.specs.Prelude.{◌≡◌, ℕ, ◌+◌, ◌<◌, ◌≤◌, ◌==◌, Bool, true, false, ◌||◌, is_some, List, [], ◌∷◌, ◌++◌, length, filter, Option, Some, None, slice_index_or, if◌then◌else◌}
-use Rattle.std.specs.List.{list_any}
-use Rattle.std.proofs.Common.{arith, refl, sym, ap, subst, ◌∙◌, inl, inr}
-use Rattle.std.proofs.lemmas.Bool.{cases_eq, false≢true}
+use Rattle.std.{specs.List.{list_any}, proofs.{Common.{arith, refl, sym, ap, subst, ◌∙◌, inl, inr}, lemmas.Bool.{cases_eq, false≢true}}}
 use Rattle.std.proofs.lemmas.List.Folds.{list_any-append}
-use Rattle.perf_base.specs.Cpus.{HasCpu}
-use Rattle.perf_base.specs.Scripts.{IsCpuSel}
-use Rattle.perf_base.specs.declared.attr.Attr.{Attr}
-use Rattle.perf_base.specs.declared.attr.CpuSel.{CpuSel}
+use Rattle.perf_base.specs.{Cpus.{HasCpu}, Scripts.{IsCpuSel}, declared.attr.{Attr.{Attr}, CpuSel.{CpuSel}, TaskSel.{TaskSel}}}
+use Rattle.perf_base.specs.declared.numbers.{CpuNo.{CpuNo}, CpuSet.{CpuSet}, EventNo.{EventNo}, Key.{Key}, TaskNo.{TaskNo}}
+use Rattle.perf_base.specs.{declared.standing.Context.{Context}, Contexts.{context_of, context_by}}
 use Rattle.perf_base.specs.declared.attr.CpuSel.TheVariants as cpus
-use Rattle.perf_base.specs.declared.attr.TaskSel.{TaskSel}
 use Rattle.perf_base.specs.declared.attr.TaskSel.TheVariants as tasks
 use Rattle.perf_base.specs.declared.lines.ToolLine.TheVariants as line
-use Rattle.perf_base.specs.declared.numbers.CpuNo.{CpuNo}
-use Rattle.perf_base.specs.declared.numbers.CpuSet.{CpuSet}
-use Rattle.perf_base.specs.declared.numbers.EventNo.{EventNo}
-use Rattle.perf_base.specs.declared.numbers.Key.{Key}
-use Rattle.perf_base.specs.declared.numbers.TaskNo.{TaskNo}
 use Rattle.perf_base.specs.declared.reply.Reply.TheVariants as reply
-use Rattle.perf_base.specs.declared.standing.Context.{Context}
 use Rattle.perf_base.specs.declared.standing.Context.TheVariants as context
-use Rattle.stage_spec.specs.Hardware.{Hardware}
-use Rattle.stage_spec.specs.History.{Step, ToolStep, stage_step}
-use Rattle.stage_spec.specs.Limits.{IsMachine, IsWithin}
-use Rattle.stage_spec.specs.Opening.{open_refusal, opened, is_used}
-use Rattle.perf_base.specs.Contexts.{context_of, context_by}
-use Rattle.stage_spec.specs.Replies.{UnlessRefused}
-use Rattle.stage_spec.specs.Settle.{settle_each}
-use Rattle.stage_spec.specs.Shares.{no_sums}
-use Rattle.stage_spec.specs.Stage.{Stage, all_cpus}
-use Rattle.stage_laws.specs.Narrowing.{has_context}
-use Rattle.stage_laws.specs.Sound.{IsSound}
-use Rattle.world_spec.specs.Adding.{Newcomer, add}
-use Rattle.world_spec.specs.Kept.{IsKept}
-use Rattle.world_spec.specs.Rescheduled.{AreRescheduled, AreUntouchedOutside, IsRescheduled}
-use Rattle.world_spec.specs.Staying.{HasCome}
-use Rattle.world_spec.specs.StageOf.{stage_of}
-use Rattle.world_spec.specs.Value.{World, is_live, entry_at, instance_at, account_at, family_of}
-use Rattle.stage_laws.proofs.Sound.{step_sound}
-use Rattle.world_spec.proofs.Families.{open-is}
-use Rattle.world_spec.proofs.Keys.{key-is}
-use Rattle.stage_spec.proofs.Recurrence.{plus-none}
-use Rattle.event_open.proofs.Refusing.{none-holds, first-free}
-use Rattle.event_open.specs.Opened.{opened_as, IsOpenedAs}
-use Rattle.world_spec.specs.Stepping.{HasStepped}
-use Rattle.world_spec.proofs.Quiet.{quiet-keeps}
-use Rattle.world_spec.proofs.Stepping.{stepped}
-use Rattle.machine.specs.Settled.{OnlyRescheduled, is_in}
-use Rattle.machine.specs.Stepped.{limits_in, IsReady}
-use Rattle.machine.specs.Stepped as stepped_line
-use Rattle.machine.proofs.Keeping.{narrowed-step, left-rescheduled}
+use Rattle.stage_spec.specs.{Hardware.{Hardware}, History.{Step, ToolStep, stage_step}, Limits.{IsMachine, IsWithin}}
+use Rattle.stage_spec.specs.{Opening.{open_refusal, opened, is_used}, Replies.{UnlessRefused}, Settle.{settle_each}, Shares.{no_sums}}
+use Rattle.stage_spec.{specs.Stage.{Stage, all_cpus}, proofs.Recurrence.{plus-none}}
+use Rattle.stage_laws.{specs.{Narrowing.{has_context}, Sound.{IsSound}}, proofs.Sound.{step_sound}}
+use Rattle.world_spec.specs.{Adding.{Newcomer, add}, Kept.{IsKept}, Rescheduled.{AreRescheduled, AreUntouchedOutside, IsRescheduled}}
+use Rattle.world_spec.specs.{Staying.{HasCome}, StageOf.{stage_of}, Value.{World, is_live, entry_at, instance_at, account_at, family_of}}
+use Rattle.world_spec.{specs.Stepping.{HasStepped}, proofs.{Families.{open-is}, Keys.{key-is}, Quiet.{quiet-keeps}, Stepping.{stepped}}}
+use Rattle.event_open.{proofs.Refusing.{none-holds, first-free}, specs.Opened.{opened_as, IsOpenedAs}}
+use Rattle.machine.{specs.{Settled.{OnlyRescheduled, is_in}, Stepped.{limits_in, IsReady}}, proofs.Keeping.{narrowed-step, left-rescheduled}}
 use Rattle.machine.proofs.Refused.{tools-lose_none}
+use Rattle.machine.specs.Stepped as stepped_line
 
 -- What is told of an open: the worlds before it, after it, and after the processors were rescheduled.
 pub record Course (w v x : World) (slot : EventNo) (a : Attr) (leader : Option EventNo) (set : CpuSet) : Type 0 where

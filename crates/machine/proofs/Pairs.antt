@@ -1,12 +1,8 @@
 -- The two ends of each ring, place by place.
-use Rattle.std.specs.Prelude.{◌≡◌, ℕ, List, Option, Some, slice_get, slice_set}
-use Rattle.std.proofs.Common.{sym, ap, subst, ◌∙◌, inl, inr}
-use Rattle.std.proofs.lemmas.Bool.{cases_eq}
-use Rattle.std.proofs.lemmas.Option.{same_Some}
+use Rattle.std.{specs.Prelude.{◌≡◌, ℕ, List, Option, Some, slice_get, slice_set}, proofs.Common.{sym, ap, subst, ◌∙◌, inl, inr}}
+use Rattle.std.proofs.lemmas.{Bool.{cases_eq}, Option.{same_Some}}
 use Rattle.perf_base.specs.declared.numbers.RingNo.{RingNo}
-use Rattle.sample_ring.specs.InEnds.{InEnd}
-use Rattle.sample_ring.specs.OutEnds.{OutEnd}
-use Rattle.sample_ring.specs.RingLists.{InList, OutList, ring_index}
+use Rattle.sample_ring.specs.{InEnds.{InEnd}, OutEnds.{OutEnd}, RingLists.{InList, OutList, ring_index}}
 use Rattle.machine.proofs.Places.{set-here, set-other}
 
 -- Each end that sends has a reader at its place, to which it stands in a relation.

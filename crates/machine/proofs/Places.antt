@@ -1,18 +1,12 @@
 -- The end of a ring among those that there are, its account, and what a look at its tail leaves.
 use Rattle.std.specs.Prelude.{◌≡◌, ◌≢◌, ℕ, zero, suc, ◌+◌, ◌<◌, ◌==◌, Bool, true, false, not, cond, AllPairs, List, [], ◌∷◌, ◌++◌, map, find, fold, Option, Some, length, slice_get, slice_index_or, slice_set, if◌then◌else◌}
-use Rattle.std.proofs.Common.{arith, refl, sym, ap, subst, ◌∙◌, inl, inr}
-use Rattle.std.proofs.lemmas.Bool.{cases_eq}
-use Rattle.std.proofs.lemmas.Bool.Decides.{nat_tests}
+use Rattle.std.proofs.{Common.{arith, refl, sym, ap, subst, ◌∙◌, inl, inr}, lemmas.Bool.{cases_eq, Decides.{nat_tests}}}
 use Rattle.std.proofs.lemmas.Option.{get_or_from_slice_get, none-some, same_Some, slice_get_within}
 use Rattle.perf_base.specs.declared.numbers.RingNo.{RingNo}
 use Rattle.stage_spec.specs.History.{SeenStep}
 use Rattle.stage_laws.proofs.Leaders.{find-first, find-later}
-use Rattle.ring_spec.specs.Account.{Account, Looks, ring_step}
-use Rattle.ring_spec.specs.Rings.{bytes_in}
-use Rattle.ring_spec.specs.Running.{RingAccount, ring_after}
-use Rattle.ring_spec.proofs.Running.{in_account}
-use Rattle.sample_ring.specs.OutEnds.{OutEnd}
-use Rattle.sample_ring.specs.RingLists.{HasRing, ring_index}
+use Rattle.ring_spec.{specs.{Account.{Account, Looks, ring_step}, Rings.{bytes_in}, Running.{RingAccount, ring_after}}, proofs.Running.{in_account}}
+use Rattle.sample_ring.specs.{OutEnds.{OutEnd}, RingLists.{HasRing, ring_index}}
 use Rattle.work_account.specs.Ends.{IsAccountOf, AreAccounts}
 
 -- what stands in a list of which one entry was set

@@ -1,39 +1,18 @@
 -- What a line that reschedules its processor is planned from is the brief of the stage that its own change leads to.
 use Rattle.std.specs.Prelude.{◌≡◌, ◌<◌, ℕ, Bool, true, false, List, [], ◌∷◌, map, filter, length, Option, Some, None}
-use Rattle.std.proofs.Common.{arith, refl, sym, ap, ◌∙◌, inl, inr}
-use Rattle.std.proofs.lemmas.Bool.{cases_Bool, false≢true}
+use Rattle.std.proofs.{Common.{arith, refl, sym, ap, ◌∙◌, inl, inr}, lemmas.Bool.{cases_Bool, false≢true}}
+use Rattle.perf_base.specs.declared.{numbers.{CpuNo.{CpuNo}, Key.{Key}, TaskNo.{TaskNo}}, reasons.Reason.{Reason}, standing.Context.{Context}}
 use Rattle.perf_base.specs.declared.lines.CpuLine.TheVariants as line
-use Rattle.perf_base.specs.declared.numbers.CpuNo.{CpuNo}
-use Rattle.perf_base.specs.declared.numbers.Key.{Key}
-use Rattle.perf_base.specs.declared.numbers.TaskNo.{TaskNo}
-use Rattle.perf_base.specs.declared.reasons.Reason.{Reason}
-use Rattle.perf_base.specs.declared.standing.Context.{Context}
 use Rattle.perf_base.specs.declared.standing.Context.TheVariants as context
-use Rattle.stage_spec.specs.Exits.{exit_refusal, exited}
-use Rattle.stage_spec.specs.History.{cpu_refusal}
-use Rattle.stage_spec.specs.Stage.{Stage, Group, lists_of, task_on}
-use Rattle.stage_spec.specs.Switching.{is_running, put_on, switch_refusal, switched}
-use Rattle.stage_spec.specs.Verdict.{is_eligible, task_lists}
-use Rattle.stage_laws.specs.Briefs.{GroupBrief}
-use Rattle.stage_laws.specs.Narrowing.{unless_left, unless_no}
-use Rattle.stage_laws.specs.Standings.{brief_of, briefs}
-use Rattle.stage_laws.proofs.Tasks.{is_task-some}
-use Rattle.world_spec.specs.Changes.{place}
-use Rattle.world_spec.specs.Kept.{IsKept}
-use Rattle.world_spec.specs.StageOf.{lists_at, stage_of}
-use Rattle.world_spec.specs.Value.{World, leaders_of}
-use Rattle.world_spec.proofs.Placing.{place-stage}
-use Rattle.cpu_sched.specs.After.{after_brief, brief_with}
-use Rattle.cpu_sched.specs.Briefs.{briefs_at, present_brief}
+use Rattle.stage_spec.specs.{Exits.{exit_refusal, exited}, History.{cpu_refusal}, Stage.{Stage, Group, lists_of, task_on}}
+use Rattle.stage_spec.specs.{Switching.{is_running, put_on, switch_refusal, switched}, Verdict.{is_eligible, task_lists}}
+use Rattle.stage_laws.{specs.{Briefs.{GroupBrief}, Narrowing.{unless_left, unless_no}, Standings.{brief_of, briefs}}, proofs.Tasks.{is_task-some}}
+use Rattle.world_spec.{specs.{Changes.{place}, Kept.{IsKept}, StageOf.{lists_at, stage_of}, Value.{World, leaders_of}}, proofs.Placing.{place-stage}}
+use Rattle.cpu_sched.specs.{After.{after_brief, brief_with}, Briefs.{briefs_at, present_brief}}
 use Rattle.cpu_sched.proofs.Relabelled.{briefs-relabelled, id_at, one-pass, relabel}
-use Rattle.task_moves.specs.Turning.{turned_world}
-use Rattle.task_moves.proofs.Rotating.{is-rotated}
-use Rattle.task_moves.proofs.Switching.{switched-on}
-use Rattle.machine.specs.Prepared.{PreparedLaw, by_ids}
-use Rattle.machine.specs.Stepped.{IsReady}
-use Rattle.machine.proofs.Counting.{never-touched}
-use Rattle.machine.proofs.Foreseen.{idle-then, lists-are, own-then, switch-foreseen, tick-foreseen}
-use Rattle.machine.proofs.Ticking.{only-lists}
+use Rattle.task_moves.{specs.Turning.{turned_world}, proofs.{Rotating.{is-rotated}, Switching.{switched-on}}}
+use Rattle.machine.{specs.{Prepared.{PreparedLaw, by_ids}, Stepped.{IsReady}}, proofs.Counting.{never-touched}}
+use Rattle.machine.proofs.{Foreseen.{idle-then, lists-are, own-then, switch-foreseen, tick-foreseen}, Ticking.{only-lists}}
 
 accepted-of : (o : Option Reason) (b : Bool) → unless_no o b ≡ true → o ≡ None
 accepted-of None b on = refl

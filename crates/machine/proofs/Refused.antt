@@ -1,26 +1,15 @@
 -- A line that is refused, and the answer of one that is not.
-use Rattle.std.specs.Prelude.{◌≡◌, List, [], ◌∷◌, flat_map, None, Some}
-use Rattle.std.proofs.Common.{refl, sym, ap, subst, ◌∙◌}
-use Rattle.perf_base.specs.declared.lines.CpuLine.{CpuLine}
-use Rattle.perf_base.specs.declared.lines.CpuLine.TheVariants as cpu_line
-use Rattle.perf_base.specs.declared.lines.ToolLine.{ToolLine}
-use Rattle.perf_base.specs.declared.numbers.CpuNo.{CpuNo}
-use Rattle.perf_base.specs.declared.reasons.Reason.{Reason}
+use Rattle.std.{specs.Prelude.{◌≡◌, List, [], ◌∷◌, flat_map, None, Some}, proofs.Common.{refl, sym, ap, subst, ◌∙◌}}
+use Rattle.perf_base.specs.declared.{lines.{CpuLine.{CpuLine}, ToolLine.{ToolLine}}, numbers.CpuNo.{CpuNo}, reasons.Reason.{Reason}}
 use Rattle.perf_base.specs.declared.reply.Reply.{Reply}
+use Rattle.perf_base.specs.declared.lines.CpuLine.TheVariants as cpu_line
 use Rattle.perf_base.specs.declared.reply.Reply.TheVariants as reply
-use Rattle.stage_spec.specs.Hardware.{Hardware}
-use Rattle.stage_spec.specs.History.{CpuStep, ToolStep, cpu_refusal, tool_refusal}
-use Rattle.stage_spec.specs.Replies.{IsToolReply, UnlessRefused}
+use Rattle.stage_spec.specs.{Hardware.{Hardware}, History.{CpuStep, ToolStep, cpu_refusal, tool_refusal}, Replies.{IsToolReply, UnlessRefused}}
 use Rattle.ring_spec.specs.Running.{Running, RingAccount, IsAnswerBy, family_by, losses_on, record_after}
-use Rattle.world_spec.specs.Agreement.{AgreesWith}
-use Rattle.world_spec.specs.Kept.{IsKept}
-use Rattle.world_spec.specs.StageOf.{stage_of}
-use Rattle.world_spec.specs.Value.{World}
-use Rattle.world_spec.specs.Stepping.{LosesNone}
-use Rattle.world_spec.proofs.Quiet.{refused-steps}
-use Rattle.world_spec.proofs.Stepping.{stepped}
-use Rattle.machine.specs.Stepped as line
+use Rattle.world_spec.specs.{Agreement.{AgreesWith}, Kept.{IsKept}, StageOf.{stage_of}, Value.{World}, Stepping.{LosesNone}}
+use Rattle.world_spec.proofs.{Quiet.{refused-steps}, Stepping.{stepped}}
 use Rattle.machine.proofs.Keeping.{none-lost}
+use Rattle.machine.specs.Stepped as line
 
 -- what no line changes stays where it is refused
 pub stays-same : {X : Type 0} (x : X) (r : Reply) → line.StaysIfRefused x x r

@@ -1,27 +1,14 @@
 -- What a reader has that took the rest of its ring.
 use Rattle.std.specs.Prelude.{◌≡◌, ℕ, zero, suc, ◌*◌, ◌≤◌, List, [], ◌∷◌, length, map, Option, Some, slice_get}
-use Rattle.std.proofs.Common.{arith, sym, ap, subst, ◌∙◌, inl, inr}
-use Rattle.std.proofs.lemmas.Bool.{cases_eq}
-use Rattle.std.proofs.lemmas.Option.{none-some, same_Some}
-use Rattle.perf_base.specs.declared.acts.Act.{Act}
-use Rattle.perf_base.specs.declared.numbers.RingNo.{RingNo}
-use Rattle.perf_base.specs.Scripts.{Scripted, IsCovered, IsScript}
-use Rattle.perf_base.specs.Weight.{weight}
-use Rattle.ring_spec.specs.Records.{words_of}
-use Rattle.ring_spec.specs.Rings.{account_in, bytes_of}
-use Rattle.ring_spec.proofs.Running.{in_account}
+use Rattle.std.proofs.{Common.{arith, sym, ap, subst, ◌∙◌, inl, inr}, lemmas.{Bool.{cases_eq}, Option.{none-some, same_Some}}}
+use Rattle.perf_base.specs.{declared.{acts.Act.{Act}, numbers.RingNo.{RingNo}}, Scripts.{Scripted, IsCovered, IsScript}, Weight.{weight}}
+use Rattle.ring_spec.{specs.{Records.{words_of}, Rings.{account_in, bytes_of}}, proofs.Running.{in_account}}
 use Rattle.ring_laws.proofs.Orders.{few_words}
-use Rattle.sample_ring.specs.Taking.{with_tail}
-use Rattle.sample_ring.specs.InEnds.{InEnd}
-use Rattle.sample_ring.specs.Lending.{with_out, with_reader}
-use Rattle.sample_ring.specs.OutEnds.{OutEnd}
+use Rattle.sample_ring.specs.{Taking.{with_tail}, InEnds.{InEnd}, Lending.{with_out, with_reader}, OutEnds.{OutEnd}}
 use Rattle.sample_ring.specs.RingLists.{HasRing, InList, OutList, ring_index, with_slot}
 use Rattle.work_account.specs.Ends.{AreAccounts}
-use Rattle.machine.proofs.RingsThere.{recorded}
-use Rattle.machine.specs.Leading.{Kept, LeadTo}
-use Rattle.machine.specs.Readers.{AreBehind, AreTrailing, HasTaken, Trails, words_of_slot}
-use Rattle.machine.proofs.Pairs.{paired-set}
-use Rattle.machine.proofs.Places.{place-here, place-later, ring-is, set-here, set-other}
+use Rattle.machine.proofs.{RingsThere.{recorded}, Pairs.{paired-set}, Places.{place-here, place-later, ring-is, set-here, set-other}}
+use Rattle.machine.specs.{Leading.{Kept, LeadTo}, Readers.{AreBehind, AreTrailing, HasTaken, Trails, words_of_slot}}
 
 -- two rings at one place are one
 same-place : (numbers : List RingNo) (ring other : RingNo) → HasRing numbers ring → ring_index numbers other ≡ ring_index numbers ring → other ≡ ring

@@ -1,46 +1,24 @@
 -- A line that gives an event another period.
 use Rattle.std.specs.Prelude.{◌≡◌, ◌≢◌, ℕ, ◌<◌, ◌==◌, Bool, true, false, not, ◌&&◌, List, [], ◌∷◌, filter, cond, length, Some, None, slice_index_or}
-use Rattle.std.specs.List.{list_any}
-use Rattle.std.proofs.Common.{arith, refl, sym, ap, subst, ◌∙◌, inl, inr}
-use Rattle.std.proofs.lemmas.Bool.{cases_eq, cases_Bool}
-use Rattle.perf_base.specs.Scripts.{IsSlot}
+use Rattle.std.{specs.List.{list_any}, proofs.{Common.{arith, refl, sym, ap, subst, ◌∙◌, inl, inr}, lemmas.Bool.{cases_eq, cases_Bool}}}
+use Rattle.perf_base.specs.{Scripts.{IsSlot}, declared.numbers.{CpuNo.{CpuNo}, EventNo.{EventNo}, Key.{Key}}}
 use Rattle.perf_base.specs.declared.lines.ToolLine.TheVariants as line
-use Rattle.perf_base.specs.declared.numbers.CpuNo.{CpuNo}
-use Rattle.perf_base.specs.declared.numbers.EventNo.{EventNo}
-use Rattle.perf_base.specs.declared.numbers.Key.{Key}
 use Rattle.perf_base.specs.declared.reply.Reply.TheVariants as reply
-use Rattle.stage_spec.specs.declared.instance.Instance.{Instance}
-use Rattle.stage_spec.specs.Commands.{period_refusal, with_period}
-use Rattle.stage_spec.specs.Hardware.{Hardware}
-use Rattle.stage_spec.specs.History.{Step, ToolStep, stage_step}
-use Rattle.stage_spec.specs.Limits.{IsMachine}
-use Rattle.stage_spec.specs.Remainders.{period_unless, new_period, left_by_period, left_by_hits}
-use Rattle.stage_spec.specs.Settle.{settle_each}
-use Rattle.stage_spec.specs.Shares.{share, no_sums}
-use Rattle.stage_spec.specs.Stage.{Stage, all_cpus, all_instances, is_original}
-use Rattle.stage_spec.proofs.Recurrence.{plus-none}
-use Rattle.stage_laws.specs.Narrowing.{IsNarrow, touches, changed, unless_no, unless_left}
-use Rattle.stage_laws.specs.Sound.{IsSound}
-use Rattle.stage_laws.proofs.Narrow.{narrows}
+use Rattle.stage_spec.specs.{declared.instance.Instance.{Instance}, Commands.{period_refusal, with_period}, Hardware.{Hardware}}
+use Rattle.stage_spec.specs.{History.{Step, ToolStep, stage_step}, Limits.{IsMachine}}
+use Rattle.stage_spec.specs.{Remainders.{period_unless, new_period, left_by_period, left_by_hits}, Settle.{settle_each}, Shares.{share, no_sums}}
+use Rattle.stage_spec.{specs.Stage.{Stage, all_cpus, all_instances, is_original}, proofs.Recurrence.{plus-none}}
+use Rattle.stage_laws.{specs.{Narrowing.{IsNarrow, touches, changed, unless_no, unless_left}, Sound.{IsSound}}, proofs.Narrow.{narrows}}
 use Rattle.stage_laws.proofs.Sound.{step_sound}
-use Rattle.world_spec.specs.Kept.{IsKept, post_at, in_option}
-use Rattle.world_spec.specs.Rescheduled.{AreRescheduled, AreUntouched}
-use Rattle.world_spec.specs.StageOf.{stage_of}
-use Rattle.world_spec.specs.Value.{World, Account, is_key, is_live, instance_at, account_at, family_of, times}
-use Rattle.world_spec.proofs.Families.{stands-original}
-use Rattle.world_spec.proofs.Keys.{key-is, is_key-other, times-cons, once-false}
-use Rattle.world_spec.proofs.Tables.{posts-same}
+use Rattle.world_spec.specs.{Kept.{IsKept, post_at, in_option}, Rescheduled.{AreRescheduled, AreUntouched}, StageOf.{stage_of}}
+use Rattle.world_spec.specs.{Value.{World, Account, is_key, is_live, instance_at, account_at, family_of, times}, Stepping.{HasStepped, HasItsShare}}
+use Rattle.world_spec.proofs.{Families.{stands-original}, Keys.{key-is, is_key-other, times-cons, once-false}, Tables.{posts-same}}
+use Rattle.world_spec.proofs.{Quiet.{none-after}, Stepping.{instance-found}}
 use Rattle.event_commands.specs.Commands.{HasPeriod}
 use Rattle.event_open.proofs.Leaders.{IsOriginal, slot-original}
-use Rattle.world_spec.specs.Stepping.{HasStepped, HasItsShare}
-use Rattle.world_spec.proofs.Quiet.{none-after}
-use Rattle.world_spec.proofs.Stepping.{instance-found}
-use Rattle.machine.specs.Stepped.{limits_in, IsReady}
+use Rattle.machine.{specs.Stepped.{limits_in, IsReady}, proofs.{Clearing.{found-passes, is-number}, CommandLines.{accepted-line}}}
+use Rattle.machine.proofs.{Keeping.{slots-current}, Settling.{none-settled}}
 use Rattle.machine.specs.Stepped as stepped_line
-use Rattle.machine.proofs.Clearing.{found-passes, is-number}
-use Rattle.machine.proofs.CommandLines.{accepted-line}
-use Rattle.machine.proofs.Keeping.{slots-current}
-use Rattle.machine.proofs.Settling.{none-settled}
 
 -- What is told of a new period: the worlds before and after it.
 pub record Course (w x : World) (event : EventNo) (period : ℕ) : Type 0 where

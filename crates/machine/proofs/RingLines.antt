@@ -1,36 +1,19 @@
 -- Lines that give an event a ring.
 use Rattle.std.specs.Prelude.{◌≡◌, ℕ, ◌<◌, Bool, true, false, List, [], ◌∷◌, length, filter, Option, None}
-use Rattle.std.proofs.Common.{arith, refl, sym, ap, subst, ◌∙◌, inl, inr}
-use Rattle.std.proofs.lemmas.Bool.{cases_eq}
-use Rattle.perf_base.specs.Scripts as scripts
-use Rattle.perf_base.specs.declared.lines.ToolLine.{ToolLine}
-use Rattle.perf_base.specs.declared.numbers.CpuNo.{CpuNo}
-use Rattle.perf_base.specs.declared.numbers.EventNo.{EventNo}
-use Rattle.perf_base.specs.declared.numbers.Key.{Key}
-use Rattle.perf_base.specs.declared.numbers.RingNo.{RingNo}
-use Rattle.perf_base.specs.declared.reply.Reply.TheVariants as reply
+use Rattle.std.proofs.{Common.{arith, refl, sym, ap, subst, ◌∙◌, inl, inr}, lemmas.Bool.{cases_eq}}
+use Rattle.perf_base.specs.declared.{lines.ToolLine.{ToolLine}, numbers.{CpuNo.{CpuNo}, EventNo.{EventNo}, Key.{Key}, RingNo.{RingNo}}}
 use Rattle.perf_base.specs.declared.reply.Sums.{Sums}
-use Rattle.stage_spec.specs.Hardware.{Hardware}
-use Rattle.stage_spec.specs.History.{Step, ToolStep, stage_step, tool_refusal, tool_changed}
-use Rattle.stage_spec.specs.Limits.{Limits, IsMachine, IsWithin}
-use Rattle.stage_spec.specs.Replies.{IsToolReply}
-use Rattle.stage_spec.specs.Settle.{settle_each}
-use Rattle.stage_spec.specs.Stage.{Stage, all_cpus}
-use Rattle.stage_laws.specs.Narrowing.{IsNarrow, changed, tool_touches, touches, unless_left, unless_no}
-use Rattle.stage_laws.proofs.Narrow.{narrows}
-use Rattle.world_spec.specs.Kept.{IsKept}
-use Rattle.world_spec.specs.Rescheduled.{AreUntouched}
-use Rattle.world_spec.specs.StageOf.{stage_of}
-use Rattle.world_spec.specs.Value.{World, Entry, entry_at}
+use Rattle.perf_base.specs.Scripts as scripts
+use Rattle.perf_base.specs.declared.reply.Reply.TheVariants as reply
+use Rattle.stage_spec.specs.{Hardware.{Hardware}, History.{Step, ToolStep, stage_step, tool_refusal, tool_changed}}
+use Rattle.stage_spec.specs.{Limits.{Limits, IsMachine, IsWithin}, Replies.{IsToolReply}, Settle.{settle_each}, Stage.{Stage, all_cpus}}
+use Rattle.stage_laws.{specs.Narrowing.{IsNarrow, changed, tool_touches, touches, unless_left, unless_no}, proofs.Narrow.{narrows}}
+use Rattle.world_spec.specs.{Kept.{IsKept}, Rescheduled.{AreUntouched}, StageOf.{stage_of}, Value.{World, Entry, entry_at}, Quiet.{is_quiet_call}}
 use Rattle.world_spec.proofs.Keys.{key-is}
 use Rattle.ring_table.specs.Rings.{HasRing}
-use Rattle.world_spec.specs.Quiet.{is_quiet_call}
-use Rattle.machine.specs.Stepped.{IsReady}
+use Rattle.machine.{specs.Stepped.{IsReady}, proofs.{CommandLines.{accepted-line}, Keeping.{KeepsAll, kept-stepped, kept-ready-by, settled-all}}}
+use Rattle.machine.proofs.{Restarting.{takes-none}, Settling.{none-settled}}
 use Rattle.machine.specs.Stepped as stepped_line
-use Rattle.machine.proofs.CommandLines.{accepted-line}
-use Rattle.machine.proofs.Keeping.{KeepsAll, kept-stepped, kept-ready-by, settled-all}
-use Rattle.machine.proofs.Restarting.{takes-none}
-use Rattle.machine.proofs.Settling.{none-settled}
 
 -- What is told of such a line: the worlds before and after it, and limits that it keeps.
 pub record Course (w x : World) (l : ToolLine) (limits : Limits) (e : EventNo) (ring : Option RingNo) (owner : Bool) (mapped : List RingNo) : Type 0 where

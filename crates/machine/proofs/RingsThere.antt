@@ -1,33 +1,17 @@
 -- Each ring that an event writes to has its end.
-use Rattle.std.specs.Prelude.{◌≡◌, ℕ, ◌≤◌, ◌==◌, Bool, true, not, All, IsTrue, List, [], ◌∷◌, map, Some}
-use Rattle.std.specs.List.{list_any, position_or_len}
-use Rattle.std.proofs.Common.{arith, refl, sym, ap, subst, ◌∙◌, get_or, inl, inr}
-use Rattle.std.proofs.lemmas.Bool.{cases_Bool, cases_lt, false≢true}
-use Rattle.std.proofs.lemmas.List.{get_or-map, length-map}
-use Rattle.std.proofs.lemmas.List.Elements.{All-head, All-tail}
-use Rattle.std.proofs.lemmas.List.Folds.{Any-from_list_any}
-use Rattle.std.proofs.lemmas.List.Sums.{prefix_len_passes}
-use Rattle.perf_base.specs.declared.acts.Act.{Act}
-use Rattle.perf_base.specs.declared.numbers.Key.{Key}
-use Rattle.perf_base.specs.declared.numbers.RingNo.{RingNo}
-use Rattle.perf_base.specs.Scripts.{Scripted, HasRing}
-use Rattle.stage_spec.specs.declared.instance.Instance.{Instance}
-use Rattle.stage_spec.specs.Hardware.{Hardware, hardware_of}
-use Rattle.stage_spec.specs.History.{history, opening_stage, stage_after}
+use Rattle.std.specs.{Prelude.{◌≡◌, ℕ, ◌≤◌, ◌==◌, Bool, true, not, All, IsTrue, List, [], ◌∷◌, map, Some}, List.{list_any, position_or_len}}
+use Rattle.std.proofs.{Common.{arith, refl, sym, ap, subst, ◌∙◌, get_or, inl, inr}, lemmas.Bool.{cases_Bool, cases_lt, false≢true}}
+use Rattle.std.proofs.lemmas.List.{get_or-map, length-map, Elements.{All-head, All-tail}, Folds.{Any-from_list_any}, Sums.{prefix_len_passes}}
+use Rattle.perf_base.specs.{declared.{acts.Act.{Act}, numbers.{Key.{Key}, RingNo.{RingNo}}}, Scripts.{Scripted, HasRing}}
+use Rattle.stage_spec.specs.{declared.instance.Instance.{Instance}, Hardware.{Hardware, hardware_of}, History.{history, opening_stage, stage_after}}
 use Rattle.stage_spec.specs.Stage.{Stage, all_instances}
-use Rattle.ring_spec.specs.Running.{RingAccount, IsRecordOf, record_of}
-use Rattle.ring_spec.proofs.Running.{map-map, record_law}
-use Rattle.sample_ring.specs.OutEnds.{OutEnd}
-use Rattle.sample_ring.specs.RingLists.{OutList}
+use Rattle.ring_spec.{specs.Running.{RingAccount, IsRecordOf, record_of}, proofs.Running.{map-map, record_law}}
+use Rattle.sample_ring.specs.{OutEnds.{OutEnd}, RingLists.{OutList}}
 use Rattle.sample_ring.specs.RingLists as lists
-use Rattle.world_spec.specs.Kept.{IsKept}
-use Rattle.world_spec.specs.StageOf.{stage_of}
-use Rattle.world_spec.specs.Value.{World, is_live, instance_at, is_key, times}
-use Rattle.world_spec.proofs.Families.{all_keys, instances-are, times-keys}
-use Rattle.world_spec.proofs.Keys.{is_key-true, key-is, once-false, once-true, times-cons}
+use Rattle.world_spec.specs.{Kept.{IsKept}, StageOf.{stage_of}, Value.{World, is_live, instance_at, is_key, times}}
+use Rattle.world_spec.proofs.{Families.{all_keys, instances-are, times-keys}, Keys.{is_key-true, key-is, once-false, once-true, times-cons}}
 use Rattle.work_account.specs.Ends.{AreAccounts}
-use Rattle.machine.specs.Left.{IsLeft, RingsThereLaw}
-use Rattle.machine.proofs.Mapped.{mapped-declared}
+use Rattle.machine.{specs.Left.{IsLeft, RingsThereLaw}, proofs.Mapped.{mapped-declared}}
 
 -- What acts leave is of the whole history of their steps.
 pub recorded : (s : Scripted) (acts : List Act)

@@ -1,42 +1,20 @@
 -- Where given lines, or acts of a script, lead to a machine, its world has room for one line more.
 use Rattle.std.specs.Prelude.{◌≡◌, ℕ, ◌+◌, ◌*◌, ◌^◌, ◌<◌, ◌≤◌, ◌==◌, Bool, true, false, cond, is_some, List, [], ◌∷◌, count_by, sum_by, slice_index_or}
-use Rattle.std.proofs.Common.{arith, refl, sym, ap, subst, ◌∙◌}
-use Rattle.std.proofs.Math.Path.{fun_ext}
-use Rattle.std.proofs.lemmas.List.Sums.{sum_by-cons}
-use Rattle.perf_base.specs.declared.acts.Act.{Act}
-use Rattle.perf_base.specs.declared.lines.CpuLine.{CpuLine}
+use Rattle.std.proofs.{Common.{arith, refl, sym, ap, subst, ◌∙◌}, Math.Path.{fun_ext}, lemmas.List.Sums.{sum_by-cons}}
+use Rattle.perf_base.specs.declared.{acts.Act.{Act}, lines.{CpuLine.{CpuLine}, ToolLine.{ToolLine}}, numbers.{CpuNo.{CpuNo}, EventNo.{EventNo}}}
+use Rattle.perf_base.specs.{declared.numbers.Key.{Key}, Scripts.{Scripted, IsCovered, IsScript}}
 use Rattle.perf_base.specs.declared.lines.CpuLine.TheVariants as cpu_line
-use Rattle.perf_base.specs.declared.lines.ToolLine.{ToolLine}
 use Rattle.perf_base.specs.declared.lines.ToolLine.TheVariants as tool_line
-use Rattle.perf_base.specs.declared.numbers.CpuNo.{CpuNo}
-use Rattle.perf_base.specs.declared.numbers.EventNo.{EventNo}
-use Rattle.perf_base.specs.declared.numbers.Key.{Key}
-use Rattle.perf_base.specs.Scripts.{Scripted, IsCovered, IsScript}
-use Rattle.stage_spec.specs.Families.{family_sums as family_over}
-use Rattle.stage_spec.specs.Hardware.{Hardware, hardware_of}
-use Rattle.stage_spec.specs.History.{Step, CpuStep, ToolStep, SeenStep, history, opening_stage, stage_after}
-use Rattle.stage_spec.specs.Limits.{limits_of}
-use Rattle.stage_spec.specs.Stage.{is_open}
+use Rattle.stage_spec.specs.{Families.{family_sums as family_over}, Hardware.{Hardware, hardware_of}}
+use Rattle.stage_spec.specs.{History.{Step, CpuStep, ToolStep, SeenStep, history, opening_stage, stage_after}, Limits.{limits_of}, Stage.{is_open}}
 use Rattle.stage_spec.proofs.Machines.{script_machine}
-use Rattle.stage_laws.specs.Bounds.{most_drawn, most_drawn_by, most_opened_by, is_line, AreSmall}
-use Rattle.stage_laws.proofs.BoundsWhole.{family_small, few_ids}
-use Rattle.ring_spec.specs.Running.{Running, IsRecordOf, family_by}
-use Rattle.ring_spec.proofs.Running.{record_law}
-use Rattle.ring_laws.proofs.Clocks.{clock_small}
-use Rattle.ring_laws.proofs.Reached.{count-one}
-use Rattle.world_spec.specs.Agreement.{AgreesWith}
-use Rattle.world_spec.specs.Kept.{IsKept, family_sums}
-use Rattle.world_spec.specs.StageOf.{stage_of}
-use Rattle.world_spec.specs.Value.{World, is_live, instance_at, totals_at}
-use Rattle.world_spec.proofs.Agreement.{family-agrees}
-use Rattle.world_spec.proofs.Families.{open-is}
-use Rattle.world_spec.proofs.Staying.{origin-is}
-use Rattle.machine.specs.Given.{IsLedBy, is_line_of, record_by}
-use Rattle.machine.specs.Leading.{IsWhole, Kept, LeadTo}
-use Rattle.machine.specs.Room.{HasRoom}
-use Rattle.machine.specs.Totals.{AreUpTo}
-use Rattle.machine.proofs.Led.{led-by-acts}
-use Rattle.machine.proofs.Totals.{further}
+use Rattle.stage_laws.{specs.Bounds.{most_drawn, most_drawn_by, most_opened_by, is_line, AreSmall}, proofs.BoundsWhole.{family_small, few_ids}}
+use Rattle.ring_spec.{specs.Running.{Running, IsRecordOf, family_by}, proofs.Running.{record_law}}
+use Rattle.ring_laws.proofs.{Clocks.{clock_small}, Reached.{count-one}}
+use Rattle.world_spec.specs.{Agreement.{AgreesWith}, Kept.{IsKept, family_sums}, StageOf.{stage_of}, Value.{World, is_live, instance_at, totals_at}}
+use Rattle.world_spec.proofs.{Agreement.{family-agrees}, Families.{open-is}, Staying.{origin-is}}
+use Rattle.machine.specs.{Given.{IsLedBy, is_line_of, record_by}, Leading.{IsWhole, Kept, LeadTo}, Room.{HasRoom}, Totals.{AreUpTo}}
+use Rattle.machine.proofs.{Led.{led-by-acts}, Totals.{further}}
 
 -- what an event has counted by the record of steps is what the definitions over them say
 family-is : (s : Scripted) (steps : List Step) (e : EventNo) → family_by (record_by s steps) e ≡ family_over (hardware_of s) (opening_stage s) steps e

@@ -1,40 +1,22 @@
 -- A look at the tail of a ring leads from the acts before it to those acts and one more; and where the tail is seen
 -- again at the place that was seen last, the acts that led there still do.
 use Rattle.std.specs.Prelude.{◌≡◌, ℕ, zero, suc, ◌≤◌, ◌==◌, Bool, true, false, cond, List, [], ◌∷◌, ◌++◌, length, flat_map, Some, slice_get, slice_set, if◌then◌else◌}
-use Rattle.std.proofs.Common.{arith, refl, sym, ap, subst, ◌∙◌}
-use Rattle.std.proofs.lemmas.List.Sums.{sum_by_push}
-use Rattle.std.proofs.lemmas.Option.{same_Some}
-use Rattle.perf_base.specs.declared.acts.Act.{Act}
-use Rattle.perf_base.specs.declared.acts.Act.TheVariants as act
-use Rattle.perf_base.specs.declared.numbers.CpuNo.{CpuNo}
-use Rattle.perf_base.specs.declared.numbers.RingNo.{RingNo}
-use Rattle.perf_base.specs.declared.numbers.ToolNo.{ToolNo}
+use Rattle.std.proofs.{Common.{arith, refl, sym, ap, subst, ◌∙◌}, lemmas.{List.Sums.{sum_by_push}, Option.{same_Some}}}
+use Rattle.perf_base.specs.declared.{acts.Act.{Act}, numbers.{CpuNo.{CpuNo}, RingNo.{RingNo}, ToolNo.{ToolNo}}}
 use Rattle.perf_base.specs.Scripts.{Scripted, lines_of_cpu, lines_of_tool}
-use Rattle.stage_spec.specs.Hardware.{hardware_of}
-use Rattle.stage_spec.specs.History.{SeenStep, stage_step, history, opening_stage}
+use Rattle.perf_base.specs.declared.acts.Act.TheVariants as act
+use Rattle.stage_spec.specs.{Hardware.{hardware_of}, History.{SeenStep, stage_step, history, opening_stage}}
 use Rattle.stage_spec.specs.Order.{IsLawfulSeen, is_of_cpu, is_of_tool, done_by_cpu, done_by_tool, last_seen}
-use Rattle.ring_spec.specs.Account.{Looks, lost_among}
-use Rattle.ring_spec.specs.Rings.{account_in, bytes_of, sizes_in}
-use Rattle.ring_spec.specs.Running.{Running, RingAccount, losses_on, record_after}
-use Rattle.ring_spec.proofs.Lawful.{lawful_law}
-use Rattle.ring_spec.proofs.Running.{in_account, record_law}
+use Rattle.ring_spec.specs.{Account.{Looks, lost_among}, Rings.{account_in, bytes_of, sizes_in}}
+use Rattle.ring_spec.{specs.Running.{Running, RingAccount, losses_on, record_after}, proofs.{Lawful.{lawful_law}, Running.{in_account, record_law}}}
 use Rattle.ring_laws.proofs.Tails.{seen_tail}
 use Rattle.ring_words.specs.Ends.{IsStop}
-use Rattle.sample_ring.specs.Taking.{with_tail as with_last_tail}
-use Rattle.sample_ring.specs.Lending.{with_out}
-use Rattle.sample_ring.specs.OutEnds.{OutEnd, HasAccount}
-use Rattle.sample_ring.specs.RingLists.{HasRing, ring_index}
+use Rattle.sample_ring.specs.{Taking.{with_tail as with_last_tail}, Lending.{with_out}, OutEnds.{OutEnd, HasAccount}, RingLists.{HasRing, ring_index}}
 use Rattle.sample_ring.proofs.Cuts.{stops_are_ends}
-use Rattle.world_spec.specs.Agreement.{AgreesWith}
-use Rattle.world_spec.specs.Kept.{IsKept}
-use Rattle.world_spec.specs.Value.{World}
+use Rattle.world_spec.{specs.{Agreement.{AgreesWith}, Kept.{IsKept}, Value.{World}, Stepping.{HasStepped}}, proofs.Stepping.{stepped}}
 use Rattle.work_account.specs.Ends.{IsAccountOf, AreAccounts}
-use Rattle.world_spec.specs.Stepping.{HasStepped}
-use Rattle.world_spec.proofs.Stepping.{stepped}
-use Rattle.machine.proofs.Keeping.{KeepsAll, kept-stepped}
+use Rattle.machine.proofs.{Keeping.{KeepsAll, kept-stepped}, History.{record-push}, Places.{account-there, seen-among, with_tail}}
 use Rattle.machine.specs.Leading.{Kept, LeadTo, record_in}
-use Rattle.machine.proofs.History.{record-push}
-use Rattle.machine.proofs.Places.{account-there, seen-among, with_tail}
 
 -- a look loses no record
 none-lost-on : (ring : RingNo) (place : ℕ) (a : RingAccount) → losses_on (SeenStep ring place) [] a ≡ []

@@ -1,27 +1,18 @@
 -- A stretch of work sends no more records than the script weighs.
 use Rattle.std.specs.Prelude.{◌≡◌, ◌+◌, ◌≤◌, List, [], ◌∷◌, ◌++◌, length, slice_index_or}
-use Rattle.std.proofs.Common.{arith, sym, ap, ◌∙◌, append-nil, append_assoc}
-use Rattle.std.proofs.Math.Path.{fun_ext}
-use Rattle.std.proofs.lemmas.List.{length-append}
-use Rattle.perf_base.specs.declared.acts.Act.{Act}
+use Rattle.std.proofs.{Common.{arith, sym, ap, ◌∙◌, append-nil, append_assoc}, Math.Path.{fun_ext}, lemmas.List.{length-append}}
+use Rattle.perf_base.specs.{declared.{acts.Act.{Act}, lines.Work.{Work}, numbers.CpuNo.{CpuNo}}, Scripts.{Scripted, IsCovered, IsScript}}
+use Rattle.perf_base.specs.Weight.{weight}
 use Rattle.perf_base.specs.declared.acts.Act.TheVariants as act
 use Rattle.perf_base.specs.declared.lines.CpuLine.TheVariants as line
-use Rattle.perf_base.specs.declared.lines.Work.{Work}
-use Rattle.perf_base.specs.declared.numbers.CpuNo.{CpuNo}
-use Rattle.perf_base.specs.Scripts.{Scripted, IsCovered, IsScript}
-use Rattle.perf_base.specs.Weight.{weight}
-use Rattle.stage_spec.specs.Hardware.{Hardware, hardware_of}
-use Rattle.stage_spec.specs.History.{Step, CpuStep, history, opening_stage, stage_after, steps_from, steps_of}
+use Rattle.stage_spec.specs.{Hardware.{Hardware, hardware_of}, History.{Step, CpuStep, history, opening_stage, stage_after, steps_from, steps_of}}
 use Rattle.stage_spec.specs.Stage.{Stage}
-use Rattle.ring_spec.specs.Running.{record_of}
-use Rattle.ring_spec.specs.Sending.{clock_of, sent_after, sent_at, sent_by_steps, sent_from}
+use Rattle.ring_spec.specs.{Running.{record_of}, Sending.{clock_of, sent_after, sent_at, sent_by_steps, sent_from}}
 use Rattle.ring_laws.proofs.Orders.{few_of_script}
 use Rattle.sample_ring.specs.RingLists.{OutList}
-use Rattle.world_spec.specs.StageOf.{stage_of}
-use Rattle.world_spec.specs.Value.{World}
+use Rattle.world_spec.specs.{StageOf.{stage_of}, Value.{World}}
 use Rattle.work_account.specs.Sampling.{sent_by}
-use Rattle.machine.specs.Left.{IsLeft}
-use Rattle.machine.proofs.RingsThere.{recorded}
+use Rattle.machine.{specs.Left.{IsLeft}, proofs.RingsThere.{recorded}}
 
 -- the history of acts with one act more
 steps-push : (s : Scripted) (before acts : List Act) (a : Act) → steps_from s before (acts ++ a ∷ []) ≡ steps_from s before acts ++ steps_of s (before ++ acts) a

@@ -1,19 +1,10 @@
 -- Rescheduling processors one after the other.
 use Rattle.std.specs.Prelude.{◌≡◌, ℕ, suc, ◌+◌, ◌<◌, Bool, true, false, List, [], ◌∷◌, ◌++◌, map, filter, cond, if◌then◌else◌}
-use Rattle.std.proofs.Common.{arith, refl, sym, ap, subst, ◌∙◌, inl, inr}
-use Rattle.std.proofs.lemmas.Bool.{cases_eq}
-use Rattle.std.proofs.lemmas.Bool.Decides.{nat_tests}
-use Rattle.std.proofs.lemmas.List.{map-append}
+use Rattle.std.proofs.{Common.{arith, refl, sym, ap, subst, ◌∙◌, inl, inr}, lemmas.{Bool.{cases_eq, Decides.{nat_tests}}, List.{map-append}}}
 use Rattle.std.proofs.lemmas.List.Elements.{filter-append}
-use Rattle.perf_base.specs.Cpus.{HasCpu}
-use Rattle.perf_base.specs.declared.numbers.CpuNo.{CpuNo}
-use Rattle.perf_base.specs.declared.numbers.CpuSet.{CpuSet}
-use Rattle.stage_spec.specs.Hardware.{Hardware}
-use Rattle.stage_spec.specs.Numbers.{numbers_below}
-use Rattle.stage_spec.specs.Settle.{settle, settle_each}
-use Rattle.stage_spec.specs.Stage.{Stage}
-use Rattle.world_spec.specs.Rescheduled.{IsRescheduled}
-use Rattle.world_spec.specs.Value.{World, Entry, instance_at}
+use Rattle.perf_base.specs.{Cpus.{HasCpu}, declared.numbers.{CpuNo.{CpuNo}, CpuSet.{CpuSet}}}
+use Rattle.stage_spec.specs.{Hardware.{Hardware}, Numbers.{numbers_below}, Settle.{settle, settle_each}, Stage.{Stage}}
+use Rattle.world_spec.specs.{Rescheduled.{IsRescheduled}, Value.{World, Entry, instance_at}}
 use Rattle.cpu_sched.specs.Resched.{StaysBut}
 use Rattle.machine.specs.Settled.{OnlyRescheduled, is_in}
 

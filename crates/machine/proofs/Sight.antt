@@ -1,22 +1,14 @@
 -- The two ends of a ring, whose reader follows the one that sends.
 use Rattle.std.specs.Prelude.{◌≡◌, ℕ, zero, suc, ◌*◌, ◌≤◌, List, [], ◌∷◌, length, map, option_map, Some, slice_get, slice_set}
-use Rattle.std.proofs.Common.{arith, sym, ap, subst, ◌∙◌}
-use Rattle.std.proofs.lemmas.Option.{none-some, same_Some, slice_get-map}
-use Rattle.perf_base.specs.declared.acts.Act.{Act}
-use Rattle.perf_base.specs.declared.numbers.RingNo.{RingNo}
-use Rattle.perf_base.specs.Scripts.{Scripted, IsCovered, IsScript}
-use Rattle.perf_base.specs.Weight.{weight}
+use Rattle.std.proofs.{Common.{arith, sym, ap, subst, ◌∙◌}, lemmas.Option.{none-some, same_Some, slice_get-map}}
+use Rattle.perf_base.specs.{declared.{acts.Act.{Act}, numbers.RingNo.{RingNo}}, Scripts.{Scripted, IsCovered, IsScript}, Weight.{weight}}
 use Rattle.ring_spec.specs.Rings.{account_in, bytes_of}
 use Rattle.ring_laws.proofs.Orders.{few_words}
-use Rattle.sample_ring.specs.Taking.{IsUpTo, with_tail}
-use Rattle.ring_words.specs.Ends.{Ring}
-use Rattle.sample_ring.specs.InEnds.{InEnd}
-use Rattle.sample_ring.specs.OutEnds.{HasAccount, OutEnd}
+use Rattle.sample_ring.specs.{Taking.{IsUpTo, with_tail}, InEnds.{InEnd}, OutEnds.{HasAccount, OutEnd}}
 use Rattle.sample_ring.specs.RingLists.{InList, OutList, RingList, HasRing, ring_index}
+use Rattle.ring_words.specs.Ends.{Ring}
 use Rattle.work_account.specs.Ends.{AreTogether}
-use Rattle.machine.specs.Leading.{Kept, LeadTo}
-use Rattle.machine.specs.Readers.{AreFollowing, Follows}
-use Rattle.machine.proofs.Seen.{end-account}
+use Rattle.machine.{specs.{Leading.{Kept, LeadTo}, Readers.{AreFollowing, Follows}}, proofs.Seen.{end-account}}
 
 abbrev ring_of : OutEnd → Ring
 ring_of o = o.producer.ring

@@ -1,43 +1,20 @@
 -- There is space for the records of the next line of work.
 use Rattle.std.specs.Prelude.{◌≡◌, ℕ, ◌+◌, ◌*◌, ◌^◌, ◌<◌, ◌≤◌, true, All, is_some, List, [], ◌∷◌, filter, length, slice_index_or}
-use Rattle.std.proofs.Common.{arith, sym, ap, subst, ◌∙◌, inl}
-use Rattle.std.proofs.Math.Pow.{pow_mono}
-use Rattle.std.proofs.lemmas.Nat.{mul-le}
-use Rattle.std.proofs.lemmas.List.{length-map}
-use Rattle.std.proofs.lemmas.List.Elements.{All-cons, All-head, All-map, All-nil, All-tail, All-weaker}
-use Rattle.std.proofs.lemmas.List.Sums.{count_by-le-length, length-filter}
-use Rattle.perf_base.specs.declared.acts.Act.{Act}
-use Rattle.perf_base.specs.declared.numbers.EventNo.{EventNo}
-use Rattle.perf_base.specs.declared.numbers.Key.{Key}
-use Rattle.perf_base.specs.declared.numbers.RingNo.{RingNo}
-use Rattle.perf_base.specs.Scripts.{Scripted, IsCovered, IsRingLine, IsScript}
-use Rattle.perf_base.specs.Weight.{weight}
-use Rattle.stage_spec.specs.Hardware.{Hardware, hardware_of}
-use Rattle.stage_spec.specs.History.{Step, history, opening_stage}
-use Rattle.stage_spec.specs.Stage.{Stage, is_open}
-use Rattle.ring_spec.specs.Account.{RingEvent, Sends, head_of, is_sent}
-use Rattle.ring_spec.specs.Rings.{account_in, account_of, events_of, is_to}
-use Rattle.ring_spec.specs.Running.{RingAccount, Running, record_of}
-use Rattle.ring_spec.specs.Sending.{SentSample, sent_by_steps}
-use Rattle.ring_spec.proofs.Conserved.{sent_law}
-use Rattle.ring_spec.proofs.Rings.{sends_law}
-use Rattle.ring_spec.proofs.Running.{in_account}
-use Rattle.ring_laws.proofs.Losses.{few_lost_of_script, heads}
-use Rattle.ring_laws.proofs.Orders.{few_of_script}
+use Rattle.std.proofs.{Common.{arith, sym, ap, subst, ◌∙◌, inl}, Math.Pow.{pow_mono}, lemmas.{Nat.{mul-le}, List.{length-map}}}
+use Rattle.std.proofs.lemmas.List.{Elements.{All-cons, All-head, All-map, All-nil, All-tail, All-weaker}, Sums.{count_by-le-length, length-filter}}
+use Rattle.perf_base.specs.declared.{acts.Act.{Act}, numbers.{EventNo.{EventNo}, Key.{Key}, RingNo.{RingNo}}}
+use Rattle.perf_base.specs.{Scripts.{Scripted, IsCovered, IsRingLine, IsScript}, Weight.{weight}}
+use Rattle.stage_spec.specs.{Hardware.{Hardware, hardware_of}, History.{Step, history, opening_stage}, Stage.{Stage, is_open}}
+use Rattle.ring_spec.specs.{Account.{RingEvent, Sends, head_of, is_sent}, Rings.{account_in, account_of, events_of, is_to}}
+use Rattle.ring_spec.{specs.{Running.{RingAccount, Running, record_of}, Sending.{SentSample, sent_by_steps}}, proofs.Conserved.{sent_law}}
+use Rattle.ring_spec.proofs.{Rings.{sends_law}, Running.{in_account}}
+use Rattle.ring_laws.proofs.{Losses.{few_lost_of_script, heads}, Orders.{few_of_script}}
 use Rattle.ring_words.specs.Ends.{head_place}
-use Rattle.sample_ring.specs.OutEnds.{OutEnd}
-use Rattle.sample_ring.specs.RingLists.{OutList}
-use Rattle.world_spec.specs.Kept.{IsKept}
-use Rattle.world_spec.specs.StageOf.{stage_of}
-use Rattle.world_spec.specs.Value.{World, is_live, instance_at}
-use Rattle.world_spec.proofs.Families.{open-is}
+use Rattle.sample_ring.specs.{OutEnds.{OutEnd}, RingLists.{OutList}}
+use Rattle.world_spec.{specs.{Kept.{IsKept}, StageOf.{stage_of}, Value.{World, is_live, instance_at}}, proofs.Families.{open-is}}
 use Rattle.world_spec.proofs.Staying.{origin-is}
-use Rattle.work_account.specs.Ends.{AreAccounts, IsAccountOf}
-use Rattle.work_account.specs.Sampling.{HasInstance, sent_by}
-use Rattle.machine.specs.Left.{IsLeft, SpaceLaw}
-use Rattle.machine.proofs.RingsThere.{recorded}
-use Rattle.machine.proofs.Shown.{shown}
-use Rattle.machine.proofs.Sent.{few-sent}
+use Rattle.work_account.specs.{Ends.{AreAccounts, IsAccountOf}, Sampling.{HasInstance, sent_by}}
+use Rattle.machine.{specs.Left.{IsLeft, SpaceLaw}, proofs.{RingsThere.{recorded}, Shown.{shown}, Sent.{few-sent}}}
 
 -- A ring's account is small: its head and its losses by the weight of the script, its size by the limit on sizes.
 record IsSmall (s : Scripted) (a : RingAccount) : Type 0 where

@@ -1,19 +1,11 @@
 -- There is space for the records of a line of work.
-use Rattle.std.specs.Prelude.{◌≡◌, ◌≤◌, List, Some, slice_get, slice_index_or}
-use Rattle.std.proofs.Common.{ap, ◌∙◌}
-use Rattle.perf_base.specs.declared.acts.Act.{Act}
-use Rattle.perf_base.specs.declared.lines.CpuLine.{CpuLine}
+use Rattle.std.{specs.Prelude.{◌≡◌, ◌≤◌, List, Some, slice_get, slice_index_or}, proofs.Common.{ap, ◌∙◌}}
+use Rattle.perf_base.specs.declared.{acts.Act.{Act}, lines.{CpuLine.{CpuLine}, Work.{Work}}, numbers.CpuNo.{CpuNo}}
+use Rattle.perf_base.specs.{Scripts.{Scripted, IsCovered, IsScript, lines_of_cpu}, Weight.{weight}}
 use Rattle.perf_base.specs.declared.lines.CpuLine.TheVariants as line
-use Rattle.perf_base.specs.declared.lines.Work.{Work}
-use Rattle.perf_base.specs.declared.numbers.CpuNo.{CpuNo}
-use Rattle.perf_base.specs.Scripts.{Scripted, IsCovered, IsScript, lines_of_cpu}
-use Rattle.perf_base.specs.Weight.{weight}
 use Rattle.world_spec.specs.Kept.{IsKept}
 use Rattle.work_account.specs.Sampling.{HaveSpaceToSend, ends_of}
-use Rattle.machine.specs.Left.{IsLeft}
-use Rattle.machine.proofs.Space.{space}
-use Rattle.machine.specs.Leading.{Kept, LeadTo}
-use Rattle.machine.proofs.Stepped.{next-cpu}
+use Rattle.machine.{specs.{Left.{IsLeft}, Leading.{Kept, LeadTo}}, proofs.{Space.{space}, Stepped.{next-cpu}}}
 
 -- what acts leave, by a machine that they lead to
 pub is-left : (s : Scripted) (acts : List Act) (m : Kept) → LeadTo s acts m → IsLeft s acts m.world m.outs

@@ -1,31 +1,19 @@
 -- One line done leads from the acts before it to those acts and one more.
 use Rattle.std.specs.Prelude.{◌≡◌, ◌+◌, ◌<◌, ◌≤◌, List, [], ◌∷◌, ◌++◌, fold, length, map, Some, slice_get, slice_index_or, slice_set}
 use Rattle.std.proofs.Common.{refl, sym, ap, subst, ◌∙◌, cond, ◌==◌}
-use Rattle.perf_base.specs.declared.acts.Act.{Act}
+use Rattle.perf_base.specs.declared.{acts.Act.{Act}, lines.{CpuLine.{CpuLine}, ToolLine.{ToolLine}}, numbers.{CpuNo.{CpuNo}, ToolNo.{ToolNo}}}
+use Rattle.perf_base.specs.{declared.{numbers.RingNo.{RingNo}, reply.Reply.{Reply}}, Scripts.{Scripted, lines_of_cpu, lines_of_tool}}
 use Rattle.perf_base.specs.declared.acts.Act.TheVariants as act
-use Rattle.perf_base.specs.declared.lines.CpuLine.{CpuLine}
-use Rattle.perf_base.specs.declared.lines.ToolLine.{ToolLine}
-use Rattle.perf_base.specs.declared.numbers.CpuNo.{CpuNo}
-use Rattle.perf_base.specs.declared.numbers.ToolNo.{ToolNo}
-use Rattle.perf_base.specs.declared.reply.Reply.{Reply}
-use Rattle.perf_base.specs.Scripts.{Scripted, lines_of_cpu, lines_of_tool}
 use Rattle.stage_spec.specs.Hardware.{Hardware, hardware_of}
 use Rattle.stage_spec.specs.History.{Step, CpuStep, ToolStep, cpu_steps, tool_steps, steps_of, history, opening_stage}
-use Rattle.stage_spec.specs.Order.{done_by_cpu, done_by_tool}
-use Rattle.stage_spec.specs.Replies.{AreReplies}
-use Rattle.perf_base.specs.declared.numbers.RingNo.{RingNo}
+use Rattle.stage_spec.specs.{Order.{done_by_cpu, done_by_tool}, Replies.{AreReplies}}
 use Rattle.sample_ring.specs.RingLists.{OutList}
 use Rattle.work_account.specs.Ends.{HaveAccounts}
-use Rattle.ring_spec.specs.Account.{ring_step}
-use Rattle.ring_spec.specs.Rings.{looks_at, lost_count}
-use Rattle.ring_spec.specs.Running.{Running, RingAccount, IsAnswerBy, AreRepliesBy, record_after, ring_after}
-use Rattle.ring_spec.specs.Sending.{sent_by_step}
-use Rattle.ring_spec.proofs.Lawful.{lawful_law}
-use Rattle.ring_spec.proofs.Running.{replies_law}
-use Rattle.world_spec.specs.Agreement.{AgreesWith}
-use Rattle.world_spec.specs.Value.{World}
-use Rattle.machine.specs.Stepped.{IsDone, IsDoneSending, IsDoneWith}
-use Rattle.machine.specs.Leading.{Kept, LeadTo, IsReplyTo, record_in}
+use Rattle.ring_spec.specs.{Account.{ring_step}, Rings.{looks_at, lost_count}}
+use Rattle.ring_spec.specs.{Running.{Running, RingAccount, IsAnswerBy, AreRepliesBy, record_after, ring_after}, Sending.{sent_by_step}}
+use Rattle.ring_spec.proofs.{Lawful.{lawful_law}, Running.{replies_law}}
+use Rattle.world_spec.specs.{Agreement.{AgreesWith}, Value.{World}}
+use Rattle.machine.specs.{Stepped.{IsDone, IsDoneSending, IsDoneWith}, Leading.{Kept, LeadTo, IsReplyTo, record_in}}
 use Rattle.machine.proofs.History.{record-push, raised, cpu-push, cpu-other, tool-push, tool-other, counted-push, cpu-is, tool-is}
 
 -- what is told of a line by a world that acts lead to

@@ -1,49 +1,25 @@
 -- A switch that is done.
 use Rattle.std.specs.Prelude.{◌≡◌, ℕ, zero, suc, ◌+◌, ◌<◌, ◌==◌, Bool, true, false, cond, List, [], ◌∷◌, length, filter, Option, Some, None, slice_index_or, if◌then◌else◌}
-use Rattle.std.proofs.Common.{arith, refl, sym, ap, subst, ◌∙◌, inl, inr}
-use Rattle.std.proofs.lemmas.Bool.{cases_eq}
-use Rattle.std.proofs.lemmas.List.{length-set}
+use Rattle.std.proofs.{Common.{arith, refl, sym, ap, subst, ◌∙◌, inl, inr}, lemmas.{Bool.{cases_eq}, List.{length-set}}}
+use Rattle.perf_base.specs.declared.{numbers.{CpuNo.{CpuNo}, Key.{Key}, TaskNo.{TaskNo}}, reply.Sums.{Sums}}
 use Rattle.perf_base.specs.declared.attr.Kind.TheVariants as kind
 use Rattle.perf_base.specs.declared.lines.CpuLine.TheVariants as line
-use Rattle.perf_base.specs.declared.numbers.CpuNo.{CpuNo}
-use Rattle.perf_base.specs.declared.numbers.Key.{Key}
-use Rattle.perf_base.specs.declared.numbers.TaskNo.{TaskNo}
 use Rattle.perf_base.specs.declared.reply.Reply.TheVariants as reply
-use Rattle.perf_base.specs.declared.reply.Sums.{Sums}
-use Rattle.stage_spec.specs.declared.instance.Instance.{Instance}
-use Rattle.stage_spec.specs.Families.{plus}
-use Rattle.stage_spec.specs.Hardware.{Hardware}
-use Rattle.stage_spec.specs.History.{Step, CpuStep, stage_step}
-use Rattle.stage_spec.specs.Limits.{IsMachine, IsWithin}
-use Rattle.stage_spec.specs.Occurrences.{left_after, left_after_one}
-use Rattle.stage_spec.specs.Remainders.{left_by_hits}
-use Rattle.stage_spec.specs.Settle.{settle, settle_each}
-use Rattle.stage_spec.specs.Shares.{share, no_sums, of_instance, migration_share, switch_share, changes_task}
-use Rattle.stage_spec.specs.Stage.{Stage, all_cpus, task_on}
-use Rattle.stage_spec.specs.Switching.{is_running, is_migration, switch_refusal, switched}
-use Rattle.stage_spec.specs.Verdict.{on_instances}
+use Rattle.stage_spec.specs.{declared.instance.Instance.{Instance}, Families.{plus}, Hardware.{Hardware}, History.{Step, CpuStep, stage_step}}
+use Rattle.stage_spec.specs.{Limits.{IsMachine, IsWithin}, Occurrences.{left_after, left_after_one}, Remainders.{left_by_hits}}
+use Rattle.stage_spec.specs.{Settle.{settle, settle_each}, Shares.{share, no_sums, of_instance, migration_share, switch_share, changes_task}}
+use Rattle.stage_spec.specs.{Stage.{Stage, all_cpus, task_on}, Switching.{is_running, is_migration, switch_refusal, switched}, Verdict.{on_instances}}
 use Rattle.stage_spec.proofs.Recurrence.{plus-none, plus-assoc}
-use Rattle.stage_laws.specs.Narrowing.{IsNarrow, changed, unless_left, unless_no, touches}
-use Rattle.stage_laws.specs.Bounds.{AreAtMost}
-use Rattle.stage_laws.specs.Sound.{IsSound}
-use Rattle.stage_laws.proofs.Narrow.{narrows}
-use Rattle.stage_laws.proofs.Sound.{step_sound}
-use Rattle.world_spec.specs.Changes.{place}
-use Rattle.world_spec.specs.Kept.{IsKept, family_sums}
-use Rattle.world_spec.specs.Rescheduled.{AreRescheduled, AreUntouchedBut, IsRescheduled}
-use Rattle.world_spec.specs.StageOf.{stage_of}
-use Rattle.world_spec.specs.Value.{World, Entry, Account, is_live, entry_at, instance_at, account_at}
+use Rattle.stage_laws.specs.{Narrowing.{IsNarrow, changed, unless_left, unless_no, touches}, Bounds.{AreAtMost}, Sound.{IsSound}}
+use Rattle.stage_laws.proofs.{Narrow.{narrows}, Sound.{step_sound}}
+use Rattle.world_spec.specs.{Changes.{place}, Kept.{IsKept, family_sums}, Rescheduled.{AreRescheduled, AreUntouchedBut, IsRescheduled}}
+use Rattle.world_spec.specs.{StageOf.{stage_of}, Value.{World, Entry, Account, is_live, entry_at, instance_at, account_at}}
+use Rattle.world_spec.specs.{Shares.{HaveShares, HaveRoom, with_share, soft_shares, soft_hits, one_hit}, Stepping.{HasStepped, HasItsShare}}
+use Rattle.world_spec.proofs.{Quiet.{none-after}, Stepping.{stepped, instance-found}}
 use Rattle.cpu_sched.specs.Resched.{StaysBut}
-use Rattle.world_spec.specs.Shares.{HaveShares, HaveRoom, with_share, soft_shares, soft_hits, one_hit}
-use Rattle.world_spec.specs.Stepping.{HasStepped, HasItsShare}
-use Rattle.world_spec.proofs.Quiet.{none-after}
-use Rattle.world_spec.proofs.Stepping.{stepped, instance-found}
-use Rattle.machine.specs.Stepped.{limits_in, IsReady}
+use Rattle.machine.{specs.{Stepped.{limits_in, IsReady}, Switched.{migration_shares, two_hits}}, proofs.Refused.{accepted-cpu}}
+use Rattle.machine.proofs.{Keeping.{none-lost, one-below, slots-current}, Settling.{one-settled}}
 use Rattle.machine.specs.Stepped as stepped_line
-use Rattle.machine.specs.Switched.{migration_shares, two_hits}
-use Rattle.machine.proofs.Refused.{accepted-cpu}
-use Rattle.machine.proofs.Keeping.{none-lost, one-below, slots-current}
-use Rattle.machine.proofs.Settling.{one-settled}
 
 -- no migration leaves the accounts
 pub none-given : (w : World) (cpu : CpuNo) → HaveShares w w (migration_shares false w cpu)

@@ -1,30 +1,19 @@
 -- A tick.
-use Rattle.std.specs.Prelude.{◌≡◌, ℕ, ◌<◌, length, Option, Some, None}
-use Rattle.std.proofs.Common.{arith, refl, sym, ap, subst, ◌∙◌, inl, inr}
+use Rattle.std.{specs.Prelude.{◌≡◌, ℕ, ◌<◌, length, Option, Some, None}, proofs.Common.{arith, refl, sym, ap, subst, ◌∙◌, inl, inr}}
 use Rattle.std.proofs.lemmas.Bool.{cases_eq}
+use Rattle.perf_base.specs.declared.numbers.{CpuNo.{CpuNo}, TaskNo.{TaskNo}}
 use Rattle.perf_base.specs.declared.lines.CpuLine.TheVariants as line
-use Rattle.perf_base.specs.declared.numbers.CpuNo.{CpuNo}
-use Rattle.perf_base.specs.declared.numbers.TaskNo.{TaskNo}
 use Rattle.perf_base.specs.declared.reply.Reply.TheVariants as reply
 use Rattle.perf_base.specs.declared.standing.Context.TheVariants as context
-use Rattle.stage_spec.specs.Hardware.{Hardware}
-use Rattle.stage_spec.specs.History.{CpuStep, stage_step}
-use Rattle.stage_spec.specs.Rotation.{rotated}
-use Rattle.stage_spec.specs.Settle.{settle, settle_each}
-use Rattle.stage_spec.specs.Stage.{task_on}
-use Rattle.stage_laws.specs.Narrowing.{IsNarrow}
-use Rattle.stage_laws.proofs.Narrow.{narrows}
-use Rattle.world_spec.specs.Kept.{IsKept}
-use Rattle.world_spec.specs.Rescheduled.{AreUntouchedBut, IsRescheduled}
-use Rattle.world_spec.specs.StageOf.{stage_of}
-use Rattle.world_spec.specs.Value.{World, is_live, entry_at, instance_at}
+use Rattle.stage_spec.specs.{Hardware.{Hardware}, History.{CpuStep, stage_step}, Rotation.{rotated}, Settle.{settle, settle_each}, Stage.{task_on}}
+use Rattle.stage_laws.{specs.Narrowing.{IsNarrow}, proofs.Narrow.{narrows}}
+use Rattle.world_spec.specs.{Kept.{IsKept}, Rescheduled.{AreUntouchedBut, IsRescheduled}, StageOf.{stage_of}}
+use Rattle.world_spec.{specs.Value.{World, is_live, entry_at, instance_at}, proofs.Stepping.{stepped}}
 use Rattle.cpu_sched.specs.Resched.{StaysBut}
 use Rattle.task_moves.specs.Turning.{turn_in, turn_of_task, turned_world}
-use Rattle.world_spec.proofs.Stepping.{stepped}
-use Rattle.machine.specs.Stepped.{limits_in, IsReady}
-use Rattle.machine.specs.Stepped as stepped_line
-use Rattle.machine.proofs.Keeping.{none-lost, KeepsAll, kept-stepped, kept-ready, one-below}
+use Rattle.machine.{specs.Stepped.{limits_in, IsReady}, proofs.Keeping.{none-lost, KeepsAll, kept-stepped, kept-ready, one-below}}
 use Rattle.machine.proofs.Settling.{one-settled}
+use Rattle.machine.specs.Stepped as stepped_line
 
 -- What is told of a tick: the worlds before it, after the groups took turns, and after the processor was rescheduled.
 pub record Course (w v x : World) (cpu : CpuNo) : Type 0 where

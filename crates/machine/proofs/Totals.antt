@@ -1,23 +1,12 @@
 -- Totals grow by work alone, and by little.
 use Rattle.std.specs.Prelude.{◌≡◌, ℕ, zero, suc, ◌+◌, ◌*◌, ◌^◌, ◌<◌, ◌≤◌, ◌==◌, All, List, [], ◌∷◌, cond, length, slice_index, slice_index_or, slice_set}
-use Rattle.std.proofs.Common.{arith, sym, ap, subst, ◌∙◌, inl, inr}
-use Rattle.std.proofs.lemmas.Bool.{cases_eq}
-use Rattle.std.proofs.lemmas.Bool.Decides.{nat_tests}
-use Rattle.std.proofs.lemmas.List.{get_or-set_same, get_or-set_other}
-use Rattle.std.proofs.lemmas.List.Elements.{All-head, All-tail}
+use Rattle.std.proofs.{Common.{arith, sym, ap, subst, ◌∙◌, inl, inr}, lemmas.Bool.{cases_eq, Decides.{nat_tests}}}
+use Rattle.std.proofs.lemmas.List.{get_or-set_same, get_or-set_other, Elements.{All-head, All-tail}}
+use Rattle.perf_base.specs.{declared.{lines.{Mode.{Mode}, Work.{Work}}, numbers.CpuNo.{CpuNo}}, Scripts.{IsCpuLine}}
 use Rattle.perf_base.specs.declared.lines.CpuLine.TheVariants as line
-use Rattle.perf_base.specs.declared.lines.Mode.{Mode}
 use Rattle.perf_base.specs.declared.lines.Mode.TheVariants as mode
-use Rattle.perf_base.specs.declared.lines.Work.{Work}
-use Rattle.perf_base.specs.declared.numbers.CpuNo.{CpuNo}
-use Rattle.perf_base.specs.Scripts.{IsCpuLine}
-use Rattle.world_spec.specs.Kept.{IsKept}
-use Rattle.world_spec.specs.Metering.{HasMeterRoom, add_each, add_hits, metered}
-use Rattle.world_spec.specs.Value.{World, Totals, no_totals, totals_at}
-use Rattle.machine.specs.Leading.{Kept}
-use Rattle.machine.specs.Room.{HasRoom}
-use Rattle.machine.specs.Totals.{AreUpTo, HaveGrown}
-use Rattle.machine.proofs.History.{cpu-is, raised}
+use Rattle.world_spec.specs.{Kept.{IsKept}, Metering.{HasMeterRoom, add_each, add_hits, metered}, Value.{World, Totals, no_totals, totals_at}}
+use Rattle.machine.{specs.{Leading.{Kept}, Room.{HasRoom}, Totals.{AreUpTo, HaveGrown}}, proofs.History.{cpu-is, raised}}
 
 pub further : (few most : ℕ) (t : Totals) → few ≤ most → AreUpTo few t → AreUpTo most t
 further few most t le h = record { user = λ number. omega (arith, le, h.user number); kernel = λ number. omega (arith, le, h.kernel number) }

@@ -1,29 +1,17 @@
 -- The end of a declared ring, its account after some acts, and places at which its tail can't be seen.
-use Rattle.std.specs.Prelude.{◌≡◌, ℕ, ◌≤◌, Err, List, Result, Some, slice_get}
-use Rattle.std.proofs.Common.{arith, sym, subst, ◌∙◌}
+use Rattle.std.{specs.Prelude.{◌≡◌, ℕ, ◌≤◌, Err, List, Result, Some, slice_get}, proofs.Common.{arith, sym, subst, ◌∙◌}}
 use Rattle.std.proofs.lemmas.Bool.Decides.{nat_tests}
-use Rattle.perf_base.specs.declared.acts.Act.{Act}
-use Rattle.perf_base.specs.declared.numbers.RingNo.{RingNo}
-use Rattle.perf_base.specs.Scripts.{Scripted}
+use Rattle.perf_base.specs.{declared.{acts.Act.{Act}, numbers.RingNo.{RingNo}}, Scripts.{Scripted}}
 use Rattle.perf_base.specs.Scripts as scripts
-use Rattle.ring_spec.specs.Rings.{account_in, bytes_of}
-use Rattle.ring_spec.proofs.Running.{in_account}
+use Rattle.ring_spec.{specs.Rings.{account_in, bytes_of}, proofs.Running.{in_account}}
 use Rattle.ring_laws.proofs.Tails.{seen_tail}
 use Rattle.ring_words.specs.Ends.{IsStop}
 use Rattle.ring_words.specs.Ends as words
-use Rattle.sample_ring.specs.OutEnds.{OutEnd}
-use Rattle.sample_ring.specs.RingLists.{HasRing, ring_index}
-use Rattle.sample_ring.proofs.Cuts.{stops_are_ends}
+use Rattle.sample_ring.{specs.{OutEnds.{OutEnd}, RingLists.{HasRing, ring_index}}, proofs.Cuts.{stops_are_ends}}
 use Rattle.work_account.specs.Ends.{IsAccountOf}
-use Rattle.machine.specs.Shown.{ShowsAccount}
-use Rattle.machine.proofs.RingsThere.{declared-there, script-numbers}
-use Rattle.machine.proofs.Shown.{shown}
-use Rattle.machine.specs.declared.stepping.OrderFault.{OrderFault}
+use Rattle.machine.specs.{Shown.{ShowsAccount}, declared.stepping.OrderFault.{OrderFault}, Leading.{Kept, IsOf, LeadTo}, Stepping.{IsUnlawful}}
+use Rattle.machine.proofs.{RingsThere.{declared-there, script-numbers}, Shown.{shown}, Seen.{end-account}, Spacious.{is-left}}
 use Rattle.machine.specs.declared.stepping.OrderFault.TheVariants as fault
-use Rattle.machine.specs.Leading.{Kept, IsOf, LeadTo}
-use Rattle.machine.specs.Stepping.{IsUnlawful}
-use Rattle.machine.proofs.Seen.{end-account}
-use Rattle.machine.proofs.Spacious.{is-left}
 
 -- a declared ring is one of the machine's
 pub ring-there : (s : Scripted) (m : Kept) (ring : RingNo) → IsOf s m → scripts.HasRing s.rings ring → HasRing m.outs.numbers ring

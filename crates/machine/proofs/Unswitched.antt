@@ -1,31 +1,16 @@
 -- A switch to what already runs.
 use Rattle.std.specs.Prelude.{◌≡◌, ℕ, ◌<◌, Bool, true, false, not, length, [], Option, None, slice_index_or}
 use Rattle.std.proofs.Common.{arith, refl, sym, ap, ◌∙◌}
+use Rattle.perf_base.specs.declared.{numbers.{CpuNo.{CpuNo}, Key.{Key}, TaskNo.{TaskNo}}, reply.Sums.{Sums}}
 use Rattle.perf_base.specs.declared.lines.CpuLine.TheVariants as line
-use Rattle.perf_base.specs.declared.numbers.CpuNo.{CpuNo}
-use Rattle.perf_base.specs.declared.numbers.Key.{Key}
-use Rattle.perf_base.specs.declared.numbers.TaskNo.{TaskNo}
 use Rattle.perf_base.specs.declared.reply.Reply.TheVariants as reply
-use Rattle.perf_base.specs.declared.reply.Sums.{Sums}
-use Rattle.stage_spec.specs.History.{CpuStep, stage_step, unless_refused}
-use Rattle.stage_spec.specs.Remainders.{left_by_hits}
-use Rattle.stage_spec.specs.Settle.{settle_all}
-use Rattle.stage_spec.specs.Shares.{share, no_sums, switch_share, changes_task}
-use Rattle.stage_spec.specs.Stage.{Stage, task_on}
-use Rattle.stage_spec.specs.Switching.{is_running, switch_refusal, switched, put_on}
-use Rattle.stage_spec.proofs.Recurrence.{plus-none}
-use Rattle.world_spec.specs.Kept.{IsKept}
-use Rattle.world_spec.specs.StageOf.{stage_of}
-use Rattle.world_spec.specs.Value.{World, is_live, instance_at, account_at}
-use Rattle.world_spec.specs.Shares.{with_share}
-use Rattle.world_spec.specs.Stepping.{HasStepped, HasItsShare}
-use Rattle.world_spec.proofs.Stepping.{stepped, instance-found}
-use Rattle.machine.specs.Stepped.{IsReady}
+use Rattle.stage_spec.specs.{History.{CpuStep, stage_step, unless_refused}, Remainders.{left_by_hits}, Settle.{settle_all}}
+use Rattle.stage_spec.specs.{Shares.{share, no_sums, switch_share, changes_task}, Stage.{Stage, task_on}}
+use Rattle.stage_spec.{specs.Switching.{is_running, switch_refusal, switched, put_on}, proofs.Recurrence.{plus-none}}
+use Rattle.world_spec.specs.{Kept.{IsKept}, StageOf.{stage_of}, Value.{World, is_live, instance_at, account_at}, Shares.{with_share}}
+use Rattle.world_spec.{specs.Stepping.{HasStepped, HasItsShare}, proofs.Stepping.{stepped, instance-found}}
+use Rattle.machine.{specs.Stepped.{IsReady}, proofs.{Asking.{settled-below}, Refused.{accepted-cpu}, Keeping.{none-lost}, TaskChange.{none-given}}}
 use Rattle.machine.specs.Stepped as stepped_line
-use Rattle.machine.proofs.Asking.{settled-below}
-use Rattle.machine.proofs.Refused.{accepted-cpu}
-use Rattle.machine.proofs.Keeping.{none-lost}
-use Rattle.machine.proofs.TaskChange.{none-given}
 
 pub runs-there : (b : Bool) → not b ≡ false → b ≡ true
 runs-there true h = refl

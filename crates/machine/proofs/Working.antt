@@ -1,43 +1,21 @@
 -- A stretch of work.
 use Rattle.std.specs.Prelude.{◌≡◌, ℕ, ◌+◌, ◌<◌, ◌==◌, Bool, true, false, List, [], ◌∷◌, flat_map, map, length, slice_index_or, slice_set, if◌then◌else◌}
-use Rattle.std.proofs.Common.{arith, refl, sym, ap, subst, ◌∙◌, inl, inr}
-use Rattle.std.proofs.lemmas.Bool.{cases_eq}
-use Rattle.std.proofs.lemmas.Bool.Decides.{nat_tests}
+use Rattle.std.proofs.{Common.{arith, refl, sym, ap, subst, ◌∙◌, inl, inr}, lemmas.Bool.{cases_eq, Decides.{nat_tests}}}
 use Rattle.std.proofs.lemmas.List.{get_or-set_same, get_or-set_other}
+use Rattle.perf_base.specs.declared.{lines.Work.{Work}, numbers.{CpuNo.{CpuNo}, EventNo.{EventNo}, Key.{Key}, RingNo.{RingNo}}}
 use Rattle.perf_base.specs.declared.lines.CpuLine.TheVariants as line
-use Rattle.perf_base.specs.declared.lines.Work.{Work}
-use Rattle.perf_base.specs.declared.numbers.CpuNo.{CpuNo}
-use Rattle.perf_base.specs.declared.numbers.EventNo.{EventNo}
-use Rattle.perf_base.specs.declared.numbers.Key.{Key}
-use Rattle.perf_base.specs.declared.numbers.RingNo.{RingNo}
 use Rattle.perf_base.specs.declared.reply.Reply.TheVariants as reply
-use Rattle.stage_spec.specs.Hardware.{Hardware}
-use Rattle.stage_spec.specs.Limits.{IsMachine}
-use Rattle.stage_spec.specs.History.{Step, CpuStep, stage_step}
-use Rattle.stage_spec.specs.Remainders.{left_by_hits}
-use Rattle.stage_spec.specs.Settle.{settle_all}
-use Rattle.stage_spec.specs.Shares.{no_sums}
-use Rattle.stage_spec.proofs.Recurrence.{plus-none}
+use Rattle.stage_spec.specs.{Hardware.{Hardware}, Limits.{IsMachine}, History.{Step, CpuStep, stage_step}, Remainders.{left_by_hits}}
+use Rattle.stage_spec.{specs.{Settle.{settle_all}, Shares.{no_sums}}, proofs.Recurrence.{plus-none}}
 use Rattle.stage_laws.specs.Sound.{IsSound}
-use Rattle.ring_spec.specs.Agreement.{IsCurrentSlot}
-use Rattle.world_spec.specs.Kept.{IsKept}
-use Rattle.world_spec.specs.Metering.{metered}
-use Rattle.world_spec.specs.Rescheduled.{AreRescheduled, IsRescheduled}
-use Rattle.world_spec.specs.StageOf.{stage_of}
-use Rattle.world_spec.specs.Value.{World, is_live, entry_at, instance_at, account_at}
-use Rattle.world_spec.specs.Shares.{HaveShares, with_share, work_shares}
-use Rattle.ring_spec.specs.Running.{Running, RingAccount, losses_on, more_lost, ring_after}
+use Rattle.ring_spec.specs.{Agreement.{IsCurrentSlot}, Running.{Running, RingAccount, losses_on, more_lost, ring_after}}
 use Rattle.ring_spec.specs.Sending.{SentSample, sent_at, sent_by_step}
-use Rattle.sample_ring.specs.OutEnds.{OutEnd}
-use Rattle.sample_ring.specs.RingLists.{OutList}
-use Rattle.sample_ring.specs.Sends.{Request, fits, lost_to, request_of, sent_to, written_to}
-use Rattle.work_account.specs.Ends.{Ends, HaveAccounts, send_all, send_next, sent_among}
-use Rattle.work_account.specs.Sampling.{AreLeft, ends_of, sent_by}
-use Rattle.world_spec.specs.Stepping.{HasStepped, HasItsShare}
-use Rattle.world_spec.proofs.Stepping.{stepped-losing, instance-found}
-use Rattle.machine.specs.Stepped.{IsReady, IsDoneWith, seen_of}
-use Rattle.world_spec.specs.Agreement.{AgreesWith}
-use Rattle.machine.proofs.Asking.{settled-below}
+use Rattle.world_spec.specs.{Kept.{IsKept}, Metering.{metered}, Rescheduled.{AreRescheduled, IsRescheduled}, StageOf.{stage_of}}
+use Rattle.world_spec.specs.{Value.{World, is_live, entry_at, instance_at, account_at}, Shares.{HaveShares, with_share, work_shares}}
+use Rattle.world_spec.{specs.{Stepping.{HasStepped, HasItsShare}, Agreement.{AgreesWith}}, proofs.Stepping.{stepped-losing, instance-found}}
+use Rattle.sample_ring.specs.{OutEnds.{OutEnd}, RingLists.{OutList}, Sends.{Request, fits, lost_to, request_of, sent_to, written_to}}
+use Rattle.work_account.specs.{Ends.{Ends, HaveAccounts, send_all, send_next, sent_among}, Sampling.{AreLeft, ends_of, sent_by}}
+use Rattle.machine.{specs.Stepped.{IsReady, IsDoneWith, seen_of}, proofs.Asking.{settled-below}}
 
 -- What is told of a stretch of work, but for the records that it loses: the worlds before and after it.
 pub record Course (w x : World) (cpu : CpuNo) (work : Work) : Type 0 where

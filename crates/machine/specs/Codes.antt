@@ -1,9 +1,7 @@
 -- How the value of a machine is stored: as the tuple of its parts. This project's own profile.
-use Rattle.std.specs.Prelude.{ℕ, List, refl}
-use Rattle.std.specs.Coded.{Coded, code_by, coded×, coded_ℕ, coded_list}
+use Rattle.std.specs.{Prelude.{ℕ, List, refl}, Coded.{Coded, code_by, coded×, coded_ℕ, coded_list}}
 use Rattle.perf_world.specs.Codes.{world_code}
-use Rattle.sample_ring.specs.RingLists.{OutList}
-use Rattle.sample_ring.specs.contracts.rings.Outs.{the_row as outs_row}
+use Rattle.sample_ring.specs.{RingLists.{OutList}, contracts.rings.Outs.{the_row as outs_row}}
 use Rattle.world_spec.specs.Value.{World}
 use Rattle.machine.specs.Leading.{Kept}
 

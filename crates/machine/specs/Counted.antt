@@ -1,22 +1,13 @@
 -- How many tests of counters a line takes. After ctx_resched of kernel/events/core.c; the bounds are this project's own
 -- profile.
-use Rattle.std.specs.Prelude.{◌≡◌, ℕ, ◌+◌, ◌*◌, ◌≤◌, Bool, false, not, ◌&&◌, List, filter, length, Option, Some, None}
-use Rattle.std.specs.List.{sum_by}
-use Rattle.perf_base.specs.declared.lines.CpuLine.{CpuLine}
+use Rattle.std.specs.{Prelude.{◌≡◌, ℕ, ◌+◌, ◌*◌, ◌≤◌, Bool, false, not, ◌&&◌, List, filter, length, Option, Some, None}, List.{sum_by}}
+use Rattle.perf_base.specs.declared.{lines.CpuLine.{CpuLine}, numbers.CpuNo.{CpuNo}}
 use Rattle.perf_base.specs.declared.lines.CpuLine.TheVariants as line
-use Rattle.perf_base.specs.declared.numbers.CpuNo.{CpuNo}
-use Rattle.stage_spec.specs.Hardware.{Hardware}
-use Rattle.stage_spec.specs.History.{Step, CpuStep, ToolStep, SeenStep}
-use Rattle.stage_spec.specs.Replies.{seated}
-use Rattle.stage_spec.specs.Stage.{Stage, all_cpus, task_on}
+use Rattle.stage_spec.specs.{Hardware.{Hardware}, History.{Step, CpuStep, ToolStep, SeenStep}, Replies.{seated}, Stage.{Stage, all_cpus, task_on}}
 use Rattle.stage_spec.specs.Switching.{is_running}
 use Rattle.stage_laws.specs.Narrowing.{changed, touches}
-use Rattle.world_spec.specs.StageOf.{stage_of}
-use Rattle.world_spec.specs.Value.{World}
-use Rattle.cpu_sched.specs.After.{after_brief}
-use Rattle.cpu_sched.specs.Briefs.{ProcessorBrief}
-use Rattle.cpu_sched.specs.Sheets.{Held, IsPlannedFor}
-use Rattle.cpu_sched.specs.Tried.{tried}
+use Rattle.world_spec.specs.{StageOf.{stage_of}, Value.{World}}
+use Rattle.cpu_sched.specs.{After.{after_brief}, Briefs.{ProcessorBrief}, Sheets.{Held, IsPlannedFor}, Tried.{tried}}
 
 -- Some processors of a stage are rescheduled, which leads to another stage: at least one test for each hardware event
 -- that is on there then, and at most 272 for each event that counters are tried for.

@@ -1,13 +1,9 @@
 -- What is left of a run. This project's own profile.
 use Rattle.std.specs.Prelude.{◌≡◌, ◌*◌, All, List, [], length, map}
-use Rattle.perf_base.specs.declared.acts.Act.{Act}
-use Rattle.perf_base.specs.declared.reply.Answer.{Answer}
-use Rattle.perf_base.specs.Scripts.{Scripted}
-use Rattle.stage_spec.specs.Order.{IsCounted}
-use Rattle.stage_spec.specs.Replies.{lines_from}
+use Rattle.perf_base.specs.{declared.{acts.Act.{Act}, reply.Answer.{Answer}}, Scripts.{Scripted}}
+use Rattle.stage_spec.specs.{Order.{IsCounted}, Replies.{lines_from}}
 use Rattle.sample_ring.specs.RingLists.{InList, HasReader}
-use Rattle.machine.specs.declared.ending.RingEnd.{RingEnd}
-use Rattle.machine.specs.Readers.{words_in}
+use Rattle.machine.specs.{declared.ending.RingEnd.{RingEnd}, Readers.{words_in}}
 
 -- its script, the order in which its lines were done, the answers to them, what each ring came to, and the rings'
 -- readers

@@ -1,17 +1,11 @@
--- Which given lines lead to a machine. They may be any lines that keep a script's limits, whether the script has them or
--- not. This project's own profile.
+-- Which given lines lead to a machine. They may be any lines that keep a script's limits, whether the script has them
+-- or not. This project's own profile.
 use Rattle.std.specs.Prelude.{◌≡◌, ◌<◌, ◌≤◌, ◌==◌, All, Bool, false, List, [], ◌∷◌, count_by, slice_index_or}
-use Rattle.perf_base.specs.declared.acts.Act.{Act}
-use Rattle.perf_base.specs.declared.numbers.CpuNo.{CpuNo}
-use Rattle.perf_base.specs.declared.reply.Reply.{Reply}
-use Rattle.perf_base.specs.Scripts.{Scripted, IsCovered, IsScript}
-use Rattle.stage_spec.specs.Hardware.{hardware_of}
-use Rattle.stage_spec.specs.History.{Step, CpuStep, ToolStep, SeenStep, history, opening_stage}
-use Rattle.stage_spec.specs.Limits.{limits_of}
+use Rattle.perf_base.specs.{declared.{acts.Act.{Act}, numbers.CpuNo.{CpuNo}, reply.Reply.{Reply}}, Scripts.{Scripted, IsCovered, IsScript}}
+use Rattle.stage_spec.specs.{Hardware.{hardware_of}, History.{Step, CpuStep, ToolStep, SeenStep, history, opening_stage}, Limits.{limits_of}}
 use Rattle.stage_spec.specs.Replies.{AreReplies}
 use Rattle.stage_laws.specs.Bounds.{IsLineWithin, is_line}
-use Rattle.ring_spec.specs.Rings.{lost_count}
-use Rattle.ring_spec.specs.Running.{Running, record_of}
+use Rattle.ring_spec.specs.{Rings.{lost_count}, Running.{Running, record_of}}
 use Rattle.world_spec.specs.Agreement.{AgreesWith}
 use Rattle.work_account.specs.Ends.{HaveAccounts}
 use Rattle.machine.specs.Leading.{Kept, LeadTo}

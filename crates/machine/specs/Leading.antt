@@ -1,26 +1,17 @@
 -- What a machine keeps, which acts of a script lead to it, and what an act answers after them. This project's own
 -- profile.
 use Rattle.std.specs.Prelude.{◌≡◌, ℕ, ◌*◌, ◌<◌, List, [], ◌∷◌, length, option_map, Option, None, slice_get, slice_index_or}
-use Rattle.perf_base.specs.declared.acts.Act.{Act}
-use Rattle.perf_base.specs.declared.acts.Act.TheVariants as act
-use Rattle.perf_base.specs.declared.acts.Actor.{Actor}
-use Rattle.perf_base.specs.declared.acts.Actor.TheVariants as actor
-use Rattle.perf_base.specs.declared.numbers.CpuNo.{CpuNo}
-use Rattle.perf_base.specs.declared.numbers.ToolNo.{ToolNo}
-use Rattle.perf_base.specs.declared.reply.Reply.{Reply}
+use Rattle.perf_base.specs.declared.{acts.{Act.{Act}, Actor.{Actor}}, numbers.{CpuNo.{CpuNo}, ToolNo.{ToolNo}}, reply.Reply.{Reply}}
 use Rattle.perf_base.specs.Scripts.{Scripted, lines_of_cpu, lines_of_tool}
-use Rattle.stage_spec.specs.Hardware.{hardware_of}
-use Rattle.stage_spec.specs.History.{Step, CpuStep, ToolStep, steps_of, history, opening_stage}
-use Rattle.stage_spec.specs.Order.{IsCounted, done_by_cpu, done_by_tool}
-use Rattle.stage_spec.specs.Replies.{AreReplies}
-use Rattle.ring_spec.specs.Rings.{IsLawfulOrder, lost_count}
-use Rattle.ring_spec.specs.Running.{Running, record_of}
+use Rattle.perf_base.specs.declared.acts.Act.TheVariants as act
+use Rattle.perf_base.specs.declared.acts.Actor.TheVariants as actor
+use Rattle.stage_spec.specs.{Hardware.{hardware_of}, History.{Step, CpuStep, ToolStep, steps_of, history, opening_stage}}
+use Rattle.stage_spec.specs.{Order.{IsCounted, done_by_cpu, done_by_tool}, Replies.{AreReplies}}
+use Rattle.ring_spec.specs.{Rings.{IsLawfulOrder, lost_count}, Running.{Running, record_of}}
 use Rattle.sample_ring.specs.RingLists.{OutList}
 use Rattle.work_account.specs.Ends.{HaveAccounts}
-use Rattle.world_spec.specs.Agreement.{AgreesWith}
-use Rattle.world_spec.specs.Value.{World, totals_at}
-use Rattle.machine.specs.Stepped.{IsReady}
-use Rattle.machine.specs.Totals.{AreUpTo}
+use Rattle.world_spec.specs.{Agreement.{AgreesWith}, Value.{World, totals_at}}
+use Rattle.machine.specs.{Stepped.{IsReady}, Totals.{AreUpTo}}
 
 -- how many lines each processor and each tool has done, the events with what they have counted, and the ends of the
 -- rings that send

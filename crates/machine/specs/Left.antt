@@ -1,24 +1,16 @@
 -- What acts of a script leave: a world and the ends of its rings. This project's own profile, after its limits on
 -- scripts.
 use Rattle.std.specs.Prelude.{◌≡◌, ◌≤◌, List, [], ◌∷◌}
-use Rattle.perf_base.specs.declared.acts.Act.{Act}
+use Rattle.perf_base.specs.{declared.{acts.Act.{Act}, lines.Work.{Work}, numbers.CpuNo.{CpuNo}}, Scripts.{Scripted, IsCovered, IsScript}}
+use Rattle.perf_base.specs.Weight.{weight}
 use Rattle.perf_base.specs.declared.acts.Act.TheVariants as act
 use Rattle.perf_base.specs.declared.lines.CpuLine.TheVariants as line
-use Rattle.perf_base.specs.declared.lines.Work.{Work}
-use Rattle.perf_base.specs.declared.numbers.CpuNo.{CpuNo}
-use Rattle.perf_base.specs.Scripts.{Scripted, IsCovered, IsScript}
-use Rattle.perf_base.specs.Weight.{weight}
-use Rattle.stage_spec.specs.Hardware.{hardware_of}
-use Rattle.stage_spec.specs.History.{CpuStep, history, opening_stage, steps_of}
+use Rattle.stage_spec.specs.{Hardware.{hardware_of}, History.{CpuStep, history, opening_stage, steps_of}}
 use Rattle.stage_laws.specs.Sound.{IsSound}
 use Rattle.ring_spec.specs.Running.{record_of}
 use Rattle.sample_ring.specs.RingLists.{OutList}
-use Rattle.world_spec.specs.Agreement.{AgreesWith}
-use Rattle.world_spec.specs.Kept.{IsKept}
-use Rattle.world_spec.specs.StageOf.{stage_of}
-use Rattle.world_spec.specs.Value.{World}
-use Rattle.work_account.specs.Ends.{HaveAccounts}
-use Rattle.work_account.specs.Sampling.{HaveRings, HaveSpaceToSend, ends_of}
+use Rattle.world_spec.specs.{Agreement.{AgreesWith}, Kept.{IsKept}, StageOf.{stage_of}, Value.{World}}
+use Rattle.work_account.specs.{Ends.{HaveAccounts}, Sampling.{HaveRings, HaveSpaceToSend, ends_of}}
 
 -- The world agrees with the record of the acts' steps, and the ends have the accounts of the record's rings.
 pub record IsLeft (s : Scripted) (acts : List Act) (w : World) (outs : OutList) : Type 0 where

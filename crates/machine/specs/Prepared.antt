@@ -1,22 +1,12 @@
 -- What a processor's worker plans from before its next line: the brief that the line's own change leads to. This
 -- project's own profile.
 use Rattle.std.specs.Prelude.{◌≡◌, ℕ, ◌<◌, true, false, length, List, map, option_map, Option, slice_get, slice_index_or}
-use Rattle.perf_base.specs.Scripts.{Scripted, lines_of_cpu}
-use Rattle.perf_base.specs.declared.lines.CpuLine.{CpuLine}
-use Rattle.perf_base.specs.declared.numbers.CpuNo.{CpuNo}
-use Rattle.perf_base.specs.declared.numbers.Key.{Key}
+use Rattle.perf_base.specs.{Scripts.{Scripted, lines_of_cpu}, declared.{lines.CpuLine.{CpuLine}, numbers.{CpuNo.{CpuNo}, Key.{Key}}}}
 use Rattle.stage_spec.specs.History.{CpuStep}
-use Rattle.stage_laws.specs.Briefs.{GroupBrief}
-use Rattle.stage_laws.specs.Narrowing.{changed, touches}
-use Rattle.stage_laws.specs.Standings.{briefs}
-use Rattle.world_spec.specs.Kept.{IsKept}
-use Rattle.world_spec.specs.StageOf.{stage_of}
-use Rattle.world_spec.specs.Value.{World, instance_at}
-use Rattle.cpu_sched.specs.After.{after_brief}
-use Rattle.cpu_sched.specs.Briefs.{ProcessorBrief}
-use Rattle.cpu_sched.specs.Sheets.{Held}
-use Rattle.machine.specs.Leading.{Kept}
-use Rattle.machine.specs.Stepped.{IsReady}
+use Rattle.stage_laws.specs.{Briefs.{GroupBrief}, Narrowing.{changed, touches}, Standings.{briefs}}
+use Rattle.world_spec.specs.{Kept.{IsKept}, StageOf.{stage_of}, Value.{World, instance_at}}
+use Rattle.cpu_sched.specs.{After.{after_brief}, Briefs.{ProcessorBrief}, Sheets.{Held}}
+use Rattle.machine.specs.{Leading.{Kept}, Stepped.{IsReady}}
 
 -- none where the processor has no line left
 abbrev pub next_brief : Scripted → Kept → CpuNo → Option ProcessorBrief

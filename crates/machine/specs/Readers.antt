@@ -1,15 +1,8 @@
 -- The readers of a replay, each of which has taken what the last look at its ring saw. This project's own profile.
 use Rattle.std.specs.Prelude.{◌≡◌, ℕ, ◌+◌, ◌*◌, ◌<◌, ◌≤◌, All, List, [], length, map, Option, Some, None, slice_get}
-use Rattle.perf_base.specs.declared.acts.Act.{Act}
-use Rattle.perf_base.specs.declared.numbers.RingNo.{RingNo}
-use Rattle.perf_base.specs.Scripts.{Scripted}
-use Rattle.ring_spec.specs.Account.{Account, head_of}
-use Rattle.ring_spec.specs.Records.{words_of}
-use Rattle.ring_spec.specs.Rings.{account_in, bytes_of}
-use Rattle.sample_ring.specs.Taking.{IsUpTo}
-use Rattle.sample_ring.specs.InEnds.{InEnd}
-use Rattle.sample_ring.specs.OutEnds.{OutEnd}
-use Rattle.sample_ring.specs.declared.sent.RingNumbers.{RingNumbers}
+use Rattle.perf_base.specs.{declared.{acts.Act.{Act}, numbers.RingNo.{RingNo}}, Scripts.{Scripted}}
+use Rattle.ring_spec.specs.{Account.{Account, head_of}, Records.{words_of}, Rings.{account_in, bytes_of}}
+use Rattle.sample_ring.specs.{Taking.{IsUpTo}, InEnds.{InEnd}, OutEnds.{OutEnd}, declared.sent.RingNumbers.{RingNumbers}}
 use Rattle.sample_ring.specs.RingLists.{OutList, InList, HasReader, ring_index}
 
 -- A reader is of the ring of an end that sends, has taken and released just what stands before the last tail that this

@@ -1,12 +1,7 @@
 -- Room for one line more, whatever it is, within the limits on lines. This project's own profile.
 use Rattle.std.specs.Prelude.{ℕ, ◌+◌, ◌^◌, ◌<◌, List, length, slice_index_or}
-use Rattle.perf_base.specs.Scripts.{IsToolLine}
-use Rattle.perf_base.specs.declared.lines.ToolLine.{ToolLine}
-use Rattle.perf_base.specs.declared.numbers.CpuNo.{CpuNo}
-use Rattle.perf_base.specs.declared.numbers.RingNo.{RingNo}
-use Rattle.perf_base.specs.declared.reply.Sums.{Sums}
-use Rattle.world_spec.specs.Shares.{HaveRoom}
-use Rattle.world_spec.specs.Value.{World, totals_at}
+use Rattle.perf_base.specs.{Scripts.{IsToolLine}, declared.{lines.ToolLine.{ToolLine}, numbers.{CpuNo.{CpuNo}, RingNo.{RingNo}}, reply.Sums.{Sums}}}
+use Rattle.world_spec.specs.{Shares.{HaveRoom}, Value.{World, totals_at}}
 use Rattle.machine.specs.Totals.{AreUpTo}
 
 -- the most that a line adds to an event and its copies

@@ -1,9 +1,6 @@
 -- A world after some of its processors were rescheduled. After ctx_resched of kernel/events/core.c.
-use Rattle.std.specs.Prelude.{◌≡◌, ◌==◌, Bool}
-use Rattle.std.specs.Int.{bit_at}
-use Rattle.perf_base.specs.declared.numbers.CpuNo.{CpuNo}
-use Rattle.perf_base.specs.declared.numbers.CpuSet.{CpuSet}
-use Rattle.perf_base.specs.declared.numbers.Key.{Key}
+use Rattle.std.specs.{Prelude.{◌≡◌, ◌==◌, Bool}, Int.{bit_at}}
+use Rattle.perf_base.specs.declared.numbers.{CpuNo.{CpuNo}, CpuSet.{CpuSet}, Key.{Key}}
 use Rattle.world_spec.specs.Value.{World, is_live, entry_at, instance_at}
 
 -- whether a processor is in a set

@@ -1,9 +1,7 @@
 -- What an end that sends shows of its account. This project's own profile.
 use Rattle.std.specs.Prelude.{◌≡◌, length}
 use Rattle.perf_base.specs.declared.numbers.RingNo.{RingNo}
-use Rattle.ring_spec.specs.Account.{Account, head_of}
-use Rattle.ring_spec.specs.Records.{words_of}
-use Rattle.ring_spec.specs.Running.{RingAccount}
+use Rattle.ring_spec.specs.{Account.{Account, head_of}, Records.{words_of}, Running.{RingAccount}}
 use Rattle.ring_words.specs.Ends.{head_place}
 use Rattle.sample_ring.specs.OutEnds.{OutEnd}
 use Rattle.work_account.specs.Ends.{IsAccountOf}

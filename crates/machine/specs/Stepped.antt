@@ -1,20 +1,14 @@
 -- What a machine's world keeps between lines, and what it is to have done a line. This project's own profile.
 use Rattle.std.specs.Prelude.{◌≡◌, ℕ, ◌<◌, true, List, [], length, map}
-use Rattle.perf_base.specs.declared.numbers.CpuNo.{CpuNo}
-use Rattle.perf_base.specs.declared.numbers.Key.{Key}
-use Rattle.perf_base.specs.declared.reply.Reply.{Reply}
+use Rattle.perf_base.specs.declared.{numbers.{CpuNo.{CpuNo}, Key.{Key}}, reply.Reply.{Reply}}
 use Rattle.perf_base.specs.declared.reply.Reply.TheVariants as reply
 use Rattle.perf_base.specs.declared.standing.Context.TheVariants as context
-use Rattle.stage_spec.specs.History.{Step}
-use Rattle.stage_spec.specs.Limits.{Limits, IsMachine}
+use Rattle.stage_spec.specs.{History.{Step}, Limits.{Limits, IsMachine}}
 use Rattle.stage_laws.specs.Sound.{IsSound}
 use Rattle.ring_spec.specs.Running.{Running, IsAnswerBy, record_after}
-use Rattle.world_spec.specs.Agreement.{AgreesWith}
-use Rattle.world_spec.specs.Rescheduled.{AreRescheduled}
-use Rattle.world_spec.specs.StageOf.{stage_of}
+use Rattle.world_spec.specs.{Agreement.{AgreesWith}, Rescheduled.{AreRescheduled}, StageOf.{stage_of}, Value.{World, is_live, entry_at}}
 use Rattle.sample_ring.specs.RingLists.{OutList}
 use Rattle.work_account.specs.Ends.{HaveAccounts}
-use Rattle.world_spec.specs.Value.{World, is_live, entry_at}
 
 -- the limits of a world none of whose lines speaks of a ring
 abbrev pub limits_in : World → Limits

@@ -1,14 +1,10 @@
 -- What an act of a replay answers, and for what it is refused. This project's own profile.
 use Rattle.std.specs.Prelude.{◌≡◌, ℕ, ⊤, List}
-use Rattle.perf_base.specs.declared.acts.Act.{Act}
+use Rattle.perf_base.specs.{declared.{acts.Act.{Act}, numbers.RingNo.{RingNo}, reply.Reply.{Reply}}, Scripts.{Scripted, HasRing}}
 use Rattle.perf_base.specs.declared.acts.Act.TheVariants as act
 use Rattle.perf_base.specs.declared.acts.Actor.TheVariants as actor
-use Rattle.perf_base.specs.declared.numbers.RingNo.{RingNo}
-use Rattle.perf_base.specs.declared.reply.Reply.{Reply}
 use Rattle.perf_base.specs.declared.reply.Reply.TheVariants as reply
-use Rattle.perf_base.specs.Scripts.{Scripted, HasRing}
-use Rattle.ring_spec.specs.Account.{head_of}
-use Rattle.ring_spec.specs.Rings.{account_in, bytes_of, sizes_in}
+use Rattle.ring_spec.specs.{Account.{head_of}, Rings.{account_in, bytes_of, sizes_in}}
 use Rattle.stage_spec.specs.Order.{IsLawfulSeen, last_seen}
 use Rattle.sample_ring.specs.RingLists.{InList}
 use Rattle.machine.specs.Leading.{Kept, HasLine, IsReplyTo}

@@ -1,14 +1,10 @@
 -- What a switch gives the events of a processor. After perf_event_task_sched_in and perf_sw_event of
 -- kernel/events/core.c.
 use Rattle.std.specs.Prelude.{ℕ, Bool, if◌then◌else◌}
+use Rattle.perf_base.specs.declared.{numbers.CpuNo.{CpuNo}, reply.Sums.{Sums}}
 use Rattle.perf_base.specs.declared.attr.Kind.TheVariants as kind
-use Rattle.perf_base.specs.declared.numbers.CpuNo.{CpuNo}
-use Rattle.perf_base.specs.declared.reply.Sums.{Sums}
-use Rattle.stage_spec.specs.Shares.{of_instance, no_sums}
-use Rattle.stage_spec.specs.Verdict.{on_instances}
-use Rattle.world_spec.specs.StageOf.{stage_of}
-use Rattle.world_spec.specs.Value.{World}
-use Rattle.world_spec.specs.Shares.{soft_hits}
+use Rattle.stage_spec.specs.{Shares.{of_instance, no_sums}, Verdict.{on_instances}}
+use Rattle.world_spec.specs.{StageOf.{stage_of}, Value.{World}, Shares.{soft_hits}}
 
 -- a migration, where the switch is one
 abbrev pub migration_shares : Bool → World → CpuNo → ℕ → Sums

@@ -1,11 +1,8 @@
 -- Lists made from the numbers from 0 on.
 use Rattle.std.proofs.Common.{◌≡◌, ℕ, zero, suc, ◌+◌, ◌*◌, ◌<◌, ◌≤◌, List, [], ◌∷◌, ◌++◌, length, get_or, All, sym, ap, refl, subst, arith, ◌∙◌}
-use Rattle.std.specs.Prelude.{AllPairs, sum_by, flat_map}
-use Rattle.std.specs.List.{range_with_len}
-use Rattle.std.proofs.lemmas.List.{append-nil, append_assoc, length-append}
-use Rattle.std.proofs.lemmas.List.Elements.{All-nil, All-append}
-use Rattle.std.proofs.lemmas.List.FromFn.{length-map-range_with_len, get_or-map-range_with_len, map-range_with_len_more}
-use Rattle.std.proofs.lemmas.List.Sums.{sum_by-append}
+use Rattle.std.proofs.lemmas.List.{append-nil, append_assoc, length-append, Elements.{All-nil, All-append}}
+use Rattle.std.proofs.lemmas.List.{FromFn.{length-map-range_with_len, get_or-map-range_with_len, map-range_with_len_more}, Sums.{sum_by-append}}
+use Rattle.std.specs.{Prelude.{AllPairs, sum_by, flat_map}, List.{range_with_len}}
 use Rattle.make_spec.specs.Rounds.{for_each, for_each_all}
 
 -- the value at one of the numbers

@@ -1,8 +1,7 @@
 -- Each line of the script of N rounds is in its ranges and of its type.
 use Rattle.std.proofs.Common.{◌≡◌, ℕ, ◌+◌, ◌*◌, ◌%◌, ◌<◌, ◌≤◌, [], ◌∷◌, ◌++◌, length, All, refl, arith}
-use Rattle.std.specs.Prelude.{replicate}
 use Rattle.std.proofs.lemmas.List.Elements.{All-from_recursion, All-cons, All-replicate, All-append}
-use Rattle.std.proofs.lemmas.List.FromFn.{length-map-range_with_len, get_or-map-range_with_len}
+use Rattle.std.{proofs.lemmas.List.FromFn.{length-map-range_with_len, get_or-map-range_with_len}, specs.Prelude.{replicate}}
 use Rattle.perf_base.specs.Scripts.{IsCpuLine, IsToolLine, IsStoredWork, IsStoredToolLine, IsRingLine, IsReaderLine, HasRing}
 use Rattle.make_spec.specs.Rounds.{for_each, for_each_all, made_ring, made_reader, made_hits, round_lines, processor_lines, sampling_lines, counting_lines, read_line, first_lines, last_lines}
 use Rattle.make_spec.proofs.ForEach.{all_for_each, all_for_each_all, length_of_fours}

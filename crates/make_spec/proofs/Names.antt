@@ -1,16 +1,9 @@
 -- The kinds of the script of N rounds can be declared, one after the other.
 use Rattle.std.proofs.Common.{◌≡◌, ◌≢◌, ℕ, ◌<◌, ◌≤◌, false, List, [], ◌∷◌, length, get_or, All, ap, inl, inr, ◌∙◌, arith}
-use Rattle.std.specs.Prelude.{AllPairs, codes, take}
-use Rattle.std.specs.List.{AllByRecursion}
-use Rattle.std.specs.Str.{bytes_eq}
-use Rattle.std.proofs.lemmas.Bool.{cases_Bool, cond-false}
-use Rattle.std.proofs.lemmas.List.Elements.{All-from_recursion}
-use Rattle.std.proofs.lemmas.List.Quantifiers.{all_pairs_push}
-use Rattle.std.proofs.lemmas.Slice.Eq.{bytes_eq-Decides}
-use Rattle.perf_base.specs.Kinds.{software_name}
-use Rattle.perf_base.specs.declared.attr.Kind.TheVariants.{ContextSwitches, CpuMigrations, TaskClock, Dummy}
-use Rattle.perf_base.specs.declared.lines.KindLine.{KindLine}
-use Rattle.perf_base.specs.Scripts.{IsKindLine, IsName, IsNameByte, IsFreeName}
+use Rattle.std.proofs.lemmas.{Bool.{cases_Bool, cond-false}, List.{Elements.{All-from_recursion}, Quantifiers.{all_pairs_push}}}
+use Rattle.std.{proofs.lemmas.Slice.Eq.{bytes_eq-Decides}, specs.{Prelude.{AllPairs, codes, take}, List.{AllByRecursion}, Str.{bytes_eq}}}
+use Rattle.perf_base.specs.{Kinds.{software_name}, declared.attr.Kind.TheVariants.{ContextSwitches, CpuMigrations, TaskClock, Dummy}}
+use Rattle.perf_base.specs.{declared.lines.KindLine.{KindLine}, Scripts.{IsKindLine, IsName, IsNameByte, IsFreeName}}
 use Rattle.make_spec.specs.Rounds.{made_pmus, made_kinds}
 
 abbrev AreLetters : List ℕ → Type 0

@@ -1,17 +1,12 @@
 -- The script of N rounds can be built, and its machine is covered.
 use Rattle.std.proofs.Common.{◌≡◌, ℕ, zero, suc, ◌*◌, ◌<◌, ◌≤◌, List, [], ◌++◌, All, refl, arith}
-use Rattle.std.specs.Prelude.{replicate}
+use Rattle.std.{proofs.lemmas.List.Elements.{All-from_recursion, All-nil, All-cons, All-replicate, All-append}, specs.Prelude.{replicate}}
 use Rattle.std.specs.Int.{bit_at}
-use Rattle.std.proofs.lemmas.List.Elements.{All-from_recursion, All-nil, All-cons, All-replicate, All-append}
-use Rattle.perf_base.specs.declared.numbers.RingNo.{RingNo}
-use Rattle.perf_base.specs.declared.numbers.TaskNo.{TaskNo}
-use Rattle.perf_base.specs.declared.lines.CpuLine.{CpuLine}
-use Rattle.perf_base.specs.declared.lines.ReaderLine.{ReaderLine}
-use Rattle.perf_base.specs.declared.acts.Act.TheVariants as act
+use Rattle.perf_base.specs.declared.{numbers.{RingNo.{RingNo}, TaskNo.{TaskNo}}, lines.{CpuLine.{CpuLine}, ReaderLine.{ReaderLine}}}
 use Rattle.perf_base.specs.Scripts.{IsPmuLine, IsCpuLine, IsToolLine, IsReaderLine, IsRingLine, IsAct, IsStoredWork, IsStoredToolLine, IsStoredAct}
+use Rattle.perf_base.specs.declared.acts.Act.TheVariants as act
 use Rattle.make_spec.specs.Rounds.{for_each, for_each_all, made_pmus, made_task, made_ring, made_reader, processor_lines, first_lines, last_lines, all_processors, script_of_rounds}
-use Rattle.make_spec.specs.Laws.{MadeIsScriptLaw, MadeIsCoveredLaw, MadeLinesLaw}
-use Rattle.make_spec.proofs.ForEach.{all_for_each, all_for_each_all, pairs_for_each}
+use Rattle.make_spec.{specs.Laws.{MadeIsScriptLaw, MadeIsCoveredLaw, MadeLinesLaw}, proofs.ForEach.{all_for_each, all_for_each_all, pairs_for_each}}
 use Rattle.make_spec.proofs.Names.{kinds_fit, kinds_once}
 use Rattle.make_spec.proofs.Lines.{processor_fits, processor_stored, processor_length, ring_fits, reader_fits, tool_fits, tool_stored}
 

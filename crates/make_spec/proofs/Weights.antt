@@ -1,10 +1,7 @@
 -- The weight of the script of N rounds: each kind of each work line fills one period, at most.
-use Rattle.std.proofs.Common.{◌≡◌, ℕ, ◌+◌, ◌*◌, ◌%◌, ◌<◌, arith}
-use Rattle.std.specs.Prelude.{sum_by}
+use Rattle.std.{proofs.Common.{◌≡◌, ℕ, ◌+◌, ◌*◌, ◌%◌, ◌<◌, arith}, specs.Prelude.{sum_by}}
 use Rattle.perf_base.specs.Weight.{shares, line_shares}
-use Rattle.make_spec.specs.Rounds.{round_lines, processor_lines, script_of_rounds}
-use Rattle.make_spec.specs.Laws.{MadeWeightLaw}
-use Rattle.make_spec.proofs.ForEach.{sum_of_fours}
+use Rattle.make_spec.{specs.{Rounds.{round_lines, processor_lines, script_of_rounds}, Laws.{MadeWeightLaw}}, proofs.ForEach.{sum_of_fours}}
 
 -- fewer occurrences than a period, and some, are one share
 one_share : (c : ℕ) → 0 < c → c < 10000 → shares 10000 c ≡ 1

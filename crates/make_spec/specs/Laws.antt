@@ -1,7 +1,6 @@
 -- What holds of the script of N rounds, whatever their number from 1 to 1000. This project's own profile.
 use Rattle.std.specs.Prelude.{◌≡◌, ℕ, ◌+◌, ◌*◌, ◌≤◌}
-use Rattle.perf_base.specs.Scripts.{IsScript, IsCovered, line_count}
-use Rattle.perf_base.specs.Weight.{weight}
+use Rattle.perf_base.specs.{Scripts.{IsScript, IsCovered, line_count}, Weight.{weight}}
 use Rattle.make_spec.specs.Rounds.{script_of_rounds}
 
 -- it is in the ranges of a script

@@ -1,24 +1,15 @@
 -- The script of N rounds: on four processors four tasks take turns and work, while one tool counts and samples
 -- them from before the first round to after the last. It is a load to measure by, and this project's own.
-use Rattle.std.specs.Prelude.{ℕ, ◌+◌, ◌*◌, ◌%◌, List, [], ◌∷◌, ◌++◌, map, flat_map, replicate, Some, None, codes}
-use Rattle.std.specs.List.{range_with_len}
-use Rattle.perf_base.specs.declared.numbers.RingNo.{RingNo}
-use Rattle.perf_base.specs.declared.numbers.TaskNo.{TaskNo}
-use Rattle.perf_base.specs.declared.attr.Attr.{Attr}
+use Rattle.std.specs.{Prelude.{ℕ, ◌+◌, ◌*◌, ◌%◌, List, [], ◌∷◌, ◌++◌, map, flat_map, replicate, Some, None, codes}, List.{range_with_len}}
+use Rattle.perf_base.specs.declared.{numbers.{RingNo.{RingNo}, TaskNo.{TaskNo}}, attr.Attr.{Attr}, lines.{PmuLine.{PmuLine}, KindLine.{KindLine}}}
+use Rattle.perf_base.specs.{declared.{lines.{CpuLine.{CpuLine}, ToolLine.{ToolLine}, ReaderLine.{ReaderLine}}, acts.Act.{Act}}, Scripts.{Scripted}}
 use Rattle.perf_base.specs.declared.attr.Kind.TheVariants as kind
 use Rattle.perf_base.specs.declared.attr.TaskSel.TheVariants as tasks
 use Rattle.perf_base.specs.declared.attr.CpuSel.TheVariants as cpus
 use Rattle.perf_base.specs.declared.lines.Mode.TheVariants as mode
-use Rattle.perf_base.specs.declared.lines.PmuLine.{PmuLine}
-use Rattle.perf_base.specs.declared.lines.KindLine.{KindLine}
-use Rattle.perf_base.specs.declared.lines.CpuLine.{CpuLine}
 use Rattle.perf_base.specs.declared.lines.CpuLine.TheVariants as cpu_line
-use Rattle.perf_base.specs.declared.lines.ToolLine.{ToolLine}
 use Rattle.perf_base.specs.declared.lines.ToolLine.TheVariants as tool_line
-use Rattle.perf_base.specs.declared.lines.ReaderLine.{ReaderLine}
-use Rattle.perf_base.specs.declared.acts.Act.{Act}
 use Rattle.perf_base.specs.declared.acts.Act.TheVariants as act
-use Rattle.perf_base.specs.Scripts.{Scripted}
 
 -- one PMU, with three counters on each of the processors 0 to 3
 abbrev pub made_pmus : List PmuLine

@@ -1,11 +1,9 @@
 -- What is read of a spelled act.
-use Rattle.std.proofs.Common.{◌≡◌, ℕ, List, Option, Some, None, sym, ap, subst, ◌∙◌, arith}
+use Rattle.std.proofs.{Common.{◌≡◌, ℕ, List, Option, Some, None, sym, ap, subst, ◌∙◌, arith}, lemmas.Option.{same_Some}}
 use Rattle.std.specs.Prelude.{MatchOption}
-use Rattle.std.proofs.lemmas.Option.{same_Some}
 use Rattle.perf_base.specs.declared.acts.Act.{Act}
 use Rattle.perf_base.specs.declared.acts.Act.TheVariants as act
-use Rattle.script_spec.specs.Acts.{act_text, IsActInRange}
-use Rattle.script_spec.specs.Forms.{IsActSpelling}
+use Rattle.script_spec.specs.{Acts.{act_text, IsActInRange}, Forms.{IsActSpelling}}
 use Rattle.order_text.specs.Reading.{Reads}
 
 -- numbers in range can be spelled

@@ -2,26 +2,16 @@
 use Rattle.std.specs.Prelude.{◌≡◌, ◌≢◌, ℕ, ◌+◌, ◌<◌, ◌≤◌, List, [], ◌∷◌, ◌++◌, length, drop, All, AllPairs, sum_by, replicate}
 use Rattle.std.proofs.Common.{inl, inr, get_or-set_same, get_or-set_other, zero, suc, arith, refl, ◌∙◌, get_or, set, length-set, ◌≢◌}
 use Rattle.std.proofs.lemmas.List.{get_or_append_left, length_push, drop-set-lt, drop-drop}
+use Rattle.std.proofs.lemmas.List.{Elements.{All-replicate, All-push, All-weaker, All-set, All-drop}, Quantifiers.{all_pairs_push}, Sums.{sum_by-set}}
 use Rattle.std.proofs.lemmas.Bool.{cases_eq}
-use Rattle.std.proofs.lemmas.List.Elements.{All-replicate, All-push, All-weaker, All-set, All-drop}
-use Rattle.std.proofs.lemmas.List.Quantifiers.{all_pairs_push}
-use Rattle.std.proofs.lemmas.List.Sums.{sum_by-set}
-use Rattle.perf_base.specs.declared.numbers.CpuNo.{CpuNo}
-use Rattle.perf_base.specs.declared.numbers.RingNo.{RingNo}
-use Rattle.perf_base.specs.declared.numbers.TaskNo.{TaskNo}
-use Rattle.perf_base.specs.declared.numbers.ToolNo.{ToolNo}
-use Rattle.perf_base.specs.declared.attr.Kind.{Kind}
-use Rattle.perf_base.specs.declared.attr.Kind.TheVariants as kind
-use Rattle.perf_base.specs.declared.lines.PmuLine.{PmuLine}
-use Rattle.perf_base.specs.declared.lines.KindLine.{KindLine}
-use Rattle.perf_base.specs.declared.lines.CpuLine.{CpuLine}
-use Rattle.perf_base.specs.declared.lines.CpuLine.TheVariants as cpu_line
-use Rattle.perf_base.specs.declared.lines.ToolLine.{ToolLine}
-use Rattle.perf_base.specs.declared.lines.ToolLine.TheVariants as tool_line
-use Rattle.perf_base.specs.declared.lines.ReaderLine.{ReaderLine}
+use Rattle.perf_base.specs.declared.{numbers.{CpuNo.{CpuNo}, RingNo.{RingNo}, TaskNo.{TaskNo}, ToolNo.{ToolNo}}, attr.Kind.{Kind}}
+use Rattle.perf_base.specs.declared.lines.{PmuLine.{PmuLine}, KindLine.{KindLine}, CpuLine.{CpuLine}, ToolLine.{ToolLine}, ReaderLine.{ReaderLine}}
 use Rattle.perf_base.specs.declared.acts.Act.{Act}
-use Rattle.perf_base.specs.declared.acts.Act.TheVariants as act
 use Rattle.perf_base.specs.Scripts.{Scripted, IsScript, empty_script, lines_of_cpu, lines_of_tool, line_count, with_pmu, with_kind, with_task, with_ring, with_cpu_line, with_tool_line, with_reader, with_act, IsPmuLine, AreApart, IsKindLine, IsMaskOf, IsRingLine, HasRing, IsKind, IsCpuLine, IsToolLine, IsReaderLine, IsAct, IsStoredWork, IsStoredToolLine, IsStoredAct}
+use Rattle.perf_base.specs.declared.attr.Kind.TheVariants as kind
+use Rattle.perf_base.specs.declared.lines.CpuLine.TheVariants as cpu_line
+use Rattle.perf_base.specs.declared.lines.ToolLine.TheVariants as tool_line
+use Rattle.perf_base.specs.declared.acts.Act.TheVariants as act
 
 pub IsMaskOf-append : (pmus more : List PmuLine) (n mask : ℕ) → IsMaskOf pmus n mask → IsMaskOf (pmus ++ more) n mask
 IsMaskOf-append [] more n mask h = absurd h

@@ -1,6 +1,5 @@
 -- A list of lists, kept as a list of values that each have one.
-use Rattle.std.proofs.Common.{◌≡◌, ℕ, ◌<◌, List, [], ◌∷◌, ◌++◌, length, map, get_or, set, sym, ap, ◌∙◌}
-use Rattle.std.proofs.lemmas.List.{map-set, get_or-map}
+use Rattle.std.proofs.{Common.{◌≡◌, ℕ, ◌<◌, List, [], ◌∷◌, ◌++◌, length, map, get_or, set, sym, ap, ◌∙◌}, lemmas.List.{map-set, get_or-map}}
 use Rattle.std.proofs.Math.Seq.{map-set_same}
 
 -- one of the lists gets an entry more

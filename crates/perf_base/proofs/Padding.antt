@@ -1,8 +1,7 @@
 -- Short lists in an array: the empty one, one with an entry more, and what is read of one.
 use Rattle.std.specs.Prelude.{slice_get, Some, ◌≡◌, ℕ, ◌-◌, ◌+◌, ◌<◌, ◌≤◌, List, length, take, drop, replicate}
 use Rattle.std.proofs.Common.{arith, ◌∙◌, sym, ap, set, length-set, length-take, get_or}
-use Rattle.std.proofs.lemmas.List.{length-take-le, drop-set-lt, drop-replicate, drop-drop, length-replicate, get_or-take}
-use Rattle.std.proofs.lemmas.Option.{slice_get-get_or}
+use Rattle.std.proofs.lemmas.{List.{length-take-le, drop-set-lt, drop-replicate, drop-drop, length-replicate, get_or-take}, Option.{slice_get-get_or}}
 use Rattle.perf_base.specs.Padded.{IsPadded}
 
 -- no place of an empty list is in use

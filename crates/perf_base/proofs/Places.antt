@@ -1,10 +1,7 @@
 -- The processors of a PMU, at its place in the list.
 use Rattle.std.proofs.Common.{◌≡◌, ℕ, ◌<◌, List, length, get_or, Option, Some, None, map, sym, ap, subst, ◌∙◌}
-use Rattle.std.specs.Prelude.{slice_get, IfSome}
-use Rattle.std.specs.Option.{option_map}
-use Rattle.std.proofs.lemmas.Option.{slice_get-get_or, slice_get-map}
-use Rattle.perf_base.specs.declared.numbers.CpuSet.{CpuSet}
-use Rattle.perf_base.specs.declared.lines.PmuLine.{PmuLine}
+use Rattle.std.{proofs.lemmas.Option.{slice_get-get_or, slice_get-map}, specs.{Prelude.{slice_get, IfSome}, Option.{option_map}}}
+use Rattle.perf_base.specs.declared.{numbers.CpuSet.{CpuSet}, lines.PmuLine.{PmuLine}}
 
 held : (P : CpuSet → Type 0) (line : Option PmuLine) (set : CpuSet) → option_map (λ p. p.cpus) line ≡ Some set → P set → IfSome line (λ p. P p.cpus)
 held P None set e h = tt

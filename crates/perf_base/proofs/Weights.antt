@@ -1,18 +1,12 @@
 -- Sums, counts and the least of a list, entry by entry, and how large they get.
 use Rattle.std.proofs.Common.{◌≡◌, ℕ, ◌+◌, ◌*◌, ◌^◌, ◌<◌, ◌≤◌, Bool, cond, ltb, List, [], ◌∷◌, ◌++◌, length, take, get_or, All, refl, sym, ap, ◌∙◌, arith}
-use Rattle.std.specs.Prelude.{sum_by, count_by}
-use Rattle.std.proofs.Math.Nat.{mul-le-mul, mul-le-mul_right}
-use Rattle.std.proofs.lemmas.Bool.Decides.{nat_tests}
-use Rattle.std.proofs.lemmas.List.{take_more}
-use Rattle.std.proofs.lemmas.List.Elements.{All-weaker}
+use Rattle.std.proofs.{Math.Nat.{mul-le-mul, mul-le-mul_right}, lemmas.{Bool.Decides.{nat_tests}, List.{take_more, Elements.{All-weaker}}}}
 use Rattle.std.proofs.lemmas.List.Sums.{sum_by-cons, sum_by-le, sum_by_more, sum_by_more_le, sum_by-le-sum_by, count_by-le-length, get_or-le-sum_by}
-use Rattle.perf_base.specs.declared.lines.CpuLine.{CpuLine}
-use Rattle.perf_base.specs.declared.lines.CpuLine.TheVariants as cpu_line
-use Rattle.perf_base.specs.declared.lines.ToolLine.{ToolLine}
-use Rattle.perf_base.specs.declared.lines.ToolLine.TheVariants as tool_line
-use Rattle.perf_base.specs.Scripts.{Scripted, IsScript, IsCpuLine}
-use Rattle.perf_base.specs.Light.{IsLight}
+use Rattle.std.specs.Prelude.{sum_by, count_by}
+use Rattle.perf_base.specs.{declared.lines.{CpuLine.{CpuLine}, ToolLine.{ToolLine}}, Scripts.{Scripted, IsScript, IsCpuLine}, Light.{IsLight}}
 use Rattle.perf_base.specs.Weight.{period_of, opens_sampling, lesser, least_by, shares, least_period, sampling_opens, shares_of, weight}
+use Rattle.perf_base.specs.declared.lines.CpuLine.TheVariants as cpu_line
+use Rattle.perf_base.specs.declared.lines.ToolLine.TheVariants as tool_line
 
 lesser_none : (a : ℕ) → lesser a 0 ≡ a
 lesser_none a = grind (arith, nat_tests)

@@ -1,8 +1,6 @@
 -- Whose line an act of an order is. This project's own profile.
 use Rattle.std.specs.Prelude.{Bool, false, ◌==◌}
-use Rattle.perf_base.specs.declared.numbers.CpuNo.{CpuNo}
-use Rattle.perf_base.specs.declared.numbers.ToolNo.{ToolNo}
-use Rattle.perf_base.specs.declared.acts.Act.{Act}
+use Rattle.perf_base.specs.declared.{numbers.{CpuNo.{CpuNo}, ToolNo.{ToolNo}}, acts.Act.{Act}}
 use Rattle.perf_base.specs.declared.acts.Act.TheVariants as act
 
 -- whether an act is a line of this processor, or of this tool

@@ -1,11 +1,8 @@
 -- Which context an event stands in. After pid and cpu of perf_event_open(2), and find_get_context of
 -- kernel/events/core.c.
-use Rattle.perf_base.specs.declared.attr.Attr.{Attr}
-use Rattle.perf_base.specs.declared.attr.TaskSel.{TaskSel}
+use Rattle.perf_base.specs.declared.{attr.{Attr.{Attr}, TaskSel.{TaskSel}, CpuSel.{CpuSel}}, standing.Context.{Context}}
 use Rattle.perf_base.specs.declared.attr.TaskSel.TheVariants as tasks
-use Rattle.perf_base.specs.declared.attr.CpuSel.{CpuSel}
 use Rattle.perf_base.specs.declared.attr.CpuSel.TheVariants as cpus
-use Rattle.perf_base.specs.declared.standing.Context.{Context}
 use Rattle.perf_base.specs.declared.standing.Context.TheVariants as context
 
 -- the context that an event counts: its task's, or its processor's

@@ -1,8 +1,6 @@
 -- Sets of processors, by bits. This project's own profile.
-use Rattle.std.specs.Prelude.{◌≡◌}
-use Rattle.std.specs.Int.{bit_at}
-use Rattle.perf_base.specs.declared.numbers.CpuNo.{CpuNo}
-use Rattle.perf_base.specs.declared.numbers.CpuSet.{CpuSet}
+use Rattle.std.specs.{Prelude.{◌≡◌}, Int.{bit_at}}
+use Rattle.perf_base.specs.declared.numbers.{CpuNo.{CpuNo}, CpuSet.{CpuSet}}
 
 -- the processor is in the set
 abbrev pub HasCpu : CpuSet → CpuNo → Type 0

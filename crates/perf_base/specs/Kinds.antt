@@ -1,8 +1,6 @@
 -- The software kinds by the names that perf-list(1) has for them.
-use Rattle.std.specs.Prelude.{ℕ, List, [], codes, Option, Some, None, if◌then◌else◌}
-use Rattle.std.specs.Str.{bytes_eq}
-use Rattle.perf_base.specs.declared.attr.Kind.{Kind}
-use Rattle.perf_base.specs.declared.attr.Kind.TheVariants.{Hard, ContextSwitches, CpuMigrations, TaskClock, Dummy}
+use Rattle.std.specs.{Prelude.{ℕ, List, [], codes, Option, Some, None, if◌then◌else◌}, Str.{bytes_eq}}
+use Rattle.perf_base.specs.declared.attr.Kind.{Kind, TheVariants.{Hard, ContextSwitches, CpuMigrations, TaskClock, Dummy}}
 
 -- the name of a software kind; a hardware kind has the one that its script declares
 abbrev pub software_name : Kind → List ℕ

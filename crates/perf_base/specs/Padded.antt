@@ -1,6 +1,5 @@
 -- Short lists that are kept in an array whose unused places have one filling. This project's own profile.
-use Rattle.std.specs.Prelude.{◌≡◌, ℕ, ◌-◌, ◌≤◌, List, ◌++◌, length, take, drop, replicate}
-use Rattle.std.proofs.Common.{arith, refl}
+use Rattle.std.{specs.Prelude.{◌≡◌, ℕ, ◌-◌, ◌≤◌, List, ◌++◌, length, take, drop, replicate}, proofs.Common.{arith, refl}}
 use Rattle.std.proofs.lemmas.List.{length-take-le, take-append-drop}
 
 -- what an array of `room` places holds: the list's length in use, and the filling elsewhere

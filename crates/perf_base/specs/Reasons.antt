@@ -1,9 +1,8 @@
 -- The numbers and printed words of the reasons, after perf_event_open(2)'s errors; where that has none,
 -- this project's own profile.
 use Rattle.std.specs.Prelude.{ℕ, List, codes}
-use Rattle.perf_base.specs.declared.reasons.Reason.{Reason}
+use Rattle.perf_base.specs.declared.reasons.{Reason.{Reason}, SReason.{SReason}}
 use Rattle.perf_base.specs.declared.reasons.Reason.TheVariants as reason
-use Rattle.perf_base.specs.declared.reasons.SReason.{SReason}
 use Rattle.perf_base.specs.declared.reasons.SReason.TheVariants as fault
 
 -- the number of a reason

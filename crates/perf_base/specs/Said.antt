@@ -1,7 +1,6 @@
 -- What a script says, read off the fields that keep it. This project's own profile.
 use Rattle.std.specs.Prelude.{map}
-use Rattle.perf_base.specs.Scripts.{Scripted, IsScript}
-use Rattle.perf_base.specs.declared.script.Script.TheInside.{Inside}
+use Rattle.perf_base.specs.{Scripts.{Scripted, IsScript}, declared.script.Script.TheInside.{Inside}}
 
 abbrev pub said : Inside → Scripted
 said s = record {

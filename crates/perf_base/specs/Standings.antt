@@ -1,7 +1,6 @@
 -- What a group's standing says, after the states of kernel/events/core.c: on is PERF_EVENT_STATE_ACTIVE.
 use Rattle.std.specs.Prelude.{Bool, true, false}
-use Rattle.perf_base.specs.declared.standing.Standing.{Standing}
-use Rattle.perf_base.specs.declared.standing.Standing.TheVariants.{Out, On, Refused}
+use Rattle.perf_base.specs.declared.standing.Standing.{Standing, TheVariants.{Out, On, Refused}}
 
 abbrev pub stands_on : Standing → Bool
 stands_on Out = false

@@ -1,10 +1,8 @@
 -- How many samples a script may bring, counted before it runs. This project's own profile.
 use Rattle.std.specs.Prelude.{ℕ, ◌+◌, ◌*◌, ◌/◌, ◌%◌, min, Bool, false, ◌==◌, nat_lt, List, [], ◌∷◌, sum_by, count_by, if◌then◌else◌}
-use Rattle.perf_base.specs.declared.lines.CpuLine.{CpuLine}
+use Rattle.perf_base.specs.{declared.lines.{CpuLine.{CpuLine}, ToolLine.{ToolLine}}, Scripts.{Scripted}}
 use Rattle.perf_base.specs.declared.lines.CpuLine.TheVariants as cpu_line
-use Rattle.perf_base.specs.declared.lines.ToolLine.{ToolLine}
 use Rattle.perf_base.specs.declared.lines.ToolLine.TheVariants as tool_line
-use Rattle.perf_base.specs.Scripts.{Scripted}
 
 -- the period that a line gives, refused or not; 0 for a line that gives none
 abbrev pub period_of : ToolLine → ℕ

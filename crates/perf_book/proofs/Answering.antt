@@ -1,21 +1,12 @@
 -- The answers to an order, with one more.
-use Rattle.std.specs.Prelude.{◌≡◌, ℕ, List, [], ◌∷◌, ◌++◌, length, map, Option, Some, None}
-use Rattle.std.proofs.Common.{arith, sym, ap, subst, ◌∙◌, append-nil}
-use Rattle.perf_base.specs.declared.acts.Act.{Act}
+use Rattle.std.{specs.Prelude.{◌≡◌, ℕ, List, [], ◌∷◌, ◌++◌, length, map, Option, Some, None}, proofs.Common.{arith, sym, ap, subst, ◌∙◌, append-nil}}
+use Rattle.perf_base.specs.{declared.{acts.{Act.{Act}, Actor.{Actor}}, reply.{Answer.{Answer}, Reply.{Reply}}}, Scripts.{Scripted}}
 use Rattle.perf_base.specs.declared.acts.Act.TheVariants as act
-use Rattle.perf_base.specs.declared.acts.Actor.{Actor}
 use Rattle.perf_base.specs.declared.acts.Actor.TheVariants as actor
-use Rattle.perf_base.specs.declared.reply.Answer.{Answer}
-use Rattle.perf_base.specs.declared.reply.Reply.{Reply}
-use Rattle.perf_base.specs.Scripts.{Scripted}
 use Rattle.ring_spec.proofs.Running.{map-map}
 use Rattle.stage_spec.specs.Replies.{AnswerOrder, lines_of_act}
-use Rattle.sample_ring.specs.OutEnds.{OutEnd}
-use Rattle.sample_ring.specs.RingLists.{OutList}
-use Rattle.machine.specs.Stepped.{seen_of}
-use Rattle.machine.specs.Leading.{Kept, HasLine, IsReplyTo, LeadTo, act_of, done_by}
-use Rattle.machine.specs.Readers.{loads_of}
-use Rattle.machine.specs.Stepping.{IsAnswerTo}
+use Rattle.sample_ring.specs.{OutEnds.{OutEnd}, RingLists.{OutList}}
+use Rattle.machine.specs.{Stepped.{seen_of}, Leading.{Kept, HasLine, IsReplyTo, LeadTo, act_of, done_by}, Readers.{loads_of}, Stepping.{IsAnswerTo}}
 use Rattle.machine.proofs.Answers.{answers-look, answers-push}
 use Rattle.report_spec.specs.Answers.{lost_in}
 use Rattle.perf_book.specs.Keeping.{kept, line_in}

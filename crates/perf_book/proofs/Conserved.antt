@@ -1,19 +1,10 @@
 -- Over each order of a script records are conserved on each ring.
-use Rattle.std.specs.Prelude.{◌≡◌, ℕ, List, count_by, filter, length}
-use Rattle.std.proofs.Common.{arith, ap, ◌∙◌}
-use Rattle.std.proofs.lemmas.List.{length-map}
+use Rattle.std.{specs.Prelude.{◌≡◌, ℕ, List, count_by, filter, length}, proofs.{Common.{arith, ap, ◌∙◌}, lemmas.List.{length-map}}}
 use Rattle.std.proofs.lemmas.List.Sums.{length-filter}
-use Rattle.perf_base.specs.declared.acts.Act.{Act}
-use Rattle.perf_base.specs.declared.numbers.RingNo.{RingNo}
-use Rattle.perf_base.specs.Scripts.{Scripted}
-use Rattle.stage_spec.specs.Hardware.{Hardware, hardware_of}
-use Rattle.stage_spec.specs.History.{Step, history, opening_stage}
-use Rattle.stage_spec.specs.Stage.{Stage}
-use Rattle.ring_spec.specs.Account.{RingEvent, Sends, is_sent}
-use Rattle.ring_spec.specs.Rings.{account_of, events_of, is_to}
-use Rattle.ring_spec.specs.Sending.{SentSample, sent_by_steps}
-use Rattle.ring_spec.proofs.Conserved.{sent_law, told_law}
-use Rattle.ring_spec.proofs.Rings.{sends_law}
+use Rattle.perf_base.specs.{declared.{acts.Act.{Act}, numbers.RingNo.{RingNo}}, Scripts.{Scripted}}
+use Rattle.stage_spec.specs.{Hardware.{Hardware, hardware_of}, History.{Step, history, opening_stage}, Stage.{Stage}}
+use Rattle.ring_spec.specs.{Account.{RingEvent, Sends, is_sent}, Rings.{account_of, events_of, is_to}, Sending.{SentSample, sent_by_steps}}
+use Rattle.ring_spec.proofs.{Conserved.{sent_law, told_law}, Rings.{sends_law}}
 use Rattle.perf_book.specs.Conserved.{IsConserved}
 
 -- the records that are sent to a ring

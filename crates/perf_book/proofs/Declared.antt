@@ -1,9 +1,7 @@
 -- Each ring of a script has its declared size.
 use Rattle.std.specs.Prelude.{◌≡◌, ℕ, zero, suc, ◌<◌, ◌==◌, false, All, AllPairs, List, [], ◌∷◌, find, length, Some}
-use Rattle.std.proofs.Common.{arith, ap, ◌∙◌, get_or}
-use Rattle.std.proofs.lemmas.Bool.Decides.{nat_tests}
-use Rattle.perf_base.specs.declared.numbers.RingNo.{RingNo}
-use Rattle.perf_base.specs.Scripts.{Scripted, IsScript}
+use Rattle.std.proofs.{Common.{arith, ap, ◌∙◌, get_or}, lemmas.Bool.Decides.{nat_tests}}
+use Rattle.perf_base.specs.{declared.numbers.RingNo.{RingNo}, Scripts.{Scripted, IsScript}}
 use Rattle.ring_spec.specs.Rings.{bytes_in, bytes_of}
 use Rattle.stage_laws.proofs.Leaders.{find-first, find-later}
 

@@ -1,44 +1,23 @@
 -- The case of an event that is opened behind the plan of a tick: how many groups each brief has, and what is on.
 use Rattle.std.specs.Prelude.{◌≡◌, ℕ, ◌<◌, ◌≤◌, Bool, true, false, if◌then◌else◌, List, [], ◌∷◌, ◌++◌, length, map, sum_by, Some, option_map, slice_get, slice_index_or}
-use Rattle.std.specs.Int.{bit_at}
-use Rattle.std.specs.Option.{IsSome}
-use Rattle.std.proofs.Common.{arith, refl, sym, ap, subst, ◌∙◌, length-append}
-use Rattle.std.proofs.lemmas.List.{length-map}
-use Rattle.std.proofs.lemmas.List.Sums.{sum_by-cons}
-use Rattle.std.proofs.lemmas.Option.{same_Some}
-use Rattle.perf_base.specs.declared.acts.Act.{Act}
+use Rattle.std.{specs.{Int.{bit_at}, Option.{IsSome}}, proofs.{Common.{arith, refl, sym, ap, subst, ◌∙◌, length-append}, lemmas.List.{length-map}}}
+use Rattle.std.proofs.lemmas.{List.Sums.{sum_by-cons}, Option.{same_Some}}
+use Rattle.perf_base.specs.{declared.{acts.Act.{Act}, numbers.Key.{Key}}, Scripts.{Scripted, IsCovered, lines_of_cpu, lines_of_tool}, Weight.{weight}}
 use Rattle.perf_base.specs.declared.acts.Actor.TheVariants as actor
 use Rattle.perf_base.specs.declared.lines.CpuLine.TheVariants as cpu_line
-use Rattle.perf_base.specs.declared.numbers.Key.{Key}
 use Rattle.perf_base.specs.declared.standing.Context.TheVariants as context
-use Rattle.perf_base.specs.Scripts.{Scripted, IsCovered, lines_of_cpu, lines_of_tool}
-use Rattle.perf_base.specs.Weight.{weight}
-use Rattle.stage_spec.specs.Hardware.{Hardware, hardware_of}
-use Rattle.stage_spec.specs.Stage.{Stage, first_stage, task_on}
-use Rattle.stage_spec.specs.Fits.{fits, fits_beside, fits_below}
-use Rattle.stage_spec.specs.Verdict.{judge, judge_pass, judge_passes, verdicts}
-use Rattle.stage_spec.specs.Settle.{settle_pass, settle, settle_each, settle_all}
-use Rattle.stage_spec.specs.Opening.{open_refusal, opened}
-use Rattle.stage_spec.specs.Order.{done_by_cpu, done_by_tool}
-use Rattle.stage_spec.specs.Replies.{seated}
-use Rattle.stage_spec.specs.Rotation.{rotated}
+use Rattle.stage_spec.specs.{Hardware.{Hardware, hardware_of}, Stage.{Stage, first_stage, task_on}, Fits.{fits, fits_beside, fits_below}}
+use Rattle.stage_spec.specs.{Verdict.{judge, judge_pass, judge_passes, verdicts}, Settle.{settle_pass, settle, settle_each, settle_all}}
+use Rattle.stage_spec.specs.{Opening.{open_refusal, opened}, Order.{done_by_cpu, done_by_tool}, Replies.{seated}, Rotation.{rotated}}
 use Rattle.stage_spec.specs.History.{Step, CpuStep, stage_step, stage_after, steps_from, history, opening_stage}
-use Rattle.stage_laws.specs.Briefs.{GroupBrief}
-use Rattle.stage_laws.specs.Narrowing.{changed}
-use Rattle.stage_laws.specs.Standings.{briefs}
-use Rattle.world_spec.specs.Listings.{task_leaders}
-use Rattle.world_spec.specs.StageOf.{stage_of}
-use Rattle.world_spec.specs.Value.{World, leaders_of}
+use Rattle.stage_laws.specs.{Briefs.{GroupBrief}, Narrowing.{changed}, Standings.{briefs}}
+use Rattle.world_spec.specs.{Listings.{task_leaders}, StageOf.{stage_of}, Value.{World, leaders_of}}
 use Rattle.cpu_sched.specs.After.{after_brief, hardware_goes_last, some_wait, turned_brief, turned_groups}
-use Rattle.cpu_sched.specs.Briefs.{ProcessorBrief, briefs_at, present_brief}
-use Rattle.cpu_sched.specs.Sheets.{Held}
-use Rattle.cpu_sched.specs.Tried.{tried}
+use Rattle.cpu_sched.specs.{Briefs.{ProcessorBrief, briefs_at, present_brief}, Sheets.{Held}, Tried.{tried}}
 use Rattle.cpu_sched.proofs.Relabelled.{briefs-relabelled, id_at, relabel}
-use Rattle.machine.specs.Counted.{IsCountedBy, Serves, rescheduled_by}
-use Rattle.perf_book.specs.LateOpen.{before_plan, behind_plan, behind_tick, cpu, shared_counter, stretch, tool}
-use Rattle.machine.specs.Leading.{Kept, LeadTo, next_step}
-use Rattle.machine.specs.Prepared.{next_brief, prepared}
+use Rattle.machine.specs.{Counted.{IsCountedBy, Serves, rescheduled_by}, Leading.{Kept, LeadTo, next_step}, Prepared.{next_brief, prepared}}
 use Rattle.machine.proofs.Roomy.{stage-then}
+use Rattle.perf_book.specs.LateOpen.{before_plan, behind_plan, behind_tick, cpu, shared_counter, stretch, tool}
 
 -- the counters of the case, its stage after some acts, and the tick
 hw : Hardware

@@ -1,22 +1,15 @@
 -- The lines that actors have left.
 use Rattle.std.specs.Prelude.{◌≡◌, ℕ, ◌+◌, ◌-◌, ◌<◌, ◌≤◌, true, false, nat_lt, List, [], ◌∷◌, ◌++◌, length, count_by}
-use Rattle.std.proofs.Common.{arith, refl, sym, ap, subst, inl, inr}
-use Rattle.std.proofs.lemmas.Bool.{cases_lt}
-use Rattle.std.proofs.lemmas.Bool.Decides.{nat_tests}
-use Rattle.std.proofs.lemmas.List.{get_or_past}
+use Rattle.std.proofs.{Common.{arith, refl, sym, ap, subst, inl, inr}, lemmas.{Bool.{cases_lt, Decides.{nat_tests}}, List.{get_or_past}}}
 use mathlib.Core.List.{IsPrefix}
-use Rattle.perf_base.specs.declared.acts.Act.{Act}
-use Rattle.perf_base.specs.declared.acts.Act.TheVariants as act
-use Rattle.perf_base.specs.declared.acts.Actor.{Actor}
-use Rattle.perf_base.specs.declared.acts.Actor.TheVariants as actor
-use Rattle.perf_base.specs.declared.numbers.CpuNo.{CpuNo}
-use Rattle.perf_base.specs.declared.numbers.ToolNo.{ToolNo}
+use Rattle.perf_base.specs.declared.{acts.{Act.{Act}, Actor.{Actor}}, numbers.{CpuNo.{CpuNo}, ToolNo.{ToolNo}}}
 use Rattle.perf_base.specs.Scripts.{Scripted, lines_of_cpu, lines_of_tool}
+use Rattle.perf_base.specs.declared.acts.Act.TheVariants as act
+use Rattle.perf_base.specs.declared.acts.Actor.TheVariants as actor
 use Rattle.stage_laws.proofs.Counts.{count-append}
 use Rattle.stage_spec.specs.Order.{IsComplete, done_by_cpu, done_by_tool, is_of_cpu, is_of_tool}
 use Rattle.machine.specs.Leading.{HasLine, act_of}
-use Rattle.perf_book.specs.Book.{AreLooksOf, Booked, IsBooked}
-use Rattle.perf_book.specs.Plans.{actor_at}
+use Rattle.perf_book.specs.{Book.{AreLooksOf, Booked, IsBooked}, Plans.{actor_at}}
 
 -- how many lines of an actor are left behind an order
 abbrev pub lines_left : Scripted → List Act → Actor → ℕ

@@ -1,13 +1,10 @@
 -- The looks that a loop over rising rings keeps.
 use Rattle.std.specs.Prelude.{◌≡◌, ℕ, ◌+◌, ◌<◌, ◌≤◌, ◌⊎◌, AllPairs, List, [], ◌∷◌, ◌++◌, length, slice_index_or}
-use Rattle.std.proofs.Common.{arith, sym, ap, subst, ◌∙◌, append_assoc, append-nil, inl, inr, length-append}
-use Rattle.std.proofs.lemmas.List.{get_or_default}
-use Rattle.perf_base.specs.declared.acts.Act.{Act}
+use Rattle.std.proofs.{Common.{arith, sym, ap, subst, ◌∙◌, append_assoc, append-nil, inl, inr, length-append}, lemmas.List.{get_or_default}}
+use Rattle.perf_base.specs.declared.{acts.Act.{Act}, numbers.RingNo.{RingNo}}
 use Rattle.perf_base.specs.declared.acts.Act.TheVariants as act
-use Rattle.perf_base.specs.declared.numbers.RingNo.{RingNo}
 use Rattle.stage_spec.specs.Order.{last_seen}
-use Rattle.run_laws.specs.Growing.{AreBelow, AreLooks}
-use Rattle.run_laws.proofs.Shapes.{below-more, looks-more, unseen-looks}
+use Rattle.run_laws.{specs.Growing.{AreBelow, AreLooks}, proofs.Shapes.{below-more, looks-more, unseen-looks}}
 
 abbrev pub no_ring : RingNo × ℕ
 no_ring = (record { 0 = 0 }, 0)

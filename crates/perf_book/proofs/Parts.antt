@@ -1,39 +1,20 @@
 -- What readers took until their ends met.
 use Rattle.std.specs.Prelude.{◌≡◌, ℕ, ◌+◌, ◌*◌, ◌<◌, ◌≤◌, ◌==◌, Bool, true, false, All, List, [], ◌∷◌, ◌++◌, fold, length, map, take, if◌then◌else◌, Option, Some, slice_get, slice_index_or, slice_set}
-use Rattle.std.proofs.Common.{arith, refl, sym, ap, subst, ◌∙◌, append_assoc, append-nil, inl, inr}
-use Rattle.std.proofs.lemmas.Bool.{cases_eq}
-use Rattle.std.proofs.lemmas.Bool.Decides.{nat_tests}
-use Rattle.std.proofs.lemmas.List.{get_or_default}
-use Rattle.std.proofs.lemmas.List.Sums.{fold-append}
-use Rattle.std.proofs.lemmas.Option.{slice_get-get_or, slice_get_cases}
-use Rattle.perf_base.specs.declared.acts.Act.{Act}
+use Rattle.std.proofs.{Common.{arith, refl, sym, ap, subst, ◌∙◌, append_assoc, append-nil, inl, inr}, lemmas.Bool.{cases_eq, Decides.{nat_tests}}}
+use Rattle.std.proofs.lemmas.{List.{get_or_default, Sums.{fold-append}}, Option.{slice_get-get_or, slice_get_cases}}
+use Rattle.perf_base.specs.{declared.{acts.Act.{Act}, numbers.RingNo.{RingNo}}, Scripts.{Scripted}}
 use Rattle.perf_base.specs.declared.acts.Act.TheVariants as act
-use Rattle.perf_base.specs.declared.numbers.RingNo.{RingNo}
-use Rattle.perf_base.specs.Scripts.{Scripted}
-use Rattle.stage_spec.specs.Hardware.{Hardware, hardware_of}
-use Rattle.stage_spec.specs.History.{Step, SeenStep, history, opening_stage}
-use Rattle.stage_spec.specs.Stage.{Stage}
+use Rattle.stage_spec.specs.{Hardware.{Hardware, hardware_of}, History.{Step, SeenStep, history, opening_stage}, Stage.{Stage}}
 use Rattle.stage_spec.specs.Order.{last_seen, seen_at}
-use Rattle.ring_spec.specs.Account.{Account, Looks, ring_step}
-use Rattle.ring_spec.specs.Records.{words_of}
-use Rattle.ring_spec.specs.Rings.{account_in, account_of, bytes_of, events_after}
-use Rattle.ring_spec.specs.Sending.{sent_after}
-use Rattle.ring_spec.proofs.Rings.{account_of-push}
-use Rattle.sample_ring.specs.InEnds.{InEnd}
-use Rattle.sample_ring.specs.Taking.{with_tail}
-use Rattle.sample_ring.specs.Lending.{with_out}
-use Rattle.sample_ring.specs.OutEnds.{OutEnd}
+use Rattle.ring_spec.specs.{Account.{Account, Looks, ring_step}, Records.{words_of}, Rings.{account_in, account_of, bytes_of, events_after}}
+use Rattle.ring_spec.{specs.Sending.{sent_after}, proofs.Rings.{account_of-push}}
+use Rattle.sample_ring.specs.{InEnds.{InEnd}, Taking.{with_tail}, Lending.{with_out}, OutEnds.{OutEnd}}
 use Rattle.sample_ring.specs.RingLists.{InList, OutList, ring_index, with_slot}
 use Rattle.machine.specs.Readers.{AreBehind, AreReaders, HasMet, IsBehind, out_of, records_taken, records_of_slot, released_in, released_of_slot, words_in, words_of_slot}
-use Rattle.machine.proofs.History.{history-grows}
-use Rattle.machine.proofs.Behind.{MeetsEnd, MeetsReader, place-of-nth}
-use Rattle.machine.proofs.Pairs.{paired-set}
-use Rattle.machine.proofs.Places.{set-here, set-other}
+use Rattle.machine.proofs.{History.{history-grows}, Behind.{MeetsEnd, MeetsReader, place-of-nth}, Pairs.{paired-set}, Places.{set-here, set-other}}
 use Rattle.ring_laws.proofs.Tails.{seen_tail}
-use Rattle.run_laws.specs.Growing.{AreLooks}
-use Rattle.run_laws.proofs.Taken.{few-taken-of}
-use Rattle.perf_book.specs.Ending.{AreParts}
-use Rattle.perf_book.proofs.Looked.{IsNext, Looked, Rising, no_ring}
+use Rattle.run_laws.{specs.Growing.{AreLooks}, proofs.Taken.{few-taken-of}}
+use Rattle.perf_book.{specs.Ending.{AreParts}, proofs.Looked.{IsNext, Looked, Rising, no_ring}}
 
 -- The readers have taken and released the same, ring by ring.
 pub record SameReaders (before after : InList) : Type 0 where

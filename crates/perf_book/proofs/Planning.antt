@@ -1,19 +1,12 @@
 -- A line whose sheet was filled behind the processor's last line, and is planned, tests no counter.
-use Rattle.std.specs.Prelude.{◌≡◌, ℕ, option_map, Some, None, slice_get, slice_index_or}
-use Rattle.std.proofs.Common.{sym, ap, ◌∙◌, inl, inr}
+use Rattle.std.{specs.Prelude.{◌≡◌, ℕ, option_map, Some, None, slice_get, slice_index_or}, proofs.Common.{sym, ap, ◌∙◌, inl, inr}}
 use Rattle.std.proofs.lemmas.Option.{slice_get-get_or}
-use Rattle.perf_base.specs.Scripts.{Scripted, lines_of_cpu}
+use Rattle.perf_base.specs.{Scripts.{Scripted, lines_of_cpu}, declared.{lines.CpuLine.{CpuLine}, numbers.CpuNo.{CpuNo}}}
 use Rattle.perf_base.specs.declared.acts.Actor.TheVariants as actor
-use Rattle.perf_base.specs.declared.lines.CpuLine.{CpuLine}
 use Rattle.perf_base.specs.declared.lines.CpuLine.TheVariants as line
-use Rattle.perf_base.specs.declared.numbers.CpuNo.{CpuNo}
 use Rattle.stage_spec.specs.History.{Step, CpuStep}
-use Rattle.cpu_sched.specs.After.{after_brief}
-use Rattle.cpu_sched.specs.Briefs.{ProcessorBrief}
-use Rattle.cpu_sched.specs.Sheets.{Held, IsPlannedFor}
-use Rattle.machine.specs.Counted.{IsCountedBy}
-use Rattle.machine.specs.Leading.{Kept, HasLine, next_step}
-use Rattle.machine.specs.Prepared.{prepared}
+use Rattle.cpu_sched.specs.{After.{after_brief}, Briefs.{ProcessorBrief}, Sheets.{Held, IsPlannedFor}}
+use Rattle.machine.specs.{Counted.{IsCountedBy}, Leading.{Kept, HasLine, next_step}, Prepared.{prepared}}
 use Rattle.perf_book.specs.Sheets.{IsReady}
 
 planned-by : (b : ProcessorBrief) (sheet : Held) → sheet.brief ≡ Some b → IsReady sheet → IsPlannedFor b sheet

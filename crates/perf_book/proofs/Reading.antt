@@ -1,13 +1,9 @@
 -- Readers go out one after the other, and come back as what they read.
 use Rattle.std.specs.Prelude.{◌≡◌, ℕ, suc, ◌+◌, ◌*◌, ◌<◌, ◌≤◌, ◌==◌, true, false, All, AllPairs, List, [], ◌∷◌, length, Option, Some, None, IsSome}
-use Rattle.std.proofs.Common.{arith, refl, sym, ap, subst, ◌∙◌, inl, inr, get_or}
-use Rattle.std.proofs.lemmas.Bool.{cases_eq}
-use Rattle.std.proofs.lemmas.Bool.Decides.{nat_tests}
+use Rattle.std.proofs.{Common.{arith, refl, sym, ap, subst, ◌∙◌, inl, inr, get_or}, lemmas.Bool.{cases_eq, Decides.{nat_tests}}}
 use Rattle.std.proofs.lemmas.List.Elements.{All-tail}
-use Rattle.perf_base.specs.declared.lines.ReaderLine.{ReaderLine}
-use Rattle.perf_base.specs.declared.numbers.RingNo.{RingNo}
-use Rattle.sample_ring.specs.InEnds.{InEnd, IsStill, Reads}
-use Rattle.sample_ring.specs.RingLists.{HasRing, InList, IsOut, RingList, ring_index, with_slot}
+use Rattle.perf_base.specs.declared.{lines.ReaderLine.{ReaderLine}, numbers.RingNo.{RingNo}}
+use Rattle.sample_ring.specs.{InEnds.{InEnd, IsStill, Reads}, RingLists.{HasRing, InList, IsOut, RingList, ring_index, with_slot}}
 use Rattle.stage_laws.proofs.Leaders.{find-first, find-later}
 use Rattle.machine.proofs.Places.{place-here, place-later, set-here, set-other}
 use Rattle.report_spec.specs.Answers.{line_for}

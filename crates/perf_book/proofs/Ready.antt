@@ -1,26 +1,17 @@
 -- The readers of a script are ready for their lines, and are again once they have done them.
 use Rattle.std.specs.Prelude.{◌≡◌, ℕ, zero, suc, ◌<◌, ◌≤◌, All, AllPairs, List, [], ◌∷◌, length, map, take, Option, Some, None, slice_get}
-use Rattle.std.proofs.Common.{arith, sym, ap, subst, ◌∙◌, inl, inr, get_or}
-use Rattle.std.proofs.lemmas.List.{length-map}
+use Rattle.std.proofs.{Common.{arith, sym, ap, subst, ◌∙◌, inl, inr, get_or}, lemmas.List.{length-map}}
 use Rattle.std.proofs.lemmas.Option.{none-some, same_Some, slice_get_cases, slice_get_within}
-use Rattle.perf_base.specs.declared.acts.Act.{Act}
-use Rattle.perf_base.specs.declared.lines.ReaderLine.{ReaderLine}
-use Rattle.perf_base.specs.declared.numbers.RingNo.{RingNo}
+use Rattle.perf_base.specs.declared.{acts.Act.{Act}, lines.ReaderLine.{ReaderLine}, numbers.RingNo.{RingNo}}
 use Rattle.perf_base.specs.Scripts.{HasRing, IsRingLine, IsScript, Scripted}
 use Rattle.report_spec.specs.Answers.{reader_of}
 use Rattle.ring_words.specs.Ends.{Ring}
-use Rattle.sample_ring.specs.InEnds.{InEnd}
-use Rattle.sample_ring.specs.OutEnds.{OutEnd}
-use Rattle.sample_ring.specs.RingLists.{InList, OutList, RingList, ring_index}
+use Rattle.sample_ring.specs.{InEnds.{InEnd}, OutEnds.{OutEnd}, RingLists.{InList, OutList, RingList, ring_index}}
 use Rattle.sample_ring.specs.RingLists as lists
 use Rattle.work_account.specs.Ends.{AreTogether}
-use Rattle.machine.specs.Leading.{Kept, LeadTo}
-use Rattle.machine.specs.Readers.{AreReaders, IsReaderOf}
-use Rattle.machine.proofs.Behind.{ends-of-rings, numbers-of, place-of-nth}
+use Rattle.machine.{specs.{Leading.{Kept, LeadTo}, Readers.{AreReaders, IsReaderOf}}, proofs.Behind.{ends-of-rings, numbers-of, place-of-nth}}
 use Rattle.machine.proofs.Unlawful.{ring-there}
-use Rattle.perf_book.specs.Book.{Booked, IsBooked}
-use Rattle.perf_book.specs.Plans.{IsPlanned}
-use Rattle.perf_book.specs.Running.{AreReady, IsReadBy, IsReady, slot_of}
+use Rattle.perf_book.specs.{Book.{Booked, IsBooked}, Plans.{IsPlanned}, Running.{AreReady, IsReadBy, IsReady, slot_of}}
 
 -- a script has at most 16 readers, since their rings rise and are below 16
 declared-small : (rings : List (RingNo × ℕ)) (ring : RingNo) → All IsRingLine rings → HasRing rings ring → ring.0 < 16

@@ -1,27 +1,16 @@
 -- Lists that have room for all acts of a script have room for the next ones.
 use Rattle.std.specs.Prelude.{◌≡◌, ℕ, ◌+◌, ◌*◌, ◌<◌, ◌≤◌, ◌==◌, Bool, true, false, List, [], ◌∷◌, ◌++◌, count_by, length, option_map, slice_get}
-use Rattle.std.proofs.Common.{arith, refl, sym, ap, subst, ◌∙◌, append_assoc, append-nil, cond, inl, inr}
-use Rattle.std.proofs.lemmas.Bool.{cases_eq}
-use Rattle.std.proofs.lemmas.Bool.Decides.{nat_tests}
-use Rattle.std.proofs.lemmas.List.{length-map}
-use Rattle.std.proofs.lemmas.List.Sums.{sum_by-append, sum_by-cons, sum_by_push}
-use Rattle.perf_base.specs.declared.acts.Act.{Act}
+use Rattle.std.proofs.{Common.{arith, refl, sym, ap, subst, ◌∙◌, append_assoc, append-nil, cond, inl, inr}, lemmas.Bool.{cases_eq}}
+use Rattle.std.proofs.lemmas.{Bool.Decides.{nat_tests}, List.{length-map, Sums.{sum_by-append, sum_by-cons, sum_by_push}}}
+use Rattle.perf_base.specs.declared.{acts.{Act.{Act}, Actor.{Actor}}, numbers.{CpuNo.{CpuNo}, ToolNo.{ToolNo}}, reply.Answer.{Answer}}
+use Rattle.perf_base.specs.{Weight.{weight}, Scripts.{Scripted, IsCovered, IsScript, line_count, lines_of_cpu, lines_of_tool}}
 use Rattle.perf_base.specs.declared.acts.Act.TheVariants as act
-use Rattle.perf_base.specs.declared.acts.Actor.{Actor}
 use Rattle.perf_base.specs.declared.acts.Actor.TheVariants as actor
-use Rattle.perf_base.specs.declared.numbers.CpuNo.{CpuNo}
-use Rattle.perf_base.specs.declared.numbers.ToolNo.{ToolNo}
-use Rattle.perf_base.specs.Weight.{weight}
-use Rattle.perf_base.specs.Scripts.{Scripted, IsCovered, IsScript, line_count, lines_of_cpu, lines_of_tool}
-use Rattle.stage_spec.specs.Order.{IsCounted, done_by_cpu, done_by_tool, is_of_cpu, is_of_tool}
-use Rattle.stage_spec.specs.Replies.{AnswerOrder, lines_from}
-use Rattle.perf_base.specs.declared.reply.Answer.{Answer}
+use Rattle.stage_spec.specs.{Order.{IsCounted, done_by_cpu, done_by_tool, is_of_cpu, is_of_tool}, Replies.{AnswerOrder, lines_from}}
 use Rattle.stage_spec.specs.History.{CpuStep, ToolStep}
-use Rattle.machine.specs.Leading.{Kept, HasLine, LeadTo, act_of, done_by, next_step}
-use Rattle.machine.proofs.Answers.{answers-look, no-answers}
+use Rattle.machine.{specs.Leading.{Kept, HasLine, LeadTo, act_of, done_by, next_step}, proofs.Answers.{answers-look, no-answers}}
 use Rattle.report_spec.specs.Answers.{lost_in}
-use Rattle.run_laws.specs.Growing.{AreLooks, does_line, is_cpu_act, is_look}
-use Rattle.run_laws.proofs.Lines.{counted-cpus, counted-lines, lengths, looks-do-nothing}
+use Rattle.run_laws.{specs.Growing.{AreLooks, does_line, is_cpu_act, is_look}, proofs.Lines.{counted-cpus, counted-lines, lengths, looks-do-nothing}}
 use Rattle.run_laws.proofs.Rings.{few-rings}
 use Rattle.perf_book.specs.Book.{AreLooksOf, Booked, IsBooked, HasRoomFor, MayAct, loads_by}
 

@@ -1,17 +1,10 @@
 -- The readers have all words up to the heads.
-use Rattle.std.specs.Prelude.{◌≡◌, ℕ, ◌*◌, All, List, [], ◌∷◌, length, map}
-use Rattle.std.proofs.Common.{arith, sym, ap, subst, ◌∙◌}
+use Rattle.std.{specs.Prelude.{◌≡◌, ℕ, ◌*◌, All, List, [], ◌∷◌, length, map}, proofs.Common.{arith, sym, ap, subst, ◌∙◌}}
 use Rattle.std.proofs.lemmas.List.Elements.{All-cons, All-head, All-nil, All-tail}
-use Rattle.perf_base.specs.declared.acts.Act.{Act}
-use Rattle.perf_base.specs.declared.numbers.RingNo.{RingNo}
-use Rattle.perf_base.specs.Scripts.{Scripted}
-use Rattle.ring_spec.specs.Account.{Account, head_of}
-use Rattle.ring_spec.specs.Rings.{account_in, bytes_of}
-use Rattle.sample_ring.specs.RingLists.{InList}
-use Rattle.sample_ring.proofs.Sending.{size-words}
-use Rattle.machine.specs.declared.ending.RingEnd.{RingEnd}
-use Rattle.machine.specs.Ended.{HasTakenAll}
-use Rattle.machine.specs.Readers.{HasTaken, HaveTaken, IsShown}
+use Rattle.perf_base.specs.{declared.{acts.Act.{Act}, numbers.RingNo.{RingNo}}, Scripts.{Scripted}}
+use Rattle.ring_spec.specs.{Account.{Account, head_of}, Rings.{account_in, bytes_of}}
+use Rattle.sample_ring.{specs.RingLists.{InList}, proofs.Sending.{size-words}}
+use Rattle.machine.specs.{declared.ending.RingEnd.{RingEnd}, Ended.{HasTakenAll}, Readers.{HasTaken, HaveTaken, IsShown}}
 
 pub first-is : (m n : RingNo) (ms ns : List RingNo) → ◌≡◌ {A = List RingNo} (m ∷ ms) (n ∷ ns) → m ≡ n
 first-is m n ms ns e = cc

@@ -1,10 +1,7 @@
 -- The workers of a script, one number at a time from the last one down.
 use Rattle.std.specs.Prelude.{◌≡◌, ℕ, suc, true, false, cond, List, [], ◌∷◌, ◌++◌, map, nat_lt, reverse}
-use Rattle.std.proofs.Common.{refl, sym, ap, ◌∙◌, append_assoc}
-use Rattle.std.proofs.lemmas.List.{map-append, reverse-append}
-use Rattle.std.proofs.lemmas.List.Elements.{filter-append}
-use Rattle.perf_base.specs.declared.acts.Actor.{Actor}
-use Rattle.perf_base.specs.Scripts.{Scripted}
+use Rattle.std.proofs.{Common.{refl, sym, ap, ◌∙◌, append_assoc}, lemmas.List.{map-append, reverse-append, Elements.{filter-append}}}
+use Rattle.perf_base.specs.{declared.acts.Actor.{Actor}, Scripts.{Scripted}}
 use Rattle.stage_spec.specs.Numbers.{numbers_below}
 use Rattle.perf_book.specs.Plans.{actor_at, count_of, with_lines, workers_below}
 

@@ -1,15 +1,11 @@
 -- An order under way stays so.
-use Rattle.std.specs.Prelude.{◌≡◌, List, [], ◌∷◌, ◌++◌}
-use Rattle.std.proofs.Common.{sym, subst}
-use Rattle.perf_base.specs.declared.acts.Act.{Act}
+use Rattle.std.{specs.Prelude.{◌≡◌, List, [], ◌∷◌, ◌++◌}, proofs.Common.{sym, subst}}
+use Rattle.perf_base.specs.{declared.acts.{Act.{Act}, Actor.{Actor}}, Scripts.{Scripted}}
 use Rattle.perf_base.specs.declared.acts.Act.TheVariants as act
-use Rattle.perf_base.specs.declared.acts.Actor.{Actor}
 use Rattle.perf_base.specs.declared.acts.Actor.TheVariants as actor
-use Rattle.perf_base.specs.Scripts.{Scripted}
 use Rattle.machine.specs.Leading.{Kept, HasLine, act_of}
 use Rattle.run_laws.proofs.Shapes.{shaped-cpu, shaped-none, shaped-tool}
-use Rattle.perf_book.specs.Book.{AreLooksOf}
-use Rattle.perf_book.specs.Running.{IsUnderWay}
+use Rattle.perf_book.specs.{Book.{AreLooksOf}, Running.{IsUnderWay}}
 
 -- by what an actor sees, and its line
 pub under-way : (s : Scripted) (m : Kept) (a : Actor) (order looks : List Act) → HasLine s m a → IsUnderWay order → AreLooksOf a order looks → IsUnderWay (order ++ (looks ++ act_of a ∷ []))

@@ -1,16 +1,9 @@
 -- The rings of a script, one after the other, and where their ends stand.
-use Rattle.std.specs.Prelude.{◌≡◌, ℕ, ◌<◌, List, length, Some, slice_get, slice_index_or}
-use Rattle.std.proofs.Common.{arith, sym, ap, subst, ◌∙◌, inl, inr}
-use Rattle.std.proofs.lemmas.List.{length-map}
-use Rattle.std.proofs.lemmas.Option.{slice_get_cases, slice_get-get_or}
-use Rattle.perf_base.specs.declared.acts.Act.{Act}
-use Rattle.perf_base.specs.declared.numbers.RingNo.{RingNo}
-use Rattle.perf_base.specs.Scripts.{Scripted, IsScript}
-use Rattle.sample_ring.specs.OutEnds.{OutEnd}
-use Rattle.sample_ring.specs.RingLists.{HasRing, ring_index}
-use Rattle.machine.specs.Leading.{Kept, LeadTo}
-use Rattle.machine.specs.Readers.{loads_of, out_of}
-use Rattle.machine.proofs.Behind.{ends-of-rings, numbers-of, place-of-nth}
+use Rattle.std.{specs.Prelude.{◌≡◌, ℕ, ◌<◌, List, length, Some, slice_get, slice_index_or}, proofs.Common.{arith, sym, ap, subst, ◌∙◌, inl, inr}}
+use Rattle.std.proofs.lemmas.{List.{length-map}, Option.{slice_get_cases, slice_get-get_or}}
+use Rattle.perf_base.specs.{declared.{acts.Act.{Act}, numbers.RingNo.{RingNo}}, Scripts.{Scripted, IsScript}}
+use Rattle.sample_ring.specs.{OutEnds.{OutEnd}, RingLists.{HasRing, ring_index}}
+use Rattle.machine.{specs.{Leading.{Kept, LeadTo}, Readers.{loads_of, out_of}}, proofs.Behind.{ends-of-rings, numbers-of, place-of-nth}}
 use Rattle.perf_book.proofs.Looked.{no_ring}
 
 -- the k-th ring's end is the k-th

@@ -1,25 +1,16 @@
 -- A run that is watched: each line publishes the look after it, and looks at rings none.
 use Rattle.std.specs.Prelude.{◌≡◌, ℕ, ◌+◌, Bool, true, false, List, [], ◌∷◌, ◌++◌, length, IfSome, Option, Some, None, if◌then◌else◌}
-use Rattle.std.proofs.Common.{refl, sym, ap, subst, ◌∙◌, append_assoc, append-nil}
-use Rattle.std.proofs.lemmas.Bool.{false≢true}
-use Rattle.std.proofs.lemmas.Option.{none-some, same_Some}
-use Rattle.perf_base.specs.declared.acts.Act.{Act}
+use Rattle.std.proofs.{Common.{refl, sym, ap, subst, ◌∙◌, append_assoc, append-nil}, lemmas.{Bool.{false≢true}, Option.{none-some, same_Some}}}
+use Rattle.perf_base.specs.{declared.{acts.{Act.{Act}, Actor.{Actor}}, numbers.EventNo.{EventNo}, reply.Sums.{Sums}}, Scripts.{Scripted}}
 use Rattle.perf_base.specs.declared.acts.Act.TheVariants as act
-use Rattle.perf_base.specs.declared.acts.Actor.{Actor}
 use Rattle.perf_base.specs.declared.acts.Actor.TheVariants as actor
-use Rattle.perf_base.specs.declared.numbers.EventNo.{EventNo}
-use Rattle.perf_base.specs.declared.reply.Sums.{Sums}
-use Rattle.perf_base.specs.Scripts.{Scripted}
-use Rattle.user_page.specs.declared.look.Look.{Look}
-use Rattle.user_page.specs.Looks.{MayFollow}
+use Rattle.user_page.specs.{declared.look.Look.{Look}, Looks.{MayFollow}}
 use Rattle.machine.specs.Leading.{Kept, HasLine, act_of}
 use Rattle.stage_spec.specs.Tables.{family_if_open}
 use Rattle.report_spec.specs.Published.{is_open_after, look_after, look_of, looks_if, publishes, published_looks, sums_after}
 use Rattle.report_spec.specs.Laws.{FollowsLaw, OneMoreLaw, RingsLaw}
 use Rattle.run_laws.specs.Growing.{AreLooks, does_line}
-use Rattle.perf_book.specs.Book.{AreLooksOf}
-use Rattle.perf_book.specs.Watching.{HasPublished, IsBehind, page_of, watched_by}
-use Rattle.perf_book.specs.declared.publishing.Publisher.{Publisher}
+use Rattle.perf_book.specs.{Book.{AreLooksOf}, Watching.{HasPublished, IsBehind, page_of, watched_by}, declared.publishing.Publisher.{Publisher}}
 
 -- a line publishes where the event is open after it
 line-publishes : (s : Scripted) (front : List Act) (a : Act) (e : EventNo) → does_line a ≡ true → publishes s front a e ≡ is_open_after s (front ++ a ∷ []) e

@@ -1,13 +1,10 @@
 -- What a book keeps: a script, the acts that were done of it, in their order, with the answers to them, and the machine
 -- that they lead to. This project's own profile.
 use Rattle.std.specs.Prelude.{◌≡◌, ℕ, ◌+◌, ◌*◌, ◌<◌, ◌≤◌, ⊤, List, [], count_by, length, sum_by}
-use Rattle.perf_base.specs.declared.acts.Act.{Act}
-use Rattle.perf_base.specs.declared.acts.Act.TheVariants as act
-use Rattle.perf_base.specs.declared.acts.Actor.{Actor}
-use Rattle.perf_base.specs.declared.acts.Actor.TheVariants as actor
-use Rattle.perf_base.specs.declared.reply.Answer.{Answer}
-use Rattle.perf_base.specs.Scripts.{Scripted, IsCovered, IsScript, line_count}
+use Rattle.perf_base.specs.{declared.{acts.{Act.{Act}, Actor.{Actor}}, reply.Answer.{Answer}}, Scripts.{Scripted, IsCovered, IsScript, line_count}}
 use Rattle.perf_base.specs.Weight.{weight}
+use Rattle.perf_base.specs.declared.acts.Act.TheVariants as act
+use Rattle.perf_base.specs.declared.acts.Actor.TheVariants as actor
 use Rattle.machine.specs.Leading.{Kept, LeadTo}
 use Rattle.report_spec.specs.Answers.{IsAnswered}
 use Rattle.run_laws.specs.Growing.{AreLooks, is_cpu_act, is_look}

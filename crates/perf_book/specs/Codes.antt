@@ -1,14 +1,8 @@
 -- How the value of a book is stored: as the tuple of its parts. This project's own profile.
-use Rattle.std.specs.Prelude.{List, refl}
-use Rattle.std.specs.Coded.{Coded, code_by, coded×, coded_list}
-use Rattle.perf_base.specs.contracts.acts.Act.{the_row as act_row}
-use Rattle.perf_base.specs.contracts.reply.Answer.{the_row as answer_row}
-use Rattle.perf_base.specs.contracts.script.Script.{the_row as script_row}
-use Rattle.perf_base.specs.declared.acts.Act.{Act}
-use Rattle.perf_base.specs.declared.reply.Answer.{Answer}
-use Rattle.perf_base.specs.Scripts.{Scripted}
-use Rattle.machine.specs.Codes.{kept_code}
-use Rattle.machine.specs.Leading.{Kept}
+use Rattle.std.specs.{Prelude.{List, refl}, Coded.{Coded, code_by, coded×, coded_list}}
+use Rattle.perf_base.specs.contracts.{acts.Act.{the_row as act_row}, reply.Answer.{the_row as answer_row}, script.Script.{the_row as script_row}}
+use Rattle.perf_base.specs.{declared.{acts.Act.{Act}, reply.Answer.{Answer}}, Scripts.{Scripted}}
+use Rattle.machine.specs.{Codes.{kept_code}, Leading.{Kept}}
 use Rattle.perf_book.specs.Book.{Booked}
 
 abbrev pub booked_code : Coded Booked

@@ -1,14 +1,9 @@
 -- No record is lost unseen. perf_event_open(2) and kernel/events/ring_buffer.c: a record that finds no room is counted,
 -- and a LOST record states the count later.
 use Rattle.std.specs.Prelude.{◌≡◌, ℕ, ◌+◌, List, count_by, length, sum_by}
-use Rattle.perf_base.specs.declared.acts.Act.{Act}
-use Rattle.perf_base.specs.declared.numbers.RingNo.{RingNo}
-use Rattle.perf_base.specs.Scripts.{Scripted}
-use Rattle.ring_spec.specs.Account.{is_sample, losses_in}
-use Rattle.ring_spec.specs.Rings.{account_in, is_to}
-use Rattle.ring_spec.specs.Sending.{sent_by_steps}
-use Rattle.stage_spec.specs.Hardware.{hardware_of}
-use Rattle.stage_spec.specs.History.{history, opening_stage}
+use Rattle.perf_base.specs.{declared.{acts.Act.{Act}, numbers.RingNo.{RingNo}}, Scripts.{Scripted}}
+use Rattle.ring_spec.specs.{Account.{is_sample, losses_in}, Rings.{account_in, is_to}, Sending.{sent_by_steps}}
+use Rattle.stage_spec.specs.{Hardware.{hardware_of}, History.{history, opening_stage}}
 
 -- Over an order of a script the records that are sent to a ring are the samples written on it and those that it lost,
 -- and LOST records state those lost or they are pending.

@@ -1,13 +1,9 @@
 -- How the answer to an act is kept. This project's own profile.
 use Rattle.std.specs.Prelude.{◌≡◌, ℕ, List, [], ◌∷◌, ◌++◌, Option, Some, None}
-use Rattle.perf_base.specs.declared.acts.Act.{Act}
+use Rattle.perf_base.specs.declared.{acts.{Act.{Act}, Actor.{Actor}}, reply.{Answer.{Answer}, Reply.{Reply}}}
 use Rattle.perf_base.specs.declared.acts.Act.TheVariants as act
-use Rattle.perf_base.specs.declared.acts.Actor.{Actor}
 use Rattle.perf_base.specs.declared.acts.Actor.TheVariants as actor
-use Rattle.perf_base.specs.declared.reply.Answer.{Answer}
-use Rattle.perf_base.specs.declared.reply.Reply.{Reply}
-use Rattle.machine.specs.Stepped.{StaysIfRefused}
-use Rattle.machine.specs.Leading.{Kept, done_by}
+use Rattle.machine.specs.{Stepped.{StaysIfRefused}, Leading.{Kept, done_by}}
 
 -- whose line an act does next, and its number; a look does none
 abbrev pub next_line : Kept → Act → Option (Actor × ℕ)

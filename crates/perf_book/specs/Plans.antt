@@ -1,9 +1,7 @@
 -- What the threads of a run know of its script. This project's own profile.
 use Rattle.std.specs.Prelude.{◌≡◌, ℕ, ◌-◌, ◌≤◌, List, filter, length, map, take, nat_lt, if◌then◌else◌}
-use Rattle.perf_base.specs.declared.acts.Actor.{Actor}
+use Rattle.perf_base.specs.{declared.{acts.Actor.{Actor}, lines.ReaderLine.{ReaderLine}}, Scripts.{Scripted, lines_of_cpu, lines_of_tool}}
 use Rattle.perf_base.specs.declared.acts.Actor.TheVariants as actor
-use Rattle.perf_base.specs.declared.lines.ReaderLine.{ReaderLine}
-use Rattle.perf_base.specs.Scripts.{Scripted, lines_of_cpu, lines_of_tool}
 use Rattle.stage_spec.specs.Numbers.{numbers_below}
 use Rattle.perf_book.specs.declared.workers.Worker.{Worker}
 

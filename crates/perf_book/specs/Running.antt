@@ -1,12 +1,7 @@
 -- What threads make of a book: the order that they leave, and what the readers do. This project's own profile.
 use Rattle.std.specs.Prelude.{◌≡◌, ◌+◌, ◌*◌, ◌≤◌, All, List, length, slice_get, Option, Some, MatchOption}
-use Rattle.perf_base.specs.declared.acts.Act.{Act}
-use Rattle.perf_base.specs.declared.lines.ReaderLine.{ReaderLine}
-use Rattle.perf_base.specs.declared.numbers.RingNo.{RingNo}
-use Rattle.perf_base.specs.Scripts.{Scripted}
-use Rattle.sample_ring.specs.InEnds.{InEnd}
-use Rattle.sample_ring.specs.RingLists.{HasRing, InList, RingList, ring_index}
-use Rattle.perf_base.specs.Weight.{weight}
+use Rattle.perf_base.specs.{declared.{acts.Act.{Act}, lines.ReaderLine.{ReaderLine}, numbers.RingNo.{RingNo}}, Scripts.{Scripted}, Weight.{weight}}
+use Rattle.sample_ring.specs.{InEnds.{InEnd}, RingLists.{HasRing, InList, RingList, ring_index}}
 use Rattle.report_spec.specs.Answers.{IsRunShaped, reader_of}
 use Rattle.run_laws.specs.Growing.{EndsWithLine}
 use Rattle.stage_spec.specs.Order.{IsComplete}

@@ -1,11 +1,9 @@
 -- What becomes of the sheet that an actor brings to its line. This project's own profile.
 use Rattle.std.specs.Prelude.{◌≡◌, ◌⊎◌, true, ⊤, None}
-use Rattle.perf_base.specs.Scripts.{Scripted}
-use Rattle.perf_base.specs.declared.acts.Actor.{Actor}
+use Rattle.perf_base.specs.{Scripts.{Scripted}, declared.acts.Actor.{Actor}}
 use Rattle.perf_base.specs.declared.acts.Actor.TheVariants as actor
 use Rattle.cpu_sched.specs.Sheets.{Held}
-use Rattle.machine.specs.Leading.{Kept}
-use Rattle.machine.specs.Prepared.{prepared}
+use Rattle.machine.specs.{Leading.{Kept}, Prepared.{prepared}}
 
 -- it is blank, or its brief is planned
 abbrev pub IsReady : Held → Type 0

@@ -1,11 +1,8 @@
 -- A run that a watcher of a page sees: what is published of it, as it goes on. This project's own profile.
 use Rattle.std.specs.Prelude.{◌≡◌, ℕ, ◌+◌, true, List, [], ◌∷◌, ◌++◌, Option, Some, option_map}
 use mathlib.Core.List.{IsPrefix}
-use Rattle.perf_base.specs.declared.acts.Act.{Act}
-use Rattle.perf_base.specs.declared.numbers.EventNo.{EventNo}
-use Rattle.perf_base.specs.Scripts.{Scripted}
-use Rattle.user_page.specs.declared.look.Look.{Look}
-use Rattle.user_page.specs.Looks.{PageName, WatcherEnd, last_look}
+use Rattle.perf_base.specs.{declared.{acts.Act.{Act}, numbers.EventNo.{EventNo}}, Scripts.{Scripted}}
+use Rattle.user_page.specs.{declared.look.Look.{Look}, Looks.{PageName, WatcherEnd, last_look}}
 use Rattle.report_spec.specs.Published.{published_looks}
 use Rattle.run_laws.specs.Growing.{does_line}
 use Rattle.perf_book.specs.declared.publishing.Publisher.{Publisher}

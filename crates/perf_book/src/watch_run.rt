@@ -132,8 +132,8 @@ pub fn run_watched_with<R: Threads + Wait + Sync, G: Gate + Sync>(
     // Just the looks of the order are published.
     ensures page { result.writer.page ≡ watch_by.entry.page.now }
     ensures published { result.writer.published ≡ published_looks result.book.script result.book.order watch_by.entry.event }
-    // The watcher has made its looks and one more, and knows all that is published. The look answered is the last that it
-    // saw before: one of these, and none before one that it had seen.
+    // The watcher has made its looks and one more, and knows all that is published. The look answered is the last
+    // that it saw before: one of these, and none before one that it had seen.
     ensures watcher { result.watcher ≡ record watch_by.entry.watcher { seen = result.writer.published; steps = watch_by.entry.watcher.steps + watch_by.entry.looks + 1 } }
     ensures look { IsSeenOf watch_by.entry.watcher.seen result.writer.published result.look }
 {
@@ -169,7 +169,8 @@ pub fn run_watched_with<R: Threads + Wait + Sync, G: Gate + Sync>(
     }
 }
 
-/// Memory ran out before a run's first act. The book is gone; the readers and the two ends of the page are as they were.
+/// Memory ran out before a run's first act. The book is gone; the readers and the two ends of the page are as they
+/// were.
 #[derive(Drop)]
 pub struct NotWatched {
     pub ins: Ins,

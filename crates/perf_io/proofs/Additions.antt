@@ -1,6 +1,5 @@
 -- Bytes that are added by one write after another.
-use Rattle.std.proofs.Common.{ℕ, ◌+◌, List, take, drop, ◌∙◌, Option, Some, None, append_assoc}
-use Rattle.std.proofs.Math.Seq.{take-add}
+use Rattle.std.proofs.{Common.{ℕ, ◌+◌, List, take, drop, ◌∙◌, Option, Some, None, append_assoc}, Math.Seq.{take-add}}
 use Rattle.perf_io.specs.Outside.{Adds}
 
 -- the first i are added and then n more, so the first i + n are

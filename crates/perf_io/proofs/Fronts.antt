@@ -1,6 +1,5 @@
 -- A front of some bytes, and what lies behind it.
-use Rattle.std.proofs.Common.{◌≡◌, ℕ, ◌+◌, ◌≤◌, List, ◌++◌, take, drop, sym, ◌∙◌}
-use Rattle.std.proofs.lemmas.List.{take-append-drop, drop-drop, take-take}
+use Rattle.std.proofs.{Common.{◌≡◌, ℕ, ◌+◌, ◌≤◌, List, ◌++◌, take, drop, sym, ◌∙◌}, lemmas.List.{take-append-drop, drop-drop, take-take}}
 
 -- the front that was taken and what is left make what there was
 pub front_and_rest : (n start : ℕ) (bytes front : List ℕ) → front ≡ take n (drop start bytes) → drop start bytes ≡ front ++ drop (start + n) bytes

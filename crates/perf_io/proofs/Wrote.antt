@@ -1,13 +1,8 @@
 -- One text behind another.
 use Rattle.std.proofs.Common.{◌≡◌, ℕ, zero, suc, ◌+◌, ◌≤◌, inl, inr, List, [], ◌∷◌, ◌++◌, length, take, Option, Some, None, Result, Ok, Err, arith, refl, sym, ap, subst, ◌∙◌, append_assoc, length-append}
+use Rattle.std.proofs.{lemmas.{Bool.{false≢true}, Grind.{common_steps}, List.{append-nil, take-append-le}}, Math.Seq.{take-append-add}}
 use Rattle.std.specs.Result.{IsErr}
-use Rattle.std.proofs.lemmas.Bool.{false≢true}
-use Rattle.std.proofs.lemmas.Grind.{common_steps}
-use Rattle.std.proofs.lemmas.List.{append-nil, take-append-le}
-use Rattle.std.proofs.Math.Seq.{take-append-add}
-use Rattle.perf_io.specs.Outside.{Adds, Rose, SinkShows}
-use Rattle.perf_io.specs.Wrote.{Wrote}
-use Rattle.perf_io.specs.declared.outside.Failed.{Failed}
+use Rattle.perf_io.specs.{Outside.{Adds, Rose, SinkShows}, Wrote.{Wrote}, declared.outside.Failed.{Failed}}
 
 Adds-then : (a b c : Option (List ℕ)) (x y : List ℕ) → Adds a b x → Adds b c y → Adds a c (x ++ y)
 Adds-then None b c x y p q = tt

@@ -1,7 +1,6 @@
 -- A place in memory for bytes. This project's own profile of reading and writing.
 use Rattle.std.specs.Prelude.{ℕ, ◌-◌, ◌<◌, ◌≤◌, ◌⊎◌, List, ◌++◌, length, take, min, Contains}
-use Rattle.perf_io.specs.Counts.{count_after}
-use Rattle.perf_io.specs.Outside.{Flushes}
+use Rattle.perf_io.specs.{Counts.{count_after}, Outside.{Flushes}}
 
 -- What a contract sees of such a sink.
 pub record SinkState : Type 0 where

@@ -1,5 +1,5 @@
--- What a source has left, what a sink holds, when a count of faults rose, and how a sink was flushed. This project's own profile
--- of reading and writing.
+-- What a source has left, what a sink holds, when a count of faults rose, and how a sink was flushed. This project's
+-- own profile of reading and writing.
 use Rattle.std.specs.Prelude.{◌≡◌, ℕ, ◌<◌, ◌⊎◌, List, [], ◌++◌, ⊤, Option, None, Some}
 
 -- Where bytes are shown, the first of them are taken and the others are left. Nothing is claimed where they
@@ -24,8 +24,8 @@ IsAtEnd (Some left) = left ≡ []
 abbrev pub Rose : Option ℕ → ℕ → ℕ → Type 0
 Rose last before after = (before < after) ⊎ (last ≡ Some after)
 
--- How often a sink was flushed, a count that stays at `last_count`, and how many bytes it held when that last succeeded,
--- 0 before.
+-- How often a sink was flushed, a count that stays at `last_count`, and how many bytes it held when that last
+-- succeeded, 0 before.
 pub record Flushes : Type 0 where
   pub calls : ℕ
   pub bytes : ℕ
@@ -40,8 +40,8 @@ pub record SourceShows (S : Type 0) : Type 0 where
   pub faults : S → ℕ
   pub last_fault : Option ℕ
 
--- What a contract sees of a sink: the bytes that it holds, where it shows them; how it was flushed; how many faults there
--- were, and the last value of that count, where it has one.
+-- What a contract sees of a sink: the bytes that it holds, where it shows them; how it was flushed; how many faults
+-- there were, and the last value of that count, where it has one.
 pub record SinkShows (K : Type 0) : Type 0 where
   pub held : K → Option (List ℕ)
   pub flushed : K → Flushes

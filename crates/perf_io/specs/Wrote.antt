@@ -1,7 +1,6 @@
 -- What a call that writes a text to a sink did, by what the sink shows. This project's own profile of writing.
 use Rattle.std.specs.Prelude.{ℕ, ◌≤◌, List, length, take, Result, MatchResult}
-use Rattle.perf_io.specs.Outside.{Adds, Rose, SinkShows}
-use Rattle.perf_io.specs.declared.outside.Failed.{Failed}
+use Rattle.perf_io.specs.{Outside.{Adds, Rose, SinkShows}, declared.outside.Failed.{Failed}}
 
 -- Some front of the text was added, and the count of faults rose.
 abbrev pub WroteFront : {K : Type 0} → SinkShows K → K → K → List ℕ → Type 0

@@ -1,5 +1,6 @@
 //! Standard input, output and error. What the system gives and takes is not told: this is the edge that
-//! no contract looks behind. A contract sees a source as its count of faults, and a sink as that and its count of flushes.
+//! no contract looks behind. A contract sees a source as its count of faults, and a sink as that and its count of
+//! flushes.
 
 ghost use Rattle.std.specs.Prelude.{◌≡◌, ◌<◌, ◌≤◌, Some, None, IfOk, OnOk, OnErr, length, take};
 ghost use Rattle.perf_io.specs.Outside.{Rose};
@@ -56,8 +57,8 @@ impl Source for StdSource {
     }
 }
 
-/// A stream of the system to write to, with the count of the errors that it gave. Contracts see that count and how often
-/// it was flushed.
+/// A stream of the system to write to, with the count of the errors that it gave. Contracts see that count and how
+/// often it was flushed.
 #[derive(Drop)]
 pub struct StdWriter<W: Write> {
     output: W,

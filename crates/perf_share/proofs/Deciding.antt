@@ -1,13 +1,9 @@
 -- What a shared machine knows of its script decides which calls may be made.
-use Rattle.std.specs.Prelude.{◌≡◌, ◌↔◌, Bool, IsTrue, [], length}
-use Rattle.std.proofs.Common.{sym, ap, subst, ◌∙◌}
+use Rattle.std.{specs.Prelude.{◌≡◌, ◌↔◌, Bool, IsTrue, [], length}, proofs.Common.{sym, ap, subst, ◌∙◌}}
 use Rattle.perf_base.specs.Scripts.{Scripted, IsScript}
 use Rattle.stage_spec.specs.Limits.{Limits, limits_of}
 use Rattle.shared_object.specs.Histories.{SharedId}
-use Rattle.perf_share.specs.Calls.{Fits, FitsIn}
-use Rattle.perf_share.specs.Sharing.{IsSharing}
-use Rattle.perf_share.specs.declared.call.Call.{Call}
-use Rattle.perf_share.specs.declared.fitting.CallLimits.{CallLimits}
+use Rattle.perf_share.specs.{Calls.{Fits, FitsIn}, Sharing.{IsSharing}, declared.{call.Call.{Call}, fitting.CallLimits.{CallLimits}}}
 
 pub sharing : (id : SharedId Scripted) (limits : CallLimits) (s : Scripted) → IsScript s → s.rings ≡ [] → limits.cpus ≡ s.cpus → limits.kinds ≡ length s.kinds → id.key ≡ s → IsSharing id limits
 sharing id limits s h none cpus kinds is = record {

@@ -1,30 +1,18 @@
 -- The machine serves its calls, one after another.
-use Rattle.std.specs.Prelude.{◌≡◌, ℕ, ◌<◌, ◌≤◌, List, [], ◌∷◌, ◌++◌, count_by, length, map}
-use Rattle.std.proofs.Common.{arith, sym, ap, subst}
-use Rattle.std.proofs.lemmas.List.{length-map, map-append}
-use Rattle.std.proofs.lemmas.List.Sums.{count_by-le-length}
-use Rattle.perf_base.specs.declared.numbers.RingNo.{RingNo}
-use Rattle.perf_base.specs.declared.reply.Reply.{Reply}
-use Rattle.perf_base.specs.Scripts.{Scripted, IsCovered, IsScript}
-use Rattle.stage_spec.specs.Hardware.{hardware_of}
-use Rattle.stage_spec.specs.History.{Step, opening_stage, steps_from}
-use Rattle.stage_spec.specs.Replies.{AreReplies}
+use Rattle.std.{specs.Prelude.{◌≡◌, ℕ, ◌<◌, ◌≤◌, List, [], ◌∷◌, ◌++◌, count_by, length, map}, proofs.Common.{arith, sym, subst}}
+use Rattle.std.proofs.lemmas.List.{length-map, map-append, Sums.{count_by-le-length}}
+use Rattle.perf_base.specs.{declared.{numbers.RingNo.{RingNo}, reply.Reply.{Reply}}, Scripts.{Scripted, IsCovered, IsScript}}
+use Rattle.stage_spec.specs.{Hardware.{hardware_of}, History.{Step, opening_stage, steps_from}, Replies.{AreReplies}}
 use Rattle.stage_laws.specs.Bounds.{is_line}
-use Rattle.ring_spec.specs.Rings.{lost_count}
-use Rattle.ring_spec.specs.Running.{empty_ring}
+use Rattle.ring_spec.specs.{Rings.{lost_count}, Running.{empty_ring}}
 use Rattle.sample_ring.specs.RingLists.{AreNew, InList, OutList, RingList}
 use Rattle.work_account.specs.Ends.{AreTogether, HaveAccounts}
-use Rattle.machine.specs.Given.{IsLedBy, IsNext, IsReplyAfter, Takes, TakesAlone}
-use Rattle.machine.specs.Leading.{Kept, LeadTo}
-use Rattle.machine.proofs.Answers.{replies-append}
-use Rattle.machine.proofs.Led.{led-by-acts}
-use Rattle.machine.proofs.New.{new-accounts, new-together}
+use Rattle.machine.{specs.{Given.{IsLedBy, IsNext, IsReplyAfter, Takes, TakesAlone}, Leading.{Kept, LeadTo}}, proofs.Answers.{replies-append}}
+use Rattle.machine.proofs.{Led.{led-by-acts}, New.{new-accounts, new-together}}
 use Rattle.shared_object.specs.Histories.{most_calls}
-use Rattle.perf_share.specs.Calls.{AreLegal, Fits, none_legal, replies_in, step_of, steps_in}
-use Rattle.perf_share.specs.Served.{IsAfter}
-use Rattle.perf_share.specs.declared.call.Call.{Call}
-use Rattle.perf_share.specs.declared.call.Call.TheVariants as call
+use Rattle.perf_share.specs.{Calls.{AreLegal, Fits, none_legal, replies_in, step_of, steps_in}, Served.{IsAfter}, declared.call.Call.{Call}}
 use Rattle.perf_share.specs.declared.served.Served.{Served}
+use Rattle.perf_share.specs.declared.call.Call.TheVariants as call
 
 -- the rings of a script, made just now
 pub made-accounts : (s : Scripted) (sizes : List (RingNo × ℕ)) (words : ℕ) (rings : RingList) (outs : OutList) (ins : InList) → IsScript s → sizes ≡ s.rings

@@ -1,13 +1,9 @@
 -- The calls of a shared machine: which may be made, and which histories of them are legal. This project's own profile,
 -- after its limits on lines.
 use Rattle.std.specs.Prelude.{List, [], map}
-use Rattle.perf_base.specs.declared.lines.ToolLine.{ToolLine}
+use Rattle.perf_base.specs.{declared.{lines.ToolLine.{ToolLine}, reply.Reply.{Reply}}, Scripts.{Scripted}}
 use Rattle.perf_base.specs.declared.lines.ToolLine.TheVariants as tool_line
-use Rattle.perf_base.specs.declared.reply.Reply.{Reply}
-use Rattle.perf_base.specs.Scripts.{Scripted}
-use Rattle.stage_spec.specs.Hardware.{hardware_of}
-use Rattle.stage_spec.specs.History.{Step, CpuStep, ToolStep, opening_stage}
-use Rattle.stage_spec.specs.Limits.{Limits, IsWithin, limits_of}
+use Rattle.stage_spec.specs.{Hardware.{hardware_of}, History.{Step, CpuStep, ToolStep, opening_stage}, Limits.{Limits, IsWithin, limits_of}}
 use Rattle.stage_spec.specs.Replies.{AreReplies}
 use Rattle.ring_spec.specs.Rings.{lost_count}
 use Rattle.perf_share.specs.declared.call.Call.{Call}

@@ -1,12 +1,9 @@
 -- What stands behind the turn of a shared machine. This project's own profile.
 use Rattle.std.specs.Prelude.{◌≡◌, List, []}
-use Rattle.perf_base.specs.declared.reply.Reply.{Reply}
-use Rattle.perf_base.specs.Scripts.{Scripted, IsCovered, IsScript}
+use Rattle.perf_base.specs.{declared.reply.Reply.{Reply}, Scripts.{Scripted, IsCovered, IsScript}}
 use Rattle.work_account.specs.Ends.{AreTogether}
 use Rattle.machine.specs.Given.{IsLedBy}
-use Rattle.perf_share.specs.Calls.{AreLegal, steps_in}
-use Rattle.perf_share.specs.declared.call.Call.{Call}
-use Rattle.perf_share.specs.declared.served.Served.{Served}
+use Rattle.perf_share.specs.{Calls.{AreLegal, steps_in}, declared.{call.Call.{Call}, served.Served.{Served}}}
 
 -- The machine is as after these calls: it was made for a script without rings, the calls as given lines lead to it, its
 -- rings are those of its ends, none, and the calls are legal.

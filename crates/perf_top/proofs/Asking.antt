@@ -1,14 +1,10 @@
 -- What words ask for.
 use Rattle.std.specs.Prelude.{◌≡◌, ℕ, ◌+◌, ◌*◌, ◌<◌, ◌≤◌, List, [], ◌∷◌, codes, decimal, flat_map, length, MatchOption, Option, Ok, Result}
-use Rattle.std.specs.Str.Parse.{ParsesUnsigned}
-use Rattle.std.proofs.Common.{arith, ap, refl, subst, sym, ◌∙◌}
-use Rattle.std.proofs.lemmas.Fmt.{decimal_injective, parse-decimal}
+use Rattle.std.{specs.Str.Parse.{ParsesUnsigned}, proofs.{Common.{arith, ap, refl, subst, sym, ◌∙◌}, lemmas.Fmt.{decimal_injective, parse-decimal}}}
 use Rattle.std.proofs.lemmas.Option.{same_Some}
 use Rattle.script_spec.specs.Forms.{AreBytes, byte_text}
-use Rattle.line_forms.specs.Lists.{bytes_in}
-use Rattle.line_forms.proofs.Sequences.{bytes-again}
-use Rattle.perf_top.specs.Asking.{AreKnown, Asks}
-use Rattle.perf_top.specs.declared.asked.Asked.{Asked}
+use Rattle.line_forms.{specs.Lists.{bytes_in}, proofs.Sequences.{bytes-again}}
+use Rattle.perf_top.specs.{Asking.{AreKnown, Asks}, declared.asked.Asked.{Asked}}
 use Rattle.perf_top.specs.declared.asked.Asked.TheVariants as asked
 
 -- the parts of words

@@ -1,14 +1,9 @@
 -- How what is asked of a script ends.
-use Rattle.std.specs.Prelude.{◌≡◌, ◌⊎◌, ℕ, List}
-use Rattle.std.proofs.Common.{inl, inr, refl, subst, sym}
+use Rattle.std.{specs.Prelude.{◌≡◌, ◌⊎◌, ℕ, List}, proofs.Common.{inl, inr, refl, subst, sym}}
 use Rattle.perf_base.specs.Scripts.{Scripted}
-use Rattle.perf_io.specs.Outside.{Adds, SinkShows, SourceShows}
-use Rattle.perf_io.specs.Wrote.{WroteFront}
-use Rattle.perf_top.specs.Asking.{DoesOrder}
-use Rattle.perf_top.specs.Outcome.{HasBadLook, IsAnswer, IsEnding, IsFlushed, IsFlushedOnce, IsGiven, IsOutput}
-use Rattle.perf_top.specs.declared.asked.Asked.{Asked}
-use Rattle.perf_top.specs.declared.ready.BadLook.{BadLook}
-use Rattle.perf_top.specs.declared.status.Status.{Status}
+use Rattle.perf_io.specs.{Outside.{Adds, SinkShows, SourceShows}, Wrote.{WroteFront}}
+use Rattle.perf_top.specs.{Asking.{DoesOrder}, Outcome.{HasBadLook, IsAnswer, IsEnding, IsFlushed, IsFlushedOnce, IsGiven, IsOutput}}
+use Rattle.perf_top.specs.declared.{asked.Asked.{Asked}, ready.BadLook.{BadLook}, status.Status.{Status}}
 use Rattle.perf_top.specs.declared.status.Status.TheVariants as status
 
 -- a text was sent that is what is to be written

@@ -1,6 +1,5 @@
 -- Reading behind what was read.
-use Rattle.std.specs.Prelude.{ℕ, List, ◌++◌, Option, Some, None}
-use Rattle.std.proofs.Common.{ap, sym, ◌∙◌, append_assoc}
+use Rattle.std.{specs.Prelude.{ℕ, List, ◌++◌, Option, Some, None}, proofs.Common.{ap, sym, ◌∙◌, append_assoc}}
 use Rattle.perf_io.specs.Outside.{Takes}
 
 pub Takes-more : (a b c : Option (List ℕ)) (x y : List ℕ) → Takes a b x → Takes b c y → Takes a c (x ++ y)

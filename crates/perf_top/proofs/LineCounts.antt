@@ -1,6 +1,5 @@
 -- A text has as many lines as it has LFs.
-use Rattle.std.specs.Prelude.{◌≡◌, ℕ, ◌+◌, ◌-◌, ◌<◌, ◌==◌, Bool, true, false, cond, List, [], ◌∷◌, length, count_by}
-use Rattle.std.proofs.Common.{arith, refl}
+use Rattle.std.{specs.Prelude.{◌≡◌, ℕ, ◌+◌, ◌-◌, ◌<◌, ◌==◌, Bool, true, false, cond, List, [], ◌∷◌, length, count_by}, proofs.Common.{arith, refl}}
 use Rattle.std.proofs.lemmas.List.Sums.{sum_by-cons}
 use Rattle.script_spec.specs.Lines.{pieces, put_before, all_but_last, lines_of}
 

@@ -1,16 +1,11 @@
 -- The acts of a complete order of a script, one after the other: each has its line, and its answer.
 use Rattle.std.specs.Prelude.{◌≡◌, ℕ, ◌+◌, ◌<◌, ◌≤◌, Bool, true, List, [], ◌∷◌, ◌++◌, count_by, length, take, Some}
-use Rattle.std.proofs.Common.{arith, refl, sym, ap, subst, ◌∙◌, cond, eqb, eq-eqb, get_or}
-use Rattle.std.proofs.lemmas.List.{get_or_default, take_more}
-use Rattle.std.proofs.lemmas.List.Sums.{sum_by-take-le, sum_by_push}
-use Rattle.std.proofs.lemmas.Option.{slice_get-get_or}
-use Rattle.perf_base.specs.declared.acts.Act.{Act}
+use Rattle.std.proofs.{Common.{arith, refl, sym, ap, subst, ◌∙◌, cond, eqb, eq-eqb, get_or}, lemmas.List.{get_or_default, take_more}}
+use Rattle.std.proofs.lemmas.{List.Sums.{sum_by-take-le, sum_by_push}, Option.{slice_get-get_or}}
+use Rattle.perf_base.specs.{declared.{acts.Act.{Act}, numbers.RingNo.{RingNo}}, Scripts.{Scripted, IsAct, IsScript}}
 use Rattle.perf_base.specs.declared.acts.Act.TheVariants as act
-use Rattle.perf_base.specs.declared.numbers.RingNo.{RingNo}
-use Rattle.perf_base.specs.Scripts.{Scripted, IsAct, IsScript}
 use Rattle.stage_spec.specs.Order.{is_of_cpu, is_of_tool, done_by_cpu, done_by_tool, IsComplete}
-use Rattle.machine.specs.Leading.{Kept, LeadTo}
-use Rattle.machine.specs.Stepping.{HasNoLine, IsUnlawful, NamesRing}
+use Rattle.machine.specs.{Leading.{Kept, LeadTo}, Stepping.{HasNoLine, IsUnlawful, NamesRing}}
 use Rattle.perf_top.specs.Outcome.{HasBadLook}
 
 -- fewer are counted before an element that counts than in all

@@ -1,6 +1,5 @@
 -- The texts of looks, piece by piece.
-use Rattle.std.specs.Prelude.{◌≡◌, ℕ, List, [], ◌∷◌, ◌++◌, codes, decimal}
-use Rattle.std.proofs.Common.{ap, sym, ◌∙◌, append_assoc, append-nil}
+use Rattle.std.{specs.Prelude.{◌≡◌, ℕ, List, ◌∷◌, ◌++◌, codes, decimal}, proofs.Common.{ap, sym, ◌∙◌, append_assoc, append-nil}}
 use Rattle.user_page.specs.declared.look.Look.{Look}
 use Rattle.report_spec.specs.Published.{look_text}
 

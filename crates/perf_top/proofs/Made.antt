@@ -1,24 +1,15 @@
 -- The run of a made script, and its summary.
-use Rattle.std.specs.Prelude.{◌≡◌, ℕ, ◌≤◌, List, length, slice_get}
-use Rattle.std.proofs.Common.{arith, ap, subst, sym, ◌∙◌}
-use Rattle.perf_base.specs.declared.numbers.RingNo.{RingNo}
-use Rattle.perf_base.specs.Scripts.{Scripted, IsCovered}
-use Rattle.perf_base.specs.Weight.{weight}
+use Rattle.std.{specs.Prelude.{◌≡◌, ℕ, ◌≤◌, List, length, slice_get}, proofs.Common.{arith, ap, subst, sym, ◌∙◌}}
+use Rattle.perf_base.specs.{declared.numbers.RingNo.{RingNo}, Scripts.{Scripted, IsCovered}, Weight.{weight}}
 use Rattle.stage_spec.specs.Order.{IsComplete}
 use Rattle.ring_spec.specs.Account.{Account}
-use Rattle.report_spec.specs.Answers.{IsAnswered}
-use Rattle.report_spec.specs.Report.{rings_after}
-use Rattle.report.specs.Told.{AreTold, rings_of}
+use Rattle.report_spec.specs.{Answers.{IsAnswered}, Report.{rings_after}}
+use Rattle.report.specs.{Told.{AreTold, rings_of}, Summary.{summary_text, totals_of}, declared.summary.Summary.{Summary}}
+use Rattle.report.proofs.MadeOrder.{complete_law, no_look_law, order_length}
 use Rattle.machine.specs.Ended.{Ran}
 use Rattle.perf_book.specs.Ending.{IsEnd}
-use Rattle.make_spec.specs.Rounds.{script_of_rounds}
-use Rattle.make_spec.proofs.Sound.{covered_law}
-use Rattle.make_spec.proofs.Weights.{weight_law}
-use Rattle.report.specs.Summary.{summary_text, totals_of}
-use Rattle.report.specs.declared.summary.Summary.{Summary}
-use Rattle.report.proofs.MadeOrder.{complete_law, no_look_law, order_length}
-use Rattle.perf_top.specs.Outcome.{HasBadLook, IsSummary}
-use Rattle.perf_top.proofs.Told.{are-told}
+use Rattle.make_spec.{specs.Rounds.{script_of_rounds}, proofs.{Sound.{covered_law}, Weights.{weight_law}}}
+use Rattle.perf_top.{specs.Outcome.{HasBadLook, IsSummary}, proofs.Told.{are-told}}
 
 -- what a run of a made script asks for
 pub made-covered : (n : ℕ) (s : Scripted) → s ≡ script_of_rounds n → IsCovered s

@@ -1,17 +1,10 @@
 -- A text has at least as many bytes as its script's order has acts.
-use Rattle.std.specs.Prelude.{◌≡◌, ℕ, ◌+◌, ◌<◌, ◌≤◌, ◌==◌, Bool, true, false, List, [], ◌∷◌, map, length, slice_index_or, codes}
-use Rattle.std.specs.List.{sum_by}
-use Rattle.std.proofs.Common.{suc, arith, ap}
-use Rattle.std.proofs.lemmas.List.{length-map}
-use Rattle.std.proofs.lemmas.List.Concat.{length-flat_map}
-use Rattle.std.proofs.lemmas.List.Sums.{sum_by-cons, count_by-le-length}
+use Rattle.std.specs.{Prelude.{◌≡◌, ℕ, ◌+◌, ◌<◌, ◌≤◌, ◌==◌, Bool, true, false, List, [], ◌∷◌, map, length, slice_index_or, codes}, List.{sum_by}}
+use Rattle.std.proofs.{Common.{suc, arith, ap}, lemmas.List.{length-map, Concat.{length-flat_map}, Sums.{sum_by-cons, count_by-le-length}}}
 use Rattle.perf_base.specs.Scripts.{Scripted}
-use Rattle.script_spec.specs.Acts.{act_text}
-use Rattle.script_spec.specs.Lines.{pieces, put_before, all_but_last, lines_of, words_of}
+use Rattle.script_spec.specs.{Acts.{act_text}, Lines.{pieces, put_before, all_but_last, lines_of, words_of}, Forms.{Version, Form, IsOfForm}}
+use Rattle.script_spec.specs.{Meaning.{acts_said, acts_in, script_of}, Texts.{version_of, AreSound, StandsFor}}
 use Rattle.script_spec.specs.Forms as form
-use Rattle.script_spec.specs.Forms.{Version, Form, IsOfForm}
-use Rattle.script_spec.specs.Meaning.{acts_said, acts_in, script_of}
-use Rattle.script_spec.specs.Texts.{version_of, AreSound, StandsFor}
 use Rattle.perf_top.proofs.LineCounts.{length-pieces}
 
 -- the lines of a text have no more bytes than the text

@@ -1,19 +1,14 @@
 -- What each reader of a run took.
 use Rattle.std.specs.Prelude.{◌≡◌, ℕ, ◌*◌, ◌≤◌, All, List, length, MatchOption, Option, Some, None, slice_get, slice_index_or}
 use Rattle.std.proofs.Common.{arith, refl, ap, ◌∙◌}
-use Rattle.perf_base.specs.declared.acts.Act.{Act}
-use Rattle.perf_base.specs.declared.lines.ReaderLine.{ReaderLine}
-use Rattle.perf_base.specs.declared.numbers.RingNo.{RingNo}
-use Rattle.perf_base.specs.Scripts.{Scripted}
+use Rattle.perf_base.specs.{declared.{acts.Act.{Act}, lines.ReaderLine.{ReaderLine}, numbers.RingNo.{RingNo}}, Scripts.{Scripted}}
 use Rattle.ring_spec.specs.Rings.{account_in}
-use Rattle.sample_ring.specs.InEnds.{InEnd}
-use Rattle.sample_ring.specs.RingLists.{InList, ring_index}
+use Rattle.sample_ring.specs.{InEnds.{InEnd}, RingLists.{InList, ring_index}}
 use Rattle.stage_spec.specs.Order.{last_seen}
 use Rattle.machine.specs.Readers.{records_taken, records_of_slot, released_in, released_of_slot}
 use Rattle.report_spec.specs.Answers.{AreReadersParts, IsNoLook, IsRunShaped, reader_of, taken_of}
 use Rattle.run_laws.proofs.Taken.{never-seen}
-use Rattle.perf_book.specs.Ending.{AreParts}
-use Rattle.perf_book.specs.Running.{IsRead, IsReadBy}
+use Rattle.perf_book.specs.{Ending.{AreParts}, Running.{IsRead, IsReadBy}}
 
 -- no reader has taken or released anything
 abbrev AreUnread : InList → Type 0

@@ -1,22 +1,14 @@
 -- Why nothing is done of what is asked for.
-use Rattle.std.specs.Prelude.{◌≡◌, ◌⊎◌, ℕ, List, length, IfErr, Result, Ok, Err}
-use Rattle.std.proofs.Common.{inl, inr, refl, subst, sym}
-use Rattle.perf_base.specs.declared.reasons.SReason.{SReason}
+use Rattle.std.{specs.Prelude.{◌≡◌, ◌⊎◌, ℕ, List, length, IfErr, Result, Ok, Err}, proofs.Common.{inl, inr, refl, subst, sym}}
+use Rattle.perf_base.specs.{declared.reasons.SReason.{SReason}, Scripts.{Scripted}}
 use Rattle.perf_base.specs.declared.reasons.SReason.TheVariants as s_reason
-use Rattle.perf_base.specs.Scripts.{Scripted}
-use Rattle.script_spec.specs.Lines.{lines_of}
-use Rattle.script_spec.specs.Texts.{IsRefused, StandsFor}
+use Rattle.script_spec.specs.{Lines.{lines_of}, Texts.{IsRefused, StandsFor}}
 use Rattle.stage_spec.specs.Order.{IsComplete}
-use Rattle.perf_top.specs.Asking.{DoesOrder, ReadsScript, TakesMemory}
-use Rattle.perf_io.specs.declared.outside.Failed.{Failed}
-use Rattle.perf_io.specs.Outside.{SinkShows, SourceShows}
-use Rattle.perf_io.specs.Wrote.{Wrote}
-use Rattle.perf_top.specs.Notes.{note_of}
-use Rattle.perf_top.specs.Outcome.{Gave, IsNoted, IsRefusal}
-use Rattle.perf_top.specs.declared.asked.Asked.{Asked}
+use Rattle.perf_top.specs.{Asking.{DoesOrder, ReadsScript, TakesMemory}, Notes.{note_of}, Outcome.{Gave, IsNoted, IsRefusal}}
+use Rattle.perf_top.specs.declared.{asked.Asked.{Asked}, status.Status.{Status}}
 use Rattle.perf_top.specs.declared.asked.Asked.TheVariants as asked
-use Rattle.perf_top.specs.declared.status.Status.{Status}
 use Rattle.perf_top.specs.declared.status.Status.TheVariants as status
+use Rattle.perf_io.specs.{declared.outside.Failed.{Failed}, Outside.{SinkShows, SourceShows}, Wrote.{Wrote}}
 
 -- what reads a script takes memory, and what does a script's own order reads one
 pub takes-memory : (a : Asked) → ReadsScript a → TakesMemory a

@@ -1,15 +1,11 @@
 -- What is written of a run that has ended is its report.
-use Rattle.std.specs.Prelude.{◌≡◌, List}
-use Rattle.std.proofs.Common.{subst}
-use Rattle.perf_base.specs.declared.acts.Act.{Act}
-use Rattle.perf_base.specs.Scripts.{Scripted}
+use Rattle.std.{specs.Prelude.{◌≡◌, List}, proofs.Common.{subst}}
+use Rattle.perf_base.specs.{declared.acts.Act.{Act}, Scripts.{Scripted}}
 use Rattle.machine.specs.Ended.{Ran}
 use Rattle.perf_book.specs.Ending.{IsEnd}
-use Rattle.report.proofs.Told.{told_whole}
+use Rattle.report.{proofs.Told.{told_whole}, specs.Told.{report_by, rings_of}}
 use Rattle.report_spec.specs.Report.{rings_after}
-use Rattle.perf_top.specs.Outcome.{IsReported}
-use Rattle.report.specs.Told.{report_by, rings_of}
-use Rattle.perf_top.proofs.Told.{are-told}
+use Rattle.perf_top.{specs.Outcome.{IsReported}, proofs.Told.{are-told}}
 
 pub end-reported : (e : Ran) → IsEnd e → IsReported e.script e.order (report_by e)
 end-reported e h = record {

@@ -1,17 +1,11 @@
 -- The line of an attribute's bytes has room.
 use Rattle.std.proofs.Common.{◌≡◌, ℕ, zero, suc, ◌+◌, ◌/◌, ◌%◌, ◌<◌, ◌≤◌, inl, inr, Bool, true, false, eqb, ltb, List, [], ◌∷◌, ◌++◌, length, take, map, filter, Some, refl, ap, ◌∙◌, arith, length-append, length-take}
-use Rattle.std.specs.Prelude.{codes, decimal, nat_lt, if◌then◌else◌}
-use Rattle.std.specs.Fmt.{digits, digits_onto, digit_glyph}
-use Rattle.std.specs.List.{join_with_byte}
-use Rattle.std.specs.Int.{bit_at}
-use Rattle.std.proofs.lemmas.Bool.{eq-eqb, ne_eqb, cases_eq, lt-ltb}
+use Rattle.std.{proofs.lemmas.Bool.{eq-eqb, ne_eqb, cases_eq, lt-ltb}, specs.Prelude.{codes, decimal, nat_lt, if◌then◌else◌}}
+use Rattle.std.specs.{Fmt.{digits, digits_onto, digit_glyph}, List.{join_with_byte}, Int.{bit_at}}
 use Rattle.attr_bytes.specs.declared.raw.RawAttr.{RawAttr}
-use Rattle.script_spec.specs.Forms.{hexadecimal, flag_name, flags_text, word_if}
-use Rattle.script_spec.specs.Printing.{some_of}
-use Rattle.perf_io.specs.Outside.{Rose}
-use Rattle.perf_io.specs.Wrote.{WroteFront}
-use Rattle.perf_top.specs.Attributes.{words_of_attr, line_of_words}
-use Rattle.perf_top.specs.declared.line.Line.{Line}
+use Rattle.script_spec.specs.{Forms.{hexadecimal, flag_name, flags_text, word_if}, Printing.{some_of}}
+use Rattle.perf_io.specs.{Outside.{Rose}, Wrote.{WroteFront}}
+use Rattle.perf_top.specs.{Attributes.{words_of_attr, line_of_words}, declared.line.Line.{Line}}
 
 length_digits : (base k n : ℕ) (written : List ℕ) → length (digits_onto k base false n written) ≤ k + length written
 length_digits base zero n written = omega arith

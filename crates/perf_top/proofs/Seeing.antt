@@ -1,12 +1,9 @@
 -- What was seen of the looks that were published.
-use Rattle.std.specs.Prelude.{◌≡◌, ℕ, ◌+◌, ◌-◌, List, [], ◌∷◌, ◌++◌, length, Contains, Some, None}
-use Rattle.std.proofs.Common.{arith, ap, get_or, refl, subst, sym, ◌∙◌, append-nil}
-use Rattle.std.proofs.lemmas.List.{length-append}
-use Rattle.std.proofs.lemmas.List.Elements.{Contains-append_left}
+use Rattle.std.specs.Prelude.{◌≡◌, ℕ, ◌+◌, ◌-◌, List, [], ◌∷◌, ◌++◌, length, Contains, Some}
+use Rattle.std.proofs.{Common.{arith, ap, get_or, refl, subst, sym, ◌∙◌, append-nil}, lemmas.List.{length-append, Elements.{Contains-append_left}}}
 use Rattle.std.proofs.lemmas.Option.{none-some, same_Some, slice_get-get_or}
 use mathlib.Core.List.{IsPrefix}
-use Rattle.user_page.specs.declared.look.Look.{Look}
-use Rattle.user_page.specs.Looks.{last_look}
+use Rattle.user_page.specs.{declared.look.Look.{Look}, Looks.{last_look}}
 use Rattle.perf_book.specs.Watching.{IsSeenOf}
 
 no-more : (rest : List Look) → length rest ≡ 0 → rest ≡ []

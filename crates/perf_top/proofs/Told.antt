@@ -1,20 +1,12 @@
 -- What the rings of a replay came to is what the definitions say.
-use Rattle.std.specs.Prelude.{◌≡◌, ℕ, All, List, [], ◌∷◌, length, map}
-use Rattle.std.proofs.Common.{arith, ap, subst, ◌∙◌}
+use Rattle.std.{specs.Prelude.{◌≡◌, ℕ, All, List, [], ◌∷◌, length, map}, proofs.Common.{arith, ap, subst, ◌∙◌}}
 use Rattle.std.proofs.lemmas.List.Elements.{All-head, All-tail}
-use Rattle.perf_base.specs.declared.acts.Act.{Act}
-use Rattle.perf_base.specs.declared.numbers.RingNo.{RingNo}
-use Rattle.perf_base.specs.Scripts.{Scripted, IsScript}
-use Rattle.stage_spec.specs.Hardware.{hardware_of}
-use Rattle.stage_spec.specs.History.{history, opening_stage}
-use Rattle.ring_spec.specs.Records.{words_of}
-use Rattle.ring_spec.specs.Rings.{account_in, bytes_of}
-use Rattle.ring_spec.proofs.Sizes.{sizes_law}
+use Rattle.perf_base.specs.{declared.{acts.Act.{Act}, numbers.RingNo.{RingNo}}, Scripts.{Scripted, IsScript}}
+use Rattle.stage_spec.specs.{Hardware.{hardware_of}, History.{history, opening_stage}}
+use Rattle.ring_spec.{specs.{Records.{words_of}, Rings.{account_in, bytes_of}}, proofs.Sizes.{sizes_law}}
 use Rattle.sample_ring.specs.RingLists.{InList}
-use Rattle.machine.specs.declared.ending.RingEnd.{RingEnd}
-use Rattle.machine.specs.Readers.{HasTaken, HaveTaken, IsShown, words_in}
-use Rattle.perf_book.proofs.Declared.{IsDeclared, all-declared}
-use Rattle.perf_book.proofs.Taken.{first-is, others-are}
+use Rattle.machine.specs.{declared.ending.RingEnd.{RingEnd}, Readers.{HasTaken, HaveTaken, IsShown, words_in}}
+use Rattle.perf_book.proofs.{Declared.{IsDeclared, all-declared}, Taken.{first-is, others-are}}
 use Rattle.report.specs.Told.{AreTold, IsTold}
 use Rattle.report_spec.specs.Report.{rings_after}
 

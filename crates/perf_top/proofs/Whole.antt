@@ -1,23 +1,17 @@
 -- Where no count of faults rises, all that can be done is done, or memory runs out.
 use Rattle.std.specs.Prelude.{◌≡◌, ◌⊎◌, ◌<◌, ◌≤◌, ℕ, zero, suc, List, [], ◌∷◌, ◌++◌, length, take, drop, IfSome, Option, Some, None, slice_get}
-use Rattle.std.proofs.Common.{append-nil, ap, arith, inl, inr, refl, subst, sym, ◌∙◌}
-use Rattle.std.proofs.lemmas.Option.{none-some, same_Some}
+use Rattle.std.proofs.{Common.{append-nil, ap, arith, inl, inr, refl, subst, sym, ◌∙◌}, lemmas.Option.{none-some, same_Some}}
+use Rattle.perf_base.specs.{declared.{numbers.RingNo.{RingNo}, reasons.SReason.{SReason}}, Scripts.{Scripted}}
 use Rattle.perf_base.specs.declared.acts.Act.TheVariants as act
-use Rattle.perf_base.specs.declared.numbers.RingNo.{RingNo}
-use Rattle.perf_base.specs.declared.reasons.SReason.{SReason}
-use Rattle.perf_base.specs.Scripts.{Scripted}
 use Rattle.perf_io.specs.Outside.{IsAtEnd, Rose, SinkShows, SourceShows, Takes}
 use Rattle.stage_spec.specs.Order.{IsComplete, IsLawfulSeen}
 use Rattle.ring_spec.specs.Rings.{IsLawfulOrder, sizes_in}
 use Rattle.script_spec.specs.Texts.{IsRefused, StandsFor}
 use Rattle.script_read.proofs.OneAnswer.{stands_one, stands_or_refused}
-use Rattle.perf_top.specs.Asking.{DoesOrder}
-use Rattle.perf_top.specs.Outcome.{CanBeDone, Gave, HasBadLook, HasOpenOrder, IsAnswer, IsDone, IsEnding, IsGiven, IsRefusal}
-use Rattle.perf_top.specs.declared.asked.Asked.{Asked}
+use Rattle.perf_top.specs.{Asking.{DoesOrder}, Outcome.{CanBeDone, Gave, HasBadLook, HasOpenOrder, IsAnswer, IsDone, IsEnding, IsGiven, IsRefusal}}
+use Rattle.perf_top.{specs.declared.{asked.Asked.{Asked}, status.Status.{Status}}, proofs.Refusing.{reads-script}}
 use Rattle.perf_top.specs.declared.asked.Asked.TheVariants as asked
-use Rattle.perf_top.specs.declared.status.Status.{Status}
 use Rattle.perf_top.specs.declared.status.Status.TheVariants as status
-use Rattle.perf_top.proofs.Refusing.{reads-script}
 
 -- what was read to the end is all that there was
 pub given-is : (left : List ℕ) (after : Option (List ℕ)) (text : List ℕ) → Takes (Some left) after text → IsAtEnd after → text ≡ left

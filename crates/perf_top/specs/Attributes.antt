@@ -1,12 +1,8 @@
 -- What is written of the bytes of a struct perf_event_attr (perf_event_open(2)). The line is this project's own profile.
-use Rattle.std.specs.Prelude.{◌≡◌, ◌⊎◌, ℕ, List, [], ◌∷◌, ◌++◌, Some, codes, decimal}
-use Rattle.std.specs.List.{join_with_byte}
-use Rattle.attr_bytes.specs.declared.raw.RawAttr.{RawAttr}
-use Rattle.attr_bytes.specs.declared.fault.AttrFault.{AttrFault}
+use Rattle.std.specs.{Prelude.{◌≡◌, ◌⊎◌, ℕ, List, [], ◌∷◌, ◌++◌, Some, codes, decimal}, List.{join_with_byte}}
+use Rattle.attr_bytes.specs.{declared.{raw.RawAttr.{RawAttr}, fault.AttrFault.{AttrFault}}, Faults.{fault_of, word_of}}
 use Rattle.attr_bytes.specs.Standing as standing
-use Rattle.attr_bytes.specs.Faults.{fault_of, word_of}
-use Rattle.script_spec.specs.Forms.{hexadecimal, flags_text, word_if}
-use Rattle.script_spec.specs.Printing.{some_of}
+use Rattle.script_spec.specs.{Forms.{hexadecimal, flags_text, word_if}, Printing.{some_of}}
 
 -- the words of an attribute: the bits of its samples and of its reads in hexadecimal, and its flags where it has some
 abbrev pub words_of_attr : RawAttr → List (List ℕ)

@@ -1,35 +1,21 @@
 -- What a call of the program reads, does and leaves. This project's own profile.
 use Rattle.std.specs.Prelude.{◌≡◌, ◌⊎◌, ◌<◌, ◌≤◌, ℕ, List, ◌++◌, length, take, IfSome, Option, Some, Result, slice_get}
-use Rattle.perf_base.specs.declared.acts.Act.{Act}
+use Rattle.perf_base.specs.{declared.{acts.Act.{Act}, numbers.RingNo.{RingNo}, reply.Answer.{Answer}, reasons.SReason.{SReason}}, Scripts.{Scripted}}
 use Rattle.perf_base.specs.declared.acts.Act.TheVariants as act
-use Rattle.perf_base.specs.declared.numbers.RingNo.{RingNo}
-use Rattle.perf_base.specs.declared.reply.Answer.{Answer}
-use Rattle.perf_base.specs.declared.reasons.SReason.{SReason}
 use Rattle.perf_base.specs.declared.reasons.SReason.TheVariants as s_reason
-use Rattle.perf_base.specs.Scripts.{Scripted}
-use Rattle.perf_io.specs.declared.outside.Failed.{Failed}
-use Rattle.perf_io.specs.Counts.{count_after}
-use Rattle.perf_io.specs.Outside.{Adds, Flushes, IsAtEnd, Rose, SinkShows, SourceShows, Takes}
-use Rattle.perf_io.specs.Wrote.{Wrote, WroteFront}
+use Rattle.perf_io.specs.{declared.outside.Failed.{Failed}, Counts.{count_after}}
+use Rattle.perf_io.specs.{Outside.{Adds, Flushes, IsAtEnd, Rose, SinkShows, SourceShows, Takes}, Wrote.{Wrote, WroteFront}}
 use Rattle.stage_spec.specs.Order.{IsComplete, IsLawfulSeen, last_seen}
-use Rattle.ring_spec.specs.Account.{head_of}
-use Rattle.ring_spec.specs.Rings.{IsLawfulOrder, account_in, bytes_of, sizes_in}
-use Rattle.script_spec.specs.Lines.{lines_of}
-use Rattle.script_spec.specs.Printing.{printed}
-use Rattle.script_spec.specs.Texts.{IsRefused, StandsFor}
-use Rattle.report_spec.specs.Answers.{AreReadersParts, IsAnswered, IsRunShaped}
-use Rattle.report_spec.specs.Published.{IsWatched}
-use Rattle.report_spec.specs.Report.{report, rings_after}
+use Rattle.ring_spec.specs.{Account.{head_of}, Rings.{IsLawfulOrder, account_in, bytes_of, sizes_in}}
+use Rattle.script_spec.specs.{Lines.{lines_of}, Printing.{printed}, Texts.{IsRefused, StandsFor}}
+use Rattle.report_spec.specs.{Answers.{AreReadersParts, IsAnswered, IsRunShaped}, Published.{IsWatched}, Report.{report, rings_after}}
 use Rattle.make_spec.specs.Rounds.{script_of_rounds}
 use Rattle.report.specs.Summary.{summary_text, totals_of}
 use Rattle.stat_rows.specs.Rows.{rows_of}
 use Rattle.stat_table.specs.Table.{table_text}
-use Rattle.perf_top.specs.Asking.{DoesOrder, ReadsScript, TakesMemory}
-use Rattle.perf_top.specs.Attributes.{IsLineOf}
-use Rattle.perf_top.specs.Notes.{note_of}
-use Rattle.perf_top.specs.declared.asked.Asked.{Asked}
-use Rattle.perf_top.specs.declared.asked.Asked.TheVariants as asked
+use Rattle.perf_top.specs.{Asking.{DoesOrder, ReadsScript, TakesMemory}, Attributes.{IsLineOf}, Notes.{note_of}, declared.asked.Asked.{Asked}}
 use Rattle.perf_top.specs.declared.status.Status.{Status}
+use Rattle.perf_top.specs.declared.asked.Asked.TheVariants as asked
 use Rattle.perf_top.specs.declared.status.Status.TheVariants as status
 
 -- The source was read to its end, and this is all that it gave.

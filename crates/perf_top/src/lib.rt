@@ -138,14 +138,14 @@ fn noted<N: Sink>(notes: &mut N, status: Status) -> Status
 /// does its own order, and writes that order and what its lines answered to the sink. `stat` does the same, and writes
 /// a table with a row for each event that is open then, by its slot, as perf stat does. `run` reads a script too, and
 /// runs it with a thread for each processor, tool and reader: it writes the order that came of it, and its report; each
-/// worker passes the gate before each line or try. `watch`, the slot of an event and a number of looks, 1 to 65536, runs
-/// it with one thread more, which looks so often at what the event has counted with its copies; behind the report stand
-/// its last look and the last one published. A text may have 4194304 bytes. `make` and a number of rounds, 1 to
-/// 1000 in decimal, has the script of N rounds made and its own order done, and writes six lines that sum up its
-/// report; with `script` behind, it writes that script. It reads nothing. `attr` and the bytes of an attribute, two
-/// hexadecimal digits each, writes what they say, or their first fault; it reads nothing and takes no memory. Other
-/// words are not known. Each answer but Done is written to the notes as one line. All memory is taken before the first
-/// act: where it runs out, nothing was read, or the whole text, and nothing was written.
+/// worker passes the gate before each line or try. `watch`, the slot of an event and a number of looks, 1 to 65536,
+/// runs it with one thread more, which looks so often at what the event has counted with its copies; behind the
+/// report stand its last look and the last one published. A text may have 4194304 bytes. `make` and a number of
+/// rounds, 1 to 1000 in decimal, has the script of N rounds made and its own order done, and writes six lines that
+/// sum up its report; with `script` behind, it writes that script. It reads nothing. `attr` and the bytes of an
+/// attribute, two hexadecimal digits each, writes what they say, or their first fault; it reads nothing and takes no
+/// memory. Other words are not known. Each answer but Done is written to the notes as one line. All memory is taken
+/// before the first act: where it runs out, nothing was read, or the whole text, and nothing was written.
 ///
 /// Words ask for at most one thing (`words_ask_one_thing`), and on each ring of a report records are conserved
 /// (`perf_book::records_are_conserved`). It goes by `answer_alone` for all but `run` and

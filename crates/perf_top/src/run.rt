@@ -30,7 +30,8 @@ impl Written for Report<'_> {
     }
 }
 
-/// The report of a run that was watched: behind it stand the watcher's last look at an event, and the last one published.
+/// The report of a run that was watched: behind it stand the watcher's last look at an event, and the last one
+/// published.
 #[derive(Drop)]
 pub struct WatchReport<'a> {
     pub ended: &'a Ended,

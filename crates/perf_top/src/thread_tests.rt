@@ -113,8 +113,8 @@ impl Gate for TakeTurns {
     }
 }
 
-/// Holds processor 0's line 0 until tool 0's line 1 is announced, and that line and the watcher until processor 0's line 1
-/// is.
+/// Holds processor 0's line 0 until tool 0's line 1 is announced, and that line and the watcher until processor 0's
+/// line 1 is.
 #[derive(Drop)]
 struct WatcherLast {
     opened: Signal,

@@ -1,21 +1,10 @@
 -- An instance that comes, in the tables of a world.
-use Rattle.std.specs.Prelude.{◌≡◌, ℕ, ◌+◌, false, is_some, List, [], ◌∷◌, ◌++◌, Option, Some, None, if◌then◌else◌}
-use Rattle.std.proofs.Common.{refl}
-use Rattle.perf_base.specs.declared.attr.Attr.{Attr}
-use Rattle.perf_base.specs.declared.numbers.EventNo.{EventNo}
-use Rattle.perf_base.specs.declared.numbers.Key.{Key}
-use Rattle.perf_base.specs.declared.numbers.RingNo.{RingNo}
-use Rattle.perf_base.specs.declared.standing.Context.{Context}
-use Rattle.stage_spec.specs.declared.instance.TaskStatus.{TaskStatus}
-use Rattle.stage_spec.specs.Hardware.{Hardware}
-use Rattle.world_spec.specs.Value.{World, Leaders, is_live}
-use Rattle.world_spec.specs.Kept.{IsKept}
-use Rattle.world_spec.specs.Adding.{Newcomer, new_instance, in_family, add}
-use Rattle.world_spec.specs.Comings.{MayCome}
-use Rattle.world_tables.specs.Columns.{Columns}
-use Rattle.world_tables.specs.Places.{Slots, Places, with_family}
-use Rattle.perf_world.specs.Parts.{newcomer, MayAdd, joined_events, joined_contexts}
-use Rattle.perf_world.specs.Seen.{seen, IsWorld}
+use Rattle.std.{specs.Prelude.{◌≡◌, ℕ, ◌+◌, false, is_some, List, [], ◌∷◌, ◌++◌, Option, Some, None, if◌then◌else◌}, proofs.Common.{refl}}
+use Rattle.perf_base.specs.declared.{attr.Attr.{Attr}, numbers.{EventNo.{EventNo}, Key.{Key}, RingNo.{RingNo}}, standing.Context.{Context}}
+use Rattle.stage_spec.specs.{declared.instance.TaskStatus.{TaskStatus}, Hardware.{Hardware}}
+use Rattle.world_spec.specs.{Value.{World, Leaders, is_live}, Kept.{IsKept}, Adding.{Newcomer, new_instance, in_family, add}, Comings.{MayCome}}
+use Rattle.world_tables.specs.{Columns.{Columns}, Places.{Slots, Places, with_family}}
+use Rattle.perf_world.specs.{Parts.{newcomer, MayAdd, joined_events, joined_contexts}, Seen.{seen, IsWorld}}
 
 pub added : (hw : Hardware) (t : Columns) (contexts : List Leaders) (families : Slots) (processors : Places) (tasks : List TaskStatus) (used : List EventNo) (mapped : List RingNo) (next : ℕ)
     (k : Key) (e : EventNo) (a : Attr) (leader origin : Option Key) (c : Context)

@@ -2,24 +2,14 @@
 use Rattle.std.specs.Prelude.{◌≡◌, ℕ, ◌+◌, ◌-◌, ◌<◌, ◌≤◌, ◌==◌, Bool, true, false, not, cond, is_some, List, [], ◌∷◌, length, map, filter, count_by, Option, Some, None, slice_index_or}
 use Rattle.std.specs.Cmp.{unsigned_tied}
 use Rattle.std.specs.FinMap.{FinMap, get, contains_key, remove, empty, len, len-remove, get-remove, get-empty, len-empty, empty_of_len, same_map, nat_cmp-IsAntisymmetric}
-use Rattle.std.specs.Ordering.{nat_cmp, eq_by_cmp}
-use Rattle.std.proofs.Common.{arith, refl, sym, ap, ◌∙◌, inl, inr}
-use Rattle.std.proofs.lemmas.Bool.{cases_Bool, cases_eq}
-use Rattle.std.proofs.lemmas.Bool.Decides.{nat_tests}
-use Rattle.std.proofs.lemmas.Cmp.{nat_cmp_total}
-use Rattle.std.specs.List.{list_any}
-use Rattle.perf_base.specs.declared.numbers.EventNo.{EventNo}
-use Rattle.perf_base.specs.declared.numbers.Key.{Key}
-use Rattle.stage_spec.specs.Hardware.{Hardware}
-use Rattle.stage_spec.specs.Opening.{is_used}
-use Rattle.stage_spec.specs.Stage.{is_copy}
+use Rattle.std.{specs.{Ordering.{nat_cmp, eq_by_cmp}, List.{list_any}}, proofs.Common.{arith, refl, sym, ap, ◌∙◌, inl, inr}}
+use Rattle.std.proofs.lemmas.{Bool.{cases_Bool, cases_eq, Decides.{nat_tests}}, Cmp.{nat_cmp_total}}
+use Rattle.perf_base.specs.declared.numbers.{EventNo.{EventNo}, Key.{Key}}
+use Rattle.stage_spec.specs.{Hardware.{Hardware}, Opening.{is_used}, Stage.{is_copy}}
 use Rattle.stage_laws.proofs.Counts.{count-cons}
-use Rattle.world_spec.specs.Value.{World, no_family, is_live, instance_at, is_key, times}
-use Rattle.world_spec.specs.StageOf.{stage_of}
-use Rattle.world_spec.specs.Kept.{post_at, once_if, in_option, copies_in, is_original_in, IsKept}
-use Rattle.world_spec.proofs.AddedStage.{one-in_option}
-use Rattle.world_spec.proofs.Counting.{times-filter}
-use Rattle.world_spec.proofs.Families.{all_keys, times-keys, instances-are, copies-are}
+use Rattle.world_spec.specs.{Value.{World, no_family, is_live, instance_at, is_key, times}, StageOf.{stage_of}}
+use Rattle.world_spec.{specs.Kept.{post_at, once_if, in_option, copies_in, is_original_in, IsKept}, proofs.AddedStage.{one-in_option}}
+use Rattle.world_spec.proofs.{Counting.{times-filter}, Families.{all_keys, times-keys, instances-are, copies-are}}
 use Rattle.world_spec.proofs.Keys.{times-cons, once-true, once-false, is_key-same, is_key-other}
 use Rattle.perf_world.proofs.Room.{few, fewer}
 

@@ -1,36 +1,15 @@
 -- What an instance that goes leaves of the tables of a world.
 use Rattle.std.specs.Prelude.{◌≡◌, ℕ, ◌<◌, ◌≤◌, ◌==◌, Bool, true, false, ◌&&◌, List, [], ◌∷◌, length, map, slice_index_or, slice_set}
-use Rattle.std.specs.List.{fold, list_all}
-use Rattle.std.proofs.Common.{arith, refl, sym, ap, subst, ◌∙◌, zero, suc}
-use Rattle.std.proofs.lemmas.Bool.Decides.{nat_tests}
-use Rattle.perf_base.specs.declared.numbers.EventNo.{EventNo}
-use Rattle.perf_base.specs.declared.numbers.Key.{Key}
-use Rattle.perf_base.specs.declared.numbers.RingNo.{RingNo}
-use Rattle.perf_base.specs.declared.reply.Sums.{Sums}
-use Rattle.stage_spec.specs.declared.instance.Instance.{Instance}
-use Rattle.stage_spec.specs.declared.instance.TaskStatus.{TaskStatus}
-use Rattle.stage_spec.specs.Families.{plus}
-use Rattle.stage_spec.specs.Hardware.{Hardware}
-use Rattle.stage_spec.specs.Shares.{no_sums}
+use Rattle.std.{specs.List.{fold, list_all}, proofs.{Common.{arith, refl, sym, ap, subst, ◌∙◌, zero, suc}, lemmas.Bool.Decides.{nat_tests}}}
+use Rattle.perf_base.specs.declared.{numbers.{EventNo.{EventNo}, Key.{Key}, RingNo.{RingNo}, CpuNo.{CpuNo}}, reply.Sums.{Sums}}
+use Rattle.stage_spec.specs.{declared.instance.{Instance.{Instance}, TaskStatus.{TaskStatus}}, Families.{plus}, Hardware.{Hardware, is_counted_on}}
+use Rattle.stage_spec.specs.{Shares.{no_sums}, Effective.{is_ready}, Places.{may_count_on}, Stage.{members_of}, Verdict.{is_eligible}}
 use Rattle.world_spec.specs.Value.{World, Leaders, no_family, is_live, entry_at, instance_at, account_at, is_key, times}
-use Rattle.perf_base.specs.declared.numbers.CpuNo.{CpuNo}
-use Rattle.stage_spec.specs.Effective.{is_ready}
-use Rattle.stage_spec.specs.Hardware.{is_counted_on}
-use Rattle.stage_spec.specs.Places.{may_count_on}
-use Rattle.stage_spec.specs.Stage.{members_of}
-use Rattle.stage_spec.specs.Verdict.{is_eligible}
-use Rattle.world_spec.specs.StageOf.{after_first, group_at}
-use Rattle.world_spec.specs.Kept.{post_at, leads, is_copy_in, keys_of, plus_keys, once_if, IsKept}
-use Rattle.world_spec.specs.Adding.{freed, leave_group, taken_out, out_of_family, drop_instance}
-use Rattle.world_spec.specs.Changes.{with_leaders, in_list, all_but}
-use Rattle.world_spec.proofs.Accounts.{counts_are_sums, times_are_sums}
-use Rattle.world_spec.proofs.Keys.{times-cons, once-true}
-use Rattle.world_spec.proofs.Tables.{keys-written}
-use Rattle.world_tables.specs.Columns.{Columns, is_there, entry_in, account_in, taken}
-use Rattle.world_tables.specs.Places.{Slots, Places, IsBelow, with_family}
-use Rattle.perf_world.specs.Parts.{free_one, left_events, left_contexts, behind}
-use Rattle.perf_world.specs.Seen.{seen, IsWorld}
-use Rattle.perf_world.proofs.Kept.{part-of-sum, in-family}
+use Rattle.world_spec.specs.{StageOf.{after_first, group_at}, Kept.{post_at, leads, is_copy_in, keys_of, plus_keys, once_if, IsKept}}
+use Rattle.world_spec.specs.{Adding.{freed, leave_group, taken_out, out_of_family, drop_instance}, Changes.{with_leaders, in_list, all_but}}
+use Rattle.world_spec.proofs.{Accounts.{counts_are_sums, times_are_sums}, Keys.{times-cons, once-true}, Tables.{keys-written}}
+use Rattle.world_tables.specs.{Columns.{Columns, is_there, entry_in, account_in, taken}, Places.{Slots, Places, IsBelow, with_family}}
+use Rattle.perf_world.{specs.{Parts.{free_one, left_events, left_contexts, behind}, Seen.{seen, IsWorld}}, proofs.Kept.{part-of-sum, in-family}}
 use Rattle.perf_world.proofs.Tables.{freed-keys}
 
 -- freed siblings, in the world and in the table

@@ -1,27 +1,16 @@
 -- What is kept of a world, and what follows from it for its tables.
 use Rattle.std.specs.Prelude.{◌≡◌, ℕ, ◌+◌, ◌<◌, ◌≤◌, ◌==◌, Bool, true, false, not, List, [], ◌∷◌, length, Option, Some, None, IfSome, slice_index_or, slice_set, if◌then◌else◌}
-use Rattle.std.proofs.Common.{arith, refl, sym, ap, subst, ◌∙◌, inl, inr}
-use Rattle.std.proofs.lemmas.Bool.{cases_Bool, cases_lt}
-use Rattle.std.proofs.lemmas.Bool.Decides.{nat_tests}
+use Rattle.std.proofs.{Common.{arith, refl, sym, ap, subst, ◌∙◌, inl, inr}, lemmas.Bool.{cases_Bool, cases_lt, Decides.{nat_tests}}}
 use Rattle.std.proofs.lemmas.List.{get_or_past}
-use Rattle.perf_base.specs.declared.numbers.CpuNo.{CpuNo}
-use Rattle.perf_base.specs.declared.numbers.EventNo.{EventNo}
-use Rattle.perf_base.specs.declared.numbers.Key.{Key}
-use Rattle.perf_base.specs.declared.numbers.RingNo.{RingNo}
-use Rattle.perf_base.specs.declared.numbers.TaskNo.{TaskNo}
-use Rattle.perf_base.specs.declared.reply.Sums.{Sums}
-use Rattle.stage_spec.specs.Hardware.{Hardware}
+use Rattle.perf_base.specs.declared.{numbers.{CpuNo.{CpuNo}, EventNo.{EventNo}, Key.{Key}, RingNo.{RingNo}, TaskNo.{TaskNo}}, reply.Sums.{Sums}}
+use Rattle.stage_spec.specs.{Hardware.{Hardware}, declared.instance.TaskStatus.{TaskStatus}, Stage.{place_of, unknown_task}}
 use Rattle.stage_spec.specs.declared.instance.TaskState.TheVariants as task_state
-use Rattle.stage_spec.specs.declared.instance.TaskStatus.{TaskStatus}
-use Rattle.stage_spec.specs.Stage.{place_of, unknown_task}
 use Rattle.stage_laws.proofs.Counts.{count-append}
 use Rattle.world_spec.specs.Value.{World, Family, Leaders, no_family, is_live, entry_at, instance_at, account_at, leaders_of, is_key, times}
 use Rattle.world_spec.specs.Kept.{leads, leads_in, post_at, in_option, keys_of, plus_keys, family_sums, is_original_in, is_copy_in, IsKept}
-use Rattle.world_spec.proofs.Accounts.{IsSum, counts_are_sums, times_are_sums}
-use Rattle.world_spec.proofs.Keys.{times-cons, once-true, once-false, is_key-true, key-is}
+use Rattle.world_spec.proofs.{Accounts.{IsSum, counts_are_sums, times_are_sums}, Keys.{times-cons, once-true, once-false, is_key-true, key-is}}
 use Rattle.world_spec.specs.Changes as change
-use Rattle.world_tables.specs.Columns.{Columns}
-use Rattle.world_tables.specs.Places.{picked, Slots, Places}
+use Rattle.world_tables.specs.{Columns.{Columns}, Places.{picked, Slots, Places}}
 use Rattle.perf_world.specs.Seen.{seen, noted, IsWorld}
 
 -- what is kept goes along equations

@@ -1,19 +1,13 @@
 -- How many keys there can be in the lists of a kept world: no more than there are slots and contexts for them.
 use Rattle.std.specs.Prelude.{◌≡◌, ℕ, ◌+◌, ◌<◌, ◌≤◌, ◌==◌, eqb, Bool, true, false, ◌&&◌, ◌||◌, List, [], ◌∷◌, ◌++◌, length, map, slice_index_or, if◌then◌else◌}
-use Rattle.std.specs.List.{list_any, IsDistinct, AllByRecursion}
-use Rattle.std.proofs.Common.{arith, refl, sym, ap, ◌∙◌, inl, inr}
-use Rattle.std.proofs.lemmas.Bool.{cases_Bool, cases_eq}
-use Rattle.std.proofs.lemmas.Bool.Decides.{nat_tests, eqb_tells}
-use Rattle.std.proofs.lemmas.List.{length-map}
+use Rattle.std.{specs.List.{list_any, IsDistinct, AllByRecursion}, proofs.Common.{arith, refl, sym, ap, ◌∙◌, inl, inr}}
+use Rattle.std.proofs.lemmas.{Bool.{cases_Bool, cases_eq, Decides.{nat_tests, eqb_tells}}, List.{length-map}}
 use Rattle.std.proofs.lemmas.Map.Steps.{length-le_from_distinct_below}
 use Rattle.perf_base.specs.declared.numbers.Key.{Key}
-use Rattle.stage_spec.specs.Hardware.{Hardware}
-use Rattle.stage_spec.specs.Stage.{place_of}
+use Rattle.stage_spec.specs.{Hardware.{Hardware}, Stage.{place_of}}
 use Rattle.stage_laws.proofs.Counts.{count-append}
-use Rattle.world_spec.specs.Value.{World, Leaders, no_leaders, no_family, is_live, entry_at, instance_at, is_key, times}
-use Rattle.world_spec.specs.StageOf.{after_first}
-use Rattle.world_spec.specs.Kept.{post_at, leads, leads_in, is_member_of, is_copy_in, once_if, IsKept}
-use Rattle.world_spec.specs.Changes.{in_list, all_but}
+use Rattle.world_spec.specs.{Value.{World, Leaders, no_leaders, no_family, is_live, entry_at, instance_at, is_key, times}, StageOf.{after_first}}
+use Rattle.world_spec.specs.{Kept.{post_at, leads, leads_in, is_member_of, is_copy_in, once_if, IsKept}, Changes.{in_list, all_but}}
 use Rattle.world_spec.proofs.Keys.{times-cons, once-true, once-false, is_key-same, is_key-true, is_key-other, key-is, times-all_but_same, times-all_but_other}
 use Rattle.world_tables.specs.Places.{picked}
 use Rattle.perf_world.specs.Parts.{HaveRoomBehind}

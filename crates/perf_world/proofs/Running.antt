@@ -1,13 +1,8 @@
 -- The processor that a task is on is the one that was found.
-use Rattle.std.specs.Prelude.{◌≡◌, ◌+◌, ◌==◌, not, Option, Some, None, IfSome, IfNone}
-use Rattle.std.proofs.Common.{arith, refl, sym, ap}
-use Rattle.perf_base.specs.declared.numbers.CpuNo.{CpuNo}
-use Rattle.perf_base.specs.declared.numbers.TaskNo.{TaskNo}
-use Rattle.stage_spec.specs.Refusals.{holds_of}
-use Rattle.stage_spec.specs.Stage.{Stage, all_cpus, cpu_of, is_on_cpu, task_on}
-use Rattle.stage_spec.proofs.Present.{find-passes}
-use Rattle.stage_laws.specs.Sound.{AreRunning}
-use Rattle.stage_laws.proofs.Tasks.{free-task, is_task-some}
+use Rattle.std.{specs.Prelude.{◌≡◌, ◌+◌, ◌==◌, not, Option, Some, None, IfSome, IfNone}, proofs.Common.{arith, refl, sym, ap}}
+use Rattle.perf_base.specs.declared.numbers.{CpuNo.{CpuNo}, TaskNo.{TaskNo}}
+use Rattle.stage_spec.{specs.{Refusals.{holds_of}, Stage.{Stage, all_cpus, cpu_of, is_on_cpu, task_on}}, proofs.Present.{find-passes}}
+use Rattle.stage_laws.{specs.Sound.{AreRunning}, proofs.Tasks.{free-task, is_task-some}}
 
 cpu-by : (s : Stage) (task : TaskNo) (found r : Option CpuNo) → cpu_of s task ≡ found → AreRunning s
     → IfSome r (λ cpu. task_on s cpu ≡ Some task) → IfNone r ((cpu : CpuNo) → task_on s cpu ≡ Some task → ⊥) → found ≡ r

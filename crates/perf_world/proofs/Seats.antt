@@ -1,22 +1,12 @@
 -- Seats after a group was put on counters, and the tasks of the first world.
 use Rattle.std.specs.Prelude.{◌≡◌, ℕ, ◌<◌, ◌≤◌, ◌==◌, Bool, true, false, ◌||◌, All, List, [], ◌∷◌, ◌++◌, length, map, Result, Ok, Err, OnOk, OnErr, slice_index_or, slice_set, if◌then◌else◌}
-use Rattle.std.specs.List.{list_any}
-use Rattle.std.proofs.Common.{arith, refl, sym, ap, subst, ◌∙◌, inl, inr, zero, suc}
-use Rattle.std.proofs.lemmas.Bool.{cases_eq}
+use Rattle.std.{specs.List.{list_any}, proofs.{Common.{arith, refl, sym, ap, subst, ◌∙◌, inl, inr, zero, suc}, lemmas.Bool.{cases_eq}}}
 use Rattle.std.proofs.lemmas.Bool.Decides.{nat_tests}
 use Rattle.std.proofs.lemmas.List.{map-append, length-append, length-map, ext_get_or, get_or-map, get_or-set_same, get_or-set_other}
-use Rattle.std.proofs.Math.ListN.{get_or-append}
-use Rattle.std.proofs.Math.Seq.{get_or-append_seam}
-use Rattle.std.proofs.lemmas.List.Elements.{All-append}
-use Rattle.std.proofs.lemmas.List.Folds.{list_any-append}
-use Rattle.perf_base.specs.Masks.{IsMask}
-use Rattle.perf_base.specs.declared.numbers.EventNo.{EventNo}
-use Rattle.perf_base.specs.declared.numbers.TaskNo.{TaskNo}
-use Rattle.stage_spec.specs.declared.instance.TaskStatus.{TaskStatus}
-use Rattle.stage_spec.specs.Fits.{IsAssignment}
-use Rattle.stage_spec.specs.Numbers.{numbers_below}
-use Rattle.stage_spec.specs.Stage.{fresh_task, unknown_task, first_stage}
-use Rattle.stage_spec.specs.Tight.{masks_of}
+use Rattle.std.proofs.{lemmas.List.{Elements.{All-append}, Folds.{list_any-append}}, Math.{ListN.{get_or-append}, Seq.{get_or-append_seam}}}
+use Rattle.perf_base.specs.{Masks.{IsMask}, declared.numbers.{EventNo.{EventNo}, TaskNo.{TaskNo}}}
+use Rattle.stage_spec.specs.{declared.instance.TaskStatus.{TaskStatus}, Fits.{IsAssignment}, Numbers.{numbers_below}}
+use Rattle.stage_spec.specs.{Stage.{fresh_task, unknown_task, first_stage}, Tight.{masks_of}}
 use Rattle.counter_match.specs.Seating.{Seated, AreDistinct, IsSound}
 
 seats-more : (old new : Seated) (group : List (EventNo × ℕ)) → IsSound old → new.counters ≡ old.counters → new.events ≡ old.events ++ group

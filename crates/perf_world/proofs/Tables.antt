@@ -1,21 +1,13 @@
 -- The tables of events after one came, and after siblings were freed.
 use Rattle.std.specs.Prelude.{◌≡◌, ℕ, ◌+◌, ◌<◌, ◌≤◌, true, false, List, [], ◌∷◌, ◌++◌, length, drop, slice_index_or, slice_set}
-use Rattle.std.specs.FinMap.{FinMap, get, contains_key, insert, same_map, nat_cmp-IsAntisymmetric}
-use Rattle.std.specs.Option.{unwrap_or}
-use Rattle.std.specs.Ordering.{nat_cmp}
-use Rattle.std.proofs.Common.{arith, refl, sym, ap, subst, ◌∙◌, inl, inr, zero, suc, append-nil, append_assoc}
-use Rattle.std.proofs.lemmas.Bool.{cases_eq}
-use Rattle.std.proofs.lemmas.Cmp.{nat_cmp_total}
-use Rattle.std.proofs.lemmas.List.{get_or-set_same, set-get_or}
-use Rattle.std.proofs.Math.Seq.{drop-cons}
+use Rattle.std.specs.{FinMap.{FinMap, get, contains_key, insert, same_map, nat_cmp-IsAntisymmetric}, Option.{unwrap_or}, Ordering.{nat_cmp}}
+use Rattle.std.proofs.{Common.{arith, refl, sym, ap, subst, ◌∙◌, inl, inr, zero, suc, append-nil, append_assoc}, lemmas.Bool.{cases_eq}}
+use Rattle.std.proofs.{lemmas.{Cmp.{nat_cmp_total}, List.{get_or-set_same, set-get_or}}, Math.Seq.{drop-cons}}
 use Rattle.perf_base.specs.declared.numbers.Key.{Key}
 use Rattle.stage_laws.proofs.Counts.{count-append}
-use Rattle.world_spec.specs.Value.{Entry, Leaders, no_entry, no_leaders, is_key, times}
-use Rattle.world_spec.specs.Changes.{in_list}
-use Rattle.world_spec.proofs.Keys.{times-cons, once-true, is_key-same}
-use Rattle.world_spec.proofs.Tables.{get-here, get-there, keys-written}
-use Rattle.world_tables.specs.Columns.{Columns, is_there, entry_in, put_entry, put_row}
-use Rattle.world_tables.specs.Rows.{Row}
+use Rattle.world_spec.specs.{Value.{Entry, Leaders, no_entry, no_leaders, is_key, times}, Changes.{in_list}}
+use Rattle.world_spec.proofs.{Keys.{times-cons, once-true, is_key-same}, Tables.{get-here, get-there, keys-written}}
+use Rattle.world_tables.specs.{Columns.{Columns, is_there, entry_in, put_entry, put_row}, Rows.{Row}}
 use Rattle.perf_world.specs.Parts.{free_one, behind, HaveRoomBehind}
 
 -- a key that names an event is not one that names none

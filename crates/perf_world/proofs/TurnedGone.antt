@@ -1,26 +1,13 @@
 -- The ways of accounts where an instance comes or goes.
-use Rattle.std.specs.Prelude.{◌≡◌, ◌==◌, cond, Bool, true, false, is_some, List, [], ◌∷◌, Option, Some, None}
-use Rattle.std.specs.FinMap.{FinMap, get}
-use Rattle.std.specs.List.{fold}
-use Rattle.std.specs.Option.{unwrap_or}
-use Rattle.std.specs.Ordering.{nat_cmp}
-use Rattle.std.proofs.Common.{arith, refl, sym, ap, subst, ◌∙◌}
-use Rattle.std.proofs.lemmas.Bool.{false≢true}
+use Rattle.std.specs.{Prelude.{◌≡◌, ◌==◌, cond, Bool, true, false, is_some, List, [], ◌∷◌, Option, Some, None}, FinMap.{FinMap, get}, List.{fold}}
+use Rattle.std.{specs.{Option.{unwrap_or}, Ordering.{nat_cmp}}, proofs.{Common.{arith, refl, sym, ap, subst, ◌∙◌}, lemmas.Bool.{false≢true}}}
 use Rattle.std.proofs.lemmas.Bool.Decides.{nat_tests}
-use Rattle.perf_base.specs.declared.numbers.Key.{Key}
-use Rattle.perf_base.specs.declared.standing.Context.{Context}
-use Rattle.stage_spec.specs.declared.instance.Instance.{Instance}
-use Rattle.stage_spec.specs.Hardware.{Hardware}
-use Rattle.world_spec.specs.Value.{World, is_live, entry_at, is_key, times}
-use Rattle.world_spec.specs.StageOf.{after_first}
-use Rattle.world_spec.specs.Kept.{post_at, leads, IsKept}
-use Rattle.world_spec.specs.Ways.{Way}
-use Rattle.world_spec.proofs.Gone.{get-left, get-removed}
-use Rattle.world_spec.proofs.Keys.{key-is, is_key-other, times-cons, once-false}
-use Rattle.world_spec.proofs.Tables.{get-here, get-there}
+use Rattle.perf_base.specs.declared.{numbers.Key.{Key}, standing.Context.{Context}}
+use Rattle.stage_spec.specs.{declared.instance.Instance.{Instance}, Hardware.{Hardware}}
+use Rattle.world_spec.specs.{Value.{World, is_live, entry_at, is_key, times}, StageOf.{after_first}, Kept.{post_at, leads, IsKept}, Ways.{Way}}
+use Rattle.world_spec.proofs.{Gone.{get-left, get-removed}, Keys.{key-is, is_key-other, times-cons, once-false}, Tables.{get-here, get-there}}
 use Rattle.world_spec.proofs.Ways.{outside-group}
-use Rattle.world_tables.specs.Columns.{Columns, is_there, entry_in, way_in, taken}
-use Rattle.world_tables.specs.Meters.{no_way}
+use Rattle.world_tables.specs.{Columns.{Columns, is_there, entry_in, way_in, taken}, Meters.{no_way}}
 use Rattle.perf_world.specs.Parts.{joined_events, free_one, left_events}
 
 -- an event that comes

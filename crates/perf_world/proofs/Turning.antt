@@ -1,45 +1,22 @@
 -- Accounts that are turned, and those whose ways stay.
 use Rattle.std.specs.Prelude.{◌≡◌, ℕ, zero, suc, ◌+◌, ◌<◌, ◌≤◌, ◌==◌, Bool, true, false, ◌&&◌, List, [], ◌∷◌, ◌++◌, length, take, flat_map, Option, Some, None, IfSome, IfNone, slice_index_or, if◌then◌else◌}
-use Rattle.std.specs.FinMap.{FinMap, get, contains_key, insert}
-use Rattle.std.specs.Option.{unwrap_or}
-use Rattle.std.specs.Ordering.{nat_cmp}
-use Rattle.std.proofs.Common.{arith, refl, sym, ap, subst, ◌∙◌, inl, inr}
-use Rattle.std.proofs.lemmas.Bool.{cases_eq, cases_lt, cases_Bool, false≢true}
-use Rattle.std.proofs.lemmas.Bool.Decides.{nat_tests}
-use Rattle.std.proofs.lemmas.Grind.{flat_map-append}
-use Rattle.std.proofs.lemmas.List.{append-nil, get_or_past}
-use Rattle.std.proofs.Math.Seq.{take-suc}
+use Rattle.std.specs.{FinMap.{FinMap, get, contains_key, insert}, Option.{unwrap_or}, Ordering.{nat_cmp}}
+use Rattle.std.proofs.{Common.{arith, refl, sym, ap, subst, ◌∙◌, inl, inr}, lemmas.Bool.{cases_eq, cases_lt, cases_Bool, false≢true}}
+use Rattle.std.proofs.{lemmas.{Bool.Decides.{nat_tests}, Grind.{flat_map-append}, List.{append-nil, get_or_past}}, Math.Seq.{take-suc}}
+use Rattle.perf_base.specs.declared.{lines.Work.{Work}, numbers.{CpuNo.{CpuNo}, Key.{Key}, TaskNo.{TaskNo}}, standing.Context.{Context}}
+use Rattle.perf_base.specs.Standings.{stands_on}
 use Rattle.perf_base.specs.declared.lines.CpuLine.TheVariants as cpu_line
-use Rattle.perf_base.specs.declared.lines.Work.{Work}
-use Rattle.perf_base.specs.declared.numbers.CpuNo.{CpuNo}
-use Rattle.perf_base.specs.declared.numbers.Key.{Key}
-use Rattle.perf_base.specs.declared.numbers.TaskNo.{TaskNo}
-use Rattle.perf_base.specs.declared.standing.Context.{Context}
 use Rattle.perf_base.specs.declared.standing.Context.TheVariants as context
-use Rattle.stage_spec.specs.Hardware.{Hardware}
-use Rattle.stage_spec.specs.declared.instance.TaskStatus.{TaskStatus}
+use Rattle.stage_spec.specs.{Hardware.{Hardware}, declared.instance.TaskStatus.{TaskStatus}}
 use Rattle.stage_spec.specs.Stage.{is_task, task_on, place_of, unknown_task, is_live as is_live_task}
-use Rattle.stage_laws.specs.Bounds.{most_of_line}
-use Rattle.stage_laws.proofs.Counts.{count-append}
-use Rattle.stage_laws.proofs.Tasks.{is_task-some}
-use Rattle.stage_laws.specs.Narrowing.{has_context}
+use Rattle.stage_laws.{specs.{Bounds.{most_of_line}, Narrowing.{has_context}}, proofs.{Counts.{count-append}, Tasks.{is_task-some}}}
 use Rattle.world_spec.specs.StageOf.{after_first, stage_of}
 use Rattle.world_spec.specs.Value.{World, Entry, Leaders, no_entry, no_leaders, is_live, instance_at, standing_at, leaders_of, entry_at, is_key, times}
-use Rattle.world_spec.specs.Kept.{post_at, leads, once_if, is_member_of, IsKept}
-use Rattle.world_spec.specs.Changes.{place}
-use Rattle.world_spec.specs.Metering.{goes_along, IsWorked, HasMeterRoom}
-use Rattle.world_spec.specs.Shares.{HaveRoom}
-use Rattle.world_spec.specs.Working.{is_effective}
-use Rattle.perf_base.specs.Standings.{stands_on}
-use Rattle.world_spec.specs.Ways.{Way, IsTurned, KeepsWay, is_context_of, is_on_at}
-use Rattle.world_spec.proofs.Keys.{key-is, is_key-same, is_key-other, times-cons, once-true, once-false}
-use Rattle.world_spec.proofs.Metering.{work-kept, work-ways}
-use Rattle.world_spec.proofs.Moving.{leads-parts}
-use Rattle.world_spec.proofs.Tables.{get-here, get-there}
-use Rattle.world_spec.proofs.Ways.{still-turned, outside-context}
-use Rattle.world_tables.specs.Columns.{Columns, is_there, way_in, put_way}
-use Rattle.world_tables.specs.Meters.{goes_along as along, no_way}
-use Rattle.world_tables.specs.Places.{Places}
+use Rattle.world_spec.specs.{Kept.{post_at, leads, once_if, is_member_of, IsKept}, Changes.{place}, Metering.{goes_along, IsWorked, HasMeterRoom}}
+use Rattle.world_spec.specs.{Shares.{HaveRoom}, Working.{is_effective}, Ways.{Way, IsTurned, KeepsWay, is_context_of, is_on_at}}
+use Rattle.world_spec.proofs.{Keys.{key-is, is_key-same, is_key-other, times-cons, once-true, once-false}, Metering.{work-kept, work-ways}}
+use Rattle.world_spec.proofs.{Moving.{leads-parts}, Tables.{get-here, get-there}, Ways.{still-turned, outside-context}}
+use Rattle.world_tables.specs.{Columns.{Columns, is_there, way_in, put_way}, Meters.{goes_along as along, no_way}, Places.{Places}}
 use Rattle.perf_world.specs.Seen.{IsWorld}
 use Rattle.perf_world.specs.Settling.{bare, RunOnce, AreLed, HasSettled, AreTurned, IsStored, group_keys, list_keys, task_leaders, task_keys}
 

@@ -1,32 +1,15 @@
 -- A line of work, in the tables of a world.
-use Rattle.std.specs.Prelude.{◌≡◌, ℕ, ◌==◌, Bool, true, false, ◌&&◌, List, if◌then◌else◌}
-use Rattle.std.proofs.Common.{arith, refl, sym, ap, ◌∙◌}
-use Rattle.perf_base.specs.declared.attr.Attr.{Attr}
-use Rattle.perf_base.specs.declared.lines.CpuLine.TheVariants as cpu_line
-use Rattle.perf_base.specs.declared.lines.Work.{Work}
-use Rattle.perf_base.specs.declared.numbers.CpuNo.{CpuNo}
-use Rattle.perf_base.specs.declared.numbers.EventNo.{EventNo}
-use Rattle.perf_base.specs.declared.numbers.Key.{Key}
-use Rattle.perf_base.specs.declared.numbers.RingNo.{RingNo}
+use Rattle.std.{specs.Prelude.{◌≡◌, ℕ, ◌==◌, Bool, true, false, ◌&&◌, List, if◌then◌else◌}, proofs.Common.{arith, refl, sym, ap, ◌∙◌}}
+use Rattle.perf_base.specs.declared.{attr.Attr.{Attr}, lines.Work.{Work}, numbers.{CpuNo.{CpuNo}, EventNo.{EventNo}, Key.{Key}, RingNo.{RingNo}}}
 use Rattle.perf_base.specs.declared.reply.Sums.{Sums}
-use Rattle.stage_spec.specs.declared.instance.TaskStatus.{TaskStatus}
-use Rattle.stage_spec.specs.Families.{plus}
-use Rattle.stage_spec.specs.Hardware.{Hardware}
-use Rattle.stage_spec.specs.Shares.{counted_by, no_sums}
+use Rattle.perf_base.specs.declared.lines.CpuLine.TheVariants as cpu_line
+use Rattle.stage_spec.specs.{declared.instance.TaskStatus.{TaskStatus}, Families.{plus}, Hardware.{Hardware}, Shares.{counted_by, no_sums}}
 use Rattle.stage_laws.specs.Bounds.{most_of_line}
-use Rattle.world_spec.specs.Value.{World, Leaders, is_live, instance_at, account_at}
-use Rattle.world_spec.specs.Metering.{IsWorked, HasMeterRoom, work_given, goes_along}
-use Rattle.world_spec.specs.Shares.{HaveRoom}
-use Rattle.world_spec.specs.Ways.{Way, is_ready_at, is_on_at, IsTurned}
-use Rattle.world_spec.proofs.Along.{along-is}
-use Rattle.world_spec.proofs.Metering.{counted-most}
-use Rattle.world_tables.specs.Columns.{Columns, HasRoomForWork, way_in, given_in}
+use Rattle.world_spec.specs.{Value.{World, Leaders, is_live, instance_at, account_at}, Metering.{IsWorked, HasMeterRoom, work_given, goes_along}}
+use Rattle.world_spec.{specs.{Shares.{HaveRoom}, Ways.{Way, is_ready_at, is_on_at, IsTurned}}, proofs.{Along.{along-is}, Metering.{counted-most}}}
+use Rattle.world_tables.specs.{Columns.{Columns, HasRoomForWork, way_in, given_in}, Meters.{given}, Places.{Slots, Places}}
 use Rattle.world_tables.specs.Columns as tables
-use Rattle.world_tables.specs.Meters.{given}
-use Rattle.world_tables.specs.Places.{Slots, Places}
-use Rattle.perf_world.specs.Seen.{seen, IsWorld}
-use Rattle.perf_world.specs.Settling.{AreTurned}
-use Rattle.perf_world.proofs.Kept.{own-count, own-time}
+use Rattle.perf_world.{specs.{Seen.{seen, IsWorld}, Settling.{AreTurned}}, proofs.Kept.{own-count, own-time}}
 
 -- what an account is given by its way is what its instance is given
 module _ (work : Work) (cpu : CpuNo) (a : Attr) where

@@ -1,23 +1,11 @@
 -- How the value of a world is stored: as the tuple of its parts. This project's own profile.
-use Rattle.std.specs.Prelude.{ℕ, List, Option, refl}
-use Rattle.std.specs.Coded.{Coded, code_by, coded×, coded_ℕ, coded_list, coded_option}
-use Rattle.std.specs.FinMap.{FinMap, code}
+use Rattle.std.specs.{Prelude.{ℕ, List, Option, refl}, Coded.{Coded, code_by, coded×, coded_ℕ, coded_list, coded_option}, FinMap.{FinMap, code}}
 use Rattle.std.specs.Ordering.{nat_cmp}
-use Rattle.perf_base.specs.contracts.numbers.EventNo.{the_row as event_row}
-use Rattle.perf_base.specs.contracts.numbers.Key.{the_row as key_row}
-use Rattle.perf_base.specs.contracts.numbers.RingNo.{the_row as ring_row}
-use Rattle.perf_base.specs.contracts.numbers.TaskNo.{the_row as task_row}
-use Rattle.perf_base.specs.contracts.reply.Sums.{the_row as sums_row}
-use Rattle.perf_base.specs.contracts.standing.Standing.{the_row as standing_row}
-use Rattle.perf_base.specs.declared.numbers.EventNo.{EventNo}
-use Rattle.perf_base.specs.declared.numbers.Key.{Key}
-use Rattle.perf_base.specs.declared.numbers.RingNo.{RingNo}
-use Rattle.perf_base.specs.declared.numbers.TaskNo.{TaskNo}
-use Rattle.perf_base.specs.declared.reply.Sums.{Sums}
-use Rattle.perf_base.specs.declared.standing.Standing.{Standing}
-use Rattle.stage_spec.specs.contracts.instance.TaskStatus.{the_row as status_row}
-use Rattle.stage_spec.specs.declared.instance.TaskStatus.{TaskStatus}
-use Rattle.stage_spec.specs.Hardware.{Hardware}
+use Rattle.perf_base.specs.contracts.numbers.{EventNo.{the_row as event_row}, Key.{the_row as key_row}, RingNo.{the_row as ring_row}}
+use Rattle.perf_base.specs.contracts.{numbers.TaskNo.{the_row as task_row}, reply.Sums.{the_row as sums_row}}
+use Rattle.perf_base.specs.{contracts.standing.Standing.{the_row as standing_row}, declared.numbers.{EventNo.{EventNo}, Key.{Key}, RingNo.{RingNo}}}
+use Rattle.perf_base.specs.declared.{numbers.TaskNo.{TaskNo}, reply.Sums.{Sums}, standing.Standing.{Standing}}
+use Rattle.stage_spec.specs.{contracts.instance.TaskStatus.{the_row as status_row}, declared.instance.TaskStatus.{TaskStatus}, Hardware.{Hardware}}
 use Rattle.counter_match.specs.Seating.{Seated}
 use Rattle.world_spec.specs.Value.{World, Entry, Account, Leaders, Family, Totals, Quiet}
 use Rattle.world_tables.specs.Codes.{entry_code, account_code, totals_code}

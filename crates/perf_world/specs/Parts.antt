@@ -1,22 +1,11 @@
 -- What happens to each table of a world where an instance comes or goes. This project's own profile.
 use Rattle.std.specs.Prelude.{◌≡◌, ◌+◌, ◌^◌, ◌<◌, ◌≤◌, Bool, true, false, is_some, List, [], ◌∷◌, ◌++◌, length, Option, Some, None, slice_index_or, slice_set}
 use Rattle.std.specs.List.{fold}
-use Rattle.perf_base.specs.Scripts.{IsKind}
-use Rattle.perf_base.specs.declared.attr.Attr.{Attr}
-use Rattle.perf_base.specs.declared.numbers.EventNo.{EventNo}
-use Rattle.perf_base.specs.declared.numbers.Key.{Key}
-use Rattle.perf_base.specs.declared.standing.Context.{Context}
+use Rattle.perf_base.specs.{Scripts.{IsKind}, declared.{attr.Attr.{Attr}, numbers.{EventNo.{EventNo}, Key.{Key}}, standing.Context.{Context}}}
 use Rattle.perf_base.specs.declared.standing.Standing.TheVariants as standing
-use Rattle.stage_spec.specs.declared.instance.Instance.{Instance}
-use Rattle.stage_spec.specs.Checks.{has_unknown_sample}
-use Rattle.stage_spec.specs.Flags.{is_pinned}
-use Rattle.stage_spec.specs.Stage.{place_of}
-use Rattle.world_spec.specs.Value.{World, Leaders, no_leaders, is_live, entry_at, instance_at, times}
-use Rattle.world_spec.specs.StageOf.{after_first}
-use Rattle.world_spec.specs.Kept.{AreFitting}
-use Rattle.world_spec.specs.Adding.{Newcomer}
-use Rattle.world_spec.specs.Changes.{in_list, all_but}
-use Rattle.world_spec.specs.Comings.{new_kinds, IsOfOriginal, HasRoom}
+use Rattle.stage_spec.specs.{declared.instance.Instance.{Instance}, Checks.{has_unknown_sample}, Flags.{is_pinned}, Stage.{place_of}}
+use Rattle.world_spec.specs.{Value.{World, Leaders, no_leaders, is_live, entry_at, instance_at, times}, StageOf.{after_first}, Kept.{AreFitting}}
+use Rattle.world_spec.specs.{Adding.{Newcomer}, Changes.{in_list, all_but}, Comings.{new_kinds, IsOfOriginal, HasRoom}}
 use Rattle.world_tables.specs.Columns.{Columns, entry_in, put_entry, put_standing, put_row}
 use Rattle.world_tables.specs.Rows.{fresh_row, leader_entry, sibling_entry, freed_entry}
 

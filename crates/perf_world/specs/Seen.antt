@@ -1,18 +1,10 @@
 -- A world as its tables show it. This project's own profile.
 use Rattle.std.specs.Prelude.{◌≡◌, ◌≢◌, ℕ, true, List, Option, Some, None, slice_index_or, slice_set}
-use Rattle.perf_base.specs.declared.numbers.CpuNo.{CpuNo}
-use Rattle.perf_base.specs.declared.numbers.EventNo.{EventNo}
-use Rattle.perf_base.specs.declared.numbers.Key.{Key}
-use Rattle.perf_base.specs.declared.numbers.RingNo.{RingNo}
-use Rattle.perf_base.specs.declared.numbers.TaskNo.{TaskNo}
+use Rattle.perf_base.specs.declared.numbers.{CpuNo.{CpuNo}, EventNo.{EventNo}, Key.{Key}, RingNo.{RingNo}, TaskNo.{TaskNo}}
 use Rattle.perf_base.specs.declared.standing.Context.{Context}
-use Rattle.stage_spec.specs.declared.instance.TaskStatus.{TaskStatus}
-use Rattle.stage_spec.specs.Hardware.{Hardware}
-use Rattle.stage_spec.specs.Stage.{place_of, unknown_task}
-use Rattle.world_spec.specs.Kept.{IsKept}
-use Rattle.world_spec.specs.Value.{World, Leaders, is_live, entry_at, instance_at}
-use Rattle.world_tables.specs.Columns.{Columns}
-use Rattle.world_tables.specs.Places.{Slots, Places}
+use Rattle.stage_spec.specs.{declared.instance.TaskStatus.{TaskStatus}, Hardware.{Hardware}, Stage.{place_of, unknown_task}}
+use Rattle.world_spec.specs.{Kept.{IsKept}, Value.{World, Leaders, is_live, entry_at, instance_at}}
+use Rattle.world_tables.specs.{Columns.{Columns}, Places.{Slots, Places}}
 
 abbrev pub seen : Hardware → Columns → List Leaders → Slots → Places → List TaskStatus → List EventNo → List RingNo → ℕ → World
 seen hw events contexts families processors tasks used mapped next = record {

@@ -1,17 +1,12 @@
 -- How the accounts of instances are turned to the way that their world has for them. After event_sched_in and
 -- event_sched_out of kernel/events/core.c; that an account is turned where its instance changes is this project's own
 -- profile.
-use Rattle.std.specs.Prelude.{◌≡◌, ◌≤◌, true, List, [], ◌++◌, flat_map, Option, Some, None, slice_index_or}
-use Rattle.std.specs.FinMap.{contains_key}
-use Rattle.perf_base.specs.declared.numbers.CpuNo.{CpuNo}
-use Rattle.perf_base.specs.declared.numbers.Key.{Key}
-use Rattle.perf_base.specs.declared.numbers.TaskNo.{TaskNo}
+use Rattle.std.specs.{Prelude.{◌≡◌, ◌≤◌, true, List, [], ◌++◌, flat_map, Option, Some, None, slice_index_or}, FinMap.{contains_key}}
+use Rattle.perf_base.specs.declared.numbers.{CpuNo.{CpuNo}, Key.{Key}, TaskNo.{TaskNo}}
 use Rattle.perf_base.specs.declared.standing.Context.TheVariants as context
 use Rattle.stage_spec.specs.Stage.{place_of}
-use Rattle.world_spec.specs.Value.{World, Leaders, no_leaders, times}
-use Rattle.world_spec.specs.Ways.{IsTurned}
-use Rattle.world_tables.specs.Columns.{Columns, is_there, entry_in, way_in}
-use Rattle.world_tables.specs.Places.{Places, no_slots}
+use Rattle.world_spec.specs.{Value.{World, Leaders, no_leaders, times}, Ways.{IsTurned}}
+use Rattle.world_tables.specs.{Columns.{Columns, is_there, entry_in, way_in}, Places.{Places, no_slots}}
 use Rattle.perf_world.specs.Seen.{seen, IsWorld}
 
 -- a world of these events on these processors; what else it has, no way goes by

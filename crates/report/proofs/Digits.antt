@@ -1,6 +1,5 @@
 -- The sixteen digits of a word behind a space, from the last to the first.
-use Rattle.std.specs.Prelude.{◌≡◌, ℕ, suc, ◌+◌, ◌-◌, ◌/◌, ◌%◌, ◌<◌, false, List, [], ◌∷◌, ◌++◌, drop, length, take}
-use Rattle.std.specs.Fmt.{digit_glyph}
+use Rattle.std.specs.{Prelude.{◌≡◌, ℕ, suc, ◌+◌, ◌-◌, ◌/◌, ◌%◌, ◌<◌, false, List, [], ◌∷◌, ◌++◌, drop, length, take}, Fmt.{digit_glyph}}
 use Rattle.std.proofs.Common.{arith, refl, sym, ap, ◌∙◌, append_assoc, get_or, set}
 use Rattle.script_print.proofs.Hexadecimal.{drop_set}
 use Rattle.report_spec.specs.Report.{hexadecimal_digits}

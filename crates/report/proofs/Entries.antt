@@ -1,17 +1,11 @@
 -- Lists of a report that are written entry by entry, and the parts of its text.
-use Rattle.std.specs.Prelude.{◌≡◌, ℕ, List, [], ◌∷◌, ◌++◌, flat_map, codes, decimal}
-use Rattle.std.proofs.Common.{refl, sym, ap, append_assoc}
-use Rattle.perf_base.specs.declared.acts.Act.{Act}
-use Rattle.perf_base.specs.declared.numbers.EventNo.{EventNo}
-use Rattle.perf_base.specs.Scripts.{Scripted}
+use Rattle.std.{specs.Prelude.{◌≡◌, ℕ, List, [], ◌∷◌, ◌++◌, flat_map, codes, decimal}, proofs.Common.{refl, sym, ap, append_assoc}}
+use Rattle.perf_base.specs.{declared.{acts.Act.{Act}, numbers.{EventNo.{EventNo}, RingNo.{RingNo}}, reply.Answer.{Answer}}, Scripts.{Scripted}}
 use Rattle.report_spec.specs.Report.{answer_line, answer_lines, answer_text, numbers_text, slots_text}
 use Rattle.script_spec.specs.Acts.{acts_text}
 use Rattle.script_print.proofs.Loops.{IsText}
-use Rattle.perf_base.specs.declared.reply.Answer.{Answer}
-use Rattle.report.specs.Said.{seat_text}
-use Rattle.report.specs.Told.{all_told, told_report}
+use Rattle.report.specs.{Said.{seat_text}, Told.{all_told, told_report}}
 use Rattle.sample_ring.specs.declared.sent.RingNumbers.{RingNumbers}
-use Rattle.perf_base.specs.declared.numbers.RingNo.{RingNo}
 
 pub numbers_each : IsText numbers_text (λ n. 32 ∷ decimal n)
 numbers_each = record { nil = refl; cons = λ n numbers. refl }

@@ -1,21 +1,12 @@
 -- The order of the script of N rounds is complete, and no act of it is a look.
 use Rattle.std.specs.Prelude.{◌≡◌, ℕ, zero, suc, ◌+◌, ◌*◌, List, [], ◌++◌, All, flat_map, length, replicate, sum_by, cond, slice_index_or}
-use Rattle.std.specs.List.{range_with_len}
-use Rattle.std.proofs.Common.{◌<◌, ◌≤◌, arith, ap, refl, subst}
-use Rattle.std.proofs.lemmas.Bool.{ne_eqb}
-use Rattle.std.proofs.lemmas.List.{length-append, length-replicate}
-use Rattle.std.proofs.lemmas.List.Elements.{All-append, All-from_recursion, All-get_or, All-replicate}
-use Rattle.std.proofs.lemmas.List.Folds.{sum_by-replicate}
-use Rattle.std.proofs.lemmas.List.Sums.{sum_by-append}
-use Rattle.std.proofs.lemmas.Option.{get_or_from_slice_get, slice_get_within}
-use Rattle.perf_base.specs.declared.acts.Act.{Act}
+use Rattle.std.{specs.List.{range_with_len}, proofs.{Common.{◌<◌, ◌≤◌, arith, ap, refl, subst}, lemmas.Bool.{ne_eqb}}}
+use Rattle.std.proofs.lemmas.List.{length-append, length-replicate, Elements.{All-append, All-from_recursion, All-get_or, All-replicate}}
+use Rattle.std.proofs.lemmas.{List.{Folds.{sum_by-replicate}, Sums.{sum_by-append}}, Option.{get_or_from_slice_get, slice_get_within}}
+use Rattle.perf_base.specs.{declared.{acts.Act.{Act}, lines.{CpuLine.{CpuLine}, ToolLine.{ToolLine}}}, Scripts.{lines_of_cpu, lines_of_tool}}
 use Rattle.perf_base.specs.declared.acts.Act.TheVariants as act
-use Rattle.perf_base.specs.declared.lines.CpuLine.{CpuLine}
-use Rattle.perf_base.specs.declared.lines.ToolLine.{ToolLine}
-use Rattle.perf_base.specs.Scripts.{lines_of_cpu, lines_of_tool}
 use Rattle.stage_spec.specs.Order.{done_by_cpu, done_by_tool, is_of_cpu, is_of_tool}
-use Rattle.make_spec.specs.Rounds.{all_processors, for_each_all, made_order, script_of_rounds}
-use Rattle.make_spec.proofs.ForEach.{all_for_each_all, length_of_fours}
+use Rattle.make_spec.{specs.Rounds.{all_processors, for_each_all, made_order, script_of_rounds}, proofs.ForEach.{all_for_each_all, length_of_fours}}
 use Rattle.make_spec.proofs.Lines.{processor_length}
 use Rattle.report.specs.Laws.{MadeHasNoLookLaw, MadeIsCompleteLaw}
 

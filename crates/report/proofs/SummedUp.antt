@@ -1,24 +1,14 @@
 -- The totals by the numbers and the words of rings are those of their accounts.
 use Rattle.std.specs.Prelude.{◌≡◌, ℕ, suc, ◌+◌, ◌/◌, ◌<◌, List, [], ◌∷◌, ◌++◌, All, length, map, sum_by, take}
-use Rattle.std.proofs.Common.{arith, refl, sym, ap, ◌∙◌, length-append, get_or}
-use Rattle.std.proofs.lemmas.List.Concat.{flat_map-cons}
-use Rattle.std.proofs.lemmas.List.Elements.{All-tail}
-use Rattle.std.proofs.lemmas.List.Folds.{fold-map}
-use Rattle.std.proofs.lemmas.List.Sums.{sum_by-cons, sum_by_more}
-use Rattle.std.proofs.Math.Seq.{drop-append_seam}
-use Rattle.perf_base.specs.declared.numbers.RingNo.{RingNo}
+use Rattle.std.proofs.{Common.{arith, refl, sym, ap, ◌∙◌, length-append, get_or}, lemmas.List.{Concat.{flat_map-cons}, Elements.{All-tail}}}
+use Rattle.std.proofs.{lemmas.List.{Folds.{fold-map}, Sums.{sum_by-cons, sum_by_more}}, Math.Seq.{drop-append_seam}}
+use Rattle.perf_base.specs.{declared.numbers.RingNo.{RingNo}, Scripts.{line_count}}
 use Rattle.sample_ring.specs.declared.sent.RingNumbers.{RingNumbers}
-use Rattle.ring_spec.specs.Account.{Account}
-use Rattle.ring_spec.specs.Records.{Record, IsRecord, record_words, words_of}
-use Rattle.ring_spec.specs.Whole.{IsBlock, size_field}
+use Rattle.ring_spec.specs.{Account.{Account}, Records.{Record, IsRecord, record_words, words_of}, Whole.{IsBlock, size_field}}
 use Rattle.ring_spec.proofs.Cutting.{block-of}
-use Rattle.perf_base.specs.Scripts.{line_count}
-use Rattle.machine.specs.Ended.{Ran}
-use Rattle.machine.specs.Readers.{words_in}
-use Rattle.machine.specs.declared.ending.RingEnd.{RingEnd}
-use Rattle.report.specs.Told.{AreTold, IsTold, cut, cut_records, rings_of}
+use Rattle.machine.specs.{Ended.{Ran}, Readers.{words_in}, declared.ending.RingEnd.{RingEnd}}
+use Rattle.report.specs.{Told.{AreTold, IsTold, cut, cut_records, rings_of}, Summary.{first_word, ran_totals, totals_of}}
 use Rattle.report.proofs.Told.{first_cut_at}
-use Rattle.report.specs.Summary.{first_word, ran_totals, totals_of}
 
 -- no words are no records
 pub no_records : (words : List ℕ) → length words ≡ 0 → length (cut_records words) ≡ 0

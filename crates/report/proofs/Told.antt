@@ -1,24 +1,14 @@
 -- The words of a ring, cut into its records, and the lines that tell them.
 use Rattle.std.specs.Prelude.{◌≡◌, ℕ, zero, suc, ◌+◌, ◌-◌, ◌*◌, ◌/◌, ◌<◌, ◌≤◌, nat_le, max, min, List, [], ◌∷◌, ◌++◌, All, codes, decimal, drop, flat_map, length, map, take}
-use Rattle.std.proofs.Common.{arith, refl, ap, ◌∙◌, append_assoc, length-append, get_or}
-use Rattle.std.proofs.lemmas.List.{length-drop, take_min, drop_min}
-use Rattle.std.proofs.lemmas.List.Concat.{flat_map-cons}
-use Rattle.std.proofs.lemmas.List.Elements.{All-tail}
-use Rattle.std.proofs.Math.Seq.{drop-append_seam, take-append_seam}
-use Rattle.perf_base.specs.declared.acts.Act.{Act}
-use Rattle.perf_base.specs.declared.numbers.RingNo.{RingNo}
-use Rattle.perf_base.specs.Scripts.{Scripted}
-use Rattle.sample_ring.specs.RingLists.{InList}
-use Rattle.sample_ring.specs.declared.sent.RingNumbers.{RingNumbers}
-use Rattle.machine.specs.declared.ending.RingEnd.{RingEnd}
-use Rattle.machine.specs.Readers.{words_in}
-use Rattle.ring_spec.specs.Account.{Account, head_of}
-use Rattle.ring_spec.specs.Records.{Record, IsRecord, record_words, record_size, words_of}
-use Rattle.ring_spec.specs.Whole.{IsBlock, size_field}
+use Rattle.std.proofs.{Common.{arith, refl, ap, ◌∙◌, append_assoc, length-append, get_or}, lemmas.List.{length-drop, take_min, drop_min}}
+use Rattle.std.proofs.{lemmas.List.{Concat.{flat_map-cons}, Elements.{All-tail}}, Math.Seq.{drop-append_seam, take-append_seam}}
+use Rattle.perf_base.specs.{declared.{acts.Act.{Act}, numbers.RingNo.{RingNo}, reply.Answer.{Answer}}, Scripts.{Scripted}}
+use Rattle.sample_ring.specs.{RingLists.{InList}, declared.sent.RingNumbers.{RingNumbers}}
+use Rattle.machine.specs.{declared.ending.RingEnd.{RingEnd}, Readers.{words_in}}
+use Rattle.ring_spec.specs.{Account.{Account, head_of}, Records.{Record, IsRecord, record_words, record_size, words_of}, Whole.{IsBlock, size_field}}
 use Rattle.ring_spec.proofs.Cutting.{block-of}
 use Rattle.report_spec.specs.Report.{answer_lines, hexadecimal_digits, record_lines, report, ring_lines}
 use Rattle.script_spec.specs.Acts.{acts_text}
-use Rattle.perf_base.specs.declared.reply.Answer.{Answer}
 use Rattle.report.specs.Told.{AreTold, IsTold, all_told, cut, cut_lines, cut_records, told_lines, told_report, words_behind, words_line, words_text}
 use Rattle.script_print.proofs.Loops.{IsText}
 

@@ -1,10 +1,9 @@
 -- What holds of the script of N rounds, and of its totals. This project's own profile.
 use Rattle.std.specs.Prelude.{◌≡◌, ℕ, ◌+◌, ◌*◌, List, Some, slice_get}
-use Rattle.perf_base.specs.declared.numbers.RingNo.{RingNo}
+use Rattle.perf_base.specs.declared.{numbers.RingNo.{RingNo}, reply.Answer.{Answer}}
 use Rattle.perf_base.specs.declared.acts.Act.TheVariants as act
 use Rattle.ring_spec.specs.Account.{Account}
 use Rattle.stage_spec.specs.Order.{IsComplete}
-use Rattle.perf_base.specs.declared.reply.Answer.{Answer}
 use Rattle.make_spec.specs.Rounds.{script_of_rounds}
 use Rattle.report.specs.Summary.{totals_of}
 

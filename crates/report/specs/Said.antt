@@ -1,10 +1,6 @@
 -- What is written of an answer. This project's own profile.
-use Rattle.std.specs.Prelude.{ℕ, List, [], ◌∷◌, ◌++◌, codes, decimal}
-use Rattle.std.specs.Option.{unwrap_or}
-use Rattle.perf_base.specs.declared.acts.Actor.{Actor}
-use Rattle.perf_base.specs.declared.numbers.EventNo.{EventNo}
-use Rattle.perf_base.specs.declared.reply.Reply.{Reply}
-use Rattle.perf_base.specs.Scripts.{Scripted}
+use Rattle.std.specs.{Prelude.{ℕ, List, [], ◌∷◌, ◌++◌, codes, decimal}, Option.{unwrap_or}}
+use Rattle.perf_base.specs.{declared.{acts.Actor.{Actor}, numbers.EventNo.{EventNo}, reply.Reply.{Reply}}, Scripts.{Scripted}}
 use Rattle.report_spec.specs.Report.{actor_text, answer_text, line_word}
 
 -- the slot of an event and the counter that it has, a space before them

@@ -1,15 +1,10 @@
 -- What the report of a made script sums up to, and the lines that say it. This project's own profile.
 use Rattle.std.specs.Prelude.{ℕ, List, ◌++◌, codes, decimal, length, slice_index, sum_by}
-use Rattle.perf_base.specs.declared.numbers.RingNo.{RingNo}
-use Rattle.perf_base.specs.declared.reply.Reply.{Reply}
+use Rattle.perf_base.specs.{declared.{numbers.RingNo.{RingNo}, reply.{Reply.{Reply}, Answer.{Answer}}}, Scripts.{Scripted, line_count}}
 use Rattle.perf_base.specs.declared.reply.Reply.TheVariants as reply
-use Rattle.perf_base.specs.Scripts.{Scripted, line_count}
-use Rattle.perf_base.specs.declared.reply.Answer.{Answer}
 use Rattle.ring_spec.specs.Account.{Account}
-use Rattle.machine.specs.Ended.{Ran}
-use Rattle.machine.specs.Readers.{words_in}
-use Rattle.report.specs.Told.{cut_records}
-use Rattle.report.specs.declared.summary.Totals.{Totals}
+use Rattle.machine.specs.{Ended.{Ran}, Readers.{words_in}}
+use Rattle.report.specs.{Told.{cut_records}, declared.summary.Totals.{Totals}}
 
 -- the first word of a read: the event's count, or how many members a group has that is read whole (perf_event_open(2));
 -- 0 of a read of no word, which an event in effective error gives, and of any other answer

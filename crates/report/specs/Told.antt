@@ -1,17 +1,11 @@
 -- What is written of a ring by its numbers and its words alone. This project's own profile.
 use Rattle.std.specs.Prelude.{◌≡◌, ℕ, zero, suc, ◌+◌, ◌-◌, ◌*◌, ◌/◌, ⊤, nat_le, Bool, List, [], ◌∷◌, ◌++◌, All, codes, decimal, drop, flat_map, length, map, take}
-use Rattle.perf_base.specs.declared.acts.Act.{Act}
-use Rattle.perf_base.specs.declared.numbers.RingNo.{RingNo}
-use Rattle.perf_base.specs.Scripts.{Scripted}
+use Rattle.perf_base.specs.{declared.{acts.Act.{Act}, numbers.RingNo.{RingNo}, reply.Answer.{Answer}}, Scripts.{Scripted}}
 use Rattle.sample_ring.specs.declared.sent.RingNumbers.{RingNumbers}
-use Rattle.ring_spec.specs.Account.{Account, head_of}
-use Rattle.ring_spec.specs.Records.{IsRecord, words_of}
-use Rattle.ring_spec.specs.Whole.{size_field}
+use Rattle.ring_spec.specs.{Account.{Account, head_of}, Records.{IsRecord, words_of}, Whole.{size_field}}
 use Rattle.report_spec.specs.Report.{answer_lines, fate_text, hexadecimal_digits}
 use Rattle.script_spec.specs.Acts.{acts_text}
-use Rattle.perf_base.specs.declared.reply.Answer.{Answer}
-use Rattle.machine.specs.Ended.{Ran}
-use Rattle.machine.specs.Readers.{words_in}
+use Rattle.machine.specs.{Ended.{Ran}, Readers.{words_in}}
 
 -- words of sixteen hexadecimal digits, a space before each
 abbrev pub words_text : List ℕ → List ℕ

@@ -82,8 +82,8 @@ fn tool_line_word(script: &Script, tool: ToolNo, number: u32) -> &'static [u8]
     tool_word_at(script.tool_lines(tool), number)
 }
 
-/// The first word of an actor's line of a number, from 0: none where it has no such line, as a reader and a watcher have
-/// none.
+/// The first word of an actor's line of a number, from 0: none where it has no such line, as a reader and a watcher
+/// have none.
 pub fn line_word(script: &Script, actor: Actor, number: u32) -> &'static [u8]
     ensures { result.now ≡ text.line_word script.now actor number }
 {

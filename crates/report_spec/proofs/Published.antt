@@ -1,17 +1,11 @@
 -- How the list of published looks grows, act by act, and which looks it has.
 use Rattle.std.specs.Prelude.{◌≡◌, ℕ, ◌+◌, ◌-◌, ◌<◌, ◌≤◌, ◌⊎◌, Bool, true, false, List, [], ◌∷◌, ◌++◌, length, All, AllPairs, Contains, IfSome, Some}
-use Rattle.std.proofs.Common.{arith, refl, sym, ap, subst, ◌∙◌, inl, inr, get_or, append_assoc, append-nil}
-use Rattle.std.proofs.lemmas.List.{length-append}
+use Rattle.std.proofs.{Common.{arith, refl, sym, ap, subst, ◌∙◌, inl, inr, get_or, append_assoc, append-nil}, lemmas.List.{length-append}}
 use Rattle.std.proofs.lemmas.List.Elements.{All-cons, Contains-append_left, Contains-append_right, Contains-append_cases, Contains-push, Contains-push_cases}
-use Rattle.std.proofs.lemmas.List.Kept.{AllPairs-cons}
-use Rattle.std.proofs.lemmas.Option.{slice_get-get_or}
-use Rattle.std.proofs.lemmas.Bool.{false≢true}
-use Rattle.perf_base.specs.declared.numbers.EventNo.{EventNo}
-use Rattle.perf_base.specs.declared.acts.Act.{Act}
+use Rattle.std.proofs.lemmas.{List.Kept.{AllPairs-cons}, Option.{slice_get-get_or}, Bool.{false≢true}}
+use Rattle.perf_base.specs.{declared.{numbers.EventNo.{EventNo}, acts.Act.{Act}}, Scripts.{Scripted}}
 use Rattle.perf_base.specs.declared.acts.Act.TheVariants as act
-use Rattle.perf_base.specs.Scripts.{Scripted}
-use Rattle.user_page.specs.declared.look.Look.{Look}
-use Rattle.user_page.specs.Looks.{zero_look, last_look}
+use Rattle.user_page.specs.{declared.look.Look.{Look}, Looks.{zero_look, last_look}}
 use Rattle.report_spec.specs.Published.{look_after, publishes, looks_if, looks_by, looks_from, published_looks}
 use Rattle.report_spec.specs.Laws.{NoActsLaw, OneMoreLaw, RingsLaw, FrontsLaw, RisesLaw, FollowsLaw, IsPublished, EachLookLaw}
 

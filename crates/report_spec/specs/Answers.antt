@@ -1,22 +1,11 @@
 -- When an order and replies answer a script, which orders a run leaves, and what its readers took. This project's own
 -- profile.
 use Rattle.std.specs.Prelude.{◌≡◌, ℕ, ◌+◌, ◌*◌, ◌<◌, ◌≤◌, ◌==◌, nat_le, true, false, List, [], ◌∷◌, ◌++◌, length, find, All, Option, MatchOption}
-use Rattle.perf_base.specs.declared.numbers.EventNo.{EventNo}
-use Rattle.perf_base.specs.declared.numbers.RingNo.{RingNo}
-use Rattle.perf_base.specs.declared.lines.ReaderLine.{ReaderLine}
-use Rattle.perf_base.specs.declared.acts.Act.{Act}
+use Rattle.perf_base.specs.declared.{numbers.{EventNo.{EventNo}, RingNo.{RingNo}}, lines.ReaderLine.{ReaderLine}, acts.Act.{Act}}
+use Rattle.perf_base.specs.{declared.reply.Answer.{Answer}, Scripts.{Scripted}}
 use Rattle.perf_base.specs.declared.acts.Act.TheVariants as act
-use Rattle.perf_base.specs.declared.acts.Actor.{Actor}
-use Rattle.perf_base.specs.declared.reply.Reply.{Reply}
-use Rattle.perf_base.specs.Scripts.{Scripted}
-use Rattle.stage_spec.specs.Hardware.{hardware_of}
-use Rattle.stage_spec.specs.Order.{IsCounted, last_seen}
-use Rattle.stage_spec.specs.History.{Step, opening_stage}
-use Rattle.stage_spec.specs.Replies.{AnswerOrder}
-use Rattle.perf_base.specs.declared.reply.Answer.{Answer}
-use Rattle.ring_spec.specs.Records.{Record, record_size}
-use Rattle.ring_spec.specs.Account.{Account}
-use Rattle.ring_spec.specs.Rings.{IsLawfulOrder, account_in, lost_count}
+use Rattle.stage_spec.specs.{Hardware.{hardware_of}, Order.{IsCounted, last_seen}, History.{Step, opening_stage}, Replies.{AnswerOrder}}
+use Rattle.ring_spec.specs.{Records.{Record, record_size}, Account.{Account}, Rings.{IsLawfulOrder, account_in, lost_count}}
 
 -- how many records of an event were lost after some steps of a script
 abbrev pub lost_in : Scripted → List Step → EventNo → ℕ

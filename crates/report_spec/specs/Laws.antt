@@ -1,13 +1,9 @@
 -- How the list of published looks grows, act by act, and which looks it has. This project's own profile.
 use Rattle.std.specs.Prelude.{◌≡◌, ℕ, ◌<◌, ◌≤◌, ◌⊎◌, ◌↔◌, true, List, [], ◌∷◌, ◌++◌, length, All, AllPairs, Contains}
 use mathlib.Core.List.{IsPrefix}
-use Rattle.perf_base.specs.declared.numbers.EventNo.{EventNo}
-use Rattle.perf_base.specs.declared.numbers.RingNo.{RingNo}
-use Rattle.perf_base.specs.declared.acts.Act.{Act}
+use Rattle.perf_base.specs.{declared.{numbers.{EventNo.{EventNo}, RingNo.{RingNo}}, acts.Act.{Act}}, Scripts.{Scripted}}
 use Rattle.perf_base.specs.declared.acts.Act.TheVariants as act
-use Rattle.perf_base.specs.Scripts.{Scripted}
-use Rattle.user_page.specs.declared.look.Look.{Look}
-use Rattle.user_page.specs.Looks.{zero_look, MayFollow, IsLookList}
+use Rattle.user_page.specs.{declared.look.Look.{Look}, Looks.{zero_look, MayFollow, IsLookList}}
 use Rattle.report_spec.specs.Published.{look_after, publishes, looks_by, published_looks}
 
 -- Before the first act there is one look, of zeros. One more act adds what it publishes.

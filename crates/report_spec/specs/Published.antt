@@ -1,17 +1,10 @@
 -- The looks at an event that are published on a page while a script is run, and what `watch` writes of them. This
 -- project's own profile, in the place of struct perf_event_mmap_page of perf_event_open(2).
 use Rattle.std.specs.Prelude.{◌≡◌, ℕ, Bool, true, false, List, [], ◌∷◌, ◌++◌, length, Contains, codes, decimal, Some}
-use Rattle.perf_base.specs.declared.numbers.EventNo.{EventNo}
-use Rattle.perf_base.specs.declared.acts.Act.{Act}
+use Rattle.perf_base.specs.{declared.{numbers.EventNo.{EventNo}, acts.Act.{Act}, reply.Sums.{Sums}}, Scripts.{Scripted}}
 use Rattle.perf_base.specs.declared.acts.Act.TheVariants as act
-use Rattle.perf_base.specs.declared.reply.Sums.{Sums}
-use Rattle.perf_base.specs.Scripts.{Scripted}
-use Rattle.stage_spec.specs.Hardware.{hardware_of}
-use Rattle.stage_spec.specs.Stage.{is_open}
-use Rattle.stage_spec.specs.History.{stage_after, history, opening_stage}
-use Rattle.stage_spec.specs.Families.{family_sums}
-use Rattle.user_page.specs.declared.look.Look.{Look}
-use Rattle.user_page.specs.Looks.{zero_look, last_look}
+use Rattle.stage_spec.specs.{Hardware.{hardware_of}, Stage.{is_open}, History.{stage_after, history, opening_stage}, Families.{family_sums}}
+use Rattle.user_page.specs.{declared.look.Look.{Look}, Looks.{zero_look, last_look}}
 use Rattle.report_spec.specs.Report.{numbers_text}
 
 -- whether an event is open after some acts of a script
@@ -64,8 +57,8 @@ watch_line e look = codes "watch " ++ decimal e.0 ++ codes " at=" ++ decimal loo
 abbrev pub final_line : EventNo → Look → List ℕ
 final_line e look = codes "final " ++ decimal e.0 ++ look_text look ++ 10 ∷ []
 
--- What `watch` writes behind the report of an order: the look that the watcher saw last, which is one of those published,
--- and the last one of these.
+-- What `watch` writes behind the report of an order: the look that the watcher saw last, which is one of those
+-- published, and the last one of these.
 pub record IsWatched (s : Scripted) (order : List Act) (e : EventNo) (text : List ℕ) : Type 0 where
   pub seen : Look
   pub final : Look

@@ -1,32 +1,19 @@
 -- The text of a report. This project's own profile.
 use Rattle.std.specs.Prelude.{ℕ, zero, suc, ◌+◌, ◌/◌, ◌%◌, nat_le, Bool, true, false, List, [], ◌∷◌, ◌++◌, map, length, codes, decimal, Option, Some, None, slice_get}
-use Rattle.std.specs.Fmt.{digit_glyph}
-use Rattle.std.specs.List.{flat_map}
-use Rattle.perf_base.specs.declared.numbers.EventNo.{EventNo}
-use Rattle.perf_base.specs.declared.numbers.RingNo.{RingNo}
-use Rattle.perf_base.specs.declared.lines.CpuLine.{CpuLine}
+use Rattle.std.specs.{Fmt.{digit_glyph}, List.{flat_map}}
+use Rattle.perf_base.specs.declared.{numbers.{EventNo.{EventNo}, RingNo.{RingNo}}, lines.{CpuLine.{CpuLine}, ToolLine.{ToolLine}}, acts.Act.{Act}}
+use Rattle.perf_base.specs.declared.{acts.Actor.{Actor}, standing.{Cause.{Cause}, Why.{Why}}, reasons.Reason.{Reason}, reply.Reply.{Reply}}
+use Rattle.perf_base.specs.{declared.reply.Answer.{Answer}, Reasons.{printed_of}, Scripts.{Scripted, lines_of_cpu, lines_of_tool}}
 use Rattle.perf_base.specs.declared.lines.CpuLine.TheVariants as cpu_line
-use Rattle.perf_base.specs.declared.lines.ToolLine.{ToolLine}
 use Rattle.perf_base.specs.declared.lines.ToolLine.TheVariants as tool_line
-use Rattle.perf_base.specs.declared.acts.Act.{Act}
 use Rattle.perf_base.specs.declared.acts.Act.TheVariants as act
-use Rattle.perf_base.specs.declared.acts.Actor.{Actor}
 use Rattle.perf_base.specs.declared.acts.Actor.TheVariants as actor
 use Rattle.perf_base.specs.declared.standing.Rule.TheVariants as rule
-use Rattle.perf_base.specs.declared.standing.Cause.{Cause}
 use Rattle.perf_base.specs.declared.standing.Cause.TheVariants as cause
-use Rattle.perf_base.specs.declared.standing.Why.{Why}
 use Rattle.perf_base.specs.declared.standing.Why.TheVariants as why
-use Rattle.perf_base.specs.declared.reasons.Reason.{Reason}
 use Rattle.perf_base.specs.declared.reasons.Reason.TheVariants as reason
-use Rattle.perf_base.specs.declared.reply.Reply.{Reply}
 use Rattle.perf_base.specs.declared.reply.Reply.TheVariants as reply
-use Rattle.perf_base.specs.Reasons.{printed_of}
-use Rattle.perf_base.specs.Scripts.{Scripted, lines_of_cpu, lines_of_tool}
-use Rattle.perf_base.specs.declared.reply.Answer.{Answer}
-use Rattle.ring_spec.specs.Records.{Record, record_words, record_size}
-use Rattle.ring_spec.specs.Account.{Account, head_of}
-use Rattle.ring_spec.specs.Rings.{account_in}
+use Rattle.ring_spec.specs.{Records.{Record, record_words, record_size}, Account.{Account, head_of}, Rings.{account_in}}
 use Rattle.script_spec.specs.Acts.{act_text, acts_text}
 
 -- numbers in decimal, a space before each

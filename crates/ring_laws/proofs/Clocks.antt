@@ -1,12 +1,9 @@
 -- The clock of a processor is part of all work.
-use Rattle.std.specs.Prelude.{ℕ, ◌≤◌, ◌==◌, Bool, true, false, if◌then◌else◌}
-use Rattle.std.proofs.Common.{arith}
-use Rattle.std.proofs.lemmas.List.Sums.{sum_by-le-sum_by}
+use Rattle.std.{specs.Prelude.{ℕ, ◌≤◌, ◌==◌, Bool, true, false, if◌then◌else◌}, proofs.{Common.{arith}, lemmas.List.Sums.{sum_by-le-sum_by}}}
 use Rattle.perf_base.specs.declared.numbers.CpuNo.{CpuNo}
 use Rattle.perf_base.specs.declared.lines.CpuLine.TheVariants as cpu_line
 use Rattle.stage_spec.specs.History.{Step, CpuStep, ToolStep, SeenStep}
-use Rattle.stage_laws.specs.Bounds.{most_of}
-use Rattle.stage_laws.proofs.BoundsWhole.{all_small}
+use Rattle.stage_laws.{specs.Bounds.{most_of}, proofs.BoundsWhole.{all_small}}
 use Rattle.ring_spec.specs.Sending.{length_by}
 use Rattle.ring_laws.specs.Clocks.{ClockLaw, SmallClockLaw}
 

@@ -1,11 +1,7 @@
 -- On a sound stage the slot of each instance is open: an original is there itself, and the original of a copy is.
-use Rattle.std.specs.Prelude.{◌≡◌, Bool, true, false}
-use Rattle.std.proofs.Common.{arith, refl, get_or}
-use Rattle.std.proofs.lemmas.Bool.Decides.{nat_tests}
+use Rattle.std.{specs.Prelude.{◌≡◌, Bool, true, false}, proofs.{Common.{arith, refl, get_or}, lemmas.Bool.Decides.{nat_tests}}}
 use Rattle.std.proofs.lemmas.List.Folds.{list_any_at}
-use Rattle.stage_spec.specs.declared.instance.Instance.{Instance}
-use Rattle.stage_spec.specs.Stage.{all_instances, is_open, is_original}
-use Rattle.stage_spec.proofs.Present.{find-any}
+use Rattle.stage_spec.{specs.{declared.instance.Instance.{Instance}, Stage.{all_instances, is_open, is_original}}, proofs.Present.{find-any}}
 use Rattle.ring_laws.specs.Families.{FamiliesOpenLaw}
 
 pub families_open : FamiliesOpenLaw

@@ -1,35 +1,18 @@
 -- No more records are sent than the steps weigh.
 use Rattle.std.specs.Prelude.{◌≡◌, ℕ, ◌+◌, ◌*◌, ◌<◌, ◌≤◌, ◌⊎◌, All, List, [], ◌∷◌, ◌++◌, length, sum_by, count_by, cond}
-use Rattle.std.proofs.Common.{arith, refl, sym, ap, subst, append_assoc, append-nil}
-use Rattle.std.proofs.Math.Nat.{mul-le-mul_right}
-use Rattle.std.proofs.lemmas.List.{length-append}
-use Rattle.std.proofs.lemmas.List.Elements.{All-head, All-tail}
-use Rattle.std.proofs.lemmas.List.Sums.{sum_by-cons}
-use Rattle.perf_base.specs.declared.numbers.CpuNo.{CpuNo}
-use Rattle.perf_base.specs.declared.numbers.EventNo.{EventNo}
-use Rattle.perf_base.specs.declared.numbers.TaskNo.{TaskNo}
-use Rattle.perf_base.specs.declared.lines.CpuLine.{CpuLine}
-use Rattle.perf_base.specs.declared.lines.CpuLine.TheVariants as cpu_line
-use Rattle.perf_base.specs.declared.lines.Work.{Work}
+use Rattle.std.proofs.{Common.{arith, refl, sym, ap, subst, append_assoc, append-nil}, Math.Nat.{mul-le-mul_right}, lemmas.List.{length-append}}
+use Rattle.std.proofs.lemmas.List.{Elements.{All-head, All-tail}, Sums.{sum_by-cons}}
+use Rattle.perf_base.specs.declared.{numbers.{CpuNo.{CpuNo}, EventNo.{EventNo}, TaskNo.{TaskNo}}, lines.{CpuLine.{CpuLine}, Work.{Work}}}
 use Rattle.perf_base.specs.Weight.{shares, line_shares}
-use Rattle.stage_spec.specs.declared.instance.Instance.{Instance}
-use Rattle.stage_spec.specs.Hardware.{Hardware}
-use Rattle.stage_spec.specs.Stage.{Stage, is_of_family, original_of, first_stage}
-use Rattle.stage_spec.specs.Commands.{is_reached}
-use Rattle.stage_spec.specs.Verdict.{on_instances}
-use Rattle.stage_spec.specs.History.{Step, CpuStep, ToolStep, SeenStep, stage_step, stage_after}
-use Rattle.stage_spec.specs.Limits.{Limits, IsMachine}
-use Rattle.stage_laws.specs.Sound.{IsSound}
-use Rattle.stage_spec.specs.Remainders.{remainder_of}
-use Rattle.stage_spec.proofs.Each.{Each, weaker-Each}
-use Rattle.stage_spec.proofs.Present.{on_instances-in}
+use Rattle.perf_base.specs.declared.lines.CpuLine.TheVariants as cpu_line
+use Rattle.stage_spec.specs.{declared.instance.Instance.{Instance}, Hardware.{Hardware}, Stage.{Stage, is_of_family, original_of, first_stage}}
+use Rattle.stage_spec.specs.{Commands.{is_reached}, Verdict.{on_instances}, History.{Step, CpuStep, ToolStep, SeenStep, stage_step, stage_after}}
+use Rattle.stage_spec.{specs.{Limits.{Limits, IsMachine}, Remainders.{remainder_of}}, proofs.{Each.{Each, weaker-Each}, Present.{on_instances-in}}}
 use Rattle.stage_spec.proofs.Recurrence.{stage_after-push}
-use Rattle.stage_laws.proofs.Sound.{first_sound}
+use Rattle.stage_laws.{specs.{Sound.{IsSound}, Bounds.{IsLineWithin}}, proofs.{Sound.{first_sound}, BoundsWhole.{line_sound}}}
 use Rattle.ring_spec.specs.Sending.{sent_by_family, overflows_by, sent_at, sent_by_line, sent_by_step, sent_after, sent_from, clock_of}
-use Rattle.stage_laws.specs.Bounds.{IsLineWithin}
-use Rattle.stage_laws.proofs.BoundsWhole.{line_sound}
-use Rattle.ring_laws.specs.Few.{period_by, opens_by, shares_by, IsLeast, FewSentLaw}
 use Rattle.ring_spec.proofs.Overflowing.{family-few}
+use Rattle.ring_laws.specs.Few.{period_by, opens_by, shares_by, IsLeast, FewSentLaw}
 use Rattle.ring_laws.proofs.Reached.{IsOneReached, on-reached, one_each, length-most, count-one}
 use Rattle.ring_laws.proofs.Sampling.{IsSampled, Sampled, Next, step-next, first-sampled}
 

@@ -1,24 +1,13 @@
 -- What is lost and where heads stand: few, over the orders of a script.
 use Rattle.std.specs.Prelude.{◌≡◌, ℕ, suc, ◌+◌, ◌*◌, ◌≤◌, ◌==◌, All, Bool, true, false, cond, List, [], ◌∷◌, length, sum_by, count_by, ◌≢◌, ◌<◌, AllPairs, filter, slice_index_or}
-use Rattle.std.proofs.Common.{arith, refl, ap, sym, subst, inl, inr, ◌∙◌}
-use Rattle.std.proofs.lemmas.List.Elements.{All-head, All-tail}
-use Rattle.std.proofs.lemmas.List.Sums.{sum_by-cons, sum_by-le-sum_by, length-filter, count_by-le-length}
-use Rattle.perf_base.specs.declared.numbers.EventNo.{EventNo}
-use Rattle.perf_base.specs.declared.numbers.RingNo.{RingNo}
-use Rattle.stage_spec.specs.Hardware.{Hardware, hardware_of}
-use Rattle.stage_spec.specs.Stage.{Stage}
-use Rattle.stage_spec.specs.History.{Step, history, opening_stage}
-use Rattle.ring_spec.specs.Sending.{SentSample, sent_by_steps}
-use Rattle.ring_laws.specs.Losses.{FewLostLaw, FewLostOfScriptLaw, HeadsLaw, SmallHeadsLaw}
-use Rattle.ring_laws.proofs.Orders.{few_of_script, few_words}
-use Rattle.std.proofs.lemmas.Bool.{cases_eq}
-use Rattle.std.proofs.lemmas.Bool.Decides.{nat_tests}
-use Rattle.std.proofs.lemmas.List.{length-append, length-map}
-use Rattle.ring_spec.specs.Records.{Record, record_words, record_size, words_of}
+use Rattle.std.proofs.{Common.{arith, refl, ap, sym, subst, inl, inr, ◌∙◌}, lemmas.List.{length-append, length-map, Elements.{All-head, All-tail}}}
+use Rattle.std.proofs.lemmas.{List.Sums.{sum_by-cons, sum_by-le-sum_by, length-filter, count_by-le-length}, Bool.{cases_eq, Decides.{nat_tests}}}
+use Rattle.perf_base.specs.declared.numbers.{EventNo.{EventNo}, RingNo.{RingNo}}
+use Rattle.stage_spec.specs.{Hardware.{Hardware, hardware_of}, Stage.{Stage}, History.{Step, history, opening_stage}}
+use Rattle.ring_spec.specs.{Sending.{SentSample, sent_by_steps}, Records.{Record, record_words, record_size, words_of}}
 use Rattle.ring_spec.specs.Account.{RingEvent, Sends, account, is_sent, is_event, lost_of}
-use Rattle.ring_spec.specs.Rings.{is_to, events_of, account_of, lost_count, account_in}
-use Rattle.ring_spec.proofs.Conserved.{sent_law}
-use Rattle.ring_spec.proofs.Rings.{sends_law}
+use Rattle.ring_spec.{specs.Rings.{is_to, events_of, account_of, lost_count, account_in}, proofs.{Conserved.{sent_law}, Rings.{sends_law}}}
+use Rattle.ring_laws.{specs.Losses.{FewLostLaw, FewLostOfScriptLaw, HeadsLaw, SmallHeadsLaw}, proofs.Orders.{few_of_script, few_words}}
 use Rattle.ring_laws.proofs.Reached.{count-one}
 
 -- A record goes to one ring at most.

@@ -1,33 +1,20 @@
 -- The lines that an order does are lines of the script, each once.
 use Rattle.std.specs.Prelude.{◌≡◌, ℕ, zero, suc, ◌+◌, ◌*◌, ◌<◌, ◌≤◌, ◌⊎◌, ◌==◌, true, All, List, [], ◌∷◌, ◌++◌, length, drop, sum_by, count_by, Option, Some, None, slice_get, slice_index_or, unwrap_or, cond}
-use Rattle.std.proofs.Common.{arith, refl, sym, ap, subst, ◌∙◌, inl, inr}
-use Rattle.std.proofs.Math.Nat.{mul-le-mul, mul-le-mul_right}
-use Rattle.std.proofs.Math.Path.{fun_ext}
-use Rattle.std.proofs.lemmas.Bool.{cases_eq, cases_lt}
-use Rattle.std.proofs.lemmas.Bool.Decides.{nat_tests}
-use Rattle.std.proofs.lemmas.Option.{slice_get_within}
-use Rattle.std.proofs.lemmas.List.Elements.{All-append, All-cons, All-head, All-nil, All-tail, All-weaker}
-use Rattle.std.proofs.lemmas.List.Sums.{sum_by-append, sum_by-cons}
-use Rattle.perf_base.specs.declared.numbers.CpuNo.{CpuNo}
-use Rattle.perf_base.specs.declared.numbers.ToolNo.{ToolNo}
-use Rattle.perf_base.specs.declared.acts.Act.{Act}
-use Rattle.perf_base.specs.declared.acts.Act.TheVariants as act
-use Rattle.perf_base.specs.declared.lines.CpuLine.{CpuLine}
-use Rattle.perf_base.specs.declared.lines.ToolLine.{ToolLine}
+use Rattle.std.proofs.{Common.{arith, refl, sym, ap, subst, ◌∙◌, inl, inr}, Math.{Nat.{mul-le-mul, mul-le-mul_right}, Path.{fun_ext}}}
+use Rattle.std.proofs.lemmas.{Bool.{cases_eq, cases_lt, Decides.{nat_tests}}, Option.{slice_get_within}}
+use Rattle.std.proofs.lemmas.List.{Elements.{All-append, All-cons, All-head, All-nil, All-tail, All-weaker}, Sums.{sum_by-append, sum_by-cons}}
+use Rattle.perf_base.specs.declared.{numbers.{CpuNo.{CpuNo}, ToolNo.{ToolNo}}, acts.Act.{Act}, lines.{CpuLine.{CpuLine}, ToolLine.{ToolLine}}}
 use Rattle.perf_base.specs.Scripts.{Scripted, lines_of_cpu, IsScript, IsCpuLine, IsToolLine}
 use Rattle.perf_base.specs.Weight.{period_of, opens_sampling, lesser, least_by, line_shares, least_period, sampling_opens, shares_of, weight}
 use Rattle.perf_base.proofs.Weights.{no_opens}
-use Rattle.stage_spec.specs.Hardware.{hardware_of}
-use Rattle.stage_spec.specs.Limits.{limits_of, IsMachine}
+use Rattle.perf_base.specs.declared.acts.Act.TheVariants as act
+use Rattle.stage_spec.specs.{Hardware.{hardware_of}, Limits.{limits_of, IsMachine}}
 use Rattle.stage_spec.specs.Order.{is_of_cpu, is_of_tool, done_by_cpu, done_by_tool, next_of_cpu, next_of_tool}
 use Rattle.stage_spec.specs.History.{Step, CpuStep, ToolStep, SeenStep, cpu_steps, tool_steps, steps_of, steps_from, history, opening_stage}
 use Rattle.stage_spec.proofs.Machines.{script_machine}
-use Rattle.ring_spec.specs.Sending.{sent_by_steps}
+use Rattle.ring_spec.{specs.Sending.{sent_by_steps}, proofs.Sizes.{ring_words_law}}
 use Rattle.stage_laws.specs.Bounds.{IsLineWithin}
-use Rattle.ring_laws.specs.Few.{period_by, opens_by, shares_by, IsLeast, FewOfScriptLaw, FewWordsLaw}
-use Rattle.ring_laws.proofs.Few.{few_sent}
-use Rattle.ring_laws.proofs.Reached.{count-both}
-use Rattle.ring_spec.proofs.Sizes.{ring_words_law}
+use Rattle.ring_laws.{specs.Few.{period_by, opens_by, shares_by, IsLeast, FewOfScriptLaw, FewWordsLaw}, proofs.{Few.{few_sent}, Reached.{count-both}}}
 
 -- what the lines of some lists that are left come to, where so many of each are done
 pub left_in : {X : Type 0} → (X → ℕ) → (ℕ → ℕ) → List (List X) → ℕ

@@ -1,17 +1,10 @@
 -- How many of the instances that are on are of families that sample.
 use Rattle.std.specs.Prelude.{◌≡◌, ℕ, ◌+◌, ◌*◌, ◌≤◌, Bool, true, false, ◌||◌, List, [], ◌∷◌, ◌++◌, length, map, filter, flat_map, sum_by, count_by, cond}
-use Rattle.std.proofs.Common.{arith, refl}
-use Rattle.std.proofs.lemmas.List.{length-append}
-use Rattle.std.proofs.lemmas.List.Sums.{sum_by-append, sum_by-cons}
-use Rattle.perf_base.specs.declared.numbers.CpuNo.{CpuNo}
-use Rattle.perf_base.specs.declared.numbers.EventNo.{EventNo}
-use Rattle.stage_spec.specs.declared.instance.Instance.{Instance}
-use Rattle.stage_spec.specs.Hardware.{Hardware}
-use Rattle.stage_spec.specs.Stage.{Stage, Group, members_of, members, is_of_family}
-use Rattle.stage_spec.specs.Effective.{is_ready}
-use Rattle.stage_spec.specs.Commands.{is_reached}
+use Rattle.std.proofs.{Common.{arith, refl}, lemmas.List.{length-append, Sums.{sum_by-append, sum_by-cons}}}
+use Rattle.perf_base.specs.{declared.numbers.{CpuNo.{CpuNo}, EventNo.{EventNo}}, Standings.{stands_on}}
+use Rattle.stage_spec.specs.{declared.instance.Instance.{Instance}, Hardware.{Hardware}, Stage.{Stage, Group, members_of, members, is_of_family}}
+use Rattle.stage_spec.specs.{Effective.{is_ready}, Commands.{is_reached}}
 use Rattle.stage_spec.specs.Verdict.{reached, Judged, is_eligible, judge, judge_pass, judge_passes, passes, verdicts, on_instances}
-use Rattle.perf_base.specs.Standings.{stands_on}
 use Rattle.stage_spec.proofs.Each.{Each}
 
 -- a processor reaches at most one instance of a family

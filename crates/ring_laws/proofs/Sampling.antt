@@ -1,35 +1,21 @@
 -- Which families sample: those whose slot was opened with a period. Each of their instances is of a hardware kind.
 use Rattle.std.specs.Prelude.{◌≡◌, ℕ, ◌+◌, ◌<◌, ◌≤◌, ◌⊎◌, ◌==◌, nat_lt, Bool, true, false, not, ◌||◌, List, [], ◌∷◌, ◌++◌, length, drop, Option, Some, None, cond, bit_and, ◌^◌}
-use Rattle.std.specs.List.{list_any}
-use Rattle.std.proofs.Common.{arith, refl, sym, ap, subst, ◌∙◌, inl}
-use Rattle.std.proofs.lemmas.Bool.{false≢true}
-use Rattle.std.proofs.lemmas.Bool.Decides.{nat_tests}
+use Rattle.std.{specs.List.{list_any}, proofs.{Common.{arith, refl, sym, ap, subst, ◌∙◌, inl}, lemmas.Bool.{false≢true, Decides.{nat_tests}}}}
 use Rattle.std.proofs.lemmas.Option.{none-some}
-use Rattle.perf_base.specs.declared.numbers.CpuNo.{CpuNo}
-use Rattle.perf_base.specs.declared.numbers.EventNo.{EventNo}
-use Rattle.perf_base.specs.declared.numbers.TaskNo.{TaskNo}
-use Rattle.perf_base.specs.declared.attr.Attr.{Attr}
-use Rattle.perf_base.specs.declared.lines.CpuLine.{CpuLine}
+use Rattle.perf_base.specs.declared.{numbers.{CpuNo.{CpuNo}, EventNo.{EventNo}, TaskNo.{TaskNo}}, attr.Attr.{Attr}, lines.CpuLine.{CpuLine}}
+use Rattle.perf_base.specs.{declared.{lines.ToolLine.{ToolLine}, reasons.Reason.{Reason}}, Weight.{period_of, opens_sampling}}
 use Rattle.perf_base.specs.declared.lines.CpuLine.TheVariants as cpu_line
-use Rattle.perf_base.specs.declared.lines.ToolLine.{ToolLine}
 use Rattle.perf_base.specs.declared.lines.ToolLine.TheVariants as tool_line
-use Rattle.perf_base.specs.declared.reasons.Reason.{Reason}
 use Rattle.perf_base.specs.declared.reasons.Reason.TheVariants as reason
-use Rattle.perf_base.specs.Weight.{period_of, opens_sampling}
-use Rattle.stage_spec.specs.declared.instance.Instance.{Instance}
-use Rattle.stage_spec.specs.Hardware.{Hardware, is_software}
-use Rattle.stage_spec.specs.Stage.{Stage, all_instances, is_original, original_of, is_open, first_stage, no_groups}
-use Rattle.stage_spec.specs.Settle.{settle_all}
-use Rattle.stage_spec.specs.Opening.{opened, new_original, is_used, open_refusal, open_faults}
-use Rattle.stage_spec.specs.Refusals.{first_of, holds_of}
+use Rattle.stage_spec.specs.{declared.instance.Instance.{Instance}, Hardware.{Hardware, is_software}}
+use Rattle.stage_spec.specs.{Stage.{Stage, all_instances, is_original, original_of, is_open, first_stage, no_groups}, Settle.{settle_all}}
+use Rattle.stage_spec.specs.{Opening.{opened, new_original, is_used, open_refusal, open_faults}, Refusals.{first_of, holds_of}}
 use Rattle.stage_spec.specs.Checks.{has_high_period, has_unknown_sample, has_unknown_format, has_no_place, has_soft_period}
-use Rattle.stage_spec.specs.Commands.{enabled, disabled, targets, is_reached, period_refusal}
-use Rattle.stage_spec.specs.Forks.{copy_of, present_period}
+use Rattle.stage_spec.specs.{Commands.{enabled, disabled, targets, is_reached, period_refusal}, Forks.{copy_of, present_period}}
 use Rattle.stage_spec.specs.History.{Step, CpuStep, ToolStep, SeenStep, cpu_refusal, tool_refusal, cpu_changed, tool_changed, stage_step, unless_refused}
 use Rattle.stage_spec.proofs.Each.{Each, weaker-Each, replicate-Each, InLists, InStage, no_groups-In}
 use Rattle.stage_spec.proofs.Carried.{IsOfAttr, settle_all-in, opened-in, no_fault, with_period-in, command_each-in, mapped_to-in, output_to-in, closed-in, exited-in, switched-in, rotated-in, forked-in}
-use Rattle.stage_spec.proofs.Inside.{all_instances-in, InStage-from_all}
-use Rattle.stage_spec.proofs.Present.{find-holds, find-none, find-passes}
+use Rattle.stage_spec.proofs.{Inside.{all_instances-in, InStage-from_all}, Present.{find-holds, find-none, find-passes}}
 use Rattle.stage_spec.proofs.Drawn.{Draws, settle_all-draws, cpu_changed-draws, tool_changed-draws}
 use Rattle.ring_laws.specs.Few.{period_by, opens_by}
 use Rattle.ring_spec.proofs.Overflowing.{IsSampling}

@@ -1,20 +1,11 @@
 -- What an order of a script counts is small, since it does each line of the script once.
-use Rattle.std.specs.Prelude.{◌≡◌, ℕ, ◌+◌, ◌≤◌, List, [], ◌∷◌, length, sum_by, count_by}
-use Rattle.std.proofs.Common.{arith, refl}
+use Rattle.std.{specs.Prelude.{◌≡◌, ℕ, ◌+◌, ◌≤◌, List, [], ◌∷◌, length, sum_by, count_by}, proofs.Common.{arith, refl}}
 use Rattle.std.proofs.lemmas.List.Sums.{sum_by-cons}
-use Rattle.perf_base.specs.declared.acts.Act.{Act}
-use Rattle.perf_base.specs.declared.lines.CpuLine.{CpuLine}
-use Rattle.perf_base.specs.declared.lines.ToolLine.{ToolLine}
-use Rattle.perf_base.specs.Scripts.{Scripted, line_count}
-use Rattle.stage_spec.specs.Hardware.{hardware_of}
-use Rattle.stage_spec.specs.Limits.{limits_of}
-use Rattle.stage_spec.specs.History.{Step, CpuStep, ToolStep, SeenStep, history}
+use Rattle.perf_base.specs.{declared.{acts.Act.{Act}, lines.{CpuLine.{CpuLine}, ToolLine.{ToolLine}}}, Scripts.{Scripted, line_count}}
+use Rattle.stage_spec.specs.{Hardware.{hardware_of}, Limits.{limits_of}, History.{Step, CpuStep, ToolStep, SeenStep, history}}
 use Rattle.stage_spec.proofs.Machines.{script_machine}
-use Rattle.stage_laws.specs.Bounds.{is_line}
-use Rattle.stage_laws.proofs.BoundsWhole.{family_small}
-use Rattle.stage_laws.proofs.Counts.{count-cons}
-use Rattle.ring_laws.specs.Clocks.{SmallSumsOfScriptLaw, SmallClockOfScriptLaw}
-use Rattle.ring_laws.proofs.Clocks.{clock_small}
+use Rattle.stage_laws.{specs.Bounds.{is_line}, proofs.{BoundsWhole.{family_small}, Counts.{count-cons}}}
+use Rattle.ring_laws.{specs.Clocks.{SmallSumsOfScriptLaw, SmallClockOfScriptLaw}, proofs.Clocks.{clock_small}}
 use Rattle.ring_laws.proofs.Orders.{none_done, by_tools, by_cpus, tools_from, cpus_from, within}
 
 ones : {X : Type 0} (xs : List X) → sum_by (λ x. 1) xs ≡ length xs

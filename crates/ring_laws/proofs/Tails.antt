@@ -1,16 +1,9 @@
 -- Where a ring's tail was seen last.
 use Rattle.std.specs.Prelude.{◌≡◌, ℕ, ◌==◌, Bool, true, false, List, [], ◌∷◌, ◌++◌, map, filter, fold, Option, Some, None, nat_le, if◌then◌else◌}
-use Rattle.std.proofs.Common.{refl, ap, ◌∙◌}
-use Rattle.std.proofs.lemmas.List.Sums.{fold-append}
-use Rattle.perf_base.specs.declared.numbers.RingNo.{RingNo}
-use Rattle.perf_base.specs.declared.lines.CpuLine.{CpuLine}
-use Rattle.perf_base.specs.declared.lines.ToolLine.{ToolLine}
-use Rattle.perf_base.specs.declared.acts.Act.{Act}
+use Rattle.std.proofs.{Common.{refl, ap, ◌∙◌}, lemmas.List.Sums.{fold-append}}
+use Rattle.perf_base.specs.{declared.{numbers.RingNo.{RingNo}, lines.{CpuLine.{CpuLine}, ToolLine.{ToolLine}}, acts.Act.{Act}}, Scripts.{Scripted}}
 use Rattle.perf_base.specs.declared.acts.Act.TheVariants as act
-use Rattle.perf_base.specs.Scripts.{Scripted}
-use Rattle.stage_spec.specs.Hardware.{Hardware, hardware_of}
-use Rattle.stage_spec.specs.Stage.{Stage}
-use Rattle.stage_spec.specs.Order.{seen_at, next_of_cpu, next_of_tool}
+use Rattle.stage_spec.specs.{Hardware.{Hardware, hardware_of}, Stage.{Stage}, Order.{seen_at, next_of_cpu, next_of_tool}}
 use Rattle.stage_spec.specs.History.{Step, CpuStep, ToolStep, SeenStep, steps_of, steps_from, cpu_steps, tool_steps, history, opening_stage}
 use Rattle.ring_spec.specs.Sending.{SentSample, sent_after}
 use Rattle.ring_spec.specs.Account.{Sends, Looks, Account, account, empty_account, send, ring_step, written_to, lost_to, need_of, room_of}

@@ -1,14 +1,8 @@
 -- How far the clocks of processors go, and the sums of events over an order of a script. This project's own profile,
 -- after its limits on work and on lines.
 use Rattle.std.specs.Prelude.{◌^◌, ◌<◌, ◌≤◌, All, List, count_by}
-use Rattle.perf_base.specs.declared.numbers.CpuNo.{CpuNo}
-use Rattle.perf_base.specs.declared.numbers.EventNo.{EventNo}
-use Rattle.perf_base.specs.declared.acts.Act.{Act}
-use Rattle.perf_base.specs.Scripts.{Scripted, IsScript, IsCovered}
-use Rattle.stage_spec.specs.Hardware.{hardware_of}
-use Rattle.stage_spec.specs.History.{Step, history, opening_stage}
-use Rattle.stage_spec.specs.Families.{family_sums}
-use Rattle.stage_spec.specs.Limits.{Limits}
+use Rattle.perf_base.specs.{declared.{numbers.{CpuNo.{CpuNo}, EventNo.{EventNo}}, acts.Act.{Act}}, Scripts.{Scripted, IsScript, IsCovered}}
+use Rattle.stage_spec.specs.{Hardware.{hardware_of}, History.{Step, history, opening_stage}, Families.{family_sums}, Limits.{Limits}}
 use Rattle.stage_laws.specs.Bounds.{most_of_all, is_line, IsLineWithin, AreSmall}
 use Rattle.ring_spec.specs.Sending.{clock_of}
 

@@ -1,6 +1,5 @@
 -- On a sound stage each instance's event is open. This project's own profile.
-use Rattle.stage_spec.specs.Hardware.{Hardware}
-use Rattle.stage_spec.specs.Stage.{Stage}
+use Rattle.stage_spec.specs.{Hardware.{Hardware}, Stage.{Stage}}
 use Rattle.stage_laws.specs.Sound.{IsSound}
 use Rattle.ring_spec.specs.Agreement.{AreFamiliesOpen}
 

@@ -1,18 +1,11 @@
 -- How many records lines send at most. This project's own profile.
 use Rattle.std.specs.Prelude.{◌≡◌, ℕ, ◌*◌, ◌<◌, ◌≤◌, ◌⊎◌, Bool, false, All, List, length, count_by, sum_by}
-use Rattle.perf_base.specs.declared.numbers.RingNo.{RingNo}
-use Rattle.perf_base.specs.declared.numbers.TaskNo.{TaskNo}
-use Rattle.perf_base.specs.declared.acts.Act.{Act}
-use Rattle.perf_base.specs.Scripts.{Scripted, IsScript, IsCovered}
+use Rattle.perf_base.specs.{declared.{numbers.{RingNo.{RingNo}, TaskNo.{TaskNo}}, acts.Act.{Act}}, Scripts.{Scripted, IsScript, IsCovered}}
 use Rattle.perf_base.specs.Weight.{period_of, opens_sampling, line_shares, weight}
-use Rattle.stage_spec.specs.Hardware.{Hardware, hardware_of}
-use Rattle.stage_spec.specs.Stage.{first_stage}
-use Rattle.stage_spec.specs.Limits.{Limits, IsMachine, AreTaskNumbers}
+use Rattle.stage_spec.specs.{Hardware.{Hardware, hardware_of}, Stage.{first_stage}, Limits.{Limits, IsMachine, AreTaskNumbers}}
 use Rattle.stage_spec.specs.History.{Step, CpuStep, ToolStep, SeenStep, history, opening_stage}
 use Rattle.stage_laws.specs.Bounds.{IsLineWithin}
-use Rattle.ring_spec.specs.Records.{words_of}
-use Rattle.ring_spec.specs.Sending.{sent_by_steps}
-use Rattle.ring_spec.specs.Rings.{account_in}
+use Rattle.ring_spec.specs.{Records.{words_of}, Sending.{sent_by_steps}, Rings.{account_in}}
 
 -- of a step: the period that its line gives, whether it opens an event with a period, and how often its occurrences
 -- fill a period

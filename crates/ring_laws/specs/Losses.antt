@@ -1,16 +1,9 @@
 -- How many records an event loses, and where a ring's head stands. This project's own profile.
 use Rattle.std.specs.Prelude.{ℕ, ◌*◌, ◌^◌, ◌<◌, ◌≤◌, ◌≢◌, AllPairs, List, length}
-use Rattle.perf_base.specs.declared.numbers.EventNo.{EventNo}
-use Rattle.perf_base.specs.declared.numbers.RingNo.{RingNo}
-use Rattle.perf_base.specs.declared.acts.Act.{Act}
-use Rattle.perf_base.specs.Scripts.{Scripted, IsScript, IsCovered}
+use Rattle.perf_base.specs.{declared.{numbers.{EventNo.{EventNo}, RingNo.{RingNo}}, acts.Act.{Act}}, Scripts.{Scripted, IsScript, IsCovered}}
 use Rattle.perf_base.specs.Weight.{weight}
-use Rattle.stage_spec.specs.Hardware.{Hardware, hardware_of}
-use Rattle.stage_spec.specs.Stage.{Stage}
-use Rattle.stage_spec.specs.History.{Step, history, opening_stage}
-use Rattle.ring_spec.specs.Sending.{sent_by_steps}
-use Rattle.ring_spec.specs.Account.{head_of}
-use Rattle.ring_spec.specs.Rings.{account_in, lost_count}
+use Rattle.stage_spec.specs.{Hardware.{Hardware, hardware_of}, Stage.{Stage}, History.{Step, history, opening_stage}}
+use Rattle.ring_spec.specs.{Sending.{sent_by_steps}, Account.{head_of}, Rings.{account_in, lost_count}}
 
 -- On rings with distinct numbers an event loses no more records, all rings together, than the steps send; and so no
 -- more over an order of a script than the script weighs.

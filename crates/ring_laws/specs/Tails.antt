@@ -1,8 +1,6 @@
 -- Where a ring's tail was seen last, by its account. This project's own profile.
 use Rattle.std.specs.Prelude.{◌≡◌, ℕ, List}
-use Rattle.perf_base.specs.declared.numbers.RingNo.{RingNo}
-use Rattle.perf_base.specs.declared.acts.Act.{Act}
-use Rattle.perf_base.specs.Scripts.{Scripted}
+use Rattle.perf_base.specs.{declared.{numbers.RingNo.{RingNo}, acts.Act.{Act}}, Scripts.{Scripted}}
 use Rattle.stage_spec.specs.Order.{last_seen}
 use Rattle.ring_spec.specs.Rings.{account_in}
 

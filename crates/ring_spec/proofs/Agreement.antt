@@ -1,42 +1,24 @@
 -- Records that agree go on agreeing, and answer alike.
 use Rattle.std.specs.Prelude.{◌↔◌, ◌≡◌, ℕ, ◌+◌, ◌==◌, ◌⊎◌, Bool, true, false, List, [], ◌∷◌, map, filter, fold, flat_map, length, nat_le, Option, Some, None, drop}
-use Rattle.std.specs.List.{list_any}
-use Rattle.std.proofs.Common.{arith, refl, sym, ap, subst, ◌∙◌, inl, inr, get_or}
-use Rattle.std.proofs.lemmas.Bool.Decides.{nat_tests}
+use Rattle.std.{specs.List.{list_any}, proofs.{Common.{arith, refl, sym, ap, subst, ◌∙◌, inl, inr, get_or}, lemmas.Bool.Decides.{nat_tests}}}
 use Rattle.std.proofs.lemmas.List.{length-append}
-use Rattle.perf_base.specs.declared.numbers.CpuNo.{CpuNo}
-use Rattle.perf_base.specs.declared.numbers.EventNo.{EventNo}
-use Rattle.perf_base.specs.declared.numbers.RingNo.{RingNo}
-use Rattle.perf_base.specs.declared.lines.CpuLine.{CpuLine}
+use Rattle.perf_base.specs.declared.{numbers.{CpuNo.{CpuNo}, EventNo.{EventNo}, RingNo.{RingNo}}, lines.{CpuLine.{CpuLine}, ToolLine.{ToolLine}}}
+use Rattle.perf_base.specs.declared.{lines.Work.{Work}, reasons.Reason.{Reason}, reply.{Reply.{Reply}, Sums.{Sums}}}
 use Rattle.perf_base.specs.declared.lines.CpuLine.TheVariants as cpu_line
-use Rattle.perf_base.specs.declared.lines.ToolLine.{ToolLine}
 use Rattle.perf_base.specs.declared.lines.ToolLine.TheVariants as tool_line
-use Rattle.perf_base.specs.declared.lines.Work.{Work}
-use Rattle.perf_base.specs.declared.reasons.Reason.{Reason}
-use Rattle.perf_base.specs.declared.reply.Reply.{Reply}
 use Rattle.perf_base.specs.declared.reply.Reply.TheVariants as reply
-use Rattle.perf_base.specs.declared.reply.Sums.{Sums}
-use Rattle.stage_spec.specs.declared.instance.Instance.{Instance}
-use Rattle.stage_spec.specs.Hardware.{Hardware}
+use Rattle.stage_spec.specs.{declared.instance.Instance.{Instance}, Hardware.{Hardware}}
 use Rattle.stage_spec.specs.Stage.{Stage, Group, members_of, all_groups, all_instances, is_original, is_of_family, is_open, original_of, group_of}
-use Rattle.stage_spec.specs.Verdict.{on_instances}
-use Rattle.stage_spec.specs.Opening.{is_used}
-use Rattle.stage_spec.specs.History.{Step, CpuStep, ToolStep, SeenStep, tool_refusal, stage_step}
-use Rattle.stage_spec.specs.Families.{plus_each, leaving}
-use Rattle.stage_spec.specs.Remainders.{left_by, left_by_hits, left_by_period, new_period, instance_of}
+use Rattle.stage_spec.specs.{Verdict.{on_instances}, Opening.{is_used}, History.{Step, CpuStep, ToolStep, SeenStep, tool_refusal, stage_step}}
+use Rattle.stage_spec.specs.{Families.{plus_each, leaving}, Remainders.{left_by, left_by_hits, left_by_period, new_period, instance_of}}
 use Rattle.stage_spec.specs.Reading.{read_words, read_words_of, words_in, words_by, words_of_group, words_of_member, words_unless_error, has_format, is_error}
-use Rattle.stage_spec.specs.Effective.{state_in}
-use Rattle.stage_spec.specs.Replies.{IsAnswerAt, IsToolReply, UnlessRefused}
-use Rattle.stage_spec.proofs.Each.{Each, head-Each, weaker-Each, filter-Each, InGroup, InStage}
-use Rattle.stage_spec.proofs.Carried.{IsOfName, step-in}
-use Rattle.stage_spec.proofs.Inside.{all_instances-in, InStage-from_all}
-use Rattle.stage_spec.proofs.Parts.{joined-Each}
-use Rattle.stage_spec.proofs.Present.{on_instances-in, leaving-in, Found, any-found, find-holds, find-any, each_at, each_there}
-use Rattle.stage_spec.proofs.Drawn.{step-draws}
+use Rattle.stage_spec.specs.{Effective.{state_in}, Replies.{IsAnswerAt, IsToolReply, UnlessRefused}}
+use Rattle.stage_spec.proofs.{Each.{Each, head-Each, weaker-Each, filter-Each, InGroup, InStage}, Carried.{IsOfName, step-in}}
+use Rattle.stage_spec.proofs.{Inside.{all_instances-in, InStage-from_all}, Parts.{joined-Each}}
+use Rattle.stage_spec.proofs.{Present.{on_instances-in, leaving-in, Found, any-found, find-holds, find-any, each_at, each_there}, Drawn.{step-draws}}
 use Rattle.ring_spec.specs.Sending.{SentSample, sent_by_step, sent_by_line, sent_at, sent_by_family, overflows_by, length_by}
 use Rattle.ring_spec.specs.Account.{RingEvent, Sends, Looks, Account, ring_step, lost_by, lost_among, written_to, lost_to, need_of, room_of}
-use Rattle.ring_spec.specs.Rings.{events_by}
-use Rattle.ring_spec.specs.Running.{RingAccount, Running, ring_after, losses_on, record_after, family_by, IsAnswerBy}
+use Rattle.ring_spec.specs.{Rings.{events_by}, Running.{RingAccount, Running, ring_after, losses_on, record_after, family_by, IsAnswerBy}}
 use Rattle.ring_spec.specs.Agreement.{lives, IsCurrentId, IsCurrentSlot, RingView, view_of, Agree, StepAgreesLaw, AreFamiliesOpen, AnswerAgreesLaw}
 use Rattle.ring_spec.proofs.Running.{lost-more}
 

@@ -1,8 +1,6 @@
 -- Records are conserved: those sent are written or lost, those lost are told or pending.
 use Rattle.std.specs.Prelude.{◌≡◌, ℕ, ◌+◌, nat_le, Bool, true, false, List, [], ◌∷◌, ◌++◌, fold, length, sum_by, count_by, cond}
-use Rattle.std.proofs.Common.{arith, refl, zero, suc}
-use Rattle.std.proofs.lemmas.List.{length_push}
-use Rattle.std.proofs.lemmas.List.Sums.{sum_by-append, sum_by-cons}
+use Rattle.std.proofs.{Common.{arith, refl, zero, suc}, lemmas.List.{length_push, Sums.{sum_by-append, sum_by-cons}}}
 use Rattle.ring_spec.specs.Sending.{SentSample}
 use Rattle.ring_spec.specs.Account.{RingEvent, Sends, Looks, Account, account, empty_account, ring_step, told_before, records_for, sample_of, written_to, lost_to, need_of, room_of, is_sent, is_sample, losses_in, SentLaw, ToldLaw}
 

@@ -1,12 +1,7 @@
 -- The words of records are cut in one way alone.
-use Rattle.std.specs.Prelude.{◌≡◌, ℕ, ◌+◌, ◌*◌, ◌/◌, ◌%◌, ◌^◌, ◌<◌, ◌≤◌, List, [], ◌∷◌, ◌++◌, length, map, take, drop}
-use Rattle.std.specs.List.{concat}
-use Rattle.std.proofs.Common.{arith, refl, sym, ap, ◌∙◌, get_or}
-use Rattle.std.proofs.lemmas.List.Elements.{All-map}
-use Rattle.std.proofs.lemmas.List.Concat.{flat_map-cons}
-use Rattle.std.proofs.Math.Seq.{drop-append_seam, take-append_seam}
-use Rattle.std.proofs.Math.Nat.{mod-eq_of_lt}
-use Rattle.std.proofs.lemmas.Nat.{div-mul-add}
+use Rattle.std.specs.{Prelude.{◌≡◌, ℕ, ◌+◌, ◌*◌, ◌/◌, ◌%◌, ◌^◌, ◌<◌, ◌≤◌, List, [], ◌∷◌, ◌++◌, length, map, take, drop}, List.{concat}}
+use Rattle.std.proofs.{Common.{arith, refl, sym, ap, ◌∙◌, get_or}, lemmas.{List.{Elements.{All-map}, Concat.{flat_map-cons}}, Nat.{div-mul-add}}}
+use Rattle.std.proofs.Math.{Seq.{drop-append_seam, take-append_seam}, Nat.{mod-eq_of_lt}}
 use Rattle.perf_base.specs.declared.lines.Mode.{Mode}
 use Rattle.perf_base.specs.declared.lines.Mode.TheVariants as mode
 use Rattle.ring_spec.specs.Whole.{IsBlock, size_field}

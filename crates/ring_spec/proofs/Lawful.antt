@@ -1,6 +1,5 @@
 -- A lawful order grows by lawful acts.
-use Rattle.std.specs.Prelude.{◌≡◌, List, [], ◌∷◌, ◌++◌, length, drop}
-use Rattle.std.proofs.Common.{arith, refl, sym, ap, ◌∙◌, get_or}
+use Rattle.std.{specs.Prelude.{◌≡◌, List, [], ◌∷◌, ◌++◌, length, drop}, proofs.Common.{arith, refl, sym, ap, ◌∙◌, get_or}}
 use Rattle.std.proofs.lemmas.List.{length-append}
 use Rattle.perf_base.specs.declared.acts.Act.{Act}
 use Rattle.ring_spec.specs.Rings.{LawfulLaw}

@@ -1,23 +1,10 @@
 -- How many records a stretch of work sends for one instance.
 use Rattle.std.specs.Prelude.{◌≡◌, ℕ, zero, suc, ◌+◌, ◌-◌, ◌*◌, ◌/◌, ◌%◌, ◌<◌, ◌≤◌, ◌⊎◌, ◌==◌, min, Bool, true, false, length, replicate, sum_by, slice_index, Option, Some, None, cond, if◌then◌else◌}
-use Rattle.std.proofs.Common.{arith, refl, sym, ap, ◌∙◌, inl, inr}
-use Rattle.std.proofs.Math.Nat.{mod-lt, lt_of_mul-lt-mul_right, mul-le-mul_left}
-use Rattle.std.proofs.lemmas.Nat.{div-add-mod'}
-use Rattle.std.proofs.lemmas.Bool.{false≢true, cases_lt}
-use Rattle.std.proofs.lemmas.Bool.Decides.{nat_tests}
-use Rattle.std.proofs.lemmas.List.{get_or_past}
-use Rattle.std.proofs.lemmas.List.Sums.{get_or-le-sum_by}
-use Rattle.perf_base.specs.declared.numbers.CpuNo.{CpuNo}
-use Rattle.perf_base.specs.declared.numbers.RingNo.{RingNo}
-use Rattle.perf_base.specs.declared.attr.Attr.{Attr}
-use Rattle.perf_base.specs.declared.attr.Kind.{Kind}
+use Rattle.std.proofs.{Common.{arith, refl, sym, ap, ◌∙◌, inl, inr}, Math.Nat.{mod-lt, lt_of_mul-lt-mul_right, mul-le-mul_left}}
+use Rattle.std.proofs.lemmas.{Nat.{div-add-mod'}, Bool.{false≢true, cases_lt, Decides.{nat_tests}}, List.{get_or_past, Sums.{get_or-le-sum_by}}}
+use Rattle.perf_base.specs.{declared.{numbers.{CpuNo.{CpuNo}, RingNo.{RingNo}}, attr.{Attr.{Attr}, Kind.{Kind}}, lines.Work.{Work}}, Weight.{shares}}
 use Rattle.perf_base.specs.declared.attr.Kind.TheVariants as kind
-use Rattle.perf_base.specs.declared.lines.Work.{Work}
-use Rattle.perf_base.specs.Weight.{shares}
-use Rattle.stage_spec.specs.declared.instance.Instance.{Instance}
-use Rattle.stage_spec.specs.Stage.{Stage}
-use Rattle.stage_spec.specs.Hardware.{is_software}
-use Rattle.stage_spec.specs.Shares.{excludes, counted_by, work_hits}
+use Rattle.stage_spec.specs.{declared.instance.Instance.{Instance}, Stage.{Stage}, Hardware.{is_software}, Shares.{excludes, counted_by, work_hits}}
 use Rattle.stage_spec.specs.Occurrences.{left_after_one, overflows}
 use Rattle.ring_spec.specs.Sending.{SentSample, to_ring, sent_of, fields_of, sent_by_family, overflows_by}
 

@@ -1,11 +1,8 @@
 -- What one more step does to a ring, and that all rings together get what the steps send.
 use Rattle.std.specs.Prelude.{◌≡◌, ◌==◌, Bool, true, false, List, [], ◌∷◌, ◌++◌, map, filter, fold, cond, if◌then◌else◌}
-use Rattle.std.proofs.Common.{refl, sym, ap, ◌∙◌, append_assoc, append-nil}
-use Rattle.std.proofs.lemmas.List.Sums.{fold-append}
+use Rattle.std.proofs.{Common.{refl, sym, ap, ◌∙◌, append_assoc, append-nil}, lemmas.List.Sums.{fold-append}}
 use Rattle.perf_base.specs.declared.numbers.RingNo.{RingNo}
-use Rattle.stage_spec.specs.Hardware.{Hardware}
-use Rattle.stage_spec.specs.Stage.{Stage}
-use Rattle.stage_spec.specs.History.{Step, CpuStep, ToolStep, SeenStep}
+use Rattle.stage_spec.specs.{Hardware.{Hardware}, Stage.{Stage}, History.{Step, CpuStep, ToolStep, SeenStep}}
 use Rattle.ring_spec.specs.Sending.{SentSample, sent_after, sent_from}
 use Rattle.ring_spec.specs.Account.{RingEvent, Sends, Looks, account, empty_account, ring_step, is_sent}
 use Rattle.ring_spec.specs.Rings.{is_to, sends_to, looks_at, events_by, events_after, events_from, events_of, account_of, AccountLaw, SendsLaw}

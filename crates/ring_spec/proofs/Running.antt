@@ -1,22 +1,12 @@
 -- The record kept step by step is that of the history, and replies by it are the definitions'.
 use Rattle.std.specs.Prelude.{◌↔◌, ◌≡◌, ℕ, ◌+◌, nat_le, Bool, true, false, List, [], ◌∷◌, ◌++◌, map, fold, flat_map, sum_by, count_by, cond}
-use Rattle.std.proofs.Common.{arith, refl, sym, ap, ◌∙◌, append_assoc, append-nil}
-use Rattle.std.proofs.Math.Path.{fun_ext}
+use Rattle.std.proofs.{Common.{arith, refl, sym, ap, ◌∙◌, append_assoc, append-nil}, Math.Path.{fun_ext}}
 use Rattle.std.proofs.lemmas.List.Sums.{sum_by-append, sum_by-cons}
-use Rattle.perf_base.specs.declared.numbers.CpuNo.{CpuNo}
-use Rattle.perf_base.specs.declared.numbers.EventNo.{EventNo}
-use Rattle.perf_base.specs.declared.numbers.RingNo.{RingNo}
-use Rattle.perf_base.specs.declared.reply.Reply.{Reply}
-use Rattle.perf_base.specs.declared.reply.Sums.{Sums}
-use Rattle.stage_spec.specs.Hardware.{Hardware}
-use Rattle.stage_spec.specs.Stage.{Stage}
-use Rattle.stage_spec.specs.History.{Step, SeenStep, stage_step, stage_after}
-use Rattle.stage_spec.specs.Sums.{sums_of, count_of, enabled_of, running_of}
-use Rattle.stage_spec.specs.Remainders.{remainder_of, remainder_from}
-use Rattle.stage_spec.specs.Families.{folded_of, folded_from, family_sums}
-use Rattle.stage_spec.specs.Replies.{IsAnswerAt, IsReply, AreReplies}
-use Rattle.stage_spec.proofs.Recurrence.{stage_after-push, sums_of-push, folded_of-push}
-use Rattle.stage_spec.proofs.Remainders.{remainder_of-push}
+use Rattle.perf_base.specs.declared.{numbers.{CpuNo.{CpuNo}, EventNo.{EventNo}, RingNo.{RingNo}}, reply.{Reply.{Reply}, Sums.{Sums}}}
+use Rattle.stage_spec.specs.{Hardware.{Hardware}, Stage.{Stage}, History.{Step, SeenStep, stage_step, stage_after}}
+use Rattle.stage_spec.specs.{Sums.{sums_of, count_of, enabled_of, running_of}, Remainders.{remainder_of, remainder_from}}
+use Rattle.stage_spec.specs.{Families.{folded_of, folded_from, family_sums}, Replies.{IsAnswerAt, IsReply, AreReplies}}
+use Rattle.stage_spec.proofs.{Recurrence.{stage_after-push, sums_of-push, folded_of-push}, Remainders.{remainder_of-push}}
 use Rattle.ring_spec.specs.Sending.{SentSample, sent_by_step, sent_after, length_by, clock_of}
 use Rattle.ring_spec.specs.Account.{RingEvent, Sends, Looks, Account, account, ring_step, lost_by, lost_among, lost_of, is_event, written_to, lost_to, need_of, room_of}
 use Rattle.ring_spec.specs.Rings.{events_by, events_of, events_from, account_of, lost_count}

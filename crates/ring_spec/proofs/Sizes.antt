@@ -1,32 +1,18 @@
 -- Records have lawful sizes, so a ring gets few words, and a whole prefix of them ends at a record.
 use Rattle.std.specs.Prelude.{◌≡◌, ℕ, zero, suc, ◌+◌, ◌-◌, ◌*◌, ◌≤◌, ◌==◌, nat_le, bit_and, Bool, true, false, All, List, [], ◌∷◌, ◌++◌, length, map, take, filter, fold, flat_map, replicate, min, sum, Option, Some, None, cond, if◌then◌else◌}
-use Rattle.std.specs.List.{concat}
-use Rattle.std.proofs.Common.{arith, refl, sym, ap, ◌∙◌, get_or}
-use Rattle.std.proofs.Math.Seq.{take-append-add}
-use Rattle.std.proofs.lemmas.List.{length-append, length-take, get_or-take}
-use Rattle.std.proofs.lemmas.List.Concat.{flat_map-append}
-use Rattle.std.proofs.lemmas.List.Elements.{All-append, All-cons, All-nil, All-tail}
-use Rattle.std.proofs.lemmas.List.Sums.{length-filter, count_by-le-length}
-use Rattle.perf_base.specs.declared.numbers.CpuNo.{CpuNo}
-use Rattle.perf_base.specs.declared.numbers.RingNo.{RingNo}
-use Rattle.perf_base.specs.declared.lines.CpuLine.{CpuLine}
+use Rattle.std.{specs.List.{concat}, proofs.{Common.{arith, refl, sym, ap, ◌∙◌, get_or}, Math.Seq.{take-append-add}}}
+use Rattle.std.proofs.lemmas.List.{length-append, length-take, get_or-take, Concat.{flat_map-append}}
+use Rattle.std.proofs.lemmas.List.{Elements.{All-append, All-cons, All-nil, All-tail}, Sums.{length-filter, count_by-le-length}}
+use Rattle.perf_base.specs.declared.{numbers.{CpuNo.{CpuNo}, RingNo.{RingNo}}, lines.{CpuLine.{CpuLine}, Work.{Work}}}
 use Rattle.perf_base.specs.declared.lines.CpuLine.TheVariants as cpu_line
-use Rattle.perf_base.specs.declared.lines.Work.{Work}
-use Rattle.stage_spec.specs.declared.instance.Instance.{Instance}
-use Rattle.stage_spec.specs.Hardware.{Hardware}
-use Rattle.stage_spec.specs.Stage.{Stage, original_of}
-use Rattle.stage_spec.specs.Verdict.{on_instances}
-use Rattle.stage_spec.specs.History.{Step, CpuStep, ToolStep, SeenStep, stage_after}
-use Rattle.stage_spec.specs.Remainders.{remainder_of}
-use Rattle.ring_spec.specs.declared.fields.Fields.{Fields}
-use Rattle.ring_spec.specs.Whole.{IsBlock, size_field}
+use Rattle.stage_spec.specs.{declared.instance.Instance.{Instance}, Hardware.{Hardware}, Stage.{Stage, original_of}, Verdict.{on_instances}}
+use Rattle.stage_spec.{specs.{History.{Step, CpuStep, ToolStep, SeenStep, stage_after}, Remainders.{remainder_of}}, proofs.Each.{Each, append-Each}}
+use Rattle.ring_spec.specs.{declared.fields.Fields.{Fields}, Whole.{IsBlock, size_field}}
 use Rattle.ring_spec.specs.Records.{Record, Sample, Lost, field, thread_word, body_of, trailer_of, record_words, words_of, record_size, IsRecord, EndsAtRecord, PrefixLaw}
 use Rattle.ring_spec.specs.Sending.{SentSample, fields_of, has_trailer, trailer_if, sent_of, to_ring, sent_by_family, overflows_by, sent_by_line, sent_by_step, sent_after, sent_by_steps, clock_of}
 use Rattle.ring_spec.specs.Account.{RingEvent, Sends, Looks, Account, account, empty_account, ring_step, send, told_before, sample_of, records_for, written_to, lost_to, need_of, room_of, is_sent}
 use Rattle.ring_spec.specs.Rings.{is_to, sends_to, looks_at, events_by, events_from, events_of, account_of, SizesLaw, RingWordsLaw, WholeLookLaw}
-use Rattle.ring_spec.proofs.Cutting.{back, block-of}
-use Rattle.ring_spec.proofs.Rings.{sends_law}
-use Rattle.stage_spec.proofs.Each.{Each, append-Each}
+use Rattle.ring_spec.proofs.{Cutting.{back, block-of}, Rings.{sends_law}}
 
 -- a field has at most one word, so a body has at most 8 and a trailer at most 6
 field-short : (bit sample word : ℕ) → length (field bit sample word) ≤ 1

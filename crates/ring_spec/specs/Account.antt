@@ -3,8 +3,7 @@
 -- this project's own profile.
 use Rattle.std.specs.Prelude.{◌≡◌, ℕ, zero, suc, ◌+◌, ◌-◌, ◌==◌, nat_le, Bool, true, false, List, [], ◌∷◌, ◌++◌, fold, length, sum_by, count_by}
 use Rattle.perf_base.specs.declared.numbers.EventNo.{EventNo}
-use Rattle.ring_spec.specs.Records.{Record, Sample, Lost, record_size}
-use Rattle.ring_spec.specs.Sending.{SentSample}
+use Rattle.ring_spec.specs.{Records.{Record, Sample, Lost, record_size}, Sending.{SentSample}}
 
 -- what happens to a ring: a record is sent to it, or its tail is seen at a place
 pub data RingEvent : Type 0 where

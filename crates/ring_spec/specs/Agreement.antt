@@ -1,16 +1,8 @@
 -- When two records of a step agree: a machine forgets what no later line asks for. This project's own profile.
-use Rattle.std.specs.Prelude.{◌↔◌, ◌≡◌, ℕ, ◌≤◌, ◌⊎◌, ◌==◌, Bool, true, false, List, All, length, map}
-use Rattle.std.specs.List.{list_any}
-use Rattle.perf_base.specs.declared.numbers.CpuNo.{CpuNo}
-use Rattle.perf_base.specs.declared.numbers.EventNo.{EventNo}
-use Rattle.perf_base.specs.declared.numbers.RingNo.{RingNo}
-use Rattle.perf_base.specs.declared.reply.Reply.{Reply}
-use Rattle.stage_spec.specs.Hardware.{Hardware}
-use Rattle.stage_spec.specs.Stage.{Stage, all_instances, is_open}
-use Rattle.stage_spec.specs.Opening.{is_used}
-use Rattle.stage_spec.specs.History.{Step}
-use Rattle.ring_spec.specs.Records.{Record}
-use Rattle.ring_spec.specs.Running.{RingAccount, Running, record_after, IsAnswerBy}
+use Rattle.std.specs.{Prelude.{◌↔◌, ◌≡◌, ℕ, ◌≤◌, ◌⊎◌, ◌==◌, Bool, true, false, List, All, length, map}, List.{list_any}}
+use Rattle.perf_base.specs.declared.{numbers.{CpuNo.{CpuNo}, EventNo.{EventNo}, RingNo.{RingNo}}, reply.Reply.{Reply}}
+use Rattle.stage_spec.specs.{Hardware.{Hardware}, Stage.{Stage, all_instances, is_open}, Opening.{is_used}, History.{Step}}
+use Rattle.ring_spec.specs.{Records.{Record}, Running.{RingAccount, Running, record_after, IsAnswerBy}}
 
 -- whether an instance has an id
 abbrev pub lives : Stage → ℕ → Bool

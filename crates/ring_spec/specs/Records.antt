@@ -3,8 +3,7 @@
 use Rattle.std.specs.Prelude.{◌≡◌, ℕ, ◌+◌, ◌*◌, ◌^◌, ◌≤◌, ◌==◌, bit_and, List, [], ◌∷◌, ◌++◌, length, map, take, sum, flat_map, All, if◌then◌else◌}
 use Rattle.perf_base.specs.declared.lines.Mode.{Mode}
 use Rattle.perf_base.specs.declared.lines.Mode.TheVariants as mode
-use Rattle.ring_spec.specs.declared.fields.Fields.{Fields}
-use Rattle.ring_spec.specs.Whole.{IsWhole}
+use Rattle.ring_spec.specs.{declared.fields.Fields.{Fields}, Whole.{IsWhole}}
 
 -- a sample with its fields, or how many records were lost before the next one, of this id, with a trailer
 pub data Record : Type 0 where

@@ -1,17 +1,10 @@
 -- The rings of a script over an order: what was sent to each and seen of it, which orders are lawful, and how many
 -- records of a family were lost. This project's own profile, after lost_samples of struct perf_event.
 use Rattle.std.specs.Prelude.{◌≡◌, ℕ, ◌*◌, ◌≤◌, ◌==◌, Bool, All, List, [], ◌∷◌, ◌++◌, length, map, take, filter, fold, find, sum_by, Option, Some, None, if◌then◌else◌}
-use Rattle.perf_base.specs.declared.numbers.EventNo.{EventNo}
-use Rattle.perf_base.specs.declared.numbers.RingNo.{RingNo}
-use Rattle.perf_base.specs.declared.acts.Act.{Act}
-use Rattle.perf_base.specs.Scripts.{Scripted}
-use Rattle.stage_spec.specs.Hardware.{Hardware, hardware_of}
-use Rattle.stage_spec.specs.Stage.{Stage}
-use Rattle.stage_spec.specs.Order.{IsLawful, IsLawfulAct, IsLawfulSeen}
+use Rattle.perf_base.specs.{declared.{numbers.{EventNo.{EventNo}, RingNo.{RingNo}}, acts.Act.{Act}}, Scripts.{Scripted}}
+use Rattle.stage_spec.specs.{Hardware.{Hardware, hardware_of}, Stage.{Stage}, Order.{IsLawful, IsLawfulAct, IsLawfulSeen}}
 use Rattle.stage_spec.specs.History.{Step, CpuStep, ToolStep, SeenStep, history, opening_stage}
-use Rattle.ring_spec.specs.Records.{record_size, words_of, IsRecord}
-use Rattle.ring_spec.specs.Whole.{IsWhole}
-use Rattle.ring_spec.specs.Sending.{SentSample, sent_after, sent_by_steps}
+use Rattle.ring_spec.specs.{Records.{record_size, words_of, IsRecord}, Whole.{IsWhole}, Sending.{SentSample, sent_after, sent_by_steps}}
 use Rattle.ring_spec.specs.Account.{RingEvent, Sends, Looks, Account, account, ring_step, is_sent, lost_of}
 
 -- the records among some that go to a ring

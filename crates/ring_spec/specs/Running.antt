@@ -1,22 +1,11 @@
 -- Running state: what a history leaves, kept step by step. This project's own profile.
 use Rattle.std.specs.Prelude.{◌↔◌, ◌≡◌, ℕ, ◌+◌, List, [], ◌∷◌, map, filter, fold, flat_map, count_by}
-use Rattle.perf_base.specs.declared.numbers.CpuNo.{CpuNo}
-use Rattle.perf_base.specs.declared.numbers.EventNo.{EventNo}
-use Rattle.perf_base.specs.declared.numbers.RingNo.{RingNo}
-use Rattle.perf_base.specs.declared.reply.Reply.{Reply}
-use Rattle.perf_base.specs.declared.reply.Sums.{Sums}
-use Rattle.stage_spec.specs.Hardware.{Hardware}
-use Rattle.stage_spec.specs.Stage.{Stage, all_instances, is_of_family}
-use Rattle.stage_spec.specs.History.{Step, SeenStep, stage_step, stage_after}
-use Rattle.stage_spec.specs.Shares.{share, no_sums}
-use Rattle.stage_spec.specs.Sums.{resets, sums_of}
-use Rattle.stage_spec.specs.Remainders.{left_by, remainder_of}
-use Rattle.stage_spec.specs.Families.{plus, plus_each, leaving, folded_of}
-use Rattle.stage_spec.specs.Recurrence.{after_reset}
-use Rattle.stage_spec.specs.Replies.{IsAnswerAt, AreReplies}
+use Rattle.perf_base.specs.declared.{numbers.{CpuNo.{CpuNo}, EventNo.{EventNo}, RingNo.{RingNo}}, reply.{Reply.{Reply}, Sums.{Sums}}}
+use Rattle.stage_spec.specs.{Hardware.{Hardware}, Stage.{Stage, all_instances, is_of_family}, History.{Step, SeenStep, stage_step, stage_after}}
+use Rattle.stage_spec.specs.{Shares.{share, no_sums}, Sums.{resets, sums_of}, Remainders.{left_by, remainder_of}}
+use Rattle.stage_spec.specs.{Families.{plus, plus_each, leaving, folded_of}, Recurrence.{after_reset}, Replies.{IsAnswerAt, AreReplies}}
 use Rattle.ring_spec.specs.Sending.{SentSample, sent_by_step, length_by, clock_of}
-use Rattle.ring_spec.specs.Account.{Account, empty_account, ring_step, lost_among, is_event}
-use Rattle.ring_spec.specs.Rings.{events_by, account_of, lost_count}
+use Rattle.ring_spec.specs.{Account.{Account, empty_account, ring_step, lost_among, is_event}, Rings.{events_by, account_of, lost_count}}
 
 -- a ring with its size in bytes, and what became of the records that were sent to it
 pub record RingAccount : Type 0 where

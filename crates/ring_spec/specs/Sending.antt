@@ -4,26 +4,14 @@
 -- of one stretch of work, and that a copy's sample has its own STREAM_ID behind a LOST record, too, are this project's
 -- own profile.
 use Rattle.std.specs.Prelude.{ℕ, ◌+◌, ◌==◌, Bool, true, false, List, [], ◌∷◌, ◌++◌, replicate, flat_map, sum_by, Option, Some, None, if◌then◌else◌}
-use Rattle.perf_base.specs.declared.numbers.CpuNo.{CpuNo}
-use Rattle.perf_base.specs.declared.numbers.EventNo.{EventNo}
-use Rattle.perf_base.specs.declared.numbers.RingNo.{RingNo}
-use Rattle.perf_base.specs.declared.numbers.TaskNo.{TaskNo}
-use Rattle.perf_base.specs.declared.attr.Attr.{Attr}
-use Rattle.perf_base.specs.declared.lines.Mode.{Mode}
-use Rattle.perf_base.specs.declared.lines.Work.{Work}
-use Rattle.perf_base.specs.declared.lines.CpuLine.{CpuLine}
+use Rattle.perf_base.specs.declared.{numbers.{CpuNo.{CpuNo}, EventNo.{EventNo}, RingNo.{RingNo}, TaskNo.{TaskNo}}, attr.Attr.{Attr}}
+use Rattle.perf_base.specs.declared.lines.{Mode.{Mode}, Work.{Work}, CpuLine.{CpuLine}}
 use Rattle.perf_base.specs.declared.lines.CpuLine.TheVariants as cpu_line
-use Rattle.stage_spec.specs.declared.instance.Instance.{Instance}
 use Rattle.perf_base.specs.Flags as flags
-use Rattle.stage_spec.specs.Hardware.{Hardware}
-use Rattle.stage_spec.specs.Stage.{Stage, original_of, task_on}
-use Rattle.stage_spec.specs.Verdict.{on_instances}
-use Rattle.stage_spec.specs.History.{Step, CpuStep, ToolStep, SeenStep, stage_after}
-use Rattle.stage_spec.specs.Shares.{work_hits}
-use Rattle.stage_spec.specs.Occurrences.{overflows}
+use Rattle.stage_spec.specs.{declared.instance.Instance.{Instance}, Hardware.{Hardware}, Stage.{Stage, original_of, task_on}, Verdict.{on_instances}}
+use Rattle.stage_spec.specs.{History.{Step, CpuStep, ToolStep, SeenStep, stage_after}, Shares.{work_hits}, Occurrences.{overflows}}
 use Rattle.stage_spec.specs.Remainders.{remainder_of}
-use Rattle.ring_spec.specs.declared.fields.Fields.{Fields}
-use Rattle.ring_spec.specs.Records.{body_of, trailer_of}
+use Rattle.ring_spec.specs.{declared.fields.Fields.{Fields}, Records.{body_of, trailer_of}}
 
 -- a sample that is sent: the original whose it is, by slot and id, what the sample says, and the trailer of a LOST
 -- record before it

@@ -1,6 +1,5 @@
 -- Lists of words that are cut into blocks, each of which says its size in its first word.
-use Rattle.std.specs.Prelude.{◌≡◌, ℕ, ◌*◌, ◌/◌, ◌%◌, ◌^◌, List, [], ◌∷◌, length, All}
-use Rattle.std.specs.List.{concat}
+use Rattle.std.specs.{Prelude.{◌≡◌, ℕ, ◌*◌, ◌/◌, ◌%◌, ◌^◌, List, [], ◌∷◌, length, All}, List.{concat}}
 
 -- the size field of a word, its bits 48 to 63: a number of bytes (perf_event_open(2), struct perf_event_header)
 abbrev pub size_field : ℕ → ℕ

@@ -1,32 +1,16 @@
 -- What a ring that an original is given makes of a world and its stage, and that processors stand as they stood.
-use Rattle.std.specs.Prelude.{◌≡◌, ◌==◌, ◌<◌, ◌≤◌, Bool, true, false, List, [], ◌∷◌, ◌++◌, length, Some, None, if◌then◌else◌}
-use Rattle.std.specs.List.{list_any}
+use Rattle.std.specs.{Prelude.{◌≡◌, ◌==◌, ◌<◌, ◌≤◌, Bool, true, false, List, [], ◌∷◌, ◌++◌, length, Some, None, if◌then◌else◌}, List.{list_any}}
 use Rattle.std.proofs.Common.{arith, refl, sym, ap, subst, ◌∙◌}
-use Rattle.perf_base.specs.declared.numbers.CpuNo.{CpuNo}
-use Rattle.perf_base.specs.declared.numbers.EventNo.{EventNo}
-use Rattle.perf_base.specs.declared.numbers.Key.{Key}
-use Rattle.perf_base.specs.declared.numbers.RingNo.{RingNo}
-use Rattle.stage_spec.specs.Hardware.{Hardware}
-use Rattle.stage_spec.specs.Mapping.{mapped_to, map_refusal, output_to, ring_of, set_ring}
-use Rattle.stage_spec.specs.Stage.{Stage}
-use Rattle.stage_laws.specs.Narrowing.{has_context}
-use Rattle.stage_laws.specs.OneByOne.{change_one}
-use Rattle.stage_laws.specs.Standings.{briefs}
-use Rattle.stage_laws.proofs.OneByOne.{ring-one}
+use Rattle.perf_base.specs.declared.numbers.{CpuNo.{CpuNo}, EventNo.{EventNo}, Key.{Key}, RingNo.{RingNo}}
+use Rattle.stage_spec.specs.{Hardware.{Hardware}, Mapping.{mapped_to, map_refusal, output_to, ring_of, set_ring}, Stage.{Stage}}
+use Rattle.stage_laws.{specs.{Narrowing.{has_context}, OneByOne.{change_one}, Standings.{briefs}}, proofs.OneByOne.{ring-one}}
 use Rattle.stage_laws.proofs.Untouched.{map-briefs, output-briefs}
-use Rattle.world_spec.specs.Value.{World, Entry, is_live, entry_at, instance_at, standing_at, seats_at, family_of}
-use Rattle.world_spec.specs.StageOf.{stage_of}
-use Rattle.world_spec.specs.Kept.{leads, post_at}
-use Rattle.world_spec.specs.Changes.{remember}
+use Rattle.world_spec.specs.{Value.{World, Entry, is_live, entry_at, instance_at, standing_at, seats_at, family_of}, StageOf.{stage_of}}
+use Rattle.world_spec.{specs.{Kept.{leads, post_at}, Changes.{remember}, Laws.{remembered}, Rescheduled.{IsUntouched}}, proofs.Listings.{is-numbered}}
+use Rattle.world_spec.proofs.{Standing.{left-untouched}, Tables.{entry-here, entry-there, live-written, posts-same}}
 use Rattle.world_spec.specs.Changes as change
-use Rattle.world_spec.specs.Laws.{remembered}
-use Rattle.world_spec.specs.Rescheduled.{IsUntouched}
-use Rattle.world_spec.proofs.Listings.{is-numbered}
-use Rattle.world_spec.proofs.Standing.{left-untouched}
-use Rattle.world_spec.proofs.Tables.{entry-here, entry-there, live-written, posts-same}
 use Rattle.perf_world.specs.Seen.{IsWorld}
-use Rattle.ring_table.specs.Rings.{HasRing, with_ring}
-use Rattle.ring_table.proofs.Refusing.{not-busy, original-named}
+use Rattle.ring_table.{specs.Rings.{HasRing, with_ring}, proofs.Refusing.{not-busy, original-named}}
 
 -- a ring that is new is remembered last
 remembers : (ring : RingNo) (mapped : List RingNo) → list_any (λ r. r.0 == ring.0) mapped ≡ false → remember ring mapped ≡ mapped ++ ring ∷ []

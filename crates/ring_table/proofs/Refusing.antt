@@ -1,24 +1,13 @@
 -- For what a mapping and a redirection are refused, by the keys of a world.
-use Rattle.std.specs.Prelude.{◌≡◌, ◌==◌, Bool, true, false, not, ◌&&◌, [], ◌∷◌, Option, Some, None, is_some, is_none, option_map}
-use Rattle.std.specs.List.{list_any}
-use Rattle.std.proofs.Common.{arith, refl, ap, ◌∙◌}
-use Rattle.std.proofs.lemmas.Bool.Decides.{nat_tests}
-use Rattle.perf_base.specs.declared.numbers.EventNo.{EventNo}
-use Rattle.perf_base.specs.declared.numbers.Key.{Key}
-use Rattle.perf_base.specs.declared.numbers.RingNo.{RingNo}
-use Rattle.perf_base.specs.declared.reasons.Reason.{Reason}
+use Rattle.std.specs.{Prelude.{◌≡◌, ◌==◌, Bool, true, false, not, ◌&&◌, [], ◌∷◌, Option, Some, None, is_some, is_none, option_map}, List.{list_any}}
+use Rattle.std.proofs.{Common.{arith, refl, ap, ◌∙◌}, lemmas.Bool.Decides.{nat_tests}}
+use Rattle.perf_base.specs.declared.{numbers.{EventNo.{EventNo}, Key.{Key}, RingNo.{RingNo}}, reasons.Reason.{Reason}}
 use Rattle.perf_base.specs.declared.reasons.Reason.TheVariants as reason
-use Rattle.stage_spec.specs.declared.instance.Instance.{Instance}
-use Rattle.stage_spec.specs.Flags.{is_inherited}
-use Rattle.stage_spec.specs.Mapping.{map_refusal, output_refusal, ring_of, ring_of_instance}
-use Rattle.stage_spec.specs.Places.{is_any_cpu, is_same_cpu, is_same_task}
-use Rattle.stage_spec.specs.Refusals.{first_of, holds_of, holds_of_both}
-use Rattle.stage_spec.specs.Stage.{is_open, original_of}
-use Rattle.stage_spec.proofs.Each.{Each}
+use Rattle.stage_spec.specs.{declared.instance.Instance.{Instance}, Flags.{is_inherited}}
+use Rattle.stage_spec.specs.{Mapping.{map_refusal, output_refusal, ring_of, ring_of_instance}, Places.{is_any_cpu, is_same_cpu, is_same_task}}
+use Rattle.stage_spec.{specs.{Refusals.{first_of, holds_of, holds_of_both}, Stage.{is_open, original_of}}, proofs.Each.{Each}}
 use Rattle.stage_laws.proofs.Accepted.{no_reason}
-use Rattle.world_spec.specs.Value.{World, instance_at, family_of}
-use Rattle.world_spec.specs.StageOf.{stage_of}
-use Rattle.world_spec.proofs.Families.{open-is, original-is}
+use Rattle.world_spec.{specs.{Value.{World, instance_at, family_of}, StageOf.{stage_of}}, proofs.Families.{open-is, original-is}}
 use Rattle.perf_world.specs.Seen.{IsWorld}
 
 -- the first of the reasons, by the tests in their order

@@ -1,9 +1,7 @@
 -- What a ring that an event is given leaves of a world. After perf_mmap and perf_event_set_output of
 -- kernel/events/core.c; the tables are this project's own profile.
 use Rattle.std.specs.Prelude.{◌≡◌, ◌≢◌, Bool, List, Option, Some}
-use Rattle.perf_base.specs.declared.numbers.EventNo.{EventNo}
-use Rattle.perf_base.specs.declared.numbers.Key.{Key}
-use Rattle.perf_base.specs.declared.numbers.RingNo.{RingNo}
+use Rattle.perf_base.specs.declared.numbers.{EventNo.{EventNo}, Key.{Key}, RingNo.{RingNo}}
 use Rattle.world_spec.specs.Value.{World, Entry, is_live, entry_at, family_of}
 
 -- an entry whose instance has another ring, by a mapping of its own or by another's

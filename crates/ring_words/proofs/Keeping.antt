@@ -1,15 +1,10 @@
 -- How the rule goes from one state to the next, where one end's view changes.
 use Rattle.std.proofs.Common.{◌≡◌, ◌≢◌, ℕ, ◌≤◌, true, List, set, sym, ap, ◌∙◌, subst, ⊎_elim, arith}
-use mathlib.Core.Option.{some}
-use mathlib.Core.List.{IsPrefix}
+use mathlib.Core.{Option.{some}, List.{IsPrefix}}
 use lib.ListN.{get_elem?}
-use Rattle.atomic_table.specs.Table.{State}
-use Rattle.atomic_table.proofs.Lists.{at_set}
-use Rattle.ring_words.specs.declared.view.View.{View}
-use Rattle.ring_words.specs.Views.{IsProducer, IsConsumer}
-use Rattle.ring_words.specs.Rule.{Tied, NoteHolds, Kept}
-use Rattle.ring_words.proofs.Alone.{it_alone, it_stays, others_stay}
-use Rattle.ring_words.proofs.Prefixes.{prefix_through}
+use Rattle.atomic_table.{specs.Table.{State}, proofs.Lists.{at_set}}
+use Rattle.ring_words.specs.{declared.view.View.{View}, Views.{IsProducer, IsConsumer}, Rule.{Tied, NoteHolds, Kept}}
+use Rattle.ring_words.proofs.{Alone.{it_alone, it_stays, others_stay}, Prefixes.{prefix_through}}
 
 abbrev Table : Type 0
 Table = State (Unit {0}) View

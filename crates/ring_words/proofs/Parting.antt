@@ -1,21 +1,15 @@
 -- A view that is cut in two, or joined to another, keeps the rule. So does the start, and the end tells the last words.
-use Rattle.std.proofs.Common.{◌≡◌, ◌≢◌, ℕ, zero, suc, ◌+◌, ◌*◌, ◌/◌, ◌<◌, ◌≤◌, true, false, List, [], ◌∷◌, ◌++◌, length, take, filter, set, get_or, slice_index, replicate, refl, sym, ap, ◌∙◌, subst, ⊎_elim, append-nil, arith}
-use Rattle.std.proofs.lemmas.List.{set_comm, length-replicate, get_or-replicate}
-use Rattle.std.proofs.lemmas.List.Elements.{filter-append}
-use mathlib.Core.Option.{some, some-injective, some-ne-none}
-use mathlib.Core.List.{IsPrefix}
+use Rattle.std.proofs.Common.{◌≡◌, ◌≢◌, ℕ, zero, suc, ◌+◌, ◌*◌, ◌/◌, ◌<◌, ◌≤◌, true, List, [], ◌∷◌, ◌++◌, length, take, filter, set, slice_index, replicate, refl, sym, ap, ◌∙◌, subst, ⊎_elim, append-nil, arith}
+use Rattle.std.proofs.lemmas.List.{set_comm, length-replicate, get_or-replicate, Elements.{filter-append}}
+use mathlib.Core.{Option.{some, some-injective, some-ne-none}, List.{IsPrefix}}
 use lib.ListN.{get_elem?}
-use Rattle.atomic_table.specs.Table.{State, Splits, Joins, Final, Seen, opening}
-use Rattle.atomic_table.proofs.Lists.{at_set, at_snoc, set_again, set_else}
-use Rattle.ring_words.specs.declared.view.View.{View}
-use Rattle.perf_base.specs.Scripts.{IsRingSize}
-use Rattle.ring_words.specs.Ends.{cells_of, cell_of}
+use Rattle.atomic_table.{specs.Table.{State, Splits, Joins, Final, Seen, opening}, proofs.Lists.{at_set, at_snoc, set_again, set_else}}
+use Rattle.ring_words.specs.{declared.view.View.{View}, Ends.{cells_of, cell_of}}
 use Rattle.ring_words.specs.Views.{both_ends, spent, producer_of, consumer_of, note_of_producer, note_of_consumer, informed, rejoined, IsProducer, IsConsumer, IsNote}
-use Rattle.ring_words.specs.Rule.{Tied, NoteHolds, Kept}
-use Rattle.ring_words.proofs.Alone.{it_stays, it_goes, it_comes, others_stay}
-use Rattle.ring_words.proofs.Prefixes.{prefix_self, whole_nothing}
-use Rattle.ring_words.proofs.Sizes.{least_bytes}
+use Rattle.ring_words.{specs.Rule.{Tied, NoteHolds, Kept}, proofs.Alone.{it_stays, it_goes, it_comes, others_stay}}
+use Rattle.ring_words.proofs.{Prefixes.{prefix_self, whole_nothing}, Sizes.{least_bytes}}
 use Rattle.ring_words.proofs.Keeping.{after, is_producer, is_consumer, tied_producer, tied_consumer, producer_keeps, consumer_keeps}
+use Rattle.perf_base.specs.Scripts.{IsRingSize}
 
 abbrev Table : Type 0
 Table = State (Unit {0}) View

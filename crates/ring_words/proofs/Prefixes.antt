@@ -1,10 +1,7 @@
 -- Beginnings of lists, whole lists, and stops.
 use Rattle.std.proofs.Common.{◌≡◌, ℕ, zero, suc, All, ◌+◌, ◌-◌, ◌*◌, ◌/◌, ◌%◌, ◌<◌, ◌≤◌, List, [], ◌∷◌, ◌++◌, length, take, slice_index, refl, sym, ap, ◌∙◌, subst, append_assoc, append-nil, length-append, length-take-le, arith}
-use Rattle.std.proofs.lemmas.List.{take-append-le}
-use Rattle.std.proofs.lemmas.List.Elements.{All-append, All-nil}
-use Rattle.std.proofs.lemmas.List.Folds.{concat-append}
-use Rattle.std.proofs.Math.Seq.{take-append_seam, take-append-add, get_or-append_seam}
-use Rattle.std.specs.List.{concat}
+use Rattle.std.proofs.lemmas.List.{take-append-le, Elements.{All-append, All-nil}, Folds.{concat-append}}
+use Rattle.std.{proofs.Math.Seq.{take-append_seam, take-append-add, get_or-append_seam}, specs.List.{concat}}
 use mathlib.Core.List.{IsPrefix}
 use Rattle.ring_spec.specs.Whole.{size_field, IsBlock, IsWhole}
 use Rattle.ring_words.specs.Ends.{IsStop, LeadsTo}

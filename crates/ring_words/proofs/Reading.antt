@@ -1,18 +1,12 @@
 -- The consumer's steps keep the rule.
 use Rattle.std.proofs.Common.{◌≡◌, ℕ, ◌+◌, ◌*◌, ◌/◌, ◌%◌, ◌<◌, List, [], ◌∷◌, ◌++◌, length, take, set, slice_index, refl, sym, ap, ◌∙◌, subst, length-append, length-set, get_or-set_same, get_or-set_other, arith}
-use Rattle.std.proofs.lemmas.List.{set-get_or}
-use Rattle.std.proofs.Math.ListN.{get_or-append}
-use Rattle.std.proofs.Math.Seq.{take-length}
+use Rattle.std.proofs.{lemmas.List.{set-get_or}, Math.{ListN.{get_or-append}, Seq.{take-length}}}
 use mathlib.Core.List.{IsPrefix}
 use Rattle.atomic_table.specs.Table.{keeps, Allows}
-use Rattle.ring_words.specs.declared.view.View.{View}
+use Rattle.ring_words.specs.{declared.view.View.{View}, Ends.{cell_of, LeadsTo}, Views.{IsConsumer, Holder, saw_head, with_taken, all_released}}
+use Rattle.ring_words.specs.{Rule.{Tied, NoteHolds, Kept}, Steps.{LoadsHead, LoadsWord, StoresTail, ChecksTail}}
+use Rattle.ring_words.proofs.{Prefixes.{prefix_next, take-prefix, length-prefix, leads_by}, Keeping.{tied_consumer, consumer_note, consumer_keeps}}
 use Rattle.ring_spec.specs.Whole.{IsWhole}
-use Rattle.ring_words.specs.Ends.{cell_of, LeadsTo}
-use Rattle.ring_words.specs.Views.{IsConsumer, Holder, saw_head, with_taken, all_released}
-use Rattle.ring_words.specs.Rule.{Tied, NoteHolds, Kept}
-use Rattle.ring_words.specs.Steps.{LoadsHead, LoadsWord, StoresTail, ChecksTail}
-use Rattle.ring_words.proofs.Prefixes.{prefix_next, take-prefix, length-prefix, leads_by}
-use Rattle.ring_words.proofs.Keeping.{tied_consumer, consumer_note, consumer_keeps}
 
 module _ (bytes : ℕ) (words : List ℕ) (p v : View) (t : Tied bytes words p v) where
   whole_at_head : IsWhole (take (8 * length p.published / 8) p.published)

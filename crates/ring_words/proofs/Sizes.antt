@@ -1,6 +1,5 @@
 -- A ring's size in bytes and in words.
-use Rattle.std.proofs.Common.{◌≡◌, ℕ, zero, suc, ◌*◌, ◌/◌, ◌^◌, ◌≤◌, pow-suc, sym, subst, arith}
-use Rattle.std.proofs.Math.Pow.{pow_mono}
+use Rattle.std.proofs.{Common.{◌≡◌, ℕ, zero, suc, ◌*◌, ◌/◌, ◌^◌, ◌≤◌, pow-suc, sym, subst, arith}, Math.Pow.{pow_mono}}
 use Rattle.perf_base.specs.Scripts.{IsRingSize}
 use Rattle.ring_words.specs.Ends.{cells_of}
 

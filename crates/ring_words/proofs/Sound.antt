@@ -2,14 +2,12 @@
 use Rattle.std.proofs.Common.{◌≡◌, ℕ, ◌+◌, ◌-◌, ◌*◌, ◌<◌, ◌≤◌, ◌^◌, [], ◌∷◌, ◌++◌, length, length-append, subst, sym, ap, ◌∙◌, refl, arith}
 use Rattle.std.proofs.Math.Seq.{take-length}
 use Rattle.atomic_table.specs.Seated.{TableId}
-use Rattle.ring_words.specs.declared.view.View.{View}
-use Rattle.ring_spec.specs.Whole.{IsWhole}
-use Rattle.perf_base.specs.Scripts.{IsRingSize}
-use Rattle.ring_words.specs.Ends.{cells_of, Ring, LeadsTo, IsSoundProducer, IsSoundConsumer, new_producer, new_consumer}
+use Rattle.ring_words.specs.{declared.view.View.{View}, Ends.{cells_of, Ring, LeadsTo, IsSoundProducer, IsSoundConsumer, new_producer, new_consumer}}
 use Rattle.ring_words.specs.Steps.{LearnsHead}
 use Rattle.ring_words.specs.Views.{Holder, IsProducer, ring_of, both_ends, producer_of, consumer_of, producer_end, consumer_end, all_published, saw_head, with_taken, all_released, HoldsProducer, HoldsConsumer}
-use Rattle.ring_words.proofs.Prefixes.{whole_nothing, whole_both, whole_more, stop_at_start, stop_more}
-use Rattle.ring_words.proofs.Sizes.{least_bytes, bytes_of_cells}
+use Rattle.ring_words.proofs.{Prefixes.{whole_nothing, whole_both, whole_more, stop_at_start, stop_more}, Sizes.{least_bytes, bytes_of_cells}}
+use Rattle.ring_spec.specs.Whole.{IsWhole}
+use Rattle.perf_base.specs.Scripts.{IsRingSize}
 
 pub sound_published : (id : TableId) (v : View) → IsSoundProducer (producer_end id v) → IsWhole v.put → IsSoundProducer (producer_end id (all_published v))
 sound_published id v s put = record {

@@ -1,19 +1,13 @@
 -- The producer's steps keep the rule.
 use Rattle.std.proofs.Common.{◌≡◌, ◌≢◌, ℕ, ◌+◌, ◌-◌, ◌*◌, ◌/◌, ◌<◌, ◌≤◌, List, [], ◌∷◌, ◌++◌, length, take, set, slice_index, refl, sym, ap, ◌∙◌, subst, ⊎_elim, append_assoc, append-nil, length-append, length-set, get_or-set_same, get_or-set_other, eq-or-lt_of_le, arith}
-use Rattle.std.proofs.lemmas.List.{set-get_or}
-use Rattle.std.proofs.Math.ListN.{get_or-append}
-use Rattle.std.proofs.Math.Seq.{get_or-append_seam}
-use Rattle.atomic_table.specs.Table.{keeps, Allows}
-use Rattle.atomic_table.proofs.Lists.{one_turn}
-use Rattle.ring_words.specs.declared.view.View.{View}
-use Rattle.ring_spec.specs.Whole.{IsWhole}
-use Rattle.ring_words.specs.Ends.{cells_of, cell_of, IsStop}
-use Rattle.ring_words.specs.Views.{IsProducer, Holder, saw_tail, with_put, all_published}
-use Rattle.ring_words.specs.Rule.{Tied, NoteHolds, Kept}
+use Rattle.std.proofs.{lemmas.List.{set-get_or}, Math.{ListN.{get_or-append}, Seq.{get_or-append_seam}}}
+use Rattle.atomic_table.{specs.Table.{keeps, Allows}, proofs.Lists.{one_turn}}
+use Rattle.ring_words.specs.{declared.view.View.{View}, Ends.{cells_of, cell_of, IsStop}}
+use Rattle.ring_words.specs.{Views.{IsProducer, Holder, saw_tail, with_put, all_published}, Rule.{Tied, NoteHolds, Kept}}
 use Rattle.ring_words.specs.Steps.{LoadsTail, StoresWord, StoresHead}
-use Rattle.ring_words.proofs.Prefixes.{prefix_more, prefix_self, length-prefix, whole_both, whole_more}
-use Rattle.ring_words.proofs.Sizes.{least_bytes, bytes_of_cells}
+use Rattle.ring_words.proofs.{Prefixes.{prefix_more, prefix_self, length-prefix, whole_both, whole_more}, Sizes.{least_bytes, bytes_of_cells}}
 use Rattle.ring_words.proofs.Keeping.{tied_producer, producer_note, producer_keeps}
+use Rattle.ring_spec.specs.Whole.{IsWhole}
 
 module _ (bytes : ℕ) (words : List ℕ) (v c : View) (t : Tied bytes words v c) where
   released_within : c.released ≤ length v.published

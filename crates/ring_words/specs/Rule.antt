@@ -1,14 +1,12 @@
 -- The rule of a ring, which holds between any two steps. Word 0 of the table is the tail, word 1 the head, and the
 -- others are the data words.
 use Rattle.std.specs.Prelude.{◌≡◌, ℕ, ◌+◌, ◌-◌, ◌*◌, ◌/◌, ◌<◌, ◌≤◌, List, [], ◌∷◌, ◌++◌, length, take, filter, slice_index}
-use mathlib.Core.Option.{some}
-use mathlib.Core.List.{IsPrefix}
+use mathlib.Core.{Option.{some}, List.{IsPrefix}}
 use lib.ListN.{get_elem?}
 use Rattle.atomic_table.specs.Table.{State}
 use Rattle.perf_base.specs.Scripts.{IsRingSize}
 use Rattle.ring_spec.specs.Whole.{IsWhole}
-use Rattle.ring_words.specs.Ends.{tail_word, head_word, cells_of, cell_of}
-use Rattle.ring_words.specs.declared.view.View.{View}
+use Rattle.ring_words.specs.{Ends.{tail_word, head_word, cells_of, cell_of}, declared.view.View.{View}}
 
 -- what ties the table's words to what the producer p and the consumer c know (kernel/events/ring_buffer.c; whole words
 -- are this project's own profile)

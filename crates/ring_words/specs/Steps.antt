@@ -2,8 +2,7 @@
 -- learns. The steps are those of kernel/events/ring_buffer.c.
 use Rattle.std.specs.Prelude.{◌≡◌, ◌≢◌, ◌↔◌, ℕ, ◌+◌, ◌*◌, ◌≤◌, [], ◌∷◌, ◌++◌, length}
 use mathlib.Core.List.{IsPrefix}
-use Rattle.ring_words.specs.Ends.{tail_word, head_word, cell_of, IsStop, LeadsTo}
-use Rattle.ring_words.specs.declared.view.View.{View}
+use Rattle.ring_words.specs.{Ends.{tail_word, head_word, cell_of, IsStop, LeadsTo}, declared.view.View.{View}}
 use Rattle.ring_words.specs.Views.{Holder, producer_of, consumer_of, informed, rejoined, without_note, saw_tail, with_put, all_published, saw_head, with_taken, all_released}
 
 -- what the producer learns by a tail: it does not fall, it is a stop in the words published, and the note was true

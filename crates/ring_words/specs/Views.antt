@@ -1,10 +1,8 @@
 -- The views of a ring's seats: how they begin, part, travel and join.
 use Rattle.std.specs.Prelude.{◌≡◌, ℕ, ◌+◌, ◌-◌, ◌*◌, ◌<◌, ◌^◌, true, false, List, [], ◌∷◌, ◌++◌, length}
-use Rattle.atomic_table.specs.Seated.{TableId}
-use Rattle.atomic_table.specs.Table.{Me}
+use Rattle.atomic_table.specs.{Seated.{TableId}, Table.{Me}}
 use Rattle.perf_base.specs.Scripts.{IsRingSize}
-use Rattle.ring_words.specs.Ends.{cells_of, Ring, ProducerEnd, ConsumerEnd, IsSoundProducer, IsSoundConsumer}
-use Rattle.ring_words.specs.declared.view.View.{View}
+use Rattle.ring_words.specs.{Ends.{cells_of, Ring, ProducerEnd, ConsumerEnd, IsSoundProducer, IsSoundConsumer}, declared.view.View.{View}}
 
 -- the one view of a new ring of this size holds both ends (this project's own profile)
 abbrev pub both_ends : ℕ → View

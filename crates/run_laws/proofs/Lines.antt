@@ -1,15 +1,10 @@
 -- How many lines an order does: looks do none, and no actor does more than it has.
 use Rattle.std.specs.Prelude.{◌≡◌, ℕ, suc, ◌+◌, ◌-◌, ◌≤◌, ◌==◌, nat_le, Bool, true, false, List, [], ◌∷◌, ◌++◌, length, sum_by, count_by, slice_index_or, cond, Option, Some, None}
-use Rattle.std.specs.List.{filter_map, cons_option}
-use Rattle.std.proofs.Common.{arith, refl, ap, ◌∙◌}
-use Rattle.std.proofs.lemmas.Bool.Decides.{nat_tests}
+use Rattle.std.{specs.List.{filter_map, cons_option}, proofs.{Common.{arith, refl, ap, ◌∙◌}, lemmas.Bool.Decides.{nat_tests}}}
 use Rattle.std.proofs.lemmas.List.Sums.{sum_by-cons}
-use Rattle.perf_base.specs.declared.numbers.RingNo.{RingNo}
-use Rattle.perf_base.specs.declared.acts.Act.{Act}
+use Rattle.perf_base.specs.{declared.{numbers.RingNo.{RingNo}, acts.Act.{Act}}, Scripts.{Scripted}}
 use Rattle.perf_base.specs.declared.acts.Act.TheVariants as act
-use Rattle.perf_base.specs.Scripts.{Scripted}
-use Rattle.stage_spec.specs.Order.{is_of_cpu, is_of_tool, IsCounted}
-use Rattle.stage_spec.specs.Replies.{lines_from}
+use Rattle.stage_spec.specs.{Order.{is_of_cpu, is_of_tool, IsCounted}, Replies.{lines_from}}
 use Rattle.ring_laws.proofs.Reached.{count-both, count-one}
 use Rattle.run_laws.specs.Growing.{AreLooks, is_look, is_cpu_act, does_line, LooksDoNothingLaw, CompleteLooksLaw, NoLineLaw}
 use Rattle.run_laws.specs.Counted.{CountedCpusLaw, CountedLinesLaw, LengthsLaw}

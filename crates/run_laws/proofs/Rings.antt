@@ -1,6 +1,5 @@
 -- A script has few rings: their numbers rise and are small.
-use Rattle.std.specs.Prelude.{ℕ, zero, suc, ◌<◌, ◌≤◌, AllPairs, List, [], ◌∷◌, length}
-use Rattle.std.proofs.Common.{arith, get_or}
+use Rattle.std.{specs.Prelude.{ℕ, zero, suc, ◌<◌, ◌≤◌, AllPairs, List, [], ◌∷◌, length}, proofs.Common.{arith, get_or}}
 use Rattle.perf_base.specs.declared.numbers.RingNo.{RingNo}
 use Rattle.run_laws.specs.Counted.{FewRingsLaw}
 

@@ -1,12 +1,8 @@
 -- A run-shaped order grows by looks and by lines.
 use Rattle.std.specs.Prelude.{◌≡◌, ℕ, ◌+◌, ◌<◌, ◌≤◌, ◌==◌, false, List, [], ◌∷◌, ◌++◌, length, drop, fold}
-use Rattle.std.proofs.Common.{arith, refl, sym, ap, subst, ◌∙◌, append_assoc, append-nil, get_or}
-use Rattle.std.proofs.lemmas.Bool.Decides.{nat_tests}
-use Rattle.std.proofs.lemmas.List.{length-append}
-use Rattle.std.proofs.lemmas.List.Sums.{fold-append}
-use Rattle.perf_base.specs.declared.numbers.CpuNo.{CpuNo}
-use Rattle.perf_base.specs.declared.numbers.RingNo.{RingNo}
-use Rattle.perf_base.specs.declared.acts.Act.{Act}
+use Rattle.std.proofs.{Common.{arith, refl, sym, ap, subst, ◌∙◌, append_assoc, append-nil, get_or}, lemmas.Bool.Decides.{nat_tests}}
+use Rattle.std.proofs.lemmas.List.{length-append, Sums.{fold-append}}
+use Rattle.perf_base.specs.declared.{numbers.{CpuNo.{CpuNo}, RingNo.{RingNo}}, acts.Act.{Act}}
 use Rattle.perf_base.specs.declared.acts.Act.TheVariants as act
 use Rattle.stage_spec.specs.Order.{seen_at, last_seen}
 use Rattle.report_spec.specs.Answers.{StandsBefore, RisesTo, IsRunLook, IsRunAct, IsRunShaped}

@@ -1,18 +1,11 @@
 -- How many records a reader took, and that a ring whose tail was seen last at 0 was never looked at.
 use Rattle.std.specs.Prelude.{◌≡◌, ℕ, zero, suc, ◌+◌, ◌*◌, ◌<◌, ◌≤◌, ◌==◌, nat_le, Bool, true, false, All, List, [], ◌∷◌, ◌++◌, length, take, if◌then◌else◌}
-use Rattle.std.proofs.Common.{arith, refl, sym, ap, ◌∙◌, append_assoc, append-nil}
-use Rattle.std.proofs.lemmas.Bool.{leb-true}
-use Rattle.std.proofs.lemmas.Bool.Decides.{nat_tests}
-use Rattle.std.proofs.lemmas.List.{length-append}
-use Rattle.std.proofs.lemmas.List.Elements.{All-cons, All-nil}
-use Rattle.std.proofs.lemmas.List.Sums.{fold-append}
-use Rattle.perf_base.specs.declared.numbers.RingNo.{RingNo}
-use Rattle.perf_base.specs.declared.acts.Act.{Act}
+use Rattle.std.proofs.{Common.{arith, refl, sym, ap, ◌∙◌, append_assoc, append-nil}, lemmas.Bool.{leb-true, Decides.{nat_tests}}}
+use Rattle.std.proofs.lemmas.List.{length-append, Elements.{All-cons, All-nil}, Sums.{fold-append}}
+use Rattle.perf_base.specs.declared.{numbers.RingNo.{RingNo}, acts.Act.{Act}}
 use Rattle.perf_base.specs.declared.acts.Act.TheVariants as act
 use Rattle.stage_spec.specs.Order.{seen_at, last_seen}
-use Rattle.ring_spec.specs.Records.{Record, Sample, Lost, record_words, record_size, words_of}
-use Rattle.ring_spec.specs.Account.{Account}
-use Rattle.ring_spec.specs.Rings.{account_in}
+use Rattle.ring_spec.specs.{Records.{Record, Sample, Lost, record_words, record_size, words_of}, Account.{Account}, Rings.{account_in}}
 use Rattle.report_spec.specs.Answers.{IsRunLook, IsRunShaped, taken_from, IsNoLook}
 use Rattle.run_laws.specs.Taken.{FewTakenLaw, FewTakenOfLaw, NeverSeenLaw}
 

@@ -1,13 +1,11 @@
 -- Small orders and records for which the laws can be seen to say what is meant.
-use Rattle.std.specs.Prelude.{◌≡◌, ℕ, [], ◌∷◌}
-use Rattle.std.proofs.Common.{arith, refl}
-use Rattle.perf_base.specs.declared.lines.Mode.TheVariants as mode
+use Rattle.std.{specs.Prelude.{◌≡◌, ℕ, [], ◌∷◌}, proofs.Common.{arith, refl}}
 use Rattle.perf_base.specs.declared.acts.Act.{Act}
+use Rattle.perf_base.specs.declared.lines.Mode.TheVariants as mode
 use Rattle.perf_base.specs.declared.acts.Act.TheVariants as act
 use Rattle.ring_spec.specs.Records.{Record, Sample}
 use Rattle.report_spec.specs.Answers.{IsRunShaped, taken_from}
-use Rattle.run_laws.specs.Growing.{EndsWithLine}
-use Rattle.run_laws.proofs.Shapes.{shaped-none, shaped-tool, shaped-cpu}
+use Rattle.run_laws.{specs.Growing.{EndsWithLine}, proofs.Shapes.{shaped-none, shaped-tool, shaped-cpu}}
 
 abbrev tool_act : Act
 tool_act = act.Tool (record { 0 = 0 })

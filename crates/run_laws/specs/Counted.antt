@@ -1,7 +1,6 @@
 -- How many acts an order has, and how many rings a script. This project's own profile, after its limits on scripts.
 use Rattle.std.specs.Prelude.{◌≡◌, ◌+◌, ◌≤◌, List, length, count_by, sum_by}
-use Rattle.perf_base.specs.declared.acts.Act.{Act}
-use Rattle.perf_base.specs.Scripts.{Scripted, IsScript, line_count}
+use Rattle.perf_base.specs.{declared.acts.Act.{Act}, Scripts.{Scripted, IsScript, line_count}}
 use Rattle.stage_spec.specs.Order.{IsCounted}
 use Rattle.run_laws.specs.Growing.{is_look, is_cpu_act, does_line}
 

@@ -1,14 +1,9 @@
 -- How the order that a run leaves grows, by one act and the looks at tails that stand before it. This project's own
 -- profile.
 use Rattle.std.specs.Prelude.{◌≡◌, ℕ, ◌+◌, ◌<◌, ◌≤◌, Bool, true, false, List, [], ◌∷◌, ◌++◌}
-use Rattle.perf_base.specs.declared.numbers.CpuNo.{CpuNo}
-use Rattle.perf_base.specs.declared.numbers.RingNo.{RingNo}
-use Rattle.perf_base.specs.declared.numbers.ToolNo.{ToolNo}
-use Rattle.perf_base.specs.declared.acts.Act.{Act}
+use Rattle.perf_base.specs.{declared.{numbers.{CpuNo.{CpuNo}, RingNo.{RingNo}, ToolNo.{ToolNo}}, acts.Act.{Act}}, Scripts.{Scripted}}
 use Rattle.perf_base.specs.declared.acts.Act.TheVariants as act
-use Rattle.perf_base.specs.Scripts.{Scripted}
-use Rattle.stage_spec.specs.Order.{last_seen, done_by_cpu, done_by_tool, IsComplete}
-use Rattle.stage_spec.specs.Replies.{lines_from}
+use Rattle.stage_spec.specs.{Order.{last_seen, done_by_cpu, done_by_tool, IsComplete}, Replies.{lines_from}}
 use Rattle.report_spec.specs.Answers.{IsRunShaped}
 
 -- Looks at tails that one act of a run makes after some acts: by rising rings from a number on, each at a place above

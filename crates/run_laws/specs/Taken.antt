@@ -1,11 +1,8 @@
 -- How many records the reader of a ring took, and which rings were never looked at. This project's own profile.
 use Rattle.std.specs.Prelude.{◌≡◌, ℕ, ◌*◌, ◌≤◌, All, List, length, take}
-use Rattle.perf_base.specs.declared.numbers.RingNo.{RingNo}
-use Rattle.perf_base.specs.declared.acts.Act.{Act}
-use Rattle.perf_base.specs.Scripts.{Scripted}
+use Rattle.perf_base.specs.{declared.{numbers.RingNo.{RingNo}, acts.Act.{Act}}, Scripts.{Scripted}}
 use Rattle.stage_spec.specs.Order.{last_seen}
-use Rattle.ring_spec.specs.Records.{Record, words_of}
-use Rattle.ring_spec.specs.Rings.{account_in}
+use Rattle.ring_spec.specs.{Records.{Record, words_of}, Rings.{account_in}}
 use Rattle.report_spec.specs.Answers.{IsRunShaped, taken_from, taken_of, IsNoLook}
 
 -- Where a tail stands at most behind the first n records, the reader took at most n.

@@ -2,8 +2,7 @@
 use Rattle.std.proofs.Common.{◌≡◌, ◌<◌, ◌^◌, ℕ, ◌+◌, ◌*◌, ◌/◌, ◌%◌, List, [], ◌∷◌, ◌++◌, take, drop, arith}
 use borrow.Rule.Slice.PartMut.{put_mid}
 use Rattle.byteorder.specs.Endian.{little_number, little_bytes}
-use Rattle.sample_records.specs.Headers.{word_of}
-use Rattle.sample_records.specs.HeaderLaw.{HeaderLaw, HeaderWordLaw}
+use Rattle.sample_records.specs.{Headers.{word_of}, HeaderLaw.{HeaderLaw, HeaderWordLaw}}
 
 -- the number in the bytes of the three
 bytes_sum : (type misc size : ℕ) → type < 2 ^ 32 → misc < 2 ^ 16 → size < 2 ^ 16

@@ -1,6 +1,5 @@
 -- Lists in several parts.
-use Rattle.std.proofs.Common.{◌≡◌, ℕ, List, [], ◌∷◌, ◌++◌, length, refl, ap, ◌∙◌, arith, append_assoc}
-use Rattle.std.proofs.lemmas.List.{append-nil}
+use Rattle.std.proofs.{Common.{◌≡◌, ℕ, List, [], ◌∷◌, ◌++◌, length, refl, ap, ◌∙◌, arith, append_assoc}, lemmas.List.{append-nil}}
 
 -- what stands after the first part has parts of its own
 pub next_part : (xs part rest more : List ℕ) → xs ≡ part ++ rest → rest ≡ more → xs ≡ part ++ more

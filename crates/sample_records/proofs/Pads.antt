@@ -1,13 +1,9 @@
 -- Where the word of CPU stands, and whether it has a high half.
 use Rattle.std.proofs.Common.{◌≡◌, ℕ, suc, ◌+◌, ◌^◌, ◌<◌, ◌≤◌, ◌==◌, nat_le, bit_and, Bool, true, false, not, ◌&&◌, List, [], ◌∷◌, ◌++◌, length, slice_index, MatchResult, Result, Ok, Err, Some, None, if◌then◌else◌, refl, sym, ap, ◌∙◌, arith, zero-add}
-use Rattle.ring_spec.specs.Records.{field}
-use Rattle.ring_spec.specs.declared.fields.Fields.{Fields}
-use Rattle.sample_records.specs.declared.fault.RecordFault.{RecordFault}
-use Rattle.sample_records.specs.declared.fault.RecordFault.TheVariants.{BadPad}
-use Rattle.sample_records.specs.declared.asking.FieldWords.{FieldWords}
+use Rattle.ring_spec.specs.{Records.{field}, declared.fields.Fields.{Fields}}
+use Rattle.sample_records.specs.declared.{fault.RecordFault.{RecordFault, TheVariants.{BadPad}}, asking.FieldWords.{FieldWords}}
 use Rattle.sample_records.specs.Fields.{has_bit, bits_in, has_pad, words_fault, kept, before_cpu_in_body, before_cpu_in_trailer}
-use Rattle.sample_records.specs.FieldWords.{body_words, trailer_words, IsKept, fields_in}
-use Rattle.sample_records.proofs.Joining.{six_parts, eight_parts}
+use Rattle.sample_records.{specs.FieldWords.{body_words, trailer_words, IsKept, fields_in}, proofs.Joining.{six_parts, eight_parts}}
 
 -- a field is past by one word where its bit is set, and else by none
 past : (sample bit word : ℕ) (xs : List ℕ) (n : ℕ)

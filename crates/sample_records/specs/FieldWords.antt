@@ -1,10 +1,8 @@
 -- The words of fields, each still a whole word, in the order of a sample and of a trailer, after PERF_RECORD_SAMPLE
 -- and sample_id_all of perf_event_open(2).
 use Rattle.std.specs.Prelude.{◌≡◌, ℕ, ◌/◌, ◌%◌, ◌^◌, List, ◌++◌}
-use Rattle.ring_spec.specs.Records.{field}
-use Rattle.ring_spec.specs.declared.fields.Fields.{Fields}
-use Rattle.sample_records.specs.Fields.{kept}
-use Rattle.sample_records.specs.declared.asking.FieldWords.{FieldWords}
+use Rattle.ring_spec.specs.{Records.{field}, declared.fields.Fields.{Fields}}
+use Rattle.sample_records.specs.{Fields.{kept}, declared.asking.FieldWords.{FieldWords}}
 
 -- the words of a sample's fields: IDENTIFIER, IP, TID, TIME, ID, STREAM_ID, CPU, PERIOD
 abbrev pub body_words : ℕ → FieldWords → List ℕ

@@ -2,8 +2,7 @@
 -- sample_id of perf_event_open(2); that the word of the processor has a high half of 0, and is a fault where it has
 -- not, is this project's own profile.
 use Rattle.std.specs.Prelude.{◌≡◌, ℕ, ◌+◌, ◌^◌, ◌<◌, ◌==◌, Bool, not, ◌&&◌, nat_le, bit_and, List, [], ◌∷◌, length, slice_index, Option, Some, None, if◌then◌else◌}
-use Rattle.ring_spec.specs.declared.fields.Fields.{Fields}
-use Rattle.ring_spec.specs.Records.{Record, Sample, Lost, body_of, trailer_of}
+use Rattle.ring_spec.specs.{declared.fields.Fields.{Fields}, Records.{Record, Sample, Lost, body_of, trailer_of}}
 use Rattle.sample_records.specs.declared.fault.RecordFault.{RecordFault}
 use Rattle.sample_records.specs.declared.fault.RecordFault.TheVariants as fault
 

@@ -3,11 +3,9 @@
 -- perf_event_open(2); that other types, miscs and sizes are faults is this project's own profile.
 use Rattle.std.specs.Prelude.{◌≡◌, ℕ, ◌*◌, ◌%◌, ◌==◌, Bool, not, ◌&&◌, ◌||◌, nat_le, nat_lt, List, [], ◌∷◌, length, take, Option, Some, None, if◌then◌else◌}
 use Rattle.std.specs.Option.{option_or}
-use Rattle.ring_spec.specs.Whole.{size_field}
-use Rattle.ring_spec.specs.Records.{Record, record_words, IsRecord}
-use Rattle.sample_records.specs.declared.fault.RecordFault.{RecordFault}
+use Rattle.ring_spec.specs.{Whole.{size_field}, Records.{Record, record_words, IsRecord}}
+use Rattle.sample_records.specs.{declared.fault.RecordFault.{RecordFault}, Headers.{type_field, misc_field}}
 use Rattle.sample_records.specs.declared.fault.RecordFault.TheVariants as fault
-use Rattle.sample_records.specs.Headers.{type_field, misc_field}
 
 -- PERF_RECORD_LOST and PERF_RECORD_SAMPLE
 abbrev pub is_lost : ℕ → Bool

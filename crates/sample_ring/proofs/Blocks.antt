@@ -1,14 +1,9 @@
 -- Two beginnings of one list that are cut into blocks: the one of more blocks is the longer one.
 use Rattle.std.proofs.Common.{◌≡◌, ℕ, zero, ◌+◌, ◌*◌, ◌<◌, ◌≤◌, List, [], ◌∷◌, ◌++◌, All, length, refl, sym, ap, ◌∙◌, subst, append_assoc, length-append, lt_of_not-le, arith}
-use Rattle.std.proofs.Math.Decide.{dec_le}
-use Rattle.std.proofs.Math.Logic.{dite}
-use Rattle.std.proofs.lemmas.List.Elements.{All-tail}
-use Rattle.std.specs.List.{concat}
+use Rattle.std.{proofs.{Math.{Decide.{dec_le}, Logic.{dite}}, lemmas.List.Elements.{All-tail}}, specs.List.{concat}}
 use mathlib.Core.List.{IsPrefix}
-use Rattle.ring_spec.specs.Whole.{size_field, IsBlock, IsWhole}
-use Rattle.ring_spec.proofs.Cutting.{back}
-use Rattle.ring_words.specs.Ends.{LeadsTo}
-use Rattle.ring_words.proofs.Cuts.{next_begins}
+use Rattle.ring_spec.{specs.Whole.{size_field, IsBlock, IsWhole}, proofs.Cutting.{back}}
+use Rattle.ring_words.{specs.Ends.{LeadsTo}, proofs.Cuts.{next_begins}}
 use Rattle.sample_ring.specs.InEnds.{AreRecords}
 
 -- no block is without words

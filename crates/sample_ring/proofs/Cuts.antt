@@ -1,23 +1,12 @@
 -- The records that a reader took are the first of those written.
 use Rattle.std.proofs.Common.{◌≡◌, ◌↔◌, ◌*◌, ◌/◌, subst, ℕ, zero, List, [], ◌∷◌, ◌++◌, All, length, length-take-le, map, take, drop, sum, refl, sym, ap, ◌∙◌, append_assoc, arith}
-use Rattle.std.proofs.lemmas.List.Concat.{flat_map-append, flat_map-cons}
-use Rattle.std.proofs.lemmas.List.{take-append-drop, take-map}
-use Rattle.std.proofs.lemmas.List.Sums.{sum-map}
-use Rattle.std.proofs.lemmas.List.Elements.{All-tail, All-take}
-use Rattle.std.proofs.Math.Seq.{take-append_seam}
-use Rattle.std.specs.List.{concat}
+use Rattle.std.proofs.lemmas.List.{take-append-drop, take-map, Concat.{flat_map-append, flat_map-cons}, Sums.{sum-map}, Elements.{All-tail, All-take}}
+use Rattle.std.{proofs.Math.Seq.{take-append_seam}, specs.List.{concat}}
 use mathlib.Core.List.{IsPrefix}
-use Rattle.ring_spec.specs.Whole.{size_field, IsBlock, IsWhole}
-use Rattle.ring_spec.specs.Records.{Record, IsRecord, record_words, words_of}
-use Rattle.ring_spec.proofs.Cutting.{back, block-of, whole_law}
-use Rattle.ring_words.proofs.Prefixes.{stop_more}
-use Rattle.sample_ring.proofs.Marks.{stop_at_end}
-use Rattle.sample_ring.proofs.Sending.{size-words}
-use Rattle.ring_spec.specs.Account.{Account}
-use Rattle.ring_spec.specs.Records.{EndsAtRecord, record_size}
-use Rattle.ring_spec.proofs.Sizes.{prefix_law}
-use Rattle.ring_words.specs.Ends.{IsStop}
-use Rattle.sample_ring.specs.OutEnds.{OutEnd, HasAccount, EndsRecord}
+use Rattle.ring_spec.specs.{Whole.{size_field, IsBlock, IsWhole}, Records.{Record, IsRecord, record_words, words_of, EndsAtRecord, record_size}}
+use Rattle.ring_spec.{specs.Account.{Account}, proofs.{Cutting.{back, block-of, whole_law}, Sizes.{prefix_law}}}
+use Rattle.ring_words.{proofs.Prefixes.{stop_more}, specs.Ends.{IsStop}}
+use Rattle.sample_ring.{proofs.{Marks.{stop_at_end}, Sending.{size-words}}, specs.OutEnds.{OutEnd, HasAccount, EndsRecord}}
 use Rattle.sample_ring.specs.InEnds.{InEnd, kept_words, IsSoundIn}
 
 record SameBlock (a b us vs : List ℕ) : Type 0 where

@@ -1,21 +1,13 @@
 -- A new end that sends keeps what its fields are to keep.
 use Rattle.std.proofs.Common.{map, inl, inr, ap, ◌≡◌, ℕ, ◌*◌, ◌/◌, ◌<◌, ◌≤◌, List, [], length, replicate, refl, sym, ◌∙◌, subst, arith}
-use Rattle.std.proofs.lemmas.Option.{slice_get-map, slice_get_cases}
-use Rattle.std.specs.Option.{option_map}
-use Rattle.std.specs.Prelude.{slice_get, Option, Some}
-use Rattle.perf_base.specs.declared.numbers.RingNo.{RingNo}
-use Rattle.sample_ring.specs.OutEnds.{OutEnd, new_out}
-use Rattle.sample_ring.specs.InEnds.{InEnd, new_in}
-use Rattle.sample_ring.specs.RingLists.{RingList, OutList, InList, AreNew, HasRing, HasReader, ring_index}
-use Rattle.std.proofs.Math.Pow.{pow_mono}
-use Rattle.std.proofs.lemmas.List.{length-map, length-replicate, get_or-replicate}
-use Rattle.std.proofs.lemmas.List.Elements.{All-nil}
-use Rattle.perf_base.specs.Scripts.{IsRingSize}
+use Rattle.std.proofs.lemmas.{Option.{slice_get-map, slice_get_cases}, List.{length-map, length-replicate, get_or-replicate, Elements.{All-nil}}}
+use Rattle.std.{proofs.Math.Pow.{pow_mono}, specs.{Option.{option_map}, Prelude.{slice_get, Option, Some}}}
+use Rattle.perf_base.specs.{declared.numbers.RingNo.{RingNo}, Scripts.{IsRingSize}}
+use Rattle.sample_ring.specs.{OutEnds.{OutEnd, new_out}, InEnds.{InEnd, new_in}}
+use Rattle.sample_ring.specs.{RingLists.{RingList, OutList, InList, AreNew, HasRing, HasReader, ring_index}, Outs.{mark_of, AreMarks, HoldsOut}}
 use Rattle.ring_spec.specs.Records.{IsRecord}
-use Rattle.ring_words.specs.Ends.{Ring, ProducerEnd, new_producer, IsStop, IsSoundProducer}
-use Rattle.ring_words.proofs.Prefixes.{whole_nothing, stop_at_start}
+use Rattle.ring_words.{specs.Ends.{Ring, ProducerEnd, new_producer, IsStop, IsSoundProducer}, proofs.Prefixes.{whole_nothing, stop_at_start}}
 use Rattle.ring_words.proofs.Sizes.{least_bytes, bytes_of_cells}
-use Rattle.sample_ring.specs.Outs.{mark_of, AreMarks, HoldsOut}
 
 most_bytes : (bytes : ℕ) → IsRingSize bytes → bytes ≤ 65536
 most_bytes bytes size = let P : ℕ → Type 0 = λ n. n ≤ 65536 in subst P (sym size.3) (pow_mono size.2)

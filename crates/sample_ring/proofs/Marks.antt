@@ -1,16 +1,10 @@
 -- The marks of the ends of records: one more record is marked, and one more look keeps them.
 use Rattle.std.proofs.Common.{◌≡◌, ◌≢◌, ◌↔◌, ℕ, suc, ◌+◌, ◌-◌, ◌*◌, ◌/◌, ◌<◌, ◌≤◌, List, [], ◌∷◌, ◌++◌, length, take, slice_index, set, sym, ap, ◌∙◌, subst, append_assoc, length-append, length-set, length-take-le, get_or-set_same, get_or-set_other, lt_of_not-le, arith}
-use Rattle.std.proofs.Math.Decide.{dec_le, ℕ_discrete}
-use Rattle.std.proofs.Math.Logic.{dite}
-use Rattle.std.proofs.Math.Seq.{take-append-add}
-use Rattle.std.proofs.lemmas.List.{take_all, take-append-le}
+use Rattle.std.proofs.{Math.{Decide.{dec_le, ℕ_discrete}, Logic.{dite}, Seq.{take-append-add}}, lemmas.List.{take_all, take-append-le}}
 use Rattle.atomic_table.proofs.Lists.{one_turn}
-use Rattle.ring_spec.specs.Whole.{IsBlock, IsWhole}
-use Rattle.ring_spec.specs.Records.{Record, IsRecord, record_words, record_size}
-use Rattle.ring_spec.proofs.Cutting.{block-of}
+use Rattle.ring_spec.{specs.{Whole.{IsBlock, IsWhole}, Records.{Record, IsRecord, record_words, record_size}}, proofs.Cutting.{block-of}}
 use Rattle.ring_words.specs.Ends.{ProducerEnd, head_place, room_of, IsStop, LeadsTo, BeginsBlock, IsSoundProducer}
-use Rattle.ring_words.proofs.Prefixes.{whole_both, whole_one, stop_more}
-use Rattle.ring_words.proofs.Cuts.{next_begins}
+use Rattle.ring_words.proofs.{Prefixes.{whole_both, whole_one, stop_more}, Cuts.{next_begins}}
 use Rattle.sample_ring.specs.Outs.{mark_of, AreMarks}
 
 -- a stop behind whole words and within one block more is the end of that block

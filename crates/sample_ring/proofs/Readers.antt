@@ -1,16 +1,11 @@
 -- What a reader has whose words are the first of those published, and whose store has room for all of these.
 use Rattle.std.proofs.Common.{◌≡◌, ℕ, ◌+◌, ◌*◌, ◌/◌, ◌<◌, ◌≤◌, List, [], ◌∷◌, ◌++◌, Option, Some, None, inl, inr, length, take, drop, length-take-le, lt_of_not-le, refl, sym, ap, ◌∙◌, subst, arith}
-use Rattle.std.proofs.Math.Decide.{dec_le}
-use Rattle.std.proofs.Math.Logic.{dite}
-use Rattle.std.proofs.lemmas.List.{take-append-drop, take_all}
+use Rattle.std.proofs.{Math.{Decide.{dec_le}, Logic.{dite}}, lemmas.List.{take-append-drop, take_all}}
 use mathlib.Core.List.{IsPrefix}
 use Rattle.ring_spec.specs.Whole.{size_field, IsWhole}
-use Rattle.ring_words.specs.Ends.{IsStop}
-use Rattle.ring_words.proofs.Prefixes.{prefix_through, take-prefix}
-use Rattle.sample_ring.specs.OutEnds.{OutEnd, IsSoundOut}
-use Rattle.sample_ring.specs.InEnds.{InEnd, AreRecords, kept_words, IsDry, IsSoundIn, Reads, Passes}
-use Rattle.sample_ring.proofs.Takes.{taken_words, whole_words}
-use Rattle.sample_ring.specs.Taking.{TakesOne, with_tail}
+use Rattle.ring_words.{specs.Ends.{IsStop}, proofs.Prefixes.{prefix_through, take-prefix}}
+use Rattle.sample_ring.specs.{OutEnds.{OutEnd, IsSoundOut}, InEnds.{InEnd, AreRecords, kept_words, IsDry, IsSoundIn, Reads, Passes}}
+use Rattle.sample_ring.{specs.Taking.{TakesOne, with_tail}, proofs.Takes.{taken_words, whole_words}}
 use Rattle.sample_ring.proofs.Blocks.{records_more, within_whole, begins_within}
 
 pub record Follows (i : InEnd) (published : List ℕ) : Type 0 where

@@ -1,20 +1,12 @@
 -- What a send leaves: words of records behind those published, and one more send in the account.
 use Rattle.std.proofs.Common.{◌≡◌, ℕ, zero, suc, ◌+◌, ◌*◌, ◌<◌, ◌≤◌, Bool, true, false, List, [], ◌∷◌, ◌++◌, All, length, take, drop, sum_by, refl, sym, ap, ◌∙◌, subst, append-nil, length-append, arith}
-use Rattle.std.proofs.lemmas.List.Concat.{flat_map-cons, flat_map-append}
-use Rattle.std.proofs.lemmas.List.Elements.{All-append, All-cons, All-nil}
-use Rattle.std.proofs.lemmas.List.Sums.{sum_by-cons, sum_by-append}
-use Rattle.std.proofs.lemmas.Bool.{le-leb, leb-false, leb-true, lt-leb}
-use Rattle.std.proofs.Math.Seq.{take-append_seam}
-use Rattle.ring_spec.specs.Whole.{IsWhole}
-use Rattle.ring_spec.specs.Records.{Record, Lost, IsRecord, record_words, record_size, words_of}
-use Rattle.ring_spec.specs.Sending.{SentSample}
-use Rattle.ring_spec.specs.Account.{Account, sample_of, told_before, send}
+use Rattle.std.proofs.lemmas.List.{Concat.{flat_map-cons, flat_map-append}, Elements.{All-append, All-cons, All-nil}}
+use Rattle.std.proofs.{lemmas.{List.Sums.{sum_by-cons, sum_by-append}, Bool.{le-leb, leb-false, leb-true, lt-leb}}, Math.Seq.{take-append_seam}}
+use Rattle.ring_spec.specs.{Whole.{IsWhole}, Records.{Record, Lost, IsRecord, record_words, record_size, words_of}, Sending.{SentSample}}
+use Rattle.ring_spec.{specs.Account.{Account, sample_of, told_before, send}, proofs.Cutting.{whole_law}}
 use Rattle.ring_spec.specs.Account as account
-use Rattle.ring_spec.proofs.Cutting.{whole_law}
 use Rattle.ring_words.specs.Ends.{ProducerEnd, head_place, room_of, IsSoundProducer}
-use Rattle.sample_ring.proofs.Marks.{marks_later}
-use Rattle.sample_ring.specs.declared.sent.RingNumbers.{RingNumbers}
-use Rattle.sample_ring.specs.OutEnds.{OutEnd, HasAccount, AreOfRecords}
+use Rattle.sample_ring.{proofs.Marks.{marks_later}, specs.{declared.sent.RingNumbers.{RingNumbers}, OutEnds.{OutEnd, HasAccount, AreOfRecords}}}
 use Rattle.sample_ring.specs.Outs.{AreMarks, HoldsOut}
 use Rattle.sample_ring.specs.Sends.{Request, request_of, told_where, records_for, need_for, with_published, with_records, written_to, lost_to, sent_to, fits}
 

@@ -1,7 +1,6 @@
 -- What contracts see of the end of a ring that takes records. Words are taken into a store, whose room is a number of
 -- words. After perf_event_open(2), the ring buffer's reader; the store and its room are this project's own profile.
-use Rattle.std.specs.Prelude.{◌≡◌, ℕ, ◌+◌, ◌*◌, ◌<◌, ◌≤◌, ◌⊎◌, List, [], ◌∷◌, ◌++◌, length, All, Option, Some, None}
-use Rattle.std.specs.List.{concat}
+use Rattle.std.specs.{Prelude.{◌≡◌, ℕ, ◌+◌, ◌*◌, ◌<◌, ◌≤◌, ◌⊎◌, List, [], ◌∷◌, ◌++◌, length, All, Option, Some, None}, List.{concat}}
 use mathlib.Core.List.{IsPrefix}
 use Rattle.ring_spec.specs.Whole.{size_field, IsBlock}
 use Rattle.ring_words.specs.Ends.{Ring, ConsumerEnd, new_consumer, IsSoundConsumer}

@@ -1,14 +1,7 @@
 -- What the lists of ends are once an end that they lent comes back. This project's own profile.
-use Rattle.std.specs.Prelude.{ℕ, slice_set, Option, Some}
-use Rattle.std.specs.Borrow.{Lends, MutBor, Fml}
-use Rattle.sample_ring.specs.OutEnds.{OutEnd}
-use Rattle.sample_ring.specs.InEnds.{InEnd}
-use Rattle.sample_ring.specs.RingLists.{OutList, InList, with_slot}
-use Rattle.std.specs.contracts.option.Option.{the_row as option_row}
-use Rattle.sample_ring.specs.contracts.sender.Out.{the_row as out_row}
-use Rattle.sample_ring.specs.contracts.reader.In.{the_row as in_row}
-use Rattle.sample_ring.specs.contracts.rings.Outs.{the_row as outs_row}
-use Rattle.sample_ring.specs.contracts.rings.Ins.{the_row as ins_row}
+use Rattle.std.specs.{Prelude.{ℕ, slice_set, Option, Some}, Borrow.{Lends, MutBor, Fml}, contracts.option.Option.{the_row as option_row}}
+use Rattle.sample_ring.specs.{OutEnds.{OutEnd}, InEnds.{InEnd}, RingLists.{OutList, InList, with_slot}, contracts.sender.Out.{the_row as out_row}}
+use Rattle.sample_ring.specs.contracts.{reader.In.{the_row as in_row}, rings.{Outs.{the_row as outs_row}, Ins.{the_row as ins_row}}}
 
 -- the list with another end at a place
 abbrev pub with_out : OutList → ℕ → OutEnd → OutList

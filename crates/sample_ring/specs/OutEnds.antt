@@ -1,7 +1,6 @@
 -- What contracts see of the end of a ring that sends records, and the ring account that it has.
 use Rattle.std.specs.Prelude.{◌≡◌, ℕ, ◌≤◌, List, [], length, map, take, sum, All}
-use Rattle.ring_spec.specs.Records.{Record, IsRecord, record_size, words_of}
-use Rattle.ring_spec.specs.Account.{Account}
+use Rattle.ring_spec.specs.{Records.{Record, IsRecord, record_size, words_of}, Account.{Account}}
 use Rattle.ring_words.specs.Ends.{Ring, ProducerEnd, new_producer, IsSoundProducer}
 
 -- the end that writes the ring's words, how many records were lost, and how many of them no LOST record has stated

@@ -3,8 +3,7 @@
 use Rattle.std.specs.Prelude.{◌≡◌, ℕ, ◌*◌, ◌/◌, ◌%◌, ◌<◌, ◌≤◌, List, [], length, slice_index}
 use Rattle.ring_spec.specs.Whole.{IsWhole}
 use Rattle.ring_words.specs.Ends.{ProducerEnd, head_place, IsStop, IsSoundProducer}
-use Rattle.sample_ring.specs.declared.sent.RingNumbers.{RingNumbers}
-use Rattle.sample_ring.specs.OutEnds.{AreOfRecords}
+use Rattle.sample_ring.specs.{declared.sent.RingNumbers.{RingNumbers}, OutEnds.{AreOfRecords}}
 
 -- the cell of a place, of a given number of cells
 abbrev pub mark_of : ℕ → ℕ → ℕ

@@ -1,11 +1,9 @@
 -- What contracts see of the rings of a run, of the ends that send and of those that take: each a list by ring, with the
 -- rings' numbers beside it (this project's own profile).
-use Rattle.std.specs.Prelude.{◌≡◌, ℕ, ◌<◌, ◌==◌, List, length, map, slice_get, slice_set, Option, Some, None}
-use Rattle.std.specs.List.{position_or_len}
+use Rattle.std.specs.{Prelude.{◌≡◌, ℕ, ◌<◌, ◌==◌, List, length, map, slice_get, slice_set, Option, Some, None}, List.{position_or_len}}
 use Rattle.perf_base.specs.declared.numbers.RingNo.{RingNo}
 use Rattle.ring_words.specs.Ends.{Ring}
-use Rattle.sample_ring.specs.OutEnds.{OutEnd, new_out}
-use Rattle.sample_ring.specs.InEnds.{InEnd, new_in}
+use Rattle.sample_ring.specs.{OutEnds.{OutEnd, new_out}, InEnds.{InEnd, new_in}}
 
 pub record RingList : Type 0 where
   pub numbers : List RingNo

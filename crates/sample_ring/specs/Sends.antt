@@ -1,15 +1,10 @@
 -- What a send does to the end that sends. After __perf_output_begin of kernel/events/ring_buffer.c, where a LOST record
 -- and the record behind it fit together or are not written, too.
 use Rattle.std.specs.Prelude.{ℕ, zero, suc, ◌+◌, nat_le, Bool, true, false, List, [], ◌∷◌, ◌++◌, sum_by}
-use Rattle.ring_spec.specs.Records.{Record, Lost, record_size, words_of}
-use Rattle.ring_spec.specs.Sending.{SentSample, trailer_if}
-use Rattle.ring_spec.specs.Account.{sample_of}
+use Rattle.ring_spec.specs.{Records.{Record, Lost, record_size, words_of}, Sending.{SentSample, trailer_if}, Account.{sample_of}}
 use Rattle.ring_words.specs.Ends.{ProducerEnd, head_place, room_of}
-use Rattle.sample_records.specs.declared.fields.Trailer.{Trailer}
-use Rattle.sample_records.specs.declared.record.Record.{Record as StoredRecord}
-use Rattle.sample_records.specs.Seen.{seen}
-use Rattle.sample_ring.specs.OutEnds.{OutEnd}
-use Rattle.sample_ring.specs.declared.sent.Sent.{Sent as Answer}
+use Rattle.sample_records.specs.{declared.{fields.Trailer.{Trailer}, record.Record.{Record as StoredRecord}}, Seen.{seen}}
+use Rattle.sample_ring.specs.{OutEnds.{OutEnd}, declared.sent.Sent.{Sent as Answer}}
 use Rattle.sample_ring.specs.declared.sent.Sent.TheVariants as answer
 
 -- a record that is sent, and the id and the trailer of a LOST record before it

@@ -1,8 +1,7 @@
 -- How far a reader is, and what the end that sends knows of it, for a caller who has both ends of a ring.
 use Rattle.std.specs.Prelude.{◌≡◌, ℕ, ◌+◌, ◌*◌, ◌<◌, List, length, None}
 use mathlib.Core.List.{IsPrefix}
-use Rattle.sample_ring.specs.OutEnds.{OutEnd}
-use Rattle.sample_ring.specs.InEnds.{InEnd}
+use Rattle.sample_ring.specs.{OutEnds.{OutEnd}, InEnds.{InEnd}}
 
 -- The reader has taken, and released, just the words before a place. This project's own profile.
 pub record IsUpTo (i : InEnd) (place : ℕ) : Type 0 where

@@ -1,8 +1,6 @@
 -- A printed text is cut into its lines, and a printed line into its words.
 use Rattle.std.proofs.Common.{◌≡◌, ℕ, Bool, true, false, not, eqb, List, [], ◌∷◌, ◌++◌, refl, ap, ◌∙◌, append_assoc}
-use Rattle.std.specs.Prelude.{flat_map}
-use Rattle.std.specs.List.{list_all, join_with_byte}
-use Rattle.std.proofs.lemmas.Bool.{eq-eqb, and_parts}
+use Rattle.std.{proofs.lemmas.Bool.{eq-eqb, and_parts}, specs.{Prelude.{flat_map}, List.{list_all, join_with_byte}}}
 use Rattle.script_spec.specs.Lines.{pieces, all_but_last, last_one, lines_of, rest_of}
 
 -- the byte does not stand in the text

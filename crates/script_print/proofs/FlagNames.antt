@@ -1,12 +1,8 @@
 -- Names of flags, parted by commas.
 use Rattle.std.proofs.Common.{◌≡◌, ◌≢◌, ℕ, ◌+◌, ◌<◌, Bool, true, false, cond, eqb, List, [], ◌∷◌, ◌++◌, get_or, take, map, filter, inl, inr, refl, ap, ◌∙◌, add-one}
-use Rattle.std.specs.Int.{bit_at}
-use Rattle.std.specs.List.{join_with_byte}
-use Rattle.std.proofs.lemmas.Bool.{cases_Bool, eq-eqb, ne_eqb}
-use Rattle.std.proofs.lemmas.List.{append-nil}
+use Rattle.std.{proofs.lemmas.{Bool.{cases_Bool, eq-eqb, ne_eqb}, List.{append-nil}}, specs.{Int.{bit_at}, List.{join_with_byte}}}
 use Rattle.script_spec.specs.Forms.{flag_name, flags_text}
-use Rattle.script_print.proofs.Lists.{number_at}
-use Rattle.script_print.proofs.Loops.{IsTextFrom, behind, behind_more}
+use Rattle.script_print.proofs.{Lists.{number_at}, Loops.{IsTextFrom, behind, behind_more}}
 
 -- the seven flags
 abbrev pub all_flags : List ℕ

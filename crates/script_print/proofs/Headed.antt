@@ -1,21 +1,15 @@
 -- The processors and the tools of a printed script, each with a header and its lines.
 use Rattle.std.proofs.Common.{◌≡◌, ℕ, zero, suc, ◌+◌, ◌-◌, ◌<◌, All, List, [], ◌∷◌, ◌++◌, map, length, get_or, replicate, drop, inl, inr, refl, sym, ap, subst, ◌∙◌, arith, append_assoc}
+use Rattle.std.proofs.lemmas.{Bool.{cases_lt}, List.{append-nil, length-drop, get_or-drop, Elements.{All-nil, All-push, All-weaker}}}
 use Rattle.std.specs.Prelude.{flat_map, IsSome}
-use Rattle.std.proofs.lemmas.Bool.{cases_lt}
-use Rattle.std.proofs.lemmas.List.{append-nil, length-drop, get_or-drop}
-use Rattle.std.proofs.lemmas.List.Elements.{All-nil, All-push, All-weaker}
-use Rattle.perf_base.specs.declared.lines.CpuLine.{CpuLine}
-use Rattle.perf_base.specs.declared.lines.ToolLine.{ToolLine}
+use Rattle.perf_base.specs.declared.lines.{CpuLine.{CpuLine}, ToolLine.{ToolLine}}
 use Rattle.perf_base.specs.Scripts.{Scripted, IsScript, IsCovered, IsCpuLine, IsToolLine, line_count, IsStoredWork, IsStoredToolLine}
-use Rattle.script_spec.specs.Forms as form
-use Rattle.script_spec.specs.Forms.{Version, Form}
-use Rattle.script_spec.specs.Meaning.{last_of, processors_in, tools_in, script_of, cpu_line_of, tool_line_of}
+use Rattle.script_spec.specs.{Forms.{Version, Form}, Meaning.{last_of, processors_in, tools_in, script_of, cpu_line_of, tool_line_of}}
 use Rattle.script_spec.specs.Printing.{cpu_form, processor_forms, tool_form, tool_forms, all_processor_forms, all_tool_forms}
-use Rattle.script_spec.specs.Saying.{on_cpu, on_tool}
-use Rattle.script_spec.proofs.Snoc.{from}
+use Rattle.script_spec.{specs.Saying.{on_cpu, on_tool}, proofs.Snoc.{from}}
+use Rattle.script_spec.specs.Forms as form
 use Rattle.script_print.proofs.Lists.{all_in, fewer, last_is, partly, partly_none, partly_all, partly_next, partly_more, partly_fewer}
-use Rattle.script_print.proofs.Run.{Run, push, entry, higher, says, behind_pmus, section_run}
-use Rattle.script_print.proofs.Sections.{with_rings}
+use Rattle.script_print.proofs.{Run.{Run, push, entry, higher, says, behind_pmus, section_run}, Sections.{with_rings}}
 use Rattle.script_print.proofs.LineForms.{cpu_form_of, tool_form_of}
 
 -- ---- lines under headers

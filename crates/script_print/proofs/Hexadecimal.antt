@@ -1,8 +1,6 @@
 -- The digits of a hexadecimal number, from the last to the first.
 use Rattle.std.proofs.Common.{◌≡◌, ℕ, zero, suc, ◌+◌, ◌-◌, ◌*◌, ◌/◌, ◌%◌, ◌^◌, ◌<◌, ◌≤◌, false, eqb, List, [], ◌∷◌, length, drop, set, refl, sym, ◌∙◌, arith, add-one}
-use Rattle.std.specs.Fmt.{digits, digits_onto, digit_glyph}
-use Rattle.std.proofs.Math.Nat.{div-eq_of_lt, mod-eq_of_lt}
-use Rattle.std.proofs.lemmas.Bool.{ne_eqb}
+use Rattle.std.{proofs.{Math.Nat.{div-eq_of_lt, mod-eq_of_lt}, lemmas.Bool.{ne_eqb}}, specs.Fmt.{digits, digits_onto, digit_glyph}}
 use Rattle.script_spec.specs.Forms.{hexadecimal}
 
 -- the digits that are left to write, before those that are written

@@ -1,16 +1,10 @@
 -- The kinds of a work line, one after the other.
 use Rattle.std.proofs.Common.{◌≡◌, ℕ, zero, suc, ◌<◌, eqb, List, [], ◌∷◌, ◌++◌, length, get_or, take, drop, map, inl, inr, refl, sym, ap, ◌∙◌, arith, append_assoc}
-use Rattle.std.specs.Prelude.{codes}
-use Rattle.std.specs.List.{join_with_byte}
-use Rattle.std.proofs.lemmas.Bool.{cases_Bool}
-use Rattle.std.proofs.Math.Numerals.{one-add}
-use Rattle.std.proofs.lemmas.Grind.{flat_map-append}
-use Rattle.std.proofs.lemmas.List.{append-nil, get_or-drop}
+use Rattle.std.proofs.{lemmas.{Bool.{cases_Bool}, Grind.{flat_map-append}, List.{append-nil, get_or-drop}}, Math.Numerals.{one-add}}
+use Rattle.std.specs.{Prelude.{codes}, List.{join_with_byte}}
 use Rattle.perf_base.specs.declared.lines.KindLine.{KindLine}
-use Rattle.script_spec.specs.Forms.{hit_text}
-use Rattle.script_spec.specs.Printing.{hits_of}
-use Rattle.script_print.specs.Words.{spaced, hit_piece}
-use Rattle.script_print.proofs.Loops.{join_spaced, IsTextFrom, behind}
+use Rattle.script_spec.specs.{Forms.{hit_text}, Printing.{hits_of}}
+use Rattle.script_print.{specs.Words.{spaced, hit_piece}, proofs.Loops.{join_spaced, IsTextFrom, behind}}
 
 -- the kinds of a work line, a space before each
 abbrev pub hits_text : List KindLine → List ℕ → List ℕ

@@ -1,41 +1,28 @@
 -- Lines of processors and tools: the form that is printed of each is spelled, in range and named, and says the line.
 use Rattle.std.proofs.Common.{◌≡◌, ◌≢◌, ℕ, zero, suc, ◌-◌, ◌<◌, ◌≤◌, true, false, not, eqb, All, List, [], ◌∷◌, ◌++◌, map, length, get_or, take, drop, replicate, Option, Some, None, option_map, inl, inr, refl, sym, ap, ◌∙◌, arith, append_assoc, ◌^◌, ltb}
-use Rattle.std.specs.Prelude.{Any, AllPairs, IfSome, codes, decimal}
-use Rattle.std.specs.Str.{bytes_eq}
 use Rattle.std.proofs.lemmas.Bool.{cases_Bool, eqb-true, ne_eqb, and_from, lt-ltb, le-ltb}
 use Rattle.std.proofs.lemmas.List.{take-append-drop, length-drop, length-map, length-take, length-replicate, get_or-map, get_or-take, get_or-replicate, get_or_default, same_lists}
-use Rattle.std.proofs.lemmas.List.Elements.{All-nil, All-cons, All-head, All-tail, All-weaker}
-use Rattle.std.proofs.lemmas.List.Kept.{AllPairs-cons}
-use Rattle.std.proofs.lemmas.Option.{IfSome_then, none-some}
-use Rattle.std.proofs.lemmas.List.Sums.{list_all-from_AllPass, position_or_len_is}
-use Rattle.perf_base.specs.declared.lines.KindLine.{KindLine}
-use Rattle.perf_base.specs.declared.lines.PmuLine.{PmuLine}
-use Rattle.perf_base.specs.declared.lines.CpuLine.{CpuLine}
-use Rattle.perf_base.specs.declared.lines.CpuLine.TheVariants as cpu_line
+use Rattle.std.proofs.lemmas.List.{Elements.{All-nil, All-cons, All-head, All-tail, All-weaker}, Kept.{AllPairs-cons}}
+use Rattle.std.proofs.lemmas.{List.Sums.{list_all-from_AllPass, position_or_len_is}, Option.{IfSome_then, none-some}}
+use Rattle.std.specs.{Prelude.{Any, AllPairs, IfSome, codes, decimal}, Str.{bytes_eq}, List.{position_or_len}}
+use Rattle.perf_base.specs.declared.lines.{KindLine.{KindLine}, PmuLine.{PmuLine}, CpuLine.{CpuLine}, ToolLine.{ToolLine}}
+use Rattle.perf_base.specs.declared.{numbers.{EventNo.{EventNo}, RingNo.{RingNo}}, attr.{Attr.{Attr}, Kind.{Kind}, TaskSel.{TaskSel}}}
+use Rattle.perf_base.specs.declared.attr.CpuSel.{CpuSel}
 use Rattle.perf_base.specs.Scripts.{IsKindLine, IsCpuLine, IsName, IsNameByte, IsStoredWork, IsToolLine, IsKind, IsTaskSel, IsCpuSel, IsSlot, IsRingLine, IsStoredToolLine}
-use Rattle.script_spec.specs.Lines.{pieces}
-use Rattle.script_spec.specs.Forms as form
-use Rattle.script_spec.specs.Forms.{Hit, CpuForm, Form, hit_text, ip_text, ToolForm, Opening}
-use Rattle.script_spec.specs.Meaning.{times_of, occurrences, or_zero, cpu_line_of, kinds_in, number_of, kind_named, tool_line_of, task_sel, cpu_sel, slot, rings_in}
 use Rattle.perf_base.specs.Kinds.{software_kind, software_name}
+use Rattle.perf_base.specs.declared.lines.CpuLine.TheVariants as cpu_line
+use Rattle.perf_base.specs.declared.lines.ToolLine.TheVariants as tool_line
+use Rattle.perf_base.specs.declared.attr.Kind.TheVariants as kind
+use Rattle.perf_base.specs.declared.attr.TaskSel.TheVariants as tasks
+use Rattle.perf_base.specs.declared.attr.CpuSel.TheVariants as cpus
+use Rattle.script_spec.specs.{Lines.{pieces}, Forms.{Hit, CpuForm, Form, hit_text, ip_text, ToolForm, Opening}}
+use Rattle.script_spec.specs.Meaning.{times_of, occurrences, or_zero, cpu_line_of, kinds_in, number_of, kind_named, tool_line_of, task_sel, cpu_sel, slot, rings_in}
 use Rattle.script_spec.specs.Faults.{IsCpuFormInRange, IsCpuFormNamed, IsToolFormInRange, IsToolFormNamed, IsWide, HasAttr}
 use Rattle.script_spec.specs.Printing.{some_of, hits_of, cpu_form, kind_name, task_number, cpu_number, asked, tool_form}
+use Rattle.script_spec.specs.Forms as form
 use Rattle.line_forms.proofs.Singles.{bytes_eq-true, bytes_eq_self, name_takes}
-use Rattle.script_print.proofs.Cutting.{lacks, pieces_at}
-use Rattle.std.specs.List.{position_or_len}
-use Rattle.perf_base.specs.declared.numbers.EventNo.{EventNo}
-use Rattle.perf_base.specs.declared.numbers.RingNo.{RingNo}
-use Rattle.perf_base.specs.declared.attr.Attr.{Attr}
-use Rattle.perf_base.specs.declared.attr.Kind.{Kind}
-use Rattle.perf_base.specs.declared.attr.Kind.TheVariants as kind
-use Rattle.perf_base.specs.declared.attr.TaskSel.{TaskSel}
-use Rattle.perf_base.specs.declared.attr.TaskSel.TheVariants as tasks
-use Rattle.perf_base.specs.declared.attr.CpuSel.{CpuSel}
-use Rattle.perf_base.specs.declared.attr.CpuSel.TheVariants as cpus
-use Rattle.perf_base.specs.declared.lines.ToolLine.{ToolLine}
-use Rattle.perf_base.specs.declared.lines.ToolLine.TheVariants as tool_line
 use Rattle.line_forms.specs.Leaves as says
-use Rattle.script_print.proofs.Sections.{ring_small}
+use Rattle.script_print.proofs.{Cutting.{lacks, pieces_at}, Sections.{ring_small}}
 
 pub differ : (a b : List ℕ) → a ≢ b → bytes_eq a b ≡ false
 differ a b ne = elim (cases_Bool (bytes_eq a b)) [

@@ -1,11 +1,7 @@
 -- Entries of a list, and lists that are filled one after the other.
 use Rattle.std.proofs.Common.{◌≡◌, ℕ, zero, suc, ◌-◌, ◌<◌, All, List, [], ◌∷◌, ◌++◌, length, get_or, set, take, replicate, Some, refl, sym, ap, subst, ◌∙◌, arith}
-use Rattle.std.specs.Prelude.{AllPairs, slice_get, sum_by}
-use Rattle.std.proofs.lemmas.List.{get_or_append_left, length_push, length-append}
-use Rattle.std.specs.List.{range_with_len}
-use Rattle.std.proofs.lemmas.List.FromFn.{get_or-range_with_len}
-use Rattle.std.proofs.lemmas.List.Folds.{sum_by-replicate}
-use Rattle.std.proofs.lemmas.List.Sums.{sum_by-cons}
+use Rattle.std.proofs.lemmas.List.{get_or_append_left, length_push, length-append, FromFn.{get_or-range_with_len}, Folds.{sum_by-replicate}}
+use Rattle.std.{proofs.lemmas.List.Sums.{sum_by-cons}, specs.{Prelude.{AllPairs, slice_get, sum_by}, List.{range_with_len}}}
 use Rattle.script_spec.specs.Meaning.{last_of}
 
 -- ---- an entry behind those before it

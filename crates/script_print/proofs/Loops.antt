@@ -1,14 +1,8 @@
 -- Lists that are written entry by entry.
-use Rattle.std.proofs.Common.{◌≡◌, ℕ, zero, suc, ◌+◌, ◌<◌, List, [], ◌∷◌, ◌++◌, length, get_or, take, drop, Option, Result, Ok, Err, arith, refl, sym, ap, append_assoc, add-one}
-use Rattle.std.specs.Result.{IsErr}
-use Rattle.std.specs.Prelude.{IfSome}
+use Rattle.std.proofs.Common.{◌≡◌, ℕ, zero, suc, ◌+◌, ◌<◌, List, [], ◌∷◌, ◌++◌, length, get_or, take, drop, Result, Ok, Err, arith, refl, sym, ap, append_assoc, add-one}
+use Rattle.std.{proofs.lemmas.{List.{append-nil}, Grind.{flat_map-append}}, specs.{Result.{IsErr}, Prelude.{IfSome}}}
 use Rattle.std.specs.List.{slice_get, join_with_byte}
-use Rattle.std.proofs.lemmas.List.{append-nil}
-use Rattle.perf_io.specs.Outside.{SinkShows}
-use Rattle.perf_io.specs.Wrote.{Wrote}
-use Rattle.perf_io.specs.declared.outside.Failed.{Failed}
-use Rattle.perf_io.proofs.Wrote.{wrote_then, wrote_exit, wrote_text}
-use Rattle.std.proofs.lemmas.Grind.{flat_map-append}
+use Rattle.perf_io.{specs.{Outside.{SinkShows}, Wrote.{Wrote}, declared.outside.Failed.{Failed}}, proofs.Wrote.{wrote_then, wrote_exit, wrote_text}}
 use Rattle.script_print.specs.Words.{word_texts, all_word_texts, spaced}
 
 -- a text was written so far, and nothing was flushed

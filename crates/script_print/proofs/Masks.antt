@@ -1,17 +1,11 @@
 -- The processors of a PMU, gathered one after the other.
 use Rattle.std.proofs.Common.{◌≡◌, ◌≢◌, ℕ, ◌+◌, ◌^◌, ◌<◌, ◌≤◌, List, length, get_or, map, Some, inl, inr, refl, sym, ap, subst, ◌∙◌, arith}
-use Rattle.std.specs.Prelude.{bit_or, AllPairs, IfSome, slice_get}
-use Rattle.std.specs.Int.{bit_at}
-use Rattle.std.specs.Option.{option_map}
 use Rattle.std.proofs.lemmas.Bool.{cases_lt, cases_eq}
 use Rattle.std.proofs.lemmas.Nat.Bits.{bit_at_or, bit_at-lt, bit_at-pow_same, bit_at-pow_other, bit_at_above, same_from_bits}
-use Rattle.std.proofs.lemmas.Option.{slice_get-get_or, slice_get-map}
-use Rattle.perf_base.specs.declared.numbers.CpuNo.{CpuNo}
-use Rattle.perf_base.specs.declared.numbers.CpuSet.{CpuSet}
-use Rattle.perf_base.specs.declared.lines.PmuLine.{PmuLine}
-use Rattle.perf_base.specs.Cpus.{HasCpu}
-use Rattle.perf_base.specs.Scripts.{Scripted, IsScript, AreApart}
-use Rattle.perf_base.proofs.Bits.{apart_bits}
+use Rattle.std.{proofs.lemmas.Option.{slice_get-get_or, slice_get-map}, specs.{Prelude.{bit_or, AllPairs, IfSome, slice_get}, Int.{bit_at}}}
+use Rattle.std.specs.Option.{option_map}
+use Rattle.perf_base.specs.{declared.{numbers.{CpuNo.{CpuNo}, CpuSet.{CpuSet}}, lines.PmuLine.{PmuLine}}, Cpus.{HasCpu}}
+use Rattle.perf_base.{specs.Scripts.{Scripted, IsScript, AreApart}, proofs.Bits.{apart_bits}}
 
 abbrev pub no_pmu : PmuLine
 no_pmu = record { counters = 0; cpus = record { 0 = 0 } }

@@ -1,18 +1,9 @@
 -- Sections of numbers from 0 on, written one after the other.
-use Rattle.std.proofs.Common.{◌≡◌, ℕ, ◌+◌, ◌<◌, List, [], length, get_or, take, Option, Result, Ok, Err, sym, ap, ◌∙◌, arith}
-use Rattle.std.specs.Prelude.{flat_map}
-use Rattle.std.specs.Result.{IsErr}
-use Rattle.std.specs.List.{range_with_len}
-use Rattle.std.proofs.lemmas.List.FromFn.{length-range_with_len}
-use Rattle.perf_io.specs.Outside.{SinkShows}
-use Rattle.perf_io.specs.Wrote.{Wrote}
-use Rattle.perf_io.specs.declared.outside.Failed.{Failed}
-use Rattle.perf_io.proofs.Wrote.{wrote_text}
+use Rattle.std.proofs.Common.{◌≡◌, ℕ, ◌+◌, ◌<◌, List, [], length, get_or, take, Result, Ok, Err, sym, ap, ◌∙◌, arith}
+use Rattle.std.{proofs.lemmas.List.FromFn.{length-range_with_len}, specs.{Prelude.{flat_map}, Result.{IsErr}, List.{range_with_len}}}
+use Rattle.perf_io.{specs.{Outside.{SinkShows}, Wrote.{Wrote}, declared.outside.Failed.{Failed}}, proofs.Wrote.{wrote_text}}
 use Rattle.script_spec.specs.Forms.{Form}
-use Rattle.script_print.specs.Words.{text}
-use Rattle.script_print.proofs.Lists.{number_at}
-use Rattle.script_print.proofs.Loops.{loop_exit_is, loop_more_is}
-use Rattle.script_print.proofs.Whole.{all_text}
+use Rattle.script_print.{specs.Words.{text}, proofs.{Lists.{number_at}, Loops.{loop_exit_is, loop_more_is}, Whole.{all_text}}}
 
 -- n lists of lines, the forms of each, and what is written of each
 module _ {X : Type 0} (forms : ℕ → List X → List Form) (written : ℕ → List X → List ℕ) (is : (i : ℕ) (lines : List X) → written i lines ≡ text (forms i lines)) (lists : List (List X)) (n : ℕ) where

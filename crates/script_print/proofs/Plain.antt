@@ -1,23 +1,14 @@
 -- The words of a form have neither spaces nor bytes outside the printable ones.
 use Rattle.std.proofs.Common.{◌≡◌, ℕ, zero, suc, ◌+◌, ◌/◌, ◌%◌, ◌<◌, ◌≤◌, Bool, true, false, ◌&&◌, eqb, leb, ltb, List, [], ◌∷◌, ◌++◌, map, get_or, Option, Some, None, inl, inr, refl, arith}
-use Rattle.std.specs.Prelude.{codes, decimal, flat_map, filter, All}
-use Rattle.std.specs.Int.{bit_at}
-use Rattle.std.specs.List.{list_all, join_with_byte}
-use Rattle.std.specs.Fmt.{digits, digits_onto, digit_glyph}
 use Rattle.std.proofs.lemmas.Bool.{cases_Bool, cases_lt, and_parts, and_from, le-leb, lt-ltb, le-ltb}
-use Rattle.std.proofs.lemmas.List.Elements.{All-head, All-tail, All-weaker}
-use Rattle.std.proofs.lemmas.List.Folds.{list_all-append}
-use Rattle.std.proofs.lemmas.List.Sums.{list_all-from_AllPass}
-use Rattle.std.proofs.Math.Nat.{mod-lt}
-use Rattle.perf_base.specs.Flags.{flag_table}
-use Rattle.perf_base.specs.declared.lines.Mode.{Mode}
+use Rattle.std.proofs.lemmas.List.{Elements.{All-head, All-tail, All-weaker}, Folds.{list_all-append}, Sums.{list_all-from_AllPass}}
+use Rattle.std.{proofs.Math.Nat.{mod-lt}, specs.{Prelude.{codes, decimal, flat_map, filter, All}, Int.{bit_at}, List.{list_all, join_with_byte}}}
+use Rattle.std.specs.Fmt.{digits, digits_onto, digit_glyph}
+use Rattle.perf_base.specs.{Flags.{flag_table}, declared.{lines.Mode.{Mode}, acts.Act.{Act}}, Scripts.{IsName, IsNameByte}}
 use Rattle.perf_base.specs.declared.lines.Mode.TheVariants as mode
-use Rattle.perf_base.specs.declared.acts.Act.{Act}
 use Rattle.perf_base.specs.declared.acts.Act.TheVariants as act
-use Rattle.perf_base.specs.Scripts.{IsName, IsNameByte}
-use Rattle.script_spec.specs.Acts.{act_text}
+use Rattle.script_spec.specs.{Acts.{act_text}, Forms.{Form, CpuForm, ToolForm, Hit, form_words, flag_name, hexadecimal}}
 use Rattle.script_spec.specs.Forms as form
-use Rattle.script_spec.specs.Forms.{Form, CpuForm, ToolForm, Hit, form_words, flag_name, hexadecimal}
 
 -- neither a space nor outside the printable bytes
 abbrev pub is_graphic : ℕ → Bool

@@ -1,17 +1,12 @@
 -- The first forms of a printed script: they are sound, and say the script so far.
 use Rattle.std.proofs.Common.{◌≡◌, ℕ, ◌<◌, ◌≤◌, All, List, [], ◌∷◌, ◌++◌, map, length, None, refl, sym, ap, subst, ◌∙◌, arith, append_assoc}
-use Rattle.std.specs.Prelude.{IfSome}
-use Rattle.std.specs.List.{cons_option}
-use Rattle.std.proofs.lemmas.List.{append-nil, length_push}
-use Rattle.std.proofs.lemmas.List.Elements.{All-push, All-weaker}
+use Rattle.std.{proofs.lemmas.List.{append-nil, length_push, Elements.{All-push, All-weaker}}, specs.{Prelude.{IfSome}, List.{cons_option}}}
 use Rattle.perf_base.specs.Scripts.{Scripted, IsCovered}
-use Rattle.script_spec.specs.Forms as form
 use Rattle.script_spec.specs.Forms.{Version, Form}
 use Rattle.script_spec.specs.Meaning.{processor_said, tool_said, processors_in, tools_in, cpus_in, pmus_in, kinds_in, tasks_in, rings_in, readers_in, last_of, script_of}
-use Rattle.script_spec.specs.Faults.{section, IsNoEnd, IsInOrder, IsUnder, IsPlaced, IsBehindPmus}
-use Rattle.script_spec.specs.Saying.{said_by, IsLater}
-use Rattle.script_spec.proofs.Snoc.{pushed}
-use Rattle.script_spec.proofs.More.{script_more}
+use Rattle.script_spec.specs.{Faults.{section, IsNoEnd, IsInOrder, IsUnder, IsPlaced, IsBehindPmus}, Saying.{said_by, IsLater}}
+use Rattle.script_spec.proofs.{Snoc.{pushed}, More.{script_more}}
+use Rattle.script_spec.specs.Forms as form
 use Rattle.script_print.proofs.Sound.{Fits, AreSoundForms, more_sound}
 
 -- the last headers are of the machine

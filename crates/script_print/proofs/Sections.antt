@@ -1,33 +1,19 @@
 -- The sections of a printed script, each behind those before it: all but those of processors and tools.
 use Rattle.std.proofs.Common.{◌≡◌, ◌≢◌, ℕ, zero, suc, ◌^◌, ◌<◌, ◌≤◌, cond, eqb, All, List, [], ◌∷◌, ◌++◌, map, length, get_or, replicate, inl, inr, refl, sym, ap, subst, ◌∙◌, arith, ◌-◌, false, append_assoc}
-use Rattle.std.specs.Prelude.{Any}
-use Rattle.std.proofs.Math.Nat.{pow-le-pow_right}
-use Rattle.std.proofs.lemmas.Bool.{cases_Bool, eqb-true, ne_eqb}
-use Rattle.std.proofs.lemmas.List.Elements.{All-head, All-tail, All-nil, All-cons}
-use Rattle.perf_base.specs.declared.numbers.RingNo.{RingNo}
-use Rattle.perf_base.specs.declared.numbers.TaskNo.{TaskNo}
-use Rattle.perf_base.specs.declared.lines.PmuLine.{PmuLine}
-use Rattle.perf_base.specs.declared.lines.KindLine.{KindLine}
-use Rattle.perf_base.specs.declared.lines.ReaderLine.{ReaderLine}
+use Rattle.std.proofs.{Math.Nat.{pow-le-pow_right}, lemmas.{Bool.{cases_Bool, eqb-true, ne_eqb}, List.{append-nil, length_push}}}
+use Rattle.std.proofs.lemmas.{List.Elements.{All-head, All-tail, All-nil, All-cons}, Nat.Bits.{same_from_bits_below, bit_at_ones}}
+use Rattle.std.specs.{Prelude.{Any}, Int.{bit_at}}
+use Rattle.perf_base.specs.declared.{numbers.{RingNo.{RingNo}, TaskNo.{TaskNo}, CpuNo.{CpuNo}}, lines.{PmuLine.{PmuLine}, KindLine.{KindLine}}}
+use Rattle.perf_base.specs.declared.{lines.ReaderLine.{ReaderLine}, acts.Act.{Act}}
 use Rattle.perf_base.specs.Scripts.{Scripted, IsScript, IsCovered, IsPmuLine, IsKindLine, IsMaskOf, IsRingLine, IsReaderLine, HasRing, AreApart, IsAct, IsStoredAct}
-use Rattle.script_spec.specs.Forms as form
-use Rattle.script_spec.specs.Forms.{Version, Form}
-use Rattle.script_spec.specs.Meaning.{kinds_in, processors_in, tools_in, script_of}
-use Rattle.script_print.proofs.Lists.{all_in, pairs_in, fewer}
-use Rattle.script_print.proofs.Run.{Run, push, entry, says, behind_pmus, section_run, higher}
-use Rattle.std.specs.Int.{bit_at}
-use Rattle.std.proofs.lemmas.Nat.Bits.{same_from_bits_below, bit_at_ones}
-use Rattle.std.proofs.lemmas.List.{append-nil, length_push}
-use Rattle.perf_base.specs.declared.numbers.CpuNo.{CpuNo}
-use Rattle.perf_base.specs.Cpus.{HasCpu}
-use Rattle.script_spec.specs.Faults.{section, IsNoEnd, IsPlaced}
-use Rattle.script_print.proofs.Sound.{Fits, line_bytes, none_sound, more_sound}
-use Rattle.perf_base.specs.declared.acts.Act.{Act}
+use Rattle.perf_base.specs.{Cpus.{HasCpu}, Weight.{weight}}
 use Rattle.perf_base.specs.declared.acts.Act.TheVariants as act
-use Rattle.perf_base.specs.Weight.{weight}
-use Rattle.script_spec.specs.Acts.{IsActInRange}
-use Rattle.script_spec.specs.Texts.{version_of}
+use Rattle.script_spec.specs.{Forms.{Version, Form}, Meaning.{kinds_in, processors_in, tools_in, script_of}, Faults.{section, IsNoEnd, IsPlaced}}
+use Rattle.script_spec.specs.{Acts.{IsActInRange}, Texts.{version_of}}
 use Rattle.script_spec.specs.Printing.{head_forms, pmu_forms, kind_form, task_form, ring_form, reader_form, order_forms}
+use Rattle.script_spec.specs.Forms as form
+use Rattle.script_print.proofs.{Lists.{all_in, pairs_in, fewer}, Run.{Run, push, entry, says, behind_pmus, section_run, higher}}
+use Rattle.script_print.proofs.Sound.{Fits, line_bytes, none_sound, more_sound}
 
 -- ---- the script so far
 

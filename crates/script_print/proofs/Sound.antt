@@ -1,25 +1,18 @@
 -- Forms whose lines are sound one behind the other, and the text that stands for them.
 use Rattle.std.proofs.Common.{◌≡◌, ℕ, ◌<◌, ◌≤◌, Bool, true, false, not, ◌&&◌, eqb, leb, All, List, [], ◌∷◌, ◌++◌, map, length, get_or, inl, inr, refl, sym, ap, subst, ◌∙◌, arith}
-use Rattle.std.specs.Prelude.{flat_map, Any}
+use Rattle.std.proofs.{Math.Seq.{take-append_seam}, lemmas.Bool.{cases_lt, and_parts, and_from, leb-true, le-leb, ne_eqb}}
+use Rattle.std.proofs.lemmas.List.{get_or_append_left, length_push, map-append, take-append-le, Elements.{All-weaker}, Folds.{list_all-append}}
+use Rattle.std.{proofs.lemmas.List.Sums.{AllPass-from_list_all, list_all-from_AllPass}, specs.Prelude.{flat_map, Any}}
 use Rattle.std.specs.List.{list_all, join_with_byte}
-use Rattle.std.proofs.Math.Seq.{take-append_seam}
-use Rattle.std.proofs.lemmas.Bool.{cases_lt, and_parts, and_from, leb-true, le-leb, ne_eqb}
-use Rattle.std.proofs.lemmas.List.{get_or_append_left, length_push, map-append, take-append-le}
-use Rattle.std.proofs.lemmas.List.Elements.{All-weaker}
-use Rattle.std.proofs.lemmas.List.Folds.{list_all-append}
-use Rattle.std.proofs.lemmas.List.Sums.{AllPass-from_list_all, list_all-from_AllPass}
 use Rattle.perf_base.specs.declared.reasons.SReason.{SReason}
 use Rattle.perf_base.specs.declared.reasons.SReason.TheVariants as reason
-use Rattle.script_spec.specs.Lines.{words_of, lines_of, rest_of}
-use Rattle.script_spec.specs.Forms as form
-use Rattle.script_spec.specs.Forms.{Version, Form, IsOfForm, IsOfVersion, IsSpelling, form_words}
+use Rattle.script_spec.specs.{Lines.{words_of, lines_of, rest_of}, Forms.{Version, Form, IsOfForm, IsOfVersion, IsSpelling, form_words}}
 use Rattle.script_spec.specs.Meaning.{script_of}
 use Rattle.script_spec.specs.Faults.{IsNoEnd, IsPrintable, IsPlaced, IsInRange, HasAttr, IsNamed, IsWithinLimits, IsWithinWeight, Keeps, IsSound}
-use Rattle.script_spec.specs.Texts.{version_of, AreSound, StandsFor}
-use Rattle.script_spec.specs.Printing.{line_text}
+use Rattle.script_spec.specs.{Texts.{version_of, AreSound, StandsFor}, Printing.{line_text}}
+use Rattle.script_spec.specs.Forms as form
 use Rattle.line_forms.proofs.Laws.{one_form}
-use Rattle.script_print.proofs.Cutting.{lacks, ended, words_again, lines_are, rest_is}
-use Rattle.script_print.proofs.Lists.{entry_at}
+use Rattle.script_print.proofs.{Cutting.{lacks, ended, words_again, lines_are, rest_is}, Lists.{entry_at}}
 use Rattle.script_print.proofs.Plain.{is_graphic, is_plain, are_plain, is_line, form_line}
 
 -- ---- the bytes of a line

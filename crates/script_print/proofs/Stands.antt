@@ -1,14 +1,9 @@
 -- The printed text of a script stands for it.
-use Rattle.std.proofs.Common.{◌≡◌, ◌≤◌, length, refl, subst, append_assoc}
-use Rattle.std.specs.Prelude.{Any}
-use Rattle.std.proofs.lemmas.List.Quantifiers.{Any-push}
-use Rattle.perf_base.specs.Scripts.{Scripted, IsScript, IsCovered}
-use Rattle.perf_base.specs.Weight.{weight}
+use Rattle.std.{proofs.{Common.{◌≡◌, ◌≤◌, length, refl, subst, append_assoc}, lemmas.List.Quantifiers.{Any-push}}, specs.Prelude.{Any}}
+use Rattle.perf_base.specs.{Scripts.{Scripted, IsScript, IsCovered}, Weight.{weight}}
+use Rattle.script_spec.specs.{Texts.{StandsFor}, Printing.{printed_forms, printed}}
 use Rattle.script_spec.specs.Forms as form
-use Rattle.script_spec.specs.Texts.{StandsFor}
-use Rattle.script_spec.specs.Printing.{printed_forms, printed}
-use Rattle.script_print.proofs.Sound.{text_stands}
-use Rattle.script_print.proofs.Run.{Run}
+use Rattle.script_print.proofs.{Sound.{text_stands}, Run.{Run}}
 use Rattle.script_print.proofs.Sections.{version_for, version_is, head_run, kinds_run, tasks_run, rings_run, readers_run, order_run, end_run}
 use Rattle.script_print.proofs.Headed.{processors_run, tools_run}
 

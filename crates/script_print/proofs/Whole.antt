@@ -1,19 +1,12 @@
 -- The texts of the parts of a printed script.
 use Rattle.std.proofs.Common.{◌≡◌, ◌≢◌, ℕ, zero, suc, ◌+◌, ◌<◌, List, [], ◌∷◌, ◌++◌, length, get_or, take, drop, refl, sym, ap, ◌∙◌, arith, append_assoc}
-use Rattle.std.specs.Prelude.{flat_map, map, codes, decimal, IfSome}
+use Rattle.std.{proofs.lemmas.{Grind.{flat_map-append}, List.{append-nil}}, specs.Prelude.{flat_map, map, codes, decimal, IfSome}}
 use Rattle.std.specs.List.{slice_get, join_with_byte}
-use Rattle.std.proofs.lemmas.Grind.{flat_map-append}
-use Rattle.std.proofs.lemmas.List.{append-nil}
-use Rattle.perf_base.specs.declared.acts.Act.{Act}
-use Rattle.perf_base.specs.declared.lines.PmuLine.{PmuLine}
-use Rattle.perf_base.specs.declared.lines.KindLine.{KindLine}
-use Rattle.perf_base.specs.declared.lines.CpuLine.{CpuLine}
-use Rattle.perf_base.specs.declared.lines.ToolLine.{ToolLine}
+use Rattle.perf_base.specs.declared.{acts.Act.{Act}, lines.{PmuLine.{PmuLine}, KindLine.{KindLine}, CpuLine.{CpuLine}, ToolLine.{ToolLine}}}
 use Rattle.perf_base.specs.Scripts.{Scripted}
-use Rattle.script_spec.specs.Acts.{act_text, acts_text}
-use Rattle.script_spec.specs.Forms as form
-use Rattle.script_spec.specs.Forms.{Form}
+use Rattle.script_spec.specs.{Acts.{act_text, acts_text}, Forms.{Form}}
 use Rattle.script_spec.specs.Printing.{head_forms, pmu_forms, cpu_form, processor_forms, tool_form, tool_forms, order_forms, line_text, printed_forms, printed}
+use Rattle.script_spec.specs.Forms as form
 use Rattle.script_print.specs.Words.{spaced, text, section_text, declared_text, lines_text, last_text}
 use Rattle.script_print.proofs.Loops.{join_spaced, IsText, IsTextFrom, behind}
 

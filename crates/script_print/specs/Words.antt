@@ -1,11 +1,9 @@
 -- What the words of a line write, and the parts of a printed text. This project's own profile.
-use Rattle.std.specs.Prelude.{ℕ, List, [], ◌∷◌, ◌++◌, length, map, flat_map, codes, decimal, ◌==◌, if◌then◌else◌}
-use Rattle.std.specs.List.{join_with_byte}
-use Rattle.perf_base.specs.declared.acts.Act.{Act}
-use Rattle.perf_base.specs.Scripts.{Scripted}
-use Rattle.script_spec.specs.Forms as form
+use Rattle.std.specs.{Prelude.{ℕ, List, [], ◌∷◌, ◌++◌, length, map, flat_map, codes, decimal, ◌==◌, if◌then◌else◌}, List.{join_with_byte}}
+use Rattle.perf_base.specs.{declared.acts.Act.{Act}, Scripts.{Scripted}}
 use Rattle.script_spec.specs.Forms.{Form, hexadecimal, flags_text}
 use Rattle.script_spec.specs.Printing.{head_forms, kind_form, task_form, ring_form, reader_form, order_forms, all_processor_forms, all_tool_forms, line_text}
+use Rattle.script_spec.specs.Forms as form
 use Rattle.script_print.specs.declared.words.Word.{Word}
 use Rattle.script_print.specs.declared.words.Word.TheVariants as word
 

@@ -1,10 +1,8 @@
 -- Acts of an order, one after the other.
 use Rattle.std.proofs.Common.{◌≡◌, ℕ, ◌+◌, ◌<◌, ◌≤◌, All, List, [], ◌∷◌, ◌++◌, get_or, take, length, sym, ap, subst, ◌∙◌, append_assoc}
-use Rattle.std.proofs.lemmas.List.{append-nil, take_more, take_all}
-use Rattle.std.proofs.lemmas.List.Elements.{All-nil, All-more, All-get_or}
-use Rattle.perf_base.specs.declared.acts.Act.{Act}
+use Rattle.std.proofs.lemmas.List.{append-nil, take_more, take_all, Elements.{All-nil, All-more, All-get_or}}
+use Rattle.perf_base.specs.{declared.acts.Act.{Act}, Scripts.{Scripted, IsAct}}
 use Rattle.perf_base.specs.declared.acts.Act.TheVariants as act
-use Rattle.perf_base.specs.Scripts.{Scripted, IsAct}
 
 -- the order of acts says nothing of who has lines
 with_order : (s : Scripted) (order : List Act) (a : Act) → IsAct s a → IsAct (record s { order = order }) a

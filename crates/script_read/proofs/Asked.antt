@@ -1,27 +1,17 @@
 -- What is asked of a form behind those before it can be found out.
 use Rattle.std.proofs.Common.{◌≡◌, ◌≢◌, ℕ, ◌^◌, ◌<◌, ◌≤◌, All, List, length, Option, Some, None, ap, arith}
-use Rattle.std.specs.Prelude.{Any, IfSome, MatchOption, slice_get, bit_and, codes}
-use Rattle.std.specs.Int.{bit_at}
-use Rattle.perf_base.specs.declared.numbers.RingNo.{RingNo}
-use Rattle.perf_base.specs.declared.numbers.TaskNo.{TaskNo}
-use Rattle.perf_base.specs.declared.lines.ReaderLine.{ReaderLine}
-use Rattle.perf_base.specs.declared.lines.PmuLine.{PmuLine}
-use Rattle.perf_base.specs.declared.lines.KindLine.{KindLine}
-use Rattle.perf_base.specs.declared.acts.Act.{Act}
-use Rattle.perf_base.specs.declared.acts.Act.TheVariants as act
-use Rattle.perf_base.specs.declared.reasons.SReason.{SReason}
-use Rattle.perf_base.specs.declared.reasons.SReason.TheVariants as reason
-use Rattle.perf_base.specs.Cpus.{HasCpu}
-use Rattle.perf_base.specs.Masks.{IsMask}
+use Rattle.std.specs.{Prelude.{Any, IfSome, MatchOption, slice_get, bit_and, codes}, Int.{bit_at}}
+use Rattle.perf_base.specs.declared.{numbers.{RingNo.{RingNo}, TaskNo.{TaskNo}}, lines.{ReaderLine.{ReaderLine}, PmuLine.{PmuLine}}}
+use Rattle.perf_base.specs.{declared.{lines.KindLine.{KindLine}, acts.Act.{Act}, reasons.SReason.{SReason}}, Cpus.{HasCpu}, Masks.{IsMask}}
 use Rattle.perf_base.specs.Scripts.{Scripted, IsPmuLine, AreApart, IsRingSize, IsFreeName, HasRing, IsAct, line_count, lines_of_cpu, lines_of_tool}
-use Rattle.perf_base.specs.Weight.{weight}
-use Rattle.perf_base.specs.Kinds.{software_kind}
+use Rattle.perf_base.specs.{Weight.{weight}, Kinds.{software_kind}}
+use Rattle.perf_base.specs.declared.acts.Act.TheVariants as act
+use Rattle.perf_base.specs.declared.reasons.SReason.TheVariants as reason
 use Rattle.attr_bytes.specs.Faults.{fault_of}
-use Rattle.script_spec.specs.Acts.{IsActInRange}
-use Rattle.script_spec.specs.Forms as form
-use Rattle.script_spec.specs.Forms.{Hit, Working, CpuForm, Opening, ToolForm, Form}
+use Rattle.script_spec.specs.{Acts.{IsActInRange}, Forms.{Hit, Working, CpuForm, Opening, ToolForm, Form}}
 use Rattle.script_spec.specs.Faults.{IsPrintable, IsNoEnd, section, IsInOrder, AreCovered, IsUnder, IsBehindPmus, IsPlaced, IsBetween, IsAmount, IsNextPmu, IsCpuFormInRange, IsOpeningInRange, IsToolFormInRange, IsInRange, HasAttr, IsNewName, AreKinds, IsCpuFormNamed, IsToolFormNamed, IsNamed, IsWithinLimits, IsWithinWeight}
 use Rattle.script_spec.specs.Meaning.{cpus_in, pmus_in, kinds_in, tasks_in, rings_in, processors_in, tools_in, readers_in, kind_named, kind_of_bytes, last_of, script_of}
+use Rattle.script_spec.specs.Forms as form
 use Rattle.script_read.specs.Progress.{AsksOf}
 use Rattle.script_read.proofs.Known.{Known, Yes, No, known_as, both, all_three, all_four, known_not, below, at_most, same_number, same_text, known_empty, known_missing, known_some, known_if_some, known_all, known_any, known_pairs, known_below, some_below}
 

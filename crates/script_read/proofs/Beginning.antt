@@ -1,26 +1,17 @@
 -- The first two lines, and a line as its form.
 use Rattle.std.proofs.Common.{◌≡◌, ◌≢◌, ℕ, ◌-◌, ◌^◌, ◌<◌, ◌≤◌, false, All, List, [], ◌∷◌, get_or, Option, None, refl, sym, ap, subst, ◌∙◌, arith}
-use Rattle.std.specs.Prelude.{bit_or, IfSome}
-use Rattle.std.proofs.lemmas.Bool.{eqb-false}
-use Rattle.std.proofs.Math.Nat.{pow-le-pow_right}
-use Rattle.std.proofs.lemmas.Nat.Bits.{bit_at_or, bit_at-zero, same_from_bits}
-use Rattle.std.proofs.lemmas.List.Elements.{All-cons}
-use Rattle.perf_base.specs.declared.reasons.SReason.{SReason}
+use Rattle.std.proofs.lemmas.{Bool.{eqb-false}, Nat.Bits.{bit_at_or, bit_at-zero, same_from_bits}, List.Elements.{All-cons}}
+use Rattle.std.{proofs.Math.Nat.{pow-le-pow_right}, specs.Prelude.{bit_or, IfSome}}
+use Rattle.perf_base.specs.{declared.reasons.SReason.{SReason}, Scripts.{Scripted, empty_script, with_pmu}}
 use Rattle.perf_base.specs.declared.reasons.SReason.TheVariants as reason
-use Rattle.perf_base.specs.Scripts.{Scripted, empty_script, with_pmu}
-use Rattle.script_spec.specs.Lines.{words_of}
-use Rattle.script_spec.specs.Forms as form
-use Rattle.script_spec.specs.Forms.{Version, Form, IsOfForm}
-use Rattle.script_spec.specs.Meaning.{last_of, processors_in, script_of}
+use Rattle.script_spec.specs.{Lines.{words_of}, Forms.{Version, Form, IsOfForm}, Meaning.{last_of, processors_in, script_of}}
 use Rattle.script_spec.specs.Faults.{section, IsPlaced, IsNoEnd, IsPrintable, Keeps, IsFaulty, IsSound, rank, IsInRange}
-use Rattle.script_read.specs.declared.state.State.{State}
+use Rattle.script_spec.specs.Forms as form
+use Rattle.script_read.specs.declared.{state.State.{State}, progress.Progress.{Progress}}
+use Rattle.script_read.specs.{State.{rank_of, union_of, cpu_number, tool_number, Follows}, Adding.{IsSoundState}}
+use Rattle.script_read.{specs.Progress.{Behind, AsksOf, IsFirstOf, IsTaken, ended_of}, proofs.Following.{script_cpus}}
 use Rattle.script_read.specs.declared.state.Section.TheVariants as part
-use Rattle.script_read.specs.declared.progress.Progress.{Progress}
 use Rattle.script_read.specs.declared.progress.Progress.TheVariants as progress
-use Rattle.script_read.specs.State.{rank_of, union_of, cpu_number, tool_number, Follows}
-use Rattle.script_read.specs.Adding.{IsSoundState}
-use Rattle.script_read.specs.Progress.{Behind, AsksOf, IsFirstOf, IsTaken, ended_of}
-use Rattle.script_read.proofs.Following.{script_cpus}
 
 -- ---- the first line
 

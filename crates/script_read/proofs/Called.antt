@@ -1,14 +1,9 @@
 -- Names that are the same, or not, and the first kind of a name.
 use Rattle.std.proofs.Common.{◌≡◌, ◌≢◌, ℕ, zero, suc, ◌+◌, ◌<◌, ◌≤◌, ◌↔◌, Bool, AllPairs, take, map, length-take, is_some, true, false, All, List, [], ◌∷◌, length, get_or, Option, Some, None, inl, inr, refl, sym, ap, subst, ◌∙◌, arith, ltb, not}
-use Rattle.std.specs.Prelude.{slice_get, IfSome, IsTrue, Any}
-use Rattle.std.specs.List.{position_or_len}
-use Rattle.std.specs.Str.{bytes_eq}
-use Rattle.std.proofs.lemmas.Slice.Eq.{bytes_eq-Decides}
-use Rattle.std.proofs.lemmas.Bool.{cases_lt, lt-ltb, le-ltb}
-use Rattle.std.proofs.lemmas.List.{length-map, get_or_default, get_or-take, take_more, take_all}
-use Rattle.std.proofs.lemmas.List.Sums.{position_or_len_is, fails_before_first}
-use Rattle.std.proofs.lemmas.List.Quantifiers.{position-Some, all_pairs_push}
-use Rattle.std.proofs.lemmas.Option.{slice_get-get_or, slice_get_within, same_Some, none-some}
+use Rattle.std.proofs.lemmas.{Slice.Eq.{bytes_eq-Decides}, Bool.{cases_lt, lt-ltb, le-ltb}}
+use Rattle.std.proofs.lemmas.List.{length-map, get_or_default, get_or-take, take_more, take_all, Sums.{position_or_len_is, fails_before_first}}
+use Rattle.std.proofs.lemmas.{List.Quantifiers.{position-Some, all_pairs_push}, Option.{slice_get-get_or, slice_get_within, same_Some, none-some}}
+use Rattle.std.specs.{Prelude.{slice_get, IfSome, IsTrue, Any}, List.{position_or_len}, Str.{bytes_eq}}
 use Rattle.perf_base.specs.declared.lines.KindLine.{KindLine}
 use Rattle.script_spec.specs.Meaning.{number_of}
 

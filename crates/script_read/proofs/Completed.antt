@@ -1,16 +1,10 @@
 -- An order that does each line.
 use Rattle.std.proofs.Common.{◌≡◌, ℕ, ◌+◌, ◌<◌, ◌≤◌, ◌↔◌, Bool, false, eqb, All, List, [], ◌∷◌, length, get_or, map, set, take, inl, inr, refl, sym, ap, ◌∙◌, arith}
+use Rattle.std.proofs.lemmas.{Bool.{cases_lt, cases_order, eq-eqb, ne_eqb}, List.{ext_get_or, get_or-map, get_or_past, get_or-set_other, length-map}}
+use Rattle.std.proofs.lemmas.{List.{Sums.{count_by_more_yes, count_by_more_no}, Elements.{All-head, All-tail}}, Grind.{get_or-set_at}}
 use Rattle.std.specs.Prelude.{count_by}
-use Rattle.std.proofs.lemmas.Bool.{cases_lt, cases_order, eq-eqb, ne_eqb}
-use Rattle.std.proofs.lemmas.List.{ext_get_or, get_or-map, get_or_past, get_or-set_other, length-map}
-use Rattle.std.proofs.lemmas.List.Sums.{count_by_more_yes, count_by_more_no}
-use Rattle.std.proofs.lemmas.Grind.{get_or-set_at}
-use Rattle.std.proofs.lemmas.List.Elements.{All-head, All-tail}
-use Rattle.perf_base.specs.declared.numbers.CpuNo.{CpuNo}
-use Rattle.perf_base.specs.declared.numbers.ToolNo.{ToolNo}
-use Rattle.perf_base.specs.declared.acts.Act.{Act}
+use Rattle.perf_base.specs.{declared.{numbers.{CpuNo.{CpuNo}, ToolNo.{ToolNo}}, acts.Act.{Act}}, Scripts.{Scripted, IsScript, IsAct}}
 use Rattle.perf_base.specs.declared.acts.Act.TheVariants as act
-use Rattle.perf_base.specs.Scripts.{Scripted, IsScript, IsAct}
 use Rattle.stage_spec.specs.Order.{is_of_cpu, is_of_tool, done_by_cpu, done_by_tool}
 
 -- a processor or tool that there is not has no line, and so no act

@@ -2,9 +2,7 @@
 use Rattle.std.proofs.Common.{◌≡◌, ℕ, List, [], ◌∷◌, ◌++◌, length, length-append, Option, Some, None, refl, sym, ap, ◌∙◌, arith}
 use Rattle.std.specs.List.{join_with_byte}
 use Rattle.script_spec.specs.Lines.{pieces, all_but_last, last_one}
-use Rattle.line_forms.specs.Words.{cut}
-use Rattle.line_forms.proofs.Cuts.{pieces_cut, pieces_behind}
-use Rattle.line_forms.proofs.Optionals.{join_pieces}
+use Rattle.line_forms.{specs.Words.{cut}, proofs.{Cuts.{pieces_cut, pieces_behind}, Optionals.{join_pieces}}}
 use Rattle.script_read.specs.Reading.{IsNextLine, HasNoLine}
 
 pub no_line : (text front : List ℕ) → (front, None) ≡ cut 10 text → HasNoLine text

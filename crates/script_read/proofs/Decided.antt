@@ -1,25 +1,14 @@
 -- Each line is sound or at fault, and so each text stands for a script or is refused.
 use Rattle.std.proofs.Common.{◌≡◌, ◌≢◌, ℕ, zero, suc, ◌+◌, ◌<◌, ◌≤◌, ◌⊎◌, All, List, [], ◌∷◌, ◌++◌, length, length-take-le, get_or, take, Option, Some, None, inl, inr, refl, sym, ap, subst, ◌∙◌, arith}
-use Rattle.std.specs.Prelude.{Any}
-use Rattle.std.proofs.lemmas.Bool.{cases_lt}
-use Rattle.std.proofs.lemmas.List.{take_all, take_more}
-use Rattle.std.proofs.lemmas.List.Elements.{All-cons}
-use Rattle.perf_base.specs.declared.reasons.SReason.{SReason}
+use Rattle.std.{proofs.lemmas.{Bool.{cases_lt}, List.{take_all, take_more, Elements.{All-cons}}}, specs.Prelude.{Any}}
+use Rattle.perf_base.specs.{declared.reasons.SReason.{SReason}, Scripts.{Scripted}}
 use Rattle.perf_base.specs.declared.reasons.SReason.TheVariants as reason
-use Rattle.perf_base.specs.Scripts.{Scripted}
-use Rattle.script_spec.specs.Lines.{words_of, lines_of, rest_of}
+use Rattle.script_spec.specs.{Lines.{words_of, lines_of, rest_of}, Forms.{Version, Form}, Meaning.{script_of}}
+use Rattle.script_spec.specs.{Faults.{IsNoEnd, IsPrintable, IsSound, IsFaulty, rank}, Texts.{version_of, AreSound, StandsFor, IsRefused}}
 use Rattle.script_spec.specs.Forms as form
-use Rattle.script_spec.specs.Forms.{Version, Form}
-use Rattle.script_spec.specs.Meaning.{script_of}
-use Rattle.script_spec.specs.Faults.{IsNoEnd, IsPrintable, IsSound, IsFaulty, rank}
-use Rattle.script_spec.specs.Texts.{version_of, AreSound, StandsFor, IsRefused}
-use Rattle.line_forms.specs.Reading.{form_at}
-use Rattle.line_forms.proofs.Laws.{form-takes, form-again, one_form}
-use Rattle.script_read.specs.Progress.{AsksOf, IsFirstOf}
-use Rattle.script_read.proofs.Beginning.{sound_line, faulty_line, form_faulty, ascii_faulty, end_faulty}
-use Rattle.script_read.proofs.Whole.{sound_more}
-use Rattle.script_read.proofs.OneAnswer.{ranked, ranked_back}
-use Rattle.script_read.proofs.Known.{Yes, No, any_first, any_later}
+use Rattle.line_forms.{specs.Reading.{form_at}, proofs.Laws.{form-takes, form-again, one_form}}
+use Rattle.script_read.{specs.Progress.{AsksOf, IsFirstOf}, proofs.Beginning.{sound_line, faulty_line, form_faulty, ascii_faulty, end_faulty}}
+use Rattle.script_read.proofs.{Whole.{sound_more}, OneAnswer.{ranked, ranked_back}, Known.{Yes, No, any_first, any_later}}
 use Rattle.script_read.proofs.Asked.{known_printable, known_no_end, asked}
 
 -- ---- a form

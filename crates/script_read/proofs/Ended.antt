@@ -1,19 +1,12 @@
 -- What the `end` line of a text asks holds of the script that the text stands for: each processor is of a PMU, and it
 -- is not too heavy.
 use Rattle.std.proofs.Common.{◌≡◌, ℕ, zero, suc, ◌+◌, ◌<◌, ◌≤◌, All, List, [], ◌∷◌, ◌++◌, length, length-take-le, get_or, take, Result, Ok, Err, inl, inr, refl, sym, ap, subst, ◌∙◌, arith}
-use Rattle.std.specs.Prelude.{IfOk}
-use Rattle.std.proofs.lemmas.Bool.{cases_lt}
-use Rattle.std.proofs.lemmas.List.{get_or-take}
+use Rattle.std.{proofs.lemmas.{Bool.{cases_lt}, List.{get_or-take}}, specs.Prelude.{IfOk}}
+use Rattle.perf_base.specs.{Scripts.{Scripted, IsCovered}, Weight.{weight}}
 use Rattle.perf_base.specs.declared.reasons.SReason.TheVariants as reason
-use Rattle.perf_base.specs.Scripts.{Scripted, IsCovered}
-use Rattle.perf_base.specs.Weight.{weight}
-use Rattle.script_spec.specs.Lines.{lines_of}
+use Rattle.script_spec.specs.{Lines.{lines_of}, Forms.{Version, Form}, Meaning.{script_of}, Faults.{IsNoEnd, AreCovered}}
+use Rattle.script_spec.{specs.Texts.{version_of, AreSound, StandsFor}, proofs.More.{end_adds_nothing}}
 use Rattle.script_spec.specs.Forms as form
-use Rattle.script_spec.specs.Forms.{Version, Form}
-use Rattle.script_spec.specs.Meaning.{script_of}
-use Rattle.script_spec.specs.Faults.{IsNoEnd, AreCovered}
-use Rattle.script_spec.specs.Texts.{version_of, AreSound, StandsFor}
-use Rattle.script_spec.proofs.More.{end_adds_nothing}
 use Rattle.script_read.specs.declared.fault.ScriptFault.{ScriptFault}
 
 last_apart : {X : Type 0} (xs : List X) (k : ℕ) (d : X) → k + 1 ≡ length xs → xs ≡ take k xs ++ get_or xs k d ∷ []

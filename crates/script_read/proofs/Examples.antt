@@ -1,27 +1,16 @@
 -- Small texts worked out by hand: each is refused at its line and for its reason.
 use Rattle.std.proofs.Common.{◌≡◌, ℕ, zero, suc, ◌<◌, ◌≤◌, ◌&&◌, Bool, true, false, leb, All, List, [], ◌∷◌, None, refl, sym, ap, subst, inl, inr, get_or, length, ◌∙◌, arith}
-use Rattle.std.specs.Prelude.{codes, bit_and}
-use Rattle.std.specs.Int.{bit_at}
-use Rattle.std.specs.Fmt.{digits}
-use Rattle.std.proofs.lemmas.Bool.{and_parts, leb-true}
-use Rattle.std.proofs.lemmas.List.Elements.{All-cons}
-use Rattle.std.proofs.lemmas.Option.{none-some}
+use Rattle.std.{proofs.lemmas.{Bool.{and_parts, leb-true}, List.Elements.{All-cons}, Option.{none-some}}, specs.Prelude.{codes, bit_and}}
+use Rattle.std.specs.{Int.{bit_at}, Fmt.{digits}}
+use Rattle.perf_base.specs.{declared.{lines.PmuLine.{PmuLine}, reasons.SReason.{SReason}}, Scripts.{AreApart}}
 use Rattle.perf_base.specs.declared.attr.Kind.TheVariants as kind
-use Rattle.perf_base.specs.declared.lines.PmuLine.{PmuLine}
-use Rattle.perf_base.specs.declared.reasons.SReason.{SReason}
 use Rattle.perf_base.specs.declared.reasons.SReason.TheVariants as reason
-use Rattle.perf_base.specs.Scripts.{AreApart}
-use Rattle.script_spec.specs.Lines.{pieces, words_of, lines_of}
-use Rattle.script_spec.specs.Forms as form
-use Rattle.script_spec.specs.Forms.{Version, Form, IsOfForm}
+use Rattle.script_spec.specs.{Lines.{pieces, words_of, lines_of}, Forms.{Version, Form, IsOfForm}}
 use Rattle.script_spec.specs.Faults.{IsInOrder, IsPrintable, IsNoEnd, IsFaulty, IsSound, AreCovered, IsUnder, IsBehindPmus, section, rank}
-use Rattle.script_spec.specs.Meaning.{pmus_in, script_of}
-use Rattle.script_spec.specs.Texts.{version_of, AreSound, IsRefused}
-use Rattle.line_forms.specs.Reading.{form_at, body_at}
-use Rattle.line_forms.specs.Declarations.{perf_at, machine_at, kind_at}
-use Rattle.line_forms.specs.Leaves.{number, number_at, name, name_at}
-use Rattle.line_forms.specs.Words.{strip}
-use Rattle.line_forms.proofs.Laws.{form-takes, form-again, one_form}
+use Rattle.script_spec.specs.{Meaning.{pmus_in, script_of}, Texts.{version_of, AreSound, IsRefused}}
+use Rattle.script_spec.specs.Forms as form
+use Rattle.line_forms.specs.{Reading.{form_at, body_at}, Declarations.{perf_at, machine_at, kind_at}, Leaves.{number, number_at, name, name_at}}
+use Rattle.line_forms.{specs.Words.{strip}, proofs.Laws.{form-takes, form-again, one_form}}
 use Rattle.script_read.specs.Progress.{AsksOf, IsFirstOf}
 use Rattle.script_read.proofs.Beginning.{sound_line, faulty_line, form_faulty, ascii_faulty, end_faulty, range_first, perf_taken, machine_asks, bare_asks, before_place}
 use Rattle.script_read.proofs.Whole.{sound_more}

@@ -1,27 +1,16 @@
 -- What a form says, where it keeps what is asked of it, the script can hold.
 use Rattle.std.proofs.Common.{◌≡◌, ℕ, zero, suc, ◌-◌, ◌^◌, ◌<◌, ◌≤◌, ◌&&◌, ◌||◌, eqb, ltb, All, List, [], ◌∷◌, map, length, Option, Some, None, option_map, inl, inr, refl, sym, ap, subst, ◌∙◌, arith}
-use Rattle.std.proofs.lemmas.Option.{same_Some}
-use Rattle.std.specs.Prelude.{replicate, IfSome}
-use Rattle.std.specs.Str.{bytes_eq}
-use Rattle.std.proofs.lemmas.Bool.{cases_Bool, ltb-true, and_parts}
-use Rattle.std.proofs.lemmas.List.{length-map, drop_at}
-use Rattle.std.proofs.lemmas.List.Elements.{All-cons, All-head, All-tail, All-append, All-replicate}
-use Rattle.std.proofs.lemmas.List.Quantifiers.{position-Some}
-use Rattle.std.proofs.Math.Nat.{pow-le-pow_right}
-use Rattle.perf_base.specs.declared.attr.Kind.{Kind}
-use Rattle.perf_base.specs.declared.attr.Kind.TheVariants as kind
-use Rattle.perf_base.specs.declared.lines.PmuLine.{PmuLine}
-use Rattle.perf_base.specs.declared.lines.KindLine.{KindLine}
-use Rattle.perf_base.specs.declared.lines.ToolLine.{ToolLine}
+use Rattle.std.proofs.lemmas.{Option.{same_Some}, Bool.{cases_Bool, ltb-true, and_parts}, List.{length-map, drop_at}}
+use Rattle.std.proofs.lemmas.List.{Elements.{All-cons, All-head, All-tail, All-append, All-replicate}, Quantifiers.{position-Some}}
+use Rattle.std.{proofs.Math.Nat.{pow-le-pow_right}, specs.{Prelude.{replicate, IfSome}, Str.{bytes_eq}}}
+use Rattle.perf_base.specs.declared.{attr.Kind.{Kind}, lines.{PmuLine.{PmuLine}, KindLine.{KindLine}, ToolLine.{ToolLine}}}
 use Rattle.perf_base.specs.Scripts.{Scripted, IsPmuLine, IsMaskOf, IsCpuLine, IsToolLine, IsKind, IsTaskSel, IsCpuSel, IsSlot}
-use Rattle.attr_bytes.proofs.Bits.{flags_of_word-few}
-use Rattle.attr_bytes.specs.Kinds.{kind_numbered}
-use Rattle.attr_bytes.specs.Layout.{type_in, config_in, flag_word_in}
-use Rattle.script_spec.specs.Forms as form
-use Rattle.script_spec.specs.Forms.{Hit, CpuForm, ToolForm}
-use Rattle.script_spec.specs.Faults.{IsAmount, IsCpuFormInRange, IsToolFormInRange}
-use Rattle.script_spec.specs.Meaning.{number_of, kind_named, kind_of_bytes, times_of, or_zero, cpu_line_of, tool_line_of, task_sel, cpu_sel, slot, open_line, asked_attr, bytes_attr}
 use Rattle.perf_base.specs.Kinds.{software_kind, software_name}
+use Rattle.perf_base.specs.declared.attr.Kind.TheVariants as kind
+use Rattle.attr_bytes.{proofs.Bits.{flags_of_word-few}, specs.{Kinds.{kind_numbered}, Layout.{type_in, config_in, flag_word_in}}}
+use Rattle.script_spec.specs.{Forms.{Hit, CpuForm, ToolForm}, Faults.{IsAmount, IsCpuFormInRange, IsToolFormInRange}}
+use Rattle.script_spec.specs.Meaning.{number_of, kind_named, kind_of_bytes, times_of, or_zero, cpu_line_of, tool_line_of, task_sel, cpu_sel, slot, open_line, asked_attr, bytes_attr}
+use Rattle.script_spec.specs.Forms as form
 use Rattle.script_read.specs.Names.{IsToolFormNamedOf}
 
 pub mask_small : (pmus : List PmuLine) (n pmu mask : ℕ) → All (IsPmuLine n) pmus → IsMaskOf pmus pmu mask → (pmu < length pmus) × (mask < 2 ^ 16)

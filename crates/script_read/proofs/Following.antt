@@ -1,24 +1,14 @@
 -- The state with one form more is that behind the forms with one more.
 use Rattle.std.proofs.Common.{◌≡◌, ℕ, zero, suc, ◌+◌, ◌-◌, ◌<◌, ◌≤◌, All, List, [], ◌∷◌, ◌++◌, length, Option, Some, None, refl, sym, ap, subst, ◌∙◌, arith}
-use Rattle.std.specs.Prelude.{slice_get, slice_index, filter_map, IfSome}
-use Rattle.std.specs.List.{cons_option}
-use Rattle.std.proofs.lemmas.List.{append-nil, length_push}
-use Rattle.std.proofs.lemmas.List.Elements.{All-push, All-weaker}
-use Rattle.std.proofs.lemmas.List.Quantifiers.{Any-push}
-use Rattle.perf_base.specs.declared.lines.PmuLine.{PmuLine}
-use Rattle.perf_base.specs.Scripts.{Scripted, IsScript}
-use Rattle.script_spec.specs.Forms as form
+use Rattle.std.proofs.lemmas.List.{append-nil, length_push, Elements.{All-push, All-weaker}, Quantifiers.{Any-push}}
+use Rattle.std.specs.{Prelude.{slice_get, slice_index, filter_map, IfSome}, List.{cons_option}}
+use Rattle.perf_base.specs.{declared.lines.PmuLine.{PmuLine}, Scripts.{Scripted, IsScript}}
 use Rattle.script_spec.specs.Forms.{Form}
 use Rattle.script_spec.specs.Meaning.{machine_cpus, pmu_said, processor_said, tool_said, cpus_in, pmus_in, processors_in, tools_in, last_of, script_of}
-use Rattle.script_spec.specs.Faults.{section}
-use Rattle.script_read.specs.declared.state.State.{State}
-use Rattle.script_read.specs.State.{rank_of, part_of, cpu_number, tool_number, union_of, IsGreatest, Follows}
-use Rattle.script_read.specs.Place.{IsPlacedOf}
-use Rattle.script_read.specs.Numbers.{IsInRangeOf}
-use Rattle.script_spec.specs.Saying.{said_by, IsLater}
-use Rattle.script_read.specs.Adding.{next_cpu, next_tool, next_named, IsAdded}
-use Rattle.script_spec.proofs.Snoc.{pushed}
-use Rattle.script_spec.proofs.More.{script_more}
+use Rattle.script_spec.{specs.{Faults.{section}, Saying.{said_by, IsLater}}, proofs.{Snoc.{pushed}, More.{script_more}}}
+use Rattle.script_spec.specs.Forms as form
+use Rattle.script_read.specs.{declared.state.State.{State}, State.{rank_of, part_of, cpu_number, tool_number, union_of, IsGreatest, Follows}}
+use Rattle.script_read.specs.{Place.{IsPlacedOf}, Numbers.{IsInRangeOf}, Adding.{next_cpu, next_tool, next_named, IsAdded}}
 use Rattle.script_read.proofs.Unions.{union_push}
 
 abbrev or_else : Option ℕ → Option ℕ → Option ℕ

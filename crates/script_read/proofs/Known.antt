@@ -1,11 +1,7 @@
 -- Facts that hold or not: each of these can be found out.
 use Rattle.std.proofs.Common.{◌≡◌, ℕ, zero, suc, ◌<◌, ◌≤◌, All, AllPairs, List, [], ◌∷◌, length, get_or, Option, Some, None, inl, inr, refl, sym, subst, arith}
-use Rattle.std.specs.Prelude.{Any, IfSome, IsSome}
-use Rattle.std.specs.Str.{bytes_eq}
-use Rattle.std.proofs.lemmas.Bool.{cases_Bool, cases_lt, cases_order}
-use Rattle.std.proofs.lemmas.List.Elements.{All-cons, All-head, All-tail}
-use Rattle.std.proofs.lemmas.List.Kept.{AllPairs-cons}
-use Rattle.std.proofs.lemmas.Slice.Eq.{bytes_eq-Decides}
+use Rattle.std.proofs.lemmas.{Bool.{cases_Bool, cases_lt, cases_order}, List.{Elements.{All-cons, All-head, All-tail}, Kept.{AllPairs-cons}}}
+use Rattle.std.{proofs.lemmas.Slice.Eq.{bytes_eq-Decides}, specs.{Prelude.{Any, IfSome, IsSome}, Str.{bytes_eq}}}
 
 pub data Known (P : Type 0) : Type 0 where
   Yes : P → Known P

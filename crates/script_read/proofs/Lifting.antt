@@ -1,28 +1,18 @@
 -- What is asked by the state is what is asked by the forms.
 use Rattle.std.proofs.Common.{◌≡◌, ℕ, zero, suc, ◌-◌, ◌<◌, ◌≤◌, ◌↔◌, All, List, [], ◌∷◌, length, get_or, Option, Some, None, option_map, refl, sym, ap, subst, ◌∙◌, arith}
-use Rattle.std.specs.Prelude.{slice_get, bit_and, IfSome, IsSome}
-use Rattle.std.proofs.lemmas.List.Elements.{All-weaker, All-head, All-tail}
-use Rattle.perf_base.specs.declared.numbers.CpuNo.{CpuNo}
-use Rattle.perf_base.specs.declared.reasons.SReason.{SReason}
+use Rattle.std.{proofs.lemmas.List.Elements.{All-weaker, All-head, All-tail}, specs.Prelude.{slice_get, bit_and, IfSome, IsSome}}
+use Rattle.perf_base.specs.{declared.{numbers.CpuNo.{CpuNo}, reasons.SReason.{SReason}}, Cpus.{HasCpu}, Scripts.{Scripted}}
 use Rattle.perf_base.specs.declared.reasons.SReason.TheVariants as reason
-use Rattle.perf_base.specs.Cpus.{HasCpu}
-use Rattle.perf_base.specs.Scripts.{Scripted}
-use Rattle.script_spec.specs.Forms as form
-use Rattle.script_spec.specs.Forms.{Form, CpuForm, ToolForm}
-use Rattle.script_spec.specs.Meaning.{pmus_in, processors_in, tools_in, last_of, script_of}
+use Rattle.script_spec.specs.{Forms.{Form, CpuForm, ToolForm}, Meaning.{pmus_in, processors_in, tools_in, last_of, script_of}}
 use Rattle.script_spec.specs.Faults.{section, IsInOrder, AreCovered, IsUnder, IsBehindPmus, IsPlaced, IsInRange, IsCpuFormNamed, IsToolFormNamed, IsNamed}
-use Rattle.script_read.specs.declared.state.State.{State}
+use Rattle.script_spec.specs.Forms as form
+use Rattle.script_read.specs.declared.{state.State.{State}, fault.LineFault.{LineFault}}
 use Rattle.script_read.specs.State.{rank_of, cpu_number, tool_number, union_of, IsGreatest, Follows}
-use Rattle.script_read.specs.Place.{IsCoveredOf, IsUnderOf, IsInOrderOf, IsBehindOf, IsPlacedOf}
-use Rattle.script_read.specs.Numbers.{IsInRangeOf}
-use Rattle.script_read.specs.Names.{IsCpuFormNamedOf, IsToolFormNamedOf, IsNamedOf, IsWithinLimitsOf, IsLightOf}
-use Rattle.script_read.specs.declared.fault.LineFault.{LineFault}
-use Rattle.script_read.specs.declared.fault.LineFault.TheVariants as fault
-use Rattle.script_read.specs.Adding.{Asks, IsFirst}
-use Rattle.script_read.specs.Fault.{Blames}
-use Rattle.script_read.specs.Progress.{AsksOf, IsFirstOf}
-use Rattle.script_read.proofs.Following.{rank_part, none_empty}
+use Rattle.script_read.specs.{Place.{IsCoveredOf, IsUnderOf, IsInOrderOf, IsBehindOf, IsPlacedOf}, Numbers.{IsInRangeOf}}
+use Rattle.script_read.specs.{Names.{IsCpuFormNamedOf, IsToolFormNamedOf, IsNamedOf, IsWithinLimitsOf, IsLightOf}, Adding.{Asks, IsFirst}}
+use Rattle.script_read.{specs.{Fault.{Blames}, Progress.{AsksOf, IsFirstOf}}, proofs.Following.{rank_part, none_empty}}
 use Rattle.script_read.proofs.Unions.{union_apart, apart_union, covered_any, any_covered}
+use Rattle.script_read.specs.declared.fault.LineFault.TheVariants as fault
 
 -- the state with the script that the forms say in its place
 abbrev with_said : List Form → State → State

@@ -1,19 +1,14 @@
 -- A form that is taken, as a line.
-use Rattle.std.proofs.Common.{◌≡◌, ℕ, false, All, List, [], ◌∷◌, Result, Ok, Err, refl, sym, subst}
-use Rattle.std.specs.Prelude.{IfOk, IfErr}
-use Rattle.script_spec.specs.Lines.{words_of}
+use Rattle.std.{proofs.Common.{◌≡◌, ℕ, false, All, List, [], ◌∷◌, Result, Ok, Err, refl, sym, subst}, specs.Prelude.{IfOk, IfErr}}
+use Rattle.script_spec.specs.{Lines.{words_of}, Forms.{Version, Form, IsOfForm}, Faults.{IsPrintable, IsFaulty}}
 use Rattle.script_spec.specs.Forms as form
-use Rattle.script_spec.specs.Forms.{Version, Form, IsOfForm}
-use Rattle.script_spec.specs.Faults.{IsPrintable, IsFaulty}
-use Rattle.script_read.specs.declared.progress.Progress.{Progress}
+use Rattle.script_read.specs.{declared.{progress.Progress.{Progress}, fault.LineFault.{LineFault}}, Fault.{Blames, fault_of_stop}}
+use Rattle.script_read.specs.Progress.{Behind, IsTaken, IsFirstOf, ended_of, IsTakenLine}
+use Rattle.script_read.proofs.Beginning.{ended_false, sound_line, faulty_line, form_faulty}
 use Rattle.script_read.specs.declared.progress.Progress.TheVariants as progress
-use Rattle.script_read.specs.declared.fault.LineFault.{LineFault}
 use Rattle.script_read.specs.declared.fault.LineFault.TheVariants as fault
 use Rattle.line_forms.specs.declared.stop.LineStop.{LineStop}
 use Rattle.line_forms.specs.declared.stop.LineStop.TheVariants as stop
-use Rattle.script_read.specs.Fault.{Blames, fault_of_stop}
-use Rattle.script_read.specs.Progress.{Behind, IsTaken, IsFirstOf, ended_of, IsTakenLine}
-use Rattle.script_read.proofs.Beginning.{ended_false, sound_line, faulty_line, form_faulty}
 
 version_taken : (forms : List Form) (f : Form) (q : Progress) → ((v : Version) → IsTaken (form.Perf v ∷ []) f q) → (v : Version) × (forms ≡ form.Perf v ∷ []) → IsTaken forms f q
 version_taken forms f q h x = subst (λ fs. IsTaken fs f q) (sym x.1) (h x.0)

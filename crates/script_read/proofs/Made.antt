@@ -1,17 +1,10 @@
 -- The lines that forms say.
 use Rattle.std.proofs.Common.{◌≡◌, ℕ, suc, ◌+◌, ◌-◌, ◌<◌, ◌≤◌, List, [], ◌∷◌, ◌++◌, map, length, get_or, set, take, Option, Some, option_map, refl, sym, ap, subst, ◌∙◌, arith}
+use Rattle.std.proofs.lemmas.{List.{take_more, map_push, length-map, length-take-le}, Option.{slice_get-get_or}}
 use Rattle.std.specs.Prelude.{replicate, slice_get, IfSome}
-use Rattle.std.proofs.lemmas.List.{take_more, map_push, length-map, length-take-le}
-use Rattle.std.proofs.lemmas.Option.{slice_get-get_or}
-use Rattle.perf_base.specs.declared.attr.Attr.{Attr}
-use Rattle.perf_base.specs.declared.attr.Kind.{Kind}
-use Rattle.perf_base.specs.declared.lines.KindLine.{KindLine}
-use Rattle.perf_base.specs.declared.lines.ToolLine.{ToolLine}
-use Rattle.attr_bytes.specs.declared.raw.RawAttr.{RawAttr}
-use Rattle.attr_bytes.specs.Standing.{StandsFor}
-use Rattle.attr_bytes.specs.Kinds.{kind_numbered}
-use Rattle.script_spec.specs.Forms.{Opening}
-use Rattle.script_spec.specs.Meaning.{open_line, bytes_attr, task_sel, cpu_sel, kind_of_bytes}
+use Rattle.perf_base.specs.declared.{attr.{Attr.{Attr}, Kind.{Kind}}, lines.{KindLine.{KindLine}, ToolLine.{ToolLine}}}
+use Rattle.attr_bytes.specs.{declared.raw.RawAttr.{RawAttr}, Standing.{StandsFor}, Kinds.{kind_numbered}}
+use Rattle.script_spec.specs.{Forms.{Opening}, Meaning.{open_line, bytes_attr, task_sel, cpu_sel, kind_of_bytes}}
 
 -- an attribute that was read, opened there
 abbrev attr_by : Opening → RawAttr → Kind → Attr

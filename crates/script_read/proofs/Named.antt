@@ -1,14 +1,10 @@
 -- The kinds of a work line.
-use Rattle.std.proofs.Common.{◌≡◌, ◌≢◌, ◌↔◌, Bool, true, false, All, AllPairs, List, map}
+use Rattle.std.proofs.{Common.{◌≡◌, ◌≢◌, ◌↔◌, Bool, true, false, All, AllPairs, List, map}, lemmas.List.Elements.{All-map}}
 use Rattle.std.specs.Prelude.{IsTrue, Any}
-use Rattle.std.proofs.lemmas.List.Elements.{All-map}
 use Rattle.perf_base.specs.declared.lines.KindLine.{KindLine}
 use Rattle.script_spec.specs.Forms as form
-use Rattle.line_forms.specs.declared.forms.Hit.{Hit}
-use Rattle.line_forms.specs.Forms.{hit_of}
-use Rattle.script_read.specs.Names.{AreKindsIn}
-use Rattle.script_read.proofs.Ranges.{un_map}
-use Rattle.script_read.proofs.Called.{apart_map}
+use Rattle.line_forms.specs.{declared.forms.Hit.{Hit}, Forms.{hit_of}}
+use Rattle.script_read.{specs.Names.{AreKindsIn}, proofs.{Ranges.{un_map}, Called.{apart_map}}}
 
 abbrev pub IsKnown : List KindLine → Hit → Type 0
 IsKnown kinds h = Any (λ k. k.name ≡ h.name) kinds

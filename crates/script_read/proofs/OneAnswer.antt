@@ -1,21 +1,14 @@
 -- A text stands for at most one script, or is refused at one line for one reason, and never both.
 use Rattle.std.proofs.Common.{◌≡◌, ℕ, zero, suc, ◌+◌, ◌<◌, ◌≤◌, ◌⊎◌, All, List, [], ◌∷◌, length, length-take-le, get_or, take, Result, Ok, Err, inl, inr, refl, sym, ap, subst, ◌∙◌, arith}
-use Rattle.std.specs.Prelude.{Any, IfOk, IfErr, MatchResult}
-use Rattle.std.proofs.lemmas.Bool.{cases_order}
-use Rattle.std.proofs.lemmas.List.{ext_get_or, get_or-take}
-use Rattle.perf_base.specs.declared.reasons.SReason.{SReason}
+use Rattle.std.{proofs.lemmas.{Bool.{cases_order}, List.{ext_get_or, get_or-take}}, specs.Prelude.{Any, IfOk, IfErr, MatchResult}}
+use Rattle.perf_base.specs.{declared.reasons.SReason.{SReason}, Scripts.{Scripted}}
 use Rattle.perf_base.specs.declared.reasons.SReason.TheVariants as reason
-use Rattle.perf_base.specs.Scripts.{Scripted}
-use Rattle.script_spec.specs.Lines.{words_of, lines_of}
-use Rattle.script_spec.specs.Forms as form
-use Rattle.script_spec.specs.Forms.{Version, Form}
-use Rattle.script_spec.specs.Meaning.{script_of}
-use Rattle.script_spec.specs.Faults.{IsNoEnd, IsSound, IsFaulty, rank}
+use Rattle.script_spec.specs.{Lines.{words_of, lines_of}, Forms.{Version, Form}, Meaning.{script_of}, Faults.{IsNoEnd, IsSound, IsFaulty, rank}}
 use Rattle.script_spec.specs.Texts.{version_of, AreSound, StandsFor, HasFaultyLine, IsRefused}
+use Rattle.script_spec.specs.Forms as form
 use Rattle.line_forms.proofs.Laws.{one_form}
-use Rattle.script_read.specs.declared.fault.ScriptFault.{ScriptFault}
+use Rattle.script_read.specs.{declared.fault.ScriptFault.{ScriptFault}, Reading.{IsBlamed}}
 use Rattle.script_read.specs.declared.fault.ScriptFault.TheVariants as fault
-use Rattle.script_read.specs.Reading.{IsBlamed}
 
 take_front : {X : Type 0} (k n : ℕ) (xs : List X) → k ≤ n → take k (take n xs) ≡ take k xs
 take_front zero n xs l = refl

@@ -1,11 +1,7 @@
 -- Numbers, masks and lists in their ranges.
-use Rattle.std.proofs.Common.{◌≡◌, ℕ, ◌↔◌, List, [], ◌∷◌, map, All, Option, Some, None, option_map, subst, arith}
-use Rattle.std.proofs.lemmas.Option.{same_Some}
-use Rattle.std.specs.Prelude.{slice_get, MatchOption}
-use Rattle.std.proofs.lemmas.List.Elements.{All-cons, All-head, All-tail, All-map}
-use Rattle.perf_base.specs.Masks.{IsMask}
-use Rattle.perf_base.specs.declared.lines.PmuLine.{PmuLine}
-use Rattle.perf_base.specs.Scripts.{IsMaskOf}
+use Rattle.std.proofs.{Common.{◌≡◌, ℕ, ◌↔◌, List, [], ◌∷◌, map, All, Option, Some, None, option_map, subst, arith}, lemmas.Option.{same_Some}}
+use Rattle.std.{proofs.lemmas.List.Elements.{All-cons, All-head, All-tail, All-map}, specs.Prelude.{slice_get, MatchOption}}
+use Rattle.perf_base.specs.{Masks.{IsMask}, declared.lines.PmuLine.{PmuLine}, Scripts.{IsMaskOf}}
 
 pub mask_at : (pmus : List PmuLine) (pmu mask counters : ℕ) → Some counters ≡ option_map (λ p. p.counters) (slice_get pmus pmu) → IsMask counters mask → IsMaskOf pmus pmu mask
 mask_at pmus pmu mask counters e h = go (slice_get pmus pmu) e

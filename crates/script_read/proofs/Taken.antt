@@ -1,15 +1,10 @@
 -- The refusal of a form under a tool, by what its bytes are asked for.
-use Rattle.std.proofs.Common.{◌↔◌}
-use Rattle.std.specs.Prelude.{IsSome}
+use Rattle.std.{proofs.Common.{◌↔◌}, specs.Prelude.{IsSome}}
 use Rattle.perf_base.specs.declared.reasons.SReason.{SReason}
 use Rattle.perf_base.specs.declared.reasons.SReason.TheVariants as reason
+use Rattle.script_spec.specs.{Forms.{ToolForm}, Faults.{HasAttr}}
 use Rattle.script_spec.specs.Forms as form
-use Rattle.script_spec.specs.Forms.{ToolForm}
-use Rattle.script_spec.specs.Faults.{HasAttr}
-use Rattle.script_read.specs.declared.state.State.{State}
-use Rattle.script_read.specs.Names.{HasAttrIn}
-use Rattle.script_read.specs.Lines.{RefusesToolForm}
-use Rattle.script_read.specs.Adding.{Refuses}
+use Rattle.script_read.specs.{declared.state.State.{State}, Names.{HasAttrIn}, Lines.{RefusesToolForm}, Adding.{Refuses}}
 
 attr_in : (f : ToolForm) → HasAttrIn f ↔ HasAttr (form.OnTool f)
 attr_in (form.OpenAttr place bytes) = (λ h. h, λ h. h)

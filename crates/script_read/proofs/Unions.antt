@@ -1,15 +1,8 @@
 -- The processors of all PMUs, by bits.
 use Rattle.std.proofs.Common.{◌≡◌, ℕ, zero, suc, ◌<◌, ◌⊎◌, min, max, All, List, [], ◌∷◌, ◌++◌, length, get_or, inl, inr, refl, sym, ap, ◌∙◌, arith}
-use Rattle.std.specs.Prelude.{bit_and, bit_or, Any}
-use Rattle.std.specs.Int.{bit_at}
-use Rattle.std.proofs.lemmas.Bool.{cases_lt}
-use Rattle.std.proofs.lemmas.Nat.{or_comm}
-use Rattle.std.proofs.lemmas.Nat.Bits.{bit_at_and, bit_at_or, bit_at-zero, bit_at-lt, same_from_bits}
-use Rattle.std.proofs.lemmas.List.Elements.{All-cons, All-head, All-tail}
-use Rattle.perf_base.specs.declared.numbers.CpuNo.{CpuNo}
-use Rattle.perf_base.specs.declared.lines.PmuLine.{PmuLine}
-use Rattle.perf_base.specs.Cpus.{HasCpu}
-use Rattle.perf_base.proofs.Bits.{apart_bits}
+use Rattle.std.proofs.lemmas.{Bool.{cases_lt}, Nat.{or_comm, Bits.{bit_at_and, bit_at_or, bit_at-zero, bit_at-lt, same_from_bits}}}
+use Rattle.std.{proofs.lemmas.List.Elements.{All-cons, All-head, All-tail}, specs.{Prelude.{bit_and, bit_or, Any}, Int.{bit_at}}}
+use Rattle.perf_base.{specs.{declared.{numbers.CpuNo.{CpuNo}, lines.PmuLine.{PmuLine}}, Cpus.{HasCpu}}, proofs.Bits.{apart_bits}}
 use Rattle.script_read.specs.State.{union_of}
 
 bits_apart : (a b : ℕ) → ((i : ℕ) → min (bit_at a i) (bit_at b i) ≡ 0) → bit_and a b ≡ 0

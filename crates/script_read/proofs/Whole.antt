@@ -1,25 +1,17 @@
 -- Line after line, and the whole text.
 use Rattle.std.proofs.Common.{◌≡◌, ℕ, ◌+◌, ◌<◌, true, List, [], ◌∷◌, ◌++◌, length, length-append, get_or, take, inl, inr, refl, sym, ap, subst, ◌∙◌, arith, append_assoc}
+use Rattle.std.proofs.lemmas.{Bool.{cases_lt, eqb-true}, List.{append-nil, length_push, take-append-le, take_at, get_or_append_left}}
 use Rattle.std.specs.Prelude.{Any}
-use Rattle.std.proofs.lemmas.Bool.{cases_lt, eqb-true}
-use Rattle.std.proofs.lemmas.List.{append-nil, length_push, take-append-le, take_at, get_or_append_left}
-use Rattle.perf_base.specs.declared.reasons.SReason.{SReason}
-use Rattle.perf_base.specs.Scripts.{Scripted}
-use Rattle.script_spec.specs.Lines.{lines_of, rest_of}
-use Rattle.script_spec.specs.Forms as form
-use Rattle.script_spec.specs.Forms.{Version, Form}
-use Rattle.script_spec.specs.Meaning.{script_of}
-use Rattle.script_spec.specs.Faults.{section, IsSound, IsFaulty}
+use Rattle.perf_base.specs.{declared.reasons.SReason.{SReason}, Scripts.{Scripted}}
+use Rattle.script_spec.specs.{Lines.{lines_of, rest_of}, Forms.{Version, Form}, Meaning.{script_of}, Faults.{section, IsSound, IsFaulty}}
 use Rattle.script_spec.specs.Texts.{version_of, AreSound, StandsFor, IsRefused}
-use Rattle.script_read.specs.declared.progress.Progress.{Progress}
-use Rattle.script_read.specs.declared.progress.Progress.TheVariants as progress
-use Rattle.script_read.specs.declared.fault.ScriptFault.{ScriptFault}
-use Rattle.script_read.specs.declared.fault.ScriptFault.TheVariants as fault
-use Rattle.script_read.specs.declared.fault.LineFault.{LineFault}
-use Rattle.script_read.specs.declared.fault.LineFault.TheVariants as line_fault
-use Rattle.script_read.specs.Fault.{Blames}
+use Rattle.script_spec.specs.Forms as form
+use Rattle.script_read.specs.{declared.{progress.Progress.{Progress}, fault.{ScriptFault.{ScriptFault}, LineFault.{LineFault}}}, Fault.{Blames}}
 use Rattle.script_read.specs.Progress.{Behind, ended_of, IsTakenLine}
 use Rattle.script_read.specs.Reading.{IsNextLine, HasNoLine, IsReading, Says, IsFinished, IsBlamed, blamed_of}
+use Rattle.script_read.specs.declared.progress.Progress.TheVariants as progress
+use Rattle.script_read.specs.declared.fault.ScriptFault.TheVariants as fault
+use Rattle.script_read.specs.declared.fault.LineFault.TheVariants as line_fault
 
 get_last : {X : Type 0} (xs : List X) (x d : X) (rest : List X) → get_or (xs ++ x ∷ rest) (length xs) d ≡ x
 get_last [] x d rest = refl

@@ -2,16 +2,10 @@
 use Rattle.std.specs.Prelude.{◌≡◌, ℕ, ◌<◌, bit_or, Option, Some, IfSome}
 use Rattle.perf_base.specs.declared.reasons.SReason.{SReason}
 use Rattle.perf_base.specs.declared.reasons.SReason.TheVariants as reason
+use Rattle.script_spec.specs.{Forms.{Form}, Saying.{said_by}, Faults.{HasAttr}}
 use Rattle.script_spec.specs.Forms as form
-use Rattle.script_spec.specs.Forms.{Form}
-use Rattle.script_spec.specs.Saying.{said_by}
-use Rattle.script_spec.specs.Faults.{HasAttr}
-use Rattle.script_read.specs.declared.state.State.{State}
-use Rattle.script_read.specs.Fault.{AsksThese, IsFirstBroken}
-use Rattle.script_read.specs.State.{cpu_number, tool_number, union_of}
-use Rattle.script_read.specs.Place.{IsPlacedOf, HasHeader}
-use Rattle.script_read.specs.Numbers.{IsInRangeOf}
-use Rattle.script_read.specs.Names.{IsNamedOf, IsWithinLimitsOf, IsLightOf}
+use Rattle.script_read.specs.{declared.state.State.{State}, Fault.{AsksThese, IsFirstBroken}, State.{cpu_number, tool_number, union_of}}
+use Rattle.script_read.specs.{Place.{IsPlacedOf, HasHeader}, Numbers.{IsInRangeOf}, Names.{IsNamedOf, IsWithinLimitsOf, IsLightOf}}
 
 -- what each reason asks of a form there, and the first reason for which it is refused
 abbrev pub Asks : State → Form → SReason → Type 0

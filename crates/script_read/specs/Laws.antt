@@ -1,7 +1,6 @@
 -- What holds of every text, whether it is read or not. This project's own profile.
 use Rattle.std.specs.Prelude.{◌≡◌, ℕ, ◌⊎◌, List}
-use Rattle.perf_base.specs.declared.reasons.SReason.{SReason}
-use Rattle.perf_base.specs.Scripts.{Scripted}
+use Rattle.perf_base.specs.{declared.reasons.SReason.{SReason}, Scripts.{Scripted}}
 use Rattle.script_spec.specs.Texts.{StandsFor, IsRefused}
 
 -- A text stands for at most one script, or is refused at one line for one reason, and never both; and one of the two

@@ -1,14 +1,9 @@
 -- What the making of a line gives, and for which reasons it is refused. This project's own profile.
 use Rattle.std.specs.Prelude.{◌≡◌, List, Some}
-use Rattle.perf_base.specs.declared.lines.CpuLine.{CpuLine}
-use Rattle.perf_base.specs.declared.lines.KindLine.{KindLine}
-use Rattle.perf_base.specs.declared.lines.ToolLine.{ToolLine}
-use Rattle.perf_base.specs.declared.reasons.SReason.{SReason}
-use Rattle.perf_base.specs.declared.reasons.SReason.TheVariants as reason
+use Rattle.perf_base.specs.declared.{lines.{CpuLine.{CpuLine}, KindLine.{KindLine}, ToolLine.{ToolLine}}, reasons.SReason.{SReason}}
 use Rattle.perf_base.specs.Scripts.{Scripted}
-use Rattle.script_spec.specs.Forms.{CpuForm, ToolForm}
-use Rattle.script_spec.specs.Faults.{IsCpuFormInRange, IsToolFormInRange}
-use Rattle.script_spec.specs.Meaning.{cpu_line_of, tool_line_of}
+use Rattle.perf_base.specs.declared.reasons.SReason.TheVariants as reason
+use Rattle.script_spec.specs.{Forms.{CpuForm, ToolForm}, Faults.{IsCpuFormInRange, IsToolFormInRange}, Meaning.{cpu_line_of, tool_line_of}}
 use Rattle.script_read.specs.Names.{IsCpuFormNamedOf, HasAttrIn, IsToolFormNamedOf}
 
 -- the form keeps what is asked of it, and the line is what it says

@@ -1,12 +1,9 @@
 -- What is asked of names, of the script so far. This project's own profile.
 use Rattle.std.specs.Prelude.{◌≡◌, ◌≢◌, ℕ, ◌<◌, ◌≤◌, List, length, All, AllPairs, Any, IsSome, None}
-use Rattle.perf_base.specs.declared.lines.KindLine.{KindLine}
-use Rattle.perf_base.specs.Scripts.{Scripted, IsFreeName, HasRing, IsAct, line_count}
-use Rattle.perf_base.specs.Weight.{weight}
+use Rattle.perf_base.specs.{declared.lines.KindLine.{KindLine}, Scripts.{Scripted, IsFreeName, HasRing, IsAct, line_count}, Weight.{weight}}
 use Rattle.attr_bytes.specs.Faults.{fault_of}
+use Rattle.script_spec.specs.{Forms.{Hit, CpuForm, ToolForm, Form}, Meaning.{kind_named, kind_of_bytes}}
 use Rattle.script_spec.specs.Forms as form
-use Rattle.script_spec.specs.Forms.{Hit, CpuForm, ToolForm, Form}
-use Rattle.script_spec.specs.Meaning.{kind_named, kind_of_bytes}
 use Rattle.script_read.specs.declared.state.State.{State}
 
 abbrev pub IsNewIn : List KindLine → List ℕ → Type 0

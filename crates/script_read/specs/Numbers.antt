@@ -1,19 +1,12 @@
 -- What the ranges of numbers and masks ask, of the script so far and what the state keeps beside it. This project's own
 -- profile.
 use Rattle.std.specs.Prelude.{◌≡◌, ℕ, ◌<◌, ◌≤◌, ◌^◌, bit_and, List, length, All, Option, option_map, IfSome}
-use Rattle.perf_base.specs.declared.numbers.RingNo.{RingNo}
-use Rattle.perf_base.specs.declared.numbers.TaskNo.{TaskNo}
-use Rattle.perf_base.specs.declared.lines.PmuLine.{PmuLine}
-use Rattle.perf_base.specs.declared.lines.ReaderLine.{ReaderLine}
+use Rattle.perf_base.specs.declared.{numbers.{RingNo.{RingNo}, TaskNo.{TaskNo}}, lines.{PmuLine.{PmuLine}, ReaderLine.{ReaderLine}}}
 use Rattle.perf_base.specs.Scripts.{IsPmuLine, IsMaskOf, IsRingLine}
-use Rattle.script_spec.specs.Acts.{IsActInRange}
-use Rattle.script_spec.specs.Forms as form
-use Rattle.script_spec.specs.Forms.{Opening, Form}
-use Rattle.script_spec.specs.Meaning.{slot, task_sel, cpu_sel}
+use Rattle.script_spec.specs.{Acts.{IsActInRange}, Forms.{Opening, Form}, Meaning.{slot, task_sel, cpu_sel}}
 use Rattle.script_spec.specs.Faults.{IsBetween, IsWide, IsTaskNumber, IsCpuFormInRange, IsToolFormInRange}
-use Rattle.script_read.specs.declared.numbers.Place.{Place}
-use Rattle.script_read.specs.declared.state.State.{State}
-use Rattle.script_read.specs.State.{cpu_number, tool_number}
+use Rattle.script_spec.specs.Forms as form
+use Rattle.script_read.specs.{declared.{numbers.Place.{Place}, state.State.{State}}, State.{cpu_number, tool_number}}
 
 -- the next PMU, with none of the processors that are named
 pub record IsNextPmuOf (cpus : ℕ) (pmus : List PmuLine) (named number counters own : ℕ) : Type 0 where

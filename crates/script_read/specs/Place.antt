@@ -1,12 +1,10 @@
 -- Where a form may stand: the sections in their order, PMUs for all processors, and headers. This project's own
 -- profile.
 use Rattle.std.specs.Prelude.{◌<◌, ◌≤◌, IsSome}
-use Rattle.perf_base.specs.declared.numbers.CpuNo.{CpuNo}
-use Rattle.perf_base.specs.Cpus.{HasCpu}
-use Rattle.script_spec.specs.Forms as form
+use Rattle.perf_base.specs.{declared.numbers.CpuNo.{CpuNo}, Cpus.{HasCpu}}
 use Rattle.script_spec.specs.Forms.{Form}
-use Rattle.script_read.specs.declared.state.State.{State}
-use Rattle.script_read.specs.State.{rank_of, part_of}
+use Rattle.script_spec.specs.Forms as form
+use Rattle.script_read.specs.{declared.state.State.{State}, State.{rank_of, part_of}}
 
 -- each processor is of some PMU
 abbrev pub IsCoveredOf : State → Type 0

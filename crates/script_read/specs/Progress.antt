@@ -1,13 +1,10 @@
 -- How far a text is read, by the forms of its lines so far. This project's own profile.
 use Rattle.std.specs.Prelude.{◌≡◌, ℕ, List, [], ◌∷◌, ◌++◌, Bool, false, ◌==◌}
 use Rattle.perf_base.specs.declared.reasons.SReason.{SReason}
+use Rattle.script_spec.specs.{Forms.{Version, Form}, Faults.{IsPlaced, IsInRange, HasAttr, IsNamed, IsWithinLimits, IsWithinWeight, IsSound}}
 use Rattle.script_spec.specs.Forms as form
-use Rattle.script_spec.specs.Forms.{Version, Form}
-use Rattle.script_spec.specs.Faults.{IsPlaced, IsInRange, HasAttr, IsNamed, IsWithinLimits, IsWithinWeight, IsSound}
-use Rattle.script_read.specs.declared.progress.Progress.{Progress}
+use Rattle.script_read.specs.{declared.progress.Progress.{Progress}, Fault.{AsksThese, IsFirstBroken}, State.{rank_of, Follows}}
 use Rattle.script_read.specs.declared.progress.Progress.TheVariants as progress
-use Rattle.script_read.specs.Fault.{AsksThese, IsFirstBroken}
-use Rattle.script_read.specs.State.{rank_of, Follows}
 
 -- the lines so far are of these forms
 abbrev pub Behind : List Form → Progress → Type 0

@@ -1,17 +1,13 @@
 -- What reading gives, line by line and at the end. This project's own profile.
 use Rattle.std.specs.Prelude.{◌≡◌, ◌≢◌, ℕ, ◌+◌, ◌<◌, ◌≤◌, ◌⊎◌, true, false, List, [], ◌∷◌, ◌++◌, length, take}
-use Rattle.perf_base.specs.declared.reasons.SReason.TheVariants as reason
 use Rattle.perf_base.specs.Scripts.{Scripted}
-use Rattle.script_spec.specs.Lines.{lines_of, rest_of}
-use Rattle.script_spec.specs.Forms.{Form}
-use Rattle.script_spec.specs.Texts.{version_of, AreSound, IsRefused}
-use Rattle.script_read.specs.declared.progress.Progress.{Progress}
-use Rattle.script_read.specs.declared.progress.Progress.TheVariants as progress
-use Rattle.script_read.specs.declared.fault.ScriptFault.{ScriptFault}
-use Rattle.script_read.specs.declared.fault.ScriptFault.TheVariants as fault
-use Rattle.script_read.specs.declared.fault.LineFault.{LineFault}
-use Rattle.script_read.specs.declared.fault.LineFault.TheVariants as line_fault
+use Rattle.perf_base.specs.declared.reasons.SReason.TheVariants as reason
+use Rattle.script_spec.specs.{Lines.{lines_of, rest_of}, Forms.{Form}, Texts.{version_of, AreSound, IsRefused}}
+use Rattle.script_read.specs.declared.{progress.Progress.{Progress}, fault.{ScriptFault.{ScriptFault}, LineFault.{LineFault}}}
 use Rattle.script_read.specs.Progress.{Behind, ended_of}
+use Rattle.script_read.specs.declared.progress.Progress.TheVariants as progress
+use Rattle.script_read.specs.declared.fault.ScriptFault.TheVariants as fault
+use Rattle.script_read.specs.declared.fault.LineFault.TheVariants as line_fault
 
 -- the next line and what is behind it, or nothing but the rest
 pub record IsNextLine (text line more : List ℕ) : Type 0 where

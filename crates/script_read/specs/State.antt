@@ -1,15 +1,10 @@
 -- What the state of the reader says of the forms of the lines so far. This project's own profile.
 use Rattle.std.specs.Prelude.{◌≡◌, ℕ, ◌<◌, ◌≤◌, bit_or, List, [], ◌∷◌, length, All, Any, Option, option_map, IfSome}
-use Rattle.perf_base.specs.declared.numbers.CpuNo.{CpuNo}
-use Rattle.perf_base.specs.declared.numbers.ToolNo.{ToolNo}
-use Rattle.perf_base.specs.declared.lines.PmuLine.{PmuLine}
+use Rattle.perf_base.specs.declared.{numbers.{CpuNo.{CpuNo}, ToolNo.{ToolNo}}, lines.PmuLine.{PmuLine}}
+use Rattle.script_spec.specs.{Forms.{Form}, Meaning.{cpus_in, pmus_in, processors_in, tools_in, last_of, script_of}, Faults.{section}}
 use Rattle.script_spec.specs.Forms as form
-use Rattle.script_spec.specs.Forms.{Form}
-use Rattle.script_spec.specs.Meaning.{cpus_in, pmus_in, processors_in, tools_in, last_of, script_of}
-use Rattle.script_spec.specs.Faults.{section}
-use Rattle.script_read.specs.declared.state.Section.{Section}
+use Rattle.script_read.specs.declared.state.{Section.{Section}, State.{State}}
 use Rattle.script_read.specs.declared.state.Section.TheVariants as part
-use Rattle.script_read.specs.declared.state.State.{State}
 
 -- the place of a section among all
 abbrev pub rank_of : Section → ℕ

@@ -1,15 +1,11 @@
 -- The script with one form more, form by form.
 use Rattle.std.proofs.Common.{◌≡◌, ◌≢◌, ℕ, ◌+◌, ◌<◌, Bool, true, false, cond, eqb, List, [], ◌∷◌, ◌++◌, map, get_or, set, Option, Some, None, refl, sym, ap, ◌∙◌, arith}
-use Rattle.std.specs.Prelude.{slice_index, filter_map, IfSome}
-use Rattle.std.specs.List.{cons_option}
-use Rattle.std.proofs.lemmas.Bool.{eq-eqb, ne_eqb}
-use Rattle.std.proofs.lemmas.List.{append-nil}
+use Rattle.std.{proofs.lemmas.{Bool.{eq-eqb, ne_eqb}, List.{append-nil}}, specs.{Prelude.{slice_index, filter_map, IfSome}, List.{cons_option}}}
 use Rattle.perf_base.specs.declared.lines.ToolLine.{ToolLine}
-use Rattle.script_spec.specs.Forms as form
 use Rattle.script_spec.specs.Forms.{Form, CpuForm, ToolForm}
 use Rattle.script_spec.specs.Meaning.{machine_cpus, pmu_said, kind_said, task_said, ring_said, reader_said, acts_said, cpus_in, pmus_in, kinds_in, tasks_in, rings_in, processors_in, tools_in, readers_in, acts_in, cpu_line_of, tool_line_of, last_of, cpu_line_at, tool_line_at, cpu_lines_in, tool_lines_in, script_of}
-use Rattle.script_spec.specs.Saying.{said_by, GrowingLaw}
-use Rattle.script_spec.proofs.Snoc.{pushed, cpu_lines_more, tool_lines_more, acts_more, one_longer, map_same}
+use Rattle.script_spec.{specs.Saying.{said_by, GrowingLaw}, proofs.Snoc.{pushed, cpu_lines_more, tool_lines_more, acts_more, one_longer, map_same}}
+use Rattle.script_spec.specs.Forms as form
 
 abbrev cpus_list : List ℕ
 cpus_list = 0 ∷ 1 ∷ 2 ∷ 3 ∷ 4 ∷ 5 ∷ 6 ∷ 7 ∷ []

@@ -1,12 +1,8 @@
 -- The script that forms say, with one form more.
 use Rattle.std.proofs.Common.{◌≡◌, ◌≢◌, ℕ, zero, suc, ◌+◌, ◌<◌, List, [], ◌∷◌, ◌++◌, map, get_or, set, Option, refl, sym, ap, subst, ◌∙◌, arith, append_assoc}
-use Rattle.std.specs.Prelude.{filter_map}
+use Rattle.std.{proofs.lemmas.{List.{append-nil, Elements.{filter_map-append}}, Grind.{flat_map-append}}, specs.Prelude.{filter_map}}
 use Rattle.std.specs.List.{cons_option}
-use Rattle.std.proofs.lemmas.List.{append-nil}
-use Rattle.std.proofs.lemmas.List.Elements.{filter_map-append}
-use Rattle.std.proofs.lemmas.Grind.{flat_map-append}
-use Rattle.script_spec.specs.Forms.{Form}
-use Rattle.script_spec.specs.Meaning.{acts_said, acts_in, cpu_line_at, tool_line_at, each_behind, cpu_lines_in, tool_lines_in}
+use Rattle.script_spec.specs.{Forms.{Form}, Meaning.{acts_said, acts_in, cpu_line_at, tool_line_at, each_behind, cpu_lines_in, tool_lines_in}}
 
 pub pushed : {Y : Type 0} (h : Form → Option Y) (forms : List Form) (f : Form) → filter_map h (forms ++ f ∷ []) ≡ filter_map h forms ++ cons_option (h f) []
 pushed h forms f = filter_map-append h forms (f ∷ [])

@@ -1,14 +1,9 @@
 -- The forms that a line of a script can have, and how each is spelled. This project's own profile.
 use Rattle.std.specs.Prelude.{◌≡◌, ◌≢◌, ℕ, ◌/◌, ◌%◌, ◌^◌, ◌<◌, ◌≤◌, ◌==◌, Bool, true, false, List, [], ◌∷◌, ◌++◌, length, map, flat_map, filter, All, Option, Some, None, IfSome, slice_index_or, codes, decimal}
-use Rattle.std.specs.Fmt.{digits, digit_glyph}
-use Rattle.std.specs.List.{join_with_byte}
-use Rattle.std.specs.Int.{bit_at}
-use Rattle.perf_base.specs.declared.lines.Mode.{Mode}
+use Rattle.std.specs.{Fmt.{digits, digit_glyph}, List.{join_with_byte}, Int.{bit_at}}
+use Rattle.perf_base.specs.{declared.{lines.Mode.{Mode}, acts.Act.{Act}}, Flags.{flag_table}, Scripts.{IsName}}
 use Rattle.perf_base.specs.declared.lines.Mode.TheVariants as mode
-use Rattle.perf_base.specs.declared.acts.Act.{Act}
 use Rattle.perf_base.specs.declared.acts.Act.TheVariants as act
-use Rattle.perf_base.specs.Flags.{flag_table}
-use Rattle.perf_base.specs.Scripts.{IsName}
 use Rattle.script_spec.specs.Acts.{act_text}
 
 -- version one has one PMU on all processors, version two has PMUs of their own

@@ -1,33 +1,20 @@
 -- The script that the forms of a text say: each part is read off the whole list of forms. This project's own
 -- profile.
 use Rattle.std.specs.Prelude.{ℕ, ◌-◌, ◌^◌, ◌==◌, Bool, false, List, [], ◌∷◌, ◌++◌, length, map, filter_map, flat_map, position, replicate, slice_get, slice_index, Option, Some, None, option_map, unwrap_or, if◌then◌else◌}
-use Rattle.std.specs.Option.{option_or}
-use Rattle.std.specs.Str.{bytes_eq}
-use Rattle.perf_base.specs.declared.numbers.EventNo.{EventNo}
-use Rattle.perf_base.specs.declared.numbers.RingNo.{RingNo}
-use Rattle.perf_base.specs.declared.numbers.TaskNo.{TaskNo}
-use Rattle.perf_base.specs.declared.attr.Attr.{Attr}
-use Rattle.perf_base.specs.declared.attr.Kind.{Kind}
-use Rattle.perf_base.specs.declared.attr.Kind.TheVariants as kind
-use Rattle.perf_base.specs.declared.attr.TaskSel.{TaskSel}
-use Rattle.perf_base.specs.declared.attr.TaskSel.TheVariants as tasks
-use Rattle.perf_base.specs.declared.attr.CpuSel.{CpuSel}
-use Rattle.perf_base.specs.declared.attr.CpuSel.TheVariants as cpus
-use Rattle.perf_base.specs.declared.lines.PmuLine.{PmuLine}
-use Rattle.perf_base.specs.declared.lines.KindLine.{KindLine}
-use Rattle.perf_base.specs.declared.lines.CpuLine.{CpuLine}
-use Rattle.perf_base.specs.declared.lines.CpuLine.TheVariants as cpu_line
-use Rattle.perf_base.specs.declared.lines.ToolLine.{ToolLine}
-use Rattle.perf_base.specs.declared.lines.ToolLine.TheVariants as tool_line
-use Rattle.perf_base.specs.declared.lines.ReaderLine.{ReaderLine}
-use Rattle.perf_base.specs.declared.acts.Act.{Act}
-use Rattle.perf_base.specs.Scripts.{Scripted}
+use Rattle.std.specs.{Option.{option_or}, Str.{bytes_eq}}
+use Rattle.perf_base.specs.declared.{numbers.{EventNo.{EventNo}, RingNo.{RingNo}, TaskNo.{TaskNo}}, attr.{Attr.{Attr}, Kind.{Kind}}}
+use Rattle.perf_base.specs.declared.{attr.{TaskSel.{TaskSel}, CpuSel.{CpuSel}}, lines.{PmuLine.{PmuLine}, KindLine.{KindLine}, CpuLine.{CpuLine}}}
+use Rattle.perf_base.specs.{declared.{lines.{ToolLine.{ToolLine}, ReaderLine.{ReaderLine}}, acts.Act.{Act}}, Scripts.{Scripted}}
 use Rattle.perf_base.specs.Kinds.{software_kind}
-use Rattle.attr_bytes.specs.Layout.{type_in, config_in, sample_period_in, sample_type_in, read_format_in, flag_word_in}
-use Rattle.attr_bytes.specs.Kinds.{kind_numbered}
+use Rattle.perf_base.specs.declared.attr.Kind.TheVariants as kind
+use Rattle.perf_base.specs.declared.attr.TaskSel.TheVariants as tasks
+use Rattle.perf_base.specs.declared.attr.CpuSel.TheVariants as cpus
+use Rattle.perf_base.specs.declared.lines.CpuLine.TheVariants as cpu_line
+use Rattle.perf_base.specs.declared.lines.ToolLine.TheVariants as tool_line
+use Rattle.attr_bytes.specs.{Layout.{type_in, config_in, sample_period_in, sample_type_in, read_format_in, flag_word_in}, Kinds.{kind_numbered}}
 use Rattle.attr_bytes.specs.Flags.{flags_of_word}
-use Rattle.script_spec.specs.Forms as form
 use Rattle.script_spec.specs.Forms.{Hit, CpuForm, ToolForm, Opening, Form}
+use Rattle.script_spec.specs.Forms as form
 
 -- ---- what a single form declares
 

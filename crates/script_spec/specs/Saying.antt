@@ -1,11 +1,9 @@
 -- What one form more adds to the script that the forms before it say. This project's own profile.
 use Rattle.std.specs.Prelude.{◌≡◌, ℕ, ◌<◌, List, [], ◌∷◌, ◌++◌, Option, Some, None, IfSome}
-use Rattle.perf_base.specs.declared.lines.CpuLine.{CpuLine}
-use Rattle.perf_base.specs.declared.lines.ToolLine.{ToolLine}
+use Rattle.perf_base.specs.declared.lines.{CpuLine.{CpuLine}, ToolLine.{ToolLine}}
 use Rattle.perf_base.specs.Scripts.{Scripted, with_pmu, with_kind, with_task, with_ring, with_cpu_line, with_tool_line, with_reader}
+use Rattle.script_spec.specs.{Forms.{Form}, Meaning.{processors_in, tools_in, last_of, cpu_line_of, tool_line_of, script_of}}
 use Rattle.script_spec.specs.Forms as form
-use Rattle.script_spec.specs.Forms.{Form}
-use Rattle.script_spec.specs.Meaning.{processors_in, tools_in, last_of, cpu_line_of, tool_line_of, script_of}
 
 abbrev pub on_cpu : Scripted → Option ℕ → CpuLine → Scripted
 on_cpu s None line = s

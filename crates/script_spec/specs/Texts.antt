@@ -2,14 +2,10 @@
 -- project's own profile.
 use Rattle.std.specs.Prelude.{◌≡◌, ◌≢◌, ℕ, ◌+◌, ◌<◌, ◌⊎◌, List, [], ◌∷◌, length, take, All, Any, slice_index_or, codes, if◌then◌else◌}
 use Rattle.std.specs.Str.{bytes_eq}
-use Rattle.perf_base.specs.declared.reasons.SReason.{SReason}
+use Rattle.perf_base.specs.{declared.reasons.SReason.{SReason}, Scripts.{Scripted}}
 use Rattle.perf_base.specs.declared.reasons.SReason.TheVariants as reason
-use Rattle.perf_base.specs.Scripts.{Scripted}
-use Rattle.script_spec.specs.Lines.{lines_of, rest_of}
+use Rattle.script_spec.specs.{Lines.{lines_of, rest_of}, Forms.{Version, Form}, Meaning.{script_of}, Faults.{IsNoEnd, IsFaulty, IsSound}}
 use Rattle.script_spec.specs.Forms as form
-use Rattle.script_spec.specs.Forms.{Version, Form}
-use Rattle.script_spec.specs.Meaning.{script_of}
-use Rattle.script_spec.specs.Faults.{IsNoEnd, IsFaulty, IsSound}
 
 -- a text whose first line is `perf 2` is of version two, every other one of version one
 abbrev pub version_of : List (List ℕ) → Version

@@ -1,16 +1,11 @@
 -- The steps on the count keep the rule.
 use Rattle.std.proofs.Common.{◌≡◌, ℕ, ◌+◌, ◌<◌, ◌≤◌, ◌⊎◌, Bool, true, false, List, Option, Some, [], ◌∷◌, ◌++◌, length, set, slice_index, Contains, refl, sym, ap, ◌∙◌, subst, inl, inr, ⊎_elim, true≢false, length-set, length-append, get_or-set_same, get_or-set_other, arith}
-use Rattle.std.proofs.lemmas.List.{set-get_or}
-use Rattle.std.proofs.lemmas.List.Elements.{Contains-push_cases}
-use mathlib.Core.Option.{some}
-use mathlib.Core.List.{IsPrefix}
+use Rattle.std.proofs.lemmas.List.{set-get_or, Elements.{Contains-push_cases}}
+use mathlib.Core.{Option.{some}, List.{IsPrefix}}
 use lib.ListN.{get_elem?}
 use Rattle.atomic_table.specs.Table.{State, keeps, Allows}
-use Rattle.shared_object.specs.declared.view.View.{View}
-use Rattle.shared_object.specs.Histories.{most_calls}
-use Rattle.shared_object.specs.Views.{Slot, Holder, all_seen, told, with_own}
-use Rattle.shared_object.specs.Rule.{IsFree, IsHeld, Knows, IsKept}
-use Rattle.shared_object.specs.Steps.{LoadsCount, ComparesCount, StoresCount}
+use Rattle.shared_object.specs.{declared.view.View.{View}, Histories.{most_calls}, Views.{Slot, Holder, all_seen, told, with_own}}
+use Rattle.shared_object.specs.{Rule.{IsFree, IsHeld, Knows, IsKept}, Steps.{LoadsCount, ComparesCount, StoresCount}}
 use Rattle.shared_object.proofs.Prefixes.{prefix_self, longer_so, one_begins}
 use Rattle.shared_object.proofs.Keeping.{changed, knows, same_history, turn_rests, turn_stays, longer_history}
 

@@ -2,14 +2,9 @@
 use Rattle.std.proofs.Common.{◌≡◌, ◌≢◌, ℕ, ◌<◌, ◌≤◌, ◌⊎◌, true, false, List, Some, None, [], ◌++◌, length, set, slice_index, Contains, refl, sym, ap, ◌∙◌, subst, inl, inr, ⊎_elim, true≢false, length-append, arith}
 use mathlib.Core.Option.{Option, some}
 use lib.ListN.{get_elem?}
-use Rattle.atomic_table.specs.Table.{State}
-use Rattle.atomic_table.proofs.Lists.{at_set}
-use Rattle.shared_object.specs.declared.view.View.{View}
-use Rattle.shared_object.specs.Histories.{most_calls}
-use Rattle.shared_object.specs.Views.{Slot, spent}
-use Rattle.shared_object.specs.Rule.{holders, IsFree, IsHeld, Knows, IsKept}
-use Rattle.shared_object.proofs.Alone.{it_stays, others_stay, none_passes, no_other}
-use Rattle.shared_object.proofs.Prefixes.{prefix_more}
+use Rattle.atomic_table.{specs.Table.{State}, proofs.Lists.{at_set}}
+use Rattle.shared_object.specs.{declared.view.View.{View}, Histories.{most_calls}, Views.{Slot, spent}, Rule.{holders, IsFree, IsHeld, Knows, IsKept}}
+use Rattle.shared_object.proofs.{Alone.{it_stays, others_stay, none_passes, no_other}, Prefixes.{prefix_more}}
 
 -- the table after a step of the seat
 abbrev pub changed : {O K C R : Type 0} → State (Slot O C R) (View K C R) → List ℕ → List (Option (Slot O C R)) → ℕ → View K C R → State (Slot O C R) (View K C R)

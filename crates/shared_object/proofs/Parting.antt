@@ -1,13 +1,10 @@
 -- A view that is parted, and one that is joined to another, keep the rule. So does the start.
-use Rattle.std.proofs.Common.{◌≡◌, ◌≢◌, ℕ, zero, suc, ◌<◌, ◌⊎◌, Bool, false, cond, List, Some, [], ◌∷◌, ◌++◌, length, filter, set, Contains, refl, sym, ap, ◌∙◌, subst, inl, inr, ⊎_elim, append-nil, arith}
+use Rattle.std.proofs.Common.{◌≡◌, ℕ, ◌⊎◌, Bool, false, cond, List, Some, [], ◌∷◌, ◌++◌, Contains, refl, sym, ap, ◌∙◌, subst, inl, inr, ⊎_elim, append-nil, arith}
 use Rattle.std.proofs.lemmas.List.Elements.{filter-append}
 use mathlib.Core.Option.{some}
 use lib.ListN.{get_elem?}
-use Rattle.atomic_table.specs.Table.{State, Splits, Joins}
-use Rattle.atomic_table.proofs.Lists.{at_snoc, set_again, set_else}
-use Rattle.shared_object.specs.declared.view.View.{View}
-use Rattle.shared_object.specs.Views.{Slot, spent, part, noted}
-use Rattle.shared_object.specs.Rule.{holders, IsFree, IsHeld, Knows, IsKept}
+use Rattle.atomic_table.{specs.Table.{State, Splits, Joins}, proofs.Lists.{at_snoc, set_again, set_else}}
+use Rattle.shared_object.specs.{declared.view.View.{View}, Views.{Slot, spent, part, noted}, Rule.{holders, IsFree, IsHeld, Knows, IsKept}}
 use Rattle.shared_object.proofs.Keeping.{changed, knows, same_history, turn_rests}
 
 module _ {O K C R : Type 0} (after : K → O → List (C × R) → Type 0) (legal : K → List (C × R) → Type 0) (key : K) where

@@ -1,18 +1,13 @@
 -- The steps on the turn keep the rule.
-use Rattle.std.proofs.Common.{◌≡◌, ◌≢◌, ℕ, ◌≤◌, ◌⊎◌, true, false, List, Some, [], ◌∷◌, length, set, slice_index, Contains, refl, sym, ap, ◌∙◌, subst, inl, inr, ⊎_elim, true≢false, length-set, get_or-set_same, get_or-set_other, arith}
+use Rattle.std.proofs.Common.{◌≡◌, ◌≢◌, ℕ, ◌⊎◌, true, false, List, Some, [], ◌∷◌, set, slice_index, refl, sym, ap, ◌∙◌, subst, inl, inr, ⊎_elim, true≢false, length-set, get_or-set_same, get_or-set_other, arith}
 use Rattle.std.proofs.lemmas.List.{set-get_or}
 use mathlib.Core.Option.{Option, some, none}
 use prog.Atomic.{either}
 use lib.ListN.{get_elem?}
-use Rattle.atomic_table.specs.Table.{State, Act, keeps, takes, gives, Valid, Allows, stepped, carried_after, put_back}
-use Rattle.atomic_table.proofs.Lists.{exchanged}
-use Rattle.shared_object.specs.declared.view.View.{View}
-use Rattle.shared_object.specs.Views.{Slot, Holder, finding, with_turn, at_rest}
-use Rattle.shared_object.specs.Rule.{Stores, IsFree, IsHeld, Knows, IsKept}
-use Rattle.shared_object.specs.Steps.{TakesTurn, StoresTurn}
-use Rattle.shared_object.proofs.Alone.{it_comes, it_goes}
-use Rattle.shared_object.proofs.Prefixes.{prefix_self}
-use Rattle.shared_object.proofs.Keeping.{knows, same_history, turn_rests, held}
+use Rattle.atomic_table.{specs.Table.{State, Act, keeps, takes, gives, Valid, Allows, stepped, carried_after, put_back}, proofs.Lists.{exchanged}}
+use Rattle.shared_object.specs.{declared.view.View.{View}, Views.{Slot, Holder, finding, with_turn, at_rest}}
+use Rattle.shared_object.{specs.{Rule.{Stores, IsFree, IsHeld, Knows, IsKept}, Steps.{TakesTurn, StoresTurn}}, proofs.Alone.{it_comes, it_goes}}
+use Rattle.shared_object.proofs.{Prefixes.{prefix_self}, Keeping.{knows, same_history, turn_rests, held}}
 
 module _ {O K C R : Type 0} (after : K → O → List (C × R) → Type 0) (legal : K → List (C × R) → Type 0) (key : K) (slots id : ℕ) (m : Holder O K C R) (live : m.0.key ≡ Some key) where
   -- a view that found the turn held knows what it knew

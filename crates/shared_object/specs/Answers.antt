@@ -1,9 +1,7 @@
 -- What the calls of a shared object answer, and what the pass has then seen.
 use Rattle.std.specs.Prelude.{◌≡◌, ◌≢◌, ℕ, ◌<◌, All, List, [], ◌∷◌, ◌++◌, length}
 use mathlib.Core.List.{IsPrefix}
-use Rattle.shared_object.specs.Histories.{PassView, most_calls}
-use Rattle.shared_object.specs.declared.answer.Answer.{Answer}
-use Rattle.shared_object.specs.declared.answer.Answer.TheVariants.{Done, Busy, Full}
+use Rattle.shared_object.specs.{Histories.{PassView, most_calls}, declared.answer.Answer.{Answer, TheVariants.{Done, Busy, Full}}}
 
 -- p is the pass before the call, and q the pass after it
 module _ {K C R : Type 0} (legal : List (C × R) → Type 0) (p : PassView K C R) (call : C) (q : PassView K C R) where

@@ -1,13 +1,10 @@
 -- The rule of a shared object, which holds between any two steps. Word 0 of the table is the turn, and word 1 the count
 -- of calls.
 use Rattle.std.specs.Prelude.{◌≡◌, ◌≢◌, ℕ, ◌<◌, ◌≤◌, ◌⊎◌, true, List, Some, [], ◌∷◌, length, filter, slice_index, Contains}
-use mathlib.Core.Option.{none, some}
-use mathlib.Core.List.{IsPrefix}
+use mathlib.Core.{Option.{none, some}, List.{IsPrefix}}
 use lib.ListN.{get_elem?}
 use Rattle.atomic_table.specs.Table.{State}
-use Rattle.shared_object.specs.Histories.{most_calls}
-use Rattle.shared_object.specs.Views.{Slot, spent}
-use Rattle.shared_object.specs.declared.view.View.{View}
+use Rattle.shared_object.specs.{Histories.{most_calls}, Views.{Slot, spent}, declared.view.View.{View}}
 
 -- the table's words that are the turn and the count of calls (this project's own profile)
 abbrev pub turn_word : ℕ

@@ -3,8 +3,7 @@
 use Rattle.std.specs.Prelude.{◌≡◌, ◌≢◌, ℕ, ◌≤◌, ◌⊎◌, true, List, Option, Some, ◌∷◌, length}
 use mathlib.Core.List.{IsPrefix}
 use Rattle.atomic_table.specs.Table.{rest}
-use Rattle.shared_object.specs.Histories.{most_calls}
-use Rattle.shared_object.specs.Views.{Slot, Holder, finding, with_turn, all_seen, told, with_own, at_rest}
+use Rattle.shared_object.specs.{Histories.{most_calls}, Views.{Slot, Holder, finding, with_turn, all_seen, told, with_own, at_rest}}
 use Rattle.shared_object.specs.Rule.{turn_word, count_word, Stores}
 
 module _ {O K C R : Type 0} (after : K → O → List (C × R) → Type 0) (legal : K → List (C × R) → Type 0) where

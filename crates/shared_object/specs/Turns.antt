@@ -1,9 +1,6 @@
 -- What a seat with the turn does with a call.
 use Rattle.std.specs.Prelude.{◌≡◌, ◌<◌, ◌∷◌, ◌++◌, [], length, List}
-use Rattle.shared_object.specs.Histories.{most_calls}
-use Rattle.shared_object.specs.Views.{all_seen, with_own}
-use Rattle.shared_object.specs.declared.view.View.{View}
-use Rattle.shared_object.specs.declared.answer.Answer.{Answer}
+use Rattle.shared_object.specs.{Histories.{most_calls}, Views.{all_seen, with_own}, declared.{view.View.{View}, answer.Answer.{Answer}}}
 use Rattle.shared_object.specs.declared.answer.Answer.TheVariants.{Done, Busy, Full}
 
 -- v is the view before, whose note is the whole history, and w the view after

@@ -1,9 +1,7 @@
 -- The views of the seats at a shared object's table: how they begin, part and join.
 use Rattle.std.specs.Prelude.{◌≡◌, ℕ, true, false, List, Option, Some, None, [], ◌∷◌, ◌++◌, length}
-use Rattle.atomic_table.specs.Seated.{TableId}
-use Rattle.atomic_table.specs.Table.{Me}
-use Rattle.shared_object.specs.Histories.{PassView, longer}
-use Rattle.shared_object.specs.declared.view.View.{View}
+use Rattle.atomic_table.specs.{Seated.{TableId}, Table.{Me}}
+use Rattle.shared_object.specs.{Histories.{PassView, longer}, declared.view.View.{View}}
 
 -- what the slot holds: the object with its history, or nothing while a call runs (this project's own profile)
 abbrev pub Slot : Type 0 → Type 0 → Type 0 → Type 0

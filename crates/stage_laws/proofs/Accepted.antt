@@ -1,19 +1,9 @@
 -- What an open that is not refused gives: each of its tests is false, and the group fits.
 use Rattle.std.specs.Prelude.{◌≡◌, ℕ, Bool, true, false, ◌&&◌, ◌||◌, List, [], ◌∷◌, Option, Some, None, is_some, option_map, cond}
-use Rattle.std.proofs.Common.{refl, ap}
-use Rattle.std.proofs.lemmas.Bool.{true≢false}
-use Rattle.perf_base.specs.declared.numbers.EventNo.{EventNo}
-use Rattle.perf_base.specs.declared.attr.Attr.{Attr}
-use Rattle.perf_base.specs.declared.reasons.Reason.{Reason}
-use Rattle.stage_spec.specs.Checks.{has_no_place}
-use Rattle.stage_spec.specs.Flags.{is_pinned, is_exclusive}
-use Rattle.stage_spec.specs.Hardware.{Hardware}
-use Rattle.stage_spec.specs.Stage.{Stage}
-use Rattle.stage_spec.specs.Effective.{hardware_members}
-use Rattle.stage_spec.specs.Fits.{fits}
-use Rattle.stage_spec.specs.Tight.{masks_of}
-use Rattle.stage_spec.specs.Verdict.{with_masks}
-use Rattle.stage_spec.specs.Refusals.{first_of}
+use Rattle.std.proofs.{Common.{refl, ap}, lemmas.Bool.{true≢false}}
+use Rattle.perf_base.specs.declared.{numbers.EventNo.{EventNo}, attr.Attr.{Attr}, reasons.Reason.{Reason}}
+use Rattle.stage_spec.specs.{Checks.{has_no_place}, Flags.{is_pinned, is_exclusive}, Hardware.{Hardware}, Stage.{Stage}, Effective.{hardware_members}}
+use Rattle.stage_spec.specs.{Fits.{fits}, Tight.{masks_of}, Verdict.{with_masks}, Refusals.{first_of}}
 use Rattle.stage_spec.specs.Opening.{is_used, names_other_pmu, names_no_task, leader_is_closed, leader_is_sibling, leader_is_elsewhere, leader_inherits_otherwise, group_is_of_other_pmu, group_is_full, group_led, group_with, new_original, open_faults, open_refusal, unassignable}
 use Rattle.stage_spec.proofs.Each.{Each}
 

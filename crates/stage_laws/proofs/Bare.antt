@@ -1,19 +1,12 @@
 -- Soundness does not look at the own states of leaders, and so settling keeps it, both ways.
 use Rattle.std.specs.Prelude.{◌≡◌, List, [], ◌∷◌, ◌++◌, map, flat_map, Option, Some, None, slice_index_or}
-use Rattle.std.proofs.Common.{refl, sym, ap, ◌∙◌, inl, inr}
-use Rattle.std.proofs.lemmas.Bool.{cases_Bool}
-use Rattle.std.proofs.lemmas.List.{map-append}
-use Rattle.std.proofs.Math.Seq.{map-set_same}
+use Rattle.std.proofs.{Common.{refl, sym, ap, ◌∙◌, inl, inr}, lemmas.{Bool.{cases_Bool}, List.{map-append}}, Math.Seq.{map-set_same}}
 use Rattle.std.proofs.Math.ListN.{get_or-map}
-use Rattle.perf_base.specs.declared.numbers.CpuNo.{CpuNo}
-use Rattle.perf_base.specs.declared.numbers.TaskNo.{TaskNo}
-use Rattle.perf_base.specs.declared.standing.Context.{Context}
+use Rattle.perf_base.specs.declared.{numbers.{CpuNo.{CpuNo}, TaskNo.{TaskNo}}, standing.{Context.{Context}, Standing.{Standing}}}
 use Rattle.perf_base.specs.declared.standing.Context.TheVariants as context
 use Rattle.perf_base.specs.declared.standing.Own.TheVariants as own
-use Rattle.perf_base.specs.declared.standing.Standing.{Standing}
 use Rattle.perf_base.specs.declared.standing.Standing.TheVariants as standing
-use Rattle.stage_spec.specs.declared.instance.Instance.{Instance}
-use Rattle.stage_spec.specs.Hardware.{Hardware}
+use Rattle.stage_spec.specs.{declared.instance.Instance.{Instance}, Hardware.{Hardware}}
 use Rattle.stage_spec.specs.Stage.{Stage, Group, members_of, Lists, lists_of, no_groups, groups_in, all_groups, all_instances, members, place_of, task_on, change_context, all_cpus}
 use Rattle.stage_spec.specs.Verdict.{Judged, is_eligible, judge, task_lists, instances_in, reached}
 use Rattle.stage_spec.specs.Settle.{failed, settle_pass, settle_lists, settle_task, own_verdicts, settle, settle_each, settle_all}

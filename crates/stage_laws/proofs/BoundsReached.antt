@@ -1,23 +1,13 @@
 -- What a step adds to an event with its copies: a processor reaches at most one instance of a family.
 use Rattle.std.specs.Prelude.{◌≡◌, ℕ, ◌+◌, ◌≤◌, ◌==◌, Bool, true, false, cond, List, [], ◌∷◌, ◌++◌, map, filter, find, flat_map, slice_index_or, Some}
-use Rattle.std.proofs.Common.{arith, refl, ap, ◌∙◌, sym, inl, inr}
-use Rattle.std.proofs.Math.Nat.{mul-le-mul_right}
-use Rattle.std.proofs.lemmas.Bool.{cases_Bool, eq-eqb}
+use Rattle.std.proofs.{Common.{arith, refl, ap, ◌∙◌, sym, inl, inr}, Math.Nat.{mul-le-mul_right}, lemmas.Bool.{cases_Bool, eq-eqb}}
 use Rattle.std.proofs.lemmas.Bool.Decides.{nat_tests}
-use Rattle.perf_base.specs.declared.numbers.CpuNo.{CpuNo}
-use Rattle.perf_base.specs.declared.numbers.EventNo.{EventNo}
-use Rattle.stage_spec.specs.declared.instance.Instance.{Instance}
-use Rattle.stage_spec.specs.Hardware.{Hardware}
-use Rattle.stage_spec.specs.Stage.{Stage, Group, members_of, all_instances, is_of_family}
-use Rattle.stage_spec.specs.Effective.{is_ready, ready_members, state_in}
+use Rattle.perf_base.specs.{declared.numbers.{CpuNo.{CpuNo}, EventNo.{EventNo}}, Standings.{stands_on}}
+use Rattle.stage_spec.specs.{declared.instance.Instance.{Instance}, Hardware.{Hardware}}
+use Rattle.stage_spec.specs.{Stage.{Stage, Group, members_of, all_instances, is_of_family}, Effective.{is_ready, ready_members, state_in}}
 use Rattle.stage_spec.specs.Verdict.{Judged, is_eligible, groups_on, judge, judge_pass, judge_passes, passes, verdicts, on_instances, reached}
-use Rattle.perf_base.specs.Standings.{stands_on}
-use Rattle.stage_laws.specs.Sound.{has_id, IsNumbered}
-use Rattle.stage_spec.specs.Shares.{of_instance, ready_instances}
-use Rattle.stage_spec.proofs.Each.{Each, weaker-Each}
-use Rattle.stage_spec.proofs.Parts.{All-from_Each, Each-from_All}
-use Rattle.stage_laws.proofs.Leaders.{found_only}
-use Rattle.stage_laws.proofs.Tasks.{some-same}
+use Rattle.stage_spec.{specs.Shares.{of_instance, ready_instances}, proofs.{Each.{Each, weaker-Each}, Parts.{All-from_Each, Each-from_All}}}
+use Rattle.stage_laws.{specs.Sound.{has_id, IsNumbered}, proofs.{Leaders.{found_only}, Tasks.{some-same}}}
 use Rattle.stage_laws.proofs.Totals.{total, total-nil, total-cons, total-append, total-push, total-map, total-flat_map, total-le, total-plus, total-none, total-filter, total-filter_le, total-times, total-by_All, one_if, count_by-is-total}
 
 -- lists of numbers

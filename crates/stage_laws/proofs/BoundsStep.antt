@@ -1,43 +1,23 @@
 -- What a step adds to an event with its copies is at most what it adds to one instance.
 use Rattle.std.specs.Prelude.{◌≡◌, ℕ, ◌+◌, ◌≤◌, ◌==◌, max, Bool, true, false, not, ◌&&◌, List, [], ◌∷◌, filter, slice_index, Option, Some, None, if◌then◌else◌, zero, suc}
-use Rattle.std.specs.List.{fold}
-use Rattle.std.proofs.Common.{arith, refl, ap, ◌∙◌, sym, inl, inr}
-use Rattle.std.proofs.Math.Nat.{le-max_left, le-max_right, mul-le-mul_right}
+use Rattle.std.{specs.List.{fold}, proofs.{Common.{arith, refl, ap, ◌∙◌, sym, inl, inr}, Math.Nat.{le-max_left, le-max_right, mul-le-mul_right}}}
 use Rattle.std.proofs.lemmas.Bool.{cases_Bool, eqb-true}
-use Rattle.perf_base.specs.declared.numbers.CpuNo.{CpuNo}
-use Rattle.perf_base.specs.declared.numbers.EventNo.{EventNo}
-use Rattle.perf_base.specs.declared.numbers.TaskNo.{TaskNo}
-use Rattle.perf_base.specs.declared.attr.Attr.{Attr}
-use Rattle.perf_base.specs.declared.attr.Kind.{Kind}
+use Rattle.perf_base.specs.declared.{numbers.{CpuNo.{CpuNo}, EventNo.{EventNo}, TaskNo.{TaskNo}}, attr.{Attr.{Attr}, Kind.{Kind}}, lines.Work.{Work}}
+use Rattle.perf_base.specs.declared.{lines.CpuLine.{CpuLine}, reasons.Reason.{Reason}, reply.Sums.{Sums}}
 use Rattle.perf_base.specs.declared.attr.Kind.TheVariants as kind
-use Rattle.perf_base.specs.declared.lines.Work.{Work}
-use Rattle.perf_base.specs.declared.lines.CpuLine.{CpuLine}
 use Rattle.perf_base.specs.declared.lines.CpuLine.TheVariants as cpu_line
-use Rattle.perf_base.specs.declared.reasons.Reason.{Reason}
-use Rattle.perf_base.specs.declared.reply.Sums.{Sums}
-use Rattle.stage_spec.specs.declared.instance.Instance.{Instance}
-use Rattle.stage_spec.specs.Flags.{excludes_kernel}
-use Rattle.stage_spec.specs.Hardware.{Hardware}
-use Rattle.stage_spec.specs.Stage.{Stage, all_instances, is_of_family, task_on}
-use Rattle.stage_spec.specs.Verdict.{on_instances, reached}
+use Rattle.stage_spec.specs.{declared.instance.Instance.{Instance}, Flags.{excludes_kernel}, Hardware.{Hardware}}
+use Rattle.stage_spec.specs.{Stage.{Stage, all_instances, is_of_family, task_on}, Verdict.{on_instances, reached}}
 use Rattle.stage_spec.specs.Switching.{switched, switch_refusal, is_running, is_migration}
 use Rattle.stage_spec.specs.History.{CpuStep, ToolStep, SeenStep, stage_step, unless_refused}
 use Rattle.stage_spec.specs.Shares.{excludes, counted_by, work_hits, is_switches, is_migrations, switch_hits, migration_hits, of_instance, no_sums, ready_instances, work_share, migration_share, switch_share, changes_task, cpu_share, share}
-use Rattle.stage_spec.specs.Families.{plus, plus_each}
-use Rattle.stage_spec.specs.Recurrence.{after_reset}
-use Rattle.stage_spec.specs.Limits.{Limits, IsMachine, IsWithin}
-use Rattle.stage_laws.specs.Sound.{IsSound, IsNumbered}
-use Rattle.stage_laws.specs.Bounds.{greatest, most_of_line, AreAtMost, FamilyShareLaw}
-use Rattle.stage_spec.proofs.Each.{Each, weaker-Each, InStage}
-use Rattle.stage_spec.proofs.Parts.{all-Each}
-use Rattle.stage_spec.proofs.Carried.{IsOfAttr, settle_all-in, switched-in}
-use Rattle.stage_spec.proofs.Inside.{all_instances-in, InStage-from_all}
-use Rattle.stage_spec.proofs.Present.{on_instances-in, ready_instances-in}
+use Rattle.stage_spec.specs.{Families.{plus, plus_each}, Recurrence.{after_reset}, Limits.{Limits, IsMachine, IsWithin}}
+use Rattle.stage_spec.proofs.{Each.{Each, weaker-Each, InStage}, Parts.{all-Each}, Carried.{IsOfAttr, settle_all-in, switched-in}}
+use Rattle.stage_spec.proofs.{Inside.{all_instances-in, InStage-from_all}, Present.{on_instances-in, ready_instances-in}}
+use Rattle.stage_laws.specs.{Sound.{IsSound, IsNumbered}, Bounds.{greatest, most_of_line, AreAtMost, FamilyShareLaw}}
 use Rattle.stage_laws.proofs.Totals.{total, total-plus, total-none, total-filter, total-times, one_if, as_number, count_by-is-total}
-use Rattle.stage_laws.proofs.Weights.{weigh, weigh-is-total, settle_all-weighs, switched-weighs}
-use Rattle.stage_laws.proofs.Housed.{Housed}
-use Rattle.stage_laws.proofs.Placed.{IsTabled, tabled, housed-from_placed}
-use Rattle.stage_laws.proofs.Sound.{step_sound}
+use Rattle.stage_laws.proofs.{Weights.{weigh, weigh-is-total, settle_all-weighs, switched-weighs}, Housed.{Housed}}
+use Rattle.stage_laws.proofs.{Placed.{IsTabled, tabled, housed-from_placed}, Sound.{step_sound}}
 use Rattle.stage_laws.proofs.BoundsReached.{total-le_each, on-le, ready-le, of_family, family_gets}
 
 -- one of three sums

@@ -1,52 +1,30 @@
 -- Sums of a family stay below what steps may add, over any history; and few ids are drawn.
 use Rattle.std.specs.Prelude.{◌≡◌, ℕ, ◌+◌, ◌*◌, ◌≤◌, ◌==◌, max, All, Bool, true, false, cond, ◌&&◌, List, [], ◌∷◌, ◌++◌, filter, sum_by, Option, Some, None, count_by}
-use Rattle.std.specs.List.{fold}
-use Rattle.std.proofs.Common.{arith, refl, ap, ◌∙◌, sym, subst, append_assoc, append-nil}
-use Rattle.std.proofs.Math.Nat.{max-le}
-use Rattle.std.proofs.lemmas.Option.{none-some}
-use Rattle.std.proofs.lemmas.List.Elements.{All-head, All-tail}
-use Rattle.std.proofs.lemmas.List.Sums.{sum_by-cons, sum_by_push}
-use Rattle.perf_base.specs.declared.numbers.CpuNo.{CpuNo}
-use Rattle.perf_base.specs.declared.numbers.EventNo.{EventNo}
-use Rattle.perf_base.specs.declared.numbers.TaskNo.{TaskNo}
-use Rattle.perf_base.specs.declared.lines.CpuLine.{CpuLine}
+use Rattle.std.{specs.List.{fold}, proofs.{Common.{arith, refl, ap, ◌∙◌, sym, subst, append_assoc, append-nil}, Math.Nat.{max-le}}}
+use Rattle.std.proofs.lemmas.{Option.{none-some}, List.{Elements.{All-head, All-tail}, Sums.{sum_by-cons, sum_by_push}}}
+use Rattle.perf_base.specs.declared.{numbers.{CpuNo.{CpuNo}, EventNo.{EventNo}, TaskNo.{TaskNo}}, lines.{CpuLine.{CpuLine}, ToolLine.{ToolLine}}}
+use Rattle.perf_base.specs.declared.{reasons.Reason.{Reason}, reply.Sums.{Sums}}
 use Rattle.perf_base.specs.declared.lines.CpuLine.TheVariants as cpu_line
-use Rattle.perf_base.specs.declared.lines.ToolLine.{ToolLine}
 use Rattle.perf_base.specs.declared.lines.ToolLine.TheVariants as tool_line
-use Rattle.perf_base.specs.declared.reasons.Reason.{Reason}
 use Rattle.perf_base.specs.declared.reasons.Reason.TheVariants as reason
-use Rattle.perf_base.specs.declared.reply.Sums.{Sums}
-use Rattle.stage_spec.specs.declared.instance.Instance.{Instance}
-use Rattle.stage_spec.specs.Hardware.{Hardware}
+use Rattle.stage_spec.specs.{declared.instance.Instance.{Instance}, Hardware.{Hardware}}
 use Rattle.stage_spec.specs.Stage.{Stage, Group, group_size, Lists, groups_in, members, all_instances, is_of_family, is_copy, is_idle, task_on, first_stage}
-use Rattle.stage_spec.specs.Verdict.{task_lists}
-use Rattle.stage_spec.specs.Refusals.{first_of}
-use Rattle.stage_spec.specs.Opening.{opened}
-use Rattle.stage_spec.specs.Commands.{command_each, enabled, disabled, targets, with_period}
-use Rattle.stage_spec.specs.Mapping.{mapped_to, output_to}
-use Rattle.stage_spec.specs.Closing.{closed}
-use Rattle.stage_spec.specs.Forks.{copies_from, copy_groups, copied, inherited_groups, forked}
-use Rattle.stage_spec.specs.Settle.{settle_all}
+use Rattle.stage_spec.specs.{Verdict.{task_lists}, Refusals.{first_of}, Opening.{opened}}
+use Rattle.stage_spec.specs.{Commands.{command_each, enabled, disabled, targets, with_period}, Mapping.{mapped_to, output_to}, Closing.{closed}}
+use Rattle.stage_spec.specs.{Forks.{copies_from, copy_groups, copied, inherited_groups, forked}, Settle.{settle_all}}
 use Rattle.stage_spec.specs.History.{Step, CpuStep, ToolStep, SeenStep, cpu_refusal, tool_refusal, cpu_changed, tool_changed, stage_step, stage_after, unless_refused}
-use Rattle.stage_spec.specs.Shares.{share, no_sums}
-use Rattle.stage_spec.specs.Sums.{resets, sums_of, count_of, enabled_of, running_of}
-use Rattle.stage_spec.specs.Families.{plus, plus_each, leaving, leaving_by, folded_from, folded_of, family_sums}
-use Rattle.stage_spec.specs.Recurrence.{after_reset}
-use Rattle.stage_spec.specs.Limits.{Limits, IsMachine, IsWithin}
+use Rattle.stage_spec.specs.{Shares.{share, no_sums}, Sums.{resets, sums_of, count_of, enabled_of, running_of}}
+use Rattle.stage_spec.specs.{Families.{plus, plus_each, leaving, leaving_by, folded_from, folded_of, family_sums}, Recurrence.{after_reset}}
+use Rattle.stage_spec.{specs.Limits.{Limits, IsMachine, IsWithin}, proofs.{Each.{weaker-Each}, Parts.{Each-from_All}}}
+use Rattle.stage_spec.proofs.{Shape.{switched-numbers, rotated-numbers, exited-numbers}, Ids.{AllBelow, AllBelow-more}}
+use Rattle.stage_spec.proofs.{Births.{Grows, at_first, after-ids, share-none, unborn}, Recurrence.{stage_after-push, sums_of-push, folded_of-push}}
 use Rattle.stage_laws.specs.Sound.{IsSound}
 use Rattle.stage_laws.specs.Bounds.{most_of, most_of_all, most_drawn_by, most_opened_by, most_drawn, is_line, IsLineWithin, AreAtMost, FamilySumsLaw, SmallSumsLaw, FewIdsLaw}
-use Rattle.stage_spec.proofs.Each.{weaker-Each}
-use Rattle.stage_spec.proofs.Parts.{Each-from_All}
 use Rattle.stage_laws.proofs.Totals.{total, total-nil, total-same, total-le, total-plus, total-none, total-filter, total-times, count_by-is-total, sum_by-is-total}
 use Rattle.stage_laws.proofs.Weights.{group_weight, lists_weight, weigh, lists-weigh, if_goes, switched-weighs, rotated-weighs, exited-weighs}
 use Rattle.stage_laws.proofs.Gains.{forked-le}
-use Rattle.stage_spec.proofs.Shape.{switched-numbers, rotated-numbers, exited-numbers}
 use Rattle.stage_laws.proofs.Numbered.{GoesByName, IsQuiet, settle_all-quiet, command_each-quiet, with_period-quiet, mapped_to-quiet, output_to-quiet, closed-quiet, room_for_copies, opened-le, weights_of_numbered, context_of-place}
-use Rattle.stage_spec.proofs.Ids.{AllBelow, AllBelow-more}
-use Rattle.stage_spec.proofs.Births.{Grows, at_first, after-ids, share-none, unborn}
-use Rattle.stage_spec.proofs.Recurrence.{stage_after-push, sums_of-push, folded_of-push}
-use Rattle.stage_laws.proofs.Sound.{first_sound, step_sound}
-use Rattle.stage_laws.proofs.BoundsReached.{total-le_each, of_family, if_nothing}
+use Rattle.stage_laws.proofs.{Sound.{first_sound, step_sound}, BoundsReached.{total-le_each, of_family, if_nothing}}
 use Rattle.stage_laws.proofs.BoundsStep.{IsPart, count_in, enabled_in, running_in, count_part, enabled_part, running_part, part-total, family-weighs, family_shared}
 
 -- a number by id, and none for the ids that are not drawn yet

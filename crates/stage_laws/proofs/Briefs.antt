@@ -1,26 +1,15 @@
 -- Judging briefs in place of groups.
 use Rattle.std.specs.Prelude.{◌≡◌, ℕ, ◌&&◌, Bool, true, false, not, cond, List, [], ◌∷◌, ◌++◌, map, filter, flat_map, Option, Some, None, take}
-use Rattle.std.specs.List.{list_all, list_any}
-use Rattle.std.proofs.Common.{refl, sym, ap, ◌∙◌}
-use Rattle.std.proofs.lemmas.List.{map-append}
-use Rattle.std.proofs.lemmas.List.Elements.{filter-append}
-use Rattle.std.proofs.lemmas.Simd.{map-map}
-use Rattle.std.proofs.Math.ListN.{get_or-map}
-use Rattle.perf_base.specs.declared.numbers.CpuNo.{CpuNo}
-use Rattle.perf_base.specs.declared.numbers.EventNo.{EventNo}
-use Rattle.perf_base.specs.declared.numbers.TaskNo.{TaskNo}
-use Rattle.perf_base.specs.declared.standing.Context.{Context}
+use Rattle.std.{specs.List.{list_all, list_any}, proofs.{Common.{refl, sym, ap, ◌∙◌}, lemmas.List.{map-append, Elements.{filter-append}}}}
+use Rattle.std.proofs.{lemmas.Simd.{map-map}, Math.ListN.{get_or-map}}
+use Rattle.perf_base.specs.declared.{numbers.{CpuNo.{CpuNo}, EventNo.{EventNo}, TaskNo.{TaskNo}}, standing.{Context.{Context}, Standing.{Standing}}}
+use Rattle.perf_base.specs.Standings.{stands_on, stands_refused}
 use Rattle.perf_base.specs.declared.standing.Context.TheVariants as context
-use Rattle.perf_base.specs.declared.standing.Standing.{Standing}
-use Rattle.stage_spec.specs.declared.instance.Instance.{Instance}
-use Rattle.stage_spec.specs.Flags.{is_exclusive}
-use Rattle.stage_spec.specs.Hardware.{Hardware, is_software, is_counted_on, mask_of}
+use Rattle.stage_spec.specs.{declared.instance.Instance.{Instance}, Flags.{is_exclusive}, Hardware.{Hardware, is_software, is_counted_on, mask_of}}
 use Rattle.stage_spec.specs.Places.{may_count_on}
 use Rattle.stage_spec.specs.Stage.{Stage, Group, members_of, lists_of, no_groups, place_of, task_on, change_group, change_lists, change_each}
-use Rattle.stage_spec.specs.Effective.{is_ready, is_hardware, is_wholly_software, is_exclusive_group, counted_members}
-use Rattle.stage_spec.specs.Rules.{ruling_of}
+use Rattle.stage_spec.specs.{Effective.{is_ready, is_hardware, is_wholly_software, is_exclusive_group, counted_members}, Rules.{ruling_of}}
 use Rattle.stage_spec.specs.Verdict.{Judged, is_eligible, groups_on, first_named, first_refused, with_masks, by_ruling, judge, judge_pass, judge_passes, passes, task_lists, verdicts}
-use Rattle.perf_base.specs.Standings.{stands_on, stands_refused}
 use Rattle.stage_spec.specs.Settle.{pinned_verdicts}
 use Rattle.stage_laws.specs.Briefs.{GroupBrief, JudgedBrief, briefs_on, first_slot, first_brief_refused, judge_brief, judge_briefs, judge_brief_passes, standings_by, seated_by}
 use Rattle.stage_laws.specs.Standings.{brief_of, briefs, BriefsLaw, JudgedBriefsLaw, SeatedBriefsLaw, KeepsBrief}

@@ -1,28 +1,20 @@
 -- A settled processor has no refused pinned group, and settling goes by standings.
 use Rattle.std.specs.Prelude.{◌≡◌, ℕ, ◌+◌, ◌<◌, ◌≤◌, ◌==◌, ◌||◌, Bool, true, false, List, [], ◌∷◌, ◌++◌, map, filter, flat_map, count_by, sum_by, Option, Some, None, slice_index_or, slice_set, drop}
-use Rattle.std.specs.List.{list_any}
-use Rattle.std.proofs.Common.{arith, refl, sym, ap, ◌∙◌, inl, inr, append_assoc, append-nil}
-use Rattle.std.proofs.lemmas.Bool.{cases_Bool, false≢true, or_parts, or_from, eq-eqb}
-use Rattle.std.proofs.lemmas.List.Folds.{list_any-append}
-use Rattle.std.proofs.lemmas.List.Sums.{sum_by-cons}
+use Rattle.std.{specs.List.{list_any}, proofs.Common.{arith, refl, sym, ap, ◌∙◌, inl, inr, append_assoc, append-nil}}
+use Rattle.std.proofs.lemmas.{Bool.{cases_Bool, false≢true, or_parts, or_from, eq-eqb}, List.{Folds.{list_any-append}, Sums.{sum_by-cons}}}
 use Rattle.std.proofs.lemmas.Grind.{flat_map-append}
-use Rattle.perf_base.specs.declared.numbers.CpuNo.{CpuNo}
-use Rattle.perf_base.specs.declared.numbers.TaskNo.{TaskNo}
+use Rattle.perf_base.specs.{declared.{numbers.{CpuNo.{CpuNo}, TaskNo.{TaskNo}}, standing.Standing.{Standing}}, Standings.{stands_refused}}
 use Rattle.perf_base.specs.declared.standing.Context.TheVariants as context
-use Rattle.perf_base.specs.declared.standing.Standing.{Standing}
 use Rattle.perf_base.specs.declared.standing.Standing.TheVariants as standing
 use Rattle.stage_spec.specs.Hardware.{Hardware}
 use Rattle.stage_spec.specs.Stage.{Stage, Group, members_of, Lists, lists_of, no_groups, groups_in, members, place_of, task_on, change_each}
 use Rattle.stage_spec.specs.Effective.{is_ready}
 use Rattle.stage_spec.specs.Verdict.{Judged, is_eligible, judge, judge_pass, judge_passes, passes, task_lists, standing_among, verdicts}
-use Rattle.perf_base.specs.Standings.{stands_refused}
 use Rattle.stage_spec.specs.Settle.{failed, settle_pass, settle_lists, settle_task, own_verdicts, settle, IsSettled, pinned_verdicts}
-use Rattle.stage_laws.specs.Sound.{has_id}
-use Rattle.stage_laws.specs.Standings.{briefs, SettledLaw, StandingsLaw, SameStandingsLaw, fail_lists}
 use Rattle.stage_spec.proofs.Settling.{judged, filter-yes, filter-no, settle_pass-here, settle_pass-away}
 use Rattle.stage_spec.proofs.Settled.{own_settled, IsSettledFrom, is_settled_from, change_context-none, lists_of-other, place_of-cpu}
-use Rattle.stage_laws.proofs.Briefs.{by_briefs, refused_by_briefs, same_briefs}
-use Rattle.stage_laws.proofs.Totals.{as_number}
+use Rattle.stage_laws.specs.{Sound.{has_id}, Standings.{briefs, SettledLaw, StandingsLaw, SameStandingsLaw, fail_lists}}
+use Rattle.stage_laws.proofs.{Briefs.{by_briefs, refused_by_briefs, same_briefs}, Totals.{as_number}}
 use Rattle.stage_laws.proofs.Counts.{count-cons, count-append, count-filter, one_place, two_places, three_places, map-at_one, map-at_two}
 
 -- what a pass adds to what was judged within it

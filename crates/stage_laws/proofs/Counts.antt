@@ -1,11 +1,8 @@
 -- How many elements pass a test, in parts of a list and at places of a list of lists.
 use Rattle.std.specs.Prelude.{◌≡◌, ◌≢◌, ℕ, ◌+◌, ◌≤◌, Bool, List, [], ◌∷◌, ◌++◌, length, map, filter, count_by, sum_by}
 use Rattle.std.proofs.Common.{arith, sym, ap, ◌∙◌, inl, inr, get_or, set, get_or-set_same, get_or-set_other, ext_get_or, length-set}
-use Rattle.std.proofs.lemmas.Bool.{cases_lt, cases_eq, cases_Bool}
-use Rattle.std.proofs.lemmas.List.{get_or_past, length-map}
-use Rattle.std.proofs.lemmas.List.Sums.{sum_by-cons, sum_by-append, sum_by-set}
-use Rattle.std.proofs.Math.ListN.{get_or-map}
-use Rattle.std.proofs.Math.Seq.{set_out}
+use Rattle.std.proofs.lemmas.{Bool.{cases_lt, cases_eq, cases_Bool}, List.{get_or_past, length-map, Sums.{sum_by-cons, sum_by-append, sum_by-set}}}
+use Rattle.std.proofs.Math.{ListN.{get_or-map}, Seq.{set_out}}
 use Rattle.stage_laws.proofs.Totals.{as_number}
 
 pub count-cons : {X : Type 0} (p : X → Bool) (x : X) (xs : List X) → count_by p (x ∷ xs) ≡ as_number (p x) + count_by p xs

@@ -1,28 +1,15 @@
 -- Settling several processors, one after the other: all of them are settled then, and only those that were not have to
 -- be.
-use Rattle.std.specs.Prelude.{◌≡◌, ◌≢◌, ℕ, zero, suc, ◌<◌, ◌≤◌, ◌==◌, ◌||◌, Bool, true, false, List, [], ◌∷◌, map, filter, length}
-use Rattle.std.specs.List.{list_any}
+use Rattle.std.specs.{Prelude.{◌≡◌, ◌≢◌, ℕ, zero, suc, ◌<◌, ◌≤◌, ◌==◌, ◌||◌, Bool, true, false, List, [], ◌∷◌, map, filter, length}, List.{list_any}}
 use Rattle.std.proofs.Common.{arith, refl, sym, ap, ◌∙◌, inl, inr}
-use Rattle.std.proofs.lemmas.Bool.{cases_Bool, cases_eq, cases_lt, false≢true, or_cases, or_right, or_left}
-use Rattle.std.proofs.lemmas.Bool.Decides.{nat_tests}
-use Rattle.std.proofs.lemmas.List.{map-append}
+use Rattle.std.proofs.lemmas.{Bool.{cases_Bool, cases_eq, cases_lt, false≢true, or_cases, or_right, or_left, Decides.{nat_tests}}, List.{map-append}}
 use Rattle.std.proofs.lemmas.List.Folds.{list_any-append}
 use Rattle.perf_base.specs.declared.numbers.CpuNo.{CpuNo}
-use Rattle.stage_spec.specs.Hardware.{Hardware}
-use Rattle.stage_spec.specs.Numbers.{numbers_below}
-use Rattle.stage_spec.specs.Stage.{Stage, all_cpus}
-use Rattle.stage_spec.specs.Verdict.{is_eligible, passes}
-use Rattle.stage_spec.specs.Settle.{settle, settle_each, IsSettled}
-use Rattle.stage_laws.specs.Sound.{AreRunning}
-use Rattle.stage_laws.specs.Standings.{briefs, brief_of}
-use Rattle.stage_spec.proofs.Each.{Each, append-Each}
-use Rattle.stage_spec.proofs.Settling.{filter-yes, filter-no}
-use Rattle.stage_spec.proofs.Settled.{settles_once}
-use Rattle.stage_laws.proofs.RunningTasks.{settle-keeps}
-use Rattle.stage_laws.proofs.Tasks.{numbered, kept-AreRunning}
-use Rattle.stage_spec.proofs.Shape.{settle-shape}
-use Rattle.stage_laws.proofs.ByStandings.{settled_by_briefs}
-use Rattle.stage_laws.proofs.Others.{settle-others}
+use Rattle.stage_spec.specs.{Hardware.{Hardware}, Numbers.{numbers_below}, Stage.{Stage, all_cpus}, Verdict.{is_eligible, passes}}
+use Rattle.stage_spec.{specs.Settle.{settle, settle_each, IsSettled}, proofs.{Each.{Each, append-Each}, Settling.{filter-yes, filter-no}}}
+use Rattle.stage_spec.proofs.{Settled.{settles_once}, Shape.{settle-shape}}
+use Rattle.stage_laws.{specs.{Sound.{AreRunning}, Standings.{briefs, brief_of}}, proofs.RunningTasks.{settle-keeps}}
+use Rattle.stage_laws.proofs.{Tasks.{numbered, kept-AreRunning}, ByStandings.{settled_by_briefs}, Others.{settle-others}}
 
 -- room for all contexts, and each running task in one place
 pub record IsRoomy (s : Stage) : Type 0 where

@@ -1,7 +1,5 @@
 -- Masks that fit together fit also without some of them.
-use Rattle.std.specs.Prelude.{◌≡◌, ℕ, zero, suc, Bool, true, false, not, ◌&&◌, ◌||◌, nat_eq, List, [], ◌∷◌}
-use Rattle.std.specs.List.{list_any}
-use Rattle.std.proofs.Common.{refl}
+use Rattle.std.{specs.{Prelude.{◌≡◌, ℕ, zero, suc, Bool, true, false, not, ◌&&◌, ◌||◌, nat_eq, List, [], ◌∷◌}, List.{list_any}}, proofs.Common.{refl}}
 use Rattle.std.proofs.lemmas.Bool.{false≢true}
 use Rattle.stage_spec.specs.Fits.{can_count, fits_below, fits_beside}
 

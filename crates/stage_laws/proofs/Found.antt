@@ -1,8 +1,6 @@
 -- The first element that passes a test: it is there, and passes.
 use Rattle.std.specs.Prelude.{◌≡◌, ℕ, ◌+◌, ◌≤◌, All, Bool, true, false, ◌||◌, cond, List, [], ◌∷◌, find, is_some, Option, Some, None}
-use Rattle.std.specs.List.{list_any}
-use Rattle.std.proofs.Common.{arith, refl, ap, subst}
-use Rattle.std.proofs.lemmas.List.Elements.{All-head, All-tail}
+use Rattle.std.{specs.List.{list_any}, proofs.{Common.{arith, refl, ap, subst}, lemmas.List.Elements.{All-head, All-tail}}}
 use Rattle.stage_laws.proofs.Totals.{total}
 
 -- a number of what is found, and none of nothing

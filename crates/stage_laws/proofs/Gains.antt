@@ -1,21 +1,13 @@
 -- What an open and a fork add to the weight of a stage.
 use Rattle.std.specs.Prelude.{◌≡◌, ℕ, ◌+◌, ◌*◌, ◌<◌, ◌≤◌, ◌==◌, nat_le, nat_lt, Bool, true, false, cond, ◌&&◌, List, [], ◌∷◌, map, flat_map, length, sum_by, Option, Some, None, if◌then◌else◌}
-use Rattle.std.proofs.Common.{arith, refl, ap, ◌∙◌, sym}
-use Rattle.std.proofs.lemmas.Bool.Decides.{nat_tests}
-use Rattle.std.proofs.lemmas.List.Sums.{sum_by-cons}
-use Rattle.perf_base.specs.declared.numbers.CpuNo.{CpuNo}
-use Rattle.perf_base.specs.declared.numbers.EventNo.{EventNo}
-use Rattle.perf_base.specs.declared.numbers.TaskNo.{TaskNo}
-use Rattle.perf_base.specs.declared.attr.Attr.{Attr}
+use Rattle.std.proofs.{Common.{arith, refl, ap, ◌∙◌, sym}, lemmas.{Bool.Decides.{nat_tests}, List.Sums.{sum_by-cons}}}
+use Rattle.perf_base.specs.{declared.{numbers.{CpuNo.{CpuNo}, EventNo.{EventNo}, TaskNo.{TaskNo}}, attr.Attr.{Attr}}, Contexts.{context_of}}
 use Rattle.perf_base.specs.declared.standing.Context.TheVariants as context
 use Rattle.stage_spec.specs.declared.instance.Instance.{Instance}
 use Rattle.stage_spec.specs.Stage.{Stage, Group, group_size, alone, Lists, lists_of, no_groups, groups_in, all_groups, place_of, is_original, task_on}
-use Rattle.stage_spec.specs.Flags.{is_inherited, is_pinned}
-use Rattle.perf_base.specs.Contexts.{context_of}
+use Rattle.stage_spec.specs.{Flags.{is_inherited, is_pinned}, Opening.{opened, placed, add_group, joined, join_group, join_lists, new_original}}
+use Rattle.stage_spec.specs.{Verdict.{task_lists}, Forks.{copy_of, copies_from, copy_groups, copied, inherited_groups, new_copies, forked}}
 use Rattle.stage_laws.specs.Sound.{has_id}
-use Rattle.stage_spec.specs.Opening.{opened, placed, add_group, joined, join_group, join_lists, new_original}
-use Rattle.stage_spec.specs.Verdict.{task_lists}
-use Rattle.stage_spec.specs.Forks.{copy_of, copies_from, copy_groups, copied, inherited_groups, new_copies, forked}
 use Rattle.stage_laws.proofs.Totals.{total, total-nil, total-append, total-push, total-map, total-flat_map, total-same, total-le, total-none, total-plus, total-ones, total-times, total-filter_le, one_if}
 use Rattle.stage_laws.proofs.Weights.{group_weight, lists_weight, weight_in, weigh, no_groups-weigh, change_context-weighs, change_context-le}
 

@@ -1,53 +1,33 @@
 -- Each step keeps what groups are.
 use Rattle.std.specs.Prelude.{◌≡◌, ℕ, ◌+◌, ◌<◌, ◌==◌, nat_lt, Bool, true, false, not, ◌&&◌, List, [], ◌∷◌, ◌++◌, map, flat_map, sum_by, Option, Some, None, if◌then◌else◌}
-use Rattle.std.specs.List.{list_any}
-use Rattle.std.proofs.Common.{refl, sym, ap, ◌∙◌}
+use Rattle.std.{specs.List.{list_any}, proofs.Common.{refl, sym, ap, ◌∙◌}}
 use Rattle.std.proofs.lemmas.Bool.{and_parts, or_parts, false≢true, not-false, not-true, eqb-true, ltb-true, cond_both}
-use Rattle.perf_base.specs.declared.numbers.CpuNo.{CpuNo}
-use Rattle.perf_base.specs.declared.numbers.EventNo.{EventNo}
-use Rattle.perf_base.specs.declared.numbers.RingNo.{RingNo}
-use Rattle.perf_base.specs.declared.numbers.TaskNo.{TaskNo}
-use Rattle.perf_base.specs.declared.attr.Attr.{Attr}
-use Rattle.perf_base.specs.declared.attr.TaskSel.{TaskSel}
+use Rattle.perf_base.specs.declared.{numbers.{CpuNo.{CpuNo}, EventNo.{EventNo}, RingNo.{RingNo}, TaskNo.{TaskNo}}, attr.Attr.{Attr}}
+use Rattle.perf_base.specs.declared.{attr.{TaskSel.{TaskSel}, CpuSel.{CpuSel}}, lines.{CpuLine.{CpuLine}, ToolLine.{ToolLine}}}
+use Rattle.perf_base.specs.{declared.{reasons.Reason.{Reason}, standing.Own.{Own}}, Contexts.{context_of}}
 use Rattle.perf_base.specs.declared.attr.TaskSel.TheVariants as tasks
-use Rattle.perf_base.specs.declared.attr.CpuSel.{CpuSel}
 use Rattle.perf_base.specs.declared.attr.CpuSel.TheVariants as cpus
-use Rattle.perf_base.specs.declared.lines.CpuLine.{CpuLine}
 use Rattle.perf_base.specs.declared.lines.CpuLine.TheVariants as cpu_line
-use Rattle.perf_base.specs.declared.lines.ToolLine.{ToolLine}
 use Rattle.perf_base.specs.declared.lines.ToolLine.TheVariants as tool_line
-use Rattle.perf_base.specs.declared.reasons.Reason.{Reason}
 use Rattle.perf_base.specs.declared.standing.Context.TheVariants as context
-use Rattle.perf_base.specs.declared.standing.Own.{Own}
 use Rattle.perf_base.specs.declared.standing.Own.TheVariants as own
-use Rattle.stage_spec.specs.declared.instance.Instance.{Instance}
-use Rattle.stage_spec.specs.Flags.{is_inherited, is_pinned, is_exclusive, is_disabled}
-use Rattle.stage_spec.specs.Hardware.{Hardware}
-use Rattle.stage_spec.specs.Places.{is_same_task, is_same_cpu}
-use Rattle.perf_base.specs.Contexts.{context_of}
-use Rattle.stage_spec.specs.Refusals.{holds_of}
+use Rattle.stage_spec.specs.{declared.instance.Instance.{Instance}, Flags.{is_inherited, is_pinned, is_exclusive, is_disabled}, Hardware.{Hardware}}
+use Rattle.stage_spec.specs.{Places.{is_same_task, is_same_cpu}, Refusals.{holds_of}}
 use Rattle.stage_spec.specs.Stage.{Stage, lists_of, change_lists, Group, members_of, group_size, alone, Lists, groups_in, all_groups, change_group, no_groups, is_original, task_on, group_of, original_of, first_stage, change_each}
-use Rattle.stage_spec.specs.Effective.{hardware_members}
-use Rattle.stage_spec.specs.Verdict.{Judged, task_lists, with_masks}
-use Rattle.stage_spec.specs.Fits.{fits}
-use Rattle.stage_spec.specs.Tight.{masks_of}
+use Rattle.stage_spec.specs.{Effective.{hardware_members}, Verdict.{Judged, task_lists, with_masks}, Fits.{fits}, Tight.{masks_of}}
 use Rattle.stage_spec.specs.Settle.{settle_lists, settle_all}
 use Rattle.stage_spec.specs.Opening.{opened, placed, open_refusal, add_group, joined, join_group, join_lists, new_original, group_with, is_same_flag, is_other_pmu}
 use Rattle.stage_spec.specs.Commands.{command_each, with_period, is_reached, enabled, disabled, targets}
-use Rattle.stage_spec.specs.Mapping.{mapped_to, output_to, set_ring, ring_of}
-use Rattle.stage_spec.specs.Closing.{without, kept_group, freed_groups}
-use Rattle.stage_spec.specs.Rotation.{turn_lists}
-use Rattle.stage_spec.specs.Forks.{copied, copy_groups, inherited_groups, forked}
-use Rattle.stage_spec.specs.Reading.{is_error}
+use Rattle.stage_spec.specs.{Mapping.{mapped_to, output_to, set_ring, ring_of}, Closing.{without, kept_group, freed_groups}, Rotation.{turn_lists}}
+use Rattle.stage_spec.specs.{Forks.{copied, copy_groups, inherited_groups, forked}, Reading.{is_error}}
 use Rattle.stage_spec.specs.History.{Step, CpuStep, ToolStep, SeenStep, cpu_refusal, tool_refusal, cpu_changed, tool_changed, unless_refused, stage_step}
 use Rattle.stage_spec.specs.Limits.{Limits, IsMachine, IsWithin}
-use Rattle.stage_laws.specs.Sound.{IsGroup, AreListed, IsGrouped, IsNumbered, IsSound}
 use Rattle.stage_spec.proofs.Each.{Each, none-Each, append-Each, map-Each, weaker-Each, filter-Each, flat_map-Each, replicate-Each}
 use Rattle.stage_spec.proofs.Parts.{All-from_Each, Each-from_All, both-Each, front-Each, back-Each, joined-Each, none_passes-Each}
 use Rattle.stage_spec.proofs.Contexts.{At, At-from_each, each-from_At, both-At, map-at, task_lists-in, change_context-keeps, settle_all-keeps, rotated-keeps, closed-keeps, exited-keeps, switched-keeps, settle_pass-keeps, turned-keeps}
+use Rattle.stage_laws.specs.Sound.{IsGroup, AreListed, IsGrouped, IsNumbered, IsSound}
 use Rattle.stage_laws.proofs.Groups.{IsFine, IsGroup-from_fine, IsFine-from_group, IsSameSibling, kept_copy, IsSame-itself, IsFine-change, IsFine-failed, IsFine-copy, IsFine-alone, IsFine-kept, IsFine-freed, IsFine-joined}
-use Rattle.stage_laws.proofs.Accepted.{IsAccepted, accepted}
-use Rattle.stage_laws.proofs.Leaders.{IsFound, IsLed, all_led}
+use Rattle.stage_laws.proofs.{Accepted.{IsAccepted, accepted}, Leaders.{IsFound, IsLed, all_led}}
 
 -- the groups of a context, each in its list
 pub record AreFine (hw : Hardware) (l : Lists) : Type 0 where

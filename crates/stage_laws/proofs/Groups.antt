@@ -1,33 +1,19 @@
 -- What a group is, through the changes of a group: a change of its members, members that go, a copy, and one that
 -- joins.
 use Rattle.std.specs.Prelude.{◌≡◌, ℕ, ◌+◌, ◌<◌, ◌≤◌, ◌==◌, Bool, true, false, not, All, List, [], ◌∷◌, length, map, filter, bit_and, cond, Option, Some, None, if◌then◌else◌}
-use Rattle.std.specs.List.{AllZip}
-use Rattle.std.proofs.Common.{refl, sym, ap, ◌∙◌, arith, length-append}
-use Rattle.std.proofs.lemmas.Bool.{not_from_true, not-false, eq-eqb, eqb-true}
-use Rattle.std.proofs.lemmas.List.Sums.{length-filter, count_by-le-length}
-use Rattle.perf_base.specs.declared.attr.Kind.{Kind}
+use Rattle.std.{specs.List.{AllZip}, proofs.Common.{refl, sym, ap, ◌∙◌, arith, length-append}}
+use Rattle.std.proofs.lemmas.{Bool.{not_from_true, not-false, eq-eqb, eqb-true}, List.Sums.{length-filter, count_by-le-length}}
+use Rattle.perf_base.specs.declared.{attr.Kind.{Kind}, standing.Standing.{Standing}}
 use Rattle.perf_base.specs.declared.standing.Own.TheVariants as own
-use Rattle.perf_base.specs.declared.standing.Standing.{Standing}
 use Rattle.perf_base.specs.declared.standing.Standing.TheVariants as standing
-use Rattle.stage_spec.specs.declared.instance.Instance.{Instance}
-use Rattle.stage_spec.specs.Flags.{is_pinned}
-use Rattle.stage_spec.specs.Hardware.{Hardware, is_software, mask_of, pmu_of_kind, is_pmu}
-use Rattle.stage_spec.specs.Stage.{Stage, Group, members_of, group_size, alone, change_group}
-use Rattle.stage_spec.specs.Effective.{is_ready, is_hardware}
-use Rattle.stage_spec.specs.Verdict.{with_masks}
-use Rattle.stage_spec.specs.Fits.{fits, fits_beside}
-use Rattle.stage_spec.specs.Tight.{masks_of}
-use Rattle.stage_spec.specs.Opening.{is_other_pmu, joined}
-use Rattle.stage_spec.specs.Reading.{is_error}
-use Rattle.stage_spec.specs.Closing.{staying, kept_group, freed_groups}
-use Rattle.stage_spec.specs.Settle.{failed}
-use Rattle.stage_spec.specs.Forks.{copies_from, copy_group}
-use Rattle.stage_spec.specs.Refusals.{holds_of}
-use Rattle.stage_laws.specs.Sound.{AreAlike, IsSibling, IsGroup}
+use Rattle.stage_spec.specs.{declared.instance.Instance.{Instance}, Flags.{is_pinned}, Hardware.{Hardware, is_software, mask_of, pmu_of_kind, is_pmu}}
+use Rattle.stage_spec.specs.{Stage.{Stage, Group, members_of, group_size, alone, change_group}, Effective.{is_ready, is_hardware}}
+use Rattle.stage_spec.specs.{Verdict.{with_masks}, Fits.{fits, fits_beside}, Tight.{masks_of}, Opening.{is_other_pmu, joined}, Reading.{is_error}}
+use Rattle.stage_spec.specs.{Closing.{staying, kept_group, freed_groups}, Settle.{failed}, Forks.{copies_from, copy_group}, Refusals.{holds_of}}
 use Rattle.stage_spec.proofs.Each.{Each, none-Each, cons-Each, tail-Each, append-Each, map-Each, weaker-Each, filter-Each}
 use Rattle.stage_spec.proofs.Parts.{All-from_Each, Each-from_All, both-Each, zip-Each, length-AllZip, weaker-AllZip, map-AllZip, same-AllZip, some-Each}
 use Rattle.stage_spec.proofs.Contexts.{either-Each}
-use Rattle.stage_laws.proofs.Fitting.{fits_beside-others, fits_beside-rest, fits_beside-none}
+use Rattle.stage_laws.{specs.Sound.{AreAlike, IsSibling, IsGroup}, proofs.Fitting.{fits_beside-others, fits_beside-rest, fits_beside-none}}
 
 -- the masks of the hardware instances among some, and those with one instance more
 abbrev pub hardware_masks : Hardware → List Instance → List ℕ

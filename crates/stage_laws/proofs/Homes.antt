@@ -2,34 +2,18 @@
 -- attribute of its slot, and at most one of a family in a context. How this stays through the changes of one context.
 use Rattle.std.specs.Prelude.{◌≡◌, ℕ, ◌+◌, ◌-◌, ◌<◌, ◌≤◌, ◌==◌, nat_lt, Bool, true, false, not, List, length, cond, Option, None, slice_index_or, if◌then◌else◌}
 use Rattle.std.proofs.Common.{refl, sym, ap, ◌∙◌, arith, inl, inr, subst}
-use Rattle.std.proofs.lemmas.Bool.{cases_Bool, cases_lt, both_ways, and_parts, not-true, cond_both, lt-ltb, le-ltb}
-use Rattle.std.proofs.lemmas.List.{get_or_past}
-use Rattle.perf_base.specs.declared.numbers.CpuNo.{CpuNo}
-use Rattle.perf_base.specs.declared.numbers.EventNo.{EventNo}
-use Rattle.perf_base.specs.declared.numbers.RingNo.{RingNo}
-use Rattle.perf_base.specs.declared.numbers.TaskNo.{TaskNo}
-use Rattle.perf_base.specs.declared.attr.Attr.{Attr}
-use Rattle.perf_base.specs.declared.attr.TaskSel.{TaskSel}
-use Rattle.perf_base.specs.declared.attr.TaskSel.TheVariants as tasks
-use Rattle.perf_base.specs.declared.attr.CpuSel.{CpuSel}
-use Rattle.perf_base.specs.declared.attr.CpuSel.TheVariants as cpus
-use Rattle.perf_base.specs.declared.standing.Context.{Context}
-use Rattle.perf_base.specs.declared.standing.Context.TheVariants as context
-use Rattle.perf_base.specs.declared.standing.Own.{Own}
-use Rattle.stage_spec.specs.declared.instance.Instance.{Instance}
-use Rattle.stage_spec.specs.declared.instance.TaskState.{TaskState}
-use Rattle.stage_spec.specs.declared.instance.TaskStatus.{TaskStatus}
-use Rattle.stage_spec.specs.Hardware.{Hardware}
-use Rattle.stage_spec.specs.Places.{is_all_tasks}
+use Rattle.std.proofs.lemmas.{Bool.{cases_Bool, cases_lt, both_ways, and_parts, not-true, cond_both, lt-ltb, le-ltb}, List.{get_or_past}}
+use Rattle.perf_base.specs.declared.{numbers.{CpuNo.{CpuNo}, EventNo.{EventNo}, RingNo.{RingNo}, TaskNo.{TaskNo}}, attr.Attr.{Attr}}
+use Rattle.perf_base.specs.declared.{attr.{TaskSel.{TaskSel}, CpuSel.{CpuSel}}, standing.{Context.{Context}, Own.{Own}}}
 use Rattle.perf_base.specs.Contexts.{context_of, context_by}
+use Rattle.perf_base.specs.declared.attr.TaskSel.TheVariants as tasks
+use Rattle.perf_base.specs.declared.attr.CpuSel.TheVariants as cpus
+use Rattle.perf_base.specs.declared.standing.Context.TheVariants as context
+use Rattle.stage_spec.specs.{declared.instance.{Instance.{Instance}, TaskState.{TaskState}, TaskStatus.{TaskStatus}}, Hardware.{Hardware}}
+use Rattle.stage_spec.specs.Places.{is_all_tasks}
 use Rattle.stage_spec.specs.Stage.{Stage, Lists, lists_of, no_groups, place_of, unknown_task, is_live, was_used, is_original, is_of_family, original_of, change_lists}
-use Rattle.stage_spec.specs.Verdict.{Judged}
-use Rattle.stage_spec.specs.Settle.{settle_lists, settle_pass}
-use Rattle.stage_spec.specs.Closing.{without}
-use Rattle.stage_spec.specs.Rotation.{turn_lists}
-use Rattle.stage_spec.specs.Commands.{is_reached}
-use Rattle.stage_spec.specs.Forks.{copied, present_period}
-use Rattle.stage_spec.proofs.Each.{InLists, no_groups-In}
+use Rattle.stage_spec.specs.{Verdict.{Judged}, Settle.{settle_lists, settle_pass}, Closing.{without}, Rotation.{turn_lists}, Commands.{is_reached}}
+use Rattle.stage_spec.{specs.Forks.{copied, present_period}, proofs.Each.{InLists, no_groups-In}}
 use Rattle.stage_spec.proofs.Inside.{weaker-in, both-in, LeavesOwn, settle_lists-in, turn_lists-in, change_lists-in, without-in, copied-in}
 use Rattle.stage_spec.proofs.Contexts.{At}
 use Rattle.stage_laws.proofs.Totals.{one_if}

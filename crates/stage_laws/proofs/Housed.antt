@@ -1,49 +1,29 @@
 -- Each step keeps where instances stand.
 use Rattle.std.specs.Prelude.{◌≡◌, ℕ, ◌+◌, ◌<◌, nat_lt, Bool, true, false, List, [], ◌∷◌, length, Option, Some, None, slice_index_or, slice_set, if◌then◌else◌}
-use Rattle.std.proofs.Common.{refl, sym, ap, ◌∙◌, arith, subst}
-use Rattle.std.proofs.lemmas.Bool.{true≢false}
-use Rattle.perf_base.specs.declared.numbers.CpuNo.{CpuNo}
-use Rattle.perf_base.specs.declared.numbers.EventNo.{EventNo}
-use Rattle.perf_base.specs.declared.numbers.RingNo.{RingNo}
-use Rattle.perf_base.specs.declared.numbers.TaskNo.{TaskNo}
-use Rattle.perf_base.specs.declared.attr.Attr.{Attr}
-use Rattle.perf_base.specs.declared.lines.CpuLine.{CpuLine}
+use Rattle.std.proofs.{Common.{refl, sym, ap, ◌∙◌, arith, subst}, lemmas.Bool.{true≢false}}
+use Rattle.perf_base.specs.declared.{numbers.{CpuNo.{CpuNo}, EventNo.{EventNo}, RingNo.{RingNo}, TaskNo.{TaskNo}}, attr.Attr.{Attr}}
+use Rattle.perf_base.specs.declared.{lines.{CpuLine.{CpuLine}, ToolLine.{ToolLine}}, reasons.Reason.{Reason}, standing.Own.{Own}}
+use Rattle.perf_base.specs.Contexts.{context_of}
 use Rattle.perf_base.specs.declared.lines.CpuLine.TheVariants as cpu_line
-use Rattle.perf_base.specs.declared.lines.ToolLine.{ToolLine}
 use Rattle.perf_base.specs.declared.lines.ToolLine.TheVariants as tool_line
-use Rattle.perf_base.specs.declared.reasons.Reason.{Reason}
 use Rattle.perf_base.specs.declared.reasons.Reason.TheVariants as reason
 use Rattle.perf_base.specs.declared.standing.Context.TheVariants as context
-use Rattle.perf_base.specs.declared.standing.Own.{Own}
-use Rattle.stage_spec.specs.declared.instance.Instance.{Instance}
-use Rattle.stage_spec.specs.declared.instance.TaskState.TheVariants as state
-use Rattle.stage_spec.specs.declared.instance.TaskStatus.{TaskStatus}
-use Rattle.stage_spec.specs.Hardware.{Hardware}
-use Rattle.perf_base.specs.Contexts.{context_of}
+use Rattle.stage_spec.specs.{declared.instance.{Instance.{Instance}, TaskStatus.{TaskStatus}}, Hardware.{Hardware}}
 use Rattle.stage_spec.specs.Stage.{Stage, lists_of, no_groups, place_of, task_on, status_of, is_live, was_used, is_copy, is_original, change_lists, is_idle, change_context, set_running, fresh_task, live_copies}
-use Rattle.stage_spec.specs.Verdict.{task_lists}
-use Rattle.stage_spec.specs.Settle.{settle_all}
-use Rattle.stage_spec.specs.Opening.{open_refusal, opened, placed, new_original}
+use Rattle.stage_spec.specs.{Verdict.{task_lists}, Settle.{settle_all}, Opening.{open_refusal, opened, placed, new_original}}
 use Rattle.stage_spec.specs.Commands.{command_each, with_period, is_reached, enabled, disabled, targets}
-use Rattle.stage_spec.specs.Mapping.{mapped_to, output_to, set_ring, ring_of}
-use Rattle.stage_spec.specs.Closing.{without, closed}
-use Rattle.stage_spec.specs.Rotation.{rotated}
-use Rattle.stage_spec.specs.Forks.{copied, forked, fork_refusal, new_copies}
-use Rattle.stage_spec.specs.Exits.{exited, exited_by}
-use Rattle.stage_spec.specs.Switching.{switched, put_on, is_running}
+use Rattle.stage_spec.specs.{Mapping.{mapped_to, output_to, set_ring, ring_of}, Closing.{without, closed}, Rotation.{rotated}}
+use Rattle.stage_spec.specs.{Forks.{copied, forked, fork_refusal, new_copies}, Exits.{exited, exited_by}, Switching.{switched, put_on, is_running}}
 use Rattle.stage_spec.specs.History.{Step, CpuStep, ToolStep, SeenStep, cpu_refusal, tool_refusal, cpu_changed, tool_changed, unless_refused, stage_step}
-use Rattle.stage_spec.specs.Limits.{Limits, IsMachine, IsWithin, HasShape}
-use Rattle.stage_laws.specs.Sound.{IsNumbered}
-use Rattle.stage_spec.proofs.Each.{Each, InLists}
-use Rattle.stage_laws.proofs.Tasks.{KeepsTasks, status_of-same, status_of-other, state-kept}
-use Rattle.stage_laws.proofs.RunningTasks as tasks_kept
-use Rattle.stage_spec.proofs.Shape.{one_stage}
+use Rattle.stage_spec.{specs.Limits.{Limits, IsMachine, IsWithin, HasShape}, proofs.{Each.{Each, InLists}, Shape.{one_stage}}}
 use Rattle.stage_spec.proofs.Contexts.{At, change_context-at, map-at, settle_all-keeps, rotated-keeps, closed-keeps}
-use Rattle.stage_laws.proofs.Accepted.{no_reason, accepted}
-use Rattle.stage_laws.proofs.Numbered.{context_of-place}
+use Rattle.stage_spec.specs.declared.instance.TaskState.TheVariants as state
+use Rattle.stage_laws.{specs.Sound.{IsNumbered}, proofs.Tasks.{KeepsTasks, status_of-same, status_of-other, state-kept}}
+use Rattle.stage_laws.proofs.{Accepted.{no_reason, accepted}, Numbered.{context_of-place}}
 use Rattle.stage_laws.proofs.Homes.{context_at, context_at-place, in_context, state_at, IsOfLive, StandsIn, IsHome, no_groups-home, IsHome-tasks, settles-home, turns-home, loses-home, exits-home, command, command-home, period, period-home, output, output-home, copies-home}
 use Rattle.stage_laws.proofs.OpenHomes.{with_slot, placed-homes}
 use Rattle.stage_laws.proofs.Origins.{IsFamilied, settle_all-familied, switched-familied, rotated-familied, change_each-familied, closed-familied, exited-familied, opened-familied, forked-familied}
+use Rattle.stage_laws.proofs.RunningTasks as tasks_kept
 
 -- each place has what belongs there, and no slot a copy without its original
 pub record IsHoused (table : ℕ → Attr) (s : Stage) : Type 0 where

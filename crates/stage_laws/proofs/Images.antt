@@ -1,13 +1,9 @@
 -- Lists through the images of their elements: those that pass a test, the first that does, how many do, and what holds
 -- of each.
 use Rattle.std.specs.Prelude.{◌≡◌, Bool, All, List, [], ◌∷◌, map, filter, length, find, count_by, Option, Some, None, option_map, slice_index_or}
-use Rattle.std.proofs.Common.{arith, refl, sym, ap, ◌∙◌, inl, inr}
-use Rattle.std.proofs.lemmas.Bool.{cases_Bool}
-use Rattle.std.proofs.lemmas.Option.{none-some}
-use Rattle.std.proofs.lemmas.List.{length-map}
+use Rattle.std.proofs.{Common.{arith, refl, sym, ap, ◌∙◌, inl, inr}, lemmas.{Bool.{cases_Bool}, Option.{none-some}, List.{length-map}}}
 use Rattle.std.proofs.Math.ListN.{get_or-map}
-use Rattle.stage_laws.proofs.Counts.{count-cons}
-use Rattle.stage_laws.proofs.Tasks.{some-same}
+use Rattle.stage_laws.proofs.{Counts.{count-cons}, Tasks.{some-same}}
 
 pub map-same : {X Y : Type 0} (f g : X → Y) → ((x : X) → f x ≡ g x) → (xs : List X) → map f xs ≡ map g xs
 map-same f g same [] = refl

@@ -1,15 +1,10 @@
 -- A group whose leader is the original in a slot is the one that the slot is found in, since a slot has at most one
 -- original.
-use Rattle.std.specs.Prelude.{◌≡◌, ◌+◌, ◌≤◌, Bool, true, false, List, [], ◌∷◌, ◌++◌, count_by, find, Some, cond}
-use Rattle.std.specs.List.{list_any}
-use Rattle.std.proofs.Common.{refl, ap, ◌∙◌, arith, inl, inr}
-use Rattle.std.proofs.lemmas.Bool.{cases_Bool, both_ways, or_parts, or_cases, or_left}
+use Rattle.std.specs.{Prelude.{◌≡◌, ◌+◌, ◌≤◌, Bool, true, false, List, [], ◌∷◌, ◌++◌, count_by, find, Some, cond}, List.{list_any}}
+use Rattle.std.proofs.{Common.{refl, ap, ◌∙◌, arith, inl, inr}, lemmas.Bool.{cases_Bool, both_ways, or_parts, or_cases, or_left}}
 use Rattle.perf_base.specs.declared.numbers.EventNo.{EventNo}
-use Rattle.stage_spec.specs.Stage.{Group, members_of, members, is_original}
-use Rattle.stage_laws.proofs.Totals.{as_number}
-use Rattle.stage_laws.proofs.Counts.{count-cons, count-append}
-use Rattle.stage_spec.proofs.Each.{Each, head-Each, weaker-Each}
-use Rattle.stage_spec.proofs.Parts.{joined-Each}
+use Rattle.stage_spec.{specs.Stage.{Group, members_of, members, is_original}, proofs.{Each.{Each, head-Each, weaker-Each}, Parts.{joined-Each}}}
+use Rattle.stage_laws.proofs.{Totals.{as_number}, Counts.{count-cons, count-append}}
 
 -- what passes a test
 at_least_one : {X : Type 0} (p : X → Bool) (xs : List X) → list_any p xs ≡ true → 1 ≤ count_by p xs

@@ -1,42 +1,23 @@
 -- Each step keeps that the rings that events write to were mapped: what writes elsewhere weighs nothing.
 use Rattle.std.specs.Prelude.{◌≡◌, ℕ, ◌≤◌, ◌<◌, ◌==◌, Bool, true, false, not, cond, ◌||◌, IsTrue, List, [], ◌∷◌, ◌++◌, find, length, Option, Some, None, if◌then◌else◌}
-use Rattle.std.specs.List.{list_any}
-use Rattle.std.proofs.Common.{arith, refl, ap, ◌∙◌, sym}
-use Rattle.std.proofs.lemmas.Bool.Decides.{nat_tests}
-use Rattle.std.proofs.lemmas.List.Folds.{list_any-append}
-use Rattle.perf_base.specs.declared.numbers.CpuNo.{CpuNo}
-use Rattle.perf_base.specs.declared.numbers.EventNo.{EventNo}
-use Rattle.perf_base.specs.declared.numbers.RingNo.{RingNo}
-use Rattle.perf_base.specs.declared.numbers.TaskNo.{TaskNo}
-use Rattle.perf_base.specs.declared.attr.Attr.{Attr}
-use Rattle.perf_base.specs.declared.lines.CpuLine.{CpuLine}
-use Rattle.perf_base.specs.declared.lines.CpuLine.TheVariants as cpu_line
-use Rattle.perf_base.specs.declared.lines.ToolLine.{ToolLine}
-use Rattle.perf_base.specs.declared.lines.ToolLine.TheVariants as tool_line
-use Rattle.perf_base.specs.declared.reasons.Reason.{Reason}
-use Rattle.perf_base.specs.declared.standing.Own.{Own}
-use Rattle.stage_spec.specs.declared.instance.Instance.{Instance}
-use Rattle.stage_spec.specs.Hardware.{Hardware}
-use Rattle.stage_spec.specs.Stage.{Stage, no_groups, place_of, all_instances, change_each, is_original, task_on, first_stage}
-use Rattle.stage_spec.specs.Verdict.{task_lists}
+use Rattle.std.{specs.List.{list_any}, proofs.{Common.{arith, refl, ap, ◌∙◌, sym}, lemmas.{Bool.Decides.{nat_tests}, List.Folds.{list_any-append}}}}
+use Rattle.perf_base.specs.declared.{numbers.{CpuNo.{CpuNo}, EventNo.{EventNo}, RingNo.{RingNo}, TaskNo.{TaskNo}}, attr.Attr.{Attr}}
+use Rattle.perf_base.specs.declared.{lines.{CpuLine.{CpuLine}, ToolLine.{ToolLine}}, reasons.Reason.{Reason}, standing.Own.{Own}}
 use Rattle.perf_base.specs.Contexts.{context_of}
-use Rattle.stage_spec.specs.Settle.{settle_all}
-use Rattle.stage_spec.specs.Opening.{placed, new_original, opened}
+use Rattle.perf_base.specs.declared.lines.CpuLine.TheVariants as cpu_line
+use Rattle.perf_base.specs.declared.lines.ToolLine.TheVariants as tool_line
+use Rattle.stage_spec.specs.{declared.instance.Instance.{Instance}, Hardware.{Hardware}}
+use Rattle.stage_spec.specs.{Stage.{Stage, no_groups, place_of, all_instances, change_each, is_original, task_on, first_stage}, Verdict.{task_lists}}
+use Rattle.stage_spec.specs.{Settle.{settle_all}, Opening.{placed, new_original, opened}}
 use Rattle.stage_spec.specs.Commands.{is_reached, command_each, with_period, enabled, disabled, targets}
-use Rattle.stage_spec.specs.Mapping.{ring_of_instance, ring_of, set_ring, mapped_to, output_to}
-use Rattle.stage_spec.specs.Closing.{closed}
-use Rattle.stage_spec.specs.Rotation.{rotated}
-use Rattle.stage_spec.specs.Forks.{forked}
-use Rattle.stage_spec.specs.Exits.{exited}
-use Rattle.stage_spec.specs.Switching.{switched}
+use Rattle.stage_spec.specs.{Mapping.{ring_of_instance, ring_of, set_ring, mapped_to, output_to}, Closing.{closed}, Rotation.{rotated}}
+use Rattle.stage_spec.specs.{Forks.{forked}, Exits.{exited}, Switching.{switched}}
 use Rattle.stage_spec.specs.History.{Step, CpuStep, ToolStep, SeenStep, cpu_refusal, tool_refusal, cpu_changed, tool_changed, stage_step, unless_refused}
 use Rattle.stage_spec.specs.Limits.{Limits, IsMachine, IsWithin, HasShape}
-use Rattle.stage_laws.specs.Sound.{AreMapped, IsSound}
-use Rattle.stage_laws.proofs.Totals.{total, total-replicate, total-by_All, All-by_total, as_number}
-use Rattle.stage_laws.proofs.Weights.{lists_weight, weigh, no_groups-weigh, weigh-is-total, weigh-le, change_each-weighs, change_each-keeps, settle_all-weighs, switched-weighs, rotated-weighs, closed-le, exited-le}
-use Rattle.stage_laws.proofs.Gains.{copied-none, forked-le, opened-weighs}
 use Rattle.stage_spec.proofs.Shape.{settle_all-numbers, switched-numbers, rotated-numbers, exited-numbers}
-use Rattle.stage_laws.proofs.Numbered.{context_of-place}
+use Rattle.stage_laws.{specs.Sound.{AreMapped, IsSound}, proofs.Totals.{total, total-replicate, total-by_All, All-by_total, as_number}}
+use Rattle.stage_laws.proofs.Weights.{lists_weight, weigh, no_groups-weigh, weigh-is-total, weigh-le, change_each-weighs, change_each-keeps, settle_all-weighs, switched-weighs, rotated-weighs, closed-le, exited-le}
+use Rattle.stage_laws.proofs.{Gains.{copied-none, forked-le, opened-weighs}, Numbered.{context_of-place}}
 
 -- 1 where a ring that is written to was not mapped
 abbrev pub elsewhere : List RingNo → Option RingNo → ℕ

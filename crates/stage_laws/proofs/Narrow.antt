@@ -1,36 +1,23 @@
 -- After a step only the processors that it touches have to be settled.
 use Rattle.std.specs.Prelude.{◌≡◌, ◌≢◌, ◌+◌, ◌<◌, ◌≤◌, nat_lt, Bool, true, false, List, [], ◌∷◌, map, filter, length, Option, Some, None}
-use Rattle.std.proofs.Common.{arith, refl, sym, ap, ◌∙◌}
-use Rattle.std.proofs.lemmas.Bool.{false≢true}
-use Rattle.perf_base.specs.declared.numbers.CpuNo.{CpuNo}
-use Rattle.perf_base.specs.declared.numbers.TaskNo.{TaskNo}
-use Rattle.perf_base.specs.declared.lines.CpuLine.{CpuLine}
-use Rattle.perf_base.specs.declared.lines.CpuLine.TheVariants as cpu_line
-use Rattle.perf_base.specs.declared.lines.ToolLine.{ToolLine}
-use Rattle.perf_base.specs.declared.lines.ToolLine.TheVariants as tool_line
+use Rattle.std.proofs.{Common.{arith, refl, sym, ap, ◌∙◌}, lemmas.Bool.{false≢true}}
+use Rattle.perf_base.specs.declared.{numbers.{CpuNo.{CpuNo}, TaskNo.{TaskNo}}, lines.{CpuLine.{CpuLine}, ToolLine.{ToolLine}}}
 use Rattle.perf_base.specs.declared.reasons.Reason.{Reason}
+use Rattle.perf_base.specs.declared.lines.CpuLine.TheVariants as cpu_line
+use Rattle.perf_base.specs.declared.lines.ToolLine.TheVariants as tool_line
 use Rattle.perf_base.specs.declared.reasons.Reason.TheVariants as reason
 use Rattle.perf_base.specs.declared.standing.Context.TheVariants as context
-use Rattle.stage_spec.specs.Hardware.{Hardware}
-use Rattle.stage_spec.specs.Numbers.{numbers_below}
+use Rattle.stage_spec.specs.{Hardware.{Hardware}, Numbers.{numbers_below}}
 use Rattle.stage_spec.specs.Stage.{Stage, Lists, task_on, all_cpus, is_idle, is_live, was_used, status_of, live_copies, change_context, is_copy}
-use Rattle.stage_spec.specs.Verdict.{Judged, passes, task_lists, verdicts}
-use Rattle.stage_spec.specs.Settle.{settle_each, settle_all}
-use Rattle.stage_spec.specs.Commands.{targets, enabled, disabled}
-use Rattle.stage_spec.specs.Closing.{without}
-use Rattle.stage_spec.specs.Switching.{switched, put_on, is_running}
-use Rattle.stage_spec.specs.Rotation.{turn_lists, turn_task, rotated}
-use Rattle.stage_spec.specs.Forks.{fork_refusal, forked, copied, new_copies}
-use Rattle.stage_spec.specs.Exits.{exited, exited_by}
+use Rattle.stage_spec.specs.{Verdict.{Judged, passes, task_lists, verdicts}, Settle.{settle_each, settle_all}, Commands.{targets, enabled, disabled}}
+use Rattle.stage_spec.specs.{Closing.{without}, Switching.{switched, put_on, is_running}, Rotation.{turn_lists, turn_task, rotated}}
+use Rattle.stage_spec.specs.{Forks.{fork_refusal, forked, copied, new_copies}, Exits.{exited, exited_by}}
 use Rattle.stage_spec.specs.History.{Step, CpuStep, ToolStep, SeenStep, cpu_refusal, tool_refusal, cpu_changed, tool_changed, unless_refused, stage_step}
-use Rattle.stage_spec.specs.Limits.{Limits, IsMachine, IsWithin}
-use Rattle.stage_laws.specs.Sound.{IsSound}
-use Rattle.stage_laws.specs.Standings.{briefs, standings}
+use Rattle.stage_spec.{specs.Limits.{Limits, IsMachine, IsWithin}, proofs.Shape.{one_stage, cpu_changed-shape, tool_changed-shape, SameShape}}
+use Rattle.stage_laws.specs.{Sound.{IsSound}, Standings.{briefs, standings}}
 use Rattle.stage_laws.specs.Narrowing.{AreSettled, tool_touches, cpu_touches, unless_no, unless_left, changed, touches, SettleOthersLaw, NarrowLaw}
 use Rattle.stage_laws.proofs.Tasks.{task_numbered, first-clear, rest-clear, task_on-other, kept-AreRunning}
-use Rattle.stage_laws.proofs.RunningTasks.{settle_all-keeps, cpu-running, tool-keeps, live-used}
-use Rattle.stage_spec.proofs.Shape.{one_stage, cpu_changed-shape, tool_changed-shape, SameShape}
-use Rattle.stage_laws.proofs.Briefs.{by_briefs}
+use Rattle.stage_laws.proofs.{RunningTasks.{settle_all-keeps, cpu-running, tool-keeps, live-used}, Briefs.{by_briefs}}
 use Rattle.stage_laws.proofs.ByStandings.{settled_by_briefs}
 use Rattle.stage_laws.proofs.Others.{ReachesSame, passes-same, task-changed, both-changed, change_task, tasks-apart, settle-others}
 use Rattle.stage_laws.proofs.EachSettled.{IsRoomy, briefs-of_passes, each-settled, only-some, others-reach, all-within, is-there}

@@ -1,53 +1,31 @@
 -- Each step keeps that ids and slots are of one instance each, by weights.
 use Rattle.std.specs.Prelude.{◌≡◌, ℕ, ◌+◌, ◌*◌, ◌<◌, ◌≤◌, ◌==◌, nat_le, nat_lt, All, Bool, true, false, not, ◌&&◌, List, [], ◌∷◌, ◌++◌, length, Option, Some, None, if◌then◌else◌}
-use Rattle.std.specs.List.{list_any}
-use Rattle.std.proofs.Common.{arith, refl, ap, ◌∙◌, sym, inl, inr}
-use Rattle.std.proofs.Math.Nat.{mul-le-mul_right}
-use Rattle.std.proofs.lemmas.Bool.{cases_lt, cases_eq, cases_Bool, and_right, eqb-true, ne_eqb, or_parts}
-use Rattle.std.proofs.lemmas.Bool.Decides.{nat_tests}
-use Rattle.std.proofs.lemmas.List.Elements.{All-nil, All-cons}
-use Rattle.std.proofs.lemmas.List.Folds.{list_any-append}
-use Rattle.perf_base.specs.declared.numbers.CpuNo.{CpuNo}
-use Rattle.perf_base.specs.declared.numbers.EventNo.{EventNo}
-use Rattle.perf_base.specs.declared.numbers.TaskNo.{TaskNo}
-use Rattle.perf_base.specs.declared.numbers.RingNo.{RingNo}
-use Rattle.perf_base.specs.declared.attr.Attr.{Attr}
-use Rattle.perf_base.specs.declared.attr.TaskSel.{TaskSel}
+use Rattle.std.{specs.List.{list_any}, proofs.{Common.{arith, refl, ap, ◌∙◌, sym, inl, inr}, Math.Nat.{mul-le-mul_right}}}
+use Rattle.std.proofs.lemmas.Bool.{cases_lt, cases_eq, cases_Bool, and_right, eqb-true, ne_eqb, or_parts, Decides.{nat_tests}}
+use Rattle.std.proofs.lemmas.List.{Elements.{All-nil, All-cons}, Folds.{list_any-append}}
+use Rattle.perf_base.specs.declared.{numbers.{CpuNo.{CpuNo}, EventNo.{EventNo}, TaskNo.{TaskNo}, RingNo.{RingNo}}, attr.Attr.{Attr}}
+use Rattle.perf_base.specs.declared.{attr.{TaskSel.{TaskSel}, CpuSel.{CpuSel}}, lines.{CpuLine.{CpuLine}, ToolLine.{ToolLine}}}
+use Rattle.perf_base.specs.{declared.{reasons.Reason.{Reason}, standing.Own.{Own}}, Scripts.{IsTaskSel, IsCpuSel, IsAttr}}
+use Rattle.perf_base.specs.Contexts.{context_of, context_by}
 use Rattle.perf_base.specs.declared.attr.TaskSel.TheVariants as tasks
-use Rattle.perf_base.specs.declared.attr.CpuSel.{CpuSel}
 use Rattle.perf_base.specs.declared.attr.CpuSel.TheVariants as cpus
-use Rattle.perf_base.specs.declared.lines.CpuLine.{CpuLine}
 use Rattle.perf_base.specs.declared.lines.CpuLine.TheVariants as cpu_line
-use Rattle.perf_base.specs.declared.lines.ToolLine.{ToolLine}
 use Rattle.perf_base.specs.declared.lines.ToolLine.TheVariants as tool_line
-use Rattle.perf_base.specs.declared.reasons.Reason.{Reason}
 use Rattle.perf_base.specs.declared.reasons.Reason.TheVariants as reason
 use Rattle.perf_base.specs.declared.standing.Context.TheVariants as context
-use Rattle.perf_base.specs.declared.standing.Own.{Own}
-use Rattle.perf_base.specs.Scripts.{IsTaskSel, IsCpuSel, IsAttr}
-use Rattle.stage_spec.specs.declared.instance.Instance.{Instance}
-use Rattle.stage_spec.specs.Hardware.{Hardware}
+use Rattle.stage_spec.specs.{declared.instance.Instance.{Instance}, Hardware.{Hardware}}
 use Rattle.stage_spec.specs.Stage.{Stage, Lists, no_groups, place_of, all_instances, change_each, is_original, is_copy, live_copies, task_on, status_of, is_idle, was_used, first_stage}
-use Rattle.stage_spec.specs.Verdict.{task_lists}
-use Rattle.perf_base.specs.Contexts.{context_of, context_by}
-use Rattle.stage_spec.specs.Settle.{settle_all}
-use Rattle.stage_spec.specs.Opening.{is_used, new_original, opened}
+use Rattle.stage_spec.specs.{Verdict.{task_lists}, Settle.{settle_all}, Opening.{is_used, new_original, opened}}
 use Rattle.stage_spec.specs.Commands.{is_reached, command_each, with_period, enabled, disabled, targets}
-use Rattle.stage_spec.specs.Mapping.{set_ring, ring_of, mapped_to, output_to}
-use Rattle.stage_spec.specs.Closing.{closed}
-use Rattle.stage_spec.specs.Rotation.{rotated}
-use Rattle.stage_spec.specs.Forks.{copy_of, fork_refusal, forked, new_copies}
-use Rattle.stage_spec.specs.Exits.{exited}
-use Rattle.stage_spec.specs.Switching.{switched}
+use Rattle.stage_spec.specs.{Mapping.{set_ring, ring_of, mapped_to, output_to}, Closing.{closed}, Rotation.{rotated}}
+use Rattle.stage_spec.specs.{Forks.{copy_of, fork_refusal, forked, new_copies}, Exits.{exited}, Switching.{switched}}
 use Rattle.stage_spec.specs.History.{Step, CpuStep, ToolStep, SeenStep, cpu_refusal, tool_refusal, cpu_changed, tool_changed, stage_step, unless_refused}
-use Rattle.stage_spec.specs.Limits.{Limits, IsMachine, IsWithin, HasShape}
-use Rattle.stage_laws.specs.Sound.{has_id, IsNumbered, IsSound}
-use Rattle.stage_laws.proofs.Accepted.{accepted, no_reason}
-use Rattle.stage_spec.proofs.Each.{Each}
+use Rattle.stage_spec.{specs.Limits.{Limits, IsMachine, IsWithin, HasShape}, proofs.Each.{Each}}
+use Rattle.stage_spec.proofs.Shape.{SameNumbers, settle_all-numbers, switched-numbers, rotated-numbers, exited-numbers}
+use Rattle.stage_laws.{specs.Sound.{has_id, IsNumbered, IsSound}, proofs.Accepted.{accepted, no_reason}}
 use Rattle.stage_laws.proofs.Totals.{total, total-replicate, total-by_All, one_if, as_number}
 use Rattle.stage_laws.proofs.Weights.{lists_weight, weigh, no_groups-weigh, weigh-is-total, weigh-is-count, weight_in-le, change_each-keeps, settle_all-weighs, switched-weighs, rotated-weighs, closed-le, exited-le}
 use Rattle.stage_laws.proofs.Gains.{among, among-drawn, among-before, among-after, copied-ids, copied-none, copied-weighs, inherited_weight-le, inherited-count, forked-le, groups_joined, groups_led-le, opened-weighs}
-use Rattle.stage_spec.proofs.Shape.{SameNumbers, settle_all-numbers, switched-numbers, rotated-numbers, exited-numbers}
 
 -- an instance of no slot
 abbrev pub is_outside : Instance → Bool

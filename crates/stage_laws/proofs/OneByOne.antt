@@ -1,23 +1,15 @@
 -- A change of some instances is a change of each of them, one after the other in any order.
 use Rattle.std.specs.Prelude.{◌≡◌, ℕ, ◌+◌, ◌≤◌, ◌==◌, Bool, true, false, not, ◌&&◌, cond, List, [], ◌∷◌, map, filter, find, count_by, Some, if◌then◌else◌}
-use Rattle.std.specs.List.{fold}
-use Rattle.std.proofs.Common.{arith, refl, sym, ap, ◌∙◌, inl, inr}
-use Rattle.std.proofs.lemmas.Bool.{cases_Bool}
+use Rattle.std.{specs.List.{fold}, proofs.{Common.{arith, refl, sym, ap, ◌∙◌, inl, inr}, lemmas.Bool.{cases_Bool, Decides.{nat_tests}}}}
 use Rattle.std.proofs.lemmas.Simd.{map-map}
-use Rattle.std.proofs.lemmas.Bool.Decides.{nat_tests}
 use Rattle.perf_base.specs.declared.numbers.EventNo.{EventNo}
 use Rattle.stage_spec.specs.declared.instance.Instance.{Instance}
 use Rattle.stage_spec.specs.Stage.{Stage, Group, Lists, all_instances, change_group, change_lists, change_each, is_original, original_of}
-use Rattle.stage_spec.specs.Commands.{is_reached, command_each, with_period}
+use Rattle.stage_spec.{specs.Commands.{is_reached, command_each, with_period}, proofs.Each.{Each, weaker-Each, InGroup, InLists}}
+use Rattle.stage_spec.proofs.{Parts.{all-Each, both-Each}, Inside.{InStage-from_all}}
 use Rattle.stage_laws.specs.Sound.{IsNumbered, has_id}
 use Rattle.stage_laws.specs.OneByOne.{ids_of, AreIdsOf, change_one, change_ones, with_own, IdsLaw, CommandOneByOneLaw, PeriodOneLaw, RingOneLaw}
-use Rattle.stage_spec.proofs.Each.{Each, weaker-Each, InGroup, InLists}
-use Rattle.stage_laws.proofs.Images.{map-same}
-use Rattle.stage_laws.proofs.Counts.{count-cons}
-use Rattle.stage_spec.proofs.Parts.{all-Each, both-Each}
-use Rattle.stage_spec.proofs.Inside.{InStage-from_all}
-use Rattle.stage_laws.proofs.Found.{found_weighs, found_passes}
-use Rattle.stage_laws.proofs.BoundsReached.{total-le_each}
+use Rattle.stage_laws.proofs.{Images.{map-same}, Counts.{count-cons}, Found.{found_weighs, found_passes}, BoundsReached.{total-le_each}}
 use Rattle.stage_laws.proofs.Totals.{total, total-same, total-plus, total-filter, as_number, one_if, count_by-is-total}
 
 -- what an element has for itself is within the sum, and what adds up to no more is the same for each

@@ -1,19 +1,13 @@
 -- What a fork adds is a copy of each instance, one after the other in the order of their ids.
 use Rattle.std.specs.Prelude.{◌≡◌, ℕ, zero, suc, ◌+◌, Bool, true, false, ◌&&◌, cond, find, Option, Some, None, if◌then◌else◌, List, [], ◌∷◌, ◌++◌, map, flat_map, length, sum_by}
-use Rattle.std.specs.Option.{option_or}
-use Rattle.std.proofs.Common.{arith, refl, sym, ap, ◌∙◌, inl, inr, append-nil, append_assoc, get_or, set, get_or-set_same}
-use Rattle.std.proofs.lemmas.Bool.{cases_lt}
-use Rattle.std.proofs.lemmas.Grind.{flat_map-append}
-use Rattle.std.proofs.lemmas.List.{set-set, set-get_or, set_past, length-append, length-map}
-use Rattle.std.proofs.lemmas.List.Folds.{find-append}
-use Rattle.std.proofs.lemmas.List.Sums.{sum_by-cons}
-use Rattle.perf_base.specs.declared.numbers.EventNo.{EventNo}
-use Rattle.perf_base.specs.declared.numbers.TaskNo.{TaskNo}
+use Rattle.std.{specs.Option.{option_or}, proofs.Common.{arith, refl, sym, ap, ◌∙◌, inl, inr, append-nil, append_assoc, get_or, set, get_or-set_same}}
+use Rattle.std.proofs.lemmas.{Bool.{cases_lt}, Grind.{flat_map-append}, List.{set-set, set-get_or, set_past, length-append, length-map}}
+use Rattle.std.proofs.lemmas.List.{Folds.{find-append}, Sums.{sum_by-cons}}
+use Rattle.perf_base.specs.declared.numbers.{EventNo.{EventNo}, TaskNo.{TaskNo}}
 use Rattle.perf_base.specs.declared.standing.Context.TheVariants as context
 use Rattle.stage_spec.specs.declared.instance.Instance.{Instance}
 use Rattle.stage_spec.specs.Stage.{Stage, Group, members_of, group_size, alone, Lists, lists_of, no_groups, groups_in, members, is_of_family, is_original, original_of, place_of, task_on, fresh_task, set_status, change_context}
-use Rattle.stage_spec.specs.Verdict.{task_lists}
-use Rattle.stage_spec.specs.Opening.{joined, add_group}
+use Rattle.stage_spec.specs.{Verdict.{task_lists}, Opening.{joined, add_group}}
 use Rattle.stage_spec.specs.Forks.{inherited_groups, copy_of, copies_from, copy_group, copy_groups, copied, copied_state, present_period, new_copies, forked}
 use Rattle.stage_laws.specs.OneByOne.{Parent, parents_in, fork_parents, join_last, add_sibling, add_copy, add_instance, add_copies, CopiesLeaveOriginalsLaw, ForkOneByOneLaw}
 

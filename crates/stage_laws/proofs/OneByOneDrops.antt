@@ -1,26 +1,19 @@
 -- What takes some instances away takes each of them, one after the other: in any order where a context has at most one
 -- of them, and where a group goes whole or not at all.
 use Rattle.std.specs.Prelude.{◌≡◌, ◌≢◌, ℕ, ◌+◌, ◌≤◌, ◌==◌, Bool, true, false, not, List, [], ◌∷◌, map, filter, flat_map, count_by, slice_index_or}
-use Rattle.std.specs.List.{list_any}
-use Rattle.std.proofs.Common.{arith, refl, sym, ap, ◌∙◌, inl, inr, append-nil, subst, set}
-use Rattle.std.proofs.lemmas.Bool.{cases_Bool, cases_eq, false≢true}
-use Rattle.std.proofs.lemmas.Grind.{flat_map-append}
+use Rattle.std.{specs.List.{list_any}, proofs.Common.{arith, refl, sym, ap, ◌∙◌, inl, inr, append-nil, subst, set}}
+use Rattle.std.proofs.lemmas.{Bool.{cases_Bool, cases_eq, false≢true}, Grind.{flat_map-append}}
 use Rattle.perf_base.specs.declared.standing.Context.{Context}
 use Rattle.perf_base.specs.declared.standing.Context.TheVariants as context
-use Rattle.stage_spec.specs.declared.instance.Instance.{Instance}
-use Rattle.stage_spec.specs.Hardware.{Hardware}
+use Rattle.stage_spec.specs.{declared.instance.Instance.{Instance}, Hardware.{Hardware}}
 use Rattle.stage_spec.specs.Stage.{Stage, Group, members_of, alone, Lists, lists_of, no_groups, groups_in, members, all_groups, all_instances, place_of, is_of_family, is_copy}
-use Rattle.stage_spec.specs.Closing.{staying, kept_group, freed_groups, without, closed}
-use Rattle.stage_spec.specs.Verdict.{instances_in}
-use Rattle.stage_laws.specs.Sound.{IsNumbered, IsGrouped, IsGroup, AreAlike, has_id}
-use Rattle.stage_laws.specs.OneByOne.{AreIdsOf, CloseOneByOneLaw, ExitOneByOneLaw}
+use Rattle.stage_spec.specs.{Closing.{staying, kept_group, freed_groups, without, closed}, Verdict.{instances_in}}
 use Rattle.stage_spec.proofs.Each.{Each, none-Each, append-Each, filter-Each, flat_map-Each, weaker-Each, get_or-Each, InGroup, InGroups, InLists, InStage, no_groups-In}
 use Rattle.stage_spec.proofs.Parts.{Each-from_All, front-Each, back-Each, joined-Each}
-use Rattle.stage_spec.proofs.Inside.{members-in, InLists-from_members, InStage-from_all, weaker-in, both-in, without-in}
-use Rattle.stage_spec.proofs.Contexts.{each-from_At}
-use Rattle.stage_laws.proofs.Counts.{count-cons, count-filter, two_places, map-at_one}
-use Rattle.stage_laws.proofs.Homes.{context_at, place_of-at}
+use Rattle.stage_spec.proofs.{Inside.{members-in, InLists-from_members, InStage-from_all, weaker-in, both-in, without-in}, Contexts.{each-from_At}}
 use Rattle.stage_spec.proofs.Settling.{either}
+use Rattle.stage_laws.specs.{Sound.{IsNumbered, IsGrouped, IsGroup, AreAlike, has_id}, OneByOne.{AreIdsOf, CloseOneByOneLaw, ExitOneByOneLaw}}
+use Rattle.stage_laws.proofs.{Counts.{count-cons, count-filter, two_places, map-at_one}, Homes.{context_at, place_of-at}}
 use Rattle.stage_laws.proofs.Untouched.{staying-all, without-none}
 use Rattle.stage_laws.proofs.Totals.{total, All-by_total, as_number, one_if, count_by-is-total, sum_by-is-total}
 use Rattle.stage_laws.proofs.Weights.{lists_weight, lists-weigh, weight_in-le, weigh-is-count, no_groups-weigh}

@@ -1,31 +1,17 @@
 -- What is on, what is ready and what an event has are each instance once.
 use Rattle.std.specs.Prelude.{◌≡◌, ℕ, ◌+◌, ◌≤◌, Bool, false, not, ◌&&◌, cond, List, [], ◌∷◌, filter, find, count_by, Option, Some, None}
-use Rattle.std.proofs.Common.{arith, refl, sym, ap, ◌∙◌, inl, inr}
-use Rattle.std.proofs.lemmas.Bool.{cases_Bool, cases_eq, false≢true, eqb-true}
-use Rattle.std.proofs.lemmas.Option.{none-some}
+use Rattle.std.proofs.{Common.{arith, refl, sym, ap, ◌∙◌, inl, inr}, lemmas.{Bool.{cases_Bool, cases_eq, false≢true, eqb-true}, Option.{none-some}}}
 use Rattle.std.proofs.lemmas.List.{get_or_past}
-use Rattle.perf_base.specs.declared.numbers.CpuNo.{CpuNo}
-use Rattle.perf_base.specs.declared.numbers.EventNo.{EventNo}
-use Rattle.perf_base.specs.declared.numbers.TaskNo.{TaskNo}
+use Rattle.perf_base.specs.declared.numbers.{CpuNo.{CpuNo}, EventNo.{EventNo}, TaskNo.{TaskNo}}
 use Rattle.perf_base.specs.declared.standing.Context.TheVariants as context
-use Rattle.stage_spec.specs.declared.instance.Instance.{Instance}
-use Rattle.stage_spec.specs.Hardware.{Hardware}
+use Rattle.stage_spec.specs.{declared.instance.Instance.{Instance}, Hardware.{Hardware}}
 use Rattle.stage_spec.specs.Stage.{Stage, lists_of, no_groups, all_instances, place_of, is_of_family, is_original, original_of, task_on}
-use Rattle.stage_spec.specs.Verdict.{task_lists, on_instances, reached}
-use Rattle.stage_spec.specs.Shares.{ready_instances}
-use Rattle.stage_spec.specs.Limits.{HasShape}
-use Rattle.stage_laws.specs.Sound.{IsNumbered, has_id}
-use Rattle.stage_laws.specs.OneByOne.{OnOnceLaw, ReadyOnceLaw, FamilyLaw, NoFamilyLaw}
-use Rattle.stage_spec.proofs.Each.{Each, weaker-Each}
-use Rattle.stage_spec.proofs.Parts.{Each-from_All, none_passes-Each}
-use Rattle.stage_spec.proofs.Present.{find-none}
-use Rattle.stage_laws.proofs.Counts.{count-cons, count-filter, two_places}
-use Rattle.stage_laws.proofs.Tasks.{some-same}
-use Rattle.stage_laws.proofs.Others.{cpu-task_apart}
-use Rattle.stage_laws.proofs.Placed.{HasOriginal, reached-weighs}
-use Rattle.stage_laws.proofs.Totals.{total, one_if, as_number, count_by-is-total, sum_by-is-total}
-use Rattle.stage_laws.proofs.Weights.{lists_weight, weight_in-le, weigh-is-count, no_groups-weigh}
-use Rattle.stage_laws.proofs.BoundsReached.{on-le, ready-le}
+use Rattle.stage_spec.specs.{Verdict.{task_lists, on_instances, reached}, Shares.{ready_instances}, Limits.{HasShape}}
+use Rattle.stage_spec.proofs.{Each.{Each, weaker-Each}, Parts.{Each-from_All, none_passes-Each}, Present.{find-none}}
+use Rattle.stage_laws.specs.{Sound.{IsNumbered, has_id}, OneByOne.{OnOnceLaw, ReadyOnceLaw, FamilyLaw, NoFamilyLaw}}
+use Rattle.stage_laws.proofs.{Counts.{count-cons, count-filter, two_places}, Tasks.{some-same}, Others.{cpu-task_apart}}
+use Rattle.stage_laws.proofs.{Placed.{HasOriginal, reached-weighs}, Totals.{total, one_if, as_number, count_by-is-total, sum_by-is-total}}
+use Rattle.stage_laws.proofs.{Weights.{lists_weight, weight_in-le, weigh-is-count, no_groups-weigh}, BoundsReached.{on-le, ready-le}}
 use Rattle.stage_laws.proofs.OneByOne.{pair-Each}
 
 -- what a processor reaches

@@ -1,25 +1,15 @@
 -- An open that is not refused adds its one instance: its leader leads one group.
 use Rattle.std.specs.Prelude.{◌≡◌, ℕ, ◌+◌, ◌*◌, ◌≤◌, ◌==◌, All, Bool, true, false, not, ◌||◌, List, [], ◌∷◌, is_some, Option, Some, None}
-use Rattle.std.specs.List.{list_any}
-use Rattle.std.proofs.Common.{arith, refl, ap, ◌∙◌, sym, inl, inr}
-use Rattle.std.proofs.lemmas.Bool.{and_parts, and_from, not-true, not-false, or_cases, true≢false}
-use Rattle.std.proofs.lemmas.List.Folds.{list_any-append}
+use Rattle.std.{specs.List.{list_any}, proofs.Common.{arith, refl, ap, ◌∙◌, sym, inl, inr}}
+use Rattle.std.proofs.lemmas.{Bool.{and_parts, and_from, not-true, not-false, or_cases, true≢false}, List.Folds.{list_any-append}}
 use Rattle.std.proofs.lemmas.List.Elements.{All-head, All-tail}
-use Rattle.perf_base.specs.declared.numbers.EventNo.{EventNo}
-use Rattle.perf_base.specs.declared.attr.Attr.{Attr}
-use Rattle.stage_spec.specs.declared.instance.Instance.{Instance}
-use Rattle.stage_spec.specs.Hardware.{Hardware}
-use Rattle.stage_spec.specs.Stage.{Stage, Group, members_of, members, all_groups, is_of_family, is_original, is_open, group_of}
-use Rattle.stage_spec.specs.Effective.{name_of}
-use Rattle.stage_spec.specs.Refusals.{holds_of}
-use Rattle.stage_spec.specs.Opening.{leader_is_closed, leader_is_sibling, open_refusal, new_original, opened}
+use Rattle.perf_base.specs.{declared.{numbers.EventNo.{EventNo}, attr.Attr.{Attr}}, Scripts.{IsAttr}}
+use Rattle.stage_spec.specs.{declared.instance.Instance.{Instance}, Hardware.{Hardware}}
+use Rattle.stage_spec.specs.{Stage.{Stage, Group, members_of, members, all_groups, is_of_family, is_original, is_open, group_of}, Effective.{name_of}}
+use Rattle.stage_spec.specs.{Refusals.{holds_of}, Opening.{leader_is_closed, leader_is_sibling, open_refusal, new_original, opened}}
 use Rattle.stage_spec.specs.Limits.{Limits, IsMachine}
-use Rattle.stage_laws.specs.Sound.{AreAlike, IsGroup, IsSound}
-use Rattle.perf_base.specs.Scripts.{IsAttr}
-use Rattle.stage_laws.proofs.Accepted.{IsAccepted, accepted}
-use Rattle.stage_laws.proofs.Found.{found_weighs, found_passes, found_has, found_there}
-use Rattle.stage_laws.proofs.Totals.{as_number, one_if}
-use Rattle.stage_laws.proofs.Weights.{weigh}
+use Rattle.stage_laws.{specs.Sound.{AreAlike, IsGroup, IsSound}, proofs.Accepted.{IsAccepted, accepted}}
+use Rattle.stage_laws.proofs.{Found.{found_weighs, found_passes, found_has, found_there}, Totals.{as_number, one_if}, Weights.{weigh}}
 use Rattle.stage_laws.proofs.Gains.{leads, groups_led, groups_joined, opened-weighs}
 use Rattle.stage_laws.proofs.Numbered.{weights_of_numbered, groups_joined-le, context_of-place}
 

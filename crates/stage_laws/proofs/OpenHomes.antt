@@ -3,30 +3,19 @@
 use Rattle.std.specs.Prelude.{◌≡◌, ℕ, ◌+◌, ◌*◌, ◌<◌, ◌≤◌, ◌==◌, Bool, true, false, not, ◌&&◌, [], length, cond, Option, Some, None, slice_index_or}
 use Rattle.std.proofs.Common.{refl, sym, ap, ◌∙◌, arith, inl, inr}
 use Rattle.std.proofs.lemmas.Bool.{cases_eq, both_ways, and_parts, not-true, not-false, eq-eqb, ne_eqb, false≢true}
-use Rattle.perf_base.specs.declared.numbers.EventNo.{EventNo}
-use Rattle.perf_base.specs.declared.numbers.TaskNo.{TaskNo}
-use Rattle.perf_base.specs.declared.attr.Attr.{Attr}
-use Rattle.perf_base.specs.declared.attr.TaskSel.{TaskSel}
+use Rattle.perf_base.specs.declared.{numbers.{EventNo.{EventNo}, TaskNo.{TaskNo}}, attr.{Attr.{Attr}, TaskSel.{TaskSel}, CpuSel.{CpuSel}}}
+use Rattle.perf_base.specs.{declared.standing.Context.{Context}, Contexts.{context_of, context_by}}
 use Rattle.perf_base.specs.declared.attr.TaskSel.TheVariants as tasks
-use Rattle.perf_base.specs.declared.attr.CpuSel.{CpuSel}
 use Rattle.perf_base.specs.declared.attr.CpuSel.TheVariants as cpus
-use Rattle.perf_base.specs.declared.standing.Context.{Context}
 use Rattle.perf_base.specs.declared.standing.Context.TheVariants as context
-use Rattle.stage_spec.specs.declared.instance.Instance.{Instance}
-use Rattle.stage_spec.specs.declared.instance.TaskState.{TaskState}
-use Rattle.stage_spec.specs.declared.instance.TaskState.TheVariants as state
-use Rattle.stage_spec.specs.Flags.{is_pinned}
-use Rattle.stage_spec.specs.Hardware.{Hardware}
+use Rattle.stage_spec.specs.{declared.instance.{Instance.{Instance}, TaskState.{TaskState}}, Flags.{is_pinned}, Hardware.{Hardware}}
 use Rattle.stage_spec.specs.Places.{is_same_task, is_same_cpu}
-use Rattle.perf_base.specs.Contexts.{context_of, context_by}
 use Rattle.stage_spec.specs.Stage.{Stage, Group, alone, Lists, lists_of, groups_in, no_groups, place_of, is_original, is_of_family, original_of, all_instances, status_of, is_live, was_used}
 use Rattle.stage_spec.specs.Opening.{is_used, placed, add_group, join_lists, new_original, names_no_task}
-use Rattle.stage_laws.specs.Sound.{IsNumbered}
-use Rattle.stage_spec.proofs.Each.{none-Each, cons-Each, InLists, no_groups-In}
-use Rattle.stage_spec.proofs.Contexts.{At, At-from_each, both-At, change_context-at, map-at}
+use Rattle.stage_spec.proofs.{Each.{none-Each, cons-Each, InLists, no_groups-In}, Contexts.{At, At-from_each, both-At, change_context-at, map-at}}
 use Rattle.stage_spec.proofs.Inside.{weaker-in, both-in, add_group-in, join_lists-in, InStage-from_all}
-use Rattle.stage_laws.proofs.Accepted.{IsAccepted}
-use Rattle.stage_laws.proofs.Leaders.{none_counted, found_only}
+use Rattle.stage_spec.specs.declared.instance.TaskState.TheVariants as state
+use Rattle.stage_laws.{specs.Sound.{IsNumbered}, proofs.{Accepted.{IsAccepted}, Leaders.{none_counted, found_only}}}
 use Rattle.stage_laws.proofs.Grouped.{same_task, same_cpu, holds_of-some}
 use Rattle.stage_laws.proofs.Totals.{total, total-append, total-le, total-times, get_or-le-total, one_if}
 use Rattle.stage_laws.proofs.Weights.{weigh, lists_weight, group_weight, no_groups-weigh, weigh-is-count}

@@ -1,10 +1,8 @@
 -- There are at most 256 originals: one in each slot.
-use Rattle.std.specs.Prelude.{◌≡◌, ℕ, zero, suc, ◌+◌, ◌<◌, ◌≤◌, ◌==◌, nat_le, nat_lt, Bool, true, false, not, ◌&&◌, List}
-use Rattle.std.proofs.Common.{arith}
+use Rattle.std.{specs.Prelude.{◌≡◌, ℕ, zero, suc, ◌+◌, ◌<◌, ◌≤◌, ◌==◌, nat_le, nat_lt, Bool, true, false, not, ◌&&◌, List}, proofs.Common.{arith}}
 use Rattle.std.proofs.lemmas.Bool.Decides.{nat_tests}
 use Rattle.perf_base.specs.declared.numbers.EventNo.{EventNo}
-use Rattle.stage_spec.specs.declared.instance.Instance.{Instance}
-use Rattle.stage_spec.specs.Stage.{all_instances, is_original}
+use Rattle.stage_spec.specs.{declared.instance.Instance.{Instance}, Stage.{all_instances, is_original}}
 use Rattle.stage_laws.specs.Reachable.{FewOriginalsLaw}
 use Rattle.stage_laws.proofs.Totals.{total, total-same, total-le, total-plus, total-none, one_if, as_number, count_by-is-total, total-by_All}
 use Rattle.stage_laws.proofs.Numbered.{is_outside, inside}

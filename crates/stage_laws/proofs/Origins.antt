@@ -1,24 +1,12 @@
 -- A slot that has no original has no copy either, through each change of the stage.
 use Rattle.std.specs.Prelude.{◌≡◌, ℕ, ◌+◌, ◌*◌, ◌<◌, ◌≤◌, ◌==◌, Bool, true, false, not, ◌&&◌, length, cond, Option, Some, None}
-use Rattle.std.proofs.Common.{refl, sym, ap, ◌∙◌, arith, inl, inr}
-use Rattle.std.proofs.lemmas.Bool.{cases_eq, eqb-true}
-use Rattle.perf_base.specs.declared.numbers.CpuNo.{CpuNo}
-use Rattle.perf_base.specs.declared.numbers.EventNo.{EventNo}
-use Rattle.perf_base.specs.declared.numbers.TaskNo.{TaskNo}
-use Rattle.perf_base.specs.declared.attr.Attr.{Attr}
+use Rattle.std.proofs.{Common.{refl, sym, ap, ◌∙◌, arith, inl, inr}, lemmas.Bool.{cases_eq, eqb-true}}
+use Rattle.perf_base.specs.{declared.{numbers.{CpuNo.{CpuNo}, EventNo.{EventNo}, TaskNo.{TaskNo}}, attr.Attr.{Attr}}, Contexts.{context_of}}
 use Rattle.perf_base.specs.declared.standing.Context.TheVariants as context
-use Rattle.stage_spec.specs.declared.instance.Instance.{Instance}
-use Rattle.stage_spec.specs.Hardware.{Hardware}
-use Rattle.perf_base.specs.Contexts.{context_of}
+use Rattle.stage_spec.specs.{declared.instance.Instance.{Instance}, Hardware.{Hardware}}
 use Rattle.stage_spec.specs.Stage.{Stage, Lists, lists_of, groups_in, members, no_groups, place_of, is_original, is_of_family, is_copy, change_each, task_on, all_instances}
-use Rattle.stage_spec.specs.Verdict.{task_lists}
-use Rattle.stage_spec.specs.Settle.{settle_all}
-use Rattle.stage_spec.specs.Opening.{opened, new_original}
-use Rattle.stage_spec.specs.Closing.{closed}
-use Rattle.stage_spec.specs.Rotation.{rotated}
-use Rattle.stage_spec.specs.Forks.{forked}
-use Rattle.stage_spec.specs.Exits.{exited}
-use Rattle.stage_spec.specs.Switching.{switched}
+use Rattle.stage_spec.specs.{Verdict.{task_lists}, Settle.{settle_all}, Opening.{opened, new_original}, Closing.{closed}, Rotation.{rotated}}
+use Rattle.stage_spec.specs.{Forks.{forked}, Exits.{exited}, Switching.{switched}}
 use Rattle.stage_laws.proofs.Totals.{total-none, one_if}
 use Rattle.stage_laws.proofs.Weights.{weigh, lists_weight, no_groups-weigh, lists-weigh, weigh-is-total, weight_in-le, lists-same, weigh-same, change_each-keeps, settle_all-weighs, switched-weighs, rotated-weighs, if_stays, if_goes, closed-weighs, closed-le, exited-weighs, exited-le}
 use Rattle.stage_laws.proofs.Gains.{groups_joined, opened-weighs, copied-weighs, inherited_weight-le, forked-weighs, forked-le}

@@ -1,20 +1,13 @@
 -- What a processor reaches stays through changes of the contexts that it does not reach.
 use Rattle.std.specs.Prelude.{◌≡◌, ◌≢◌, ◌+◌, ◌<◌, ◌≤◌, ◌⊎◌, false, nat_lt, List, [], ◌∷◌, length, Option, Some, None}
-use Rattle.std.proofs.Common.{arith, refl, sym, ap, ◌∙◌, inl, inr, length-set}
-use Rattle.std.proofs.lemmas.Bool.{cases_eq, cases_lt}
-use Rattle.std.proofs.lemmas.Bool.Decides.{nat_tests}
+use Rattle.std.proofs.{Common.{arith, refl, sym, ap, ◌∙◌, inl, inr, length-set}, lemmas.Bool.{cases_eq, cases_lt, Decides.{nat_tests}}}
 use Rattle.std.proofs.lemmas.List.{get_or_past}
-use Rattle.perf_base.specs.declared.numbers.CpuNo.{CpuNo}
-use Rattle.perf_base.specs.declared.numbers.TaskNo.{TaskNo}
-use Rattle.perf_base.specs.declared.standing.Context.{Context}
+use Rattle.perf_base.specs.declared.{numbers.{CpuNo.{CpuNo}, TaskNo.{TaskNo}}, standing.Context.{Context}}
 use Rattle.perf_base.specs.declared.standing.Context.TheVariants as context
-use Rattle.stage_spec.specs.Hardware.{Hardware}
-use Rattle.stage_spec.specs.Stage.{Stage, Group, Lists, lists_of, no_groups, place_of, task_on, change_context}
-use Rattle.stage_spec.specs.Verdict.{Judged, passes, task_lists}
-use Rattle.stage_spec.specs.Settle.{settle, settle_lists, settle_task, own_verdicts}
-use Rattle.stage_laws.specs.Sound.{AreRunning}
-use Rattle.stage_laws.proofs.Tasks.{task_numbered}
+use Rattle.stage_spec.specs.{Hardware.{Hardware}, Stage.{Stage, Group, Lists, lists_of, no_groups, place_of, task_on, change_context}}
+use Rattle.stage_spec.specs.{Verdict.{Judged, passes, task_lists}, Settle.{settle, settle_lists, settle_task, own_verdicts}}
 use Rattle.stage_spec.proofs.Settled.{lists_of-other, place_of-cpu}
+use Rattle.stage_laws.{specs.Sound.{AreRunning}, proofs.Tasks.{task_numbered}}
 
 -- a change of a context at another place, or at none
 pub lists_of-apart : (c d : Context) (f : Lists → Lists) (s : Stage) → length s.contexts ≡ 72 → (place_of d ≡ place_of c → 72 ≤ place_of d) → lists_of (change_context c f s) d ≡ lists_of s d

@@ -3,37 +3,24 @@ use Rattle.std.specs.Prelude.{◌≡◌, ℕ, ◌+◌, ◌≤◌, ◌==◌, Bool
 use Rattle.std.proofs.Common.{refl, sym, ap, ◌∙◌, arith, inl, inr, subst}
 use Rattle.std.proofs.lemmas.Bool.{cases_Bool, both_ways, and_parts, and_from, not_from_false, eq-eqb, eqb-true, false_from_ne_true}
 use Rattle.std.proofs.lemmas.Option.{none-some}
-use Rattle.perf_base.specs.declared.numbers.CpuNo.{CpuNo}
-use Rattle.perf_base.specs.declared.numbers.EventNo.{EventNo}
-use Rattle.perf_base.specs.declared.numbers.TaskNo.{TaskNo}
-use Rattle.perf_base.specs.declared.attr.Attr.{Attr}
+use Rattle.perf_base.specs.declared.{numbers.{CpuNo.{CpuNo}, EventNo.{EventNo}, TaskNo.{TaskNo}}, attr.Attr.{Attr}, standing.Context.{Context}}
+use Rattle.perf_base.specs.Contexts.{context_of}
 use Rattle.perf_base.specs.declared.attr.Kind.TheVariants as kind
 use Rattle.perf_base.specs.declared.attr.TaskSel.TheVariants as tasks
 use Rattle.perf_base.specs.declared.attr.CpuSel.TheVariants as cpus
-use Rattle.perf_base.specs.declared.standing.Context.{Context}
 use Rattle.perf_base.specs.declared.standing.Context.TheVariants as context
-use Rattle.stage_spec.specs.declared.instance.Instance.{Instance}
-use Rattle.stage_spec.specs.declared.instance.TaskStatus.{TaskStatus}
-use Rattle.stage_spec.specs.Hardware.{Hardware}
-use Rattle.stage_spec.specs.Places.{is_all_tasks}
-use Rattle.perf_base.specs.Contexts.{context_of}
+use Rattle.stage_spec.specs.{declared.instance.{Instance.{Instance}, TaskStatus.{TaskStatus}}, Hardware.{Hardware}, Places.{is_all_tasks}}
 use Rattle.stage_spec.specs.Stage.{Stage, Group, Lists, lists_of, groups_in, no_groups, place_of, members, is_original, is_of_family, original_of, all_instances, status_of, is_live, task_on, first_stage}
-use Rattle.stage_spec.specs.Verdict.{task_lists, passes, instances_in, reached}
-use Rattle.stage_spec.specs.History.{Step, stage_step}
-use Rattle.stage_spec.specs.Limits.{Limits, IsMachine, IsWithin, HasShape}
-use Rattle.stage_laws.specs.Sound.{IsNumbered, IsCopyOf, IsPlaced, IsSound}
-use Rattle.stage_spec.proofs.Each.{Each, weaker-Each, InLists, no_groups-In}
-use Rattle.stage_spec.proofs.Parts.{All-from_Each, Each-from_All, both-Each, all-Each}
-use Rattle.stage_spec.proofs.Contexts.{At, At-from_each, each-from_At}
+use Rattle.stage_spec.specs.{Verdict.{task_lists, passes, instances_in, reached}, History.{Step, stage_step}}
+use Rattle.stage_spec.{specs.Limits.{Limits, IsMachine, IsWithin, HasShape}, proofs.Each.{Each, weaker-Each, InLists, no_groups-In}}
+use Rattle.stage_spec.proofs.{Parts.{All-from_Each, Each-from_All, both-Each, all-Each}, Contexts.{At, At-from_each, each-from_At}}
 use Rattle.stage_spec.proofs.Inside.{weaker-in, both-in, members-in, InLists-from_members, all_instances-in, InStage-from_all}
-use Rattle.stage_laws.proofs.Counts.{count-cons}
-use Rattle.stage_laws.proofs.Leaders.{none_counted, found_only, find-first, find-later}
-use Rattle.stage_laws.proofs.Found.{found_has, found_passes}
+use Rattle.stage_laws.{specs.Sound.{IsNumbered, IsCopyOf, IsPlaced, IsSound}, proofs.Counts.{count-cons}}
+use Rattle.stage_laws.proofs.{Leaders.{none_counted, found_only, find-first, find-later}, Found.{found_has, found_passes}}
 use Rattle.stage_laws.proofs.Totals.{as_number, total, total-nil, total-cons, total-flat_map, total-by_All, total-replicate, count_by-is-total, one_if}
 use Rattle.stage_laws.proofs.Weights.{weigh, lists_weight, group_weight, no_groups-weigh, members-weigh, lists-weigh, weigh-is-count}
 use Rattle.stage_laws.proofs.Homes.{context_at, place_of-at, in_context, of_period, counts_all, stands_with_task, IsOfLive, StandsIn, IsHome, no_groups-home}
-use Rattle.stage_laws.proofs.Origins.{IsFamilied}
-use Rattle.stage_laws.proofs.Housed.{Housed, housed_step}
+use Rattle.stage_laws.proofs.{Origins.{IsFamilied}, Housed.{Housed, housed_step}}
 
 -- what a place gives of an instance wherever it is
 pub record IsTabled (table : ℕ → Attr) (i : Instance) : Type 0 where

@@ -1,24 +1,13 @@
 -- Every stage that lines lead to is settled.
 use Rattle.std.specs.Prelude.{◌≡◌, ℕ, All, List, [], ◌∷◌, replicate, Option, Some, None, slice_index_or}
-use Rattle.std.proofs.Common.{arith, refl, ap, ◌∙◌, inl, inr}
-use Rattle.std.proofs.lemmas.List.Elements.{All-head, All-tail}
-use Rattle.std.proofs.lemmas.Bool.{cases_lt}
-use Rattle.std.proofs.lemmas.List.{get_or-replicate, get_or_past, length-replicate}
-use Rattle.perf_base.specs.declared.numbers.CpuNo.{CpuNo}
-use Rattle.perf_base.specs.declared.numbers.TaskNo.{TaskNo}
-use Rattle.perf_base.specs.declared.standing.Context.{Context}
+use Rattle.std.proofs.{Common.{arith, refl, ap, ◌∙◌, inl, inr}, lemmas.List.{get_or-replicate, get_or_past, length-replicate}}
+use Rattle.std.proofs.lemmas.{List.Elements.{All-head, All-tail}, Bool.{cases_lt}}
+use Rattle.perf_base.specs.declared.{numbers.{CpuNo.{CpuNo}, TaskNo.{TaskNo}}, standing.Context.{Context}}
 use Rattle.perf_base.specs.declared.standing.Context.TheVariants as context
-use Rattle.stage_spec.specs.Hardware.{Hardware}
-use Rattle.stage_spec.specs.Stage.{Stage, lists_of, no_groups, place_of, task_on, first_stage}
-use Rattle.stage_spec.specs.Verdict.{Judged}
-use Rattle.stage_spec.specs.Settle.{settle, settle_lists, settle_task, own_verdicts, IsSettled}
-use Rattle.stage_spec.specs.History.{Step, stage_step, stage_after}
-use Rattle.stage_spec.specs.Limits.{Limits, IsMachine, IsWithin}
-use Rattle.stage_laws.specs.Sound.{IsSound}
-use Rattle.stage_laws.specs.Narrowing.{AreSettled, ReachedSettledLaw}
-use Rattle.stage_spec.proofs.Settled.{change_context-none, no_groups-settled}
-use Rattle.stage_laws.proofs.Sound.{first_sound, step_sound}
-use Rattle.stage_laws.proofs.Narrow.{narrows}
+use Rattle.stage_spec.specs.{Hardware.{Hardware}, Stage.{Stage, lists_of, no_groups, place_of, task_on, first_stage}, Verdict.{Judged}}
+use Rattle.stage_spec.specs.{Settle.{settle, settle_lists, settle_task, own_verdicts, IsSettled}, History.{Step, stage_step, stage_after}}
+use Rattle.stage_spec.{specs.Limits.{Limits, IsMachine, IsWithin}, proofs.Settled.{change_context-none, no_groups-settled}}
+use Rattle.stage_laws.{specs.{Sound.{IsSound}, Narrowing.{AreSettled, ReachedSettledLaw}}, proofs.{Sound.{first_sound, step_sound}, Narrow.{narrows}}}
 
 -- a stage without groups is settled
 replicate-empty : (n k : ℕ) → slice_index_or (replicate n no_groups) k no_groups ≡ no_groups

@@ -1,37 +1,22 @@
 -- What runs is live and in one place, after each step.
 use Rattle.std.specs.Prelude.{◌≡◌, ℕ, ◌<◌, ◌+◌, ◌==◌, nat_lt, Bool, true, false, not, List, [], ◌∷◌, length, replicate, Option, Some, None, slice_index_or}
-use Rattle.std.proofs.Common.{arith, refl, sym, ap, ◌∙◌, inl, inr}
-use Rattle.std.proofs.lemmas.Bool.{not-false, cases_eq, cases_lt, false≢true}
-use Rattle.std.proofs.lemmas.List.{get_or-replicate, get_or_past, length-replicate}
-use Rattle.std.proofs.lemmas.Option.{none-some}
-use Rattle.perf_base.specs.declared.numbers.CpuNo.{CpuNo}
-use Rattle.perf_base.specs.declared.numbers.TaskNo.{TaskNo}
-use Rattle.perf_base.specs.declared.lines.CpuLine.{CpuLine}
-use Rattle.perf_base.specs.declared.lines.CpuLine.TheVariants as cpu_line
-use Rattle.perf_base.specs.declared.lines.ToolLine.{ToolLine}
-use Rattle.perf_base.specs.declared.lines.ToolLine.TheVariants as tool_line
+use Rattle.std.proofs.{Common.{arith, refl, sym, ap, ◌∙◌, inl, inr}, lemmas.Bool.{not-false, cases_eq, cases_lt, false≢true}}
+use Rattle.std.proofs.lemmas.{List.{get_or-replicate, get_or_past, length-replicate}, Option.{none-some}}
+use Rattle.perf_base.specs.declared.{numbers.{CpuNo.{CpuNo}, TaskNo.{TaskNo}}, lines.{CpuLine.{CpuLine}, ToolLine.{ToolLine}}}
 use Rattle.perf_base.specs.declared.reasons.Reason.{Reason}
+use Rattle.perf_base.specs.declared.lines.CpuLine.TheVariants as cpu_line
+use Rattle.perf_base.specs.declared.lines.ToolLine.TheVariants as tool_line
 use Rattle.perf_base.specs.declared.reasons.Reason.TheVariants as reason
-use Rattle.stage_spec.specs.declared.instance.TaskState.{TaskState}
-use Rattle.stage_spec.specs.declared.instance.TaskState.TheVariants as state
-use Rattle.stage_spec.specs.Hardware.{Hardware}
-use Rattle.stage_spec.specs.Refusals.{holds_of}
+use Rattle.stage_spec.specs.{declared.instance.TaskState.{TaskState}, Hardware.{Hardware}, Refusals.{holds_of}}
 use Rattle.stage_spec.specs.Stage.{Stage, status_of, is_live, was_used, task_on, cpu_of, set_status, set_running, is_idle, live_copies, fresh_task, first_stage}
-use Rattle.stage_spec.specs.Verdict.{task_lists}
-use Rattle.stage_spec.specs.Settle.{settle, settle_each, settle_all}
-use Rattle.stage_spec.specs.Opening.{opened}
-use Rattle.stage_spec.specs.Commands.{command_each, with_period}
-use Rattle.stage_spec.specs.Mapping.{mapped_to, output_to}
-use Rattle.stage_spec.specs.Closing.{closed}
-use Rattle.stage_spec.specs.Switching.{switched, switch_refusal, put_on, is_running}
-use Rattle.stage_spec.specs.Rotation.{rotated}
-use Rattle.stage_spec.specs.Forks.{fork_refusal, new_copies, forked}
-use Rattle.stage_spec.specs.Exits.{exited, exited_by}
+use Rattle.stage_spec.specs.{Verdict.{task_lists}, Settle.{settle, settle_each, settle_all}, Opening.{opened}, Commands.{command_each, with_period}}
+use Rattle.stage_spec.specs.{Mapping.{mapped_to, output_to}, Closing.{closed}, Switching.{switched, switch_refusal, put_on, is_running}}
+use Rattle.stage_spec.specs.{Rotation.{rotated}, Forks.{fork_refusal, new_copies, forked}, Exits.{exited, exited_by}}
 use Rattle.stage_spec.specs.History.{Step, CpuStep, ToolStep, SeenStep, cpu_refusal, tool_refusal, cpu_changed, tool_changed, stage_step, unless_refused}
-use Rattle.stage_spec.specs.Limits.{Limits, IsWithin}
+use Rattle.stage_spec.{specs.Limits.{Limits, IsWithin}, proofs.ByContexts.{KeptByContexts, settle-by, settle_each-by, settle_all-by, rotated-by}}
+use Rattle.stage_spec.specs.declared.instance.TaskState.TheVariants as state
 use Rattle.stage_laws.specs.Sound.{AreRunning}
 use Rattle.stage_laws.proofs.Tasks.{some-same, KeepsTasks, kept-AreRunning, given-AreRunning, status-AreRunning, first-clear, rest-clear, free-task, state-kept, status_of-other, task_on-same, task_on-other}
-use Rattle.stage_spec.proofs.ByContexts.{KeptByContexts, settle-by, settle_each-by, settle_all-by, rotated-by}
 
 abbrev no_task : Option TaskNo
 no_task = None

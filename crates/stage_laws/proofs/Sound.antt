@@ -1,19 +1,10 @@
 -- The first stage is sound, and each step leaves a sound stage sound.
-use Rattle.std.specs.Prelude.{All, List, [], ◌∷◌}
-use Rattle.std.proofs.Common.{◌∙◌}
-use Rattle.std.proofs.lemmas.List.Elements.{All-head, All-tail}
-use Rattle.stage_spec.specs.Hardware.{Hardware}
-use Rattle.stage_spec.specs.Stage.{Stage, first_stage}
-use Rattle.stage_spec.specs.History.{Step, stage_step, stage_after}
-use Rattle.stage_spec.specs.Limits.{Limits, IsMachine, IsWithin, HasShape}
-use Rattle.stage_laws.specs.Sound.{IsSound}
-use Rattle.stage_laws.specs.Reachable.{FirstSoundLaw, StepSoundLaw, ReachedSoundLaw}
-use Rattle.stage_spec.proofs.Shape.{shape_step, shape_first}
-use Rattle.stage_laws.proofs.Numbered.{numbered_step, numbered_first}
-use Rattle.stage_laws.proofs.Grouped.{grouped_step, grouped_first}
-use Rattle.stage_laws.proofs.Placed.{placed_step, placed_first}
-use Rattle.stage_laws.proofs.RunningTasks.{running_step, running_first}
-use Rattle.stage_laws.proofs.Mapped.{mapped_step, mapped_first}
+use Rattle.std.{specs.Prelude.{All, List, [], ◌∷◌}, proofs.{Common.{◌∙◌}, lemmas.List.Elements.{All-head, All-tail}}}
+use Rattle.stage_spec.specs.{Hardware.{Hardware}, Stage.{Stage, first_stage}, History.{Step, stage_step, stage_after}}
+use Rattle.stage_spec.{specs.Limits.{Limits, IsMachine, IsWithin, HasShape}, proofs.Shape.{shape_step, shape_first}}
+use Rattle.stage_laws.specs.{Sound.{IsSound}, Reachable.{FirstSoundLaw, StepSoundLaw, ReachedSoundLaw}}
+use Rattle.stage_laws.proofs.{Numbered.{numbered_step, numbered_first}, Grouped.{grouped_step, grouped_first}, Placed.{placed_step, placed_first}}
+use Rattle.stage_laws.proofs.{RunningTasks.{running_step, running_first}, Mapped.{mapped_step, mapped_first}}
 
 pub first_sound : FirstSoundLaw
 first_sound l hw declared machine numbers =

@@ -1,29 +1,16 @@
 -- What differs from a sound stage in leaders' own states alone is sound.
 use Rattle.std.specs.Prelude.{◌≡◌, ◌<◌, ◌≤◌, ◌==◌, Bool, true, false, All, IsTrue, List, [], ◌∷◌, map, filter, length, find, Option, Some, None, slice_index_or}
-use Rattle.std.specs.List.{list_any}
-use Rattle.std.proofs.Common.{arith, refl, sym, ap, ◌∙◌, subst}
-use Rattle.std.proofs.lemmas.List.{length-map}
-use Rattle.std.proofs.lemmas.Simd.{map-map}
-use Rattle.perf_base.specs.declared.numbers.RingNo.{RingNo}
-use Rattle.perf_base.specs.declared.reasons.Reason.{Reason}
+use Rattle.std.{specs.List.{list_any}, proofs.{Common.{arith, refl, sym, ap, ◌∙◌, subst}, lemmas.{List.{length-map}, Simd.{map-map}}}}
+use Rattle.perf_base.specs.{declared.{numbers.RingNo.{RingNo}, reasons.Reason.{Reason}}, Contexts.{context_of}}
 use Rattle.perf_base.specs.declared.standing.Context.TheVariants as context
-use Rattle.stage_spec.specs.declared.instance.Instance.{Instance}
-use Rattle.stage_spec.specs.Hardware.{Hardware}
-use Rattle.stage_spec.specs.Flags.{is_inherited, is_pinned}
-use Rattle.perf_base.specs.Contexts.{context_of}
+use Rattle.stage_spec.specs.{declared.instance.Instance.{Instance}, Hardware.{Hardware}, Flags.{is_inherited, is_pinned}}
 use Rattle.stage_spec.specs.Stage.{Stage, Group, members_of, group_size, Lists, lists_of, no_groups, all_groups, all_instances, is_of_family, is_original, is_copy, original_of, unknown_task, is_live, was_used}
-use Rattle.stage_spec.specs.Effective.{is_hardware}
-use Rattle.stage_spec.specs.Verdict.{with_masks, instances_in, reached}
-use Rattle.stage_spec.specs.Opening.{is_other_pmu}
-use Rattle.stage_spec.specs.Settle.{settle}
+use Rattle.stage_spec.specs.{Effective.{is_hardware}, Verdict.{with_masks, instances_in, reached}, Opening.{is_other_pmu}, Settle.{settle}}
 use Rattle.stage_spec.specs.History.{Step, CpuStep, ToolStep, SeenStep, cpu_refusal, tool_refusal, cpu_changed, tool_changed, unless_refused, stage_step}
-use Rattle.stage_laws.specs.Narrowing.{changed, unless_left, SettleSoundLaw, ChangedSoundLaw}
 use Rattle.stage_spec.specs.Limits.{HasShape}
+use Rattle.stage_laws.specs.Narrowing.{changed, unless_left, SettleSoundLaw, ChangedSoundLaw}
 use Rattle.stage_laws.specs.Sound.{IsNumbered, has_id, AreAlike, IsSibling, IsGroup, AreListed, IsGrouped, IsCopyOf, IsPlaced, IsSound}
-use Rattle.stage_laws.proofs.Sound.{step_sound}
-use Rattle.stage_laws.proofs.Tasks.{kept-AreRunning}
-use Rattle.stage_laws.proofs.Briefs.{slot_mask}
-use Rattle.stage_laws.proofs.Images.{filter-map, all-by, count-by, find-by}
+use Rattle.stage_laws.proofs.{Sound.{step_sound}, Tasks.{kept-AreRunning}, Briefs.{slot_mask}, Images.{filter-map, all-by, count-by, find-by}}
 use Rattle.stage_laws.proofs.Bare.{bare, bare_group, bare_lists, AreLike, like-itself, like-back, settle-like, settle_all-like, lists-like, groups-like, all-alike, context-alike, reached-alike}
 
 like-shape : (hw : Hardware) (s t : Stage) → AreLike s t → HasShape hw s → HasShape hw t

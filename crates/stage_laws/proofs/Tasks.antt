@@ -1,19 +1,10 @@
 -- The tasks that run, through each change of the stage.
 use Rattle.std.specs.Prelude.{◌≡◌, ℕ, zero, suc, ◌<◌, ◌==◌, Bool, true, false, not, List, [], ◌∷◌, length, ◌⊎◌, map, find, Option, Some, None, slice_index_or}
-use Rattle.std.proofs.Common.{arith, refl, sym, ap, ◌∙◌, inl, inr, get_or-set_same, get_or-set_other}
-use Rattle.std.proofs.lemmas.Bool.{cases_Bool, cases_eq, cases_lt}
-use Rattle.std.proofs.lemmas.Bool.Decides.{nat_tests}
-use Rattle.std.specs.Option.{option_or, unwrap_or}
-use Rattle.std.proofs.lemmas.Option.{none-some}
-use Rattle.std.proofs.lemmas.List.{map-append, get_or_past}
-use Rattle.std.proofs.lemmas.List.Folds.{find-append}
-use Rattle.std.proofs.Math.Seq.{set_out}
-use Rattle.perf_base.specs.declared.numbers.CpuNo.{CpuNo}
-use Rattle.perf_base.specs.declared.numbers.TaskNo.{TaskNo}
-use Rattle.perf_base.specs.declared.reasons.Reason.{Reason}
-use Rattle.stage_spec.specs.declared.instance.TaskStatus.{TaskStatus}
-use Rattle.stage_spec.specs.Numbers.{numbers_below}
-use Rattle.stage_spec.specs.Refusals.{first_of, holds_of}
+use Rattle.std.{specs.Option.{option_or, unwrap_or}, proofs.Common.{arith, refl, sym, ap, ◌∙◌, inl, inr, get_or-set_same, get_or-set_other}}
+use Rattle.std.proofs.lemmas.{Bool.{cases_Bool, cases_eq, cases_lt, Decides.{nat_tests}}, Option.{none-some}, List.{map-append, get_or_past}}
+use Rattle.std.proofs.{lemmas.List.Folds.{find-append}, Math.Seq.{set_out}}
+use Rattle.perf_base.specs.declared.{numbers.{CpuNo.{CpuNo}, TaskNo.{TaskNo}}, reasons.Reason.{Reason}}
+use Rattle.stage_spec.specs.{declared.instance.TaskStatus.{TaskStatus}, Numbers.{numbers_below}, Refusals.{first_of, holds_of}}
 use Rattle.stage_spec.specs.Stage.{Stage, status_of, is_live, task_on, is_on_cpu, all_cpus, cpu_of, is_task, set_status, set_running, unknown_task}
 use Rattle.stage_laws.specs.Sound.{AreRunning}
 

@@ -1,9 +1,6 @@
 -- Sums over a list of a number for each element, by recursion on the list.
 use Rattle.std.specs.Prelude.{◌≡◌, ℕ, zero, suc, ◌+◌, ◌*◌, ◌<◌, ◌≤◌, Bool, true, false, cond, List, [], ◌∷◌, ◌++◌, map, filter, flat_map, length, replicate, All, count_by, sum_by, slice_index_or, slice_set}
-use Rattle.std.proofs.Common.{arith, refl}
-use Rattle.std.proofs.Math.Nat.{add-mul}
-use Rattle.std.proofs.lemmas.List.Sums.{sum_by-cons}
-use Rattle.std.proofs.lemmas.List.Elements.{All-nil, All-cons, All-head, All-tail}
+use Rattle.std.proofs.{Common.{arith, refl}, Math.Nat.{add-mul}, lemmas.List.{Sums.{sum_by-cons}, Elements.{All-nil, All-cons, All-head, All-tail}}}
 
 unfoldable pub total : {X : Type 0} → (X → ℕ) → List X → ℕ
 total f [] = 0

@@ -1,32 +1,21 @@
 -- The laws of turns.
 use Rattle.std.specs.Prelude.{◌≡◌, ℕ, suc, ◌+◌, ◌<◌, ◌≤◌, ◌==◌, Bool, true, false, not, ◌&&◌, List, [], ◌∷◌, ◌++◌, length, filter, find, take, drop, Option, Some, None, slice_index_or, if◌then◌else◌}
 use Rattle.std.proofs.Common.{arith, refl, sym, ap, ◌∙◌, inl, inr, append_assoc, append-nil, length-append, length-set}
-use Rattle.std.proofs.lemmas.Bool.{cases_Bool, cases_eq, and_parts, false≢true}
-use Rattle.std.proofs.lemmas.Bool.Decides.{nat_tests}
-use Rattle.std.proofs.lemmas.List.{take-append-drop, length-take-le}
+use Rattle.std.proofs.lemmas.{Bool.{cases_Bool, cases_eq, and_parts, false≢true, Decides.{nat_tests}}, List.{take-append-drop, length-take-le}}
 use Rattle.std.proofs.lemmas.List.Elements.{filter-append}
-use Rattle.perf_base.specs.declared.numbers.CpuNo.{CpuNo}
-use Rattle.perf_base.specs.declared.numbers.TaskNo.{TaskNo}
+use Rattle.perf_base.specs.declared.{numbers.{CpuNo.{CpuNo}, TaskNo.{TaskNo}}, standing.Context.{Context}}
 use Rattle.perf_base.specs.declared.lines.CpuLine.TheVariants as cpu_line
-use Rattle.perf_base.specs.declared.standing.Context.{Context}
 use Rattle.perf_base.specs.declared.standing.Context.TheVariants as context
 use Rattle.stage_spec.specs.Hardware.{Hardware}
 use Rattle.stage_spec.specs.Stage.{Stage, Group, Lists, lists_of, no_groups, place_of, task_on, is_task, all_cpus, change_context}
-use Rattle.stage_spec.specs.Verdict.{Judged, verdicts}
-use Rattle.stage_spec.specs.Settle.{settle_lists, settle_task, own_verdicts, settle, settle_each, settle_all}
-use Rattle.stage_spec.specs.Rotation.{first_goes_last, turned, turn_lists, turn_task, rotated}
-use Rattle.stage_spec.specs.History.{Step, CpuStep, ToolStep, SeenStep, stage_step, stage_after}
+use Rattle.stage_spec.specs.{Verdict.{Judged, verdicts}, Settle.{settle_lists, settle_task, own_verdicts, settle, settle_each, settle_all}}
+use Rattle.stage_spec.specs.Rotation.{first_goes_last, turned, turn_lists, turn_task, rotated, takes_turns}
+use Rattle.stage_spec.{specs.History.{Step, CpuStep, ToolStep, SeenStep, stage_step, stage_after}, proofs.{Each.{Each}, Parts.{All-from_Each}}}
+use Rattle.stage_spec.proofs.{Settling.{either, filter-yes, filter-no}, Settled.{place_of-cpu, lists_of-same, lists_of-other, no_groups-settled}}
 use Rattle.stage_laws.specs.Narrowing.{has_context}
-use Rattle.stage_spec.specs.Rotation.{takes_turns}
 use Rattle.stage_laws.specs.Turns.{flexible_of, turn_takers, is_waiting, is_tick, waiting_ticks, LeavesTurns, IsTurning, WasFirst, ticked, IsTurned, TurnsLaw, FirstGoesLastLaw, TickLaw, OtherContextsLaw, PlacesLaw}
-use Rattle.stage_laws.proofs.Others.{lists_of-apart, cpus-apart, cpu-task_apart}
-use Rattle.stage_laws.proofs.Untouched.{other-number}
-use Rattle.stage_spec.proofs.Each.{Each}
-use Rattle.stage_spec.proofs.Parts.{All-from_Each}
-use Rattle.stage_laws.proofs.Tasks.{KeepsTasks, is_task-some}
+use Rattle.stage_laws.proofs.{Others.{lists_of-apart, cpus-apart, cpu-task_apart}, Untouched.{other-number}, Tasks.{KeepsTasks, is_task-some}}
 use Rattle.stage_laws.proofs.RunningTasks.{keeps-then, settle_all-keeps, rotated-keeps}
-use Rattle.stage_spec.proofs.Settling.{either, filter-yes, filter-no}
-use Rattle.stage_spec.proofs.Settled.{place_of-cpu, lists_of-same, lists_of-other, no_groups-settled}
 
 -- the first that passes goes last
 goes_last-here : (test : Group → Bool) (g : Group) (groups : List Group) → test g ≡ true → first_goes_last test (g ∷ groups) ≡ groups ++ g ∷ []

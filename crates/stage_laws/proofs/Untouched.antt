@@ -1,45 +1,23 @@
 -- What a line leaves of the processors that it does not touch.
 use Rattle.std.specs.Prelude.{◌≡◌, ◌≢◌, ℕ, ◌==◌, ◌&&◌, Bool, true, false, not, List, [], ◌∷◌, ◌++◌, map, flat_map, length, Option, Some, None, slice_index_or, if◌then◌else◌}
-use Rattle.std.specs.List.{list_any}
-use Rattle.std.proofs.Common.{arith, refl, sym, ap, ◌∙◌, append-nil}
-use Rattle.std.proofs.lemmas.Bool.{eq-eqb, eqb-false, false≢true, or_parts, and_parts, not-true, not-false, false_from_ne_true}
-use Rattle.std.proofs.lemmas.Bool.Decides.{nat_tests}
-use Rattle.std.proofs.lemmas.List.Folds.{list_any-append}
-use Rattle.std.proofs.lemmas.Grind.{flat_map-append}
-use Rattle.std.proofs.Math.ListN.{get_or-map}
-use Rattle.perf_base.specs.declared.numbers.CpuNo.{CpuNo}
-use Rattle.perf_base.specs.declared.numbers.EventNo.{EventNo}
-use Rattle.perf_base.specs.declared.numbers.RingNo.{RingNo}
-use Rattle.perf_base.specs.declared.numbers.TaskNo.{TaskNo}
-use Rattle.perf_base.specs.declared.attr.Attr.{Attr}
-use Rattle.perf_base.specs.declared.attr.TaskSel.{TaskSel}
-use Rattle.perf_base.specs.declared.attr.TaskSel.TheVariants as tasks
-use Rattle.perf_base.specs.declared.attr.CpuSel.{CpuSel}
-use Rattle.perf_base.specs.declared.attr.CpuSel.TheVariants as cpus
-use Rattle.perf_base.specs.declared.standing.Context.{Context}
-use Rattle.perf_base.specs.declared.standing.Context.TheVariants as context
-use Rattle.perf_base.specs.declared.standing.Own.{Own}
-use Rattle.stage_spec.specs.declared.instance.Instance.{Instance}
-use Rattle.stage_spec.specs.Hardware.{Hardware}
-use Rattle.stage_spec.specs.Places.{is_same_task, is_same_cpu}
+use Rattle.std.{specs.List.{list_any}, proofs.Common.{arith, refl, sym, ap, ◌∙◌, append-nil}}
+use Rattle.std.proofs.lemmas.Bool.{eq-eqb, eqb-false, false≢true, or_parts, and_parts, not-true, not-false, false_from_ne_true, Decides.{nat_tests}}
+use Rattle.std.proofs.{lemmas.{List.Folds.{list_any-append}, Grind.{flat_map-append}}, Math.ListN.{get_or-map}}
+use Rattle.perf_base.specs.declared.{numbers.{CpuNo.{CpuNo}, EventNo.{EventNo}, RingNo.{RingNo}, TaskNo.{TaskNo}}, attr.Attr.{Attr}}
+use Rattle.perf_base.specs.declared.{attr.{TaskSel.{TaskSel}, CpuSel.{CpuSel}}, standing.{Context.{Context}, Own.{Own}}}
 use Rattle.perf_base.specs.Contexts.{context_of, context_by}
-use Rattle.stage_spec.specs.Refusals.{holds_of}
+use Rattle.perf_base.specs.declared.attr.TaskSel.TheVariants as tasks
+use Rattle.perf_base.specs.declared.attr.CpuSel.TheVariants as cpus
+use Rattle.perf_base.specs.declared.standing.Context.TheVariants as context
+use Rattle.stage_spec.specs.{declared.instance.Instance.{Instance}, Hardware.{Hardware}, Places.{is_same_task, is_same_cpu}, Refusals.{holds_of}}
 use Rattle.stage_spec.specs.Stage.{Stage, Group, members_of, alone, Lists, lists_of, no_groups, groups_in, all_groups, members, place_of, task_on, is_task, change_group, change_lists, change_each, change_context, is_original, is_of_family, original_of}
-use Rattle.stage_spec.specs.Flags.{is_pinned, is_exclusive}
-use Rattle.stage_spec.specs.Verdict.{task_lists, reached, instances_in}
+use Rattle.stage_spec.specs.{Flags.{is_pinned, is_exclusive}, Verdict.{task_lists, reached, instances_in}}
 use Rattle.stage_spec.specs.Opening.{opened, add_group, joined, join_group, join_lists, new_original, open_refusal}
-use Rattle.stage_spec.specs.Commands.{is_reached, command_each, with_period}
-use Rattle.stage_spec.specs.Mapping.{mapped_to, output_to, ring_of}
-use Rattle.stage_spec.specs.Closing.{staying, kept_group, freed_groups, without, closed}
-use Rattle.stage_laws.specs.Sound.{IsSound}
-use Rattle.stage_laws.specs.Standings.{briefs, KeepsBrief}
-use Rattle.stage_laws.specs.Narrowing.{has_context, reaches}
-use Rattle.stage_spec.proofs.Each.{Each, head-Each, none-Each, get_or-Each}
+use Rattle.stage_spec.specs.{Commands.{is_reached, command_each, with_period}, Mapping.{mapped_to, output_to, ring_of}}
+use Rattle.stage_spec.{specs.Closing.{staying, kept_group, freed_groups, without, closed}, proofs.Each.{Each, head-Each, none-Each, get_or-Each}}
 use Rattle.stage_spec.proofs.Parts.{Each-from_All, both-Each, front-Each, back-Each, joined-Each}
-use Rattle.stage_laws.proofs.Leaders.{IsLed, all_led}
-use Rattle.stage_laws.proofs.Accepted.{IsAccepted, accepted}
-use Rattle.stage_laws.proofs.Briefs.{same_briefs}
-use Rattle.stage_laws.proofs.Others.{ReachesSame, own-changed, task-changed}
+use Rattle.stage_laws.{specs.{Sound.{IsSound}, Standings.{briefs, KeepsBrief}, Narrowing.{has_context, reaches}}, proofs.Leaders.{IsLed, all_led}}
+use Rattle.stage_laws.proofs.{Accepted.{IsAccepted, accepted}, Briefs.{same_briefs}, Others.{ReachesSame, own-changed, task-changed}}
 
 -- a change of every context that leaves those of a processor
 pub mapped-reaches : (f : Lists → Lists) (s : Stage) (cpu : CpuNo) → f no_groups ≡ no_groups

@@ -1,29 +1,17 @@
 -- The weight of a stage: the sum, over its instances, of a number for each. One equation for each change of a stage.
 use Rattle.std.specs.Prelude.{◌≡◌, ℕ, ◌+◌, ◌<◌, ◌≤◌, Bool, true, false, not, cond, ◌&&◌, List, [], ◌∷◌, ◌++◌, map, flat_map, length, count_by, Option, Some, None}
-use Rattle.std.specs.List.{list_any}
-use Rattle.std.proofs.Common.{arith, refl, ap, ◌∙◌, sym, inl, inr}
-use Rattle.std.proofs.lemmas.Bool.{cases_lt}
-use Rattle.std.proofs.lemmas.List.{get_or_past, set_past}
-use Rattle.perf_base.specs.declared.numbers.CpuNo.{CpuNo}
-use Rattle.perf_base.specs.declared.numbers.EventNo.{EventNo}
-use Rattle.perf_base.specs.declared.numbers.TaskNo.{TaskNo}
-use Rattle.perf_base.specs.declared.standing.Context.{Context}
+use Rattle.std.{specs.List.{list_any}, proofs.{Common.{arith, refl, ap, ◌∙◌, sym, inl, inr}, lemmas.{Bool.{cases_lt}, List.{get_or_past, set_past}}}}
+use Rattle.perf_base.specs.declared.{numbers.{CpuNo.{CpuNo}, EventNo.{EventNo}, TaskNo.{TaskNo}}, standing.{Context.{Context}, Own.{Own}}}
+use Rattle.perf_base.specs.{declared.standing.Standing.{Standing}, Standings.{stands_on}}
 use Rattle.perf_base.specs.declared.standing.Context.TheVariants as context
-use Rattle.perf_base.specs.declared.standing.Own.{Own}
-use Rattle.perf_base.specs.declared.standing.Standing.{Standing}
 use Rattle.perf_base.specs.declared.standing.Standing.TheVariants as standing
-use Rattle.stage_spec.specs.declared.instance.Instance.{Instance}
-use Rattle.stage_spec.specs.Hardware.{Hardware}
+use Rattle.stage_spec.specs.{declared.instance.Instance.{Instance}, Hardware.{Hardware}}
 use Rattle.stage_spec.specs.Stage.{Stage, Group, members_of, alone, change_group, Lists, lists_of, no_groups, groups_in, members, all_instances, place_of, change_lists, change_each, change_context, is_of_family, is_copy, task_on, all_cpus}
-use Rattle.stage_spec.specs.Effective.{is_wholly_software}
-use Rattle.stage_spec.specs.Verdict.{Judged, is_eligible, judge, standing_among, task_lists, verdicts}
-use Rattle.perf_base.specs.Standings.{stands_on}
+use Rattle.stage_spec.specs.{Effective.{is_wholly_software}, Verdict.{Judged, is_eligible, judge, standing_among, task_lists, verdicts}}
 use Rattle.stage_spec.specs.Settle.{failed, settle_pass, settle_lists, settle_task, own_verdicts, settle, settle_each, settle_all}
 use Rattle.stage_spec.specs.Closing.{staying, without, kept_group, freed_groups, closed}
-use Rattle.stage_spec.specs.Rotation.{first_goes_last, turned, turn_lists, turn_task, rotated}
-use Rattle.stage_spec.specs.Exits.{exited, exited_by}
-use Rattle.stage_spec.specs.Switching.{switched, put_on, is_running}
-use Rattle.stage_spec.proofs.Settling.{judged, either}
+use Rattle.stage_spec.specs.{Rotation.{first_goes_last, turned, turn_lists, turn_task, rotated}, Exits.{exited, exited_by}}
+use Rattle.stage_spec.{specs.Switching.{switched, put_on, is_running}, proofs.Settling.{judged, either}}
 use Rattle.stage_laws.proofs.Totals.{total, total-nil, total-cons, total-append, total-push, total-map, total-flat_map, total-same, total-le, total-plus, total-filter, total-set, get_or-le-total, one_if, count_by-is-total}
 
 -- the weight of a group, of a context, of one context of a stage, and of the stage

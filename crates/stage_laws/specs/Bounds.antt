@@ -1,19 +1,11 @@
 -- How much steps add to what an event has counted with its copies, and how many ids they draw: sums stay small. This
 -- project's own profile, after its limits on work and on copies.
-use Rattle.std.specs.Prelude.{ℕ, ◌+◌, ◌^◌, ◌<◌, ◌≤◌, max, Bool, true, false, All, List, filter, count_by, sum_by}
-use Rattle.std.specs.List.{fold}
-use Rattle.perf_base.specs.declared.numbers.EventNo.{EventNo}
-use Rattle.perf_base.specs.declared.numbers.TaskNo.{TaskNo}
-use Rattle.perf_base.specs.declared.lines.CpuLine.{CpuLine}
+use Rattle.std.specs.{Prelude.{ℕ, ◌+◌, ◌^◌, ◌<◌, ◌≤◌, max, Bool, true, false, All, List, filter, count_by, sum_by}, List.{fold}}
+use Rattle.perf_base.specs.declared.{numbers.{EventNo.{EventNo}, TaskNo.{TaskNo}}, lines.{CpuLine.{CpuLine}, ToolLine.{ToolLine}}, reply.Sums.{Sums}}
 use Rattle.perf_base.specs.declared.lines.CpuLine.TheVariants as cpu_line
-use Rattle.perf_base.specs.declared.lines.ToolLine.{ToolLine}
 use Rattle.perf_base.specs.declared.lines.ToolLine.TheVariants as tool_line
-use Rattle.perf_base.specs.declared.reply.Sums.{Sums}
-use Rattle.stage_spec.specs.Hardware.{Hardware}
-use Rattle.stage_spec.specs.Stage.{Stage, all_instances, is_of_family, first_stage}
-use Rattle.stage_spec.specs.History.{Step, CpuStep, ToolStep, SeenStep, stage_after}
-use Rattle.stage_spec.specs.Shares.{share, no_sums}
-use Rattle.stage_spec.specs.Families.{plus_each, family_sums}
+use Rattle.stage_spec.specs.{Hardware.{Hardware}, Stage.{Stage, all_instances, is_of_family, first_stage}}
+use Rattle.stage_spec.specs.{History.{Step, CpuStep, ToolStep, SeenStep, stage_after}, Shares.{share, no_sums}, Families.{plus_each, family_sums}}
 use Rattle.stage_spec.specs.Limits.{Limits, IsMachine, IsWithin, AreTaskNumbers}
 use Rattle.stage_laws.specs.Sound.{IsSound}
 

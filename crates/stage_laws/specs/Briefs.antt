@@ -1,11 +1,8 @@
 -- The verdicts of a processor's groups from what they need alone. After ctx_sched_in, merge_sched_in and
 -- group_can_go_on of kernel/events/core.c; whom a refusal names is this project's own profile.
 use Rattle.std.specs.Prelude.{ℕ, Bool, not, List, [], ◌∷◌, ◌++◌, map, filter, find, flat_map, Option, option_map}
-use Rattle.perf_base.specs.declared.numbers.EventNo.{EventNo}
-use Rattle.perf_base.specs.declared.standing.Standing.{Standing}
-use Rattle.perf_base.specs.Standings.{stands_on, stands_refused}
-use Rattle.stage_spec.specs.Rules.{ruling_of}
-use Rattle.stage_spec.specs.Verdict.{by_ruling}
+use Rattle.perf_base.specs.{declared.{numbers.EventNo.{EventNo}, standing.Standing.{Standing}}, Standings.{stands_on, stands_refused}}
+use Rattle.stage_spec.specs.{Rules.{ruling_of}, Verdict.{by_ruling}}
 
 -- what a verdict needs to know of a group: its leader, by whatever names it, and the leader's slot, whether the group
 -- is wholly software and exclusive, and the slots and masks of its ready hardware members

@@ -1,27 +1,16 @@
 -- Which processors a line can touch, and that only those have to be settled after it. After the calls of ctx_resched in
 -- kernel/events/core.c; the definitions settle every processor.
-use Rattle.std.specs.Prelude.{◌≡◌, ◌≢◌, ◌<◌, ◌==◌, Bool, false, All, List, [], ◌∷◌, filter, length, Option, Some, None}
-use Rattle.std.specs.List.{list_any}
-use Rattle.perf_base.specs.declared.numbers.CpuNo.{CpuNo}
-use Rattle.perf_base.specs.declared.numbers.EventNo.{EventNo}
-use Rattle.perf_base.specs.declared.numbers.TaskNo.{TaskNo}
-use Rattle.perf_base.specs.declared.lines.CpuLine.{CpuLine}
+use Rattle.std.specs.{Prelude.{◌≡◌, ◌≢◌, ◌<◌, ◌==◌, Bool, false, All, List, [], ◌∷◌, filter, length, Option, Some, None}, List.{list_any}}
+use Rattle.perf_base.specs.declared.{numbers.{CpuNo.{CpuNo}, EventNo.{EventNo}, TaskNo.{TaskNo}}, lines.{CpuLine.{CpuLine}, ToolLine.{ToolLine}}}
+use Rattle.perf_base.specs.{declared.{standing.Context.{Context}, reasons.Reason.{Reason}}, Contexts.{context_of}}
 use Rattle.perf_base.specs.declared.lines.CpuLine.TheVariants as cpu_line
-use Rattle.perf_base.specs.declared.lines.ToolLine.{ToolLine}
 use Rattle.perf_base.specs.declared.lines.ToolLine.TheVariants as tool_line
-use Rattle.perf_base.specs.declared.standing.Context.{Context}
 use Rattle.perf_base.specs.declared.standing.Context.TheVariants as context
-use Rattle.perf_base.specs.declared.reasons.Reason.{Reason}
-use Rattle.stage_spec.specs.Hardware.{Hardware}
-use Rattle.perf_base.specs.Contexts.{context_of}
-use Rattle.stage_spec.specs.Stage.{Stage, all_cpus, is_on_cpu, first_stage}
-use Rattle.stage_spec.specs.Verdict.{passes, reached}
-use Rattle.stage_spec.specs.Settle.{settle, settle_each, IsSettled}
-use Rattle.stage_spec.specs.Commands.{targets, is_reached}
+use Rattle.stage_spec.specs.{Hardware.{Hardware}, Stage.{Stage, all_cpus, is_on_cpu, first_stage}, Verdict.{passes, reached}}
+use Rattle.stage_spec.specs.{Settle.{settle, settle_each, IsSettled}, Commands.{targets, is_reached}}
 use Rattle.stage_spec.specs.History.{Step, CpuStep, ToolStep, SeenStep, cpu_refusal, tool_refusal, cpu_changed, tool_changed, stage_step, stage_after}
 use Rattle.stage_spec.specs.Limits.{Limits, IsMachine, IsWithin, AreTaskNumbers}
-use Rattle.stage_laws.specs.Sound.{IsSound}
-use Rattle.stage_laws.specs.Standings.{standings}
+use Rattle.stage_laws.specs.{Sound.{IsSound}, Standings.{standings}}
 
 -- every processor is settled
 abbrev pub AreSettled : Hardware → Stage → Type 0

@@ -2,23 +2,13 @@
 -- loops over child_list, sibling_list and event_list of kernel/events/core.c.
 use Rattle.std.specs.Prelude.{◌≡◌, ℕ, ◌+◌, ◌≤◌, ◌==◌, Bool, true, false, not, List, [], ◌∷◌, ◌++◌, filter, count_by, map, flat_map, Option, Some, None, if◌then◌else◌}
 use Rattle.std.specs.List.{fold}
-use Rattle.perf_base.specs.declared.numbers.CpuNo.{CpuNo}
-use Rattle.perf_base.specs.declared.numbers.EventNo.{EventNo}
-use Rattle.perf_base.specs.declared.numbers.RingNo.{RingNo}
-use Rattle.perf_base.specs.declared.numbers.TaskNo.{TaskNo}
+use Rattle.perf_base.specs.declared.{numbers.{CpuNo.{CpuNo}, EventNo.{EventNo}, RingNo.{RingNo}, TaskNo.{TaskNo}}, standing.Own.{Own}}
 use Rattle.perf_base.specs.declared.standing.Context.TheVariants as context
-use Rattle.perf_base.specs.declared.standing.Own.{Own}
-use Rattle.stage_spec.specs.declared.instance.Instance.{Instance}
-use Rattle.stage_spec.specs.Hardware.{Hardware}
+use Rattle.stage_spec.specs.{declared.instance.Instance.{Instance}, Hardware.{Hardware}}
 use Rattle.stage_spec.specs.Stage.{Stage, Group, alone, Lists, all_instances, is_of_family, is_copy, original_of, task_on, status_of, fresh_task, was_used, change_each, change_context, set_status}
-use Rattle.stage_spec.specs.Verdict.{task_lists, on_instances, instances_in}
-use Rattle.stage_spec.specs.Shares.{ready_instances}
-use Rattle.stage_spec.specs.Opening.{joined, add_group}
-use Rattle.stage_spec.specs.Closing.{without, closed}
-use Rattle.stage_spec.specs.Commands.{is_reached, command_each, with_period}
-use Rattle.stage_spec.specs.Mapping.{set_ring}
-use Rattle.stage_spec.specs.Forks.{inherited_groups, copy_of, forked}
-use Rattle.stage_spec.specs.Limits.{HasShape}
+use Rattle.stage_spec.specs.{Verdict.{task_lists, on_instances, instances_in}, Shares.{ready_instances}, Opening.{joined, add_group}}
+use Rattle.stage_spec.specs.{Closing.{without, closed}, Commands.{is_reached, command_each, with_period}, Mapping.{set_ring}}
+use Rattle.stage_spec.specs.{Forks.{inherited_groups, copy_of, forked}, Limits.{HasShape}}
 use Rattle.stage_laws.specs.Sound.{IsNumbered, IsPlaced, IsGrouped, has_id}
 
 -- the ids of some instances in their order, and in any order: each number as often as it is the id of one of them

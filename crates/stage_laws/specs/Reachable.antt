@@ -1,9 +1,7 @@
 -- The laws of sound stages: the first stage is sound, and every line leaves it so. This project's own profile.
 use Rattle.std.specs.Prelude.{◌≤◌, All, List, not, count_by}
 use Rattle.perf_base.specs.declared.numbers.TaskNo.{TaskNo}
-use Rattle.stage_spec.specs.Hardware.{Hardware}
-use Rattle.stage_spec.specs.Stage.{Stage, all_instances, first_stage}
-use Rattle.stage_spec.specs.History.{Step, stage_step, stage_after}
+use Rattle.stage_spec.specs.{Hardware.{Hardware}, Stage.{Stage, all_instances, first_stage}, History.{Step, stage_step, stage_after}}
 use Rattle.stage_spec.specs.Limits.{Limits, IsMachine, IsWithin, AreTaskNumbers}
 use Rattle.stage_laws.specs.Sound.{IsNumbered, IsSound}
 

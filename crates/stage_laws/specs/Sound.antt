@@ -1,26 +1,14 @@
 -- What holds of every stage that lines lead to. This project's own profile, after what kernel/events/core.c keeps of
 -- its contexts, its groups and the tasks that they follow.
-use Rattle.std.specs.Prelude.{◌≡◌, ℕ, ◌<◌, ◌≤◌, ◌==◌, Bool, true, false, All, IsTrue, count_by, Some, None}
-use Rattle.std.specs.List.{list_any}
-use Rattle.perf_base.specs.declared.numbers.CpuNo.{CpuNo}
-use Rattle.perf_base.specs.declared.numbers.EventNo.{EventNo}
-use Rattle.perf_base.specs.declared.numbers.RingNo.{RingNo}
-use Rattle.perf_base.specs.declared.numbers.TaskNo.{TaskNo}
-use Rattle.perf_base.specs.declared.standing.Context.{Context}
-use Rattle.perf_base.specs.declared.standing.Context.TheVariants as context
-use Rattle.stage_spec.specs.declared.instance.Instance.{Instance}
-use Rattle.stage_spec.specs.Flags.{is_inherited, is_pinned, is_exclusive}
-use Rattle.stage_spec.specs.Hardware.{Hardware}
-use Rattle.stage_spec.specs.Limits.{HasShape}
-use Rattle.stage_spec.specs.Places.{is_all_tasks}
+use Rattle.std.specs.{Prelude.{◌≡◌, ℕ, ◌<◌, ◌≤◌, ◌==◌, Bool, true, false, All, IsTrue, count_by, Some, None}, List.{list_any}}
+use Rattle.perf_base.specs.declared.{numbers.{CpuNo.{CpuNo}, EventNo.{EventNo}, RingNo.{RingNo}, TaskNo.{TaskNo}}, standing.Context.{Context}}
 use Rattle.perf_base.specs.Contexts.{context_of}
+use Rattle.perf_base.specs.declared.standing.Context.TheVariants as context
+use Rattle.stage_spec.specs.{declared.instance.Instance.{Instance}, Flags.{is_inherited, is_pinned, is_exclusive}, Hardware.{Hardware}}
+use Rattle.stage_spec.specs.{Limits.{HasShape}, Places.{is_all_tasks}}
 use Rattle.stage_spec.specs.Stage.{Stage, Group, members_of, group_size, Lists, lists_of, all_groups, all_instances, no_groups, is_of_family, is_original, live_copies, original_of, task_on, status_of, is_live, was_used}
-use Rattle.stage_spec.specs.Effective.{hardware_members}
-use Rattle.stage_spec.specs.Fits.{fits}
-use Rattle.stage_spec.specs.Tight.{masks_of}
-use Rattle.stage_spec.specs.Verdict.{with_masks, reached, instances_in}
-use Rattle.stage_spec.specs.Opening.{is_used, is_other_pmu}
-use Rattle.stage_spec.specs.Reading.{is_error}
+use Rattle.stage_spec.specs.{Effective.{hardware_members}, Fits.{fits}, Tight.{masks_of}, Verdict.{with_masks, reached, instances_in}}
+use Rattle.stage_spec.specs.{Opening.{is_used, is_other_pmu}, Reading.{is_error}}
 
 -- Ids were drawn, from 1 on, and no two instances have one. A slot has at most one original, and none before it was
 -- used.

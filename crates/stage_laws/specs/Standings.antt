@@ -1,20 +1,12 @@
 -- What the standings of a processor's groups depend on, and settling by standings. After merge_sched_in of
 -- kernel/events/core.c; whom a refusal names is this project's own profile.
-use Rattle.std.specs.Prelude.{◌≡◌, ℕ, ◌<◌, false, List, [], map, filter}
-use Rattle.std.specs.List.{list_any}
-use Rattle.perf_base.specs.declared.numbers.CpuNo.{CpuNo}
-use Rattle.perf_base.specs.declared.standing.Standing.{Standing}
-use Rattle.stage_spec.specs.declared.instance.Instance.{Instance}
-use Rattle.stage_spec.specs.Flags.{is_exclusive}
-use Rattle.stage_spec.specs.Hardware.{Hardware}
-use Rattle.stage_spec.specs.Stage.{Stage, Group, Lists, change_each}
-use Rattle.stage_spec.specs.Effective.{name_of, is_wholly_software, is_exclusive_group, counted_members}
-use Rattle.stage_spec.specs.Verdict.{Judged, is_eligible, with_masks, passes, verdicts, standing_among}
-use Rattle.perf_base.specs.Standings.{stands_refused}
-use Rattle.stage_spec.specs.Replies.{seated}
+use Rattle.std.specs.{Prelude.{◌≡◌, ℕ, ◌<◌, false, List, [], map, filter}, List.{list_any}}
+use Rattle.perf_base.specs.{declared.{numbers.CpuNo.{CpuNo}, standing.Standing.{Standing}}, Standings.{stands_refused}}
+use Rattle.stage_spec.specs.{declared.instance.Instance.{Instance}, Flags.{is_exclusive}, Hardware.{Hardware}}
+use Rattle.stage_spec.specs.{Stage.{Stage, Group, Lists, change_each}, Effective.{name_of, is_wholly_software, is_exclusive_group, counted_members}}
+use Rattle.stage_spec.specs.{Verdict.{Judged, is_eligible, with_masks, passes, verdicts, standing_among}, Replies.{seated}}
 use Rattle.stage_spec.specs.Settle.{failed, settle, IsSettled, pinned_verdicts}
-use Rattle.stage_laws.specs.Briefs.{GroupBrief, judge_brief_passes, standings_by, seated_by}
-use Rattle.stage_laws.specs.Sound.{IsNumbered}
+use Rattle.stage_laws.specs.{Briefs.{GroupBrief, judge_brief_passes, standings_by, seated_by}, Sound.{IsNumbered}}
 
 -- the brief of a group of the stage, its leader by its id
 abbrev pub brief_of : Hardware → Group → GroupBrief ℕ

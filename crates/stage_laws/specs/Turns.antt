@@ -3,15 +3,10 @@
 -- profile.
 use Rattle.std.specs.Prelude.{◌≡◌, ℕ, ◌+◌, ◌<◌, ◌≤◌, ◌==◌, Bool, true, false, not, ◌&&◌, All, List, [], ◌∷◌, ◌++◌, length, filter, find, take, drop, Option, Some, if◌then◌else◌}
 use Rattle.std.specs.List.{list_any}
-use Rattle.perf_base.specs.declared.numbers.CpuNo.{CpuNo}
-use Rattle.perf_base.specs.declared.lines.CpuLine.{CpuLine}
+use Rattle.perf_base.specs.declared.{numbers.CpuNo.{CpuNo}, lines.CpuLine.{CpuLine}, standing.Context.{Context}}
 use Rattle.perf_base.specs.declared.lines.CpuLine.TheVariants as cpu_line
-use Rattle.perf_base.specs.declared.standing.Context.{Context}
-use Rattle.stage_spec.specs.Hardware.{Hardware}
-use Rattle.stage_spec.specs.Stage.{Stage, Group, lists_of, task_on}
-use Rattle.stage_spec.specs.Verdict.{verdicts}
-use Rattle.stage_spec.specs.Rotation.{first_goes_last, waits, takes_turns}
-use Rattle.stage_spec.specs.History.{Step, CpuStep, ToolStep, SeenStep, stage_step, stage_after}
+use Rattle.stage_spec.specs.{Hardware.{Hardware}, Stage.{Stage, Group, lists_of, task_on}, Verdict.{verdicts}}
+use Rattle.stage_spec.specs.{Rotation.{first_goes_last, waits, takes_turns}, History.{Step, CpuStep, ToolStep, SeenStep, stage_step, stage_after}}
 use Rattle.stage_laws.specs.Narrowing.{has_context}
 
 -- the flexible groups of a context

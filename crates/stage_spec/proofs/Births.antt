@@ -1,34 +1,20 @@
 -- An instance gets nothing before its birth.
 use Rattle.std.specs.Prelude.{◌≡◌, ℕ, ◌+◌, ◌≤◌, ◌==◌, Bool, true, false, List, [], ◌∷◌, ◌++◌, map, filter, flat_map, Option, Some, None, if◌then◌else◌}
-use Rattle.std.proofs.Common.{arith, refl, ap, ◌∙◌}
-use Rattle.std.proofs.lemmas.Bool.Decides.{nat_tests}
-use Rattle.perf_base.specs.declared.numbers.CpuNo.{CpuNo}
-use Rattle.perf_base.specs.declared.numbers.TaskNo.{TaskNo}
-use Rattle.perf_base.specs.declared.lines.CpuLine.{CpuLine}
+use Rattle.std.proofs.{Common.{arith, refl, ap, ◌∙◌}, lemmas.Bool.Decides.{nat_tests}}
+use Rattle.perf_base.specs.declared.{numbers.{CpuNo.{CpuNo}, TaskNo.{TaskNo}}, lines.{CpuLine.{CpuLine}, ToolLine.{ToolLine}}}
+use Rattle.perf_base.specs.{declared.{reasons.Reason.{Reason}, reply.Sums.{Sums}}, Standings.{stands_on}}
 use Rattle.perf_base.specs.declared.lines.CpuLine.TheVariants as cpu_line
-use Rattle.perf_base.specs.declared.lines.ToolLine.{ToolLine}
 use Rattle.perf_base.specs.declared.lines.ToolLine.TheVariants as tool_line
 use Rattle.perf_base.specs.declared.standing.Context.TheVariants as context
-use Rattle.perf_base.specs.declared.reasons.Reason.{Reason}
-use Rattle.perf_base.specs.declared.reply.Sums.{Sums}
-use Rattle.stage_spec.specs.declared.instance.Instance.{Instance}
-use Rattle.stage_spec.specs.Hardware.{Hardware}
-use Rattle.stage_spec.specs.Stage.{Stage, Group, members_of, lists_of, task_on, first_stage}
-use Rattle.stage_spec.specs.Effective.{is_ready, state_in, ready_members}
+use Rattle.stage_spec.specs.{declared.instance.Instance.{Instance}, Hardware.{Hardware}}
+use Rattle.stage_spec.specs.{Stage.{Stage, Group, members_of, lists_of, task_on, first_stage}, Effective.{is_ready, state_in, ready_members}}
 use Rattle.stage_spec.specs.Verdict.{Judged, is_eligible, groups_on, judge, judge_pass, judge_passes, passes, task_lists, verdicts, on_instances}
-use Rattle.perf_base.specs.Standings.{stands_on}
-use Rattle.stage_spec.specs.Settle.{settle_all}
-use Rattle.stage_spec.specs.Commands.{command_each, enabled, disabled, targets, with_period}
-use Rattle.stage_spec.specs.Mapping.{mapped_to, output_to}
-use Rattle.stage_spec.specs.Closing.{closed}
-use Rattle.stage_spec.specs.Switching.{switched, switch_refusal, is_running, is_migration}
-use Rattle.stage_spec.specs.Rotation.{rotated}
-use Rattle.stage_spec.specs.Exits.{exited}
+use Rattle.stage_spec.specs.{Settle.{settle_all}, Commands.{command_each, enabled, disabled, targets, with_period}, Mapping.{mapped_to, output_to}}
+use Rattle.stage_spec.specs.{Closing.{closed}, Switching.{switched, switch_refusal, is_running, is_migration}, Rotation.{rotated}, Exits.{exited}}
 use Rattle.stage_spec.specs.History.{Step, CpuStep, ToolStep, SeenStep, cpu_refusal, tool_refusal, cpu_changed, tool_changed, stage_step, stage_after, unless_refused}
-use Rattle.stage_spec.specs.Sums.{resets, is_reset_by, sums_of, count_of, enabled_of, running_of}
-use Rattle.stage_spec.specs.Recurrence.{after_reset, BirthLaw}
-use Rattle.stage_spec.proofs.Recurrence.{same_sums, sums_of-push}
+use Rattle.stage_spec.specs.{Sums.{resets, is_reset_by, sums_of, count_of, enabled_of, running_of}, Recurrence.{after_reset, BirthLaw}}
 use Rattle.stage_spec.specs.Shares.{of_instance, share, no_sums, ready_instances, work_hits, switch_hits, migration_hits, migration_share, switch_share, cpu_share, changes_task}
+use Rattle.stage_spec.proofs.Recurrence.{same_sums, sums_of-push}
 use Rattle.stage_spec.proofs.Each.{Each, none-Each, append-Each, map-Each, filter-Each, flat_map-Each, InGroup, InGroups, InLists}
 use Rattle.stage_spec.proofs.Shape.{settle_all-numbers, switched-numbers, rotated-numbers, exited-numbers}
 use Rattle.stage_spec.proofs.Ids.{IdBelow, AllBelow, AllBelow-more, first_stage-below, lists_of-below, task_lists-below, settle_all-below, opened-ids, opened_all-below, command_each-below, with_period-below, mapped_to-below, output_to-below, closed-below, exited-below, switched-below, rotated-below, forked-below, forked-ids}

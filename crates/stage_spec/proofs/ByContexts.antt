@@ -1,12 +1,8 @@
 -- What any change of one context keeps, settling and a tick keep.
 use Rattle.std.specs.Prelude.{List, [], ◌∷◌, Option, Some, None}
-use Rattle.perf_base.specs.declared.numbers.CpuNo.{CpuNo}
-use Rattle.perf_base.specs.declared.numbers.TaskNo.{TaskNo}
-use Rattle.perf_base.specs.declared.standing.Context.{Context}
+use Rattle.perf_base.specs.declared.{numbers.{CpuNo.{CpuNo}, TaskNo.{TaskNo}}, standing.Context.{Context}}
 use Rattle.perf_base.specs.declared.standing.Context.TheVariants as context
-use Rattle.stage_spec.specs.Hardware.{Hardware}
-use Rattle.stage_spec.specs.Stage.{Stage, Lists, change_context, task_on, all_cpus}
-use Rattle.stage_spec.specs.Verdict.{Judged, verdicts}
+use Rattle.stage_spec.specs.{Hardware.{Hardware}, Stage.{Stage, Lists, change_context, task_on, all_cpus}, Verdict.{Judged, verdicts}}
 use Rattle.stage_spec.specs.Settle.{settle_lists, settle_task, own_verdicts, settle, settle_each, settle_all}
 use Rattle.stage_spec.specs.Rotation.{turn_lists, turn_task, rotated}
 

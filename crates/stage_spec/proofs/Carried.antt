@@ -1,40 +1,24 @@
 -- What holds of each instance of a stage holds after a step, where it is said of an instance's id, slot and whether it
 -- is a copy, and holds of the instances that the step makes.
 use Rattle.std.specs.Prelude.{◌≡◌, ℕ, ◌+◌, ◌<◌, ◌≤◌, ◌⊎◌, Bool, true, false, List, [], ◌∷◌, length, drop, sum_by, Option, Some, None, if◌then◌else◌}
-use Rattle.std.proofs.Common.{arith, refl, sym, inl, inr}
-use Rattle.std.proofs.lemmas.List.Sums.{sum_by-cons}
-use Rattle.std.proofs.lemmas.Option.{none-some}
-use Rattle.perf_base.specs.declared.numbers.CpuNo.{CpuNo}
-use Rattle.perf_base.specs.declared.numbers.EventNo.{EventNo}
-use Rattle.perf_base.specs.declared.numbers.RingNo.{RingNo}
-use Rattle.perf_base.specs.declared.numbers.TaskNo.{TaskNo}
-use Rattle.perf_base.specs.declared.lines.CpuLine.{CpuLine}
-use Rattle.perf_base.specs.declared.lines.CpuLine.TheVariants as cpu_line
-use Rattle.perf_base.specs.declared.lines.ToolLine.{ToolLine}
-use Rattle.perf_base.specs.declared.lines.ToolLine.TheVariants as tool_line
-use Rattle.perf_base.specs.declared.attr.Attr.{Attr}
-use Rattle.perf_base.specs.declared.reasons.Reason.{Reason}
-use Rattle.perf_base.specs.declared.reasons.Reason.TheVariants as reason
-use Rattle.perf_base.specs.declared.standing.Context.{Context}
-use Rattle.perf_base.specs.declared.standing.Context.TheVariants as context
-use Rattle.perf_base.specs.declared.standing.Own.{Own}
-use Rattle.stage_spec.specs.declared.instance.Instance.{Instance}
-use Rattle.stage_spec.specs.Hardware.{Hardware}
+use Rattle.std.proofs.{Common.{arith, refl, sym, inl, inr}, lemmas.{List.Sums.{sum_by-cons}, Option.{none-some}}}
+use Rattle.perf_base.specs.declared.{numbers.{CpuNo.{CpuNo}, EventNo.{EventNo}, RingNo.{RingNo}, TaskNo.{TaskNo}}, lines.CpuLine.{CpuLine}}
+use Rattle.perf_base.specs.declared.{lines.ToolLine.{ToolLine}, attr.Attr.{Attr}, reasons.Reason.{Reason}, standing.{Context.{Context}, Own.{Own}}}
 use Rattle.perf_base.specs.Contexts.{context_of}
+use Rattle.perf_base.specs.declared.lines.CpuLine.TheVariants as cpu_line
+use Rattle.perf_base.specs.declared.lines.ToolLine.TheVariants as tool_line
+use Rattle.perf_base.specs.declared.reasons.Reason.TheVariants as reason
+use Rattle.perf_base.specs.declared.standing.Context.TheVariants as context
+use Rattle.stage_spec.specs.{declared.instance.Instance.{Instance}, Hardware.{Hardware}}
 use Rattle.stage_spec.specs.Stage.{Stage, Group, group_size, alone, Lists, lists_of, no_groups, place_of, change_lists, change_each, change_context, is_original, is_of_family, is_copy, task_on, all_cpus}
-use Rattle.stage_spec.specs.Effective.{hardware_members}
-use Rattle.stage_spec.specs.Verdict.{Judged, task_lists, verdicts, with_masks}
+use Rattle.stage_spec.specs.{Effective.{hardware_members}, Verdict.{Judged, task_lists, verdicts, with_masks}}
 use Rattle.stage_spec.specs.Settle.{settle_lists, settle_task, own_verdicts, settle, settle_each, settle_all}
 use Rattle.stage_spec.specs.Opening.{opened, placed, add_group, join_lists, new_original, is_used, open_refusal, open_faults, unassignable, group_with, group_led}
-use Rattle.stage_spec.specs.Refusals.{first_of}
-use Rattle.stage_spec.specs.Flags.{is_inherited, is_pinned}
+use Rattle.stage_spec.specs.{Refusals.{first_of}, Flags.{is_inherited, is_pinned}}
 use Rattle.stage_spec.specs.Commands.{command_each, enabled, disabled, targets, with_period, is_reached}
-use Rattle.stage_spec.specs.Mapping.{mapped_to, output_to, set_ring, ring_of}
-use Rattle.stage_spec.specs.Closing.{without, closed}
-use Rattle.stage_spec.specs.Rotation.{turn_lists, turn_task, rotated}
+use Rattle.stage_spec.specs.{Mapping.{mapped_to, output_to, set_ring, ring_of}, Closing.{without, closed}, Rotation.{turn_lists, turn_task, rotated}}
 use Rattle.stage_spec.specs.Forks.{copy_of, copies_from, copy_group, copy_groups, copied, inherited_groups, new_copies, forked}
-use Rattle.stage_spec.specs.Exits.{exited, exited_by}
-use Rattle.stage_spec.specs.Switching.{switched, put_on, is_running}
+use Rattle.stage_spec.specs.{Exits.{exited, exited_by}, Switching.{switched, put_on, is_running}}
 use Rattle.stage_spec.specs.History.{Step, CpuStep, ToolStep, SeenStep, cpu_refusal, tool_refusal, cpu_changed, tool_changed, stage_step, unless_refused}
 use Rattle.stage_spec.proofs.Inside.{LeavesOwn, settle_lists-in, turn_lists-in, change_lists-in, add_group-in, join_lists-in, without-in}
 use Rattle.stage_spec.proofs.Each.{Each, none-Each, cons-Each, head-Each, tail-Each, map-Each, filter-Each, get_or-Each, set-Each, InGroup, InGroups, InLists, InStage, no_groups-In}

@@ -1,30 +1,17 @@
 -- A law of the groups at each place that each change of a context keeps holds after settling, ticks, closes, exits and
 -- switches.
 use Rattle.std.specs.Prelude.{◌≡◌, ℕ, zero, suc, ◌<◌, Bool, true, false, not, ◌&&◌, List, [], ◌∷◌, ◌++◌, length, map, Option, Some, None, slice_index_or}
-use Rattle.std.specs.List.{list_any}
-use Rattle.std.proofs.Common.{refl, sym, ap, ◌∙◌, arith, inl, inr, subst, get_or, set, get_or-set_same, get_or-set_other}
-use Rattle.std.proofs.lemmas.Bool.{cases_eq, cases_lt}
-use Rattle.std.proofs.lemmas.List.{get_or_past}
-use Rattle.std.proofs.Math.Seq.{set_out}
-use Rattle.perf_base.specs.declared.numbers.CpuNo.{CpuNo}
-use Rattle.perf_base.specs.declared.numbers.EventNo.{EventNo}
-use Rattle.perf_base.specs.declared.numbers.TaskNo.{TaskNo}
-use Rattle.perf_base.specs.declared.standing.Context.{Context}
-use Rattle.perf_base.specs.declared.standing.Context.TheVariants as context
-use Rattle.perf_base.specs.declared.standing.Standing.{Standing}
-use Rattle.stage_spec.specs.declared.instance.Instance.{Instance}
-use Rattle.stage_spec.specs.Hardware.{Hardware}
-use Rattle.stage_spec.specs.Stage.{Stage, Group, Lists, lists_of, no_groups, place_of, change_context, is_of_family, is_copy, task_on, all_cpus}
-use Rattle.stage_spec.specs.Verdict.{Judged, is_eligible, judge, standing_among, task_lists, verdicts}
+use Rattle.std.{specs.List.{list_any}, proofs.Common.{refl, sym, ap, ◌∙◌, arith, inl, inr, subst, get_or, set, get_or-set_same, get_or-set_other}}
+use Rattle.std.proofs.{lemmas.{Bool.{cases_eq, cases_lt}, List.{get_or_past}}, Math.Seq.{set_out}}
+use Rattle.perf_base.specs.declared.{numbers.{CpuNo.{CpuNo}, EventNo.{EventNo}, TaskNo.{TaskNo}}, standing.{Context.{Context}, Standing.{Standing}}}
 use Rattle.perf_base.specs.Standings.{stands_on}
-use Rattle.stage_spec.specs.Effective.{is_wholly_software}
+use Rattle.perf_base.specs.declared.standing.Context.TheVariants as context
+use Rattle.stage_spec.specs.{declared.instance.Instance.{Instance}, Hardware.{Hardware}}
+use Rattle.stage_spec.specs.Stage.{Stage, Group, Lists, lists_of, no_groups, place_of, change_context, is_of_family, is_copy, task_on, all_cpus}
+use Rattle.stage_spec.specs.{Verdict.{Judged, is_eligible, judge, standing_among, task_lists, verdicts}, Effective.{is_wholly_software}}
 use Rattle.stage_spec.specs.Settle.{failed, settle_pass, settle_lists, settle_task, own_verdicts, settle, settle_each, settle_all}
-use Rattle.stage_spec.specs.Closing.{without, closed}
-use Rattle.stage_spec.specs.Rotation.{first_goes_last, turned, turn_lists, turn_task, rotated}
-use Rattle.stage_spec.specs.Exits.{exited, exited_by}
-use Rattle.stage_spec.specs.Switching.{switched, put_on, is_running}
-use Rattle.stage_spec.proofs.Each.{Each, append-Each, get_or-Each}
-use Rattle.stage_spec.proofs.Settling.{judged, either}
+use Rattle.stage_spec.specs.{Closing.{without, closed}, Rotation.{first_goes_last, turned, turn_lists, turn_task, rotated}, Exits.{exited, exited_by}}
+use Rattle.stage_spec.{specs.Switching.{switched, put_on, is_running}, proofs.{Each.{Each, append-Each, get_or-Each}, Settling.{judged, either}}}
 
 -- a law of the groups at each place of a stage; past the last context there are no groups
 abbrev pub At : (ℕ → Lists → Type 0) → Stage → Type 0

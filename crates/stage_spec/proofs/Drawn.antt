@@ -1,28 +1,15 @@
 -- Ids and slots are drawn and never given back.
-use Rattle.std.specs.Prelude.{◌≡◌, ◌≤◌, ◌==◌, Bool, true, false, ◌||◌, List, [], ◌∷◌, ◌++◌, Option, Some, None}
-use Rattle.std.specs.List.{list_any}
+use Rattle.std.specs.{Prelude.{◌≡◌, ◌≤◌, ◌==◌, Bool, true, false, ◌||◌, List, [], ◌∷◌, ◌++◌, Option, Some, None}, List.{list_any}}
 use Rattle.std.proofs.Common.{arith, refl}
-use Rattle.perf_base.specs.declared.numbers.CpuNo.{CpuNo}
-use Rattle.perf_base.specs.declared.numbers.EventNo.{EventNo}
-use Rattle.perf_base.specs.declared.numbers.TaskNo.{TaskNo}
-use Rattle.perf_base.specs.declared.lines.CpuLine.{CpuLine}
+use Rattle.perf_base.specs.declared.{numbers.{CpuNo.{CpuNo}, EventNo.{EventNo}, TaskNo.{TaskNo}}, lines.{CpuLine.{CpuLine}, ToolLine.{ToolLine}}}
+use Rattle.perf_base.specs.declared.{attr.Attr.{Attr}, reasons.Reason.{Reason}}
 use Rattle.perf_base.specs.declared.lines.CpuLine.TheVariants as cpu_line
-use Rattle.perf_base.specs.declared.lines.ToolLine.{ToolLine}
 use Rattle.perf_base.specs.declared.lines.ToolLine.TheVariants as tool_line
-use Rattle.perf_base.specs.declared.attr.Attr.{Attr}
-use Rattle.perf_base.specs.declared.reasons.Reason.{Reason}
 use Rattle.perf_base.specs.declared.standing.Context.TheVariants as context
-use Rattle.stage_spec.specs.Hardware.{Hardware}
-use Rattle.stage_spec.specs.Stage.{Stage, task_on, all_cpus, change_context}
-use Rattle.stage_spec.specs.Verdict.{Judged, verdicts}
-use Rattle.stage_spec.specs.Settle.{settle_lists, settle_task, own_verdicts, settle, settle_each, settle_all}
-use Rattle.stage_spec.specs.Opening.{opened, is_used}
-use Rattle.stage_spec.specs.Commands.{command_each, with_period}
-use Rattle.stage_spec.specs.Mapping.{mapped_to, output_to}
-use Rattle.stage_spec.specs.Closing.{closed}
-use Rattle.stage_spec.specs.Rotation.{turn_lists, turn_task, rotated}
-use Rattle.stage_spec.specs.Forks.{forked}
-use Rattle.stage_spec.specs.Exits.{exited, exited_by}
+use Rattle.stage_spec.specs.{Hardware.{Hardware}, Stage.{Stage, task_on, all_cpus, change_context}, Verdict.{Judged, verdicts}}
+use Rattle.stage_spec.specs.{Settle.{settle_lists, settle_task, own_verdicts, settle, settle_each, settle_all}, Opening.{opened, is_used}}
+use Rattle.stage_spec.specs.{Commands.{command_each, with_period}, Mapping.{mapped_to, output_to}, Closing.{closed}}
+use Rattle.stage_spec.specs.{Rotation.{turn_lists, turn_task, rotated}, Forks.{forked}, Exits.{exited, exited_by}}
 use Rattle.stage_spec.specs.Switching.{switched, put_on, is_running}
 use Rattle.stage_spec.specs.History.{Step, CpuStep, ToolStep, SeenStep, cpu_refusal, tool_refusal, cpu_changed, tool_changed, stage_step, unless_refused}
 

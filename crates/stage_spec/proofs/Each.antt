@@ -1,7 +1,6 @@
 -- What holds of each instance of a stage, through the changes of lists.
 use Rattle.std.specs.Prelude.{ℕ, Bool, true, false, List, [], ◌∷◌, ◌++◌, map, filter, flat_map, replicate, zero, suc, slice_index_or, slice_set, cond}
-use Rattle.stage_spec.specs.declared.instance.Instance.{Instance}
-use Rattle.stage_spec.specs.Stage.{Stage, Group, members_of, Lists, no_groups}
+use Rattle.stage_spec.specs.{declared.instance.Instance.{Instance}, Stage.{Stage, Group, members_of, Lists, no_groups}}
 
 unfoldable pub Each : {X : Type 0} → (X → Type 0) → List X → Type 0
 Each P [] = Unit {0}

@@ -1,29 +1,15 @@
 -- Every instance of a stage has an id that was drawn, through each change of the stage.
 use Rattle.std.specs.Prelude.{◌≡◌, ℕ, ◌+◌, ◌<◌, ◌≤◌, Bool, true, false, List, [], ◌∷◌, length, sum_by, Option, Some, None, if◌then◌else◌}
-use Rattle.std.proofs.Common.{arith, refl}
-use Rattle.std.proofs.lemmas.List.Sums.{sum_by-cons}
-use Rattle.perf_base.specs.declared.numbers.CpuNo.{CpuNo}
-use Rattle.perf_base.specs.declared.numbers.EventNo.{EventNo}
-use Rattle.perf_base.specs.declared.numbers.RingNo.{RingNo}
-use Rattle.perf_base.specs.declared.numbers.TaskNo.{TaskNo}
-use Rattle.perf_base.specs.declared.attr.Attr.{Attr}
-use Rattle.perf_base.specs.declared.standing.Context.{Context}
+use Rattle.std.proofs.{Common.{arith, refl}, lemmas.List.Sums.{sum_by-cons}}
+use Rattle.perf_base.specs.declared.{numbers.{CpuNo.{CpuNo}, EventNo.{EventNo}, RingNo.{RingNo}, TaskNo.{TaskNo}}, attr.Attr.{Attr}}
+use Rattle.perf_base.specs.{declared.standing.{Context.{Context}, Own.{Own}}, Contexts.{context_of}}
 use Rattle.perf_base.specs.declared.standing.Context.TheVariants as context
-use Rattle.perf_base.specs.declared.standing.Own.{Own}
-use Rattle.stage_spec.specs.declared.instance.Instance.{Instance}
-use Rattle.stage_spec.specs.Hardware.{Hardware}
+use Rattle.stage_spec.specs.{declared.instance.Instance.{Instance}, Hardware.{Hardware}}
 use Rattle.stage_spec.specs.Stage.{Stage, Group, group_size, alone, Lists, lists_of, no_groups, place_of, change_lists, change_each, change_context, is_original, task_on, first_stage}
-use Rattle.stage_spec.specs.Verdict.{task_lists}
-use Rattle.stage_spec.specs.Settle.{settle_all}
-use Rattle.perf_base.specs.Contexts.{context_of}
-use Rattle.stage_spec.specs.Opening.{opened, placed, add_group, join_lists, new_original}
-use Rattle.stage_spec.specs.Flags.{is_pinned}
-use Rattle.stage_spec.specs.Commands.{command_each, with_period, is_reached}
-use Rattle.stage_spec.specs.Mapping.{mapped_to, output_to, ring_of}
-use Rattle.stage_spec.specs.Closing.{without, closed}
-use Rattle.stage_spec.specs.Rotation.{rotated}
-use Rattle.stage_spec.specs.Forks.{copy_of, copies_from, copy_group, copy_groups, copied, inherited_groups, new_copies, forked}
-use Rattle.stage_spec.specs.Exits.{exited}
+use Rattle.stage_spec.specs.{Verdict.{task_lists}, Settle.{settle_all}, Opening.{opened, placed, add_group, join_lists, new_original}}
+use Rattle.stage_spec.specs.{Flags.{is_pinned}, Commands.{command_each, with_period, is_reached}, Mapping.{mapped_to, output_to, ring_of}}
+use Rattle.stage_spec.specs.{Closing.{without, closed}, Rotation.{rotated}}
+use Rattle.stage_spec.specs.{Forks.{copy_of, copies_from, copy_group, copy_groups, copied, inherited_groups, new_copies, forked}, Exits.{exited}}
 use Rattle.stage_spec.specs.Switching.{switched}
 use Rattle.stage_spec.proofs.Each.{Each, none-Each, cons-Each, map-Each, weaker-Each, replicate-Each, InGroup, InGroups, InLists, InStage, no_groups-In}
 use Rattle.stage_spec.proofs.Contexts.{At, AllowsNone, At-from_each, each-from_At, task_lists-in, change_context-keeps, settle_all-keeps, rotated-keeps, closed-keeps, exited-keeps, switched-keeps}

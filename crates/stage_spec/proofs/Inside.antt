@@ -1,25 +1,15 @@
 -- What holds of each instance of a context, through the changes of a context.
-use Rattle.std.specs.Prelude.{◌≡◌, ℕ, ◌+◌, Bool, true, false, not, List, [], ◌∷◌, ◌++◌, map, filter, flat_map, sum_by}
-use Rattle.std.proofs.Common.{refl}
+use Rattle.std.{specs.Prelude.{◌≡◌, ℕ, ◌+◌, Bool, true, false, not, List, [], ◌∷◌, ◌++◌, map, filter, flat_map, sum_by}, proofs.Common.{refl}}
 use Rattle.std.proofs.lemmas.Bool.{cond_both, not-true}
-use Rattle.perf_base.specs.declared.numbers.CpuNo.{CpuNo}
-use Rattle.perf_base.specs.declared.numbers.EventNo.{EventNo}
-use Rattle.perf_base.specs.declared.standing.Own.{Own}
-use Rattle.perf_base.specs.declared.standing.Standing.{Standing}
+use Rattle.perf_base.specs.declared.{numbers.{CpuNo.{CpuNo}, EventNo.{EventNo}}, standing.{Own.{Own}, Standing.{Standing}}}
 use Rattle.perf_base.specs.declared.standing.Standing.TheVariants as standing
-use Rattle.stage_spec.specs.declared.instance.Instance.{Instance}
-use Rattle.stage_spec.specs.Flags.{is_inherited}
-use Rattle.stage_spec.specs.Hardware.{Hardware}
+use Rattle.stage_spec.specs.{declared.instance.Instance.{Instance}, Flags.{is_inherited}, Hardware.{Hardware}}
 use Rattle.stage_spec.specs.Stage.{Stage, Group, members_of, group_size, alone, Lists, groups_in, change_group, change_lists, is_original, members, all_groups, all_instances}
-use Rattle.stage_spec.specs.Verdict.{Judged}
-use Rattle.stage_spec.specs.Settle.{failed, settle_lists}
-use Rattle.stage_spec.specs.Opening.{add_group, joined, join_group, join_lists}
-use Rattle.stage_spec.specs.Closing.{staying, without, kept_group, freed_groups}
-use Rattle.stage_spec.specs.Rotation.{turn_lists}
+use Rattle.stage_spec.specs.{Verdict.{Judged}, Settle.{failed, settle_lists}, Opening.{add_group, joined, join_group, join_lists}}
+use Rattle.stage_spec.specs.{Closing.{staying, without, kept_group, freed_groups}, Rotation.{turn_lists}}
 use Rattle.stage_spec.specs.Forks.{copy_of, copies_from, copy_groups, copied, inherited_groups}
 use Rattle.stage_spec.proofs.Each.{Each, none-Each, cons-Each, head-Each, tail-Each, append-Each, map-Each, weaker-Each, filter-Each, flat_map-Each, InGroup, InGroups, InLists, InStage}
-use Rattle.stage_spec.proofs.Parts.{both-Each, front-Each, back-Each, joined-Each}
-use Rattle.stage_spec.proofs.Contexts.{settle_pass-keeps, turned-keeps}
+use Rattle.stage_spec.proofs.{Parts.{both-Each, front-Each, back-Each, joined-Each}, Contexts.{settle_pass-keeps, turned-keeps}}
 
 -- between a context, its groups and the list of its instances
 pub members-in : (P : Instance → Type 0) (l : Lists) → InLists P l → Each P (members (groups_in l))

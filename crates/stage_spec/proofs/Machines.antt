@@ -1,18 +1,10 @@
 -- The counters that a script declares are a machine's.
 use Rattle.std.specs.Prelude.{◌≡◌, ℕ, zero, suc, ◌^◌, ◌<◌, ◌≤◌, All, MatchOption, List, [], ◌∷◌, ◌++◌, length, map, take, replicate, position, Option, Some, None, slice_get, slice_index}
-use Rattle.std.specs.Option.{unwrap_or}
-use Rattle.std.proofs.Common.{arith, refl, ◌∙◌, get_or}
-use Rattle.std.proofs.lemmas.List.{length-append, length-map, length-take, get_or-take}
-use Rattle.std.proofs.lemmas.List.Elements.{All-append, All-cons, All-map, All-nil, All-weaker}
-use Rattle.std.proofs.lemmas.List.Quantifiers.{position-Some}
-use Rattle.std.proofs.lemmas.Option.{get_or_from_slice_get, slice_get_within}
-use Rattle.perf_base.specs.declared.lines.PmuLine.{PmuLine}
-use Rattle.perf_base.specs.declared.lines.KindLine.{KindLine}
-use Rattle.perf_base.specs.Scripts.{IsPmuLine, IsKindLine}
-use Rattle.stage_spec.specs.Numbers.{numbers_below}
-use Rattle.stage_spec.specs.Hardware.{IsPmu, has_cpu, pmu_with}
-use Rattle.perf_base.specs.Masks.{IsMask}
-use Rattle.stage_spec.specs.Limits.{ScriptMachineLaw}
+use Rattle.std.{specs.Option.{unwrap_or}, proofs.Common.{arith, refl, ◌∙◌, get_or}}
+use Rattle.std.proofs.lemmas.List.{length-append, length-map, length-take, get_or-take, Elements.{All-append, All-cons, All-map, All-nil, All-weaker}}
+use Rattle.std.proofs.lemmas.{List.Quantifiers.{position-Some}, Option.{get_or_from_slice_get, slice_get_within}}
+use Rattle.perf_base.specs.{declared.lines.{PmuLine.{PmuLine}, KindLine.{KindLine}}, Scripts.{IsPmuLine, IsKindLine}, Masks.{IsMask}}
+use Rattle.stage_spec.specs.{Numbers.{numbers_below}, Hardware.{IsPmu, has_cpu, pmu_with}, Limits.{ScriptMachineLaw}}
 
 -- the counters of the declared PMUs
 abbrev four_counters : List PmuLine → List ℕ

@@ -1,9 +1,6 @@
 -- What holds of each element, of each element of a part, and of two lists place by place.
-use Rattle.std.specs.Prelude.{◌≡◌, suc, Bool, false, All, List, [], ◌∷◌, ◌++◌, length, map, filter, flat_map}
-use Rattle.std.specs.List.{AllZip, list_any}
-use Rattle.std.proofs.Common.{refl, ap}
-use Rattle.std.proofs.lemmas.Bool.{or_parts}
-use Rattle.std.proofs.lemmas.List.Elements.{All-nil, All-cons, All-head, All-tail}
+use Rattle.std.specs.{Prelude.{◌≡◌, suc, Bool, false, All, List, [], ◌∷◌, ◌++◌, length, map, filter, flat_map}, List.{AllZip, list_any}}
+use Rattle.std.proofs.{Common.{refl, ap}, lemmas.{Bool.{or_parts}, List.Elements.{All-nil, All-cons, All-head, All-tail}}}
 use Rattle.stage_spec.proofs.Each.{Each, filter-Each}
 
 pub All-from_Each : {X : Type 0} (P : X → Type 0) (xs : List X) → Each P xs → All P xs

@@ -1,25 +1,16 @@
 -- What holds of each instance of a stage holds of those that are on, and of those that go; and what is found among
 -- them.
 use Rattle.std.specs.Prelude.{◌≡◌, ℕ, ◌<◌, Bool, true, false, ◌&&◌, ◌||◌, List, [], ◌∷◌, ◌++◌, map, flat_map, filter, find, length, Some, None, unwrap_or, cond, suc}
-use Rattle.std.specs.List.{list_any}
-use Rattle.std.proofs.Common.{arith, refl, sym, ap, ◌∙◌, get_or, subst}
-use Rattle.std.proofs.lemmas.Bool.{false≢true}
-use Rattle.std.proofs.lemmas.Option.{none-some}
+use Rattle.std.{specs.List.{list_any}, proofs.{Common.{arith, refl, sym, ap, ◌∙◌, get_or, subst}, lemmas.{Bool.{false≢true}, Option.{none-some}}}}
 use Rattle.std.proofs.lemmas.List.Folds.{list_any_at}
-use Rattle.perf_base.specs.declared.numbers.CpuNo.{CpuNo}
-use Rattle.perf_base.specs.declared.numbers.EventNo.{EventNo}
-use Rattle.perf_base.specs.declared.lines.CpuLine.{CpuLine}
+use Rattle.perf_base.specs.{declared.{numbers.{CpuNo.{CpuNo}, EventNo.{EventNo}}, lines.CpuLine.{CpuLine}}, Standings.{stands_on}}
 use Rattle.perf_base.specs.declared.lines.CpuLine.TheVariants as cpu_line
 use Rattle.perf_base.specs.declared.standing.Context.TheVariants as context
-use Rattle.stage_spec.specs.declared.instance.Instance.{Instance}
-use Rattle.stage_spec.specs.Hardware.{Hardware}
+use Rattle.stage_spec.specs.{declared.instance.Instance.{Instance}, Hardware.{Hardware}}
 use Rattle.stage_spec.specs.Stage.{Stage, Group, members_of, lists_of, groups_in, members, is_of_family, task_on}
 use Rattle.stage_spec.specs.Effective.{is_ready, state_in, ready_members}
 use Rattle.stage_spec.specs.Verdict.{Judged, is_eligible, groups_on, judge, judge_pass, judge_passes, passes, task_lists, verdicts, on_instances}
-use Rattle.perf_base.specs.Standings.{stands_on}
-use Rattle.stage_spec.specs.History.{Step, CpuStep, ToolStep, SeenStep}
-use Rattle.stage_spec.specs.Shares.{ready_instances}
-use Rattle.stage_spec.specs.Families.{leaving, leaving_by}
+use Rattle.stage_spec.specs.{History.{Step, CpuStep, ToolStep, SeenStep}, Shares.{ready_instances}, Families.{leaving, leaving_by}}
 use Rattle.stage_spec.proofs.Each.{Each, none-Each, append-Each, map-Each, filter-Each, flat_map-Each, InGroup, InGroups, InLists, InStage}
 use Rattle.stage_spec.proofs.Carried.{lists_of-in, task_lists-in}
 

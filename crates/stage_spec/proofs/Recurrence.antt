@@ -1,15 +1,10 @@
 -- What one more step adds to a history.
 use Rattle.std.specs.Prelude.{◌≡◌, ℕ, ◌+◌, Bool, true, false, ◌||◌, List, [], ◌∷◌, ◌++◌, if◌then◌else◌}
 use Rattle.std.proofs.Common.{arith, refl, sym, ap, ◌∙◌, append_assoc, append-nil}
-use Rattle.perf_base.specs.declared.numbers.EventNo.{EventNo}
-use Rattle.perf_base.specs.declared.reply.Sums.{Sums}
-use Rattle.stage_spec.specs.Hardware.{Hardware}
-use Rattle.stage_spec.specs.Stage.{Stage}
-use Rattle.stage_spec.specs.History.{Step, stage_step, stage_after}
-use Rattle.stage_spec.specs.Shares.{share, no_sums}
+use Rattle.perf_base.specs.declared.{numbers.EventNo.{EventNo}, reply.Sums.{Sums}}
+use Rattle.stage_spec.specs.{Hardware.{Hardware}, Stage.{Stage}, History.{Step, stage_step, stage_after}, Shares.{share, no_sums}}
 use Rattle.stage_spec.specs.Sums.{resets, is_reset_by, count_of, enabled_of, running_of, sums_of}
-use Rattle.stage_spec.specs.Families.{plus, plus_each, leaving, folded_from, folded_of}
-use Rattle.stage_spec.specs.Recurrence.{after_reset, StageLaw, SumsLaw, FoldedLaw}
+use Rattle.stage_spec.specs.{Families.{plus, plus_each, leaving, folded_from, folded_of}, Recurrence.{after_reset, StageLaw, SumsLaw, FoldedLaw}}
 
 pub stage_after-push : StageLaw
 unfolding stage_after

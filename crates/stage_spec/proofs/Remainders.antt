@@ -1,9 +1,6 @@
 -- What one more step leaves of a remainder.
-use Rattle.std.specs.Prelude.{◌≡◌, ℕ, List, [], ◌∷◌, ◌++◌}
-use Rattle.std.proofs.Common.{refl}
-use Rattle.stage_spec.specs.Hardware.{Hardware}
-use Rattle.stage_spec.specs.Stage.{Stage}
-use Rattle.stage_spec.specs.History.{Step, stage_step, stage_after}
+use Rattle.std.{specs.Prelude.{◌≡◌, ℕ, List, [], ◌∷◌, ◌++◌}, proofs.Common.{refl}}
+use Rattle.stage_spec.specs.{Hardware.{Hardware}, Stage.{Stage}, History.{Step, stage_step, stage_after}}
 use Rattle.stage_spec.specs.Remainders.{left_by, remainder_from, remainder_of, RemainderLaw}
 
 remainder_from-push : (hw : Hardware) (s : Stage) (left : ℕ) (steps : List Step) (x : Step) (id : ℕ)

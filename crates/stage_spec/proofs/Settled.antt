@@ -1,19 +1,12 @@
 -- The laws of settling, of a processor.
 use Rattle.std.specs.Prelude.{◌≡◌, ◌+◌, ◌<◌, nat_lt, Bool, true, List, [], ◌∷◌, ◌++◌, length, map, filter, drop, Option, Some, None, slice_index_or}
 use Rattle.std.proofs.Common.{arith, refl, sym, ap, ◌∙◌, inl, inr, append_assoc, get_or, set, get_or-set_same, get_or-set_other}
-use Rattle.std.proofs.lemmas.Bool.{cases_lt}
-use Rattle.std.proofs.lemmas.Bool.Decides.{nat_tests}
-use Rattle.std.proofs.lemmas.List.{set-get_or, get_or_past}
+use Rattle.std.proofs.lemmas.{Bool.{cases_lt, Decides.{nat_tests}}, List.{set-get_or, get_or_past, Elements.{filter-append}}}
 use Rattle.std.proofs.Math.Seq.{drop-append_seam, set_out}
-use Rattle.std.proofs.lemmas.List.Elements.{filter-append}
-use Rattle.perf_base.specs.declared.numbers.CpuNo.{CpuNo}
-use Rattle.perf_base.specs.declared.numbers.TaskNo.{TaskNo}
-use Rattle.perf_base.specs.declared.standing.Context.{Context}
+use Rattle.perf_base.specs.{declared.{numbers.{CpuNo.{CpuNo}, TaskNo.{TaskNo}}, standing.Context.{Context}}, Standings.{stands_on}}
 use Rattle.perf_base.specs.declared.standing.Context.TheVariants as context
-use Rattle.stage_spec.specs.Hardware.{Hardware}
-use Rattle.stage_spec.specs.Stage.{Stage, Group, Lists, lists_of, no_groups, place_of, task_on, change_context}
+use Rattle.stage_spec.specs.{Hardware.{Hardware}, Stage.{Stage, Group, Lists, lists_of, no_groups, place_of, task_on, change_context}}
 use Rattle.stage_spec.specs.Verdict.{Judged, is_eligible, groups_on, judge_pass, judge_passes, passes, task_lists, verdicts}
-use Rattle.perf_base.specs.Standings.{stands_on}
 use Rattle.stage_spec.specs.Settle.{settle_pass, settle_lists, settle_task, own_verdicts, settle, SettleLaw, SettledVerdictsLaw, VerdictsLaw}
 use Rattle.stage_spec.proofs.Settling.{kept, going, groups_on-append, groups_on-kept, judge_pass-kept, judge_pass-same, eligible-settled, settle_pass-again}
 

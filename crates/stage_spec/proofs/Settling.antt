@@ -1,22 +1,14 @@
 -- Settling a pass: the groups that stay are on as before, and the others are no longer eligible.
 use Rattle.std.specs.Prelude.{◌≡◌, ℕ, Bool, true, false, not, List, [], ◌∷◌, ◌++◌, map, filter, flat_map, Option, Some, None}
-use Rattle.std.proofs.Common.{refl, sym, ap, ◌∙◌, inl, inr, append-nil}
-use Rattle.std.proofs.lemmas.Bool.{cases_Bool, false≢true}
-use Rattle.std.proofs.lemmas.List.{map-append}
+use Rattle.std.proofs.{Common.{refl, sym, ap, ◌∙◌, inl, inr, append-nil}, lemmas.{Bool.{cases_Bool, false≢true}, List.{map-append}}}
 use Rattle.std.proofs.lemmas.List.Elements.{filter-append}
-use Rattle.perf_base.specs.declared.numbers.CpuNo.{CpuNo}
-use Rattle.perf_base.specs.declared.numbers.EventNo.{EventNo}
-use Rattle.perf_base.specs.declared.standing.Cause.TheVariants as cause
-use Rattle.perf_base.specs.declared.standing.Standing.{Standing}
-use Rattle.perf_base.specs.declared.standing.Standing.TheVariants as standing
-use Rattle.stage_spec.specs.Hardware.{Hardware}
-use Rattle.stage_spec.specs.Stage.{Group}
-use Rattle.stage_spec.specs.Effective.{is_wholly_software, is_exclusive_group, counted_members}
-use Rattle.stage_spec.specs.Rules.{ruling_of}
-use Rattle.stage_spec.specs.Fits.{fits}
-use Rattle.stage_spec.specs.Tight.{masks_of, tight_set, shortest_unfit}
-use Rattle.stage_spec.specs.Verdict.{Judged, is_eligible, groups_on, first_named, first_refused, with_masks, by_counters, by_ruling, judge, judge_pass}
+use Rattle.perf_base.specs.declared.{numbers.{CpuNo.{CpuNo}, EventNo.{EventNo}}, standing.Standing.{Standing}}
 use Rattle.perf_base.specs.Standings.{stands_on, stands_refused}
+use Rattle.perf_base.specs.declared.standing.Cause.TheVariants as cause
+use Rattle.perf_base.specs.declared.standing.Standing.TheVariants as standing
+use Rattle.stage_spec.specs.{Hardware.{Hardware}, Stage.{Group}, Effective.{is_wholly_software, is_exclusive_group, counted_members}}
+use Rattle.stage_spec.specs.{Rules.{ruling_of}, Fits.{fits}, Tight.{masks_of, tight_set, shortest_unfit}}
+use Rattle.stage_spec.specs.Verdict.{Judged, is_eligible, groups_on, first_named, first_refused, with_masks, by_counters, by_ruling, judge, judge_pass}
 use Rattle.stage_spec.specs.Settle.{failed, settle_pass}
 
 abbrev pub judged : Group → Standing → Judged

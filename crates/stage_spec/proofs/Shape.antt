@@ -1,38 +1,19 @@
 -- Each step keeps how many processors, tasks and contexts there are, and most leave the slots used, the rings and the
 -- next id.
-use Rattle.std.specs.Prelude.{◌≡◌, Bool, true, false, List, length, map, Option, Some, None}
-use Rattle.std.proofs.Common.{refl, sym, ◌∙◌}
+use Rattle.std.{specs.Prelude.{◌≡◌, Bool, true, false, List, length, map, Option, Some, None}, proofs.Common.{refl, sym, ◌∙◌}}
 use Rattle.std.proofs.lemmas.List.{length-map, length-set, length-replicate}
-use Rattle.perf_base.specs.declared.numbers.CpuNo.{CpuNo}
-use Rattle.perf_base.specs.declared.numbers.EventNo.{EventNo}
-use Rattle.perf_base.specs.declared.numbers.TaskNo.{TaskNo}
-use Rattle.perf_base.specs.declared.attr.Attr.{Attr}
-use Rattle.perf_base.specs.declared.lines.CpuLine.{CpuLine}
+use Rattle.perf_base.specs.declared.{numbers.{CpuNo.{CpuNo}, EventNo.{EventNo}, TaskNo.{TaskNo}}, attr.Attr.{Attr}, lines.CpuLine.{CpuLine}}
+use Rattle.perf_base.specs.{declared.{lines.ToolLine.{ToolLine}, reasons.Reason.{Reason}, standing.Context.{Context}}, Contexts.{context_of}}
 use Rattle.perf_base.specs.declared.lines.CpuLine.TheVariants as cpu_line
-use Rattle.perf_base.specs.declared.lines.ToolLine.{ToolLine}
 use Rattle.perf_base.specs.declared.lines.ToolLine.TheVariants as tool_line
-use Rattle.perf_base.specs.declared.reasons.Reason.{Reason}
-use Rattle.perf_base.specs.declared.standing.Context.{Context}
 use Rattle.perf_base.specs.declared.standing.Context.TheVariants as context
-use Rattle.stage_spec.specs.declared.instance.Instance.{Instance}
-use Rattle.stage_spec.specs.declared.instance.TaskStatus.{TaskStatus}
-use Rattle.stage_spec.specs.Hardware.{Hardware}
+use Rattle.stage_spec.specs.{declared.instance.{Instance.{Instance}, TaskStatus.{TaskStatus}}, Hardware.{Hardware}}
 use Rattle.stage_spec.specs.Stage.{Stage, alone, Lists, place_of, lists_of, change_context, task_on, is_of_family, status_of, set_running, set_status, fresh_task, first_stage}
-use Rattle.stage_spec.specs.Verdict.{task_lists}
-use Rattle.stage_spec.specs.Settle.{settle, settle_all}
-use Rattle.stage_spec.specs.Opening.{opened, placed, add_group, join_lists, new_original}
-use Rattle.stage_spec.specs.Flags.{is_pinned}
-use Rattle.perf_base.specs.Contexts.{context_of}
-use Rattle.stage_spec.specs.Commands.{command_each, with_period}
-use Rattle.stage_spec.specs.Mapping.{mapped_to, output_to}
-use Rattle.stage_spec.specs.Closing.{without, closed}
-use Rattle.stage_spec.specs.Rotation.{rotated}
-use Rattle.stage_spec.specs.Forks.{copied, forked}
-use Rattle.stage_spec.specs.Exits.{exited, exited_by}
-use Rattle.stage_spec.specs.Switching.{switched, put_on, is_running}
+use Rattle.stage_spec.specs.{Verdict.{task_lists}, Settle.{settle, settle_all}, Opening.{opened, placed, add_group, join_lists, new_original}}
+use Rattle.stage_spec.specs.{Flags.{is_pinned}, Commands.{command_each, with_period}, Mapping.{mapped_to, output_to}, Closing.{without, closed}}
+use Rattle.stage_spec.specs.{Rotation.{rotated}, Forks.{copied, forked}, Exits.{exited, exited_by}, Switching.{switched, put_on, is_running}}
 use Rattle.stage_spec.specs.History.{Step, CpuStep, ToolStep, SeenStep, cpu_refusal, tool_refusal, cpu_changed, tool_changed, stage_step, unless_refused}
-use Rattle.stage_spec.specs.Limits.{Limits, IsMachine, HasShape}
-use Rattle.stage_spec.proofs.ByContexts.{KeptByContexts, settle-by, settle_all-by, rotated-by}
+use Rattle.stage_spec.{specs.Limits.{Limits, IsMachine, HasShape}, proofs.ByContexts.{KeptByContexts, settle-by, settle_all-by, rotated-by}}
 
 -- as many processors, tasks and contexts
 pub record SameShape (s t : Stage) : Type 0 where

@@ -3,12 +3,9 @@
 -- perf_event_alloc at the place. This project's own profile are the bits that are known, the fifth condition, and the
 -- order.
 use Rattle.std.specs.Prelude.{ℕ, ◌^◌, ◌==◌, Bool, not, ◌&&◌, bit_and, List, [], ◌∷◌, Option}
-use Rattle.perf_base.specs.declared.attr.Attr.{Attr}
-use Rattle.perf_base.specs.declared.reasons.Reason.{Reason}
+use Rattle.perf_base.specs.declared.{attr.Attr.{Attr}, reasons.Reason.{Reason}}
 use Rattle.perf_base.specs.declared.reasons.Reason.TheVariants as reason
-use Rattle.stage_spec.specs.Hardware.{is_software}
-use Rattle.stage_spec.specs.Places.{is_all_tasks, is_any_cpu}
-use Rattle.stage_spec.specs.Refusals.{first_of}
+use Rattle.stage_spec.specs.{Hardware.{is_software}, Places.{is_all_tasks, is_any_cpu}, Refusals.{first_of}}
 
 -- the bits of PERF_SAMPLE_ that are known: IP, TID, TIME, ID, CPU, PERIOD, STREAM_ID and IDENTIFIER
 abbrev pub sample_bits : ℕ

@@ -2,8 +2,7 @@
 -- puts siblings behind the flexible groups too.
 use Rattle.std.specs.Prelude.{Bool, true, false, not, List, [], ◌∷◌, ◌++◌, map, filter, flat_map}
 use Rattle.perf_base.specs.declared.numbers.EventNo.{EventNo}
-use Rattle.stage_spec.specs.declared.instance.Instance.{Instance}
-use Rattle.stage_spec.specs.Stage.{Stage, Group, alone, Lists, is_of_family}
+use Rattle.stage_spec.specs.{declared.instance.Instance.{Instance}, Stage.{Stage, Group, alone, Lists, is_of_family}}
 
 -- those of some instances that stay
 abbrev pub staying : (Instance → Bool) → List Instance → List Instance

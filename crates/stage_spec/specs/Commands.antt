@@ -2,10 +2,8 @@
 -- reset and perf_event_period of kernel/events/core.c. That DISABLE clears an error is this project's own profile.
 use Rattle.std.specs.Prelude.{ℕ, ◌^◌, ◌==◌, Bool, true, false, not, ◌||◌, bit_and, List, [], ◌∷◌, map, Option, Some, None, if◌then◌else◌}
 use Rattle.std.specs.List.{list_any}
-use Rattle.perf_base.specs.declared.numbers.EventNo.{EventNo}
-use Rattle.perf_base.specs.declared.standing.Own.{Own}
+use Rattle.perf_base.specs.declared.{numbers.EventNo.{EventNo}, standing.Own.{Own}, reasons.Reason.{Reason}}
 use Rattle.perf_base.specs.declared.standing.Own.TheVariants as own
-use Rattle.perf_base.specs.declared.reasons.Reason.{Reason}
 use Rattle.perf_base.specs.declared.reasons.Reason.TheVariants as reason
 use Rattle.stage_spec.specs.declared.instance.Instance.{Instance}
 use Rattle.stage_spec.specs.Stage.{Stage, Group, members_of, is_original, is_open, original_of, group_of, change_each}

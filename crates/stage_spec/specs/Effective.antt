@@ -1,14 +1,9 @@
 -- What an event's state comes to within its group, and what a group is by its events. After event_filter_match,
 -- __perf_effective_state and is_software_event of kernel/events/core.c.
-use Rattle.std.specs.Prelude.{Bool, true, false, not, ◌&&◌, List, filter}
-use Rattle.std.specs.List.{list_all}
-use Rattle.perf_base.specs.declared.numbers.EventNo.{EventNo}
-use Rattle.perf_base.specs.declared.standing.Own.{Own}
+use Rattle.std.specs.{Prelude.{Bool, true, false, not, ◌&&◌, List, filter}, List.{list_all}}
+use Rattle.perf_base.specs.declared.{numbers.EventNo.{EventNo}, standing.Own.{Own}}
 use Rattle.perf_base.specs.declared.standing.Own.TheVariants as own
-use Rattle.stage_spec.specs.declared.instance.Instance.{Instance}
-use Rattle.stage_spec.specs.Flags.{is_exclusive}
-use Rattle.stage_spec.specs.Hardware.{is_software}
-use Rattle.stage_spec.specs.Stage.{Group, members_of}
+use Rattle.stage_spec.specs.{declared.instance.Instance.{Instance}, Flags.{is_exclusive}, Hardware.{is_software}, Stage.{Group, members_of}}
 
 abbrev pub is_ready : Own → Bool
 is_ready own.Off = false

@@ -2,15 +2,12 @@
 -- too. That ENABLE and DISABLE still change their states then, and that an exit is no context switch, is this project's
 -- own profile.
 use Rattle.std.specs.Prelude.{[], ◌∷◌, Option, Some, None}
-use Rattle.perf_base.specs.declared.numbers.CpuNo.{CpuNo}
-use Rattle.perf_base.specs.declared.numbers.TaskNo.{TaskNo}
+use Rattle.perf_base.specs.declared.{numbers.{CpuNo.{CpuNo}, TaskNo.{TaskNo}}, reasons.Reason.{Reason}}
 use Rattle.perf_base.specs.declared.standing.Context.TheVariants as context
-use Rattle.perf_base.specs.declared.reasons.Reason.{Reason}
 use Rattle.perf_base.specs.declared.reasons.Reason.TheVariants as reason
-use Rattle.stage_spec.specs.declared.instance.TaskState.TheVariants as state
-use Rattle.stage_spec.specs.Stage.{Stage, task_on, is_idle, set_running, status_of, set_status, change_context, is_copy}
-use Rattle.stage_spec.specs.Refusals.{first_of}
+use Rattle.stage_spec.specs.{Stage.{Stage, task_on, is_idle, set_running, status_of, set_status, change_context, is_copy}, Refusals.{first_of}}
 use Rattle.stage_spec.specs.Closing.{without}
+use Rattle.stage_spec.specs.declared.instance.TaskState.TheVariants as state
 
 -- no task is on
 abbrev pub exit_refusal : Stage → CpuNo → Option Reason

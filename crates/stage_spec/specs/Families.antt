@@ -1,18 +1,11 @@
 -- What an event has counted with its copies, those that have exited among them. After __perf_event_read_value and
 -- sync_child_event of kernel/events/core.c.
 use Rattle.std.specs.Prelude.{◌+◌, ◌&&◌, List, [], ◌∷◌, ◌++◌, filter}
-use Rattle.perf_base.specs.declared.numbers.CpuNo.{CpuNo}
-use Rattle.perf_base.specs.declared.numbers.EventNo.{EventNo}
-use Rattle.perf_base.specs.declared.lines.CpuLine.{CpuLine}
+use Rattle.perf_base.specs.declared.{numbers.{CpuNo.{CpuNo}, EventNo.{EventNo}}, lines.CpuLine.{CpuLine}, reply.Sums.{Sums}}
 use Rattle.perf_base.specs.declared.lines.CpuLine.TheVariants as cpu_line
-use Rattle.perf_base.specs.declared.reply.Sums.{Sums}
-use Rattle.stage_spec.specs.declared.instance.Instance.{Instance}
-use Rattle.stage_spec.specs.Hardware.{Hardware}
-use Rattle.stage_spec.specs.Stage.{Stage, groups_in, members, all_instances, is_of_family, task_on}
-use Rattle.stage_spec.specs.Verdict.{task_lists}
-use Rattle.stage_spec.specs.History.{Step, CpuStep, ToolStep, SeenStep, stage_after}
-use Rattle.stage_spec.specs.Shares.{no_sums}
-use Rattle.stage_spec.specs.Sums.{sums_of}
+use Rattle.stage_spec.specs.{declared.instance.Instance.{Instance}, Hardware.{Hardware}}
+use Rattle.stage_spec.specs.{Stage.{Stage, groups_in, members, all_instances, is_of_family, task_on}, Verdict.{task_lists}}
+use Rattle.stage_spec.specs.{History.{Step, CpuStep, ToolStep, SeenStep, stage_after}, Shares.{no_sums}, Sums.{sums_of}}
 
 -- sums added up
 abbrev pub plus : Sums → Sums → Sums

@@ -2,8 +2,7 @@
 -- of event scheduling in kernel/events/core.c and arch/x86/events/core.c. A mask is a number whose bit C says that
 -- counter C can count the event; a processor has at most 16 counters, as this project's own profile has it.
 use Rattle.std.specs.Prelude.{◌≡◌, ◌≢◌, ℕ, zero, suc, ◌<◌, Bool, true, false, not, ◌&&◌, ◌==◌, nat_eq, nat_lt, IsTrue, ◌↔◌, List, [], ◌∷◌, length, slice_index}
-use Rattle.std.specs.List.{list_any}
-use Rattle.std.specs.Int.{bit_at}
+use Rattle.std.specs.{List.{list_any}, Int.{bit_at}}
 
 -- whether the mask has the counter
 abbrev pub can_count : ℕ → ℕ → Bool

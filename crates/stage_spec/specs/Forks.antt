@@ -1,20 +1,13 @@
 -- What a fork does, after perf_event_init_task and inherit_group of kernel/events/core.c. Its refusals are this
 -- project's own profile.
 use Rattle.std.specs.Prelude.{ℕ, ◌+◌, nat_lt, true, false, List, [], ◌∷◌, filter, sum_by, Option, Some, None, if◌then◌else◌}
-use Rattle.perf_base.specs.declared.numbers.CpuNo.{CpuNo}
-use Rattle.perf_base.specs.declared.numbers.TaskNo.{TaskNo}
-use Rattle.perf_base.specs.declared.attr.Attr.{Attr}
+use Rattle.perf_base.specs.declared.{numbers.{CpuNo.{CpuNo}, TaskNo.{TaskNo}}, attr.Attr.{Attr}, standing.Own.{Own}, reasons.Reason.{Reason}}
 use Rattle.perf_base.specs.declared.standing.Context.TheVariants as context
-use Rattle.perf_base.specs.declared.standing.Own.{Own}
 use Rattle.perf_base.specs.declared.standing.Own.TheVariants as own
-use Rattle.perf_base.specs.declared.reasons.Reason.{Reason}
 use Rattle.perf_base.specs.declared.reasons.Reason.TheVariants as reason
 use Rattle.stage_spec.specs.declared.instance.Instance.{Instance}
 use Rattle.stage_spec.specs.Stage.{Stage, Group, group_size, is_idle, Lists, original_of, task_on, status_of, fresh_task, was_used, live_copies, set_status, change_context}
-use Rattle.stage_spec.specs.Effective.{is_ready}
-use Rattle.stage_spec.specs.Verdict.{task_lists}
-use Rattle.stage_spec.specs.Flags.{is_inherited}
-use Rattle.stage_spec.specs.Refusals.{first_of}
+use Rattle.stage_spec.specs.{Effective.{is_ready}, Verdict.{task_lists}, Flags.{is_inherited}, Refusals.{first_of}}
 
 -- the groups whose leaders are inherited
 abbrev pub inherited_groups : List Group → List Group

@@ -2,15 +2,10 @@
 -- the counters that can count it. After struct pmu of kernel/events/core.c; the numbering is this project's own
 -- profile.
 use Rattle.std.specs.Prelude.{ℕ, ◌<◌, ◌≤◌, ◌==◌, Bool, true, false, All, List, length, map, position, Option, Some, None, slice_index, take, replicate, ◌≡◌, ◌++◌}
-use Rattle.std.specs.Option.{unwrap_or}
-use Rattle.std.specs.Int.{bit_at}
-use Rattle.perf_base.specs.declared.numbers.CpuNo.{CpuNo}
-use Rattle.perf_base.specs.declared.numbers.CpuSet.{CpuSet}
-use Rattle.perf_base.specs.declared.attr.Kind.{Kind}
-use Rattle.perf_base.specs.declared.attr.Kind.TheVariants as kind
-use Rattle.perf_base.specs.declared.lines.PmuLine.{PmuLine}
-use Rattle.perf_base.specs.Masks.{IsMask}
+use Rattle.std.specs.{Option.{unwrap_or}, Int.{bit_at}}
+use Rattle.perf_base.specs.{declared.{numbers.{CpuNo.{CpuNo}, CpuSet.{CpuSet}}, attr.Kind.{Kind}, lines.PmuLine.{PmuLine}}, Masks.{IsMask}}
 use Rattle.perf_base.specs.Scripts.{Scripted}
+use Rattle.perf_base.specs.declared.attr.Kind.TheVariants as kind
 use Rattle.stage_spec.specs.Numbers.{numbers_below}
 
 -- the PMU of each processor, how many counters each processor of each of the four PMUs has, and the PMU and the mask of

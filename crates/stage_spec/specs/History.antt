@@ -1,29 +1,16 @@
 -- The lines that were done, and the stage that they leave. This project's own profile, after the calls of
 -- perf_event_open(2), the scheduler's calls of kernel/events/core.c, and its tick.
 use Rattle.std.specs.Prelude.{ℕ, List, [], ◌∷◌, ◌++◌, Option, Some, None}
-use Rattle.perf_base.specs.declared.numbers.CpuNo.{CpuNo}
-use Rattle.perf_base.specs.declared.numbers.RingNo.{RingNo}
-use Rattle.perf_base.specs.declared.lines.CpuLine.{CpuLine}
+use Rattle.perf_base.specs.declared.{numbers.{CpuNo.{CpuNo}, RingNo.{RingNo}}, lines.{CpuLine.{CpuLine}, ToolLine.{ToolLine}}, acts.Act.{Act}}
+use Rattle.perf_base.specs.{declared.reasons.Reason.{Reason}, Scripts.{Scripted}}
 use Rattle.perf_base.specs.declared.lines.CpuLine.TheVariants as cpu_line
-use Rattle.perf_base.specs.declared.lines.ToolLine.{ToolLine}
 use Rattle.perf_base.specs.declared.lines.ToolLine.TheVariants as tool_line
-use Rattle.perf_base.specs.declared.acts.Act.{Act}
 use Rattle.perf_base.specs.declared.acts.Act.TheVariants as act
-use Rattle.perf_base.specs.declared.reasons.Reason.{Reason}
-use Rattle.perf_base.specs.Scripts.{Scripted}
-use Rattle.stage_spec.specs.Order.{next_of_cpu, next_of_tool}
-use Rattle.stage_spec.specs.Hardware.{Hardware}
-use Rattle.stage_spec.specs.Stage.{Stage, first_stage}
-use Rattle.stage_spec.specs.Settle.{settle_all}
+use Rattle.stage_spec.specs.{Order.{next_of_cpu, next_of_tool}, Hardware.{Hardware}, Stage.{Stage, first_stage}, Settle.{settle_all}}
 use Rattle.stage_spec.specs.Opening.{open_refusal, opened}
 use Rattle.stage_spec.specs.Commands.{closed_refusal, period_refusal, command_each, enabled, disabled, targets, with_period}
-use Rattle.stage_spec.specs.Mapping.{map_refusal, output_refusal, mapped_to, output_to}
-use Rattle.stage_spec.specs.Closing.{closed}
-use Rattle.stage_spec.specs.Switching.{switch_refusal, switched}
-use Rattle.stage_spec.specs.Rotation.{rotated}
-use Rattle.stage_spec.specs.Forks.{fork_refusal, forked}
-use Rattle.stage_spec.specs.Exits.{exit_refusal, exited}
-use Rattle.stage_spec.specs.Reading.{read_refusal}
+use Rattle.stage_spec.specs.{Mapping.{map_refusal, output_refusal, mapped_to, output_to}, Closing.{closed}, Switching.{switch_refusal, switched}}
+use Rattle.stage_spec.specs.{Rotation.{rotated}, Forks.{fork_refusal, forked}, Exits.{exit_refusal, exited}, Reading.{read_refusal}}
 
 -- one step: a line of a processor or of a tool, or a look at the tail of a ring, which was seen at some place
 pub data Step : Type 0 where

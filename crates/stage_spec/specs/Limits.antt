@@ -1,11 +1,8 @@
 -- Lines whose numbers, kinds and rings keep a script's limits. This project's own profile.
 use Rattle.std.specs.Prelude.{◌≡◌, ℕ, ◌<◌, All, List, length}
-use Rattle.perf_base.specs.declared.numbers.RingNo.{RingNo}
-use Rattle.perf_base.specs.declared.numbers.TaskNo.{TaskNo}
+use Rattle.perf_base.specs.declared.numbers.{RingNo.{RingNo}, TaskNo.{TaskNo}}
 use Rattle.perf_base.specs.Scripts.{Scripted, IsScript, IsCovered, IsCpuLine, IsToolLine, HasRing}
-use Rattle.stage_spec.specs.Hardware.{Hardware, IsHardware, hardware_of}
-use Rattle.stage_spec.specs.Stage.{Stage}
-use Rattle.stage_spec.specs.History.{Step, CpuStep, ToolStep, SeenStep}
+use Rattle.stage_spec.specs.{Hardware.{Hardware, IsHardware, hardware_of}, Stage.{Stage}, History.{Step, CpuStep, ToolStep, SeenStep}}
 
 -- how many processors and hardware kinds there are, and the rings with their bytes
 pub record Limits : Type 0 where

@@ -3,15 +3,10 @@
 -- is this project's own profile.
 use Rattle.std.specs.Prelude.{◌==◌, Bool, true, false, not, ◌&&◌, [], ◌∷◌, ◌++◌, Option, Some, None, is_some, is_none, if◌then◌else◌}
 use Rattle.std.specs.List.{list_any}
-use Rattle.perf_base.specs.declared.numbers.EventNo.{EventNo}
-use Rattle.perf_base.specs.declared.numbers.RingNo.{RingNo}
-use Rattle.perf_base.specs.declared.reasons.Reason.{Reason}
+use Rattle.perf_base.specs.declared.{numbers.{EventNo.{EventNo}, RingNo.{RingNo}}, reasons.Reason.{Reason}}
 use Rattle.perf_base.specs.declared.reasons.Reason.TheVariants as reason
-use Rattle.stage_spec.specs.declared.instance.Instance.{Instance}
-use Rattle.stage_spec.specs.Flags.{is_inherited}
-use Rattle.stage_spec.specs.Places.{is_any_cpu, is_same_cpu, is_same_task}
-use Rattle.stage_spec.specs.Stage.{Stage, is_original, is_open, original_of, change_each}
-use Rattle.stage_spec.specs.Refusals.{first_of, holds_of, holds_of_both}
+use Rattle.stage_spec.specs.{declared.instance.Instance.{Instance}, Flags.{is_inherited}, Places.{is_any_cpu, is_same_cpu, is_same_task}}
+use Rattle.stage_spec.specs.{Stage.{Stage, is_original, is_open, original_of, change_each}, Refusals.{first_of, holds_of, holds_of_both}}
 
 -- the ring that an event writes to
 abbrev pub ring_of_instance : Option Instance → Option RingNo

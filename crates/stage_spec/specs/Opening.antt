@@ -2,28 +2,17 @@
 -- in kernel/events/core.c; what is this project's own profile is marked.
 use Rattle.std.specs.Prelude.{ℕ, ◌+◌, ◌==◌, nat_lt, Bool, true, false, not, ◌&&◌, ◌||◌, List, [], ◌∷◌, ◌++◌, map, Option, Some, None, is_some, if◌then◌else◌}
 use Rattle.std.specs.List.{list_any}
-use Rattle.perf_base.specs.declared.numbers.EventNo.{EventNo}
-use Rattle.perf_base.specs.declared.attr.Attr.{Attr}
-use Rattle.perf_base.specs.declared.attr.Kind.{Kind}
-use Rattle.perf_base.specs.declared.attr.TaskSel.{TaskSel}
+use Rattle.perf_base.specs.declared.{numbers.EventNo.{EventNo}, attr.{Attr.{Attr}, Kind.{Kind}, TaskSel.{TaskSel}, CpuSel.{CpuSel}}}
+use Rattle.perf_base.specs.{declared.{standing.Own.{Own}, reasons.Reason.{Reason}}, Contexts.{context_of}}
 use Rattle.perf_base.specs.declared.attr.TaskSel.TheVariants as tasks
-use Rattle.perf_base.specs.declared.attr.CpuSel.{CpuSel}
 use Rattle.perf_base.specs.declared.attr.CpuSel.TheVariants as cpus
-use Rattle.perf_base.specs.declared.standing.Own.{Own}
 use Rattle.perf_base.specs.declared.standing.Own.TheVariants as own
-use Rattle.perf_base.specs.declared.reasons.Reason.{Reason}
 use Rattle.perf_base.specs.declared.reasons.Reason.TheVariants as reason
-use Rattle.stage_spec.specs.declared.instance.Instance.{Instance}
-use Rattle.stage_spec.specs.Flags.{is_disabled, is_inherited, is_pinned, is_exclusive}
-use Rattle.stage_spec.specs.Hardware.{Hardware, pmu_of_kind, is_pmu, is_counted_on}
-use Rattle.stage_spec.specs.Places.{is_same_task, is_same_cpu}
-use Rattle.perf_base.specs.Contexts.{context_of}
+use Rattle.stage_spec.specs.{declared.instance.Instance.{Instance}, Flags.{is_disabled, is_inherited, is_pinned, is_exclusive}}
+use Rattle.stage_spec.specs.{Hardware.{Hardware, pmu_of_kind, is_pmu, is_counted_on}, Places.{is_same_task, is_same_cpu}}
 use Rattle.stage_spec.specs.Refusals.{first_of, holds_of}
 use Rattle.stage_spec.specs.Stage.{Stage, Group, members_of, group_size, alone, Lists, is_original, is_open, original_of, group_of, status_of, is_live, change_context}
-use Rattle.stage_spec.specs.Effective.{hardware_members, name_of}
-use Rattle.stage_spec.specs.Verdict.{with_masks}
-use Rattle.stage_spec.specs.Fits.{fits}
-use Rattle.stage_spec.specs.Tight.{masks_of, tight_set, shortest_unfit}
+use Rattle.stage_spec.specs.{Effective.{hardware_members, name_of}, Verdict.{with_masks}, Fits.{fits}, Tight.{masks_of, tight_set, shortest_unfit}}
 use Rattle.stage_spec.specs.Checks.{faults_of}
 
 -- whether two flags are the same

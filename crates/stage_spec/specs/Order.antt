@@ -1,13 +1,8 @@
 -- Which line an act does, and when an order is complete. This project's own profile.
 use Rattle.std.specs.Prelude.{◌≡◌, ℕ, ◌==◌, ◌≤◌, List, ◌∷◌, ◌++◌, length, take, sum, fold, count_by, Option, slice_get, if◌then◌else◌}
-use Rattle.perf_base.specs.declared.numbers.CpuNo.{CpuNo}
-use Rattle.perf_base.specs.declared.numbers.RingNo.{RingNo}
-use Rattle.perf_base.specs.declared.numbers.ToolNo.{ToolNo}
-use Rattle.perf_base.specs.declared.lines.CpuLine.{CpuLine}
-use Rattle.perf_base.specs.declared.lines.ToolLine.{ToolLine}
-use Rattle.perf_base.specs.declared.acts.Act.{Act}
+use Rattle.perf_base.specs.declared.{numbers.{CpuNo.{CpuNo}, RingNo.{RingNo}, ToolNo.{ToolNo}}, lines.{CpuLine.{CpuLine}, ToolLine.{ToolLine}}}
+use Rattle.perf_base.specs.{declared.acts.Act.{Act}, Scripts.{Scripted, lines_of_cpu, lines_of_tool}}
 use Rattle.perf_base.specs.declared.acts.Act.TheVariants as act
-use Rattle.perf_base.specs.Scripts.{Scripted, lines_of_cpu, lines_of_tool}
 pub use Rattle.perf_base.specs.Acts.{is_of_cpu, is_of_tool}
 
 -- how many lines of it some acts have done

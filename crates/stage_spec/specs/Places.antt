@@ -1,10 +1,7 @@
 -- Where an event counts: its task and its processor. After pid and cpu of perf_event_open(2).
 use Rattle.std.specs.Prelude.{◌==◌, Bool, true, false}
-use Rattle.perf_base.specs.declared.numbers.CpuNo.{CpuNo}
-use Rattle.perf_base.specs.declared.attr.Attr.{Attr}
-use Rattle.perf_base.specs.declared.attr.TaskSel.{TaskSel}
+use Rattle.perf_base.specs.declared.{numbers.CpuNo.{CpuNo}, attr.{TaskSel.{TaskSel}, CpuSel.{CpuSel}}}
 use Rattle.perf_base.specs.declared.attr.TaskSel.TheVariants as tasks
-use Rattle.perf_base.specs.declared.attr.CpuSel.{CpuSel}
 use Rattle.perf_base.specs.declared.attr.CpuSel.TheVariants as cpus
 
 -- whether an event counts all tasks, as pid -1 does, and whether it counts on any processor, as cpu -1 does

@@ -2,16 +2,11 @@
 -- of lost records comes last, and an event in error gives no word. That a sibling under a leader in error gives none
 -- either is this project's own profile.
 use Rattle.std.specs.Prelude.{ℕ, ◌*◌, ◌==◌, nat_lt, Bool, true, false, not, bit_and, List, [], ◌∷◌, ◌++◌, length, flat_map, Option, Some, None, if◌then◌else◌}
-use Rattle.perf_base.specs.declared.numbers.EventNo.{EventNo}
-use Rattle.perf_base.specs.declared.standing.Own.{Own}
+use Rattle.perf_base.specs.declared.{numbers.EventNo.{EventNo}, standing.Own.{Own}, reasons.Reason.{Reason}, reply.Sums.{Sums}}
 use Rattle.perf_base.specs.declared.standing.Own.TheVariants as own
-use Rattle.perf_base.specs.declared.reasons.Reason.{Reason}
 use Rattle.perf_base.specs.declared.reasons.Reason.TheVariants as reason
-use Rattle.perf_base.specs.declared.reply.Sums.{Sums}
-use Rattle.stage_spec.specs.declared.instance.Instance.{Instance}
-use Rattle.stage_spec.specs.Stage.{Stage, Group, members_of, group_size, is_open, original_of, group_of}
-use Rattle.stage_spec.specs.Effective.{state_in}
-use Rattle.stage_spec.specs.Refusals.{first_of, holds_of}
+use Rattle.stage_spec.specs.{declared.instance.Instance.{Instance}, Stage.{Stage, Group, members_of, group_size, is_open, original_of, group_of}}
+use Rattle.stage_spec.specs.{Effective.{state_in}, Refusals.{first_of, holds_of}}
 
 -- the words that a format asks for: PERF_FORMAT_TOTAL_TIME_ENABLED, TOTAL_TIME_RUNNING, ID, GROUP and LOST
 abbrev pub has_format : ℕ → ℕ → Bool

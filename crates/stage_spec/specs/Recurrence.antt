@@ -1,15 +1,9 @@
 -- What one more step adds to a history: to the stage, to the sums of an instance, to the folded sums of an event. This
 -- project's own profile.
 use Rattle.std.specs.Prelude.{◌≡◌, ℕ, ◌≤◌, Bool, true, false, List, [], ◌∷◌, ◌++◌}
-use Rattle.perf_base.specs.declared.numbers.EventNo.{EventNo}
-use Rattle.perf_base.specs.declared.numbers.TaskNo.{TaskNo}
-use Rattle.perf_base.specs.declared.reply.Sums.{Sums}
-use Rattle.stage_spec.specs.Hardware.{Hardware}
-use Rattle.stage_spec.specs.Stage.{Stage, first_stage}
-use Rattle.stage_spec.specs.History.{Step, stage_step, stage_after}
-use Rattle.stage_spec.specs.Shares.{share, no_sums}
-use Rattle.stage_spec.specs.Sums.{resets, sums_of}
-use Rattle.stage_spec.specs.Families.{plus, plus_each, leaving, folded_of}
+use Rattle.perf_base.specs.declared.{numbers.{EventNo.{EventNo}, TaskNo.{TaskNo}}, reply.Sums.{Sums}}
+use Rattle.stage_spec.specs.{Hardware.{Hardware}, Stage.{Stage, first_stage}, History.{Step, stage_step, stage_after}, Shares.{share, no_sums}}
+use Rattle.stage_spec.specs.{Sums.{resets, sums_of}, Families.{plus, plus_each, leaving, folded_of}}
 
 -- sums whose count is 0 after a reset
 abbrev pub after_reset : Bool → Sums → Sums

@@ -1,16 +1,10 @@
 -- What is left of an instance's period over a history. After period_left and perf_event_period of
 -- kernel/events/core.c, which restarts the remainder too.
-use Rattle.std.specs.Prelude.{◌≡◌, ℕ, ◌==◌, Bool, true, false, ◌&&◌, List, [], ◌∷◌, ◌++◌, find, Option, Some, None}
-use Rattle.std.specs.List.{list_any}
-use Rattle.perf_base.specs.declared.lines.ToolLine.{ToolLine}
+use Rattle.std.specs.{Prelude.{◌≡◌, ℕ, ◌==◌, Bool, true, false, ◌&&◌, List, [], ◌∷◌, ◌++◌, find, Option, Some, None}, List.{list_any}}
+use Rattle.perf_base.specs.declared.{lines.ToolLine.{ToolLine}, reasons.Reason.{Reason}}
 use Rattle.perf_base.specs.declared.lines.ToolLine.TheVariants as tool_line
-use Rattle.perf_base.specs.declared.reasons.Reason.{Reason}
-use Rattle.stage_spec.specs.declared.instance.Instance.{Instance}
-use Rattle.stage_spec.specs.Hardware.{Hardware}
-use Rattle.stage_spec.specs.Stage.{Stage, all_instances, is_original}
-use Rattle.stage_spec.specs.Commands.{period_refusal}
-use Rattle.stage_spec.specs.History.{Step, CpuStep, ToolStep, SeenStep, stage_step, stage_after}
-use Rattle.stage_spec.specs.Shares.{share}
+use Rattle.stage_spec.specs.{declared.instance.Instance.{Instance}, Hardware.{Hardware}, Stage.{Stage, all_instances, is_original}}
+use Rattle.stage_spec.specs.{Commands.{period_refusal}, History.{Step, CpuStep, ToolStep, SeenStep, stage_step, stage_after}, Shares.{share}}
 use Rattle.stage_spec.specs.Occurrences.{left_after}
 
 -- the instance of an id, and its present period

@@ -1,38 +1,20 @@
 -- The answer to a line. After perf_event_open(2); the order of reasons, and what WHY and SEATS answer, are this
 -- project's own profile.
-use Rattle.std.specs.Prelude.{◌≡◌, ℕ, List, [], ◌∷◌, ◌++◌, map, filter, Option, Some, None}
-use Rattle.std.specs.List.{zip}
-use Rattle.perf_base.specs.declared.numbers.CpuNo.{CpuNo}
-use Rattle.perf_base.specs.declared.numbers.EventNo.{EventNo}
-use Rattle.perf_base.specs.declared.lines.ToolLine.{ToolLine}
+use Rattle.std.specs.{Prelude.{◌≡◌, ℕ, List, [], ◌∷◌, ◌++◌, map, filter, Option, Some, None}, List.{zip}}
+use Rattle.perf_base.specs.declared.{numbers.{CpuNo.{CpuNo}, EventNo.{EventNo}}, lines.ToolLine.{ToolLine}, standing.{Context.{Context}, Own.{Own}}}
+use Rattle.perf_base.specs.declared.{standing.{Standing.{Standing}, Why.{Why}}, reasons.Reason.{Reason}, reply.{Answer.{Answer}, Reply.{Reply}}}
+use Rattle.perf_base.specs.{declared.{reply.Sums.{Sums}, acts.{Act.{Act}, Actor.{Actor}}}, Scripts.{Scripted}, Contexts.{context_of}}
 use Rattle.perf_base.specs.declared.lines.ToolLine.TheVariants as tool_line
-use Rattle.perf_base.specs.declared.standing.Context.{Context}
 use Rattle.perf_base.specs.declared.standing.Context.TheVariants as context
-use Rattle.perf_base.specs.declared.standing.Own.{Own}
 use Rattle.perf_base.specs.declared.standing.Own.TheVariants as own
-use Rattle.perf_base.specs.declared.standing.Standing.{Standing}
 use Rattle.perf_base.specs.declared.standing.Standing.TheVariants as standing
-use Rattle.perf_base.specs.declared.standing.Why.{Why}
 use Rattle.perf_base.specs.declared.standing.Why.TheVariants as why
-use Rattle.perf_base.specs.declared.reasons.Reason.{Reason}
-use Rattle.perf_base.specs.declared.reply.Answer.{Answer}
-use Rattle.perf_base.specs.declared.reply.Reply.{Reply}
 use Rattle.perf_base.specs.declared.reply.Reply.TheVariants as reply
-use Rattle.perf_base.specs.declared.reply.Sums.{Sums}
-use Rattle.perf_base.specs.declared.acts.Act.{Act}
 use Rattle.perf_base.specs.declared.acts.Act.TheVariants as act
-use Rattle.perf_base.specs.declared.acts.Actor.{Actor}
 use Rattle.perf_base.specs.declared.acts.Actor.TheVariants as actor
-use Rattle.perf_base.specs.Scripts.{Scripted}
-use Rattle.stage_spec.specs.declared.instance.Instance.{Instance}
-use Rattle.stage_spec.specs.Hardware.{Hardware, hardware_of, mask_of}
-use Rattle.stage_spec.specs.Stage.{Stage, Group, original_of, group_of, cpu_of}
-use Rattle.stage_spec.specs.Effective.{is_hardware, state_in}
-use Rattle.stage_spec.specs.Verdict.{on_instances, standing_of}
-use Rattle.stage_spec.specs.Fits.{IsAssignment}
-use Rattle.perf_base.specs.Contexts.{context_of}
-use Rattle.stage_spec.specs.Reading.{read_words}
-use Rattle.stage_spec.specs.Order.{done_by_cpu, done_by_tool}
+use Rattle.stage_spec.specs.{declared.instance.Instance.{Instance}, Hardware.{Hardware, hardware_of, mask_of}}
+use Rattle.stage_spec.specs.{Stage.{Stage, Group, original_of, group_of, cpu_of}, Effective.{is_hardware, state_in}}
+use Rattle.stage_spec.specs.{Verdict.{on_instances, standing_of}, Fits.{IsAssignment}, Reading.{read_words}, Order.{done_by_cpu, done_by_tool}}
 use Rattle.stage_spec.specs.History.{Step, CpuStep, ToolStep, SeenStep, cpu_refusal, tool_refusal, stage_after, history, opening_stage}
 use Rattle.stage_spec.specs.Families.{family_sums}
 

@@ -1,15 +1,10 @@
 -- What a tick does, after perf_rotate_context of kernel/events/core.c, which rotates each context by itself too. Which
 -- group moves is this project's own profile: the first eligible hardware group of the list, on or not.
-use Rattle.std.specs.Prelude.{Bool, true, false, not, ◌&&◌, List, [], ◌∷◌, ◌++◌, Option, Some, None}
-use Rattle.std.specs.List.{list_any}
-use Rattle.perf_base.specs.declared.numbers.CpuNo.{CpuNo}
-use Rattle.perf_base.specs.declared.numbers.TaskNo.{TaskNo}
+use Rattle.std.specs.{Prelude.{Bool, true, false, not, ◌&&◌, List, [], ◌∷◌, ◌++◌, Option, Some, None}, List.{list_any}}
+use Rattle.perf_base.specs.{declared.numbers.{CpuNo.{CpuNo}, TaskNo.{TaskNo}}, Standings.{stands_on}}
 use Rattle.perf_base.specs.declared.standing.Context.TheVariants as context
-use Rattle.stage_spec.specs.Hardware.{Hardware}
-use Rattle.stage_spec.specs.Stage.{Stage, Group, Lists, task_on, change_context}
-use Rattle.stage_spec.specs.Effective.{is_wholly_software}
+use Rattle.stage_spec.specs.{Hardware.{Hardware}, Stage.{Stage, Group, Lists, task_on, change_context}, Effective.{is_wholly_software}}
 use Rattle.stage_spec.specs.Verdict.{Judged, is_eligible, standing_among, verdicts}
-use Rattle.perf_base.specs.Standings.{stands_on}
 
 -- the first group that passes a test goes last
 abbrev pub first_goes_last : (Group → Bool) → List Group → List Group

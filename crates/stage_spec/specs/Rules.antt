@@ -3,8 +3,7 @@
 -- that a refusal carries are this project's own profile, and so is that an exclusive group looks at all hardware groups
 -- that are on, not only at those of its own context and list.
 use Rattle.std.specs.Prelude.{Bool, true, false, Option, Some, None}
-use Rattle.perf_base.specs.declared.numbers.EventNo.{EventNo}
-use Rattle.perf_base.specs.declared.standing.Rule.{Rule}
+use Rattle.perf_base.specs.declared.{numbers.EventNo.{EventNo}, standing.Rule.{Rule}}
 use Rattle.perf_base.specs.declared.standing.Rule.TheVariants as rule
 
 -- The group goes on, is refused by a rule, or is up to the counters.

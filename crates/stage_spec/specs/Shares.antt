@@ -3,26 +3,14 @@
 -- are taken off, and a migration after those of the task that comes were put on, as in perf_event_task_sched_out and
 -- perf_event_task_sched_in of include/linux/perf_event.h.
 use Rattle.std.specs.Prelude.{ℕ, ◌+◌, ◌==◌, Bool, true, false, not, ◌&&◌, List, find, flat_map, Option, Some, None, slice_index, if◌then◌else◌}
-use Rattle.perf_base.specs.declared.numbers.CpuNo.{CpuNo}
-use Rattle.perf_base.specs.declared.numbers.TaskNo.{TaskNo}
-use Rattle.perf_base.specs.declared.attr.Attr.{Attr}
-use Rattle.perf_base.specs.declared.attr.Kind.{Kind}
+use Rattle.perf_base.specs.declared.{numbers.{CpuNo.{CpuNo}, TaskNo.{TaskNo}}, attr.{Attr.{Attr}, Kind.{Kind}}, lines.{Mode.{Mode}, Work.{Work}}}
+use Rattle.perf_base.specs.declared.{lines.CpuLine.{CpuLine}, reasons.Reason.{Reason}, reply.Sums.{Sums}}
 use Rattle.perf_base.specs.declared.attr.Kind.TheVariants as kind
-use Rattle.perf_base.specs.declared.lines.Mode.{Mode}
 use Rattle.perf_base.specs.declared.lines.Mode.TheVariants as mode
-use Rattle.perf_base.specs.declared.lines.Work.{Work}
-use Rattle.perf_base.specs.declared.lines.CpuLine.{CpuLine}
 use Rattle.perf_base.specs.declared.lines.CpuLine.TheVariants as cpu_line
-use Rattle.perf_base.specs.declared.reasons.Reason.{Reason}
-use Rattle.perf_base.specs.declared.reply.Sums.{Sums}
-use Rattle.stage_spec.specs.declared.instance.Instance.{Instance}
-use Rattle.stage_spec.specs.Flags.{excludes_user, excludes_kernel}
-use Rattle.stage_spec.specs.Hardware.{Hardware}
-use Rattle.stage_spec.specs.Stage.{Stage, task_on}
-use Rattle.stage_spec.specs.Effective.{ready_members}
-use Rattle.stage_spec.specs.Verdict.{passes, on_instances}
-use Rattle.stage_spec.specs.Switching.{is_running, is_migration, switch_refusal}
-use Rattle.stage_spec.specs.History.{Step, CpuStep, ToolStep, SeenStep, stage_step}
+use Rattle.stage_spec.specs.{declared.instance.Instance.{Instance}, Flags.{excludes_user, excludes_kernel}, Hardware.{Hardware}}
+use Rattle.stage_spec.specs.{Stage.{Stage, task_on}, Effective.{ready_members}, Verdict.{passes, on_instances}}
+use Rattle.stage_spec.specs.{Switching.{is_running, is_migration, switch_refusal}, History.{Step, CpuStep, ToolStep, SeenStep, stage_step}}
 
 -- the instances whose context is on a processor and that are effectively ready, on or not, in pass order
 abbrev pub ready_instances : Stage → CpuNo → List Instance

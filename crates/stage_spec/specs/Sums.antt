@@ -1,15 +1,10 @@
 -- What an instance has counted over a whole history. After perf_event_count, total_time_enabled and
 -- total_time_running of kernel/events/core.c, and PERF_EVENT_IOC_RESET of perf_event_open(2).
-use Rattle.std.specs.Prelude.{ℕ, ◌+◌, ◌==◌, Bool, false, ◌&&◌, ◌||◌, List, [], ◌∷◌, if◌then◌else◌}
-use Rattle.std.specs.List.{list_any}
-use Rattle.perf_base.specs.declared.lines.ToolLine.{ToolLine}
+use Rattle.std.specs.{Prelude.{ℕ, ◌+◌, ◌==◌, Bool, false, ◌&&◌, ◌||◌, List, [], ◌∷◌, if◌then◌else◌}, List.{list_any}}
+use Rattle.perf_base.specs.declared.{lines.ToolLine.{ToolLine}, reply.Sums.{Sums}}
 use Rattle.perf_base.specs.declared.lines.ToolLine.TheVariants as tool_line
-use Rattle.perf_base.specs.declared.reply.Sums.{Sums}
-use Rattle.stage_spec.specs.Hardware.{Hardware}
-use Rattle.stage_spec.specs.Stage.{Stage, all_instances, is_open}
-use Rattle.stage_spec.specs.Commands.{targets, is_reached}
-use Rattle.stage_spec.specs.History.{Step, CpuStep, ToolStep, SeenStep, stage_step}
-use Rattle.stage_spec.specs.Shares.{share}
+use Rattle.stage_spec.specs.{Hardware.{Hardware}, Stage.{Stage, all_instances, is_open}, Commands.{targets, is_reached}}
+use Rattle.stage_spec.specs.{History.{Step, CpuStep, ToolStep, SeenStep, stage_step}, Shares.{share}}
 
 -- whether a step is a reset that is not refused and reaches the instance of an id
 abbrev pub line_resets : Stage → ToolLine → ℕ → Bool

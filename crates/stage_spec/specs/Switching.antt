@@ -1,9 +1,7 @@
 -- What a switch does, after perf_event_task_sched_out and perf_event_task_sched_in of kernel/events/core.c. Its
 -- refusals are this project's own profile.
 use Rattle.std.specs.Prelude.{◌==◌, Bool, true, false, not, [], ◌∷◌, Option, Some, None}
-use Rattle.perf_base.specs.declared.numbers.CpuNo.{CpuNo}
-use Rattle.perf_base.specs.declared.numbers.TaskNo.{TaskNo}
-use Rattle.perf_base.specs.declared.reasons.Reason.{Reason}
+use Rattle.perf_base.specs.declared.{numbers.{CpuNo.{CpuNo}, TaskNo.{TaskNo}}, reasons.Reason.{Reason}}
 use Rattle.perf_base.specs.declared.reasons.Reason.TheVariants as reason
 use Rattle.stage_spec.specs.Stage.{Stage, task_on, cpu_of, status_of, is_live, is_task, is_idle, set_running, set_status}
 use Rattle.stage_spec.specs.Refusals.{first_of, holds_of}

@@ -1,18 +1,9 @@
 -- What a table says of an event after some acts of a script: whether it is there, what its family has counted, whether
 -- it is in error, and what it counts. After perf_event_open(2) and the rows of perf stat.
 use Rattle.std.specs.Prelude.{Bool, false, List, option_map, Option, Some, None, if◌then◌else◌}
-use Rattle.perf_base.specs.declared.acts.Act.{Act}
-use Rattle.perf_base.specs.declared.attr.Kind.{Kind}
-use Rattle.perf_base.specs.declared.numbers.EventNo.{EventNo}
-use Rattle.perf_base.specs.declared.reply.Sums.{Sums}
-use Rattle.perf_base.specs.Scripts.{Scripted}
-use Rattle.stage_spec.specs.declared.instance.Instance.{Instance}
-use Rattle.stage_spec.specs.Effective.{state_in}
-use Rattle.stage_spec.specs.Families.{family_sums}
-use Rattle.stage_spec.specs.Hardware.{hardware_of}
-use Rattle.stage_spec.specs.History.{history, opening_stage, stage_after}
-use Rattle.stage_spec.specs.Reading.{is_error}
-use Rattle.stage_spec.specs.Stage.{Stage, Group, group_of, is_open, original_of}
+use Rattle.perf_base.specs.{declared.{acts.Act.{Act}, attr.Kind.{Kind}, numbers.EventNo.{EventNo}, reply.Sums.{Sums}}, Scripts.{Scripted}}
+use Rattle.stage_spec.specs.{declared.instance.Instance.{Instance}, Effective.{state_in}, Families.{family_sums}, Hardware.{hardware_of}}
+use Rattle.stage_spec.specs.{History.{history, opening_stage, stage_after}, Reading.{is_error}, Stage.{Stage, Group, group_of, is_open, original_of}}
 
 -- the stage after some acts of a script, and what an event has counted by then with its copies, those that have exited
 -- among them; none where it is not open

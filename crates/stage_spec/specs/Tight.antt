@@ -1,7 +1,6 @@
 -- Which events are to blame where a list of events does not fit. This project's own profile, after Hall's
 -- theorem. An event stands with its mask.
-use Rattle.std.specs.Prelude.{◌≡◌, ℕ, ◌+◌, true, false, IsTrue, List, [], ◌∷◌, ◌++◌, length, map, count_by, if◌then◌else◌}
-use Rattle.std.specs.List.{list_any}
+use Rattle.std.specs.{Prelude.{◌≡◌, ℕ, ◌+◌, true, false, IsTrue, List, [], ◌∷◌, ◌++◌, length, map, count_by, if◌then◌else◌}, List.{list_any}}
 use Rattle.perf_base.specs.declared.numbers.EventNo.{EventNo}
 use Rattle.stage_spec.specs.Fits.{can_count, fits}
 

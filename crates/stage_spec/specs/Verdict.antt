@@ -2,23 +2,15 @@
 -- merge_sched_in of kernel/events/core.c; whom a refusal names is this project's own profile.
 use Rattle.std.specs.Prelude.{ℕ, ◌==◌, Bool, true, false, not, ◌&&◌, List, [], ◌∷◌, ◌++◌, map, filter, find, flat_map, Option, Some, None, option_map}
 use Rattle.std.specs.List.{list_all}
-use Rattle.perf_base.specs.declared.numbers.CpuNo.{CpuNo}
-use Rattle.perf_base.specs.declared.numbers.EventNo.{EventNo}
-use Rattle.perf_base.specs.declared.numbers.TaskNo.{TaskNo}
-use Rattle.perf_base.specs.declared.standing.Context.{Context}
+use Rattle.perf_base.specs.declared.{numbers.{CpuNo.{CpuNo}, EventNo.{EventNo}, TaskNo.{TaskNo}}, standing.{Context.{Context}, Standing.{Standing}}}
+use Rattle.perf_base.specs.Standings.{stands_on, stands_refused}
 use Rattle.perf_base.specs.declared.standing.Context.TheVariants as context
 use Rattle.perf_base.specs.declared.standing.Cause.TheVariants as cause
-use Rattle.perf_base.specs.declared.standing.Standing.{Standing}
-use Rattle.perf_base.specs.Standings.{stands_on, stands_refused}
 use Rattle.perf_base.specs.declared.standing.Standing.TheVariants as standing
-use Rattle.stage_spec.specs.declared.instance.Instance.{Instance}
-use Rattle.stage_spec.specs.Hardware.{Hardware, mask_of, is_counted_on}
-use Rattle.stage_spec.specs.Places.{may_count_on}
+use Rattle.stage_spec.specs.{declared.instance.Instance.{Instance}, Hardware.{Hardware, mask_of, is_counted_on}, Places.{may_count_on}}
 use Rattle.stage_spec.specs.Stage.{Stage, Group, members_of, members, Lists, lists_of, groups_in, no_groups, task_on}
 use Rattle.stage_spec.specs.Effective.{is_ready, name_of, is_wholly_software, is_exclusive_group, counted_members}
-use Rattle.stage_spec.specs.Rules.{Ruling, GoesOn, Refuses, AsksCounters, ruling_of}
-use Rattle.stage_spec.specs.Fits.{fits}
-use Rattle.stage_spec.specs.Tight.{masks_of, tight_set, shortest_unfit}
+use Rattle.stage_spec.specs.{Rules.{Ruling, GoesOn, Refuses, AsksCounters, ruling_of}, Fits.{fits}, Tight.{masks_of, tight_set, shortest_unfit}}
 
 -- A group of a context that is on a processor may go on there where its leader is ready, its place is any processor or
 -- that one, and its hardware members are of that processor's PMU.

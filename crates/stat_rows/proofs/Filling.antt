@@ -1,15 +1,8 @@
 -- The rows of one slot more.
 use Rattle.std.specs.Prelude.{◌≡◌, ℕ, suc, ◌+◌, Bool, true, false, List, [], ◌∷◌, ◌++◌, cond, filter, map, Option, Some, None, if◌then◌else◌}
-use Rattle.std.proofs.Common.{ap, arith, refl, sym, ◌∙◌}
-use Rattle.std.proofs.lemmas.List.{map-append}
-use Rattle.std.proofs.lemmas.List.Elements.{filter-append}
-use Rattle.perf_base.specs.declared.acts.Act.{Act}
-use Rattle.perf_base.specs.declared.numbers.EventNo.{EventNo}
-use Rattle.perf_base.specs.declared.reply.Sums.{Sums}
-use Rattle.perf_base.specs.Scripts.{Scripted}
-use Rattle.stage_spec.specs.Numbers.{numbers_below}
-use Rattle.stage_spec.specs.Stage.{is_open}
-use Rattle.stage_spec.specs.Tables.{stage_in, family_in, family_if_open}
+use Rattle.std.proofs.{Common.{ap, arith, refl, sym, ◌∙◌}, lemmas.List.{map-append, Elements.{filter-append}}}
+use Rattle.perf_base.specs.{declared.{acts.Act.{Act}, numbers.EventNo.{EventNo}, reply.Sums.{Sums}}, Scripts.{Scripted}}
+use Rattle.stage_spec.specs.{Numbers.{numbers_below}, Stage.{is_open}, Tables.{stage_in, family_in, family_if_open}}
 use Rattle.stat_table.specs.declared.row.StatRow.{StatRow}
 use Rattle.stat_rows.specs.Rows.{open_below, row_of, slots_below}
 

@@ -1,20 +1,11 @@
 -- The slots of rows rise, and the rows are as many as the open slots.
 use Rattle.std.specs.Prelude.{◌≡◌, ℕ, zero, suc, ◌<◌, All, AllPairs, List, count_by, length, map}
-use Rattle.std.proofs.Common.{ap, arith, get_or, subst, sym, ◌∙◌}
-use Rattle.std.proofs.lemmas.List.{get_or-map, length-map}
-use Rattle.std.proofs.lemmas.List.Elements.{All-push, All-weaker}
-use Rattle.std.proofs.lemmas.List.Kept.{AllPairs-filter}
-use Rattle.std.proofs.lemmas.List.Quantifiers.{all_pairs_push}
-use Rattle.std.proofs.lemmas.List.Sums.{length-filter}
-use Rattle.perf_base.specs.declared.acts.Act.{Act}
-use Rattle.perf_base.specs.declared.numbers.EventNo.{EventNo}
-use Rattle.perf_base.specs.Scripts.{Scripted}
-use Rattle.stage_spec.specs.Stage.{is_open}
+use Rattle.std.proofs.{Common.{ap, arith, get_or, subst, sym, ◌∙◌}, lemmas.List.{get_or-map, length-map, Elements.{All-push, All-weaker}}}
+use Rattle.std.proofs.lemmas.List.{Kept.{AllPairs-filter}, Quantifiers.{all_pairs_push}, Sums.{length-filter}}
+use Rattle.perf_base.specs.{declared.{acts.Act.{Act}, numbers.EventNo.{EventNo}}, Scripts.{Scripted}}
+use Rattle.stage_spec.specs.{Stage.{is_open}, Tables.{stage_in}}
 use Rattle.stat_table.specs.declared.row.StatRow.{StatRow}
-use Rattle.stage_spec.specs.Tables.{stage_in}
-use Rattle.stat_rows.specs.Laws.{CountLaw, RisingLaw}
-use Rattle.stat_rows.specs.Rows.{open_below, row_of, slots_below}
-use Rattle.stat_rows.proofs.Filling.{slot, slots-more}
+use Rattle.stat_rows.{specs.{Laws.{CountLaw, RisingLaw}, Rows.{open_below, row_of, slots_below}}, proofs.Filling.{slot, slots-more}}
 
 abbrev IsBelow : ℕ → EventNo → Type 0
 IsBelow n e = e.0 < n

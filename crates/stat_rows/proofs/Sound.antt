@@ -1,19 +1,10 @@
 -- The stage after any acts of a script is sound.
-use Rattle.std.specs.Prelude.{All, List, [], ◌∷◌}
-use Rattle.std.proofs.lemmas.List.Elements.{All-head, All-tail}
-use Rattle.perf_base.specs.declared.acts.Act.{Act}
-use Rattle.perf_base.specs.Scripts.{IsCovered, IsScript, Scripted}
-use Rattle.stage_spec.specs.Hardware.{Hardware, hardware_of}
-use Rattle.stage_spec.specs.History.{Step, history, opening_stage, stage_after, stage_step}
-use Rattle.stage_spec.specs.Limits.{IsMachine, Limits, limits_of}
-use Rattle.stage_spec.specs.Stage.{Stage}
-use Rattle.stage_spec.proofs.Machines.{script_machine}
-use Rattle.stage_laws.specs.Bounds.{IsLineWithin}
-use Rattle.stage_laws.specs.Sound.{IsSound}
-use Rattle.stage_laws.proofs.BoundsWhole.{line_sound}
-use Rattle.stage_laws.proofs.Sound.{first_sound}
+use Rattle.std.{specs.Prelude.{All, List, [], ◌∷◌}, proofs.lemmas.List.Elements.{All-head, All-tail}}
+use Rattle.perf_base.specs.{declared.acts.Act.{Act}, Scripts.{IsCovered, IsScript, Scripted}}
+use Rattle.stage_spec.specs.{Hardware.{Hardware, hardware_of}, History.{Step, history, opening_stage, stage_after, stage_step}}
+use Rattle.stage_spec.{specs.{Limits.{IsMachine, Limits, limits_of}, Stage.{Stage}, Tables.{stage_in}}, proofs.Machines.{script_machine}}
+use Rattle.stage_laws.{specs.{Bounds.{IsLineWithin}, Sound.{IsSound}}, proofs.{BoundsWhole.{line_sound}, Sound.{first_sound}}}
 use Rattle.ring_laws.proofs.Orders.{within}
-use Rattle.stage_spec.specs.Tables.{stage_in}
 
 steps-sound : (l : Limits) (hw : Hardware) (s : Stage) (steps : List Step) → IsMachine l hw → All (IsLineWithin l) steps → IsSound hw s → IsSound hw (stage_after hw s steps)
 unfolding stage_after

@@ -1,22 +1,12 @@
 -- Each event that is open after acts of a script has its row.
 use Rattle.std.specs.Prelude.{◌≡◌, ℕ, zero, suc, ◌<◌, ◌==◌, Bool, true, false, not, Contains, List, [], ◌∷◌, ◌++◌, cond, filter, map}
-use Rattle.std.proofs.Common.{ap, arith, inl, inr, subst, sym, ◌∙◌}
-use Rattle.std.proofs.lemmas.Bool.{and_parts, cases_lt, eqb-true}
-use Rattle.std.proofs.lemmas.List.{get_or-map, length-map}
+use Rattle.std.proofs.{Common.{ap, arith, inl, inr, subst, sym, ◌∙◌}, lemmas.{Bool.{and_parts, cases_lt, eqb-true}, List.{get_or-map, length-map}}}
 use Rattle.std.proofs.lemmas.List.Elements.{Contains-append_left, Contains-append_right, Contains-push}
-use Rattle.perf_base.specs.declared.acts.Act.{Act}
-use Rattle.perf_base.specs.declared.numbers.EventNo.{EventNo}
-use Rattle.perf_base.specs.Scripts.{Scripted}
-use Rattle.stage_spec.specs.declared.instance.Instance.{Instance}
-use Rattle.stage_spec.specs.Hardware.{hardware_of}
-use Rattle.stage_spec.specs.Stage.{all_instances, is_open, is_original}
-use Rattle.stage_spec.proofs.Present.{Found, any-found, each_at}
+use Rattle.perf_base.specs.{declared.{acts.Act.{Act}, numbers.EventNo.{EventNo}}, Scripts.{Scripted}}
+use Rattle.stage_spec.specs.{declared.instance.Instance.{Instance}, Hardware.{hardware_of}, Stage.{all_instances, is_open, is_original}}
+use Rattle.stage_spec.{specs.Tables.{stage_in}, proofs.Present.{Found, any-found, each_at}}
 use Rattle.stage_laws.specs.Sound.{IsSound}
-use Rattle.stage_spec.specs.Tables.{stage_in}
-use Rattle.stat_rows.specs.Laws.{EachLaw}
-use Rattle.stat_rows.specs.Rows.{open_below, row_of, slots_below}
-use Rattle.stat_rows.proofs.Filling.{slot, slots-more}
-use Rattle.stat_rows.proofs.Sound.{acts-sound}
+use Rattle.stat_rows.{specs.{Laws.{EachLaw}, Rows.{open_below, row_of, slots_below}}, proofs.{Filling.{slot, slots-more}, Sound.{acts-sound}}}
 
 has-slot : (n : ℕ) (e : EventNo) → e.0 < n → Contains (slots_below n) e
 has-slot zero e low = absurd (omega (arith, low))

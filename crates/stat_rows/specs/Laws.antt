@@ -1,10 +1,7 @@
 -- What holds of the rows after any acts of a script. This project's own profile.
 use Rattle.std.specs.Prelude.{◌≡◌, ◌<◌, true, AllPairs, Contains, List, count_by, length}
-use Rattle.perf_base.specs.declared.acts.Act.{Act}
-use Rattle.perf_base.specs.declared.numbers.EventNo.{EventNo}
-use Rattle.perf_base.specs.Scripts.{IsCovered, IsScript, Scripted}
-use Rattle.stage_spec.specs.Stage.{is_open}
-use Rattle.stage_spec.specs.Tables.{stage_in}
+use Rattle.perf_base.specs.{declared.{acts.Act.{Act}, numbers.EventNo.{EventNo}}, Scripts.{IsCovered, IsScript, Scripted}}
+use Rattle.stage_spec.specs.{Stage.{is_open}, Tables.{stage_in}}
 use Rattle.stat_rows.specs.Rows.{row_of, rows_of, slots_below}
 
 -- The slots of the rows rise.

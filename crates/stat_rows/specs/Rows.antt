@@ -1,14 +1,9 @@
 -- The rows of the table that perf stat would print, after some acts of a script. This project's own profile, after perf
 -- stat, which has a row for each event that it has opened.
-use Rattle.std.specs.Prelude.{ℕ, List, [], filter, map, option_map}
-use Rattle.std.specs.Option.{unwrap_or}
-use Rattle.perf_base.specs.declared.acts.Act.{Act}
-use Rattle.perf_base.specs.declared.numbers.EventNo.{EventNo}
-use Rattle.perf_base.specs.Scripts.{Scripted}
+use Rattle.std.specs.{Prelude.{ℕ, List, [], filter, map, option_map}, Option.{unwrap_or}}
+use Rattle.perf_base.specs.{declared.{acts.Act.{Act}, numbers.EventNo.{EventNo}}, Scripts.{Scripted}}
 use Rattle.script_spec.specs.Printing.{kind_name}
-use Rattle.stage_spec.specs.Numbers.{numbers_below}
-use Rattle.stage_spec.specs.Stage.{Stage, is_open}
-use Rattle.stage_spec.specs.Tables.{stage_in, family_in, in_error, kind_in}
+use Rattle.stage_spec.specs.{Numbers.{numbers_below}, Stage.{Stage, is_open}, Tables.{stage_in, family_in, in_error, kind_in}}
 use Rattle.stat_table.specs.declared.row.StatRow.{StatRow}
 
 -- The name of what an event counts, as the script writes it. An event that is not open has none.

@@ -1,8 +1,7 @@
 -- Quotients are the greatest numbers of their kind.
 use Rattle.std.proofs.Common.{◌≡◌, ℕ, zero, suc, ◌*◌, ◌/◌, ◌≤◌, ◌<◌, false, eqb, None, Some, arith, refl}
+use Rattle.std.proofs.{Math.Nat.{div-mul-le_self, le-div_iff_mul-le, div-le_of_le-mul, mul-le-mul_left}, lemmas.Bool.{ne_eqb}}
 use Rattle.std.specs.Prelude.{◌==◌, if◌then◌else◌, MatchOption, IfSome}
-use Rattle.std.proofs.Math.Nat.{div-mul-le_self, le-div_iff_mul-le, div-le_of_le-mul, mul-le-mul_left}
-use Rattle.std.proofs.lemmas.Bool.{ne_eqb}
 use Rattle.stat_table.specs.Estimates.{IsGreatest, EstimateLaw, ShareLaw, PartTimeLaw}
 
 quotient : (n m : ℕ) → 0 < m → IsGreatest (λ q. q * m ≤ n) (n / m)

@@ -1,17 +1,9 @@
 -- Rows, and the pieces in which a row is written.
-use Rattle.std.proofs.Common.{◌≡◌, ℕ, ◌+◌, ◌-◌, ◌<◌, List, [], ◌∷◌, ◌++◌, length, get_or, take, drop, Option, Result, Ok, Err}
-use Rattle.std.proofs.Common.{sym, ap, ◌∙◌, append_assoc, add-one}
-use Rattle.std.specs.Prelude.{replicate, flat_map, codes, decimal}
-use Rattle.std.specs.Result.{IsErr}
-use Rattle.std.proofs.Math.Seq.{drop-cons}
-use Rattle.std.proofs.lemmas.List.{append-nil, take_more, take-append-drop}
-use Rattle.std.proofs.lemmas.List.Concat.{flat_map-append, flat_map-cons}
-use Rattle.perf_io.specs.Outside.{SinkShows}
-use Rattle.perf_io.specs.Wrote.{Wrote}
-use Rattle.perf_io.specs.declared.outside.Failed.{Failed}
-use Rattle.perf_io.proofs.Wrote.{wrote_then, wrote_exit, wrote_text}
-use Rattle.stat_table.specs.declared.row.StatRow.{StatRow}
-use Rattle.stat_table.specs.Table.{right, numbers_text, row_text}
+use Rattle.std.proofs.Common.{◌≡◌, ℕ, ◌+◌, ◌-◌, ◌<◌, List, [], ◌∷◌, ◌++◌, length, get_or, take, drop, Result, Ok, Err}
+use Rattle.std.proofs.{Common.{sym, ap, ◌∙◌, append_assoc, add-one}, Math.Seq.{drop-cons}, lemmas.List.{append-nil, take_more, take-append-drop}}
+use Rattle.std.{proofs.lemmas.List.Concat.{flat_map-append, flat_map-cons}, specs.{Prelude.{replicate, flat_map, codes, decimal}, Result.{IsErr}}}
+use Rattle.perf_io.{specs.{Outside.{SinkShows}, Wrote.{Wrote}, declared.outside.Failed.{Failed}}, proofs.Wrote.{wrote_then, wrote_exit, wrote_text}}
+use Rattle.stat_table.specs.{declared.row.StatRow.{StatRow}, Table.{right, numbers_text, row_text}}
 
 regrouped : (slot space name spaces numbers end : List ℕ)
     → slot ++ space ++ name ++ (spaces ++ numbers ++ end) ≡ slot ++ space ++ (name ++ spaces) ++ numbers ++ end

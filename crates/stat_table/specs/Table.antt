@@ -1,8 +1,6 @@
 -- The text of the table. This project's own profile, after what perf stat prints.
-use Rattle.std.specs.Prelude.{ℕ, ◌-◌, ◌/◌, ◌%◌, Bool, true, false, List, ◌++◌, length, replicate, flat_map}
-use Rattle.std.specs.Prelude.{codes, decimal, Option, Some, None}
-use Rattle.stat_table.specs.declared.row.StatRow.{StatRow}
-use Rattle.stat_table.specs.Estimates.{estimate_of, share_of}
+use Rattle.std.specs.Prelude.{ℕ, ◌-◌, ◌/◌, ◌%◌, Bool, true, false, List, ◌++◌, length, replicate, flat_map, codes, decimal, Option, Some, None}
+use Rattle.stat_table.specs.{declared.row.StatRow.{StatRow}, Estimates.{estimate_of, share_of}}
 
 -- An entry at the right end of a column of a given width. A longer one is written whole.
 abbrev pub right : ℕ → List ℕ → List ℕ

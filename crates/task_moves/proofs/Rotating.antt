@@ -1,36 +1,20 @@
 -- The rotation of a tick by both contexts, what it turns, and that other processors stand as they stood.
 use Rattle.std.specs.Prelude.{◌≡◌, ◌≢◌, ◌<◌, ◌==◌, true, false, not, [], ◌∷◌, map, filter, Option, Some, None, slice_index_or, nat_lt, if◌then◌else◌}
-use Rattle.std.specs.FinMap.{get}
-use Rattle.std.specs.Option.{unwrap_or}
-use Rattle.std.proofs.Common.{arith, refl, sym, ap, subst, ◌∙◌, inl, inr}
-use Rattle.std.proofs.lemmas.Bool.{cases_lt, false≢true}
-use Rattle.std.proofs.lemmas.Bool.Decides.{nat_tests}
-use Rattle.std.proofs.lemmas.List.{get_or_past, get_or-set_other}
-use Rattle.perf_base.specs.declared.numbers.CpuNo.{CpuNo}
-use Rattle.perf_base.specs.declared.numbers.Key.{Key}
-use Rattle.perf_base.specs.declared.numbers.TaskNo.{TaskNo}
-use Rattle.perf_base.specs.declared.standing.Context.{Context}
+use Rattle.std.{specs.{FinMap.{get}, Option.{unwrap_or}}, proofs.Common.{arith, refl, sym, ap, subst, ◌∙◌, inl, inr}}
+use Rattle.std.proofs.lemmas.{Bool.{cases_lt, false≢true, Decides.{nat_tests}}, List.{get_or_past, get_or-set_other}}
+use Rattle.perf_base.specs.declared.{numbers.{CpuNo.{CpuNo}, Key.{Key}, TaskNo.{TaskNo}}, standing.Context.{Context}}
 use Rattle.perf_base.specs.declared.standing.Context.TheVariants as context
 use Rattle.perf_base.specs.declared.standing.Standing.TheVariants as standing
-use Rattle.stage_spec.specs.Hardware.{Hardware}
-use Rattle.stage_spec.specs.Rotation.{takes_turns, turn_task, rotated}
-use Rattle.stage_spec.specs.Stage.{Stage, place_of, task_on, status_of, unknown_task, is_live, is_task}
-use Rattle.stage_spec.specs.History.{stage_step}
+use Rattle.stage_spec.specs.{Hardware.{Hardware}, Rotation.{takes_turns, turn_task, rotated}}
+use Rattle.stage_spec.specs.{Stage.{Stage, place_of, task_on, status_of, unknown_task, is_live, is_task}, History.{stage_step}}
 use Rattle.stage_spec.specs.Verdict.{is_eligible, passes, verdicts}
-use Rattle.stage_laws.specs.Narrowing.{has_context}
-use Rattle.stage_laws.specs.Standings.{brief_of}
-use Rattle.stage_laws.specs.Turns.{flexible_of, is_waiting, ticked, IsTurned}
+use Rattle.stage_laws.specs.{Narrowing.{has_context}, Standings.{brief_of}, Turns.{flexible_of, is_waiting, ticked, IsTurned}}
 use Rattle.stage_laws.proofs.Turns.{tick_turns, settle_all-flexible}
 use Rattle.counter_match.specs.Seating.{empty_seating}
-use Rattle.world_spec.specs.Kept.{post_at, leads, IsKept}
-use Rattle.world_spec.specs.Listings.{pass_leaders, task_leaders}
-use Rattle.world_spec.specs.Rescheduled.{IsJudged, IsUntouched}
-use Rattle.world_spec.specs.StageOf.{group_at, stage_of}
-use Rattle.world_spec.specs.Value.{World, no_leaders, leaders_of, entry_at, times}
-use Rattle.world_spec.proofs.Listings.{passes-are}
+use Rattle.world_spec.specs.{Kept.{post_at, leads, IsKept}, Listings.{pass_leaders, task_leaders}, Rescheduled.{IsJudged, IsUntouched}}
+use Rattle.world_spec.{specs.{StageOf.{group_at, stage_of}, Value.{World, no_leaders, leaders_of, entry_at, times}}, proofs.Listings.{passes-are}}
 use Rattle.world_spec.proofs.Standing.{left-untouched}
-use Rattle.task_moves.specs.Turning.{turn_keys, turn_in, turn_of_task, turned_world}
-use Rattle.task_moves.proofs.Turning.{turn-stage, flexible-once, waits-same}
+use Rattle.task_moves.{specs.Turning.{turn_keys, turn_in, turn_of_task, turned_world}, proofs.Turning.{turn-stage, flexible-once, waits-same}}
 
 -- a processor's place, and a task's
 own-place : (cpu : CpuNo) → cpu.0 < 8 → place_of (context.Processor cpu) ≡ cpu.0

@@ -1,36 +1,19 @@
 -- That a switch is one of a task that is free, and that other processors stand as they stood.
 use Rattle.std.specs.Prelude.{◌≡◌, ◌≢◌, ◌<◌, ◌==◌, Bool, true, false, not, [], ◌∷◌, map, filter, Option, Some, None, slice_index_or, slice_set}
-use Rattle.std.specs.FinMap.{get}
-use Rattle.std.specs.Option.{unwrap_or}
-use Rattle.std.proofs.Common.{refl, sym, ap, subst, ◌∙◌}
-use Rattle.std.proofs.lemmas.Bool.{false≢true}
+use Rattle.std.{specs.{FinMap.{get}, Option.{unwrap_or}}, proofs.{Common.{refl, sym, ap, subst, ◌∙◌}, lemmas.Bool.{false≢true}}}
 use Rattle.std.proofs.lemmas.List.{get_or-set_other}
-use Rattle.perf_base.specs.declared.numbers.CpuNo.{CpuNo}
-use Rattle.perf_base.specs.declared.numbers.Key.{Key}
-use Rattle.perf_base.specs.declared.numbers.TaskNo.{TaskNo}
-use Rattle.perf_base.specs.declared.reasons.Reason.{Reason}
+use Rattle.perf_base.specs.declared.{numbers.{CpuNo.{CpuNo}, Key.{Key}, TaskNo.{TaskNo}}, reasons.Reason.{Reason}, standing.Context.{Context}}
 use Rattle.perf_base.specs.declared.reasons.Reason.TheVariants as reason
-use Rattle.perf_base.specs.declared.standing.Context.{Context}
 use Rattle.perf_base.specs.declared.standing.Context.TheVariants as context
 use Rattle.perf_base.specs.declared.standing.Standing.TheVariants as standing
-use Rattle.stage_spec.specs.Hardware.{Hardware}
-use Rattle.stage_spec.specs.Refusals.{first_of, holds_of}
-use Rattle.stage_spec.specs.Stage.{Stage, lists_of, task_on, cpu_of, status_of, is_live, is_task}
-use Rattle.stage_spec.specs.declared.instance.TaskState.{TaskState}
+use Rattle.stage_spec.specs.{Hardware.{Hardware}, Refusals.{first_of, holds_of}}
+use Rattle.stage_spec.specs.{Stage.{Stage, lists_of, task_on, cpu_of, status_of, is_live, is_task}, declared.instance.TaskState.{TaskState}}
+use Rattle.stage_spec.specs.{Switching.{is_running, switch_refusal, put_on, switched}, Verdict.{is_eligible, passes, task_lists}}
 use Rattle.stage_spec.specs.declared.instance.TaskState.TheVariants as state
-use Rattle.stage_spec.specs.Switching.{is_running, switch_refusal, put_on, switched}
-use Rattle.stage_spec.specs.Verdict.{is_eligible, passes, task_lists}
-use Rattle.stage_laws.specs.Narrowing.{has_context}
-use Rattle.stage_laws.specs.Standings.{brief_of}
-use Rattle.stage_laws.proofs.Tasks.{free-task}
+use Rattle.stage_laws.{specs.{Narrowing.{has_context}, Standings.{brief_of}}, proofs.Tasks.{free-task}}
 use Rattle.counter_match.specs.Seating.{empty_seating}
-use Rattle.world_spec.specs.Changes.{place}
-use Rattle.world_spec.specs.Kept.{post_at, leads, IsKept}
-use Rattle.world_spec.specs.Laws.{IsFree}
-use Rattle.world_spec.specs.Rescheduled.{IsUntouched}
-use Rattle.world_spec.specs.StageOf.{group_at, stage_of}
-use Rattle.world_spec.specs.Value.{World, entry_at}
-use Rattle.world_spec.proofs.Standing.{left-untouched}
+use Rattle.world_spec.specs.{Changes.{place}, Kept.{post_at, leads, IsKept}, Laws.{IsFree}, Rescheduled.{IsUntouched}, StageOf.{group_at, stage_of}}
+use Rattle.world_spec.{specs.Value.{World, entry_at}, proofs.Standing.{left-untouched}}
 
 -- of two reasons in their order, neither holds where there is none
 none-first : (r t : Reason) (a b : Bool) → first_of ((r, a) ∷ (t, b) ∷ []) ≡ None → (a ≡ false) × (b ≡ false)

@@ -1,25 +1,13 @@
 -- That turning the leaders of contexts is the definitions' rotation.
 use Rattle.std.specs.Prelude.{◌≡◌, ℕ, zero, suc, ◌<◌, ◌≤◌, ◌==◌, nat_lt, Bool, true, false, not, ◌&&◌, ◌||◌, List, [], ◌∷◌, ◌++◌, map, find, Option, Some, None, slice_set, if◌then◌else◌}
-use Rattle.std.specs.List.{list_any}
-use Rattle.std.proofs.Common.{arith, refl, sym, ap, ◌∙◌, inl, inr}
-use Rattle.std.proofs.lemmas.Bool.{cases_Bool}
-use Rattle.std.proofs.lemmas.Bool.Decides.{nat_tests}
-use Rattle.std.proofs.lemmas.List.{map-append}
-use Rattle.std.proofs.Math.ListN.{get_or-map}
-use Rattle.perf_base.specs.declared.numbers.CpuNo.{CpuNo}
-use Rattle.perf_base.specs.declared.numbers.Key.{Key}
-use Rattle.perf_base.specs.declared.standing.Context.{Context}
+use Rattle.std.{specs.List.{list_any}, proofs.{Common.{arith, refl, sym, ap, ◌∙◌, inl, inr}, lemmas.Bool.{cases_Bool, Decides.{nat_tests}}}}
+use Rattle.std.proofs.{lemmas.List.{map-append}, Math.ListN.{get_or-map}}
+use Rattle.perf_base.specs.{declared.{numbers.{CpuNo.{CpuNo}, Key.{Key}}, standing.Context.{Context}}, Standings.{stands_on}}
 use Rattle.perf_base.specs.declared.standing.Context.TheVariants as context
-use Rattle.stage_spec.specs.Hardware.{Hardware}
-use Rattle.stage_spec.specs.Rotation.{first_goes_last, waits, takes_turns, turned, turn_lists}
-use Rattle.stage_spec.specs.Stage.{Group, Lists, lists_of, place_of, change_context}
-use Rattle.stage_spec.specs.Verdict.{Judged, is_eligible, verdicts, standing_of}
-use Rattle.perf_base.specs.Standings.{stands_on}
-use Rattle.stage_laws.specs.Narrowing.{has_context}
-use Rattle.stage_laws.proofs.Leaders.{find-first, find-later}
-use Rattle.world_spec.specs.Changes.{all_but}
-use Rattle.world_spec.specs.Kept.{post_at, leads, leads_in, once_if, IsKept}
-use Rattle.world_spec.specs.Rescheduled.{IsJudged}
+use Rattle.stage_spec.specs.{Hardware.{Hardware}, Rotation.{first_goes_last, waits, takes_turns, turned, turn_lists}}
+use Rattle.stage_spec.specs.{Stage.{Group, Lists, lists_of, place_of, change_context}, Verdict.{Judged, is_eligible, verdicts, standing_of}}
+use Rattle.stage_laws.{specs.Narrowing.{has_context}, proofs.Leaders.{find-first, find-later}}
+use Rattle.world_spec.specs.{Changes.{all_but}, Kept.{post_at, leads, leads_in, once_if, IsKept}, Rescheduled.{IsJudged}}
 use Rattle.world_spec.specs.StageOf.{group_at, lists_at, stage_of}
 use Rattle.world_spec.specs.Value.{World, Leaders, no_leaders, leaders_of, entry_at, standing_at, is_key, times}
 use Rattle.world_spec.proofs.Keys.{is_key-same, is_key-other, times-cons, once-true, all_but-cons, all_but-none}

@@ -1,19 +1,10 @@
 -- How the leaders of a context are turned by a tick, by where their groups stand. After perf_rotate_context of
 -- kernel/events/core.c.
-use Rattle.std.specs.Prelude.{◌&&◌, Bool, true, false, not, List, find, Option, Some, None}
-use Rattle.std.specs.List.{list_any}
-use Rattle.perf_base.specs.declared.numbers.CpuNo.{CpuNo}
-use Rattle.perf_base.specs.declared.numbers.Key.{Key}
-use Rattle.perf_base.specs.declared.numbers.TaskNo.{TaskNo}
-use Rattle.perf_base.specs.declared.standing.Context.{Context}
+use Rattle.std.specs.{Prelude.{◌&&◌, Bool, true, false, not, List, find, Option, Some, None}, List.{list_any}}
+use Rattle.perf_base.specs.{declared.{numbers.{CpuNo.{CpuNo}, Key.{Key}, TaskNo.{TaskNo}}, standing.Context.{Context}}, Standings.{stands_on}}
 use Rattle.perf_base.specs.declared.standing.Context.TheVariants as context
-use Rattle.stage_spec.specs.Rotation.{takes_turns}
-use Rattle.stage_spec.specs.Stage.{task_on}
-use Rattle.stage_spec.specs.Verdict.{is_eligible}
-use Rattle.perf_base.specs.Standings.{stands_on}
-use Rattle.world_spec.specs.Changes.{to_last, with_leaders}
-use Rattle.world_spec.specs.StageOf.{group_at, stage_of}
-use Rattle.world_spec.specs.Value.{World, Leaders, standing_at}
+use Rattle.stage_spec.specs.{Rotation.{takes_turns}, Stage.{task_on}, Verdict.{is_eligible}}
+use Rattle.world_spec.specs.{Changes.{to_last, with_leaders}, StageOf.{group_at, stage_of}, Value.{World, Leaders, standing_at}}
 
 -- a group waits: it is eligible and does not stand on
 abbrev pub waits_there : World → CpuNo → Key → Bool

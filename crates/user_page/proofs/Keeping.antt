@@ -1,16 +1,10 @@
 -- How the rule goes from one state to the next, where one view changes.
 use Rattle.std.proofs.Common.{◌≡◌, ◌≢◌, ℕ, true, List, [], ◌∷◌, ◌++◌, set, sym, subst, ⊎_elim}
-use mathlib.Core.Option.{Option, some}
-use mathlib.Core.List.{IsPrefix}
+use mathlib.Core.{Option.{Option, some}, List.{IsPrefix}}
 use lib.ListN.{get_elem?}
-use Rattle.atomic_table.specs.Table.{State}
-use Rattle.atomic_table.proofs.Lists.{at_set, at_snoc}
-use Rattle.user_page.specs.declared.look.Look.{Look}
-use Rattle.user_page.specs.declared.view.View.{View}
-use Rattle.user_page.specs.Views.{Place, IsWriter, IsWatcher, IsNote}
-use Rattle.user_page.specs.Rule.{Laid, Begins, Kept}
-use Rattle.user_page.proofs.Lists.{prefix_self, prefix_through}
-use Rattle.user_page.proofs.Only.{only_is, only_stays, only_other, only_more}
+use Rattle.atomic_table.{specs.Table.{State}, proofs.Lists.{at_set, at_snoc}}
+use Rattle.user_page.specs.{declared.{look.Look.{Look}, view.View.{View}}, Views.{Place, IsWriter, IsWatcher, IsNote}, Rule.{Laid, Begins, Kept}}
+use Rattle.user_page.proofs.{Lists.{prefix_self, prefix_through}, Only.{only_is, only_stays, only_other, only_more}}
 
 abbrev pub Table : Type 0
 Table = State Place View

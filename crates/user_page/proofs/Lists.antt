@@ -1,12 +1,9 @@
 -- Beginnings of lists, the last entry, and lists that never fall.
 use Rattle.std.proofs.Common.{◌≡◌, ℕ, zero, suc, ◌-◌, ◌<◌, ◌≤◌, List, [], ◌∷◌, ◌++◌, length, get_or, slice_get, Option, IfSome, None, Some, refl, sym, ap, ◌∙◌, subst, ⊎_elim, append_assoc, append-nil, length-append, eq-or-lt_of_le, arith}
-use Rattle.std.proofs.lemmas.Option.{slice_get-get_or}
-use Rattle.std.proofs.lemmas.List.Quantifiers.{all_pairs_push}
-use mathlib.Core.Option.{some, some-ne-none}
-use mathlib.Core.List.{IsPrefix}
+use Rattle.std.proofs.lemmas.{Option.{slice_get-get_or}, List.Quantifiers.{all_pairs_push}}
+use mathlib.Core.{Option.{some, some-ne-none}, List.{IsPrefix}}
 use lib.ListN.{get_elem?}
-use Rattle.user_page.specs.declared.look.Look.{Look}
-use Rattle.user_page.specs.Looks.{zero_look, last_look, MayFollow, NeverFalls, IsLookList}
+use Rattle.user_page.specs.{declared.look.Look.{Look}, Looks.{zero_look, last_look, MayFollow, NeverFalls, IsLookList}}
 
 module _ {A : Type 0} where
   pub prefix_self : (xs : List A) → IsPrefix xs xs

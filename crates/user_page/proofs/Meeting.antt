@@ -1,9 +1,7 @@
 -- Two ends that have heard of each other know the same looks.
 use Rattle.std.proofs.Common.{◌≡◌, ℕ, List, ap, ◌∙◌, subst}
 use mathlib.Core.List.{IsPrefix}
-use Rattle.user_page.specs.declared.look.Look.{Look}
-use Rattle.user_page.specs.Views.{Holder, informed, looked, checked}
-use Rattle.user_page.proofs.Lists.{prefix_both}
+use Rattle.user_page.{specs.{declared.look.Look.{Look}, Views.{Holder, informed, looked, checked}}, proofs.Lists.{prefix_both}}
 
 -- The writer m and the watcher w. The watcher hears, and they are m1 and w1. The writer hears, and they are m2 and w2.
 module _ (m w m1 w1 m2 w2 : Holder) (place : ℕ)

@@ -3,9 +3,7 @@ use Rattle.std.proofs.Common.{◌≡◌, ◌≢◌, ◌⊎◌, ℕ, zero, suc, B
 use mathlib.Core.Option.{some, some-injective, some-ne-none}
 use lib.ListN.{get_elem?}
 use Rattle.atomic_table.proofs.Lists.{at_set, at_snoc, set_here, set_else, at_longer, at_last}
-use Rattle.user_page.specs.declared.view.View.{View}
-use Rattle.user_page.specs.Rule.{IsOnly}
-use Rattle.user_page.proofs.Lists.{at_within}
+use Rattle.user_page.{specs.{declared.view.View.{View}, Rule.{IsOnly}}, proofs.Lists.{at_within}}
 
 pub clash : {A : Type 0} (b : Bool) → b ≡ true → b ≡ false → A
 clash b is not = let e : true ≡ false = sym is ∙ not in absurd (cc)

@@ -1,17 +1,11 @@
 -- A view that is cut in two, or joined to another, keeps the rule. So does the start.
 use Rattle.std.proofs.Common.{◌≡◌, ◌≢◌, ◌⊎◌, ℕ, zero, suc, Bool, true, List, [], ◌∷◌, ◌++◌, set, refl, sym, ap, ◌∙◌, subst, ⊎_elim, arith}
-use mathlib.Core.Option.{some, some-injective, some-ne-none}
-use mathlib.Core.List.{IsPrefix}
+use mathlib.Core.{Option.{some, some-injective, some-ne-none}, List.{IsPrefix}}
 use lib.ListN.{get_elem?}
-use Rattle.atomic_table.specs.Table.{Splits, Joins, opening}
-use Rattle.atomic_table.proofs.Lists.{at_set, at_snoc, set_again, set_else}
-use Rattle.user_page.specs.declared.look.Look.{Look}
-use Rattle.user_page.specs.declared.view.View.{View}
-use Rattle.user_page.specs.Looks.{zero_look}
+use Rattle.atomic_table.{specs.Table.{Splits, Joins, opening}, proofs.Lists.{at_set, at_snoc, set_again, set_else}}
+use Rattle.user_page.specs.{declared.{look.Look.{Look}, view.View.{View}}, Looks.{zero_look}}
 use Rattle.user_page.specs.Views.{Place, IsWriter, IsWatcher, IsNote, both_ends, writer_of, watcher_of, note_of, spent, informed}
-use Rattle.user_page.specs.Rule.{Laid, IsOnly, Begins, Kept}
-use Rattle.user_page.proofs.Lists.{prefix_self}
-use Rattle.user_page.proofs.Only.{only_stays, only_goes, only_more}
+use Rattle.user_page.{specs.Rule.{Laid, IsOnly, Begins, Kept}, proofs.{Lists.{prefix_self}, Only.{only_stays, only_goes, only_more}}}
 use Rattle.user_page.proofs.Keeping.{after, is_writer, is_watcher, laid_writer, laid_watcher, writer_keeps, watcher_keeps, note_keeps, note_comes}
 use Rattle.user_page.proofs.Stepping.{laid_as}
 

@@ -1,19 +1,14 @@
 -- The steps of the two ends keep the rule.
 use Rattle.std.proofs.Common.{◌≡◌, ◌≢◌, ℕ, ◌+◌, ◌*◌, ◌/◌, ◌%◌, ◌<◌, true, false, List, [], ◌∷◌, length, set, slice_index, refl, sym, ap, ◌∙◌, subst, length-set, arith}
 use Rattle.std.proofs.lemmas.List.{set-get_or}
-use mathlib.Core.Option.{Option, none, some}
-use mathlib.Core.List.{IsPrefix}
+use mathlib.Core.{Option.{Option, none, some}, List.{IsPrefix}}
 use lib.ListN.{get_elem?}
-use Rattle.atomic_table.specs.Table.{keeps, takes, gives, chain, Allows}
-use Rattle.atomic_table.proofs.Lists.{set_here, set_else}
+use Rattle.atomic_table.{specs.Table.{keeps, takes, gives, chain, Allows}, proofs.Lists.{set_here, set_else}}
 use Rattle.crossbeam_utils.specs.Padded.{padded_value}
-use Rattle.user_page.specs.declared.view.View.{View}
-use Rattle.user_page.specs.Looks.{last_look, MayFollow, NeverFalls}
+use Rattle.user_page.specs.{declared.view.View.{View}, Looks.{last_look, MayFollow, NeverFalls}}
 use Rattle.user_page.specs.Views.{Place, Holder, IsWriter, IsWatcher, WriterSits, WatcherSits, IsUnplacedWriter, IsUnplacedWatcher, held_look, published, looked, checked}
-use Rattle.user_page.specs.Rule.{IsHome, Laid, Begins, Kept}
-use Rattle.user_page.specs.Steps.{PlacesWriter, PlacesWatcher, Publishes, TakesNewest, ChecksNote}
-use Rattle.user_page.proofs.Lists.{prefix_self, prefix_more, last_added, rises_more}
-use Rattle.user_page.proofs.Only.{clash}
+use Rattle.user_page.specs.{Rule.{IsHome, Laid, Begins, Kept}, Steps.{PlacesWriter, PlacesWatcher, Publishes, TakesNewest, ChecksNote}}
+use Rattle.user_page.proofs.{Lists.{prefix_self, prefix_more, last_added, rises_more}, Only.{clash}}
 use Rattle.user_page.proofs.Keeping.{is_writer, laid_writer, laid_watcher, writer_keeps, watcher_keeps}
 
 -- the places at home, after one is given back and another taken

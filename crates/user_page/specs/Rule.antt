@@ -1,15 +1,11 @@
 -- The rule of a page, which holds between any two steps. Its word is twice the place that is neither end's, and 1 more
 -- where the watcher has not seen the last look.
 use Rattle.std.specs.Prelude.{◌≡◌, ◌≢◌, ℕ, ◌+◌, ◌*◌, ◌<◌, ◌≤◌, Bool, true, false, List, [], ◌∷◌, length, Some}
-use mathlib.Core.Option.{Option, some}
-use mathlib.Core.List.{IsPrefix}
+use mathlib.Core.{Option.{Option, some}, List.{IsPrefix}}
 use lib.ListN.{get_elem?}
 use Rattle.atomic_table.specs.Table.{State}
 use Rattle.crossbeam_utils.specs.Padded.{padded_value}
-use Rattle.user_page.specs.declared.look.Look.{Look}
-use Rattle.user_page.specs.declared.view.View.{View}
-use Rattle.user_page.specs.Looks.{last_look, NeverFalls}
-use Rattle.user_page.specs.Views.{Place}
+use Rattle.user_page.specs.{declared.{look.Look.{Look}, view.View.{View}}, Looks.{last_look, NeverFalls}, Views.{Place}}
 
 -- the place is at home, with some look (this project's own profile)
 abbrev pub IsHome : List (Option Place) → ℕ → Type 0

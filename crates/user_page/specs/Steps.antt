@@ -2,9 +2,7 @@
 -- the page's word as the step found it.
 use Rattle.std.specs.Prelude.{◌≡◌, ℕ, ◌+◌, ◌/◌, ◌%◌, ◌<◌, true, List, Some}
 use mathlib.Core.List.{IsPrefix}
-use Rattle.user_page.specs.declared.look.Look.{Look}
-use Rattle.user_page.specs.declared.view.View.{View}
-use Rattle.user_page.specs.Looks.{last_look, NeverFalls}
+use Rattle.user_page.specs.{declared.{look.Look.{Look}, view.View.{View}}, Looks.{last_look, NeverFalls}}
 use Rattle.user_page.specs.Views.{Holder, Holds, held_look, writer_of, watcher_of, informed, published, looked, checked}
 
 -- the writer takes its first place (this project's own profile)

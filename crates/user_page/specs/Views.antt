@@ -1,11 +1,8 @@
 -- The views of a page's seats: how they begin, part, travel and change.
 use Rattle.std.specs.Prelude.{◌≡◌, ℕ, ◌+◌, ◌<◌, true, false, List, [], ◌∷◌, ◌++◌, Some}
 use Rattle.atomic_table.specs.Table.{Me}
-use Rattle.crossbeam_utils.specs.declared.cache_padded.CachePadded.{CachePadded}
-use Rattle.crossbeam_utils.specs.Padded.{padded_value}
-use Rattle.user_page.specs.declared.look.Look.{Look}
-use Rattle.user_page.specs.declared.view.View.{View}
-use Rattle.user_page.specs.Looks.{PageName, zero_look, last_look, IsLookList, WriterEnd, WatcherEnd}
+use Rattle.crossbeam_utils.specs.{declared.cache_padded.CachePadded.{CachePadded}, Padded.{padded_value}}
+use Rattle.user_page.specs.{declared.{look.Look.{Look}, view.View.{View}}, Looks.{PageName, zero_look, last_look, IsLookList, WriterEnd, WatcherEnd}}
 
 -- what a place of the page has: a look, with nothing else on its cache lines (this project's own profile)
 abbrev pub Place : Type 0

@@ -1,27 +1,15 @@
 -- What records that are sent do to the accounts of the ends, and to the counts of records lost.
 use Rattle.std.specs.Prelude.{◌≡◌, ◌≢◌, ℕ, suc, ◌+◌, ◌<◌, ◌≤◌, ◌==◌, nat_le, Bool, true, false, not, All, AllPairs, List, [], ◌∷◌, ◌++◌, length, map, filter, fold, flat_map, count_by, slice_index_or, if◌then◌else◌, cond}
-use Rattle.std.proofs.Common.{arith, refl, sym, ap, subst, ◌∙◌, inl, inr}
-use Rattle.std.proofs.lemmas.Bool.{cases_eq, false≢true}
-use Rattle.std.proofs.lemmas.Bool.Decides.{nat_tests}
-use Rattle.std.proofs.lemmas.List.{length-append, length-set, get_or-set_same, get_or-set_other}
-use Rattle.std.proofs.lemmas.List.Elements.{All-head, All-tail}
-use Rattle.perf_base.specs.declared.lines.CpuLine.{CpuLine}
-use Rattle.perf_base.specs.declared.numbers.CpuNo.{CpuNo}
-use Rattle.perf_base.specs.declared.numbers.EventNo.{EventNo}
-use Rattle.perf_base.specs.declared.numbers.RingNo.{RingNo}
-use Rattle.stage_spec.specs.History.{CpuStep}
-use Rattle.stage_spec.proofs.Each.{Each, head-Each, tail-Each}
-use Rattle.stage_laws.proofs.Counts.{count-append, count-cons}
-use Rattle.stage_laws.proofs.Totals.{as_number}
-use Rattle.ring_spec.specs.Account.{Account, RingEvent, Sends, send, ring_step, lost_by, lost_among, is_event, need_of, room_of}
+use Rattle.std.proofs.{Common.{arith, refl, sym, ap, subst, ◌∙◌, inl, inr}, lemmas.Bool.{cases_eq, false≢true, Decides.{nat_tests}}}
+use Rattle.std.proofs.lemmas.List.{length-append, length-set, get_or-set_same, get_or-set_other, Elements.{All-head, All-tail}}
+use Rattle.perf_base.specs.declared.{lines.CpuLine.{CpuLine}, numbers.{CpuNo.{CpuNo}, EventNo.{EventNo}, RingNo.{RingNo}}}
+use Rattle.stage_spec.{specs.History.{CpuStep}, proofs.Each.{Each, head-Each, tail-Each}}
+use Rattle.stage_laws.proofs.{Counts.{count-append, count-cons}, Totals.{as_number}}
+use Rattle.ring_spec.specs.{Account.{Account, Sends, send, ring_step, lost_by, lost_among, is_event, need_of, room_of}, Records.{IsRecord}}
+use Rattle.ring_spec.specs.{Rings.{is_to, sends_to}, Running.{RingAccount, ring_after, losses_on, more_lost}, Sending.{SentSample}}
 use Rattle.ring_spec.specs.Account as account
-use Rattle.ring_spec.specs.Records.{IsRecord}
-use Rattle.ring_spec.specs.Rings.{is_to, sends_to}
-use Rattle.ring_spec.specs.Running.{RingAccount, ring_after, losses_on, more_lost}
-use Rattle.ring_spec.specs.Sending.{SentSample}
 use Rattle.ring_words.specs.Ends.{Ring}
-use Rattle.sample_ring.specs.OutEnds.{OutEnd, HasAccount}
-use Rattle.sample_ring.specs.Sends.{Request, request_of, records_for, sent_to, written_to, lost_to, fits}
+use Rattle.sample_ring.specs.{OutEnds.{OutEnd, HasAccount}, Sends.{Request, request_of, records_for, sent_to, written_to, lost_to, fits}}
 use Rattle.sample_ring.proofs.Sending.{account_sent, lawful-both}
 use Rattle.work_account.specs.Ends.{Ends, sent_among, loses_among, count_lost, send_next, send_all, IsAccountOf, AreAccounts, HaveAccounts}
 

@@ -1,14 +1,10 @@
 -- What is found among lists of keys, one after the other.
 use Rattle.std.specs.Prelude.{◌≡◌, ℕ, zero, suc, ◌+◌, ◌<◌, ◌≤◌, Bool, true, false, cond, List, [], ◌∷◌, ◌++◌, length, map, filter, take, slice_index_or}
-use Rattle.std.proofs.Common.{arith, sym, ap, ◌∙◌, append_assoc}
-use Rattle.std.proofs.lemmas.Grind.{flat_map-append}
-use Rattle.std.proofs.lemmas.List.{append-nil, length-append, map-append}
-use Rattle.std.proofs.lemmas.List.Elements.{filter-append}
-use Rattle.std.proofs.Math.Seq.{take-suc}
+use Rattle.std.proofs.{Common.{arith, sym, ap, ◌∙◌, append_assoc}, lemmas.{Grind.{flat_map-append}, List.{append-nil, length-append, map-append}}}
+use Rattle.std.proofs.{lemmas.List.Elements.{filter-append}, Math.Seq.{take-suc}}
 use Rattle.perf_base.specs.declared.numbers.Key.{Key}
 use Rattle.world_spec.specs.Value.{World}
-use Rattle.work_account.specs.declared.happening.Happening.{Happening}
-use Rattle.work_account.specs.declared.overflowing.Hit.{Hit}
+use Rattle.work_account.specs.declared.{happening.Happening.{Happening}, overflowing.Hit.{Hit}}
 use Rattle.work_account.specs.Visits.{takes, hit_at, hits_among, members_at, all_members}
 
 take-next : (keys : List Key) (i : ℕ) (d : Key) → i < length keys → take (i + 1) keys ≡ take i keys ++ slice_index_or keys i d ∷ []

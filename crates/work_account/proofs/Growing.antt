@@ -1,30 +1,17 @@
 -- A family grows by no more than one instance is given, since a processor reaches one of it at most.
-use Rattle.std.specs.Prelude.{◌≡◌, ℕ, ◌≤◌, max, true, false, List, slice_index_or, if◌then◌else◌}
-use Rattle.std.proofs.Common.{arith, sym, ap, ◌∙◌, inl, inr}
+use Rattle.std.{specs.Prelude.{◌≡◌, ℕ, ◌≤◌, max, true, false, List, slice_index_or, if◌then◌else◌}, proofs.Common.{arith, sym, ap, ◌∙◌, inl, inr}}
 use Rattle.std.proofs.lemmas.Bool.{cases_Bool}
-use Rattle.perf_base.specs.declared.attr.Kind.{Kind}
+use Rattle.perf_base.specs.declared.{attr.Kind.{Kind}, lines.Work.{Work}, numbers.{CpuNo.{CpuNo}, Key.{Key}}, reply.Sums.{Sums}}
 use Rattle.perf_base.specs.declared.attr.Kind.TheVariants as kind
 use Rattle.perf_base.specs.declared.lines.CpuLine.TheVariants as cpu_line
-use Rattle.perf_base.specs.declared.lines.Work.{Work}
-use Rattle.perf_base.specs.declared.numbers.CpuNo.{CpuNo}
-use Rattle.perf_base.specs.declared.numbers.Key.{Key}
-use Rattle.perf_base.specs.declared.reply.Sums.{Sums}
-use Rattle.stage_spec.specs.declared.instance.Instance.{Instance}
-use Rattle.stage_spec.specs.Families.{plus}
-use Rattle.stage_spec.specs.Shares.{no_sums, work_hits}
+use Rattle.stage_spec.specs.{declared.instance.Instance.{Instance}, Families.{plus}, Shares.{no_sums, work_hits}}
 use Rattle.stage_laws.specs.Bounds.{most_of_line, greatest, AreAtMost}
-use Rattle.world_spec.specs.Value.{World, no_family, is_live, instance_at, account_at}
-use Rattle.world_spec.specs.Kept.{keys_of, plus_keys, family_sums, IsKept}
-use Rattle.world_spec.specs.Metering.{work_given}
-use Rattle.world_spec.specs.Rescheduled.{IsJudged}
-use Rattle.world_spec.specs.Shares.{work_shares, soft_hits, soft_shares, one_hit, HaveShares}
-use Rattle.world_spec.specs.Ways.{is_ready_at, is_on_at}
-use Rattle.world_spec.proofs.Accounts.{IsSum, counts_are_sums, times_are_sums, family-once}
-use Rattle.world_spec.proofs.Along.{on-share, share-is}
-use Rattle.world_spec.proofs.Folding.{run_times_are_sums}
+use Rattle.world_spec.specs.{Value.{World, no_family, is_live, instance_at, account_at}, Kept.{keys_of, plus_keys, family_sums, IsKept}}
+use Rattle.world_spec.specs.{Metering.{work_given}, Rescheduled.{IsJudged}, Shares.{work_shares, soft_hits, soft_shares, one_hit, HaveShares}}
+use Rattle.world_spec.{specs.Ways.{is_ready_at, is_on_at}, proofs.Accounts.{IsSum, counts_are_sums, times_are_sums, family-once}}
+use Rattle.world_spec.proofs.{Along.{on-share, share-is}, Folding.{run_times_are_sums}}
 use Rattle.world_spec.proofs.Metering.{counted-most, where-most, off-first, none-unready, given-most, one-given, family-key, plus-same}
-use Rattle.world_spec.proofs.Moving.{leads-parts}
-use Rattle.world_spec.proofs.Reaching.{one-reached}
+use Rattle.world_spec.proofs.{Moving.{leads-parts}, Reaching.{one-reached}}
 
 module _ (w new : World) (cpu : CpuNo) (given : ℕ → Sums) (most : Sums) (h : IsKept w.hardware w) (shared : HaveShares w new given)
     (families : new.families ≡ w.families) (folded : new.folded ≡ w.folded)

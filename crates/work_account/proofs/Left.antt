@@ -1,19 +1,9 @@
 -- What is left as it was where accounts, clocks, totals and counts of lost records alone change.
-use Rattle.std.specs.Prelude.{◌≡◌, ℕ, List}
-use Rattle.std.specs.FinMap.{FinMap}
-use Rattle.std.specs.Ordering.{nat_cmp}
-use Rattle.std.proofs.Common.{sym, ap, subst, ◌∙◌}
-use Rattle.perf_base.specs.declared.lines.Work.{Work}
-use Rattle.perf_base.specs.declared.numbers.CpuNo.{CpuNo}
-use Rattle.perf_base.specs.declared.reply.Sums.{Sums}
-use Rattle.stage_spec.specs.Families.{plus}
-use Rattle.stage_spec.specs.Hardware.{Hardware}
+use Rattle.std.{specs.{Prelude.{◌≡◌, ℕ, List}, FinMap.{FinMap}, Ordering.{nat_cmp}}, proofs.Common.{sym, ap, subst, ◌∙◌}}
+use Rattle.perf_base.specs.declared.{lines.Work.{Work}, numbers.CpuNo.{CpuNo}, reply.Sums.{Sums}}
+use Rattle.stage_spec.specs.{Families.{plus}, Hardware.{Hardware}}
 use Rattle.stage_laws.specs.Bounds.{AreAtMost}
-use Rattle.world_spec.specs.Value.{World, Account, Totals}
-use Rattle.world_spec.specs.StageOf.{stage_of}
-use Rattle.world_spec.specs.Kept.{family_sums}
-use Rattle.world_spec.specs.Metering.{metered}
-use Rattle.world_spec.specs.Rescheduled.{IsRescheduled}
+use Rattle.world_spec.specs.{Value.{World, Account, Totals}, StageOf.{stage_of}, Kept.{family_sums}, Metering.{metered}, Rescheduled.{IsRescheduled}}
 use Rattle.world_spec.specs.Shares.{HaveShares}
 
 -- a world that is another one but for its accounts; but for these and what work adds to a meter; and but for the counts

@@ -1,40 +1,20 @@
 -- What a processor's instances that take work, or an occurrence, may be hit by.
 use Rattle.std.specs.Prelude.{◌≡◌, ℕ, zero, suc, ◌+◌, ◌^◌, ◌<◌, ◌≤◌, ◌==◌, Bool, true, false, not, ◌&&◌, List, [], ◌∷◌, length, map, filter, count_by, slice_index_or, if◌then◌else◌}
-use Rattle.std.proofs.Common.{arith, refl, sym, ap, subst, ◌∙◌, inl, inr}
-use Rattle.std.proofs.lemmas.Bool.{cases_Bool, false≢true}
-use Rattle.perf_base.specs.declared.attr.Kind.{Kind}
+use Rattle.std.proofs.{Common.{arith, refl, sym, ap, subst, ◌∙◌, inl, inr}, lemmas.Bool.{cases_Bool, false≢true}}
+use Rattle.perf_base.specs.declared.{attr.Kind.{Kind}, lines.Work.{Work}, numbers.{CpuNo.{CpuNo}, Key.{Key}}, reply.Sums.{Sums}}
 use Rattle.perf_base.specs.declared.attr.Kind.TheVariants as kind
 use Rattle.perf_base.specs.declared.lines.CpuLine.TheVariants as cpu_line
-use Rattle.perf_base.specs.declared.lines.Work.{Work}
-use Rattle.perf_base.specs.declared.numbers.CpuNo.{CpuNo}
-use Rattle.perf_base.specs.declared.numbers.Key.{Key}
-use Rattle.perf_base.specs.declared.reply.Sums.{Sums}
-use Rattle.stage_spec.specs.declared.instance.Instance.{Instance}
-use Rattle.stage_spec.specs.Families.{plus}
-use Rattle.stage_spec.specs.Shares.{no_sums, work_hits}
-use Rattle.stage_laws.specs.Bounds.{most_of_line}
-use Rattle.stage_laws.specs.Narrowing.{has_context}
-use Rattle.stage_laws.proofs.Counts.{count-cons, count-filter}
-use Rattle.world_spec.specs.Value.{World, no_family, is_live, entry_at, instance_at, account_at, times}
-use Rattle.world_spec.specs.StageOf.{stage_of}
-use Rattle.world_spec.specs.Kept.{keys_of, plus_keys, family_sums, IsKept}
-use Rattle.world_spec.specs.Metering.{IsWorked, work_given, is_metered, goes_along}
-use Rattle.world_spec.specs.Shares.{HaveRoom, soft_hits, one_hit}
-use Rattle.world_spec.specs.Ways.{is_ready_at, is_on_at}
-use Rattle.world_spec.specs.Working.{is_on, keys_by_pass}
-use Rattle.world_spec.proofs.Accounts.{IsSum, counts_are_sums}
-use Rattle.world_spec.proofs.Along.{keys-live, reached-keys}
-use Rattle.world_spec.proofs.Keys.{times-cons, once-false}
-use Rattle.world_spec.proofs.Metering.{counted-most, none-unready, family-key}
-use Rattle.world_spec.proofs.Moving.{leads-parts}
-use Rattle.world_spec.proofs.Reaching.{one-reached}
-use Rattle.work_account.specs.declared.happening.Happening.{Happening}
+use Rattle.stage_spec.specs.{declared.instance.Instance.{Instance}, Families.{plus}, Shares.{no_sums, work_hits}}
+use Rattle.stage_laws.{specs.{Bounds.{most_of_line}, Narrowing.{has_context}}, proofs.Counts.{count-cons, count-filter}}
+use Rattle.world_spec.specs.{Value.{World, no_family, is_live, entry_at, instance_at, account_at, times}, StageOf.{stage_of}}
+use Rattle.world_spec.specs.{Kept.{keys_of, plus_keys, family_sums, IsKept}, Metering.{IsWorked, work_given, is_metered, goes_along}}
+use Rattle.world_spec.specs.{Shares.{HaveRoom, soft_hits, one_hit}, Ways.{is_ready_at, is_on_at}, Working.{is_on, keys_by_pass}}
+use Rattle.world_spec.proofs.{Accounts.{IsSum, counts_are_sums}, Along.{keys-live, reached-keys}, Keys.{times-cons, once-false}}
+use Rattle.world_spec.proofs.{Metering.{counted-most, none-unready, family-key}, Moving.{leads-parts}, Reaching.{one-reached}}
+use Rattle.work_account.specs.declared.{happening.Happening.{Happening}, overflowing.Hit.{Hit}}
+use Rattle.work_account.{specs.Visits.{occurs, samples, is_hit_by, takes, hit_at, hits_among, is_of, MayHit, MayHitAll}, proofs.Among.{hits-few}}
+use Rattle.work_account.proofs.{Growing.{soft-small}, Reached.{is_in, one-each, reached-few, stands-first, chosen-some, chosen-passes}}
 use Rattle.work_account.specs.declared.happening.Happening.TheVariants as happening
-use Rattle.work_account.specs.declared.overflowing.Hit.{Hit}
-use Rattle.work_account.specs.Visits.{occurs, samples, is_hit_by, takes, hit_at, hits_among, is_of, MayHit, MayHitAll}
-use Rattle.work_account.proofs.Among.{hits-few}
-use Rattle.work_account.proofs.Growing.{soft-small}
-use Rattle.work_account.proofs.Reached.{is_in, one-each, reached-few, stands-first, chosen-some, chosen-passes}
 
 -- none of those that take it goes along totals
 both-true : (a b : Bool) → (a && b) ≡ true → (a ≡ true) × (b ≡ true)

@@ -1,36 +1,20 @@
 -- The keys that a processor reaches: no two are of one family, so they are few.
 use Rattle.std.specs.Prelude.{◌≡◌, ℕ, zero, suc, ◌+◌, ◌<◌, ◌≤◌, ◌==◌, Bool, true, false, not, ◌&&◌, cond, List, [], ◌∷◌, ◌++◌, length, map, filter, flat_map, count_by, Option, Some, None, IfSome, slice_index_or, if◌then◌else◌}
-use Rattle.std.proofs.Common.{arith, refl, sym, ap, ◌∙◌, inl, inr, append_assoc}
-use Rattle.std.proofs.lemmas.List.{get_or_past, length-append}
-use Rattle.std.proofs.lemmas.Bool.{cases_eq, cases_lt, cases_Bool, false≢true}
-use Rattle.std.proofs.lemmas.Bool.Decides.{nat_tests}
-use Rattle.perf_base.specs.declared.numbers.CpuNo.{CpuNo}
-use Rattle.perf_base.specs.declared.numbers.EventNo.{EventNo}
-use Rattle.perf_base.specs.declared.numbers.Key.{Key}
-use Rattle.perf_base.specs.declared.numbers.TaskNo.{TaskNo}
-use Rattle.perf_base.specs.declared.standing.Context.{Context}
+use Rattle.std.proofs.{Common.{arith, refl, sym, ap, ◌∙◌, inl, inr, append_assoc}, lemmas.List.{get_or_past, length-append}}
+use Rattle.std.proofs.lemmas.Bool.{cases_eq, cases_lt, cases_Bool, false≢true, Decides.{nat_tests}}
+use Rattle.perf_base.specs.declared.{numbers.{CpuNo.{CpuNo}, EventNo.{EventNo}, Key.{Key}, TaskNo.{TaskNo}}, standing.Context.{Context}}
 use Rattle.perf_base.specs.declared.standing.Context.TheVariants as context
-use Rattle.stage_spec.specs.declared.instance.TaskStatus.{TaskStatus}
-use Rattle.stage_spec.specs.declared.instance.Instance.{Instance}
-use Rattle.stage_spec.specs.Hardware.{Hardware}
-use Rattle.stage_spec.specs.Stage.{members, is_of_family, task_on, place_of, unknown_task, is_live as is_live_task}
-use Rattle.stage_spec.specs.Verdict.{reached}
+use Rattle.stage_spec.specs.{declared.instance.{TaskStatus.{TaskStatus}, Instance.{Instance}}, Hardware.{Hardware}}
+use Rattle.stage_spec.specs.{Stage.{members, is_of_family, task_on, place_of, unknown_task, is_live as is_live_task}, Verdict.{reached}}
 use Rattle.stage_laws.proofs.Counts.{count-cons, count-filter}
-use Rattle.world_spec.specs.Value.{World, Leaders, entry_at, instance_at, leaders_of, is_key, times}
-use Rattle.world_spec.specs.StageOf.{group_at, stage_of}
-use Rattle.world_spec.specs.Kept.{post_at, leads, once_if, IsKept}
-use Rattle.world_spec.specs.Listings.{pass_leaders, task_leaders}
-use Rattle.world_tables.specs.Places.{picked}
-use Rattle.work_account.specs.declared.happening.Happening.{Happening}
-use Rattle.work_account.specs.declared.overflowing.Hit.{Hit}
-use Rattle.work_account.specs.Visits.{hits_among, own_keys, task_keys}
-use Rattle.work_account.proofs.Among.{flat-four, hits-four}
-use Rattle.world_spec.specs.Working.{keys_by_pass, leaders_by_pass}
-use Rattle.world_spec.proofs.Along.{keys-live}
-use Rattle.world_spec.proofs.Counting.{times-filter}
-use Rattle.world_spec.proofs.Families.{members-are}
+use Rattle.world_spec.specs.{Value.{World, Leaders, entry_at, instance_at, leaders_of, is_key, times}, StageOf.{group_at, stage_of}}
+use Rattle.world_spec.specs.{Kept.{post_at, leads, once_if, IsKept}, Listings.{pass_leaders, task_leaders}, Working.{keys_by_pass, leaders_by_pass}}
+use Rattle.world_spec.proofs.{Along.{keys-live}, Counting.{times-filter}, Families.{members-are}}
 use Rattle.world_spec.proofs.Keys.{is_key-same, times-cons, once-true, once-false}
 use Rattle.world_spec.proofs.Listings.{passes-are, flat-mapped, reached-leading, one-on_processor}
+use Rattle.world_tables.specs.Places.{picked}
+use Rattle.work_account.specs.{declared.{happening.Happening.{Happening}, overflowing.Hit.{Hit}}, Visits.{hits_among, own_keys, task_keys}}
+use Rattle.work_account.proofs.Among.{flat-four, hits-four}
 
 -- whether an instance is of the family of a slot
 abbrev pub is_in : World → ℕ → Key → Bool

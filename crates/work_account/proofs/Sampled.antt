@@ -1,45 +1,22 @@
 -- The records of the overflows that a stretch of work gives are those of the definitions, and what is left once they
 -- were sent.
 use Rattle.std.specs.Prelude.{◌≡◌, ℕ, zero, suc, ◌+◌, ◌==◌, not, ◌&&◌, ◌<◌, ◌≤◌, Bool, true, false, cond, All, List, [], ◌∷◌, ◌++◌, length, map, filter, flat_map, slice_index_or, Option, Some, None}
-use Rattle.std.proofs.Common.{arith, refl, sym, ap, subst, ◌∙◌}
-use Rattle.std.proofs.lemmas.Bool.{false≢true}
-use Rattle.std.proofs.lemmas.List.{get_or-set_same}
-use Rattle.std.proofs.lemmas.List.Elements.{All-nil, All-cons}
+use Rattle.std.proofs.{Common.{arith, refl, sym, ap, subst, ◌∙◌}, lemmas.{Bool.{false≢true}, List.{get_or-set_same, Elements.{All-nil, All-cons}}}}
+use Rattle.perf_base.specs.declared.{lines.Work.{Work}, numbers.{CpuNo.{CpuNo}, EventNo.{EventNo}, Key.{Key}, RingNo.{RingNo}}}
 use Rattle.perf_base.specs.declared.lines.CpuLine.TheVariants as cpu_line
-use Rattle.perf_base.specs.declared.lines.Work.{Work}
-use Rattle.perf_base.specs.declared.numbers.CpuNo.{CpuNo}
-use Rattle.perf_base.specs.declared.numbers.EventNo.{EventNo}
-use Rattle.perf_base.specs.declared.numbers.Key.{Key}
-use Rattle.perf_base.specs.declared.numbers.RingNo.{RingNo}
-use Rattle.stage_spec.specs.declared.instance.Instance.{Instance}
-use Rattle.stage_spec.specs.History.{CpuStep}
-use Rattle.stage_spec.specs.Occurrences.{left_after_one, overflows}
-use Rattle.stage_spec.specs.Shares.{work_hits}
-use Rattle.stage_spec.specs.Stage.{original_of}
-use Rattle.stage_spec.specs.Verdict.{on_instances}
-use Rattle.ring_spec.specs.Running.{RingAccount, ring_after, losses_on, more_lost}
-use Rattle.ring_spec.specs.Sending.{SentSample, to_ring, sent_by_family, overflows_by}
+use Rattle.stage_spec.specs.{declared.instance.Instance.{Instance}, History.{CpuStep}, Occurrences.{left_after_one, overflows}, Shares.{work_hits}}
+use Rattle.stage_spec.specs.{Stage.{original_of}, Verdict.{on_instances}}
+use Rattle.ring_spec.specs.{Running.{RingAccount, ring_after, losses_on, more_lost}, Sending.{SentSample, to_ring, sent_by_family, overflows_by}}
 use Rattle.sample_ring.specs.RingLists.{RingList, OutList}
-use Rattle.world_spec.specs.Value.{World, is_live, instance_at, account_at, is_key, times}
-use Rattle.world_spec.specs.StageOf.{stage_of}
-use Rattle.world_spec.specs.Kept.{IsKept}
-use Rattle.world_spec.specs.Metering.{IsWorked}
-use Rattle.world_spec.specs.Rescheduled.{IsJudged}
-use Rattle.world_spec.specs.Working.{is_on, keys_by_pass}
-use Rattle.world_spec.proofs.Along.{keys-live, on-keys}
-use Rattle.world_spec.proofs.Counting.{times-filter}
+use Rattle.world_spec.specs.{Value.{World, is_live, instance_at, account_at, is_key, times}, StageOf.{stage_of}, Kept.{IsKept}, Metering.{IsWorked}}
+use Rattle.world_spec.{specs.{Rescheduled.{IsJudged}, Working.{is_on, keys_by_pass}}, proofs.{Along.{keys-live, on-keys}, Counting.{times-filter}}}
 use Rattle.world_spec.proofs.Keys.{is_key-same, times-cons, once-true}
-use Rattle.work_account.specs.declared.happening.Happening.TheVariants as happening
-use Rattle.work_account.specs.declared.overflowing.Overflow.{Overflow}
-use Rattle.work_account.specs.declared.samples.Stretch.{Stretch}
+use Rattle.work_account.specs.declared.{overflowing.Overflow.{Overflow}, samples.Stretch.{Stretch}}
 use Rattle.work_account.specs.Ends.{Ends, AreTogether, HaveAccounts, HaveSpace, send_all}
 use Rattle.work_account.specs.Sampling.{AreLeft, HasInstance, HaveRings, HaveSpaceToSend, ends_of, sent_by, sents_of, sents_all}
-use Rattle.work_account.specs.Visits.{samples, takes, hit_at, hits_among, overflow_of}
-use Rattle.work_account.proofs.Accounts.{AreSized, accounts-after, lost-after}
-use Rattle.work_account.proofs.Left.{IsMetered}
-use Rattle.work_account.proofs.Sequences.{together-after}
-use Rattle.work_account.proofs.Shared.{is-zero}
-use Rattle.work_account.proofs.Sized.{all-sized}
+use Rattle.work_account.{specs.Visits.{samples, takes, hit_at, hits_among, overflow_of}, proofs.Accounts.{AreSized, accounts-after, lost-after}}
+use Rattle.work_account.proofs.{Left.{IsMetered}, Sequences.{together-after}, Shared.{is-zero}, Sized.{all-sized}}
+use Rattle.work_account.specs.declared.happening.Happening.TheVariants as happening
 
 -- without a period there is no overflow, and no overflow sends nothing
 never-over : (n left : ℕ) → overflows n 0 left ≡ 0

@@ -1,18 +1,12 @@
 -- A send to the end of a ring among those that there are.
 use Rattle.std.specs.Prelude.{◌≡◌, ℕ, suc, ◌+◌, ◌^◌, ◌<◌, ◌==◌, Bool, true, false, not, All, List, [], ◌∷◌, slice_get, slice_set, cond, Some, if◌then◌else◌}
-use Rattle.std.proofs.Common.{arith, refl, sym, ap, subst, ◌∙◌, inl, inr}
-use Rattle.std.proofs.lemmas.Bool.{cases_eq}
-use Rattle.std.proofs.lemmas.Bool.Decides.{nat_tests}
-use Rattle.std.proofs.lemmas.List.Elements.{All-get_or}
+use Rattle.std.proofs.{Common.{arith, refl, sym, ap, subst, ◌∙◌, inl, inr}, lemmas.{Bool.{cases_eq, Decides.{nat_tests}}, List.Elements.{All-get_or}}}
 use Rattle.std.proofs.lemmas.Option.{slice_get_within, get_or_from_slice_get, same_Some}
 use Rattle.perf_base.specs.declared.numbers.RingNo.{RingNo}
 use Rattle.ring_words.specs.Ends as words
-use Rattle.sample_ring.specs.OutEnds.{OutEnd}
-use Rattle.sample_ring.specs.RingLists.{ring_index, HasRing}
-use Rattle.sample_ring.specs.Sends.{Request, need_for, sent_to, answer_to, fits}
-use Rattle.sample_ring.specs.declared.sent.Sent.{Sent as Answer}
+use Rattle.sample_ring.specs.{OutEnds.{OutEnd}, RingLists.{ring_index, HasRing}, Sends.{Request, need_for, sent_to, answer_to, fits}}
+use Rattle.sample_ring.{specs.declared.sent.Sent.{Sent as Answer}, proofs.Sending.{head_bounded, lost_bounded}}
 use Rattle.sample_ring.specs.declared.sent.Sent.TheVariants as answer
-use Rattle.sample_ring.proofs.Sending.{head_bounded, lost_bounded}
 use Rattle.work_account.specs.Ends.{sent_among, loses_among, is_lost}
 
 -- what is found at a place, and what the lists have there

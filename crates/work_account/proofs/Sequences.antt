@@ -1,23 +1,14 @@
 -- Records that are sent one after the other, and the space for those to come.
 use Rattle.std.specs.Prelude.{◌≡◌, ℕ, zero, suc, ◌+◌, ◌<◌, ◌≤◌, List, [], ◌∷◌, ◌++◌, length, drop, replicate, slice_get, slice_index_or, Option, Some, None}
-use Rattle.std.proofs.Common.{arith, refl, sym, ap, subst, ◌∙◌}
-use Rattle.std.proofs.Math.Seq.{drop-cons}
-use Rattle.std.proofs.lemmas.List.{drop_all, length-append, length-replicate}
-use Rattle.std.proofs.lemmas.List.Sums.{fold-append}
-use Rattle.std.proofs.lemmas.Option.{slice_get_within, get_or_from_slice_get}
-use Rattle.perf_base.specs.declared.lines.Work.{Work}
-use Rattle.perf_base.specs.declared.numbers.CpuNo.{CpuNo}
-use Rattle.perf_base.specs.declared.numbers.RingNo.{RingNo}
-use Rattle.stage_spec.specs.declared.instance.Instance.{Instance}
-use Rattle.stage_spec.specs.Stage.{Stage}
+use Rattle.std.proofs.{Common.{arith, refl, sym, ap, subst, ◌∙◌}, Math.Seq.{drop-cons}, lemmas.List.{drop_all, length-append, length-replicate}}
+use Rattle.std.proofs.lemmas.{List.Sums.{fold-append}, Option.{slice_get_within, get_or_from_slice_get}}
+use Rattle.perf_base.specs.declared.{lines.Work.{Work}, numbers.{CpuNo.{CpuNo}, RingNo.{RingNo}}}
+use Rattle.stage_spec.specs.{declared.instance.Instance.{Instance}, Stage.{Stage}}
 use Rattle.ring_spec.specs.Sending.{SentSample, fields_of, sent_of, to_ring, sent_by_family}
-use Rattle.sample_ring.specs.RingLists.{RingList}
-use Rattle.sample_ring.specs.Sends.{Request, request_of}
+use Rattle.sample_ring.specs.{RingLists.{RingList}, Sends.{Request, request_of}}
 use Rattle.world_spec.specs.Value.{World}
-use Rattle.work_account.specs.declared.overflowing.Overflow.{Overflow}
-use Rattle.work_account.specs.declared.samples.Stretch.{Stretch}
-use Rattle.work_account.specs.Ends.{Ends, send_one, send_next, send_all, AreTogether, HaveSpace}
-use Rattle.work_account.specs.Sampling.{send_times, sents_of, sents_all}
+use Rattle.work_account.specs.declared.{overflowing.Overflow.{Overflow}, samples.Stretch.{Stretch}}
+use Rattle.work_account.specs.{Ends.{Ends, send_one, send_next, send_all, AreTogether, HaveSpace}, Sampling.{send_times, sents_of, sents_all}}
 use Rattle.work_account.proofs.Space.{space-next, space-less, together-next}
 
 pub send_all-none : (x : Ends) → send_all x [] ≡ x

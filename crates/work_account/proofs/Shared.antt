@@ -1,32 +1,17 @@
 -- The accounts after work and after one occurrence are those of the definitions' shares.
 use Rattle.std.specs.Prelude.{◌≡◌, ℕ, zero, suc, ◌+◌, ◌≤◌, ◌==◌, Bool, true, false, not, ◌&&◌, cond, List, map, filter, if◌then◌else◌}
-use Rattle.std.specs.FinMap.{contains_key}
-use Rattle.std.proofs.Common.{arith, refl, sym, ap, ◌∙◌}
-use Rattle.std.proofs.lemmas.Bool.Decides.{nat_tests}
-use Rattle.perf_base.specs.declared.attr.Kind.{Kind}
-use Rattle.perf_base.specs.declared.lines.Work.{Work}
-use Rattle.perf_base.specs.declared.numbers.CpuNo.{CpuNo}
-use Rattle.perf_base.specs.declared.numbers.Key.{Key}
-use Rattle.perf_base.specs.declared.reply.Sums.{Sums}
-use Rattle.stage_spec.specs.declared.instance.Instance.{Instance}
-use Rattle.stage_spec.specs.Occurrences.{left_after}
-use Rattle.stage_spec.specs.Shares.{work_hits}
-use Rattle.stage_laws.specs.Narrowing.{has_context}
-use Rattle.world_spec.specs.Value.{World, Account, is_live, entry_at, instance_at, account_at, standing_at, times}
-use Rattle.world_spec.specs.StageOf.{stage_of}
-use Rattle.world_spec.specs.Kept.{once_if, IsKept}
-use Rattle.world_spec.specs.Metering.{IsWorked, work_given}
-use Rattle.world_spec.specs.Rescheduled.{IsJudged}
-use Rattle.world_spec.specs.Shares.{work_shares, soft_hits, soft_shares, HaveShares}
-use Rattle.world_spec.specs.Ways.{is_on_at}
-use Rattle.world_spec.specs.Working.{is_effective, keys_by_pass}
+use Rattle.std.{specs.FinMap.{contains_key}, proofs.{Common.{arith, refl, sym, ap, ◌∙◌}, lemmas.Bool.Decides.{nat_tests}}}
+use Rattle.perf_base.specs.declared.{attr.Kind.{Kind}, lines.Work.{Work}, numbers.{CpuNo.{CpuNo}, Key.{Key}}, reply.Sums.{Sums}}
 use Rattle.perf_base.specs.Standings.{stands_on}
-use Rattle.world_spec.proofs.Along.{keys-live, on-share, reached-keys, share-is}
-use Rattle.world_spec.proofs.Counting.{times-filter}
-use Rattle.work_account.specs.declared.happening.Happening.{Happening}
-use Rattle.work_account.specs.declared.happening.Happening.TheVariants as happening
-use Rattle.work_account.specs.Visits.{occurs, samples, is_hit_by, takes, hit_at, hits_among, hit_all}
+use Rattle.stage_spec.specs.{declared.instance.Instance.{Instance}, Occurrences.{left_after}, Shares.{work_hits}}
+use Rattle.stage_laws.specs.Narrowing.{has_context}
+use Rattle.world_spec.specs.{Value.{World, Account, is_live, entry_at, instance_at, account_at, standing_at, times}, StageOf.{stage_of}}
+use Rattle.world_spec.specs.{Kept.{once_if, IsKept}, Metering.{IsWorked, work_given}, Rescheduled.{IsJudged}}
+use Rattle.world_spec.specs.{Shares.{work_shares, soft_hits, soft_shares, HaveShares}, Ways.{is_on_at}, Working.{is_effective, keys_by_pass}}
+use Rattle.world_spec.proofs.{Along.{keys-live, on-share, reached-keys, share-is}, Counting.{times-filter}}
+use Rattle.work_account.specs.{declared.happening.Happening.{Happening}, Visits.{occurs, samples, is_hit_by, takes, hit_at, hits_among, hit_all}}
 use Rattle.work_account.proofs.Struck.{after_hits, hit-out, hit-in, hit-keys}
+use Rattle.work_account.specs.declared.happening.Happening.TheVariants as happening
 
 -- tests that stand together
 regrouped : (i e c s : Bool) → (i && ((e && c) && s)) ≡ ((i && (e && s)) && c)

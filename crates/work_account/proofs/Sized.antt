@@ -1,14 +1,9 @@
 -- The records that a stretch of work sends have lawful sizes.
 use Rattle.std.specs.Prelude.{ℕ, zero, suc, ◌+◌, ◌≤◌, ◌==◌, bit_and, Bool, true, false, List, [], ◌∷◌, ◌++◌, length, replicate, flat_map, Option, Some, None, if◌then◌else◌}
 use Rattle.std.proofs.Common.{arith, length-append}
-use Rattle.perf_base.specs.declared.lines.Work.{Work}
-use Rattle.perf_base.specs.declared.numbers.CpuNo.{CpuNo}
-use Rattle.perf_base.specs.declared.numbers.RingNo.{RingNo}
-use Rattle.stage_spec.specs.declared.instance.Instance.{Instance}
-use Rattle.stage_spec.specs.Stage.{Stage, original_of}
-use Rattle.stage_spec.proofs.Each.{none-Each, cons-Each, append-Each}
-use Rattle.ring_spec.specs.declared.fields.Fields.{Fields}
-use Rattle.ring_spec.specs.Records.{field, thread_word, body_of}
+use Rattle.perf_base.specs.declared.{lines.Work.{Work}, numbers.{CpuNo.{CpuNo}, RingNo.{RingNo}}}
+use Rattle.stage_spec.{specs.{declared.instance.Instance.{Instance}, Stage.{Stage, original_of}}, proofs.Each.{none-Each, cons-Each, append-Each}}
+use Rattle.ring_spec.specs.{declared.fields.Fields.{Fields}, Records.{field, thread_word, body_of}}
 use Rattle.ring_spec.specs.Sending.{SentSample, fields_of, has_trailer, trailer_if, sent_of, to_ring, sent_by_family, overflows_by}
 use Rattle.work_account.proofs.Accounts.{IsSized, AreSized}
 

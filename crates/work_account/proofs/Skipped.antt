@@ -1,25 +1,16 @@
 -- Nobody in a context takes work where none there samples.
 use Rattle.std.specs.Prelude.{◌≡◌, ◌≤◌, ◌==◌, Bool, true, false, not, ◌&&◌, cond, List, [], ◌∷◌, ◌++◌, map, filter, if◌then◌else◌}
-use Rattle.std.proofs.Common.{arith, refl, sym, ap, ◌∙◌, inl, inr}
-use Rattle.std.proofs.lemmas.Bool.{cases_Bool, false≢true}
-use Rattle.std.proofs.lemmas.Bool.Decides.{nat_tests}
-use Rattle.perf_base.specs.declared.lines.Work.{Work}
-use Rattle.perf_base.specs.declared.numbers.Key.{Key}
-use Rattle.perf_base.specs.declared.standing.Context.{Context}
+use Rattle.std.proofs.{Common.{arith, refl, sym, ap, ◌∙◌, inl, inr}, lemmas.Bool.{cases_Bool, false≢true, Decides.{nat_tests}}}
+use Rattle.perf_base.specs.declared.{lines.Work.{Work}, numbers.Key.{Key}, standing.Context.{Context}}
 use Rattle.stage_spec.specs.Stage.{place_of}
-use Rattle.world_spec.specs.Value.{World, is_live, entry_at, instance_at, leaders_of, times}
-use Rattle.world_spec.specs.Kept.{post_at, leads, once_if, IsKept}
-use Rattle.world_spec.specs.Working.{is_on}
-use Rattle.world_spec.proofs.Along.{member-of}
-use Rattle.world_spec.proofs.Keys.{times-cons}
+use Rattle.world_spec.specs.{Value.{World, is_live, entry_at, instance_at, leaders_of, times}, Kept.{post_at, leads, once_if, IsKept}}
+use Rattle.world_spec.{specs.Working.{is_on}, proofs.{Along.{member-of}, Keys.{times-cons}}}
 use Rattle.world_tables.specs.Places.{picked}
 use Rattle.perf_world.specs.Seen.{SomeSamples}
-use Rattle.work_account.specs.declared.happening.Happening.{Happening}
-use Rattle.work_account.specs.declared.happening.Happening.TheVariants as happening
-use Rattle.work_account.specs.declared.overflowing.Hit.{Hit}
-use Rattle.work_account.specs.Visits.{samples, takes, hit_at, hits_among, members_at, all_members}
-use Rattle.work_account.proofs.Among.{hits-append}
+use Rattle.work_account.specs.declared.{happening.Happening.{Happening}, overflowing.Hit.{Hit}}
+use Rattle.work_account.{specs.Visits.{samples, takes, hit_at, hits_among, members_at, all_members}, proofs.Among.{hits-append}}
 use Rattle.work_account.proofs.Reached.{stands-first}
+use Rattle.work_account.specs.declared.happening.Happening.TheVariants as happening
 
 -- who stands in the groups of a context stands in it
 placed : (lead there third : Bool) → 1 ≤ once_if (lead && there && third) → there ≡ true

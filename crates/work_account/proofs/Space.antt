@@ -1,19 +1,11 @@
 -- Sends leave rings and ends together, and space for as many fewer records.
 use Rattle.std.specs.Prelude.{◌≡◌, ℕ, suc, ◌+◌, ◌-◌, ◌*◌, ◌^◌, ◌<◌, ◌≤◌, ◌==◌, Bool, true, false, All, List, [], ◌∷◌, length, map, slice_index_or}
-use Rattle.std.proofs.Common.{arith, refl, sym, ap, subst, ◌∙◌, inl, inr}
-use Rattle.std.proofs.lemmas.Bool.{cases_Bool, cases_eq, cases_lt}
-use Rattle.std.proofs.lemmas.List.{get_or-set_same, get_or-set_other}
-use Rattle.std.proofs.lemmas.List.Elements.{All-head, All-tail, All-cons}
-use Rattle.std.proofs.Math.Seq.{set_out}
-use Rattle.perf_base.specs.declared.numbers.EventNo.{EventNo}
-use Rattle.perf_base.specs.declared.numbers.RingNo.{RingNo}
+use Rattle.std.proofs.{Common.{arith, refl, sym, ap, subst, ◌∙◌, inl, inr}, lemmas.Bool.{cases_Bool, cases_eq, cases_lt}}
+use Rattle.std.proofs.{lemmas.List.{get_or-set_same, get_or-set_other, Elements.{All-head, All-tail, All-cons}}, Math.Seq.{set_out}}
+use Rattle.perf_base.specs.declared.numbers.{EventNo.{EventNo}, RingNo.{RingNo}}
 use Rattle.ring_words.specs.Ends.{Ring, head_place}
-use Rattle.sample_ring.specs.OutEnds.{OutEnd}
-use Rattle.sample_ring.specs.RingLists.{RingList}
-use Rattle.sample_ring.specs.Sends.{Request, sent_to}
-use Rattle.sample_ring.proofs.Sending.{head_bounded, lost_bounded}
-use Rattle.work_account.specs.Ends.{Ends, sent_among, loses_among, count_lost, send_one, AreTogether, HaveSpace}
-use Rattle.work_account.specs.Sampling.{send_times}
+use Rattle.sample_ring.{specs.{OutEnds.{OutEnd}, RingLists.{RingList}, Sends.{Request, sent_to}}, proofs.Sending.{head_bounded, lost_bounded}}
+use Rattle.work_account.specs.{Ends.{Ends, sent_among, loses_among, count_lost, send_one, AreTogether, HaveSpace}, Sampling.{send_times}}
 use Rattle.work_account.proofs.Accounts.{ring-kept}
 
 -- what holds of each end after a send, from what held of each before

@@ -1,18 +1,12 @@
 -- How many instances are hit.
 use Rattle.std.specs.Prelude.{◌≡◌, Bool, true, false, ◌&&◌, cond, List, [], ◌∷◌, length, map, filter, count_by}
 use Rattle.std.proofs.Common.{arith, refl, sym, ap, ◌∙◌}
-use Rattle.perf_base.specs.declared.lines.Work.{Work}
-use Rattle.perf_base.specs.declared.numbers.CpuNo.{CpuNo}
-use Rattle.perf_base.specs.declared.numbers.Key.{Key}
-use Rattle.stage_laws.proofs.Counts.{count-cons}
-use Rattle.stage_laws.proofs.Totals.{as_number}
-use Rattle.world_spec.specs.Value.{World, instance_at}
-use Rattle.world_spec.specs.Kept.{IsKept}
-use Rattle.world_spec.specs.Rescheduled.{IsJudged}
-use Rattle.world_spec.specs.Working.{is_on, keys_by_pass}
+use Rattle.perf_base.specs.declared.{lines.Work.{Work}, numbers.{CpuNo.{CpuNo}, Key.{Key}}}
+use Rattle.stage_laws.proofs.{Counts.{count-cons}, Totals.{as_number}}
+use Rattle.world_spec.specs.{Value.{World, instance_at}, Kept.{IsKept}, Rescheduled.{IsJudged}, Working.{is_on, keys_by_pass}}
 use Rattle.world_spec.proofs.Along.{on-keys}
-use Rattle.work_account.specs.declared.happening.Happening.TheVariants as happening
 use Rattle.work_account.specs.Visits.{samples, takes, hit_at, hits_among, sampling_on}
+use Rattle.work_account.specs.declared.happening.Happening.TheVariants as happening
 
 -- those that sample among those that are on
 hit-count : (w : World) (work : Work) (keys : List Key)

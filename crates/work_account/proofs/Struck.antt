@@ -1,28 +1,15 @@
 -- Instances that are hit, one after the other.
 use Rattle.std.specs.Prelude.{◌≡◌, ℕ, zero, suc, ◌+◌, ◌<◌, ◌≤◌, true, false, List, [], ◌∷◌, ◌++◌, length, map, take, drop, count_by, slice_index_or}
-use Rattle.std.specs.FinMap.{contains_key}
-use Rattle.std.specs.Option.{unwrap_or}
-use Rattle.std.proofs.Common.{arith, refl, sym, ap, subst, ◌∙◌, inl, inr}
-use Rattle.std.proofs.lemmas.Bool.{cases_eq, cases_Bool}
-use Rattle.std.proofs.lemmas.Bool.Decides.{nat_tests}
-use Rattle.std.proofs.lemmas.List.{map-append, take-append-drop}
-use Rattle.std.proofs.lemmas.List.Sums.{fold-append}
+use Rattle.std.{specs.{FinMap.{contains_key}, Option.{unwrap_or}}, proofs.Common.{arith, refl, sym, ap, subst, ◌∙◌, inl, inr}}
+use Rattle.std.proofs.lemmas.{Bool.{cases_eq, cases_Bool, Decides.{nat_tests}}, List.{map-append, take-append-drop, Sums.{fold-append}}}
 use Rattle.std.proofs.Math.Seq.{drop-cons, take-suc}
-use Rattle.perf_base.specs.declared.numbers.Key.{Key}
-use Rattle.perf_base.specs.declared.reply.Sums.{Sums}
-use Rattle.stage_spec.specs.Families.{plus}
-use Rattle.stage_spec.specs.Occurrences.{left_after, overflows}
-use Rattle.stage_spec.specs.Shares.{no_sums}
+use Rattle.perf_base.specs.declared.{numbers.Key.{Key}, reply.Sums.{Sums}}
+use Rattle.stage_spec.specs.{Families.{plus}, Occurrences.{left_after, overflows}, Shares.{no_sums}}
 use Rattle.stage_laws.proofs.Counts.{count-cons, count-append}
 use Rattle.world_spec.specs.Value.{World, Account, no_account, no_family, instance_at, account_at, is_key, times}
-use Rattle.world_spec.specs.Kept.{post_at, keys_of, plus_keys, family_sums, AreLinked}
-use Rattle.world_spec.specs.Changes.{with_account}
-use Rattle.world_spec.proofs.Accounts.{family-other}
-use Rattle.world_spec.proofs.Keys.{key-is, is_key-same, is_key-other, times-cons, once-true, once-false}
-use Rattle.world_spec.proofs.Tables.{get-here, get-there, keys-written}
-use Rattle.work_account.specs.declared.happening.Happening.{Happening}
-use Rattle.work_account.specs.declared.overflowing.Hit.{Hit}
-use Rattle.work_account.specs.declared.overflowing.Overflow.{Overflow}
+use Rattle.world_spec.{specs.{Kept.{post_at, keys_of, plus_keys, family_sums, AreLinked}, Changes.{with_account}}, proofs.Accounts.{family-other}}
+use Rattle.world_spec.proofs.{Keys.{key-is, is_key-same, is_key-other, times-cons, once-true, once-false}, Tables.{get-here, get-there, keys-written}}
+use Rattle.work_account.specs.declared.{happening.Happening.{Happening}, overflowing.{Hit.{Hit}, Overflow.{Overflow}}}
 use Rattle.work_account.specs.Visits.{occurs, hit_at, is_of, hit_one, hit_all, overflow_of, MayHit, MayHitAll}
 
 -- an account after a write

@@ -2,16 +2,12 @@
 -- ends have. After __perf_event_overflow and __perf_output_begin of kernel/events, which counts the records lost for
 -- their event too; the tables are this project's own profile.
 use Rattle.std.specs.Prelude.{◌≡◌, ◌≢◌, ℕ, ◌+◌, ◌*◌, ◌^◌, ◌<◌, ◌==◌, Bool, true, false, not, All, AllPairs, List, [], ◌∷◌, map, fold, slice_index_or, slice_set, if◌then◌else◌}
-use Rattle.perf_base.specs.declared.numbers.EventNo.{EventNo}
-use Rattle.perf_base.specs.declared.numbers.RingNo.{RingNo}
-use Rattle.ring_spec.specs.Running.{RingAccount}
-use Rattle.ring_spec.specs.Sending.{SentSample}
+use Rattle.perf_base.specs.declared.numbers.{EventNo.{EventNo}, RingNo.{RingNo}}
+use Rattle.ring_spec.specs.{Running.{RingAccount}, Sending.{SentSample}}
 use Rattle.ring_words.specs.Ends.{head_place}
-use Rattle.sample_ring.specs.OutEnds.{OutEnd, HasAccount}
-use Rattle.sample_ring.specs.RingLists.{RingList, OutList}
-use Rattle.sample_ring.specs.declared.sent.Sent.{Sent as Answer}
-use Rattle.sample_ring.specs.declared.sent.Sent.TheVariants as answer
+use Rattle.sample_ring.specs.{OutEnds.{OutEnd, HasAccount}, RingLists.{RingList, OutList}, declared.sent.Sent.{Sent as Answer}}
 use Rattle.sample_ring.specs.Sends.{Request, request_of, sent_to, fits}
+use Rattle.sample_ring.specs.declared.sent.Sent.TheVariants as answer
 
 -- the ends that send, and of each slot how many of its records were lost
 pub record Ends : Type 0 where

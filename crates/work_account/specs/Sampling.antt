@@ -1,20 +1,12 @@
 -- What a stretch of work sends, as the code has it: the samples, and the overflows that they are of. This project's own
 -- profile.
 use Rattle.std.specs.Prelude.{◌≡◌, ℕ, zero, suc, ◌+◌, List, length, flat_map, Some, slice_index_or, true}
-use Rattle.perf_base.specs.declared.lines.Work.{Work}
-use Rattle.perf_base.specs.declared.numbers.CpuNo.{CpuNo}
-use Rattle.perf_base.specs.declared.numbers.EventNo.{EventNo}
-use Rattle.perf_base.specs.declared.numbers.Key.{Key}
-use Rattle.perf_base.specs.declared.numbers.RingNo.{RingNo}
+use Rattle.perf_base.specs.declared.{lines.Work.{Work}, numbers.{CpuNo.{CpuNo}, EventNo.{EventNo}, Key.{Key}, RingNo.{RingNo}}}
 use Rattle.stage_spec.specs.Stage.{original_of}
 use Rattle.ring_spec.specs.Sending.{SentSample, sent_by_family, sent_at}
-use Rattle.sample_ring.specs.RingLists.{OutList, HasRing}
-use Rattle.sample_ring.specs.Sends.{Request, request}
-use Rattle.world_spec.specs.Value.{World, is_live, instance_at, account_at}
-use Rattle.world_spec.specs.StageOf.{stage_of}
-use Rattle.work_account.specs.declared.overflowing.Overflow.{Overflow}
-use Rattle.work_account.specs.declared.samples.Sample.{Sample}
-use Rattle.work_account.specs.declared.samples.Stretch.{Stretch}
+use Rattle.sample_ring.specs.{RingLists.{OutList, HasRing}, Sends.{Request, request}}
+use Rattle.world_spec.specs.{Value.{World, is_live, instance_at, account_at}, StageOf.{stage_of}}
+use Rattle.work_account.specs.declared.{overflowing.Overflow.{Overflow}, samples.{Sample.{Sample}, Stretch.{Stretch}}}
 use Rattle.work_account.specs.Ends.{Ends, HaveSpace, send_one}
 
 -- the ends, and a world's counts of records lost

@@ -2,28 +2,16 @@
 -- After perf_swevent_event and __perf_event_overflow of kernel/events/core.c; the order is this project's own profile.
 use Rattle.std.specs.Prelude.{◌≡◌, ℕ, ◌+◌, ◌^◌, ◌<◌, ◌≤◌, ◌==◌, Bool, true, false, not, ◌&&◌, List, length, map, filter, flat_map, count_by, Option, slice_index_or}
 use Rattle.std.specs.List.{fold}
-use Rattle.perf_base.specs.declared.numbers.CpuNo.{CpuNo}
-use Rattle.perf_base.specs.declared.numbers.Key.{Key}
-use Rattle.perf_base.specs.declared.numbers.TaskNo.{TaskNo}
+use Rattle.perf_base.specs.declared.numbers.{CpuNo.{CpuNo}, Key.{Key}, TaskNo.{TaskNo}}
 use Rattle.perf_base.specs.declared.standing.Context.TheVariants as context
-use Rattle.stage_spec.specs.declared.instance.Instance.{Instance}
-use Rattle.stage_spec.specs.Occurrences.{overflows}
-use Rattle.stage_spec.specs.Shares.{work_hits}
-use Rattle.stage_spec.specs.Verdict.{on_instances}
-use Rattle.world_spec.specs.Value.{World, is_live, entry_at, instance_at, account_at, leaders_of}
-use Rattle.world_spec.specs.StageOf.{stage_of}
-use Rattle.world_spec.specs.Kept.{post_at, family_sums, AreLinked}
+use Rattle.stage_spec.specs.{declared.instance.Instance.{Instance}, Occurrences.{overflows}, Shares.{work_hits}, Verdict.{on_instances}}
+use Rattle.world_spec.specs.{Value.{World, is_live, entry_at, instance_at, account_at, leaders_of}, StageOf.{stage_of}}
+use Rattle.world_spec.specs.{Kept.{post_at, family_sums, AreLinked}, Listings.{task_leaders}, Metering.{goes_along}, Shares.{soft_hits}}
+use Rattle.world_spec.specs.{Ways.{is_on_at}, Working.{is_on}}
 use Rattle.world_spec.specs.Changes as change
-use Rattle.world_spec.specs.Listings.{task_leaders}
-use Rattle.world_spec.specs.Metering.{goes_along}
-use Rattle.world_spec.specs.Shares.{soft_hits}
-use Rattle.world_spec.specs.Ways.{is_on_at}
-use Rattle.world_spec.specs.Working.{is_on}
 use Rattle.world_tables.specs.Places.{picked}
-use Rattle.work_account.specs.declared.happening.Happening.{Happening}
+use Rattle.work_account.specs.declared.{happening.Happening.{Happening}, overflowing.{Hit.{Hit}, Overflow.{Overflow}}}
 use Rattle.work_account.specs.declared.happening.Happening.TheVariants as happening
-use Rattle.work_account.specs.declared.overflowing.Hit.{Hit}
-use Rattle.work_account.specs.declared.overflowing.Overflow.{Overflow}
 
 -- what an instance that is on counts of it
 abbrev pub occurs : Happening → Instance → ℕ

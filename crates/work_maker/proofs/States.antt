@@ -1,20 +1,13 @@
 -- What a script says while the script of N rounds is built.
 use Rattle.std.proofs.Common.{◌≡◌, ℕ, zero, suc, ◌+◌, ◌*◌, ◌<◌, ◌≤◌, Bool, true, false, ltb, List, [], ◌∷◌, ◌++◌, length, get_or, set, sym, ap, refl, arith, ◌∙◌}
-use Rattle.std.specs.Prelude.{sum_by, replicate, if◌then◌else◌}
+use Rattle.std.proofs.lemmas.List.{append_assoc, append-nil, get_or-set_same, set-set, length-append, Concat.{length-flat_map}}
+use Rattle.std.{proofs.lemmas.List.{FromFn.{length-range_with_len}, Sums.{sum_by-set, sum_by-le}}, specs.Prelude.{sum_by, replicate, if◌then◌else◌}}
 use Rattle.std.specs.List.{range_with_len}
-use Rattle.std.proofs.lemmas.List.{append_assoc, append-nil, get_or-set_same, set-set, length-append}
-use Rattle.std.proofs.lemmas.List.Concat.{length-flat_map}
-use Rattle.std.proofs.lemmas.List.FromFn.{length-range_with_len}
-use Rattle.std.proofs.lemmas.List.Sums.{sum_by-set, sum_by-le}
-use Rattle.perf_base.specs.declared.numbers.CpuNo.{CpuNo}
-use Rattle.perf_base.specs.declared.lines.CpuLine.{CpuLine}
-use Rattle.perf_base.specs.declared.lines.ToolLine.{ToolLine}
-use Rattle.perf_base.specs.declared.acts.Act.{Act}
-use Rattle.perf_base.specs.declared.acts.Act.TheVariants as act
+use Rattle.perf_base.specs.declared.{numbers.CpuNo.{CpuNo}, lines.{CpuLine.{CpuLine}, ToolLine.{ToolLine}}, acts.Act.{Act}}
 use Rattle.perf_base.specs.Scripts.{Scripted, IsAct, line_count, with_task, with_ring, with_reader, with_cpu_line, with_tool_line}
+use Rattle.perf_base.specs.declared.acts.Act.TheVariants as act
 use Rattle.make_spec.specs.Rounds.{for_each, for_each_all, made_task, made_ring, made_reader, round_lines, processor_lines}
-use Rattle.make_spec.proofs.ForEach.{for_each-more, for_each_all-more}
-use Rattle.make_spec.proofs.Lines.{processor_length}
+use Rattle.make_spec.proofs.{ForEach.{for_each-more, for_each_all-more}, Lines.{processor_length}}
 use Rattle.work_maker.specs.Building.{with_cpu_lines, with_first_tool_lines, with_acts, declared, so_far, rounds_below}
 
 -- one of several lists with entries more

@@ -1,10 +1,7 @@
 -- What stands in the script of N rounds while it is built. It serves the contracts of this crate's own functions. This
 -- project's own profile.
 use Rattle.std.specs.Prelude.{ℕ, ◌+◌, List, [], ◌∷◌, ◌++◌, slice_set, replicate, nat_lt, if◌then◌else◌}
-use Rattle.perf_base.specs.declared.numbers.CpuNo.{CpuNo}
-use Rattle.perf_base.specs.declared.lines.CpuLine.{CpuLine}
-use Rattle.perf_base.specs.declared.lines.ToolLine.{ToolLine}
-use Rattle.perf_base.specs.declared.acts.Act.{Act}
+use Rattle.perf_base.specs.declared.{numbers.CpuNo.{CpuNo}, lines.{CpuLine.{CpuLine}, ToolLine.{ToolLine}}, acts.Act.{Act}}
 use Rattle.perf_base.specs.Scripts.{Scripted, empty_script, lines_of_cpu, lines_of_tool}
 use Rattle.make_spec.specs.Rounds.{made_pmus, made_kinds, for_each, made_task, made_ring, made_reader, processor_lines}
 

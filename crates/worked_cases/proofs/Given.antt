@@ -1,32 +1,19 @@
 -- What a call wrote and answered, beside what its source had.
-use Rattle.std.specs.Prelude.{codes, ◌⊎◌}
-use Rattle.std.proofs.Common.{◌≡◌, ◌↔◌, ℕ, List, [], ◌∷◌, Option, Some, inl, inr, refl, sym, ap, subst, ◌∙◌, arith}
-use Rattle.perf_base.specs.declared.numbers.RingNo.{RingNo}
-use Rattle.perf_base.specs.Scripts.{Scripted}
+use Rattle.std.{specs.Prelude.{codes, ◌⊎◌}, proofs.Common.{◌≡◌, ◌↔◌, ℕ, List, [], ◌∷◌, Option, Some, inl, inr, refl, sym, ap, subst, ◌∙◌, arith}}
+use Rattle.perf_base.specs.{declared.{numbers.RingNo.{RingNo}, reasons.SReason.{SReason}}, Scripts.{Scripted}}
 use Rattle.script_spec.specs.Texts.{IsRefused, StandsFor}
-use Rattle.perf_base.specs.declared.reasons.SReason.{SReason}
 use Rattle.script_read.specs.declared.fault.ScriptFault.TheVariants as fault
 use Rattle.perf_io.specs.Outside.{Adds, SinkShows, SourceShows}
-use Rattle.perf_top.specs.declared.status.Status.{Status}
+use Rattle.perf_top.specs.{declared.{status.Status.{Status}, asked.Asked.{Asked}}, Notes.{number_of}, Asking.{AreKnown, Asks, DoesOrder}}
+use Rattle.perf_top.{specs.Outcome.{HasOpenOrder, IsAnswer, IsGiven, IsOutput}, proofs.{Asking.{one-asked}, Whole.{gave-is}}}
 use Rattle.perf_top.specs.declared.status.Status.TheVariants as status
-use Rattle.perf_top.specs.Notes.{number_of}
-use Rattle.perf_top.specs.Asking.{AreKnown, Asks, DoesOrder}
-use Rattle.perf_top.specs.Outcome.{HasOpenOrder, IsAnswer, IsGiven, IsOutput}
-use Rattle.perf_top.proofs.Asking.{one-asked}
-use Rattle.perf_top.proofs.Whole.{gave-is}
-use Rattle.perf_top.specs.declared.asked.Asked.{Asked}
 use Rattle.perf_top.specs.declared.asked.Asked.TheVariants as asked
-use Rattle.worked_cases.specs.declared.case.Expected.{Expected}
-use Rattle.worked_cases.specs.declared.again.Again.{Again}
-use Rattle.worked_cases.specs.declared.again.Again.TheVariants as again
-use Rattle.worked_cases.specs.declared.printed.Printed.{Printed}
-use Rattle.worked_cases.specs.declared.printed.Printed.TheVariants as printed
-use Rattle.worked_cases.specs.declared.verdict.Verdict.{Verdict}
-use Rattle.worked_cases.specs.declared.verdict.Verdict.TheVariants as verdict
-use Rattle.worked_cases.specs.Expectations.{Allows}
-use Rattle.worked_cases.specs.Words.{AreAsExpected}
-use Rattle.worked_cases.specs.Written.{IsBadOrder, IsBadScript, IsReplayed, IsWritten}
+use Rattle.worked_cases.specs.declared.{case.Expected.{Expected}, again.Again.{Again}, printed.Printed.{Printed}, verdict.Verdict.{Verdict}}
+use Rattle.worked_cases.specs.{Expectations.{Allows}, Words.{AreAsExpected}, Written.{IsBadOrder, IsBadScript, IsReplayed, IsWritten}}
 use Rattle.worked_cases.specs.Printed.{IsPrintedOf, IsRunOf, AllowsAgain, HasSameReport, IsAsExpected}
+use Rattle.worked_cases.specs.declared.again.Again.TheVariants as again
+use Rattle.worked_cases.specs.declared.printed.Printed.TheVariants as printed
+use Rattle.worked_cases.specs.declared.verdict.Verdict.TheVariants as verdict
 
 -- what is given over a source is given over its bytes
 over-bytes : {S : Type 0} (left : S → Option (List ℕ)) (a : Asked) (before after : S) (s : Scripted) → IsGiven left a before after s → IsGiven (λ bytes. bytes) a (left before) (left after) s

@@ -1,8 +1,7 @@
 -- What each expectation of a worked case allows. This project's own profile.
 use Rattle.std.specs.Prelude.{◌≡◌, ◌≢◌, ◌==◌, ◌⊎◌, ◌||◌, ℕ, Bool, true, false, nat_eq, List, [], ◌++◌, codes, string_bytes}
 use Rattle.std.specs.List.{starts_with, ends_with, before_first, after_first}
-use Rattle.worked_cases.specs.declared.case.Case.{Case}
-use Rattle.worked_cases.specs.declared.case.Expected.{Expected}
+use Rattle.worked_cases.specs.declared.case.{Case.{Case}, Expected.{Expected}}
 use Rattle.worked_cases.specs.declared.case.Expected.TheVariants as expected
 
 -- the number, the output and the note of a call, by the report that a case names

@@ -1,13 +1,9 @@
 -- What words have written, and how a text was refused, beside a source that had the text. This project's own profile.
 use Rattle.std.specs.Prelude.{◌⊎◌, ℕ, List, Option, Some}
-use Rattle.perf_base.specs.declared.numbers.RingNo.{RingNo}
-use Rattle.perf_base.specs.declared.reasons.SReason.{SReason}
-use Rattle.perf_base.specs.Scripts.{Scripted}
+use Rattle.perf_base.specs.{declared.{numbers.RingNo.{RingNo}, reasons.SReason.{SReason}}, Scripts.{Scripted}}
 use Rattle.script_spec.specs.Texts.{IsRefused, StandsFor}
 use Rattle.stage_spec.specs.Order.{IsComplete}
-use Rattle.perf_top.specs.Asking.{Asks, DoesOrder}
-use Rattle.perf_top.specs.Outcome.{HasBadLook, HasOpenOrder, IsGiven, IsOutput, IsReported}
-use Rattle.perf_top.specs.declared.asked.Asked.{Asked}
+use Rattle.perf_top.specs.{Asking.{Asks, DoesOrder}, Outcome.{HasBadLook, HasOpenOrder, IsGiven, IsOutput, IsReported}, declared.asked.Asked.{Asked}}
 
 -- the report of the own order of the script that a text stands for, which is complete
 abbrev pub IsReplayed : List ℕ → List ℕ → Type 0

@@ -1,29 +1,13 @@
 -- A script whose order is answered step by step is answered as the definitions say.
-use Rattle.std.specs.Prelude.{◌≡◌, ℕ, ◌+◌, ◌==◌, nat_le, Bool, true, false, ◌&&◌, ◌||◌, List, [], ◌∷◌, ◌++◌, map, filter, fold, find, length, take, drop, sum, Option, Some, None, option_map, unwrap_or, suc, cond, if◌then◌else◌}
-use Rattle.std.proofs.Common.{arith, refl, sym, ap, ◌∙◌, inl, inr, append_assoc, append-nil, get_or}
-use Rattle.std.proofs.lemmas.List.{length-append}
-use Rattle.std.proofs.lemmas.Option.{none-some}
-use Rattle.std.proofs.lemmas.Bool.{false≢true, or_cases, leb-true}
-use Rattle.std.proofs.lemmas.Bool.Decides.{nat_tests}
-use Rattle.std.proofs.lemmas.List.Sums.{fold-append}
-use Rattle.perf_base.specs.declared.numbers.RingNo.{RingNo}
-use Rattle.perf_base.specs.declared.lines.CpuLine.{CpuLine}
-use Rattle.perf_base.specs.declared.lines.ToolLine.{ToolLine}
-use Rattle.perf_base.specs.declared.acts.Act.{Act}
+use Rattle.std.specs.Prelude.{◌≡◌, ℕ, ◌+◌, ◌==◌, nat_le, Bool, true, false, ◌&&◌, ◌||◌, List, [], ◌∷◌, ◌++◌, map, fold, find, length, take, drop, sum, Option, Some, None, option_map, unwrap_or, suc, cond}
+use Rattle.std.proofs.{Common.{arith, refl, sym, ap, ◌∙◌, inl, inr, append_assoc, append-nil, get_or}, lemmas.List.{length-append}}
+use Rattle.std.proofs.lemmas.{Option.{none-some}, Bool.{false≢true, or_cases, leb-true, Decides.{nat_tests}}}
+use Rattle.perf_base.specs.{declared.{numbers.RingNo.{RingNo}, acts.Act.{Act}, reply.Reply.{Reply}}, Scripts.{Scripted}}
 use Rattle.perf_base.specs.declared.acts.Act.TheVariants as act
-use Rattle.perf_base.specs.declared.reply.Reply.{Reply}
-use Rattle.perf_base.specs.Scripts.{Scripted}
-use Rattle.stage_spec.specs.Hardware.{Hardware, hardware_of}
-use Rattle.stage_spec.specs.Stage.{Stage}
-use Rattle.stage_spec.specs.Order.{IsLawfulAct, IsLawfulSeen, last_seen, seen_at, next_of_cpu, next_of_tool}
-use Rattle.stage_spec.specs.History.{Step, CpuStep, ToolStep, SeenStep, steps_of, steps_from, cpu_steps, tool_steps, history, opening_stage}
-use Rattle.stage_spec.specs.Replies.{AreReplies}
-use Rattle.ring_spec.specs.Records.{record_size}
-use Rattle.ring_spec.specs.Sending.{SentSample, sent_after}
-use Rattle.ring_spec.specs.Account.{Sends, Looks, Account, account, empty_account, send, ring_step, written_to, lost_to, need_of, room_of}
-use Rattle.ring_spec.specs.Rings.{looks_at, sends_to, is_to, events_after, events_from, events_of, account_of, account_in, bytes_of, bytes_in, sizes_in, lost_count}
-use Rattle.ring_spec.specs.Running.{RingAccount, Running, record_after, IsAnswerBy}
-use Rattle.ring_spec.proofs.Running.{IsKept, kept-step, answer_is, in_account}
+use Rattle.stage_spec.specs.{Hardware.{Hardware, hardware_of}, Stage.{Stage}, Order.{IsLawfulAct, IsLawfulSeen}}
+use Rattle.stage_spec.specs.{History.{Step, CpuStep, ToolStep, SeenStep, steps_of, steps_from, history, opening_stage}, Replies.{AreReplies}}
+use Rattle.ring_spec.specs.{Records.{record_size}, Account.{account}, Rings.{account_of, bytes_of, bytes_in, sizes_in, lost_count}}
+use Rattle.ring_spec.{specs.Running.{RingAccount, Running, record_after, IsAnswerBy}, proofs.Running.{IsKept, kept-step, answer_is, in_account}}
 use Rattle.ring_laws.proofs.Tails.{seen_tail}
 
 -- whether a place stands behind some of the records of these sizes

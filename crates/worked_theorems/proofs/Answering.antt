@@ -1,12 +1,8 @@
 -- The answer to a step by the record of those before it, with the test of seats.
 use Rattle.std.specs.Prelude.{Option, Some, None}
-use Rattle.perf_base.specs.declared.lines.ToolLine.{ToolLine}
+use Rattle.perf_base.specs.declared.{lines.ToolLine.{ToolLine}, reasons.Reason.{Reason}, reply.Reply.{Reply}}
 use Rattle.perf_base.specs.declared.lines.ToolLine.TheVariants as tool_line
-use Rattle.perf_base.specs.declared.reasons.Reason.{Reason}
-use Rattle.perf_base.specs.declared.reply.Reply.{Reply}
-use Rattle.stage_spec.specs.Hardware.{Hardware}
-use Rattle.stage_spec.specs.History.{Step, CpuStep, ToolStep, SeenStep, tool_refusal}
-use Rattle.stage_spec.specs.Replies.{IsToolReply, UnlessRefused}
+use Rattle.stage_spec.specs.{Hardware.{Hardware}, History.{Step, CpuStep, ToolStep, SeenStep, tool_refusal}, Replies.{IsToolReply, UnlessRefused}}
 use Rattle.ring_spec.specs.Running.{Running, family_by, IsAnswerBy}
 use Rattle.worked_theorems.proofs.answers.Seats.{SeatsBy, seats_by}
 

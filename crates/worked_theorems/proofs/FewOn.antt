@@ -1,23 +1,16 @@
 -- A case in which many events of a processor sample and few of them are on: what a line of work costs there goes by
 -- these few.
-use Rattle.std.specs.Prelude.{◌≡◌, ℕ, ◌==◌, Bool, not, List, [], ◌∷◌, count_by, map, length, replicate, None, codes}
-use Rattle.std.proofs.Common.{refl}
+use Rattle.std.{specs.Prelude.{◌≡◌, ℕ, ◌==◌, Bool, not, List, [], ◌∷◌, count_by, replicate, None, codes}, proofs.Common.{refl}}
+use Rattle.perf_base.specs.{declared.{lines.ToolLine.{ToolLine}, numbers.CpuNo.{CpuNo}}, Scripts.{Scripted}}
 use Rattle.perf_base.specs.declared.attr.Kind.TheVariants as kind
 use Rattle.perf_base.specs.declared.attr.TaskSel.TheVariants as tasks
 use Rattle.perf_base.specs.declared.attr.CpuSel.TheVariants as cpus
-use Rattle.perf_base.specs.declared.lines.ToolLine.{ToolLine}
 use Rattle.perf_base.specs.declared.lines.ToolLine.TheVariants as tool_line
-use Rattle.perf_base.specs.declared.numbers.CpuNo.{CpuNo}
-use Rattle.perf_base.specs.Scripts.{Scripted}
-use Rattle.stage_spec.specs.declared.instance.Instance.{Instance}
-use Rattle.stage_spec.specs.Hardware.{hardware_of}
-use Rattle.stage_spec.specs.Stage.{Stage, first_stage}
-use Rattle.stage_spec.specs.Fits.{fits, fits_beside, fits_below}
-use Rattle.stage_spec.specs.Verdict.{judge, judge_pass, judge_passes, verdicts, on_instances, reached}
-use Rattle.stage_spec.specs.Settle.{settle_pass, settle, settle_each, settle_all}
-use Rattle.stage_spec.specs.Opening.{open_refusal, opened}
+use Rattle.stage_spec.specs.{declared.instance.Instance.{Instance}, Hardware.{hardware_of}, Stage.{Stage, first_stage}}
+use Rattle.stage_spec.specs.{Fits.{fits, fits_beside, fits_below}, Verdict.{judge, judge_pass, judge_passes, verdicts, on_instances, reached}}
+use Rattle.stage_spec.specs.{Settle.{settle_pass, settle, settle_each, settle_all}, Opening.{open_refusal, opened}}
 use Rattle.stage_spec.specs.History.{stage_step, stage_after, steps_from, history, opening_stage}
-use Rattle.worked_theorems.proofs.answers.Words.{cpu, slot, slots, by_tool, pmu, kind_line, attr, eight, four}
+use Rattle.worked_theorems.proofs.answers.Words.{cpu, slot, by_tool, pmu, kind_line, attr, eight, four}
 
 -- an event of the one kind in each of some slots, on the first processor, with a period of 100
 pub opens : List ℕ → List ToolLine

@@ -1,19 +1,15 @@
 -- Worked cases of what a run leaves: orders whose looks stand as a run makes them and whose readers took their parts,
 -- and their neighbours, each of them lawful and wrong in one thing.
-use Rattle.std.specs.Prelude.{List, [], ◌∷◌, ◌++◌, take, drop, None, codes, false}
-use Rattle.std.proofs.Common.{arith, refl}
+use Rattle.std.{specs.Prelude.{List, [], ◌∷◌, ◌++◌, take, drop, None, codes, false}, proofs.Common.{arith, refl}}
+use Rattle.perf_base.specs.{declared.{lines.ReaderLine.{ReaderLine}, acts.Act.{Act}}, Scripts.{Scripted}}
 use Rattle.perf_base.specs.declared.attr.Kind.TheVariants as kind
 use Rattle.perf_base.specs.declared.attr.TaskSel.TheVariants as tasks
 use Rattle.perf_base.specs.declared.attr.CpuSel.TheVariants as cpus
 use Rattle.perf_base.specs.declared.lines.Mode.TheVariants as mode
 use Rattle.perf_base.specs.declared.lines.CpuLine.TheVariants as cpu_line
 use Rattle.perf_base.specs.declared.lines.ToolLine.TheVariants as tool_line
-use Rattle.perf_base.specs.declared.lines.ReaderLine.{ReaderLine}
-use Rattle.perf_base.specs.declared.acts.Act.{Act}
-use Rattle.perf_base.specs.Scripts.{Scripted}
 use Rattle.worked_theorems.proofs.answers.Words.{cpu, slot, ring, by_cpu, by_tool, seen, pmu, kind_line, attr, work, reader, eight, four}
-use Rattle.worked_theorems.proofs.reports.Looking.{Walked}
-use Rattle.worked_theorems.proofs.Shapes.{IsOfRun, HasStrayLook, HasNoReadersPart, of_run, stray_look, no_readers_part}
+use Rattle.worked_theorems.proofs.{reports.Looking.{Walked}, Shapes.{IsOfRun, HasStrayLook, HasNoReadersPart, of_run, stray_look, no_readers_part}}
 
 -- Two events, each with a ring of its own. Each of three stretches of work sends a record of 16 bytes to each ring.
 abbrev watched : List ReaderLine → List Act → Scripted

@@ -1,27 +1,14 @@
 -- Orders that a run leaves, and that none leaves: how a case shows which, by tests that are exact.
 use Rattle.std.specs.Prelude.{◌≡◌, ◌≤◌, ◌*◌, ◌==◌, ℕ, nat_le, nat_lt, Bool, true, false, not, ◌&&◌, List, [], ◌∷◌, ◌++◌, length, drop, All, Option, Some, None, MatchOption}
-use Rattle.std.specs.List.{list_all}
-use Rattle.std.proofs.Common.{arith, refl, sym, ap, ◌∙◌, append_assoc, append-nil, get_or}
-use Rattle.std.proofs.lemmas.Bool.{false≢true, and_parts, not-true, ltb-true, leb-true, le-leb, eq-eqb}
-use Rattle.std.proofs.lemmas.Bool.Decides.{nat_tests}
-use Rattle.std.proofs.lemmas.List.{length-append}
-use Rattle.std.proofs.lemmas.List.Sums.{AllPass-from_list_all, list_all-from_AllPass}
-use Rattle.std.proofs.lemmas.List.Folds.{list_all-map}
-use Rattle.perf_base.specs.declared.numbers.RingNo.{RingNo}
-use Rattle.perf_base.specs.declared.lines.ReaderLine.{ReaderLine}
-use Rattle.perf_base.specs.declared.acts.Act.{Act}
+use Rattle.std.{specs.List.{list_all}, proofs.Common.{arith, refl, sym, ap, ◌∙◌, append_assoc, append-nil, get_or}}
+use Rattle.std.proofs.lemmas.{Bool.{false≢true, and_parts, not-true, ltb-true, leb-true, le-leb, eq-eqb, Decides.{nat_tests}}, List.{length-append}}
+use Rattle.std.proofs.lemmas.List.{Sums.{AllPass-from_list_all, list_all-from_AllPass}, Folds.{list_all-map}}
+use Rattle.perf_base.specs.{declared.{numbers.RingNo.{RingNo}, lines.ReaderLine.{ReaderLine}, acts.Act.{Act}}, Scripts.{Scripted}}
 use Rattle.perf_base.specs.declared.acts.Act.TheVariants as act
-use Rattle.perf_base.specs.Scripts.{Scripted}
-use Rattle.stage_spec.specs.Hardware.{hardware_of}
-use Rattle.stage_spec.specs.Order.{IsCounted, last_seen}
-use Rattle.stage_spec.specs.History.{history, opening_stage}
-use Rattle.ring_spec.specs.Rings.{IsLawfulOrder, account_of}
+use Rattle.stage_spec.specs.{Hardware.{hardware_of}, Order.{IsCounted, last_seen}, History.{history, opening_stage}}
+use Rattle.ring_spec.{specs.{Rings.{IsLawfulOrder, account_of}, Running.{RingAccount, Running}}, proofs.Running.{IsKept, in_account}}
 use Rattle.report_spec.specs.Answers.{StandsBefore, RisesTo, IsRunAct, IsRunShaped, taken_of, reader_of, IsNoLook, AreReadersParts}
-use Rattle.ring_spec.specs.Running.{RingAccount, Running}
-use Rattle.ring_spec.proofs.Running.{IsKept, in_account}
-use Rattle.worked_theorems.proofs.Whole.{is_counted, counted_by}
-use Rattle.worked_theorems.proofs.Unlawful.{AllLooks, lawful_looks}
-use Rattle.worked_theorems.proofs.reports.Looking.{Walked, walked}
+use Rattle.worked_theorems.proofs.{Whole.{is_counted, counted_by}, Unlawful.{AllLooks, lawful_looks}, reports.Looking.{Walked, walked}}
 
 -- whether a look stands as a run makes it, and whether all looks of an order do
 abbrev stands_before : List Act → Bool

@@ -1,21 +1,13 @@
 -- The first look at a tail that is not lawful, and what the note of such an order says of it.
 use Rattle.std.specs.Prelude.{◌≡◌, ℕ, ◌+◌, ◌==◌, nat_le, Bool, true, false, ◌||◌, List, [], ◌∷◌, ◌++◌, map, find, take, sum, zero, suc, slice_get, Option, Some, None, option_map}
-use Rattle.std.proofs.Common.{arith, refl, sym, ap, ◌∙◌, append_assoc, append-nil}
-use Rattle.std.proofs.lemmas.Bool.{false≢true}
-use Rattle.std.proofs.lemmas.Bool.Decides.{nat_tests}
-use Rattle.perf_base.specs.declared.numbers.RingNo.{RingNo}
-use Rattle.perf_base.specs.declared.acts.Act.{Act}
+use Rattle.std.proofs.{Common.{arith, refl, sym, ap, ◌∙◌, append_assoc, append-nil}, lemmas.Bool.{false≢true, Decides.{nat_tests}}}
+use Rattle.perf_base.specs.{declared.{numbers.RingNo.{RingNo}, acts.Act.{Act}}, Scripts.{Scripted}}
 use Rattle.perf_base.specs.declared.acts.Act.TheVariants as act
-use Rattle.perf_base.specs.Scripts.{Scripted}
-use Rattle.stage_spec.specs.Hardware.{Hardware, hardware_of}
-use Rattle.stage_spec.specs.Stage.{Stage}
-use Rattle.stage_spec.specs.Order.{IsLawfulAct, IsLawfulSeen, last_seen}
+use Rattle.stage_spec.specs.{Hardware.{Hardware, hardware_of}, Stage.{Stage}, Order.{IsLawfulAct, IsLawfulSeen, last_seen}}
 use Rattle.stage_spec.specs.History.{Step, steps_from, history, opening_stage}
-use Rattle.ring_spec.specs.Records.{record_size}
-use Rattle.ring_spec.specs.Account.{Account, head_of}
+use Rattle.ring_spec.specs.{Records.{record_size}, Account.{Account, head_of}}
 use Rattle.ring_spec.specs.Rings.{account_of, account_in, bytes_of, bytes_in, sizes_in, IsLawfulOrder}
-use Rattle.ring_spec.specs.Running.{RingAccount, Running, first_record, record_after}
-use Rattle.ring_spec.proofs.Running.{IsKept, kept-first, kept-step, in_account}
+use Rattle.ring_spec.{specs.Running.{RingAccount, Running, first_record, record_after}, proofs.Running.{IsKept, kept-first, kept-step, in_account}}
 use Rattle.ring_laws.proofs.Tails.{seen_tail}
 use Rattle.worked_theorems.proofs.Answered.{is_behind, looks_lawful, is_ring, look_ok, declared, LawfulFrom, sum-cons, lawful_acts, lawful_by, find-passes, found_ring}
 

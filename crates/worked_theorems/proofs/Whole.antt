@@ -1,32 +1,15 @@
 -- A worked case, whole: the order and the replies answer the script, and the report is this text.
 use Rattle.std.specs.Prelude.{◌≡◌, ℕ, zero, suc, ◌<◌, ◌≤◌, nat_le, nat_lt, ◌==◌, Bool, true, false, ◌&&◌, List, [], ◌∷◌, map, count_by, length}
-use Rattle.std.specs.List.{list_all, zip}
-use Rattle.std.proofs.lemmas.Slice.Zip.{firsts-zip, seconds-zip}
-use Rattle.std.proofs.Common.{arith, refl, sym, ap, ◌∙◌, inl, inr}
-use Rattle.std.proofs.lemmas.Bool.{cases_lt, cases_eq, leb-true}
-use Rattle.std.proofs.lemmas.Bool.Decides.{nat_tests}
-use Rattle.std.proofs.lemmas.List.Folds.{list_all-append}
-use Rattle.perf_base.specs.declared.numbers.CpuNo.{CpuNo}
-use Rattle.perf_base.specs.declared.numbers.EventNo.{EventNo}
-use Rattle.perf_base.specs.declared.numbers.RingNo.{RingNo}
-use Rattle.perf_base.specs.declared.numbers.ToolNo.{ToolNo}
-use Rattle.perf_base.specs.declared.acts.Act.{Act}
+use Rattle.std.{specs.List.{list_all, zip}, proofs.lemmas.{Slice.Zip.{firsts-zip, seconds-zip}, Bool.{cases_lt, cases_eq, leb-true}}}
+use Rattle.std.proofs.{lemmas.{Bool.Decides.{nat_tests}, List.Folds.{list_all-append}}, Common.{arith, refl, sym, ap, ◌∙◌, inl, inr}}
+use Rattle.perf_base.specs.declared.{numbers.{CpuNo.{CpuNo}, EventNo.{EventNo}, RingNo.{RingNo}, ToolNo.{ToolNo}}, acts.{Act.{Act}, Actor.{Actor}}}
+use Rattle.perf_base.specs.{declared.reply.{Reply.{Reply}, Answer.{Answer}}, Scripts.{Scripted, lines_of_cpu, lines_of_tool}}
 use Rattle.perf_base.specs.declared.acts.Act.TheVariants as act
-use Rattle.perf_base.specs.declared.acts.Actor.{Actor}
-use Rattle.perf_base.specs.declared.reply.Reply.{Reply}
-use Rattle.perf_base.specs.Scripts.{Scripted, lines_of_cpu, lines_of_tool}
-use Rattle.stage_spec.specs.Hardware.{hardware_of}
-use Rattle.stage_spec.specs.Numbers.{numbers_below}
-use Rattle.stage_spec.specs.Order.{IsCounted, done_by_cpu, done_by_tool, is_of_cpu, is_of_tool}
-use Rattle.stage_spec.specs.Replies.{AreReplies, AnswerOrder, lines_from, answers_to}
-use Rattle.perf_base.specs.declared.reply.Answer.{Answer}
-use Rattle.stage_spec.specs.History.{Step, steps_from, history, opening_stage}
-use Rattle.ring_spec.specs.Account.{Account}
-use Rattle.ring_spec.specs.Rings.{account_of}
-use Rattle.report_spec.specs.Report.{report, rings_after}
-use Rattle.report_spec.specs.Answers.{IsAnswered, lost_in}
-use Rattle.ring_spec.specs.Running.{RingAccount, Running, first_record}
+use Rattle.stage_spec.specs.{Hardware.{hardware_of}, Numbers.{numbers_below}, Order.{IsCounted, done_by_cpu, done_by_tool, is_of_cpu, is_of_tool}}
+use Rattle.stage_spec.specs.{Replies.{AreReplies, AnswerOrder, lines_from, answers_to}, History.{Step, steps_from, history, opening_stage}}
+use Rattle.ring_spec.specs.{Account.{Account}, Rings.{account_of}, Running.{RingAccount, Running, first_record}}
 use Rattle.ring_spec.proofs.Running.{kept-first, map-map, in_account}
+use Rattle.report_spec.specs.{Report.{report, rings_after}, Answers.{IsAnswered, lost_in}}
 use Rattle.worked_theorems.proofs.Answered.{RunRings, Outcome, run_rings, lawful_acts, and_left, and_right}
 
 abbrev pub cpu_at : ℕ → CpuNo

@@ -1,26 +1,14 @@
 -- What one account adds to the sums of its family, and that occurrences, stretches of work and resets keep a world.
-use Rattle.std.specs.Prelude.{◌≡◌, ℕ, ◌+◌, ◌^◌, ◌<◌, ◌≤◌, ◌==◌, Bool, true, false, not, ◌&&◌, cond, List, [], ◌∷◌, slice_index_or}
-use Rattle.std.specs.FinMap.{get}
-use Rattle.std.specs.Option.{unwrap_or}
-use Rattle.std.proofs.Common.{arith, refl, sym, ap, subst, ◌∙◌, inl, inr}
-use Rattle.std.proofs.lemmas.Bool.{cases_eq, cases_Bool}
+use Rattle.std.specs.{Prelude.{◌≡◌, ℕ, ◌+◌, ◌^◌, ◌<◌, ◌≤◌, ◌==◌, Bool, true, false, not, ◌&&◌, cond, List, [], ◌∷◌, slice_index_or}, FinMap.{get}}
+use Rattle.std.{specs.Option.{unwrap_or}, proofs.{Common.{arith, refl, sym, ap, subst, ◌∙◌, inl, inr}, lemmas.Bool.{cases_eq, cases_Bool}}}
 use Rattle.std.proofs.lemmas.Bool.Decides.{nat_tests}
-use Rattle.perf_base.specs.declared.numbers.Key.{Key}
-use Rattle.perf_base.specs.declared.reply.Sums.{Sums}
-use Rattle.stage_spec.specs.declared.instance.Instance.{Instance}
-use Rattle.stage_spec.specs.Families.{plus}
-use Rattle.stage_spec.specs.Hardware.{Hardware}
-use Rattle.stage_spec.specs.Occurrences.{left_after}
-use Rattle.stage_spec.specs.Shares.{no_sums}
-use Rattle.stage_laws.proofs.Counts.{count-cons, count-append}
-use Rattle.stage_laws.proofs.Totals.{total}
+use Rattle.perf_base.specs.declared.{numbers.Key.{Key}, reply.Sums.{Sums}}
+use Rattle.stage_spec.specs.{declared.instance.Instance.{Instance}, Families.{plus}, Hardware.{Hardware}, Occurrences.{left_after}, Shares.{no_sums}}
+use Rattle.stage_laws.proofs.{Counts.{count-cons, count-append}, Totals.{total}}
 use Rattle.world_spec.specs.Value.{World, Account, Family, no_family, no_account, is_live, instance_at, account_at, is_key, times}
 use Rattle.world_spec.specs.Kept.{post_at, once_if, is_original_in, is_copy_in, in_option, keys_of, plus_keys, family_sums, AreLinked, IsKept}
-use Rattle.world_spec.specs.Changes.{with_instance, with_account}
-use Rattle.world_spec.specs.Laws.{HitLaw, HitKeptLaw, ResetLaw, ResetKeptLaw, PeriodLaw, PeriodKeptLaw}
-use Rattle.world_spec.proofs.Tables.{get-here, get-there, keys-written}
-use Rattle.world_spec.proofs.Renaming.{instance-stage}
-use Rattle.world_spec.proofs.Keeping.{instance-kept}
+use Rattle.world_spec.specs.{Changes.{with_instance, with_account}, Laws.{HitLaw, HitKeptLaw, ResetLaw, ResetKeptLaw, PeriodLaw, PeriodKeptLaw}}
+use Rattle.world_spec.proofs.{Tables.{get-here, get-there, keys-written}, Renaming.{instance-stage}, Keeping.{instance-kept}}
 
 -- a number of some keys that one key alone gives
 abbrev only : Key → ℕ → Key → ℕ

@@ -1,27 +1,14 @@
 -- The tables of a world after an instance came, and that it is kept.
 use Rattle.std.specs.Prelude.{◌≡◌, ℕ, ◌+◌, ◌<◌, ◌≤◌, ◌==◌, Bool, true, false, ◌||◌, List, [], ◌∷◌, ◌++◌, length, is_some, Option, Some, None, slice_index_or, slice_set, if◌then◌else◌}
-use Rattle.std.specs.List.{list_any}
-use Rattle.std.proofs.Common.{arith, refl, sym, ap, subst, ◌∙◌, inl, inr}
-use Rattle.std.proofs.lemmas.Bool.{cases_eq, cases_Bool}
+use Rattle.std.{specs.List.{list_any}, proofs.{Common.{arith, refl, sym, ap, subst, ◌∙◌, inl, inr}, lemmas.Bool.{cases_eq, cases_Bool}}}
 use Rattle.std.proofs.lemmas.Bool.Decides.{nat_tests}
-use Rattle.perf_base.specs.declared.attr.Attr.{Attr}
-use Rattle.perf_base.specs.declared.numbers.EventNo.{EventNo}
-use Rattle.perf_base.specs.declared.numbers.Key.{Key}
-use Rattle.perf_base.specs.declared.reply.Sums.{Sums}
-use Rattle.stage_spec.specs.Families.{plus}
-use Rattle.stage_spec.specs.Flags.{is_disabled}
-use Rattle.stage_spec.specs.Opening.{first_state}
-use Rattle.stage_spec.specs.Reading.{is_error}
-use Rattle.stage_spec.specs.Shares.{no_sums}
+use Rattle.perf_base.specs.declared.{attr.Attr.{Attr}, numbers.{EventNo.{EventNo}, Key.{Key}}, reply.Sums.{Sums}}
+use Rattle.stage_spec.specs.{Families.{plus}, Flags.{is_disabled}, Opening.{first_state}, Reading.{is_error}, Shares.{no_sums}}
 use Rattle.world_spec.specs.Value.{World, Entry, Family, no_family, is_live, entry_at, instance_at, is_key}
 use Rattle.world_spec.specs.Kept.{post_at, in_option, keys_of, plus_keys}
-use Rattle.world_spec.specs.Adding.{Newcomer, new_instance, new_entry, in_family, join, settled_in, drawn}
-use Rattle.world_spec.specs.Comings.{HasRoom}
-use Rattle.world_spec.proofs.Tables.{get-here, get-there, post_of, with_entry, entry-here, entry-there, entry-numbered}
-use Rattle.world_spec.proofs.Accounts.{IsSum}
-use Rattle.world_spec.proofs.Keys.{key-is, at_place}
-use Rattle.world_spec.proofs.Moving.{leads-parts}
-use Rattle.world_spec.proofs.Coming.{core, Comes}
+use Rattle.world_spec.specs.{Adding.{Newcomer, new_instance, new_entry, in_family, join, settled_in, drawn}, Comings.{HasRoom}}
+use Rattle.world_spec.proofs.{Tables.{get-here, get-there, post_of, with_entry, entry-here, entry-there, entry-numbered}, Accounts.{IsSum}}
+use Rattle.world_spec.proofs.{Keys.{key-is, at_place}, Moving.{leads-parts}, Coming.{core, Comes}}
 
 -- the world after it came, by the leader that was given
 abbrev pub added : World → Key → Newcomer → Option Key → World

@@ -1,33 +1,17 @@
 -- A world is kept when an instance comes.
 use Rattle.std.specs.Prelude.{◌≡◌, ℕ, ◌+◌, ◌^◌, ◌<◌, ◌≤◌, ◌==◌, Bool, true, false, List, [], ◌∷◌, ◌++◌, length, is_some, Option, Some, None, slice_index_or, if◌then◌else◌}
-use Rattle.std.specs.FinMap.{FinMap, contains_key, insert}
-use Rattle.std.specs.Option.{unwrap_or}
-use Rattle.std.specs.Ordering.{nat_cmp}
-use Rattle.std.proofs.Common.{arith, refl, sym, ap, subst, ◌∙◌, inl, inr}
-use Rattle.std.proofs.lemmas.Bool.{cases_Bool, false≢true}
-use Rattle.std.proofs.lemmas.List.{length-map, length-set}
-use Rattle.perf_base.specs.Scripts.{IsKind}
-use Rattle.perf_base.specs.declared.numbers.Key.{Key}
-use Rattle.perf_base.specs.declared.reply.Sums.{Sums}
-use Rattle.stage_spec.specs.Checks.{has_unknown_sample}
-use Rattle.stage_spec.specs.Flags.{is_disabled}
-use Rattle.stage_spec.specs.Hardware.{Hardware}
-use Rattle.stage_spec.specs.Opening.{is_used}
-use Rattle.perf_base.specs.Contexts.{context_of}
-use Rattle.stage_spec.specs.Reading.{is_error}
+use Rattle.std.specs.{FinMap.{FinMap, contains_key, insert}, Option.{unwrap_or}, Ordering.{nat_cmp}}
+use Rattle.std.proofs.{Common.{arith, refl, sym, ap, subst, ◌∙◌, inl, inr}, lemmas.{Bool.{cases_Bool, false≢true}, List.{length-map, length-set}}}
+use Rattle.perf_base.specs.{Scripts.{IsKind}, declared.{numbers.Key.{Key}, reply.Sums.{Sums}}, Contexts.{context_of}}
+use Rattle.stage_spec.specs.{Checks.{has_unknown_sample}, Flags.{is_disabled}, Hardware.{Hardware}, Opening.{is_used}, Reading.{is_error}}
 use Rattle.stage_spec.specs.Stage.{place_of}
 use Rattle.world_spec.specs.Value.{World, Account, Leaders, no_family, no_leaders, no_account, is_live, entry_at, instance_at, account_at, is_key, times}
 use Rattle.world_spec.specs.StageOf.{stage_of, lists_at}
 use Rattle.world_spec.specs.Kept.{Post, post_at, once_if, is_original_in, leads_in, AreFitting, AreLawful, AreSmall, IsKept}
-use Rattle.world_spec.specs.Adding.{Newcomer, new_instance, new_entry, in_family}
-use Rattle.world_spec.specs.Comings.{MayCome, IsOfOriginal, HasRoom, new_kinds, AddKeptLaw}
-use Rattle.world_spec.proofs.Tables.{get-here, get-there, post_of}
-use Rattle.world_spec.proofs.Renaming.{dead-entry}
-use Rattle.world_spec.proofs.Accounts.{counts_are_sums, times_are_sums}
-use Rattle.world_spec.proofs.Moving.{leads-parts}
-use Rattle.world_spec.proofs.Coming.{Comes, live-apart, was-live, by_coming, comes-numbered, comes-apart, number_true, three}
-use Rattle.world_spec.proofs.ComingLinks.{comes-originals, comes-copies, comes-alone, comes-joined}
-use Rattle.world_spec.proofs.Copies.{comes-rising}
+use Rattle.world_spec.specs.{Adding.{Newcomer, new_instance, new_entry, in_family}, Comings.{MayCome, IsOfOriginal, HasRoom, new_kinds, AddKeptLaw}}
+use Rattle.world_spec.proofs.{Tables.{get-here, get-there, post_of}, Renaming.{dead-entry}, Accounts.{counts_are_sums, times_are_sums}}
+use Rattle.world_spec.proofs.{Moving.{leads-parts}, Coming.{Comes, live-apart, was-live, by_coming, comes-numbered, comes-apart, number_true, three}}
+use Rattle.world_spec.proofs.{ComingLinks.{comes-originals, comes-copies, comes-alone, comes-joined}, Copies.{comes-rising}}
 use Rattle.world_spec.proofs.ComingGroups.{pick, comes-listed, comes-unlisted, grouped-alone, grouped-joined, fitting-alone, fitting-joined}
 use Rattle.world_spec.proofs.Added.{added, comes-by, alone-members, grown-members, joined-members, other-instance, new-entry_at, entry-instance, added-sums, used-more, used-new, fresh-state}
 

@@ -1,33 +1,19 @@
 -- The stage after an instance came.
 use Rattle.std.specs.Prelude.{◌≡◌, ℕ, ◌+◌, ◌<◌, ◌==◌, suc, zero, Bool, true, false, not, ◌&&◌, List, [], ◌∷◌, ◌++◌, map, Option, Some, None, slice_index_or, slice_set, if◌then◌else◌}
-use Rattle.std.proofs.Common.{arith, refl, sym, ap, ◌∙◌, inl, inr}
-use Rattle.std.proofs.lemmas.Bool.{cases_eq, cases_Bool}
-use Rattle.std.proofs.lemmas.Bool.Decides.{nat_tests}
-use Rattle.std.proofs.lemmas.List.{map-set, map-append}
-use Rattle.std.proofs.lemmas.Simd.{map-map}
-use Rattle.std.proofs.Math.ListN.{get_or-map}
-use Rattle.perf_base.specs.declared.numbers.EventNo.{EventNo}
-use Rattle.perf_base.specs.declared.numbers.Key.{Key}
-use Rattle.perf_base.specs.declared.standing.Context.{Context}
-use Rattle.stage_spec.specs.declared.instance.Instance.{Instance}
-use Rattle.stage_spec.specs.Flags.{is_pinned}
-use Rattle.stage_spec.specs.Hardware.{Hardware}
+use Rattle.std.proofs.{Common.{arith, refl, sym, ap, ◌∙◌, inl, inr}, lemmas.Bool.{cases_eq, cases_Bool, Decides.{nat_tests}}}
+use Rattle.std.proofs.{lemmas.{List.{map-set, map-append}, Simd.{map-map}}, Math.ListN.{get_or-map}}
+use Rattle.perf_base.specs.{declared.{numbers.{EventNo.{EventNo}, Key.{Key}}, standing.Context.{Context}}, Contexts.{context_of}}
+use Rattle.stage_spec.specs.{declared.instance.Instance.{Instance}, Flags.{is_pinned}, Hardware.{Hardware}}
 use Rattle.stage_spec.specs.Opening.{joined, add_group, join_group, join_lists, opened}
-use Rattle.perf_base.specs.Contexts.{context_of}
 use Rattle.stage_spec.specs.Stage.{Stage, Group, Lists, alone, place_of, lists_of, is_original, change_context}
 use Rattle.stage_laws.specs.Sound.{has_id}
 use Rattle.world_spec.specs.Value.{World, Leaders, no_leaders, no_family, leaders_of, is_live, entry_at, instance_at, is_key, times}
 use Rattle.world_spec.specs.StageOf.{after_first, group_at, lists_at, stage_of}
-use Rattle.world_spec.specs.Kept.{post_at, in_option, is_original_in, is_member_of, leads, leads_in, AreLinked, IsKept}
-use Rattle.world_spec.specs.Changes.{in_list}
+use Rattle.world_spec.specs.{Kept.{post_at, in_option, is_original_in, is_member_of, leads, leads_in, AreLinked, IsKept}, Changes.{in_list}}
 use Rattle.world_spec.specs.Adding.{Newcomer, new_instance}
 use Rattle.world_spec.specs.Comings.{HasRoom, join_id, instance_comes, counted_in, slot_led, IsLedByOriginal, OpenLaw, AddLaw}
-use Rattle.world_spec.proofs.Renaming.{id-apart, dead-entry}
-use Rattle.world_spec.proofs.Keys.{key-is, is_key-other, times-cons, once-true, once-false}
-use Rattle.world_spec.proofs.Moving.{leads-parts}
-use Rattle.world_spec.proofs.Coming.{live-apart}
-use Rattle.world_spec.proofs.ComingLinks.{none_of_two, none_of_three}
-use Rattle.world_spec.proofs.ComingGroups.{push_key, map-apart}
+use Rattle.world_spec.proofs.{Renaming.{id-apart, dead-entry}, Keys.{key-is, is_key-other, times-cons, once-true, once-false}, Moving.{leads-parts}}
+use Rattle.world_spec.proofs.{Coming.{live-apart}, ComingLinks.{none_of_two, none_of_three}, ComingGroups.{push_key, map-apart}}
 use Rattle.world_spec.proofs.Added.{added, alone-members, grown-members, joined-members, other-instance, new-entry_at, entry-instance}
 
 both_true : (b : Bool) → b ≡ true → (b && true) ≡ true

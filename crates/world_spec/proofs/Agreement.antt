@@ -1,28 +1,14 @@
 -- A world and the record of a step.
-use Rattle.std.specs.Prelude.{◌≡◌, ℕ, ◌≤◌, ◌==◌, Bool, true, not, ◌&&◌, List, [], ◌∷◌, length, filter}
-use Rattle.std.specs.List.{list_any}
-use Rattle.std.proofs.Common.{arith, refl, sym, ap, subst, ◌∙◌, inl, inr}
-use Rattle.std.proofs.lemmas.Bool.{cases_Bool, false≢true}
-use Rattle.std.proofs.lemmas.Bool.Decides.{nat_tests}
-use Rattle.perf_base.specs.declared.numbers.EventNo.{EventNo}
-use Rattle.perf_base.specs.declared.numbers.Key.{Key}
-use Rattle.perf_base.specs.declared.reply.Sums.{Sums}
-use Rattle.stage_spec.specs.Families.{plus, plus_each}
-use Rattle.stage_spec.specs.Hardware.{Hardware}
-use Rattle.stage_spec.specs.Shares.{no_sums}
-use Rattle.stage_spec.specs.Stage.{all_instances, is_of_family}
+use Rattle.std.specs.{Prelude.{◌≡◌, ℕ, ◌≤◌, ◌==◌, Bool, true, not, ◌&&◌, List, [], ◌∷◌, length, filter}, List.{list_any}}
+use Rattle.std.proofs.{Common.{arith, refl, sym, ap, subst, ◌∙◌, inl, inr}, lemmas.Bool.{cases_Bool, false≢true, Decides.{nat_tests}}}
+use Rattle.perf_base.specs.declared.{numbers.{EventNo.{EventNo}, Key.{Key}}, reply.Sums.{Sums}}
+use Rattle.stage_spec.specs.{Families.{plus, plus_each}, Hardware.{Hardware}, Shares.{no_sums}, Stage.{all_instances, is_of_family}}
 use Rattle.ring_spec.specs.Agreement.{IsCurrentId, IsCurrentSlot, lives}
-use Rattle.world_spec.specs.Value.{World, family_of, is_live, instance_at, account_at, is_key, times}
-use Rattle.world_spec.specs.StageOf.{stage_of}
-use Rattle.world_spec.specs.Kept.{keys_of, plus_keys, IsKept}
-use Rattle.world_spec.specs.First.{first_world}
-use Rattle.world_spec.specs.Agreement.{FirstAgreesLaw, RecordsAgreeLaw, OtherRecordLaw, FamilyAgreesLaw}
-use Rattle.world_spec.proofs.Accounts.{family-times}
-use Rattle.world_spec.proofs.Keys.{is_key-same, times-cons, once-true, once-false}
-use Rattle.world_spec.proofs.Coming.{number_true}
-use Rattle.world_spec.proofs.ComingLinks.{none_of_three}
-use Rattle.world_spec.proofs.Counting.{any-there, any-key}
-use Rattle.world_spec.proofs.Families.{all_keys, times-keys, instances-are, key-lives, family-sums}
+use Rattle.world_spec.specs.{Value.{World, family_of, is_live, instance_at, account_at, is_key, times}, StageOf.{stage_of}}
+use Rattle.world_spec.specs.{Kept.{keys_of, plus_keys, IsKept}, First.{first_world}}
+use Rattle.world_spec.{specs.Agreement.{FirstAgreesLaw, RecordsAgreeLaw, OtherRecordLaw, FamilyAgreesLaw}, proofs.Accounts.{family-times}}
+use Rattle.world_spec.proofs.{Keys.{is_key-same, times-cons, once-true, once-false}, Coming.{number_true}, ComingLinks.{none_of_three}}
+use Rattle.world_spec.proofs.{Counting.{any-there, any-key}, Families.{all_keys, times-keys, instances-are, key-lives, family-sums}}
 use Rattle.world_spec.proofs.First.{first-stage, none-live, replicated}
 
 -- an id that an instance has is that of a live key, and the other way round

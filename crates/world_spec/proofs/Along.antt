@@ -1,46 +1,25 @@
 -- The keys that a processor reaches: those that are on and those that are ready are the stage's, and what the
 -- definitions give each of a stretch of work is what it has along the processor.
 use Rattle.std.specs.Prelude.{◌≡◌, ℕ, ◌+◌, ◌≤◌, ◌==◌, nat_lt, Bool, true, false, ◌&&◌, cond, List, [], ◌∷◌, ◌++◌, map, filter, flat_map, count_by, option_map, Some, if◌then◌else◌}
-use Rattle.std.proofs.Common.{arith, refl, sym, ap, ◌∙◌, inl, inr}
-use Rattle.std.proofs.lemmas.Bool.{cases_eq, cases_Bool, false≢true}
-use Rattle.std.proofs.lemmas.Bool.Decides.{nat_tests}
+use Rattle.std.proofs.{Common.{arith, refl, sym, ap, ◌∙◌, inl, inr}, lemmas.Bool.{cases_eq, cases_Bool, false≢true, Decides.{nat_tests}}}
 use Rattle.std.proofs.lemmas.List.Elements.{filter-append}
-use Rattle.perf_base.specs.declared.attr.Attr.{Attr}
-use Rattle.perf_base.specs.declared.attr.Kind.{Kind}
+use Rattle.perf_base.specs.declared.{attr.{Attr.{Attr}, Kind.{Kind}}, lines.Work.{Work}, numbers.{CpuNo.{CpuNo}, Key.{Key}}, reply.Sums.{Sums}}
+use Rattle.perf_base.specs.{declared.standing.{Context.{Context}, Own.{Own}}, Standings.{stands_on}}
 use Rattle.perf_base.specs.declared.attr.Kind.TheVariants as kind
-use Rattle.perf_base.specs.declared.lines.Work.{Work}
-use Rattle.perf_base.specs.declared.numbers.CpuNo.{CpuNo}
-use Rattle.perf_base.specs.declared.numbers.Key.{Key}
-use Rattle.perf_base.specs.declared.reply.Sums.{Sums}
-use Rattle.perf_base.specs.declared.standing.Context.{Context}
 use Rattle.perf_base.specs.declared.standing.Context.TheVariants as context
-use Rattle.perf_base.specs.declared.standing.Own.{Own}
 use Rattle.perf_base.specs.declared.standing.Own.TheVariants as own
 use Rattle.perf_base.specs.declared.standing.Standing.TheVariants as standing
-use Rattle.perf_base.specs.Standings.{stands_on}
-use Rattle.stage_spec.specs.declared.instance.Instance.{Instance}
-use Rattle.stage_spec.specs.Effective.{effective, is_ready}
-use Rattle.stage_spec.specs.Hardware.{Hardware}
-use Rattle.stage_spec.specs.Reading.{is_error}
-use Rattle.stage_spec.specs.Shares.{measured, of_instance, counted_by, work_hits, share, ready_instances}
-use Rattle.stage_spec.specs.Stage.{Stage, place_of, task_on}
+use Rattle.stage_spec.specs.{declared.instance.Instance.{Instance}, Effective.{effective, is_ready}, Hardware.{Hardware}, Reading.{is_error}}
+use Rattle.stage_spec.specs.{Shares.{measured, of_instance, counted_by, work_hits, share, ready_instances}, Stage.{Stage, place_of, task_on}}
 use Rattle.stage_spec.specs.Verdict.{Judged, is_eligible, verdicts, on_instances}
-use Rattle.stage_laws.specs.Narrowing.{has_context}
-use Rattle.stage_laws.proofs.Counts.{count-cons}
-use Rattle.stage_laws.proofs.Tasks.{is_task-some}
-use Rattle.world_spec.specs.Value.{World, is_live, entry_at, instance_at, standing_at, is_key, times}
-use Rattle.world_spec.specs.StageOf.{group_at, stage_of}
-use Rattle.world_spec.specs.Kept.{post_at, once_if, leads, is_member_of, IsKept}
-use Rattle.world_spec.specs.Metering.{is_metered, work_given, ShareLaw, GivenLaw, AlongLaw}
-use Rattle.world_spec.specs.Rescheduled.{IsJudged}
-use Rattle.world_spec.specs.Ways.{is_ready_at, is_on_at}
+use Rattle.stage_laws.{specs.Narrowing.{has_context}, proofs.{Counts.{count-cons}, Tasks.{is_task-some}}}
+use Rattle.world_spec.specs.{Value.{World, is_live, entry_at, instance_at, standing_at, is_key, times}, StageOf.{group_at, stage_of}}
+use Rattle.world_spec.specs.{Kept.{post_at, once_if, leads, is_member_of, IsKept}, Metering.{is_metered, work_given, ShareLaw, GivenLaw, AlongLaw}}
+use Rattle.world_spec.specs.{Rescheduled.{IsJudged}, Ways.{is_ready_at, is_on_at}}
 use Rattle.world_spec.specs.Working.{is_effective, is_on, leaders_by_pass, keys_by_pass, ready_in, effective_in, ReachedKeysLaw}
-use Rattle.world_spec.proofs.Coming.{number_true}
-use Rattle.world_spec.proofs.Counting.{find-mapped, find-one, find-none, times-filter}
-use Rattle.world_spec.proofs.Families.{members_at}
+use Rattle.world_spec.proofs.{Coming.{number_true}, Counting.{find-mapped, find-one, find-none, times-filter}, Families.{members_at}}
 use Rattle.world_spec.proofs.Keys.{key-is, is_key-same, is_key-true, times-cons, once-true, once-false}
-use Rattle.world_spec.proofs.Listings.{held-by, counted-there, stands_in_task, reached-once, reached-leading, reached-context}
-use Rattle.world_spec.proofs.Moving.{leads-parts}
+use Rattle.world_spec.proofs.{Listings.{held-by, counted-there, stands_in_task, reached-once, reached-leading, reached-context}, Moving.{leads-parts}}
 use Rattle.world_spec.proofs.Rescheduling.{is_led, is_about, about-groups, among-none, same-id}
 use Rattle.world_spec.proofs.Working.{on-is, ready-is, judged-groups, filter-same}
 

@@ -1,31 +1,15 @@
 -- That answers by a world are answers by its record, and that a settled stage stays under a line that asks.
 use Rattle.std.specs.Prelude.{◌≡◌, ◌≤◌, ◌==◌, ◌&&◌, Bool, not, true, is_some, All, List, [], ◌∷◌, slice_index_or}
-use Rattle.std.proofs.Common.{arith, refl, sym, ap, subst, ◌∙◌, inl, inr}
-use Rattle.std.proofs.lemmas.Bool.{cases_Bool}
-use Rattle.std.proofs.lemmas.List.Elements.{All-map}
-use Rattle.perf_base.specs.declared.numbers.EventNo.{EventNo}
-use Rattle.perf_base.specs.declared.numbers.Key.{Key}
-use Rattle.perf_base.specs.declared.reply.Sums.{Sums}
-use Rattle.stage_spec.specs.Families.{plus}
-use Rattle.stage_spec.specs.Hardware.{Hardware}
-use Rattle.stage_spec.specs.Shares.{no_sums}
-use Rattle.stage_spec.specs.Stage.{is_open}
-use Rattle.ring_spec.specs.Agreement.{IsCurrentSlot, Agree, AreFamiliesOpen}
-use Rattle.ring_spec.specs.Running.{Running, family_by, IsAnswerBy}
-use Rattle.ring_spec.proofs.Agreement.{answer_agrees}
-use Rattle.ring_spec.proofs.Running.{same_answer}
-use Rattle.world_spec.specs.Agreement.{AgreesWith}
-use Rattle.world_spec.specs.Kept.{IsKept, keys_of, plus_keys, family_sums}
-use Rattle.world_spec.specs.StageOf.{stage_of}
-use Rattle.world_spec.specs.Staying.{IsOriginalOf}
-use Rattle.world_spec.specs.Value.{World, is_live, instance_at, account_at, family_of, is_key, times}
-use Rattle.world_spec.proofs.Accounts.{family-times}
-use Rattle.world_spec.proofs.ComingLinks.{none_of_three}
-use Rattle.world_spec.proofs.Copies.{times-at}
+use Rattle.std.proofs.{Common.{arith, refl, sym, ap, subst, ◌∙◌, inl, inr}, lemmas.{Bool.{cases_Bool}, List.Elements.{All-map}}}
+use Rattle.perf_base.specs.declared.{numbers.{EventNo.{EventNo}, Key.{Key}}, reply.Sums.{Sums}}
+use Rattle.stage_spec.specs.{Families.{plus}, Hardware.{Hardware}, Shares.{no_sums}, Stage.{is_open}}
+use Rattle.ring_spec.specs.{Agreement.{IsCurrentSlot, Agree, AreFamiliesOpen}, Running.{Running, family_by, IsAnswerBy}}
+use Rattle.ring_spec.proofs.{Agreement.{answer_agrees}, Running.{same_answer}}
+use Rattle.world_spec.specs.{Agreement.{AgreesWith}, Kept.{IsKept, keys_of, plus_keys, family_sums}, StageOf.{stage_of}, Staying.{IsOriginalOf}}
+use Rattle.world_spec.specs.{Value.{World, is_live, instance_at, account_at, family_of, is_key, times}, Asking.{AnswerLaw}}
+use Rattle.world_spec.proofs.{Accounts.{family-times}, ComingLinks.{none_of_three}, Copies.{times-at}}
 use Rattle.world_spec.proofs.Families.{all_keys, instances-are, key-lives, family-sums, open-is}
-use Rattle.world_spec.proofs.Keys.{is_key-same, times-cons, once-true, once-false}
-use Rattle.world_spec.proofs.Staying.{origin-is}
-use Rattle.world_spec.specs.Asking.{AnswerLaw}
+use Rattle.world_spec.proofs.{Keys.{is_key-same, times-cons, once-true, once-false}, Staying.{origin-is}}
 
 -- the record with the world's own folded sums and lost counts
 abbrev as_world : World → Running → Running

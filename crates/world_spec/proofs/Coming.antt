@@ -1,12 +1,9 @@
 -- What posts, links and groups are after a key comes, over plain posts.
 use Rattle.std.specs.Prelude.{◌≡◌, ℕ, ◌+◌, ◌<◌, ◌≤◌, ◌==◌, Bool, true, false, not, ◌&&◌, []}
-use Rattle.std.proofs.Common.{arith, refl, sym, ap, subst, ◌∙◌, inl, inr}
-use Rattle.std.proofs.lemmas.Bool.{cases_eq, false≢true}
-use Rattle.std.proofs.lemmas.Bool.Decides.{nat_tests}
+use Rattle.std.proofs.{Common.{arith, refl, sym, ap, subst, ◌∙◌, inl, inr}, lemmas.Bool.{cases_eq, false≢true, Decides.{nat_tests}}}
 use Rattle.perf_base.specs.declared.numbers.Key.{Key}
-use Rattle.world_spec.specs.Kept.{Post, is_original_in, is_of_task, AreNumbered, AreApart}
+use Rattle.world_spec.{specs.Kept.{Post, is_original_in, is_of_task, AreNumbered, AreApart}, proofs.Keys.{key-is}}
 use Rattle.stage_spec.specs.Stage.{place_of}
-use Rattle.world_spec.proofs.Keys.{key-is}
 
 -- a post but for its members
 abbrev pub core : Post → Post

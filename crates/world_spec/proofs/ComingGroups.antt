@@ -1,18 +1,12 @@
 -- The lists, the groups and the kinds of groups after a key comes.
 use Rattle.std.specs.Prelude.{◌≡◌, ℕ, ◌+◌, ◌<◌, ◌≤◌, ◌==◌, Bool, true, false, not, ◌&&◌, List, [], ◌∷◌, ◌++◌, length, map, slice_index_or, slice_set, if◌then◌else◌}
-use Rattle.std.proofs.Common.{arith, refl, sym, ap, subst, ◌∙◌, inl, inr}
-use Rattle.std.proofs.lemmas.Bool.{cases_eq, cases_Bool, false≢true}
-use Rattle.std.proofs.lemmas.Bool.Decides.{nat_tests}
+use Rattle.std.proofs.{Common.{arith, refl, sym, ap, subst, ◌∙◌, inl, inr}, lemmas.Bool.{cases_eq, cases_Bool, false≢true, Decides.{nat_tests}}}
 use Rattle.std.proofs.lemmas.List.{length-append, map-append}
 use Rattle.perf_base.specs.declared.numbers.Key.{Key}
-use Rattle.stage_spec.specs.Hardware.{Hardware}
-use Rattle.stage_spec.specs.Stage.{place_of}
-use Rattle.world_spec.specs.Value.{Leaders, no_leaders, is_key, times}
-use Rattle.world_spec.specs.StageOf.{after_first}
-use Rattle.world_spec.specs.Kept.{Post, once_if, is_member_of, leads, leads_in, kinds_in, AreFitting, AreGrouped}
-use Rattle.world_spec.specs.Changes.{in_list}
-use Rattle.world_spec.proofs.Keys.{key-is, is_key-same, is_key-other, times-cons, times-push, once-true, once-false, at_place}
-use Rattle.world_spec.proofs.Moving.{leads-parts}
+use Rattle.stage_spec.specs.{Hardware.{Hardware}, Stage.{place_of}}
+use Rattle.world_spec.specs.{Value.{Leaders, no_leaders, is_key, times}, StageOf.{after_first}}
+use Rattle.world_spec.specs.{Kept.{Post, once_if, is_member_of, leads, leads_in, kinds_in, AreFitting, AreGrouped}, Changes.{in_list}}
+use Rattle.world_spec.proofs.{Keys.{key-is, is_key-same, is_key-other, times-cons, times-push, once-true, once-false, at_place}, Moving.{leads-parts}}
 use Rattle.world_spec.proofs.Coming.{Comes, live-apart, was-live, by_coming}
 use Rattle.world_spec.proofs.ComingLinks.{none_of_two, none_of_three, last_of_two, all_but_last, middle_fails}
 

@@ -1,14 +1,10 @@
 -- The counts of keys after a key comes: in its family, in its group and in its context's lists.
 use Rattle.std.specs.Prelude.{◌≡◌, ℕ, ◌+◌, ◌<◌, ◌==◌, Bool, true, false, not, ◌&&◌, cond, List, [], ◌∷◌, ◌++◌, length, slice_index_or, slice_set}
-use Rattle.std.proofs.Common.{arith, refl, sym, ap, ◌∙◌, inl, inr}
-use Rattle.std.proofs.lemmas.Bool.{cases_eq, cases_Bool}
-use Rattle.std.proofs.lemmas.Bool.Decides.{nat_tests}
+use Rattle.std.proofs.{Common.{arith, refl, sym, ap, ◌∙◌, inl, inr}, lemmas.Bool.{cases_eq, cases_Bool, Decides.{nat_tests}}}
 use Rattle.perf_base.specs.declared.numbers.Key.{Key}
 use Rattle.world_spec.specs.Value.{Family, no_family, is_key, times}
-use Rattle.world_spec.specs.Kept.{Post, once_if, in_option, is_original_in, is_copy_in, is_member_of, AreGrouped}
-use Rattle.world_spec.specs.Adding.{in_family}
-use Rattle.world_spec.proofs.Keys.{key-is, is_key-same, is_key-other, times-cons, times-push, once-true, once-false, at_place}
-use Rattle.world_spec.proofs.Moving.{leads-parts}
+use Rattle.world_spec.specs.{Kept.{Post, once_if, in_option, is_original_in, is_copy_in, is_member_of, AreGrouped}, Adding.{in_family}}
+use Rattle.world_spec.proofs.{Keys.{key-is, is_key-same, is_key-other, times-cons, times-push, once-true, once-false, at_place}, Moving.{leads-parts}}
 use Rattle.world_spec.proofs.Coming.{Comes, live-apart}
 
 -- tests whose first part fails

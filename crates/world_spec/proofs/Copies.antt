@@ -1,20 +1,11 @@
 -- The copies of families after a key came and after one went: by rising ids, and few.
 use Rattle.std.specs.Prelude.{◌≡◌, ℕ, zero, suc, ◌<◌, ◌≤◌, ◌==◌, Bool, true, false, not, List, [], ◌∷◌, ◌++◌, length, slice_index_or, slice_set}
-use Rattle.std.specs.List.{AllPairs}
-use Rattle.std.proofs.Common.{arith, refl, ap, ◌∙◌, inl, inr}
-use Rattle.std.proofs.lemmas.Bool.{cases_Bool}
-use Rattle.std.proofs.lemmas.List.{length-append}
-use Rattle.std.proofs.lemmas.List.Kept.{AllPairs-filter}
-use Rattle.std.proofs.lemmas.List.Quantifiers.{all_pairs_push}
-use Rattle.std.proofs.lemmas.List.Sums.{sum_by-set}
+use Rattle.std.{specs.List.{AllPairs}, proofs.{Common.{arith, refl, ap, ◌∙◌, inl, inr}, lemmas.{Bool.{cases_Bool}, List.{length-append}}}}
+use Rattle.std.proofs.lemmas.List.{Kept.{AllPairs-filter}, Quantifiers.{all_pairs_push}, Sums.{sum_by-set}}
 use Rattle.perf_base.specs.declared.numbers.Key.{Key}
-use Rattle.world_spec.specs.Value.{Family, no_family, is_key, times}
-use Rattle.world_spec.specs.Kept.{Post, once_if, is_copy_in, copies_in, AreNumbered, HaveCopies}
-use Rattle.world_spec.specs.Adding.{in_family, out_of_family}
-use Rattle.world_spec.proofs.Keys.{is_key-same, times-cons, once-true, once-false, at_place}
-use Rattle.world_spec.proofs.Coming.{Comes, live-apart, first-true}
-use Rattle.world_spec.proofs.Going.{Goes, still-apart}
-use Rattle.world_spec.proofs.GoneSibling.{length-all_but}
+use Rattle.world_spec.specs.{Value.{Family, no_family, is_key, times}, Kept.{Post, once_if, is_copy_in, copies_in, AreNumbered, HaveCopies}}
+use Rattle.world_spec.{specs.Adding.{in_family, out_of_family}, proofs.Keys.{is_key-same, times-cons, once-true, once-false, at_place}}
+use Rattle.world_spec.proofs.{Coming.{Comes, live-apart, first-true}, Going.{Goes, still-apart}, GoneSibling.{length-all_but}}
 
 -- what stands at a place stands in the list
 pub times-at : (keys : List Key) (i : ℕ) (d : Key) → i < length keys → 1 ≤ times (slice_index_or keys i d) keys

@@ -1,39 +1,19 @@
 -- A copy that a fork makes is the definitions' own.
 use Rattle.std.specs.Prelude.{◌≡◌, ℕ, zero, suc, ◌+◌, ◌<◌, ◌≤◌, ◌==◌, Bool, true, false, not, ◌&&◌, List, [], ◌∷◌, ◌++◌, length, map, Option, Some, None, slice_index_or, slice_set, if◌then◌else◌}
-use Rattle.std.proofs.Common.{arith, refl, sym, ap, ◌∙◌, inl, inr}
-use Rattle.std.proofs.lemmas.Bool.{cases_eq, cases_Bool, false≢true}
-use Rattle.std.proofs.lemmas.Bool.Decides.{nat_tests}
-use Rattle.std.proofs.lemmas.List.{length-map, length-set, map-set, map-append}
-use Rattle.std.proofs.lemmas.Simd.{map-map}
-use Rattle.std.proofs.Math.ListN.{get_or-map}
-use Rattle.perf_base.specs.declared.numbers.Key.{Key}
-use Rattle.perf_base.specs.declared.numbers.TaskNo.{TaskNo}
+use Rattle.std.proofs.{Common.{arith, refl, sym, ap, ◌∙◌, inl, inr}, lemmas.Bool.{cases_eq, cases_Bool, false≢true, Decides.{nat_tests}}}
+use Rattle.std.proofs.{lemmas.{List.{length-map, length-set, map-set, map-append}, Simd.{map-map}}, Math.ListN.{get_or-map}}
+use Rattle.perf_base.specs.declared.{numbers.{Key.{Key}, TaskNo.{TaskNo}}, standing.Own.{Own}}
 use Rattle.perf_base.specs.declared.standing.Context.TheVariants as context
-use Rattle.perf_base.specs.declared.standing.Own.{Own}
-use Rattle.stage_spec.specs.declared.instance.Instance.{Instance}
-use Rattle.stage_spec.specs.Effective.{is_ready}
-use Rattle.stage_spec.specs.Flags.{is_pinned}
-use Rattle.stage_spec.specs.Forks.{copied_state, copy_of}
-use Rattle.stage_spec.specs.Hardware.{Hardware}
-use Rattle.stage_spec.specs.Opening.{joined, add_group}
-use Rattle.stage_spec.specs.Reading.{is_error}
+use Rattle.stage_spec.specs.{declared.instance.Instance.{Instance}, Effective.{is_ready}, Flags.{is_pinned}, Forks.{copied_state, copy_of}}
+use Rattle.stage_spec.specs.{Hardware.{Hardware}, Opening.{joined, add_group}, Reading.{is_error}}
 use Rattle.stage_spec.specs.Stage.{Stage, Group, Lists, no_groups, alone, place_of, lists_of, change_group, change_lists, change_context}
-use Rattle.stage_laws.specs.Sound.{has_id}
-use Rattle.stage_laws.specs.OneByOne.{Parent, change_one, join_last, add_sibling, add_instance}
-use Rattle.stage_laws.proofs.Images.{map-same}
+use Rattle.stage_laws.{specs.{Sound.{has_id}, OneByOne.{Parent, change_one, join_last, add_sibling, add_instance}}, proofs.Images.{map-same}}
 use Rattle.world_spec.specs.Value.{World, Leaders, no_leaders, leaders_of, is_live, entry_at, instance_at, is_key, times}
-use Rattle.world_spec.specs.StageOf.{after_first, group_at, lists_at, stage_of}
-use Rattle.world_spec.specs.Kept.{post_at, once_if, leads, leads_in, AreNumbered, IsKept}
-use Rattle.world_spec.specs.Adding.{Newcomer, new_instance, add}
-use Rattle.world_spec.specs.Comings.{HasRoom, join_id, join_lists_id, instance_comes, counted_in}
-use Rattle.world_spec.specs.Copying.{copy_from, leaders_in, LeadsLast, FollowsParent, CopyLaw, CopyKeptLaw}
-use Rattle.world_spec.proofs.Renaming.{id-apart, dead-entry}
-use Rattle.world_spec.proofs.Keeping.{own-stage, own-kept}
-use Rattle.world_spec.proofs.Keys.{is_key-same, times-cons, times-push, once-true, once-false, at_place}
-use Rattle.world_spec.proofs.Moving.{leads-parts}
-use Rattle.world_spec.proofs.ComingLinks.{middle_fails}
-use Rattle.world_spec.proofs.Added.{comes-by, new-entry_at, entry-instance}
-use Rattle.world_spec.proofs.AddedKept.{add-kept}
+use Rattle.world_spec.specs.{StageOf.{after_first, group_at, lists_at, stage_of}, Kept.{post_at, once_if, leads, leads_in, AreNumbered, IsKept}}
+use Rattle.world_spec.specs.{Adding.{Newcomer, new_instance, add}, Comings.{HasRoom, join_id, join_lists_id, instance_comes, counted_in}}
+use Rattle.world_spec.{specs.Copying.{copy_from, leaders_in, LeadsLast, FollowsParent, CopyLaw, CopyKeptLaw}, proofs.Renaming.{id-apart, dead-entry}}
+use Rattle.world_spec.proofs.{Keeping.{own-stage, own-kept}, Keys.{is_key-same, times-cons, times-push, once-true, once-false, at_place}}
+use Rattle.world_spec.proofs.{Moving.{leads-parts}, ComingLinks.{middle_fails}, Added.{comes-by, new-entry_at, entry-instance}, AddedKept.{add-kept}}
 use Rattle.world_spec.proofs.AddedStage.{add-stage}
 
 -- The next id is nobody's, so a change of its instance leaves those that were there.

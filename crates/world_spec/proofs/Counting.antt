@@ -1,14 +1,11 @@
 -- How often keys stand in lists that are put together, and sums over lists with the same keys.
 use Rattle.std.specs.Prelude.{◌≡◌, ℕ, zero, suc, ◌+◌, ◌<◌, ◌≤◌, ◌==◌, Bool, true, false, ◌||◌, cond, List, [], ◌∷◌, ◌++◌, length, map, filter, find, flat_map, is_some, Option, Some, None, option_map, slice_index_or}
-use Rattle.std.specs.List.{list_any}
-use Rattle.std.proofs.Common.{arith, refl, sym, ap, ◌∙◌, inl, inr}
-use Rattle.std.proofs.lemmas.Bool.{cases_eq, cases_Bool, false≢true}
+use Rattle.std.{specs.List.{list_any}, proofs.{Common.{arith, refl, sym, ap, ◌∙◌, inl, inr}, lemmas.Bool.{cases_eq, cases_Bool, false≢true}}}
 use Rattle.std.proofs.lemmas.Bool.Decides.{nat_tests}
 use Rattle.perf_base.specs.declared.numbers.Key.{Key}
 use Rattle.stage_laws.proofs.Counts.{count-append}
 use Rattle.stage_laws.proofs.Totals.{total, one_if, total-nil, total-cons, total-append, total-flat_map, total-same, count_by-is-total}
-use Rattle.world_spec.specs.Value.{is_key, times}
-use Rattle.world_spec.specs.Kept.{once_if}
+use Rattle.world_spec.specs.{Value.{is_key, times}, Kept.{once_if}}
 use Rattle.world_spec.proofs.Keys.{key-is, is_key-same, is_key-other, is_key-true, times-cons, once-true, once-false}
 
 pub times-flat : {X : Type 0} (k : Key) (f : X → List Key) (xs : List X) → times k (flat_map f xs) ≡ total (λ x. times k (f x)) xs

@@ -1,22 +1,14 @@
 -- What posts, links and groups are after a leader went and its siblings lead groups of their own, over plain posts.
 use Rattle.std.specs.Prelude.{◌≡◌, ℕ, ◌+◌, ◌<◌, ◌≤◌, ◌==◌, Bool, true, false, not, ◌&&◌, cond, List, [], ◌∷◌, ◌++◌, length, slice_index_or, slice_set, if◌then◌else◌}
-use Rattle.std.proofs.Common.{arith, refl, sym, ap, subst, ◌∙◌, inl, inr}
-use Rattle.std.proofs.lemmas.Bool.{cases_Bool, false≢true}
-use Rattle.std.proofs.lemmas.Bool.Decides.{nat_tests}
+use Rattle.std.proofs.{Common.{arith, refl, sym, ap, subst, ◌∙◌, inl, inr}, lemmas.Bool.{cases_Bool, false≢true, Decides.{nat_tests}}}
 use Rattle.perf_base.specs.declared.numbers.Key.{Key}
 use Rattle.stage_spec.specs.Stage.{place_of}
 use Rattle.stage_laws.proofs.Counts.{count-append}
-use Rattle.world_spec.specs.Value.{Leaders, no_leaders, is_key, times}
-use Rattle.world_spec.specs.StageOf.{after_first}
-use Rattle.world_spec.specs.Kept.{Post, once_if, is_member_of, leads, leads_in, AreGrouped}
-use Rattle.world_spec.specs.Changes.{all_but, in_list}
+use Rattle.world_spec.specs.{Value.{Leaders, no_leaders, is_key, times}, StageOf.{after_first}}
+use Rattle.world_spec.specs.{Kept.{Post, once_if, is_member_of, leads, leads_in, AreGrouped}, Changes.{all_but, in_list}}
 use Rattle.world_spec.proofs.Keys.{key-is, is_key-same, is_key-other, is_key-true, is_key-turned, times-cons, times-all_but_same, times-all_but_other, once-true, once-false, at_place}
-use Rattle.world_spec.proofs.Moving.{leads-parts}
-use Rattle.world_spec.proofs.Coming.{by_coming}
-use Rattle.world_spec.proofs.ComingLinks.{none_of_two, none_of_three, middle_fails, last_of_two}
-use Rattle.world_spec.proofs.ComingGroups.{pick, dead_leads}
-use Rattle.world_spec.proofs.Going.{Goes, shell, last_fails}
-use Rattle.world_spec.proofs.GoneSibling.{not-led}
+use Rattle.world_spec.proofs.{Moving.{leads-parts}, Coming.{by_coming}, ComingLinks.{none_of_two, none_of_three, middle_fails, last_of_two}}
+use Rattle.world_spec.proofs.{ComingGroups.{pick, dead_leads}, Going.{Goes, shell, last_fails}, GoneSibling.{not-led}}
 
 -- the post of a sibling that leads a group of its own
 abbrev pub freed_post : Key → Post → Post

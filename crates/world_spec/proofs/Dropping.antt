@@ -1,17 +1,10 @@
 -- An instance that goes: a sibling or a leader.
-use Rattle.std.specs.Prelude.{◌≡◌, true, false, ◌&&◌}
-use Rattle.std.proofs.Common.{sym, ap, subst, ◌∙◌, inl, inr}
-use Rattle.std.proofs.lemmas.Bool.{cases_Bool}
+use Rattle.std.{specs.Prelude.{◌≡◌, true, false, ◌&&◌}, proofs.{Common.{sym, ap, subst, ◌∙◌, inl, inr}, lemmas.Bool.{cases_Bool}}}
 use Rattle.perf_base.specs.declared.numbers.Key.{Key}
 use Rattle.stage_spec.specs.Stage.{Stage}
-use Rattle.world_spec.specs.Value.{World, entry_at, instance_at, is_key}
-use Rattle.world_spec.specs.StageOf.{stage_of}
-use Rattle.world_spec.specs.Kept.{post_at, leads, IsKept}
-use Rattle.world_spec.specs.Adding.{leave_group, taken_out}
-use Rattle.world_spec.specs.Goings.{MayGo, GoLaw, GoKeptLaw}
-use Rattle.world_spec.proofs.Gone.{SiblingMayGo, left-kept}
-use Rattle.world_spec.proofs.GoneStage.{left-stage}
-use Rattle.world_spec.proofs.GoneLeader.{entries_freed, standings_freed, dropped-leader, tables-freed, led-kept}
+use Rattle.world_spec.specs.{Value.{World, entry_at, instance_at, is_key}, StageOf.{stage_of}, Kept.{post_at, leads, IsKept}}
+use Rattle.world_spec.{specs.{Adding.{leave_group, taken_out}, Goings.{MayGo, GoLaw, GoKeptLaw}}, proofs.Gone.{SiblingMayGo, left-kept}}
+use Rattle.world_spec.proofs.{GoneStage.{left-stage}, GoneLeader.{entries_freed, standings_freed, dropped-leader, tables-freed, led-kept}}
 use Rattle.world_spec.proofs.GoneLeaderStage.{led-stage}
 
 pub it-leads : (w : World) (k : Key) → MayGo w k → is_key k (entry_at w k).leader ≡ true → leads (post_at w) k ≡ true

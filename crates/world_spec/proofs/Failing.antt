@@ -1,23 +1,14 @@
 -- What the tables have after some groups that were refused went to error, and that the world is kept.
-use Rattle.std.specs.Prelude.{◌≡◌, ◌≤◌, true, List, [], ◌∷◌}
-use Rattle.std.specs.FinMap.{get}
-use Rattle.std.specs.Option.{unwrap_or}
-use Rattle.std.proofs.Common.{arith, refl, sym, ap, ◌∙◌, inl, inr}
-use Rattle.std.proofs.lemmas.Bool.{cases_eq}
-use Rattle.perf_base.specs.declared.numbers.Key.{Key}
+use Rattle.std.specs.{Prelude.{◌≡◌, ◌≤◌, true, List, [], ◌∷◌}, FinMap.{get}, Option.{unwrap_or}}
+use Rattle.std.proofs.{Common.{arith, refl, sym, ap, ◌∙◌, inl, inr}, lemmas.Bool.{cases_eq}}
+use Rattle.perf_base.specs.declared.{numbers.Key.{Key}, standing.Standing.{Standing}}
 use Rattle.perf_base.specs.declared.standing.Own.TheVariants as own
-use Rattle.perf_base.specs.declared.standing.Standing.{Standing}
 use Rattle.perf_base.specs.declared.standing.Standing.TheVariants as standing
-use Rattle.stage_spec.specs.declared.instance.Instance.{Instance}
-use Rattle.stage_spec.specs.Hardware.{Hardware}
-use Rattle.world_spec.specs.Value.{World, is_live, entry_at, instance_at, standing_at, is_key, times}
-use Rattle.world_spec.specs.Kept.{post_at, leads, IsKept}
-use Rattle.world_spec.specs.Changes.{set_own}
-use Rattle.world_spec.specs.Rescheduled.{fail_by, fail_group, fail_groups}
-use Rattle.world_spec.proofs.Tables.{get-here, get-there, posts-same, entry-here, entry-there, entry-numbered}
-use Rattle.world_spec.proofs.Keeping.{own-kept, standing-kept}
-use Rattle.world_spec.proofs.Keys.{is_key-same, is_key-other, times-cons, once-true, once-false}
-use Rattle.world_spec.proofs.Moving.{leads-parts}
+use Rattle.stage_spec.specs.{declared.instance.Instance.{Instance}, Hardware.{Hardware}}
+use Rattle.world_spec.specs.{Value.{World, is_live, entry_at, instance_at, standing_at, is_key, times}, Kept.{post_at, leads, IsKept}}
+use Rattle.world_spec.specs.{Changes.{set_own}, Rescheduled.{fail_by, fail_group, fail_groups}}
+use Rattle.world_spec.proofs.{Tables.{get-here, get-there, posts-same, entry-here, entry-there, entry-numbered}, Keeping.{own-kept, standing-kept}}
+use Rattle.world_spec.proofs.{Keys.{is_key-same, is_key-other, times-cons, once-true, once-false}, Moving.{leads-parts}}
 
 -- what becomes of an instance and of a standing
 abbrev pub failed_instance : Standing → Instance → Instance

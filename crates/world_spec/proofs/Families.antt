@@ -1,39 +1,23 @@
 -- The instances of the stage are those of the world's keys, each once; so families, originals and copies are the
 -- world's.
 use Rattle.std.specs.Prelude.{◌≡◌, ℕ, ◌+◌, ◌<◌, ◌≤◌, ◌==◌, Bool, true, false, not, ◌&&◌, cond, List, [], ◌∷◌, ◌++◌, length, map, filter, find, count_by, flat_map, is_some, Option, Some, None, option_map, slice_index_or, if◌then◌else◌}
-use Rattle.std.specs.List.{list_any}
-use Rattle.std.proofs.Common.{arith, refl, sym, ap, ◌∙◌, inl, inr}
-use Rattle.std.proofs.lemmas.Bool.{cases_eq, cases_Bool}
-use Rattle.std.proofs.lemmas.Bool.Decides.{nat_tests}
-use Rattle.std.proofs.lemmas.List.{length-map, map-append}
-use Rattle.std.proofs.lemmas.List.Concat.{length-flat_map}
-use Rattle.std.proofs.lemmas.List.Sums.{length-filter}
-use Rattle.perf_base.specs.declared.numbers.EventNo.{EventNo}
-use Rattle.perf_base.specs.declared.numbers.Key.{Key}
-use Rattle.perf_base.specs.declared.reply.Sums.{Sums}
-use Rattle.stage_spec.specs.declared.instance.Instance.{Instance}
-use Rattle.stage_spec.specs.Families.{plus, plus_each}
-use Rattle.stage_spec.specs.Hardware.{Hardware}
+use Rattle.std.{specs.List.{list_any}, proofs.{Common.{arith, refl, sym, ap, ◌∙◌, inl, inr}, lemmas.Bool.{cases_eq, cases_Bool, Decides.{nat_tests}}}}
+use Rattle.std.proofs.lemmas.List.{length-map, map-append, Concat.{length-flat_map}, Sums.{length-filter}}
+use Rattle.perf_base.specs.declared.{numbers.{EventNo.{EventNo}, Key.{Key}}, reply.Sums.{Sums}}
+use Rattle.stage_spec.specs.{declared.instance.Instance.{Instance}, Families.{plus, plus_each}, Hardware.{Hardware}}
 use Rattle.stage_spec.specs.Stage.{members_of, members, groups_in, all_instances, place_of, is_of_family, is_original, is_copy}
-use Rattle.stage_laws.specs.Sound.{has_id}
-use Rattle.stage_laws.proofs.Images.{filter-map}
+use Rattle.stage_laws.{specs.Sound.{has_id}, proofs.Images.{filter-map}}
 use Rattle.stage_laws.proofs.Totals.{total, one_if, as_number, total-nil, total-cons, total-map, total-same, total-none, count_by-is-total}
+use Rattle.stage_laws.proofs.Counts.{count-append}
 use Rattle.world_spec.specs.Value.{World, Leaders, Family, no_family, no_leaders, family_of, is_live, entry_at, instance_at, is_key, times}
 use Rattle.world_spec.specs.StageOf.{group_at, lists_at, stage_of}
 use Rattle.world_spec.specs.Kept.{post_at, once_if, in_option, is_original_in, is_copy_in, is_member_of, leads, keys_of, plus_keys, IsKept}
-use Rattle.world_spec.specs.Listings.{MembersLaw}
-use Rattle.world_spec.specs.Families.{OriginalLaw, OpenSlotLaw, GroupLaw, FamilyIdsLaw, FamilySumsLaw, CopiesLaw}
+use Rattle.world_spec.specs.{Listings.{MembersLaw}, Families.{OriginalLaw, OpenSlotLaw, GroupLaw, FamilyIdsLaw, FamilySumsLaw, CopiesLaw}}
 use Rattle.world_spec.proofs.Keys.{key-is, is_key-same, is_key-true, is_key-turned, times-cons, once-true, once-false}
-use Rattle.world_spec.proofs.Accounts.{IsSum, counts_are_sums, times_are_sums, family-times}
-use Rattle.world_spec.proofs.Moving.{leads-parts}
-use Rattle.world_spec.proofs.Coming.{three}
-use Rattle.world_spec.proofs.AddedStage.{one-in_option}
-use Rattle.world_spec.proofs.Going.{all_three}
-use Rattle.world_spec.proofs.GoneStage.{AreLeading}
-use Rattle.world_spec.proofs.GoneLeaderStage.{leading-rest, leading-first}
+use Rattle.world_spec.proofs.{Accounts.{IsSum, counts_are_sums, times_are_sums, family-times}, Moving.{leads-parts}, Coming.{three}}
+use Rattle.world_spec.proofs.{AddedStage.{one-in_option}, Going.{all_three}, GoneStage.{AreLeading}, GoneLeaderStage.{leading-rest, leading-first}}
 use Rattle.world_spec.proofs.Folding.{run_times_are_sums}
 use Rattle.world_spec.proofs.Counting.{times-flat, spread-one, spread-zero, AreSameKeys, same-total, times-filter, find-one, find-none, find-mapped, any-find, any-there, any-key}
-use Rattle.stage_laws.proofs.Counts.{count-append}
 
 -- the leaders of all contexts, and the keys of all groups
 abbrev pub leaders_both : Leaders → List Key

@@ -1,32 +1,18 @@
 -- The first world is kept, and stands for the first stage.
 use Rattle.std.specs.Prelude.{◌≡◌, ℕ, ◌^◌, ◌<◌, ◌≤◌, ◌==◌, true, false, not, List, length, map, is_some, Option, None, slice_index, slice_index_or, replicate}
-use Rattle.std.specs.FinMap.{get-empty}
-use Rattle.std.specs.List.{AllPairs}
-use Rattle.std.specs.Option.{unwrap_or}
-use Rattle.std.specs.Ordering.{nat_cmp}
-use Rattle.std.proofs.Common.{arith, refl, sym, ap, subst, ◌∙◌, inl, inr}
-use Rattle.std.proofs.lemmas.Bool.{cases_lt, false≢true}
-use Rattle.std.proofs.lemmas.List.{length-map, length-replicate, get_or-replicate, get_or-map, get_or_past}
-use Rattle.std.proofs.lemmas.List.Elements.{All-get_or}
+use Rattle.std.specs.{FinMap.{get-empty}, List.{AllPairs}, Option.{unwrap_or}, Ordering.{nat_cmp}}
+use Rattle.std.proofs.{Common.{arith, refl, sym, ap, subst, ◌∙◌, inl, inr}, lemmas.Bool.{cases_lt, false≢true}}
+use Rattle.std.proofs.lemmas.List.{length-map, length-replicate, get_or-replicate, get_or-map, get_or_past, Elements.{All-get_or}}
 use Rattle.std.proofs.lemmas.List.Folds.{sum_by-replicate}
-use Rattle.perf_base.specs.declared.numbers.CpuNo.{CpuNo}
-use Rattle.perf_base.specs.declared.numbers.Key.{Key}
-use Rattle.perf_base.specs.declared.numbers.TaskNo.{TaskNo}
-use Rattle.stage_spec.specs.Families.{plus}
-use Rattle.stage_spec.specs.Hardware.{Hardware, IsHardware, IsPmu}
-use Rattle.stage_spec.specs.Shares.{no_sums}
-use Rattle.stage_spec.specs.Stage.{first_stage}
+use Rattle.perf_base.specs.declared.numbers.{CpuNo.{CpuNo}, Key.{Key}, TaskNo.{TaskNo}}
+use Rattle.stage_spec.specs.{Families.{plus}, Hardware.{Hardware, IsHardware, IsPmu}, Shares.{no_sums}, Stage.{first_stage}}
 use Rattle.stage_laws.proofs.RunningTasks.{running_first}
 use Rattle.counter_match.specs.Seating.{Seated, IsSound, empty_seating}
 use Rattle.world_spec.specs.Value.{World, Totals, no_entry, no_account, no_family, no_leaders, no_totals, is_live, entry_at, instance_at, account_at, is_key, times}
 use Rattle.world_spec.specs.StageOf.{lists_at}
 use Rattle.world_spec.specs.Kept.{post_at, in_option, is_original_in, is_copy_in, is_member_of, leads_in, keys_of, plus_keys, family_sums, AreFitting, AreSeated, AreSmallTotals}
-use Rattle.world_spec.specs.First.{first_world, FirstStageLaw, FirstKeptLaw}
-use Rattle.world_spec.proofs.Keys.{once-false}
-use Rattle.world_spec.proofs.Moving.{leads-parts}
-use Rattle.world_spec.proofs.ComingLinks.{none_of_two, none_of_three}
-use Rattle.world_spec.proofs.ComingGroups.{dead_leads}
-use Rattle.world_spec.proofs.Gone.{nothing-fits}
+use Rattle.world_spec.{specs.First.{first_world, FirstStageLaw, FirstKeptLaw}, proofs.{Keys.{once-false}, Moving.{leads-parts}}}
+use Rattle.world_spec.proofs.{ComingLinks.{none_of_two, none_of_three}, ComingGroups.{dead_leads}, Gone.{nothing-fits}}
 
 pub first-stage : FirstStageLaw
 unfolding first_stage

@@ -1,30 +1,17 @@
 -- A copy that is folded: its sums are its event's, and the world is kept.
 use Rattle.std.specs.Prelude.{◌≡◌, ℕ, ◌+◌, ◌^◌, ◌<◌, ◌≤◌, ◌==◌, Bool, true, false, not, List, [], ◌∷◌, ◌++◌, length, slice_index_or, slice_set}
-use Rattle.std.specs.FinMap.{FinMap, get, remove}
-use Rattle.std.specs.Option.{unwrap_or}
-use Rattle.std.specs.Ordering.{nat_cmp}
+use Rattle.std.specs.{FinMap.{FinMap, get, remove}, Option.{unwrap_or}, Ordering.{nat_cmp}}
 use Rattle.std.proofs.Common.{arith, refl, sym, ap, subst, ◌∙◌, inl, inr, get_or-set_other, get_or-set_same}
-use Rattle.std.proofs.lemmas.Bool.{cases_eq, cases_Bool, false≢true}
-use Rattle.std.proofs.lemmas.Bool.Decides.{nat_tests}
-use Rattle.std.proofs.lemmas.List.{length-set}
-use Rattle.perf_base.specs.declared.numbers.Key.{Key}
-use Rattle.perf_base.specs.declared.reply.Sums.{Sums}
-use Rattle.stage_spec.specs.Families.{plus}
-use Rattle.stage_spec.specs.Hardware.{Hardware}
-use Rattle.stage_spec.specs.Shares.{no_sums}
+use Rattle.std.proofs.lemmas.{Bool.{cases_eq, cases_Bool, false≢true, Decides.{nat_tests}}, List.{length-set}}
+use Rattle.perf_base.specs.declared.{numbers.Key.{Key}, reply.Sums.{Sums}}
+use Rattle.stage_spec.specs.{Families.{plus}, Hardware.{Hardware}, Shares.{no_sums}}
 use Rattle.world_spec.specs.Value.{World, Account, Family, no_family, no_account, is_live, entry_at, instance_at, account_at, is_key, times}
 use Rattle.world_spec.specs.StageOf.{after_first, stage_of}
-use Rattle.world_spec.specs.Kept.{post_at, in_option, is_original_in, is_copy_in, keys_of, plus_keys, family_sums, IsKept}
-use Rattle.world_spec.specs.Changes.{all_but}
-use Rattle.world_spec.specs.Adding.{leave_group, out_of_family, taken_out, drop_instance, folded_away}
-use Rattle.world_spec.specs.Goings.{MayGo}
-use Rattle.world_spec.specs.Foldings.{FoldLaw, FoldKeptLaw, FoldSumsLaw}
-use Rattle.world_spec.proofs.Accounts.{IsSum, counts_are_sums, times_are_sums, family-other}
+use Rattle.world_spec.specs.{Kept.{post_at, in_option, is_original_in, is_copy_in, keys_of, plus_keys, family_sums, IsKept}, Changes.{all_but}}
+use Rattle.world_spec.specs.{Adding.{leave_group, out_of_family, taken_out, drop_instance, folded_away}, Goings.{MayGo}}
+use Rattle.world_spec.{specs.Foldings.{FoldLaw, FoldKeptLaw, FoldSumsLaw}, proofs.Accounts.{IsSum, counts_are_sums, times_are_sums, family-other}}
 use Rattle.world_spec.proofs.Keys.{key-is, is_key-same, is_key-true, all_but-cons, all_but-none, times-all_but_same, times-cons, once-true, once-false, at_place}
-use Rattle.world_spec.proofs.Added.{sums-append}
-use Rattle.world_spec.proofs.Going.{all_three, last_fails}
-use Rattle.world_spec.proofs.Gone.{get-left}
-use Rattle.world_spec.proofs.GoneLeader.{freed-fields, dropped-leader}
+use Rattle.world_spec.proofs.{Added.{sums-append}, Going.{all_three, last_fails}, Gone.{get-left}, GoneLeader.{freed-fields, dropped-leader}}
 use Rattle.world_spec.proofs.Dropping.{go-kept, go-stage}
 
 -- a key that goes leaves the folded sums, and its group leaves accounts and families

@@ -1,18 +1,12 @@
 -- What posts, links and groups are after a key went, over plain posts.
 use Rattle.std.specs.Prelude.{◌≡◌, ℕ, ◌<◌, ◌≤◌, ◌==◌, Bool, true, false, not, ◌&&◌, List, [], length, slice_index_or, slice_set}
-use Rattle.std.proofs.Common.{arith, refl, sym, ap, subst, ◌∙◌, inl, inr}
-use Rattle.std.proofs.lemmas.Bool.{cases_eq, cases_Bool, false≢true}
-use Rattle.std.proofs.lemmas.Bool.Decides.{nat_tests}
+use Rattle.std.proofs.{Common.{arith, refl, sym, ap, subst, ◌∙◌, inl, inr}, lemmas.Bool.{cases_eq, cases_Bool, false≢true, Decides.{nat_tests}}}
 use Rattle.perf_base.specs.declared.numbers.Key.{Key}
 use Rattle.stage_spec.specs.Stage.{place_of}
 use Rattle.world_spec.specs.Value.{Family, no_family, times}
-use Rattle.world_spec.specs.Kept.{Post, once_if, in_option, is_original_in, is_copy_in, is_of_task, AreNumbered, AreApart}
-use Rattle.world_spec.specs.Changes.{all_but}
-use Rattle.world_spec.specs.Adding.{out_of_family}
-use Rattle.world_spec.proofs.Keys.{key-is, times-all_but_same, times-all_but_other, once-true, once-false, at_place}
-use Rattle.world_spec.proofs.Coming.{number_true, three}
-use Rattle.world_spec.proofs.ComingLinks.{none_of_three}
-use Rattle.world_spec.proofs.AddedStage.{one-in_option}
+use Rattle.world_spec.specs.{Kept.{Post, once_if, in_option, is_original_in, is_copy_in, is_of_task, AreNumbered, AreApart}, Changes.{all_but}}
+use Rattle.world_spec.{specs.Adding.{out_of_family}, proofs.Keys.{key-is, times-all_but_same, times-all_but_other, once-true, once-false, at_place}}
+use Rattle.world_spec.proofs.{Coming.{number_true, three}, ComingLinks.{none_of_three}, AddedStage.{one-in_option}}
 
 -- a post but for its group
 abbrev pub shell : Post → Post

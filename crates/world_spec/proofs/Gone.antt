@@ -1,42 +1,21 @@
 -- A sibling that goes: the tables after it, and that the world is kept.
 use Rattle.std.specs.Prelude.{◌≡◌, ℕ, ◌^◌, ◌<◌, ◌≤◌, ◌==◌, Bool, true, false, cond, List, [], ◌∷◌, length, map, is_some, None, slice_index_or, slice_set}
-use Rattle.std.specs.Cmp.{unsigned_tied}
-use Rattle.std.specs.FinMap.{FinMap, get, contains_key, remove, get-remove}
-use Rattle.std.specs.Option.{unwrap_or}
-use Rattle.std.specs.Ordering.{nat_cmp}
-use Rattle.std.proofs.Common.{arith, refl, sym, ap, subst, ◌∙◌, inl, inr}
-use Rattle.std.proofs.lemmas.Bool.{cases_eq, cases_Bool}
-use Rattle.std.proofs.lemmas.Bool.Decides.{nat_tests}
-use Rattle.std.proofs.lemmas.Cmp.{nat_cmp_total}
-use Rattle.std.proofs.lemmas.List.{length-map, length-set}
-use Rattle.perf_base.specs.Scripts.{IsKind}
-use Rattle.perf_base.specs.declared.attr.Kind.{Kind}
-use Rattle.perf_base.specs.declared.numbers.Key.{Key}
-use Rattle.perf_base.specs.declared.reply.Sums.{Sums}
-use Rattle.perf_base.specs.declared.standing.Standing.{Standing}
-use Rattle.stage_spec.specs.Checks.{has_unknown_sample}
-use Rattle.stage_spec.specs.Families.{plus}
-use Rattle.stage_spec.specs.Fits.{fits, fits_beside}
-use Rattle.stage_spec.specs.Hardware.{Hardware}
-use Rattle.stage_spec.specs.Opening.{is_used}
+use Rattle.std.specs.{Cmp.{unsigned_tied}, FinMap.{FinMap, get, contains_key, remove, get-remove}, Option.{unwrap_or}, Ordering.{nat_cmp}}
+use Rattle.std.proofs.{Common.{arith, refl, sym, ap, subst, ◌∙◌, inl, inr}, lemmas.Bool.{cases_eq, cases_Bool, Decides.{nat_tests}}}
+use Rattle.std.proofs.lemmas.{Cmp.{nat_cmp_total}, List.{length-map, length-set}}
+use Rattle.perf_base.specs.{Scripts.{IsKind}, declared.{attr.Kind.{Kind}, numbers.Key.{Key}, reply.Sums.{Sums}, standing.Standing.{Standing}}}
 use Rattle.perf_base.specs.Contexts.{context_of}
-use Rattle.stage_spec.specs.Reading.{is_error}
-use Rattle.stage_spec.specs.Shares.{no_sums}
+use Rattle.stage_spec.specs.{Checks.{has_unknown_sample}, Families.{plus}, Fits.{fits, fits_beside}, Hardware.{Hardware}, Opening.{is_used}}
+use Rattle.stage_spec.specs.{Reading.{is_error}, Shares.{no_sums}}
 use Rattle.world_spec.specs.Value.{World, Entry, Leaders, Family, no_family, no_leaders, no_entry, no_account, is_live, entry_at, instance_at, account_at, is_key, times}
 use Rattle.world_spec.specs.StageOf.{stage_of, lists_at}
 use Rattle.world_spec.specs.Kept.{post_at, once_if, in_option, is_copy_in, is_member_of, leads_in, kinds_in, keys_of, plus_keys, AreFitting, AreLawful, AreSmall, IsKept}
-use Rattle.world_spec.specs.Changes.{all_but}
-use Rattle.world_spec.specs.Adding.{out_of_family, leave_group, taken_out}
+use Rattle.world_spec.specs.{Changes.{all_but}, Adding.{out_of_family, leave_group, taken_out}}
 use Rattle.world_spec.proofs.Tables.{post_of, with_entry, entry-here, entry-there, entry-numbered}
 use Rattle.world_spec.proofs.Accounts.{IsSum, counts_are_sums, times_are_sums}
-use Rattle.world_spec.proofs.Keys.{key-is, is_key-other, at_place, all_but-none, times-all_but_same, once-false}
-use Rattle.world_spec.proofs.Moving.{leads-parts}
-use Rattle.world_spec.proofs.Coming.{core, by_coming}
-use Rattle.world_spec.proofs.ComingLinks.{last_of_two}
-use Rattle.world_spec.proofs.Copies.{goes-rising}
-use Rattle.world_spec.proofs.ComingGroups.{pick, map-apart}
-use Rattle.world_spec.proofs.Added.{sums-le, sums-append, written-post, other-post}
-use Rattle.world_spec.proofs.AddedKept.{both-picks}
+use Rattle.world_spec.proofs.{Keys.{key-is, is_key-other, at_place, all_but-none, times-all_but_same, once-false}, Moving.{leads-parts}}
+use Rattle.world_spec.proofs.{Coming.{core, by_coming}, ComingLinks.{last_of_two}, Copies.{goes-rising}, ComingGroups.{pick, map-apart}}
+use Rattle.world_spec.proofs.{Added.{sums-le, sums-append, written-post, other-post}, AddedKept.{both-picks}}
 use Rattle.world_spec.proofs.Going.{shell, still-apart, still-live, goes-numbered, goes-apart, goes-originals, goes-copies}
 use Rattle.world_spec.proofs.GoneSibling.{GoesAlone, not-led, gone-members, gone-listed, gone-grouped, fitting-fewer}
 

@@ -1,41 +1,21 @@
 -- A leader that goes: the tables after it, and that the world is kept.
 use Rattle.std.specs.Prelude.{◌≡◌, ℕ, ◌+◌, ◌<◌, ◌≤◌, Bool, true, false, List, [], ◌∷◌, length, map, is_some, Option, Some, slice_index_or}
-use Rattle.std.specs.FinMap.{FinMap, get, contains_key, insert, remove}
-use Rattle.std.specs.List.{fold}
-use Rattle.std.specs.Option.{unwrap_or}
-use Rattle.std.specs.Ordering.{nat_cmp}
-use Rattle.std.proofs.Common.{arith, refl, sym, ap, subst, ◌∙◌, inl, inr}
-use Rattle.std.proofs.lemmas.Bool.{cases_eq, cases_Bool}
-use Rattle.std.proofs.lemmas.List.{length-map, length-set}
-use Rattle.perf_base.specs.Scripts.{IsKind}
-use Rattle.perf_base.specs.declared.attr.Kind.{Kind}
-use Rattle.perf_base.specs.declared.numbers.Key.{Key}
-use Rattle.perf_base.specs.declared.standing.Standing.{Standing}
+use Rattle.std.specs.{FinMap.{FinMap, get, contains_key, insert, remove}, List.{fold}, Option.{unwrap_or}, Ordering.{nat_cmp}}
+use Rattle.std.proofs.{Common.{arith, refl, sym, ap, subst, ◌∙◌, inl, inr}, lemmas.{Bool.{cases_eq, cases_Bool}, List.{length-map, length-set}}}
+use Rattle.perf_base.specs.{Scripts.{IsKind}, declared.{attr.Kind.{Kind}, numbers.Key.{Key}, standing.Standing.{Standing}}, Contexts.{context_of}}
 use Rattle.perf_base.specs.declared.standing.Standing.TheVariants as standing
-use Rattle.stage_spec.specs.Checks.{has_unknown_sample}
-use Rattle.stage_spec.specs.Fits.{fits, fits_beside}
-use Rattle.stage_spec.specs.Hardware.{Hardware, is_software, mask_of}
-use Rattle.stage_spec.specs.Opening.{is_used}
-use Rattle.perf_base.specs.Contexts.{context_of}
-use Rattle.stage_spec.specs.Reading.{is_error}
-use Rattle.stage_spec.specs.Stage.{place_of}
+use Rattle.stage_spec.specs.{Checks.{has_unknown_sample}, Fits.{fits, fits_beside}, Hardware.{Hardware, is_software, mask_of}, Opening.{is_used}}
+use Rattle.stage_spec.specs.{Reading.{is_error}, Stage.{place_of}}
 use Rattle.stage_laws.proofs.Fitting.{fits_beside-others, fits_beside-rest}
 use Rattle.world_spec.specs.Value.{World, Entry, no_leaders, no_entry, is_live, entry_at, instance_at, is_key, times}
 use Rattle.world_spec.specs.StageOf.{after_first, stage_of, lists_at}
-use Rattle.world_spec.specs.Kept.{post_at, once_if, is_member_of, leads, leads_in, kinds_in, AreFitting, AreLawful, IsKept}
-use Rattle.world_spec.specs.Changes.{with_leaders}
-use Rattle.world_spec.specs.Adding.{free_entry, freed, leave_group, taken_out, drop_instance}
-use Rattle.world_spec.specs.Goings.{MayGo}
+use Rattle.world_spec.specs.{Kept.{post_at, once_if, is_member_of, leads, leads_in, kinds_in, AreFitting, AreLawful, IsKept}, Changes.{with_leaders}}
+use Rattle.world_spec.specs.{Adding.{free_entry, freed, leave_group, taken_out, drop_instance}, Goings.{MayGo}}
 use Rattle.world_spec.proofs.Tables.{get-here, get-there, keys-written, post_of}
-use Rattle.world_spec.proofs.Keys.{key-is, is_key-same, is_key-other, is_key-true, times-cons, once-true, once-false}
-use Rattle.world_spec.proofs.Moving.{leads-parts}
-use Rattle.world_spec.proofs.ComingLinks.{last_of_two}
-use Rattle.world_spec.proofs.Copies.{goes-rising}
-use Rattle.world_spec.proofs.ComingGroups.{pick, map-apart}
-use Rattle.world_spec.proofs.AddedKept.{both-picks}
+use Rattle.world_spec.proofs.{Keys.{key-is, is_key-same, is_key-other, is_key-true, times-cons, once-true, once-false}, Moving.{leads-parts}}
+use Rattle.world_spec.proofs.{ComingLinks.{last_of_two}, Copies.{goes-rising}, ComingGroups.{pick, map-apart}, AddedKept.{both-picks}}
 use Rattle.world_spec.proofs.Going.{Goes, still-apart, still-live, goes-numbered, goes-apart, goes-originals, goes-copies}
-use Rattle.world_spec.proofs.GoneSibling.{hardware_masks, masks-cons}
-use Rattle.world_spec.proofs.Gone.{get-gone, get-left, small-left, fewer-keys, nothing-fits}
+use Rattle.world_spec.proofs.{GoneSibling.{hardware_masks, masks-cons}, Gone.{get-gone, get-left, small-left, fewer-keys, nothing-fits}}
 use Rattle.world_spec.proofs.Disbanding.{Disbands, by_group, disbands-goes, member-live, disbanded-members, disband, AreSiblings, disbanded-listed, disbanded-grouped}
 
 -- the tables after the siblings were freed

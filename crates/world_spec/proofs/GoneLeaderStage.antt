@@ -1,32 +1,17 @@
 -- The stage after a leader went.
 use Rattle.std.specs.Prelude.{◌≡◌, ℕ, zero, suc, ◌+◌, ◌<◌, ◌≤◌, ◌==◌, Bool, true, false, not, ◌&&◌, cond, List, [], ◌∷◌, ◌++◌, length, map, flat_map, slice_index_or, slice_set, if◌then◌else◌}
-use Rattle.std.specs.FinMap.{FinMap}
-use Rattle.std.specs.Ordering.{nat_cmp}
-use Rattle.std.proofs.Common.{arith, refl, sym, ap, ◌∙◌, inl, inr}
-use Rattle.std.proofs.lemmas.Bool.{cases_eq, cases_Bool, false≢true}
-use Rattle.std.proofs.lemmas.Bool.Decides.{nat_tests}
-use Rattle.std.proofs.lemmas.List.{append-nil, length-map, length-set, map-append}
+use Rattle.std.{specs.{FinMap.{FinMap}, Ordering.{nat_cmp}}, proofs.Common.{arith, refl, sym, ap, ◌∙◌, inl, inr}}
+use Rattle.std.proofs.lemmas.{Bool.{cases_eq, cases_Bool, false≢true, Decides.{nat_tests}}, List.{append-nil, length-map, length-set, map-append}}
 use Rattle.std.proofs.lemmas.Simd.{map-map}
-use Rattle.perf_base.specs.declared.numbers.Key.{Key}
-use Rattle.perf_base.specs.declared.standing.Standing.{Standing}
-use Rattle.stage_spec.specs.Closing.{staying, kept_group, freed_groups, without}
-use Rattle.stage_spec.specs.Hardware.{Hardware}
-use Rattle.stage_spec.specs.Stage.{Group, Lists, alone, place_of}
-use Rattle.stage_laws.specs.OneByOne.{drop_one}
-use Rattle.stage_laws.proofs.Counts.{count-append}
-use Rattle.stage_laws.proofs.Images.{filter-map}
+use Rattle.perf_base.specs.declared.{numbers.Key.{Key}, standing.Standing.{Standing}}
+use Rattle.stage_spec.specs.{Closing.{staying, kept_group, freed_groups, without}, Hardware.{Hardware}, Stage.{Group, Lists, alone, place_of}}
+use Rattle.stage_laws.{specs.OneByOne.{drop_one}, proofs.{Counts.{count-append}, Images.{filter-map}}}
 use Rattle.world_spec.specs.Value.{World, Entry, Leaders, no_leaders, is_live, entry_at, instance_at, is_key, times}
-use Rattle.world_spec.specs.StageOf.{after_first, group_at, lists_at, stage_of}
-use Rattle.world_spec.specs.Kept.{post_at, once_if, is_member_of, leads, leads_in, IsKept}
-use Rattle.world_spec.specs.Changes.{all_but}
-use Rattle.world_spec.proofs.Renaming.{id-apart}
+use Rattle.world_spec.specs.{StageOf.{after_first, group_at, lists_at, stage_of}, Kept.{post_at, once_if, is_member_of, leads, leads_in, IsKept}}
+use Rattle.world_spec.{specs.Changes.{all_but}, proofs.Renaming.{id-apart}}
 use Rattle.world_spec.proofs.Keys.{key-is, is_key-same, is_key-other, is_key-true, is_key-false, times-cons, all_but-none, once-true, once-false, at_place}
-use Rattle.world_spec.proofs.Moving.{leads-parts}
-use Rattle.world_spec.proofs.ComingLinks.{last_of_two, middle_fails}
-use Rattle.world_spec.proofs.ComingGroups.{map-apart}
-use Rattle.world_spec.proofs.AddedStage.{times-after_first}
-use Rattle.world_spec.proofs.GoneStage.{goes_by, same-test, AreLeading, listed-lead}
-use Rattle.world_spec.proofs.Disbanding.{Disbands, member-follows, disband, AreSiblings}
+use Rattle.world_spec.proofs.{Moving.{leads-parts}, ComingLinks.{last_of_two, middle_fails}, ComingGroups.{map-apart}, AddedStage.{times-after_first}}
+use Rattle.world_spec.proofs.{GoneStage.{goes_by, same-test, AreLeading, listed-lead}, Disbanding.{Disbands, member-follows, disband, AreSiblings}}
 use Rattle.world_spec.proofs.GoneLeader.{AreFreed, led_world, led-disbands, led-instance, siblings-stand}
 
 -- two lists whose items agree at each place

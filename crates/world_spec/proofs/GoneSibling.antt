@@ -1,28 +1,15 @@
 -- The members, the lists, the groups and the kinds of groups after a sibling went.
 use Rattle.std.specs.Prelude.{◌≡◌, ℕ, ◌≤◌, ◌==◌, Bool, true, false, not, ◌&&◌, cond, List, [], ◌∷◌, length, map, filter, slice_index_or, if◌then◌else◌}
-use Rattle.std.specs.List.{AllPairs}
-use Rattle.std.proofs.Common.{arith, sym, ap, subst, ◌∙◌, inl, inr}
-use Rattle.std.proofs.lemmas.Bool.{cases_eq, cases_Bool, false≢true}
-use Rattle.std.proofs.lemmas.List.{get_or_default, length-map}
-use Rattle.std.proofs.lemmas.List.Kept.{AllPairs-filter}
-use Rattle.std.proofs.lemmas.List.Sums.{length-filter, count_by-le-length}
+use Rattle.std.{specs.List.{AllPairs}, proofs.{Common.{arith, sym, ap, subst, ◌∙◌, inl, inr}, lemmas.Bool.{cases_eq, cases_Bool, false≢true}}}
+use Rattle.std.proofs.lemmas.List.{get_or_default, length-map, Kept.{AllPairs-filter}, Sums.{length-filter, count_by-le-length}}
 use Rattle.std.proofs.Math.ListN.{get_or-map}
-use Rattle.perf_base.specs.declared.attr.Kind.{Kind}
-use Rattle.perf_base.specs.declared.numbers.Key.{Key}
-use Rattle.stage_spec.specs.Fits.{fits, fits_beside}
-use Rattle.stage_spec.specs.Hardware.{Hardware, is_software, mask_of}
-use Rattle.stage_spec.specs.Opening.{is_other_pmu}
-use Rattle.stage_spec.specs.Stage.{place_of}
+use Rattle.perf_base.specs.declared.{attr.Kind.{Kind}, numbers.Key.{Key}}
+use Rattle.stage_spec.specs.{Fits.{fits, fits_beside}, Hardware.{Hardware, is_software, mask_of}, Opening.{is_other_pmu}, Stage.{place_of}}
 use Rattle.stage_laws.proofs.Fitting.{fits_beside-others, fits_beside-rest}
-use Rattle.world_spec.specs.Value.{Leaders, no_leaders, is_key, times}
-use Rattle.world_spec.specs.StageOf.{after_first}
-use Rattle.world_spec.specs.Kept.{Post, once_if, is_member_of, leads, leads_in, AreFitting, AreGrouped}
-use Rattle.world_spec.specs.Changes.{all_but}
-use Rattle.world_spec.proofs.Keys.{key-is, is_key-other, times-all_but_same, times-all_but_other, once-false}
-use Rattle.world_spec.proofs.Moving.{leads-parts}
-use Rattle.world_spec.proofs.Coming.{core, by_coming}
-use Rattle.world_spec.proofs.ComingLinks.{none_of_two, none_of_three, last_of_two}
-use Rattle.world_spec.proofs.ComingGroups.{pick, dead_leads}
+use Rattle.world_spec.specs.{Value.{Leaders, no_leaders, is_key, times}, StageOf.{after_first}}
+use Rattle.world_spec.specs.{Kept.{Post, once_if, is_member_of, leads, leads_in, AreFitting, AreGrouped}, Changes.{all_but}}
+use Rattle.world_spec.proofs.{Keys.{key-is, is_key-other, times-all_but_same, times-all_but_other, once-false}, Moving.{leads-parts}}
+use Rattle.world_spec.proofs.{Coming.{core, by_coming}, ComingLinks.{none_of_two, none_of_three, last_of_two}, ComingGroups.{pick, dead_leads}}
 use Rattle.world_spec.proofs.Going.{Goes, still-apart, still-live}
 
 -- a key goes, and of others the members alone may change

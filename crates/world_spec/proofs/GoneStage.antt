@@ -1,28 +1,15 @@
 -- The stage after a sibling went.
 use Rattle.std.specs.Prelude.{◌≡◌, ℕ, ◌≤◌, ◌==◌, Bool, true, false, not, cond, List, [], ◌∷◌, ◌++◌, map, flat_map, slice_index_or, if◌then◌else◌}
-use Rattle.std.proofs.Common.{arith, refl, sym, ap, ◌∙◌, inl, inr}
-use Rattle.std.proofs.lemmas.Bool.{cases_eq, cases_Bool, false≢true}
-use Rattle.std.proofs.lemmas.Bool.Decides.{nat_tests}
-use Rattle.std.proofs.lemmas.List.{append-nil}
-use Rattle.std.proofs.lemmas.Simd.{map-map}
+use Rattle.std.proofs.{Common.{arith, refl, sym, ap, ◌∙◌, inl, inr}, lemmas.Bool.{cases_eq, cases_Bool, false≢true, Decides.{nat_tests}}}
+use Rattle.std.proofs.lemmas.{List.{append-nil}, Simd.{map-map}}
 use Rattle.perf_base.specs.declared.numbers.Key.{Key}
-use Rattle.stage_spec.specs.declared.instance.Instance.{Instance}
-use Rattle.stage_spec.specs.Closing.{staying, kept_group, freed_groups, without}
-use Rattle.stage_spec.specs.Hardware.{Hardware}
+use Rattle.stage_spec.specs.{declared.instance.Instance.{Instance}, Closing.{staying, kept_group, freed_groups, without}, Hardware.{Hardware}}
 use Rattle.stage_spec.specs.Stage.{Group, Lists, alone, place_of}
-use Rattle.stage_laws.specs.Sound.{has_id}
-use Rattle.stage_laws.specs.OneByOne.{drop_one}
-use Rattle.stage_laws.proofs.Images.{filter-map}
+use Rattle.stage_laws.{specs.{Sound.{has_id}, OneByOne.{drop_one}}, proofs.Images.{filter-map}}
 use Rattle.world_spec.specs.Value.{World, Leaders, no_leaders, is_live, entry_at, instance_at, is_key, times}
-use Rattle.world_spec.specs.StageOf.{after_first, group_at, lists_at, stage_of}
-use Rattle.world_spec.specs.Kept.{post_at, once_if, leads, leads_in, IsKept}
-use Rattle.world_spec.specs.Changes.{all_but}
-use Rattle.world_spec.proofs.Renaming.{id-apart}
-use Rattle.world_spec.proofs.Keys.{key-is, is_key-same, is_key-other, times-cons, times-all_but_same, once-true, once-false}
-use Rattle.world_spec.proofs.Moving.{leads-parts}
-use Rattle.world_spec.proofs.ComingLinks.{none_of_three}
-use Rattle.world_spec.proofs.ComingGroups.{map-apart}
-use Rattle.world_spec.proofs.AddedStage.{map-places}
+use Rattle.world_spec.specs.{StageOf.{after_first, group_at, lists_at, stage_of}, Kept.{post_at, once_if, leads, leads_in, IsKept}, Changes.{all_but}}
+use Rattle.world_spec.proofs.{Renaming.{id-apart}, Keys.{key-is, is_key-same, is_key-other, times-cons, times-all_but_same, once-true, once-false}}
+use Rattle.world_spec.proofs.{Moving.{leads-parts}, ComingLinks.{none_of_three}, ComingGroups.{map-apart}, AddedStage.{map-places}}
 use Rattle.world_spec.proofs.Gone.{SiblingMayGo, left_world, left-instance, left-members}
 
 abbrev pub goes_by : World → Key → Instance → Bool

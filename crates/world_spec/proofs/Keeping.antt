@@ -1,24 +1,13 @@
 -- What a world keeps, through changes of one instance, of one account, of a standing and of the quiet fields.
 use Rattle.std.specs.Prelude.{◌≡◌, ℕ, ◌+◌, ◌^◌, ◌<◌, ◌==◌, true, false, List, length, Some, slice_index_or, slice_set, if◌then◌else◌}
-use Rattle.std.proofs.Common.{arith, refl, sym, ap, subst, ◌∙◌, inl, inr, get_or-set_other, get_or-set_same}
-use Rattle.std.proofs.lemmas.Bool.{cases_eq, cases_lt}
-use Rattle.std.proofs.lemmas.List.{length-map, length-set}
-use Rattle.std.proofs.Math.Seq.{set_out}
-use Rattle.perf_base.specs.Scripts.{IsKind}
-use Rattle.perf_base.specs.declared.numbers.CpuNo.{CpuNo}
-use Rattle.perf_base.specs.declared.numbers.Key.{Key}
-use Rattle.stage_spec.specs.declared.instance.Instance.{Instance}
-use Rattle.stage_spec.specs.Checks.{has_unknown_sample}
-use Rattle.stage_spec.specs.Hardware.{Hardware, counters_of}
-use Rattle.stage_spec.specs.Limits.{HasShape}
-use Rattle.stage_spec.specs.Opening.{is_used}
-use Rattle.perf_base.specs.Contexts.{context_of}
-use Rattle.stage_spec.specs.Reading.{is_error}
-use Rattle.stage_spec.specs.Stage.{Stage}
+use Rattle.std.proofs.{Common.{arith, refl, sym, ap, subst, ◌∙◌, inl, inr, get_or-set_other, get_or-set_same}, lemmas.Bool.{cases_eq, cases_lt}}
+use Rattle.std.proofs.{lemmas.List.{length-map, length-set}, Math.Seq.{set_out}}
+use Rattle.perf_base.specs.{Scripts.{IsKind}, declared.numbers.{CpuNo.{CpuNo}, Key.{Key}}, Contexts.{context_of}}
+use Rattle.stage_spec.specs.{declared.instance.Instance.{Instance}, Checks.{has_unknown_sample}, Hardware.{Hardware, counters_of}, Limits.{HasShape}}
+use Rattle.stage_spec.specs.{Opening.{is_used}, Reading.{is_error}, Stage.{Stage}}
 use Rattle.stage_laws.specs.Sound.{AreRunning}
 use Rattle.counter_match.specs.Seating.{Seated, IsSound, empty_seating}
-use Rattle.world_spec.specs.Value.{World, Entry, Quiet, no_totals, is_live, entry_at, instance_at, is_key}
-use Rattle.world_spec.specs.StageOf.{stage_of, lists_at}
+use Rattle.world_spec.specs.{Value.{World, Entry, Quiet, no_totals, is_live, entry_at, instance_at, is_key}, StageOf.{stage_of, lists_at}}
 use Rattle.world_spec.specs.Kept.{post_at, AreLinked, HaveCopies, AreSeated, AreGrouped, AreNumbered, AreApart, AreFitting, kinds_in, HaveTotals, AreSmallTotals, AreLawful, IsKept}
 use Rattle.world_spec.specs.Changes.{remember, with_instance}
 use Rattle.world_spec.specs.Laws.{OwnLaw, OwnKeptLaw, RingLaw, RingKeptLaw, StandingLaw, StandingKeptLaw, SeatsLaw, SeatsKeptLaw, LostLaw, LostKeptLaw}

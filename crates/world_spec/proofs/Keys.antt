@@ -1,13 +1,10 @@
 -- How often keys stand in lists that grow, shrink and turn, and lists at a place that was written.
 use Rattle.std.specs.Prelude.{◌≡◌, ℕ, ◌+◌, ◌<◌, Bool, true, false, not, cond, List, [], ◌∷◌, ◌++◌, length, slice_index_or, slice_set}
-use Rattle.std.proofs.Common.{arith, refl, sym, ap, subst, ◌∙◌, inl, inr, get_or-set_other, get_or-set_same}
-use Rattle.std.proofs.lemmas.Bool.{cases_eq, cases_Bool}
+use Rattle.std.proofs.{Common.{arith, refl, sym, ap, subst, ◌∙◌, inl, inr, get_or-set_other, get_or-set_same}, lemmas.Bool.{cases_eq, cases_Bool}}
 use Rattle.std.proofs.lemmas.Bool.Decides.{nat_tests}
 use Rattle.perf_base.specs.declared.numbers.Key.{Key}
 use Rattle.stage_laws.proofs.Counts.{count-cons, count-append}
-use Rattle.world_spec.specs.Value.{is_key, times}
-use Rattle.world_spec.specs.Kept.{once_if}
-use Rattle.world_spec.specs.Changes.{all_but, to_last}
+use Rattle.world_spec.specs.{Value.{is_key, times}, Kept.{once_if}, Changes.{all_but, to_last}}
 
 -- a key is its number
 pub key-is : (q k : Key) → q.0 ≡ k.0 → q ≡ k

@@ -1,35 +1,19 @@
 -- What contexts and processors have on the stage, by the keys of a world.
 use Rattle.std.specs.Prelude.{◌≡◌, ℕ, ◌+◌, ◌<◌, ◌≤◌, ◌==◌, Bool, true, false, not, ◌&&◌, cond, All, List, [], ◌∷◌, ◌++◌, length, map, count_by, flat_map, Option, Some, None, nat_lt, slice_index_or, if◌then◌else◌}
-use Rattle.std.proofs.Common.{arith, refl, sym, ap, subst, ◌∙◌, inl, inr}
-use Rattle.std.proofs.lemmas.Bool.{cases_Bool, false≢true}
-use Rattle.std.proofs.lemmas.Bool.Decides.{nat_tests}
-use Rattle.std.proofs.lemmas.List.{get_or-map as get_or-mapped, length-map, map-append}
-use Rattle.std.proofs.Math.ListN.{get_or-map}
-use Rattle.perf_base.specs.declared.numbers.CpuNo.{CpuNo}
-use Rattle.perf_base.specs.declared.numbers.Key.{Key}
-use Rattle.perf_base.specs.declared.numbers.TaskNo.{TaskNo}
-use Rattle.perf_base.specs.declared.standing.Context.{Context}
+use Rattle.std.proofs.{Common.{arith, refl, sym, ap, subst, ◌∙◌, inl, inr}, lemmas.Bool.{cases_Bool, false≢true, Decides.{nat_tests}}}
+use Rattle.std.proofs.{lemmas.List.{get_or-map as get_or-mapped, length-map, map-append}, Math.ListN.{get_or-map}}
+use Rattle.perf_base.specs.declared.{numbers.{CpuNo.{CpuNo}, Key.{Key}, TaskNo.{TaskNo}}, standing.Context.{Context}}
 use Rattle.perf_base.specs.declared.standing.Context.TheVariants as context
-use Rattle.stage_spec.specs.declared.instance.Instance.{Instance}
-use Rattle.stage_spec.specs.Hardware.{Hardware}
-use Rattle.stage_spec.specs.Opening.{is_used}
+use Rattle.stage_spec.specs.{declared.instance.Instance.{Instance}, Hardware.{Hardware}, Opening.{is_used}}
 use Rattle.stage_spec.specs.Stage.{Stage, Group, members, groups_in, lists_of, all_instances, place_of, is_of_family, is_original, is_task, task_on}
 use Rattle.stage_spec.specs.Verdict.{task_lists, reached}
-use Rattle.stage_laws.specs.Narrowing.{has_context}
-use Rattle.stage_laws.specs.Sound.{has_id}
-use Rattle.stage_laws.proofs.Counts.{count-cons, count-append}
+use Rattle.stage_laws.{specs.{Narrowing.{has_context}, Sound.{has_id}}, proofs.Counts.{count-cons, count-append}}
 use Rattle.stage_laws.proofs.Totals.{one_if, total-map, total-same, total-none, count_by-is-total}
 use Rattle.world_spec.specs.Value.{World, Leaders, no_leaders, leaders_of, is_live, entry_at, instance_at, is_key, times}
-use Rattle.world_spec.specs.StageOf.{group_at, lists_at, stage_of}
-use Rattle.world_spec.specs.Kept.{post_at, once_if, leads, IsKept}
+use Rattle.world_spec.specs.{StageOf.{group_at, lists_at, stage_of}, Kept.{post_at, once_if, leads, IsKept}}
 use Rattle.world_spec.specs.Listings.{task_leaders, pass_leaders, keys_in, PassesLaw, ContextLaw, NumberedLaw, OneInContextLaw, OneOnProcessorLaw}
-use Rattle.world_spec.proofs.Keys.{key-is, is_key-same, is_key-turned, times-cons, once-true, once-false}
-use Rattle.world_spec.proofs.Moving.{leads-parts}
-use Rattle.world_spec.proofs.Coming.{number_true}
-use Rattle.world_spec.proofs.AddedStage.{one-in_option}
-use Rattle.world_spec.proofs.Copies.{times-at}
-use Rattle.world_spec.proofs.GoneStage.{AreLeading}
-use Rattle.world_spec.proofs.Counting.{times-flat}
+use Rattle.world_spec.proofs.{Keys.{key-is, is_key-same, is_key-turned, times-cons, once-true, once-false}, Moving.{leads-parts}}
+use Rattle.world_spec.proofs.{Coming.{number_true}, AddedStage.{one-in_option}, Copies.{times-at}, GoneStage.{AreLeading}, Counting.{times-flat}}
 use Rattle.world_spec.proofs.Reaching.{one-reached}
 use Rattle.world_spec.proofs.Families.{all_keys, times-keys, leaders_both, leaders-at, members_at, members-are, instances-are, key-lives, stands-original, copies-are}
 

@@ -1,44 +1,22 @@
 -- A line of work keeps a world, and lets no family grow by more than one instance may.
 use Rattle.std.specs.Prelude.{◌≡◌, ℕ, zero, suc, ◌+◌, ◌^◌, ◌<◌, ◌≤◌, ◌==◌, max, Bool, true, false, not, ◌&&◌, List, [], ◌∷◌, length, ◌⊎◌, is_some, Option, Some, None, slice_index, slice_index_or, slice_set, if◌then◌else◌}
-use Rattle.std.specs.FinMap.{get}
-use Rattle.std.specs.List.{fold}
-use Rattle.std.specs.Option.{unwrap_or}
-use Rattle.std.proofs.Common.{arith, refl, sym, ap, subst, ◌∙◌, inl, inr, get_or-set_other, get_or-set_same}
-use Rattle.std.proofs.Math.Nat.{le-max_left, le-max_right}
-use Rattle.std.proofs.Math.Seq.{set_out}
-use Rattle.std.proofs.lemmas.Bool.{cases_eq, cases_lt, cases_Bool, false≢true}
-use Rattle.std.proofs.lemmas.List.{length-set}
-use Rattle.perf_base.specs.declared.attr.Attr.{Attr}
-use Rattle.perf_base.specs.declared.attr.Kind.{Kind}
+use Rattle.std.specs.{FinMap.{get}, List.{fold}, Option.{unwrap_or}}
+use Rattle.std.proofs.{Common.{arith, refl, sym, ap, subst, ◌∙◌, inl, inr, get_or-set_other, get_or-set_same}, Math.Nat.{le-max_left, le-max_right}}
+use Rattle.std.proofs.{Math.Seq.{set_out}, lemmas.{Bool.{cases_eq, cases_lt, cases_Bool, false≢true}, List.{length-set}}}
+use Rattle.perf_base.specs.declared.{attr.{Attr.{Attr}, Kind.{Kind}}, lines.{Mode.{Mode}, Work.{Work}}, numbers.{CpuNo.{CpuNo}, Key.{Key}}}
+use Rattle.perf_base.specs.{declared.reply.Sums.{Sums}, Standings.{stands_on}}
 use Rattle.perf_base.specs.declared.attr.Kind.TheVariants as kind
 use Rattle.perf_base.specs.declared.lines.CpuLine.TheVariants as cpu_line
-use Rattle.perf_base.specs.declared.lines.Mode.{Mode}
 use Rattle.perf_base.specs.declared.lines.Mode.TheVariants as mode
-use Rattle.perf_base.specs.declared.lines.Work.{Work}
-use Rattle.perf_base.specs.declared.numbers.CpuNo.{CpuNo}
-use Rattle.perf_base.specs.declared.numbers.Key.{Key}
-use Rattle.perf_base.specs.declared.reply.Sums.{Sums}
-use Rattle.stage_spec.specs.Families.{plus}
-use Rattle.stage_spec.specs.Hardware.{Hardware}
-use Rattle.stage_spec.specs.Shares.{no_sums, excludes, counted_by, work_hits}
-use Rattle.perf_base.specs.Standings.{stands_on}
-use Rattle.stage_laws.specs.Narrowing.{has_context}
-use Rattle.stage_laws.specs.Bounds.{greatest, most_of_line, AreAtMost}
+use Rattle.stage_spec.specs.{Families.{plus}, Hardware.{Hardware}, Shares.{no_sums, excludes, counted_by, work_hits}}
+use Rattle.stage_laws.specs.{Narrowing.{has_context}, Bounds.{greatest, most_of_line, AreAtMost}}
 use Rattle.world_spec.specs.Value.{World, Account, Totals, no_totals, no_account, no_family, is_live, entry_at, instance_at, account_at, standing_at, is_key, times}
-use Rattle.world_spec.specs.StageOf.{stage_of}
-use Rattle.world_spec.specs.Kept.{once_if, keys_of, plus_keys, family_sums, HaveTotals, AreSmallTotals, IsKept}
-use Rattle.world_spec.specs.Shares.{HaveRoom}
-use Rattle.world_spec.specs.Ways.{is_ready_at, is_on_at}
-use Rattle.world_spec.specs.Working.{is_effective}
+use Rattle.world_spec.specs.{StageOf.{stage_of}, Kept.{once_if, keys_of, plus_keys, family_sums, HaveTotals, AreSmallTotals, IsKept}}
+use Rattle.world_spec.specs.{Shares.{HaveRoom}, Ways.{is_ready_at, is_on_at}, Working.{is_effective}}
 use Rattle.world_spec.specs.Metering.{add_each, add_hits, metered, work_given, IsWorked, HasMeterRoom, WorkStageLaw, WorkWaysLaw, WorkKeptLaw, WorkGrowsLaw}
-use Rattle.world_spec.proofs.Accounts.{IsSum, counts_are_sums, times_are_sums, family-times, family-once}
-use Rattle.world_spec.proofs.Coming.{number_true}
-use Rattle.world_spec.proofs.Folding.{run_times_are_sums}
-use Rattle.world_spec.proofs.Keeping.{bounded-set}
-use Rattle.world_spec.proofs.Keys.{is_key-same, times-cons, once-true}
-use Rattle.world_spec.proofs.Moving.{leads-parts}
-use Rattle.world_spec.proofs.Reaching.{one-reached}
-use Rattle.world_spec.proofs.Ways.{other-ways}
+use Rattle.world_spec.proofs.{Accounts.{IsSum, counts_are_sums, times_are_sums, family-times, family-once}, Coming.{number_true}}
+use Rattle.world_spec.proofs.{Folding.{run_times_are_sums}, Keeping.{bounded-set}, Keys.{is_key-same, times-cons, once-true}, Moving.{leads-parts}}
+use Rattle.world_spec.proofs.{Reaching.{one-reached}, Ways.{other-ways}}
 
 -- what one instance is given is at most the most of a line
 greatest-first : (first : ℕ) (numbers : List ℕ) → first ≤ fold max first numbers

@@ -1,23 +1,14 @@
 -- A group that goes last in its list.
 use Rattle.std.specs.Prelude.{◌≡◌, ℕ, ◌<◌, ◌==◌, Bool, true, false, not, ◌&&◌, cond, List, [], ◌∷◌, ◌++◌, length, map, slice_set, if◌then◌else◌}
-use Rattle.std.proofs.Common.{arith, refl, sym, ap, subst, ◌∙◌, inl, inr}
-use Rattle.std.proofs.lemmas.Bool.{cases_Bool}
-use Rattle.std.proofs.lemmas.Bool.Decides.{nat_tests}
-use Rattle.std.proofs.lemmas.List.{length-map, length-set, map-set, map-append}
-use Rattle.std.proofs.Math.ListN.{get_or-map}
-use Rattle.perf_base.specs.declared.numbers.Key.{Key}
-use Rattle.perf_base.specs.declared.standing.Context.{Context}
-use Rattle.stage_spec.specs.Hardware.{Hardware}
-use Rattle.stage_spec.specs.Rotation.{first_goes_last}
-use Rattle.stage_spec.specs.Stage.{Group, Lists, place_of, lists_of, change_context}
+use Rattle.std.proofs.{Common.{arith, refl, sym, ap, subst, ◌∙◌, inl, inr}, lemmas.Bool.{cases_Bool, Decides.{nat_tests}}}
+use Rattle.std.proofs.{lemmas.List.{length-map, length-set, map-set, map-append}, Math.ListN.{get_or-map}}
+use Rattle.perf_base.specs.declared.{numbers.Key.{Key}, standing.Context.{Context}}
+use Rattle.stage_spec.specs.{Hardware.{Hardware}, Rotation.{first_goes_last}, Stage.{Group, Lists, place_of, lists_of, change_context}}
 use Rattle.stage_laws.specs.Sound.{has_id}
 use Rattle.world_spec.specs.Value.{World, Leaders, no_leaders, leaders_of, entry_at, instance_at, is_live, is_key, times}
-use Rattle.world_spec.specs.StageOf.{group_at, lists_at, stage_of}
-use Rattle.world_spec.specs.Kept.{post_at, leads, leads_in, once_if, AreLinked, AreNumbered, IsKept}
-use Rattle.world_spec.specs.Changes.{all_but, to_last, in_list, with_leaders}
-use Rattle.world_spec.specs.Moves.{group_goes_last, MoveLaw, MoveKeptLaw}
-use Rattle.world_spec.proofs.Renaming.{id-apart}
-use Rattle.world_spec.proofs.Keys.{key-is, is_key-true, is_key-false, times-cons, all_but-none, times-to_last, at_place}
+use Rattle.world_spec.specs.{StageOf.{group_at, lists_at, stage_of}, Kept.{post_at, leads, leads_in, once_if, AreLinked, AreNumbered, IsKept}}
+use Rattle.world_spec.specs.{Changes.{all_but, to_last, in_list, with_leaders}, Moves.{group_goes_last, MoveLaw, MoveKeptLaw}}
+use Rattle.world_spec.proofs.{Renaming.{id-apart}, Keys.{key-is, is_key-true, is_key-false, times-cons, all_but-none, times-to_last, at_place}}
 
 -- a change of a context's leaders is the stage's change of its groups
 pub leaders-stage : (w : World) (c : Context) (f : Leaders → Leaders) (g : Lists → Lists) → lists_at w (f (leaders_of w c)) ≡ g (lists_at w (leaders_of w c))

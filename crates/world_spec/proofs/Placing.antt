@@ -1,23 +1,14 @@
 -- Tasks that are placed, that come and that exit keep a world.
-use Rattle.std.specs.Prelude.{◌≡◌, length, Option, Some, None, slice_index_or, slice_set}
-use Rattle.std.proofs.Common.{refl, sym, ap, ◌∙◌, inl, inr}
-use Rattle.std.proofs.lemmas.Bool.{cases_eq, false≢true}
-use Rattle.std.proofs.lemmas.List.{length-set}
-use Rattle.std.proofs.lemmas.Option.{none-some}
-use Rattle.perf_base.specs.declared.numbers.CpuNo.{CpuNo}
-use Rattle.perf_base.specs.declared.numbers.TaskNo.{TaskNo}
-use Rattle.stage_spec.specs.declared.instance.TaskState.TheVariants as state
-use Rattle.stage_spec.specs.declared.instance.TaskStatus.{TaskStatus}
-use Rattle.stage_spec.specs.Hardware.{Hardware}
+use Rattle.std.{specs.Prelude.{◌≡◌, length, Option, Some, None, slice_index_or, slice_set}, proofs.Common.{refl, sym, ap, ◌∙◌, inl, inr}}
+use Rattle.std.proofs.lemmas.{Bool.{cases_eq, false≢true}, List.{length-set}, Option.{none-some}}
+use Rattle.perf_base.specs.declared.numbers.{CpuNo.{CpuNo}, TaskNo.{TaskNo}}
+use Rattle.stage_spec.specs.{declared.instance.TaskStatus.{TaskStatus}, Hardware.{Hardware}}
 use Rattle.stage_spec.specs.Stage.{Stage, task_on, status_of, is_live, set_running, set_status, fresh_task, unknown_task}
+use Rattle.stage_spec.specs.declared.instance.TaskState.TheVariants as state
 use Rattle.stage_laws.specs.Sound.{AreRunning}
 use Rattle.stage_laws.proofs.Tasks.{some-same, given-AreRunning, status-AreRunning, state-kept, status_of-other, task_numbered}
-use Rattle.world_spec.specs.Value.{World}
-use Rattle.world_spec.specs.StageOf.{stage_of}
-use Rattle.world_spec.specs.Kept.{IsKept}
-use Rattle.world_spec.specs.Changes.{with_running, with_status}
-use Rattle.world_spec.specs.Laws.{IsFree, PlaceLaw, PlaceKeptLaw, TaskLaw, TaskKeptLaw, EndLaw, EndKeptLaw}
-use Rattle.world_spec.proofs.Keeping.{quiet-kept}
+use Rattle.world_spec.specs.{Value.{World}, StageOf.{stage_of}, Kept.{IsKept}, Changes.{with_running, with_status}}
+use Rattle.world_spec.{specs.Laws.{IsFree, PlaceLaw, PlaceKeptLaw, TaskLaw, TaskKeptLaw, EndLaw, EndKeptLaw}, proofs.Keeping.{quiet-kept}}
 
 pub place-stage : PlaceLaw
 place-stage w cpu None = refl

@@ -1,38 +1,20 @@
 -- That quiet steps leave accounts, and refused steps the world.
-use Rattle.std.specs.Prelude.{◌≡◌, ℕ, ◌<◌, Bool, true, false, not, ◌&&◌, ◌==◌, [], ◌∷◌, filter, Option, Some, None, slice_index_or}
-use Rattle.std.specs.List.{list_any}
-use Rattle.std.proofs.Common.{arith, refl, sym, ap, ◌∙◌}
-use Rattle.std.proofs.lemmas.Bool.{false≢true}
-use Rattle.perf_base.specs.declared.lines.CpuLine.{CpuLine}
+use Rattle.std.specs.{Prelude.{◌≡◌, ℕ, ◌<◌, Bool, true, false, not, ◌&&◌, ◌==◌, [], ◌∷◌, filter, Option, Some, None, slice_index_or}, List.{list_any}}
+use Rattle.std.proofs.{Common.{arith, refl, sym, ap, ◌∙◌}, lemmas.Bool.{false≢true}}
+use Rattle.perf_base.specs.declared.{lines.{CpuLine.{CpuLine}, ToolLine.{ToolLine}}, numbers.{CpuNo.{CpuNo}, EventNo.{EventNo}, Key.{Key}}}
+use Rattle.perf_base.specs.declared.{numbers.TaskNo.{TaskNo}, reasons.Reason.{Reason}, reply.Sums.{Sums}}
 use Rattle.perf_base.specs.declared.lines.CpuLine.TheVariants as cpu_line
-use Rattle.perf_base.specs.declared.lines.ToolLine.{ToolLine}
 use Rattle.perf_base.specs.declared.lines.ToolLine.TheVariants as tool_line
-use Rattle.perf_base.specs.declared.numbers.CpuNo.{CpuNo}
-use Rattle.perf_base.specs.declared.numbers.EventNo.{EventNo}
-use Rattle.perf_base.specs.declared.numbers.Key.{Key}
-use Rattle.perf_base.specs.declared.numbers.TaskNo.{TaskNo}
-use Rattle.perf_base.specs.declared.reasons.Reason.{Reason}
 use Rattle.perf_base.specs.declared.reasons.Reason.TheVariants as reasons
-use Rattle.perf_base.specs.declared.reply.Sums.{Sums}
-use Rattle.stage_spec.specs.Commands.{targets, is_reached}
-use Rattle.stage_spec.specs.Families.{plus, leaving, leaving_by}
-use Rattle.stage_spec.specs.Hardware.{Hardware}
+use Rattle.stage_spec.specs.{Commands.{targets, is_reached}, Families.{plus, leaving, leaving_by}, Hardware.{Hardware}}
 use Rattle.stage_spec.specs.History.{Step, CpuStep, ToolStep, SeenStep, stage_step, unless_refused, cpu_changed, tool_changed, cpu_refusal, tool_refusal}
-use Rattle.stage_spec.specs.Occurrences.{left_after}
-use Rattle.stage_spec.specs.Recurrence.{after_reset}
-use Rattle.stage_spec.specs.Refusals.{first_of}
+use Rattle.stage_spec.specs.{Occurrences.{left_after}, Recurrence.{after_reset}, Refusals.{first_of}}
 use Rattle.stage_spec.specs.Remainders.{period_unless, new_period, left_by_period, left_by_hits, left_by}
 use Rattle.stage_spec.specs.Shares.{share, no_sums, changes_task, switch_share}
-use Rattle.stage_spec.specs.Stage.{Stage, is_open, is_idle, is_of_family, groups_in, members, all_instances, is_original, task_on}
-use Rattle.stage_spec.specs.Sums.{resets}
-use Rattle.stage_spec.specs.Switching.{is_running}
-use Rattle.stage_spec.specs.Verdict.{task_lists}
-use Rattle.stage_spec.proofs.Recurrence.{plus-none}
+use Rattle.stage_spec.specs.{Stage.{Stage, is_open, is_idle, is_of_family, groups_in, members, all_instances, is_original, task_on}, Sums.{resets}}
+use Rattle.stage_spec.{specs.{Switching.{is_running}, Verdict.{task_lists}}, proofs.Recurrence.{plus-none}}
 use Rattle.ring_spec.specs.Sending.{length_by}
-use Rattle.world_spec.specs.Kept.{IsKept}
-use Rattle.world_spec.specs.StageOf.{stage_of}
-use Rattle.world_spec.specs.Value.{World, is_live, instance_at, account_at}
-use Rattle.world_spec.specs.Stepping.{HasItsShare}
+use Rattle.world_spec.specs.{Kept.{IsKept}, StageOf.{stage_of}, Value.{World, is_live, instance_at, account_at}, Stepping.{HasItsShare}}
 use Rattle.world_spec.specs.Quiet.{is_quiet, is_quiet_line, is_quiet_call, step_refusal, KeepsAccount, QuietLaw, RefusedLaw}
 use Rattle.world_spec.proofs.Stepping.{instance-found}
 

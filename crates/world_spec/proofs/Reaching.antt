@@ -1,24 +1,13 @@
 -- A processor reaches at most one instance of a family.
 use Rattle.std.specs.Prelude.{◌≡◌, ℕ, ◌+◌, ◌==◌, nat_lt, true, false, not, Option, Some, None, slice_index_or, if◌then◌else◌}
-use Rattle.std.proofs.Common.{arith, sym, ap, ◌∙◌, inl, inr}
-use Rattle.std.proofs.lemmas.Bool.{cases_Bool, false≢true}
-use Rattle.std.proofs.lemmas.Bool.Decides.{nat_tests}
-use Rattle.perf_base.specs.declared.numbers.CpuNo.{CpuNo}
-use Rattle.perf_base.specs.declared.numbers.Key.{Key}
-use Rattle.perf_base.specs.declared.numbers.TaskNo.{TaskNo}
-use Rattle.perf_base.specs.declared.standing.Context.{Context}
+use Rattle.std.proofs.{Common.{arith, sym, ap, ◌∙◌, inl, inr}, lemmas.Bool.{cases_Bool, false≢true, Decides.{nat_tests}}}
+use Rattle.perf_base.specs.declared.{numbers.{CpuNo.{CpuNo}, Key.{Key}, TaskNo.{TaskNo}}, standing.Context.{Context}}
 use Rattle.perf_base.specs.declared.standing.Context.TheVariants as context
-use Rattle.stage_spec.specs.Hardware.{Hardware}
-use Rattle.stage_spec.specs.Stage.{Stage, place_of, task_on, is_task}
+use Rattle.stage_spec.specs.{Hardware.{Hardware}, Stage.{Stage, place_of, task_on, is_task}}
 use Rattle.stage_laws.specs.Narrowing.{has_context}
-use Rattle.world_spec.specs.Value.{World, no_family, is_live, entry_at, instance_at}
-use Rattle.world_spec.specs.StageOf.{stage_of}
-use Rattle.world_spec.specs.Kept.{post_at, is_original_in, is_of_task, IsKept}
-use Rattle.world_spec.specs.Families.{OneReachedLaw}
-use Rattle.world_spec.proofs.Keys.{key-is, once-true}
-use Rattle.world_spec.proofs.AddedStage.{one-in_option}
-use Rattle.world_spec.proofs.Going.{all_three}
-use Rattle.world_spec.proofs.Coming.{number_true}
+use Rattle.world_spec.specs.{Value.{World, no_family, is_live, entry_at, instance_at}, StageOf.{stage_of}}
+use Rattle.world_spec.{specs.{Kept.{post_at, is_original_in, is_of_task, IsKept}, Families.{OneReachedLaw}}, proofs.Keys.{key-is, once-true}}
+use Rattle.world_spec.proofs.{AddedStage.{one-in_option}, Going.{all_three}, Coming.{number_true}}
 
 -- two contexts of one kind on a processor are one
 one-task : (o : Option TaskNo) (t u : TaskNo) → is_task o t ≡ true → is_task o u ≡ true → t.0 ≡ u.0

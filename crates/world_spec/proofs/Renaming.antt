@@ -1,21 +1,12 @@
 -- A change of the instance at a key is the stage's change of the instance of its id.
-use Rattle.std.specs.Prelude.{◌≡◌, ℕ, ◌≤◌, true, false, List, map, is_some, Option, Some, None, if◌then◌else◌}
-use Rattle.std.specs.FinMap.{get}
-use Rattle.std.specs.Option.{unwrap_or}
-use Rattle.std.proofs.Common.{arith, refl, sym, ap, ◌∙◌, inl, inr}
-use Rattle.std.proofs.lemmas.Bool.{cases_eq, cases_Bool, false≢true}
-use Rattle.std.proofs.lemmas.Bool.Decides.{nat_tests}
+use Rattle.std.specs.{Prelude.{◌≡◌, ℕ, ◌≤◌, true, false, List, map, is_some, Option, Some, None, if◌then◌else◌}, FinMap.{get}, Option.{unwrap_or}}
+use Rattle.std.proofs.{Common.{arith, refl, sym, ap, ◌∙◌, inl, inr}, lemmas.Bool.{cases_eq, cases_Bool, false≢true, Decides.{nat_tests}}}
 use Rattle.std.proofs.lemmas.Simd.{map-map}
 use Rattle.perf_base.specs.declared.numbers.Key.{Key}
-use Rattle.stage_spec.specs.declared.instance.Instance.{Instance}
-use Rattle.stage_spec.specs.Stage.{change_group, change_lists}
-use Rattle.stage_laws.specs.Sound.{has_id}
-use Rattle.stage_laws.specs.OneByOne.{change_one}
-use Rattle.stage_laws.proofs.Images.{map-same}
+use Rattle.stage_spec.specs.{declared.instance.Instance.{Instance}, Stage.{change_group, change_lists}}
+use Rattle.stage_laws.{specs.{Sound.{has_id}, OneByOne.{change_one}}, proofs.Images.{map-same}}
 use Rattle.world_spec.specs.Value.{World, Entry, Leaders, is_live, entry_at, instance_at, no_entry}
-use Rattle.world_spec.specs.StageOf.{after_first, group_at, lists_at, stage_of}
-use Rattle.world_spec.specs.Kept.{AreNumbered, post_at}
-use Rattle.world_spec.specs.Changes.{with_instance}
+use Rattle.world_spec.specs.{StageOf.{after_first, group_at, lists_at, stage_of}, Kept.{AreNumbered, post_at}, Changes.{with_instance}}
 use Rattle.world_spec.proofs.Tables.{KeepsPost, posts-same, entry-here, entry-there, entry-numbered}
 
 -- what is at a key that names nothing

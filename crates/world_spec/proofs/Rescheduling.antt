@@ -1,47 +1,26 @@
 -- A processor that was judged, after its refused pinned groups went to error: it is settled, and stands by its
 -- verdicts.
 use Rattle.std.specs.Prelude.{◌≡◌, ℕ, ◌+◌, ◌<◌, ◌≤◌, ◌==◌, Bool, true, false, ◌&&◌, cond, List, [], ◌∷◌, ◌++◌, length, map, filter, flat_map, count_by, take, drop, Option, Some, None, slice_index_or, if◌then◌else◌}
-use Rattle.std.proofs.Common.{arith, refl, sym, ap, subst, ◌∙◌, inl, inr, append_assoc}
-use Rattle.std.proofs.lemmas.Bool.{cases_eq, cases_Bool, false≢true}
-use Rattle.std.proofs.lemmas.Bool.Decides.{nat_tests}
-use Rattle.std.proofs.lemmas.List.{append-nil, append_cancel_left, map-append}
-use Rattle.std.proofs.lemmas.Simd.{map-map}
+use Rattle.std.proofs.{Common.{arith, refl, sym, ap, subst, ◌∙◌, inl, inr, append_assoc}, lemmas.Bool.{cases_eq, cases_Bool, false≢true}}
+use Rattle.std.proofs.lemmas.{Bool.Decides.{nat_tests}, List.{append-nil, append_cancel_left, map-append}, Simd.{map-map}}
 use Rattle.std.proofs.Math.Seq.{drop-append_seam}
-use Rattle.perf_base.specs.declared.numbers.CpuNo.{CpuNo}
-use Rattle.perf_base.specs.declared.numbers.EventNo.{EventNo}
-use Rattle.perf_base.specs.declared.numbers.Key.{Key}
-use Rattle.perf_base.specs.declared.numbers.TaskNo.{TaskNo}
-use Rattle.perf_base.specs.declared.standing.Context.{Context}
+use Rattle.perf_base.specs.declared.{numbers.{CpuNo.{CpuNo}, EventNo.{EventNo}, Key.{Key}, TaskNo.{TaskNo}}, standing.Context.{Context}}
+use Rattle.perf_base.specs.{declared.standing.Standing.{Standing}, Standings.{stands_on}}
 use Rattle.perf_base.specs.declared.standing.Context.TheVariants as context
-use Rattle.perf_base.specs.declared.standing.Standing.{Standing}
 use Rattle.perf_base.specs.declared.standing.Standing.TheVariants as standing
-use Rattle.stage_spec.specs.Effective.{is_ready, is_hardware}
-use Rattle.stage_spec.specs.Fits.{IsAssignment}
-use Rattle.stage_spec.specs.Hardware.{Hardware}
+use Rattle.stage_spec.specs.{Effective.{is_ready, is_hardware}, Fits.{IsAssignment}, Hardware.{Hardware}}
 use Rattle.stage_spec.specs.Settle.{IsSettled, failed, pinned_verdicts, flexible_verdicts}
-use Rattle.stage_spec.specs.Stage.{Stage, Group, members_of, place_of, task_on, is_task}
-use Rattle.stage_spec.specs.Tight.{masks_of}
+use Rattle.stage_spec.specs.{Stage.{Stage, Group, members_of, place_of, task_on, is_task}, Tight.{masks_of}}
 use Rattle.stage_spec.specs.Verdict.{Judged, is_eligible, passes, judge_pass, judge_passes, verdicts, groups_on, with_masks, standing_among}
-use Rattle.perf_base.specs.Standings.{stands_on}
-use Rattle.stage_spec.proofs.Settled.{settled_verdicts, settles_once}
-use Rattle.stage_spec.proofs.Settling.{kept, groups_on-append, groups_on-kept}
-use Rattle.stage_laws.specs.Narrowing.{has_context}
-use Rattle.stage_laws.specs.Standings.{fail_lists}
-use Rattle.stage_laws.proofs.ByStandings.{settles_by_standings}
+use Rattle.stage_spec.proofs.{Settled.{settled_verdicts, settles_once}, Settling.{kept, groups_on-append, groups_on-kept}}
+use Rattle.stage_laws.{specs.{Narrowing.{has_context}, Standings.{fail_lists}}, proofs.ByStandings.{settles_by_standings}}
 use Rattle.stage_laws.proofs.Counts.{count-cons, count-append, count-filter}
 use Rattle.counter_match.specs.Seating.{empty_seating}
 use Rattle.world_spec.specs.Value.{World, Leaders, no_leaders, leaders_of, is_live, entry_at, instance_at, standing_at, seats_at, is_key, times}
-use Rattle.world_spec.specs.StageOf.{after_first, group_at, lists_at, stage_of}
-use Rattle.world_spec.specs.Kept.{post_at, once_if, is_member_of, leads, IsKept}
-use Rattle.world_spec.specs.Listings.{task_leaders}
-use Rattle.world_spec.specs.Rescheduled.{IsJudged, pinned_leaders, fail_groups, FailStageLaw, FailLaw, FailKeptLaw}
-use Rattle.world_spec.proofs.Keys.{key-is, once-true, once-false}
-use Rattle.world_spec.proofs.Moving.{leads-parts}
-use Rattle.world_spec.proofs.Coming.{number_true}
-use Rattle.world_spec.proofs.AddedStage.{map-places}
-use Rattle.world_spec.proofs.Disbanding.{AreSiblings, member-follows}
-use Rattle.world_spec.proofs.GoneLeader.{siblings-stand}
-use Rattle.world_spec.proofs.GoneLeaderStage.{map-within}
+use Rattle.world_spec.specs.{StageOf.{after_first, group_at, lists_at, stage_of}, Kept.{post_at, once_if, is_member_of, leads, IsKept}}
+use Rattle.world_spec.specs.{Listings.{task_leaders}, Rescheduled.{IsJudged, pinned_leaders, fail_groups, FailStageLaw, FailLaw, FailKeptLaw}}
+use Rattle.world_spec.proofs.{Keys.{key-is, once-true, once-false}, Moving.{leads-parts}, Coming.{number_true}, AddedStage.{map-places}}
+use Rattle.world_spec.proofs.{Disbanding.{AreSiblings, member-follows}, GoneLeader.{siblings-stand}, GoneLeaderStage.{map-within}}
 use Rattle.world_spec.proofs.Standing.{passes-groups, standing_by, standing-is}
 use Rattle.world_spec.proofs.Listings.{is-numbered, passes-are, reached_leaders, reached-once, reached-context, count-none, count-one}
 use Rattle.world_spec.proofs.Failing.{failed_instance, calmed, AreFailed, are-failed, failed-rest, AllLead, failed-posts, failed-kept}

@@ -1,23 +1,13 @@
 -- The records that a step loses are of events in slots.
 use Rattle.std.specs.Prelude.{◌≡◌, ℕ, ◌+◌, ◌<◌, ◌≤◌, ◌==◌, Bool, true, false, cond, ⊤, nat_le, if◌then◌else◌, List, [], ◌∷◌, filter, find, flat_map, count_by, IfSome, Option, Some, None}
-use Rattle.std.proofs.Common.{arith, refl, ap}
-use Rattle.std.proofs.lemmas.Bool.Decides.{nat_tests}
-use Rattle.std.proofs.lemmas.List.Sums.{sum_by-cons}
+use Rattle.std.proofs.{Common.{arith, refl, ap}, lemmas.{Bool.Decides.{nat_tests}, List.Sums.{sum_by-cons}}}
+use Rattle.perf_base.specs.declared.{lines.{CpuLine.{CpuLine}, Work.{Work}}, numbers.{CpuNo.{CpuNo}, EventNo.{EventNo}, RingNo.{RingNo}}}
 use Rattle.perf_base.specs.declared.lines.CpuLine.TheVariants as cpu_line
-use Rattle.perf_base.specs.declared.lines.CpuLine.{CpuLine}
-use Rattle.perf_base.specs.declared.lines.Work.{Work}
-use Rattle.perf_base.specs.declared.numbers.CpuNo.{CpuNo}
-use Rattle.perf_base.specs.declared.numbers.EventNo.{EventNo}
-use Rattle.perf_base.specs.declared.numbers.RingNo.{RingNo}
-use Rattle.stage_spec.specs.declared.instance.Instance.{Instance}
-use Rattle.stage_spec.specs.Hardware.{Hardware}
-use Rattle.stage_spec.specs.History.{Step, CpuStep, ToolStep, SeenStep}
-use Rattle.stage_spec.specs.Stage.{Stage, all_instances, is_original, original_of}
-use Rattle.stage_spec.specs.Verdict.{on_instances}
+use Rattle.stage_spec.specs.{declared.instance.Instance.{Instance}, Hardware.{Hardware}, History.{Step, CpuStep, ToolStep, SeenStep}}
+use Rattle.stage_spec.specs.{Stage.{Stage, all_instances, is_original, original_of}, Verdict.{on_instances}}
 use Rattle.stage_spec.proofs.Each.{Each, none-Each, cons-Each, head-Each, tail-Each, append-Each, map-Each, filter-Each, replicate-Each}
 use Rattle.ring_spec.specs.Account.{RingEvent, Sends, Looks, Account, lost_by, lost_among, ring_step, is_event, need_of, room_of}
-use Rattle.ring_spec.specs.Rings.{is_to, looks_at, sends_to, events_by}
-use Rattle.ring_spec.specs.Running.{Running, losses_on}
+use Rattle.ring_spec.specs.{Rings.{is_to, looks_at, sends_to, events_by}, Running.{Running, losses_on}}
 use Rattle.ring_spec.specs.Sending.{SentSample, to_ring, sent_by_family, sent_by_line, sent_by_step, fields_of, overflows_by, sent_of}
 use Rattle.world_spec.specs.Stepping.{losses_by}
 

@@ -1,29 +1,18 @@
 -- What stays when an instance comes or goes.
-use Rattle.std.specs.Prelude.{◌≡◌, ℕ, ◌==◌, true, false, [], Option, Some, None, slice_index_or, slice_set}
-use Rattle.std.specs.Option.{unwrap_or}
-use Rattle.std.proofs.Common.{arith, refl, sym, ap, subst, ◌∙◌, inl, inr, get_or-set_other}
-use Rattle.std.proofs.lemmas.Bool.{cases_Bool}
-use Rattle.perf_base.specs.declared.numbers.EventNo.{EventNo}
-use Rattle.perf_base.specs.declared.numbers.Key.{Key}
+use Rattle.std.specs.{Prelude.{◌≡◌, ℕ, ◌==◌, true, false, [], Option, Some, None, slice_index_or, slice_set}, Option.{unwrap_or}}
+use Rattle.std.proofs.{Common.{arith, refl, sym, ap, subst, ◌∙◌, inl, inr, get_or-set_other}, lemmas.Bool.{cases_Bool}}
+use Rattle.perf_base.specs.declared.numbers.{EventNo.{EventNo}, Key.{Key}}
 use Rattle.perf_base.specs.declared.standing.Standing.TheVariants as standing
-use Rattle.stage_spec.specs.Hardware.{Hardware}
-use Rattle.stage_spec.specs.Shares.{no_sums}
+use Rattle.stage_spec.specs.{Hardware.{Hardware}, Shares.{no_sums}}
 use Rattle.world_spec.specs.Value.{World, Family, no_account, no_family, is_live, entry_at, instance_at, account_at, standing_at, family_of, is_key, times}
 use Rattle.world_spec.specs.Kept.{post_at, in_option, is_original_in, leads, IsKept}
-use Rattle.world_spec.specs.Adding.{Newcomer, new_entry, leave_group, taken_out, drop_instance}
-use Rattle.world_spec.specs.Comings.{HasRoom}
+use Rattle.world_spec.specs.{Adding.{Newcomer, new_entry, leave_group, taken_out, drop_instance}, Comings.{HasRoom}}
 use Rattle.world_spec.specs.Staying.{HasGone, HasCome, IsOriginalOf, GoStaysLaw, FoldStaysLaw, AddStaysLaw, OriginLaw}
-use Rattle.world_spec.proofs.Tables.{get-here, get-there}
-use Rattle.world_spec.proofs.Keys.{key-is, is_key-true, once-true, once-false, times-cons}
-use Rattle.world_spec.proofs.Coming.{Comes, three, number_true}
-use Rattle.world_spec.proofs.Added.{added, comes-by, other-instance, new-entry_at, entry-instance}
-use Rattle.world_spec.proofs.Going.{Goes}
-use Rattle.world_spec.proofs.Gone.{left_world, left-goes, left-instance, get-left}
-use Rattle.world_spec.proofs.Disbanding.{disbands-goes}
+use Rattle.world_spec.proofs.{Tables.{get-here, get-there}, Keys.{key-is, is_key-true, once-true, once-false, times-cons}}
+use Rattle.world_spec.proofs.{Coming.{Comes, three, number_true}, Added.{added, comes-by, other-instance, new-entry_at, entry-instance}, Going.{Goes}}
+use Rattle.world_spec.proofs.{Gone.{left_world, left-goes, left-instance, get-left}, Disbanding.{disbands-goes}}
 use Rattle.world_spec.proofs.GoneLeader.{AreFreed, entries_freed, standings_freed, led_world, dropped-leader, tables-freed, led-disbands, led-instance}
-use Rattle.world_spec.proofs.Dropping.{it-leads}
-use Rattle.world_spec.proofs.Folding.{folded-is, copy-may}
-use Rattle.world_spec.proofs.Reaching.{is-original}
+use Rattle.world_spec.proofs.{Dropping.{it-leads}, Folding.{folded-is, copy-may}, Reaching.{is-original}}
 
 -- an instance that goes
 gone-by : (w t : World) (k : Key) → Goes (post_at w) (post_at t) k → ((j : Key) → (j.0 ≡ k.0 → ⊥) → instance_at t j ≡ instance_at w j) → ((j : Key) → (j.0 ≡ k.0 → ⊥) → account_at t j ≡ account_at w j)

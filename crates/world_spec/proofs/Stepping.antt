@@ -1,45 +1,21 @@
 -- That a world that a step leads to agrees with the record after the step.
 use Rattle.std.specs.Prelude.{◌≡◌, ℕ, ◌+◌, ◌<◌, ◌≤◌, ◌==◌, Bool, true, false, ◌&&◌, ◌||◌, List, [], ◌∷◌, map, find, count_by, Option, Some, None, slice_index_or}
-use Rattle.std.specs.List.{list_any}
-use Rattle.std.proofs.Common.{arith, refl, sym, ap, subst, ◌∙◌, inl, inr}
-use Rattle.std.proofs.lemmas.Bool.{cases_Bool, cases_lt, false≢true}
-use Rattle.std.proofs.lemmas.Bool.Decides.{nat_tests}
-use Rattle.std.proofs.lemmas.List.{get_or_past}
-use Rattle.perf_base.specs.declared.lines.ToolLine.{ToolLine}
+use Rattle.std.{specs.List.{list_any}, proofs.{Common.{arith, refl, sym, ap, subst, ◌∙◌, inl, inr}, lemmas.Bool.{cases_Bool, cases_lt, false≢true}}}
+use Rattle.std.proofs.lemmas.{Bool.Decides.{nat_tests}, List.{get_or_past}}
+use Rattle.perf_base.specs.declared.{lines.ToolLine.{ToolLine}, numbers.{EventNo.{EventNo}, Key.{Key}}, reasons.Reason.{Reason}}
 use Rattle.perf_base.specs.declared.lines.ToolLine.TheVariants as tool_line
-use Rattle.perf_base.specs.declared.numbers.EventNo.{EventNo}
-use Rattle.perf_base.specs.declared.numbers.Key.{Key}
-use Rattle.perf_base.specs.declared.reasons.Reason.{Reason}
-use Rattle.stage_spec.specs.declared.instance.Instance.{Instance}
-use Rattle.stage_spec.specs.Commands.{period_refusal}
-use Rattle.stage_spec.specs.Families.{plus, plus_each, leaving}
-use Rattle.stage_spec.specs.Hardware.{Hardware}
-use Rattle.stage_spec.specs.History.{Step, CpuStep, ToolStep, SeenStep, stage_step}
-use Rattle.stage_spec.specs.Recurrence.{after_reset}
+use Rattle.stage_spec.specs.{declared.instance.Instance.{Instance}, Commands.{period_refusal}, Families.{plus, plus_each, leaving}}
+use Rattle.stage_spec.specs.{Hardware.{Hardware}, History.{Step, CpuStep, ToolStep, SeenStep, stage_step}, Recurrence.{after_reset}}
 use Rattle.stage_spec.specs.Remainders.{instance_of, period_in, period_unless, line_period, new_period, left_by_hits, left_by_period, left_by}
-use Rattle.stage_spec.specs.Shares.{share, no_sums}
-use Rattle.stage_spec.specs.Stage.{Stage, all_instances, is_original}
-use Rattle.stage_spec.specs.Sums.{resets}
-use Rattle.stage_spec.proofs.Births.{share-none}
-use Rattle.stage_spec.proofs.Each.{Each, head-Each, tail-Each}
-use Rattle.stage_spec.proofs.Ids.{IdBelow, AllBelow}
-use Rattle.stage_spec.proofs.Inside.{InStage-from_all}
-use Rattle.stage_spec.proofs.Present.{each_at}
-use Rattle.stage_laws.specs.Sound.{IsNumbered}
-use Rattle.stage_laws.proofs.Leaders.{find-first, find-later}
-use Rattle.ring_spec.specs.Account.{is_event}
-use Rattle.ring_spec.specs.Agreement.{IsCurrentSlot}
-use Rattle.ring_spec.specs.Running.{Running, record_after}
-use Rattle.ring_spec.specs.Sending.{length_by}
-use Rattle.world_spec.specs.Agreement.{AgreesWith}
-use Rattle.world_spec.specs.Kept.{IsKept, plus_keys}
-use Rattle.world_spec.specs.StageOf.{stage_of}
+use Rattle.stage_spec.{specs.{Shares.{share, no_sums}, Stage.{Stage, all_instances, is_original}, Sums.{resets}}, proofs.Births.{share-none}}
+use Rattle.stage_spec.proofs.{Each.{Each, head-Each, tail-Each}, Ids.{IdBelow, AllBelow}, Inside.{InStage-from_all}, Present.{each_at}}
+use Rattle.stage_laws.{specs.Sound.{IsNumbered}, proofs.Leaders.{find-first, find-later}}
+use Rattle.ring_spec.specs.{Account.{is_event}, Agreement.{IsCurrentSlot}, Running.{Running, record_after}, Sending.{length_by}}
+use Rattle.world_spec.specs.{Agreement.{AgreesWith}, Kept.{IsKept, plus_keys}, StageOf.{stage_of}}
 use Rattle.world_spec.specs.Value.{World, is_live, instance_at, account_at, is_key, times}
-use Rattle.world_spec.proofs.Families.{all_keys, times-keys, instances-are, key-lives}
-use Rattle.world_spec.proofs.Keys.{key-is, is_key-same, is_key-other, times-cons, once-true, once-false}
-use Rattle.world_spec.proofs.Listings.{is-numbered}
-use Rattle.world_spec.proofs.Slots.{past-none}
 use Rattle.world_spec.specs.Stepping.{HasItsShare, HasFolded, HasStepped, LosingLaw, SteppedLaw, losses_by}
+use Rattle.world_spec.proofs.Families.{all_keys, times-keys, instances-are, key-lives}
+use Rattle.world_spec.proofs.{Keys.{key-is, is_key-same, is_key-other, times-cons, once-true, once-false}, Listings.{is-numbered}, Slots.{past-none}}
 
 -- no instance has an id that was not drawn
 each-below : (hw : Hardware) (w : World) (id : ℕ) → IsKept hw w → w.quiet.next_id ≤ id → Each (IdBelow id) (all_instances (stage_of w))

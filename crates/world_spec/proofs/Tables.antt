@@ -1,18 +1,10 @@
 -- What the tables have at each key after an entry, an account or a standing was written, and what posts show of it.
-use Rattle.std.specs.Prelude.{◌≡◌, ℕ, ◌==◌, Bool, true, false, cond, is_some, Some}
-use Rattle.std.specs.Cmp.{unsigned_tied}
-use Rattle.std.specs.FinMap.{FinMap, get, contains_key, insert, get-insert}
-use Rattle.std.specs.Option.{unwrap_or}
-use Rattle.std.proofs.lemmas.Cmp.{nat_cmp_total}
-use Rattle.std.specs.Ordering.{nat_cmp}
-use Rattle.std.proofs.Common.{arith, sym, ap, ◌∙◌, inl, inr}
-use Rattle.std.proofs.lemmas.Bool.{cases_eq}
-use Rattle.std.proofs.lemmas.Bool.Decides.{nat_tests}
+use Rattle.std.specs.{Prelude.{◌≡◌, ℕ, ◌==◌, Bool, true, false, cond, is_some, Some}, Cmp.{unsigned_tied}}
+use Rattle.std.specs.{FinMap.{FinMap, get, contains_key, insert, get-insert}, Option.{unwrap_or}, Ordering.{nat_cmp}}
+use Rattle.std.proofs.{lemmas.{Cmp.{nat_cmp_total}, Bool.{cases_eq, Decides.{nat_tests}}}, Common.{arith, sym, ap, ◌∙◌, inl, inr}}
 use Rattle.perf_base.specs.declared.numbers.Key.{Key}
 use Rattle.stage_spec.specs.declared.instance.Instance.{Instance}
-use Rattle.world_spec.specs.Value.{World, Entry, is_live, entry_at, instance_at, no_entry}
-use Rattle.world_spec.specs.Kept.{Post, post_at}
-use Rattle.world_spec.specs.Changes.{with_instance}
+use Rattle.world_spec.specs.{Value.{World, Entry, is_live, entry_at, instance_at, no_entry}, Kept.{Post, post_at}, Changes.{with_instance}}
 
 -- a table after a write
 pub get-written : {X : Type 0} (m : FinMap nat_cmp X) (k : ℕ) (v : X) (q : ℕ) → get (insert m k v) q ≡ cond (q == k) (Some v) (get m q)

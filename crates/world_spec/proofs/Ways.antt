@@ -1,38 +1,19 @@
 -- That the way of now is turned, and which changes keep the ways of which keys.
 use Rattle.std.specs.Prelude.{◌≡◌, ℕ, ◌+◌, ◌==◌, Bool, true, false, not, ◌&&◌, length, List, Option, Some, None, slice_index_or, slice_set}
-use Rattle.std.specs.FinMap.{FinMap, get}
-use Rattle.std.specs.Option.{unwrap_or}
-use Rattle.std.specs.Ordering.{nat_cmp}
+use Rattle.std.specs.{FinMap.{FinMap, get}, Option.{unwrap_or}, Ordering.{nat_cmp}}
 use Rattle.std.proofs.Common.{arith, refl, sym, ap, ◌∙◌, inl, inr, get_or-set_other, get_or-set_same}
-use Rattle.std.proofs.lemmas.Bool.{cases_eq, cases_lt, cases_Bool, false≢true}
-use Rattle.std.proofs.lemmas.Bool.Decides.{nat_tests}
-use Rattle.std.proofs.Math.Seq.{set_out}
-use Rattle.perf_base.specs.declared.numbers.CpuNo.{CpuNo}
-use Rattle.perf_base.specs.declared.numbers.Key.{Key}
-use Rattle.perf_base.specs.declared.numbers.TaskNo.{TaskNo}
-use Rattle.perf_base.specs.declared.standing.Context.{Context}
+use Rattle.std.proofs.{lemmas.Bool.{cases_eq, cases_lt, cases_Bool, false≢true, Decides.{nat_tests}}, Math.Seq.{set_out}}
+use Rattle.perf_base.specs.{declared.{numbers.{CpuNo.{CpuNo}, Key.{Key}, TaskNo.{TaskNo}}, standing.Context.{Context}}, Standings.{stands_on}}
 use Rattle.perf_base.specs.declared.standing.Context.TheVariants as context
 use Rattle.perf_base.specs.declared.standing.Standing.TheVariants as standing
-use Rattle.perf_base.specs.Standings.{stands_on}
-use Rattle.stage_spec.specs.declared.instance.Instance.{Instance}
-use Rattle.stage_spec.specs.Effective.{effective, is_ready}
-use Rattle.stage_spec.specs.Hardware.{Hardware}
-use Rattle.stage_spec.specs.Refusals.{holds_of}
-use Rattle.stage_spec.specs.Replies.{cpu_with}
-use Rattle.stage_spec.specs.Stage.{Stage, all_cpus, cpu_of, is_on_cpu, is_task, place_of, task_on}
+use Rattle.stage_spec.specs.{declared.instance.Instance.{Instance}, Effective.{effective, is_ready}, Hardware.{Hardware}, Refusals.{holds_of}}
+use Rattle.stage_spec.specs.{Replies.{cpu_with}, Stage.{Stage, all_cpus, cpu_of, is_on_cpu, is_task, place_of, task_on}}
 use Rattle.stage_spec.proofs.Present.{find-passes}
-use Rattle.stage_laws.specs.Narrowing.{has_context}
-use Rattle.stage_laws.specs.Sound.{AreRunning}
-use Rattle.stage_laws.proofs.Tasks.{free-task, is_task-some}
-use Rattle.world_spec.specs.Value.{World, Entry, no_entry, is_live, entry_at, instance_at, standing_at, is_key}
-use Rattle.world_spec.specs.StageOf.{stage_of}
-use Rattle.world_spec.specs.Kept.{post_at, is_member_of, IsKept}
-use Rattle.world_spec.specs.Changes.{with_instance, place}
-use Rattle.world_spec.specs.Working.{is_effective}
+use Rattle.stage_laws.{specs.{Narrowing.{has_context}, Sound.{AreRunning}}, proofs.Tasks.{free-task, is_task-some}}
+use Rattle.world_spec.specs.{Value.{World, Entry, no_entry, is_live, entry_at, instance_at, standing_at, is_key}, StageOf.{stage_of}}
+use Rattle.world_spec.specs.{Kept.{post_at, is_member_of, IsKept}, Changes.{with_instance, place}, Working.{is_effective}}
 use Rattle.world_spec.specs.Ways.{is_ready_at, IsTurned, way_along, is_context_of, KeepsWay, WayLaw, TurnedLaw, OtherWaysLaw, PeriodWaysLaw, RingWaysLaw, OwnWaysLaw, StandingWaysLaw, PlaceWaysLaw, OutsideGroupLaw, OutsideContextLaw}
-use Rattle.world_spec.proofs.Keys.{key-is, is_key-same, is_key-true, once-true}
-use Rattle.world_spec.proofs.Listings.{keys-at}
-use Rattle.world_spec.proofs.Moving.{leads-parts}
+use Rattle.world_spec.proofs.{Keys.{key-is, is_key-same, is_key-true, once-true}, Listings.{keys-at}, Moving.{leads-parts}}
 use Rattle.world_spec.proofs.Tables.{get-there, entry-here, entry-there, entry-numbered}
 
 -- the processor that a context is on

@@ -1,33 +1,17 @@
 -- Which ways an instance that comes, goes or is folded keeps.
-use Rattle.std.specs.Prelude.{◌≡◌, true, false, ◌&&◌, List, [], ◌∷◌, Option, Some, None}
-use Rattle.std.specs.FinMap.{FinMap, get}
-use Rattle.std.specs.List.{fold}
-use Rattle.std.specs.Option.{unwrap_or}
-use Rattle.std.specs.Ordering.{nat_cmp}
-use Rattle.std.proofs.Common.{arith, refl, sym, ap, subst, ◌∙◌, inl, inr}
-use Rattle.std.proofs.lemmas.Bool.{cases_eq, cases_Bool}
-use Rattle.perf_base.specs.declared.numbers.Key.{Key}
-use Rattle.perf_base.specs.declared.standing.Standing.{Standing}
+use Rattle.std.specs.{Prelude.{◌≡◌, true, false, ◌&&◌, List, [], ◌∷◌, Option, Some, None}, FinMap.{FinMap, get}, List.{fold}, Option.{unwrap_or}}
+use Rattle.std.{specs.Ordering.{nat_cmp}, proofs.{Common.{arith, refl, sym, ap, subst, ◌∙◌, inl, inr}, lemmas.Bool.{cases_eq, cases_Bool}}}
+use Rattle.perf_base.specs.declared.{numbers.Key.{Key}, standing.Standing.{Standing}}
 use Rattle.perf_base.specs.declared.standing.Standing.TheVariants as standing
 use Rattle.stage_spec.specs.Hardware.{Hardware}
-use Rattle.world_spec.specs.Value.{World, no_entry, is_live, entry_at, instance_at, standing_at, is_key, times}
-use Rattle.world_spec.specs.StageOf.{after_first}
-use Rattle.world_spec.specs.Kept.{post_at, leads, is_member_of, IsKept}
-use Rattle.world_spec.specs.Adding.{Newcomer, leave_group, taken_out, drop_instance}
-use Rattle.world_spec.specs.Comings.{HasRoom}
-use Rattle.world_spec.specs.Ways.{KeepsWay, AddWaysLaw, GoWaysLaw, FoldWaysLaw}
-use Rattle.world_spec.proofs.Added.{added, comes-by, other-instance}
-use Rattle.world_spec.proofs.Coming.{Comes, live-apart}
-use Rattle.world_spec.proofs.ComingLinks.{last_of_two}
-use Rattle.world_spec.proofs.Disbanding.{AreSiblings}
-use Rattle.world_spec.proofs.Folding.{folded-is}
+use Rattle.world_spec.specs.{Value.{World, no_entry, is_live, entry_at, instance_at, standing_at, is_key, times}, StageOf.{after_first}}
+use Rattle.world_spec.specs.{Kept.{post_at, leads, is_member_of, IsKept}, Adding.{Newcomer, leave_group, taken_out, drop_instance}, Comings.{HasRoom}}
+use Rattle.world_spec.{specs.Ways.{KeepsWay, AddWaysLaw, GoWaysLaw, FoldWaysLaw}, proofs.Added.{added, comes-by, other-instance}}
+use Rattle.world_spec.proofs.{Coming.{Comes, live-apart}, ComingLinks.{last_of_two}, Disbanding.{AreSiblings}, Folding.{folded-is}}
 use Rattle.world_spec.proofs.Gone.{left_world, left-goes, left-instance, get-left}
 use Rattle.world_spec.proofs.GoneLeader.{AreFreed, freed_standings, entries_freed, standings_freed, led_world, dropped-leader, siblings-stand, tables-freed}
-use Rattle.world_spec.proofs.GoneSibling.{GoesAlone}
-use Rattle.world_spec.proofs.Keys.{is_key-same, is_key-other, is_key-true, times-cons, once-true, once-false}
-use Rattle.world_spec.proofs.Moving.{leads-parts}
-use Rattle.world_spec.proofs.Tables.{get-there}
-use Rattle.world_spec.proofs.Ways.{GoesOn, keeps-running}
+use Rattle.world_spec.proofs.{GoneSibling.{GoesAlone}, Keys.{is_key-same, is_key-other, is_key-true, times-cons, once-true, once-false}}
+use Rattle.world_spec.proofs.{Moving.{leads-parts}, Tables.{get-there}, Ways.{GoesOn, keeps-running}}
 
 -- a leader lives, and leads itself
 leader-live : (hw : Hardware) (w : World) (j : Key) → IsKept hw w → is_live w j ≡ true → is_live w (entry_at w j).leader ≡ true

@@ -1,34 +1,23 @@
 -- A worked case: of two events on a processor with one counter the first is on, and the second is refused by the tight
 -- set of both.
 use Rattle.std.specs.Prelude.{◌≡◌, ℕ, ◌+◌, false, ◌&&◌, IsTrue, [], ◌∷◌, map, is_some, None, slice_index, replicate}
-use Rattle.std.specs.FinMap.{insert, empty, get-empty}
-use Rattle.std.specs.Option.{unwrap_or}
-use Rattle.std.specs.Ordering.{nat_cmp}
-use Rattle.std.proofs.Common.{arith, refl, sym, ap, subst, ◌∙◌, inl, inr}
-use Rattle.std.proofs.lemmas.Bool.{cases_eq, false≢true}
+use Rattle.std.specs.{FinMap.{insert, empty, get-empty}, Option.{unwrap_or}, Ordering.{nat_cmp}}
+use Rattle.std.proofs.{Common.{arith, refl, sym, ap, subst, ◌∙◌, inl, inr}, lemmas.Bool.{cases_eq, false≢true}}
+use Rattle.perf_base.specs.declared.{numbers.{CpuNo.{CpuNo}, EventNo.{EventNo}, Key.{Key}}, standing.Standing.{Standing}}
 use Rattle.perf_base.specs.declared.attr.CpuSel.TheVariants as cpus
 use Rattle.perf_base.specs.declared.attr.Kind.TheVariants as kind
-use Rattle.perf_base.specs.declared.numbers.CpuNo.{CpuNo}
-use Rattle.perf_base.specs.declared.numbers.EventNo.{EventNo}
-use Rattle.perf_base.specs.declared.numbers.Key.{Key}
 use Rattle.perf_base.specs.declared.standing.Cause.TheVariants as cause
 use Rattle.perf_base.specs.declared.standing.Context.TheVariants as context
 use Rattle.perf_base.specs.declared.standing.Own.TheVariants as own
-use Rattle.perf_base.specs.declared.standing.Standing.{Standing}
 use Rattle.perf_base.specs.declared.standing.Standing.TheVariants as standing
-use Rattle.stage_spec.specs.declared.instance.Instance.{Instance}
-use Rattle.stage_spec.specs.Fits.{IsAssignment, can_count, fits, fits_beside, fits_below}
-use Rattle.stage_spec.specs.Hardware.{Hardware}
-use Rattle.stage_spec.specs.Replies.{seated}
-use Rattle.stage_spec.specs.Settle.{IsSettled, settle, settle_pass}
+use Rattle.stage_spec.specs.{declared.instance.Instance.{Instance}, Fits.{IsAssignment, can_count, fits, fits_beside, fits_below}}
+use Rattle.stage_spec.specs.{Hardware.{Hardware}, Replies.{seated}, Settle.{IsSettled, settle, settle_pass}}
 use Rattle.stage_spec.specs.Stage.{Stage, Group, no_groups, alone, unknown_task}
 use Rattle.stage_spec.specs.Tight.{masks_of, tight_set, tight_after, shortest_unfit, unfit_after}
 use Rattle.stage_spec.specs.Verdict.{verdicts, judge_passes, judge_pass, judge, standing_of, with_masks}
 use Rattle.counter_match.specs.Seating.{Seated}
 use Rattle.world_spec.specs.Value.{World, Entry, no_attr, no_entry, no_leaders, no_totals, is_live, entry_at, instance_at, standing_at, seats_at, is_key}
-use Rattle.world_spec.specs.StageOf.{after_first, group_at, stage_of}
-use Rattle.world_spec.specs.Rescheduled.{IsRescheduled}
-use Rattle.world_spec.proofs.Keys.{key-is}
+use Rattle.world_spec.{specs.{StageOf.{after_first, group_at, stage_of}, Rescheduled.{IsRescheduled}}, proofs.Keys.{key-is}}
 use Rattle.world_spec.proofs.Tables.{get-here, get-there}
 
 -- one processor with one counter, and a kind that it counts

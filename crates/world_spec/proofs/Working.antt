@@ -1,31 +1,16 @@
 -- Which instances count on a processor, by the keys of a world.
 use Rattle.std.specs.Prelude.{◌≡◌, ℕ, ◌≤◌, ◌==◌, Bool, true, false, ◌&&◌, cond, List, [], ◌∷◌, ◌++◌, map, filter, flat_map, count_by}
-use Rattle.std.proofs.Common.{arith, refl, sym, ap, ◌∙◌, inl, inr, append_assoc}
-use Rattle.std.proofs.lemmas.Bool.{cases_Bool, false≢true}
-use Rattle.std.proofs.lemmas.Bool.Decides.{nat_tests}
-use Rattle.std.proofs.lemmas.List.{map-append}
-use Rattle.std.proofs.lemmas.List.Elements.{filter-append}
-use Rattle.perf_base.specs.declared.numbers.CpuNo.{CpuNo}
-use Rattle.perf_base.specs.declared.numbers.Key.{Key}
-use Rattle.perf_base.specs.declared.standing.Standing.{Standing}
+use Rattle.std.proofs.{Common.{arith, refl, sym, ap, ◌∙◌, inl, inr, append_assoc}, lemmas.Bool.{cases_Bool, false≢true, Decides.{nat_tests}}}
+use Rattle.std.proofs.lemmas.List.{map-append, Elements.{filter-append}}
+use Rattle.perf_base.specs.{declared.{numbers.{CpuNo.{CpuNo}, Key.{Key}}, standing.Standing.{Standing}}, Standings.{stands_on}}
 use Rattle.perf_base.specs.declared.standing.Standing.TheVariants as standing
-use Rattle.stage_spec.specs.declared.instance.Instance.{Instance}
-use Rattle.stage_spec.specs.Effective.{effective, is_ready, ready_members}
-use Rattle.stage_spec.specs.Hardware.{Hardware}
-use Rattle.stage_spec.specs.Stage.{Group, members_of}
-use Rattle.stage_spec.specs.Verdict.{Judged, is_eligible, passes, verdicts, groups_on, standing_among}
-use Rattle.perf_base.specs.Standings.{stands_on}
-use Rattle.stage_laws.proofs.Counts.{count-cons, count-append, count-filter}
-use Rattle.stage_laws.proofs.Images.{filter-map}
-use Rattle.world_spec.specs.Value.{World, entry_at, instance_at, standing_at, is_key, times}
-use Rattle.world_spec.specs.StageOf.{group_at, stage_of}
-use Rattle.world_spec.specs.Kept.{post_at, once_if, leads, IsKept}
-use Rattle.world_spec.specs.Listings.{pass_leaders}
+use Rattle.stage_spec.specs.{declared.instance.Instance.{Instance}, Effective.{effective, is_ready, ready_members}, Hardware.{Hardware}}
+use Rattle.stage_spec.specs.{Stage.{Group, members_of}, Verdict.{Judged, is_eligible, passes, verdicts, groups_on, standing_among}}
+use Rattle.stage_laws.proofs.{Counts.{count-cons, count-append, count-filter}, Images.{filter-map}}
+use Rattle.world_spec.specs.{Value.{World, entry_at, instance_at, standing_at, is_key, times}, StageOf.{group_at, stage_of}}
+use Rattle.world_spec.specs.{Kept.{post_at, once_if, leads, IsKept}, Listings.{pass_leaders}}
 use Rattle.world_spec.specs.Working.{leaders_by_pass, leaders_on, ready_in, effective_in, OnLaw, ReadyLaw}
-use Rattle.world_spec.proofs.Keys.{is_key-same, times-cons, once-true}
-use Rattle.world_spec.proofs.Moving.{leads-parts}
-use Rattle.world_spec.proofs.Coming.{number_true}
-use Rattle.world_spec.proofs.Standing.{passes-groups}
+use Rattle.world_spec.proofs.{Keys.{is_key-same, times-cons, once-true}, Moving.{leads-parts}, Coming.{number_true}, Standing.{passes-groups}}
 use Rattle.world_spec.proofs.Families.{group-members}
 use Rattle.world_spec.proofs.Listings.{passes-are, flat-mapped, reached-once, reached-leading, reached-context, count-none, count-one}
 use Rattle.world_spec.proofs.Rescheduling.{is_led, is_about, about-groups, own_id, among-cons, among-none, among-later, same-id}

@@ -1,21 +1,11 @@
 -- How instances come and go in a world. After perf_install_in_context, perf_group_attach, perf_group_detach and
 -- inherit_event of kernel/events/core.c; the tables are this project's own profile.
 use Rattle.std.specs.Prelude.{◌+◌, Bool, true, false, [], ◌∷◌, ◌++◌, Option, Some, None, slice_index_or, slice_set, if◌then◌else◌}
-use Rattle.std.specs.FinMap.{FinMap, insert, remove}
-use Rattle.std.specs.List.{fold}
-use Rattle.std.specs.Ordering.{nat_cmp}
-use Rattle.perf_base.specs.declared.attr.Attr.{Attr}
-use Rattle.perf_base.specs.declared.numbers.EventNo.{EventNo}
-use Rattle.perf_base.specs.declared.numbers.Key.{Key}
-use Rattle.perf_base.specs.declared.standing.Context.{Context}
+use Rattle.std.specs.{FinMap.{FinMap, insert, remove}, List.{fold}, Ordering.{nat_cmp}}
+use Rattle.perf_base.specs.declared.{attr.Attr.{Attr}, numbers.{EventNo.{EventNo}, Key.{Key}}, standing.Context.{Context}}
 use Rattle.perf_base.specs.declared.standing.Standing.TheVariants as standing
-use Rattle.stage_spec.specs.declared.instance.Instance.{Instance}
-use Rattle.stage_spec.specs.Families.{plus}
-use Rattle.stage_spec.specs.Flags.{is_pinned}
-use Rattle.stage_spec.specs.Opening.{first_state}
-use Rattle.stage_spec.specs.Shares.{no_sums}
-use Rattle.world_spec.specs.Value.{World, Entry, Family, entry_at, instance_at, account_at, family_of, is_key}
-use Rattle.world_spec.specs.StageOf.{after_first}
+use Rattle.stage_spec.specs.{declared.instance.Instance.{Instance}, Families.{plus}, Flags.{is_pinned}, Opening.{first_state}, Shares.{no_sums}}
+use Rattle.world_spec.specs.{Value.{World, Entry, Family, entry_at, instance_at, account_at, family_of, is_key}, StageOf.{after_first}}
 use Rattle.world_spec.specs.Changes.{all_but, in_list, with_leaders}
 
 -- what a new instance is, whether it is a copy and where it is to stand

@@ -1,20 +1,10 @@
 -- When a world agrees with the record of a step: they are of one stage, and the world's accounts, folded sums, lost
 -- counts and clocks are the record's of all that a later line can ask for. This project's own profile.
 use Rattle.std.specs.Prelude.{◌≡◌, ℕ, ◌≤◌, true, List, length, map, slice_index_or}
-use Rattle.perf_base.specs.declared.numbers.CpuNo.{CpuNo}
-use Rattle.perf_base.specs.declared.numbers.EventNo.{EventNo}
-use Rattle.perf_base.specs.declared.numbers.Key.{Key}
-use Rattle.perf_base.specs.declared.numbers.RingNo.{RingNo}
-use Rattle.perf_base.specs.declared.numbers.TaskNo.{TaskNo}
-use Rattle.stage_spec.specs.Hardware.{Hardware}
-use Rattle.stage_spec.specs.Shares.{no_sums}
-use Rattle.stage_spec.specs.Stage.{first_stage, is_open}
-use Rattle.ring_spec.specs.Running.{Running, first_record, family_by}
-use Rattle.ring_spec.specs.Agreement.{Agree, IsCurrentSlot, view_of}
-use Rattle.world_spec.specs.Value.{World, is_live, instance_at, account_at}
-use Rattle.world_spec.specs.StageOf.{stage_of}
-use Rattle.world_spec.specs.Kept.{family_sums, IsKept}
-use Rattle.world_spec.specs.First.{first_world}
+use Rattle.perf_base.specs.declared.numbers.{CpuNo.{CpuNo}, EventNo.{EventNo}, Key.{Key}, RingNo.{RingNo}, TaskNo.{TaskNo}}
+use Rattle.stage_spec.specs.{Hardware.{Hardware}, Shares.{no_sums}, Stage.{first_stage, is_open}}
+use Rattle.ring_spec.specs.{Running.{Running, first_record, family_by}, Agreement.{Agree, IsCurrentSlot, view_of}}
+use Rattle.world_spec.specs.{Value.{World, is_live, instance_at, account_at}, StageOf.{stage_of}, Kept.{family_sums, IsKept}, First.{first_world}}
 
 -- Of each instance that is there, the sums and what is left of its period; no sums of ids that were not drawn. Of slots
 -- that are open or were never used, the folded sums and the lost counts. Of each processor the clock. Rings are not the

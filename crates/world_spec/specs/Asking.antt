@@ -1,14 +1,9 @@
 -- What a world answers, and steps that ask and change nothing. This project's own profile.
 use Rattle.std.specs.Prelude.{slice_index_or}
 use Rattle.perf_base.specs.declared.reply.Reply.{Reply}
-use Rattle.stage_spec.specs.Hardware.{Hardware}
-use Rattle.stage_spec.specs.History.{Step}
-use Rattle.stage_spec.specs.Replies.{IsAnswerAt}
+use Rattle.stage_spec.specs.{Hardware.{Hardware}, History.{Step}, Replies.{IsAnswerAt}}
 use Rattle.ring_spec.specs.Running.{Running, IsAnswerBy}
-use Rattle.world_spec.specs.Agreement.{AgreesWith}
-use Rattle.world_spec.specs.Kept.{IsKept, family_sums}
-use Rattle.world_spec.specs.StageOf.{stage_of}
-use Rattle.world_spec.specs.Value.{World}
+use Rattle.world_spec.specs.{Agreement.{AgreesWith}, Kept.{IsKept, family_sums}, StageOf.{stage_of}, Value.{World}}
 
 -- An answer by what the families of a world have counted and lost is the answer by each record with which the world
 -- agrees.

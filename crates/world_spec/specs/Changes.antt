@@ -2,20 +2,12 @@
 -- perf_event_period, perf_mmap, perf_swevent_event and perf_event_task_sched_in of kernel/events/core.c; the tables are
 -- this project's own profile.
 use Rattle.std.specs.Prelude.{ℕ, ◌+◌, ◌==◌, Bool, true, false, not, List, [], ◌∷◌, ◌++◌, filter, Option, Some, None, slice_index_or, slice_set, if◌then◌else◌}
-use Rattle.std.specs.FinMap.{insert}
-use Rattle.std.specs.List.{list_any}
-use Rattle.perf_base.specs.declared.numbers.CpuNo.{CpuNo}
-use Rattle.perf_base.specs.declared.numbers.Key.{Key}
-use Rattle.perf_base.specs.declared.numbers.RingNo.{RingNo}
-use Rattle.perf_base.specs.declared.numbers.TaskNo.{TaskNo}
-use Rattle.perf_base.specs.declared.standing.Context.{Context}
-use Rattle.perf_base.specs.declared.standing.Own.{Own}
+use Rattle.std.specs.{FinMap.{insert}, List.{list_any}}
+use Rattle.perf_base.specs.declared.{numbers.{CpuNo.{CpuNo}, Key.{Key}, RingNo.{RingNo}, TaskNo.{TaskNo}}, standing.{Context.{Context}, Own.{Own}}}
 use Rattle.perf_base.specs.declared.standing.Standing.{Standing}
-use Rattle.stage_spec.specs.declared.instance.Instance.{Instance}
-use Rattle.stage_spec.specs.declared.instance.TaskState.TheVariants as state
-use Rattle.stage_spec.specs.declared.instance.TaskStatus.{TaskStatus}
-use Rattle.stage_spec.specs.Occurrences.{left_after}
+use Rattle.stage_spec.specs.{declared.instance.{Instance.{Instance}, TaskStatus.{TaskStatus}}, Occurrences.{left_after}}
 use Rattle.stage_spec.specs.Stage.{place_of, unknown_task, fresh_task}
+use Rattle.stage_spec.specs.declared.instance.TaskState.TheVariants as state
 use Rattle.counter_match.specs.Seating.{Seated}
 use Rattle.world_spec.specs.Value.{World, Account, Leaders, entry_at, instance_at, account_at, leaders_of, is_key}
 

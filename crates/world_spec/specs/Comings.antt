@@ -1,23 +1,13 @@
 -- An instance that comes keeps a world and is the stage's own new instance. After perf_install_in_context,
 -- perf_group_attach and inherit_event of kernel/events/core.c; the tables are this project's own profile.
 use Rattle.std.specs.Prelude.{◌≡◌, ℕ, ◌+◌, ◌^◌, ◌<◌, true, false, List, [], ◌∷◌, ◌++◌, length, map, Option, Some, None, if◌then◌else◌}
-use Rattle.perf_base.specs.Scripts.{IsKind}
-use Rattle.perf_base.specs.declared.attr.Kind.{Kind}
-use Rattle.perf_base.specs.declared.numbers.EventNo.{EventNo}
-use Rattle.perf_base.specs.declared.numbers.Key.{Key}
-use Rattle.stage_spec.specs.declared.instance.Instance.{Instance}
-use Rattle.stage_spec.specs.Checks.{has_unknown_sample}
-use Rattle.stage_spec.specs.Flags.{is_pinned}
-use Rattle.stage_spec.specs.Hardware.{Hardware}
-use Rattle.stage_spec.specs.Opening.{is_used, joined, add_group, opened}
-use Rattle.perf_base.specs.Contexts.{context_of}
-use Rattle.stage_spec.specs.Stage.{Stage, Group, Lists, alone, place_of, change_context}
+use Rattle.perf_base.specs.{Scripts.{IsKind}, declared.{attr.Kind.{Kind}, numbers.{EventNo.{EventNo}, Key.{Key}}}, Contexts.{context_of}}
+use Rattle.stage_spec.specs.{declared.instance.Instance.{Instance}, Checks.{has_unknown_sample}, Flags.{is_pinned}, Hardware.{Hardware}}
+use Rattle.stage_spec.specs.{Opening.{is_used, joined, add_group, opened}, Stage.{Stage, Group, Lists, alone, place_of, change_context}}
 use Rattle.stage_laws.specs.Sound.{has_id}
-use Rattle.world_spec.specs.Value.{World, is_live, entry_at, instance_at}
-use Rattle.world_spec.specs.StageOf.{stage_of}
+use Rattle.world_spec.specs.{Value.{World, is_live, entry_at, instance_at}, StageOf.{stage_of}}
 use Rattle.world_spec.specs.Kept.{leads, post_at, is_original_in, is_of_task, kinds_in, copies_in, AreFitting, IsKept}
-use Rattle.world_spec.specs.Adding.{Newcomer, new_instance, add}
-use Rattle.world_spec.specs.Laws.{Keeps}
+use Rattle.world_spec.specs.{Adding.{Newcomer, new_instance, add}, Laws.{Keeps}}
 
 -- the kinds of the group that a newcomer comes into, and its own
 abbrev pub new_kinds : World → Newcomer → Option Key → List Kind

@@ -1,22 +1,13 @@
 -- A copy that a fork makes of an instance is the definitions' own. After inherit_event and inherit_group of
 -- kernel/events/core.c; the tables are this project's own profile.
 use Rattle.std.specs.Prelude.{◌≡◌, Bool, true, false, List, [], ◌∷◌, ◌++◌, Option, Some, None}
-use Rattle.perf_base.specs.declared.numbers.Key.{Key}
-use Rattle.perf_base.specs.declared.numbers.TaskNo.{TaskNo}
+use Rattle.perf_base.specs.declared.numbers.{Key.{Key}, TaskNo.{TaskNo}}
 use Rattle.perf_base.specs.declared.standing.Context.TheVariants as context
-use Rattle.stage_spec.specs.declared.instance.Instance.{Instance}
-use Rattle.stage_spec.specs.Flags.{is_pinned}
-use Rattle.stage_spec.specs.Forks.{copied_state, copy_of, present_period}
-use Rattle.stage_spec.specs.Hardware.{Hardware}
-use Rattle.stage_spec.specs.Stage.{original_of}
+use Rattle.stage_spec.specs.{declared.instance.Instance.{Instance}, Flags.{is_pinned}, Forks.{copied_state, copy_of, present_period}}
+use Rattle.stage_spec.specs.{Hardware.{Hardware}, Stage.{original_of}}
 use Rattle.stage_laws.specs.OneByOne.{Parent, add_instance}
-use Rattle.world_spec.specs.Value.{World, Leaders, leaders_of}
-use Rattle.world_spec.specs.StageOf.{stage_of}
-use Rattle.world_spec.specs.Kept.{IsKept}
-use Rattle.world_spec.specs.Adding.{Newcomer, add}
-use Rattle.world_spec.specs.Changes.{set_own}
-use Rattle.world_spec.specs.Comings.{MayCome, IsOfOriginal, HasRoom}
-use Rattle.world_spec.specs.Laws.{Keeps}
+use Rattle.world_spec.specs.{Value.{World, Leaders, leaders_of}, StageOf.{stage_of}, Kept.{IsKept}, Adding.{Newcomer, add}, Changes.{set_own}}
+use Rattle.world_spec.specs.{Comings.{MayCome, IsOfOriginal, HasRoom}, Laws.{Keeps}}
 
 -- the copy of an instance, in the child's context, with the original's present period
 abbrev pub copy_from : World → TaskNo → Instance → Option Key → Newcomer

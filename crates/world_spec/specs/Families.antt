@@ -1,18 +1,11 @@
 -- What the families of a world are on the stage that it stands for. After child_list and perf_event_for_each_child of
 -- kernel/events/core.c; that a processor reaches one instance of a family at most is this project's own profile.
 use Rattle.std.specs.Prelude.{◌≡◌, true, map, filter, is_some, option_map}
-use Rattle.perf_base.specs.declared.numbers.CpuNo.{CpuNo}
-use Rattle.perf_base.specs.declared.numbers.EventNo.{EventNo}
-use Rattle.perf_base.specs.declared.numbers.Key.{Key}
-use Rattle.perf_base.specs.declared.reply.Sums.{Sums}
-use Rattle.stage_spec.specs.declared.instance.Instance.{Instance}
-use Rattle.stage_spec.specs.Families.{plus_each}
-use Rattle.stage_spec.specs.Hardware.{Hardware}
+use Rattle.perf_base.specs.declared.{numbers.{CpuNo.{CpuNo}, EventNo.{EventNo}, Key.{Key}}, reply.Sums.{Sums}}
+use Rattle.stage_spec.specs.{declared.instance.Instance.{Instance}, Families.{plus_each}, Hardware.{Hardware}}
 use Rattle.stage_spec.specs.Stage.{all_instances, is_of_family, is_open, live_copies, original_of, group_of}
-use Rattle.stage_laws.specs.Narrowing.{has_context}
-use Rattle.stage_laws.specs.OneByOne.{AreIdsOf}
-use Rattle.world_spec.specs.Value.{World, is_live, entry_at, instance_at, family_of}
-use Rattle.world_spec.specs.StageOf.{group_at, stage_of}
+use Rattle.stage_laws.specs.{Narrowing.{has_context}, OneByOne.{AreIdsOf}}
+use Rattle.world_spec.specs.{Value.{World, is_live, entry_at, instance_at, family_of}, StageOf.{group_at, stage_of}}
 use Rattle.world_spec.specs.Kept.{copies_in, keys_of, plus_keys, IsKept}
 
 -- A processor reaches at most one instance of a family: two of one slot, each in its own context or that of the task on

@@ -1,15 +1,10 @@
 -- The world before the first line. After perf_event_init_cpu and perf_event_init_task of kernel/events/core.c; the
 -- tables are this project's own profile.
-use Rattle.std.specs.Prelude.{◌≡◌, List, [], None, length, map, replicate, slice_index}
-use Rattle.std.specs.FinMap.{empty}
+use Rattle.std.specs.{Prelude.{◌≡◌, List, [], None, length, map, replicate, slice_index}, FinMap.{empty}}
 use Rattle.perf_base.specs.declared.numbers.TaskNo.{TaskNo}
-use Rattle.stage_spec.specs.Hardware.{Hardware, IsHardware}
-use Rattle.stage_spec.specs.Shares.{no_sums}
-use Rattle.stage_spec.specs.Stage.{first_stage}
+use Rattle.stage_spec.specs.{Hardware.{Hardware, IsHardware}, Shares.{no_sums}, Stage.{first_stage}}
 use Rattle.counter_match.specs.Seating.{empty_seating}
-use Rattle.world_spec.specs.Value.{World, no_family, no_leaders, no_totals}
-use Rattle.world_spec.specs.StageOf.{stage_of}
-use Rattle.world_spec.specs.Kept.{IsKept}
+use Rattle.world_spec.specs.{Value.{World, no_family, no_leaders, no_totals}, StageOf.{stage_of}, Kept.{IsKept}}
 
 -- no event, these tasks, and the processors of a machine, each idle, with no time passed, nothing counted and no event
 -- seated on its counters

@@ -4,11 +4,7 @@ use Rattle.std.specs.Prelude.{◌≡◌, ℕ, true}
 use Rattle.perf_base.specs.declared.numbers.Key.{Key}
 use Rattle.stage_spec.specs.Hardware.{Hardware}
 use Rattle.stage_laws.specs.OneByOne.{drop_one}
-use Rattle.world_spec.specs.Value.{World, is_live, instance_at}
-use Rattle.world_spec.specs.StageOf.{stage_of}
-use Rattle.world_spec.specs.Kept.{family_sums, IsKept}
-use Rattle.world_spec.specs.Adding.{folded_away}
-use Rattle.world_spec.specs.Laws.{Keeps}
+use Rattle.world_spec.specs.{Value.{World, is_live, instance_at}, StageOf.{stage_of}, Kept.{family_sums, IsKept}, Adding.{folded_away}, Laws.{Keeps}}
 
 -- A copy that is folded is the stage's instance that goes.
 abbrev pub FoldLaw : Type 0

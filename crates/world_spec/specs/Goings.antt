@@ -4,10 +4,7 @@ use Rattle.std.specs.Prelude.{◌≡◌, true, false}
 use Rattle.perf_base.specs.declared.numbers.Key.{Key}
 use Rattle.stage_spec.specs.Hardware.{Hardware}
 use Rattle.stage_laws.specs.OneByOne.{drop_one}
-use Rattle.world_spec.specs.Value.{World, is_live, instance_at}
-use Rattle.world_spec.specs.StageOf.{stage_of}
-use Rattle.world_spec.specs.Kept.{post_at, is_copy_in, IsKept}
-use Rattle.world_spec.specs.Adding.{drop_instance}
+use Rattle.world_spec.specs.{Value.{World, is_live, instance_at}, StageOf.{stage_of}, Kept.{post_at, is_copy_in, IsKept}, Adding.{drop_instance}}
 use Rattle.world_spec.specs.Laws.{Keeps}
 
 -- The key names an instance. An original goes after its copies.

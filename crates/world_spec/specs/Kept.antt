@@ -1,26 +1,12 @@
 -- What holds of a world at any time, also while the instances of one line come or go one by one. After what
 -- kernel/events/core.c keeps of its groups, contexts and inherited events; the counting is this project's own profile.
 use Rattle.std.specs.Prelude.{◌≡◌, ℕ, ◌^◌, ◌<◌, ◌≤◌, ◌==◌, Bool, true, false, not, ◌&&◌, IsTrue, List, [], ◌∷◌, ◌++◌, length, map, filter, Option, Some, None, slice_index, slice_index_or, if◌then◌else◌}
-use Rattle.std.specs.FinMap.{contains_key}
-use Rattle.std.specs.List.{AllPairs, sum_by}
-use Rattle.perf_base.specs.Scripts.{IsKind}
-use Rattle.perf_base.specs.declared.attr.Kind.{Kind}
-use Rattle.perf_base.specs.declared.numbers.CpuNo.{CpuNo}
-use Rattle.perf_base.specs.declared.numbers.EventNo.{EventNo}
-use Rattle.perf_base.specs.declared.numbers.Key.{Key}
-use Rattle.perf_base.specs.declared.reply.Sums.{Sums}
-use Rattle.perf_base.specs.declared.standing.Context.{Context}
+use Rattle.std.specs.{FinMap.{contains_key}, List.{AllPairs, sum_by}}
+use Rattle.perf_base.specs.{Scripts.{IsKind}, declared.{attr.Kind.{Kind}, numbers.{CpuNo.{CpuNo}, EventNo.{EventNo}, Key.{Key}}, reply.Sums.{Sums}}}
+use Rattle.perf_base.specs.{declared.standing.Context.{Context}, Contexts.{context_of}}
 use Rattle.perf_base.specs.declared.standing.Context.TheVariants as context
-use Rattle.stage_spec.specs.Checks.{has_unknown_sample}
-use Rattle.stage_spec.specs.Families.{plus}
-use Rattle.stage_spec.specs.Fits.{fits}
-use Rattle.stage_spec.specs.Hardware.{Hardware, is_software, mask_of, counters_of}
-use Rattle.stage_spec.specs.Limits.{HasShape}
-use Rattle.stage_spec.specs.Opening.{is_used, is_other_pmu}
-use Rattle.perf_base.specs.Contexts.{context_of}
-use Rattle.stage_spec.specs.Reading.{is_error}
-use Rattle.stage_spec.specs.Shares.{no_sums}
-use Rattle.stage_spec.specs.Stage.{place_of}
+use Rattle.stage_spec.specs.{Checks.{has_unknown_sample}, Families.{plus}, Fits.{fits}, Hardware.{Hardware, is_software, mask_of, counters_of}}
+use Rattle.stage_spec.specs.{Limits.{HasShape}, Opening.{is_used, is_other_pmu}, Reading.{is_error}, Shares.{no_sums}, Stage.{place_of}}
 use Rattle.stage_laws.specs.Sound.{AreRunning}
 use Rattle.counter_match.specs.Seating.{Seated, IsSound, empty_seating}
 use Rattle.world_spec.specs.Value.{World, Leaders, Family, Totals, no_leaders, no_family, no_totals, is_live, entry_at, instance_at, account_at, is_key, times}

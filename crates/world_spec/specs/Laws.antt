@@ -1,22 +1,13 @@
 -- Each change keeps a world, and is the stage's own change or leaves the stage. After what kernel/events/core.c keeps
 -- of its contexts and groups; the tables are this project's own profile.
 use Rattle.std.specs.Prelude.{◌≡◌, ℕ, ◌+◌, ◌^◌, ◌<◌, Bool, true, Option, Some, length, slice_index_or, if◌then◌else◌}
-use Rattle.perf_base.specs.declared.numbers.CpuNo.{CpuNo}
-use Rattle.perf_base.specs.declared.numbers.Key.{Key}
-use Rattle.perf_base.specs.declared.numbers.RingNo.{RingNo}
-use Rattle.perf_base.specs.declared.numbers.TaskNo.{TaskNo}
-use Rattle.perf_base.specs.declared.standing.Own.{Own}
-use Rattle.perf_base.specs.declared.standing.Standing.{Standing}
-use Rattle.stage_spec.specs.declared.instance.TaskState.TheVariants as state
-use Rattle.stage_spec.specs.Hardware.{Hardware, counters_of}
-use Rattle.stage_spec.specs.Reading.{is_error}
-use Rattle.stage_spec.specs.Stage.{Stage, task_on, status_of, fresh_task, set_status}
+use Rattle.perf_base.specs.declared.{numbers.{CpuNo.{CpuNo}, Key.{Key}, RingNo.{RingNo}, TaskNo.{TaskNo}}, standing.{Own.{Own}, Standing.{Standing}}}
+use Rattle.stage_spec.specs.{Hardware.{Hardware, counters_of}, Reading.{is_error}, Stage.{Stage, task_on, status_of, fresh_task, set_status}}
 use Rattle.stage_spec.specs.Switching.{put_on}
+use Rattle.stage_spec.specs.declared.instance.TaskState.TheVariants as state
 use Rattle.stage_laws.specs.OneByOne.{change_one}
 use Rattle.counter_match.specs.Seating.{Seated, IsSound}
-use Rattle.world_spec.specs.Value.{World, is_live, entry_at, instance_at, is_key}
-use Rattle.world_spec.specs.StageOf.{stage_of}
-use Rattle.world_spec.specs.Kept.{IsKept, family_sums}
+use Rattle.world_spec.specs.{Value.{World, is_live, entry_at, instance_at, is_key}, StageOf.{stage_of}, Kept.{IsKept, family_sums}}
 use Rattle.world_spec.specs.Changes.{remember, set_own, set_period, set_ring, set_standing, with_seats, add_lost, hit, reset_count, place, add_task, end_task}
 
 -- a change of the world that keeps what it keeps

@@ -1,18 +1,11 @@
 -- What contexts and processors have on the stage, by the keys of a world. After the lists of struct perf_event_context
 -- of kernel/events/core.c; the order of the passes is that of ctx_sched_in.
 use Rattle.std.specs.Prelude.{◌≡◌, ◌≤◌, true, List, [], ◌∷◌, ◌++◌, map, count_by, flat_map, Option, Some, None}
-use Rattle.perf_base.specs.declared.numbers.CpuNo.{CpuNo}
-use Rattle.perf_base.specs.declared.numbers.EventNo.{EventNo}
-use Rattle.perf_base.specs.declared.numbers.Key.{Key}
-use Rattle.perf_base.specs.declared.numbers.TaskNo.{TaskNo}
-use Rattle.perf_base.specs.declared.standing.Context.{Context}
+use Rattle.perf_base.specs.declared.{numbers.{CpuNo.{CpuNo}, EventNo.{EventNo}, Key.{Key}, TaskNo.{TaskNo}}, standing.Context.{Context}}
 use Rattle.perf_base.specs.declared.standing.Context.TheVariants as context
-use Rattle.stage_spec.specs.Hardware.{Hardware}
-use Rattle.stage_spec.specs.Stage.{members_of, is_of_family, task_on}
-use Rattle.stage_spec.specs.Verdict.{passes, instances_in, reached}
+use Rattle.stage_spec.specs.{Hardware.{Hardware}, Stage.{members_of, is_of_family, task_on}, Verdict.{passes, instances_in, reached}}
 use Rattle.stage_laws.specs.Sound.{IsNumbered}
-use Rattle.world_spec.specs.Value.{World, Leaders, no_leaders, leaders_of, entry_at, instance_at}
-use Rattle.world_spec.specs.StageOf.{group_at, stage_of}
+use Rattle.world_spec.specs.{Value.{World, Leaders, no_leaders, leaders_of, entry_at, instance_at}, StageOf.{group_at, stage_of}}
 use Rattle.world_spec.specs.Kept.{post_at, leads, IsKept}
 
 -- the leaders of the groups of the task on a processor; an idle processor has none

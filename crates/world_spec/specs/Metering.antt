@@ -2,25 +2,15 @@
 -- them. After perf_event_update_time of kernel/events/core.c; the totals are this project's own profile.
 use Rattle.std.specs.Prelude.{◌≡◌, ℕ, ◌+◌, ◌^◌, ◌<◌, ◌==◌, Bool, true, false, ◌&&◌, List, [], ◌∷◌, slice_index_or, slice_set, if◌then◌else◌}
 use Rattle.std.specs.FinMap.{contains_key}
-use Rattle.perf_base.specs.declared.attr.Attr.{Attr}
-use Rattle.perf_base.specs.declared.attr.Kind.{Kind}
+use Rattle.perf_base.specs.declared.{attr.{Attr.{Attr}, Kind.{Kind}}, lines.{Mode.{Mode}, Work.{Work}}, numbers.{CpuNo.{CpuNo}, Key.{Key}}}
+use Rattle.perf_base.specs.declared.reply.Sums.{Sums}
 use Rattle.perf_base.specs.declared.attr.Kind.TheVariants as kind
 use Rattle.perf_base.specs.declared.lines.CpuLine.TheVariants as cpu_line
-use Rattle.perf_base.specs.declared.lines.Mode.{Mode}
 use Rattle.perf_base.specs.declared.lines.Mode.TheVariants as mode
-use Rattle.perf_base.specs.declared.lines.Work.{Work}
-use Rattle.perf_base.specs.declared.numbers.CpuNo.{CpuNo}
-use Rattle.perf_base.specs.declared.numbers.Key.{Key}
-use Rattle.perf_base.specs.declared.reply.Sums.{Sums}
-use Rattle.stage_spec.specs.Families.{plus}
-use Rattle.stage_spec.specs.Hardware.{Hardware}
-use Rattle.stage_spec.specs.Shares.{work_hits}
+use Rattle.stage_spec.specs.{Families.{plus}, Hardware.{Hardware}, Shares.{work_hits}}
 use Rattle.stage_laws.specs.Bounds.{most_of_line, AreAtMost}
-use Rattle.world_spec.specs.Value.{World, Quiet, Totals, no_totals, is_live, instance_at, account_at, totals_at}
-use Rattle.world_spec.specs.StageOf.{stage_of}
-use Rattle.world_spec.specs.Kept.{IsKept, AreSmallTotals, family_sums}
-use Rattle.world_spec.specs.Shares.{HaveRoom, work_shares}
-use Rattle.world_spec.specs.Rescheduled.{IsJudged}
+use Rattle.world_spec.specs.{Value.{World, Quiet, Totals, no_totals, is_live, instance_at, account_at, totals_at}, StageOf.{stage_of}}
+use Rattle.world_spec.specs.{Kept.{IsKept, AreSmallTotals, family_sums}, Shares.{HaveRoom, work_shares}, Rescheduled.{IsJudged}}
 use Rattle.world_spec.specs.Ways.{is_ready_at, is_on_at, KeepsWay}
 
 -- Numbers with others added to them, place by place; there are as many as before.

@@ -1,16 +1,10 @@
 -- Changes of groups keep a world and are the stage's own. After perf_rotate_context, perf_group_attach and
 -- perf_group_detach of kernel/events/core.c; the tables are this project's own profile.
 use Rattle.std.specs.Prelude.{◌≡◌, ℕ, Bool, true, false}
-use Rattle.perf_base.specs.declared.numbers.Key.{Key}
-use Rattle.perf_base.specs.declared.standing.Context.{Context}
-use Rattle.stage_spec.specs.Hardware.{Hardware}
-use Rattle.stage_spec.specs.Rotation.{first_goes_last}
-use Rattle.stage_spec.specs.Stage.{Lists, change_context}
+use Rattle.perf_base.specs.declared.{numbers.Key.{Key}, standing.Context.{Context}}
+use Rattle.stage_spec.specs.{Hardware.{Hardware}, Rotation.{first_goes_last}, Stage.{Lists, change_context}}
 use Rattle.stage_laws.specs.Sound.{has_id}
-use Rattle.world_spec.specs.Value.{World, entry_at, instance_at}
-use Rattle.world_spec.specs.StageOf.{stage_of}
-use Rattle.world_spec.specs.Kept.{leads, post_at, IsKept}
-use Rattle.world_spec.specs.Changes.{move_last}
+use Rattle.world_spec.specs.{Value.{World, entry_at, instance_at}, StageOf.{stage_of}, Kept.{leads, post_at, IsKept}, Changes.{move_last}}
 use Rattle.world_spec.specs.Laws.{Keeps}
 
 -- the group whose leader has an id goes last in its list

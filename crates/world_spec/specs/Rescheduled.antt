@@ -1,31 +1,16 @@
 -- How a processor stands as rescheduling leaves it: its groups, and the counters that serve its events. After
 -- ctx_sched_in and merge_sched_in of kernel/events/core.c; the tables are this project's own profile.
-use Rattle.std.specs.Prelude.{◌≡◌, ◌≢◌, ◌<◌, true, List, ◌++◌, length}
-use Rattle.std.specs.List.{fold}
-use Rattle.perf_base.specs.Cpus.{HasCpu}
-use Rattle.perf_base.specs.declared.numbers.CpuNo.{CpuNo}
-use Rattle.perf_base.specs.declared.numbers.CpuSet.{CpuSet}
-use Rattle.perf_base.specs.declared.numbers.Key.{Key}
+use Rattle.std.specs.{Prelude.{◌≡◌, ◌≢◌, ◌<◌, true, List, ◌++◌, length}, List.{fold}}
+use Rattle.perf_base.specs.{Cpus.{HasCpu}, declared.{numbers.{CpuNo.{CpuNo}, CpuSet.{CpuSet}, Key.{Key}}, standing.Standing.{Standing}}}
 use Rattle.perf_base.specs.declared.standing.Context.TheVariants as context
 use Rattle.perf_base.specs.declared.standing.Own.TheVariants as own
-use Rattle.perf_base.specs.declared.standing.Standing.{Standing}
 use Rattle.perf_base.specs.declared.standing.Standing.TheVariants as standing
-use Rattle.stage_spec.specs.Fits.{IsAssignment}
-use Rattle.stage_spec.specs.Hardware.{Hardware}
-use Rattle.stage_spec.specs.Replies.{seated, IsSeats}
-use Rattle.stage_spec.specs.Settle.{IsSettled, settle}
-use Rattle.stage_spec.specs.Stage.{task_on}
-use Rattle.stage_spec.specs.Tight.{masks_of}
-use Rattle.stage_spec.specs.Verdict.{standing_of, with_masks}
-use Rattle.stage_laws.specs.Narrowing.{has_context}
-use Rattle.stage_laws.specs.Standings.{briefs, standings}
+use Rattle.stage_spec.specs.{Fits.{IsAssignment}, Hardware.{Hardware}, Replies.{seated, IsSeats}, Settle.{IsSettled, settle}, Stage.{task_on}}
+use Rattle.stage_spec.specs.{Tight.{masks_of}, Verdict.{standing_of, with_masks}}
+use Rattle.stage_laws.specs.{Narrowing.{has_context}, Standings.{briefs, standings}}
 use Rattle.counter_match.specs.Seating.{seat_list}
-use Rattle.world_spec.specs.Value.{World, entry_at, instance_at, standing_at, seats_at, leaders_of}
-use Rattle.world_spec.specs.StageOf.{group_at, stage_of}
-use Rattle.world_spec.specs.Kept.{leads, post_at, IsKept}
-use Rattle.world_spec.specs.Changes.{set_own, set_standing}
-use Rattle.world_spec.specs.Laws.{Keeps}
-use Rattle.world_spec.specs.Listings.{task_leaders}
+use Rattle.world_spec.specs.{Value.{World, entry_at, instance_at, standing_at, seats_at, leaders_of}, StageOf.{group_at, stage_of}}
+use Rattle.world_spec.specs.{Kept.{leads, post_at, IsKept}, Changes.{set_own, set_standing}, Laws.{Keeps}, Listings.{task_leaders}}
 
 -- A processor's counters serve the hardware events that are on, in pass order and with their masks: each has a counter
 -- of its mask, and no two have the same one.

@@ -1,24 +1,13 @@
 -- What a stretch of work on a processor, and one occurrence of a software kind there, add to the instances of a world.
 -- After perf_event_update_time, perf_swevent_event and ctx_sched_in of kernel/events/core.c; the tables are this
 -- project's own profile.
-use Rattle.std.specs.Prelude.{◌≡◌, ℕ, ◌+◌, ◌^◌, ◌<◌, true}
-use Rattle.std.specs.FinMap.{contains_key}
-use Rattle.perf_base.specs.declared.attr.Kind.{Kind}
+use Rattle.std.specs.{Prelude.{◌≡◌, ℕ, ◌+◌, ◌^◌, ◌<◌, true}, FinMap.{contains_key}}
+use Rattle.perf_base.specs.declared.{attr.Kind.{Kind}, lines.Work.{Work}, numbers.{CpuNo.{CpuNo}, Key.{Key}}, reply.Sums.{Sums}}
 use Rattle.perf_base.specs.declared.attr.Kind.TheVariants as kind
 use Rattle.perf_base.specs.declared.lines.CpuLine.TheVariants as cpu_line
-use Rattle.perf_base.specs.declared.lines.Work.{Work}
-use Rattle.perf_base.specs.declared.numbers.CpuNo.{CpuNo}
-use Rattle.perf_base.specs.declared.numbers.Key.{Key}
-use Rattle.perf_base.specs.declared.reply.Sums.{Sums}
-use Rattle.stage_spec.specs.declared.instance.Instance.{Instance}
-use Rattle.stage_spec.specs.Families.{plus}
-use Rattle.stage_spec.specs.History.{CpuStep}
-use Rattle.stage_spec.specs.Occurrences.{left_after}
-use Rattle.stage_spec.specs.Shares.{no_sums, of_instance, switch_hits, migration_hits, share}
-use Rattle.stage_spec.specs.Verdict.{on_instances}
-use Rattle.world_spec.specs.Value.{World, Account, is_live, instance_at, account_at}
-use Rattle.world_spec.specs.StageOf.{stage_of}
-use Rattle.world_spec.specs.Kept.{family_sums}
+use Rattle.stage_spec.specs.{declared.instance.Instance.{Instance}, Families.{plus}, History.{CpuStep}, Occurrences.{left_after}}
+use Rattle.stage_spec.specs.{Shares.{no_sums, of_instance, switch_hits, migration_hits, share}, Verdict.{on_instances}}
+use Rattle.world_spec.specs.{Value.{World, Account, is_live, instance_at, account_at}, StageOf.{stage_of}, Kept.{family_sums}}
 
 -- An account after a share: that is added to the sums, and its occurrences are taken off the remainder, one by one.
 abbrev pub with_share : Instance → Sums → Account → Account

@@ -2,16 +2,11 @@
 -- family's. After list_del_event and perf_install_in_context of kernel/events/core.c; the tables are this project's own
 -- profile.
 use Rattle.std.specs.Prelude.{◌≡◌, ℕ, true, false, Some, slice_index_or}
-use Rattle.perf_base.specs.declared.numbers.EventNo.{EventNo}
-use Rattle.perf_base.specs.declared.numbers.Key.{Key}
+use Rattle.perf_base.specs.declared.numbers.{EventNo.{EventNo}, Key.{Key}}
 use Rattle.perf_base.specs.declared.standing.Standing.TheVariants as standing
-use Rattle.stage_spec.specs.Hardware.{Hardware}
-use Rattle.stage_spec.specs.Shares.{no_sums}
-use Rattle.world_spec.specs.Value.{World, is_live, entry_at, instance_at, account_at, standing_at, family_of}
-use Rattle.world_spec.specs.Kept.{IsKept}
-use Rattle.world_spec.specs.Adding.{Newcomer, new_instance, add, drop_instance, folded_away}
-use Rattle.world_spec.specs.Comings.{MayCome, HasRoom}
-use Rattle.world_spec.specs.Goings.{MayGo}
+use Rattle.stage_spec.specs.{Hardware.{Hardware}, Shares.{no_sums}}
+use Rattle.world_spec.specs.{Value.{World, is_live, entry_at, instance_at, account_at, standing_at, family_of}, Kept.{IsKept}}
+use Rattle.world_spec.specs.{Adding.{Newcomer, new_instance, add, drop_instance, folded_away}, Comings.{MayCome, HasRoom}, Goings.{MayGo}}
 
 -- each other key names what it named, in its context and with its account; and each other slot has its family
 pub record OthersStay (w after : World) (k : Key) : Type 0 where

@@ -1,22 +1,11 @@
 -- What a world is after a step, by what it was before: the stage after the step, and of each instance, slot and
 -- processor what the step adds. This project's own profile.
 use Rattle.std.specs.Prelude.{◌≡◌, ◌+◌, ◌<◌, ◌≤◌, true, List, [], map, flat_map, slice_index_or}
-use Rattle.perf_base.specs.declared.numbers.CpuNo.{CpuNo}
-use Rattle.perf_base.specs.declared.numbers.EventNo.{EventNo}
-use Rattle.perf_base.specs.declared.numbers.Key.{Key}
-use Rattle.stage_spec.specs.Families.{plus, leaving}
-use Rattle.stage_spec.specs.Hardware.{Hardware}
-use Rattle.stage_spec.specs.History.{Step, stage_step}
-use Rattle.stage_spec.specs.Recurrence.{after_reset}
-use Rattle.stage_spec.specs.Remainders.{left_by}
-use Rattle.stage_spec.specs.Shares.{share, no_sums}
-use Rattle.stage_spec.specs.Sums.{resets}
-use Rattle.ring_spec.specs.Agreement.{IsCurrentSlot}
-use Rattle.ring_spec.specs.Running.{Running, losses_on, more_lost, record_after}
-use Rattle.ring_spec.specs.Sending.{sent_by_step, length_by}
-use Rattle.world_spec.specs.Agreement.{AgreesWith}
-use Rattle.world_spec.specs.Kept.{IsKept, plus_keys}
-use Rattle.world_spec.specs.StageOf.{stage_of}
+use Rattle.perf_base.specs.declared.numbers.{CpuNo.{CpuNo}, EventNo.{EventNo}, Key.{Key}}
+use Rattle.stage_spec.specs.{Families.{plus, leaving}, Hardware.{Hardware}, History.{Step, stage_step}, Recurrence.{after_reset}}
+use Rattle.stage_spec.specs.{Remainders.{left_by}, Shares.{share, no_sums}, Sums.{resets}}
+use Rattle.ring_spec.specs.{Agreement.{IsCurrentSlot}, Running.{Running, losses_on, more_lost, record_after}, Sending.{sent_by_step, length_by}}
+use Rattle.world_spec.specs.{Agreement.{AgreesWith}, Kept.{IsKept, plus_keys}, StageOf.{stage_of}}
 use Rattle.world_spec.specs.Value.{World, is_live, instance_at, account_at, times}
 
 -- An instance that was there has what it had, or nothing after a reset, and what the step adds to it; and what the step

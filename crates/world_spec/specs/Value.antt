@@ -1,29 +1,17 @@
 -- The events, groups, families and accounts of a machine as one value: tables by key, and lists of keys. After struct
 -- perf_event, perf_event_context and perf_cpu_context of kernel/events/core.c; the tables are this project's own
 -- profile.
-use Rattle.std.specs.Prelude.{ℕ, ◌^◌, ◌==◌, Bool, false, List, [], count_by, replicate, Option, None, slice_index_or}
-use Rattle.std.specs.Option.{unwrap_or}
-use Rattle.std.specs.Ordering.{nat_cmp}
-use Rattle.std.specs.FinMap.{FinMap, get, contains_key}
-use Rattle.perf_base.specs.declared.attr.Attr.{Attr}
+use Rattle.std.specs.{Prelude.{ℕ, ◌^◌, ◌==◌, Bool, false, List, [], count_by, replicate, Option, None, slice_index_or}, Option.{unwrap_or}}
+use Rattle.std.specs.{Ordering.{nat_cmp}, FinMap.{FinMap, get, contains_key}}
+use Rattle.perf_base.specs.declared.{attr.Attr.{Attr}, numbers.{CpuNo.{CpuNo}, EventNo.{EventNo}, Key.{Key}, RingNo.{RingNo}, TaskNo.{TaskNo}}}
+use Rattle.perf_base.specs.declared.{reply.Sums.{Sums}, standing.{Context.{Context}, Standing.{Standing}}}
 use Rattle.perf_base.specs.declared.attr.CpuSel.TheVariants as cpus
 use Rattle.perf_base.specs.declared.attr.Kind.TheVariants as kind
 use Rattle.perf_base.specs.declared.attr.TaskSel.TheVariants as tasks
-use Rattle.perf_base.specs.declared.numbers.CpuNo.{CpuNo}
-use Rattle.perf_base.specs.declared.numbers.EventNo.{EventNo}
-use Rattle.perf_base.specs.declared.numbers.Key.{Key}
-use Rattle.perf_base.specs.declared.numbers.RingNo.{RingNo}
-use Rattle.perf_base.specs.declared.numbers.TaskNo.{TaskNo}
-use Rattle.perf_base.specs.declared.reply.Sums.{Sums}
-use Rattle.perf_base.specs.declared.standing.Context.{Context}
 use Rattle.perf_base.specs.declared.standing.Context.TheVariants as context
 use Rattle.perf_base.specs.declared.standing.Own.TheVariants as own
-use Rattle.perf_base.specs.declared.standing.Standing.{Standing}
 use Rattle.perf_base.specs.declared.standing.Standing.TheVariants as standing
-use Rattle.stage_spec.specs.declared.instance.Instance.{Instance}
-use Rattle.stage_spec.specs.declared.instance.TaskStatus.{TaskStatus}
-use Rattle.stage_spec.specs.Hardware.{Hardware}
-use Rattle.stage_spec.specs.Shares.{no_sums}
+use Rattle.stage_spec.specs.{declared.instance.{Instance.{Instance}, TaskStatus.{TaskStatus}}, Hardware.{Hardware}, Shares.{no_sums}}
 use Rattle.stage_spec.specs.Stage.{place_of}
 use Rattle.counter_match.specs.Seating.{Seated, empty_seating}
 

@@ -2,27 +2,14 @@
 -- After event_sched_in, event_sched_out and perf_event_update_time of kernel/events/core.c; the ways are this project's
 -- own profile.
 use Rattle.std.specs.Prelude.{◌≡◌, ℕ, ◌==◌, Bool, true, false, ◌&&◌, Option, Some, None}
-use Rattle.perf_base.specs.declared.numbers.CpuNo.{CpuNo}
-use Rattle.perf_base.specs.declared.numbers.Key.{Key}
-use Rattle.perf_base.specs.declared.numbers.RingNo.{RingNo}
-use Rattle.perf_base.specs.declared.numbers.TaskNo.{TaskNo}
-use Rattle.perf_base.specs.declared.standing.Context.{Context}
+use Rattle.perf_base.specs.declared.{numbers.{CpuNo.{CpuNo}, Key.{Key}, RingNo.{RingNo}, TaskNo.{TaskNo}}, standing.{Context.{Context}, Own.{Own}}}
+use Rattle.perf_base.specs.{declared.standing.Standing.{Standing}, Standings.{stands_on}}
 use Rattle.perf_base.specs.declared.standing.Context.TheVariants as context
-use Rattle.perf_base.specs.declared.standing.Own.{Own}
-use Rattle.perf_base.specs.declared.standing.Standing.{Standing}
-use Rattle.perf_base.specs.Standings.{stands_on}
-use Rattle.stage_spec.specs.Hardware.{Hardware}
-use Rattle.stage_spec.specs.Replies.{cpu_with}
-use Rattle.stage_spec.specs.Stage.{task_on, is_task}
+use Rattle.stage_spec.specs.{Hardware.{Hardware}, Replies.{cpu_with}, Stage.{task_on, is_task}}
 use Rattle.stage_laws.specs.Narrowing.{has_context}
-use Rattle.world_spec.specs.Value.{World, is_live, entry_at, standing_at, times}
-use Rattle.world_spec.specs.StageOf.{stage_of}
-use Rattle.world_spec.specs.Kept.{IsKept}
-use Rattle.world_spec.specs.Adding.{Newcomer, add, drop_instance, folded_away}
-use Rattle.world_spec.specs.Changes.{set_own, set_period, set_ring, set_standing, place}
-use Rattle.world_spec.specs.Comings.{MayCome, HasRoom}
-use Rattle.world_spec.specs.Listings.{keys_in}
-use Rattle.world_spec.specs.Working.{is_effective, is_on}
+use Rattle.world_spec.specs.{Value.{World, is_live, entry_at, standing_at, times}, StageOf.{stage_of}, Kept.{IsKept}}
+use Rattle.world_spec.specs.{Adding.{Newcomer, add, drop_instance, folded_away}, Changes.{set_own, set_period, set_ring, set_standing, place}}
+use Rattle.world_spec.specs.{Comings.{MayCome, HasRoom}, Listings.{keys_in}, Working.{is_effective, is_on}}
 
 -- An account runs along one processor's clock while its instance is ready there, and along its totals while it is on.
 pub record Way : Type 0 where

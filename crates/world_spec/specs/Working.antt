@@ -1,19 +1,11 @@
 -- Which instances count on a processor, by the keys of a world. After ctx_sched_in and perf_event_update_time of
 -- kernel/events/core.c.
 use Rattle.std.specs.Prelude.{◌≡◌, Bool, true, ◌&&◌, List, map, filter, flat_map}
-use Rattle.perf_base.specs.declared.numbers.CpuNo.{CpuNo}
-use Rattle.perf_base.specs.declared.numbers.Key.{Key}
-use Rattle.stage_spec.specs.Effective.{effective, is_ready}
-use Rattle.stage_spec.specs.Hardware.{Hardware}
-use Rattle.stage_spec.specs.Shares.{ready_instances}
-use Rattle.stage_spec.specs.Verdict.{on_instances}
+use Rattle.perf_base.specs.{declared.numbers.{CpuNo.{CpuNo}, Key.{Key}}, Standings.{stands_on}}
+use Rattle.stage_spec.specs.{Effective.{effective, is_ready}, Hardware.{Hardware}, Shares.{ready_instances}, Verdict.{on_instances}}
 use Rattle.stage_laws.specs.Narrowing.{has_context}
-use Rattle.perf_base.specs.Standings.{stands_on}
-use Rattle.world_spec.specs.Value.{World, is_live, entry_at, instance_at, standing_at, times}
-use Rattle.world_spec.specs.StageOf.{stage_of}
-use Rattle.world_spec.specs.Kept.{IsKept, once_if}
-use Rattle.world_spec.specs.Listings.{pass_leaders}
-use Rattle.world_spec.specs.Rescheduled.{IsJudged}
+use Rattle.world_spec.specs.{Value.{World, is_live, entry_at, instance_at, standing_at, times}, StageOf.{stage_of}, Kept.{IsKept, once_if}}
+use Rattle.world_spec.specs.{Listings.{pass_leaders}, Rescheduled.{IsJudged}}
 
 -- An instance is ready by its leader's own state and its own one, and on where its group stands on, too.
 abbrev pub is_effective : World → Key → Bool

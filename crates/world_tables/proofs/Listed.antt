@@ -1,10 +1,8 @@
 -- How often a key stands in a list, where it stands, and how long the list is without it.
-use Rattle.std.specs.Prelude.{◌≡◌, ◌+◌, ◌≤◌, not, cond, List, [], ◌∷◌, length, Contains}
-use Rattle.std.proofs.Common.{arith, refl, ap, inl, inr, zero, suc}
+use Rattle.std.{specs.Prelude.{◌≡◌, ◌+◌, ◌≤◌, not, cond, List, [], ◌∷◌, length, Contains}, proofs.Common.{arith, refl, ap, inl, inr, zero, suc}}
 use Rattle.std.proofs.lemmas.Bool.{cases_Bool}
 use Rattle.perf_base.specs.declared.numbers.Key.{Key}
-use Rattle.world_spec.specs.Value.{is_key, times}
-use Rattle.world_spec.specs.Changes.{all_but}
+use Rattle.world_spec.specs.{Value.{is_key, times}, Changes.{all_but}}
 use Rattle.world_spec.proofs.Keys.{key-is, is_key-true, is_key-same, times-cons, once-true, once-false}
 
 pub times_contains : (k : Key) (keys : List Key) → times k keys ≡ 1 → Contains keys k

@@ -1,16 +1,10 @@
 -- Marks that come one by one, and that there is room for them.
 use Rattle.std.specs.Prelude.{◌≡◌, ◌≢◌, ℕ, ◌+◌, ◌<◌, ◌≤◌, ◌==◌, true, false, ◌||◌, eqb, All, List, [], ◌∷◌, ◌++◌, length, map, slice_index_or}
-use Rattle.std.specs.List.{list_any}
-use Rattle.std.proofs.Common.{arith, refl, sym, ap, subst, ◌∙◌, inl, inr, suc, length-append}
-use Rattle.std.proofs.lemmas.Bool.Decides.{nat_tests, Decides-eqb, eqb_tells}
-use Rattle.std.proofs.lemmas.List.{map-append, length-map}
-use Rattle.std.proofs.lemmas.List.Elements.{All-push}
-use Rattle.std.proofs.lemmas.List.Folds.{list_any_at}
-use Rattle.std.proofs.lemmas.List.Quantifiers.{all_pairs_push}
-use Rattle.std.proofs.lemmas.Map.Made.{IsDistinct-from_AllPairs}
+use Rattle.std.{specs.List.{list_any}, proofs.Common.{arith, refl, sym, ap, subst, ◌∙◌, inl, inr, suc, length-append}}
+use Rattle.std.proofs.lemmas.{Bool.Decides.{nat_tests, Decides-eqb, eqb_tells}, List.{map-append, length-map, Elements.{All-push}}}
+use Rattle.std.proofs.lemmas.{List.{Folds.{list_any_at}, Quantifiers.{all_pairs_push}}, Map.Made.{IsDistinct-from_AllPairs}}
 use Rattle.std.proofs.lemmas.Map.Steps.{length-le_from_distinct_below}
-use Rattle.perf_base.specs.declared.numbers.EventNo.{EventNo}
-use Rattle.perf_base.specs.declared.numbers.RingNo.{RingNo}
+use Rattle.perf_base.specs.declared.numbers.{EventNo.{EventNo}, RingNo.{RingNo}}
 use Rattle.world_tables.specs.Marks.{AreMarks}
 
 no-match : (n : ℕ) (ns : List ℕ) (k d : ℕ) → list_any (λ m. m == n) ns ≡ false → k < length ns → slice_index_or ns k d ≡ n → ⊥

@@ -1,16 +1,11 @@
 -- Parts of rows, each as a list of its own, after one row was written.
 use Rattle.std.specs.Prelude.{◌≡◌, ℕ, ◌+◌, ◌<◌, List, [], ◌∷◌, length, map, replicate, Option, None, slice_index, slice_index_or, slice_set}
-use Rattle.std.proofs.Common.{arith, refl, sym, ap, ◌∙◌}
-use Rattle.std.proofs.lemmas.List.{map-set, get_or-map, get_or-set_same, length-map, length-set}
-use Rattle.std.proofs.lemmas.List.Sums.{sum_by-set}
-use Rattle.std.proofs.Math.Seq.{map-set_same}
-use Rattle.perf_base.specs.declared.numbers.TaskNo.{TaskNo}
-use Rattle.perf_base.specs.declared.reply.Sums.{Sums}
-use Rattle.stage_spec.specs.Shares.{no_sums}
-use Rattle.stage_spec.specs.Hardware.{Hardware}
+use Rattle.std.proofs.{Common.{arith, refl, sym, ap, ◌∙◌}, lemmas.List.{map-set, get_or-map, get_or-set_same, length-map, length-set}}
+use Rattle.std.proofs.{lemmas.List.Sums.{sum_by-set}, Math.Seq.{map-set_same}}
+use Rattle.perf_base.specs.declared.{numbers.TaskNo.{TaskNo}, reply.Sums.{Sums}}
+use Rattle.stage_spec.specs.{Shares.{no_sums}, Hardware.{Hardware}}
 use Rattle.counter_match.specs.Seating.{Seated, empty_seating}
-use Rattle.world_spec.specs.Kept.{copies_in}
-use Rattle.world_spec.specs.Value.{Family, no_family}
+use Rattle.world_spec.specs.{Kept.{copies_in}, Value.{Family, no_family}}
 use Rattle.world_tables.specs.Places.{Slot, Slots, slots, with_family, Place, Places, places, no_seats}
 
 module _ {A B : Type 0} (f : A → B) (xs : List A) (i : ℕ) where

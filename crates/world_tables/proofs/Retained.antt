@@ -1,6 +1,5 @@
 -- What `retain` leaves of a short list, where its test only looks.
-use Rattle.std.proofs.Common.{◌≡◌, Bool, cond, List, [], ◌∷◌, filter, subst, ◌∙◌}
-use Rattle.std.specs.List.Retain.{RetainsInTurn}
+use Rattle.std.{proofs.Common.{◌≡◌, Bool, cond, List, [], ◌∷◌, filter, subst, ◌∙◌}, specs.List.Retain.{RetainsInTurn}}
 
 pub filter-retained : {X F : Type 0} (R : F → X → Bool → F → X → Type 0) (test : X → Bool) (f : F)
     → ((x : X) (b : Bool) (g : F) (y : X) → R f x b g y → (b ≡ test x) × (g ≡ f) × (y ≡ x))

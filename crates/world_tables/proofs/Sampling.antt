@@ -2,19 +2,14 @@
 -- not 0.
 use Rattle.std.specs.Prelude.{◌≡◌, ◌≢◌, ℕ, ◌+◌, ◌-◌, ◌<◌, ◌≤◌, ◌==◌, Bool, true, false, not, ◌&&◌, List, [], ◌∷◌, length, replicate, count_by, Option, Some, None, is_some, slice_index_or, slice_set, if◌then◌else◌}
 use Rattle.std.proofs.Common.{arith, refl, sym, ap, subst, ◌∙◌, inl, inr, zero, suc}
-use Rattle.std.proofs.lemmas.Bool.{cases_eq, cases_lt, cases_Bool, false≢true, and_parts}
-use Rattle.std.proofs.lemmas.Bool.Decides.{nat_tests}
-use Rattle.std.proofs.lemmas.List.{get_or_past, get_or-set_same, get_or-set_other, length-set}
-use Rattle.std.proofs.Math.Seq.{set_out}
+use Rattle.std.proofs.lemmas.Bool.{cases_eq, cases_lt, cases_Bool, false≢true, and_parts, Decides.{nat_tests}}
+use Rattle.std.proofs.{lemmas.List.{get_or_past, get_or-set_same, get_or-set_other, length-set}, Math.Seq.{set_out}}
 use Rattle.slab.specs.Slab.{Slab, Updates, slab_len, get as slab_get}
 use Rattle.stage_laws.proofs.Counts.{count-cons, one_place}
-use Rattle.world_spec.specs.Kept.{once_if}
-use Rattle.world_spec.proofs.Keys.{once-true, once-false}
+use Rattle.world_spec.{specs.Kept.{once_if}, proofs.Keys.{once-true, once-false}}
 use Rattle.perf_base.specs.declared.standing.Context.{Context}
-use Rattle.stage_spec.specs.declared.instance.Instance.{Instance}
-use Rattle.stage_spec.specs.Stage.{place_of}
-use Rattle.world_tables.specs.Rows.{Kept}
-use Rattle.world_tables.specs.Samplers.{is_sampler, samples_at, AreCounted, with_event, without_event}
+use Rattle.stage_spec.specs.{declared.instance.Instance.{Instance}, Stage.{place_of}}
+use Rattle.world_tables.specs.{Rows.{Kept}, Samplers.{is_sampler, samples_at, AreCounted, with_event, without_event}}
 
 -- lists of slots that show the same at each key, and that do so but for one
 module _ (p : Option Kept → Bool) (none : p None ≡ false) where

@@ -1,27 +1,14 @@
 -- The table after what it keeps at a key changed, and after a line of work on a processor.
 use Rattle.std.specs.Prelude.{◌≡◌, ◌≢◌, ◌↔◌, ℕ, ◌+◌, ◌^◌, ◌<◌, ◌≤◌, ◌==◌, Bool, true, false, if◌then◌else◌, List, [], ◌∷◌, length, map, replicate, slice_index_or, slice_set, Option, Some, None, is_some}
-use Rattle.std.specs.FinMap.{contains_key}
-use Rattle.std.proofs.Common.{arith, refl, sym, ap, subst, ◌∙◌, inl, inr, zero, suc}
-use Rattle.std.proofs.lemmas.Bool.{cases_eq}
-use Rattle.std.proofs.lemmas.Bool.Decides.{nat_tests}
-use Rattle.std.proofs.lemmas.List.{get_or_default, get_or-set_same, get_or-set_other, length-map}
-use Rattle.slab.specs.Slab.{Slab, Updates, with_value, get as slab_get}
-use Rattle.slab.proofs.SlabLemmas.{Updates-with_value}
-use Rattle.perf_base.specs.declared.attr.Attr.{Attr}
-use Rattle.perf_base.specs.declared.lines.Work.{Work}
-use Rattle.perf_base.specs.declared.numbers.CpuNo.{CpuNo}
-use Rattle.perf_base.specs.declared.numbers.Key.{Key}
-use Rattle.perf_base.specs.declared.standing.Context.{Context}
-use Rattle.stage_spec.specs.Families.{plus}
-use Rattle.stage_spec.specs.Stage.{place_of}
-use Rattle.stage_spec.specs.Shares.{counted_by, no_sums}
+use Rattle.std.{specs.FinMap.{contains_key}, proofs.{Common.{arith, refl, sym, ap, subst, ◌∙◌, inl, inr, zero, suc}, lemmas.Bool.{cases_eq}}}
+use Rattle.std.proofs.lemmas.{Bool.Decides.{nat_tests}, List.{get_or_default, get_or-set_same, get_or-set_other, length-map}}
+use Rattle.slab.{specs.Slab.{Slab, Updates, with_value, get as slab_get}, proofs.SlabLemmas.{Updates-with_value}}
+use Rattle.perf_base.specs.declared.{attr.Attr.{Attr}, lines.Work.{Work}, numbers.{CpuNo.{CpuNo}, Key.{Key}}, standing.Context.{Context}}
+use Rattle.stage_spec.specs.{Families.{plus}, Stage.{place_of}, Shares.{counted_by, no_sums}}
 use Rattle.event_counts.specs.Counts.{restarted}
-use Rattle.world_spec.specs.Value.{Totals, no_totals}
-use Rattle.world_spec.specs.Metering.{add_hits}
-use Rattle.world_spec.specs.Ways.{Way}
+use Rattle.world_spec.specs.{Value.{Totals, no_totals}, Metering.{add_hits}, Ways.{Way}}
 use Rattle.world_tables.specs.Meters.{Metered, Tallied, IsTally, no_meter, metered, total_of, given, given_on, goes_along, way_of, sums_at, tally_to}
-use Rattle.world_tables.specs.Samplers.{samples_at, AreCounted}
-use Rattle.world_tables.specs.Rows.{Kept, account_by, row_by, meter_at, without_count}
+use Rattle.world_tables.specs.{Samplers.{samples_at, AreCounted}, Rows.{Kept, account_by, row_by, meter_at, without_count}}
 use Rattle.world_tables.specs.Columns.{entry_in, Columns, IsTable, SomeSamples, IsWorked, HasRoomForWork, columns, is_there, account_in, row_in, given_in, totals_in, no_columns}
 use Rattle.world_tables.proofs.Parts.{part-put, part-at}
 use Rattle.world_tables.proofs.Sampling.{counted-written, counted-none, count-some, count-there, sampler-kept, sampler-at}

@@ -1,25 +1,14 @@
 -- Accounts along meters: what turns, work, hits, resets and new periods leave of them.
 use Rattle.std.proofs.Common.{◌≡◌, ℕ, ◌+◌, ◌-◌, ◌^◌, ◌<◌, ◌≤◌, ◌==◌, Bool, true, false, ◌&&◌, if◌then◌else◌, List, [], ◌∷◌, length, slice_index, refl, sym, ap, subst, ◌∙◌, zero, suc, arith}
-use Rattle.std.proofs.lemmas.Bool.Decides.{nat_tests}
-use Rattle.std.proofs.lemmas.List.{ext_get_or}
-use Rattle.perf_base.specs.declared.attr.Attr.{Attr}
-use Rattle.perf_base.specs.declared.attr.Kind.{Kind}
+use Rattle.std.proofs.lemmas.{Bool.Decides.{nat_tests}, List.{ext_get_or}}
+use Rattle.perf_base.specs.declared.{attr.{Attr.{Attr}, Kind.{Kind}}, lines.{Mode.{Mode}, Work.{Work}}, reply.Sums.{Sums}}
 use Rattle.perf_base.specs.declared.attr.Kind.TheVariants as kind
-use Rattle.perf_base.specs.declared.lines.Mode.{Mode}
 use Rattle.perf_base.specs.declared.lines.Mode.TheVariants as mode
-use Rattle.perf_base.specs.declared.lines.Work.{Work}
-use Rattle.perf_base.specs.declared.reply.Sums.{Sums}
-use Rattle.stage_spec.specs.Families.{plus}
-use Rattle.stage_spec.specs.Flags.{excludes_user, excludes_kernel}
-use Rattle.stage_spec.specs.Occurrences.{left_after}
+use Rattle.stage_spec.specs.{Families.{plus}, Flags.{excludes_user, excludes_kernel}, Occurrences.{left_after}}
 use Rattle.stage_spec.specs.Shares.{excludes, counted_by, no_sums}
 use Rattle.event_times.specs.Times.{enabled_at, running_at}
-use Rattle.event_counts.proofs.OneByOne.{left_after-no_period}
-use Rattle.event_counts.specs.Counts.{Counts, count_at, followed, restarted, counts_after}
-use Rattle.world_spec.specs.Value.{Totals}
-use Rattle.world_spec.specs.Kept.{AreSmallTotals}
-use Rattle.world_spec.specs.Metering.{add_each, add_hits}
-use Rattle.world_spec.specs.Ways.{Way}
+use Rattle.event_counts.{proofs.OneByOne.{left_after-no_period}, specs.Counts.{Counts, count_at, followed, restarted, counts_after}}
+use Rattle.world_spec.specs.{Value.{Totals}, Kept.{AreSmallTotals}, Metering.{add_each, add_hits}, Ways.{Way}}
 use Rattle.world_tables.specs.Meters.{Metered, Tallied, IsTally, metered, total_by, total_of, is_metered, goes_along, given, fresh_tally, way_of, sums_at, tally_to}
 
 -- lists that are added place by place

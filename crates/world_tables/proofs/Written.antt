@@ -2,21 +2,14 @@
 use Rattle.std.specs.Prelude.{◌≡◌, ◌↔◌, ℕ, ◌+◌, ◌<◌, Bool, true, false, cond, List, [], ◌∷◌, map, count_by, Option, Some, None, is_some, slice_index_or}
 use Rattle.std.specs.Cmp.{unsigned_tied}
 use Rattle.std.specs.FinMap.{FinMap, get, contains_key, insert, remove, find, len, from_entries, len-empty, len-insert, get-insert, get-remove, get-from_entries, same_map, nat_cmp-IsAntisymmetric}
-use Rattle.std.specs.Option.{unwrap_or}
-use Rattle.std.specs.Ordering.{nat_cmp, eq_by_cmp}
-use Rattle.std.proofs.Common.{arith, refl, sym, ap, ◌∙◌, inl, inr, zero, suc}
-use Rattle.std.proofs.lemmas.Bool.{cases_eq}
-use Rattle.std.proofs.lemmas.Bool.Decides.{nat_tests}
-use Rattle.std.proofs.lemmas.Cmp.{nat_cmp_total}
-use Rattle.slab.specs.Slab.{Slab, slab_len, entries_from, ContainsKey, Updates, with_value, get as slab_get}
-use Rattle.slab.proofs.SlabLemmas.{Updates-with_value}
-use Rattle.perf_base.specs.declared.numbers.Key.{Key}
-use Rattle.stage_laws.proofs.Counts.{count-cons}
-use Rattle.perf_base.specs.declared.standing.Standing.{Standing}
+use Rattle.std.{specs.{Option.{unwrap_or}, Ordering.{nat_cmp, eq_by_cmp}}, proofs.Common.{arith, refl, sym, ap, ◌∙◌, inl, inr, zero, suc}}
+use Rattle.std.proofs.lemmas.{Bool.{cases_eq, Decides.{nat_tests}}, Cmp.{nat_cmp_total}}
+use Rattle.slab.{specs.Slab.{Slab, slab_len, entries_from, ContainsKey, Updates, with_value, get as slab_get}, proofs.SlabLemmas.{Updates-with_value}}
+use Rattle.perf_base.specs.declared.{numbers.Key.{Key}, standing.Standing.{Standing}}
 use Rattle.perf_base.specs.declared.standing.Standing.TheVariants as standing
+use Rattle.stage_laws.proofs.Counts.{count-cons}
 use Rattle.world_spec.specs.Value.{Entry, Account, no_entry, no_account}
-use Rattle.world_tables.specs.Meters.{Metered, Tallied, no_way, way_of}
-use Rattle.world_tables.specs.Rows.{Kept, account_by, row_by, meter_at}
+use Rattle.world_tables.specs.{Meters.{Metered, Tallied, no_way, way_of}, Rows.{Kept, account_by, row_by, meter_at}}
 use Rattle.world_tables.specs.Columns.{Columns, column, columns, is_there, entry_in, account_in, row_in, put_entry, put_account, put_standing, put_way, put_row, taken}
 
 -- one part of what is kept, where there is something

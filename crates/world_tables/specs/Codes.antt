@@ -1,22 +1,11 @@
 -- How the values of the tables are stored: each as the tuple of its parts. This project's own profile.
-use Rattle.std.specs.Prelude.{ℕ, Bool, List, refl}
-use Rattle.std.specs.Coded.{Coded, code_by, coded×, coded_ℕ, coded_bool, coded_list}
-use Rattle.std.specs.FinMap.{FinMap, code}
+use Rattle.std.specs.{Prelude.{ℕ, Bool, List, refl}, Coded.{Coded, code_by, coded×, coded_ℕ, coded_bool, coded_list}, FinMap.{FinMap, code}}
 use Rattle.std.specs.Ordering.{nat_cmp}
-use Rattle.perf_base.specs.contracts.numbers.CpuNo.{the_row as cpu_row}
-use Rattle.perf_base.specs.contracts.numbers.Key.{the_row as key_row}
-use Rattle.perf_base.specs.contracts.reply.Sums.{the_row as sums_row}
-use Rattle.perf_base.specs.contracts.standing.Context.{the_row as context_row}
-use Rattle.perf_base.specs.contracts.standing.Standing.{the_row as standing_row}
-use Rattle.perf_base.specs.declared.numbers.CpuNo.{CpuNo}
-use Rattle.perf_base.specs.declared.numbers.Key.{Key}
-use Rattle.perf_base.specs.declared.reply.Sums.{Sums}
-use Rattle.perf_base.specs.declared.standing.Context.{Context}
-use Rattle.perf_base.specs.declared.standing.Standing.{Standing}
-use Rattle.stage_spec.specs.contracts.instance.Instance.{the_row as instance_row}
-use Rattle.stage_spec.specs.declared.instance.Instance.{Instance}
-use Rattle.world_spec.specs.Value.{Entry, Account, Totals}
-use Rattle.world_spec.specs.Ways.{Way}
+use Rattle.perf_base.specs.contracts.{numbers.{CpuNo.{the_row as cpu_row}, Key.{the_row as key_row}}, reply.Sums.{the_row as sums_row}}
+use Rattle.perf_base.specs.{contracts.standing.{Context.{the_row as context_row}, Standing.{the_row as standing_row}}, declared.numbers.CpuNo.{CpuNo}}
+use Rattle.perf_base.specs.declared.{numbers.Key.{Key}, reply.Sums.{Sums}, standing.{Context.{Context}, Standing.{Standing}}}
+use Rattle.stage_spec.specs.{contracts.instance.Instance.{the_row as instance_row}, declared.instance.Instance.{Instance}}
+use Rattle.world_spec.specs.{Value.{Entry, Account, Totals}, Ways.{Way}}
 use Rattle.world_tables.specs.Columns.{Columns}
 
 abbrev pub entry_code : Coded Entry

@@ -1,27 +1,14 @@
 -- The tables of events by key: entries, accounts, standings and ways; the clocks and totals of the processors; and what
 -- each change does to them. This project's own profile.
 use Rattle.std.specs.Prelude.{◌≡◌, ◌≢◌, ℕ, ◌+◌, ◌^◌, ◌<◌, ◌≤◌, Bool, true, List, map, replicate, Some, slice_index_or, slice_set}
-use Rattle.std.specs.FinMap.{FinMap, empty, get, contains_key, insert, remove, from_entries}
-use Rattle.std.specs.Option.{unwrap_or}
-use Rattle.std.specs.Ordering.{nat_cmp}
-use Rattle.perf_base.specs.declared.lines.Work.{Work}
-use Rattle.perf_base.specs.declared.numbers.CpuNo.{CpuNo}
-use Rattle.perf_base.specs.declared.numbers.Key.{Key}
-use Rattle.perf_base.specs.declared.reply.Sums.{Sums}
-use Rattle.perf_base.specs.declared.standing.Context.{Context}
+use Rattle.std.specs.{FinMap.{FinMap, empty, get, contains_key, insert, remove, from_entries}, Option.{unwrap_or}, Ordering.{nat_cmp}}
+use Rattle.perf_base.specs.declared.{lines.Work.{Work}, numbers.{CpuNo.{CpuNo}, Key.{Key}}, reply.Sums.{Sums}, standing.Context.{Context}}
 use Rattle.perf_base.specs.declared.standing.Standing.{Standing}
 use Rattle.perf_base.specs.declared.standing.Standing.TheVariants as standing
-use Rattle.stage_spec.specs.declared.instance.Instance.{Instance}
-use Rattle.stage_spec.specs.Families.{plus}
-use Rattle.stage_spec.specs.Shares.{counted_by}
-use Rattle.stage_spec.specs.Stage.{place_of}
+use Rattle.stage_spec.specs.{declared.instance.Instance.{Instance}, Families.{plus}, Shares.{counted_by}, Stage.{place_of}}
 use Rattle.slab.specs.Slab.{Slab, entries, get as slab_get}
-use Rattle.world_spec.specs.Value.{Entry, Account, no_entry, no_account, Totals, no_totals}
-use Rattle.world_spec.specs.Kept.{AreSmallTotals}
-use Rattle.world_spec.specs.Metering.{add_hits}
-use Rattle.world_spec.specs.Ways.{Way}
-use Rattle.world_tables.specs.Meters.{Metered, IsTally, no_meter, no_way, given_on, goes_along, way_of}
-use Rattle.world_tables.specs.Rows.{Row, Kept, account_by, meter_at}
+use Rattle.world_spec.specs.{Value.{Entry, Account, no_entry, no_account, Totals, no_totals}, Kept.{AreSmallTotals}, Metering.{add_hits}, Ways.{Way}}
+use Rattle.world_tables.specs.{Meters.{Metered, IsTally, no_meter, no_way, given_on, goes_along, way_of}, Rows.{Row, Kept, account_by, meter_at}}
 use Rattle.world_tables.specs.Samplers.{AreCounted}
 
 -- the four tables, and of each processor its clock and its totals

@@ -3,17 +3,10 @@
 -- kept for perf_event_update_time and x86_perf_event_update of kernel/events. That counts follow totals by kind and
 -- mode is this project's own profile.
 use Rattle.std.specs.Prelude.{◌≡◌, ℕ, ◌+◌, ◌^◌, ◌<◌, ◌≤◌, ◌==◌, Bool, true, false, ◌&&◌, slice_index, if◌then◌else◌}
-use Rattle.perf_base.specs.declared.attr.Attr.{Attr}
-use Rattle.perf_base.specs.declared.attr.Kind.{Kind}
+use Rattle.perf_base.specs.declared.{attr.{Attr.{Attr}, Kind.{Kind}}, lines.Work.{Work}, numbers.CpuNo.{CpuNo}, reply.Sums.{Sums}}
 use Rattle.perf_base.specs.declared.attr.Kind.TheVariants as kind
-use Rattle.perf_base.specs.declared.lines.Work.{Work}
-use Rattle.perf_base.specs.declared.numbers.CpuNo.{CpuNo}
-use Rattle.perf_base.specs.declared.reply.Sums.{Sums}
-use Rattle.stage_spec.specs.Flags.{excludes_user, excludes_kernel}
-use Rattle.stage_spec.specs.Shares.{counted_by, no_sums}
-use Rattle.world_spec.specs.Value.{Totals, no_totals}
-use Rattle.world_spec.specs.Metering.{add_hits}
-use Rattle.world_spec.specs.Ways.{Way}
+use Rattle.stage_spec.specs.{Flags.{excludes_user, excludes_kernel}, Shares.{counted_by, no_sums}}
+use Rattle.world_spec.specs.{Value.{Totals, no_totals}, Metering.{add_hits}, Ways.{Way}}
 use Rattle.event_times.specs.Times.{Times, fresh_times, enabled_at, running_at, turned}
 use Rattle.event_counts.specs.Counts.{Counts, fresh_counts, count_at, followed}
 

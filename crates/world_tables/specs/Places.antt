@@ -1,10 +1,7 @@
 -- The lists of one context, and the tables by slot. This project's own profile.
 use Rattle.std.specs.Prelude.{ℕ, ◌^◌, ◌<◌, Bool, true, false, List, length, map, replicate, Option, None, slice_index, slice_index_or, slice_set}
-use Rattle.perf_base.specs.declared.numbers.Key.{Key}
-use Rattle.perf_base.specs.declared.numbers.TaskNo.{TaskNo}
-use Rattle.perf_base.specs.declared.reply.Sums.{Sums}
-use Rattle.stage_spec.specs.Hardware.{Hardware}
-use Rattle.stage_spec.specs.Shares.{no_sums}
+use Rattle.perf_base.specs.declared.{numbers.{Key.{Key}, TaskNo.{TaskNo}}, reply.Sums.{Sums}}
+use Rattle.stage_spec.specs.{Hardware.{Hardware}, Shares.{no_sums}}
 use Rattle.counter_match.specs.Seating.{Seated, empty_seating}
 use Rattle.world_spec.specs.Value.{Leaders, Family, no_family}
 

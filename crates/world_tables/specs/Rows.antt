@@ -1,16 +1,10 @@
 -- One event with its account, as the tables show it and as they keep it. After struct perf_event of
 -- kernel/events/core.c; how it is kept is this project's own profile.
 use Rattle.std.specs.Prelude.{ℕ, ◌+◌, Bool, false, List, [], ◌∷◌, slice_index_or}
-use Rattle.perf_base.specs.declared.numbers.CpuNo.{CpuNo}
-use Rattle.perf_base.specs.declared.numbers.Key.{Key}
-use Rattle.perf_base.specs.declared.standing.Context.{Context}
-use Rattle.perf_base.specs.declared.standing.Standing.{Standing}
+use Rattle.perf_base.specs.declared.{numbers.{CpuNo.{CpuNo}, Key.{Key}}, standing.{Context.{Context}, Standing.{Standing}}}
 use Rattle.perf_base.specs.declared.standing.Standing.TheVariants as standing
-use Rattle.stage_spec.specs.declared.instance.Instance.{Instance}
-use Rattle.stage_spec.specs.Occurrences.{left_after}
-use Rattle.stage_spec.specs.Shares.{no_sums}
-use Rattle.world_spec.specs.Value.{Entry, Account}
-use Rattle.world_spec.specs.Ways.{Way}
+use Rattle.stage_spec.specs.{declared.instance.Instance.{Instance}, Occurrences.{left_after}, Shares.{no_sums}}
+use Rattle.world_spec.specs.{Value.{Entry, Account}, Ways.{Way}}
 use Rattle.world_tables.specs.Meters.{Metered, Tallied, no_meter, no_way, fresh_tally, way_of, sums_at}
 
 -- what the four tables have at a key

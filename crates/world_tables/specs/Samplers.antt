@@ -3,8 +3,7 @@
 use Rattle.std.specs.Prelude.{◌≡◌, ℕ, ◌+◌, ◌-◌, ◌<◌, ◌==◌, Bool, false, not, ◌&&◌, List, length, count_by, Option, Some, None, slice_index_or, slice_set, if◌then◌else◌}
 use Rattle.perf_base.specs.declared.standing.Context.{Context}
 use Rattle.slab.specs.Slab.{Slab}
-use Rattle.stage_spec.specs.declared.instance.Instance.{Instance}
-use Rattle.stage_spec.specs.Stage.{place_of}
+use Rattle.stage_spec.specs.{declared.instance.Instance.{Instance}, Stage.{place_of}}
 use Rattle.world_tables.specs.Rows.{Kept}
 
 -- whether an instance samples, and whether an event that is kept does so at a place

@@ -1,32 +1,15 @@
 -- What a change leaves of a steady world.
 use Rattle.std.specs.Prelude.{◌≡◌, ℕ, ◌+◌, ◌<◌, ◌≤◌, IfOk, IfSome, List, [], ◌∷◌, length, replicate, slice_index, slice_index_or, Option, Some, None, Result, Ok, Err}
-use Rattle.std.proofs.Common.{arith, refl, sym, ap, subst, ◌∙◌}
-use Rattle.std.proofs.lemmas.List.Elements.{All-cons, All-nil}
-use Rattle.perf_base.specs.Scripts.{IsAttr}
-use Rattle.perf_base.specs.declared.attr.Attr.{Attr}
-use Rattle.perf_base.specs.declared.lines.CpuLine.{CpuLine}
-use Rattle.perf_base.specs.declared.lines.ToolLine.{ToolLine}
-use Rattle.perf_base.specs.declared.numbers.CpuNo.{CpuNo}
-use Rattle.perf_base.specs.declared.numbers.Key.{Key}
-use Rattle.perf_base.specs.declared.numbers.NoMemory.{NoMemory}
-use Rattle.perf_base.specs.declared.numbers.TaskNo.{TaskNo}
-use Rattle.stage_spec.specs.Forks.{fork_refusal, forked}
-use Rattle.stage_spec.specs.Hardware.{Hardware}
+use Rattle.std.proofs.{Common.{arith, refl, sym, ap, subst, ◌∙◌}, lemmas.List.Elements.{All-cons, All-nil}}
+use Rattle.perf_base.specs.{Scripts.{IsAttr}, declared.{attr.Attr.{Attr}, lines.{CpuLine.{CpuLine}, ToolLine.{ToolLine}}, numbers.CpuNo.{CpuNo}}}
+use Rattle.perf_base.specs.declared.numbers.{Key.{Key}, NoMemory.{NoMemory}, TaskNo.{TaskNo}}
+use Rattle.stage_spec.specs.{Forks.{fork_refusal, forked}, Hardware.{Hardware}}
 use Rattle.stage_spec.specs.History.{CpuStep, ToolStep, cpu_refusal, tool_refusal, cpu_changed, tool_changed}
-use Rattle.stage_spec.specs.Limits.{IsMachine, IsWithin, AreTaskNumbers}
-use Rattle.stage_spec.specs.Settle.{settle}
-use Rattle.stage_spec.specs.Stage.{Stage, first_stage}
-use Rattle.stage_laws.specs.Narrowing.{unless_left}
-use Rattle.stage_laws.specs.Sound.{IsSound}
-use Rattle.stage_laws.proofs.Numbered.{room_for_copies}
-use Rattle.stage_laws.proofs.Sound.{first_sound}
+use Rattle.stage_spec.specs.{Limits.{IsMachine, IsWithin, AreTaskNumbers}, Settle.{settle}, Stage.{Stage, first_stage}}
+use Rattle.stage_laws.{specs.{Narrowing.{unless_left}, Sound.{IsSound}}, proofs.{Numbered.{room_for_copies}, Sound.{first_sound}}}
 use Rattle.stage_laws.proofs.SoundLike.{changed_sound, settle_sound}
-use Rattle.world_spec.specs.Adding.{Newcomer, add}
-use Rattle.world_spec.specs.Changes.{place}
-use Rattle.world_spec.specs.First.{first_world}
-use Rattle.world_spec.specs.StageOf.{stage_of}
-use Rattle.world_spec.specs.Value.{World, Totals, no_totals, totals_at}
-use Rattle.world_spec.proofs.First.{first-stage, replicated}
+use Rattle.world_spec.specs.{Adding.{Newcomer, add}, Changes.{place}, First.{first_world}, StageOf.{stage_of}}
+use Rattle.world_spec.{specs.Value.{World, Totals, no_totals, totals_at}, proofs.First.{first-stage, replicated}}
 use Rattle.cpu_sched.specs.Resched.{StaysBut}
 use Rattle.world_tests.specs.Steady.{AreUpTo, IsSteady, three_processors}
 

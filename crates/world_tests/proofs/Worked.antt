@@ -1,24 +1,14 @@
 -- What a line of work, and occurrences, find in a steady world, and what they leave of it.
 use Rattle.std.specs.Prelude.{◌≡◌, ℕ, zero, suc, ◌+◌, ◌^◌, ◌<◌, ◌≤◌, ◌==◌, max, Bool, true, false, ◌&&◌, All, List, [], ◌∷◌, fold, length, replicate, slice_index, slice_index_or, slice_set}
-use Rattle.std.proofs.Common.{arith, refl, sym, ap, subst, ◌∙◌, inl, inr}
-use Rattle.std.proofs.lemmas.Bool.{cases_eq}
-use Rattle.std.proofs.lemmas.Bool.Decides.{nat_tests}
-use Rattle.std.proofs.lemmas.List.{get_or-set_same, get_or-set_other}
-use Rattle.std.proofs.lemmas.List.Elements.{All-cons, All-head, All-nil, All-tail}
-use Rattle.perf_base.specs.declared.attr.Attr.{Attr}
+use Rattle.std.proofs.{Common.{arith, refl, sym, ap, subst, ◌∙◌, inl, inr}, lemmas.Bool.{cases_eq, Decides.{nat_tests}}}
+use Rattle.std.proofs.lemmas.List.{get_or-set_same, get_or-set_other, Elements.{All-cons, All-head, All-nil, All-tail}}
+use Rattle.perf_base.specs.declared.{attr.Attr.{Attr}, lines.Work.{Work}, numbers.{CpuNo.{CpuNo}, Key.{Key}}}
 use Rattle.perf_base.specs.declared.lines.CpuLine.TheVariants as line
 use Rattle.perf_base.specs.declared.lines.Mode.TheVariants as mode
-use Rattle.perf_base.specs.declared.lines.Work.{Work}
-use Rattle.perf_base.specs.declared.numbers.CpuNo.{CpuNo}
-use Rattle.perf_base.specs.declared.numbers.Key.{Key}
-use Rattle.stage_laws.specs.Bounds.{greatest, most_of_line}
-use Rattle.stage_laws.specs.Sound.{IsSound}
+use Rattle.stage_laws.specs.{Bounds.{greatest, most_of_line}, Sound.{IsSound}}
 use Rattle.stage_spec.specs.Limits.{IsMachine}
-use Rattle.world_spec.specs.Kept.{IsKept}
-use Rattle.world_spec.specs.Metering.{HasMeterRoom, IsWorked, add_each, add_hits, goes_along, is_metered}
-use Rattle.world_spec.specs.Shares.{HaveRoom}
-use Rattle.world_spec.specs.StageOf.{stage_of}
-use Rattle.world_spec.specs.Value.{World, Totals, instance_at, no_totals, totals_at}
+use Rattle.world_spec.specs.{Kept.{IsKept}, Metering.{HasMeterRoom, IsWorked, add_each, add_hits, goes_along, is_metered}, Shares.{HaveRoom}}
+use Rattle.world_spec.specs.{StageOf.{stage_of}, Value.{World, Totals, instance_at, no_totals, totals_at}}
 use Rattle.world_tests.specs.Steady.{AreUpTo, HasSlotRoom, IsSteady, three_processors}
 
 -- an event that samples does not count along totals

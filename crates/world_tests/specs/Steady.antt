@@ -3,9 +3,7 @@ use Rattle.std.specs.Prelude.{ℕ, ◌+◌, ◌^◌, ◌<◌, ◌≤◌, [], sli
 use Rattle.perf_base.specs.declared.numbers.CpuNo.{CpuNo}
 use Rattle.stage_spec.specs.Limits.{Limits, IsMachine}
 use Rattle.stage_laws.specs.Sound.{IsSound}
-use Rattle.world_spec.specs.Kept.{family_sums}
-use Rattle.world_spec.specs.StageOf.{stage_of}
-use Rattle.world_spec.specs.Value.{World, Totals, totals_at}
+use Rattle.world_spec.specs.{Kept.{family_sums}, StageOf.{stage_of}, Value.{World, Totals, totals_at}}
 
 -- lines of three processors and three hardware kinds, none of which speaks of a ring
 abbrev pub three_processors : Limits

@@ -1,6 +1,4 @@
-use Rattle.std.proofs.Common.{◌≡◌, ℕ, ◌+◌, ◌-◌, ◌^◌, not, ◌==◌, bit_and, arith}
-use Rattle.std.proofs.lemmas.Bool.Decides.{nat_tests}
-use Rattle.std.proofs.lemmas.Nat.{and-not, and_comm}
+use Rattle.std.proofs.{Common.{◌≡◌, ℕ, ◌+◌, ◌-◌, ◌^◌, not, ◌==◌, bit_and, arith}, lemmas.{Bool.Decides.{nat_tests}, Nat.{and-not, and_comm}}}
 use Rattle.attr_checks.proofs.is_beyond.Goals as goal
 
 -- a number is a known part and another, and all of it is known where the other is 0

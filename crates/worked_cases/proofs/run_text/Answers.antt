@@ -1,7 +1,5 @@
 use Rattle.std.proofs.Common.{◌≡◌, sym, subst, ◌∙◌}
-use Rattle.worked_cases.specs.Written.{IsReplayed}
-use Rattle.worked_cases.specs.Printed.{IsPrintedOf}
-use Rattle.worked_cases.proofs.Given.{is_done, as_expected}
+use Rattle.worked_cases.{specs.{Written.{IsReplayed}, Printed.{IsPrintedOf}}, proofs.Given.{is_done, as_expected}}
 use Rattle.worked_cases.proofs.run_text.Goals as goal
 
 pub returns : goal.returns

@@ -1,27 +1,13 @@
 -- That replies are the answers to the acts of a script's order, and how that is computed.
 use Rattle.std.specs.Prelude.{List, [], ◌∷◌}
-use Rattle.perf_base.specs.declared.reply.Reply.{Reply}
-use Rattle.perf_base.specs.Scripts.{Scripted}
-use Rattle.stage_spec.specs.Hardware.{Hardware, hardware_of}
-use Rattle.stage_spec.specs.Stage.{Stage, first_stage}
-use Rattle.stage_spec.specs.Fits.{fits, fits_beside, fits_below}
-use Rattle.stage_spec.specs.Tight.{tight_set, tight_after, shortest_unfit, unfit_after}
-use Rattle.stage_spec.specs.Verdict.{judge, judge_pass, judge_passes, verdicts}
-use Rattle.stage_spec.specs.Settle.{settle_pass, settle, settle_each, settle_all}
-use Rattle.stage_spec.specs.Opening.{open_refusal, opened}
-use Rattle.stage_spec.specs.Commands.{command_each, with_period}
-use Rattle.stage_spec.specs.Mapping.{mapped_to, output_to}
-use Rattle.stage_spec.specs.Closing.{closed}
-use Rattle.stage_spec.specs.Switching.{switched}
-use Rattle.stage_spec.specs.Rotation.{rotated}
-use Rattle.stage_spec.specs.Forks.{copies_from, copy_groups, forked}
-use Rattle.stage_spec.specs.Exits.{exited}
-use Rattle.stage_spec.specs.Reading.{read_words}
-use Rattle.stage_spec.specs.History.{Step, SeenStep, stage_step, steps_from, history, opening_stage}
-use Rattle.stage_spec.specs.Shares.{share}
-use Rattle.stage_spec.specs.Replies.{why_of, AreReplies}
-use Rattle.ring_spec.specs.Rings.{lost_count}
-use Rattle.ring_spec.specs.Running.{Running, first_record, record_after, record_of, AreRepliesBy}
+use Rattle.perf_base.specs.{declared.reply.Reply.{Reply}, Scripts.{Scripted}}
+use Rattle.stage_spec.specs.{Hardware.{Hardware, hardware_of}, Stage.{Stage, first_stage}, Fits.{fits, fits_beside, fits_below}}
+use Rattle.stage_spec.specs.{Tight.{tight_set, tight_after, shortest_unfit, unfit_after}, Verdict.{judge, judge_pass, judge_passes, verdicts}}
+use Rattle.stage_spec.specs.{Settle.{settle_pass, settle, settle_each, settle_all}, Opening.{open_refusal, opened}}
+use Rattle.stage_spec.specs.{Commands.{command_each, with_period}, Mapping.{mapped_to, output_to}, Closing.{closed}, Switching.{switched}}
+use Rattle.stage_spec.specs.{Rotation.{rotated}, Forks.{copies_from, copy_groups, forked}, Exits.{exited}, Reading.{read_words}}
+use Rattle.stage_spec.specs.{History.{Step, SeenStep, stage_step, steps_from, history, opening_stage}, Shares.{share}, Replies.{why_of, AreReplies}}
+use Rattle.ring_spec.specs.{Rings.{lost_count}, Running.{Running, first_record, record_after, record_of, AreRepliesBy}}
 use Rattle.ring_spec.proofs.Running.{replies_law}
 use Rattle.worked_theorems.proofs.Answering.{AnswerBy, answer_by}
 

@@ -1,16 +1,10 @@
 -- A test of whether counters are an assignment, and the answer to SEATS by that test.
-use Rattle.std.specs.Prelude.{◌≢◌, nat_eq}
+use Rattle.std.specs.{Prelude.{◌≢◌, nat_eq}, List.{list_any}}
 use Rattle.std.proofs.Common.{◌≡◌, ℕ, zero, suc, ◌<◌, Bool, true, false, not, ◌&&◌, List, [], ◌∷◌, map, length, get_or, refl, ap, arith}
-use Rattle.std.specs.List.{list_any}
 use Rattle.std.proofs.lemmas.Bool.{and_parts, not-true, or_parts, eqb-false}
-use Rattle.perf_base.specs.declared.numbers.CpuNo.{CpuNo}
-use Rattle.perf_base.specs.declared.numbers.EventNo.{EventNo}
-use Rattle.perf_base.specs.declared.reply.Reply.{Reply}
+use Rattle.perf_base.specs.declared.{numbers.{CpuNo.{CpuNo}, EventNo.{EventNo}}, reply.Reply.{Reply}}
 use Rattle.perf_base.specs.declared.reply.Reply.TheVariants as reply
-use Rattle.stage_spec.specs.Hardware.{Hardware, mask_of}
-use Rattle.stage_spec.specs.Stage.{Stage}
-use Rattle.stage_spec.specs.Fits.{can_count, IsAssignment}
-use Rattle.stage_spec.specs.Replies.{IsSeats, seated}
+use Rattle.stage_spec.specs.{Hardware.{Hardware, mask_of}, Stage.{Stage}, Fits.{can_count, IsAssignment}, Replies.{IsSeats, seated}}
 
 -- whether there is a counter for each event, one of its mask that no event behind it has
 abbrev pub is_assignment : List ℕ → List ℕ → Bool

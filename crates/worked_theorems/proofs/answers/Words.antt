@@ -1,19 +1,8 @@
 -- Short words for the terms of worked cases.
 use Rattle.std.specs.Prelude.{ℕ, ◌-◌, List, [], ◌++◌, map, length, replicate}
-use Rattle.perf_base.specs.declared.numbers.CpuNo.{CpuNo}
-use Rattle.perf_base.specs.declared.numbers.EventNo.{EventNo}
-use Rattle.perf_base.specs.declared.numbers.RingNo.{RingNo}
-use Rattle.perf_base.specs.declared.numbers.TaskNo.{TaskNo}
-use Rattle.perf_base.specs.declared.attr.Attr.{Attr}
-use Rattle.perf_base.specs.declared.attr.Kind.{Kind}
-use Rattle.perf_base.specs.declared.attr.TaskSel.{TaskSel}
-use Rattle.perf_base.specs.declared.attr.CpuSel.{CpuSel}
-use Rattle.perf_base.specs.declared.lines.PmuLine.{PmuLine}
-use Rattle.perf_base.specs.declared.lines.KindLine.{KindLine}
-use Rattle.perf_base.specs.declared.lines.Mode.{Mode}
-use Rattle.perf_base.specs.declared.lines.Work.{Work}
-use Rattle.perf_base.specs.declared.lines.ReaderLine.{ReaderLine}
-use Rattle.perf_base.specs.declared.acts.Act.{Act}
+use Rattle.perf_base.specs.declared.{numbers.{CpuNo.{CpuNo}, EventNo.{EventNo}, RingNo.{RingNo}, TaskNo.{TaskNo}}, attr.{Attr.{Attr}, Kind.{Kind}}}
+use Rattle.perf_base.specs.declared.{attr.{TaskSel.{TaskSel}, CpuSel.{CpuSel}}, lines.{PmuLine.{PmuLine}, KindLine.{KindLine}, Mode.{Mode}}}
+use Rattle.perf_base.specs.declared.{lines.{Work.{Work}, ReaderLine.{ReaderLine}}, acts.Act.{Act}}
 use Rattle.perf_base.specs.declared.acts.Act.TheVariants as act
 
 abbrev pub cpu : ℕ → CpuNo

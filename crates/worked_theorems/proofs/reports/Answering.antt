@@ -1,32 +1,16 @@
 -- That an order and replies answer a script and have this report, and how that is computed.
-use Rattle.std.specs.Prelude.{◌≡◌, ℕ, true, List, [], ◌∷◌}
-use Rattle.perf_base.specs.declared.reply.Reply.{Reply}
-use Rattle.perf_base.specs.Scripts.{Scripted}
-use Rattle.std.specs.Fmt.{digits}
-use Rattle.stage_spec.specs.Hardware.{Hardware, hardware_of}
-use Rattle.stage_spec.specs.Stage.{first_stage}
-use Rattle.stage_spec.specs.Fits.{fits, fits_beside, fits_below}
-use Rattle.stage_spec.specs.Tight.{tight_set, tight_after, shortest_unfit, unfit_after}
-use Rattle.stage_spec.specs.Verdict.{judge, judge_pass, judge_passes, verdicts}
-use Rattle.stage_spec.specs.Settle.{settle_pass, settle, settle_each, settle_all}
-use Rattle.stage_spec.specs.Opening.{open_refusal, opened}
-use Rattle.stage_spec.specs.Commands.{command_each, with_period}
-use Rattle.stage_spec.specs.Mapping.{mapped_to, output_to}
-use Rattle.stage_spec.specs.Closing.{closed}
-use Rattle.stage_spec.specs.Switching.{switched}
-use Rattle.stage_spec.specs.Rotation.{rotated}
-use Rattle.stage_spec.specs.Forks.{copies_from, copy_groups, forked}
-use Rattle.stage_spec.specs.Exits.{exited}
-use Rattle.stage_spec.specs.Reading.{read_words}
-use Rattle.stage_spec.specs.History.{Step, SeenStep, stage_step, steps_from, history, opening_stage}
-use Rattle.stage_spec.specs.Shares.{share}
-use Rattle.stage_spec.specs.Occurrences.{left_after, overflows}
-use Rattle.stage_spec.specs.Replies.{why_of}
+use Rattle.std.specs.{Prelude.{◌≡◌, ℕ, true, List, [], ◌∷◌}, Fmt.{digits}}
+use Rattle.perf_base.specs.{declared.reply.Reply.{Reply}, Scripts.{Scripted}}
+use Rattle.stage_spec.specs.{Hardware.{Hardware, hardware_of}, Stage.{first_stage}, Fits.{fits, fits_beside, fits_below}}
+use Rattle.stage_spec.specs.{Tight.{tight_set, tight_after, shortest_unfit, unfit_after}, Verdict.{judge, judge_pass, judge_passes, verdicts}}
+use Rattle.stage_spec.specs.{Settle.{settle_pass, settle, settle_each, settle_all}, Opening.{open_refusal, opened}}
+use Rattle.stage_spec.specs.{Commands.{command_each, with_period}, Mapping.{mapped_to, output_to}, Closing.{closed}, Switching.{switched}}
+use Rattle.stage_spec.specs.{Rotation.{rotated}, Forks.{copies_from, copy_groups, forked}, Exits.{exited}, Reading.{read_words}}
+use Rattle.stage_spec.specs.{History.{Step, SeenStep, stage_step, steps_from, history, opening_stage}, Shares.{share}}
+use Rattle.stage_spec.specs.{Occurrences.{left_after, overflows}, Replies.{why_of}}
 use Rattle.report_spec.specs.Report.{report, hexadecimal_digits, record_lines}
 use Rattle.ring_spec.specs.Running.{Running, first_record, record_after}
-use Rattle.worked_theorems.proofs.Answering.{AnswerBy, answer_by}
-use Rattle.worked_theorems.proofs.Answered.{RunRings, look_ok}
-use Rattle.worked_theorems.proofs.Whole.{IsWorked, EndsAs, is_filled, worked}
+use Rattle.worked_theorems.proofs.{Answering.{AnswerBy, answer_by}, Answered.{RunRings, look_ok}, Whole.{IsWorked, EndsAs, is_filled, worked}}
 
 -- Each step answered at what those before it leave.
 AnswersBy : Hardware → (Running → Type 0) → Running → List Step → List Reply → Type 0

@@ -1,30 +1,15 @@
 -- That a look of an order is the first that is not lawful, and how that is computed.
 use Rattle.std.specs.Prelude.{◌≡◌, ℕ, List, [], take, slice_get, Some}
-use Rattle.perf_base.specs.declared.numbers.RingNo.{RingNo}
-use Rattle.perf_base.specs.declared.acts.Act.{Act}
+use Rattle.perf_base.specs.{declared.{numbers.RingNo.{RingNo}, acts.Act.{Act}}, Scripts.{Scripted}}
 use Rattle.perf_base.specs.declared.acts.Act.TheVariants as act
-use Rattle.perf_base.specs.Scripts.{Scripted}
-use Rattle.stage_spec.specs.Hardware.{hardware_of}
-use Rattle.stage_spec.specs.Stage.{first_stage}
-use Rattle.stage_spec.specs.Fits.{fits, fits_beside, fits_below}
-use Rattle.stage_spec.specs.Tight.{tight_set, tight_after, shortest_unfit, unfit_after}
-use Rattle.stage_spec.specs.Verdict.{judge, judge_pass, judge_passes, verdicts}
-use Rattle.stage_spec.specs.Settle.{settle_pass, settle, settle_each, settle_all}
-use Rattle.stage_spec.specs.Opening.{open_refusal, opened}
-use Rattle.stage_spec.specs.Commands.{command_each, with_period}
-use Rattle.stage_spec.specs.Mapping.{mapped_to, output_to}
-use Rattle.stage_spec.specs.Closing.{closed}
-use Rattle.stage_spec.specs.Switching.{switched}
-use Rattle.stage_spec.specs.Rotation.{rotated}
-use Rattle.stage_spec.specs.Forks.{copies_from, copy_groups, forked}
-use Rattle.stage_spec.specs.Exits.{exited}
-use Rattle.stage_spec.specs.Reading.{read_words}
-use Rattle.stage_spec.specs.History.{stage_step, steps_from, history, opening_stage}
-use Rattle.stage_spec.specs.Shares.{share}
-use Rattle.stage_spec.specs.Occurrences.{left_after, overflows}
+use Rattle.stage_spec.specs.{Hardware.{hardware_of}, Stage.{first_stage}, Fits.{fits, fits_beside, fits_below}}
+use Rattle.stage_spec.specs.{Tight.{tight_set, tight_after, shortest_unfit, unfit_after}, Verdict.{judge, judge_pass, judge_passes, verdicts}}
+use Rattle.stage_spec.specs.{Settle.{settle_pass, settle, settle_each, settle_all}, Opening.{open_refusal, opened}}
+use Rattle.stage_spec.specs.{Commands.{command_each, with_period}, Mapping.{mapped_to, output_to}, Closing.{closed}, Switching.{switched}}
+use Rattle.stage_spec.specs.{Rotation.{rotated}, Forks.{copies_from, copy_groups, forked}, Exits.{exited}, Reading.{read_words}}
+use Rattle.stage_spec.specs.{History.{stage_step, steps_from, history, opening_stage}, Shares.{share}, Occurrences.{left_after, overflows}}
 use Rattle.report_spec.specs.Answers.{taken_from}
-use Rattle.ring_spec.specs.Running.{Running, first_record}
-use Rattle.ring_spec.proofs.Running.{kept-first}
+use Rattle.ring_spec.{specs.Running.{Running, first_record}, proofs.Running.{kept-first}}
 use Rattle.worked_theorems.proofs.Unlawful.{IsUnlawfulLook, RunLooks, AllLooks, EndsUnlawful, run_looks, unlawful_look}
 
 -- The looks of some acts of a script, one by one, and something said of the end. Where this is unfolded, so is all that

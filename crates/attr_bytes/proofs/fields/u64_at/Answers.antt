@@ -1,5 +1,4 @@
-use Rattle.std.proofs.Common.{◌∙◌}
-use Rattle.std.proofs.lemmas.List.{take_rest}
+use Rattle.std.proofs.{Common.{◌∙◌}, lemmas.List.{take_rest}}
 use Rattle.attr_bytes.proofs.Numbers.{number_at-drop}
 use Rattle.attr_bytes.proofs.fields.u64_at.Goals as goal
 

@@ -1,5 +1,4 @@
-use Rattle.std.proofs.Common.{◌∙◌, ap, sym}
-use Rattle.std.proofs.lemmas.Option.{none-some}
+use Rattle.std.proofs.{Common.{◌∙◌, ap, sym}, lemmas.Option.{none-some}}
 use Rattle.attr_bytes.specs.Flags.{flags_of_word}
 use Rattle.attr_bytes.proofs.Laws.{IsFramed-none, none-IsFramed, none-AreFieldsRead, StandsFor-IsFramed, stands_from_fields}
 use Rattle.attr_bytes.proofs.reading.read_attr.Goals as goal

@@ -1,6 +1,5 @@
 use Rattle.std.proofs.Common.{rules}
-use Rattle.attr_bytes.proofs.Laws.{IsWritten-StandsFor}
-use Rattle.attr_bytes.proofs.Numbers.{zero_end}
+use Rattle.attr_bytes.proofs.{Laws.{IsWritten-StandsFor}, Numbers.{zero_end}}
 use Rattle.attr_bytes.proofs.writing.attr_words.Goals as goal
 
 pub returns-clause-stands : goal.returns-clause-stands

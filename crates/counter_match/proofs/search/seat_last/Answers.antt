@@ -1,9 +1,7 @@
-use Rattle.std.proofs.Common.{arith, ◌≡◌, ℕ, ◌-◌, ◌∙◌, ap, sym, length, get_or, map, take, subst}
-use Rattle.std.proofs.lemmas.List.{length-map}
+use Rattle.std.proofs.{Common.{arith, ◌≡◌, ℕ, ◌-◌, ◌∙◌, ap, sym, length, get_or, map, take, subst}, lemmas.List.{length-map}}
 use Rattle.perf_base.specs.declared.numbers.EventNo.{EventNo}
 use Rattle.stage_spec.specs.Tight.{masks_of}
-use Rattle.counter_match.specs.Search.{SeatsAllBut}
-use Rattle.counter_match.proofs.Tightness.{unfit, tight_set-picked}
+use Rattle.counter_match.{specs.Search.{SeatsAllBut}, proofs.Tightness.{unfit, tight_set-picked}}
 use Rattle.counter_match.proofs.search.seat_last.Goals as goal
 
 pub returns-in-None-clause-unfit : goal.returns-in-None-clause-unfit

@@ -1,10 +1,7 @@
-use Rattle.std.specs.Prelude.{All}
-use Rattle.std.proofs.Common.{ℕ, ◌-◌, ◌∙◌, ap, sym, subst, List, ◌++◌, length, take, drop}
-use Rattle.perf_base.specs.declared.numbers.EventNo.{EventNo}
+use Rattle.std.{specs.Prelude.{All}, proofs.Common.{ℕ, ◌-◌, ◌∙◌, ap, sym, subst, List, ◌++◌, length, take, drop}}
+use Rattle.perf_base.specs.{declared.numbers.EventNo.{EventNo}, Masks.{IsMask}}
 use Rattle.stage_spec.specs.Tight.{masks_of}
-use Rattle.perf_base.specs.Masks.{IsMask}
-use Rattle.counter_match.specs.Seating.{AreDistinct}
-use Rattle.counter_match.proofs.Trials.{AreDistinct-take, masks-take, masks-part}
+use Rattle.counter_match.{specs.Seating.{AreDistinct}, proofs.Trials.{AreDistinct-take, masks-take, masks-part}}
 use Rattle.counter_match.proofs.tests.agrees.Goals as goal
 
 pub try_add-requires-clause-distinct : goal.try_add-requires-clause-distinct

@@ -1,5 +1,4 @@
-use Rattle.std.proofs.Common.{arith}
-use Rattle.std.proofs.Math.Pow.{pow-lt}
+use Rattle.std.proofs.{Common.{arith}, Math.Pow.{pow-lt}}
 use Rattle.counter_match.proofs.tests.mask_by.Goals as goal
 
 pub returns-then-mask-counters-ne0 : goal.returns-then-mask-counters-ne0

@@ -1,5 +1,4 @@
-use Rattle.std.specs.Prelude.{All}
-use Rattle.std.proofs.Common.{◌≡◌, length}
+use Rattle.std.{specs.Prelude.{All}, proofs.Common.{◌≡◌, length}}
 use Rattle.perf_base.specs.Masks.{IsMask}
 use Rattle.counter_match.proofs.tests.masks_by.Given as goal
 

@@ -1,5 +1,4 @@
-use Rattle.std.specs.Prelude.{All}
-use Rattle.std.proofs.Common.{◌≡◌, ◌<◌}
+use Rattle.std.{specs.Prelude.{All}, proofs.Common.{◌≡◌, ◌<◌}}
 use Rattle.counter_match.proofs.tests.told.Given as goal
 
 abbrev pub invariant-loop-slot : goal.invariant-loop-slot

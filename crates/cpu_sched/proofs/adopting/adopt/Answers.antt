@@ -1,10 +1,6 @@
 use Rattle.std.proofs.Common.{arith, ◌∙◌, ap, sym, subst}
-use Rattle.stage_spec.specs.Hardware.{Hardware}
-use Rattle.stage_spec.specs.Settle.{settle}
-use Rattle.world_spec.specs.Kept.{IsKept}
-use Rattle.world_spec.specs.Rescheduled.{IsRescheduled}
-use Rattle.world_spec.specs.StageOf.{stage_of}
-use Rattle.world_spec.specs.Value.{World}
+use Rattle.stage_spec.specs.{Hardware.{Hardware}, Settle.{settle}}
+use Rattle.world_spec.specs.{Kept.{IsKept}, Rescheduled.{IsRescheduled}, StageOf.{stage_of}, Value.{World}}
 use Rattle.world_spec.proofs.Rescheduling.{fail-stage, fail-rescheduled}
 use Rattle.cpu_sched.proofs.Staying.{stays-but, others-stay}
 use Rattle.cpu_sched.proofs.adopting.adopt.Goals as goal

@@ -1,13 +1,8 @@
 use Rattle.std.proofs.Common.{arith, ◌≡◌, ◌∙◌, ◌<◌, [], List, length, ap, sym, slice_index_or}
 use Rattle.perf_base.specs.declared.numbers.Key.{Key}
 use Rattle.perf_base.specs.declared.standing.Standing.TheVariants as standing
-use Rattle.world_spec.specs.Changes.{set_standing}
-use Rattle.world_spec.specs.Listings.{pass_leaders}
-use Rattle.world_spec.specs.Value.{World, entry_at, is_live, is_key}
-use Rattle.world_spec.proofs.Moving.{leads-parts}
-use Rattle.cpu_sched.specs.Adopting.{with_standings}
-use Rattle.cpu_sched.proofs.Passing.{leads-at}
-use Rattle.cpu_sched.proofs.Told.{out-next}
+use Rattle.world_spec.{specs.{Changes.{set_standing}, Listings.{pass_leaders}, Value.{World, entry_at, is_live, is_key}}, proofs.Moving.{leads-parts}}
+use Rattle.cpu_sched.{specs.Adopting.{with_standings}, proofs.{Passing.{leads-at}, Told.{out-next}}}
 use Rattle.cpu_sched.proofs.adopting.clear_pass.Goals as goal
 
 pub leaders-requires-clause-cpu : goal.leaders-requires-clause-cpu

@@ -1,12 +1,7 @@
 use Rattle.std.proofs.Common.{arith, ◌≡◌, ℕ, ◌∙◌, ◌<◌, ◌++◌, [], List, All, length, ap, sym, subst, true, slice_index_or}
-use Rattle.perf_base.specs.declared.numbers.CpuNo.{CpuNo}
-use Rattle.perf_base.specs.declared.numbers.Key.{Key}
-use Rattle.world_spec.specs.Changes.{with_seats}
-use Rattle.world_spec.specs.Listings.{pass_leaders}
-use Rattle.world_spec.specs.Value.{World, is_live, seats_at}
-use Rattle.cpu_sched.specs.Adopting.{with_standings, told_standings, out_standings}
-use Rattle.cpu_sched.specs.Briefs.{present_brief}
-use Rattle.cpu_sched.specs.Plans.{IsPlanOf}
+use Rattle.perf_base.specs.declared.numbers.{CpuNo.{CpuNo}, Key.{Key}}
+use Rattle.world_spec.specs.{Changes.{with_seats}, Listings.{pass_leaders}, Value.{World, is_live, seats_at}}
+use Rattle.cpu_sched.specs.{Adopting.{with_standings, told_standings, out_standings}, Briefs.{present_brief}, Plans.{IsPlanOf}}
 use Rattle.cpu_sched.proofs.Adopted.{TookOver, adopted-judged, adopted-others, out-then, planned-live, took-over}
 use Rattle.cpu_sched.proofs.adopting.take_over.Goals as goal
 

@@ -1,12 +1,7 @@
-use Rattle.std.proofs.Common.{arith, ◌≡◌, ◌∙◌, true, ap, sym, subst, slice_index_or}
-use Rattle.std.proofs.lemmas.List.{get_or-map, length-map}
-use Rattle.perf_base.specs.declared.numbers.Key.{Key}
-use Rattle.perf_base.specs.declared.standing.Standing.{Standing}
-use Rattle.world_spec.specs.Changes.{set_standing}
-use Rattle.world_spec.specs.Value.{World, is_live}
-use Rattle.cpu_sched.specs.Adopting.{with_standings}
-use Rattle.cpu_sched.specs.declared.plan.Verdict.{Verdict}
-use Rattle.cpu_sched.proofs.Told.{told-next}
+use Rattle.std.proofs.{Common.{arith, ◌≡◌, ◌∙◌, true, ap, sym, subst, slice_index_or}, lemmas.List.{get_or-map, length-map}}
+use Rattle.perf_base.specs.declared.{numbers.Key.{Key}, standing.Standing.{Standing}}
+use Rattle.world_spec.specs.{Changes.{set_standing}, Value.{World, is_live}}
+use Rattle.cpu_sched.{specs.{Adopting.{with_standings}, declared.plan.Verdict.{Verdict}}, proofs.Told.{told-next}}
 use Rattle.cpu_sched.proofs.adopting.tell_standings.Goals as goal
 
 pub set_standing-requires : goal.set_standing-requires

@@ -1,6 +1,5 @@
 use Rattle.std.proofs.Common.{◌≡◌, take}
-use Rattle.cpu_sched.specs.Adopting.{with_standings, told_standings}
-use Rattle.cpu_sched.specs.Plans.{told_by}
+use Rattle.cpu_sched.specs.{Adopting.{with_standings, told_standings}, Plans.{told_by}}
 use Rattle.cpu_sched.proofs.adopting.tell_standings.Given as goal
 
 abbrev pub invariant-loop-told : goal.invariant-loop-told

@@ -1,16 +1,9 @@
-use Rattle.std.proofs.Common.{arith, ◌≡◌, ◌<◌, ◌≤◌, ◌∙◌, true, [], ◌∷◌, All, refl, sym, subst, cond, map, length}
-use Rattle.std.proofs.lemmas.List.Elements.{All-cons}
-use Rattle.perf_base.specs.declared.numbers.CpuNo.{CpuNo}
-use Rattle.perf_base.specs.declared.numbers.Key.{Key}
-use Rattle.stage_spec.specs.Effective.{counted_members}
-use Rattle.stage_spec.specs.Hardware.{counters_of}
-use Rattle.stage_spec.specs.Tight.{masks_of}
-use Rattle.stage_spec.specs.Verdict.{is_eligible, with_masks}
+use Rattle.std.proofs.{Common.{arith, ◌≡◌, ◌<◌, ◌≤◌, ◌∙◌, true, [], ◌∷◌, All, refl, sym, subst, cond, map, length}, lemmas.List.Elements.{All-cons}}
+use Rattle.perf_base.specs.declared.numbers.{CpuNo.{CpuNo}, Key.{Key}}
+use Rattle.stage_spec.specs.{Effective.{counted_members}, Hardware.{counters_of}, Tight.{masks_of}, Verdict.{is_eligible, with_masks}}
 use Rattle.stage_laws.specs.Briefs.{GroupBrief}
-use Rattle.world_spec.specs.StageOf.{group_at}
-use Rattle.world_spec.specs.Value.{World}
-use Rattle.cpu_sched.specs.Briefs.{brief_at, IsGroupBrief}
-use Rattle.cpu_sched.proofs.Briefs.{software-uncounted, group-fits}
+use Rattle.world_spec.specs.{StageOf.{group_at}, Value.{World}}
+use Rattle.cpu_sched.{specs.Briefs.{brief_at, IsGroupBrief}, proofs.Briefs.{software-uncounted, group-fits}}
 use Rattle.cpu_sched.proofs.brief.add_eligible.Goals as goal
 
 pub returns-clause-sound : goal.returns-clause-sound

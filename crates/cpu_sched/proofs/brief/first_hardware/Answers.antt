@@ -1,7 +1,5 @@
-use Rattle.std.proofs.Common.{◌≡◌, ◌∙◌, true, All, ap, sym, subst}
-use Rattle.std.proofs.lemmas.List.{take_all}
-use Rattle.cpu_sched.specs.declared.group_brief.GroupBrief.{GroupBrief as Stored}
-use Rattle.cpu_sched.proofs.Turned.{at-any, goes-at, goes-nowhere, software-next}
+use Rattle.std.proofs.{Common.{◌≡◌, ◌∙◌, true, All, ap, sym, subst}, lemmas.List.{take_all}}
+use Rattle.cpu_sched.{specs.declared.group_brief.GroupBrief.{GroupBrief as Stored}, proofs.Turned.{at-any, goes-at, goes-nowhere, software-next}}
 use Rattle.cpu_sched.proofs.brief.first_hardware.Goals as goal
 
 pub returns-then-not-groups-place-clause-some : goal.returns-then-not-groups-place-clause-some

@@ -1,16 +1,10 @@
-use Rattle.std.proofs.Common.{arith, ◌≡◌, ℕ, ◌++◌, ◌∙◌, [], ◌∷◌, List, length, map, ap, sym, take, slice_index_or}
-use Rattle.std.proofs.lemmas.Bool.{false≢true}
+use Rattle.std.proofs.{Common.{arith, ◌≡◌, ℕ, ◌++◌, ◌∙◌, [], ◌∷◌, List, length, map, ap, sym, take, slice_index_or}, lemmas.Bool.{false≢true}}
 use Rattle.std.proofs.lemmas.List.{length-map, length-take, take_all}
-use Rattle.perf_base.specs.declared.numbers.CpuNo.{CpuNo}
-use Rattle.perf_base.specs.declared.numbers.Key.{Key}
+use Rattle.perf_base.specs.declared.numbers.{CpuNo.{CpuNo}, Key.{Key}}
 use Rattle.stage_laws.specs.Briefs.{GroupBrief}
-use Rattle.world_spec.specs.Listings.{pass_leaders}
-use Rattle.world_spec.specs.Value.{World}
-use Rattle.cpu_sched.specs.declared.group_brief.GroupBrief.{GroupBrief as Stored}
-use Rattle.cpu_sched.specs.Briefs.{seen, briefs_at}
-use Rattle.cpu_sched.proofs.Bounded.{briefs-split}
-use Rattle.cpu_sched.proofs.Judged.{same-number, is-number}
-use Rattle.cpu_sched.proofs.Passing.{leads-at}
+use Rattle.world_spec.specs.{Listings.{pass_leaders}, Value.{World}}
+use Rattle.cpu_sched.{specs.{declared.group_brief.GroupBrief.{GroupBrief as Stored}, Briefs.{seen, briefs_at}}, proofs.Bounded.{briefs-split}}
+use Rattle.cpu_sched.proofs.{Judged.{same-number, is-number}, Passing.{leads-at}}
 use Rattle.cpu_sched.proofs.brief.is_pass.Goals as goal
 
 pub meet-requires-clause-leads : goal.meet-requires-clause-leads

@@ -1,11 +1,8 @@
-use Rattle.std.proofs.Common.{arith, ◌≡◌, ◌++◌, ◌∙◌, true, [], ◌∷◌, ap, sym, cond, map, take}
-use Rattle.std.proofs.lemmas.Bool.{false≢true}
+use Rattle.std.proofs.{Common.{arith, ◌≡◌, ◌++◌, ◌∙◌, true, [], ◌∷◌, ap, sym, cond, map, take}, lemmas.Bool.{false≢true}}
 use Rattle.perf_base.specs.declared.numbers.Key.{Key}
 use Rattle.stage_spec.specs.Verdict.{is_eligible}
-use Rattle.world_spec.specs.StageOf.{group_at}
-use Rattle.world_spec.specs.Value.{World}
-use Rattle.cpu_sched.specs.Briefs.{seen, brief_at, briefs_at}
-use Rattle.cpu_sched.proofs.Same.{next-met}
+use Rattle.world_spec.specs.{StageOf.{group_at}, Value.{World}}
+use Rattle.cpu_sched.{specs.Briefs.{seen, brief_at, briefs_at}, proofs.Same.{next-met}}
 use Rattle.cpu_sched.proofs.brief.meet.Goals as goal
 
 pub returns-then-not-same_group-clause-none : goal.returns-then-not-same_group-clause-none

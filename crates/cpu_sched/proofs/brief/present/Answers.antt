@@ -2,8 +2,7 @@ use Rattle.std.proofs.Common.{arith, ◌≡◌, ◌∙◌, [], ◌∷◌, ap, sy
 use Rattle.perf_base.specs.declared.numbers.CpuNo.{CpuNo}
 use Rattle.stage_spec.specs.Hardware.{counters_of}
 use Rattle.world_spec.specs.Value.{World}
-use Rattle.cpu_sched.specs.Briefs.{brief_seen, present_brief, IsBrief}
-use Rattle.cpu_sched.proofs.Bounded.{present-sound}
+use Rattle.cpu_sched.{specs.Briefs.{brief_seen, present_brief, IsBrief}, proofs.Bounded.{present-sound}}
 use Rattle.cpu_sched.proofs.brief.present.Goals as goal
 
 pub invariant_of-into : goal.invariant_of-into

@@ -1,7 +1,5 @@
-use Rattle.std.proofs.Common.{arith, ◌∙◌, ap, sym}
-use Rattle.std.proofs.lemmas.Bool.{false≢true}
-use Rattle.cpu_sched.specs.Briefs.{seen}
-use Rattle.cpu_sched.proofs.Same.{at-place}
+use Rattle.std.proofs.{Common.{arith, ◌∙◌, ap, sym}, lemmas.Bool.{false≢true}}
+use Rattle.cpu_sched.{specs.Briefs.{seen}, proofs.Same.{at-place}}
 use Rattle.cpu_sched.proofs.brief.same_groups.Goals as goal
 
 pub returns-then-not-same_group : goal.returns-then-not-same_group

@@ -1,6 +1,5 @@
 use Rattle.std.proofs.Common.{◌≡◌, drop, map}
-use Rattle.cpu_sched.specs.After.{some_wait}
-use Rattle.cpu_sched.specs.Briefs.{seen}
+use Rattle.cpu_sched.specs.{After.{some_wait}, Briefs.{seen}}
 use Rattle.cpu_sched.proofs.brief.some_waits.Given as goal
 
 abbrev pub invariant-loop-group : goal.invariant-loop-group

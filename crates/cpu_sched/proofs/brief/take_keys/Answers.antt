@@ -1,14 +1,10 @@
-use Rattle.std.proofs.Common.{arith, ◌≡◌, ◌+◌, ◌∙◌, ◌++◌, [], ◌∷◌, List, All, ap, sym, subst, take, slice_index_or}
-use Rattle.std.proofs.lemmas.List.{take_all}
+use Rattle.std.proofs.{Common.{arith, ◌≡◌, ◌+◌, ◌∙◌, ◌++◌, [], ◌∷◌, List, All, ap, sym, subst, take, slice_index_or}, lemmas.List.{take_all}}
 use Rattle.std.proofs.lemmas.List.Elements.{All-append}
-use Rattle.perf_base.specs.declared.numbers.CpuNo.{CpuNo}
-use Rattle.perf_base.specs.declared.numbers.Key.{Key}
+use Rattle.perf_base.specs.declared.numbers.{CpuNo.{CpuNo}, Key.{Key}}
 use Rattle.stage_spec.specs.Hardware.{counters_of}
 use Rattle.stage_laws.specs.Briefs.{GroupBrief}
 use Rattle.world_spec.specs.Value.{World}
-use Rattle.cpu_sched.specs.Briefs.{briefs_at, IsGroupBrief}
-use Rattle.cpu_sched.proofs.Bounded.{briefs-append}
-use Rattle.cpu_sched.proofs.Retold.{next-key}
+use Rattle.cpu_sched.{specs.Briefs.{briefs_at, IsGroupBrief}, proofs.{Bounded.{briefs-append}, Retold.{next-key}}}
 use Rattle.cpu_sched.proofs.brief.take_keys.Goals as goal
 
 pub add_eligible-requires-clause-leads : goal.add_eligible-requires-clause-leads

@@ -1,8 +1,6 @@
 use Rattle.std.proofs.Common.{arith, All, length, ap, subst}
 use Rattle.stage_spec.specs.Hardware.{counters_of}
-use Rattle.cpu_sched.specs.Briefs.{briefs_at, IsGroupBrief}
-use Rattle.cpu_sched.proofs.Bounded.{pass-few}
-use Rattle.cpu_sched.proofs.Passing.{leads-at}
+use Rattle.cpu_sched.{specs.Briefs.{briefs_at, IsGroupBrief}, proofs.{Bounded.{pass-few}, Passing.{leads-at}}}
 use Rattle.cpu_sched.proofs.brief.take_pass.Goals as goal
 
 pub take_keys-requires-clause-leads : goal.take_keys-requires-clause-leads

@@ -1,11 +1,7 @@
 use Rattle.std.proofs.Common.{arith, ◌≡◌, true, All, length, ap, sym, subst, slice_index_or}
 use Rattle.stage_spec.specs.Hardware.{counters_of}
-use Rattle.world_spec.specs.Copying.{leaders_in}
-use Rattle.world_spec.specs.Kept.{leads, post_at}
-use Rattle.world_spec.specs.Listings.{task_leaders}
-use Rattle.world_spec.proofs.Copies.{times-at}
-use Rattle.cpu_sched.specs.Briefs.{briefs_at, IsGroupBrief}
-use Rattle.cpu_sched.proofs.Lone.{task-few, task-leads}
+use Rattle.world_spec.{specs.{Copying.{leaders_in}, Kept.{leads, post_at}, Listings.{task_leaders}}, proofs.Copies.{times-at}}
+use Rattle.cpu_sched.{specs.Briefs.{briefs_at, IsGroupBrief}, proofs.Lone.{task-few, task-leads}}
 use Rattle.cpu_sched.proofs.brief.take_task.Goals as goal
 
 pub take_keys-requires-clause-leads : goal.take_keys-requires-clause-leads

@@ -2,9 +2,7 @@ use Rattle.std.proofs.Common.{arith, ◌≡◌, ◌∙◌, [], ◌∷◌, ap, sy
 use Rattle.perf_base.specs.declared.numbers.CpuNo.{CpuNo}
 use Rattle.stage_spec.specs.Hardware.{counters_of}
 use Rattle.world_spec.specs.Value.{World}
-use Rattle.cpu_sched.specs.After.{brief_with}
-use Rattle.cpu_sched.specs.Briefs.{brief_seen, IsBrief}
-use Rattle.cpu_sched.proofs.Lone.{with-sound}
+use Rattle.cpu_sched.{specs.{After.{brief_with}, Briefs.{brief_seen, IsBrief}}, proofs.Lone.{with-sound}}
 use Rattle.cpu_sched.proofs.brief.with_task.Goals as goal
 
 pub invariant_of-into : goal.invariant_of-into

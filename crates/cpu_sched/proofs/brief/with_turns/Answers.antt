@@ -1,13 +1,9 @@
 use Rattle.std.proofs.Common.{arith, ◌≡◌, ◌∙◌, [], ◌∷◌, ap, sym, subst, slice_index_or}
 use Rattle.perf_base.specs.declared.numbers.CpuNo.{CpuNo}
 use Rattle.stage_spec.specs.Hardware.{counters_of}
-use Rattle.world_spec.specs.Listings.{pass_leaders}
-use Rattle.world_spec.specs.Value.{World}
-use Rattle.cpu_sched.specs.After.{turned_brief, turned_groups}
-use Rattle.cpu_sched.specs.Briefs.{brief_seen, briefs_at, present_brief, IsBrief}
-use Rattle.cpu_sched.proofs.Bounded.{present-sound}
-use Rattle.cpu_sched.proofs.Passing.{pass-leads}
-use Rattle.cpu_sched.proofs.Turned.{live-items, turned-sound}
+use Rattle.world_spec.specs.{Listings.{pass_leaders}, Value.{World}}
+use Rattle.cpu_sched.specs.{After.{turned_brief, turned_groups}, Briefs.{brief_seen, briefs_at, present_brief, IsBrief}}
+use Rattle.cpu_sched.proofs.{Bounded.{present-sound}, Passing.{pass-leads}, Turned.{live-items, turned-sound}}
 use Rattle.cpu_sched.proofs.brief.with_turns.Goals as goal
 
 pub turn-requires : goal.turn-requires

@@ -1,8 +1,6 @@
 use Rattle.std.proofs.Common.{◌≡◌, ◌∙◌, true, ap}
 use Rattle.perf_base.specs.declared.standing.Own.TheVariants as own
-use Rattle.world_spec.specs.Value.{is_live, entry_at, instance_at, is_key}
-use Rattle.world_spec.proofs.Moving.{leads-parts}
-use Rattle.world_spec.proofs.Tables.{live-written}
+use Rattle.world_spec.{specs.Value.{is_live, entry_at, instance_at, is_key}, proofs.{Moving.{leads-parts}, Tables.{live-written}}}
 use Rattle.cpu_sched.proofs.failing.fail.Goals as goal
 
 pub set_standing-requires : goal.set_standing-requires

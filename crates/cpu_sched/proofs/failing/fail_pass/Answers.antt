@@ -1,8 +1,6 @@
 use Rattle.std.proofs.Common.{arith, ◌≡◌, ◌∙◌, ◌<◌, [], List, length, ap, take, slice_index_or}
 use Rattle.perf_base.specs.declared.numbers.Key.{Key}
-use Rattle.world_spec.specs.Listings.{pass_leaders}
-use Rattle.world_spec.specs.Rescheduled.{fail_group}
-use Rattle.world_spec.specs.Value.{World}
+use Rattle.world_spec.specs.{Listings.{pass_leaders}, Rescheduled.{fail_group}, Value.{World}}
 use Rattle.cpu_sched.proofs.Passing.{failed-list, failed-running, leads-at, failed-next}
 use Rattle.cpu_sched.proofs.failing.fail_pass.Goals as goal
 

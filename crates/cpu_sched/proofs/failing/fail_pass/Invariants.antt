@@ -1,6 +1,5 @@
 use Rattle.std.proofs.Common.{◌≡◌, [], take, slice_index_or}
-use Rattle.world_spec.specs.Listings.{pass_leaders}
-use Rattle.world_spec.specs.Rescheduled.{fail_groups}
+use Rattle.world_spec.specs.{Listings.{pass_leaders}, Rescheduled.{fail_groups}}
 use Rattle.cpu_sched.proofs.failing.fail_pass.Given as goal
 
 abbrev pub invariant-loop-place : goal.invariant-loop-place

@@ -1,7 +1,5 @@
 use Rattle.std.proofs.Common.{arith, ◌∙◌, [], length, ap, slice_index_or}
-use Rattle.world_spec.specs.Listings.{pass_leaders}
-use Rattle.world_spec.specs.Rescheduled.{fail_groups}
-use Rattle.world_spec.specs.Value.{World}
+use Rattle.world_spec.specs.{Listings.{pass_leaders}, Rescheduled.{fail_groups}, Value.{World}}
 use Rattle.cpu_sched.proofs.Passing.{failed-passes, failed-running, failed-both}
 use Rattle.cpu_sched.proofs.failing.fail_refused.Goals as goal
 

@@ -1,7 +1,5 @@
 use Rattle.std.proofs.Common.{◌≡◌, ◌<◌, ◌≤◌, ◌&&◌, All, filter, length, map, take}
-use Rattle.stage_spec.specs.Effective.{is_ready, is_hardware}
-use Rattle.stage_spec.specs.Tight.{masks_of}
-use Rattle.stage_spec.specs.Verdict.{with_masks}
+use Rattle.stage_spec.specs.{Effective.{is_ready, is_hardware}, Tight.{masks_of}, Verdict.{with_masks}}
 use Rattle.world_spec.specs.Value.{instance_at}
 use Rattle.cpu_sched.proofs.group_brief.counted_among.Given as goal
 

@@ -1,6 +1,5 @@
 use Rattle.std.proofs.Common.{arith, ◌∙◌, ◌<◌, length, sym}
-use Rattle.world_spec.specs.StageOf.{group_at}
-use Rattle.world_spec.specs.Value.{seats_at}
+use Rattle.world_spec.specs.{StageOf.{group_at}, Value.{seats_at}}
 use Rattle.cpu_sched.proofs.Briefs.{software-uncounted, group-fits}
 use Rattle.cpu_sched.proofs.judging.tell.Goals as goal
 

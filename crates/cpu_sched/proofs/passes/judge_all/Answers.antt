@@ -1,21 +1,12 @@
-use Rattle.std.proofs.Common.{arith, ◌≡◌, ◌∙◌, ◌<◌, [], length, ap, subst, take}
-use Rattle.std.proofs.lemmas.List.{length-set, take_all}
-use Rattle.std.specs.List.{fold}
+use Rattle.std.{proofs.{Common.{arith, ◌≡◌, ◌∙◌, ◌<◌, [], length, ap, subst, take}, lemmas.List.{length-set, take_all}}, specs.List.{fold}}
 use Rattle.std.specs.Prelude.{None}
 use Rattle.counter_match.specs.Seating.{Seated, empty_seating}
 use Rattle.perf_base.specs.declared.numbers.CpuNo.{CpuNo}
 use Rattle.stage_laws.specs.Narrowing.{has_context}
-use Rattle.world_spec.specs.Changes.{with_seats}
-use Rattle.world_spec.specs.Kept.{IsKept}
-use Rattle.world_spec.specs.Listings.{pass_leaders}
-use Rattle.world_spec.specs.Rescheduled.{IsJudged}
-use Rattle.world_spec.specs.StageOf.{group_at, stage_of}
+use Rattle.world_spec.specs.{Changes.{with_seats}, Kept.{IsKept}, Listings.{pass_leaders}, Rescheduled.{IsJudged}, StageOf.{group_at, stage_of}}
 use Rattle.world_spec.specs.Value.{World, entry_at, standing_at, seats_at}
-use Rattle.cpu_sched.specs.Judging.{tally_in, tell_pass, tried_passes}
-use Rattle.cpu_sched.specs.Tried.{tried}
-use Rattle.cpu_sched.proofs.Judged.{is_tallied, all-judged, others-stand}
-use Rattle.cpu_sched.proofs.Retold.{retold-twice, pass-then, cleared, cleared-at}
-use Rattle.cpu_sched.proofs.Tried.{passes-then, all-tried}
+use Rattle.cpu_sched.{specs.{Judging.{tally_in, tell_pass, tried_passes}, Tried.{tried}}, proofs.Judged.{is_tallied, all-judged, others-stand}}
+use Rattle.cpu_sched.proofs.{Retold.{retold-twice, pass-then, cleared, cleared-at}, Tried.{passes-then, all-tried}}
 use Rattle.cpu_sched.proofs.passes.judge_all.Goals as goal
 
 pub loop-pass-preserved : goal.loop-pass-preserved

@@ -1,10 +1,6 @@
-use Rattle.std.proofs.Common.{◌≡◌, ◌+◌, ◌*◌, ◌≤◌, length, take}
-use Rattle.std.specs.List.{fold}
-use Rattle.world_spec.specs.Listings.{pass_leaders}
-use Rattle.world_spec.specs.StageOf.{group_at}
-use Rattle.world_spec.specs.Value.{seats_at}
-use Rattle.cpu_sched.specs.Judging.{tally_in, tell_pass, tried_passes, retold}
-use Rattle.cpu_sched.specs.Passes.{AreOfTold, told_before}
+use Rattle.std.{proofs.Common.{◌≡◌, ◌+◌, ◌*◌, ◌≤◌, length, take}, specs.List.{fold}}
+use Rattle.world_spec.specs.{Listings.{pass_leaders}, StageOf.{group_at}, Value.{seats_at}}
+use Rattle.cpu_sched.specs.{Judging.{tally_in, tell_pass, tried_passes, retold}, Passes.{AreOfTold, told_before}}
 use Rattle.cpu_sched.proofs.passes.judge_all.Given as goal
 
 abbrev pub invariant-loop-pass : goal.invariant-loop-pass

@@ -1,17 +1,10 @@
-use Rattle.std.proofs.Common.{arith, ◌≡◌, ◌∙◌, ◌<◌, ◌+◌, ◌++◌, [], ◌∷◌, List, length, ap, sym, subst, refl, take, slice_index_or}
-use Rattle.std.proofs.lemmas.List.{append-nil, take_all}
-use Rattle.std.proofs.Common.{append_assoc}
+use Rattle.std.proofs.Common.{arith, ◌≡◌, ◌∙◌, ◌<◌, ◌+◌, ◌++◌, [], ◌∷◌, List, length, ap, sym, subst, refl, take, slice_index_or, append_assoc}
+use Rattle.std.{proofs.lemmas.List.{append-nil, take_all}, specs.List.{fold}}
 use Rattle.perf_base.specs.declared.numbers.Key.{Key}
-use Rattle.stage_spec.specs.Effective.{counted_members}
-use Rattle.stage_spec.specs.Verdict.{with_masks}
+use Rattle.stage_spec.specs.{Effective.{counted_members}, Verdict.{with_masks}}
 use Rattle.counter_match.specs.Seating.{AreDistinct}
-use Rattle.world_spec.specs.Listings.{pass_leaders}
-use Rattle.world_spec.specs.StageOf.{group_at}
-use Rattle.world_spec.specs.Value.{World, seats_at}
-use Rattle.cpu_sched.specs.Judging.{tally_in, tell, tried_in}
-use Rattle.std.specs.List.{fold}
-use Rattle.cpu_sched.specs.Passes.{AreOfTold, told_before}
-use Rattle.cpu_sched.proofs.Passing.{leads-at}
+use Rattle.world_spec.specs.{Listings.{pass_leaders}, StageOf.{group_at}, Value.{World, seats_at}}
+use Rattle.cpu_sched.{specs.{Judging.{tally_in, tell, tried_in}, Passes.{AreOfTold, told_before}}, proofs.Passing.{leads-at}}
 use Rattle.cpu_sched.proofs.Served.{next-distinct}
 use Rattle.cpu_sched.proofs.Retold.{retold-self, retold-twice, retold-list, retold-told, told-then, events-then, next-key, told-next}
 use Rattle.cpu_sched.proofs.Tried.{tried-then}

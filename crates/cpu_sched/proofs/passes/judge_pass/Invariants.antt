@@ -1,10 +1,6 @@
-use Rattle.std.proofs.Common.{◌≡◌, ◌+◌, ◌*◌, ◌≤◌, ◌++◌, [], length, take, slice_index_or}
-use Rattle.std.specs.List.{fold}
-use Rattle.world_spec.specs.Listings.{pass_leaders}
-use Rattle.world_spec.specs.StageOf.{group_at}
-use Rattle.world_spec.specs.Value.{seats_at}
-use Rattle.cpu_sched.specs.Judging.{tally_in, tell, tried_in, retold}
-use Rattle.cpu_sched.specs.Passes.{AreOfTold, told_before}
+use Rattle.std.{proofs.Common.{◌≡◌, ◌+◌, ◌*◌, ◌≤◌, ◌++◌, [], length, take, slice_index_or}, specs.List.{fold}}
+use Rattle.world_spec.specs.{Listings.{pass_leaders}, StageOf.{group_at}, Value.{seats_at}}
+use Rattle.cpu_sched.specs.{Judging.{tally_in, tell, tried_in, retold}, Passes.{AreOfTold, told_before}}
 use Rattle.cpu_sched.proofs.passes.judge_pass.Given as goal
 
 abbrev pub invariant-loop-place : goal.invariant-loop-place

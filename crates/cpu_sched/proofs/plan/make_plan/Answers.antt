@@ -1,10 +1,6 @@
-use Rattle.std.proofs.Common.{arith, ◌∙◌, [], All, length, map, ap, refl, sym, subst, slice_index_or}
-use Rattle.std.proofs.lemmas.List.{length-map}
-use Rattle.cpu_sched.specs.Briefs.{seen, events_in, IsGroupBrief}
-use Rattle.cpu_sched.specs.Plans.{told_by, tried_by}
-use Rattle.cpu_sched.proofs.Parted.{HasParts, has-parts}
-use Rattle.cpu_sched.proofs.Planned.{Begins, after_pass, begins, judged-all, pass-planned, pass-tried, plan-is}
-use Rattle.cpu_sched.proofs.Served.{slots}
+use Rattle.std.proofs.{Common.{arith, ◌∙◌, [], All, length, map, ap, refl, sym, subst, slice_index_or}, lemmas.List.{length-map}}
+use Rattle.cpu_sched.{specs.{Briefs.{seen, events_in, IsGroupBrief}, Plans.{told_by, tried_by}}, proofs.Parted.{HasParts, has-parts}}
+use Rattle.cpu_sched.proofs.{Planned.{Begins, after_pass, begins, judged-all, pass-planned, pass-tried, plan-is}, Served.{slots}}
 use Rattle.cpu_sched.proofs.plan.make_plan.Goals as goal
 
 pub plan_pass-first-requires-clause-sound : goal.plan_pass-first-requires-clause-sound

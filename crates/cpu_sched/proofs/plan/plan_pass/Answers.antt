@@ -1,12 +1,8 @@
-use Rattle.std.proofs.Common.{arith, ℕ, ◌+◌, ◌<◌, ◌++◌, ◌∙◌, List, length, map, ap, sym, subst, take}
-use Rattle.std.proofs.lemmas.List.{take_all}
-use Rattle.std.specs.List.{fold}
+use Rattle.std.{proofs.{Common.{arith, ℕ, ◌+◌, ◌<◌, ◌++◌, ◌∙◌, List, length, map, ap, sym, subst, take}, lemmas.List.{take_all}}, specs.List.{fold}}
 use Rattle.counter_match.specs.Seating.{AreDistinct}
-use Rattle.cpu_sched.specs.declared.group_brief.GroupBrief.{GroupBrief as Stored}
-use Rattle.cpu_sched.specs.Briefs.{seen, events_in, IsGroupBrief}
+use Rattle.cpu_sched.specs.{declared.group_brief.GroupBrief.{GroupBrief as Stored}, Briefs.{seen, events_in, IsGroupBrief}}
 use Rattle.cpu_sched.specs.Plans.{Draft, draft_of, plan_one, planned_of, told_by}
-use Rattle.cpu_sched.proofs.Drafted.{IsDraft, draft-next, group-distinct, group-sound, next-once, taken-next, tried-next}
-use Rattle.cpu_sched.proofs.Served.{slots}
+use Rattle.cpu_sched.proofs.{Drafted.{IsDraft, draft-next, group-distinct, group-sound, next-once, taken-next, tried-next}, Served.{slots}}
 use Rattle.cpu_sched.proofs.plan.plan_pass.Goals as goal
 
 pub plan_group-so_far-requires-clause-sound : goal.plan_group-so_far-requires-clause-sound

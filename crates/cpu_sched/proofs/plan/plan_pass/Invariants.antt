@@ -1,8 +1,6 @@
-use Rattle.std.proofs.Common.{◌≡◌, ◌+◌, ◌*◌, ◌≤◌, ◌==◌, length, map, take, count_by, vec_len, vec_capacity}
-use Rattle.std.specs.List.{fold}
+use Rattle.std.{proofs.Common.{◌≡◌, ◌+◌, ◌*◌, ◌≤◌, ◌==◌, length, map, take, count_by, vec_len, vec_capacity}, specs.List.{fold}}
 use Rattle.perf_base.specs.declared.numbers.EventNo.{EventNo}
-use Rattle.cpu_sched.specs.Briefs.{seen, events_in}
-use Rattle.cpu_sched.specs.Plans.{draft_of, plan_one, told_by}
+use Rattle.cpu_sched.specs.{Briefs.{seen, events_in}, Plans.{draft_of, plan_one, told_by}}
 use Rattle.cpu_sched.proofs.plan.plan_pass.Given as goal
 
 abbrev pub invariant-loop-group : goal.invariant-loop-group

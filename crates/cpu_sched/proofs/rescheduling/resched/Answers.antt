@@ -1,16 +1,9 @@
 use Rattle.std.proofs.Common.{arith, ◌≡◌, ◌∙◌, length, ap, sym, subst, slice_index_or}
-use Rattle.stage_spec.specs.Hardware.{Hardware}
-use Rattle.stage_spec.specs.Replies.{seated}
-use Rattle.stage_spec.specs.Settle.{settle}
+use Rattle.stage_spec.specs.{Hardware.{Hardware}, Replies.{seated}, Settle.{settle}}
 use Rattle.counter_match.specs.Seating.{empty_seating}
-use Rattle.world_spec.specs.Kept.{IsKept}
-use Rattle.world_spec.specs.Rescheduled.{IsRescheduled, pinned_leaders}
-use Rattle.world_spec.specs.StageOf.{stage_of}
-use Rattle.world_spec.specs.Value.{World}
-use Rattle.world_spec.proofs.Failing.{failed-rest}
-use Rattle.world_spec.proofs.Rescheduling.{fail-stage, fail-rescheduled}
-use Rattle.cpu_sched.proofs.Staying.{stays-but, others-stay}
-use Rattle.cpu_sched.proofs.Tried.{masks-length}
+use Rattle.world_spec.specs.{Kept.{IsKept}, Rescheduled.{IsRescheduled, pinned_leaders}, StageOf.{stage_of}, Value.{World}}
+use Rattle.world_spec.proofs.{Failing.{failed-rest}, Rescheduling.{fail-stage, fail-rescheduled}}
+use Rattle.cpu_sched.proofs.{Staying.{stays-but, others-stay}, Tried.{masks-length}}
 use Rattle.cpu_sched.proofs.rescheduling.resched.Goals as goal
 
 pub returns-clause-stage : goal.returns-clause-stage

@@ -1,6 +1,5 @@
 use Rattle.std.proofs.Common.{arith, ◌∙◌, [], ◌∷◌}
-use Rattle.event_commands.proofs.Families.{closed-others, closed-stage, is-closed}
-use Rattle.event_commands.proofs.Reached.{answered, not-answered}
+use Rattle.event_commands.proofs.{Families.{closed-others, closed-stage, is-closed}, Reached.{answered, not-answered}}
 use Rattle.event_commands.proofs.commands.close.Goals as goal
 
 pub returns-clause-stage : goal.returns-clause-stage

@@ -1,9 +1,7 @@
 use Rattle.std.proofs.Common.{arith, ◌∙◌}
 use Rattle.stage_spec.specs.Commands.{targets}
 use Rattle.world_spec.specs.StageOf.{stage_of}
-use Rattle.event_commands.specs.Changing.{switched}
-use Rattle.event_commands.proofs.Reached.{answered, not-answered}
-use Rattle.event_commands.proofs.States.{have-states, states-others, states-stage}
+use Rattle.event_commands.{specs.Changing.{switched}, proofs.{Reached.{answered, not-answered}, States.{have-states, states-others, states-stage}}}
 use Rattle.event_commands.proofs.commands.switch.Goals as goal
 
 pub returns-clause-states : goal.returns-clause-states

@@ -1,7 +1,6 @@
 use Rattle.std.proofs.Common.{arith}
 use Rattle.world_spec.specs.Value.{family_of}
-use Rattle.event_commands.proofs.InTurn.{copy-live}
-use Rattle.event_commands.proofs.Processors.{adds-none, adds-same, next-adds, all-adds}
+use Rattle.event_commands.proofs.{InTurn.{copy-live}, Processors.{adds-none, adds-same, next-adds, all-adds}}
 use Rattle.event_commands.proofs.reaching.add_copies.Goals as goal
 
 pub loop-copy-init : goal.loop-copy-init

@@ -1,5 +1,4 @@
-use Rattle.world_spec.specs.Kept.{in_option}
-use Rattle.world_spec.specs.Value.{family_of}
+use Rattle.world_spec.specs.{Kept.{in_option}, Value.{family_of}}
 use Rattle.event_commands.proofs.Processors.{adds-append}
 use Rattle.event_commands.proofs.reaching.add_family.Goals as goal
 

@@ -1,6 +1,5 @@
 use Rattle.std.proofs.Common.{take}
-use Rattle.event_commands.specs.Changing.{keys_named}
-use Rattle.event_commands.specs.Reaching.{AddsReaching}
+use Rattle.event_commands.specs.{Changing.{keys_named}, Reaching.{AddsReaching}}
 use Rattle.event_commands.proofs.reaching.cpus_reaching.Given as goal
 
 abbrev pub invariant-loop-slot : goal.invariant-loop-slot

@@ -1,5 +1,4 @@
-use Rattle.std.proofs.Common.{arith, ap, length, take}
-use Rattle.std.proofs.lemmas.List.{length-map, length-take}
+use Rattle.std.proofs.{Common.{arith, ap, length, take}, lemmas.List.{length-map, length-take}}
 use Rattle.world_spec.specs.Value.{instance_at}
 use Rattle.event_commands.proofs.slots.slots_of.Goals as goal
 

@@ -1,7 +1,6 @@
 use Rattle.std.proofs.Common.{All, true, ap, sym, subst, map, ◌≡◌, ◌∙◌}
 use Rattle.stage_spec.specs.Commands as commands
-use Rattle.world_spec.specs.StageOf.{stage_of}
-use Rattle.world_spec.specs.Value.{is_live, entry_at, instance_at}
+use Rattle.world_spec.specs.{StageOf.{stage_of}, Value.{is_live, entry_at, instance_at}}
 use Rattle.event_commands.proofs.Targets.{closed-none, open-some, members-live, one-slot, group-slots}
 use Rattle.event_commands.proofs.slots.targets.Goals as goal
 

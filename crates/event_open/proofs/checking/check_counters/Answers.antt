@@ -1,5 +1,4 @@
-use Rattle.std.proofs.Common.{arith, ap, length, map}
-use Rattle.std.proofs.lemmas.List.{length-map}
+use Rattle.std.proofs.{Common.{arith, ap, length, map}, lemmas.List.{length-map}}
 use Rattle.world_spec.specs.Value.{instance_at}
 use Rattle.event_open.proofs.Demanding.{length-demanded}
 use Rattle.event_open.proofs.checking.check_counters.Goals as goal

@@ -1,11 +1,7 @@
-use Rattle.std.proofs.Common.{map, sym, subst, refl}
-use Rattle.std.proofs.lemmas.Result.{err_from_is_err_and}
+use Rattle.std.proofs.{Common.{map, sym, subst, refl}, lemmas.Result.{err_from_is_err_and}}
 use Rattle.counter_match.specs.Seating.{AreDistinct}
-use Rattle.world_spec.specs.StageOf.{stage_of}
-use Rattle.world_spec.specs.Value.{instance_at}
-use Rattle.event_open.specs.Demanded.{demanded_with}
-use Rattle.event_open.proofs.Admitting.{demands-distinct}
-use Rattle.event_open.proofs.Leaders.{led-members}
+use Rattle.world_spec.specs.{StageOf.{stage_of}, Value.{instance_at}}
+use Rattle.event_open.{specs.Demanded.{demanded_with}, proofs.{Admitting.{demands-distinct}, Leaders.{led-members}}}
 use Rattle.event_open.proofs.Refusing.{slot-unused, refusal-parts, refusal-keys}
 use Rattle.event_open.proofs.checking.check_open.Goals as goal
 

@@ -1,5 +1,4 @@
-use Rattle.std.proofs.Common.{arith, ap, length, map, take}
-use Rattle.std.proofs.lemmas.List.{length-map, length-take}
+use Rattle.std.proofs.{Common.{arith, ap, length, map, take}, lemmas.List.{length-map, length-take}}
 use Rattle.world_spec.specs.Value.{instance_at}
 use Rattle.event_open.proofs.Demanding.{length-demanded}
 use Rattle.event_open.proofs.demands.demands_of.Goals as goal

@@ -1,13 +1,8 @@
-use Rattle.std.proofs.Common.{◌≡◌, Option, None, Some, Err, ap, sym, subst, refl, ◌∙◌}
-use Rattle.std.proofs.lemmas.Result.{err_from_is_err_and}
-use Rattle.std.specs.Option.{ok_or}
-use Rattle.perf_base.specs.declared.numbers.Key.{Key}
-use Rattle.perf_base.specs.declared.reasons.Reason.{Reason}
+use Rattle.std.{proofs.{Common.{◌≡◌, Option, None, Some, Err, ap, sym, subst, refl, ◌∙◌}, lemmas.Result.{err_from_is_err_and}}, specs.Option.{ok_or}}
+use Rattle.perf_base.specs.declared.{numbers.Key.{Key}, reasons.Reason.{Reason}}
 use Rattle.stage_spec.specs.Refusals.{first_of}
 use Rattle.world_spec.specs.StageOf.{stage_of}
-use Rattle.event_open.specs.Faults.{leader_faults}
-use Rattle.event_open.proofs.Leaders.{joining-faults}
-use Rattle.event_open.proofs.Refusing.{closed-first}
+use Rattle.event_open.{specs.Faults.{leader_faults}, proofs.{Leaders.{joining-faults}, Refusing.{closed-first}}}
 use Rattle.event_open.proofs.leading.check_leader.Goals as goal
 
 -- an error is the one that stands for nothing

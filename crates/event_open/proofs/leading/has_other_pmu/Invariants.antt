@@ -1,5 +1,4 @@
-use Rattle.std.proofs.Common.{◌≡◌, drop}
-use Rattle.std.specs.List.{list_any}
+use Rattle.std.{proofs.Common.{◌≡◌, drop}, specs.List.{list_any}}
 use Rattle.stage_spec.specs.Opening.{is_other_pmu}
 use Rattle.world_spec.specs.Value.{instance_at}
 use Rattle.event_open.proofs.leading.has_other_pmu.Given as goal

@@ -1,13 +1,8 @@
 use Rattle.std.proofs.Common.{◌≡◌, rules, arith, None, sym, subst, ◌∙◌}
 use Rattle.perf_base.specs.Contexts as contexts
-use Rattle.world_spec.specs.Adding.{add}
-use Rattle.world_spec.specs.Value.{World}
+use Rattle.world_spec.{specs.{Adding.{add}, Value.{World}, Staying.{HasCome}}, proofs.Staying.{add-stays}}
 use Rattle.perf_world.specs.Parts.{newcomer, MayAdd}
-use Rattle.event_open.specs.Opened.{opened_as}
-use Rattle.world_spec.specs.Staying.{HasCome}
-use Rattle.world_spec.proofs.Staying.{add-stays}
-use Rattle.event_open.proofs.Joining.{may-add, may-come}
-use Rattle.event_open.proofs.Others.{IsOpened, is-opened, not-among}
+use Rattle.event_open.{specs.Opened.{opened_as}, proofs.{Joining.{may-add, may-come}, Others.{IsOpened, is-opened, not-among}}}
 use Rattle.event_open.proofs.opening.open.Goals as goal
 
 pub add-requires-clause-may : goal.add-requires-clause-may

@@ -1,10 +1,8 @@
-use Rattle.std.proofs.Common.{◌∙◌, ap, subst, sym, List}
-use Rattle.std.specs.Prelude.{ℕ}
+use Rattle.std.{proofs.Common.{◌∙◌, ap, subst, sym, List}, specs.Prelude.{ℕ}}
 use Rattle.perf_base.specs.declared.numbers.EventNo.{EventNo}
 use Rattle.stage_spec.specs.Replies.{IsSeats}
 use Rattle.counter_match.specs.Seating.{seat_list}
-use Rattle.world_spec.specs.StageOf.{stage_of}
-use Rattle.world_spec.proofs.Standing.{seats-answer}
+use Rattle.world_spec.{specs.StageOf.{stage_of}, proofs.Standing.{seats-answer}}
 use Rattle.event_reads.proofs.asking.seats.Goals as goal
 
 pub returns : goal.returns

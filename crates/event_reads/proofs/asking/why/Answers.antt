@@ -1,9 +1,7 @@
 use Rattle.std.proofs.Common.{◌∙◌, ap, sym}
 use Rattle.perf_base.specs.declared.numbers.Key.{Key}
-use Rattle.stage_spec.specs.Effective.{state_in}
-use Rattle.stage_spec.specs.Replies.{why_by}
-use Rattle.world_spec.specs.StageOf.{group_at, stage_of}
-use Rattle.world_spec.specs.Value.{instance_at}
+use Rattle.stage_spec.specs.{Effective.{state_in}, Replies.{why_by}}
+use Rattle.world_spec.specs.{StageOf.{group_at, stage_of}, Value.{instance_at}}
 use Rattle.event_reads.proofs.Opened.{accepts-open, refuses-closed, why-opened}
 use Rattle.event_reads.proofs.asking.why.Goals as goal
 

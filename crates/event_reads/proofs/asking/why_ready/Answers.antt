@@ -1,6 +1,5 @@
 use Rattle.std.proofs.Common.{refl}
-use Rattle.world_spec.specs.Value.{entry_at, is_key, is_live}
-use Rattle.world_spec.proofs.Moving.{leads-parts}
+use Rattle.world_spec.{specs.Value.{entry_at, is_key, is_live}, proofs.Moving.{leads-parts}}
 use Rattle.event_reads.proofs.Homes.{has-stood}
 use Rattle.event_reads.proofs.asking.why_ready.Goals as goal
 

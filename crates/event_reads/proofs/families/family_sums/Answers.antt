@@ -1,9 +1,7 @@
-use Rattle.std.proofs.Common.{◌≡◌, arith, ap, ◌∙◌, sym, true, subst, List}
-use Rattle.std.specs.Prelude.{All}
+use Rattle.std.{proofs.Common.{◌≡◌, arith, ap, ◌∙◌, sym, true, subst, List}, specs.Prelude.{All}}
 use Rattle.perf_base.specs.declared.numbers.Key.{Key}
 use Rattle.stage_spec.specs.Families.{plus}
-use Rattle.world_spec.specs.Kept.{family_sums}
-use Rattle.world_spec.specs.Value.{is_live}
+use Rattle.world_spec.specs.{Kept.{family_sums}, Value.{is_live}}
 use Rattle.event_reads.proofs.Whole.{added-up, copies-live, copies-ran, family-ran}
 use Rattle.event_reads.proofs.families.family_sums.Goals as goal
 

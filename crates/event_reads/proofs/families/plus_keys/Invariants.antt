@@ -1,7 +1,6 @@
 use Rattle.std.proofs.Common.{◌≡◌, drop}
 use Rattle.stage_spec.specs.Families.{plus}
-use Rattle.world_spec.specs.Kept.{plus_keys}
-use Rattle.world_spec.specs.Value.{account_at}
+use Rattle.world_spec.specs.{Kept.{plus_keys}, Value.{account_at}}
 use Rattle.event_reads.proofs.families.plus_keys.Given as goal
 
 abbrev pub invariant-loop-key : goal.invariant-loop-key

@@ -1,6 +1,5 @@
 use Rattle.std.proofs.Common.{sym, ◌∙◌}
-use Rattle.exit_fold.proofs.Leaders.{walked-none, walked-then, less-then, leader-live, none-left}
-use Rattle.exit_fold.proofs.Whole.{whole-folded}
+use Rattle.exit_fold.proofs.{Leaders.{walked-none, walked-then, less-then, leader-live, none-left}, Whole.{whole-folded}}
 use Rattle.exit_fold.proofs.folding.fold_copies.Goals as goal
 
 pub loop-leader-init : goal.loop-leader-init

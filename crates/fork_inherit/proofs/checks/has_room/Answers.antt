@@ -1,13 +1,9 @@
 use Rattle.std.proofs.Common.{arith, true, false, ◌+◌, ◌≤◌, List, slice_index_or, subst, sym, ap, ◌∙◌}
 use Rattle.perf_base.specs.declared.numbers.Key.{Key}
 use Rattle.perf_base.specs.declared.standing.Context.TheVariants as context
-use Rattle.stage_spec.specs.Forks.{new_copies}
-use Rattle.stage_spec.specs.Stage.{live_copies, lists_of}
-use Rattle.world_spec.specs.StageOf.{stage_of}
-use Rattle.world_spec.specs.Value.{times, leaders_of}
-use Rattle.world_spec.proofs.Copies.{times-at}
-use Rattle.fork_inherit.specs.Copies.{copies_of_all}
-use Rattle.fork_inherit.proofs.Room.{list-leads, copies-new, room-left, no-room}
+use Rattle.stage_spec.specs.{Forks.{new_copies}, Stage.{live_copies, lists_of}}
+use Rattle.world_spec.{specs.{StageOf.{stage_of}, Value.{times, leaders_of}}, proofs.Copies.{times-at}}
+use Rattle.fork_inherit.{specs.Copies.{copies_of_all}, proofs.Room.{list-leads, copies-new, room-left, no-room}}
 use Rattle.fork_inherit.proofs.checks.has_room.Goals as goal
 
 pub room_beside-requires : goal.room_beside-requires

@@ -2,10 +2,7 @@ use Rattle.std.proofs.Common.{Some, ◌≡◌, ap, subst, sym, ◌∙◌}
 use Rattle.perf_base.specs.declared.attr.Attr.{Attr}
 use Rattle.perf_base.specs.declared.standing.Context.TheVariants as context
 use Rattle.stage_spec.specs.Forks.{copied_state}
-use Rattle.world_spec.specs.Adding.{Newcomer, add}
-use Rattle.world_spec.specs.Changes.{set_own}
-use Rattle.world_spec.specs.Copying.{copy_from}
-use Rattle.world_spec.specs.Value.{World, is_live, instance_at, family_of}
+use Rattle.world_spec.specs.{Adding.{Newcomer, add}, Changes.{set_own}, Copying.{copy_from}, Value.{World, is_live, instance_at, family_of}}
 use Rattle.perf_world.specs.Parts.{MayAdd, newcomer}
 use Rattle.fork_inherit.proofs.Single.{same-newcomer, has-come}
 use Rattle.fork_inherit.proofs.copying.inherit.Goals as goal

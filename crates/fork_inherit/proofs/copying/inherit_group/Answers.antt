@@ -1,8 +1,6 @@
-use Rattle.std.proofs.Common.{arith, ◌+◌, length, ap, sym, subst, take}
-use Rattle.std.proofs.lemmas.List.{take_all}
+use Rattle.std.proofs.{Common.{arith, ◌+◌, length, ap, sym, subst, take}, lemmas.List.{take_all}}
 use Rattle.world_spec.specs.Value.{World, entry_at}
-use Rattle.fork_inherit.specs.Copies.{AreCopied}
-use Rattle.fork_inherit.proofs.Begun.{IsBegun, first-may, leader-at, still-leads, ends-are, sibling-here}
+use Rattle.fork_inherit.{specs.Copies.{AreCopied}, proofs.Begun.{IsBegun, first-may, leader-at, still-leads, ends-are, sibling-here}}
 use Rattle.fork_inherit.proofs.copying.inherit_group.Goals as goal
 
 pub inherit-first-requires-clause-may : goal.inherit-first-requires-clause-may

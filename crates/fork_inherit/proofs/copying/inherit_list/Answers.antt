@@ -1,11 +1,8 @@
-use Rattle.std.proofs.Common.{arith, ◌≡◌, ◌∙◌, List, length, ap, subst}
-use Rattle.std.proofs.lemmas.List.{take_all}
+use Rattle.std.proofs.{Common.{arith, ◌≡◌, ◌∙◌, List, length, ap, subst}, lemmas.List.{take_all}}
 use Rattle.perf_base.specs.declared.numbers.Key.{Key}
 use Rattle.perf_base.specs.declared.standing.Context.TheVariants as context
 use Rattle.world_spec.specs.Value.{leaders_of}
-use Rattle.fork_inherit.specs.Copies.{AreCopied, inherited_keys, leaders_from}
-use Rattle.fork_inherit.proofs.Copied.{copied-none}
-use Rattle.fork_inherit.proofs.Listed.{list-here, as-picked}
+use Rattle.fork_inherit.{specs.Copies.{AreCopied, inherited_keys, leaders_from}, proofs.{Copied.{copied-none}, Listed.{list-here, as-picked}}}
 use Rattle.fork_inherit.proofs.copying.inherit_list.Goals as goal
 
 pub loop-place-init : goal.loop-place-init

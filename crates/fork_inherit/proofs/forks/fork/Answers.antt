@@ -1,7 +1,6 @@
 use Rattle.std.proofs.Common.{arith, ap, length}
 use Rattle.stage_spec.specs.Hardware.{Hardware}
-use Rattle.fork_inherit.proofs.Forked.{may-flexible, both-copied, fork-stage, has-forked, fork-others}
-use Rattle.fork_inherit.proofs.Starting.{is-free, may-pinned}
+use Rattle.fork_inherit.proofs.{Forked.{may-flexible, both-copied, fork-stage, has-forked, fork-others}, Starting.{is-free, may-pinned}}
 use Rattle.fork_inherit.proofs.forks.fork.Goals as goal
 
 pub inherit_list-requires : goal.inherit_list-requires

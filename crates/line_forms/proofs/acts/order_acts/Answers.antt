@@ -1,10 +1,5 @@
-use Rattle.std.proofs.Common.{◌∙◌, sym, ap, subst, Some}
-use Rattle.std.specs.Option.{option_map}
-use Rattle.std.proofs.lemmas.Result.{err_from_is_err_and}
-use Rattle.line_forms.specs.Acts.{act_in}
-use Rattle.line_forms.specs.Acts.{AreKept}
-use Rattle.line_forms.specs.Forms.{act_of}
-use Rattle.line_forms.proofs.Loops.{each_step, each_fail, each_end, all_acts}
+use Rattle.std.{proofs.{Common.{◌∙◌, sym, ap, subst, Some}, lemmas.Result.{err_from_is_err_and}}, specs.Option.{option_map}}
+use Rattle.line_forms.{specs.{Acts.{act_in, AreKept}, Forms.{act_of}}, proofs.Loops.{each_step, each_fail, each_end, all_acts}}
 use Rattle.line_forms.proofs.acts.order_acts.Goals as goal
 
 pub returns-in_err-act : goal.returns-in_err-act

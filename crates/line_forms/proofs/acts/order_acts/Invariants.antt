@@ -1,11 +1,6 @@
-use Rattle.std.proofs.Common.{◌≡◌, List, length}
-use Rattle.std.specs.Option.{option_map}
+use Rattle.std.{proofs.Common.{◌≡◌, List, length}, specs.Option.{option_map}}
 use Rattle.perf_base.specs.declared.acts.Act.{Act}
-use Rattle.line_forms.specs.Words.{left}
-use Rattle.line_forms.specs.Lists.{each_word}
-use Rattle.line_forms.specs.Acts.{act_in}
-use Rattle.line_forms.specs.Acts.{AreKept}
-use Rattle.line_forms.proofs.Loops.{with_front}
+use Rattle.line_forms.{specs.{Words.{left}, Lists.{each_word}, Acts.{act_in, AreKept}}, proofs.Loops.{with_front}}
 use Rattle.line_forms.proofs.acts.order_acts.Given as goal
 
 -- the acts before the words that are left

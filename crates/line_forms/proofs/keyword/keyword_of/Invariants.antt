@@ -1,6 +1,5 @@
 use Rattle.std.proofs.Common.{◌≡◌, drop, map}
-use Rattle.line_forms.specs.Keyword.{looked_up, keywords}
-use Rattle.line_forms.proofs.Loops.{entry_of}
+use Rattle.line_forms.{specs.Keyword.{looked_up, keywords}, proofs.Loops.{entry_of}}
 use Rattle.line_forms.proofs.keyword.keyword_of.Given as goal
 
 abbrev pub invariant-loop-text : goal.invariant-loop-text

@@ -1,7 +1,6 @@
 use Rattle.std.proofs.Common.{◌∙◌, arith}
 use Rattle.perf_base.specs.Flags.{flag_table}
-use Rattle.line_forms.specs.Words.{left}
-use Rattle.line_forms.proofs.Numbers.{flags_most, flag_kept, flags_done, flags_by, then_none, then_some}
+use Rattle.line_forms.{specs.Words.{left}, proofs.Numbers.{flags_most, flag_kept, flags_done, flags_by, then_none, then_some}}
 use Rattle.line_forms.proofs.leaves.flags.Goals as goal
 
 pub overflow_add-bits : goal.overflow_add-bits

@@ -1,7 +1,6 @@
 use Rattle.std.proofs.Common.{◌≡◌, ◌+◌, drop}
 use Rattle.perf_base.specs.Flags.{flag_table}
-use Rattle.line_forms.specs.Words.{left}
-use Rattle.line_forms.specs.Leaves.{flags_in}
+use Rattle.line_forms.specs.{Words.{left}, Leaves.{flags_in}}
 use Rattle.line_forms.proofs.leaves.flags.Given as goal
 
 abbrev pub invariant-loop-flag : goal.invariant-loop-flag

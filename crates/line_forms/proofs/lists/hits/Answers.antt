@@ -1,10 +1,5 @@
-use Rattle.std.proofs.Common.{ap, sym, ◌∙◌}
-use Rattle.std.specs.Option.{option_map}
-use Rattle.std.proofs.lemmas.List.{map_push}
-use Rattle.std.proofs.lemmas.Result.{err_from_is_err_and}
-use Rattle.line_forms.specs.Forms.{hit_of}
-use Rattle.line_forms.specs.Lists.{hit_in}
-use Rattle.line_forms.proofs.Loops.{each_step, each_fail, each_end}
+use Rattle.std.{proofs.{Common.{ap, sym, ◌∙◌}, lemmas.{List.{map_push}, Result.{err_from_is_err_and}}}, specs.Option.{option_map}}
+use Rattle.line_forms.{specs.{Forms.{hit_of}, Lists.{hit_in}}, proofs.Loops.{each_step, each_fail, each_end}}
 use Rattle.line_forms.proofs.lists.hits.Goals as goal
 
 pub returns-in_err-hit : goal.returns-in_err-hit

@@ -1,8 +1,5 @@
 use Rattle.std.proofs.Common.{◌≡◌, length, map}
-use Rattle.line_forms.specs.Words.{left}
-use Rattle.line_forms.specs.Lists.{each_word, hit_in}
-use Rattle.line_forms.specs.Forms.{hit_of}
-use Rattle.line_forms.proofs.Loops.{with_front}
+use Rattle.line_forms.{specs.{Words.{left}, Lists.{each_word, hit_in}, Forms.{hit_of}}, proofs.Loops.{with_front}}
 use Rattle.line_forms.proofs.lists.hits.Given as goal
 
 abbrev pub invariant-loop-word : goal.invariant-loop-word

@@ -1,5 +1,4 @@
-use Rattle.std.proofs.Common.{◌<◌, ◌∙◌, arith, length, length-set}
-use Rattle.std.proofs.lemmas.List.{take_more_set}
+use Rattle.std.proofs.{Common.{◌<◌, ◌∙◌, arith, length, length-set}, lemmas.List.{take_more_set}}
 use Rattle.line_forms.proofs.Loops.{pairs_step, pairs_count, pairs_end}
 use Rattle.line_forms.proofs.lists.put_pairs.Goals as goal
 

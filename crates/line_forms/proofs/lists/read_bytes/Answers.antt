@@ -1,6 +1,5 @@
 use Rattle.std.proofs.Common.{ap, ◌∙◌}
-use Rattle.line_forms.specs.Lists.{bytes_in}
-use Rattle.line_forms.proofs.Sequences.{bytes_in_room, bytes-again}
+use Rattle.line_forms.{specs.Lists.{bytes_in}, proofs.Sequences.{bytes_in_room, bytes-again}}
 use Rattle.line_forms.proofs.lists.read_bytes.Goals as goal
 
 pub returns-clause-some : goal.returns-clause-some

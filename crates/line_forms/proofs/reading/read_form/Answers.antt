@@ -1,5 +1,4 @@
-use Rattle.line_forms.specs.Forms.{form_of}
-use Rattle.line_forms.proofs.Given.{ok_is_of_form, ok_is_the_only_form, no_form_is_of_none}
+use Rattle.line_forms.{specs.Forms.{form_of}, proofs.Given.{ok_is_of_form, ok_is_the_only_form, no_form_is_of_none}}
 use Rattle.line_forms.proofs.reading.read_form.Goals as goal
 
 pub returns-clause-ok : goal.returns-clause-ok

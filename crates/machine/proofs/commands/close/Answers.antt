@@ -1,9 +1,7 @@
 use Rattle.std.proofs.Common.{ap, length}
 use Rattle.perf_base.specs.declared.lines.ToolLine.TheVariants as line
 use Rattle.world_spec.specs.Value.{World}
-use Rattle.machine.proofs.Closes.{close-ready, close-done}
-use Rattle.machine.proofs.Counting.{counted-step, refused-counted}
-use Rattle.machine.proofs.Keeping.{left-rescheduled}
+use Rattle.machine.proofs.{Closes.{close-ready, close-done}, Counting.{counted-step, refused-counted}, Keeping.{left-rescheduled}}
 use Rattle.machine.proofs.Refused.{refused-line}
 use Rattle.machine.proofs.commands.close.Goals as goal
 

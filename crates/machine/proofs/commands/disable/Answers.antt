@@ -1,11 +1,8 @@
 use Rattle.std.proofs.Common.{ap, length, refl}
 use Rattle.perf_base.specs.declared.lines.ToolLine.TheVariants as line
 use Rattle.stage_spec.specs.Commands.{targets, disabled}
-use Rattle.world_spec.specs.StageOf.{stage_of}
-use Rattle.world_spec.specs.Value.{World}
-use Rattle.machine.proofs.CommandLines.{untouched, switch-ready, switch-done}
-use Rattle.machine.proofs.Counting.{counted-step, refused-counted}
-use Rattle.machine.proofs.Refused.{refused-line}
+use Rattle.world_spec.specs.{StageOf.{stage_of}, Value.{World}}
+use Rattle.machine.proofs.{CommandLines.{untouched, switch-ready, switch-done}, Counting.{counted-step, refused-counted}, Refused.{refused-line}}
 use Rattle.machine.proofs.commands.disable.Goals as goal
 
 pub resched_each-requires : goal.resched_each-requires

@@ -1,6 +1,5 @@
 use Rattle.perf_base.specs.declared.lines.ToolLine.TheVariants as line
-use Rattle.machine.proofs.Restarting.{period-done, period-ready}
-use Rattle.machine.proofs.Refused.{refused-line}
+use Rattle.machine.proofs.{Restarting.{period-done, period-ready}, Refused.{refused-line}}
 use Rattle.machine.proofs.commands.period.Goals as goal
 
 pub returns-in-Err-clause-done : goal.returns-in-Err-clause-done

@@ -1,6 +1,5 @@
 use Rattle.perf_base.specs.declared.lines.ToolLine.TheVariants as line
-use Rattle.machine.proofs.Clearing.{reset-done, reset-ready}
-use Rattle.machine.proofs.Refused.{refused-line}
+use Rattle.machine.proofs.{Clearing.{reset-done, reset-ready}, Refused.{refused-line}}
 use Rattle.machine.proofs.commands.reset.Goals as goal
 
 pub returns-in-Err-clause-done : goal.returns-in-Err-clause-done

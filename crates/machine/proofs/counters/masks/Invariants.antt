@@ -1,5 +1,4 @@
-use Rattle.std.specs.Prelude.{◌≡◌, ℕ, ◌<◌, ◌≤◌, length, slice_index}
-use Rattle.std.proofs.Common.{get_or}
+use Rattle.std.{specs.Prelude.{◌≡◌, ℕ, ◌<◌, ◌≤◌, length, slice_index}, proofs.Common.{get_or}}
 use Rattle.machine.proofs.Declared.{no_kind}
 use Rattle.machine.proofs.counters.masks.Given as goal
 

@@ -1,15 +1,9 @@
-use Rattle.std.specs.Option.{option_copied}
-use Rattle.std.proofs.Common.{length, refl, sym, subst}
+use Rattle.std.{specs.Option.{option_copied}, proofs.Common.{length, refl, sym, subst}}
 use Rattle.perf_base.specs.Scripts.{IsCpuLine}
 use Rattle.perf_base.specs.declared.lines.CpuLine.TheVariants as line
 use Rattle.stage_spec.specs.History.{CpuStep}
-use Rattle.machine.specs.Counted.{IsCountedBy}
-use Rattle.machine.specs.Stepped.{IsDoneWith}
-use Rattle.machine.proofs.Counting.{still-cpu_counted}
-use Rattle.machine.proofs.Refused.{stays-same}
-use Rattle.machine.proofs.Lines.{work-room}
-use Rattle.machine.proofs.Stepped.{cpu-sends}
-use Rattle.machine.proofs.Totals.{meter-room, none-grow}
+use Rattle.machine.{specs.{Counted.{IsCountedBy}, Stepped.{IsDoneWith}}, proofs.{Counting.{still-cpu_counted}, Refused.{stays-same}}}
+use Rattle.machine.proofs.{Lines.{work-room}, Stepped.{cpu-sends}, Totals.{meter-room, none-grow}}
 use Rattle.machine.proofs.given.cpu_line.Goals as goal
 
 pub work-requires-clause-room : goal.work-requires-clause-room

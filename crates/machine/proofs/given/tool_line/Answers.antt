@@ -1,10 +1,7 @@
 use Rattle.std.proofs.Common.{refl, sym, subst}
 use Rattle.stage_spec.specs.History.{ToolStep}
 use Rattle.perf_base.specs.declared.lines.ToolLine.TheVariants as line
-use Rattle.machine.specs.Counted.{IsCounted}
-use Rattle.machine.specs.Stepped.{IsDone}
-use Rattle.machine.proofs.Counting.{still-counted}
-use Rattle.machine.proofs.Refused.{stays-same}
+use Rattle.machine.{specs.{Counted.{IsCounted}, Stepped.{IsDone}}, proofs.{Counting.{still-counted}, Refused.{stays-same}}}
 use Rattle.machine.proofs.given.tool_line.Goals as goal
 
 pub returns-in-Seats-clause-done : goal.returns-in-Seats-clause-done

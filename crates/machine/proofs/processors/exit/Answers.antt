@@ -1,11 +1,7 @@
-use Rattle.std.specs.Prelude.{◌<◌}
-use Rattle.std.specs.Option.{option_copied}
-use Rattle.std.proofs.Common.{arith, refl, ap, ◌∙◌}
+use Rattle.std.{specs.{Prelude.{◌<◌}, Option.{option_copied}}, proofs.Common.{arith, refl, ap, ◌∙◌}}
 use Rattle.perf_base.specs.declared.lines.CpuLine.TheVariants as line
 use Rattle.world_spec.specs.Value.{World}
-use Rattle.machine.proofs.Counting.{counted-by, refused-cpu_counted}
-use Rattle.machine.proofs.Exits.{exit-done, exit-ready, exit-size}
-use Rattle.machine.proofs.Foreseen.{exit-foreseen}
+use Rattle.machine.proofs.{Counting.{counted-by, refused-cpu_counted}, Exits.{exit-done, exit-ready, exit-size}, Foreseen.{exit-foreseen}}
 use Rattle.machine.proofs.Refused.{refused-cpu}
 use Rattle.machine.proofs.processors.exit.Goals as goal
 

@@ -1,7 +1,6 @@
 use Rattle.std.proofs.Common.{ap}
 use Rattle.perf_base.specs.declared.lines.CpuLine.TheVariants as line
-use Rattle.machine.proofs.Forks.{fork-done, fork-ready}
-use Rattle.machine.proofs.Refused.{refused-cpu}
+use Rattle.machine.proofs.{Forks.{fork-done, fork-ready}, Refused.{refused-cpu}}
 use Rattle.machine.proofs.processors.fork.Goals as goal
 
 pub returns-in-Err-clause-done : goal.returns-in-Err-clause-done

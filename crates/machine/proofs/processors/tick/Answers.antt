@@ -1,11 +1,7 @@
-use Rattle.std.specs.Prelude.{◌<◌}
-use Rattle.std.specs.Option.{option_copied}
-use Rattle.std.proofs.Common.{arith, ap, refl, ◌∙◌}
+use Rattle.std.{specs.{Prelude.{◌<◌}, Option.{option_copied}}, proofs.Common.{arith, ap, refl, ◌∙◌}}
 use Rattle.perf_base.specs.declared.lines.CpuLine.TheVariants as line
 use Rattle.world_spec.specs.Value.{World}
-use Rattle.machine.proofs.Counting.{counted-by}
-use Rattle.machine.proofs.Foreseen.{tick-foreseen}
-use Rattle.machine.proofs.Ticking.{only-lists, tick-done, tick-ready}
+use Rattle.machine.proofs.{Counting.{counted-by}, Foreseen.{tick-foreseen}, Ticking.{only-lists, tick-done, tick-ready}}
 use Rattle.machine.proofs.processors.tick.Goals as goal
 
 pub returns-clause-ready : goal.returns-clause-ready

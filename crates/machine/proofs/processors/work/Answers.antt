@@ -1,7 +1,6 @@
 use Rattle.std.proofs.Common.{ap, length}
 use Rattle.world_spec.specs.Value.{World}
-use Rattle.machine.proofs.Totals.{work-grows}
-use Rattle.machine.proofs.Working.{work-done, work-seen, work-ready}
+use Rattle.machine.proofs.{Totals.{work-grows}, Working.{work-done, work-seen, work-ready}}
 use Rattle.machine.proofs.processors.work.Goals as goal
 
 pub work-requires-clause-judged : goal.work-requires-clause-judged

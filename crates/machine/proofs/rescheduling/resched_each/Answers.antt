@@ -1,14 +1,8 @@
-use Rattle.std.specs.Prelude.{◌≢◌}
-use Rattle.std.proofs.Common.{arith, refl, inl, inr, ◌≡◌, ◌∙◌, ◌+◌, ◌<◌, ◌≤◌, length, ap, sym, subst, if◌then◌else◌}
+use Rattle.std.{specs.Prelude.{◌≢◌}, proofs.Common.{arith, refl, inl, inr, ◌≡◌, ◌∙◌, ◌+◌, ◌<◌, ◌≤◌, length, ap, sym, subst, if◌then◌else◌}}
 use Rattle.std.proofs.lemmas.Bool.{cases_eq}
 use Rattle.perf_base.specs.declared.numbers.CpuNo.{CpuNo}
-use Rattle.stage_spec.specs.Hardware.{Hardware}
-use Rattle.stage_spec.specs.Replies.{seated}
-use Rattle.stage_spec.specs.Settle.{settle}
-use Rattle.stage_spec.specs.Stage.{Stage}
-use Rattle.world_spec.specs.Rescheduled.{IsRescheduled, IsUntouched}
-use Rattle.world_spec.specs.StageOf.{stage_of}
-use Rattle.world_spec.specs.Value.{World, seats_at}
+use Rattle.stage_spec.specs.{Hardware.{Hardware}, Replies.{seated}, Settle.{settle}, Stage.{Stage}}
+use Rattle.world_spec.specs.{Rescheduled.{IsRescheduled, IsUntouched}, StageOf.{stage_of}, Value.{World, seats_at}}
 use Rattle.cpu_sched.specs.Tried.{tried}
 use Rattle.machine.proofs.Counting.{counted-all, least-next, most-next, same-tried, seats-count}
 use Rattle.machine.proofs.Settling.{none-only, only-then, none-settled, settle-next, next-done, is-in_set}

@@ -1,15 +1,10 @@
-use Rattle.std.proofs.Common.{◌≡◌, ◌+◌, ◌*◌, ◌<◌, ◌≤◌, length, true}
-use Rattle.std.specs.List.{sum_by}
-use Rattle.std.specs.Prelude.{filter}
+use Rattle.std.{proofs.Common.{◌≡◌, ◌+◌, ◌*◌, ◌<◌, ◌≤◌, length, true}, specs.{List.{sum_by}, Prelude.{filter}}}
 use Rattle.perf_base.specs.declared.numbers.CpuNo.{CpuNo}
 use Rattle.stage_spec.specs.Settle.{settle_each}
 use Rattle.stage_laws.specs.Standings.{briefs}
-use Rattle.world_spec.specs.Rescheduled.{IsRescheduled}
-use Rattle.world_spec.specs.StageOf.{stage_of}
-use Rattle.world_spec.specs.Value.{seats_at}
+use Rattle.world_spec.specs.{Rescheduled.{IsRescheduled}, StageOf.{stage_of}, Value.{seats_at}}
 use Rattle.cpu_sched.specs.Tried.{tried}
-use Rattle.machine.specs.Settled.{OnlyRescheduled, is_in}
-use Rattle.machine.proofs.Settling.{cpus_below}
+use Rattle.machine.{specs.Settled.{OnlyRescheduled, is_in}, proofs.Settling.{cpus_below}}
 use Rattle.machine.proofs.rescheduling.resched_each.Given as goal
 
 abbrev pub invariant-loop-cpu : goal.invariant-loop-cpu

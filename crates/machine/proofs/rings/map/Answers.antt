@@ -1,9 +1,6 @@
-use Rattle.std.specs.Prelude.{true, [], ◌∷◌, ◌++◌, Some}
-use Rattle.std.proofs.Common.{refl}
+use Rattle.std.{specs.Prelude.{true, [], ◌∷◌, ◌++◌, Some}, proofs.Common.{refl}}
 use Rattle.perf_base.specs.declared.lines.ToolLine.TheVariants as line
-use Rattle.machine.specs.Stepped.{limits_in}
-use Rattle.machine.proofs.Refused.{refused-line}
-use Rattle.machine.proofs.RingLines.{declared, ring-done, ring-ready}
+use Rattle.machine.{specs.Stepped.{limits_in}, proofs.{Refused.{refused-line}, RingLines.{declared, ring-done, ring-ready}}}
 use Rattle.machine.proofs.rings.map.Goals as goal
 
 pub returns-in-Err-clause-done : goal.returns-in-Err-clause-done

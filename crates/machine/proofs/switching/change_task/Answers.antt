@@ -1,14 +1,9 @@
-use Rattle.std.specs.Prelude.{◌≡◌, [], ◌∷◌}
-use Rattle.std.specs.Option.{option_copied}
-use Rattle.std.proofs.Common.{ap, refl, subst, sym, ◌∙◌}
+use Rattle.std.{specs.{Prelude.{◌≡◌, [], ◌∷◌}, Option.{option_copied}}, proofs.Common.{ap, refl, subst, sym, ◌∙◌}}
 use Rattle.perf_base.specs.declared.lines.CpuLine.TheVariants as line
 use Rattle.stage_spec.specs.Switching.{switched}
-use Rattle.world_spec.specs.StageOf.{stage_of}
-use Rattle.world_spec.specs.Value.{World}
+use Rattle.world_spec.specs.{StageOf.{stage_of}, Value.{World}}
 use Rattle.cpu_sched.specs.Briefs.{present_brief}
-use Rattle.machine.specs.Counted.{AreCountedUnless, IsServedBy}
-use Rattle.machine.proofs.Counting.{counted-by}
-use Rattle.machine.proofs.Foreseen.{switch-foreseen}
+use Rattle.machine.{specs.Counted.{AreCountedUnless, IsServedBy}, proofs.{Counting.{counted-by}, Foreseen.{switch-foreseen}}}
 use Rattle.machine.proofs.TaskChange.{End, hardware-then, room-then, switch-done, switch-ready, switch-rescheduled, placed-totals}
 use Rattle.machine.proofs.switching.change_task.Goals as goal
 

@@ -1,7 +1,6 @@
 use Rattle.std.proofs.Common.{sym, subst}
 use Rattle.world_spec.specs.Shares.{HaveShares}
-use Rattle.machine.specs.Switched.{migration_shares}
-use Rattle.machine.proofs.TaskChange.{none-given}
+use Rattle.machine.{specs.Switched.{migration_shares}, proofs.TaskChange.{none-given}}
 use Rattle.machine.proofs.switching.migrate_if.Goals as goal
 
 pub returns-else-migrates-clause-shares : goal.returns-else-migrates-clause-shares

@@ -1,9 +1,6 @@
-use Rattle.std.specs.Option.{option_copied}
-use Rattle.std.proofs.Common.{refl, sym, ◌∙◌}
+use Rattle.std.{specs.Option.{option_copied}, proofs.Common.{refl, sym, ◌∙◌}}
 use Rattle.perf_base.specs.declared.lines.CpuLine.TheVariants as line
-use Rattle.machine.proofs.Counting.{idle-counted, refused-cpu_counted}
-use Rattle.machine.proofs.Refused.{refused-cpu}
-use Rattle.machine.proofs.Unswitched.{runs-there, unswitched-still}
+use Rattle.machine.proofs.{Counting.{idle-counted, refused-cpu_counted}, Refused.{refused-cpu}, Unswitched.{runs-there, unswitched-still}}
 use Rattle.machine.proofs.switching.switch.Goals as goal
 
 pub returns-in-Err-clause-done : goal.returns-in-Err-clause-done

@@ -1,11 +1,9 @@
 use Rattle.std.proofs.Common.{ap, length, ◌∙◌}
 use Rattle.perf_base.specs.declared.lines.ToolLine.TheVariants as line
-use Rattle.world_spec.specs.Adding.{Newcomer}
-use Rattle.world_spec.specs.Value.{World}
+use Rattle.world_spec.specs.{Adding.{Newcomer}, Value.{World}}
 use Rattle.event_open.specs.Opened.{opened_as, IsOpenedAs}
 use Rattle.machine.proofs.Counting.{counted-step, refused-counted}
-use Rattle.machine.proofs.Opening.{hardware-stays, running-stays, untouched, is-ready, is-done, added-totals}
-use Rattle.machine.proofs.Refused.{refused-line}
+use Rattle.machine.proofs.{Opening.{hardware-stays, running-stays, untouched, is-ready, is-done, added-totals}, Refused.{refused-line}}
 use Rattle.machine.proofs.tools.open.Goals as goal
 
 pub resched_each-requires : goal.resched_each-requires

@@ -1,8 +1,7 @@
 use Rattle.std.proofs.Common.{refl, ap}
 use Rattle.perf_base.specs.declared.lines.ToolLine.TheVariants as line
 use Rattle.perf_base.specs.declared.reply.Reply.TheVariants as reply
-use Rattle.machine.proofs.Asking.{asked}
-use Rattle.machine.proofs.Refused.{refused-line}
+use Rattle.machine.proofs.{Asking.{asked}, Refused.{refused-line}}
 use Rattle.machine.proofs.tools.read.Goals as goal
 
 pub returns-in-Err : goal.returns-in-Err

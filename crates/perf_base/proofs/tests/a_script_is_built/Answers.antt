@@ -1,5 +1,4 @@
-use Rattle.std.proofs.Common.{◌≡◌, refl, arith}
-use Rattle.std.proofs.lemmas.List.Quantifiers.{Any-push}
+use Rattle.std.proofs.{Common.{◌≡◌, refl, arith}, lemmas.List.Quantifiers.{Any-push}}
 use Rattle.perf_base.proofs.tests.a_script_is_built.Goals as goal
 
 pub add_ring-requires-clause-line : goal.add_ring-requires-clause-line

@@ -1,6 +1,4 @@
-use Rattle.std.proofs.Common.{[], ◌≡◌, ℕ, ◌<◌, ◌∷◌, zero, suc, refl, arith}
-use Rattle.std.specs.Prelude.{Any}
-use Rattle.std.specs.Int.{bit_at}
+use Rattle.std.{proofs.Common.{[], ◌≡◌, ℕ, ◌<◌, ◌∷◌, zero, suc, refl, arith}, specs.{Prelude.{Any}, Int.{bit_at}}}
 use Rattle.perf_base.specs.declared.lines.PmuLine.{PmuLine}
 use Rattle.perf_base.proofs.tests.each_processor_is_of_its_pmu.Goals as goal
 

@@ -1,5 +1,4 @@
-use Rattle.std.proofs.Common.{◌≡◌, ◌≤◌, ◌*◌, take}
-use Rattle.std.specs.Prelude.{sum_by}
+use Rattle.std.{proofs.Common.{◌≡◌, ◌≤◌, ◌*◌, take}, specs.Prelude.{sum_by}}
 use Rattle.perf_base.specs.Weight.{shares}
 use Rattle.perf_base.proofs.weight.shares.Given as goal
 

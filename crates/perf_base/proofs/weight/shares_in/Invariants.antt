@@ -1,5 +1,4 @@
-use Rattle.std.proofs.Common.{◌≡◌, ◌≤◌, ◌*◌, take}
-use Rattle.std.specs.Prelude.{sum_by}
+use Rattle.std.{proofs.Common.{◌≡◌, ◌≤◌, ◌*◌, take}, specs.Prelude.{sum_by}}
 use Rattle.perf_base.specs.Weight.{line_shares}
 use Rattle.perf_base.proofs.weight.shares_in.Given as goal
 

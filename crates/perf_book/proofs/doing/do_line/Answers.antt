@@ -1,7 +1,5 @@
-use Rattle.std.specs.Prelude.{◌≡◌, List, ◌∷◌, [], ◌++◌}
-use Rattle.perf_base.specs.declared.acts.Act.{Act}
-use Rattle.perf_base.specs.declared.reply.Answer.{Answer}
-use Rattle.std.proofs.Common.{ap, subst, sym, ◌∙◌}
+use Rattle.std.{specs.Prelude.{◌≡◌, List, ◌∷◌, [], ◌++◌}, proofs.Common.{ap, subst, sym, ◌∙◌}}
+use Rattle.perf_base.specs.declared.{acts.Act.{Act}, reply.Answer.{Answer}}
 use Rattle.report_spec.specs.Answers.{lost_in}
 use Rattle.stage_spec.specs.Replies.{AnswerOrder}
 use Rattle.machine.specs.Leading.{act_of, done_by}

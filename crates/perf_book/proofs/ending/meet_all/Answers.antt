@@ -1,19 +1,11 @@
-use Rattle.std.specs.Prelude.{◌≡◌, ℕ, ◌*◌, ◌<◌, List, length, slice_index_or, take}
-use Rattle.std.proofs.Common.{arith, refl, sym, ap, subst, ◌∙◌}
-use Rattle.perf_base.specs.declared.acts.Act.{Act}
-use Rattle.perf_base.specs.declared.numbers.RingNo.{RingNo}
-use Rattle.perf_base.specs.Scripts.{Scripted, IsScript}
-use Rattle.perf_base.specs.Weight.{weight}
-use Rattle.ring_spec.specs.Records.{words_of}
-use Rattle.ring_spec.specs.Rings.{account_in, bytes_of}
+use Rattle.std.{specs.Prelude.{◌≡◌, ℕ, ◌*◌, ◌<◌, List, length, slice_index_or, take}, proofs.Common.{arith, refl, sym, ap, subst, ◌∙◌}}
+use Rattle.perf_base.specs.{declared.{acts.Act.{Act}, numbers.RingNo.{RingNo}}, Scripts.{Scripted, IsScript}, Weight.{weight}}
+use Rattle.ring_spec.specs.{Records.{words_of}, Rings.{account_in, bytes_of}}
 use Rattle.sample_ring.specs.RingLists.{ring_index}
 use Rattle.stage_spec.specs.Order.{last_seen}
-use Rattle.machine.specs.Leading.{Kept}
-use Rattle.machine.specs.Readers.{records_taken, released_in, words_in}
-use Rattle.machine.proofs.Seen.{end-seen}
-use Rattle.perf_book.proofs.Declared.{all-declared}
+use Rattle.machine.{specs.{Leading.{Kept}, Readers.{records_taken, released_in, words_in}}, proofs.Seen.{end-seen}}
 use Rattle.machine.proofs.Behind.{all-behind, ends-of-rings, its-reader, meet-behind, none-behind, numbers-of}
-use Rattle.perf_book.proofs.Looked.{IsNext, looked-next, looked-none, no_ring}
+use Rattle.perf_book.proofs.{Declared.{all-declared}, Looked.{IsNext, looked-next, looked-none, no_ring}}
 use Rattle.perf_book.proofs.Parts.{IsPart, SameReaders, all-parts, met-same, met-still, no-look, parts-more, same-records, same-released, same-self, same-then, same-words, written-looked}
 use Rattle.perf_book.proofs.Visits.{kth-end, kth-place, kth-there}
 use Rattle.perf_book.proofs.ending.meet_all.Goals as goal

@@ -1,10 +1,8 @@
 use Rattle.std.specs.Prelude.{◌≡◌, ◌+◌, ◌*◌, ◌≤◌, vec_capacity, vec_len}
 use Rattle.perf_base.specs.Weight.{weight}
 use Rattle.work_account.specs.Ends.{AreTogether}
-use Rattle.machine.specs.Leading.{LeadTo}
-use Rattle.machine.specs.Readers.{AreBehind, AreReaders, BehindTo}
-use Rattle.perf_book.proofs.Looked.{Looked}
-use Rattle.perf_book.proofs.Parts.{PartsTo, SameReaders}
+use Rattle.machine.specs.{Leading.{LeadTo}, Readers.{AreBehind, AreReaders, BehindTo}}
+use Rattle.perf_book.proofs.{Looked.{Looked}, Parts.{PartsTo, SameReaders}}
 use Rattle.perf_book.proofs.ending.meet_all.Given as goal
 
 abbrev pub invariant-loop-ring : goal.invariant-loop-ring

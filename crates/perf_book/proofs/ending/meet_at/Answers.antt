@@ -1,5 +1,4 @@
-use Rattle.std.specs.Prelude.{◌≡◌, List}
-use Rattle.std.proofs.Common.{arith, sym, ap, ◌∙◌, inr}
+use Rattle.std.{specs.Prelude.{◌≡◌, List}, proofs.Common.{arith, sym, ap, ◌∙◌, inr}}
 use Rattle.perf_base.specs.declared.acts.Act.{Act}
 use Rattle.ring_laws.proofs.Tails.{seen_tail}
 use Rattle.ring_spec.specs.Rings.{bytes_of}

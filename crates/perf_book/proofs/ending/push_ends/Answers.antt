@@ -1,8 +1,5 @@
-use Rattle.std.specs.Prelude.{ℕ, List}
-use Rattle.std.proofs.Common.{get_or, refl, subst}
-use Rattle.std.proofs.lemmas.List.{get_or_default}
-use Rattle.perf_base.specs.declared.numbers.RingNo.{RingNo}
-use Rattle.perf_base.specs.Scripts.{HasRing}
+use Rattle.std.{specs.Prelude.{ℕ, List}, proofs.{Common.{get_or, refl, subst}, lemmas.List.{get_or_default}}}
+use Rattle.perf_base.specs.{declared.numbers.RingNo.{RingNo}, Scripts.{HasRing}}
 use Rattle.machine.proofs.Unlawful.{ring-there}
 use Rattle.perf_book.proofs.ending.push_ends.Goals as goal
 

@@ -1,8 +1,7 @@
 use Rattle.std.specs.Prelude.{◌≡◌, All, List, map, take, vec_capacity, vec_len}
 use Rattle.perf_base.specs.declared.acts.Act.{Act}
 use Rattle.ring_spec.specs.Rings.{account_in, bytes_of}
-use Rattle.machine.specs.Leading.{LeadTo}
-use Rattle.machine.specs.Readers.{IsShown}
+use Rattle.machine.specs.{Leading.{LeadTo}, Readers.{IsShown}}
 use Rattle.perf_book.proofs.ending.push_ends.Given as goal
 
 abbrev pub invariant-loop-ring : goal.invariant-loop-ring

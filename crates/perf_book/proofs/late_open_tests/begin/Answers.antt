@@ -1,12 +1,9 @@
-use Rattle.std.specs.Prelude.{ℕ, ◌<◌, List, [], length}
-use Rattle.std.proofs.Common.{get_or, subst, sym}
-use Rattle.perf_base.specs.declared.numbers.RingNo.{RingNo}
-use Rattle.perf_base.specs.Scripts.{IsCovered, IsRingSize, Scripted}
+use Rattle.std.{specs.Prelude.{ℕ, ◌<◌, List, [], length}, proofs.Common.{get_or, subst, sym}}
+use Rattle.perf_base.specs.{declared.numbers.RingNo.{RingNo}, Scripts.{IsCovered, IsRingSize, Scripted}}
 use Rattle.sample_ring.specs.RingLists.{AreNew}
 use Rattle.work_account.specs.Ends.{AreTogether}
-use Rattle.machine.specs.Leading.{LeadTo}
+use Rattle.machine.{specs.Leading.{LeadTo}, proofs.New.{new-accounts, new-together}}
 use Rattle.perf_book.proofs.LateOpens.{covered}
-use Rattle.machine.proofs.New.{new-accounts, new-together}
 use Rattle.perf_book.proofs.late_open_tests.begin.Goals as goal
 
 pub make_rings-requires : goal.make_rings-requires

@@ -1,7 +1,5 @@
-use Rattle.std.specs.Prelude.{◌≤◌}
-use Rattle.std.proofs.Common.{subst, sym}
-use Rattle.perf_base.specs.Scripts.{IsCovered, Scripted}
-use Rattle.perf_base.specs.Weight.{weight}
+use Rattle.std.{specs.Prelude.{◌≤◌}, proofs.Common.{subst, sym}}
+use Rattle.perf_base.specs.{Scripts.{IsCovered, Scripted}, Weight.{weight}}
 use Rattle.perf_book.proofs.LateOpens.{covered, light}
 use Rattle.perf_book.proofs.late_open_tests.next_line.Goals as goal
 

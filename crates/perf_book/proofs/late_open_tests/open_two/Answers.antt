@@ -1,7 +1,6 @@
 use Rattle.std.proofs.Common.{arith, refl, [], ◌∷◌}
 use Rattle.perf_base.specs.declared.acts.Act.TheVariants as act
-use Rattle.perf_book.specs.LateOpen.{tool}
-use Rattle.perf_book.proofs.LateOpens.{cpu-has, tool-has}
+use Rattle.perf_book.{specs.LateOpen.{tool}, proofs.LateOpens.{cpu-has, tool-has}}
 use Rattle.perf_book.proofs.late_open_tests.open_two.Goals as goal
 
 pub next_line-requires-clause-line : goal.next_line-requires-clause-line

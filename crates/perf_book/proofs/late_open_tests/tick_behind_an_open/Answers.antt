@@ -1,8 +1,7 @@
 use Rattle.std.proofs.Common.{arith, refl, ap, subst, sym, ◌∙◌}
 use Rattle.perf_base.specs.Scripts.{IsCovered}
 use Rattle.machine.specs.Prepared.{prepared}
-use Rattle.perf_book.specs.LateOpen.{before_plan, behind_plan, cpu}
-use Rattle.perf_book.proofs.LateOpens.{covered, cpu-has, some-brief, tick-tests, tool-has}
+use Rattle.perf_book.{specs.LateOpen.{before_plan, behind_plan, cpu}, proofs.LateOpens.{covered, cpu-has, some-brief, tick-tests, tool-has}}
 use Rattle.perf_book.proofs.late_open_tests.tick_behind_an_open.Goals as goal
 
 pub prepare-requires-clause-covered : goal.prepare-requires-clause-covered

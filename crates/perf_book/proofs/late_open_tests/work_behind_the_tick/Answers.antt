@@ -1,7 +1,6 @@
 use Rattle.std.proofs.Common.{arith, refl, ap, subst, sym}
 use Rattle.perf_base.specs.Scripts.{IsCovered}
-use Rattle.perf_book.specs.LateOpen.{behind_tick}
-use Rattle.perf_book.proofs.LateOpens.{covered, cpu-has, work-tests-none}
+use Rattle.perf_book.{specs.LateOpen.{behind_tick}, proofs.LateOpens.{covered, cpu-has, work-tests-none}}
 use Rattle.perf_book.proofs.late_open_tests.work_behind_the_tick.Goals as goal
 
 pub prepare-requires-clause-covered : goal.prepare-requires-clause-covered

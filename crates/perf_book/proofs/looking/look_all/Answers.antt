@@ -1,11 +1,7 @@
-use Rattle.std.specs.Prelude.{ℕ, ◌+◌, ◌<◌, List, length, slice_index_or, slice_set}
-use Rattle.std.proofs.Common.{arith, refl, ap, subst, ◌∙◌}
-use Rattle.perf_base.specs.declared.acts.Act.{Act}
-use Rattle.perf_base.specs.Scripts.{Scripted}
+use Rattle.std.{specs.Prelude.{ℕ, ◌+◌, ◌<◌, List, length, slice_index_or, slice_set}, proofs.Common.{arith, refl, ap, subst, ◌∙◌}}
+use Rattle.perf_base.specs.{declared.acts.Act.{Act}, Scripts.{Scripted}}
 use Rattle.machine.specs.Readers.{loads_of}
-use Rattle.perf_book.proofs.Loads.{each-more, one-more}
-use Rattle.perf_book.proofs.Looked.{IsNext, looked-next, looked-none}
-use Rattle.perf_book.proofs.Visits.{kth-place, kth-there, loads-of-rings}
+use Rattle.perf_book.proofs.{Loads.{each-more, one-more}, Looked.{IsNext, looked-next, looked-none}, Visits.{kth-place, kth-there, loads-of-rings}}
 use Rattle.perf_book.proofs.looking.look_all.Goals as goal
 
 pub loop-ring-init : goal.loop-ring-init

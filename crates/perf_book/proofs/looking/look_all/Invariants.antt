@@ -1,7 +1,6 @@
 use Rattle.std.specs.Prelude.{◌≡◌, ◌+◌, ◌≤◌, map, take, drop, ◌++◌, vec_capacity, vec_len}
 use Rattle.work_account.specs.Ends.{AreTogether}
-use Rattle.machine.specs.Leading.{LeadTo}
-use Rattle.machine.specs.Readers.{loads_of}
+use Rattle.machine.specs.{Leading.{LeadTo}, Readers.{loads_of}}
 use Rattle.perf_book.proofs.Looked.{Looked}
 use Rattle.perf_book.proofs.looking.look_all.Given as goal
 

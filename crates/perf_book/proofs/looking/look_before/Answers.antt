@@ -1,10 +1,7 @@
-use Rattle.std.specs.Prelude.{◌≡◌, ℕ, ◌+◌, List, [], map}
-use Rattle.std.proofs.Common.{arith, refl, sym, subst, append-nil, inl, inr}
-use Rattle.perf_base.specs.declared.acts.Act.{Act}
-use Rattle.perf_base.specs.declared.acts.Actor.{Actor}
+use Rattle.std.{specs.Prelude.{◌≡◌, ℕ, ◌+◌, List, [], map}, proofs.Common.{arith, refl, sym, subst, append-nil, inl, inr}}
+use Rattle.perf_base.specs.declared.acts.{Act.{Act}, Actor.{Actor}}
 use Rattle.machine.specs.Readers.{loads_of}
-use Rattle.perf_book.specs.Book.{AreLooksOf, loads_by}
-use Rattle.perf_book.proofs.Loads.{none-more}
+use Rattle.perf_book.{specs.Book.{AreLooksOf, loads_by}, proofs.Loads.{none-more}}
 use Rattle.perf_book.proofs.looking.look_before.Goals as goal
 
 -- an actor that makes no looks

@@ -1,7 +1,4 @@
-use Rattle.std.specs.Prelude.{[], length, sum_by}
-use Rattle.std.proofs.Common.{arith, ap, ◌∙◌}
-use Rattle.std.proofs.lemmas.List.{take_all}
-use Rattle.std.proofs.lemmas.List.Sums.{sum_by_more}
+use Rattle.std.{specs.Prelude.{[], length, sum_by}, proofs.{Common.{arith, ap, ◌∙◌}, lemmas.List.{take_all, Sums.{sum_by_more}}}}
 use Rattle.perf_book.proofs.making.cpu_line_count.Goals as goal
 
 pub loop-cpu-preserved : goal.loop-cpu-preserved

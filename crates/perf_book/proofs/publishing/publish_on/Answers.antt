@@ -1,6 +1,5 @@
 use Rattle.std.proofs.Common.{◌≡◌, ap, sym, subst, ◌∙◌, length, Some, ℕ, ◌++◌, [], ◌∷◌}
-use Rattle.user_page.specs.declared.look.Look.{Look}
-use Rattle.user_page.specs.Looks.{MayFollow}
+use Rattle.user_page.specs.{declared.look.Look.{Look}, Looks.{MayFollow}}
 use Rattle.stage_spec.specs.Tables.{family_if_open}
 use Rattle.report_spec.specs.Published.{look_of}
 use Rattle.perf_book.proofs.Watching.{grown-closed, grown-open, look-follows}

@@ -1,8 +1,6 @@
-use Rattle.std.proofs.Common.{◌≤◌, arith, subst, sym, ap, ◌∙◌, inl, inr}
-use Rattle.std.proofs.lemmas.Bool.{cases_eq}
+use Rattle.std.proofs.{Common.{◌≤◌, arith, subst, sym, ap, ◌∙◌, inl, inr}, lemmas.Bool.{cases_eq}}
 use Rattle.machine.specs.Leading.{HasLine}
-use Rattle.perf_book.specs.Plans.{actor_at}
-use Rattle.perf_book.proofs.Left.{all-done, still-none}
+use Rattle.perf_book.{specs.Plans.{actor_at}, proofs.Left.{all-done, still-none}}
 use Rattle.perf_book.proofs.running.do_rest.Goals as goal
 
 pub loop-place-preserved : goal.loop-place-preserved

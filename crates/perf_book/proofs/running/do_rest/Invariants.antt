@@ -1,8 +1,6 @@
 use Rattle.std.proofs.Common.{◌≡◌, ℕ, ◌<◌}
 use Rattle.machine.specs.Leading.{HasLine}
-use Rattle.perf_book.specs.Book.{IsBooked}
-use Rattle.perf_book.specs.Plans.{actor_at}
-use Rattle.perf_book.specs.Sheets.{IsReady}
+use Rattle.perf_book.specs.{Book.{IsBooked}, Plans.{actor_at}, Sheets.{IsReady}}
 use Rattle.perf_book.proofs.running.do_rest.Given as goal
 
 abbrev pub invariant-loop-place : goal.invariant-loop-place

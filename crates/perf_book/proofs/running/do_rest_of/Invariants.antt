@@ -1,7 +1,6 @@
 use Rattle.std.proofs.Common.{◌≡◌}
 use mathlib.Core.List.{IsPrefix}
-use Rattle.perf_book.specs.Sheets.{IsReady}
-use Rattle.perf_book.proofs.Left.{lines_left}
+use Rattle.perf_book.{specs.Sheets.{IsReady}, proofs.Left.{lines_left}}
 use Rattle.perf_book.proofs.running.do_rest_of.Given as goal
 
 abbrev pub invariant-loop-actor : goal.invariant-loop-actor

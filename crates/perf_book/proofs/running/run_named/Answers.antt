@@ -1,15 +1,10 @@
 use Rattle.std.proofs.Common.{◌≡◌, ◌*◌, ◌<◌, List, AllPairs, slice_index_or, sym, subst, ◌∙◌}
-use Rattle.perf_base.specs.declared.lines.ReaderLine.{ReaderLine}
-use Rattle.perf_base.specs.declared.numbers.RingNo.{RingNo}
-use Rattle.perf_base.specs.Scripts.{Scripted}
-use Rattle.perf_base.specs.Weight.{weight}
+use Rattle.perf_base.specs.{declared.{lines.ReaderLine.{ReaderLine}, numbers.RingNo.{RingNo}}, Scripts.{Scripted}, Weight.{weight}}
 use Rattle.sample_ring.specs.RingLists.{RingList}
 use Rattle.work_account.specs.Ends.{AreTogether}
 use Rattle.machine.specs.Readers.{AreReaders}
 use Rattle.report_spec.specs.Answers.{line_for}
-use Rattle.perf_book.specs.Book.{IsBooked}
-use Rattle.perf_book.specs.Running.{AreReady, IsReadBy}
-use Rattle.perf_book.proofs.Ready.{all-ready, planned, readers-back}
+use Rattle.perf_book.{specs.{Book.{IsBooked}, Running.{AreReady, IsReadBy}}, proofs.Ready.{all-ready, planned, readers-back}}
 use Rattle.perf_book.proofs.running.run_named.Goals as goal
 
 pub run_readers-ins-requires-clause-rise : goal.run_readers-ins-requires-clause-rise

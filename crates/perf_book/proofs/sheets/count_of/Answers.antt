@@ -1,8 +1,6 @@
-use Rattle.std.proofs.Common.{◌≡◌, sym, ap, ◌∙◌, [], length, rules, arith}
-use Rattle.std.proofs.lemmas.List.{get_or_past}
+use Rattle.std.proofs.{Common.{◌≡◌, sym, ap, ◌∙◌, [], length, rules, arith}, lemmas.List.{get_or_past}}
 use Rattle.perf_base.specs.Scripts.{lines_of_cpu, lines_of_tool}
-use Rattle.perf_book.specs.Plans.{count_of}
-use Rattle.perf_book.proofs.sheets.count_of.Goals.{in-Processor, in-Tool, in_default-2, in_default-3, in_default}
+use Rattle.perf_book.{specs.Plans.{count_of}, proofs.sheets.count_of.Goals.{in-Processor, in-Tool, in_default-2, in_default-3, in_default}}
 use Rattle.perf_book.proofs.sheets.count_of.Goals as goal
 
 pub returns : goal.returns

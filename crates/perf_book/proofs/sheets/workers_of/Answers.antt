@@ -1,8 +1,6 @@
 use Rattle.std.proofs.Common.{◌≡◌, ℕ, suc, ◌+◌, ◌-◌, ◌++◌, List, arith, map, reverse, subst, sym}
-use Rattle.perf_base.specs.declared.acts.Actor.{Actor}
-use Rattle.perf_base.specs.Scripts.{Scripted}
-use Rattle.perf_book.specs.Plans.{turn_in, workers_below, workers_of}
-use Rattle.perf_book.proofs.Turns.{one-more}
+use Rattle.perf_base.specs.{declared.acts.Actor.{Actor}, Scripts.{Scripted}}
+use Rattle.perf_book.{specs.Plans.{turn_in, workers_below, workers_of}, proofs.Turns.{one-more}}
 use Rattle.perf_book.proofs.sheets.workers_of.Goals as goal
 
 pub loop-place-preserved : goal.loop-place-preserved

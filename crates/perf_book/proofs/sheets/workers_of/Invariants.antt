@@ -1,6 +1,5 @@
 use Rattle.std.proofs.Common.{◌≡◌, ◌-◌, ◌++◌, All, map, reverse}
-use Rattle.perf_book.specs.Plans.{turn_in, workers_below, workers_of}
-use Rattle.perf_book.specs.Sheets.{IsReady}
+use Rattle.perf_book.specs.{Plans.{turn_in, workers_below, workers_of}, Sheets.{IsReady}}
 use Rattle.perf_book.proofs.sheets.workers_of.Given as goal
 
 abbrev pub invariant-loop-place : goal.invariant-loop-place

@@ -1,13 +1,8 @@
-use Rattle.std.specs.Prelude.{ℕ, ◌*◌, ◌<◌, ◌≤◌, List, length}
-use Rattle.std.proofs.Common.{arith, get_or, subst, sym}
-use Rattle.perf_base.specs.declared.numbers.RingNo.{RingNo}
-use Rattle.perf_base.specs.Scripts.{IsRingSize, Scripted}
-use Rattle.perf_base.specs.Weight.{weight}
+use Rattle.std.{specs.Prelude.{ℕ, ◌*◌, ◌<◌, ◌≤◌, List, length}, proofs.Common.{arith, get_or, subst, sym}}
+use Rattle.perf_base.specs.{declared.numbers.RingNo.{RingNo}, Scripts.{IsRingSize, Scripted}, Weight.{weight}}
 use Rattle.sample_ring.specs.RingLists.{AreNew, OutList}
 use Rattle.work_account.specs.Ends.{AreTogether}
-use Rattle.machine.specs.Readers.{AreReaders}
-use Rattle.machine.proofs.Behind.{following-readers}
-use Rattle.machine.proofs.New.{new-accounts, new-following, new-together}
+use Rattle.machine.{specs.Readers.{AreReaders}, proofs.{Behind.{following-readers}, New.{new-accounts, new-following, new-together}}}
 use Rattle.perf_book.proofs.tests.book_of.Goals as goal
 
 pub make_rings-requires : goal.make_rings-requires

@@ -1,7 +1,6 @@
 use Rattle.std.proofs.Common.{◌<◌, AllPairs, subst}
 use Rattle.perf_base.specs.declared.lines.ReaderLine.{ReaderLine}
-use Rattle.perf_book.specs.Running.{AreReady}
-use Rattle.perf_book.proofs.Reading.{read-more, still-out}
+use Rattle.perf_book.{specs.Running.{AreReady}, proofs.Reading.{read-more, still-out}}
 use Rattle.perf_book.proofs.workers.+fn-run_readers-join+arg3+run_readers.Goals as goal
 
 pub take_out-reader-requires-clause-rise : goal.take_out-reader-requires-clause-rise

@@ -1,5 +1,4 @@
-use Rattle.std.proofs.Common.{sym, ◌∙◌}
-use Rattle.std.proofs.lemmas.Option.{same_Some}
+use Rattle.std.proofs.{Common.{sym, ◌∙◌}, lemmas.Option.{same_Some}}
 use Rattle.perf_book.proofs.Reading.{no-tries, one-try}
 use Rattle.perf_book.proofs.workers.read.Goals as goal
 

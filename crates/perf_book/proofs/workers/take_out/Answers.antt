@@ -1,7 +1,6 @@
 use Rattle.std.proofs.Common.{sym, subst}
 use Rattle.sample_ring.specs.RingLists.{InList}
-use Rattle.perf_book.specs.Running.{AreReady}
-use Rattle.perf_book.proofs.Reading.{rest-ready, rest-rise}
+use Rattle.perf_book.{specs.Running.{AreReady}, proofs.Reading.{rest-ready, rest-rise}}
 use Rattle.perf_book.proofs.workers.take_out.Goals as goal
 
 pub returns-clause-rise : goal.returns-clause-rise

@@ -1,5 +1,4 @@
-use Rattle.std.proofs.Common.{◌≡◌, ◌-◌, ◌∙◌, length, take, drop, arith, length-drop}
-use Rattle.std.proofs.lemmas.Grind.{common_steps}
+use Rattle.std.proofs.{Common.{◌≡◌, ◌-◌, ◌∙◌, length, take, drop, arith, length-drop}, lemmas.Grind.{common_steps}}
 use Rattle.perf_io.proofs.Additions.{Adds-more}
 use Rattle.perf_io.proofs.writing.write_all.Goals as goal
 

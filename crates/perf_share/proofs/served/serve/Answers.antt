@@ -1,7 +1,5 @@
-use Rattle.std.specs.Prelude.{ℕ, ◌<◌, List, length}
-use Rattle.std.proofs.Common.{get_or, subst, sym}
-use Rattle.perf_base.specs.declared.numbers.RingNo.{RingNo}
-use Rattle.perf_base.specs.Scripts.{IsRingSize}
+use Rattle.std.{specs.Prelude.{ℕ, ◌<◌, List, length}, proofs.Common.{get_or, subst, sym}}
+use Rattle.perf_base.specs.{declared.numbers.RingNo.{RingNo}, Scripts.{IsRingSize}}
 use Rattle.perf_share.proofs.Serving.{first-served, made-accounts}
 use Rattle.perf_share.proofs.served.serve.Goals as goal
 

@@ -1,8 +1,7 @@
-use Rattle.std.proofs.Common.{◌≡◌, Ok, true, ap, arith, ◌∙◌}
-use Rattle.std.specs.Prelude.{decimal}
+use Rattle.std.{proofs.Common.{◌≡◌, Ok, true, ap, arith, ◌∙◌}, specs.Prelude.{decimal}}
 use Rattle.perf_top.proofs.Asking.{read-number, same-number}
-use Rattle.perf_top.proofs.asked.number_of.Goals as goal
 use Rattle.perf_top.proofs.asked.number_of.Goals.{else-least-number-via-then-least-number+then-number-most+else-says, else-least-number-via-then-least-number+else-number-most, else-least-number-via-else-least-number}
+use Rattle.perf_top.proofs.asked.number_of.Goals as goal
 
 pub returns-in-Err : goal.returns-in-Err
 returns-in-Err c n some few is =

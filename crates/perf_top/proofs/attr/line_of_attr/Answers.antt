@@ -1,6 +1,5 @@
 use Rattle.std.proofs.Common.{ap}
-use Rattle.perf_top.specs.Attributes.{words_of_attr, line_of_words}
-use Rattle.perf_top.proofs.Rooms.{attr_fits, never_full}
+use Rattle.perf_top.{specs.Attributes.{words_of_attr, line_of_words}, proofs.Rooms.{attr_fits, never_full}}
 use Rattle.perf_top.proofs.attr.line_of_attr.Goals as goal
 
 pub unreachable-requires : goal.unreachable-requires

@@ -1,13 +1,9 @@
-use Rattle.std.specs.Prelude.{◌≡◌, ◌⊎◌, ℕ, List}
-use Rattle.std.proofs.Common.{subst, sym}
+use Rattle.std.{specs.Prelude.{◌≡◌, ◌⊎◌, ℕ, List}, proofs.Common.{subst, sym}}
 use Rattle.perf_base.specs.declared.reasons.SReason.{SReason}
 use Rattle.script_spec.specs.Texts.{IsRefused}
-use Rattle.perf_top.specs.Asking.{ReadsScript}
-use Rattle.perf_top.specs.Outcome.{Gave, IsRefusal}
-use Rattle.perf_top.specs.declared.asked.Asked.{Asked}
-use Rattle.perf_top.specs.declared.status.Status.{Status}
-use Rattle.perf_top.specs.declared.status.Status.TheVariants as status
+use Rattle.perf_top.specs.{Asking.{ReadsScript}, Outcome.{Gave, IsRefusal}, declared.{asked.Asked.{Asked}, status.Status.{Status}}}
 use Rattle.perf_top.proofs.Refusing.{if-err, no-script}
+use Rattle.perf_top.specs.declared.status.Status.TheVariants as status
 use Rattle.perf_top.proofs.load.load.Goals as goal
 
 pub returns-in-Ok-clause-refused : goal.returns-in-Ok-clause-refused

@@ -1,12 +1,8 @@
-use Rattle.std.specs.Prelude.{◌≡◌, Err, length, take}
-use Rattle.std.proofs.Common.{arith, ap, sym, subst, ◌∙◌}
+use Rattle.std.{specs.Prelude.{◌≡◌, Err, length, take}, proofs.Common.{arith, ap, sym, subst, ◌∙◌}}
 use Rattle.perf_base.specs.Scripts.{Scripted}
-use Rattle.machine.specs.Leading.{LeadTo}
-use Rattle.machine.specs.Stepping.{IsUnlawful}
+use Rattle.machine.specs.{Leading.{LeadTo}, Stepping.{IsUnlawful}}
 use Rattle.stage_spec.specs.Order.{IsComplete}
-use Rattle.perf_top.specs.declared.ready.BadLook.{BadLook}
-use Rattle.perf_top.specs.Outcome.{HasBadLook}
-use Rattle.perf_top.proofs.Lines.{bad-look-at, has-line-at}
+use Rattle.perf_top.{specs.{declared.ready.BadLook.{BadLook}, Outcome.{HasBadLook}}, proofs.Lines.{bad-look-at, has-line-at}}
 use Rattle.perf_top.proofs.ready.fill.Goals as goal
 
 pub bad_look-requires-clause-line : goal.bad_look-requires-clause-line

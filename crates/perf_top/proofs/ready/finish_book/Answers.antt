@@ -1,5 +1,4 @@
-use Rattle.std.specs.Prelude.{◌*◌}
-use Rattle.std.proofs.Common.{◌∙◌}
+use Rattle.std.{specs.Prelude.{◌*◌}, proofs.Common.{◌∙◌}}
 use Rattle.perf_base.specs.Weight.{weight}
 use Rattle.machine.proofs.Behind.{following-behind, following-readers}
 use Rattle.perf_top.proofs.ready.finish_book.Goals as goal

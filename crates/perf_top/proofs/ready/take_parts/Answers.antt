@@ -1,15 +1,10 @@
 use Rattle.std.specs.Prelude.{◌≡◌, ℕ, ◌*◌, ◌<◌, List, length, map, option_map, Option, Some, None, slice_get}
-use Rattle.std.proofs.Common.{arith, ap, get_or, subst, sym, ◌∙◌}
-use Rattle.std.proofs.lemmas.Option.{none-some, same_Some, slice_get-map}
-use Rattle.perf_base.specs.declared.numbers.RingNo.{RingNo}
-use Rattle.perf_base.specs.Scripts.{IsRingSize, IsScript}
-use Rattle.perf_base.specs.Weight.{weight}
+use Rattle.std.proofs.{Common.{arith, ap, get_or, subst, sym, ◌∙◌}, lemmas.Option.{none-some, same_Some, slice_get-map}}
+use Rattle.perf_base.specs.{declared.numbers.RingNo.{RingNo}, Scripts.{IsRingSize, IsScript}, Weight.{weight}}
 use Rattle.ring_words.specs.Ends.{Ring}
-use Rattle.sample_ring.specs.InEnds.{InEnd, new_in}
-use Rattle.sample_ring.specs.RingLists.{AreNew}
+use Rattle.sample_ring.specs.{InEnds.{InEnd, new_in}, RingLists.{AreNew}}
 use Rattle.work_account.specs.Ends.{AreTogether}
-use Rattle.machine.specs.Readers.{AreFollowing}
-use Rattle.machine.proofs.New.{new-accounts, new-following, new-together}
+use Rattle.machine.{specs.Readers.{AreFollowing}, proofs.New.{new-accounts, new-following, new-together}}
 use Rattle.perf_top.proofs.ready.take_parts.Goals as goal
 
 pub make_rings-requires : goal.make_rings-requires

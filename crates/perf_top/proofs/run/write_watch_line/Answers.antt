@@ -1,5 +1,4 @@
-use Rattle.std.specs.Prelude.{◌++◌, ℕ, codes, decimal}
-use Rattle.std.proofs.Common.{ap, ◌∙◌}
+use Rattle.std.{specs.Prelude.{◌++◌, ℕ, codes, decimal}, proofs.Common.{ap, ◌∙◌}}
 use Rattle.report_spec.specs.Published.{look_text}
 use Rattle.perf_io.proofs.Wrote.{wrote_exit, wrote_text, wrote_then}
 use Rattle.perf_top.proofs.LookText.{behind}

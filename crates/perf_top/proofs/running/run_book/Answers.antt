@@ -1,14 +1,9 @@
-use Rattle.std.specs.Prelude.{◌≡◌, ℕ, ◌*◌, All}
-use Rattle.std.proofs.Common.{sym, subst, ◌∙◌}
-use Rattle.perf_base.specs.declared.numbers.RingNo.{RingNo}
-use Rattle.perf_base.specs.Scripts.{Scripted}
-use Rattle.perf_base.specs.Weight.{weight}
+use Rattle.std.{specs.Prelude.{◌≡◌, ℕ, ◌*◌, All}, proofs.Common.{sym, subst, ◌∙◌}}
+use Rattle.perf_base.specs.{declared.numbers.RingNo.{RingNo}, Scripts.{Scripted}, Weight.{weight}}
 use Rattle.machine.proofs.Behind.{following-readers}
-use Rattle.perf_book.specs.Book.{Booked}
-use Rattle.perf_book.specs.Running.{IsRead}
+use Rattle.perf_book.specs.{Book.{Booked}, Running.{IsRead}}
 use Rattle.report_spec.specs.Answers.{IsRunShaped}
-use Rattle.run_laws.proofs.Lines.{complete-looks}
-use Rattle.run_laws.proofs.Shapes.{shaped-looks}
+use Rattle.run_laws.proofs.{Lines.{complete-looks}, Shapes.{shaped-looks}}
 use Rattle.stage_spec.specs.Order.{IsComplete}
 use Rattle.perf_top.proofs.Parts.{readers-parts}
 use Rattle.perf_top.proofs.running.run_book.Goals as goal

@@ -1,7 +1,5 @@
-use Rattle.std.specs.Prelude.{List}
-use Rattle.std.proofs.Common.{ap, subst, sym, ◌∙◌}
-use Rattle.perf_base.specs.declared.acts.Act.{Act}
-use Rattle.perf_base.specs.Scripts.{Scripted}
+use Rattle.std.{specs.Prelude.{List}, proofs.Common.{ap, subst, sym, ◌∙◌}}
+use Rattle.perf_base.specs.{declared.acts.Act.{Act}, Scripts.{Scripted}}
 use Rattle.machine.specs.Leading.{Kept, LeadTo}
 use Rattle.perf_book.specs.Book.{Booked}
 use Rattle.stat_rows.specs.Rows.{rows_of}

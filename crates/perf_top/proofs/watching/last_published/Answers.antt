@@ -1,8 +1,6 @@
-use Rattle.std.specs.Prelude.{◌≡◌, List, Some}
-use Rattle.std.proofs.Common.{subst}
+use Rattle.std.{specs.Prelude.{◌≡◌, List, Some}, proofs.Common.{subst}}
 use mathlib.Core.List.{IsPrefix}
-use Rattle.user_page.specs.declared.look.Look.{Look}
-use Rattle.user_page.specs.Looks.{last_look}
+use Rattle.user_page.specs.{declared.look.Look.{Look}, Looks.{last_look}}
 use Rattle.perf_top.proofs.Seeing.{same-prefix}
 use Rattle.perf_top.proofs.watching.last_published.Goals as goal
 

@@ -1,24 +1,12 @@
-use Rattle.std.specs.Prelude.{◌≡◌, ℕ, ◌*◌, All, List}
-use Rattle.std.proofs.Common.{ap, sym, subst, ◌∙◌}
-use Rattle.perf_base.specs.declared.acts.Act.{Act}
-use Rattle.perf_base.specs.declared.numbers.EventNo.{EventNo}
-use Rattle.perf_base.specs.declared.numbers.RingNo.{RingNo}
-use Rattle.perf_base.specs.Scripts.{Scripted}
-use Rattle.perf_base.specs.Weight.{weight}
+use Rattle.std.{specs.Prelude.{◌≡◌, ℕ, ◌*◌, All, List}, proofs.Common.{ap, sym, subst, ◌∙◌}}
+use Rattle.perf_base.specs.{declared.numbers.{EventNo.{EventNo}, RingNo.{RingNo}}, Scripts.{Scripted}, Weight.{weight}}
 use Rattle.user_page.specs.declared.look.Look.{Look}
-use Rattle.user_page.specs.Looks.{last_look}
 use Rattle.machine.proofs.Behind.{following-readers}
-use Rattle.perf_book.specs.Book.{Booked}
-use Rattle.perf_book.specs.Running.{IsRead}
-use Rattle.perf_book.proofs.Watching.{rings-add}
-use Rattle.report_spec.specs.Answers.{IsRunShaped}
-use Rattle.report_spec.specs.Published.{published_looks}
-use Rattle.run_laws.proofs.Lines.{complete-looks}
-use Rattle.run_laws.proofs.Shapes.{shaped-looks}
+use Rattle.perf_book.{specs.{Book.{Booked}, Running.{IsRead}}, proofs.Watching.{rings-add}}
+use Rattle.report_spec.specs.{Answers.{IsRunShaped}, Published.{published_looks}}
+use Rattle.run_laws.proofs.{Lines.{complete-looks}, Shapes.{shaped-looks}}
 use Rattle.stage_spec.specs.Order.{IsComplete}
-use Rattle.perf_top.specs.Seeing.{IsSeenIn}
-use Rattle.perf_top.proofs.Parts.{readers-parts}
-use Rattle.perf_top.proofs.Seeing.{seen-in}
+use Rattle.perf_top.{specs.Seeing.{IsSeenIn}, proofs.{Parts.{readers-parts}, Seeing.{seen-in}}}
 use Rattle.perf_top.proofs.watching.watch_book.Goals as goal
 
 pub run_watched_with-watched-requires-clause-readers : goal.run_watched_with-watched-requires-clause-readers

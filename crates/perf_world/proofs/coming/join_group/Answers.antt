@@ -1,8 +1,6 @@
-use Rattle.std.proofs.Common.{◌≡◌, ◌∙◌, ◌<◌, ◌++◌, [], ◌∷◌, length, ap, sym, subst, is_some}
-use Rattle.std.specs.Option.{unwrap_or}
+use Rattle.std.{proofs.Common.{◌≡◌, ◌∙◌, ◌<◌, ◌++◌, [], ◌∷◌, length, ap, sym, subst, is_some}, specs.Option.{unwrap_or}}
 use Rattle.world_spec.specs.Value.{Entry, no_entry}
-use Rattle.world_tables.specs.Columns.{Columns, is_there, entry_in, put_entry, put_row}
-use Rattle.world_tables.specs.Rows.{fresh_row, sibling_entry}
+use Rattle.world_tables.specs.{Columns.{Columns, is_there, entry_in, put_entry, put_row}, Rows.{fresh_row, sibling_entry}}
 use Rattle.perf_world.proofs.Tables.{apart, row-keeps, noted-member}
 use Rattle.perf_world.proofs.coming.join_group.Goals as goal
 

@@ -1,5 +1,4 @@
-use Rattle.std.proofs.Common.{◌≡◌, drop}
-use Rattle.std.specs.List.{list_all}
+use Rattle.std.{proofs.Common.{◌≡◌, drop}, specs.List.{list_all}}
 use Rattle.stage_spec.specs.Hardware.{is_counted_on}
 use Rattle.world_tables.specs.Columns.{entry_in}
 use Rattle.perf_world.proofs.finding.are_counted_on.Given as goal

@@ -1,11 +1,8 @@
 use Rattle.std.proofs.Common.{◌≡◌, ◌<◌, ◌∙◌, List, ap, sym, subst, slice_index_or, slice_set, length}
 use Rattle.stage_spec.specs.Stage.{place_of}
-use Rattle.world_spec.specs.Value.{Leaders, no_leaders}
-use Rattle.world_spec.specs.StageOf.{after_first}
-use Rattle.world_spec.specs.Changes.{in_list, all_but}
+use Rattle.world_spec.specs.{Value.{Leaders, no_leaders}, StageOf.{after_first}, Changes.{in_list, all_but}}
 use Rattle.world_tables.specs.Columns.{entry_in}
-use Rattle.perf_world.specs.Parts.{behind}
-use Rattle.perf_world.proofs.Tables.{dropped-behind}
+use Rattle.perf_world.{specs.Parts.{behind}, proofs.Tables.{dropped-behind}}
 use Rattle.perf_world.proofs.going.disband.Goals as goal
 
 pub returns-clause-contexts : goal.returns-clause-contexts

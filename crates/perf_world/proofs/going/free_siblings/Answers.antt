@@ -1,13 +1,9 @@
 use Rattle.std.proofs.Common.{arith, ◌≡◌, ◌+◌, ◌<◌, ◌≤◌, ◌∙◌, true, false, [], ◌∷◌, ◌++◌, List, refl, ap, sym, subst, drop, length, slice_index_or, slice_set}
-use Rattle.std.specs.List.{fold}
-use Rattle.std.proofs.lemmas.List.{length-set, get_or-set_same}
+use Rattle.std.{proofs.lemmas.List.{length-set, get_or-set_same}, specs.List.{fold}}
 use Rattle.perf_base.specs.declared.numbers.Key.{Key}
-use Rattle.world_spec.specs.Value.{Leaders, no_leaders, times, is_key}
-use Rattle.world_spec.specs.Changes.{in_list}
-use Rattle.world_spec.proofs.Keys.{times-cons, once-true, is_key-same}
+use Rattle.world_spec.{specs.{Value.{Leaders, no_leaders, times, is_key}, Changes.{in_list}}, proofs.Keys.{times-cons, once-true, is_key-same}}
 use Rattle.world_tables.specs.Columns.{Columns, is_there}
-use Rattle.perf_world.specs.Parts.{free_one, behind, HaveRoomBehind}
-use Rattle.perf_world.proofs.Tables.{freed-keys, not-there, room-left, next-behind, split-rest}
+use Rattle.perf_world.{specs.Parts.{free_one, behind, HaveRoomBehind}, proofs.Tables.{freed-keys, not-there, room-left, next-behind, split-rest}}
 use Rattle.perf_world.proofs.going.free_siblings.Goals as goal
 
 pub free-requires : goal.free-requires

@@ -1,5 +1,4 @@
-use Rattle.std.proofs.Common.{◌≡◌, ◌<◌, ◌≤◌, true, drop, length, slice_index_or, slice_set}
-use Rattle.std.specs.List.{fold}
+use Rattle.std.{proofs.Common.{◌≡◌, ◌<◌, ◌≤◌, true, drop, length, slice_index_or, slice_set}, specs.List.{fold}}
 use Rattle.perf_base.specs.declared.numbers.Key.{Key}
 use Rattle.world_spec.specs.Value.{no_leaders, times}
 use Rattle.world_tables.specs.Columns.{is_there}

@@ -1,6 +1,4 @@
-use Rattle.std.proofs.Common.{◌≡◌, ◌∙◌, Some, None, arith, sym, inl, inr}
-use Rattle.std.proofs.lemmas.Bool.{cases_lt}
-use Rattle.std.proofs.lemmas.List.{get_or_past}
+use Rattle.std.proofs.{Common.{◌≡◌, ◌∙◌, Some, None, arith, sym, inl, inr}, lemmas.{Bool.{cases_lt}, List.{get_or_past}}}
 use Rattle.perf_world.proofs.settling.processor_with.Goals as goal
 
 pub returns-clause-nowhere : goal.returns-clause-nowhere

@@ -1,8 +1,6 @@
-use Rattle.std.proofs.Common.{◌≡◌, arith, List, subst, take}
-use Rattle.std.proofs.lemmas.List.{take_all}
+use Rattle.std.proofs.{Common.{◌≡◌, arith, List, subst, take}, lemmas.List.{take_all}}
 use Rattle.perf_base.specs.declared.numbers.Key.{Key}
-use Rattle.perf_world.specs.Settling.{HasSettled}
-use Rattle.perf_world.proofs.Turning.{none-settled, next-settled, still-led, times-at}
+use Rattle.perf_world.{specs.Settling.{HasSettled}, proofs.Turning.{none-settled, next-settled, still-led, times-at}}
 use Rattle.perf_world.proofs.settling.settle_each.Goals as goal
 
 pub loop-key-init : goal.loop-key-init

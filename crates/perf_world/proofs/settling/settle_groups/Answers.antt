@@ -1,9 +1,7 @@
-use Rattle.std.proofs.Common.{◌≡◌, ◌∙◌, arith, List, ap, sym, subst, take, slice_index_or}
-use Rattle.std.proofs.lemmas.List.{take_all}
+use Rattle.std.proofs.{Common.{◌≡◌, ◌∙◌, arith, List, ap, sym, subst, take, slice_index_or}, lemmas.List.{take_all}}
 use Rattle.perf_base.specs.declared.numbers.Key.{Key}
 use Rattle.world_tables.specs.Columns.{Columns, is_there}
-use Rattle.perf_world.specs.Settling.{group_keys, list_keys, AreLed, HasSettled}
-use Rattle.perf_world.proofs.Turning.{none-settled, group-settled, group-in, times-at}
+use Rattle.perf_world.{specs.Settling.{group_keys, list_keys, AreLed, HasSettled}, proofs.Turning.{none-settled, group-settled, group-in, times-at}}
 use Rattle.perf_world.proofs.settling.settle_groups.Goals as goal
 
 pub loop-leader-init : goal.loop-leader-init

@@ -4,8 +4,7 @@ use Rattle.perf_base.specs.declared.standing.Context.TheVariants as context
 use Rattle.stage_spec.specs.Stage.{place_of}
 use Rattle.world_spec.specs.Value.{Leaders, no_leaders, times}
 use Rattle.world_tables.specs.Columns.{Columns}
-use Rattle.perf_world.specs.Settling.{list_keys, task_keys, AreLed, HasSettled}
-use Rattle.perf_world.proofs.Turning.{more-settled, both-times}
+use Rattle.perf_world.{specs.Settling.{list_keys, task_keys, AreLed, HasSettled}, proofs.Turning.{more-settled, both-times}}
 use Rattle.perf_world.proofs.settling.settle_task.Goals as goal
 
 pub settle_groups-requires-in-Some-clause-led : goal.settle_groups-requires-in-Some-clause-led

@@ -1,9 +1,7 @@
 use Rattle.std.proofs.Common.{arith, ◌≡◌, ◌+◌, ◌<◌, ◌++◌, [], ◌∷◌, ◌∙◌, List, ap, sym, suc, length, take, slice_index_or}
-use Rattle.std.proofs.lemmas.List.{get_or-replicate, length-replicate, length-set, take_all}
-use Rattle.std.proofs.Math.Seq.{take-suc}
+use Rattle.std.proofs.{lemmas.List.{get_or-replicate, length-replicate, length-set, take_all}, Math.Seq.{take-suc}}
 use Rattle.perf_base.specs.declared.numbers.TaskNo.{TaskNo}
-use Rattle.stage_spec.specs.declared.instance.TaskStatus.{TaskStatus}
-use Rattle.stage_spec.specs.Stage.{unknown_task, fresh_task}
+use Rattle.stage_spec.specs.{declared.instance.TaskStatus.{TaskStatus}, Stage.{unknown_task, fresh_task}}
 use Rattle.perf_world.proofs.Seats.{status_by, status-more, statuses-are, first-tasks}
 use Rattle.perf_world.proofs.tasks.first_tasks.Goals as goal
 

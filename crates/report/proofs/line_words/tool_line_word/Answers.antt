@@ -1,5 +1,4 @@
-use Rattle.std.proofs.Common.{ap, sym, [], slice_get, arith}
-use Rattle.std.proofs.lemmas.List.{get_or_past}
+use Rattle.std.proofs.{Common.{ap, sym, [], slice_get, arith}, lemmas.List.{get_or_past}}
 use Rattle.report_spec.specs.Report as text
 use Rattle.report.proofs.line_words.tool_line_word.Goals as goal
 

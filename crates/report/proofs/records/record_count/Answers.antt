@@ -1,9 +1,6 @@
-use Rattle.std.proofs.Common.{arith, ap, ◌≡◌, ◌-◌, ◌/◌, ◌<◌, drop, length, length-drop, sym, take, ◌∙◌}
-use Rattle.std.proofs.lemmas.Bool.{eqb-true}
-use Rattle.std.proofs.lemmas.Bool.Decides.{nat_tests}
+use Rattle.std.proofs.{Common.{arith, ap, ◌≡◌, ◌-◌, ◌/◌, ◌<◌, drop, length, length-drop, sym, take, ◌∙◌}, lemmas.Bool.{eqb-true, Decides.{nat_tests}}}
 use Rattle.std.proofs.lemmas.List.{take_all}
-use Rattle.report.proofs.Told.{first_cut_at}
-use Rattle.report.proofs.SummedUp.{no_records}
+use Rattle.report.proofs.{Told.{first_cut_at}, SummedUp.{no_records}}
 use Rattle.report.proofs.records.record_count.Goals as goal
 
 pub loop-rest-preserved : goal.loop-rest-preserved

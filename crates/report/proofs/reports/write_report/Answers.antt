@@ -1,13 +1,10 @@
-use Rattle.std.specs.Prelude.{[], ◌∷◌, ◌++◌, codes}
-use Rattle.std.proofs.Common.{ap}
+use Rattle.std.{specs.Prelude.{[], ◌∷◌, ◌++◌, codes}, proofs.Common.{ap}}
 use Rattle.perf_io.proofs.Wrote.{wrote_exit, wrote_text, wrote_then}
 use Rattle.script_spec.specs.Acts.{acts_text}
 use Rattle.report_spec.specs.Report.{answer_lines}
-use Rattle.report.specs.Told.{all_told, rings_of}
-use Rattle.report.proofs.Entries.{report-parts}
-use Rattle.report.proofs.Told.{told_whole}
-use Rattle.machine.specs.Ended.{Ran}
+use Rattle.report.{specs.Told.{all_told, rings_of}, proofs.{Entries.{report-parts}, Told.{told_whole}}}
 use Rattle.report.proofs.reports.write_report.Goals as goal
+use Rattle.machine.specs.Ended.{Ran}
 
 pub returns-in_err-write_order-clause-wrote : goal.returns-in_err-write_order-clause-wrote
 returns-in_err-write_order-clause-wrote g c =

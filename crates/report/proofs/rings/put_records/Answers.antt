@@ -1,8 +1,6 @@
-use Rattle.std.proofs.Common.{arith, ◌+◌, ◌*◌, ◌∙◌, length, sym}
-use Rattle.std.proofs.lemmas.Bool.{eqb-true}
+use Rattle.std.proofs.{Common.{arith, ◌+◌, ◌*◌, ◌∙◌, length, sym}, lemmas.Bool.{eqb-true}}
 use Rattle.perf_io.proofs.Wrote.{wrote_exit, wrote_nothing, wrote_text, wrote_then}
-use Rattle.report.specs.Told.{cut_lines, cut_records}
-use Rattle.report.proofs.Told.{lines_step, no_lines}
+use Rattle.report.{specs.Told.{cut_lines, cut_records}, proofs.Told.{lines_step, no_lines}}
 use Rattle.report.proofs.rings.put_records.Goals as goal
 
 pub loop-rest-preserved : goal.loop-rest-preserved

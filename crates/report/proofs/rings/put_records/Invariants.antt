@@ -1,6 +1,5 @@
 use Rattle.std.proofs.Common.{◌≡◌, ◌+◌, ◌*◌, Result, length}
-use Rattle.perf_io.specs.Wrote.{Wrote}
-use Rattle.perf_io.specs.declared.outside.Failed.{Failed}
+use Rattle.perf_io.specs.{Wrote.{Wrote}, declared.outside.Failed.{Failed}}
 use Rattle.report.specs.Told.{cut_lines, cut_records}
 use Rattle.report.proofs.rings.put_records.Given as goal
 

@@ -1,6 +1,5 @@
 use Rattle.perf_io.proofs.Wrote.{wrote_then, wrote_exit, wrote_text}
-use Rattle.report.specs.Told.{cut_lines, cut_records}
-use Rattle.report.proofs.Told.{told_account}
+use Rattle.report.{specs.Told.{cut_lines, cut_records}, proofs.Told.{told_account}}
 use Rattle.report.proofs.rings.write_ring.Goals as goal
 
 pub returns-in_err-put_numbers-clause-wrote : goal.returns-in_err-put_numbers-clause-wrote

@@ -1,9 +1,7 @@
-use Rattle.std.proofs.Common.{◌∙◌, ap, arith, map}
-use Rattle.std.proofs.lemmas.List.{take_all}
+use Rattle.std.proofs.{Common.{◌∙◌, ap, arith, map}, lemmas.List.{take_all}}
 use Rattle.perf_io.proofs.Wrote.{wrote_text}
 use Rattle.script_print.proofs.Loops.{loop_exit}
-use Rattle.report.specs.Told.{all_told, told_lines}
-use Rattle.report.proofs.Told.{end_told, ends_each}
+use Rattle.report.{specs.Told.{all_told, told_lines}, proofs.Told.{end_told, ends_each}}
 use Rattle.report.proofs.rings.write_rings.Goals as goal
 
 pub returns-in_err-write_ring-clause-wrote : goal.returns-in_err-write_ring-clause-wrote

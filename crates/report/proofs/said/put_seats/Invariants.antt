@@ -1,5 +1,4 @@
-use Rattle.std.proofs.Common.{◌≡◌, Ok, take}
-use Rattle.std.specs.Prelude.{flat_map}
+use Rattle.std.{proofs.Common.{◌≡◌, Ok, take}, specs.Prelude.{flat_map}}
 use Rattle.perf_io.specs.Wrote.{Wrote}
 use Rattle.report.specs.Said.{seat_text}
 use Rattle.report.proofs.said.put_seats.Given as goal

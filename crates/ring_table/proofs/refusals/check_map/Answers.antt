@@ -1,6 +1,5 @@
 use Rattle.std.proofs.Common.{◌&&◌, ap, sym, refl, ◌∙◌, true, false, is_some}
-use Rattle.stage_spec.specs.Flags.{is_inherited}
-use Rattle.stage_spec.specs.Places.{is_any_cpu}
+use Rattle.stage_spec.specs.{Flags.{is_inherited}, Places.{is_any_cpu}}
 use Rattle.ring_table.proofs.Refusing.{map-closed, map-checked}
 use Rattle.ring_table.proofs.refusals.check_map.Goals as goal
 

@@ -1,9 +1,5 @@
-use Rattle.std.proofs.Common.{rules, ap, ◌∙◌}
-use Rattle.std.specs.Slots.{slots_items}
-use Rattle.ring_words.specs.declared.view.View.{View}
-use Rattle.ring_words.specs.Views.{Holder, rejoined}
-use Rattle.ring_words.specs.Rule.{Tied}
-use Rattle.ring_words.proofs.Parting.{may_rejoin, closes, at_word}
+use Rattle.std.{proofs.Common.{rules, ap, ◌∙◌}, specs.Slots.{slots_items}}
+use Rattle.ring_words.{specs.{declared.view.View.{View}, Views.{Holder, rejoined}, Rule.{Tied}}, proofs.Parting.{may_rejoin, closes, at_word}}
 use Rattle.ring_words.proofs.ring.close.Goals as goal
 
 pub join_seat-requires : goal.join_seat-requires

@@ -1,7 +1,5 @@
 use Rattle.std.proofs.Common.{rules, ◌≡◌, ap, ◌∙◌}
-use Rattle.ring_words.specs.declared.view.View.{View}
-use Rattle.ring_words.specs.Views.{Holder, both_ends, producer_of, consumer_of}
-use Rattle.ring_words.proofs.Parting.{may_part, starts}
+use Rattle.ring_words.{specs.{declared.view.View.{View}, Views.{Holder, both_ends, producer_of, consumer_of}}, proofs.Parting.{may_part, starts}}
 use Rattle.ring_words.proofs.Sound.{producer_starts, producer_holds, consumer_starts}
 use Rattle.ring_words.proofs.ring.make_ring.Goals as goal
 

@@ -1,6 +1,5 @@
 use Rattle.std.proofs.Common.{rules, refl, sym, subst}
-use Rattle.ring_words.specs.Views.{Holder, IsNote}
-use Rattle.ring_words.proofs.Parting.{may_note_producer, may_inform_consumer}
+use Rattle.ring_words.{specs.Views.{Holder, IsNote}, proofs.Parting.{may_note_producer, may_inform_consumer}}
 use Rattle.ring_words.proofs.steps.tell_consumer.Goals as goal
 
 pub split_seat-note-requires : goal.split_seat-note-requires

@@ -1,6 +1,5 @@
 use Rattle.std.proofs.Common.{rules, refl, sym, subst}
-use Rattle.ring_words.specs.Views.{Holder, IsNote}
-use Rattle.ring_words.proofs.Parting.{may_note_consumer, may_inform_producer}
+use Rattle.ring_words.{specs.Views.{Holder, IsNote}, proofs.Parting.{may_note_consumer, may_inform_producer}}
 use Rattle.ring_words.proofs.steps.tell_producer.Goals as goal
 
 pub split_seat-note-requires : goal.split_seat-note-requires

@@ -1,6 +1,5 @@
 use Rattle.std.proofs.Common.{◌≡◌, ◌∙◌, List, ℕ, ap, rules, length}
-use Rattle.sample_records.specs.Fields.{before_cpu_in_body, in_body, bits_in, has_pad}
-use Rattle.sample_records.specs.FieldWords.{body_words}
+use Rattle.sample_records.specs.{Fields.{before_cpu_in_body, in_body, bits_in, has_pad}, FieldWords.{body_words}}
 use Rattle.sample_records.proofs.Pads.{body_pad, fault_by_pad}
 use Rattle.sample_records.proofs.asking.read_fields.Goals as goal
 

@@ -1,6 +1,5 @@
 use Rattle.std.proofs.Common.{◌≡◌, ◌∙◌, List, ℕ, ap, rules, length}
-use Rattle.sample_records.specs.Fields.{before_cpu_in_trailer, in_trailer, bits_in, has_pad}
-use Rattle.sample_records.specs.FieldWords.{trailer_words}
+use Rattle.sample_records.specs.{Fields.{before_cpu_in_trailer, in_trailer, bits_in, has_pad}, FieldWords.{trailer_words}}
 use Rattle.sample_records.proofs.Pads.{trailer_pad, fault_by_pad}
 use Rattle.sample_records.proofs.asking.read_trailer.Goals as goal
 

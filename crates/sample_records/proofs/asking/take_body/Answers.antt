@@ -1,6 +1,5 @@
 use Rattle.std.proofs.Common.{◌≡◌, ◌∙◌, sym, length, arith}
-use Rattle.sample_records.proofs.Joining.{next_part, last_part}
-use Rattle.sample_records.proofs.Pads.{body_from_first}
+use Rattle.sample_records.proofs.{Joining.{next_part, last_part}, Pads.{body_from_first}}
 use Rattle.sample_records.proofs.asking.take_body.Goals as goal
 
 pub returns-clause-words : goal.returns-clause-words

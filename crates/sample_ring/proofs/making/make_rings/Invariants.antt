@@ -1,6 +1,5 @@
 use Rattle.std.proofs.Common.{◌≡◌, map, take, Some}
-use Rattle.sample_ring.specs.OutEnds.{new_out}
-use Rattle.sample_ring.specs.InEnds.{new_in}
+use Rattle.sample_ring.specs.{OutEnds.{new_out}, InEnds.{new_in}}
 use Rattle.sample_ring.proofs.making.make_rings.Given as goal
 
 abbrev pub invariant-loop-bytes : goal.invariant-loop-bytes

@@ -1,8 +1,5 @@
 use Rattle.std.proofs.Common.{◌*◌, ap, sym, ◌∙◌}
-use Rattle.sample_ring.specs.OutEnds.{OutEnd}
-use Rattle.sample_ring.specs.contracts.reader.In.{the_view}
-use Rattle.sample_ring.proofs.Cuts.{records_taken}
-use Rattle.sample_ring.proofs.Sending.{holds_seen}
+use Rattle.sample_ring.{specs.{OutEnds.{OutEnd}, contracts.reader.In.{the_view}}, proofs.{Cuts.{records_taken}, Sending.{holds_seen}}}
 use Rattle.sample_ring.proofs.meeting.meet.Goals as goal
 
 pub invariant_of-out : goal.invariant_of-out

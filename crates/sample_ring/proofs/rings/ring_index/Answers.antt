@@ -1,5 +1,4 @@
-use Rattle.std.proofs.Common.{eqb, eq-eqb, length, sym, arith}
-use Rattle.std.proofs.lemmas.List.Sums.{position_or_len_is}
+use Rattle.std.proofs.{Common.{eqb, eq-eqb, length, sym, arith}, lemmas.List.Sums.{position_or_len_is}}
 use Rattle.perf_base.specs.declared.numbers.RingNo.{RingNo}
 use Rattle.sample_ring.proofs.rings.ring_index.Goals as goal
 

@@ -1,7 +1,5 @@
 use Rattle.std.proofs.Common.{◌≡◌, ap, ◌∙◌, rules}
-use Rattle.sample_ring.specs.OutEnds.{OutEnd}
-use Rattle.sample_ring.specs.InEnds.{InEnd}
-use Rattle.sample_ring.proofs.Readers.{Follows, follows_met, none_kept, all_taken}
+use Rattle.sample_ring.{specs.{OutEnds.{OutEnd}, InEnds.{InEnd}}, proofs.Readers.{Follows, follows_met, none_kept, all_taken}}
 use Rattle.sample_ring.proofs.taking.take_all.Goals as goal
 
 pub returns-clause-words : goal.returns-clause-words

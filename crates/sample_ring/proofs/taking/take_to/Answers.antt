@@ -1,7 +1,5 @@
 use Rattle.std.proofs.Common.{◌≡◌, ◌*◌, ◌≤◌, ◌<◌, length, ap, sym, subst, arith, rules}
-use Rattle.sample_ring.specs.OutEnds.{OutEnd}
-use Rattle.sample_ring.specs.Taking.{IsUpTo, TakesOne}
-use Rattle.sample_ring.proofs.Readers.{one_within}
+use Rattle.sample_ring.{specs.{OutEnds.{OutEnd}, Taking.{IsUpTo, TakesOne}}, proofs.Readers.{one_within}}
 use Rattle.sample_ring.proofs.taking.take_to.Goals as goal
 
 pub loop-out-preserved : goal.loop-out-preserved

@@ -1,8 +1,6 @@
 use Rattle.std.proofs.Common.{◌≡◌, ◌-◌, ◌*◌, ◌≤◌, length}
 use mathlib.Core.List.{IsPrefix}
-use Rattle.sample_ring.specs.InEnds.{IsSoundIn}
-use Rattle.sample_ring.specs.OutEnds.{IsSoundOut}
-use Rattle.sample_ring.specs.Taking.{IsUpTo, with_tail}
+use Rattle.sample_ring.specs.{InEnds.{IsSoundIn}, OutEnds.{IsSoundOut}, Taking.{IsUpTo, with_tail}}
 use Rattle.sample_ring.proofs.taking.take_to.Given as goal
 
 abbrev pub invariant-loop-out : goal.invariant-loop-out

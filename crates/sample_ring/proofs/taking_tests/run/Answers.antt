@@ -1,14 +1,9 @@
-use Rattle.std.proofs.Common.{◌≡◌, ℕ, [], ◌∷◌, Result, Ok, Err, Some, IfOk, length, lit<, refl, sym, ap, ◌∙◌, subst}
-use Rattle.std.specs.Prelude.{slice_get}
+use Rattle.std.{proofs.Common.{◌≡◌, ℕ, [], ◌∷◌, Result, Ok, Err, Some, IfOk, length, lit<, refl, sym, ap, ◌∙◌, subst}, specs.Prelude.{slice_get}}
 use Rattle.std.specs.Result.{result_ok}
-use Rattle.perf_base.specs.declared.numbers.NoMemory.{NoMemory}
-use Rattle.perf_base.specs.declared.numbers.RingNo.{RingNo}
+use Rattle.perf_base.specs.declared.numbers.{NoMemory.{NoMemory}, RingNo.{RingNo}}
 use Rattle.ring_words.specs.Ends.{Ring}
-use Rattle.sample_ring.specs.OutEnds.{OutEnd, new_out}
-use Rattle.sample_ring.specs.InEnds.{InEnd, new_in}
-use Rattle.sample_ring.specs.RingLists.{RingList, OutList, InList, AreNew, ring_index}
-use Rattle.sample_ring.proofs.Fresh.{NewAt, new_at, reader_there}
-use Rattle.sample_ring.specs.Taking.{IsUpTo}
+use Rattle.sample_ring.specs.{OutEnds.{OutEnd, new_out}, InEnds.{InEnd, new_in}, RingLists.{RingList, OutList, InList, AreNew, ring_index}}
+use Rattle.sample_ring.{specs.Taking.{IsUpTo}, proofs.Fresh.{NewAt, new_at, reader_there}}
 use Rattle.sample_ring.proofs.taking_tests.run.Goals as goal
 
 abbrev ring : RingNo

@@ -1,6 +1,5 @@
 use Rattle.std.proofs.Common.{false, arith}
-use Rattle.sample_ring.specs.Sends.{request}
-use Rattle.sample_ring.proofs.Sending.{head_bounded}
+use Rattle.sample_ring.{specs.Sends.{request}, proofs.Sending.{head_bounded}}
 use Rattle.sample_ring.proofs.taking_tests.send.Goals as goal
 
 pub send-requires-clause-head : goal.send-requires-clause-head

@@ -1,11 +1,8 @@
 use Rattle.std.proofs.Common.{◌≡◌, ℕ, List, [], ◌∷◌, Result, Ok, Err, Some, IfOk, lit<, lit≤, refl, sym, ◌∙◌, subst}
-use Rattle.std.specs.Result.{result_ok}
-use Rattle.sample_ring.specs.RingLists.{RingList, OutList, InList, AreNew}
-use Rattle.sample_ring.proofs.Fresh.{reader_there}
-use Rattle.std.proofs.lemmas.List.Elements.{All-cons, All-nil}
-use Rattle.perf_base.specs.declared.numbers.RingNo.{RingNo}
-use Rattle.perf_base.specs.Scripts.{IsRingSize}
+use Rattle.std.{proofs.lemmas.List.Elements.{All-cons, All-nil}, specs.Result.{result_ok}}
+use Rattle.sample_ring.{specs.RingLists.{RingList, OutList, InList, AreNew}, proofs.Fresh.{reader_there}}
 use Rattle.sample_ring.proofs.tests.ends_cross_threads.Goals as goal
+use Rattle.perf_base.specs.{declared.numbers.RingNo.{RingNo}, Scripts.{IsRingSize}}
 
 abbrev HasSize : RingNo × ℕ → Type 0
 HasSize s = IsRingSize s.1

@@ -1,7 +1,6 @@
 use Rattle.std.proofs.Common.{rules}
 use Rattle.perf_io.proofs.Wrote.{wrote_text}
-use Rattle.script_print.proofs.Loops.{found, state_exit, state_more}
-use Rattle.script_print.proofs.Hits.{hits_each, hit_at}
+use Rattle.script_print.proofs.{Loops.{found, state_exit, state_more}, Hits.{hits_each, hit_at}}
 use Rattle.script_print.proofs.cpu_lines.put_hits.Goals as goal
 
 pub returns-in_err-put_hit-clause-wrote : goal.returns-in_err-put_hit-clause-wrote

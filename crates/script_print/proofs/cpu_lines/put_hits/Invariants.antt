@@ -1,6 +1,5 @@
 use Rattle.std.proofs.Common.{take}
-use Rattle.script_print.proofs.Hits.{hits_text}
-use Rattle.script_print.proofs.Loops.{IsWritten}
+use Rattle.script_print.proofs.{Hits.{hits_text}, Loops.{IsWritten}}
 use Rattle.script_print.proofs.cpu_lines.put_hits.Given as goal
 
 abbrev pub invariant-loop-kind : goal.invariant-loop-kind

@@ -1,7 +1,6 @@
 use Rattle.std.proofs.Common.{rules}
 use Rattle.script_spec.specs.Printing.{processor_forms}
-use Rattle.script_print.proofs.Whole.{processor_text}
-use Rattle.script_print.proofs.Numbered.{section_exit, section_more}
+use Rattle.script_print.proofs.{Whole.{processor_text}, Numbered.{section_exit, section_more}}
 use Rattle.script_print.proofs.cpu_lines.put_processors.Goals as goal
 
 pub returns-in_err-put_section-clause-wrote : goal.returns-in_err-put_section-clause-wrote

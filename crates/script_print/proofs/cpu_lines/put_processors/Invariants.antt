@@ -1,8 +1,6 @@
-use Rattle.std.proofs.Common.{take, []}
-use Rattle.std.specs.Prelude.{flat_map, slice_index_or}
+use Rattle.std.{proofs.Common.{take, []}, specs.Prelude.{flat_map, slice_index_or}}
 use Rattle.script_spec.specs.Printing.{processor_forms, line_text}
-use Rattle.script_print.proofs.Whole.{all_cpus}
-use Rattle.script_print.proofs.Loops.{IsWritten}
+use Rattle.script_print.proofs.{Whole.{all_cpus}, Loops.{IsWritten}}
 use Rattle.script_print.proofs.cpu_lines.put_processors.Given as goal
 
 abbrev pub invariant-loop-cpu : goal.invariant-loop-cpu

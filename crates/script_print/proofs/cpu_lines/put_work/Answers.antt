@@ -1,10 +1,8 @@
-use Rattle.std.proofs.Common.{sym, map}
-use Rattle.std.specs.Prelude.{decimal}
-use Rattle.script_spec.specs.Forms.{mode_text, word_if, ip_text, hit_text}
-use Rattle.script_spec.specs.Printing.{some_of, hits_of}
+use Rattle.std.{proofs.Common.{sym, map}, specs.Prelude.{decimal}}
+use Rattle.script_spec.specs.{Forms.{mode_text, word_if, ip_text, hit_text}, Printing.{some_of, hits_of}}
 use Rattle.script_print.proofs.Hits.{work_line}
-use Rattle.perf_io.proofs.Wrote.{wrote_text}
 use Rattle.script_print.proofs.cpu_lines.put_work.Goals as goal
+use Rattle.perf_io.proofs.Wrote.{wrote_text}
 
 pub returns-clause-wrote : goal.returns-clause-wrote
 returns-clause-wrote g c =

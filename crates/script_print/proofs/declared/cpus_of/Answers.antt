@@ -1,8 +1,7 @@
-use Rattle.std.proofs.Common.{◌≡◌, ◌≢◌, ◌+◌, sym, ap, subst, ◌∙◌, rules}
-use Rattle.std.specs.Int.{bit_at}
+use Rattle.std.{proofs.Common.{◌≡◌, ◌≢◌, ◌+◌, sym, ap, subst, ◌∙◌, rules}, specs.Int.{bit_at}}
 use Rattle.script_print.proofs.Masks.{mask_at, IsGathered, own_bit, other_bit, IsGathered-own, IsGathered-other, gathered}
-use Rattle.script_print.proofs.declared.cpus_of.Goals as goal
 use Rattle.script_print.proofs.declared.cpus_of.Goals.{then-pmu_of_cpu-pmu, else-pmu_of_cpu-pmu}
+use Rattle.script_print.proofs.declared.cpus_of.Goals as goal
 
 pub loop-cpu-preserved : goal.loop-cpu-preserved
 loop-cpu-preserved c =

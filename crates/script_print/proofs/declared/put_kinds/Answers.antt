@@ -1,7 +1,6 @@
 use Rattle.std.proofs.Common.{length, rules}
 use Rattle.script_spec.specs.Printing.{kind_form}
-use Rattle.script_print.proofs.Whole.{each_text}
-use Rattle.script_print.proofs.Loops.{found, loop_exit_is, loop_more_is}
+use Rattle.script_print.proofs.{Whole.{each_text}, Loops.{found, loop_exit_is, loop_more_is}}
 use Rattle.script_print.proofs.declared.put_kinds.Goals as goal
 
 pub returns-in_err-put_kind-clause-wrote : goal.returns-in_err-put_kind-clause-wrote

@@ -1,5 +1,4 @@
-use Rattle.std.proofs.Common.{take, length}
-use Rattle.std.specs.Prelude.{flat_map, map}
+use Rattle.std.{proofs.Common.{take, length}, specs.Prelude.{flat_map, map}}
 use Rattle.script_spec.specs.Printing.{kind_form, line_text}
 use Rattle.script_print.proofs.Loops.{IsWritten}
 use Rattle.script_print.proofs.declared.put_kinds.Given as goal

@@ -1,7 +1,6 @@
 use Rattle.std.proofs.Common.{rules}
 use Rattle.perf_io.proofs.Wrote.{wrote_text}
-use Rattle.script_print.proofs.Whole.{pmus_each, pmu_at}
-use Rattle.script_print.proofs.Loops.{found, state_exit, state_more}
+use Rattle.script_print.proofs.{Whole.{pmus_each, pmu_at}, Loops.{found, state_exit, state_more}}
 use Rattle.script_print.proofs.declared.put_pmus.Goals as goal
 
 pub returns-in_err-put_pmu-clause-wrote : goal.returns-in_err-put_pmu-clause-wrote

@@ -1,5 +1,4 @@
-use Rattle.std.proofs.Common.{take}
-use Rattle.std.specs.Prelude.{flat_map}
+use Rattle.std.{proofs.Common.{take}, specs.Prelude.{flat_map}}
 use Rattle.script_spec.specs.Printing.{pmu_forms, line_text}
 use Rattle.script_print.proofs.Loops.{IsWritten}
 use Rattle.script_print.proofs.declared.put_pmus.Given as goal

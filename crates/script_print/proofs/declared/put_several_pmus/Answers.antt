@@ -1,10 +1,9 @@
-use Rattle.std.proofs.Common.{sym, ap, ◌++◌}
-use Rattle.std.specs.Prelude.{flat_map}
-use Rattle.script_spec.specs.Forms as form
+use Rattle.std.{proofs.Common.{sym, ap, ◌++◌}, specs.Prelude.{flat_map}}
 use Rattle.script_spec.specs.Printing.{line_text, pmu_forms}
+use Rattle.script_spec.specs.Forms as form
 use Rattle.script_print.proofs.Whole.{head_several}
-use Rattle.perf_io.proofs.Wrote.{wrote_then, wrote_exit, wrote_text}
 use Rattle.script_print.proofs.declared.put_several_pmus.Goals as goal
+use Rattle.perf_io.proofs.Wrote.{wrote_then, wrote_exit, wrote_text}
 
 pub returns-in_err-put_version-clause-wrote : goal.returns-in_err-put_version-clause-wrote
 returns-in_err-put_version-clause-wrote g c =

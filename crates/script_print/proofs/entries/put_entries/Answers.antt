@@ -1,6 +1,5 @@
 use Rattle.std.proofs.Common.{rules}
-use Rattle.script_print.proofs.Whole.{each_text}
-use Rattle.script_print.proofs.Loops.{loop_exit_is}
+use Rattle.script_print.proofs.{Whole.{each_text}, Loops.{loop_exit_is}}
 use Rattle.script_print.proofs.entries.put_entries.Goals as goal
 
 pub returns-in_err-put-clause-wrote : goal.returns-in_err-put-clause-wrote

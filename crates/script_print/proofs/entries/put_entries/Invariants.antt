@@ -1,7 +1,5 @@
-use Rattle.std.proofs.Common.{take}
-use Rattle.std.specs.Prelude.{map}
-use Rattle.script_print.specs.Words.{text}
-use Rattle.script_print.proofs.Loops.{IsWritten}
+use Rattle.std.{proofs.Common.{take}, specs.Prelude.{map}}
+use Rattle.script_print.{specs.Words.{text}, proofs.Loops.{IsWritten}}
 use Rattle.script_print.proofs.entries.put_entries.Given as goal
 
 abbrev pub invariant-loop-entry : goal.invariant-loop-entry

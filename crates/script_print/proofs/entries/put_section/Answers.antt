@@ -1,11 +1,8 @@
-use Rattle.std.proofs.Common.{◌<◌, [], ◌∷◌, ◌++◌, length, sym, ap, map, rules}
-use Rattle.std.specs.Prelude.{decimal}
+use Rattle.std.{proofs.{Common.{◌<◌, [], ◌∷◌, ◌++◌, length, sym, ap, map, rules}, lemmas.List.{length-map}}, specs.Prelude.{decimal}}
 use Rattle.std.specs.List.{join_with_byte}
-use Rattle.std.proofs.lemmas.List.{length-map}
-use Rattle.script_print.specs.Words.{text}
-use Rattle.script_print.proofs.Whole.{section_some}
-use Rattle.perf_io.proofs.Wrote.{wrote_then, wrote_exit, wrote_text}
+use Rattle.script_print.{specs.Words.{text}, proofs.Whole.{section_some}}
 use Rattle.script_print.proofs.entries.put_section.Goals as goal
+use Rattle.perf_io.proofs.Wrote.{wrote_then, wrote_exit, wrote_text}
 
 pub returns-in_err-put_line-clause-wrote : goal.returns-in_err-put_line-clause-wrote
 returns-in_err-put_line-clause-wrote g c =

@@ -1,5 +1,4 @@
-use Rattle.std.proofs.Common.{ℕ, List, [], sym, ap, ◌∙◌, get_or}
-use Rattle.std.proofs.Math.ListN.{get_or-map}
+use Rattle.std.proofs.{Common.{ℕ, List, [], sym, ap, ◌∙◌, get_or}, Math.ListN.{get_or-map}}
 use Rattle.perf_base.specs.Flags.{flag_table}
 use Rattle.script_print.proofs.flags.name_of.Goals as goal
 

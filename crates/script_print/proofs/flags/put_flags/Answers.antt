@@ -1,10 +1,8 @@
-use Rattle.std.proofs.Common.{◌≡◌, ◌≢◌, false, take, refl, sym, ap, ◌∙◌, arith, rules}
-use Rattle.std.specs.Int.{bit_at}
+use Rattle.std.{proofs.Common.{◌≡◌, ◌≢◌, false, take, refl, sym, ap, ◌∙◌, arith, rules}, specs.Int.{bit_at}}
 use Rattle.perf_io.proofs.Wrote.{wrote_nothing, wrote_text}
 use Rattle.script_print.proofs.FlagNames.{all_flags, names_text, names_each, all_names, piece_set, some_set, piece_unset, some_unset}
-use Rattle.script_print.proofs.Loops.{state_more, state_exit}
+use Rattle.script_print.proofs.{Loops.{state_more, state_exit}, flags.put_flags.Goals.{then-is_set+in_ok-put_two, else-is_set}}
 use Rattle.script_print.proofs.flags.put_flags.Goals as goal
-use Rattle.script_print.proofs.flags.put_flags.Goals.{then-is_set+in_ok-put_two, else-is_set}
 
 pub loop-flag-init : goal.loop-flag-init
 loop-flag-init g c = record { written = record { wrote = wrote_text (sym ((names_each c.args.flags.0).nil false)) wrote_nothing; flushed = refl }; comma = refl }

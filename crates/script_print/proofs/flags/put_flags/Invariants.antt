@@ -1,6 +1,5 @@
 use Rattle.std.proofs.Common.{◌≡◌, take, false}
-use Rattle.script_print.proofs.FlagNames.{all_flags, names_text, comma, some_name}
-use Rattle.script_print.proofs.Loops.{IsWritten, behind}
+use Rattle.script_print.proofs.{FlagNames.{all_flags, names_text, comma, some_name}, Loops.{IsWritten, behind}}
 use Rattle.script_print.proofs.flags.put_flags.Given as goal
 
 abbrev pub invariant-loop-flag : goal.invariant-loop-flag

@@ -1,7 +1,6 @@
 use Rattle.std.proofs.Common.{sym, ap, ◌∙◌, ◌++◌}
 use Rattle.perf_io.proofs.Wrote.{wrote_text}
-use Rattle.script_print.specs.Words.{declared_text, lines_text, last_text}
-use Rattle.script_print.proofs.Whole.{whole_text}
+use Rattle.script_print.{specs.Words.{declared_text, lines_text, last_text}, proofs.Whole.{whole_text}}
 use Rattle.script_print.proofs.printing.print_script.Goals as goal
 
 pub returns-clause-wrote : goal.returns-clause-wrote

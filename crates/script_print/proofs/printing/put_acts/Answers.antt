@@ -1,5 +1,4 @@
-use Rattle.script_print.proofs.Loops.{loop_exit}
-use Rattle.script_print.proofs.Whole.{acts_each}
+use Rattle.script_print.proofs.{Loops.{loop_exit}, Whole.{acts_each}}
 use Rattle.script_print.proofs.printing.put_acts.Goals as goal
 
 pub returns-in_err-put_act-clause-wrote : goal.returns-in_err-put_act-clause-wrote

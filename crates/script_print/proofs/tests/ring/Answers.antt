@@ -1,5 +1,4 @@
-use Rattle.std.proofs.Common.{◌≡◌, refl, arith}
-use Rattle.std.proofs.lemmas.List.Quantifiers.{Any-push}
+use Rattle.std.proofs.{Common.{◌≡◌, refl, arith}, lemmas.List.Quantifiers.{Any-push}}
 use Rattle.script_print.proofs.tests.ring.Goals as goal
 
 pub add_ring-requires-clause-line : goal.add_ring-requires-clause-line

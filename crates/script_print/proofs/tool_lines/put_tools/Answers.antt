@@ -1,7 +1,6 @@
 use Rattle.std.proofs.Common.{rules}
 use Rattle.script_spec.specs.Printing.{tool_forms}
-use Rattle.script_print.proofs.Whole.{tool_text}
-use Rattle.script_print.proofs.Numbered.{section_exit, section_more}
+use Rattle.script_print.proofs.{Whole.{tool_text}, Numbered.{section_exit, section_more}}
 use Rattle.script_print.proofs.tool_lines.put_tools.Goals as goal
 
 pub returns-in_err-put_section-clause-wrote : goal.returns-in_err-put_section-clause-wrote

@@ -1,8 +1,6 @@
-use Rattle.std.proofs.Common.{take, []}
-use Rattle.std.specs.Prelude.{flat_map, slice_index_or}
+use Rattle.std.{proofs.Common.{take, []}, specs.Prelude.{flat_map, slice_index_or}}
 use Rattle.script_spec.specs.Printing.{tool_forms, line_text}
-use Rattle.script_print.proofs.Whole.{all_tools}
-use Rattle.script_print.proofs.Loops.{IsWritten}
+use Rattle.script_print.proofs.{Whole.{all_tools}, Loops.{IsWritten}}
 use Rattle.script_print.proofs.tool_lines.put_tools.Given as goal
 
 abbrev pub invariant-loop-tool : goal.invariant-loop-tool

@@ -1,6 +1,5 @@
 use Rattle.std.proofs.Common.{take}
-use Rattle.script_print.specs.Words.{all_word_texts, spaced}
-use Rattle.script_print.proofs.Loops.{IsWritten}
+use Rattle.script_print.{specs.Words.{all_word_texts, spaced}, proofs.Loops.{IsWritten}}
 use Rattle.script_print.proofs.words.put_words.Given as goal
 
 abbrev pub invariant-loop-word : goal.invariant-loop-word

@@ -1,5 +1,4 @@
-use Rattle.script_read.proofs.OneAnswer.{stands_one, refused_one, stands_or_refused}
-use Rattle.script_read.proofs.Decided.{text_decided}
+use Rattle.script_read.proofs.{OneAnswer.{stands_one, refused_one, stands_or_refused}, Decided.{text_decided}}
 use Rattle.script_read.proofs.laws.each_text_has_one_answer.Goals as goal
 
 pub returns : goal.returns

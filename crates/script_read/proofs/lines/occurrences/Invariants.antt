@@ -1,5 +1,4 @@
-use Rattle.std.proofs.Common.{◌≡◌, ◌-◌, ◌++◌, take, map}
-use Rattle.std.specs.Prelude.{replicate}
+use Rattle.std.{proofs.Common.{◌≡◌, ◌-◌, ◌++◌, take, map}, specs.Prelude.{replicate}}
 use Rattle.script_spec.specs.Meaning.{times_of}
 use Rattle.line_forms.specs.Forms.{hit_of}
 use Rattle.script_read.proofs.lines.occurrences.Given as goal

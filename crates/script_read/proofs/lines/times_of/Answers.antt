@@ -1,8 +1,7 @@
 use Rattle.std.proofs.Common.{ap, arith}
-use Rattle.script_spec.specs.Forms as form
 use Rattle.script_spec.specs.Faults.{IsAmount}
-use Rattle.line_forms.specs.declared.forms.Hit.{Hit}
-use Rattle.line_forms.specs.Forms.{hit_of}
+use Rattle.script_spec.specs.Forms as form
+use Rattle.line_forms.specs.{declared.forms.Hit.{Hit}, Forms.{hit_of}}
 use Rattle.script_read.proofs.Ranges.{un_map}
 use Rattle.script_read.proofs.lines.times_of.Goals as goal
 

@@ -1,7 +1,6 @@
 use Rattle.std.proofs.Common.{◌≡◌, true, subst, sym}
 use Rattle.perf_base.proofs.Entries.{all_more}
-use Rattle.script_read.proofs.Called.{all_not, all_done}
-use Rattle.script_read.proofs.Named.{IsKnown}
+use Rattle.script_read.proofs.{Called.{all_not, all_done}, Named.{IsKnown}}
 use Rattle.script_read.proofs.names.are_declared.Goals as goal
 
 pub returns-then-not-is_declared : goal.returns-then-not-is_declared

@@ -1,5 +1,4 @@
-use Rattle.std.proofs.Common.{◌≡◌, All, take}
-use Rattle.std.specs.Prelude.{Any}
+use Rattle.std.{proofs.Common.{◌≡◌, All, take}, specs.Prelude.{Any}}
 use Rattle.script_read.proofs.names.are_declared.Given as goal
 
 abbrev pub invariant-loop-hit : goal.invariant-loop-hit

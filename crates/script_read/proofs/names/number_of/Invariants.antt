@@ -1,6 +1,4 @@
-use Rattle.std.proofs.Common.{◌≡◌, ◌<◌, ℕ, false}
-use Rattle.std.specs.Prelude.{slice_get, IfSome}
-use Rattle.std.specs.Str.{bytes_eq}
+use Rattle.std.{proofs.Common.{◌≡◌, ◌<◌, ℕ, false}, specs.{Prelude.{slice_get, IfSome}, Str.{bytes_eq}}}
 use Rattle.script_read.proofs.names.number_of.Given as goal
 
 abbrev pub invariant-loop-kind : goal.invariant-loop-kind

@@ -1,6 +1,5 @@
 use Rattle.std.proofs.Common.{◌∙◌, sym, arith}
-use Rattle.script_read.proofs.Fits.{mask_small}
-use Rattle.script_read.proofs.Ranges.{mask_at}
+use Rattle.script_read.proofs.{Fits.{mask_small}, Ranges.{mask_at}}
 use Rattle.script_read.proofs.numbers.mask.Goals as goal
 
 pub overflow_cast-result-then-is_mask_of : goal.overflow_cast-result-then-is_mask_of

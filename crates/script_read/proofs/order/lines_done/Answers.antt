@@ -1,11 +1,9 @@
-use Rattle.std.proofs.Common.{◌≡◌, ℕ, ◌+◌, ◌<◌, eqb, List, get_or, take, length, sym, ap, subst, ◌∙◌, arith}
+use Rattle.std.proofs.{Common.{◌≡◌, ℕ, ◌+◌, ◌<◌, eqb, List, get_or, take, length, sym, ap, subst, ◌∙◌, arith}, lemmas.List.{length-set}}
 use Rattle.std.specs.Prelude.{count_by}
-use Rattle.std.proofs.lemmas.List.{length-set}
-use Rattle.perf_base.specs.declared.acts.Act.TheVariants as act
 use Rattle.perf_base.specs.Scripts.{IsAct}
+use Rattle.perf_base.specs.declared.acts.Act.TheVariants as act
 use Rattle.stage_spec.specs.Order.{is_of_cpu, is_of_tool}
-use Rattle.script_read.proofs.Completed.{one_counted, none_counted_more, cpu_low, tool_low}
-use Rattle.script_read.proofs.order.lines_done.Goals.{in-Processor, in-Tool, in-Seen}
+use Rattle.script_read.proofs.{Completed.{one_counted, none_counted_more, cpu_low, tool_low}, order.lines_done.Goals.{in-Processor, in-Tool, in-Seen}}
 use Rattle.script_read.proofs.order.lines_done.Goals as goal
 
 pub loop-act-preserved : goal.loop-act-preserved

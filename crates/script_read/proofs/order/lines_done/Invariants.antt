@@ -1,5 +1,4 @@
-use Rattle.std.proofs.Common.{◌≡◌, ℕ, ◌<◌, get_or, length, take}
-use Rattle.std.specs.Prelude.{count_by}
+use Rattle.std.{proofs.Common.{◌≡◌, ℕ, ◌<◌, get_or, length, take}, specs.Prelude.{count_by}}
 use Rattle.stage_spec.specs.Order.{is_of_cpu, is_of_tool}
 use Rattle.script_read.proofs.order.lines_done.Given as goal
 

@@ -1,5 +1,4 @@
-use Rattle.std.proofs.Common.{◌≡◌, length, sym, ◌∙◌, rules}
-use Rattle.std.proofs.lemmas.Slice.Eq.{bytes_eq-Decides}
+use Rattle.std.proofs.{Common.{◌≡◌, length, sym, ◌∙◌, rules}, lemmas.Slice.Eq.{bytes_eq-Decides}}
 use Rattle.script_read.proofs.Completed.{cpus_iff, tools_iff}
 use Rattle.script_read.proofs.order.order_complete.Goals as goal
 

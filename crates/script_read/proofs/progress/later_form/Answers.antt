@@ -1,9 +1,7 @@
 use Rattle.std.proofs.lemmas.Result.{err_from_is_err_and}
 use Rattle.perf_base.specs.declared.reasons.SReason.TheVariants as reason
 use Rattle.line_forms.specs.Forms.{form_of}
-use Rattle.script_read.proofs.Beginning.{sound_state}
-use Rattle.script_read.proofs.Lifting.{asks_iff, blames_more}
-use Rattle.script_read.proofs.Following.{follows_more}
+use Rattle.script_read.proofs.{Beginning.{sound_state}, Lifting.{asks_iff, blames_more}, Following.{follows_more}}
 use Rattle.script_read.proofs.progress.later_form.Goals as goal
 
 pub take-requires-clause-sound : goal.take-requires-clause-sound

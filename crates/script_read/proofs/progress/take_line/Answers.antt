@@ -1,9 +1,6 @@
-use Rattle.std.proofs.Common.{◌≡◌, ◌∙◌, sym, ap, false, Err}
-use Rattle.std.proofs.lemmas.Result.{err_from_is_err_and}
+use Rattle.std.proofs.{Common.{◌≡◌, ◌∙◌, sym, ap, false, Err}, lemmas.Result.{err_from_is_err_and}}
 use Rattle.line_forms.specs.Forms.{form_of, version_of}
-use Rattle.script_read.specs.Progress.{ended_of}
-use Rattle.script_read.proofs.Beginning.{ended_false, ascii_faulty}
-use Rattle.script_read.proofs.Lined.{line_ok, line_bad, stop_bad}
+use Rattle.script_read.{specs.Progress.{ended_of}, proofs.{Beginning.{ended_false, ascii_faulty}, Lined.{line_ok, line_bad, stop_bad}}}
 use Rattle.script_read.proofs.progress.take_line.Goals as goal
 
 pub returns-then-not-is_printable-clause-bad : goal.returns-then-not-is_printable-clause-bad

@@ -1,5 +1,4 @@
-use Rattle.script_read.proofs.Ended.{read_covered, read_light}
-use Rattle.script_read.proofs.OneAnswer.{only_script, only_refusal}
+use Rattle.script_read.proofs.{Ended.{read_covered, read_light}, OneAnswer.{only_script, only_refusal}}
 use Rattle.script_read.proofs.reading.read_script.Goals as goal
 
 pub returns-clause-covered : goal.returns-clause-covered

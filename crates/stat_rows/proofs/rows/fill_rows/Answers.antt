@@ -1,11 +1,8 @@
-use Rattle.std.specs.Prelude.{◌≡◌, List, map}
-use Rattle.std.proofs.Common.{arith, refl, subst, ◌∙◌}
+use Rattle.std.{specs.Prelude.{◌≡◌, List, map}, proofs.Common.{arith, refl, subst, ◌∙◌}}
 use Rattle.perf_base.specs.Scripts.{Scripted}
-use Rattle.stage_spec.specs.Stage.{is_open}
-use Rattle.stage_spec.specs.Tables.{stage_in}
+use Rattle.stage_spec.specs.{Stage.{is_open}, Tables.{stage_in}}
 use Rattle.stat_table.specs.declared.row.StatRow.{StatRow}
-use Rattle.stat_rows.specs.Rows.{open_below, row_of}
-use Rattle.stat_rows.proofs.Filling.{more-rows, slot}
+use Rattle.stat_rows.{specs.Rows.{open_below, row_of}, proofs.Filling.{more-rows, slot}}
 use Rattle.stat_rows.proofs.rows.fill_rows.Goals as goal
 
 pub loop-slot-preserved : goal.loop-slot-preserved

@@ -1,5 +1,4 @@
-use Rattle.std.specs.Prelude.{◌<◌, ◌^◌}
-use Rattle.std.proofs.Common.{subst, sym}
+use Rattle.std.{specs.Prelude.{◌<◌, ◌^◌}, proofs.Common.{subst, sym}}
 use Rattle.perf_base.specs.declared.reply.Sums.{Sums}
 use Rattle.ring_laws.proofs.Small.{sums_of_script}
 use Rattle.stat_rows.proofs.rows.row.Goals as goal

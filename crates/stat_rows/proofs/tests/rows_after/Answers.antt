@@ -1,7 +1,5 @@
-use Rattle.std.specs.Prelude.{ℕ, ◌<◌, List, length}
-use Rattle.std.proofs.Common.{get_or, subst, sym}
-use Rattle.perf_base.specs.declared.numbers.RingNo.{RingNo}
-use Rattle.perf_base.specs.Scripts.{IsRingSize}
+use Rattle.std.{specs.Prelude.{ℕ, ◌<◌, List, length}, proofs.Common.{get_or, subst, sym}}
+use Rattle.perf_base.specs.{declared.numbers.RingNo.{RingNo}, Scripts.{IsRingSize}}
 use Rattle.sample_ring.specs.RingLists.{AreNew}
 use Rattle.work_account.specs.Ends.{AreTogether}
 use Rattle.machine.proofs.New.{new-accounts, new-together}

@@ -1,7 +1,5 @@
 use Rattle.std.specs.Prelude.{codes, decimal}
-use Rattle.stat_table.specs.Estimates.{estimate_of, share_of}
-use Rattle.stat_table.specs.Table.{right, estimate_text, share_text}
-use Rattle.stat_table.proofs.Rows.{columns}
+use Rattle.stat_table.{specs.{Estimates.{estimate_of, share_of}, Table.{right, estimate_text, share_text}}, proofs.Rows.{columns}}
 use Rattle.stat_table.proofs.table.push_numbers.Goals as goal
 
 pub returns-clause-added : goal.returns-clause-added

@@ -1,6 +1,5 @@
 use Rattle.std.proofs.Common.{rules}
-use Rattle.stat_table.specs.Table.{row_text}
-use Rattle.stat_table.proofs.Rows.{rows_more, rows_exit}
+use Rattle.stat_table.{specs.Table.{row_text}, proofs.Rows.{rows_more, rows_exit}}
 use Rattle.stat_table.proofs.table.write_rows.Goals as goal
 
 pub returns-in_err-write_row-clause-wrote : goal.returns-in_err-write_row-clause-wrote

@@ -1,5 +1,4 @@
-use Rattle.std.proofs.Common.{◌≡◌, Ok, take}
-use Rattle.std.specs.Prelude.{flat_map}
+use Rattle.std.{proofs.Common.{◌≡◌, Ok, take}, specs.Prelude.{flat_map}}
 use Rattle.perf_io.specs.Wrote.{Wrote}
 use Rattle.stat_table.specs.Table.{row_text}
 use Rattle.stat_table.proofs.table.write_rows.Given as goal

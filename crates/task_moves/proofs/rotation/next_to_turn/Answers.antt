@@ -1,7 +1,6 @@
 use Rattle.std.proofs.Common.{◌≤◌, List, slice_index_or, subst}
 use Rattle.perf_base.specs.declared.numbers.Key.{Key}
-use Rattle.world_spec.specs.Value.{times}
-use Rattle.world_spec.proofs.Copies.{times-at}
+use Rattle.world_spec.{specs.Value.{times}, proofs.Copies.{times-at}}
 use Rattle.task_moves.proofs.Turning.{flexible-there}
 use Rattle.task_moves.proofs.rotation.next_to_turn.Goals as goal
 

@@ -1,5 +1,4 @@
-use Rattle.std.proofs.Common.{◌≡◌, drop}
-use Rattle.std.specs.List.{list_any}
+use Rattle.std.{proofs.Common.{◌≡◌, drop}, specs.List.{list_any}}
 use Rattle.task_moves.specs.Turning.{waits_there}
 use Rattle.task_moves.proofs.rotation.some_waits.Given as goal
 

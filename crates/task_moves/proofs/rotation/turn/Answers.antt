@@ -1,9 +1,7 @@
 use Rattle.std.proofs.Common.{◌∙◌, ap, sym}
 use Rattle.stage_spec.specs.Stage.{place_of}
-use Rattle.world_spec.specs.Changes.{in_list, to_last, with_leaders}
-use Rattle.world_spec.specs.Value.{leaders_of, entry_at}
-use Rattle.task_moves.specs.Turning.{last_if}
-use Rattle.task_moves.proofs.Turning.{flexible-there, turning-there, one-context, same-number}
+use Rattle.world_spec.specs.{Changes.{in_list, to_last, with_leaders}, Value.{leaders_of, entry_at}}
+use Rattle.task_moves.{specs.Turning.{last_if}, proofs.Turning.{flexible-there, turning-there, one-context, same-number}}
 use Rattle.task_moves.proofs.rotation.turn.Goals as goal
 
 pub move_last-requires-clause-leads : goal.move_last-requires-clause-leads

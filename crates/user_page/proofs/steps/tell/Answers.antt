@@ -1,6 +1,5 @@
 use Rattle.std.proofs.Common.{rules, refl, sym, subst}
-use Rattle.user_page.specs.Views.{Holder, IsNote}
-use Rattle.user_page.proofs.Parting.{may_note, may_inform}
+use Rattle.user_page.{specs.Views.{Holder, IsNote}, proofs.Parting.{may_note, may_inform}}
 use Rattle.user_page.proofs.steps.tell.Goals as goal
 
 pub split_seat-note-requires : goal.split_seat-note-requires

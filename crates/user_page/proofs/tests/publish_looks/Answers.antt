@@ -1,7 +1,5 @@
 use Rattle.std.proofs.Common.{◌+◌, ap, arith}
-use Rattle.user_page.specs.declared.look.Look.{Look}
-use Rattle.user_page.specs.Looks.{last_look}
-use Rattle.user_page.proofs.Lists.{follows_at}
+use Rattle.user_page.{specs.{declared.look.Look.{Look}, Looks.{last_look}}, proofs.Lists.{follows_at}}
 use Rattle.user_page.proofs.tests.publish_looks.Goals as goal
 
 pub publish-requires-clause-rises : goal.publish-requires-clause-rises

@@ -1,14 +1,8 @@
 use Rattle.std.proofs.Common.{ap, sym, subst}
-use Rattle.world_spec.specs.Shares.{HaveShares, soft_shares}
-use Rattle.world_spec.specs.Value.{World}
-use Rattle.world_spec.specs.Working.{keys_by_pass}
+use Rattle.world_spec.specs.{Shares.{HaveShares, soft_shares}, Value.{World}, Working.{keys_by_pass}}
+use Rattle.work_account.{specs.Visits.{hits_among}, proofs.{Growing.{soft-grows}, Left.{IsButAccounts, soft-stage, soft-stays}, May.{soft-may}}}
+use Rattle.work_account.proofs.{Shared.{soft-shared}, Struck.{but-all}}
 use Rattle.work_account.specs.declared.happening.Happening.TheVariants as happening
-use Rattle.work_account.specs.Visits.{hits_among}
-use Rattle.work_account.proofs.Growing.{soft-grows}
-use Rattle.work_account.proofs.Left.{IsButAccounts, soft-stage, soft-stays}
-use Rattle.work_account.proofs.May.{soft-may}
-use Rattle.work_account.proofs.Shared.{soft-shared}
-use Rattle.work_account.proofs.Struck.{but-all}
 use Rattle.work_account.proofs.account.soft.Goals as goal
 
 pub hit_found-requires-clause-may : goal.hit_found-requires-clause-may

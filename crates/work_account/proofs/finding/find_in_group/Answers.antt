@@ -1,11 +1,7 @@
-use Rattle.std.proofs.Common.{◌+◌, ◌≤◌, ◌++◌, ◌∙◌, arith, List, ap, sym, subst, length, slice_index_or}
-use Rattle.std.proofs.lemmas.List.{append-nil, take_all}
+use Rattle.std.proofs.{Common.{◌+◌, ◌≤◌, ◌++◌, ◌∙◌, arith, List, ap, sym, subst, length, slice_index_or}, lemmas.List.{append-nil, take_all}}
 use Rattle.perf_base.specs.declared.numbers.Key.{Key}
-use Rattle.world_spec.specs.Value.{times}
-use Rattle.world_spec.proofs.Along.{member-of}
-use Rattle.world_spec.proofs.Copies.{times-at}
-use Rattle.work_account.specs.Visits.{hits_among}
-use Rattle.work_account.proofs.Among.{keys-next, key-room}
+use Rattle.world_spec.{specs.Value.{times}, proofs.{Along.{member-of}, Copies.{times-at}}}
+use Rattle.work_account.{specs.Visits.{hits_among}, proofs.Among.{keys-next, key-room}}
 use Rattle.work_account.proofs.finding.find_in_group.Goals as goal
 
 pub loop-member-init : goal.loop-member-init

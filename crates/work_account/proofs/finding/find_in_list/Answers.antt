@@ -1,11 +1,7 @@
-use Rattle.std.proofs.Common.{◌+◌, ◌≤◌, ◌++◌, ◌∙◌, arith, List, ap, sym, subst, length, slice_index_or}
-use Rattle.std.proofs.lemmas.List.{append-nil, take_all}
+use Rattle.std.proofs.{Common.{◌+◌, ◌≤◌, ◌++◌, ◌∙◌, arith, List, ap, sym, subst, length, slice_index_or}, lemmas.List.{append-nil, take_all}}
 use Rattle.perf_base.specs.declared.numbers.Key.{Key}
-use Rattle.world_spec.specs.Value.{times}
-use Rattle.world_spec.proofs.Copies.{times-at}
-use Rattle.work_account.specs.declared.overflowing.Hit.{Hit}
-use Rattle.work_account.specs.Visits.{hits_among, all_members}
-use Rattle.work_account.proofs.Among.{groups-next, group-room}
+use Rattle.world_spec.{specs.Value.{times}, proofs.Copies.{times-at}}
+use Rattle.work_account.{specs.{declared.overflowing.Hit.{Hit}, Visits.{hits_among, all_members}}, proofs.Among.{groups-next, group-room}}
 use Rattle.work_account.proofs.Reached.{listed-leads}
 use Rattle.work_account.proofs.finding.find_in_list.Goals as goal
 

@@ -1,8 +1,5 @@
-use Rattle.std.proofs.Common.{arith, ◌++◌, ◌∙◌, List, length, true, false, ap}
-use Rattle.std.proofs.lemmas.List.{length-append}
-use Rattle.work_account.specs.declared.overflowing.Hit.{Hit}
-use Rattle.work_account.specs.Visits.{hits_among, own_keys, task_keys}
-use Rattle.work_account.proofs.Among.{hits-few}
+use Rattle.std.proofs.{Common.{arith, ◌++◌, ◌∙◌, List, length, true, false, ap}, lemmas.List.{length-append}}
+use Rattle.work_account.{specs.{declared.overflowing.Hit.{Hit}, Visits.{hits_among, own_keys, task_keys}}, proofs.Among.{hits-few}}
 use Rattle.work_account.proofs.Reached.{task-below, four-lengths, four-found}
 use Rattle.work_account.proofs.finding.find_on.Goals as goal
 

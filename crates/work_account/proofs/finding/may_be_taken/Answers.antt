@@ -1,5 +1,4 @@
-use Rattle.std.proofs.Common.{sym, ◌∙◌}
-use Rattle.std.proofs.lemmas.Bool.{false≢true}
+use Rattle.std.proofs.{Common.{sym, ◌∙◌}, lemmas.Bool.{false≢true}}
 use Rattle.work_account.proofs.Skipped.{none-works}
 use Rattle.work_account.proofs.finding.may_be_taken.Goals as goal
 

@@ -1,9 +1,7 @@
 use Rattle.std.proofs.Common.{◌≡◌, ◌<◌, ◌++◌, [], ◌∷◌, ◌∙◌, arith, List, ap, sym, subst, map, take, length, slice_index_or}
 use Rattle.std.proofs.lemmas.List.{length-map, take_all}
 use Rattle.world_spec.specs.Value.{World}
-use Rattle.work_account.specs.declared.overflowing.Hit.{Hit}
-use Rattle.work_account.specs.declared.overflowing.Overflow.{Overflow}
-use Rattle.work_account.specs.Visits.{hit_one, hit_all, overflow_of, MayHit}
+use Rattle.work_account.specs.{declared.overflowing.{Hit.{Hit}, Overflow.{Overflow}}, Visits.{hit_one, hit_all, overflow_of, MayHit}}
 use Rattle.work_account.proofs.Struck.{none-hit, hit-next, over-next, next-may, next-over, length-taken}
 use Rattle.work_account.proofs.hitting.hit_each.Goals as goal
 

@@ -1,20 +1,11 @@
 use Rattle.std.proofs.Common.{◌≡◌, ◌<◌, ◌∙◌, ℕ, arith, List, ap, sym, subst, map, length}
-use Rattle.world_spec.specs.Metering.{IsWorked}
-use Rattle.world_spec.specs.Shares.{HaveShares, work_shares}
-use Rattle.world_spec.specs.Value.{World}
-use Rattle.world_spec.specs.Working.{keys_by_pass}
-use Rattle.work_account.specs.declared.happening.Happening.TheVariants as happening
-use Rattle.work_account.specs.declared.overflowing.Hit.{Hit}
-use Rattle.work_account.specs.Ends.{send_all}
-use Rattle.work_account.specs.Sampling.{AreLeft, ends_of, sent_by}
-use Rattle.work_account.specs.Visits.{hits_among, hit_all, overflow_of, MayHitAll}
-use Rattle.work_account.proofs.Growing.{work-grows}
-use Rattle.work_account.proofs.Left.{IsMetered, IsDone, metered-on, done-on, work-stage, work-stays, lost-shares}
-use Rattle.work_account.proofs.May.{work-may}
+use Rattle.world_spec.specs.{Metering.{IsWorked}, Shares.{HaveShares, work_shares}, Value.{World}, Working.{keys_by_pass}}
+use Rattle.work_account.specs.{declared.overflowing.Hit.{Hit}, Ends.{send_all}, Sampling.{AreLeft, ends_of, sent_by}}
+use Rattle.work_account.{specs.Visits.{hits_among, hit_all, overflow_of, MayHitAll}, proofs.Growing.{work-grows}}
+use Rattle.work_account.proofs.{Left.{IsMetered, IsDone, metered-on, done-on, work-stage, work-stays, lost-shares}, May.{work-may}}
 use Rattle.work_account.proofs.Sampled.{Timed, live-found, rings-there, space-there, ends-are, together-are, accounts-are, lost-are}
-use Rattle.work_account.proofs.Shared.{same-hits, work-shared}
-use Rattle.work_account.proofs.Steps.{hits-on}
-use Rattle.work_account.proofs.Struck.{but-all}
+use Rattle.work_account.proofs.{Shared.{same-hits, work-shared}, Steps.{hits-on}, Struck.{but-all}}
+use Rattle.work_account.specs.declared.happening.Happening.TheVariants as happening
 use Rattle.work_account.proofs.sampling.work.Goals as goal
 
 pub hit_each-overflows-requires : goal.hit_each-overflows-requires

@@ -1,7 +1,6 @@
 use Rattle.std.proofs.Common.{ap, ◌∙◌, slice_set}
 use Rattle.sample_ring.specs.RingLists.{ring_index}
-use Rattle.work_account.specs.Sampling.{asks}
-use Rattle.work_account.proofs.Sends.{found-is, lost-answer, head-fits, lost-fits}
+use Rattle.work_account.{specs.Sampling.{asks}, proofs.Sends.{found-is, lost-answer, head-fits, lost-fits}}
 use Rattle.work_account.proofs.sending.send.Goals as goal
 
 pub send-requires-clause-head : goal.send-requires-clause-head

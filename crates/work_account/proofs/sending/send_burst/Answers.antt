@@ -1,7 +1,6 @@
 use Rattle.std.proofs.Common.{arith, ◌≡◌, ◌+◌, ◌-◌, ◌∙◌, suc, ap, subst, sym}
 use Rattle.world_spec.specs.Value.{World, instance_at}
-use Rattle.work_account.specs.Ends.{Ends, AreTogether, HaveSpace, send_one}
-use Rattle.work_account.specs.Sampling.{HasInstance, asks, ends_of, send_times}
+use Rattle.work_account.specs.{Ends.{Ends, AreTogether, HaveSpace, send_one}, Sampling.{HasInstance, asks, ends_of, send_times}}
 use Rattle.work_account.proofs.Space.{space-less, space-next, together-next, burst-next}
 use Rattle.work_account.proofs.sending.send_burst.Goals as goal
 

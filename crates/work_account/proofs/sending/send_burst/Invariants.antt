@@ -1,7 +1,6 @@
 use Rattle.std.proofs.Common.{◌≡◌, ◌-◌}
 use Rattle.world_spec.specs.Value.{instance_at}
-use Rattle.work_account.specs.Ends.{AreTogether, HaveSpace}
-use Rattle.work_account.specs.Sampling.{asks, HasInstance, ends_of, send_times}
+use Rattle.work_account.specs.{Ends.{AreTogether, HaveSpace}, Sampling.{asks, HasInstance, ends_of, send_times}}
 use Rattle.work_account.proofs.sending.send_burst.Given as goal
 
 abbrev pub invariant-loop : goal.invariant-loop

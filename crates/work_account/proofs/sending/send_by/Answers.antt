@@ -1,10 +1,8 @@
 use Rattle.std.proofs.Common.{ap, sym, ◌∙◌}
 use Rattle.stage_spec.specs.declared.instance.Instance.{Instance}
 use Rattle.perf_base.specs.declared.numbers.Key.{Key}
-use Rattle.world_spec.specs.Value.{World, instance_at}
-use Rattle.world_spec.specs.StageOf.{stage_of}
-use Rattle.work_account.specs.Sampling.{HasInstance, asks, ends_of, send_times}
-use Rattle.work_account.proofs.Sequences.{ring-sends, ring-space, no-ring}
+use Rattle.world_spec.specs.{Value.{World, instance_at}, StageOf.{stage_of}}
+use Rattle.work_account.{specs.Sampling.{HasInstance, asks, ends_of, send_times}, proofs.Sequences.{ring-sends, ring-space, no-ring}}
 use Rattle.work_account.proofs.sending.send_by.Goals as goal
 
 pub send_burst-requires-clause-space : goal.send_burst-requires-clause-space

@@ -1,9 +1,7 @@
 use Rattle.std.proofs.Common.{ap, sym, ◌∙◌, option_map}
 use Rattle.stage_spec.specs.Stage.{original_of}
-use Rattle.world_spec.specs.Value.{World, instance_at}
-use Rattle.world_spec.specs.StageOf.{stage_of}
-use Rattle.work_account.specs.Sampling.{ends_of}
-use Rattle.work_account.proofs.Sequences.{no-family}
+use Rattle.world_spec.specs.{Value.{World, instance_at}, StageOf.{stage_of}}
+use Rattle.work_account.{specs.Sampling.{ends_of}, proofs.Sequences.{no-family}}
 use Rattle.work_account.proofs.sending.send_overflow.Goals as goal
 
 pub returns-in_default-clause-ends : goal.returns-in_default-clause-ends

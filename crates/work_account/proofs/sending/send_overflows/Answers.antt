@@ -1,7 +1,6 @@
 use Rattle.std.proofs.Common.{arith, ◌≡◌, ◌∙◌, length, ap, subst, sym}
 use Rattle.world_spec.specs.Value.{World}
-use Rattle.work_account.specs.declared.overflowing.Overflow.{Overflow}
-use Rattle.work_account.specs.Ends.{Ends, AreTogether, HaveSpace, send_all}
+use Rattle.work_account.specs.{declared.overflowing.Overflow.{Overflow}, Ends.{Ends, AreTogether, HaveSpace, send_all}}
 use Rattle.work_account.specs.Sampling.{HasInstance, ends_of, sents_of}
 use Rattle.work_account.proofs.Sequences.{numbers-after, together-after, front-space, rest-space, rest-sends, none-to-send}
 use Rattle.work_account.proofs.sending.send_overflows.Goals as goal

@@ -1,6 +1,5 @@
 use Rattle.std.proofs.Common.{◌≡◌, drop, length}
-use Rattle.work_account.specs.Ends.{AreTogether, HaveSpace, send_all}
-use Rattle.work_account.specs.Sampling.{HasInstance, ends_of, sents_all}
+use Rattle.work_account.specs.{Ends.{AreTogether, HaveSpace, send_all}, Sampling.{HasInstance, ends_of, sents_all}}
 use Rattle.work_account.proofs.sending.send_overflows.Given as goal
 
 abbrev pub invariant-loop-place : goal.invariant-loop-place

@@ -1,9 +1,7 @@
-use Rattle.std.proofs.Common.{None, sym, ap, ◌∙◌, take, get_or}
-use Rattle.std.proofs.lemmas.List.{take_more}
-use Rattle.perf_base.specs.declared.lines.CpuLine.TheVariants as cpu_line
+use Rattle.std.proofs.{Common.{None, sym, ap, ◌∙◌, take, get_or}, lemmas.List.{take_more}}
 use Rattle.perf_base.specs.Scripts.{with_cpu_line}
-use Rattle.work_maker.specs.Building.{with_cpu_lines}
-use Rattle.work_maker.proofs.States.{cpu_lines-more}
+use Rattle.perf_base.specs.declared.lines.CpuLine.TheVariants as cpu_line
+use Rattle.work_maker.{specs.Building.{with_cpu_lines}, proofs.States.{cpu_lines-more}}
 use Rattle.work_maker.proofs.parts.add_cpu_lines.Goals as goal
 
 pub loop-line-preserved : goal.loop-line-preserved

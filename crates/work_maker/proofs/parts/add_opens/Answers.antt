@@ -1,9 +1,7 @@
 use Rattle.std.proofs.Common.{[], ◌++◌, length, All, sym, ap, subst, arith, ◌∙◌}
 use Rattle.perf_base.specs.Scripts.{IsToolLine, line_count}
-use Rattle.make_spec.specs.Rounds.{for_each, for_each_all, made_ring, sampling_lines, counting_lines}
-use Rattle.make_spec.proofs.Lines.{sampling_fits}
-use Rattle.work_maker.specs.Building.{with_first_tool_lines, so_far}
-use Rattle.work_maker.proofs.States.{so_far-count, few_lines, tool_lists-more}
+use Rattle.make_spec.{specs.Rounds.{for_each, for_each_all, made_ring, sampling_lines, counting_lines}, proofs.Lines.{sampling_fits}}
+use Rattle.work_maker.{specs.Building.{with_first_tool_lines, so_far}, proofs.States.{so_far-count, few_lines, tool_lists-more}}
 use Rattle.work_maker.proofs.parts.add_opens.Goals as goal
 
 pub add_tool_lines-requires-clause-lines : goal.add_tool_lines-requires-clause-lines

@@ -1,8 +1,7 @@
 use Rattle.std.proofs.Common.{[], ◌++◌, length, ap, arith, ◌∙◌}
 use Rattle.perf_base.specs.Scripts.{line_count}
 use Rattle.make_spec.specs.Rounds.{first_lines, last_lines}
-use Rattle.work_maker.specs.Building.{with_cpu_lines, so_far, rounds_below}
-use Rattle.work_maker.proofs.States.{so_far-count, rounds_few, round_more}
+use Rattle.work_maker.{specs.Building.{with_cpu_lines, so_far, rounds_below}, proofs.States.{so_far-count, rounds_few, round_more}}
 use Rattle.work_maker.proofs.parts.add_round.Goals as goal
 
 pub add_cpu_lines-requires-clause-few : goal.add_cpu_lines-requires-clause-few

@@ -1,11 +1,6 @@
-use Rattle.std.specs.Prelude.{◌≡◌, List, ℕ, Some, map, string_bytes}
-use Rattle.std.proofs.Common.{ap, refl, subst, sym, ◌∙◌}
-use Rattle.perf_io.specs.Counts.{last_count}
-use Rattle.perf_io.specs.MemSink.{SinkState}
-use Rattle.perf_io.specs.MemSource.{SourceState}
-use Rattle.perf_io.specs.Outside.{SinkShows, SourceShows}
-use Rattle.perf_top.specs.Outcome.{IsAnswer}
-use Rattle.perf_top.specs.declared.status.Status.{Status}
+use Rattle.std.{specs.Prelude.{◌≡◌, List, ℕ, Some, map, string_bytes}, proofs.Common.{ap, refl, subst, sym, ◌∙◌}}
+use Rattle.perf_io.specs.{Counts.{last_count}, MemSink.{SinkState}, MemSource.{SourceState}, Outside.{SinkShows, SourceShows}}
+use Rattle.perf_top.specs.{Outcome.{IsAnswer}, declared.status.Status.{Status}}
 use Rattle.perf_top.specs.declared.status.Status.TheVariants as status
 use Rattle.worked_cases.proofs.Given.{bad-by, refused-by, written-by}
 use Rattle.worked_cases.proofs.answer.answer_of.Goals as goal

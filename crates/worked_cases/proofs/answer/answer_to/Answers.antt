@@ -1,5 +1,4 @@
-use Rattle.std.specs.Prelude.{◌≡◌, ℕ, List, [], ◌∷◌, IfOk, codes, map, string_bytes}
-use Rattle.std.proofs.Common.{rules, subst}
+use Rattle.std.{specs.Prelude.{◌≡◌, ℕ, List, [], ◌∷◌, IfOk, codes, map, string_bytes}, proofs.Common.{rules, subst}}
 use Rattle.perf_base.specs.declared.reasons.SReason.{SReason}
 use Rattle.perf_top.specs.declared.status.Status.TheVariants as status
 use Rattle.worked_cases.specs.Written.{IsBadScript}

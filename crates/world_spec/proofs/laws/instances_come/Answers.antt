@@ -1,5 +1,4 @@
-use Rattle.world_spec.proofs.AddedKept.{add-kept}
-use Rattle.world_spec.proofs.AddedStage.{add-stage, open-stage}
+use Rattle.world_spec.proofs.{AddedKept.{add-kept}, AddedStage.{add-stage, open-stage}}
 use Rattle.world_spec.proofs.laws.instances_come.Goals as goal
 
 pub returns : goal.returns

@@ -1,5 +1,4 @@
-use Rattle.world_spec.proofs.Families.{group-is, open-is, original-is}
-use Rattle.world_spec.proofs.Staying.{origin-is}
+use Rattle.world_spec.proofs.{Families.{group-is, open-is, original-is}, Staying.{origin-is}}
 use Rattle.world_spec.proofs.laws.originals_are_found.Goals as goal
 
 pub returns : goal.returns

@@ -1,5 +1,4 @@
-use Rattle.world_spec.proofs.Listings.{one-in_context, one-on_processor}
-use Rattle.world_spec.proofs.Reaching.{one-reached}
+use Rattle.world_spec.proofs.{Listings.{one-in_context, one-on_processor}, Reaching.{one-reached}}
 use Rattle.world_spec.proofs.laws.processors_reach_one.Goals as goal
 
 pub returns : goal.returns

@@ -1,5 +1,4 @@
-use Rattle.world_spec.proofs.Families.{group-members}
-use Rattle.world_spec.proofs.Listings.{context-is, is-numbered, passes-are}
+use Rattle.world_spec.proofs.{Families.{group-members}, Listings.{context-is, is-numbered, passes-are}}
 use Rattle.world_spec.proofs.laws.stages_are_listed.Goals as goal
 
 pub returns : goal.returns

@@ -1,5 +1,4 @@
-use Rattle.std.proofs.Common.{arith, subst, sym, inl, inr}
-use Rattle.std.proofs.lemmas.Bool.{cases_eq}
+use Rattle.std.proofs.{Common.{arith, subst, sym, inl, inr}, lemmas.Bool.{cases_eq}}
 use Rattle.world_tests.specs.Steady.{HasSlotRoom}
 use Rattle.world_tests.proofs.driving.have_room.Goals as goal
 

@@ -1,7 +1,6 @@
 use Rattle.std.proofs.Common.{ap}
 use Rattle.world_spec.specs.Value.{World}
-use Rattle.world_tests.proofs.Steady.{same-steady}
-use Rattle.world_tests.proofs.Worked.{sampled-alone}
+use Rattle.world_tests.proofs.{Steady.{same-steady}, Worked.{sampled-alone}}
 use Rattle.world_tests.proofs.driving.hit.Goals as goal
 
 pub hit-requires-clause-alone : goal.hit-requires-clause-alone

@@ -1,5 +1,4 @@
-use Rattle.std.specs.Prelude.{◌<◌, length}
-use Rattle.std.proofs.Common.{arith, ap}
+use Rattle.std.{specs.Prelude.{◌<◌, length}, proofs.Common.{arith, ap}}
 use Rattle.stage_spec.specs.Hardware.{Hardware}
 use Rattle.world_tests.proofs.Worked.{meter-fits, room-fits, work-steady}
 use Rattle.world_tests.proofs.driving.work.Goals as goal

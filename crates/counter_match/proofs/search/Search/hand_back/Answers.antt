@@ -1,9 +1,6 @@
-use Rattle.std.proofs.Common.{arith, ◌≡◌, ℕ, ◌-◌, length, get_or, set, subst}
-use Rattle.std.proofs.lemmas.List.{length-map}
-use Rattle.stage_spec.specs.Fits.{IsAssignment}
-use Rattle.stage_spec.specs.Tight.{masks_of}
-use Rattle.counter_match.specs.Search.{IsShift}
-use Rattle.counter_match.proofs.Shift.{IsShift-next, IsAssignment-shift}
+use Rattle.std.proofs.{Common.{arith, ◌≡◌, ℕ, ◌-◌, length, get_or, set, subst}, lemmas.List.{length-map}}
+use Rattle.stage_spec.specs.{Fits.{IsAssignment}, Tight.{masks_of}}
+use Rattle.counter_match.{specs.Search.{IsShift}, proofs.Shift.{IsShift-next, IsAssignment-shift}}
 use Rattle.counter_match.proofs.search.Search.hand_back.Goals as goal
 
 pub loop-position-preserved : goal.loop-position-preserved

@@ -1,10 +1,6 @@
-use Rattle.std.proofs.Common.{arith, ◌≡◌, ℕ, ◌<◌, ◌∙◌, List, ap, sym, length, get_or}
-use Rattle.std.proofs.lemmas.List.{length-map}
-use Rattle.stage_spec.specs.Fits.{can_count}
-use Rattle.stage_spec.specs.Tight.{masks_of}
-use Rattle.counter_match.proofs.Looking.{IsLooked, IsLooked-reach, length-search_new}
-use Rattle.counter_match.proofs.search.Search.look.Given.{Over}
-use Rattle.counter_match.proofs.search.Search.look.Goals.{After-reach}
+use Rattle.std.proofs.{Common.{arith, ◌≡◌, ℕ, ◌<◌, ◌∙◌, List, ap, sym, length, get_or}, lemmas.List.{length-map}}
+use Rattle.stage_spec.specs.{Fits.{can_count}, Tight.{masks_of}}
+use Rattle.counter_match.proofs.{Looking.{IsLooked, IsLooked-reach, length-search_new}, search.Search.look.{Given.{Over}, Goals.{After-reach}}}
 use Rattle.counter_match.proofs.search.Search.look.Goals as goal
 
 pub reach-requires-clause-queue : goal.reach-requires-clause-queue

@@ -1,11 +1,7 @@
-use Rattle.std.specs.Prelude.{nat_eq}
-use Rattle.std.specs.List.{list_any}
-use Rattle.std.proofs.Common.{arith, ℕ, ◌∙◌, ap, sym, length}
-use Rattle.std.proofs.lemmas.List.{length_push}
+use Rattle.std.{specs.{Prelude.{nat_eq}, List.{list_any}}, proofs.{Common.{arith, ℕ, ◌∙◌, ap, sym, length}, lemmas.List.{length_push}}}
 use Rattle.perf_base.specs.declared.numbers.EventNo.{EventNo}
-use Rattle.counter_match.proofs.Picking.{picked_yes, picked_no}
+use Rattle.counter_match.proofs.{Picking.{picked_yes, picked_no}, search.Search.reached.Goals.{then-has_reached, else-has_reached}}
 use Rattle.counter_match.proofs.search.Search.reached.Goals as goal
-use Rattle.counter_match.proofs.search.Search.reached.Goals.{then-has_reached, else-has_reached}
 
 pub loop-place-preserved : goal.loop-place-preserved
 loop-place-preserved c =

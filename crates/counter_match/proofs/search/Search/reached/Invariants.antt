@@ -1,6 +1,4 @@
-use Rattle.std.specs.Prelude.{nat_eq}
-use Rattle.std.specs.List.{list_any}
-use Rattle.std.proofs.Common.{◌≡◌, ◌≤◌, ◌++◌, length, map, drop}
+use Rattle.std.{specs.{Prelude.{nat_eq}, List.{list_any}}, proofs.Common.{◌≡◌, ◌≤◌, ◌++◌, length, map, drop}}
 use Rattle.counter_match.specs.Search.{picked}
 use Rattle.counter_match.proofs.search.Search.reached.Given as goal
 

@@ -1,8 +1,6 @@
-use Rattle.std.proofs.Common.{arith, ◌≡◌, ◌<◌, ◌≤◌, ◌∙◌, length}
-use Rattle.std.proofs.lemmas.List.{length-map}
+use Rattle.std.proofs.{Common.{arith, ◌≡◌, ◌<◌, ◌≤◌, ◌∙◌, length}, lemmas.List.{length-map}}
 use Rattle.stage_spec.specs.Tight.{masks_of}
-use Rattle.counter_match.proofs.Fitting.{can_count-below}
-use Rattle.counter_match.proofs.Growth.{IsClosedBelow-extended, IsClosedBelow-more, length-search}
+use Rattle.counter_match.proofs.{Fitting.{can_count-below}, Growth.{IsClosedBelow-extended, IsClosedBelow-more, length-search}}
 use Rattle.counter_match.proofs.Looking.{IsClosedAt-all}
 use Rattle.counter_match.proofs.search.Search.run.Goals as goal
 

@@ -1,11 +1,7 @@
-use Rattle.std.specs.Prelude.{All}
-use Rattle.std.proofs.Common.{arith, ◌≡◌, ℕ, ◌+◌, ◌<◌, ◌≤◌, ◌∙◌, ap, sym, subst, [], ◌∷◌, ◌++◌, List, length, take, slice_set}
-use Rattle.std.proofs.lemmas.List.{take_more_set, length-take-le, length-map, map-append, length-set}
-use Rattle.std.proofs.lemmas.List.Elements.{All-push}
-use Rattle.perf_base.specs.declared.numbers.EventNo.{EventNo}
-use Rattle.stage_spec.specs.Fits.{IsAssignment}
-use Rattle.stage_spec.specs.Tight.{masks_of}
-use Rattle.perf_base.specs.Masks.{IsMask}
+use Rattle.std.{specs.Prelude.{All}, proofs.Common.{arith, ◌≡◌, ℕ, ◌+◌, ◌<◌, ◌≤◌, ◌∙◌, ap, sym, subst, [], ◌∷◌, ◌++◌, List, length, take, slice_set}}
+use Rattle.std.proofs.lemmas.List.{take_more_set, length-take-le, length-map, map-append, length-set, Elements.{All-push}}
+use Rattle.perf_base.specs.{declared.numbers.EventNo.{EventNo}, Masks.{IsMask}}
+use Rattle.stage_spec.specs.{Fits.{IsAssignment}, Tight.{masks_of}}
 use Rattle.counter_match.proofs.Assigned.{length-assigned}
 use Rattle.counter_match.proofs.seating.Seating.add.Goals as goal
 

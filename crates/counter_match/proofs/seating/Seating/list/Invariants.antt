@@ -1,5 +1,4 @@
-use Rattle.std.proofs.Common.{◌≡◌, take}
-use Rattle.std.specs.List.{zip}
+use Rattle.std.{proofs.Common.{◌≡◌, take}, specs.List.{zip}}
 use Rattle.counter_match.specs.Seating.{slots_of}
 use Rattle.counter_match.proofs.seating.Seating.list.Given as goal
 

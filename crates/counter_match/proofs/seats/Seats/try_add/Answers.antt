@@ -1,14 +1,8 @@
-use Rattle.std.proofs.Common.{arith, ◌≡◌, ℕ, false, ◌∙◌, ap, sym, refl, subst, [], ◌∷◌, ◌++◌, length, get_or, is_ok}
-use Rattle.std.proofs.lemmas.Bool.{both_ways}
-use Rattle.std.proofs.lemmas.List.{get_or-map, length-map, take_all}
-use Rattle.std.proofs.lemmas.Result.{err_from_is_err_and}
-use Rattle.perf_base.specs.declared.numbers.EventNo.{EventNo}
-use Rattle.stage_spec.specs.Fits.{fits}
-use Rattle.stage_spec.specs.Tight.{masks_of, tight_set, shortest_unfit}
-use Rattle.perf_base.specs.Masks.{IsMask}
-use Rattle.counter_match.specs.Seating.{slots_of}
-use Rattle.counter_match.specs.Stored.{events_of}
-use Rattle.counter_match.proofs.Fitting.{fits-IsAssignment}
+use Rattle.std.proofs.{Common.{arith, ◌≡◌, ℕ, false, ◌∙◌, ap, sym, refl, subst, [], ◌∷◌, ◌++◌, length, get_or, is_ok}, lemmas.Bool.{both_ways}}
+use Rattle.std.proofs.lemmas.{List.{get_or-map, length-map, take_all}, Result.{err_from_is_err_and}}
+use Rattle.perf_base.specs.{declared.numbers.EventNo.{EventNo}, Masks.{IsMask}}
+use Rattle.stage_spec.specs.{Fits.{fits}, Tight.{masks_of, tight_set, shortest_unfit}}
+use Rattle.counter_match.{specs.{Seating.{slots_of}, Stored.{events_of}}, proofs.Fitting.{fits-IsAssignment}}
 use Rattle.counter_match.proofs.Refusal.{unfit_group, shortest_unfit_group}
 use Rattle.counter_match.proofs.seats.Seats.try_add.Goals as goal
 

@@ -1,7 +1,6 @@
 use Rattle.std.proofs.Common.{◌≡◌, sym, ap, subst, List}
 use Rattle.perf_base.specs.declared.numbers.Key.{Key}
-use Rattle.group_lists.specs.Groups.{IsWithoutRepeats}
-use Rattle.group_lists.proofs.Leaders.{IsWithoutRepeats-push}
+use Rattle.group_lists.{specs.Groups.{IsWithoutRepeats}, proofs.Leaders.{IsWithoutRepeats-push}}
 use Rattle.group_lists.proofs.group_list.GroupList.push.Goals as goal
 
 pub invariant_of-self : goal.invariant_of-self

@@ -1,8 +1,6 @@
-use Rattle.std.proofs.Common.{◌≡◌, List, length, ap, sym, rules, subst, arith, Contains}
-use Rattle.std.proofs.lemmas.Fn.{filter_same}
+use Rattle.std.proofs.{Common.{◌≡◌, List, length, ap, sym, rules, subst, arith, Contains}, lemmas.Fn.{filter_same}}
 use Rattle.perf_base.specs.declared.numbers.Key.{Key}
-use Rattle.group_lists.specs.Groups.{IsWithoutRepeats, without}
-use Rattle.group_lists.proofs.Leaders.{IsWithoutRepeats-without, length-without}
+use Rattle.group_lists.{specs.Groups.{IsWithoutRepeats, without}, proofs.Leaders.{IsWithoutRepeats-without, length-without}}
 use Rattle.group_lists.proofs.group_list.GroupList.remove.Goals as goal
 
 pub returns-clause-leaders : goal.returns-clause-leaders

@@ -1,14 +1,9 @@
-use Rattle.std.specs.Prelude.{◌<◌, length}
-use Rattle.std.proofs.Common.{arith, sym, subst, ◌∙◌}
-use Rattle.std.proofs.lemmas.List.{length-set}
+use Rattle.std.{specs.Prelude.{◌<◌, length}, proofs.{Common.{arith, sym, subst, ◌∙◌}, lemmas.List.{length-set}}}
 use Rattle.stage_spec.specs.History.{CpuStep}
 use Rattle.work_account.specs.Ends.{AreTogether}
-use Rattle.machine.specs.Given.{IsLedBy, IsNext, TakesAlone}
-use Rattle.machine.specs.Leading.{Kept}
+use Rattle.machine.specs.{Given.{IsLedBy, IsNext, TakesAlone}, Leading.{Kept}}
 use Rattle.machine.proofs.GivenLines.{cpu-given, cpu-given-reply, given-cpu, given-few, given-low, given-there}
-use Rattle.machine.proofs.NoRings.{ends-stay, no-rings-there, rest-is, space-alone}
-use Rattle.machine.proofs.Roomy.{room-by}
-use Rattle.machine.proofs.Totals.{cpu-totals}
+use Rattle.machine.proofs.{NoRings.{ends-stay, no-rings-there, rest-is, space-alone}, Roomy.{room-by}, Totals.{cpu-totals}}
 use Rattle.machine.proofs.machine.Machine.cpu_line.Goals as goal
 
 pub bounds-self-inside-cpu : goal.bounds-self-inside-cpu

@@ -1,12 +1,8 @@
 use Rattle.std.proofs.Common.{◌≡◌, ap, ◌∙◌}
 use Rattle.perf_base.specs.declared.numbers.Key.{Key}
-use Rattle.stage_spec.specs.Reading.{is_error}
-use Rattle.stage_spec.specs.Stage.{Stage}
+use Rattle.stage_spec.specs.{Reading.{is_error}, Stage.{Stage}, Tables.{in_error}}
 use Rattle.world_spec.specs.Value.{World, entry_at, instance_at}
-use Rattle.stage_spec.specs.Tables.{in_error}
-use Rattle.machine.specs.Leading.{Kept}
-use Rattle.machine.proofs.Opened.{error-by}
-use Rattle.machine.proofs.Roomy.{stage-then}
+use Rattle.machine.{specs.Leading.{Kept}, proofs.{Opened.{error-by}, Roomy.{stage-then}}}
 use Rattle.machine.proofs.machine.Machine.error.Goals as goal
 
 pub returns : goal.returns

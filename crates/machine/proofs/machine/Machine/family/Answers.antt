@@ -1,10 +1,7 @@
-use Rattle.std.specs.Prelude.{◌≡◌, false, true, Some, None, if◌then◌else◌}
-use Rattle.std.proofs.Common.{ap, sym, ◌∙◌}
-use Rattle.stage_spec.specs.Stage.{is_open}
+use Rattle.std.{specs.Prelude.{◌≡◌, false, true, Some, None, if◌then◌else◌}, proofs.Common.{ap, sym, ◌∙◌}}
+use Rattle.stage_spec.specs.{Stage.{is_open}, Tables.{stage_in, family_in}}
 use Rattle.world_spec.specs.Kept.{family_sums}
-use Rattle.stage_spec.specs.Tables.{stage_in, family_in}
-use Rattle.machine.specs.Leading.{Kept}
-use Rattle.machine.proofs.Roomy.{family-then}
+use Rattle.machine.{specs.Leading.{Kept}, proofs.Roomy.{family-then}}
 use Rattle.machine.proofs.machine.Machine.family.Goals as goal
 
 pub returns-then-not-is_open-clause-led : goal.returns-then-not-is_open-clause-led

@@ -2,8 +2,7 @@ use Rattle.std.proofs.Common.{ap, sym, ◌∙◌}
 use Rattle.stage_spec.specs.Stage.{Stage, is_open}
 use Rattle.world_spec.specs.StageOf.{stage_of}
 use Rattle.event_reads.proofs.Opened.{is-open}
-use Rattle.machine.specs.Leading.{Kept}
-use Rattle.machine.proofs.Roomy.{stage-then}
+use Rattle.machine.{specs.Leading.{Kept}, proofs.Roomy.{stage-then}}
 use Rattle.machine.proofs.machine.Machine.is_open.Goals as goal
 
 pub returns-clause-there : goal.returns-clause-there

@@ -1,13 +1,8 @@
-use Rattle.std.specs.Prelude.{Some}
-use Rattle.std.proofs.Common.{ap, sym, ◌∙◌}
-use Rattle.perf_base.specs.declared.attr.Attr.{Attr}
-use Rattle.perf_base.specs.declared.numbers.Key.{Key}
-use Rattle.stage_spec.specs.Stage.{Stage}
+use Rattle.std.{specs.Prelude.{Some}, proofs.Common.{ap, sym, ◌∙◌}}
+use Rattle.perf_base.specs.declared.{attr.Attr.{Attr}, numbers.Key.{Key}}
+use Rattle.stage_spec.specs.{Stage.{Stage}, Tables.{kind_in}}
 use Rattle.world_spec.specs.Value.{World, instance_at}
-use Rattle.stage_spec.specs.Tables.{kind_in}
-use Rattle.machine.specs.Leading.{Kept}
-use Rattle.machine.proofs.Opened.{kind-by}
-use Rattle.machine.proofs.Roomy.{stage-then}
+use Rattle.machine.{specs.Leading.{Kept}, proofs.{Opened.{kind-by}, Roomy.{stage-then}}}
 use Rattle.machine.proofs.machine.Machine.kind.Goals as goal
 
 pub returns : goal.returns

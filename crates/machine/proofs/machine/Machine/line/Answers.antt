@@ -1,17 +1,9 @@
-use Rattle.std.specs.Prelude.{◌≡◌, ◌<◌, length}
-use Rattle.std.specs.Option.{option_copied}
-use Rattle.std.proofs.Common.{arith, sym, subst, ◌∙◌}
-use Rattle.std.proofs.lemmas.List.{length-set}
-use Rattle.perf_base.specs.declared.acts.Actor.{Actor}
+use Rattle.std.{specs.{Prelude.{◌≡◌, ◌<◌, length}, Option.{option_copied}}, proofs.{Common.{arith, sym, subst, ◌∙◌}, lemmas.List.{length-set}}}
+use Rattle.perf_base.specs.{declared.acts.Actor.{Actor}, Scripts.{Scripted}}
 use Rattle.perf_base.specs.declared.acts.Actor.TheVariants as actor
-use Rattle.perf_base.specs.Scripts.{Scripted}
-use Rattle.machine.specs.Leading.{Kept, HasLine, IsOf, LeadTo}
-use Rattle.machine.proofs.NextSteps.{next-cpu_counted, next-tool_counted}
-use Rattle.machine.proofs.Lines.{cpu-low, cpu-there, cpu-line-within, line-is, tool-low, tool-line-within}
-use Rattle.machine.proofs.Roomy.{has-room}
-use Rattle.machine.proofs.Spacious.{is-left, work-space}
-use Rattle.machine.proofs.Stepped.{cpu-reply, cpu-led, tool-reply, tool-led}
-use Rattle.machine.proofs.RingsThere.{rings-there}
+use Rattle.machine.{specs.Leading.{Kept, HasLine, IsOf, LeadTo}, proofs.NextSteps.{next-cpu_counted, next-tool_counted}}
+use Rattle.machine.proofs.{Lines.{cpu-low, cpu-there, cpu-line-within, line-is, tool-low, tool-line-within}, Roomy.{has-room}}
+use Rattle.machine.proofs.{Spacious.{is-left, work-space}, Stepped.{cpu-reply, cpu-led, tool-reply, tool-led}, RingsThere.{rings-there}}
 use Rattle.machine.proofs.Totals.{cpu-totals}
 use Rattle.machine.proofs.machine.Machine.line.Goals as goal
 

@@ -1,14 +1,8 @@
-use Rattle.std.specs.Prelude.{◌+◌, ◌∷◌, [], ◌++◌, slice_index_or, slice_set}
-use Rattle.std.proofs.Common.{sym, ap, ◌∙◌, subst}
+use Rattle.std.{specs.Prelude.{◌+◌, ◌∷◌, [], ◌++◌, slice_index_or, slice_set}, proofs.Common.{sym, ap, ◌∙◌, subst}}
 use Rattle.perf_base.specs.declared.acts.Act.TheVariants as act
-use Rattle.sample_ring.specs.Lending.{with_out}
-use Rattle.sample_ring.specs.OutEnds.{OutEnd}
-use Rattle.sample_ring.specs.RingLists.{HasRing, OutList, ring_index}
+use Rattle.sample_ring.specs.{Lending.{with_out}, OutEnds.{OutEnd}, RingLists.{HasRing, OutList, ring_index}}
 use Rattle.work_account.specs.Ends.{AreTogether}
-use Rattle.machine.specs.Leading.{Kept, LeadTo}
-use Rattle.machine.specs.Readers.{loads_of}
-use Rattle.machine.proofs.Looks.{one-load}
-use Rattle.machine.proofs.Seen.{end-seen, lawful-stop, seen-led, still-led}
+use Rattle.machine.{specs.{Leading.{Kept, LeadTo}, Readers.{loads_of}}, proofs.{Looks.{one-load}, Seen.{end-seen, lawful-stop, seen-led, still-led}}}
 use Rattle.machine.proofs.Sight.{together-look}
 use Rattle.machine.proofs.machine.Machine.look.Goals as goal
 

@@ -1,19 +1,11 @@
-use Rattle.std.specs.Prelude.{◌≡◌, ℕ, ◌+◌, ◌*◌, [], ◌∷◌, ◌++◌, Some}
-use Rattle.std.proofs.Common.{refl, sym, ap, subst, ◌∙◌}
-use Rattle.std.proofs.lemmas.Option.{same_Some}
+use Rattle.std.{specs.Prelude.{◌≡◌, ℕ, ◌+◌, ◌*◌, [], ◌∷◌, ◌++◌, Some}, proofs.{Common.{refl, sym, ap, subst, ◌∙◌}, lemmas.Option.{same_Some}}}
 use Rattle.perf_base.specs.declared.acts.Act.TheVariants as act
 use Rattle.ring_spec.specs.Rings.{account_in, bytes_of, sizes_in}
-use Rattle.sample_ring.specs.InEnds.{InEnd}
-use Rattle.sample_ring.specs.Lending.{with_out}
-use Rattle.sample_ring.specs.OutEnds.{OutEnd}
-use Rattle.sample_ring.specs.RingLists.{HasRing, ring_index}
+use Rattle.sample_ring.specs.{InEnds.{InEnd}, Lending.{with_out}, OutEnds.{OutEnd}, RingLists.{HasRing, ring_index}}
 use Rattle.stage_spec.specs.Order.{IsLawfulSeen, last_seen}
 use Rattle.work_account.specs.Ends.{AreTogether}
-use Rattle.machine.specs.Leading.{Kept, LeadTo}
-use Rattle.machine.specs.Readers.{HasMet, out_of, released_in, released_of_slot}
-use Rattle.machine.proofs.Looks.{met-lawful, met-words}
-use Rattle.machine.proofs.Seen.{end-account, end-seen, seen-led, still-led}
-use Rattle.machine.proofs.Sight.{together-look}
+use Rattle.machine.{specs.{Leading.{Kept, LeadTo}, Readers.{HasMet, out_of, released_in, released_of_slot}}, proofs.Looks.{met-lawful, met-words}}
+use Rattle.machine.proofs.{Seen.{end-account, end-seen, seen-led, still-led}, Sight.{together-look}}
 use Rattle.machine.proofs.machine.Machine.meet_ring.Goals as goal
 
 pub returns-clause-lawful : goal.returns-clause-lawful

@@ -1,11 +1,7 @@
-use Rattle.std.proofs.Common.{sym, subst, ap, ◌∙◌}
-use Rattle.std.specs.Prelude.{◌≡◌, [], replicate}
-use Rattle.stage_spec.specs.Hardware.{hardware_of}
-use Rattle.stage_spec.specs.Limits.{limits_of}
-use Rattle.stage_spec.proofs.Machines.{script_machine}
+use Rattle.std.{proofs.Common.{sym, subst, ap, ◌∙◌}, specs.Prelude.{◌≡◌, [], replicate}}
+use Rattle.stage_spec.{specs.{Hardware.{hardware_of}, Limits.{limits_of}}, proofs.Machines.{script_machine}}
 use Rattle.world_spec.specs.First.{first_world}
-use Rattle.machine.specs.Leading.{IsWhole, LeadTo}
-use Rattle.machine.proofs.Beginning.{first-whole, first-led}
+use Rattle.machine.{specs.Leading.{IsWhole, LeadTo}, proofs.Beginning.{first-whole, first-led}}
 use Rattle.machine.proofs.machine.Machine.new.Goals as goal
 
 pub invariant_of-result : goal.invariant_of-result

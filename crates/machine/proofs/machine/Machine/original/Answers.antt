@@ -1,8 +1,7 @@
 use Rattle.std.proofs.Common.{ap, sym, ◌∙◌}
 use Rattle.stage_spec.specs.Stage.{is_open}
 use Rattle.world_spec.specs.StageOf.{stage_of}
-use Rattle.machine.specs.Leading.{Kept}
-use Rattle.machine.proofs.Opened.{not-closed}
+use Rattle.machine.{specs.Leading.{Kept}, proofs.Opened.{not-closed}}
 use Rattle.machine.proofs.machine.Machine.original.Goals as goal
 
 pub unreachable-requires : goal.unreachable-requires

@@ -1,12 +1,8 @@
-use Rattle.std.specs.Prelude.{option_map, Option, false}
-use Rattle.std.proofs.Common.{sym, ap, subst, ◌∙◌}
-use Rattle.perf_base.specs.declared.acts.Actor.TheVariants as actor
+use Rattle.std.{specs.Prelude.{option_map, Option, false}, proofs.Common.{sym, ap, subst, ◌∙◌}}
 use Rattle.perf_base.specs.declared.lines.CpuLine.{CpuLine}
-use Rattle.cpu_sched.specs.After.{after_brief}
-use Rattle.cpu_sched.specs.Sheets.{Held}
-use Rattle.machine.specs.Leading.{Kept, HasLine, IsOf}
-use Rattle.machine.specs.Prepared.{prepared}
-use Rattle.machine.proofs.Lines.{cpu-there, line-is}
+use Rattle.perf_base.specs.declared.acts.Actor.TheVariants as actor
+use Rattle.cpu_sched.specs.{After.{after_brief}, Sheets.{Held}}
+use Rattle.machine.{specs.{Leading.{Kept, HasLine, IsOf}, Prepared.{prepared}}, proofs.Lines.{cpu-there, line-is}}
 use Rattle.machine.proofs.machine.Machine.prepare.Goals as goal
 
 pub fill-requires-clause-cpu : goal.fill-requires-clause-cpu

@@ -1,11 +1,7 @@
 use Rattle.std.proofs.Common.{sym, subst, ◌∙◌}
-use Rattle.ring_spec.specs.Rings.{account_in, bytes_of}
-use Rattle.ring_spec.proofs.Running.{in_account}
+use Rattle.ring_spec.{specs.Rings.{account_in, bytes_of}, proofs.Running.{in_account}}
 use Rattle.sample_ring.specs.RingLists.{HasRing}
-use Rattle.machine.specs.Shown.{ShowsAccount}
-use Rattle.machine.proofs.Shown.{shown}
-use Rattle.machine.specs.Leading.{Kept, LeadTo}
-use Rattle.machine.proofs.Seen.{end-account}
+use Rattle.machine.{specs.{Shown.{ShowsAccount}, Leading.{Kept, LeadTo}}, proofs.{Shown.{shown}, Seen.{end-account}}}
 use Rattle.machine.proofs.machine.Machine.ring_end.Goals as goal
 
 pub returns-clause-shown : goal.returns-clause-shown

@@ -1,19 +1,12 @@
-use Rattle.std.specs.Prelude.{◌≡◌, ◌*◌, ◌≤◌, Some, slice_get, ℕ, [], ◌∷◌, ◌++◌}
-use Rattle.std.proofs.Common.{sym, ap, subst, ◌∙◌}
-use Rattle.std.proofs.lemmas.Option.{same_Some}
+use Rattle.std.{specs.Prelude.{◌≡◌, ◌*◌, ◌≤◌, Some, slice_get, ℕ, [], ◌∷◌, ◌++◌}, proofs.{Common.{sym, ap, subst, ◌∙◌}, lemmas.Option.{same_Some}}}
 use Rattle.perf_base.specs.Weight.{weight}
 use Rattle.perf_base.specs.declared.acts.Act.TheVariants as act
-use Rattle.ring_words.specs.Ends as words
 use Rattle.ring_words.specs.Ends.{IsStop}
-use Rattle.sample_ring.specs.Lending.{with_out}
-use Rattle.sample_ring.specs.OutEnds.{OutEnd}
-use Rattle.sample_ring.specs.RingLists.{HasRing, ring_index, with_slot}
+use Rattle.ring_words.specs.Ends as words
+use Rattle.sample_ring.specs.{Lending.{with_out}, OutEnds.{OutEnd}, RingLists.{HasRing, ring_index, with_slot}}
 use Rattle.work_account.specs.Ends.{AreTogether}
-use Rattle.machine.specs.Leading.{Kept, IsOf, LeadTo}
-use Rattle.machine.specs.Readers.{AreFollowing, Follows}
-use Rattle.machine.proofs.Following.{following-look}
-use Rattle.machine.proofs.Seen.{lawful-stop, seen-led}
-use Rattle.machine.proofs.Sight.{follower, follows-look, ring-of-end, room-there, together-look}
+use Rattle.machine.{specs.{Leading.{Kept, IsOf, LeadTo}, Readers.{AreFollowing, Follows}}, proofs.Following.{following-look}}
+use Rattle.machine.proofs.{Seen.{lawful-stop, seen-led}, Sight.{follower, follows-look, ring-of-end, room-there, together-look}}
 use Rattle.machine.proofs.Unlawful.{refused-as, ring-there, unlawful-by}
 use Rattle.machine.proofs.machine.Machine.seen.Goals as goal
 

@@ -1,18 +1,11 @@
-use Rattle.std.specs.Prelude.{◌≡◌, ◌*◌, ◌∷◌, [], ◌++◌, List}
-use Rattle.std.proofs.Common.{refl, sym, subst}
-use Rattle.perf_base.specs.declared.acts.Act.{Act}
+use Rattle.std.{specs.Prelude.{◌≡◌, ◌*◌, ◌∷◌, [], ◌++◌, List}, proofs.Common.{refl, sym, subst}}
+use Rattle.perf_base.specs.{declared.{acts.{Act.{Act}, Actor.{Actor}}, reply.Reply.{Reply}}, Scripts.{Scripted}, Weight.{weight}}
 use Rattle.perf_base.specs.declared.acts.Act.TheVariants as act
-use Rattle.perf_base.specs.declared.acts.Actor.{Actor}
 use Rattle.perf_base.specs.declared.acts.Actor.TheVariants as actor
-use Rattle.perf_base.specs.declared.reply.Reply.{Reply}
-use Rattle.perf_base.specs.Scripts.{Scripted}
-use Rattle.perf_base.specs.Weight.{weight}
 use Rattle.sample_ring.specs.RingLists.{InList}
-use Rattle.machine.specs.Leading.{Kept, HasLine, IsReplyTo, LeadTo, act_of}
-use Rattle.machine.specs.Stepping.{HasNoLine, IsAnswerTo, LeavesReaders}
-use Rattle.machine.proofs.Following.{following-still}
+use Rattle.machine.specs.{Leading.{Kept, HasLine, IsReplyTo, LeadTo, act_of}, Stepping.{HasNoLine, IsAnswerTo, LeavesReaders}}
+use Rattle.machine.proofs.{Following.{following-still}, machine.Machine.step.Goals.{in-Processor, in-Tool}}
 use Rattle.machine.proofs.machine.Machine.step.Goals as goal
-use Rattle.machine.proofs.machine.Machine.step.Goals.{in-Processor, in-Tool}
 
 -- the act does the actor's next line
 abbrev IsOwn : Actor → Act → Type 0

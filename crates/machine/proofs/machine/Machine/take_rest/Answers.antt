@@ -1,12 +1,7 @@
-use Rattle.std.specs.Prelude.{ℕ, ◌<◌, ◌≤◌, All, List, length, slice_index_or, take}
-use Rattle.std.proofs.Common.{arith, refl, sym, ap, subst, ◌∙◌}
-use Rattle.std.proofs.lemmas.List.{get_or_default, take_all}
-use Rattle.std.proofs.lemmas.List.Elements.{All-more}
-use Rattle.perf_base.specs.declared.numbers.RingNo.{RingNo}
-use Rattle.perf_base.specs.Scripts.{Scripted}
-use Rattle.machine.specs.Readers.{HasTaken}
-use Rattle.machine.proofs.Rest.{behind-trails}
-use Rattle.machine.proofs.Unlawful.{ring-there}
+use Rattle.std.{specs.Prelude.{ℕ, ◌<◌, ◌≤◌, All, List, length, slice_index_or, take}, proofs.Common.{arith, refl, sym, ap, subst, ◌∙◌}}
+use Rattle.std.proofs.lemmas.List.{get_or_default, take_all, Elements.{All-more}}
+use Rattle.perf_base.specs.{declared.numbers.RingNo.{RingNo}, Scripts.{Scripted}}
+use Rattle.machine.{specs.Readers.{HasTaken}, proofs.{Rest.{behind-trails}, Unlawful.{ring-there}}}
 use Rattle.machine.proofs.machine.Machine.take_rest.Goals as goal
 
 abbrev no_ring : RingNo × ℕ

@@ -1,8 +1,7 @@
 use Rattle.std.specs.Prelude.{All, List, take}
 use Rattle.perf_base.specs.declared.acts.Act.{Act}
 use Rattle.work_account.specs.Ends.{AreTogether}
-use Rattle.machine.specs.Leading.{LeadTo}
-use Rattle.machine.specs.Readers.{AreTrailing, HasTaken}
+use Rattle.machine.specs.{Leading.{LeadTo}, Readers.{AreTrailing, HasTaken}}
 use Rattle.machine.proofs.machine.Machine.take_rest.Given as goal
 
 abbrev pub invariant-loop-ring : goal.invariant-loop-ring

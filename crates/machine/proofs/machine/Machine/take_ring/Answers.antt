@@ -1,15 +1,8 @@
-use Rattle.std.specs.Prelude.{◌*◌, Some}
-use Rattle.std.proofs.Common.{sym, subst, ◌∙◌}
-use Rattle.sample_ring.specs.Lending.{with_out}
-use Rattle.sample_ring.specs.OutEnds.{OutEnd}
-use Rattle.sample_ring.specs.RingLists.{HasRing, ring_index}
+use Rattle.std.{specs.Prelude.{◌*◌, Some}, proofs.Common.{sym, subst, ◌∙◌}}
+use Rattle.sample_ring.specs.{Lending.{with_out}, OutEnds.{OutEnd}, RingLists.{HasRing, ring_index}}
 use Rattle.work_account.specs.Ends.{AreTogether}
-use Rattle.machine.specs.Leading.{Kept, LeadTo}
-use Rattle.machine.specs.Readers.{AreTrailing, Trails}
-use Rattle.machine.proofs.Pairs.{paired-at}
-use Rattle.machine.proofs.Rest.{others-taken, ring-taken, trailing-rest, trails-rest}
-use Rattle.machine.proofs.Seen.{end-account, still-led}
-use Rattle.machine.proofs.Sight.{together-look}
+use Rattle.machine.{specs.{Leading.{Kept, LeadTo}, Readers.{AreTrailing, Trails}}, proofs.Pairs.{paired-at}}
+use Rattle.machine.proofs.{Rest.{others-taken, ring-taken, trailing-rest, trails-rest}, Seen.{end-account, still-led}, Sight.{together-look}}
 use Rattle.machine.proofs.machine.Machine.take_ring.Goals as goal
 
 pub returns-clause-led : goal.returns-clause-led

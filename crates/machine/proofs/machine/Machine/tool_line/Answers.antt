@@ -1,8 +1,6 @@
 use Rattle.std.proofs.Common.{sym, ap, subst}
 use Rattle.stage_spec.specs.History.{ToolStep}
-use Rattle.machine.specs.Given.{IsLedBy, IsNext, Takes}
-use Rattle.machine.specs.Leading.{Kept}
-use Rattle.machine.proofs.GivenLines.{given-tool, tool-given, tool-given-reply}
+use Rattle.machine.{specs.{Given.{IsLedBy, IsNext, Takes}, Leading.{Kept}}, proofs.GivenLines.{given-tool, tool-given, tool-given-reply}}
 use Rattle.machine.proofs.Roomy.{room-by}
 use Rattle.machine.proofs.machine.Machine.tool_line.Goals as goal
 

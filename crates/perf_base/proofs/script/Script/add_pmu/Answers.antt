@@ -1,6 +1,5 @@
 use Rattle.std.proofs.Common.{subst, sym}
-use Rattle.perf_base.specs.Scripts.{IsScript, with_pmu}
-use Rattle.perf_base.proofs.Kept.{IsScript-pmu}
+use Rattle.perf_base.{specs.Scripts.{IsScript, with_pmu}, proofs.Kept.{IsScript-pmu}}
 use Rattle.perf_base.proofs.script.Script.add_pmu.Goals as goal
 
 pub invariant_of-self-2 : goal.invariant_of-self-2

@@ -1,6 +1,5 @@
 use Rattle.std.proofs.Common.{subst, sym}
-use Rattle.perf_base.specs.Scripts.{IsScript, with_reader}
-use Rattle.perf_base.proofs.Kept.{IsScript-reader}
+use Rattle.perf_base.{specs.Scripts.{IsScript, with_reader}, proofs.Kept.{IsScript-reader}}
 use Rattle.perf_base.proofs.script.Script.add_reader.Goals as goal
 
 pub invariant_of-self-2 : goal.invariant_of-self-2

@@ -1,11 +1,7 @@
-use Rattle.std.proofs.Common.{subst, sym, ap, ◌<◌, length, arith}
-use Rattle.std.proofs.lemmas.List.{length-map}
-use Rattle.std.proofs.lemmas.Result.{err_from_is_err_and}
-use Rattle.perf_base.specs.Scripts.{IsScript, with_tool_line}
-use Rattle.perf_base.proofs.Kept.{IsScript-tool_line}
-use Rattle.perf_base.proofs.ListsOfLists.{lists_push, lists_same}
-use Rattle.perf_base.proofs.script.Script.add_tool_line.Goals as goal
+use Rattle.std.proofs.{Common.{subst, sym, ap, ◌<◌, length, arith}, lemmas.{List.{length-map}, Result.{err_from_is_err_and}}}
+use Rattle.perf_base.{specs.Scripts.{IsScript, with_tool_line}, proofs.{Kept.{IsScript-tool_line}, ListsOfLists.{lists_push, lists_same}}}
 use Rattle.perf_base.proofs.script.Script.add_tool_line.Goals.{In_ok-push}
+use Rattle.perf_base.proofs.script.Script.add_tool_line.Goals as goal
 
 within : (c : In_ok-push) → c.args.tool.0 < length c.self.inside.tool_lines
 within c =

@@ -1,7 +1,5 @@
-use Rattle.std.proofs.Common.{◌≡◌, List, ap, ◌∙◌, subst}
-use Rattle.std.specs.Prelude.{Any, IsTrue, ◌↔◌}
-use Rattle.perf_base.specs.declared.lines.PmuLine.{PmuLine}
-use Rattle.perf_base.specs.Cpus.{HasCpu}
+use Rattle.std.{proofs.Common.{◌≡◌, List, ap, ◌∙◌, subst}, specs.Prelude.{Any, IsTrue, ◌↔◌}}
+use Rattle.perf_base.specs.{declared.lines.PmuLine.{PmuLine}, Cpus.{HasCpu}}
 use Rattle.perf_base.proofs.script.Script.has_pmu.Goals as goal
 
 pub returns : goal.returns

@@ -1,5 +1,4 @@
-use Rattle.std.proofs.Common.{arith, below_more}
-use Rattle.std.specs.Prelude.{IsTrue}
+use Rattle.std.{proofs.Common.{arith, below_more}, specs.Prelude.{IsTrue}}
 use Rattle.perf_base.proofs.script.Script.is_covered.Goals as goal
 
 pub loop-cpu-preserved : goal.loop-cpu-preserved

@@ -1,5 +1,4 @@
-use Rattle.std.proofs.Common.{ℕ, ◌<◌}
-use Rattle.std.specs.Prelude.{Any}
+use Rattle.std.{proofs.Common.{ℕ, ◌<◌}, specs.Prelude.{Any}}
 use Rattle.perf_base.specs.Cpus.{HasCpu}
 use Rattle.perf_base.proofs.script.Script.is_covered.Given as goal
 

@@ -1,8 +1,5 @@
-use Rattle.std.proofs.Common.{◌<◌, length, [], ap, ◌∙◌, arith}
-use Rattle.std.proofs.lemmas.List.{take_all}
-use Rattle.perf_base.specs.Scripts.{IsScript}
-use Rattle.perf_base.specs.Weight.{period_of, least_by}
-use Rattle.perf_base.proofs.Weights.{least_by_more}
+use Rattle.std.proofs.{Common.{◌<◌, length, [], ap, ◌∙◌, arith}, lemmas.List.{take_all}}
+use Rattle.perf_base.{specs.{Scripts.{IsScript}, Weight.{period_of, least_by}}, proofs.Weights.{least_by_more}}
 use Rattle.perf_base.proofs.script.Script.least_period.Goals as goal
 
 pub loop-tool-preserved : goal.loop-tool-preserved

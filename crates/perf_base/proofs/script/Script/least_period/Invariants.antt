@@ -1,6 +1,5 @@
 use Rattle.std.proofs.Common.{◌≡◌, ◌<◌, take}
-use Rattle.perf_base.specs.Scripts.{IsScript}
-use Rattle.perf_base.specs.Weight.{period_of, least_by}
+use Rattle.perf_base.specs.{Scripts.{IsScript}, Weight.{period_of, least_by}}
 use Rattle.perf_base.proofs.script.Script.least_period.Given as goal
 
 abbrev pub invariant-loop-tool : goal.invariant-loop-tool

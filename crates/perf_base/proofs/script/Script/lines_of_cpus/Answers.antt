@@ -1,5 +1,4 @@
-use Rattle.std.proofs.Common.{sym, ap, ◌∙◌, length, map}
-use Rattle.std.proofs.lemmas.Simd.{map-map}
+use Rattle.std.proofs.{Common.{sym, ap, ◌∙◌, length, map}, lemmas.Simd.{map-map}}
 use Rattle.perf_base.proofs.script.Script.lines_of_cpus.Goals as goal
 
 pub returns-clause-counts : goal.returns-clause-counts

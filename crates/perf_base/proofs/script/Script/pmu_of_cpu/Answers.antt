@@ -1,6 +1,5 @@
 use Rattle.std.proofs.Common.{◌≡◌, true, ◌<◌, arith, below_more}
-use Rattle.perf_base.specs.Cpus.{HasCpu}
-use Rattle.perf_base.proofs.Places.{at_place, of_place}
+use Rattle.perf_base.{specs.Cpus.{HasCpu}, proofs.Places.{at_place, of_place}}
 use Rattle.perf_base.proofs.script.Script.pmu_of_cpu.Goals as goal
 
 pub loop-pmu-preserved : goal.loop-pmu-preserved

@@ -1,5 +1,4 @@
-use Rattle.std.proofs.Common.{ℕ, ◌<◌}
-use Rattle.std.specs.Prelude.{IfSome, slice_get}
+use Rattle.std.{proofs.Common.{ℕ, ◌<◌}, specs.Prelude.{IfSome, slice_get}}
 use Rattle.perf_base.specs.Cpus.{HasCpu}
 use Rattle.perf_base.proofs.script.Script.pmu_of_cpu.Given as goal
 

@@ -1,12 +1,8 @@
-use Rattle.std.proofs.Common.{◌≡◌, ◌≤◌, ◌<◌, length, get_or, [], ap, ◌∙◌, arith}
+use Rattle.std.proofs.{Common.{◌≡◌, ◌≤◌, ◌<◌, length, get_or, [], ap, ◌∙◌, arith}, lemmas.List.{take_all, Sums.{sum_by_more, sum_by_more_le}}}
 use Rattle.std.specs.Prelude.{sum_by, count_by}
-use Rattle.std.proofs.lemmas.List.{take_all}
-use Rattle.std.proofs.lemmas.List.Sums.{sum_by_more, sum_by_more_le}
-use Rattle.perf_base.specs.Scripts.{IsScript}
-use Rattle.perf_base.specs.Weight.{opens_sampling, sampling_opens}
-use Rattle.perf_base.proofs.Weights.{opens_few}
-use Rattle.perf_base.proofs.script.Script.sampling_opens.Goals as goal
+use Rattle.perf_base.{specs.{Scripts.{IsScript}, Weight.{opens_sampling, sampling_opens}}, proofs.Weights.{opens_few}}
 use Rattle.perf_base.proofs.script.Script.sampling_opens.Goals.{After-opens_in-opens}
+use Rattle.perf_base.proofs.script.Script.sampling_opens.Goals as goal
 
 within : (c : After-opens_in-opens) → c.loop-tool.tool < length c.args.self.now.tool_lines
 within c = omega (arith, c.tool_lines.ensures.sound.tools)

@@ -1,7 +1,5 @@
-use Rattle.std.proofs.Common.{◌≡◌, ◌<◌, take}
-use Rattle.std.specs.Prelude.{sum_by, count_by}
-use Rattle.perf_base.specs.Scripts.{IsScript}
-use Rattle.perf_base.specs.Weight.{opens_sampling}
+use Rattle.std.{proofs.Common.{◌≡◌, ◌<◌, take}, specs.Prelude.{sum_by, count_by}}
+use Rattle.perf_base.specs.{Scripts.{IsScript}, Weight.{opens_sampling}}
 use Rattle.perf_base.proofs.script.Script.sampling_opens.Given as goal
 
 abbrev pub invariant-loop-tool : goal.invariant-loop-tool

@@ -1,13 +1,8 @@
-use Rattle.std.proofs.Common.{◌≡◌, ◌≤◌, ◌<◌, ◌+◌, ◌*◌, All, length, take, get_or, [], sym, ap, subst, ◌∙◌, arith}
-use Rattle.std.specs.Prelude.{sum_by}
-use Rattle.std.proofs.lemmas.List.{take_all}
-use Rattle.std.proofs.lemmas.List.Sums.{sum_by_more, sum_by-take-le}
-use Rattle.perf_base.specs.Scripts.{IsScript}
-use Rattle.perf_base.specs.Light.{IsLight}
-use Rattle.perf_base.specs.Weight.{line_shares}
-use Rattle.perf_base.proofs.Weights.{lines_light, lines_few, sum_few}
-use Rattle.perf_base.proofs.script.Script.shares_of.Goals as goal
+use Rattle.std.proofs.{Common.{◌≡◌, ◌≤◌, ◌<◌, ◌+◌, ◌*◌, All, length, take, get_or, [], sym, ap, subst, ◌∙◌, arith}, lemmas.List.{take_all}}
+use Rattle.std.{proofs.lemmas.List.Sums.{sum_by_more, sum_by-take-le}, specs.Prelude.{sum_by}}
+use Rattle.perf_base.{specs.{Scripts.{IsScript}, Light.{IsLight}, Weight.{line_shares}}, proofs.Weights.{lines_light, lines_few, sum_few}}
 use Rattle.perf_base.proofs.script.Script.shares_of.Goals.{After-shares_in-sum, After-cpu_lines}
+use Rattle.perf_base.proofs.script.Script.shares_of.Goals as goal
 
 within : (c : After-cpu_lines) → c.loop-cpu.cpu < length c.args.self.now.cpu_lines
 within c = omega (arith, c.cpu_lines.ensures.sound.processors)

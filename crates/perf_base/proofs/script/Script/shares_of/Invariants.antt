@@ -1,7 +1,5 @@
-use Rattle.std.proofs.Common.{◌≡◌, ◌<◌, ◌≤◌, ◌*◌, take, length}
-use Rattle.std.specs.Prelude.{sum_by}
-use Rattle.perf_base.specs.Scripts.{IsScript}
-use Rattle.perf_base.specs.Weight.{line_shares}
+use Rattle.std.{proofs.Common.{◌≡◌, ◌<◌, ◌≤◌, ◌*◌, take, length}, specs.Prelude.{sum_by}}
+use Rattle.perf_base.specs.{Scripts.{IsScript}, Weight.{line_shares}}
 use Rattle.perf_base.proofs.script.Script.shares_of.Given as goal
 
 abbrev pub invariant-loop-cpu : goal.invariant-loop-cpu

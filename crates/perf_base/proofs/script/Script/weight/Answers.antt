@@ -1,6 +1,5 @@
 use Rattle.std.proofs.Common.{◌≡◌, arith}
-use Rattle.perf_base.specs.Weight.{least_period}
-use Rattle.perf_base.proofs.Weights.{no_weight}
+use Rattle.perf_base.{specs.Weight.{least_period}, proofs.Weights.{no_weight}}
 use Rattle.perf_base.proofs.script.Script.weight.Goals as goal
 
 pub returns-then-least-eq0 : goal.returns-then-least-eq0

@@ -1,16 +1,10 @@
-use Rattle.std.specs.Prelude.{◌≡◌, ◌*◌, List, ◌∷◌, [], ◌++◌, Err}
-use Rattle.std.proofs.Common.{arith, sym, ap, subst, ◌∙◌}
-use Rattle.perf_base.specs.declared.acts.Act.{Act}
-use Rattle.perf_base.specs.Weight.{weight}
+use Rattle.std.{specs.Prelude.{◌≡◌, ◌*◌, List, ◌∷◌, [], ◌++◌, Err}, proofs.Common.{arith, sym, ap, subst, ◌∙◌}}
+use Rattle.perf_base.specs.{declared.acts.Act.{Act}, Weight.{weight}}
 use Rattle.stage_spec.specs.Replies.{AnswerOrder}
+use Rattle.machine.specs.{Leading.{Kept, LeadTo}, Readers.{AreFollowing}, Stepping.{IsUnlawful}}
 use Rattle.machine.specs.declared.stepping.OrderFault.TheVariants as order_fault
-use Rattle.machine.specs.Leading.{Kept, LeadTo}
-use Rattle.machine.specs.Readers.{AreFollowing}
-use Rattle.machine.specs.Stepping.{IsUnlawful}
 use Rattle.report_spec.specs.Answers.{lost_in}
-use Rattle.perf_book.specs.Book.{Booked, IsBooked, MayAct}
-use Rattle.perf_book.specs.Keeping.{KeepsAnswer, kept, next_line}
-use Rattle.perf_book.proofs.Answering.{answered-then}
+use Rattle.perf_book.{specs.{Book.{Booked, IsBooked, MayAct}, Keeping.{KeepsAnswer, kept, next_line}}, proofs.Answering.{answered-then}}
 use Rattle.perf_book.proofs.Rooms.{booked-act, room-for-act}
 use Rattle.perf_book.proofs.book.Book.act.Goals as goal
 

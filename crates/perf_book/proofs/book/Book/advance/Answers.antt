@@ -1,12 +1,9 @@
-use Rattle.std.specs.Prelude.{◌≡◌, Some, List, ◌∷◌, [], ◌++◌, length}
-use Rattle.std.proofs.Common.{arith, sym, ap, subst, ◌∙◌, append_assoc, length-append}
+use Rattle.std.{specs.Prelude.{◌≡◌, Some, List, ◌∷◌, [], ◌++◌, length}, proofs.Common.{arith, sym, ap, subst, ◌∙◌, append_assoc, length-append}}
 use Rattle.perf_base.specs.declared.acts.Act.{Act}
 use Rattle.perf_base.specs.declared.lines.CpuLine.TheVariants as cpu_line
 use Rattle.stage_spec.specs.History.{CpuStep}
-use Rattle.machine.specs.Counted.{IsCountedBy}
+use Rattle.machine.specs.{Counted.{IsCountedBy}, Stepped.{StaysIfRefused}, Leading.{HasLine, act_of, done_by, next_step}}
 use Rattle.machine.proofs.Counting.{work-free}
-use Rattle.machine.specs.Stepped.{StaysIfRefused}
-use Rattle.machine.specs.Leading.{HasLine, act_of, done_by, next_step}
 use Rattle.perf_book.specs.Book.{AreLooksOf, Booked}
 use Rattle.perf_book.proofs.Rooms.{answered-looks, booked-then, done-after, line-after, looks-length, room-before, room-for-answer, room-for-line, step-after}
 use Rattle.perf_book.proofs.book.Book.advance.Goals as goal

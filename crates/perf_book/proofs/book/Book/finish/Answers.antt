@@ -1,16 +1,10 @@
-use Rattle.std.specs.Prelude.{◌≡◌, ◌*◌, List, ◌++◌}
-use Rattle.std.proofs.Common.{arith, sym, ap, subst, ◌∙◌}
-use Rattle.perf_base.specs.declared.acts.Act.{Act}
-use Rattle.perf_base.specs.Weight.{weight}
+use Rattle.std.{specs.Prelude.{◌≡◌, ◌*◌, List, ◌++◌}, proofs.Common.{arith, sym, ap, subst, ◌∙◌}}
+use Rattle.perf_base.specs.{declared.acts.Act.{Act}, Weight.{weight}}
 use Rattle.stage_spec.specs.Replies.{AnswerOrder}
-use Rattle.machine.specs.Ended.{Ran}
-use Rattle.machine.specs.Readers.{AreBehind, AreReaders}
+use Rattle.machine.specs.{Ended.{Ran}, Readers.{AreBehind, AreReaders}}
 use Rattle.report_spec.specs.Answers.{lost_in}
 use Rattle.run_laws.specs.Growing.{AreLooks}
-use Rattle.perf_book.specs.Book.{Booked}
-use Rattle.perf_book.specs.Ending.{IsEnd}
-use Rattle.perf_book.proofs.Rooms.{looks-answered, room-before}
-use Rattle.perf_book.proofs.Taken.{all-taken}
+use Rattle.perf_book.{specs.{Book.{Booked}, Ending.{IsEnd}}, proofs.{Rooms.{looks-answered, room-before}, Taken.{all-taken}}}
 use Rattle.perf_book.proofs.book.Book.finish.Goals as goal
 
 pub meet_all-requires-clause-readers : goal.meet_all-requires-clause-readers

@@ -1,8 +1,6 @@
-use Rattle.std.specs.Prelude.{[], length}
-use Rattle.std.proofs.Common.{arith, sym, ap, subst}
+use Rattle.std.{specs.Prelude.{[], length}, proofs.Common.{arith, sym, ap, subst}}
 use Rattle.perf_base.specs.Scripts.{IsScript}
-use Rattle.perf_book.specs.Book.{IsBooked}
-use Rattle.perf_book.proofs.Rooms.{booked-none}
+use Rattle.perf_book.{specs.Book.{IsBooked}, proofs.Rooms.{booked-none}}
 use Rattle.perf_book.proofs.book.Book.new.Goals as goal
 
 pub invariant_of-result : goal.invariant_of-result

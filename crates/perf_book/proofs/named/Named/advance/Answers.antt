@@ -1,7 +1,6 @@
 use Rattle.std.proofs.Common.{subst, sym}
 use Rattle.machine.specs.Leading.{HasLine}
-use Rattle.perf_book.specs.Book.{Booked}
-use Rattle.perf_book.proofs.Watching.{all-behind}
+use Rattle.perf_book.{specs.Book.{Booked}, proofs.Watching.{all-behind}}
 use Rattle.perf_book.proofs.named.Named.advance.Goals as goal
 
 pub publish-requires-clause-behind : goal.publish-requires-clause-behind

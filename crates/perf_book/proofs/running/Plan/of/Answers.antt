@@ -1,5 +1,4 @@
-use Rattle.std.proofs.Common.{◌≤◌, arith, ap, length, sym}
-use Rattle.std.proofs.lemmas.List.{length-take-le}
+use Rattle.std.proofs.{Common.{◌≤◌, arith, ap, length, sym}, lemmas.List.{length-take-le}}
 use Rattle.perf_book.proofs.Ready.{few-readers}
 use Rattle.perf_book.proofs.running.Plan.of.Goals as goal
 

@@ -1,5 +1,4 @@
-use Rattle.std.proofs.Common.{◌≡◌, take, drop, arith}
-use Rattle.std.proofs.lemmas.Grind.{common_steps}
+use Rattle.std.proofs.{Common.{◌≡◌, take, drop, arith}, lemmas.Grind.{common_steps}}
 use Rattle.perf_io.proofs.Fronts.{front_and_rest}
 use Rattle.perf_io.proofs.calm.CalmSourceSource.read.Goals as goal
 

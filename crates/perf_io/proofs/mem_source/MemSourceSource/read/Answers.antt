@@ -1,5 +1,4 @@
-use Rattle.std.proofs.Common.{◌≡◌, take, drop, arith}
-use Rattle.std.proofs.lemmas.Grind.{common_steps}
+use Rattle.std.proofs.{Common.{◌≡◌, take, drop, arith}, lemmas.Grind.{common_steps}}
 use Rattle.perf_io.proofs.Fronts.{front_and_rest, front_within}
 use Rattle.perf_io.proofs.mem_source.MemSourceSource.read.Goals as goal
 

@@ -1,11 +1,8 @@
-use Rattle.std.specs.Prelude.{[], ◌∷◌, ◌++◌}
-use Rattle.std.proofs.Common.{ap, subst, sym}
+use Rattle.std.{specs.Prelude.{[], ◌∷◌, ◌++◌}, proofs.Common.{ap, subst, sym}}
 use Rattle.machine.specs.Leading.{Kept}
-use Rattle.perf_share.specs.Calls.{AreLegal, Fits, steps_in}
-use Rattle.perf_share.specs.Served.{IsAfter}
-use Rattle.perf_share.specs.declared.call.Call.{Call}
-use Rattle.perf_share.specs.declared.call.Call.TheVariants as call
+use Rattle.perf_share.specs.{Calls.{AreLegal, Fits, steps_in}, Served.{IsAfter}, declared.call.Call.{Call}}
 use Rattle.perf_share.proofs.Serving.{served-more, takes-alone, takes-call}
+use Rattle.perf_share.specs.declared.call.Call.TheVariants as call
 use Rattle.perf_share.proofs.served.ServedSequential.apply.Goals as goal
 
 pub tool_line-requires : goal.tool_line-requires

@@ -1,7 +1,5 @@
-use Rattle.std.specs.Prelude.{◌*◌, ◌≤◌, length}
-use Rattle.std.proofs.Common.{subst, sym}
-use Rattle.perf_base.specs.Scripts.{Scripted}
-use Rattle.perf_base.specs.Weight.{weight}
+use Rattle.std.{specs.Prelude.{◌*◌, ◌≤◌, length}, proofs.Common.{subst, sym}}
+use Rattle.perf_base.specs.{Scripts.{Scripted}, Weight.{weight}}
 use Rattle.machine.specs.Readers.{AreFollowing}
 use Rattle.perf_top.proofs.ready.Ready.new.Goals as goal
 

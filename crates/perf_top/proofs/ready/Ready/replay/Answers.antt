@@ -1,7 +1,6 @@
 use Rattle.std.proofs.Common.{refl, subst}
 use Rattle.perf_base.specs.Scripts.{Scripted}
-use Rattle.perf_top.specs.declared.ready.BadLook.{BadLook}
-use Rattle.perf_top.specs.Outcome.{HasBadLook}
+use Rattle.perf_top.specs.{declared.ready.BadLook.{BadLook}, Outcome.{HasBadLook}}
 use Rattle.perf_top.proofs.ready.Ready.replay.Goals as goal
 
 pub returns-in-Err-clause-bad : goal.returns-in-Err-clause-bad

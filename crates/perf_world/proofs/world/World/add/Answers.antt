@@ -1,24 +1,11 @@
-use Rattle.std.proofs.Common.{◌≡◌, ◌+◌, ◌++◌, [], ◌∷◌, true, false, is_some, ap, sym, subst, ◌∙◌, inl, inr, if◌then◌else◌}
-use Rattle.std.proofs.lemmas.Bool.{cases_Bool}
-use Rattle.stage_spec.specs.Flags.{is_pinned}
-use Rattle.stage_spec.specs.Stage.{place_of}
-use Rattle.world_spec.specs.Value.{World, is_live, entry_at}
-use Rattle.world_spec.specs.Ways.{IsTurned}
-use Rattle.world_spec.proofs.Added.{comes-by}
-use Rattle.world_spec.proofs.WaysGone.{add-ways}
-use Rattle.world_tables.specs.Columns.{Columns, is_there, way_in}
-use Rattle.world_spec.specs.StageOf.{stage_of}
-use Rattle.world_spec.specs.Adding.{new_instance, in_family, add}
-use Rattle.world_spec.proofs.AddedKept.{add-kept}
-use Rattle.world_spec.proofs.AddedStage.{add-stage}
-use Rattle.world_tables.specs.Places.{with_family}
-use Rattle.perf_world.specs.Parts.{newcomer, MayAdd, joined_events, joined_contexts}
-use Rattle.perf_world.specs.Seen.{seen, IsWorld}
-use Rattle.perf_world.proofs.TurnedGone.{joined-there, joined-ways}
-use Rattle.perf_world.proofs.Turning.{stored-after, settled-turned, leader-live, not-only}
-use Rattle.perf_world.proofs.Added.{added, added-kept, may-come}
-use Rattle.perf_world.proofs.Counted.{room-for-copy, room-for-original}
-use Rattle.perf_world.proofs.Kept.{kept-now}
+use Rattle.std.proofs.{Common.{◌≡◌, ◌+◌, ◌++◌, [], ◌∷◌, true, false, is_some, ap, sym, subst, ◌∙◌, inl, inr, if◌then◌else◌}, lemmas.Bool.{cases_Bool}}
+use Rattle.stage_spec.specs.{Flags.{is_pinned}, Stage.{place_of}}
+use Rattle.world_spec.specs.{Value.{World, is_live, entry_at}, Ways.{IsTurned}, StageOf.{stage_of}, Adding.{new_instance, in_family, add}}
+use Rattle.world_spec.proofs.{Added.{comes-by}, WaysGone.{add-ways}, AddedKept.{add-kept}, AddedStage.{add-stage}}
+use Rattle.world_tables.specs.{Columns.{Columns, is_there, way_in}, Places.{with_family}}
+use Rattle.perf_world.specs.{Parts.{newcomer, MayAdd, joined_events, joined_contexts}, Seen.{seen, IsWorld}}
+use Rattle.perf_world.proofs.{TurnedGone.{joined-there, joined-ways}, Turning.{stored-after, settled-turned, leader-live, not-only}}
+use Rattle.perf_world.proofs.{Added.{added, added-kept, may-come}, Counted.{room-for-copy, room-for-original}, Kept.{kept-now}}
 use Rattle.perf_world.proofs.Room.{list-room, unlisted, copies-room}
 use Rattle.perf_world.proofs.world.World.add.Goals as goal
 

@@ -1,11 +1,7 @@
-use Rattle.std.proofs.Common.{◌+◌, ap, ◌∙◌, slice_set, slice_index_or}
+use Rattle.std.proofs.Common.{◌+◌, ap, ◌∙◌, slice_set, slice_index_or, refl}
+use Rattle.world_spec.proofs.{Keeping.{lost-kept}, Ways.{other-ways}}
 use Rattle.world_spec.specs.Changes as change
-use Rattle.world_spec.proofs.Keeping.{lost-kept}
-use Rattle.perf_world.specs.Seen.{seen}
-use Rattle.perf_world.proofs.Kept.{kept-now}
-use Rattle.perf_world.proofs.Turning.{stored-after, stay-turned}
-use Rattle.world_spec.proofs.Ways.{other-ways}
-use Rattle.std.proofs.Common.{refl}
+use Rattle.perf_world.{specs.Seen.{seen}, proofs.{Kept.{kept-now}, Turning.{stored-after, stay-turned}}}
 use Rattle.perf_world.proofs.world.World.add_lost.Goals as goal
 
 pub invariant_of-self : goal.invariant_of-self

@@ -1,15 +1,10 @@
 use Rattle.std.proofs.Common.{◌≡◌, true, ap, subst, sym}
+use Rattle.perf_base.specs.declared.numbers.Key.{Key}
 use Rattle.perf_base.specs.declared.lines.CpuLine.TheVariants as cpu_line
 use Rattle.stage_laws.specs.Bounds.{most_of_line}
-use Rattle.world_spec.specs.Metering.{HasMeterRoom, IsWorked}
-use Rattle.world_spec.specs.Shares.{HaveRoom}
-use Rattle.perf_base.specs.declared.numbers.Key.{Key}
-use Rattle.world_spec.specs.Value.{World, is_live, instance_at, account_at}
+use Rattle.world_spec.specs.{Metering.{HasMeterRoom, IsWorked}, Shares.{HaveRoom}, Value.{World, is_live, instance_at, account_at}}
 use Rattle.world_spec.proofs.Metering.{work-stage, work-grows}
-use Rattle.perf_world.specs.Seen.{seen}
-use Rattle.perf_world.proofs.Kept.{kept-now}
-use Rattle.perf_world.proofs.Turning.{stored-worked}
-use Rattle.perf_world.proofs.Worked.{room-for, was-worked}
+use Rattle.perf_world.{specs.Seen.{seen}, proofs.{Kept.{kept-now}, Turning.{stored-worked}, Worked.{room-for, was-worked}}}
 use Rattle.perf_world.proofs.world.World.add_work.Goals as goal
 
 pub add_work-requires-clause-room : goal.add_work-requires-clause-room

@@ -1,8 +1,6 @@
 use Rattle.std.proofs.Common.{ap, sym, ◌∙◌}
-use Rattle.world_spec.specs.Kept.{copies_in}
-use Rattle.world_spec.proofs.Families.{copies-are}
-use Rattle.perf_world.specs.Seen.{seen}
-use Rattle.perf_world.proofs.Kept.{kept-now}
+use Rattle.world_spec.{specs.Kept.{copies_in}, proofs.Families.{copies-are}}
+use Rattle.perf_world.{specs.Seen.{seen}, proofs.Kept.{kept-now}}
 use Rattle.perf_world.proofs.world.World.copies.Goals as goal
 
 pub returns-clause-copies : goal.returns-clause-copies

@@ -1,15 +1,8 @@
-use Rattle.std.proofs.Common.{◌≡◌, ◌≤◌, ◌∙◌, true, List, ap, subst, sym, slice_index_or}
-use Rattle.std.specs.List.{list_all}
+use Rattle.std.{proofs.Common.{◌≡◌, ◌≤◌, ◌∙◌, true, List, ap, subst, sym, slice_index_or}, specs.List.{list_all}}
 use Rattle.perf_base.specs.declared.numbers.Key.{Key}
-use Rattle.stage_spec.specs.Effective.{is_ready}
-use Rattle.stage_spec.specs.Hardware.{is_counted_on}
-use Rattle.stage_spec.specs.Places.{may_count_on}
-use Rattle.stage_spec.specs.Verdict.{is_eligible}
-use Rattle.world_spec.specs.StageOf.{group_at}
-use Rattle.world_spec.specs.Value.{World, times, instance_at}
-use Rattle.world_spec.specs.Kept.{leads, post_at}
-use Rattle.perf_world.specs.Seen.{seen}
-use Rattle.perf_world.proofs.Gone.{times-at, member-live, eligible-by}
+use Rattle.stage_spec.specs.{Effective.{is_ready}, Hardware.{is_counted_on}, Places.{may_count_on}, Verdict.{is_eligible}}
+use Rattle.world_spec.specs.{StageOf.{group_at}, Value.{World, times, instance_at}, Kept.{leads, post_at}}
+use Rattle.perf_world.{specs.Seen.{seen}, proofs.Gone.{times-at, member-live, eligible-by}}
 use Rattle.perf_world.proofs.world.World.eligible.Goals as goal
 
 pub are_counted_on-requires-clause-there : goal.are_counted_on-requires-clause-there

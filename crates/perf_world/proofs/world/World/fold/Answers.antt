@@ -1,30 +1,15 @@
-use Rattle.std.proofs.Common.{◌≡◌, true, ap, sym, subst, ◌∙◌, slice_index_or}
-use Rattle.stage_spec.specs.Families.{plus}
-use Rattle.world_spec.specs.Value.{no_family, is_live, instance_at, account_at, is_key, times}
-use Rattle.world_spec.specs.StageOf.{stage_of}
-use Rattle.world_spec.specs.Adding.{fold_sums, folded_away, out_of_family}
-use Rattle.world_tables.specs.Columns.{Columns, is_there, entry_in, taken}
-use Rattle.stage_spec.specs.Shares.{no_sums}
-use Rattle.world_tables.specs.Places.{Slots, IsBelow, with_family}
-use Rattle.perf_world.specs.Seen.{seen}
-use Rattle.perf_world.proofs.Gone.{gone, left-there, members-there, copy-once, fold-room, both-true, dropped-kept}
-use Rattle.perf_world.proofs.Kept.{kept-now, listed-once}
-use Rattle.perf_world.proofs.Room.{room-behind}
-use Rattle.perf_world.proofs.Gone.{leader-there}
-use Rattle.perf_world.proofs.Gone.{fold_families, folded-in}
-use Rattle.world_spec.specs.Kept.{family_sums}
-use Rattle.world_spec.proofs.Folding.{fold-kept, fold-stage, fold-sums}
-use Rattle.perf_base.specs.declared.numbers.Key.{Key}
-use Rattle.std.proofs.Common.{List, ◌≤◌}
-use Rattle.world_spec.specs.Value.{World, entry_at}
-use Rattle.world_spec.specs.StageOf.{after_first}
-use Rattle.world_spec.specs.Ways.{IsTurned}
-use Rattle.world_spec.proofs.WaysGone.{fold-ways}
-use Rattle.world_tables.specs.Columns.{way_in}
-use Rattle.perf_world.specs.Seen.{IsWorld}
+use Rattle.std.proofs.Common.{◌≡◌, true, ap, sym, subst, ◌∙◌, slice_index_or, List, ◌≤◌}
+use Rattle.stage_spec.specs.{Families.{plus}, Shares.{no_sums}}
+use Rattle.world_spec.specs.{Value.{no_family, is_live, instance_at, account_at, is_key, times, World, entry_at}, StageOf.{stage_of, after_first}}
+use Rattle.world_spec.specs.{Adding.{fold_sums, folded_away, out_of_family}, Kept.{family_sums}, Ways.{IsTurned}}
+use Rattle.world_spec.proofs.{Folding.{fold-kept, fold-stage, fold-sums}, WaysGone.{fold-ways}}
+use Rattle.world_tables.specs.{Columns.{Columns, is_there, entry_in, taken, way_in}, Places.{Slots, IsBelow, with_family}}
+use Rattle.perf_world.{specs.Seen.{seen, IsWorld}, proofs.Gone.{gone, left-there, members-there, copy-once, fold-room, both-true, dropped-kept}}
+use Rattle.perf_world.proofs.{Gone.{leader-there, fold_families, folded-in}, Kept.{kept-now, listed-once}, Room.{room-behind}}
 use Rattle.perf_world.proofs.TurnedGone.{gone-there, gone-self, gone-ways, not-led}
 use Rattle.perf_world.proofs.Turning.{stored-after, settled-turned, leader-live, sibling-apart}
 use Rattle.perf_world.proofs.world.World.fold.Goals as goal
+use Rattle.perf_base.specs.declared.numbers.Key.{Key}
 
 pub leave_group-requires-clause-siblings : goal.leave_group-requires-clause-siblings
 leave_group-requires-clause-siblings c k there = members-there c.self.inside.pmus (seen c.self.inside.pmus c.self.inside.events c.self.inside.contexts c.self.inside.families c.self.inside.processors c.self.inside.tasks c.self.inside.used c.self.inside.mapped c.self.inside.next_id) c.self.invariant.kept c.args.copy k there

@@ -1,16 +1,9 @@
-use Rattle.std.proofs.Common.{arith, ap, ◌∙◌}
-use Rattle.world_spec.specs.Value.{account_at}
-use Rattle.world_spec.specs.StageOf.{stage_of}
+use Rattle.std.proofs.Common.{arith, ap, ◌∙◌, refl}
+use Rattle.world_spec.{specs.{Value.{account_at}, StageOf.{stage_of}}, proofs.{Accounts.{hit-kept, hit-stage}, Ways.{other-ways}}}
 use Rattle.world_spec.specs.Changes as change
-use Rattle.world_spec.proofs.Accounts.{hit-kept, hit-stage}
-use Rattle.perf_world.proofs.Kept.{own-count}
-use Rattle.perf_world.specs.Seen.{seen}
-use Rattle.perf_world.proofs.Kept.{kept-now}
-use Rattle.perf_world.proofs.Turning.{stored-after, stay-turned, follows-none}
-use Rattle.world_spec.proofs.Ways.{other-ways}
-use Rattle.world_tables.specs.Columns.{way_in}
-use Rattle.std.proofs.Common.{refl}
+use Rattle.perf_world.{proofs.{Kept.{own-count, kept-now}, Turning.{stored-after, stay-turned, follows-none}}, specs.Seen.{seen}}
 use Rattle.perf_world.proofs.world.World.hit.Goals as goal
+use Rattle.world_tables.specs.Columns.{way_in}
 
 pub invariant_of-self : goal.invariant_of-self
 invariant_of-self g c =

@@ -1,13 +1,8 @@
-use Rattle.std.proofs.Common.{◌≡◌, ◌∙◌, ◌≤◌, true, List, ap, subst, sym, slice_index_or}
-use Rattle.std.specs.List.{list_all}
+use Rattle.std.{proofs.Common.{◌≡◌, ◌∙◌, ◌≤◌, true, List, ap, subst, sym, slice_index_or}, specs.List.{list_all}}
 use Rattle.perf_base.specs.declared.numbers.Key.{Key}
-use Rattle.stage_spec.specs.Effective.{is_wholly_software}
-use Rattle.stage_spec.specs.Hardware.{is_software}
-use Rattle.world_spec.specs.Kept.{leads, post_at}
-use Rattle.world_spec.specs.StageOf.{group_at}
-use Rattle.world_spec.specs.Value.{World, times, instance_at}
-use Rattle.perf_world.specs.Seen.{seen}
-use Rattle.perf_world.proofs.Gone.{times-at, member-live, all-members}
+use Rattle.stage_spec.specs.{Effective.{is_wholly_software}, Hardware.{is_software}}
+use Rattle.world_spec.specs.{Kept.{leads, post_at}, StageOf.{group_at}, Value.{World, times, instance_at}}
+use Rattle.perf_world.{specs.Seen.{seen}, proofs.Gone.{times-at, member-live, all-members}}
 use Rattle.perf_world.proofs.world.World.is_wholly_software.Goals as goal
 
 pub are_software-requires : goal.are_software-requires

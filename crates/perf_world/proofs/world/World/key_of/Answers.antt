@@ -1,10 +1,6 @@
-use Rattle.std.proofs.Common.{◌≡◌, true, ap, sym, ◌∙◌}
-use Rattle.std.specs.Prelude.{option_map}
-use Rattle.world_spec.specs.Value.{family_of, instance_at, is_live}
-use Rattle.world_spec.proofs.Families.{original-is}
-use Rattle.perf_world.proofs.Kept.{original-live, if-some}
-use Rattle.perf_world.specs.Seen.{seen}
-use Rattle.perf_world.proofs.Kept.{kept-now}
+use Rattle.std.{proofs.Common.{◌≡◌, true, ap, sym, ◌∙◌}, specs.Prelude.{option_map}}
+use Rattle.world_spec.{specs.Value.{family_of, instance_at, is_live}, proofs.Families.{original-is}}
+use Rattle.perf_world.{proofs.Kept.{original-live, if-some, kept-now}, specs.Seen.{seen}}
 use Rattle.perf_world.proofs.world.World.key_of.Goals as goal
 
 pub returns-clause-live : goal.returns-clause-live

@@ -1,18 +1,10 @@
-use Rattle.std.proofs.Common.{◌≡◌, true, ap, sym, subst, ◌∙◌, slice_set, slice_index_or}
-use Rattle.world_spec.specs.StageOf.{stage_of}
-use Rattle.stage_spec.specs.Stage.{place_of}
+use Rattle.std.proofs.Common.{◌≡◌, true, ap, sym, subst, ◌∙◌, slice_set, slice_index_or, refl, sym}
+use Rattle.world_spec.specs.{StageOf.{stage_of}, Changes.{in_list, to_last}, Kept.{leads, post_at}, Value.{no_leaders, entry_at, times}}
+use Rattle.world_spec.proofs.{Moving.{move-kept, move-stage}, Ways.{other-ways}}
 use Rattle.world_spec.specs.Changes as change
-use Rattle.world_spec.specs.Changes.{in_list, to_last}
-use Rattle.world_spec.specs.Kept.{leads, post_at}
-use Rattle.world_spec.specs.Value.{no_leaders, entry_at, times}
+use Rattle.stage_spec.specs.Stage.{place_of}
 use Rattle.world_tables.specs.Places.{picked}
-use Rattle.world_spec.proofs.Moving.{move-kept, move-stage}
-use Rattle.perf_world.proofs.Kept.{listed-once}
-use Rattle.perf_world.specs.Seen.{seen}
-use Rattle.perf_world.proofs.Kept.{kept-now}
-use Rattle.perf_world.proofs.Turning.{stored-after, stay-turned}
-use Rattle.world_spec.proofs.Ways.{other-ways}
-use Rattle.std.proofs.Common.{refl, sym}
+use Rattle.perf_world.{proofs.{Kept.{listed-once, kept-now}, Turning.{stored-after, stay-turned}}, specs.Seen.{seen}}
 use Rattle.perf_world.proofs.world.World.move_last.Goals as goal
 
 pub move_last-requires-clause-there : goal.move_last-requires-clause-there

@@ -1,15 +1,8 @@
-use Rattle.std.specs.FinMap.{get-empty}
-use Rattle.std.specs.Ordering.{nat_cmp}
-use Rattle.std.specs.Prelude.{is_some}
-use Rattle.std.proofs.Common.{◌∙◌, ap, length, sym}
-use Rattle.world_spec.specs.StageOf.{stage_of}
-use Rattle.world_spec.specs.First.{first_world}
-use Rattle.world_spec.proofs.First.{first-kept, first-stage}
-use Rattle.perf_world.specs.Seen.{seen}
-use Rattle.std.proofs.lemmas.Bool.{false≢true}
-use Rattle.world_tables.specs.Columns.{no_columns}
-use Rattle.perf_world.proofs.Turning.{stored-after}
+use Rattle.std.{specs.{FinMap.{get-empty}, Ordering.{nat_cmp}, Prelude.{is_some}}, proofs.{Common.{◌∙◌, ap, length, sym}, lemmas.Bool.{false≢true}}}
+use Rattle.world_spec.{specs.{StageOf.{stage_of}, First.{first_world}}, proofs.First.{first-kept, first-stage}}
+use Rattle.perf_world.{specs.Seen.{seen}, proofs.Turning.{stored-after}}
 use Rattle.perf_world.proofs.world.World.new.Goals as goal
+use Rattle.world_tables.specs.Columns.{no_columns}
 
 pub returns-clause-world : goal.returns-clause-world
 returns-clause-world c = (λ i. seen c.args.pmus ((c.in_ok-events.ensures ∙ ap no_columns c.cpus.ensures.number) i) (c.in_ok-contexts.ensures i) (c.in_ok-families.ensures i) (c.in_ok-processors.ensures.idle i) (c.first_tasks.ensures (length c.args.pmus.cpu_pmus) i) (c.in_ok-used.ensures i) (c.in_ok-mapped.ensures i) 1)

@@ -1,7 +1,6 @@
 use Rattle.std.proofs.Common.{◌≡◌, ◌∙◌, ap, sym, Some, None, slice_index_or}
 use Rattle.world_spec.specs.Value.{World, family_of, instance_at, no_family}
-use Rattle.perf_world.specs.Seen.{seen}
-use Rattle.perf_world.proofs.Kept.{kept-now, original-live, original-there}
+use Rattle.perf_world.{specs.Seen.{seen}, proofs.Kept.{kept-now, original-live, original-there}}
 use Rattle.perf_world.proofs.world.World.origin.Goals as goal
 
 pub unreachable-requires : goal.unreachable-requires

@@ -1,17 +1,11 @@
-use Rattle.std.proofs.Common.{◌≡◌, ◌++◌, true, false, arith, refl, List, ap, subst, sym, ◌∙◌, length}
-use Rattle.std.proofs.lemmas.List.{length-map}
+use Rattle.std.proofs.{Common.{◌≡◌, ◌++◌, true, false, arith, refl, List, ap, subst, sym, ◌∙◌, length}, lemmas.List.{length-map}}
 use Rattle.perf_base.specs.declared.numbers.Key.{Key}
 use Rattle.stage_spec.specs.Stage.{task_on}
+use Rattle.world_spec.specs.{StageOf.{lists_at, stage_of}, Value.{World, is_live, entry_at}, Ways.{IsTurned, is_context_of}}
+use Rattle.world_spec.proofs.{Placing.{place-kept, place-stage}, Ways.{place-ways}}
 use Rattle.world_spec.specs.Changes as change
-use Rattle.world_spec.specs.StageOf.{lists_at, stage_of}
-use Rattle.world_spec.specs.Value.{World, is_live, entry_at}
-use Rattle.world_spec.specs.Ways.{IsTurned, is_context_of}
-use Rattle.world_spec.proofs.Placing.{place-kept, place-stage}
-use Rattle.world_spec.proofs.Ways.{place-ways}
 use Rattle.world_tables.specs.Columns.{Columns}
-use Rattle.perf_world.specs.Seen.{seen, IsWorld}
-use Rattle.perf_world.specs.Settling.{task_keys, RunOnce}
-use Rattle.perf_world.proofs.Kept.{kept-now, placed, placed-kept, task-there}
+use Rattle.perf_world.{specs.{Seen.{seen, IsWorld}, Settling.{task_keys, RunOnce}}, proofs.Kept.{kept-now, placed, placed-kept, task-there}}
 use Rattle.perf_world.proofs.Turning.{stored-after, settled-turned, more-settled, both-times, task-led, task-leaders-there, task-outside, running-below, placed-below, placed-live}
 use Rattle.perf_world.proofs.world.World.place.Goals as goal
 

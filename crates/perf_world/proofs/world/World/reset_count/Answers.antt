@@ -1,14 +1,9 @@
-use Rattle.std.proofs.Common.{ap, ◌∙◌}
-use Rattle.world_spec.specs.StageOf.{stage_of}
+use Rattle.std.proofs.Common.{ap, ◌∙◌, refl}
+use Rattle.world_spec.{specs.StageOf.{stage_of}, proofs.{Accounts.{reset-kept, reset-stage}, Ways.{other-ways}}}
 use Rattle.world_spec.specs.Changes as change
-use Rattle.world_spec.proofs.Accounts.{reset-kept, reset-stage}
-use Rattle.perf_world.specs.Seen.{seen}
-use Rattle.perf_world.proofs.Kept.{kept-now}
-use Rattle.perf_world.proofs.Turning.{stored-after, stay-turned}
-use Rattle.world_spec.proofs.Ways.{other-ways}
-use Rattle.world_tables.specs.Columns.{way_in}
-use Rattle.std.proofs.Common.{refl}
+use Rattle.perf_world.{specs.Seen.{seen}, proofs.{Kept.{kept-now}, Turning.{stored-after, stay-turned}}}
 use Rattle.perf_world.proofs.world.World.reset_count.Goals as goal
+use Rattle.world_tables.specs.Columns.{way_in}
 
 pub invariant_of-self : goal.invariant_of-self
 invariant_of-self c =

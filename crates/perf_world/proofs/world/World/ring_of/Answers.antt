@@ -1,10 +1,7 @@
-use Rattle.std.proofs.Common.{◌∙◌, ap, sym}
-use Rattle.std.specs.Prelude.{option_map}
+use Rattle.std.{proofs.Common.{◌∙◌, ap, sym}, specs.Prelude.{option_map}}
 use Rattle.stage_spec.specs.Mapping.{ring_of_instance}
-use Rattle.world_spec.specs.Value.{World, instance_at}
-use Rattle.world_spec.proofs.Families.{original-is}
-use Rattle.perf_world.specs.Seen.{seen}
-use Rattle.perf_world.proofs.Kept.{kept-now}
+use Rattle.world_spec.{specs.Value.{World, instance_at}, proofs.Families.{original-is}}
+use Rattle.perf_world.{specs.Seen.{seen}, proofs.Kept.{kept-now}}
 use Rattle.perf_world.proofs.world.World.ring_of.Goals as goal
 
 pub returns : goal.returns

@@ -1,15 +1,9 @@
-use Rattle.std.proofs.Common.{arith, ◌≡◌, ◌∙◌, ◌++◌, ◌<◌, length, ap, subst, OnOk, slice_index_or}
+use Rattle.std.proofs.Common.{arith, ◌≡◌, ◌∙◌, ◌++◌, ◌<◌, length, ap, subst, OnOk, slice_index_or, refl}
 use Rattle.counter_match.specs.Seating.{Seated, IsSound}
-use Rattle.world_spec.specs.Value.{seats_at}
+use Rattle.world_spec.{specs.Value.{seats_at}, proofs.{Keeping.{seats-kept}, Ways.{other-ways}}}
 use Rattle.world_spec.specs.Changes as change
-use Rattle.world_spec.proofs.Keeping.{seats-kept}
 use Rattle.world_tables.specs.Places.{Places, no_seats}
-use Rattle.perf_world.specs.Seen.{seen}
-use Rattle.perf_world.proofs.Kept.{kept-now}
-use Rattle.perf_world.proofs.Seats.{seats-sound, on-err}
-use Rattle.perf_world.proofs.Turning.{stored-after, stay-turned}
-use Rattle.world_spec.proofs.Ways.{other-ways}
-use Rattle.std.proofs.Common.{refl}
+use Rattle.perf_world.{specs.Seen.{seen}, proofs.{Kept.{kept-now}, Seats.{seats-sound, on-err}, Turning.{stored-after, stay-turned}}}
 use Rattle.perf_world.proofs.world.World.seat.Goals as goal
 
 pub invariant_of-self : goal.invariant_of-self

@@ -1,15 +1,10 @@
 use Rattle.std.proofs.Common.{◌≡◌, ◌≤◌, true, refl, ap, subst, sym, ◌∙◌}
 use Rattle.perf_base.specs.declared.numbers.Key.{Key}
+use Rattle.world_spec.{specs.{StageOf.{stage_of}, Value.{World, is_live, entry_at, times}, Ways.{IsTurned}}, proofs.Keeping.{own-kept, own-stage}}
+use Rattle.world_spec.proofs.{Tables.{keys-written}, Ways.{own-ways, outside-group}}
 use Rattle.world_spec.specs.Changes as change
-use Rattle.world_spec.specs.StageOf.{stage_of}
-use Rattle.world_spec.specs.Value.{World, is_live, entry_at, times}
-use Rattle.world_spec.specs.Ways.{IsTurned}
-use Rattle.world_spec.proofs.Keeping.{own-kept, own-stage}
-use Rattle.world_spec.proofs.Tables.{keys-written}
-use Rattle.world_spec.proofs.Ways.{own-ways, outside-group}
 use Rattle.world_tables.specs.Columns.{Columns, way_in}
-use Rattle.perf_world.specs.Seen.{seen, IsWorld}
-use Rattle.perf_world.proofs.Kept.{kept-now}
+use Rattle.perf_world.{specs.Seen.{seen, IsWorld}, proofs.Kept.{kept-now}}
 use Rattle.perf_world.proofs.Turning.{stored-after, settled-turned, written-part, leader-live, group-led}
 use Rattle.perf_world.proofs.world.World.set_own.Goals as goal
 

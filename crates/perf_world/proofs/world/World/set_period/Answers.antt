@@ -1,15 +1,9 @@
-use Rattle.std.proofs.Common.{ap, ◌∙◌}
-use Rattle.world_spec.specs.StageOf.{stage_of}
+use Rattle.std.proofs.Common.{ap, ◌∙◌, sym}
+use Rattle.world_spec.{specs.StageOf.{stage_of}, proofs.{Accounts.{period-kept, period-stage}, Ways.{period-ways}, Tables.{keys-written}}}
 use Rattle.world_spec.specs.Changes as change
-use Rattle.world_spec.proofs.Accounts.{period-kept, period-stage}
-use Rattle.perf_world.specs.Seen.{seen}
-use Rattle.perf_world.proofs.Kept.{kept-now}
-use Rattle.perf_world.proofs.Turning.{stored-after, stay-turned}
-use Rattle.world_spec.proofs.Ways.{period-ways}
-use Rattle.world_tables.specs.Columns.{way_in}
-use Rattle.world_spec.proofs.Tables.{keys-written}
-use Rattle.std.proofs.Common.{sym}
+use Rattle.perf_world.{specs.Seen.{seen}, proofs.{Kept.{kept-now}, Turning.{stored-after, stay-turned}}}
 use Rattle.perf_world.proofs.world.World.set_period.Goals as goal
+use Rattle.world_tables.specs.Columns.{way_in}
 
 pub invariant_of-self : goal.invariant_of-self
 invariant_of-self c =

@@ -1,12 +1,7 @@
-use Rattle.std.proofs.Common.{arith, ◌∙◌, ◌<◌, length, ap, sym}
+use Rattle.std.proofs.Common.{arith, ◌∙◌, ◌<◌, length, ap, sym, refl}
+use Rattle.world_spec.{specs.Value.{seats_at}, proofs.{Keeping.{seats-kept}, Ways.{other-ways}}}
 use Rattle.world_spec.specs.Changes as change
-use Rattle.world_spec.specs.Value.{seats_at}
-use Rattle.world_spec.proofs.Keeping.{seats-kept}
-use Rattle.perf_world.specs.Seen.{seen, IsWorld}
-use Rattle.perf_world.proofs.Kept.{kept-now}
-use Rattle.perf_world.proofs.Turning.{stored-after, stay-turned}
-use Rattle.world_spec.proofs.Ways.{other-ways}
-use Rattle.std.proofs.Common.{refl}
+use Rattle.perf_world.{specs.Seen.{seen, IsWorld}, proofs.{Kept.{kept-now}, Turning.{stored-after, stay-turned}}}
 use Rattle.perf_world.proofs.world.World.set_seats.Goals as goal
 
 pub set_seats-requires-clause-counters : goal.set_seats-requires-clause-counters

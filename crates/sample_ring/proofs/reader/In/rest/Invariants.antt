@@ -1,6 +1,5 @@
 use Rattle.std.proofs.Common.{◌≡◌, ◌-◌, ◌*◌, ◌≤◌, length, IsSome}
-use Rattle.sample_ring.specs.InEnds.{IsSoundIn, IsStill}
-use Rattle.sample_ring.specs.Ins.{Takes}
+use Rattle.sample_ring.specs.{InEnds.{IsSoundIn, IsStill}, Ins.{Takes}}
 use Rattle.sample_ring.proofs.reader.In.rest.Given as goal
 
 abbrev pub invariant-loop-self : goal.invariant-loop-self

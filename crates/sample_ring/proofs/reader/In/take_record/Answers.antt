@@ -1,10 +1,7 @@
-use Rattle.std.proofs.Common.{◌≡◌, ◌*◌, ◌+◌, ◌≤◌, None, length, ap, ◌∙◌, arith}
+use Rattle.std.proofs.{Common.{◌≡◌, ◌*◌, ◌+◌, ◌≤◌, None, length, ap, ◌∙◌, arith}, lemmas.List.{length_push}}
 use Rattle.ring_spec.specs.Whole.{size_field}
-use Rattle.std.proofs.lemmas.List.{length_push}
 use Rattle.ring_words.specs.Ends.{BeginsBlock}
-use Rattle.sample_ring.specs.InEnds.{InEnd}
-use Rattle.sample_ring.specs.contracts.reader.In.{the_view}
-use Rattle.sample_ring.proofs.Takes.{holds_more, whole_taken}
+use Rattle.sample_ring.{specs.{InEnds.{InEnd}, contracts.reader.In.{the_view}}, proofs.Takes.{holds_more, whole_taken}}
 use Rattle.sample_ring.proofs.reader.In.take_record.Goals as goal
 
 pub invariant_of-self-2 : goal.invariant_of-self-2

@@ -1,6 +1,5 @@
 use Rattle.std.proofs.Common.{◌≡◌, ◌+◌, None}
-use Rattle.sample_ring.specs.InEnds.{IsSoundIn}
-use Rattle.sample_ring.specs.Ins.{Takes}
+use Rattle.sample_ring.specs.{InEnds.{IsSoundIn}, Ins.{Takes}}
 use Rattle.sample_ring.proofs.reader.In.take_records.Given as goal
 
 abbrev pub invariant-loop-count : goal.invariant-loop-count

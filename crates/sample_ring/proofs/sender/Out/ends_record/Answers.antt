@@ -1,9 +1,6 @@
 use Rattle.std.proofs.Common.{◌≡◌, ◌↔◌, length, slice_index, subst}
 use Rattle.ring_words.specs.Ends.{IsStop}
-use Rattle.sample_ring.specs.Outs.{mark_of}
-use Rattle.sample_ring.specs.OutEnds.{OutEnd}
-use Rattle.sample_ring.proofs.Cuts.{stops_are_ends}
-use Rattle.sample_ring.proofs.Marks.{marked}
+use Rattle.sample_ring.{specs.{Outs.{mark_of}, OutEnds.{OutEnd}}, proofs.{Cuts.{stops_are_ends}, Marks.{marked}}}
 use Rattle.sample_ring.proofs.sender.Out.ends_record.Goals as goal
 
 pub is_marked-requires : goal.is_marked-requires

@@ -1,7 +1,5 @@
 use Rattle.sample_records.specs.Seen.{seen}
-use Rattle.sample_ring.specs.contracts.sender.Out.{the_view}
-use Rattle.sample_ring.specs.Sends.{request}
-use Rattle.sample_ring.proofs.Sending.{found, after_lost, after_written}
+use Rattle.sample_ring.{specs.{contracts.sender.Out.{the_view}, Sends.{request}}, proofs.Sending.{found, after_lost, after_written}}
 use Rattle.sample_ring.proofs.sender.Out.send.Goals as goal
 
 pub returns-then-room-need-clause-account : goal.returns-then-room-need-clause-account

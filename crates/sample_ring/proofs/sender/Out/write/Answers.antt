@@ -1,7 +1,6 @@
 use Rattle.std.proofs.Common.{◌≡◌, ◌++◌, ◌∷◌, [], length, ap, arith}
 use Rattle.sample_records.specs.Seen.{seen}
-use Rattle.sample_ring.specs.Sends.{told_where}
-use Rattle.sample_ring.proofs.Sending.{lawful-both, written_over, holds_published}
+use Rattle.sample_ring.{specs.Sends.{told_where}, proofs.Sending.{lawful-both, written_over, holds_published}}
 use Rattle.sample_ring.proofs.sender.Out.write.Goals as goal
 
 pub invariant_of-self : goal.invariant_of-self

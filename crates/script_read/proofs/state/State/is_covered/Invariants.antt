@@ -1,6 +1,5 @@
 use Rattle.std.proofs.Common.{◌<◌}
-use Rattle.perf_base.specs.declared.numbers.CpuNo.{CpuNo}
-use Rattle.perf_base.specs.Cpus.{HasCpu}
+use Rattle.perf_base.specs.{declared.numbers.CpuNo.{CpuNo}, Cpus.{HasCpu}}
 use Rattle.script_read.proofs.state.State.is_covered.Given as goal
 
 abbrev pub invariant-loop-cpu : goal.invariant-loop-cpu

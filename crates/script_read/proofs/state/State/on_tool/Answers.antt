@@ -1,8 +1,6 @@
-use Rattle.std.proofs.Common.{refl}
-use Rattle.std.proofs.lemmas.Result.{err_from_is_err_and}
+use Rattle.std.proofs.{Common.{refl}, lemmas.Result.{err_from_is_err_and}}
 use Rattle.line_forms.specs.Forms.{tool_form_of}
-use Rattle.script_read.proofs.Fits.{tool_line_fits}
-use Rattle.script_read.proofs.Taken.{tool_refused}
+use Rattle.script_read.proofs.{Fits.{tool_line_fits}, Taken.{tool_refused}}
 use Rattle.script_read.proofs.state.State.on_tool.Goals as goal
 
 pub returns-in_err-line-clause-bad : goal.returns-in_err-line-clause-bad

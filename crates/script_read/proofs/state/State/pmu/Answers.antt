@@ -1,5 +1,4 @@
-use Rattle.std.proofs.Common.{◌∙◌, sym, ap}
-use Rattle.std.specs.Prelude.{bit_and}
+use Rattle.std.{proofs.Common.{◌∙◌, sym, ap}, specs.Prelude.{bit_and}}
 use Rattle.script_read.proofs.Unions.{union_apart}
 use Rattle.script_read.proofs.state.State.pmu.Goals as goal
 

@@ -1,6 +1,5 @@
 use Rattle.std.proofs.Common.{ap, ◌+◌}
-use Rattle.shared_object.specs.declared.tests.CounterCall.TheVariants.{Add, Read}
-use Rattle.shared_object.proofs.Counting.{counts_more}
+use Rattle.shared_object.{specs.declared.tests.CounterCall.TheVariants.{Add, Read}, proofs.Counting.{counts_more}}
 use Rattle.shared_object.proofs.tests.CounterSequential.apply.Goals as goal
 
 pub returns : goal.returns

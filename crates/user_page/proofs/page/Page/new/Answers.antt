@@ -1,9 +1,6 @@
 use Rattle.std.proofs.Common.{◌≡◌, [], ◌∷◌, List, rules, sym, ap, subst}
 use Rattle.atomic_table.specs.Table.{opening}
-use Rattle.user_page.specs.declared.view.View.{View}
-use Rattle.user_page.specs.Views.{Place, Holder, both_ends}
-use Rattle.user_page.specs.Rule.{Kept}
-use Rattle.user_page.proofs.Parting.{may_part, starts}
+use Rattle.user_page.{specs.{declared.view.View.{View}, Views.{Place, Holder, both_ends}, Rule.{Kept}}, proofs.Parting.{may_part, starts}}
 use Rattle.user_page.proofs.page.Page.new.Goals as goal
 
 pub new-requires-2 : goal.new-requires-2

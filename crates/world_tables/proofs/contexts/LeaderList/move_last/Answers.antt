@@ -1,7 +1,6 @@
 use Rattle.std.proofs.Common.{arith, ◌≡◌, [], ◌∷◌, List, ap, length, length-append, subst, sym}
 use Rattle.perf_base.specs.declared.numbers.Key.{Key}
-use Rattle.world_spec.specs.Value.{times}
-use Rattle.world_spec.specs.Changes.{all_but}
+use Rattle.world_spec.specs.{Value.{times}, Changes.{all_but}}
 use Rattle.world_tables.proofs.Listed.{times_contains, length_all_but}
 use Rattle.world_tables.proofs.contexts.LeaderList.move_last.Goals as goal
 

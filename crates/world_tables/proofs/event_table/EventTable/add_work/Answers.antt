@@ -1,10 +1,8 @@
 use Rattle.std.proofs.Common.{◌≡◌, ℕ, ◌+◌, ◌<◌, ◌^◌, subst}
 use Rattle.perf_base.specs.declared.attr.Attr.{Attr}
 use Rattle.stage_spec.specs.Shares.{counted_by}
-use Rattle.world_spec.specs.Kept.{AreSmallTotals}
-use Rattle.world_spec.specs.Metering.{add_hits}
-use Rattle.world_tables.specs.Meters.{metered, total_of}
-use Rattle.world_tables.proofs.Tables.{clock-is, totals-are, is-worked, are-whole, table-worked}
+use Rattle.world_spec.specs.{Kept.{AreSmallTotals}, Metering.{add_hits}}
+use Rattle.world_tables.{specs.Meters.{metered, total_of}, proofs.Tables.{clock-is, totals-are, is-worked, are-whole, table-worked}}
 use Rattle.world_tables.proofs.event_table.EventTable.add_work.Goals as goal
 
 pub add_work-requires-clause-clock : goal.add_work-requires-clause-clock

@@ -1,8 +1,6 @@
 use Rattle.std.proofs.Common.{refl}
 use Rattle.perf_base.specs.declared.standing.Standing.TheVariants as standing
-use Rattle.world_tables.specs.Rows.{freed_entry}
-use Rattle.world_tables.proofs.Written.{there-row, written-stood}
-use Rattle.world_tables.proofs.Tables.{tally-at, table-wrote}
+use Rattle.world_tables.{specs.Rows.{freed_entry}, proofs.{Written.{there-row, written-stood}, Tables.{tally-at, table-wrote}}}
 use Rattle.world_tables.proofs.event_table.EventTable.free.Goals as goal
 
 pub index_mut-requires : goal.index_mut-requires

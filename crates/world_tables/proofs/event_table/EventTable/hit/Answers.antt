@@ -1,11 +1,8 @@
 use Rattle.std.proofs.Common.{arith, ◌≡◌, ◌+◌, ◌<◌, ◌^◌, false, refl, sym, ap, subst, ◌∙◌}
 use Rattle.stage_spec.specs.Occurrences.{overflows}
 use Rattle.event_counts.specs.Counts.{counts_after}
-use Rattle.world_tables.specs.Meters.{goes_along, total_of}
-use Rattle.world_tables.specs.Rows.{row_by, meter_at, after_hit}
-use Rattle.world_tables.specs.Columns.{row_in, put_account, account_in}
-use Rattle.world_tables.proofs.Written.{there-row, row-is, written-account}
-use Rattle.world_tables.proofs.Tallies.{count-apart, sums-hit, left-hit, tally-hit}
+use Rattle.world_tables.specs.{Meters.{goes_along, total_of}, Rows.{row_by, meter_at, after_hit}, Columns.{row_in, put_account, account_in}}
+use Rattle.world_tables.proofs.{Written.{there-row, row-is, written-account}, Tallies.{count-apart, sums-hit, left-hit, tally-hit}}
 use Rattle.world_tables.proofs.Tables.{tally-at, table-wrote}
 use Rattle.world_tables.proofs.event_table.EventTable.hit.Goals as goal
 

@@ -1,11 +1,8 @@
 use Rattle.std.proofs.Common.{ℕ, List, arith, ◌∙◌, sym, subst, Some}
 use Rattle.slab.specs.Slab.{Updates}
 use Rattle.perf_base.specs.declared.numbers.Key.{Key}
-use Rattle.world_tables.specs.Rows.{Kept, fresh_kept, leader_entry, meter_at}
-use Rattle.world_tables.specs.Samplers.{AreCounted}
-use Rattle.world_tables.proofs.Sampling.{counted-comes, counted-room}
-use Rattle.world_tables.proofs.Written.{no-row, row-comes, len-entries}
-use Rattle.world_tables.proofs.Tallies.{tally-fresh}
+use Rattle.world_tables.specs.{Rows.{Kept, fresh_kept, leader_entry, meter_at}, Samplers.{AreCounted}}
+use Rattle.world_tables.proofs.{Sampling.{counted-comes, counted-room}, Written.{no-row, row-comes, len-entries}, Tallies.{tally-fresh}}
 use Rattle.world_tables.proofs.Tables.{table-put}
 use Rattle.world_tables.proofs.event_table.EventTable.insert_leader.Goals as goal
 

@@ -1,7 +1,5 @@
 use Rattle.std.proofs.Common.{refl, [], ◌∷◌, ◌++◌, ◌≡◌, ◌<◌, length, subst}
-use Rattle.world_tables.specs.Rows.{row_by, meter_at}
-use Rattle.world_tables.specs.Columns.{row_in}
-use Rattle.world_tables.proofs.Written.{there-row, row-is, written-entry}
+use Rattle.world_tables.{specs.{Rows.{row_by, meter_at}, Columns.{row_in}}, proofs.Written.{there-row, row-is, written-entry}}
 use Rattle.world_tables.proofs.Tables.{tally-at, table-wrote}
 use Rattle.world_tables.proofs.event_table.EventTable.push_member.Goals as goal
 

@@ -1,6 +1,4 @@
-use Rattle.world_tables.proofs.Written.{there-row, row-goes}
-use Rattle.world_tables.proofs.Sampling.{counted-some, counted-goes}
-use Rattle.world_tables.proofs.Tables.{table-taken}
+use Rattle.world_tables.proofs.{Written.{there-row, row-goes}, Sampling.{counted-some, counted-goes}, Tables.{table-taken}}
 use Rattle.world_tables.proofs.event_table.EventTable.remove.Goals as goal
 
 pub remove-event-requires : goal.remove-event-requires

@@ -1,7 +1,6 @@
 use Rattle.std.proofs.Common.{refl}
 use Rattle.world_spec.specs.Changes.{all_but}
-use Rattle.world_tables.proofs.Written.{there-row, written-entry}
-use Rattle.world_tables.proofs.Tables.{tally-at, table-wrote}
+use Rattle.world_tables.proofs.{Written.{there-row, written-entry}, Tables.{tally-at, table-wrote}}
 use Rattle.world_tables.proofs.event_table.EventTable.remove_member.Goals as goal
 
 pub index_mut-requires : goal.index_mut-requires

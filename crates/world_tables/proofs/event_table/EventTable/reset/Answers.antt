@@ -1,8 +1,6 @@
 use Rattle.std.proofs.Common.{◌≡◌, refl}
 use Rattle.event_counts.specs.Counts.{restarted}
-use Rattle.world_tables.specs.Meters.{total_of}
-use Rattle.world_tables.specs.Rows.{meter_at, without_count}
-use Rattle.world_tables.proofs.Written.{there-row, written-account}
+use Rattle.world_tables.{specs.{Meters.{total_of}, Rows.{meter_at, without_count}}, proofs.Written.{there-row, written-account}}
 use Rattle.world_tables.proofs.Tables.{tally-at, table-wrote, meter-found, shown-reset, tally-cleared}
 use Rattle.world_tables.proofs.event_table.EventTable.reset.Goals as goal
 

@@ -1,10 +1,6 @@
 use Rattle.std.proofs.Common.{◌≡◌, ◌≢◌, refl, subst}
-use Rattle.world_tables.specs.Rows.{row_by, meter_at}
-use Rattle.world_tables.specs.Columns.{row_in}
-use Rattle.world_tables.proofs.Written.{there-row, row-is, written-counted}
-use Rattle.world_tables.proofs.Sampling.{sampler-at-same}
-use Rattle.world_tables.proofs.Tallies.{sums-period, tally-period}
-use Rattle.world_tables.proofs.Tables.{tally-at, table-wrote}
+use Rattle.world_tables.{specs.{Rows.{row_by, meter_at}, Columns.{row_in}}, proofs.Written.{there-row, row-is, written-counted}}
+use Rattle.world_tables.proofs.{Sampling.{sampler-at-same}, Tallies.{sums-period, tally-period}, Tables.{tally-at, table-wrote}}
 use Rattle.world_tables.proofs.event_table.EventTable.set_period.Goals as goal
 
 pub index_mut-requires : goal.index_mut-requires

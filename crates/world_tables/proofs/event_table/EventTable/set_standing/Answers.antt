@@ -1,6 +1,5 @@
 use Rattle.std.proofs.Common.{refl}
-use Rattle.world_tables.proofs.Written.{there-row, written-standing}
-use Rattle.world_tables.proofs.Tables.{tally-at, table-wrote}
+use Rattle.world_tables.proofs.{Written.{there-row, written-standing}, Tables.{tally-at, table-wrote}}
 use Rattle.world_tables.proofs.event_table.EventTable.set_standing.Goals as goal
 
 pub index_mut-requires : goal.index_mut-requires

@@ -1,8 +1,5 @@
 use Rattle.std.proofs.Common.{◌≡◌, sym, ap, subst, ◌∙◌}
-use Rattle.world_tables.specs.Meters.{IsTally, sums_at}
-use Rattle.world_tables.specs.Rows.{meter_at}
-use Rattle.world_tables.proofs.Written.{there-row, row-is}
-use Rattle.world_tables.proofs.Tables.{tally-at, meter-found}
+use Rattle.world_tables.{specs.{Meters.{IsTally, sums_at}, Rows.{meter_at}}, proofs.{Written.{there-row, row-is}, Tables.{tally-at, meter-found}}}
 use Rattle.world_tables.proofs.event_table.EventTable.sums.Goals as goal
 
 pub index-event-requires : goal.index-event-requires

@@ -1,7 +1,5 @@
 use Rattle.std.proofs.Common.{◌≡◌, refl, sym, ap, subst}
-use Rattle.world_tables.specs.Meters.{IsTally, tally_to}
-use Rattle.world_tables.specs.Rows.{meter_at}
-use Rattle.world_tables.proofs.Written.{there-row, written-way}
+use Rattle.world_tables.{specs.{Meters.{IsTally, tally_to}, Rows.{meter_at}}, proofs.Written.{there-row, written-way}}
 use Rattle.world_tables.proofs.Tables.{tally-at, table-wrote, meter-found, shown-turned, tally-turned}
 use Rattle.world_tables.proofs.event_table.EventTable.turn.Goals as goal
 

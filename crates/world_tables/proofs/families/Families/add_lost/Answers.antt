@@ -1,8 +1,7 @@
 use Rattle.std.proofs.Common.{arith, ap, length}
-use Rattle.world_tables.specs.Places.{Slot, Slots}
-use Rattle.world_spec.specs.Kept.{copies_in}
-use Rattle.world_tables.proofs.Parts.{put-copies, put-lost}
+use Rattle.world_tables.{specs.Places.{Slot, Slots}, proofs.Parts.{put-copies, put-lost}}
 use Rattle.world_tables.proofs.families.Families.add_lost.Goals as goal
+use Rattle.world_spec.specs.Kept.{copies_in}
 
 pub returns : goal.returns
 returns c = rw c.add_lost.ensures (put-lost c.self.inside.rows.items c.args.self.now c.args.event.0 c.index_mut.result.now c.self.view_is c.index_mut.ensures.value c.requires.slot)

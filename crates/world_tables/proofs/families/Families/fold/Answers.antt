@@ -1,9 +1,8 @@
 use Rattle.std.proofs.Common.{arith, ap, length}
 use Rattle.stage_spec.specs.Families.{plus}
-use Rattle.world_tables.specs.Places.{Slot, Slots}
-use Rattle.world_spec.specs.Kept.{copies_in}
-use Rattle.world_tables.proofs.Parts.{put-copies, put-folded}
+use Rattle.world_tables.{specs.Places.{Slot, Slots}, proofs.Parts.{put-copies, put-folded}}
 use Rattle.world_tables.proofs.families.Families.fold.Goals as goal
+use Rattle.world_spec.specs.Kept.{copies_in}
 
 pub returns : goal.returns
 returns c = rw c.fold.ensures (put-folded c.self.inside.rows.items c.args.self.now c.args.event.0 c.index_mut.result.now c.self.view_is c.index_mut.ensures.value c.requires.slot (λ s. plus s c.args.sums))

@@ -1,11 +1,6 @@
-use Rattle.std.proofs.Common.{arith, ap, length, ◌≡◌, ◌≤◌, slice_index_or, subst}
-use Rattle.std.proofs.lemmas.List.Sums.{get_or-le-sum_by}
-use Rattle.world_spec.specs.Value.{times, no_family}
-use Rattle.world_spec.specs.Changes.{all_but}
-use Rattle.world_tables.specs.Places.{Slot, Slots}
-use Rattle.world_spec.specs.Kept.{copies_in}
-use Rattle.world_tables.proofs.Listed.{length_all_but}
-use Rattle.world_tables.proofs.Parts.{put-family, put-copies, part-at, slots-low}
+use Rattle.std.proofs.{Common.{arith, ap, length, ◌≡◌, ◌≤◌, slice_index_or, subst}, lemmas.List.Sums.{get_or-le-sum_by}}
+use Rattle.world_spec.specs.{Value.{times, no_family}, Changes.{all_but}, Kept.{copies_in}}
+use Rattle.world_tables.{specs.Places.{Slot, Slots}, proofs.{Listed.{length_all_but}, Parts.{put-family, put-copies, part-at, slots-low}}}
 use Rattle.world_tables.proofs.families.Families.remove_copy.Goals as goal
 
 pub returns : goal.returns

@@ -1,5 +1,4 @@
-use Rattle.std.proofs.Common.{◌≡◌, rules}
-use Rattle.std.proofs.lemmas.Fn.{filter_same}
+use Rattle.std.proofs.{Common.{◌≡◌, rules}, lemmas.Fn.{filter_same}}
 use Rattle.world_spec.specs.Changes.{all_but}
 use Rattle.world_tables.proofs.families.SlotRow.remove_copy.Goals as goal
 

@@ -1,5 +1,4 @@
-use Rattle.std.proofs.Common.{arith, ◌≡◌, ◌==◌, false, List, subst, sym, vec_capacity}
-use Rattle.std.specs.List.{list_any}
+use Rattle.std.{proofs.Common.{arith, ◌≡◌, ◌==◌, false, List, subst, sym, vec_capacity}, specs.List.{list_any}}
 use Rattle.perf_base.specs.declared.numbers.EventNo.{EventNo}
 use Rattle.world_tables.proofs.Marked.{slot_more, slot_room}
 use Rattle.world_tables.proofs.marks.UsedSlots.insert.Goals as goal

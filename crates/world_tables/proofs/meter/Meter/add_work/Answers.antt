@@ -1,10 +1,8 @@
 use Rattle.std.proofs.Common.{◌+◌, sym, ap, subst, ◌∙◌}
 use Rattle.perf_base.specs.declared.lines.Work.{Work}
 use Rattle.stage_spec.specs.Shares.{counted_by}
-use Rattle.world_spec.specs.Kept.{AreSmallTotals}
-use Rattle.world_spec.specs.Metering.{add_hits}
-use Rattle.world_tables.specs.Meters.{Metered, total_of}
-use Rattle.world_tables.proofs.Tallies.{total-gains, user-worked, kernel-worked, user-fits, kernel-fits}
+use Rattle.world_spec.specs.{Kept.{AreSmallTotals}, Metering.{add_hits}}
+use Rattle.world_tables.{specs.Meters.{Metered, total_of}, proofs.Tallies.{total-gains, user-worked, kernel-worked, user-fits, kernel-fits}}
 use Rattle.world_tables.proofs.meter.Meter.add_work.Goals as goal
 
 pub add_to_each-requires-clause-fits : goal.add_to_each-requires-clause-fits

@@ -1,8 +1,6 @@
-use Rattle.std.proofs.Common.{arith, ◌≡◌, ℕ, ap, ◌∙◌, List, take, map, None, slice_index}
-use Rattle.std.proofs.lemmas.List.{take_all}
+use Rattle.std.proofs.{Common.{arith, ◌≡◌, ℕ, ap, ◌∙◌, List, take, map, None, slice_index}, lemmas.List.{take_all}}
 use Rattle.counter_match.specs.Seating.{empty_seating}
-use Rattle.world_tables.specs.Places.{places}
-use Rattle.world_tables.proofs.Parts.{idle-made}
+use Rattle.world_tables.{specs.Places.{places}, proofs.Parts.{idle-made}}
 use Rattle.world_tables.proofs.processors.Processors.new.Goals as goal
 
 pub returns-clause-idle : goal.returns-clause-idle

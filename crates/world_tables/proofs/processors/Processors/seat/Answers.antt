@@ -1,8 +1,6 @@
 use Rattle.std.proofs.Common.{◌≡◌, sym, ap, ◌∙◌, ◌++◌, subst, OnOk, slice_set, slice_index_or, map}
-use Rattle.stage_spec.specs.Fits.{IsAssignment}
-use Rattle.stage_spec.specs.Tight.{masks_of}
-use Rattle.world_tables.specs.Places.{Place, places, no_seats}
-use Rattle.world_tables.proofs.Parts.{put-seats, seats-at, part-now, places-low}
+use Rattle.stage_spec.specs.{Fits.{IsAssignment}, Tight.{masks_of}}
+use Rattle.world_tables.{specs.Places.{Place, places, no_seats}, proofs.Parts.{put-seats, seats-at, part-now, places-low}}
 use Rattle.world_tables.proofs.processors.Processors.seat.Goals as goal
 
 pub returns-clause-rest : goal.returns-clause-rest
