@@ -211,9 +211,9 @@ fn with_turns(world: &World, cpu: CpuNo, into: &mut Brief)
 }
 
 /// Makes a brief that of a processor after a line's own change. A tick turns both flexible lists; whether a group waits
-/// is told by where it stands, so each processor must stand as `resched` leaves it. A switch brings the groups of the
-/// task that it names, 0 to 63, whether or not it would be refused now; after a switch to none and after an exit there
-/// are no groups of a task. Other lines leave the brief as it is.
+/// follows from where it stands, so this is the brief of a tick where each processor stands as `resched` leaves it. A
+/// switch brings the groups of the task that it names, 0 to 63, whether or not it would be refused now; after a switch
+/// to none and after an exit there are no groups of a task. Other lines leave the brief as it is.
 pub fn after(world: &World, cpu: CpuNo, line: &CpuLine, into: &mut Brief)
     requires cpu { cpu.0 < length world.now.quiet.running }
     requires task { (t : Task) → line.now ≡ cpu_line.Switch (Some t) → t.0 < 64 }

@@ -5,8 +5,8 @@ use Rattle.perf_base.specs.{declared.{acts.Act.{Act}, numbers.RingNo.{RingNo}}, 
 use Rattle.ring_spec.specs.{Account.{is_sample, losses_in}, Rings.{account_in, is_to}, Sending.{sent_by_steps}}
 use Rattle.stage_spec.specs.{Hardware.{hardware_of}, History.{history, opening_stage}}
 
--- Over an order of a script the records that are sent to a ring are the samples written on it and those that it lost,
--- and LOST records state those lost or they are pending.
+-- Over an order of a script as many records are sent to a ring as samples are written on it and records lost; and of
+-- those lost as many are stated by LOST records or pending.
 pub record IsConserved (s : Scripted) (order : List Act) (ring : RingNo × ℕ) : Type 0 where
   pub sent : count_by (is_to ring.0) (sent_by_steps (hardware_of s) (opening_stage s) (history s order))
       ≡ count_by is_sample (account_in s order ring).written + length (account_in s order ring).lost

@@ -24,7 +24,7 @@ with_lines turns = filter (λ turn. nat_lt 0 turn.1) turns
 abbrev pub workers_below : Scripted → ℕ → List (Actor × ℕ)
 workers_below s n = with_lines (map (λ place. (actor_at place, count_of s (actor_at place))) (numbers_below n))
 
--- the workers of a run of a script: 8 processors and 4 tools are there at most
+-- the workers of a run of a script: at most 8 processors and 4 tools
 abbrev pub workers_of : Scripted → List (Actor × ℕ)
 workers_of s = workers_below s 12
 

@@ -60,8 +60,8 @@ impl Model for Book {
 impl Book {
     /// A book whose lines are all still to be done, of a script each of whose processors is of a PMU, of a weight of at
     /// most 65,536 and with at most 4,194,304 acts in its order, and of the ends that send of the script's rings, which
-    /// are new. It takes all memory that any run of the script needs, and fails only where there is not so much; then
-    /// script and ends are gone.
+    /// are new. It takes all memory that the book and its machine will need, and fails only where there is not so much;
+    /// then script and ends are gone. A run by threads needs sheets too, and a watched one a page.
     pub fn new(alloc: Global, script: Script, outs: Outs) -> Result<Book, NoMemory>
         requires covered { IsCovered script }
         requires light { weight script ≤ 65536 }

@@ -2,8 +2,8 @@
 
 ghost use Rattle.perf_book.specs.Conserved.{ConservedLaw};
 
-/// Over any order of a script, the records that are sent to a ring are the samples that are written on it and those
-/// that it lost; and LOST records state those lost, or they are pending.
+/// Over any order of a script, as many records are sent to a ring as samples are written on it and records lost; and of
+/// those lost as many are stated by LOST records or pending.
 pub fn records_are_conserved()
     ensures { ConservedLaw }
 {}

@@ -1,5 +1,6 @@
-//! Replays or runs a script of tasks, processor work and counter commands. It collects the words, makes the standard
-//! streams, calls `perf_main`, and ends with the answer's number.
+//! Replays, runs or tabulates a script of tasks, processor work and counter commands, makes one, or says what an
+//! attribute asks for. It collects the words, makes the standard streams, calls `perf_main`, and ends with the answer's
+//! number.
 #![tactic(auto)]
 
 ghost use Rattle.std.specs.Prelude.{◌≡◌, ◌⊎◌, IfErr};

@@ -259,7 +259,7 @@ struct Watched {
     fell: bool,
 }
 
-// The count that a read told, if it told one.
+// The count that a read gave, if it gave one.
 fn count_of(answer: &Answer<Reply>) -> Option<u64> {
     match answer {
         Answer::Done(Reply::Read(words)) => words.as_slice().first().copied(),

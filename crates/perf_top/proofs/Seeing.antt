@@ -3,8 +3,11 @@ use Rattle.std.specs.Prelude.{◌≡◌, ℕ, ◌+◌, ◌-◌, List, [], ◌∷
 use Rattle.std.proofs.{Common.{arith, ap, get_or, refl, subst, sym, ◌∙◌, append-nil}, lemmas.List.{length-append, Elements.{Contains-append_left}}}
 use Rattle.std.proofs.lemmas.Option.{none-some, same_Some, slice_get-get_or}
 use mathlib.Core.List.{IsPrefix}
+use Rattle.perf_base.specs.{declared.{acts.Act.{Act}, numbers.EventNo.{EventNo}}, Scripts.{Scripted}}
 use Rattle.user_page.specs.{declared.look.Look.{Look}, Looks.{last_look}}
-use Rattle.perf_book.specs.Watching.{IsSeenOf}
+use Rattle.report_spec.specs.{Laws.{RingsLaw}, Published.{published_looks}}
+use Rattle.run_laws.specs.Growing.{AreLooks}
+use Rattle.perf_book.{specs.Watching.{IsSeenOf}, proofs.Watching.{rings-add}}
 
 no-more : (rest : List Look) → length rest ≡ 0 → rest ≡ []
 no-more [] none = refl
@@ -23,6 +26,13 @@ last-in (y ∷ looks) x e =
     let place : ℕ = length (y ∷ looks) - 1 in
     let there : last_look (y ∷ looks) ≡ Some (get_or (y ∷ looks) place x) = slice_get-get_or (y ∷ looks) place x (omega arith) in
     (place, omega arith, same_Some (get_or (y ∷ looks) place x) x (sym there ∙ e))
+
+-- looks at rings behind a run publish nothing more
+pub published-after : RingsLaw → (s after : Scripted) (order looks whole : List Act) (e f : EventNo) (published : List Look)
+    → published ≡ published_looks s order e → e ≡ f → AreLooks 0 order looks → after ≡ s → whole ≡ order ++ looks → published ≡ published_looks after whole f
+published-after add-none s after order looks whole e f published is event h same extended =
+    is ∙ (ap (λ (x : EventNo). published_looks s order x) event
+    ∙ (sym (rings-add add-none s order looks 0 order f h) ∙ λ i. published_looks (sym same i) (sym extended i) f))
 
 -- so is one that a watcher saw
 pub seen-in : (before published : List Look) (x : Look) → IsSeenOf before published x → Contains published x

@@ -30,17 +30,11 @@ OneAskedLaw = (words : List (List ℕ)) (a b : Asked) → Asks words a → Asks 
 abbrev pub AreKnown : List (List ℕ) → Type 0
 AreKnown words = (a : Asked) × Asks words a
 
--- A script is read, and its own order done.
+-- A script is read, and its own order done. Any other script that is read is run by threads.
 abbrev pub DoesOrder : Asked → Type 0
 DoesOrder asked.Replay = ⊤
 DoesOrder asked.Stat = ⊤
 DoesOrder a = ⊥
-
--- A script is run by threads.
-abbrev pub StartsThreads : Asked → Type 0
-StartsThreads asked.Run = ⊤
-StartsThreads (asked.Watch w) = ⊤
-StartsThreads a = ⊥
 
 -- A script is read.
 abbrev pub ReadsScript : Asked → Type 0

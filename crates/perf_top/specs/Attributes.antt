@@ -1,4 +1,4 @@
--- What is written of the bytes of a struct perf_event_attr (perf_event_open(2)). The line is this project's own profile.
+-- What is written of bytes of a struct perf_event_attr (perf_event_open(2)). The line is this project's own profile.
 use Rattle.std.specs.{Prelude.{◌≡◌, ◌⊎◌, ℕ, List, [], ◌∷◌, ◌++◌, Some, codes, decimal}, List.{join_with_byte}}
 use Rattle.attr_bytes.specs.{declared.{raw.RawAttr.{RawAttr}, fault.AttrFault.{AttrFault}}, Faults.{fault_of, word_of}}
 use Rattle.attr_bytes.specs.Standing as standing

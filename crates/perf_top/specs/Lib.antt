@@ -2,4 +2,3 @@ pub mod Asking
 pub mod Attributes
 pub mod Notes
 pub mod Outcome
-pub mod Seeing

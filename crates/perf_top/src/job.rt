@@ -8,7 +8,7 @@ ghost use Rattle.stage_spec.specs.Order.{IsComplete};
 ghost use Rattle.ring_spec.specs.Rings.{IsLawfulOrder};
 ghost use Rattle.make_spec.specs.Rounds.{script_of_rounds};
 ghost use Rattle.stat_rows.specs.Rows.{rows_of};
-ghost use Rattle.perf_top.specs.Asking.{DoesOrder, StartsThreads};
+ghost use Rattle.perf_top.specs.Asking.{DoesOrder, ReadsScript};
 ghost use Rattle.perf_top.specs.Outcome.{Gave, IsEnding, IsGiven, IsRefusal};
 
 use crate::asked::{Asked, Rounds};
@@ -203,7 +203,7 @@ impl Job {
     /// it: then memory ran out, the source failed, or what it gave is too long or no script, or a script whose own
     /// order is not complete, where that is to be done.
     pub fn reserve<S: Source>(alloc: Global, asked: Asked, source: &mut S) -> Result<Job, Status>
-        requires alone { StartsThreads asked → ⊥ }
+        requires alone { ReadsScript asked → DoesOrder asked }
         ensures count { S.shows.faults source.old ≤ S.shows.faults source.new }
         ensures ok { IfOk result (λ job. (job.0 ≡ asked) × IsGiven S.shows.left asked source.old source.new job.1) }
         ensures refused { IfErr result (λ status. IsRefusal S.shows asked status source.old source.new) }

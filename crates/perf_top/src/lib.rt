@@ -1,12 +1,12 @@
-//! The top call: it reads a script to its end, does its order, and writes the report, or the table of what its events
-//! have counted; or it makes a script and writes what its report sums up to, or the script itself; or it writes what
-//! the bytes of an attribute say. Its contract speaks of the bytes that the source had left and of those that the sink
-//! and the notes hold. It serves the program.
+//! The top call: it reads a script to its end, does its order, or runs it by threads, with or without a watcher, and
+//! writes the report, or the table of what its events have counted; or it makes a script and writes what its report
+//! sums up to, or the script itself; or it writes what the bytes of an attribute say. Its contract speaks of the bytes
+//! that the source had left and of those that the sink and the notes hold. It serves the program.
 #![tactic(auto)]
 
 ghost use Rattle.std.specs.Prelude.{◌≡◌, ◌⊎◌, ◌↔◌, ◌≤◌, map, string_bytes};
 ghost use Rattle.perf_io.specs.Outside.{Rose};
-ghost use Rattle.perf_top.specs.Asking.{AreKnown, Asks, StartsThreads};
+ghost use Rattle.perf_top.specs.Asking.{AreKnown, Asks, DoesOrder, ReadsScript};
 ghost use Rattle.perf_top.specs.Outcome.{CanBeDone, IsAnswer, IsDone, IsNoted};
 
 mod asked;
@@ -53,7 +53,7 @@ pub fn answer_alone<S: Source, K: Sink>(
     source: &mut S,
     sink: &mut K,
 ) -> Status
-    requires alone { StartsThreads asked → ⊥ }
+    requires alone { ReadsScript asked → DoesOrder asked }
     ensures counts { (S.shows.faults source.old ≤ S.shows.faults source.new) × (K.shows.faults sink.old ≤ K.shows.faults sink.new) }
     ensures answer { IsAnswer S.shows K.shows asked result source.old source.new sink.old sink.new }
 {
@@ -148,8 +148,7 @@ fn noted<N: Sink>(notes: &mut N, status: Status) -> Status
 /// before the first act: where it runs out, nothing was read, or the whole text, and nothing was written.
 ///
 /// Words ask for at most one thing (`words_ask_one_thing`), and on each ring of a report records are conserved
-/// (`perf_book::records_are_conserved`). It goes by `answer_alone` for all but `run` and
-/// `watch`.
+/// (`perf_book::records_are_conserved`). It goes by `answer_alone` for all but `run` and `watch`.
 pub fn perf_main<R: Threads + Wait + Sync, S: Source, K: Sink, N: Sink, G: Gate + Sync>(
     rt: &R,
     alloc: Global,

@@ -44,8 +44,8 @@ impl BadLook {
     }
 }
 
-/// Takes all memory that a run of a script needs: a ring's reader has room for 18 words for each unit of the script's
-/// weight.
+/// Takes all memory that a replay of a script needs: a ring's reader has room for 18 words for each unit of the script's
+/// weight. A run by threads needs sheets too, and a watched one a page.
 fn take_parts(alloc: Global, script: Script) -> Result<(Rings, Ins, Book), NoMemory>
     requires covered { IsCovered script }
     requires light { weight script ≤ 65536 }
@@ -120,7 +120,7 @@ fn finish_book(rings: Rings, ins: Ins, book: Book) -> Ended
     book.finish(rings, ins)
 }
 
-/// All that a run of a script needs, taken before its first act. Contracts see the script.
+/// All that a replay of a script needs, taken before its first act. Contracts see the script.
 #[derive(Drop)]
 pub struct Ready {
     pub rings: Rings,
@@ -146,7 +146,7 @@ impl Model for Ready {
 }
 
 impl Ready {
-    /// Takes all memory that a run of a script needs.
+    /// Takes all memory that a replay of a script needs. A run by threads needs sheets too, and a watched one a page.
     pub fn new(alloc: Global, script: Script) -> Result<Ready, NoMemory>
         requires covered { IsCovered script }
         requires light { weight script ≤ 65536 }

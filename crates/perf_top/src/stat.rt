@@ -1,6 +1,6 @@
 //! The table of what the events of a script have counted, once its order was done.
 
-ghost use Rattle.std.specs.Prelude.{◌≡◌, ◌<◌, ◌≤◌, ◌^◌, [], All, vec_capacity, vec_len};
+ghost use Rattle.std.specs.Prelude.{◌≡◌, ◌<◌, ◌≤◌, ◌^◌, [], All, IfOk, vec_capacity, vec_len};
 ghost use Rattle.ring_spec.specs.Rings.{IsLawfulOrder};
 ghost use Rattle.stat_rows.specs.Rows.{rows_of};
 
@@ -26,7 +26,9 @@ pub struct Rows {
 
 impl Rows {
     /// Room for one row for each slot.
-    pub fn new(alloc: Global) -> Result<Rows, NoMemory> {
+    pub fn new(alloc: Global) -> Result<Rows, NoMemory>
+        ensures { IfOk result (λ room. (room.rows.items ≡ []) × (256 ≤ vec_capacity room.rows)) }
+    {
         Ok(Rows {
             rows: Vec::with_capacity(alloc, MOST_ROWS)?,
         })

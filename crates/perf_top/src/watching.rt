@@ -1,6 +1,6 @@
 //! Running a script by threads, with a watcher beside them.
 
-ghost use Rattle.std.specs.Prelude.{◌≡◌, ℕ, ◌*◌, ◌≤◌, [], IfErr, IfOk, Some, length, slice_get};
+ghost use Rattle.std.specs.Prelude.{◌≡◌, ℕ, ◌*◌, ◌≤◌, [], Contains, IfErr, IfOk, Some, length, slice_get};
 ghost use Rattle.perf_base.specs.Scripts.{IsCovered};
 ghost use Rattle.perf_base.specs.Weight.{weight};
 ghost use Rattle.user_page.specs.Looks.{last_look, new_watcher, new_writer};
@@ -10,7 +10,6 @@ ghost use Rattle.work_account.specs.Ends.{AreTogether};
 ghost use Rattle.machine.specs.Readers.{AreFollowing};
 ghost use Rattle.perf_book.specs.Ending.{IsEnd};
 ghost use Rattle.perf_top.specs.Outcome.{IsEnding, IsGiven, IsRefusal, IsRun};
-ghost use Rattle.perf_top.specs.Seeing.{IsSeenIn};
 
 use crate::asked::{Asked, Watching};
 use crate::load::load;
@@ -89,7 +88,8 @@ fn watch_book<R: Threads + Wait + Sync, G: Gate + Sync>(
     ensures script { result.ended.script ≡ book.script }
     ensures ended { IsEnd result.ended }
     ensures run { IsRun result.ended.script result.ended.order }
-    ensures looks { IsSeenIn (published_looks result.ended.script result.ended.order (record { 0 = watching.0 })) result.look result.last }
+    ensures seen { Contains (published_looks result.ended.script result.ended.order (record { 0 = watching.0 })) result.look }
+    ensures last { last_look (published_looks result.ended.script result.ended.order (record { 0 = watching.0 })) ≡ Some result.last }
 {
     looks_at_rings_publish_none();
     let Fresh {
@@ -125,7 +125,8 @@ fn watch_ready<R: Threads + Wait + Sync, G: Gate + Sync>(
     ensures script { result.ended.script ≡ ready }
     ensures ended { IsEnd result.ended }
     ensures run { IsRun result.ended.script result.ended.order }
-    ensures looks { IsSeenIn (published_looks result.ended.script result.ended.order (record { 0 = watching.0 })) result.look result.last }
+    ensures seen { Contains (published_looks result.ended.script result.ended.order (record { 0 = watching.0 })) result.look }
+    ensures last { last_look (published_looks result.ended.script result.ended.order (record { 0 = watching.0 })) ≡ Some result.last }
 {
     let Ready { rings, ins, book } = ready;
     watch_book::<R, G>(rt, rings, ins, book, sheets, fresh, watching, gate)

@@ -3,30 +3,23 @@
 use Rattle.std.specs.Prelude.{◌≡◌, ℕ, Bool, true, false, List, [], ◌∷◌, ◌++◌, length, Contains, codes, decimal, Some}
 use Rattle.perf_base.specs.{declared.{numbers.EventNo.{EventNo}, acts.Act.{Act}, reply.Sums.{Sums}}, Scripts.{Scripted}}
 use Rattle.perf_base.specs.declared.acts.Act.TheVariants as act
-use Rattle.stage_spec.specs.{Hardware.{hardware_of}, Stage.{is_open}, History.{stage_after, history, opening_stage}, Families.{family_sums}}
+use Rattle.stage_spec.specs.{Stage.{is_open}, Tables.{family_in, stage_in}}
 use Rattle.user_page.specs.{declared.look.Look.{Look}, Looks.{zero_look, last_look}}
 use Rattle.report_spec.specs.Report.{numbers_text}
 
--- whether an event is open after some acts of a script
-abbrev pub is_open_after : Scripted → List Act → EventNo → Bool
-is_open_after s acts e = is_open (stage_after (hardware_of s) (opening_stage s) (history s acts)) e
-
--- what the event has then counted with its copies
-abbrev pub sums_after : Scripted → List Act → EventNo → Sums
-sums_after s acts e = family_sums (hardware_of s) (opening_stage s) (history s acts) e
-
--- a look with these sums after so many acts, and the look at an event after some acts, looks at rings among them
+-- a look with these sums after so many acts, and the look at an event after some acts of a script, looks at rings among
+-- them: what the event has counted by then with its copies
 abbrev pub look_of : ℕ → Sums → Look
 look_of at sums = record { at = at; count = sums.count; enabled = sums.enabled; running = sums.running }
 
 abbrev pub look_after : Scripted → List Act → EventNo → Look
-look_after s acts e = look_of (length acts) (sums_after s acts e)
+look_after s acts e = look_of (length acts) (family_in s acts e)
 
 -- Whether an act publishes a look, after the acts before it. A line of a processor or of a tool does where the event is
 -- open after it. A look at a ring does not.
 abbrev pub publishes : Scripted → (before : List Act) → Act → EventNo → Bool
-publishes s before (act.Processor cpu) e = is_open_after s (before ++ act.Processor cpu ∷ []) e
-publishes s before (act.Tool tool) e = is_open_after s (before ++ act.Tool tool ∷ []) e
+publishes s before (act.Processor cpu) e = is_open (stage_in s (before ++ act.Processor cpu ∷ [])) e
+publishes s before (act.Tool tool) e = is_open (stage_in s (before ++ act.Tool tool ∷ [])) e
 publishes s before (act.Seen ring place) e = false
 
 -- what it publishes: the look after it, or none

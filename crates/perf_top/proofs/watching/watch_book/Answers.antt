@@ -1,12 +1,12 @@
-use Rattle.std.{specs.Prelude.{◌≡◌, ℕ, ◌*◌, All, List}, proofs.Common.{ap, sym, subst, ◌∙◌}}
-use Rattle.perf_base.specs.{declared.numbers.{EventNo.{EventNo}, RingNo.{RingNo}}, Scripts.{Scripted}, Weight.{weight}}
-use Rattle.user_page.specs.declared.look.Look.{Look}
+use Rattle.std.{specs.Prelude.{◌≡◌, ℕ, ◌*◌, All, List, Contains, Some}, proofs.Common.{sym, subst, ◌∙◌}}
+use Rattle.perf_base.specs.{declared.numbers.RingNo.{RingNo}, Scripts.{Scripted}, Weight.{weight}}
+use Rattle.user_page.specs.{declared.look.Look.{Look}, Looks.{last_look}}
 use Rattle.machine.proofs.Behind.{following-readers}
-use Rattle.perf_book.{specs.{Book.{Booked}, Running.{IsRead}}, proofs.Watching.{rings-add}}
-use Rattle.report_spec.specs.{Answers.{IsRunShaped}, Published.{published_looks}}
+use Rattle.perf_book.specs.{Book.{Booked}, Running.{IsRead}}
+use Rattle.report_spec.specs.Answers.{IsRunShaped}
 use Rattle.run_laws.proofs.{Lines.{complete-looks}, Shapes.{shaped-looks}}
 use Rattle.stage_spec.specs.Order.{IsComplete}
-use Rattle.perf_top.{specs.Seeing.{IsSeenIn}, proofs.{Parts.{readers-parts}, Seeing.{seen-in}}}
+use Rattle.perf_top.proofs.{Parts.{readers-parts}, Seeing.{published-after, seen-in}}
 use Rattle.perf_top.proofs.watching.watch_book.Goals as goal
 
 pub run_watched_with-watched-requires-clause-readers : goal.run_watched_with-watched-requires-clause-readers
@@ -28,14 +28,20 @@ returns-clause-run g c =
           (subst (λ (s : Scripted). All (λ (r : RingNo × ℕ). IsRead s c.args.ins w.result.ins r.0) s.rings) same w.ensures.read.1) c.finish.ensures.parts;
     }
 
-pub returns-clause-looks : goal.returns-clause-looks
-returns-clause-looks g c =
+pub returns-clause-seen : goal.returns-clause-seen
+returns-clause-seen g c =
     let w = c.run_watched_with-watched in
     let b : Booked = w.result.book in
-    let event : EventNo = record { 0 = c.args.watching.0 } in
     let looks = c.finish.ensures.order in
-    let all : w.result.writer.published ≡ published_looks c.finish.result.script c.finish.result.order event =
-    w.ensures.published ∙ (ap (λ (e : EventNo). published_looks b.script b.order e) c.event.ensures
-    ∙ (sym (rings-add c.looks_at_rings_publish_none.ensures b.script b.order looks.0 0 b.order event looks.1)
-    ∙ λ i. published_looks (sym c.finish.ensures.script i) (sym looks.2 i) event)) in
-    subst (λ (l : List Look). IsSeenIn l w.result.look c.last_published-last.result) all (seen-in _ w.result.writer.published w.result.look w.ensures.look, c.last_published-last.ensures)
+    subst (λ (l : List Look). Contains l w.result.look)
+    (published-after c.looks_at_rings_publish_none.ensures b.script c.finish.result.script b.order looks.0 c.finish.result.order _ _ _ w.ensures.published c.event.ensures looks.1 c.finish.ensures.script looks.2)
+    (seen-in _ w.result.writer.published w.result.look w.ensures.look)
+
+pub returns-clause-last : goal.returns-clause-last
+returns-clause-last g c =
+    let w = c.run_watched_with-watched in
+    let b : Booked = w.result.book in
+    let looks = c.finish.ensures.order in
+    subst (λ (l : List Look). last_look l ≡ Some c.last_published-last.result)
+    (published-after c.looks_at_rings_publish_none.ensures b.script c.finish.result.script b.order looks.0 c.finish.result.order _ _ _ w.ensures.published c.event.ensures looks.1 c.finish.ensures.script looks.2)
+    c.last_published-last.ensures

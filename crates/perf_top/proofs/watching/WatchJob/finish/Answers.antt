@@ -24,8 +24,8 @@ returns-clause-ending g c =
       record {
         seen = seen.result.look;
         final = seen.result.last;
-        published = seen.ensures.looks.0;
-        last = seen.ensures.looks.1;
+        published = seen.ensures.seen;
+        last = seen.ensures.last;
         written = ap (λ (v : EventNo). watch_line v seen.result.look ++ final_line v seen.result.last) c.event-event.ensures;
       },
       refl,
