@@ -20,7 +20,7 @@ one of 100 rounds, so a few thousand runs are enough. Under `run` the report dep
 has three orders, and any front of one of their reports will do. At 7 and 4,096 bytes one tool has all lines there, and
 the report is known.
 
-The flush of standard output is no call of the system, so it can't fail here; the tests of perf_top let it fail.
+The flush of standard output is no call of the system, so it can't fail here; top_tests lets it fail.
 
 Prints a table: the words, the piece, and how many calls of each stream there were; each failed in a run of its
 own. Ends with 1 where a run ended otherwise.

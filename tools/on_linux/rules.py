@@ -61,6 +61,7 @@ ALL = [value for name, value in list(globals().items()) if isinstance(value, str
 # Rules of the page that are part of another one, under which a comparison stands: that one, and the rows of docs/LINUX.md
 # that are about the part.
 PARTS = {
+    "`disabled`: an event is off until it is enabled": (ENABLE, ()),
     "`group_fd`: the leader leads a group, of the same task and processor": (
         OPENS,
         ("leader-before-task", "leader-before-place", "leader-of-exited-task"),

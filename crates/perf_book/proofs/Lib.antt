@@ -1,7 +1,6 @@
 pub mod Answering
 pub mod Conserved
 pub mod Declared
-pub mod LateOpens
 pub mod Left
 pub mod Loads
 pub mod Looked

@@ -3,7 +3,6 @@ pub mod Codes
 pub mod Conserved
 pub mod Ending
 pub mod Keeping
-pub mod LateOpen
 pub mod Plans
 pub mod Running
 pub mod Sheets

@@ -24,12 +24,3 @@ pub use machine::OrderFault;
 pub use running::{NotRun, run_all, run_with};
 pub use sheets::Sheets;
 pub use watch_run::{NotWatched, Watch, Watched, run_watched, run_watched_with};
-
-#[cfg(test)]
-mod late_open_tests;
-#[cfg(test)]
-mod planning_tests;
-#[cfg(test)]
-mod tests;
-#[cfg(test)]
-mod watch_tests;

@@ -11,25 +11,17 @@ ghost use Rattle.perf_top.specs.Outcome.{CanBeDone, IsAnswer, IsDone, IsNoted};
 
 mod asked;
 mod attr;
-#[cfg(test)]
-mod calling;
 mod job;
 mod line;
 mod load;
 mod make;
-#[cfg(test)]
-mod make_tests;
 mod notes;
 mod ready;
 mod run;
 mod running;
 mod stat;
 mod status;
-#[cfg(test)]
-mod tests;
 mod text;
-#[cfg(test)]
-mod thread_tests;
 mod watching;
 
 pub use asked::{Asked, Rounds, Watching, asked_by, words_ask_one_thing};
