@@ -1,17 +1,12 @@
 -- What a room and the sink behind it hold together, as bytes are sent and added.
 use Rattle.std.proofs.Common.{◌≡◌, ℕ, ◌≤◌, List, [], ◌++◌, length, take, drop, Option, Some, None, arith, refl, sym, ap, subst, ◌∙◌, append_assoc, length-append}
 use Rattle.std.proofs.lemmas.List.{append-nil, take-append-le, take-append-drop, length-take-le, take-take, append_cancel_left, length-take}
-use Rattle.std.proofs.Math.Seq.{take-append_seam, take-length}
+use Rattle.std.proofs.Math.Seq.{take-append_seam}
 use Rattle.perf_io.specs.Outside.{Adds}
 use Rattle.buffered_sink.specs.Rooms.{with_room, Grew}
 
 Some-injective : (x y : List ℕ) → Some x ≡ Some y → x ≡ y
 Some-injective x y e = grind (arith, e)
-
--- no bytes are more than those of the start
-pub Grew-start : (start : Option (List ℕ)) → Grew start start
-Grew-start None = refl
-Grew-start (Some s) = ap Some (take-length s)
 
 -- a front stays a front where bytes are added
 pub Grew-more : (start a b : Option (List ℕ)) (x : List ℕ) → Grew start a → Adds a b x → Grew start b
@@ -21,20 +16,6 @@ Grew-more (Some s) (Some h) None x g p = absurd p
 Grew-more (Some s) (Some h) (Some l) x g p =
     let e : take (length s) h ≡ s = Some-injective _ _ g in
     ap Some (rw p (take-append-le (length s) h x (omega (arith, ap length e, length-take (length s) h)) ∙ e))
-
--- what is sent leaves the room and stands in the sink
-pub with_room-sent : (start a b : Option (List ℕ)) (room : List ℕ) (n : ℕ) → Grew start a → Adds a b (take n room) → with_room start b (drop n room) ≡ with_room start a room
-with_room-sent None a b room n g p = refl
-with_room-sent (Some s) None b room n g p = absurd (grind (arith, g))
-with_room-sent (Some s) (Some h) None room n g p = absurd p
-with_room-sent (Some s) (Some h) (Some l) room n g p =
-    ap Some (rw p (append_assoc h (take n room) (drop n room) ∙ ap (λ t. h ++ t) (take-append-drop n room)))
-
--- what is added to the room is added to both together
-pub with_room-added : (start a : Option (List ℕ)) (room x : List ℕ) → Adds (with_room start a room) (with_room start a (room ++ x)) x
-with_room-added None a room x = tt
-with_room-added (Some s) None room x = tt
-with_room-added (Some s) (Some h) room x = sym (append_assoc h room x)
 
 -- with an empty room at both ends, what was added to both together was added to the sink
 pub added_behind : (start a : Option (List ℕ)) (text : List ℕ) → Adds (with_room start start []) (with_room start a []) text → Grew start a → Adds start a text

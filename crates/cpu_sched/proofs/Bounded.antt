@@ -205,18 +205,6 @@ present-sound w cpu kept some most a b c d =
       once = once;
     }
 
--- no brief
-pub nothing-sound : IsBrief (record { counters = 1; passes = [] ∷ [] ∷ [] ∷ [] ∷ [] })
-nothing-sound = record {
-  four = refl;
-  some = omega arith;
-  most = omega arith;
-  groups = λ i g low. absurd (omega (arith, low));
-  few = omega arith;
-  events = omega arith;
-  once = λ e. omega arith;
-}
-
 -- the groups of a list of leaders, with one leader in the midst
 split-at : (keys : List Key) (i : ℕ) (d : Key) → i < length keys → (rest : List Key) × (keys ≡ take i keys ++ (slice_index_or keys i d ∷ rest))
 split-at [] i d low = absurd (omega (arith, low))

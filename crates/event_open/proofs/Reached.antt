@@ -1,8 +1,8 @@
 -- The set of the processors that have a context, as far as they were looked at.
 use Rattle.std.specs.{Prelude.{◌≡◌, ◌≢◌, ℕ, ◌+◌, ◌^◌, ◌<◌, ◌↔◌, ◌&&◌, nat_lt, Bool, true, false, bit_or, if◌then◌else◌}, Int.{bit_at}}
-use Rattle.std.proofs.{Common.{arith, refl, sym, ap, ◌∙◌, inl, inr}, lemmas.Bool.{cases_eq, and_parts, ltb-true, Decides.{nat_tests}}}
-use Rattle.std.proofs.lemmas.Nat.Bits.{bit_at_or, bit_at-zero, bit_at-pow_same, bit_at-pow_other}
-use Rattle.perf_base.specs.{Cpus.{HasCpu}, declared.{numbers.{CpuNo.{CpuNo}, CpuSet.{CpuSet}}, standing.Context.{Context}}}
+use Rattle.std.proofs.{Common.{arith, refl, sym, ap, ◌∙◌, inl, inr}, lemmas.Bool.{cases_eq, Decides.{nat_tests}}}
+use Rattle.std.proofs.lemmas.Nat.Bits.{bit_at_or, bit_at-pow_same, bit_at-pow_other}
+use Rattle.perf_base.specs.{declared.{numbers.{CpuNo.{CpuNo}, CpuSet.{CpuSet}}, standing.Context.{Context}}}
 use Rattle.stage_spec.specs.Stage.{Stage}
 use Rattle.stage_laws.specs.Narrowing.{has_context}
 
@@ -12,11 +12,6 @@ as_bit b = if b then 1 else 0
 -- of the first n processors those that have the context
 abbrev pub AreThose : Stage → Context → ℕ → CpuSet → Type 0
 AreThose s c n set = (cpu : CpuNo) → bit_at set.0 cpu.0 ≡ as_bit (nat_lt cpu.0 n && has_context s cpu c)
-
-pub none-those : (s : Stage) (c : Context) (set : CpuSet) → set.0 ≡ 0 → AreThose s c 0 set
-none-those s c set empty cpu =
-    let far : nat_lt cpu.0 0 ≡ false = grind (arith, nat_tests) in
-    ap (λ n. bit_at n cpu.0) empty ∙ (bit_at-zero cpu.0 ∙ sym (ap (λ b. as_bit (b && has_context s cpu c)) far))
 
 bit-same : (b : Bool) (x n : ℕ) → bit_at x n ≡ 0 → bit_at (if b then bit_or x (2 ^ n) else x) n ≡ as_bit b
 bit-same true x n h = bit_at_or x (2 ^ n) n ∙ omega (arith, h, bit_at-pow_same n)
@@ -39,15 +34,3 @@ more-those s c n set now b h has is cpu = elim (cases_eq cpu.0 n) [
       let lasts : nat_lt cpu.0 (n + 1) ≡ nat_lt cpu.0 n = grind (arith, nat_tests, apart) in
       ap (λ x. bit_at x cpu.0) is ∙ (bit-other b set.0 n cpu.0 apart ∙ (h cpu ∙ sym (ap (λ t. as_bit (t && has_context s cpu c)) lasts)))
 ]
-
-bit-one : (b : Bool) → as_bit b ≡ 1 → b ≡ true
-bit-one true h = refl
-bit-one false h = absurd (omega (arith, h))
-
-pub those-are : (s : Stage) (c : Context) (n : ℕ) (set : CpuSet) → AreThose s c n set → (cpu : CpuNo) → HasCpu set cpu ↔ ((cpu.0 < n) × (has_context s cpu c ≡ true))
-those-are s c n set h cpu = (
-  λ has. let parts = and_parts (nat_lt cpu.0 n) (has_context s cpu c) (bit-one (nat_lt cpu.0 n && has_context s cpu c) (sym (h cpu) ∙ has)) in
-      (ltb-true cpu.0 n parts.0, parts.1),
-  λ both. let low : nat_lt cpu.0 n ≡ true = grind (arith, nat_tests, both.0) in
-      h cpu ∙ (ap (λ t. as_bit (t && has_context s cpu c)) low ∙ ap as_bit both.1),
-)

@@ -1,20 +1,20 @@
 -- That a fork which is not refused may copy both lists of its parent.
-use Rattle.std.specs.Prelude.{◌≡◌, ℕ, suc, zero, ◌+◌, ◌^◌, ◌<◌, ◌≤◌, ◌==◌, nat_lt, Bool, true, false, not, ◌&&◌, All, List, [], ◌∷◌, length, map, Some, None, slice_index_or, if◌then◌else◌}
+use Rattle.std.specs.Prelude.{◌≡◌, ℕ, suc, zero, ◌+◌, ◌^◌, ◌<◌, ◌≤◌, ◌==◌, nat_lt, Bool, true, false, not, ◌&&◌, All, List, [], ◌∷◌, length, map, Some, None, if◌then◌else◌}
 use Rattle.std.proofs.{Common.{arith, refl, sym, ap, subst, ◌∙◌, inl, inr}, lemmas.Bool.{cases_Bool, false≢true, Decides.{nat_tests}}}
 use Rattle.std.proofs.{lemmas.List.{length-map, Concat.{length-flat_map}}, Math.ListN.{get_or-map}}
 use Rattle.perf_base.specs.declared.numbers.{CpuNo.{CpuNo}, Key.{Key}, TaskNo.{TaskNo}}
 use Rattle.perf_base.specs.declared.reasons.Reason.TheVariants as reason
 use Rattle.perf_base.specs.declared.standing.Context.TheVariants as context
 use Rattle.stage_spec.specs.{Flags.{is_inherited, is_pinned}, Forks.{fork_refusal, new_copies}}
-use Rattle.stage_spec.specs.Stage.{Group, no_groups, lists_of, live_copies, place_of, task_on, is_idle, status_of, was_used, unknown_task, is_live as is_live_task}
-use Rattle.stage_spec.specs.{Verdict.{task_lists}, declared.instance.TaskState.{TaskState}}
+use Rattle.stage_spec.specs.Stage.{Group, no_groups, lists_of, live_copies, place_of, task_on, is_idle, status_of, was_used, is_live as is_live_task}
+use Rattle.stage_spec.specs.{Verdict.{task_lists}}
 use Rattle.stage_spec.specs.declared.instance.TaskState.TheVariants as state
 use Rattle.stage_laws.{specs.Sound.{IsSound, AreListed}, proofs.{RunningTasks.{live-used}, Tasks.{first-clear, rest-clear}}}
 use Rattle.stage_laws.proofs.{Totals.{total-same, sum_by-is-total}, Counts.{count-append}}
 use Rattle.world_spec.specs.{Kept.{post_at, leads, once_if, copies_in, IsKept}, StageOf.{group_at, lists_at, stage_of}}
 use Rattle.world_spec.specs.Value.{World, Leaders, no_leaders, leaders_of, is_live, entry_at, instance_at, is_key, times}
 use Rattle.world_spec.proofs.{Families.{leaders_both, leaders-at, copies-are}, Keys.{key-is, is_key-true, times-cons, once-false}}
-use Rattle.fork_inherit.specs.Copies.{copies_of, copies_of_all, inherited_members, inherited_keys, leaders_from, AreCopied, MayCopyList}
+use Rattle.fork_inherit.specs.Copies.{copies_of, copies_of_all, inherited_members, inherited_keys, leaders_from, MayCopyList}
 use Rattle.fork_inherit.proofs.{Listed.{in-list}, Room.{task-low, copies-new}}
 
 -- what a fork that is not refused says
@@ -37,15 +37,6 @@ is-free v cpu child parent on free =
       room = not-less 4096 _ (ap (λ o. nat_lt 4096 (live_copies (stage_of v) + new_copies (task_lists (stage_of v) o))) (sym on)
           ∙ first-clear reason.CopiesFull full [] (rest-clear reason.Exists exists ((reason.CopiesFull, full) ∷ []) rest));
     }
-
-never-used : (s : TaskState) → was_used s ≡ false → s ≡ state.Unknown
-never-used state.Unknown h = refl
-never-used state.Live h = absurd (false≢true (sym h))
-never-used state.Exited h = absurd (false≢true (sym h))
-
-pub is-unknown : (v w : World) (cpu : CpuNo) (child parent : TaskNo) (keys : List Key) → IsFree v cpu child parent → AreCopied child v w keys → (status_of (stage_of w) child).state ≡ state.Unknown
-is-unknown v w cpu child parent keys free f =
-    ap (λ q. (slice_index_or q.tasks child.0 unknown_task).state) f.quiet ∙ never-used (status_of (stage_of v) child).state free.fresh
 
 -- the child is not on a processor, nor is it the parent
 pub not-on : (v : World) (cpu : CpuNo) (child parent other : TaskNo) (at : CpuNo) → IsKept v.hardware v → IsFree v cpu child parent → task_on (stage_of v) at ≡ Some other → other.0 ≡ child.0 → ⊥

@@ -1,6 +1,6 @@
 -- Reading one word after the other, as a loop does.
 use Rattle.std.proofs.Common.{◌≡◌, ℕ, ◌+◌, ◌*◌, ◌-◌, ◌<◌, ◌≤◌, true, false, Bor, List, [], ◌∷◌, ◌++◌, map, length, get_or, take, drop, Option, Some, None, refl, sym, ap, ◌∙◌, append_assoc, arith, length-take, length-drop}
-use Rattle.std.{proofs.{Math.{Seq.{take-length}, ListN.{drop_of_length-le}}, lemmas.List.{append-nil, drop_more}}, specs.Str.{bytes_eq}}
+use Rattle.std.{proofs.{Math.{Seq.{take-length}}, lemmas.List.{append-nil, drop_more}}, specs.Str.{bytes_eq}}
 use Rattle.line_forms.specs.{declared.{keyword.Keyword.{Keyword}, stop.LineStop.{LineStop}}, Keyword.{looked_up}, Words.{◌>>=◌, next_of}}
 use Rattle.line_forms.specs.{Lists.{each_word, pair_of, pairs_in}, Acts.{act_in, acts_in}, Stop.{Stops}}
 use Rattle.line_forms.specs.declared.stop.LineStop.TheVariants as stop
@@ -17,9 +17,6 @@ next_cons w ws (x ∷ xs) e = sym (ap (λ (o : Option (List ℕ × List (List �
 pub next_nil : (xs : List (List ℕ)) → None ≡ next_of xs → xs ≡ []
 next_nil [] e = refl
 next_nil (x ∷ xs) e = absurd cc
-
-pub next_shorter : (w : List ℕ) (ws xs : List (List ℕ)) → Some (w, ws) ≡ next_of xs → length ws < length xs
-next_shorter w ws xs e = let n : length xs ≡ length (w ∷ ws) = ap length (next_cons w ws xs e) in omega (arith, n)
 
 regroup : {A : Type 0} (front : List A) (x : A) (read : Option (List A)) → with_front front (read >>= λ xs. Some (x ∷ xs)) ≡ with_front (front ++ x ∷ []) read
 regroup front x (Some xs) = ap Some (sym (append_assoc front (x ∷ []) xs))
@@ -99,11 +96,4 @@ pub looked_behind : (table : List (Bor (List ℕ) × Keyword)) (i : ℕ) (d : Bo
     → i < length table → bytes_eq word (get_or table i d).0.now ≡ false → looked_up (map entry_of (drop i table)) word ≡ found → looked_up (map entry_of (drop (i + 1) table)) word ≡ found
 looked_behind table i d word found l f h =
     let e : looked_up (map entry_of (drop i table)) word ≡ looked_up (map entry_of (drop (i + 1) table)) word = rw (from_here table i d l, f) refl in
-    sym e ∙ h
-
--- no entry is left
-pub looked_through : (table : List (Bor (List ℕ) × Keyword)) (i : ℕ) (word : List ℕ) (found : Option Keyword)
-    → length table ≤ i → looked_up (map entry_of (drop i table)) word ≡ found → None ≡ found
-looked_through table i word found l h =
-    let e : looked_up (map entry_of (drop i table)) word ≡ None = rw (drop_of_length-le table l) refl in
     sym e ∙ h

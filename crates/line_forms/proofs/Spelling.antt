@@ -33,10 +33,6 @@ digit_of-glyph d l = elim (cases_lt d 10) [
   | inr high ↦ let f : ltb d 10 ≡ false = le-ltb _ _ high in rw f (high_digit d high l)
 ]
 
-record IsDigit (c : ℕ) : Type 0 where
-  below : digit_of c < 16
-  glyph : digit_glyph false (digit_of c) ≡ c
-
 glyph_of : (c d : ℕ) → digit_of c ≡ d → digit_glyph false d ≡ c → digit_glyph false (digit_of c) ≡ c
 glyph_of c d e g = rw e g
 

@@ -128,16 +128,6 @@ counted-step w v x l set before now c h =
     (subst (λ t. AreCounted hw t (stage_of x) (filter (is_in set) (all_cpus (stage_of v))) before now) made
     (subst (λ h. AreCounted h (stage_of v) (stage_of x) (filter (is_in set) (all_cpus (stage_of v))) before now) c.hardware h))
 
--- a line of a processor that touches its own one takes the tests of that one, and by a sheet none where the sheet
--- serves
-pub one-unless : (served : Type 0) (hw : Hardware) (s after : Stage) (cpu : CpuNo) (before now : ℕ) → (served → now ≡ before) → ((served → ⊥) → before + length (seated hw after cpu) ≤ now)
-    → now ≤ before + 272 * tried hw s cpu → AreCountedUnless served hw s after (cpu ∷ []) before now
-one-unless served hw s after cpu before now free least most = record {
-  free = free;
-  least = λ out. omega (arith, least out, sum_by-cons (λ c. length (seated hw after c)) cpu []);
-  most = omega (arith, most, sum_by-cons (tried hw s) cpu []);
-}
-
 pub counted-by : (sheet : Option Held) (w v x : World) (cpu : CpuNo) (l : CpuLine) (before now : ℕ) → cpu.0 < length w.quiet.running → cpu_refusal (stage_of w) cpu l ≡ None
     → is_idle_line (stage_of w) cpu l ≡ false → ((other : CpuNo) → cpu_touches cpu l other ≡ (cpu.0 == other.0)) → v.hardware ≡ w.hardware → stage_of v ≡ cpu_changed w.hardware cpu l (stage_of w)
     → present_brief v cpu ≡ after_brief w cpu l → AreCountedUnless (IsServedBy sheet (present_brief v cpu)) v.hardware (stage_of v) (stage_of x) (cpu ∷ []) before now

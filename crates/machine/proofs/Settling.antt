@@ -5,12 +5,7 @@ use Rattle.std.proofs.lemmas.List.Elements.{filter-append}
 use Rattle.perf_base.specs.{Cpus.{HasCpu}, declared.numbers.{CpuNo.{CpuNo}, CpuSet.{CpuSet}}}
 use Rattle.stage_spec.specs.{Hardware.{Hardware}, Numbers.{numbers_below}, Settle.{settle, settle_each}, Stage.{Stage}}
 use Rattle.world_spec.specs.{Rescheduled.{IsRescheduled}, Value.{World, Entry, instance_at}}
-use Rattle.cpu_sched.specs.Resched.{StaysBut}
 use Rattle.machine.specs.Settled.{OnlyRescheduled, is_in}
-
--- one processor
-pub one-only : (cpu : CpuNo) (w x : World) → StaysBut cpu w x → OnlyRescheduled w x
-one-only cpu w x h = record { world = h.world; live = h.live; entries = h.entries }
 
 pub none-only : (w : World) → OnlyRescheduled w w
 none-only w = record { world = refl; live = λ k. refl; entries = λ k. refl }

@@ -7,7 +7,7 @@ use Rattle.std.proofs.lemmas.Bool.{cases_eq}
 use Rattle.perf_base.specs.declared.{numbers.{CpuNo.{CpuNo}, RingNo.{RingNo}, TaskNo.{TaskNo}, ToolNo.{ToolNo}}, attr.Kind.{Kind}}
 use Rattle.perf_base.specs.declared.lines.{PmuLine.{PmuLine}, KindLine.{KindLine}, CpuLine.{CpuLine}, ToolLine.{ToolLine}, ReaderLine.{ReaderLine}}
 use Rattle.perf_base.specs.declared.acts.Act.{Act}
-use Rattle.perf_base.specs.Scripts.{Scripted, IsScript, empty_script, lines_of_cpu, lines_of_tool, line_count, with_pmu, with_kind, with_task, with_ring, with_cpu_line, with_tool_line, with_reader, with_act, IsPmuLine, AreApart, IsKindLine, IsMaskOf, IsRingLine, HasRing, IsKind, IsCpuLine, IsToolLine, IsReaderLine, IsAct, IsStoredWork, IsStoredToolLine, IsStoredAct}
+use Rattle.perf_base.specs.Scripts.{Scripted, IsScript, empty_script, lines_of_cpu, lines_of_tool, line_count, with_pmu, with_kind, with_ring, with_cpu_line, with_tool_line, with_reader, IsPmuLine, AreApart, IsKindLine, IsMaskOf, IsRingLine, HasRing, IsKind, IsCpuLine, IsToolLine, IsReaderLine, IsAct, IsStoredWork, IsStoredToolLine, IsStoredAct}
 use Rattle.perf_base.specs.declared.attr.Kind.TheVariants as kind
 use Rattle.perf_base.specs.declared.lines.CpuLine.TheVariants as cpu_line
 use Rattle.perf_base.specs.declared.lines.ToolLine.TheVariants as tool_line
@@ -153,31 +153,6 @@ IsScript-kind s k h line once few =
       stored = record { cpu_lines = h.stored.cpu_lines; tool_lines = h.stored.tool_lines; order = h.stored.order };
     }
 
-pub IsScript-task : (s : Scripted) (t : TaskNo) → IsScript s → t.0 < 64 → All (λ u. u.0 < t.0) s.tasks → IsScript (with_task s t)
-IsScript-task s t h low rises = record {
-  cpus = h.cpus;
-  pmus = h.pmus;
-  pmus_apart = h.pmus_apart;
-  pmus_few = h.pmus_few;
-  kinds = h.kinds;
-  kinds_once = h.kinds_once;
-  kinds_few = h.kinds_few;
-  tasks = All-push (λ t. t.0 < 64) s.tasks t h.tasks low;
-  tasks_rise = all_pairs_push (λ t u. t.0 < u.0) s.tasks t h.tasks_rise rises;
-  rings = h.rings;
-  rings_rise = h.rings_rise;
-  processors = h.processors;
-  cpu_lines = h.cpu_lines;
-  idle = h.idle;
-  tools = h.tools;
-  tool_lines = h.tool_lines;
-  lines_few = h.lines_few;
-  readers = h.readers;
-  readers_rise = h.readers_rise;
-  order = h.order;
-  stored = record { cpu_lines = h.stored.cpu_lines; tool_lines = h.stored.tool_lines; order = h.stored.order };
-}
-
 IsAct-ring : (s : Scripted) (r : RingNo × ℕ) (a : Act) → IsAct s a → IsAct (with_ring s r) a
 IsAct-ring s r (act.Processor cpu) h = h
 IsAct-ring s r (act.Tool tool) h = h
@@ -307,29 +282,4 @@ IsScript-reader s r h line rises = record {
   readers_rise = all_pairs_push (λ q r. q.ring.0 < r.ring.0) s.readers r h.readers_rise rises;
   order = h.order;
   stored = record { cpu_lines = h.stored.cpu_lines; tool_lines = h.stored.tool_lines; order = h.stored.order };
-}
-
-pub IsScript-act : (s : Scripted) (a : Act) → IsScript s → IsAct s a → IsStoredAct a → IsScript (with_act s a)
-IsScript-act s a h fits stored = record {
-  cpus = h.cpus;
-  pmus = h.pmus;
-  pmus_apart = h.pmus_apart;
-  pmus_few = h.pmus_few;
-  kinds = h.kinds;
-  kinds_once = h.kinds_once;
-  kinds_few = h.kinds_few;
-  tasks = h.tasks;
-  tasks_rise = h.tasks_rise;
-  rings = h.rings;
-  rings_rise = h.rings_rise;
-  processors = h.processors;
-  cpu_lines = h.cpu_lines;
-  idle = h.idle;
-  tools = h.tools;
-  tool_lines = h.tool_lines;
-  lines_few = h.lines_few;
-  readers = h.readers;
-  readers_rise = h.readers_rise;
-  order = All-push (IsAct s) s.order a h.order fits;
-  stored = record { cpu_lines = h.stored.cpu_lines; tool_lines = h.stored.tool_lines; order = All-push IsStoredAct s.order a h.stored.order stored };
 }

@@ -1,6 +1,6 @@
 -- Sums, counts and the least of a list, entry by entry, and how large they get.
 use Rattle.std.proofs.Common.{◌≡◌, ℕ, ◌+◌, ◌*◌, ◌^◌, ◌<◌, ◌≤◌, Bool, cond, ltb, List, [], ◌∷◌, ◌++◌, length, take, get_or, All, refl, sym, ap, ◌∙◌, arith}
-use Rattle.std.proofs.{Math.Nat.{mul-le-mul, mul-le-mul_right}, lemmas.{Bool.Decides.{nat_tests}, List.{take_more, Elements.{All-weaker}}}}
+use Rattle.std.proofs.{Math.Nat.{mul-le-mul_right}, lemmas.{Bool.Decides.{nat_tests}, List.{take_more, Elements.{All-weaker}}}}
 use Rattle.std.proofs.lemmas.List.Sums.{sum_by-cons, sum_by-le, sum_by_more, sum_by_more_le, sum_by-le-sum_by, count_by-le-length, get_or-le-sum_by}
 use Rattle.std.specs.Prelude.{sum_by, count_by}
 use Rattle.perf_base.specs.{declared.lines.{CpuLine.{CpuLine}, ToolLine.{ToolLine}}, Scripts.{Scripted, IsScript, IsCpuLine}, Light.{IsLight}}
@@ -90,9 +90,6 @@ sum_few lists i sum more l few h g =
 
 pub no_weight : (s : Scripted) → least_period s ≡ 0 → 0 ≡ weight s
 no_weight s e = sym (ap (λ n. n * shares_of s (least_period s)) (no_opens s e) ∙ omega arith)
-
-pub product_fits : (opens all : ℕ) → opens ≤ 16384 → all ≤ 16384 * 16000000000 → opens * all < 2 ^ 64
-product_fits opens all h g = let p : opens * all ≤ 16384 * (16384 * 16000000000) = mul-le-mul h g in omega (arith, p)
 
 -- the lines of one processor are within their limits
 pub lines_few : (s : Scripted) (cpu : ℕ) → IsScript s → cpu < length s.cpu_lines → length (get_or s.cpu_lines cpu []) ≤ 16384

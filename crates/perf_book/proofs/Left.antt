@@ -8,8 +8,8 @@ use Rattle.perf_base.specs.declared.acts.Act.TheVariants as act
 use Rattle.perf_base.specs.declared.acts.Actor.TheVariants as actor
 use Rattle.stage_laws.proofs.Counts.{count-append}
 use Rattle.stage_spec.specs.Order.{IsComplete, done_by_cpu, done_by_tool, is_of_cpu, is_of_tool}
-use Rattle.machine.specs.Leading.{HasLine, act_of}
-use Rattle.perf_book.specs.{Book.{AreLooksOf, Booked, IsBooked}, Plans.{actor_at}}
+use Rattle.machine.specs.Leading.{HasLine}
+use Rattle.perf_book.specs.{Book.{Booked, IsBooked}, Plans.{actor_at}}
 
 -- how many lines of an actor are left behind an order
 abbrev pub lines_left : Scripted → List Act → Actor → ℕ
@@ -51,20 +51,6 @@ one-cpu cpu = grind (arith, nat_tests)
 
 one-tool : (tool : ToolNo) → count_by (is_of_tool tool) (act.Tool tool ∷ []) ≡ 1
 one-tool tool = grind (arith, nat_tests)
-
-one-fewer : (s : Scripted) (a : Actor) (order looks : List Act) → 0 < lines_left s order a → lines_left s (order ++ (looks ++ act_of a ∷ [])) a < lines_left s order a
-one-fewer s (actor.Processor cpu) order looks left =
-    omega (arith, left, count-append (is_of_cpu cpu) order (looks ++ act.Processor cpu ∷ []), count-append (is_of_cpu cpu) looks (act.Processor cpu ∷ []), one-cpu cpu)
-one-fewer s (actor.Tool tool) order looks left =
-    omega (arith, left, count-append (is_of_tool tool) order (looks ++ act.Tool tool ∷ []), count-append (is_of_tool tool) looks (act.Tool tool ∷ []), one-tool tool)
-one-fewer s (actor.Reader ring) order looks left = absurd (omega (arith, left))
-one-fewer s actor.Watcher order looks left = absurd (omega (arith, left))
-
-pub fewer-left : (x y : Booked) (a : Actor) → IsBooked x → HasLine x.script x.machine a → y.script ≡ x.script
-    → (looks : List Act) × AreLooksOf a x.order looks × (y.order ≡ x.order ++ (looks ++ act_of a ∷ [])) → lines_left y.script y.order a < lines_left x.script x.order a
-fewer-left x y a h line same more =
-    let is : lines_left y.script y.order a ≡ lines_left x.script (x.order ++ (more.0 ++ act_of a ∷ [])) a = λ i. lines_left (same i) (more.2 i) a in
-    omega (arith, is, one-fewer x.script a x.order more.0 (has-left x a h line))
 
 -- the processors and tools stand at their numbers
 cpu-at : (cpu : CpuNo) → cpu.0 < 8 → actor_at cpu.0 ≡ actor.Processor cpu

@@ -4,7 +4,7 @@ use Rattle.perf_base.specs.{declared.acts.{Act.{Act}, Actor.{Actor}}, Scripts.{S
 use Rattle.perf_base.specs.declared.acts.Act.TheVariants as act
 use Rattle.perf_base.specs.declared.acts.Actor.TheVariants as actor
 use Rattle.machine.specs.Leading.{Kept, HasLine, act_of}
-use Rattle.run_laws.proofs.Shapes.{shaped-cpu, shaped-none, shaped-tool}
+use Rattle.run_laws.proofs.Shapes.{shaped-cpu, shaped-tool}
 use Rattle.perf_book.specs.{Book.{AreLooksOf}, Running.{IsUnderWay}}
 
 -- by what an actor sees, and its line
@@ -18,7 +18,3 @@ under-way s m actor.Watcher order looks line h are = absurd line
 pub grown-under-way : (s : Scripted) (m : Kept) (a : Actor) (order grown : List Act) → HasLine s m a → IsUnderWay order
     → (looks : List Act) × AreLooksOf a order looks × (grown ≡ order ++ (looks ++ act_of a ∷ [])) → IsUnderWay grown
 grown-under-way s m a order grown line h more = subst IsUnderWay (sym more.2) (under-way s m a order more.0 line h more.1)
-
--- before the first act
-pub none-under-way : (order : List Act) → order ≡ [] → IsUnderWay order
-none-under-way order none = subst IsUnderWay (sym none) shaped-none

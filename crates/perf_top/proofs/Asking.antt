@@ -1,5 +1,5 @@
 -- What words ask for.
-use Rattle.std.specs.Prelude.{◌≡◌, ℕ, ◌+◌, ◌*◌, ◌<◌, ◌≤◌, List, [], ◌∷◌, codes, decimal, flat_map, length, MatchOption, Option, Ok, Result}
+use Rattle.std.specs.Prelude.{◌≡◌, ℕ, ◌+◌, ◌*◌, ◌<◌, ◌≤◌, List, [], ◌∷◌, codes, decimal, flat_map, length, Ok, Result}
 use Rattle.std.{specs.Str.Parse.{ParsesUnsigned}, proofs.{Common.{arith, ap, refl, subst, sym, ◌∙◌}, lemmas.Fmt.{decimal_injective, parse-decimal}}}
 use Rattle.std.proofs.lemmas.Option.{same_Some}
 use Rattle.script_spec.specs.Forms.{AreBytes, byte_text}
@@ -86,43 +86,6 @@ same-number m n word r few is parsed e =
     let read : r ≡ Ok n = read-number n word r few is parsed in
     cc
 
--- the words that ask for nothing
-pub none-one : (word : List ℕ) → (word ≡ codes "replay" → ⊥) → (word ≡ codes "run" → ⊥) → (word ≡ codes "stat" → ⊥) → AreKnown (word ∷ []) → ⊥
-none-one word p q r (asked.Replay, h) = p (ap head_word h)
-none-one word p q r (asked.Run, h) = q (ap head_word h)
-none-one word p q r (asked.Stat, h) = r (ap head_word h)
-none-one word p q r (asked.Make n, h) = let l : 1 ≡ 2 = ap length h.1 in omega (arith, l)
-none-one word p q r (asked.MadeScript n, h) = let l : 1 ≡ 3 = ap length h.1 in omega (arith, l)
-none-one word p q r (asked.Watch w, h) = let l : 1 ≡ 3 = ap length h.1 in omega (arith, l)
-none-one word p q r (asked.Attr bytes, h) = let l : 1 ≡ 2 = ap length h.1 in omega (arith, l)
-
-pub none-two : (first second : List ℕ) → (first ≡ codes "make" → ⊥) → (first ≡ codes "attr" → ⊥) → AreKnown (first ∷ second ∷ []) → ⊥
-none-two first second p q (asked.Replay, h) = let l : 2 ≡ 1 = ap length h in omega (arith, l)
-none-two first second p q (asked.Run, h) = let l : 2 ≡ 1 = ap length h in omega (arith, l)
-none-two first second p q (asked.Stat, h) = let l : 2 ≡ 1 = ap length h in omega (arith, l)
-none-two first second p q (asked.Make n, h) = p (ap head_word h.1)
-none-two first second p q (asked.MadeScript n, h) = let l : 2 ≡ 3 = ap length h.1 in omega (arith, l)
-none-two first second p q (asked.Watch w, h) = let l : 2 ≡ 3 = ap length h.1 in omega (arith, l)
-none-two first second p q (asked.Attr bytes, h) = q (ap head_word h.1)
-
-pub none-three : (first second third : List ℕ) → (first ≡ codes "make" → third ≡ codes "script" → ⊥) → (first ≡ codes "watch" → ⊥) → AreKnown (first ∷ second ∷ third ∷ []) → ⊥
-none-three first second third p q (asked.Replay, h) = let l : 3 ≡ 1 = ap length h in omega (arith, l)
-none-three first second third p q (asked.Run, h) = let l : 3 ≡ 1 = ap length h in omega (arith, l)
-none-three first second third p q (asked.Stat, h) = let l : 3 ≡ 1 = ap length h in omega (arith, l)
-none-three first second third p q (asked.Make n, h) = let l : 3 ≡ 2 = ap length h.1 in omega (arith, l)
-none-three first second third p q (asked.MadeScript n, h) = p (ap head_word h.1) (ap third_word h.1)
-none-three first second third p q (asked.Watch w, h) = q (ap head_word h.1)
-none-three first second third p q (asked.Attr bytes, h) = let l : 3 ≡ 2 = ap length h.1 in omega (arith, l)
-
-pub none-other : (words : List (List ℕ)) → (length words ≡ 1 → ⊥) → (length words ≡ 2 → ⊥) → (length words ≡ 3 → ⊥) → AreKnown words → ⊥
-none-other words p q r (asked.Replay, h) = p (ap length h)
-none-other words p q r (asked.Run, h) = p (ap length h)
-none-other words p q r (asked.Stat, h) = p (ap length h)
-none-other words p q r (asked.Make n, h) = q (ap length h.1)
-none-other words p q r (asked.MadeScript n, h) = r (ap length h.1)
-none-other words p q r (asked.Watch w, h) = r (ap length h.1)
-none-other words p q r (asked.Attr bytes, h) = q (ap length h.1)
-
 -- `make` and a word that says no rounds, and `attr` and one that spells no bytes
 pub none-make : (word : List ℕ) → ((n : ℕ) → 1 ≤ n → n ≤ 1000 → word ≡ decimal n → ⊥) → AreKnown (codes "make" ∷ word ∷ []) → ⊥
 none-make word none (asked.Make n, h) = none n h.0.0 h.0.1 (ap second_word h.1)
@@ -141,25 +104,3 @@ none-script word none (asked.Stat, h) = let l : 3 ≡ 1 = ap length h in omega (
 none-script word none (asked.Make n, h) = let l : 3 ≡ 2 = ap length h.1 in omega (arith, l)
 none-script word none (asked.Watch w, h) = let l : 109 ≡ 119 = ap (λ ws. first_byte (head_word ws)) h.1 in omega (arith, l)
 none-script word none (asked.Attr bytes, h) = let l : 3 ≡ 2 = ap length h.1 in omega (arith, l)
-
-pub none-attr : (word : List ℕ) → ((bytes : List ℕ) → AreBytes bytes → word ≡ flat_map byte_text bytes → ⊥) → AreKnown (codes "attr" ∷ word ∷ []) → ⊥
-none-attr word none (asked.Attr bytes, h) = none bytes h.0 (ap second_word h.1)
-none-attr word none (asked.Replay, h) = let l : 2 ≡ 1 = ap length h in omega (arith, l)
-none-attr word none (asked.Run, h) = let l : 2 ≡ 1 = ap length h in omega (arith, l)
-none-attr word none (asked.Stat, h) = let l : 2 ≡ 1 = ap length h in omega (arith, l)
-none-attr word none (asked.Make n, h) = let l : 97 ≡ 109 = ap (λ ws. first_byte (head_word ws)) h.1 in omega (arith, l)
-none-attr word none (asked.Watch w, h) = let l : 2 ≡ 3 = ap length h.1 in omega (arith, l)
-none-attr word none (asked.MadeScript n, h) = let l : 2 ≡ 3 = ap length h.1 in omega (arith, l)
-
-pub none-watch : (slot looks : List ℕ) → ((n m : ℕ) → n ≤ 255 → 1 ≤ m → m ≤ 65536 → slot ≡ decimal n → looks ≡ decimal m → ⊥) → AreKnown (codes "watch" ∷ slot ∷ looks ∷ []) → ⊥
-none-watch slot looks none (asked.Watch w, h) = none w.0 w.1 h.0.0 h.0.1 h.0.2 (ap second_word h.1) (ap third_word h.1)
-none-watch slot looks none (asked.Replay, h) = let l : 3 ≡ 1 = ap length h in omega (arith, l)
-none-watch slot looks none (asked.Run, h) = let l : 3 ≡ 1 = ap length h in omega (arith, l)
-none-watch slot looks none (asked.Stat, h) = let l : 3 ≡ 1 = ap length h in omega (arith, l)
-none-watch slot looks none (asked.Make n, h) = let l : 3 ≡ 2 = ap length h.1 in omega (arith, l)
-none-watch slot looks none (asked.MadeScript n, h) = let l : 119 ≡ 109 = ap (λ ws. first_byte (head_word ws)) h.1 in omega (arith, l)
-none-watch slot looks none (asked.Attr bytes, h) = let l : 3 ≡ 2 = ap length h.1 in omega (arith, l)
-
--- what words ask for is what the same words ask for
-pub by-words : (ws vs : List (List ℕ)) (r : Option Asked) → ws ≡ vs → MatchOption r (AreKnown vs → ⊥) (Asks vs) → MatchOption r (AreKnown ws → ⊥) (Asks ws)
-by-words ws vs r e = subst (λ us. MatchOption r (AreKnown us → ⊥) (Asks us)) (sym e)

@@ -1,9 +1,9 @@
 -- How what is asked of a script ends.
-use Rattle.std.{specs.Prelude.{◌≡◌, ◌⊎◌, ℕ, List}, proofs.Common.{inl, inr, refl, subst, sym}}
+use Rattle.std.{specs.Prelude.{◌≡◌, ◌⊎◌, ℕ, List}, proofs.Common.{inl, inr, subst, sym}}
 use Rattle.perf_base.specs.Scripts.{Scripted}
 use Rattle.perf_io.specs.{Outside.{Adds, SinkShows, SourceShows}, Wrote.{WroteFront}}
-use Rattle.perf_top.specs.{Asking.{DoesOrder}, Outcome.{HasBadLook, IsAnswer, IsEnding, IsFlushed, IsFlushedOnce, IsGiven, IsOutput}}
-use Rattle.perf_top.specs.declared.{asked.Asked.{Asked}, ready.BadLook.{BadLook}, status.Status.{Status}}
+use Rattle.perf_top.specs.{Outcome.{IsAnswer, IsEnding, IsFlushed, IsFlushedOnce, IsGiven, IsOutput}}
+use Rattle.perf_top.specs.declared.{asked.Asked.{Asked}, status.Status.{Status}}
 use Rattle.perf_top.specs.declared.status.Status.TheVariants as status
 
 -- a text was sent that is what is to be written
@@ -15,13 +15,6 @@ sent shows a s out answer before after is (inl e) done front =
     subst (λ (x : Status). IsEnding shows a s x before after) (sym e) (let d = done e in (out, is, d.0, d.1))
 sent shows a s out answer before after is (inr e) done front =
     subst (λ (x : Status). IsEnding shows a s x before after) (sym e) (let f = front e in (out, is, f.0, f.1))
-
--- a look of the order is not lawful
-pub bad-look-of : {K : Type 0} (shows : SinkShows K) (a : Asked) (s : Scripted) (look : BadLook) (answer : Status) (sink : K)
-    → DoesOrder a → HasBadLook s look.index look.ring look.last look.head look.given → answer ≡ status.BadOrder look.index look.ring look.last look.head look.given
-    → IsEnding shows a s answer sink sink
-bad-look-of shows a s look answer sink order bad is =
-    subst (λ (x : Status). IsEnding shows a s x sink sink) (sym is) (order, bad, refl)
 
 -- what is to be done was given, and done
 pub answered : {S K : Type 0} (source_shows : SourceShows S) (shows : SinkShows K)

@@ -2,10 +2,10 @@
 use Rattle.std.specs.Prelude.{◌≡◌, ℕ, ◌+◌, ◌<◌, ◌≤◌, Bool, true, List, [], ◌∷◌, ◌++◌, count_by, length, take, Some}
 use Rattle.std.proofs.{Common.{arith, refl, sym, ap, subst, ◌∙◌, cond, eqb, eq-eqb, get_or}, lemmas.List.{get_or_default, take_more}}
 use Rattle.std.proofs.lemmas.{List.Sums.{sum_by-take-le, sum_by_push}, Option.{slice_get-get_or}}
-use Rattle.perf_base.specs.{declared.{acts.Act.{Act}, numbers.RingNo.{RingNo}}, Scripts.{Scripted, IsAct, IsScript}}
+use Rattle.perf_base.specs.{declared.{acts.Act.{Act}, numbers.RingNo.{RingNo}}, Scripts.{Scripted}}
 use Rattle.perf_base.specs.declared.acts.Act.TheVariants as act
 use Rattle.stage_spec.specs.Order.{is_of_cpu, is_of_tool, done_by_cpu, done_by_tool, IsComplete}
-use Rattle.machine.specs.{Leading.{Kept, LeadTo}, Stepping.{HasNoLine, IsUnlawful, NamesRing}}
+use Rattle.machine.specs.{Leading.{Kept, LeadTo}, Stepping.{HasNoLine, IsUnlawful}}
 use Rattle.perf_top.specs.Outcome.{HasBadLook}
 
 -- fewer are counted before an element that counts than in all
@@ -29,12 +29,6 @@ has-line s m i (act.Tool tool) l e led c none =
     none (omega (arith, n, led.tools tool, c.tools tool))
 has-line s m i (act.Seen ring place) l e led c none = none
 
--- each look names a ring of the script
-pub ring-named : (s : Scripted) (i : ℕ) (a : Act) → IsScript s → i < length s.order → get_or s.order i a ≡ a → NamesRing s a
-ring-named s i (act.Processor cpu) h l e = tt
-ring-named s i (act.Tool tool) h l e = tt
-ring-named s i (act.Seen ring place) h l e = subst (IsAct s) e (h.order i (act.Seen ring place) l)
-
 -- the first look that is not lawful
 pub bad-look : (s : Scripted) (m : Kept) (i : ℕ) (a : Act) (ring : RingNo) (last head given : ℕ) → i < length s.order → get_or s.order i a ≡ a → LeadTo s (take i s.order) m
     → a ≡ act.Seen ring given → IsUnlawful s (take i s.order) ring last head given → HasBadLook s i ring last head given
@@ -52,11 +46,6 @@ pub has-line-at : (s : Scripted) (order : List Act) (m : Kept) (i : ℕ) (d : Ac
 has-line-at s order m i d e =
     subst (λ (o : List Act). i < length o → LeadTo s (take i o) m → IsComplete s s.order → HasNoLine s m (get_or o i d) → ⊥) (sym e)
     (λ low led complete none. has-line s m i (get_or s.order i d) low (get_or_default s.order i (get_or s.order i d) d low) led complete none)
-
-pub ring-named-at : (s : Scripted) (order : List Act) (i : ℕ) (d : Act) → IsScript s → order ≡ s.order → i < length order → NamesRing s (get_or order i d)
-ring-named-at s order i d h e =
-    subst (λ (o : List Act). i < length o → NamesRing s (get_or o i d)) (sym e)
-    (λ low. ring-named s i (get_or s.order i d) h low (get_or_default s.order i (get_or s.order i d) d low))
 
 pub bad-look-at : (s : Scripted) (order : List Act) (m : Kept) (i : ℕ) (d : Act) (ring : RingNo) (last head given : ℕ) → order ≡ s.order → i < length order → LeadTo s (take i order) m
     → get_or order i d ≡ act.Seen ring given → IsUnlawful s (take i s.order) ring last head given → HasBadLook s i ring last head given

@@ -20,11 +20,6 @@ reads-script asked.Run h = tt
 reads-script (asked.Watch w) h = tt
 reads-script a h = h
 
--- memory ran out before the first read, or behind the last one
-pub no-memory-before : {S : Type 0} (shows : SourceShows S) (a : Asked) (before after : S) → ReadsScript a → after ≡ before
-    → IsRefusal shows a status.NoMemory before after
-no-memory-before shows a before after reads same = (takes-memory a reads, inl same)
-
 pub no-memory-behind : {S : Type 0} (shows : SourceShows S) (a : Asked) (text : List ℕ) (before after : S) → ReadsScript a
     → Gave (shows.left before) (shows.left after) text → IsRefusal shows a status.NoMemory before after
 no-memory-behind shows a text before after reads gave = (takes-memory a reads, inr (reads, (text, gave)))

@@ -1,6 +1,6 @@
 -- What is kept of a world, and what follows from it for its tables.
-use Rattle.std.specs.Prelude.{◌≡◌, ℕ, ◌+◌, ◌<◌, ◌≤◌, ◌==◌, Bool, true, false, not, List, [], ◌∷◌, length, Option, Some, None, IfSome, slice_index_or, slice_set, if◌then◌else◌}
-use Rattle.std.proofs.{Common.{arith, refl, sym, ap, subst, ◌∙◌, inl, inr}, lemmas.Bool.{cases_Bool, cases_lt, Decides.{nat_tests}}}
+use Rattle.std.specs.Prelude.{◌≡◌, ℕ, ◌+◌, ◌<◌, ◌≤◌, ◌==◌, true, false, List, [], ◌∷◌, length, Option, Some, None, IfSome, slice_index_or, slice_set, if◌then◌else◌}
+use Rattle.std.proofs.{Common.{arith, refl, ap, subst, ◌∙◌, inl, inr}, lemmas.Bool.{cases_Bool, cases_lt, Decides.{nat_tests}}}
 use Rattle.std.proofs.lemmas.List.{get_or_past}
 use Rattle.perf_base.specs.declared.{numbers.{CpuNo.{CpuNo}, EventNo.{EventNo}, Key.{Key}, RingNo.{RingNo}, TaskNo.{TaskNo}}, reply.Sums.{Sums}}
 use Rattle.stage_spec.specs.{Hardware.{Hardware}, declared.instance.TaskStatus.{TaskStatus}, Stage.{place_of, unknown_task}}
@@ -16,9 +16,6 @@ use Rattle.perf_world.specs.Seen.{seen, noted, IsWorld}
 -- what is kept goes along equations
 pub kept-now : (w now : World) → w ≡ now → IsWorld w → IsWorld now
 kept-now w now e h = subst IsWorld e h
-
-pub kept-after : (after w : World) → after ≡ w → IsWorld w → IsWorld after
-kept-after after w e h = subst IsWorld (sym e) h
 
 -- a key that stands in a list gives its part of the sum
 pub part-of-sum : (p : Sums → ℕ) → IsSum p → (s : Key → Sums) (k : Key) (keys : List Key) → 1 ≤ times k keys → p (s k) ≤ p (plus_keys s keys)
@@ -52,11 +49,6 @@ own-count hw w k h live = omega (arith, part-of-sum (λ s. s.count) counts_are_s
 pub own-time : (hw : Hardware) (w : World) (k : Key) → IsKept hw w → is_live w k ≡ true
     → (account_at w k).sums.enabled ≤ (family_sums w (instance_at w k).event.0).enabled
 own-time hw w k h live = omega (arith, part-of-sum (λ s. s.enabled) times_are_sums (λ q. (account_at w q).sums) k (keys_of (slice_index_or w.families (instance_at w k).event.0 no_family)) (in-family hw w k h live))
-
--- a leader stands once in the list of its context that it is in
-both-ways : (b : Bool) → (if b then b else not b) ≡ true
-both-ways true = refl
-both-ways false = refl
 
 pub listed-once : (hw : Hardware) (w : World) (k : Key) → IsKept hw w → leads (post_at w) k ≡ true
     → times k (picked (entry_at w k).pinned (leaders_of w (entry_at w k).context)) ≡ 1

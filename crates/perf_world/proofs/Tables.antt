@@ -2,7 +2,7 @@
 use Rattle.std.specs.Prelude.{◌≡◌, ℕ, ◌+◌, ◌<◌, ◌≤◌, true, false, List, [], ◌∷◌, ◌++◌, length, drop, slice_index_or, slice_set}
 use Rattle.std.specs.{FinMap.{FinMap, get, contains_key, insert, same_map, nat_cmp-IsAntisymmetric}, Option.{unwrap_or}, Ordering.{nat_cmp}}
 use Rattle.std.proofs.{Common.{arith, refl, sym, ap, subst, ◌∙◌, inl, inr, zero, suc, append-nil, append_assoc}, lemmas.Bool.{cases_eq}}
-use Rattle.std.proofs.{lemmas.{Cmp.{nat_cmp_total}, List.{get_or-set_same, set-get_or}}, Math.Seq.{drop-cons}}
+use Rattle.std.proofs.{lemmas.{Cmp.{nat_cmp_total}, List.{get_or-set_same}}, Math.Seq.{drop-cons}}
 use Rattle.perf_base.specs.declared.numbers.Key.{Key}
 use Rattle.stage_laws.proofs.Counts.{count-append}
 use Rattle.world_spec.specs.{Value.{Entry, Leaders, no_entry, no_leaders, is_key, times}, Changes.{in_list}}
@@ -79,9 +79,6 @@ next-behind contexts at s rest low =
     set-again contexts at more (behind rest (slice_index_or (slice_set contexts at more) at no_leaders))
     ∙ (ap (λ x. slice_set contexts at (behind rest x)) (get_or-set_same contexts at more no_leaders low)
     ∙ ap (slice_set contexts at) (push-behind s rest l))
-
-pub last-behind : (contexts : List Leaders) (at : ℕ) → slice_set contexts at (behind [] (slice_index_or contexts at no_leaders)) ≡ contexts
-last-behind contexts at = ap (slice_set contexts at) (none-behind (slice_index_or contexts at no_leaders)) ∙ set-get_or contexts at no_leaders
 
 pub split-rest : (xs : List Key) (i : ℕ) (d : Key) → i < length xs → drop i xs ≡ slice_index_or xs i d ∷ drop (i + 1) xs
 split-rest xs i d low = drop-cons xs i d low ∙ ap (λ n. slice_index_or xs i d ∷ drop n xs) (let e : suc i ≡ i + 1 = omega arith in e)

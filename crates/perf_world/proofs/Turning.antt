@@ -4,21 +4,20 @@ use Rattle.std.specs.{FinMap.{FinMap, get, contains_key, insert}, Option.{unwrap
 use Rattle.std.proofs.{Common.{arith, refl, sym, ap, subst, ◌∙◌, inl, inr}, lemmas.Bool.{cases_eq, cases_lt, cases_Bool, false≢true}}
 use Rattle.std.proofs.{lemmas.{Bool.Decides.{nat_tests}, Grind.{flat_map-append}, List.{append-nil, get_or_past}}, Math.Seq.{take-suc}}
 use Rattle.perf_base.specs.declared.{lines.Work.{Work}, numbers.{CpuNo.{CpuNo}, Key.{Key}, TaskNo.{TaskNo}}, standing.Context.{Context}}
-use Rattle.perf_base.specs.Standings.{stands_on}
 use Rattle.perf_base.specs.declared.lines.CpuLine.TheVariants as cpu_line
 use Rattle.perf_base.specs.declared.standing.Context.TheVariants as context
 use Rattle.stage_spec.specs.{Hardware.{Hardware}, declared.instance.TaskStatus.{TaskStatus}}
 use Rattle.stage_spec.specs.Stage.{is_task, task_on, place_of, unknown_task, is_live as is_live_task}
-use Rattle.stage_laws.{specs.{Bounds.{most_of_line}, Narrowing.{has_context}}, proofs.{Counts.{count-append}, Tasks.{is_task-some}}}
+use Rattle.stage_laws.{specs.{Bounds.{most_of_line}}, proofs.{Counts.{count-append}, Tasks.{is_task-some}}}
 use Rattle.world_spec.specs.StageOf.{after_first, stage_of}
-use Rattle.world_spec.specs.Value.{World, Entry, Leaders, no_entry, no_leaders, is_live, instance_at, standing_at, leaders_of, entry_at, is_key, times}
+use Rattle.world_spec.specs.Value.{World, Entry, Leaders, no_entry, no_leaders, is_live, instance_at, leaders_of, entry_at, is_key, times}
 use Rattle.world_spec.specs.{Kept.{post_at, leads, once_if, is_member_of, IsKept}, Changes.{place}, Metering.{goes_along, IsWorked, HasMeterRoom}}
-use Rattle.world_spec.specs.{Shares.{HaveRoom}, Working.{is_effective}, Ways.{Way, IsTurned, KeepsWay, is_context_of, is_on_at}}
+use Rattle.world_spec.specs.{Shares.{HaveRoom}, Ways.{Way, IsTurned, KeepsWay, is_context_of, is_on_at}}
 use Rattle.world_spec.proofs.{Keys.{key-is, is_key-same, is_key-other, times-cons, once-true, once-false}, Metering.{work-kept, work-ways}}
 use Rattle.world_spec.proofs.{Moving.{leads-parts}, Tables.{get-here, get-there}, Ways.{still-turned, outside-context}}
 use Rattle.world_tables.specs.{Columns.{Columns, is_there, way_in, put_way}, Meters.{goes_along as along, no_way}, Places.{Places}}
 use Rattle.perf_world.specs.Seen.{IsWorld}
-use Rattle.perf_world.specs.Settling.{bare, RunOnce, AreLed, HasSettled, AreTurned, IsStored, group_keys, list_keys, task_leaders, task_keys}
+use Rattle.perf_world.specs.Settling.{bare, AreLed, HasSettled, AreTurned, IsStored, group_keys, list_keys, task_leaders, task_keys}
 
 -- what is stored goes along an equation
 pub stored-after : (t : Columns) (seen after : World) → seen ≡ after → IsWorld after → AreTurned t after → IsStored t seen
@@ -142,19 +141,6 @@ list-led hw w (q ∷ leaders) h k some = elim (cases_eq (times k (entry_at w q).
 pub own-only : (c cpu : CpuNo) → (c.0 == cpu.0) ≡ (c.0 == cpu.0)
 own-only c cpu = refl
 
-pub task-only : (running : List (Option TaskNo)) (task : TaskNo) (c : CpuNo) → RunOnce running → slice_index_or running c.0 None ≡ Some task → (cpu : CpuNo)
-    → is_task (slice_index_or running cpu.0 None) task ≡ (c.0 == cpu.0)
-task-only running task c once on cpu = elim (cases_eq c.0 cpu.0) [
-  | inl same ↦
-      let own : is_task (Some task) task ≡ true = grind (arith, nat_tests) in
-      let is : (c.0 == cpu.0) ≡ true = grind (arith, nat_tests, same) in
-      ap (λ n. is_task (slice_index_or running n None) task) (sym same) ∙ (ap (λ o. is_task o task) on ∙ (own ∙ sym is))
-  | inr apart ↦ elim (cases_Bool (is_task (slice_index_or running cpu.0 None) task)) [
-    | inl there ↦ absurd (apart (once c cpu task on (is_task-some (slice_index_or running cpu.0 None) task there)))
-    | inr off ↦ (let is : (c.0 == cpu.0) ≡ false = grind (arith, nat_tests, apart) in off ∙ sym is)
-  ]
-]
-
 pub task-nowhere : (running : List (Option TaskNo)) (task : TaskNo) → ((cpu : CpuNo) → slice_index_or running cpu.0 None ≡ Some task → ⊥) → (cpu : CpuNo)
     → is_task (slice_index_or running cpu.0 None) task ≡ false
 task-nowhere running task none cpu = elim (cases_Bool (is_task (slice_index_or running cpu.0 None) task)) [
@@ -172,10 +158,6 @@ on-there true true there = sym (both-right there)
 on-there true false true = refl
 on-there true false false = refl
 on-there false stands there = refl
-
-pub off-there : (ready there : Bool) → there ≡ false → false ≡ (ready && there)
-off-there true there off = sym off
-off-there false there off = refl
 
 pub on-ready : (ready stands : Bool) → (ready && stands) ≡ true → ready ≡ true
 on-ready true stands h = refl
@@ -287,33 +269,10 @@ stored-worked t new w after cpu work h worked room meter ways = record {
       (subst (λ (u : Way). IsTurned w u k) (sym (ap (λ (m : FinMap nat_cmp Way). unwrap_or (get m k.0) no_way) ways)) (h.turned k (ap (λ (x : World). is_live x k) (sym worked.rest) ∙ live)));
 }
 
--- what is found of a context is the processor that it is on
-pub some-only : (running : List (Option TaskNo)) (task : TaskNo) → RunOnce running → (r : Option CpuNo) → IfSome r (λ cpu. slice_index_or running cpu.0 None ≡ Some task)
-    → IfSome r (λ c. (cpu : CpuNo) → is_task (slice_index_or running cpu.0 None) task ≡ (c.0 == cpu.0))
-some-only running task once None there = tt
-some-only running task once (Some c) there = task-only running task c once there
-
 pub none-only : (running : List (Option TaskNo)) (task : TaskNo) (r : Option CpuNo) → IfNone r ((cpu : CpuNo) → slice_index_or running cpu.0 None ≡ Some task → ⊥)
     → IfNone r ((cpu : CpuNo) → is_task (slice_index_or running cpu.0 None) task ≡ false)
 none-only running task None nowhere = task-nowhere running task nowhere
 none-only running task (Some c) nowhere = tt
-
--- the way of an instance whose context is on a processor, or on none
-pub turned-on : (w : World) (k : Key) (c : CpuNo) (ready on : Bool) → ready ≡ is_effective w k → on ≡ (ready && stands_on (standing_at w (entry_at w k).leader))
-    → ((cpu : CpuNo) → has_context (stage_of w) cpu (entry_at w k).context ≡ (c.0 == cpu.0)) → IsTurned w (record { cpu = c; ready = ready; on = on }) k
-turned-on w k c ready on is_ready is_on there = record {
-  ready = λ cpu. (λ i. is_ready i && sym (there cpu) i);
-  on = λ cpu. ap (λ b. b && c.0 == cpu.0) is_on
-      ∙ (on-there ready (stands_on (standing_at w (entry_at w k).leader)) (c.0 == cpu.0)
-      ∙ (λ i. (is_ready i && sym (there cpu) i) && stands_on (standing_at w (entry_at w k).leader)));
-}
-
-pub turned-off : (w : World) (k : Key) → ((cpu : CpuNo) → has_context (stage_of w) cpu (entry_at w k).context ≡ false)
-    → IsTurned w (record { cpu = record { 0 = 0 }; ready = false; on = false }) k
-turned-off w k nowhere = record {
-  ready = λ cpu. off-there (is_effective w k) _ (nowhere cpu);
-  on = λ cpu. sym (ap (λ b. b && stands_on (standing_at w (entry_at w k).leader)) (sym (off-there (is_effective w k) _ (nowhere cpu))));
-}
 
 -- one account that was turned
 pub one-settled : (p : Places) (t new : Columns) (k : Key) (u : Way) → new ≡ put_way k u t → IsTurned (bare t p) u k → HasSettled (k ∷ []) p t new

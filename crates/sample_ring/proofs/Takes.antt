@@ -3,7 +3,7 @@ use Rattle.std.proofs.Common.{◌≡◌, ℕ, ◌+◌, ◌*◌, ◌≤◌, List,
 use Rattle.std.{proofs.lemmas.List.{Elements.{All-append, All-cons, All-nil}, Folds.{concat-append}}, specs.List.{concat}}
 use mathlib.Core.List.{IsPrefix}
 use Rattle.ring_spec.specs.Whole.{size_field, IsBlock, IsWhole}
-use Rattle.ring_words.{proofs.Prefixes.{prefix_self, prefix_through}, specs.Ends.{IsSoundConsumer}}
+use Rattle.ring_words.{proofs.Prefixes.{prefix_self}, specs.Ends.{IsSoundConsumer}}
 use Rattle.sample_ring.specs.{InEnds.{InEnd, AreRecords, kept_words, IsSoundIn}, Ins.{HoldsIn, Takes}}
 
 -- the words taken are whole where none is kept
@@ -48,12 +48,3 @@ holds_more i capacity place first words h kept p size within sound =
 
 pub takes_nothing : (i : InEnd) → Takes i i
 takes_nothing i = record { ring = refl; room = refl; loads = refl; head = refl; words = prefix_self i.words }
-
-pub takes_through : (i j k : InEnd) → Takes i j → Takes j k → Takes i k
-takes_through i j k a b = record {
-  ring = b.ring ∙ a.ring;
-  room = b.room ∙ a.room;
-  loads = b.loads ∙ a.loads;
-  head = b.head ∙ a.head;
-  words = prefix_through i.words j.words k.words a.words b.words;
-}

@@ -3,7 +3,7 @@ use Rattle.std.proofs.Common.{◌≡◌, ℕ, zero, suc, ◌-◌, ◌<◌, ◌�
 use Rattle.std.proofs.lemmas.{Option.{slice_get-get_or}, List.Quantifiers.{all_pairs_push}}
 use mathlib.Core.{Option.{some, some-ne-none}, List.{IsPrefix}}
 use lib.ListN.{get_elem?}
-use Rattle.user_page.specs.{declared.look.Look.{Look}, Looks.{zero_look, last_look, MayFollow, NeverFalls, IsLookList}}
+use Rattle.user_page.specs.{declared.look.Look.{Look}, Looks.{last_look, MayFollow, NeverFalls, IsLookList}}
 
 module _ {A : Type 0} where
   pub prefix_self : (xs : List A) → IsPrefix xs xs
@@ -51,9 +51,6 @@ rises_more xs x rises may = all_pairs_push (λ (a b : Look). a.at ≤ b.at) xs x
 
 pub list_more : (xs : List Look) (x : Look) → IsLookList xs → MayFollow xs x → IsLookList (xs ++ x ∷ [])
 list_more xs x sound may = record { some = omega (arith, length-append xs (x ∷ [])); rises = rises_more xs x sound.rises may }
-
-pub list_of_zeros : IsLookList (zero_look ∷ [])
-list_of_zeros = record { some = omega arith; rises = λ i j d before within. absurd (omega (arith, before, within)) }
 
 pub follows_at : (o : Option Look) (at : ℕ) (x : Look) → IfSome o (λ l. l.at ≡ at) → at ≤ x.at → IfSome o (λ l. l.at ≤ x.at)
 follows_at None at x is more = tt

@@ -26,9 +26,6 @@ last-off true true h = absurd (false≢true h)
 last-off true false h = refl
 last-off false b h = refl
 
-zero-hits : (k : Kind) → not (0 == 0) ≡ true → is_metered k ≡ false
-zero-hits k h = absurd (false≢true h)
-
 soft-apart : (occurring : Kind) (i : Instance) (k : Kind) → i.attr.kind ≡ k → not (soft_hits occurring i == 0) ≡ true → is_metered k ≡ false
 soft-apart occurring i kind.ContextSwitches is h = refl
 soft-apart occurring i kind.CpuMigrations is h = refl

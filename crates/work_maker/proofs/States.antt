@@ -1,5 +1,5 @@
 -- What a script says while the script of N rounds is built.
-use Rattle.std.proofs.Common.{◌≡◌, ℕ, zero, suc, ◌+◌, ◌*◌, ◌<◌, ◌≤◌, Bool, true, false, ltb, List, [], ◌∷◌, ◌++◌, length, get_or, set, sym, ap, refl, arith, ◌∙◌}
+use Rattle.std.proofs.Common.{◌≡◌, ℕ, zero, suc, ◌+◌, ◌*◌, ◌<◌, ◌≤◌, Bool, true, false, ltb, List, [], ◌∷◌, ◌++◌, length, get_or, set, sym, ap, arith, ◌∙◌}
 use Rattle.std.proofs.lemmas.List.{append_assoc, append-nil, get_or-set_same, set-set, length-append, Concat.{length-flat_map}}
 use Rattle.std.{proofs.lemmas.List.{FromFn.{length-range_with_len}, Sums.{sum_by-set, sum_by-le}}, specs.Prelude.{sum_by, replicate, if◌then◌else◌}}
 use Rattle.std.specs.List.{range_with_len}
@@ -9,12 +9,6 @@ use Rattle.perf_base.specs.declared.acts.Act.TheVariants as act
 use Rattle.make_spec.specs.Rounds.{for_each, for_each_all, made_task, made_ring, made_reader, round_lines, processor_lines}
 use Rattle.make_spec.proofs.{ForEach.{for_each-more, for_each_all-more}, Lines.{processor_length}}
 use Rattle.work_maker.specs.Building.{with_cpu_lines, with_first_tool_lines, with_acts, declared, so_far, rounds_below}
-
--- one of several lists with entries more
-none_at : {X : Type 0} (lists : List (List X)) (i : ℕ) → set lists i (get_or lists i [] ++ []) ≡ lists
-none_at [] i = refl
-none_at (xs ∷ lists) zero = ap (λ ys. ys ∷ lists) (append-nil xs)
-none_at (xs ∷ lists) (suc i) = ap (λ yss. xs ∷ yss) (none_at lists i)
 
 more_at : {X : Type 0} (lists : List (List X)) (i : ℕ) (xs : List X) (x : X) → i < length lists
     → set (set lists i (get_or lists i [] ++ xs)) i (get_or (set lists i (get_or lists i [] ++ xs)) i [] ++ x ∷ []) ≡ set lists i (get_or lists i [] ++ (xs ++ x ∷ []))
@@ -26,25 +20,8 @@ more_at lists i xs x l =
 count_at : {X : Type 0} (lists : List (List X)) (i : ℕ) (xs : List X) → i < length lists → sum_by length (set lists i (get_or lists i [] ++ xs)) ≡ sum_by length lists + length xs
 count_at lists i xs l = omega (arith, sum_by-set length lists i (get_or lists i [] ++ xs) [] l, length-append (get_or lists i []) xs)
 
--- several lines of a processor
-pub cpu_lines-none : (s : Scripted) (p : CpuNo) → with_cpu_lines s p [] ≡ s
-cpu_lines-none s p = ap (λ lists. record s { cpu_lines = lists }) (none_at s.cpu_lines p.0)
-
 pub cpu_lines-more : (s : Scripted) (p : CpuNo) (lines : List CpuLine) (line : CpuLine) → p.0 < length s.cpu_lines → with_cpu_line (with_cpu_lines s p lines) p line ≡ with_cpu_lines s p (lines ++ line ∷ [])
 cpu_lines-more s p lines line l = ap (λ lists. record s { cpu_lines = lists }) (more_at s.cpu_lines p.0 lines line l)
-
-pub cpu_lines-count : (s : Scripted) (p : CpuNo) (lines : List CpuLine) → p.0 < length s.cpu_lines → line_count (with_cpu_lines s p lines) ≡ line_count s + length lines
-cpu_lines-count s p lines l = omega (arith, count_at s.cpu_lines p.0 lines l)
-
--- several lines of the first tool
-pub tool_lines-none : (s : Scripted) → with_first_tool_lines s [] ≡ s
-tool_lines-none s = ap (λ lists. record s { tool_lines = lists }) (none_at s.tool_lines 0)
-
-pub tool_lines-more : (s : Scripted) (lines : List ToolLine) (line : ToolLine) → 0 < length s.tool_lines → with_tool_line (with_first_tool_lines s lines) (record { 0 = 0 }) line ≡ with_first_tool_lines s (lines ++ line ∷ [])
-tool_lines-more s lines line l = ap (λ lists. record s { tool_lines = lists }) (more_at s.tool_lines 0 lines line l)
-
-pub tool_lines-count : (s : Scripted) (lines : List ToolLine) → 0 < length s.tool_lines → line_count (with_first_tool_lines s lines) ≡ line_count s + length lines
-tool_lines-count s lines l = omega (arith, count_at s.tool_lines 0 lines l)
 
 -- several acts
 pub acts-none : (s : Scripted) → with_acts s [] ≡ s
