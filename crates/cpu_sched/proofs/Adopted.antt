@@ -162,10 +162,10 @@ out-then v w x cpu pass done before now =
     ∙ ((λ i. with_standings (out_standings (slice_index_or (pass_leaders (before i) cpu) pass []) (before i).standings) (before i))
     ∙ ap (λ m. with_standings m v) (sym (out-append done (slice_index_or (pass_leaders v cpu) pass []) v.standings)))
 
-abbrev leaders_at : World → CpuNo → ℕ → List Key
+abbrev pub leaders_at : World → CpuNo → ℕ → List Key
 leaders_at w cpu pass = slice_index_or (pass_leaders w cpu) pass []
 
-four-passes : (w : World) (cpu : CpuNo) → ((leaders_at w cpu 0 ++ leaders_at w cpu 1) ++ leaders_at w cpu 2) ++ leaders_at w cpu 3 ≡ reached_leaders w cpu
+pub four-passes : (w : World) (cpu : CpuNo) → ((leaders_at w cpu 0 ++ leaders_at w cpu 1) ++ leaders_at w cpu 2) ++ leaders_at w cpu 3 ≡ reached_leaders w cpu
 four-passes w cpu =
     let a : List Key = leaders_at w cpu 0 in
     let b : List Key = leaders_at w cpu 1 in
@@ -175,12 +175,10 @@ four-passes w cpu =
 
 -- all that stood out, and then were told their standings and got their seats
 pub took-over : (v o t x : World) (cpu : CpuNo) (p : Planned) → IsKept v.hardware v → IsKept x.hardware x → cpu.0 < length v.quiet.running → IsPlanOf (present_brief v cpu) p
-    → o ≡ with_standings (out_standings (((leaders_at v cpu 0 ++ leaders_at v cpu 1) ++ leaders_at v cpu 2) ++ leaders_at v cpu 3) v.standings) v
-    → t ≡ with_standings (told_standings p.standings o.standings) o → x ≡ with_seats cpu p.seats t → TookOver v x cpu p
+    → o ≡ with_standings (out_standings (reached_leaders v cpu) v.standings) v → t ≡ with_standings (told_standings p.standings o.standings) o → x ≡ with_seats cpu p.seats t → TookOver v x cpu p
 took-over v o t x cpu p kept kept_now low plan outs told seated =
     let out : FinMap nat_cmp Standing = out_standings (reached_leaders v cpu) v.standings in
-    let cleared : o ≡ with_standings out v = outs ∙ ap (λ keys. with_standings (out_standings keys v.standings) v) (four-passes v cpu) in
-    let standing : t ≡ with_standings (told_standings p.standings out) v = told ∙ (λ i. with_standings (told_standings p.standings (cleared i).standings) (cleared i)) in
+    let standing : t ≡ with_standings (told_standings p.standings out) v = told ∙ (λ i. with_standings (told_standings p.standings (outs i).standings) (outs i)) in
     let all : x ≡ with_seats cpu p.seats (with_standings (told_standings p.standings out) v) = seated ∙ ap (with_seats cpu p.seats) standing in
     let within : cpu.0 < length v.quiet.seats = omega (arith, low, kept.tables.seats) in
     let seats : seats_at x cpu ≡ p.seats = ap (λ (w : World). seats_at w cpu) all ∙ get_or-set_same v.quiet.seats cpu.0 p.seats (empty_seating 0) within in

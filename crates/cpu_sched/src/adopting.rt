@@ -1,6 +1,6 @@
 //! A plan is put into the world.
 
-ghost use Rattle.std.specs.Prelude.{◌≡◌, ◌≢◌, ◌<◌, ◌≤◌, false, true, All, [], length, map, slice_index_or};
+ghost use Rattle.std.specs.Prelude.{◌≡◌, ◌<◌, ◌≤◌, false, true, All, [], flat_map, length, slice_index_or};
 ghost use Rattle.perf_base.specs.declared.standing.Standing.TheVariants as standing;
 ghost use Rattle.perf_base.specs.declared.numbers.Key.{Key as KeyNo};
 ghost use Rattle.stage_spec.specs.Settle.{settle};
@@ -35,6 +35,17 @@ fn clear_pass(world: &mut World, cpu: CpuNo, pass: u8)
     }
 }
 
+/// Each group of a processor stands out.
+fn clear_passes(world: &mut World, cpu: CpuNo)
+    requires cpu { cpu.0 < length world.old.quiet.running }
+    ensures { world.new ≡ with_standings (out_standings (flat_map (λ keys. keys) (pass_leaders world.old cpu)) world.old.standings) world.old }
+{
+    clear_pass(world, cpu, 0);
+    clear_pass(world, cpu, 1);
+    clear_pass(world, cpu, 2);
+    clear_pass(world, cpu, 3);
+}
+
 /// Some groups stand as they are told to.
 fn tell_standings(world: &mut World, verdicts: &[Verdict])
     requires { All (λ told. is_live world.old told.0 ≡ true) (told_by verdicts.now) }
@@ -58,10 +69,7 @@ fn take_over(world: &mut World, cpu: CpuNo, brief: &Brief, plan: &Plan)
     ensures kept { IsWorld world.new }
 {
     use_processor(world, cpu);
-    clear_pass(world, cpu, 0);
-    clear_pass(world, cpu, 1);
-    clear_pass(world, cpu, 2);
-    clear_pass(world, cpu, 3);
+    clear_passes(world, cpu);
     tell_standings(world, plan.verdicts());
     world.set_seats(cpu, plan.seats());
     use_processor(world, cpu);

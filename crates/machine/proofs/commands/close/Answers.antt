@@ -1,8 +1,9 @@
 use Rattle.std.proofs.Common.{ap, length}
 use Rattle.perf_base.specs.declared.lines.ToolLine.TheVariants as line
 use Rattle.world_spec.specs.Value.{World}
-use Rattle.machine.proofs.{Closes.{close-ready, close-done}, Counting.{counted-step, refused-counted}, Keeping.{left-rescheduled}}
+use Rattle.machine.proofs.{Closes.{Course, close-ready, close-done}, Counting.{counted-step, refused-counted}, Keeping.{left-rescheduled}}
 use Rattle.machine.proofs.Refused.{refused-line}
+use Rattle.machine.proofs.commands.close.Given.{Over}
 use Rattle.machine.proofs.commands.close.Goals as goal
 
 pub resched_each-requires : goal.resched_each-requires
@@ -14,37 +15,29 @@ pub returns-in-Err-clause-done : goal.returns-in-Err-clause-done
 returns-in-Err-clause-done g c =
     refused-line c.args.world.now c.close.new.world (line.Close c.args.event) c.in-Err.reason c.use_invariant.ensures c.in-Err.ensures.same c.in-Err.ensures.refused
 
+-- the steps of the line
+course : (g : Over) (c : goal.After-resched_each g) → Course c.args.world.now c.close.new.world c.resched_each.new.world c.args.event c.in-Ok.set
+course g c = record {
+  kept = c.use_invariant.ensures;
+  ready = c.requires.ready;
+  slot = c.requires.slot;
+  accepted = c.in-Ok.ensures.accepted;
+  gone = c.in-Ok.ensures.closed;
+  stage = c.in-Ok.ensures.stage;
+  into = λ cpu low there. (c.in-Ok.ensures.processors.reaching cpu low).0 there;
+  back = λ cpu low there. (c.in-Ok.ensures.processors.reaching cpu low).1 there;
+  settled = c.resched_each.ensures.stage;
+  rest = c.resched_each.ensures.rest;
+  kept_then = c.resched_each.ensures.kept;
+}
+
 pub returns-in-Ok-clause-ready : goal.returns-in-Ok-clause-ready
 returns-in-Ok-clause-ready g c =
-    close-ready c.args.world.now c.close.new.world c.resched_each.new.world c.args.event c.in-Ok.set (record {
-      kept = c.use_invariant.ensures;
-      ready = c.requires.ready;
-      slot = c.requires.slot;
-      accepted = c.in-Ok.ensures.accepted;
-      gone = c.in-Ok.ensures.closed;
-      stage = c.in-Ok.ensures.stage;
-      into = λ cpu low there. (c.in-Ok.ensures.processors.reaching cpu low).0 there;
-      back = λ cpu low there. (c.in-Ok.ensures.processors.reaching cpu low).1 there;
-      settled = c.resched_each.ensures.stage;
-      rest = c.resched_each.ensures.rest;
-      kept_then = c.resched_each.ensures.kept;
-    }) c.resched_each.ensures.rescheduled
+    close-ready c.args.world.now c.close.new.world c.resched_each.new.world c.args.event c.in-Ok.set (course g c) c.resched_each.ensures.rescheduled
 
 pub returns-in-Ok-clause-done : goal.returns-in-Ok-clause-done
 returns-in-Ok-clause-done g c =
-    close-done c.args.world.now c.close.new.world c.resched_each.new.world c.args.event c.in-Ok.set (record {
-      kept = c.use_invariant.ensures;
-      ready = c.requires.ready;
-      slot = c.requires.slot;
-      accepted = c.in-Ok.ensures.accepted;
-      gone = c.in-Ok.ensures.closed;
-      stage = c.in-Ok.ensures.stage;
-      into = λ cpu low there. (c.in-Ok.ensures.processors.reaching cpu low).0 there;
-      back = λ cpu low there. (c.in-Ok.ensures.processors.reaching cpu low).1 there;
-      settled = c.resched_each.ensures.stage;
-      rest = c.resched_each.ensures.rest;
-      kept_then = c.resched_each.ensures.kept;
-    })
+    close-done c.args.world.now c.close.new.world c.resched_each.new.world c.args.event c.in-Ok.set (course g c)
 
 pub returns-in-Err-clause-counted : goal.returns-in-Err-clause-counted
 returns-in-Err-clause-counted g c =
