@@ -44,8 +44,8 @@ impl BadLook {
     }
 }
 
-/// Takes all memory that a replay of a script needs: a ring's reader has room for 18 words for each unit of the script's
-/// weight. A run by threads needs sheets too, and a watched one a page.
+/// Takes all memory that a replay of a script needs: a ring's reader has room for 18 words for each unit of the
+/// script's weight. A run by threads needs sheets too, and a watched one a page.
 fn take_parts(alloc: Global, script: Script) -> Result<(Rings, Ins, Book), NoMemory>
     requires covered { IsCovered script }
     requires light { weight script ≤ 65536 }
