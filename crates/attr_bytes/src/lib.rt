@@ -9,8 +9,6 @@ mod flag_word;
 mod kinds;
 mod raw;
 mod reading;
-#[cfg(test)]
-mod tests;
 mod writing;
 
 pub use fault::AttrFault;

@@ -2,8 +2,6 @@
 #![tactic(auto)]
 
 mod room;
-#[cfg(test)]
-mod tests;
 mod writing;
 
 pub use writing::{Written, write_buffered};

@@ -8,8 +8,6 @@ mod laws;
 mod search;
 mod seating;
 mod seats;
-#[cfg(test)]
-mod tests;
 
 pub use laws::{fits_where_assigned, no_path_where_unfit, tight_sets_lack_one};
 pub use seats::Seats;

@@ -6,11 +6,7 @@
 mod checking;
 mod demands;
 mod leading;
-#[cfg(test)]
-mod neighbours;
 mod opening;
 mod placing;
-#[cfg(test)]
-mod tests;
 
 pub use opening::open;

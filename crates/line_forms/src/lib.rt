@@ -14,8 +14,6 @@ mod lists;
 mod reading;
 mod shapes;
 mod stop;
-#[cfg(test)]
-mod tests;
 mod tool_forms;
 mod words;
 

@@ -4,8 +4,6 @@
 #![tactic(auto)]
 
 mod reading;
-#[cfg(test)]
-mod tests;
 
 pub use reading::read_act;
 pub use script_print::write_act;

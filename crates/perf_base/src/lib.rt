@@ -15,8 +15,6 @@ mod script;
 mod standing;
 mod steps;
 mod stored;
-#[cfg(test)]
-mod tests;
 mod weight;
 
 pub use acts::{Act, Actor};

@@ -9,8 +9,6 @@ mod mem_sink;
 mod mem_source;
 mod outside;
 mod standard;
-#[cfg(test)]
-mod tests;
 mod writing;
 
 pub use calm::{CalmSink, CalmSource};

@@ -9,8 +9,6 @@ mod fitting;
 mod pass;
 mod served;
 mod share;
-#[cfg(test)]
-mod tests;
 
 pub use call::Call;
 pub use pass::{Pass, meet};

@@ -3,7 +3,5 @@
 #![tactic(auto)]
 
 mod pmus;
-#[cfg(test)]
-mod tests;
 
 pub use pmus::{Pmus, is_software};

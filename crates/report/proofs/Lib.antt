@@ -3,3 +3,4 @@ pub mod Entries
 pub mod MadeOrder
 pub mod SummedUp
 pub mod Told
+mod Worked

@@ -11,10 +11,6 @@ mod reports;
 mod rings;
 mod said;
 mod summary;
-#[cfg(test)]
-mod summary_tests;
-#[cfg(test)]
-mod tests;
 mod writing;
 
 pub use laws::{made_has_no_look, made_is_complete, made_totals};

@@ -10,8 +10,6 @@ mod producer;
 mod ring;
 mod steps;
 mod table;
-#[cfg(test)]
-mod tests;
 mod view;
 
 pub use consumer::Consumer;

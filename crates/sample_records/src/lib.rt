@@ -10,8 +10,6 @@ mod header;
 mod laws;
 mod reading;
 mod record;
-#[cfg(test)]
-mod tests;
 mod words;
 
 pub use asking::{read_fields, read_trailer};

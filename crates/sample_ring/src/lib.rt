@@ -12,10 +12,6 @@ mod rings;
 mod sender;
 mod sent;
 mod taking;
-#[cfg(test)]
-mod taking_tests;
-#[cfg(test)]
-mod tests;
 
 pub use making::make_rings;
 pub use meeting::meet;

@@ -12,8 +12,6 @@ mod laws;
 mod pieces;
 mod printing;
 mod stored;
-#[cfg(test)]
-mod tests;
 mod tool_lines;
 mod words;
 

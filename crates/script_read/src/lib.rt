@@ -14,8 +14,6 @@ mod place;
 mod progress;
 mod reading;
 mod state;
-#[cfg(test)]
-mod tests;
 
 pub use fault::ScriptFault;
 pub use laws::each_text_has_one_answer;

@@ -4,4 +4,3 @@ pub mod Keeping
 pub mod Turns
 pub mod Counts
 pub mod Parting
-pub mod Counting

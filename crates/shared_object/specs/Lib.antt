@@ -4,4 +4,3 @@ pub mod Rule
 pub mod Steps
 pub mod Turns
 pub mod Answers
-pub mod Counter

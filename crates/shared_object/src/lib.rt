@@ -11,8 +11,6 @@ mod plays;
 mod sequential;
 mod share;
 mod steps;
-#[cfg(test)]
-mod tests;
 mod turn;
 mod view;
 

@@ -5,8 +5,6 @@
 
 mod laws;
 mod rows;
-#[cfg(test)]
-mod tests;
 
 pub use laws::{each_open_event_has_its_row, rows_are_as_many_as_open_slots, slots_of_rows_rise};
 pub use rows::fill_rows;

@@ -7,8 +7,6 @@ mod estimates;
 mod laws;
 mod row;
 mod table;
-#[cfg(test)]
-mod tests;
 mod text;
 
 pub use estimates::{estimate, share};

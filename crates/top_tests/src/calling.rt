@@ -10,7 +10,7 @@ use std::test::Fail;
 use std::thread::Threads;
 
 /// A source that gives a text, at most so many bytes a read.
-pub fn source_of(alloc: Global, text: &str, piece: usize) -> Result<MemSource, Fail>
+pub(crate) fn source_of(alloc: Global, text: &str, piece: usize) -> Result<MemSource, Fail>
     requires { 0 < piece }
 {
     let bytes = Vec::from_slice(alloc, text.as_bytes())?;
@@ -18,14 +18,14 @@ pub fn source_of(alloc: Global, text: &str, piece: usize) -> Result<MemSource, F
 }
 
 /// A sink that takes at most so many bytes a write, and 20,000 in all.
-pub fn sink_of(alloc: Global, piece: usize) -> Result<MemSink, Fail>
+pub(crate) fn sink_of(alloc: Global, piece: usize) -> Result<MemSink, Fail>
     requires { 0 < piece }
 {
     Ok(MemSink::new(alloc, piece, Vec::new(alloc), 20000)?)
 }
 
 /// Calls the program with the words of a text, at one space each, and gives its answer and its notes.
-pub fn call<R: Threads + Wait + Sync>(
+pub(crate) fn call<R: Threads + Wait + Sync>(
     rt: &R,
     alloc: Global,
     said: &str,

@@ -473,7 +473,8 @@ fn call_with<R: Threads + Wait + Sync>(
     Ok((status, sink, notes, source.read(&mut [0; 9]).ok()))
 }
 
-/// Whether a call answers, writes and notes what its row says; and how many bytes of the next nine the source still has.
+/// Whether a call answers, writes and notes what its row says; and how many bytes of the next nine the source still
+/// has.
 fn comes_so<R: Threads + Wait + Sync>(
     rt: &R,
     alloc: Global,

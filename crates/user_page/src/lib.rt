@@ -8,8 +8,6 @@ mod look;
 mod page;
 mod plays;
 mod steps;
-#[cfg(test)]
-mod tests;
 mod view;
 mod watcher;
 mod writer;

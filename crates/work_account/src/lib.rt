@@ -10,8 +10,6 @@ mod overflowing;
 mod samples;
 mod sampling;
 mod sending;
-#[cfg(test)]
-mod tests;
 
 pub use account::soft;
 pub use sampling::work;

@@ -4,7 +4,5 @@
 
 mod lines;
 mod parts;
-#[cfg(test)]
-mod tests;
 
 pub use parts::make;

@@ -1,6 +1,0 @@
-use Rattle.std.{specs.Prelude.{All}, proofs.Common.{◌≡◌, length}}
-use Rattle.perf_base.specs.Masks.{IsMask}
-use Rattle.counter_match.proofs.tests.masks_by.Given as goal
-
-abbrev pub invariant-loop : goal.invariant-loop
-invariant-loop l = record { masks : All (IsMask l.counters) l.masks.items; count : length l.masks.items ≡ l.counter }

@@ -1,4 +1,0 @@
-use Rattle.event_times.proofs.time_acc.tests.times_plainly.Given as goal
-
-abbrev pub ghosts-times_by : goal.ghosts-times_by
-ghosts-times_by a = record { name = a.blank.name; parts = a.blank.parts }

@@ -1,0 +1,5 @@
+use Rattle.std.proofs.Common.{lit≤, refl}
+use Rattle.ring_tests.proofs.takes.empty_ring_is_taken_up_to_its_start.Goals as goal
+
+pub run-requires : goal.run-requires
+run-requires g c = (6, lit≤ tt, lit≤ tt, refl)

@@ -1,5 +1,0 @@
-use Rattle.std.proofs.Common.{lit≤, refl}
-use Rattle.sample_ring.proofs.taking_tests.empty_ring_is_taken_up_to_its_start.Goals as goal
-
-pub run-requires : goal.run-requires
-run-requires g c = (6, lit≤ tt, lit≤ tt, refl)

@@ -1,5 +1,0 @@
-use Rattle.std.proofs.Common.{lit≤, refl}
-use Rattle.sample_ring.proofs.taking_tests.full_ring_is_taken_up_to_a_lost_record.Goals as goal
-
-pub run-requires : goal.run-requires
-run-requires g c = (6, lit≤ tt, lit≤ tt, refl)

@@ -1,5 +1,0 @@
-use Rattle.std.proofs.Common.{◌≡◌}
-use Rattle.sample_ring.proofs.tests.send_all.Given as goal
-
-abbrev pub invariant-loop-ip : goal.invariant-loop-ip
-invariant-loop-ip g l = l.out.producer.ring ≡ l.table

@@ -1,2 +1,0 @@
-pub mod Steady
-pub mod Worked
