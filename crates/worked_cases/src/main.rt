@@ -4,53 +4,12 @@
 //! text, and the words of each other case, are a file beside the list.
 #![tactic(auto)]
 
-ghost use Rattle.std.specs.Prelude.{◌≡◌, ◌<◌, ◌≤◌, map, IfOk, string_bytes};
-ghost use Rattle.worked_cases.specs.Expectations.{has_script, words_if_printed};
-ghost use Rattle.worked_cases.specs.Printed.{IsAsExpected};
-ghost use Rattle.worked_cases.specs.Words.{AreAsExpected};
-
-mod again;
-mod answer;
-mod case;
-mod printed;
-mod verdict;
-
-use again::{judge_both, run_printed};
-use answer::{answer_of, answer_to};
-use case::{Case, Expected, parse_case};
+use case_verdicts::{Case, Expected, Tally, Verdict, parse_case, printed_too, run_text, run_words};
 use perf_base::NoMemory;
-use printed::printed_text;
-use std::alloc::Global;
 use std::process::ExitCode;
 use std::sync::Wait;
 use std::thread::Threads;
 use std::{env, fs, io};
-use verdict::{Verdict, judge};
-
-/// How many cases there were, and in how many the answer was not what was expected.
-#[derive(Clone, Copy)]
-struct Tally {
-    cases: u64,
-    failures: u64,
-}
-
-impl Tally {
-    /// The tally with one case more.
-    fn with(self, verdict: &Verdict) -> Tally
-        ensures kept { verdict.now ≡ Verdict.AsExpected → result.failures ≡ self.failures }
-        ensures none_lost { self.failures ≤ result.failures }
-        ensures failed { (verdict.now ≡ Verdict.AsExpected → ⊥) → 0 < result.failures }
-    {
-        let failed = match verdict {
-            Verdict::AsExpected => 0,
-            Verdict::Differs(_) => 1,
-        };
-        Tally {
-            cases: self.cases.saturating_add(1),
-            failures: self.failures.saturating_add(failed),
-        }
-    }
-}
 
 /// The folder of the list.
 fn list_folder(rt: &HostRuntime) -> io::Result<String> {
@@ -72,37 +31,6 @@ fn read_report(rt: &HostRuntime, folder: &str, case: &Case) -> io::Result<Vec<u8
         Expected::Table => read_part(rt, folder, case.name.as_str(), "table"),
         _ => Ok(Vec::new(rt.alloc())),
     }
-}
-
-/// How a text went, and then how the printed text of its script went.
-fn run_text<R: Threads + Wait + Sync>(
-    rt: &R,
-    alloc: Global,
-    expected: &Expected,
-    report: &[u8],
-    text: Vec<u8>,
-) -> Result<Verdict, NoMemory>
-    ensures { IfOk result (λ verdict. verdict ≡ Verdict.AsExpected → IsAsExpected expected.now report.now text.items) }
-{
-    let printed = printed_text(alloc, &text)?;
-    let answer = answer_to(rt, alloc, text)?;
-    let again = run_printed(rt, alloc, printed)?;
-    Ok(judge_both(alloc, expected, report, answer.ending(), &again)?)
-}
-
-/// How words went, beside a source that has these bytes.
-fn run_words<R: Threads + Wait + Sync>(
-    rt: &R,
-    alloc: Global,
-    expected: &Expected,
-    report: &[u8],
-    words: &[String],
-    text: Vec<u8>,
-) -> Result<Verdict, NoMemory>
-    ensures { IfOk result (λ verdict. verdict ≡ Verdict.AsExpected → AreAsExpected expected.now report.now (map string_bytes words.now) text.items) }
-{
-    let answer = answer_of(rt, alloc, words, text)?;
-    Ok(judge(alloc, expected, report, answer.ending())?)
 }
 
 /// The words of a case, which stand in a file, one a line.
@@ -169,17 +97,6 @@ fn verdict_of<R: Threads + Wait + Sync>(
     }
 }
 
-/// What the line of a case says of its printed text.
-fn printed_too(expected: &Expected) -> &'static str
-    ensures { result.now ≡ words_if_printed (has_script expected.now) }
-{
-    if expected.has_script() {
-        ", printed too"
-    } else {
-        ""
-    }
-}
-
 /// Prints the line of a case.
 fn print_verdict(rt: &HostRuntime, case: &Case, verdict: &Verdict) -> io::Result<()> {
     let name = case.name.as_str();
@@ -218,10 +135,7 @@ fn run_list<R: Threads + Wait + Sync>(
     folder: &str,
 ) -> io::Result<Tally> {
     let list = fs::read_to_string(rt, format!(in rt.alloc(); "{folder}/cases")?)?;
-    let mut tally = Tally {
-        cases: 0,
-        failures: 0,
-    };
+    let mut tally = Tally::default();
     for line in list.as_str().lines() {
         tally = run_line(rt, threads, folder, line, tally)?;
     }

@@ -2,8 +2,8 @@ use Rattle.std.{specs.Prelude.{◌≡◌, List, ℕ, Some, map, string_bytes}, p
 use Rattle.perf_io.specs.{Counts.{last_count}, MemSink.{SinkState}, MemSource.{SourceState}, Outside.{SinkShows, SourceShows}}
 use Rattle.perf_top.specs.{Outcome.{IsAnswer}, declared.status.Status.{Status}}
 use Rattle.perf_top.specs.declared.status.Status.TheVariants as status
-use Rattle.worked_cases.proofs.Given.{bad-by, refused-by, written-by}
-use Rattle.worked_cases.proofs.answer.answer_of.Goals as goal
+use Rattle.case_verdicts.proofs.Given.{bad-by, refused-by, written-by}
+use Rattle.case_verdicts.proofs.answer.answer_of.Goals as goal
 
 -- what a source and a sink in memory show
 abbrev source_shows : SourceShows SourceState

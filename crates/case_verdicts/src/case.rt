@@ -1,7 +1,7 @@
 //! A case, as a line of the list says it.
 
 ghost use Rattle.std.specs.Prelude.{◌≡◌, ◌↔◌, IsTrue, IfOk, IfSome, None, slice_get};
-ghost use Rattle.worked_cases.specs.Expectations.{IsStated, IsCaseOf, number_allowed, is_of_order, has_script, first_word, behind_word};
+ghost use Rattle.case_verdicts.specs.Expectations.{IsStated, IsCaseOf, number_allowed, is_of_order, has_script, words_if_printed, first_word, behind_word};
 
 use std::alloc::{AllocError, Global};
 
@@ -117,4 +117,15 @@ pub fn parse_case(alloc: Global, line: &str) -> Result<Option<Case>, AllocError>
         name: String::from_str(alloc, name)?,
         expected: parse_expected(alloc, kind, note)?,
     }))
+}
+
+/// What the line of a case says of its printed text.
+pub fn printed_too(expected: &Expected) -> &'static str
+    ensures { result.now ≡ words_if_printed (has_script expected.now) }
+{
+    if expected.has_script() {
+        ", printed too"
+    } else {
+        ""
+    }
 }

@@ -1,8 +1,8 @@
 -- What each expectation of a worked case allows. This project's own profile.
 use Rattle.std.specs.Prelude.{◌≡◌, ◌≢◌, ◌==◌, ◌⊎◌, ◌||◌, ℕ, Bool, true, false, nat_eq, List, [], ◌++◌, codes, string_bytes}
 use Rattle.std.specs.List.{starts_with, ends_with, before_first, after_first}
-use Rattle.worked_cases.specs.declared.case.{Case.{Case}, Expected.{Expected}}
-use Rattle.worked_cases.specs.declared.case.Expected.TheVariants as expected
+use Rattle.case_verdicts.specs.declared.case.{Case.{Case}, Expected.{Expected}}
+use Rattle.case_verdicts.specs.declared.case.Expected.TheVariants as expected
 
 -- the number, the output and the note of a call, by the report that a case names
 abbrev pub Allows : Expected → List ℕ → ℕ → List ℕ → List ℕ → Type 0

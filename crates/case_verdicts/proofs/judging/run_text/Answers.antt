@@ -1,6 +1,6 @@
 use Rattle.std.proofs.Common.{◌≡◌, sym, subst, ◌∙◌}
-use Rattle.worked_cases.{specs.{Written.{IsReplayed}, Printed.{IsPrintedOf}}, proofs.Given.{is_done, as_expected}}
-use Rattle.worked_cases.proofs.run_text.Goals as goal
+use Rattle.case_verdicts.{specs.{Written.{IsReplayed}, Printed.{IsPrintedOf}}, proofs.Given.{is_done, as_expected}}
+use Rattle.case_verdicts.proofs.judging.run_text.Goals as goal
 
 pub returns : goal.returns
 returns g c =

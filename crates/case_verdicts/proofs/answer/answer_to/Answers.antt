@@ -1,8 +1,8 @@
 use Rattle.std.{specs.Prelude.{◌≡◌, ℕ, List, [], ◌∷◌, IfOk, codes, map, string_bytes}, proofs.Common.{rules, subst}}
 use Rattle.perf_base.specs.declared.reasons.SReason.{SReason}
 use Rattle.perf_top.specs.declared.status.Status.TheVariants as status
-use Rattle.worked_cases.specs.Written.{IsBadScript}
-use Rattle.worked_cases.proofs.answer.answer_to.Goals as goal
+use Rattle.case_verdicts.specs.Written.{IsBadScript}
+use Rattle.case_verdicts.proofs.answer.answer_to.Goals as goal
 
 pub returns-clause-bad_script : goal.returns-clause-bad_script
 returns-clause-bad_script g c =

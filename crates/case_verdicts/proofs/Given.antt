@@ -1,19 +1,19 @@
 -- What a call wrote and answered, beside what its source had.
-use Rattle.std.{specs.Prelude.{codes, ◌⊎◌}, proofs.Common.{◌≡◌, ◌↔◌, ℕ, List, [], ◌∷◌, Option, Some, inl, inr, refl, sym, ap, subst, ◌∙◌, arith}}
+use Rattle.std.{specs.Prelude.{◌⊎◌}, proofs.Common.{◌≡◌, ◌↔◌, ℕ, List, [], ◌∷◌, Option, Some, inl, inr, refl, sym, ap, subst, ◌∙◌, arith}}
 use Rattle.perf_base.specs.{declared.{numbers.RingNo.{RingNo}, reasons.SReason.{SReason}}, Scripts.{Scripted}}
 use Rattle.script_spec.specs.Texts.{IsRefused, StandsFor}
 use Rattle.script_read.specs.declared.fault.ScriptFault.TheVariants as fault
 use Rattle.perf_io.specs.Outside.{Adds, SinkShows, SourceShows}
 use Rattle.perf_top.specs.{declared.{status.Status.{Status}, asked.Asked.{Asked}}, Notes.{number_of}, Asking.{AreKnown, Asks, DoesOrder}}
-use Rattle.perf_top.{specs.Outcome.{HasOpenOrder, IsAnswer, IsGiven, IsOutput}, proofs.{Asking.{one-asked}, Whole.{gave-is}}}
+use Rattle.perf_top.{specs.Outcome.{HasOpenOrder, IsAnswer, IsGiven, IsOutput}, proofs.{Whole.{gave-is}}}
 use Rattle.perf_top.specs.declared.status.Status.TheVariants as status
 use Rattle.perf_top.specs.declared.asked.Asked.TheVariants as asked
-use Rattle.worked_cases.specs.declared.{case.Expected.{Expected}, again.Again.{Again}, printed.Printed.{Printed}, verdict.Verdict.{Verdict}}
-use Rattle.worked_cases.specs.{Expectations.{Allows}, Words.{AreAsExpected}, Written.{IsBadOrder, IsBadScript, IsReplayed, IsWritten}}
-use Rattle.worked_cases.specs.Printed.{IsPrintedOf, IsRunOf, AllowsAgain, HasSameReport, IsAsExpected}
-use Rattle.worked_cases.specs.declared.again.Again.TheVariants as again
-use Rattle.worked_cases.specs.declared.printed.Printed.TheVariants as printed
-use Rattle.worked_cases.specs.declared.verdict.Verdict.TheVariants as verdict
+use Rattle.case_verdicts.specs.declared.{case.Expected.{Expected}, again.Again.{Again}, printed.Printed.{Printed}, verdict.Verdict.{Verdict}}
+use Rattle.case_verdicts.specs.{Expectations.{Allows}, Words.{AreAsExpected}, Written.{IsBadOrder, IsBadScript, IsReplayed, IsWritten}}
+use Rattle.case_verdicts.specs.Printed.{IsPrintedOf, IsRunOf, AllowsAgain, HasSameReport, IsAsExpected}
+use Rattle.case_verdicts.specs.declared.again.Again.TheVariants as again
+use Rattle.case_verdicts.specs.declared.printed.Printed.TheVariants as printed
+use Rattle.case_verdicts.specs.declared.verdict.Verdict.TheVariants as verdict
 
 -- what is given over a source is given over its bytes
 over-bytes : {S : Type 0} (left : S → Option (List ℕ)) (a : Asked) (before after : S) (s : Scripted) → IsGiven left a before after s → IsGiven (λ bytes. bytes) a (left before) (left after) s
@@ -57,13 +57,6 @@ bad-by source_shows shows had index ring seen head given asked.Replay source rea
 bad-by source_shows shows had index ring seen head given asked.Stat source read sink written (inr h) e =
     (h.0, subst (λ t. StandsFor t h.0) (gave-is (source_shows.left source) (source_shows.left read) had h.1.0 e h.1.1) h.1.2, h.1.3 tt, h.2.1)
 bad-by source_shows shows had index ring seen head given a source read sink written (inr h) e = absurd h.2.0
-
--- what `replay` has written
-pub replayed-by : (text out : List ℕ) → IsWritten (codes "replay" ∷ []) text out → IsReplayed text out
-replayed-by text out (a, left, s, asks, given, is) =
-    let replay : a ≡ asked.Replay = one-asked (codes "replay" ∷ []) a asked.Replay asks refl in
-    let g = subst (λ (x : Asked). IsGiven (λ bytes. bytes) x (Some text) left s) replay given in
-    (s, subst (λ t. StandsFor t s) (gave-is (Some text) left text g.0 refl g.1) g.2, g.3 tt, subst (λ (x : Asked). IsOutput x s out) replay is)
 
 -- only Done has the number 0
 pub is_done : (s : Status) → number_of s ≡ 0 → s ≡ status.Done

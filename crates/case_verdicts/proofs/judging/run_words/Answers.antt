@@ -1,5 +1,5 @@
-use Rattle.worked_cases.proofs.Given.{words_as_expected}
-use Rattle.worked_cases.proofs.run_words.Goals as goal
+use Rattle.case_verdicts.proofs.Given.{words_as_expected}
+use Rattle.case_verdicts.proofs.judging.run_words.Goals as goal
 
 pub returns : goal.returns
 returns g c =

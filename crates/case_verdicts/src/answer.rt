@@ -3,7 +3,7 @@
 ghost use Rattle.std.specs.Prelude.{◌≡◌, ◌↔◌, ℕ, [], ◌∷◌, codes, map, IfOk, string_bytes};
 ghost use Rattle.perf_top.specs.Notes.{number_of};
 ghost use Rattle.perf_top.specs.Asking.{AreKnown};
-ghost use Rattle.worked_cases.specs.Written.{IsBadOrder, IsBadScript, IsReplayed, IsWritten};
+ghost use Rattle.case_verdicts.specs.Written.{IsBadOrder, IsBadScript, IsReplayed, IsWritten};
 
 use crate::verdict::Ending;
 use perf_base::{NoMemory, RingNo, SReason};

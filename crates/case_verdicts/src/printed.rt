@@ -3,7 +3,7 @@
 ghost use Rattle.std.specs.Prelude.{◌≡◌, ◌≤◌, IfOk};
 ghost use Rattle.perf_base.specs.Scripts.{IsCovered};
 ghost use Rattle.perf_base.specs.Weight.{weight};
-ghost use Rattle.worked_cases.specs.Printed.{IsPrintOf, IsPrintedOf};
+ghost use Rattle.case_verdicts.specs.Printed.{IsPrintOf, IsPrintedOf};
 
 use crate::answer::sink;
 use perf_base::{NoMemory, Script};

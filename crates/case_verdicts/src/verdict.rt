@@ -1,7 +1,7 @@
 //! Whether an answer is what a case expects.
 
 ghost use Rattle.std.specs.Prelude.{◌≡◌, ◌↔◌, IsTrue, IfOk};
-ghost use Rattle.worked_cases.specs.Expectations.{Allows};
+ghost use Rattle.case_verdicts.specs.Expectations.{Allows};
 
 use crate::case::Expected;
 use std::alloc::{AllocError, Global};

@@ -4,10 +4,10 @@ use Rattle.perf_base.specs.Scripts.{Scripted}
 use Rattle.script_spec.specs.Texts.{StandsFor}
 use Rattle.script_spec.specs.Printing as printing
 use Rattle.perf_top.specs.Notes.{number_of}
-use Rattle.worked_cases.specs.{Expectations.{Allows, has_script}, Written.{IsReplayed}, declared.{case.Expected.{Expected}, again.Again.{Again}}}
-use Rattle.worked_cases.specs.declared.printed.Printed.{Printed}
-use Rattle.worked_cases.specs.declared.again.Again.TheVariants as again
-use Rattle.worked_cases.specs.declared.printed.Printed.TheVariants as printed
+use Rattle.case_verdicts.specs.{Expectations.{Allows, has_script}, Written.{IsReplayed}, declared.{case.Expected.{Expected}, again.Again.{Again}}}
+use Rattle.case_verdicts.specs.declared.printed.Printed.{Printed}
+use Rattle.case_verdicts.specs.declared.again.Again.TheVariants as again
+use Rattle.case_verdicts.specs.declared.printed.Printed.TheVariants as printed
 
 -- what a script is printed as: its printed text, which stands for it, where there is room
 abbrev pub IsPrintOf : Scripted → Printed → Type 0

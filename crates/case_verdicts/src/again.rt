@@ -2,8 +2,8 @@
 
 ghost use Rattle.std.specs.Prelude.{◌≡◌, ◌↔◌, IfOk, IsTrue};
 ghost use Rattle.perf_top.specs.Notes.{number_of};
-ghost use Rattle.worked_cases.specs.Expectations.{Allows};
-ghost use Rattle.worked_cases.specs.Printed.{IsRunOf, AllowsAgain};
+ghost use Rattle.case_verdicts.specs.Expectations.{Allows};
+ghost use Rattle.case_verdicts.specs.Printed.{IsRunOf, AllowsAgain};
 
 use crate::answer::{Answer, answer_to};
 use crate::case::Expected;
