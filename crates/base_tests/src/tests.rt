@@ -4,17 +4,12 @@ ghost use Rattle.std.specs.Prelude.{[]};
 ghost use Rattle.perf_base.specs.Scripts.{IsCpuLine, IsToolLine};
 
 use bitflags::Flags;
-use event_counts::CountAcc;
-use event_times::TimeAcc;
-use group_lists::GroupList;
 use perf_base::{
     Act, Actor, Attr, AttrFlags, Cause, Context, CpuLine, CpuNo, CpuSel, CpuSet, EventNo, Key,
     Kind, KindLine, Mode, Name, NoMemory, Own, PmuLine, ReaderLine, Reason, Reply, RingNo, Rule,
     SReason, Script, SeatList, Standing, Steps, StoredReply, Sums, TaskNo, TaskSel, Tight,
     ToolLine, ToolNo, Why, Words, Work,
 };
-use pmu_model::Pmus;
-use sched_rules::Facts;
 use std::alloc::Global;
 use std::marker::Brand;
 
@@ -277,15 +272,6 @@ fn shared_types_cross_threads(_rt: HostRuntime) {
     crosses::<Why>();
     crosses::<Words>();
     crosses::<Work>();
-}
-
-#[test]
-fn parts_of_a_world_cross_threads(_rt: HostRuntime) {
-    crosses::<CountAcc>();
-    crosses::<Facts>();
-    crosses::<GroupList>();
-    crosses::<Pmus>();
-    crosses::<TimeAcc>();
 }
 
 #[test]
