@@ -158,7 +158,7 @@ fn told<L: Ledger>(
     let mut text = String::new(alloc);
     for slot in 0..masks.len() {
         let mask = masks[slot];
-        if mask == 0 || mask >> counters != 0 {
+        if mask == 0 || mask >= 1 << counters {
             return Ok(text);
         }
         match add(&mut seats, slot as u16, mask, &mut steps) {
@@ -239,7 +239,7 @@ fn mask_by(counters: u8, number: usize) -> u32
     } else {
         SPARSE[number % 12]
     };
-    if mask == 0 || mask >> counters != 0 {
+    if mask == 0 || mask >= 1 << counters {
         1
     } else {
         mask
@@ -355,11 +355,4 @@ fn copies<L: Ledger>(blank: Blank) -> bool
 #[test]
 fn copies_other_seats(rt: HostRuntime) {
     assert!(rt; copies::<Brand>(Blank::new(1)));
-}
-
-fn crosses<T: Send + Sync>() {}
-
-#[test]
-fn seats_cross_threads(_rt: HostRuntime) {
-    crosses::<Seats>();
 }

@@ -26,12 +26,12 @@ fn texts_are_acts_or_not(rt: HostRuntime) -> Result<(), Fail> {
         (b"", None),
         (b"p", None),
     ];
-    for (text, act) in table {
-        assert_eq!(rt; read_act(text), act, "{text:?}");
+    for (text, act) in &table {
+        assert_eq!(rt; read_act(text), *act, "{text:?}");
         if let Some(act) = act {
             let mut sink = MemSink::new(rt.alloc(), 3, vec![in rt.alloc(); 99u64]?, 40)?;
-            assert!(rt; write_act(&act, &mut sink).is_ok());
-            assert_eq!(rt; sink.bytes(), text);
+            assert!(rt; write_act(act, &mut sink).is_ok());
+            assert_eq!(rt; sink.bytes(), *text);
         }
     }
     Ok(())

@@ -1,5 +1,5 @@
-//! Tests of streams, texts and their forms: what no clause says, and cases worked out by hand. Nothing of it is for
-//! callers.
+//! Tests of streams, texts and their forms: what no clause says and no theorem of worked_theorems computes. Nothing of
+//! it is for callers.
 #![tactic(auto)]
 
 #[cfg(test)]

@@ -59,11 +59,11 @@ fn few_calls_write_many_pieces(rt: HostRuntime) -> Result<(), Fail> {
         (3000, 9000, 1, 3000),
         (9000, 5000, 9, 5000),
     ];
-    for (piece, room, fails, come) in table {
-        let mut sink = MemSink::new(rt.alloc(), piece, vec![in rt.alloc(); fails]?, room)?;
+    for (piece, room, fails, come) in &table {
+        let mut sink = MemSink::new(rt.alloc(), *piece, vec![in rt.alloc(); *fails]?, *room)?;
         let answer = write_slow(&mut sink, &bytes);
-        assert_eq!(rt; answer.is_ok(), come == 9000);
-        assert_eq!(rt; sink.bytes().len(), come);
+        assert_eq!(rt; answer.is_ok(), *come == 9000);
+        assert_eq!(rt; sink.bytes().len(), *come);
         assert!(rt; bytes.starts_with(sink.bytes()));
     }
     Ok(())

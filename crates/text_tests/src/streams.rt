@@ -15,13 +15,13 @@ fn memory_sources_give_in_pieces(rt: HostRuntime) -> Result<(), Fail> {
         (9, 2, [Some(3), Some(2), None, Some(0)]),
         (9, 9, [Some(3), Some(2), Some(0), Some(0)]),
     ];
-    for (piece, fails, answers) in table {
+    for (piece, fails, answers) in &table {
         let bytes = vec![in rt.alloc(); 5u8, 6, 7, 8, 9]?;
-        let mut source = MemSource::new(bytes, piece, vec![in rt.alloc(); fails]?);
+        let mut source = MemSource::new(bytes, *piece, vec![in rt.alloc(); *fails]?);
         for answer in answers {
             assert_eq!(rt;
                 source.read(&mut [0; 3]).ok(),
-                answer,
+                *answer,
                 "in pieces of {piece}"
             );
         }
@@ -46,18 +46,18 @@ fn memory_sinks_take_in_pieces(rt: HostRuntime) -> Result<(), Fail> {
         (9, 4, 9, [Some(3), Some(1), Some(0), None]),
         (9, 0, 9, [None, None, Some(0), None]),
     ];
-    for (piece, room, fails, answers) in table {
-        let mut sink = MemSink::new(rt.alloc(), piece, vec![in rt.alloc(); fails]?, room)?;
+    for (piece, room, fails, answers) in &table {
+        let mut sink = MemSink::new(rt.alloc(), *piece, vec![in rt.alloc(); *fails]?, *room)?;
         let first = sink.write(b"abc").ok();
         let second = sink.write(b"def").ok();
         let flushed = sink.flush().ok().map(|()| 0);
         let third = sink.write(b"ghi").ok();
         assert_eq!(rt;
             [first, second, flushed, third],
-            answers,
+            *answers,
             "in pieces of {piece}"
         );
-        assert!(rt; sink.bytes().len() <= room);
+        assert!(rt; sink.bytes().len() <= *room);
     }
     let mut sink = MemSink::new(rt.alloc(), 2, vec![in rt.alloc(); 9u64]?, 5)?;
     assert!(rt; write_all(&mut sink, b"hello").is_ok());

@@ -6,7 +6,7 @@ use Rattle.perf_base.specs.{declared.{numbers.RingNo.{RingNo}, acts.Act.{Act}, r
 use Rattle.perf_base.specs.declared.acts.Act.TheVariants as act
 use Rattle.stage_spec.specs.{Hardware.{Hardware, hardware_of}, Stage.{Stage}, Order.{IsLawfulAct, IsLawfulSeen}}
 use Rattle.stage_spec.specs.{History.{Step, CpuStep, ToolStep, SeenStep, steps_of, steps_from, history, opening_stage}, Replies.{AreReplies}}
-use Rattle.ring_spec.specs.{Records.{record_size}, Account.{account}, Rings.{account_of, bytes_of, bytes_in, sizes_in, lost_count}}
+use Rattle.ring_spec.specs.{Records.{record_size}, Rings.{account_of, bytes_of, bytes_in, sizes_in, lost_count}}
 use Rattle.ring_spec.{specs.Running.{RingAccount, Running, record_after, IsAnswerBy}, proofs.Running.{IsKept, kept-step, answer_is, in_account}}
 use Rattle.ring_laws.proofs.Tails.{seen_tail}
 
