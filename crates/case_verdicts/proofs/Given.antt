@@ -4,10 +4,11 @@ use Rattle.perf_base.specs.{declared.{numbers.RingNo.{RingNo}, reasons.SReason.{
 use Rattle.script_spec.specs.Texts.{IsRefused, StandsFor}
 use Rattle.script_read.specs.declared.fault.ScriptFault.TheVariants as fault
 use Rattle.perf_io.specs.Outside.{Adds, SinkShows, SourceShows}
-use Rattle.perf_top.specs.{declared.{status.Status.{Status}, asked.Asked.{Asked}}, Notes.{number_of}, Asking.{AreKnown, Asks, DoesOrder}}
-use Rattle.perf_top.{specs.Outcome.{HasOpenOrder, IsAnswer, IsGiven, IsOutput}, proofs.{Whole.{gave-is}}}
-use Rattle.perf_top.specs.declared.status.Status.TheVariants as status
-use Rattle.perf_top.specs.declared.asked.Asked.TheVariants as asked
+use Rattle.perf_ask.specs.{declared.{status.Status.{Status}, asked.Asked.{Asked}}, Notes.{number_of}, Asking.{AreKnown, Asks, DoesOrder}}
+use Rattle.perf_ask.specs.Reading.{HasOpenOrder}
+use Rattle.perf_top.{specs.Outcome.{IsAnswer, IsGiven, IsOutput}, proofs.Whole.{gave-is}}
+use Rattle.perf_ask.specs.declared.status.Status.TheVariants as status
+use Rattle.perf_ask.specs.declared.asked.Asked.TheVariants as asked
 use Rattle.case_verdicts.specs.declared.{case.Expected.{Expected}, again.Again.{Again}, printed.Printed.{Printed}, verdict.Verdict.{Verdict}}
 use Rattle.case_verdicts.specs.{Expectations.{Allows}, Words.{AreAsExpected}, Written.{IsBadOrder, IsBadScript, IsReplayed, IsWritten}}
 use Rattle.case_verdicts.specs.Printed.{IsPrintedOf, IsRunOf, AllowsAgain, HasSameReport, IsAsExpected}

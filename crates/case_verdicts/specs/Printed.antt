@@ -3,7 +3,7 @@ use Rattle.std.specs.Prelude.{◌≡◌, ◌<◌, ⊤, ℕ, List, length, IsTrue
 use Rattle.perf_base.specs.Scripts.{Scripted}
 use Rattle.script_spec.specs.Texts.{StandsFor}
 use Rattle.script_spec.specs.Printing as printing
-use Rattle.perf_top.specs.Notes.{number_of}
+use Rattle.perf_ask.specs.Notes.{number_of}
 use Rattle.case_verdicts.specs.{Expectations.{Allows, has_script}, Written.{IsReplayed}, declared.{case.Expected.{Expected}, again.Again.{Again}}}
 use Rattle.case_verdicts.specs.declared.printed.Printed.{Printed}
 use Rattle.case_verdicts.specs.declared.again.Again.TheVariants as again

@@ -1,6 +1,6 @@
 -- How the words of a worked case went, with the text that was given to them. This project's own profile.
 use Rattle.std.specs.Prelude.{◌≡◌, ◌↔◌, ℕ, List}
-use Rattle.perf_top.specs.Asking.{AreKnown}
+use Rattle.perf_ask.specs.Asking.{AreKnown}
 use Rattle.case_verdicts.specs.{Expectations.{Allows}, Written.{IsWritten}, declared.case.Expected.{Expected}}
 
 -- The words ended as the case allows, beside a source that had the text: what was written under 0 is what they have

@@ -3,7 +3,8 @@ use Rattle.std.specs.Prelude.{◌⊎◌, ℕ, List, Option, Some}
 use Rattle.perf_base.specs.{declared.{numbers.RingNo.{RingNo}, reasons.SReason.{SReason}}, Scripts.{Scripted}}
 use Rattle.script_spec.specs.Texts.{IsRefused, StandsFor}
 use Rattle.stage_spec.specs.Order.{IsComplete}
-use Rattle.perf_top.specs.{Asking.{Asks, DoesOrder}, Outcome.{HasBadLook, HasOpenOrder, IsGiven, IsOutput, IsReported}, declared.asked.Asked.{Asked}}
+use Rattle.perf_ask.specs.{Asking.{Asks, DoesOrder}, Reading.{HasOpenOrder}, declared.asked.Asked.{Asked}}
+use Rattle.perf_top.specs.Outcome.{HasBadLook, IsGiven, IsOutput, IsReported}
 
 -- the report of the own order of the script that a text stands for, which is complete
 abbrev pub IsReplayed : List ℕ → List ℕ → Type 0

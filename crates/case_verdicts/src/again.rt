@@ -1,7 +1,7 @@
 //! The printed text of a case, run in its turn, and how a case went.
 
 ghost use Rattle.std.specs.Prelude.{◌≡◌, ◌↔◌, IfOk, IsTrue};
-ghost use Rattle.perf_top.specs.Notes.{number_of};
+ghost use Rattle.perf_ask.specs.Notes.{number_of};
 ghost use Rattle.case_verdicts.specs.Expectations.{Allows};
 ghost use Rattle.case_verdicts.specs.Printed.{IsRunOf, AllowsAgain};
 

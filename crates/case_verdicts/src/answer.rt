@@ -1,8 +1,8 @@
 //! The top call over memory.
 
 ghost use Rattle.std.specs.Prelude.{◌≡◌, ◌↔◌, ℕ, [], ◌∷◌, codes, map, IfOk, string_bytes};
-ghost use Rattle.perf_top.specs.Notes.{number_of};
-ghost use Rattle.perf_top.specs.Asking.{AreKnown};
+ghost use Rattle.perf_ask.specs.Notes.{number_of};
+ghost use Rattle.perf_ask.specs.Asking.{AreKnown};
 ghost use Rattle.case_verdicts.specs.Written.{IsBadOrder, IsBadScript, IsReplayed, IsWritten};
 
 use crate::verdict::Ending;

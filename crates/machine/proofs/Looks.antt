@@ -7,7 +7,9 @@ use Rattle.ring_spec.specs.{Records.{Record, words_of}, Rings.{sizes_in}}
 use Rattle.sample_ring.specs.{Taking.{with_tail}, InEnds.{InEnd}, Lending.{with_out, with_reader}, OutEnds.{OutEnd, IsSoundOut}}
 use Rattle.sample_ring.specs.RingLists.{HasRing, InList, OutList, ring_index}
 use Rattle.ring_words.specs.Ends.{IsStop}
-use Rattle.machine.specs.{Leading.{Kept, LeadTo}, Readers.{loads_of, records_taken, records_of_slot, words_in, words_of_slot}}
+use Rattle.machine.specs.{Leading.{Kept, LeadTo}, Readers.{loads_of, records_taken, records_of_slot}}
+use Rattle.run_end.specs.Ended.{words_of_slot}
+use Rattle.run_end.specs.Ended.{words_in}
 use Rattle.machine.proofs.{Places.{set-here}, Seen.{lawful-stop}}
 
 -- one end has loaded its tail once more

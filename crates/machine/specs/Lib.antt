@@ -1,6 +1,5 @@
 pub mod Codes
 pub mod Counted
-pub mod Ended
 pub mod Events
 pub mod Given
 pub mod Leading

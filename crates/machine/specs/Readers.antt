@@ -1,9 +1,10 @@
 -- The readers of a replay, each of which has taken what the last look at its ring saw. This project's own profile.
-use Rattle.std.specs.Prelude.{◌≡◌, ℕ, ◌+◌, ◌*◌, ◌<◌, ◌≤◌, All, List, [], length, map, Option, Some, None, slice_get}
+use Rattle.std.specs.Prelude.{◌≡◌, ℕ, ◌+◌, ◌*◌, ◌<◌, ◌≤◌, All, List, length, map, Option, Some, None, slice_get}
 use Rattle.perf_base.specs.{declared.{acts.Act.{Act}, numbers.RingNo.{RingNo}}, Scripts.{Scripted}}
 use Rattle.ring_spec.specs.{Account.{Account, head_of}, Records.{words_of}, Rings.{account_in, bytes_of}}
 use Rattle.sample_ring.specs.{Taking.{IsUpTo}, InEnds.{InEnd}, OutEnds.{OutEnd}, declared.sent.RingNumbers.{RingNumbers}}
 use Rattle.sample_ring.specs.RingLists.{OutList, InList, HasReader, ring_index}
+use Rattle.run_end.specs.Ended.{words_in}
 
 -- A reader is of the ring of an end that sends, has taken and released just what stands before the last tail that this
 -- end has seen, and has room for a number of words.
@@ -56,15 +57,6 @@ pub record Trails (o : OutEnd) (i : InEnd) : Type 0 where
 pub record AreTrailing (outs : OutList) (ins : InList) : Type 0 where
   pub numbers : ins.numbers ≡ outs.numbers
   pub each : (place : ℕ) (o : OutEnd) → slice_get outs.outs place ≡ Some o → (i : InEnd) × (slice_get ins.readers place ≡ Some (Some i)) × Trails o i
-
--- the words that the reader of a ring has taken; none where it is not there
-abbrev pub words_of_slot : Option (Option InEnd) → List ℕ
-words_of_slot None = []
-words_of_slot (Some None) = []
-words_of_slot (Some (Some i)) = i.words
-
-abbrev pub words_in : InList → RingNo → List ℕ
-words_in ins ring = words_of_slot (slice_get ins.readers (ring_index ins.numbers ring))
 
 -- how many records the reader of a ring has taken, and the place behind the words that it has released, in bytes from
 -- the start of the stream; 0 where it is not there

@@ -12,15 +12,8 @@ ghost use Rattle.machine.specs.Readers.{AreBehind, AreTrailing, HasTaken, HaveTa
 
 use crate::machine::Machine;
 use perf_base::{RingNo, Script};
-use sample_ring::{Ins, RingNumbers, Rings, take_all};
-
-/// What a ring came to: which it is, and where its head and the last tail seen are, in bytes from the start of the
-/// stream, how many of its records were lost in all, and how many of them no LOST record has stated.
-#[derive(Clone, Copy, PartialEq, Eq, Debug)]
-pub struct RingEnd {
-    pub ring: RingNo,
-    pub numbers: RingNumbers,
-}
+use run_end::RingEnd;
+use sample_ring::{Ins, Rings, take_all};
 
 impl Machine {
     /// What a ring of the machine's has come to.

@@ -5,7 +5,6 @@
 
 mod commands;
 mod counters;
-mod ended;
 mod ending;
 mod events;
 mod given;
@@ -21,8 +20,7 @@ mod stepping;
 mod switching;
 mod tools;
 
-pub use ended::Ended;
-pub use ending::RingEnd;
 pub use laws::{acts_lead_as_given_lines, lines_are_planned_from_the_stages_briefs};
 pub use machine::Machine;
+pub use run_end::{Ended, RingEnd};
 pub use stepping::OrderFault;

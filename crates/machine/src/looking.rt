@@ -14,7 +14,8 @@ ghost use Rattle.sample_ring.specs.RingLists.{HasRing, ring_index, with_slot};
 ghost use Rattle.stage_spec.specs.Order.{IsLawfulSeen, last_seen};
 ghost use Rattle.work_account.specs.Ends.{AreTogether};
 ghost use Rattle.machine.specs.Leading.{LeadTo};
-ghost use Rattle.machine.specs.Readers.{HasItsReader, HasMet, loads_of, out_of, records_taken, released_in, words_in};
+ghost use Rattle.machine.specs.Readers.{HasItsReader, HasMet, loads_of, out_of, records_taken, released_in};
+ghost use Rattle.run_end.specs.Ended.{words_in};
 
 use crate::machine::Machine;
 use perf_base::RingNo;

@@ -10,7 +10,9 @@ use Rattle.ring_spec.specs.{Account.{Account, Looks, ring_step}, Records.{words_
 use Rattle.ring_spec.{specs.Sending.{sent_after}, proofs.Rings.{account_of-push}}
 use Rattle.sample_ring.specs.{InEnds.{InEnd}, Taking.{with_tail}, Lending.{with_out}, OutEnds.{OutEnd}}
 use Rattle.sample_ring.specs.RingLists.{InList, OutList, ring_index, with_slot}
-use Rattle.machine.specs.Readers.{AreBehind, AreReaders, HasMet, IsBehind, out_of, records_taken, records_of_slot, released_in, released_of_slot, words_in, words_of_slot}
+use Rattle.machine.specs.Readers.{AreBehind, AreReaders, HasMet, IsBehind, out_of, records_taken, records_of_slot, released_in, released_of_slot}
+use Rattle.run_end.specs.Ended.{words_of_slot}
+use Rattle.run_end.specs.Ended.{words_in}
 use Rattle.machine.proofs.{History.{history-grows}, Behind.{MeetsEnd, MeetsReader, place-of-nth}, Pairs.{paired-set}, Places.{set-here, set-other}}
 use Rattle.ring_laws.proofs.Tails.{seen_tail}
 use Rattle.run_laws.{specs.Growing.{AreLooks}, proofs.Taken.{few-taken-of}}

@@ -4,7 +4,8 @@ use Rattle.std.proofs.lemmas.List.Elements.{All-cons, All-head, All-nil, All-tai
 use Rattle.perf_base.specs.{declared.{acts.Act.{Act}, numbers.RingNo.{RingNo}}, Scripts.{Scripted}}
 use Rattle.ring_spec.specs.{Account.{Account, head_of}, Rings.{account_in, bytes_of}}
 use Rattle.sample_ring.{specs.RingLists.{InList}, proofs.Sending.{size-words}}
-use Rattle.machine.specs.{declared.ending.RingEnd.{RingEnd}, Ended.{HasTakenAll}, Readers.{HasTaken, HaveTaken, IsShown}}
+use Rattle.run_end.specs.{declared.ended.RingEnd.{RingEnd}, Ended.{HasTakenAll}}
+use Rattle.machine.specs.Readers.{HasTaken, HaveTaken, IsShown}
 
 pub first-is : (m n : RingNo) (ms ns : List RingNo) → ◌≡◌ {A = List RingNo} (m ∷ ms) (n ∷ ns) → m ≡ n
 first-is m n ms ns e = cc

@@ -4,7 +4,8 @@ use Rattle.perf_base.specs.{declared.acts.Act.{Act}, Scripts.{Scripted, IsScript
 use Rattle.ring_spec.specs.Rings.{account_in, bytes_of}
 use Rattle.stage_spec.specs.Order.{last_seen}
 use Rattle.sample_ring.specs.RingLists.{InList}
-use Rattle.machine.specs.{Ended.{Ran}, Readers.{HaveTaken, IsShown, records_taken, released_in}}
+use Rattle.run_end.specs.Ended.{Ran}
+use Rattle.machine.specs.Readers.{HaveTaken, IsShown, records_taken, released_in}
 use Rattle.report_spec.specs.Answers.{IsAnswered, taken_of}
 
 -- It is of a script, its answers are those to its order, each ring came to what its account over that order says, and

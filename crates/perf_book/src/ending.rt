@@ -15,13 +15,15 @@ ghost use Rattle.sample_ring.specs.RingLists.{HasRing, ring_index, with_slot};
 ghost use Rattle.stage_spec.specs.Order.{last_seen};
 ghost use Rattle.work_account.specs.Ends.{AreTogether};
 ghost use Rattle.machine.specs.Leading.{IsOf, LeadTo};
-ghost use Rattle.machine.specs.Readers.{AreBehind, AreReaders, HasItsReader, HasMet, IsShown, out_of, records_taken, released_in, words_in};
+ghost use Rattle.machine.specs.Readers.{AreBehind, AreReaders, HasItsReader, HasMet, IsShown, out_of, records_taken, released_in};
+ghost use Rattle.run_end.specs.Ended.{words_in};
 ghost use Rattle.perf_book.specs.Ending.{AreParts, IsEnd};
 ghost use Rattle.run_laws.specs.Growing.{AreLooks};
 
 use crate::book::Book;
-use machine::{Ended, Machine, RingEnd};
+use machine::Machine;
 use perf_base::{Act, RingNo, Script};
+use run_end::{Ended, RingEnd};
 use sample_ring::{Ins, Rings};
 
 /// The two ends of a ring meet, and the look is kept in a list that has room for it, where the tail was seen further

@@ -3,8 +3,8 @@ use Rattle.std.{specs.Prelude.{◌≡◌, ◌⊎◌, ℕ, List}, proofs.Common.{
 use Rattle.perf_base.specs.Scripts.{Scripted}
 use Rattle.perf_io.specs.{Outside.{Adds, SinkShows, SourceShows}, Wrote.{WroteFront}}
 use Rattle.perf_top.specs.{Outcome.{IsAnswer, IsEnding, IsFlushed, IsFlushedOnce, IsGiven, IsOutput}}
-use Rattle.perf_top.specs.declared.{asked.Asked.{Asked}, status.Status.{Status}}
-use Rattle.perf_top.specs.declared.status.Status.TheVariants as status
+use Rattle.perf_ask.specs.declared.{asked.Asked.{Asked}, status.Status.{Status}}
+use Rattle.perf_ask.specs.declared.status.Status.TheVariants as status
 
 -- a text was sent that is what is to be written
 pub sent : {K : Type 0} (shows : SinkShows K) (a : Asked) (s : Scripted) (out : List ℕ) (answer : Status) (before after : K)

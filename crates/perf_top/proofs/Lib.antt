@@ -1,16 +1,11 @@
-pub mod Asking
 pub mod Ending
-pub mod Filling
-pub mod LineCounts
 pub mod Lines
 pub mod LookText
 pub mod Made
-pub mod OrderLength
 pub mod Parts
-pub mod Refusing
+pub mod Noting
 pub mod Reported
 pub mod Rooms
 pub mod Seeing
 pub mod Told
 pub mod Whole
-pub mod Words

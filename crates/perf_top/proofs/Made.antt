@@ -6,7 +6,7 @@ use Rattle.ring_spec.specs.Account.{Account}
 use Rattle.report_spec.specs.{Answers.{IsAnswered}, Report.{rings_after}}
 use Rattle.report.specs.{Told.{AreTold, rings_of}, Summary.{summary_text, totals_of}, declared.summary.Summary.{Summary}}
 use Rattle.report.proofs.MadeOrder.{complete_law, no_look_law, order_length}
-use Rattle.machine.specs.Ended.{Ran}
+use Rattle.run_end.specs.Ended.{Ran}
 use Rattle.perf_book.specs.Ending.{IsEnd}
 use Rattle.make_spec.{specs.Rounds.{script_of_rounds}, proofs.{Sound.{covered_law}, Weights.{weight_law}}}
 use Rattle.perf_top.{specs.Outcome.{HasBadLook, IsSummary}, proofs.Told.{are-told}}

@@ -1,7 +1,7 @@
 -- What is written of a run that has ended is its report.
 use Rattle.std.{specs.Prelude.{◌≡◌, List}, proofs.Common.{subst}}
 use Rattle.perf_base.specs.{declared.acts.Act.{Act}, Scripts.{Scripted}}
-use Rattle.machine.specs.Ended.{Ran}
+use Rattle.run_end.specs.Ended.{Ran}
 use Rattle.perf_book.specs.Ending.{IsEnd}
 use Rattle.report.{proofs.Told.{told_whole}, specs.Told.{report_by, rings_of}}
 use Rattle.report_spec.specs.Report.{rings_after}

@@ -5,7 +5,8 @@ use Rattle.perf_base.specs.{declared.{acts.Act.{Act}, numbers.RingNo.{RingNo}}, 
 use Rattle.stage_spec.specs.{Hardware.{hardware_of}, History.{history, opening_stage}}
 use Rattle.ring_spec.{specs.{Records.{words_of}, Rings.{account_in, bytes_of}}, proofs.Sizes.{sizes_law}}
 use Rattle.sample_ring.specs.RingLists.{InList}
-use Rattle.machine.specs.{declared.ending.RingEnd.{RingEnd}, Readers.{HasTaken, HaveTaken, IsShown, words_in}}
+use Rattle.run_end.specs.{declared.ended.RingEnd.{RingEnd}, Ended.{words_in}}
+use Rattle.machine.specs.Readers.{HasTaken, HaveTaken, IsShown}
 use Rattle.perf_book.proofs.{Declared.{IsDeclared, all-declared}, Taken.{first-is, others-are}}
 use Rattle.report.specs.Told.{AreTold, IsTold}
 use Rattle.report_spec.specs.Report.{rings_after}

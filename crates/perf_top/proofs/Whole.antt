@@ -8,10 +8,11 @@ use Rattle.stage_spec.specs.Order.{IsComplete, IsLawfulSeen}
 use Rattle.ring_spec.specs.Rings.{IsLawfulOrder, sizes_in}
 use Rattle.script_spec.specs.Texts.{IsRefused, StandsFor}
 use Rattle.script_read.proofs.OneAnswer.{stands_one, stands_or_refused}
-use Rattle.perf_top.specs.{Asking.{DoesOrder}, Outcome.{CanBeDone, Gave, HasBadLook, HasOpenOrder, IsAnswer, IsDone, IsEnding, IsGiven, IsRefusal}}
-use Rattle.perf_top.{specs.declared.{asked.Asked.{Asked}, status.Status.{Status}}, proofs.Refusing.{reads-script}}
-use Rattle.perf_top.specs.declared.asked.Asked.TheVariants as asked
-use Rattle.perf_top.specs.declared.status.Status.TheVariants as status
+use Rattle.perf_ask.specs.{Asking.{DoesOrder}, Reading.{Gave, HasOpenOrder, IsRefusal}}
+use Rattle.perf_top.specs.Outcome.{CanBeDone, HasBadLook, IsAnswer, IsDone, IsEnding, IsGiven}
+use Rattle.perf_ask.{specs.declared.{asked.Asked.{Asked}, status.Status.{Status}}, proofs.Refusing.{reads-script}}
+use Rattle.perf_ask.specs.declared.asked.Asked.TheVariants as asked
+use Rattle.perf_ask.specs.declared.status.Status.TheVariants as status
 
 -- what was read to the end is all that there was
 pub given-is : (left : List ℕ) (after : Option (List ℕ)) (text : List ℕ) → Takes (Some left) after text → IsAtEnd after → text ≡ left

@@ -1,4 +1,2 @@
-pub mod Asking
 pub mod Attributes
-pub mod Notes
 pub mod Outcome

@@ -1,28 +1,22 @@
--- What a call of the program reads, does and leaves. This project's own profile.
-use Rattle.std.specs.Prelude.{◌≡◌, ◌⊎◌, ◌<◌, ◌≤◌, ℕ, List, ◌++◌, length, take, IfSome, Option, Some, Result, slice_get}
-use Rattle.perf_base.specs.{declared.{acts.Act.{Act}, numbers.RingNo.{RingNo}, reply.Answer.{Answer}, reasons.SReason.{SReason}}, Scripts.{Scripted}}
+-- What a call of the program does and leaves. This project's own profile.
+use Rattle.std.specs.Prelude.{◌≡◌, ◌⊎◌, ◌≤◌, ℕ, List, ◌++◌, length, take, IfSome, Option, Some, Result, slice_get}
+use Rattle.perf_base.specs.{declared.{acts.Act.{Act}, numbers.RingNo.{RingNo}, reply.Answer.{Answer}}, Scripts.{Scripted}}
 use Rattle.perf_base.specs.declared.acts.Act.TheVariants as act
-use Rattle.perf_base.specs.declared.reasons.SReason.TheVariants as s_reason
 use Rattle.perf_io.specs.{declared.outside.Failed.{Failed}, Counts.{count_after}}
-use Rattle.perf_io.specs.{Outside.{Adds, Flushes, IsAtEnd, Rose, SinkShows, SourceShows, Takes}, Wrote.{Wrote, WroteFront}}
+use Rattle.perf_io.specs.{Outside.{Adds, Flushes, SinkShows, SourceShows}, Wrote.{Wrote, WroteFront}}
 use Rattle.stage_spec.specs.Order.{IsComplete, IsLawfulSeen, last_seen}
 use Rattle.ring_spec.specs.{Account.{head_of}, Rings.{IsLawfulOrder, account_in, bytes_of, sizes_in}}
-use Rattle.script_spec.specs.{Lines.{lines_of}, Printing.{printed}, Texts.{IsRefused, StandsFor}}
+use Rattle.script_spec.specs.{Printing.{printed}, Texts.{StandsFor}}
 use Rattle.report_spec.specs.{Answers.{AreReadersParts, IsAnswered, IsRunShaped}, Published.{IsWatched}, Report.{report, rings_after}}
 use Rattle.make_spec.specs.Rounds.{script_of_rounds}
 use Rattle.report.specs.Summary.{summary_text, totals_of}
 use Rattle.stat_rows.specs.Rows.{rows_of}
 use Rattle.stat_table.specs.Table.{table_text}
-use Rattle.perf_top.specs.{Asking.{DoesOrder, ReadsScript, TakesMemory}, Attributes.{IsLineOf}, Notes.{note_of}, declared.asked.Asked.{Asked}}
-use Rattle.perf_top.specs.declared.status.Status.{Status}
-use Rattle.perf_top.specs.declared.asked.Asked.TheVariants as asked
-use Rattle.perf_top.specs.declared.status.Status.TheVariants as status
-
--- The source was read to its end, and this is all that it gave.
-pub record Gave (before after : Option (List ℕ)) (text : List ℕ) : Type 0 where
-  pub short : length text ≤ 4194304
-  pub taken : Takes before after text
-  pub ended : IsAtEnd after
+use Rattle.perf_ask.specs.{Asking.{DoesOrder, ReadsScript, TakesMemory}, Notes.{note_of}, Reading.{Gave, IsRefusal}}
+use Rattle.perf_ask.specs.declared.{asked.Asked.{Asked}, status.Status.{Status}}
+use Rattle.perf_top.specs.Attributes.{IsLineOf}
+use Rattle.perf_ask.specs.declared.asked.Asked.TheVariants as asked
+use Rattle.perf_ask.specs.declared.status.Status.TheVariants as status
 
 -- The script of what is asked, and what was read for it: the script that the text of the source stands for, whose own
 -- order is complete where that is to be done; or a made one. An attribute has none.
@@ -72,24 +66,6 @@ pub record HasBadLook (s : Scripted) (index : ℕ) (ring : RingNo) (last head gi
   pub seen_last : last ≡ last_seen ring (take index s.order)
   pub headed : head ≡ head_of (account_in s (take index s.order) (ring, bytes_of s ring))
   pub unlawful : IsLawfulSeen (sizes_in s (take index s.order) ring) last given → ⊥
-
--- The text stands for a script whose order is not complete. The line is that of its `end`.
-pub record HasOpenOrder (text : List ℕ) (line : ℕ) (reason : SReason) : Type 0 where
-  pub script : Scripted
-  pub stands : StandsFor text script
-  pub incomplete : IsComplete script script.order → ⊥
-  pub at_end : line ≡ length (lines_of text)
-  pub is_order : reason ≡ s_reason.Order
-
--- Why nothing is done, by the answer and what the source shows.
-abbrev pub IsRefusal : {S : Type 0} → SourceShows S → Asked → Status → S → S → Type 0
-IsRefusal shows a status.NoMemory before after =
-    TakesMemory a × ((after ≡ before) ⊎ (ReadsScript a × ((text : List ℕ) × Gave (shows.left before) (shows.left after) text)))
-IsRefusal shows a status.ReadFault before after = ReadsScript a × Rose shows.last_fault (shows.faults before) (shows.faults after)
-IsRefusal shows a status.TooLong before after = ReadsScript a × IfSome (shows.left before) (λ bytes. 4194304 < length bytes)
-IsRefusal shows a (status.BadScript line reason) before after = ReadsScript a
-    × ((text : List ℕ) × Gave (shows.left before) (shows.left after) text × (IsRefused text line reason ⊎ (DoesOrder a × HasOpenOrder text line reason)))
-IsRefusal shows a other before after = ⊥
 
 -- One flush more, behind the last byte.
 abbrev pub IsFlushed : Option (List ℕ) → Flushes → Flushes → Type 0

@@ -8,18 +8,17 @@ ghost use Rattle.stage_spec.specs.Order.{IsComplete};
 ghost use Rattle.ring_spec.specs.Rings.{IsLawfulOrder};
 ghost use Rattle.make_spec.specs.Rounds.{script_of_rounds};
 ghost use Rattle.stat_rows.specs.Rows.{rows_of};
-ghost use Rattle.perf_top.specs.Asking.{DoesOrder, ReadsScript};
-ghost use Rattle.perf_top.specs.Outcome.{Gave, IsEnding, IsGiven, IsRefusal};
+ghost use Rattle.perf_ask.specs.Asking.{DoesOrder, ReadsScript};
+ghost use Rattle.perf_ask.specs.Reading.{Gave, IsRefusal};
+ghost use Rattle.perf_top.specs.Outcome.{IsEnding, IsGiven};
 
-use crate::asked::{Asked, Rounds};
 use crate::attr::line_of;
-use crate::load::{Loaded, load};
 use crate::make::{Made, ScriptText, print_made, print_summary};
 use crate::ready::{Ready, Replayed};
 use crate::run::{Report, send};
 use crate::stat::{Rows, Table, tabulate};
-use crate::status::Status;
 use line_forms::MOST_BYTES;
+use perf_ask::{Asked, Loaded, Rounds, Status, load};
 use perf_base::{NoMemory, SReason, ShortList};
 use perf_io::{Sink, Source};
 use script_read::order_complete;
@@ -85,8 +84,8 @@ pub struct Job {
 
 impl Model for Job {
     ghost use Rattle.perf_base.specs.Scripts.{Scripted, empty_script};
-    ghost use Rattle.perf_top.specs.declared.asked.Asked.{Asked};
-    ghost use Rattle.perf_top.specs.declared.asked.Asked.TheVariants.{Replay, Stat, Make, MadeScript, Attr};
+    ghost use Rattle.perf_ask.specs.declared.asked.Asked.{Asked};
+    ghost use Rattle.perf_ask.specs.declared.asked.Asked.TheVariants.{Replay, Stat, Make, MadeScript, Attr};
     ghost use Rattle.perf_top.specs.declared.job.Task.TheVariants.{Report, Tabulate, SumUp, Print, Describe};
 
     ghost Value = { Asked × Scripted };

@@ -6,32 +6,25 @@
 
 ghost use Rattle.std.specs.Prelude.{◌≡◌, ◌⊎◌, ◌↔◌, ◌≤◌, map, string_bytes};
 ghost use Rattle.perf_io.specs.Outside.{Rose};
-ghost use Rattle.perf_top.specs.Asking.{AreKnown, Asks, DoesOrder, ReadsScript};
+ghost use Rattle.perf_ask.specs.Asking.{AreKnown, Asks, DoesOrder, ReadsScript};
 ghost use Rattle.perf_top.specs.Outcome.{CanBeDone, IsAnswer, IsDone, IsNoted};
 
-mod asked;
 mod attr;
 mod job;
 mod line;
-mod load;
 mod make;
-mod notes;
 mod ready;
 mod run;
 mod running;
 mod stat;
-mod status;
-mod text;
 mod watching;
 
-pub use asked::{Asked, Rounds, Watching, asked_by, words_ask_one_thing};
 pub use job::Job;
-pub use notes::put_note;
+pub use perf_ask::{Asked, Rounds, Status, Watching, asked_by, put_note, words_ask_one_thing};
 use perf_book::Gate;
 pub use perf_book::OpenGate;
 use perf_io::{CalmSink, CalmSource, Sink, Source};
 pub use running::RunJob;
-pub use status::Status;
 use std::alloc::Global;
 use std::sync::Wait;
 use std::thread::Threads;
@@ -121,7 +114,7 @@ fn noted<N: Sink>(notes: &mut N, status: Status) -> Status
     if status.is_done() {
         return status;
     }
-    match notes::put_note(notes, &status) {
+    match put_note(notes, &status) {
         Ok(()) | Err(_) => status,
     }
 }

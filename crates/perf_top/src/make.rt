@@ -6,15 +6,14 @@ ghost use Rattle.report.specs.Summary.{summary_text};
 ghost use Rattle.perf_book.specs.Ending.{IsEnd};
 ghost use Rattle.perf_top.specs.Outcome.{IsEnding, IsSummary};
 
-use crate::asked::{Asked, Rounds};
 use crate::ready::Ready;
 use crate::run::send;
-use crate::status::Status;
 use buffered_sink::Written;
-use machine::Ended;
+use perf_ask::{Asked, Rounds, Status};
 use perf_base::{NoMemory, Script};
 use perf_io::{Failed, Sink};
 use report::{Summary, summary_of, write_summary};
+use run_end::Ended;
 use script_print::print_script;
 use std::alloc::Global;
 use work_maker::make;

@@ -10,10 +10,10 @@ ghost use Rattle.machine.specs.Readers.{AreFollowing};
 ghost use Rattle.perf_book.specs.Ending.{IsEnd};
 ghost use Rattle.perf_top.specs.Outcome.{HasBadLook};
 
-use crate::status::Status;
-use machine::Ended;
+use perf_ask::Status;
 use perf_base::{NoMemory, RingNo, Script};
 use perf_book::{Book, OrderFault};
+use run_end::Ended;
 use sample_ring::{Ins, Rings, make_rings};
 use std::alloc::Global;
 use std::marker::Model;

@@ -6,7 +6,7 @@ use Rattle.perf_base.specs.{declared.numbers.RingNo.{RingNo}, Scripts.{line_coun
 use Rattle.sample_ring.specs.declared.sent.RingNumbers.{RingNumbers}
 use Rattle.ring_spec.specs.{Account.{Account}, Records.{Record, IsRecord, record_words, words_of}, Whole.{IsBlock, size_field}}
 use Rattle.ring_spec.proofs.Cutting.{block-of}
-use Rattle.machine.specs.{Ended.{Ran}, Readers.{words_in}, declared.ending.RingEnd.{RingEnd}}
+use Rattle.run_end.specs.{Ended.{Ran, words_in}, declared.ended.RingEnd.{RingEnd}}
 use Rattle.report.specs.{Told.{AreTold, IsTold, cut, cut_records, rings_of}, Summary.{first_word, ran_totals, totals_of}}
 use Rattle.report.proofs.Told.{first_cut_at}
 

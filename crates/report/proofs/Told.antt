@@ -4,7 +4,7 @@ use Rattle.std.proofs.{Common.{arith, refl, ap, ◌∙◌, append_assoc, length-
 use Rattle.std.proofs.{lemmas.List.{Concat.{flat_map-cons}, Elements.{All-tail}}, Math.Seq.{drop-append_seam, take-append_seam}}
 use Rattle.perf_base.specs.{declared.{acts.Act.{Act}, numbers.RingNo.{RingNo}, reply.Answer.{Answer}}, Scripts.{Scripted}}
 use Rattle.sample_ring.specs.{RingLists.{InList}, declared.sent.RingNumbers.{RingNumbers}}
-use Rattle.machine.specs.{declared.ending.RingEnd.{RingEnd}, Readers.{words_in}}
+use Rattle.run_end.specs.{declared.ended.RingEnd.{RingEnd}, Ended.{words_in}}
 use Rattle.ring_spec.specs.{Account.{Account, head_of}, Records.{Record, IsRecord, record_words, record_size, words_of}, Whole.{IsBlock, size_field}}
 use Rattle.ring_spec.proofs.Cutting.{block-of}
 use Rattle.report_spec.specs.Report.{answer_lines, hexadecimal_digits, record_lines, report, ring_lines}

@@ -3,7 +3,7 @@ use Rattle.std.{specs.Prelude.{◌≡◌, ℕ, List, [], ◌∷◌, length, sum_
 use Rattle.perf_base.specs.declared.{acts.Actor.{Actor}, reply.{Answer.{Answer}, Reply.{Reply}}}
 use Rattle.perf_base.specs.declared.acts.Actor.TheVariants as actor
 use Rattle.perf_base.specs.declared.reply.Reply.TheVariants as reply
-use Rattle.machine.specs.declared.ending.RingEnd.{RingEnd}
+use Rattle.run_end.specs.declared.ended.RingEnd.{RingEnd}
 use Rattle.report.specs.{Summary.{first_word}, Told.{cut, cut_records}}
 
 -- the answer to a line of tool 0, and the answer of these words

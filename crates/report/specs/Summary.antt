@@ -3,7 +3,7 @@ use Rattle.std.specs.Prelude.{ℕ, List, ◌++◌, codes, decimal, length, slice
 use Rattle.perf_base.specs.{declared.{numbers.RingNo.{RingNo}, reply.{Reply.{Reply}, Answer.{Answer}}}, Scripts.{Scripted, line_count}}
 use Rattle.perf_base.specs.declared.reply.Reply.TheVariants as reply
 use Rattle.ring_spec.specs.Account.{Account}
-use Rattle.machine.specs.{Ended.{Ran}, Readers.{words_in}}
+use Rattle.run_end.specs.Ended.{Ran, words_in}
 use Rattle.report.specs.{Told.{cut_records}, declared.summary.Totals.{Totals}}
 
 -- the first word of a read: the event's count, or how many members a group has that is read whole (perf_event_open(2));

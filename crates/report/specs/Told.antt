@@ -5,7 +5,7 @@ use Rattle.sample_ring.specs.declared.sent.RingNumbers.{RingNumbers}
 use Rattle.ring_spec.specs.{Account.{Account, head_of}, Records.{IsRecord, words_of}, Whole.{size_field}}
 use Rattle.report_spec.specs.Report.{answer_lines, fate_text, hexadecimal_digits}
 use Rattle.script_spec.specs.Acts.{acts_text}
-use Rattle.machine.specs.{Ended.{Ran}, Readers.{words_in}}
+use Rattle.run_end.specs.Ended.{Ran, words_in}
 
 -- words of sixteen hexadecimal digits, a space before each
 abbrev pub words_text : List ℕ → List ℕ

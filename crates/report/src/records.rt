@@ -1,10 +1,10 @@
 //! How many records were written and lost.
 
 ghost use Rattle.std.specs.Prelude.{◌≡◌, length, sum_by};
-ghost use Rattle.machine.specs.Readers.{words_in};
+ghost use Rattle.run_end.specs.Ended.{words_in};
 ghost use Rattle.report.specs.Told.{cut_records};
 
-use machine::{Ended, RingEnd};
+use run_end::{Ended, RingEnd};
 use sample_records::header_of;
 
 /// How many records words are cut into: each has as many words as its first word's size field says, but at least that

@@ -10,9 +10,9 @@ ghost use Rattle.report.specs.Told.{AreTold, report_by, rings_of};
 
 use crate::answers::write_answers;
 use crate::rings::write_rings;
-use machine::Ended;
 use perf_base::Act;
 use perf_io::{Failed, Sink, write_all};
+use run_end::Ended;
 use script_print::put_acts;
 
 /// Writes the line of an order. Where a call of the sink fails, some front of the line stays added.

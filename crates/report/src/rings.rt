@@ -7,9 +7,9 @@ ghost use Rattle.report_spec.specs.Report.{fate_text, hexadecimal_digits, ring_l
 ghost use Rattle.ring_spec.specs.Account.{Account};
 ghost use Rattle.report.specs.Told.{IsTold, all_told, cut_lines, numbers_line, cut_records, rings_of, told_lines, words_line, words_text};
 
-use machine::Ended;
 use perf_base::RingNo;
 use perf_io::{Failed, Sink, write_all, write_numbered};
+use run_end::Ended;
 use sample_records::header_of;
 use sample_ring::RingNumbers;
 

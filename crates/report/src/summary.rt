@@ -7,8 +7,8 @@ ghost use Rattle.report.specs.Told.{AreTold, rings_of};
 ghost use Rattle.report.specs.Summary as spec;
 
 use crate::records::{count_lost, count_written};
-use machine::Ended;
 use perf_base::{Answer, Reply};
+use run_end::Ended;
 
 /// What a report sums up to.
 #[derive(Clone, Copy, PartialEq, Eq, Debug)]

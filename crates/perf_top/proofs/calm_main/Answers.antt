@@ -1,7 +1,8 @@
 use Rattle.std.{specs.Prelude.{◌≡◌, ℕ, List, None, Some}, proofs.Common.{subst, sym, ◌∙◌}}
 use Rattle.perf_io.specs.{Outside.{SinkShows, SourceShows}, Streams.{CalmState, only_calls}}
-use Rattle.perf_top.{specs.{Outcome.{IsAnswer}, declared.status.Status.{Status}}, proofs.Whole.{rose-reading, rose-writing, stays}}
-use Rattle.perf_top.specs.declared.status.Status.TheVariants as status
+use Rattle.perf_top.{specs.Outcome.{IsAnswer}, proofs.Whole.{rose-reading, rose-writing, stays}}
+use Rattle.perf_ask.specs.declared.status.Status.{Status}
+use Rattle.perf_ask.specs.declared.status.Status.TheVariants as status
 use Rattle.perf_top.proofs.calm_main.Goals as goal
 
 -- what such a source and such a sink show

@@ -1,6 +1,6 @@
 use Rattle.std.specs.Prelude.{◌≡◌}
-use Rattle.perf_top.proofs.Refusing.{other-noted}
-use Rattle.perf_top.specs.declared.status.Status.TheVariants as status
+use Rattle.perf_top.proofs.Noting.{other-noted}
+use Rattle.perf_ask.specs.declared.status.Status.TheVariants as status
 use Rattle.perf_top.proofs.noted.Goals as goal
 
 pub returns-in-Ok-clause-note : goal.returns-in-Ok-clause-note

@@ -1,5 +1,6 @@
 use Rattle.std.{specs.Prelude.{map, string_bytes}, proofs.Common.{subst, sym}}
-use Rattle.perf_top.{specs.{Outcome.{IsAnswer, IsDone}, declared.asked.Asked.{Asked}}, proofs.{Asking.{for-asked}, Whole.{whole}}}
+use Rattle.perf_top.{specs.Outcome.{IsAnswer, IsDone}, proofs.Whole.{whole}}
+use Rattle.perf_ask.{specs.declared.asked.Asked.{Asked}, proofs.Asking.{for-asked}}
 use Rattle.perf_top.proofs.perf_main.Goals as goal
 
 pub returns-in-Some-clause-complete : goal.returns-in-Some-clause-complete

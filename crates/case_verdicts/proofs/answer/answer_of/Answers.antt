@@ -1,7 +1,8 @@
 use Rattle.std.{specs.Prelude.{◌≡◌, List, ℕ, Some, map, string_bytes}, proofs.Common.{ap, refl, subst, sym, ◌∙◌}}
 use Rattle.perf_io.specs.{Counts.{last_count}, MemSink.{SinkState}, MemSource.{SourceState}, Outside.{SinkShows, SourceShows}}
-use Rattle.perf_top.specs.{Outcome.{IsAnswer}, declared.status.Status.{Status}}
-use Rattle.perf_top.specs.declared.status.Status.TheVariants as status
+use Rattle.perf_top.specs.Outcome.{IsAnswer}
+use Rattle.perf_ask.specs.declared.status.Status.{Status}
+use Rattle.perf_ask.specs.declared.status.Status.TheVariants as status
 use Rattle.case_verdicts.proofs.Given.{bad-by, refused-by, written-by}
 use Rattle.case_verdicts.proofs.answer.answer_of.Goals as goal
 

@@ -1,6 +1,6 @@
 use Rattle.std.{specs.Prelude.{◌≡◌, ℕ, List, [], ◌∷◌, IfOk, codes, map, string_bytes}, proofs.Common.{rules, subst}}
 use Rattle.perf_base.specs.declared.reasons.SReason.{SReason}
-use Rattle.perf_top.specs.declared.status.Status.TheVariants as status
+use Rattle.perf_ask.specs.declared.status.Status.TheVariants as status
 use Rattle.case_verdicts.specs.Written.{IsBadScript}
 use Rattle.case_verdicts.proofs.answer.answer_to.Goals as goal
 

@@ -3,7 +3,8 @@ use Rattle.perf_base.specs.{declared.{acts.Act.{Act}, numbers.RingNo.{RingNo}}, 
 use Rattle.ring_spec.specs.{Records.{words_of}, Rings.{account_in, bytes_of}}
 use Rattle.sample_ring.specs.RingLists.{ring_index}
 use Rattle.stage_spec.specs.Order.{last_seen}
-use Rattle.machine.{specs.{Leading.{Kept}, Readers.{records_taken, released_in, words_in}}, proofs.Seen.{end-seen}}
+use Rattle.machine.{specs.{Leading.{Kept}, Readers.{records_taken, released_in}}, proofs.Seen.{end-seen}}
+use Rattle.run_end.specs.Ended.{words_in}
 use Rattle.machine.proofs.Behind.{all-behind, ends-of-rings, its-reader, meet-behind, none-behind, numbers-of}
 use Rattle.perf_book.proofs.{Declared.{all-declared}, Looked.{IsNext, looked-next, looked-none, no_ring}}
 use Rattle.perf_book.proofs.Parts.{IsPart, SameReaders, all-parts, met-same, met-still, no-look, parts-more, same-records, same-released, same-self, same-then, same-words, written-looked}

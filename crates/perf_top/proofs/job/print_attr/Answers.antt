@@ -1,7 +1,7 @@
 use Rattle.std.proofs.Common.{subst}
 use Rattle.perf_base.specs.Scripts.{empty_script}
 use Rattle.perf_top.{specs.Attributes.{IsLineOf}, proofs.Ending.{sent}}
-use Rattle.perf_top.specs.declared.asked.Asked.TheVariants as asked
+use Rattle.perf_ask.specs.declared.asked.Asked.TheVariants as asked
 use Rattle.perf_top.proofs.job.print_attr.Goals as goal
 
 pub returns-clause-ending : goal.returns-clause-ending

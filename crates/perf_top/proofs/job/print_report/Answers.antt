@@ -2,7 +2,7 @@ use Rattle.std.proofs.Common.{◌≡◌, ap, ◌∙◌}
 use Rattle.perf_base.specs.Scripts.{Scripted}
 use Rattle.report.specs.Told.{report_by}
 use Rattle.perf_top.proofs.{Ending.{sent}, Reported.{reported-as}}
-use Rattle.perf_top.specs.declared.asked.Asked.TheVariants as asked
+use Rattle.perf_ask.specs.declared.asked.Asked.TheVariants as asked
 use Rattle.perf_top.proofs.job.print_report.Goals as goal
 
 pub returns-in-Ok-clause-ending : goal.returns-in-Ok-clause-ending

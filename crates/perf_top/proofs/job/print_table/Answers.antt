@@ -4,7 +4,7 @@ use Rattle.ring_spec.specs.Rings.{IsLawfulOrder}
 use Rattle.stat_rows.specs.Rows.{rows_of}
 use Rattle.stat_table.specs.Table.{table_text}
 use Rattle.perf_top.proofs.Ending.{sent}
-use Rattle.perf_top.specs.declared.asked.Asked.TheVariants as asked
+use Rattle.perf_ask.specs.declared.asked.Asked.TheVariants as asked
 use Rattle.perf_top.proofs.job.print_table.Goals as goal
 
 pub returns-in-Ok-clause-ending : goal.returns-in-Ok-clause-ending

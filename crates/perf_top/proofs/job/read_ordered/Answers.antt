@@ -1,9 +1,9 @@
 use Rattle.std.specs.Prelude.{◌≡◌, ◌⊎◌}
 use Rattle.perf_base.specs.declared.reasons.SReason.TheVariants as s_reason
 use Rattle.stage_spec.specs.Order.{IsComplete}
-use Rattle.perf_top.specs.{Asking.{DoesOrder}, Outcome.{IsRefusal}, declared.{asked.Asked.{Asked}, status.Status.{Status}}}
-use Rattle.perf_top.proofs.Refusing.{if-err, no-order}
-use Rattle.perf_top.specs.declared.status.Status.TheVariants as status
+use Rattle.perf_ask.specs.{Asking.{DoesOrder}, Reading.{IsRefusal}, declared.{asked.Asked.{Asked}, status.Status.{Status}}}
+use Rattle.perf_ask.proofs.Refusing.{if-err, no-order}
+use Rattle.perf_ask.specs.declared.status.Status.TheVariants as status
 use Rattle.perf_top.proofs.job.read_ordered.Goals as goal
 
 pub returns-in-Ok-clause-refused : goal.returns-in-Ok-clause-refused

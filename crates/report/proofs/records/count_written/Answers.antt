@@ -1,7 +1,7 @@
 use Rattle.std.proofs.Common.{arith, ap, length, ◌∙◌}
 use Rattle.report.{specs.Told.{cut_records}, proofs.SummedUp.{sum_one_more}}
 use Rattle.report.proofs.records.count_written.Goals as goal
-use Rattle.machine.specs.Readers.{words_in}
+use Rattle.run_end.specs.Ended.{words_in}
 
 pub loop-end-preserved : goal.loop-end-preserved
 loop-end-preserved c = record {

@@ -1,5 +1,5 @@
 use Rattle.std.proofs.Common.{◌≡◌, ◌≤◌, ◌*◌, ◌^◌, length, sum_by, take}
-use Rattle.machine.specs.Readers.{words_in}
+use Rattle.run_end.specs.Ended.{words_in}
 use Rattle.report.specs.Told.{cut_records}
 use Rattle.report.proofs.records.count_written.Given as goal
 

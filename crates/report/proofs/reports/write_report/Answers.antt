@@ -4,7 +4,7 @@ use Rattle.script_spec.specs.Acts.{acts_text}
 use Rattle.report_spec.specs.Report.{answer_lines}
 use Rattle.report.{specs.Told.{all_told, rings_of}, proofs.{Entries.{report-parts}, Told.{told_whole}}}
 use Rattle.report.proofs.reports.write_report.Goals as goal
-use Rattle.machine.specs.Ended.{Ran}
+use Rattle.run_end.specs.Ended.{Ran}
 
 pub returns-in_err-write_order-clause-wrote : goal.returns-in_err-write_order-clause-wrote
 returns-in_err-write_order-clause-wrote g c =

@@ -1,6 +1,6 @@
 use Rattle.std.proofs.Common.{◌≡◌, Ok, map, take}
 use Rattle.perf_io.specs.Wrote.{Wrote}
-use Rattle.machine.specs.Readers.{words_in}
+use Rattle.run_end.specs.Ended.{words_in}
 use Rattle.report.specs.Told.{all_told}
 use Rattle.report.proofs.rings.write_rings.Given as goal
 

@@ -1,7 +1,8 @@
 use Rattle.std.{specs.Prelude.{◌≡◌, ◌*◌, List, ◌++◌}, proofs.Common.{arith, sym, ap, subst, ◌∙◌}}
 use Rattle.perf_base.specs.{declared.acts.Act.{Act}, Weight.{weight}}
 use Rattle.stage_spec.specs.Replies.{AnswerOrder}
-use Rattle.machine.specs.{Ended.{Ran}, Readers.{AreBehind, AreReaders}}
+use Rattle.run_end.specs.Ended.{Ran}
+use Rattle.machine.specs.Readers.{AreBehind, AreReaders}
 use Rattle.report_spec.specs.Answers.{lost_in}
 use Rattle.run_laws.specs.Growing.{AreLooks}
 use Rattle.perf_book.{specs.{Book.{Booked}, Ending.{IsEnd}}, proofs.{Rooms.{looks-answered, room-before}, Taken.{all-taken}}}

@@ -1,9 +1,9 @@
 use Rattle.std.{specs.Prelude.{◌≡◌, List}, proofs.Common.{subst, ◌∙◌}}
 use Rattle.perf_base.specs.{declared.acts.Act.{Act}, Scripts.{Scripted}}
-use Rattle.machine.specs.Ended.{Ran}
+use Rattle.run_end.specs.Ended.{Ran}
 use Rattle.report.specs.Told.{report_by}
 use Rattle.perf_top.{specs.Outcome.{IsReported, IsRun}, proofs.{Ending.{sent}, Reported.{end-reported}}}
-use Rattle.perf_top.specs.declared.asked.Asked.TheVariants as asked
+use Rattle.perf_ask.specs.declared.asked.Asked.TheVariants as asked
 use Rattle.perf_top.proofs.running.RunJob.finish.Goals as goal
 
 pub returns-clause-ending : goal.returns-clause-ending

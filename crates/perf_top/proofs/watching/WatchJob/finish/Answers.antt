@@ -1,10 +1,10 @@
 use Rattle.std.{specs.Prelude.{ℕ, List, ◌++◌}, proofs.Common.{ap, refl, subst}}
 use Rattle.perf_base.specs.{declared.numbers.EventNo.{EventNo}, Scripts.{Scripted}}
-use Rattle.machine.specs.Ended.{Ran}
+use Rattle.run_end.specs.Ended.{Ran}
 use Rattle.report.specs.Told.{report_by}
 use Rattle.report_spec.specs.Published.{final_line, watch_line}
 use Rattle.perf_top.{specs.Outcome.{IsEnding, IsOutput}, proofs.{Ending.{sent}, Reported.{end-reported}}}
-use Rattle.perf_top.specs.declared.asked.Asked.TheVariants as asked
+use Rattle.perf_ask.specs.declared.asked.Asked.TheVariants as asked
 use Rattle.perf_top.proofs.watching.WatchJob.finish.Goals as goal
 
 pub returns-clause-ending : goal.returns-clause-ending

@@ -1,0 +1,4 @@
+pub mod Asking
+pub mod LineCounts
+pub mod OrderLength
+pub mod Refusing

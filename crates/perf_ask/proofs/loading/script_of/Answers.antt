@@ -1,0 +1,6 @@
+use Rattle.std.proofs.Common.{arith}
+use Rattle.perf_ask.proofs.OrderLength.{few-acts}
+use Rattle.perf_ask.proofs.loading.script_of.Goals as goal
+
+pub returns-in-Ok-clause-short : goal.returns-in-Ok-clause-short
+returns-in-Ok-clause-short c = omega (arith, few-acts c.args.text.now c.in-Ok.script c.in-Ok.ensures.ok, c.requires.short)

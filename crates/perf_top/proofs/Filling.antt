@@ -1,2 +1,0 @@
--- Reading behind what was read.
-use Rattle.std.{specs.Prelude.{◌++◌}, proofs.Common.{◌∙◌}}

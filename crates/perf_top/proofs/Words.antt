@@ -1,2 +1,0 @@
--- One word, two and three.
-use Rattle.std.proofs.Common.{◌≡◌, [], ◌∷◌, ◌∙◌}

@@ -1,6 +1,0 @@
-use Rattle.std.proofs.Common.{arith}
-use Rattle.perf_top.proofs.OrderLength.{few-acts}
-use Rattle.perf_top.proofs.load.script_of.Goals as goal
-
-pub returns-in-Ok-clause-short : goal.returns-in-Ok-clause-short
-returns-in-Ok-clause-short c = omega (arith, few-acts c.args.text.now c.in-Ok.script c.in-Ok.ensures.ok, c.requires.short)
