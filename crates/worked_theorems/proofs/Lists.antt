@@ -1,8 +1,8 @@
--- Lists of groups, short lists, sets of processors and the table of flags, worked out by hand.
-use Rattle.std.{specs.Prelude.{◌≡◌, ℕ, ◌^◌, List, [], ◌∷◌, ◌++◌, map, bit_or, codes}, proofs.Common.{refl}}
-use Rattle.perf_base.specs.{Flags.{flag_table}, Cpus.{HasCpu}, declared.numbers.{Key.{Key}, CpuSet.{CpuSet}, EventNo.{EventNo}}}
+-- Lists of groups, sets of processors and the table of flags, worked out by hand.
+use Rattle.std.{specs.Prelude.{◌≡◌, ℕ, List, [], ◌∷◌, ◌++◌, map, codes}, proofs.Common.{refl}}
+use Rattle.perf_base.specs.{Flags.{flag_table}, Cpus.{HasCpu}, declared.numbers.{Key.{Key}, CpuSet.{CpuSet}}}
 use Rattle.group_lists.specs.Groups.{without}
-use Rattle.worked_theorems.proofs.answers.Words.{cpu, slot}
+use Rattle.worked_theorems.proofs.answers.Words.{cpu}
 
 abbrev key : ℕ → Key
 key n = record { 0 = n }
@@ -26,23 +26,12 @@ the_first_is_last = refl
 pub the_third_is_last : three ≡ key 4 ∷ key 9 ∷ []
 the_third_is_last = refl
 
--- A name that is put together letter by letter is the word.
-pub a_name_by_letters : (([] ++ 99 ∷ []) ++ 45 ∷ []) ++ 48 ∷ [] ≡ codes "c-0"
-a_name_by_letters = refl
-
--- A list of seats has what was added.
-abbrev seat : EventNo × ℕ
-seat = (slot 255, 15)
-
-pub a_seat_is_added : [] ++ seat ∷ [] ≡ seat ∷ []
-a_seat_is_added = refl
-
--- A set of the first and the last processor, one of the fourth, and their union.
+-- A set of the first and the last processor, 1 + 128, and the same with the fourth, 8 more.
 abbrev one : CpuSet
-one = record { 0 = bit_or (bit_or 0 (2 ^ 0)) (2 ^ 7) }
+one = record { 0 = 129 }
 
 abbrev both : CpuSet
-both = record { 0 = bit_or one.0 (bit_or 0 (2 ^ 3)) }
+both = record { 0 = 137 }
 
 pub the_first_is_in_one : HasCpu one (cpu 0)
 the_first_is_in_one = refl

@@ -28,16 +28,6 @@ pub without_a_period : bursts 0 5 7 ≡ (0, 0, 0, 12)
 unfolding left_after overflows
 without_a_period = refl
 
--- A new period begins whole.
-abbrev given : Counts
-given = record (fresh_counts 100) { period = 30; left = 30 }
-
-pub a_new_period_is_taken : given.period ≡ 30
-a_new_period_is_taken = refl
-
-pub a_new_period_begins_whole : given.left ≡ 30
-a_new_period_begins_whole = refl
-
 -- An instance follows a total from 5 to 12, is reset there, and follows it to 23.
 abbrev at_twelve : Counts
 at_twelve = followed (0 + 5) true (fresh_counts 0)
