@@ -1,11 +1,14 @@
 //! The words that the system passes to the program.
 
-ghost use Rattle.std.specs.Prelude.{◌≡◌, ◌⊎◌, IfErr};
+ghost use Rattle.std.specs.Prelude.{◌≡◌, Err, IfErr, IfOk, MatchResult, drop};
 ghost use Rattle.std.specs.IoError.{error_kind};
+ghost use Rattle.std.specs.Iterator.Runs.{WholeRun};
+ghost use Rattle.std.specs.Vec.Iter.{into_iter_steps};
 ghost use Rattle.std.specs.declared.io.ErrorKind.TheVariants.{OutOfMemory};
 ghost use Rattle.perf_ask.specs.declared.status.Status.TheVariants as status;
 
 use crate::status::Status;
+use std::alloc::Global;
 use std::{env, io};
 
 /// Why there are no words: memory ran out, or one is not UTF-8.
@@ -19,14 +22,16 @@ fn without_words(error: &io::Error) -> Status
     }
 }
 
-/// The words behind the program's name. There are none where memory runs out, or where one is not UTF-8: then the
-/// answer is NoMemory or Usage.
-pub fn collect_words(rt: &HostRuntime) -> Result<Vec<String>, Status>
-    ensures { IfErr result (λ answer. (answer ≡ status.NoMemory) ⊎ (answer ≡ status.Usage)) }
+/// The words behind the program's name, of the arguments that the system passes. Where it passes none, since memory ran
+/// out or one is not UTF-8, the answer is NoMemory or Usage; NoMemory too where there is no memory for the words.
+pub fn words_of(args: io::Result<env::Args>, alloc: Global) -> Result<Vec<String>, Status>
+    ensures words { IfOk args (λ all. MatchResult result (λ words. WholeRun into_iter_steps all (λ run. words.items ≡ drop 1 run.items)) (λ answer. answer ≡ status.NoMemory)) }
+    ensures memory { IfErr args (λ error. error_kind error ≡ OutOfMemory → result ≡ Err status.NoMemory) }
+    ensures usage { IfErr args (λ error. (error_kind error ≡ OutOfMemory → ⊥) → result ≡ Err status.Usage) }
 {
-    match env::args(rt) {
+    match args {
         Err(error) => Err(without_words(&error)),
-        Ok(args) => match args.skip(1).collect(rt.alloc()) {
+        Ok(args) => match args.skip(1).collect(alloc) {
             Err(_) => Err(Status::NoMemory),
             Ok(words) => Ok(words),
         },

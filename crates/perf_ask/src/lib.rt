@@ -10,7 +10,7 @@ mod status;
 mod text;
 
 pub use asked::{Asked, Rounds, Watching, asked_by, words_ask_one_thing};
-pub use collecting::collect_words;
+pub use collecting::words_of;
 pub use loading::{Loaded, load};
 pub use notes::put_note;
 pub use status::Status;

@@ -3,14 +3,15 @@
 //! number.
 #![tactic(auto)]
 
-use perf_ask::{collect_words, put_note};
+use perf_ask::{put_note, words_of};
 use perf_io::{StdNotes, StdSink, StdSource};
 use perf_top::{OpenGate, perf_main};
+use std::env;
 use std::process::ExitCode;
 
 fn main(rt: HostRuntime) -> ExitCode {
     let mut notes = StdNotes::new(rt.stderr());
-    let status = match collect_words(&rt) {
+    let status = match words_of(env::args(&rt), rt.alloc()) {
         Ok(words) => {
             let mut source = StdSource::new(rt.stdin());
             let mut sink = StdSink::new(rt.stdout());
