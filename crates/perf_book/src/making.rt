@@ -1,20 +1,16 @@
 //! The room that a book needs.
 
-ghost use Rattle.std.specs.Prelude.{◌≡◌, ◌≤◌, length, sum_by};
+ghost use Rattle.std.specs.Prelude.{◌≡◌, ◌<◌, ◌≤◌, ◌^◌, length, sum};
 ghost use Rattle.perf_book.specs.Book.{most_acts};
 
-use perf_base::{CpuNo, Script};
+use perf_base::Script;
 
-/// How many lines the processors of a script have.
-fn cpu_line_count(script: &Script) -> usize
-    ensures { result ≡ sum_by length script.now.cpu_lines }
+/// The sum of some numbers.
+fn total(numbers: &[usize]) -> usize
+    requires { sum numbers.now < 2 ^ 64 }
+    ensures { result ≡ sum numbers.now }
 {
-    script.use_invariant();
-    let mut count = 0;
-    for cpu in 0..8 {
-        count += script.cpu_lines(CpuNo(cpu)).len();
-    }
-    count
+    numbers.iter().sum()
 }
 
 /// For how many acts of a script a book makes room: those of the script's own order, a line each and 16 looks for each
@@ -23,6 +19,6 @@ pub fn count_acts(script: &Script) -> usize
     requires { length script.now.order ≤ 4194304 }
     ensures { result ≡ most_acts script.now }
 {
-    script.use_invariant();
-    script.order().len() + 16 * cpu_line_count(script) + script.line_count() + 16
+    let cpu_lines = total(&script.lines_of_cpus());
+    script.order().len() + 16 * cpu_lines + script.line_count() + 16
 }
