@@ -1,5 +1,5 @@
 -- Lists of groups, sets of processors and the table of flags, worked out by hand.
-use Rattle.std.{specs.Prelude.{◌≡◌, ℕ, List, [], ◌∷◌, ◌++◌, map, codes}, proofs.Common.{refl}}
+use Rattle.std.{specs.Prelude.{◌≡◌, ℕ, ◌^◌, List, [], ◌∷◌, ◌++◌, map, bit_or, codes}, proofs.Common.{refl}}
 use Rattle.perf_base.specs.{Flags.{flag_table}, Cpus.{HasCpu}, declared.numbers.{Key.{Key}, CpuSet.{CpuSet}}}
 use Rattle.group_lists.specs.Groups.{without}
 use Rattle.worked_theorems.proofs.answers.Words.{cpu}
@@ -26,12 +26,12 @@ the_first_is_last = refl
 pub the_third_is_last : three ≡ key 4 ∷ key 9 ∷ []
 the_third_is_last = refl
 
--- A set of the first and the last processor, 1 + 128, and the same with the fourth, 8 more.
+-- A set into which the first and the last processor were put, and its union with one of the fourth.
 abbrev one : CpuSet
-one = record { 0 = 129 }
+one = record { 0 = bit_or (bit_or 0 (2 ^ 0)) (2 ^ 7) }
 
 abbrev both : CpuSet
-both = record { 0 = 137 }
+both = record { 0 = bit_or one.0 (bit_or 0 (2 ^ 3)) }
 
 pub the_first_is_in_one : HasCpu one (cpu 0)
 the_first_is_in_one = refl
