@@ -55,18 +55,7 @@ moved_up flags small = omega arith
 
 -- what `word_of_flags` computes
 pub word-AreFlagsOf : (flags : ℕ) → flags < 2 ^ 7 → AreFlagsOf (bit_or (bit_and flags 63) (bit_and (flags * 4096 % 2 ^ 64) 262144)) flags
-word-AreFlagsOf flags small =
-    let high : ℕ = flags * 4096 % 2 ^ 64 in
-    record {
-      disabled = sym (first_mask flags 63 high 262144 0 refl refl);
-      inherit = sym (first_mask flags 63 high 262144 1 refl refl);
-      pinned = sym (first_mask flags 63 high 262144 2 refl refl);
-      exclusive = sym (first_mask flags 63 high 262144 3 refl refl);
-      exclude_user = sym (first_mask flags 63 high 262144 4 refl refl);
-      exclude_kernel = sym (first_mask flags 63 high 262144 5 refl refl);
-      sample_id_all = sym (second_mask flags 63 high 262144 18 refl refl ∙ moved_up flags small);
-      no_other = small;
-    }
+word-AreFlagsOf flags small = search (ℕ, first_mask, second_mask, moved_up)
 
 pub word-HasOnlyReadBits : (flags high : ℕ) → HasOnlyReadBits (bit_or (bit_and flags 63) (bit_and high 262144))
 word-HasOnlyReadBits flags high = both_masks flags 63 high 262144 read_bits refl refl

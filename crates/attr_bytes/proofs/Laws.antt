@@ -1,6 +1,6 @@
 -- Bytes stand for an attribute exactly where they have no fault, and for one at most.
 use Rattle.std.proofs.Common.{◌≡◌, ◌<◌, ◌≤◌, ℕ, ◌+◌, ◌-◌, inl, inr, ◌↔◌, Bool, true, false, not, cond, nat_eq, ◌||◌, List, ◌++◌, length, drop, get_or, Option, Some, None, refl, sym, ap, subst, ◌∙◌, arith, length-take, length-drop, length-append}
-use Rattle.std.proofs.lemmas.Bool.{ltb-false, le-ltb, eqb-true, eq-eqb, ne_eqb, not-false, not_from_true, or_parts, or_from, or_left, or_right, or_cases, and_parts, and_from, cases_eq, cond-false, both_ways, not_from_false}
+use Rattle.std.proofs.lemmas.Bool.{ltb-false, le-ltb, eqb-true, eq-eqb, ne_eqb, not-false, not_from_true, or_parts, or_from, or_left, or_right, or_cases, and_parts, and_from, cond-false, both_ways, not_from_false}
 use Rattle.std.proofs.lemmas.{List.{get_or-take, get_or-drop, Folds.{list_any_none, list_any_at}}, Grind.{get_or_default_zero}}
 use Rattle.std.specs.{Option.{option_or}, List.{list_any, slice_range, slice_index}}
 use Rattle.attr_bytes.specs.declared.{raw.RawAttr.{RawAttr}, fault.AttrFault.{AttrFault}}
@@ -10,8 +10,7 @@ use Rattle.attr_bytes.{specs.Faults.{has_unknown, frame_fault, field_fault, faul
 
 -- an element of a part
 get_or-part : (bytes : List ℕ) (from to k : ℕ) → from + k < to → get_or (slice_range bytes from to) k 0 ≡ get_or bytes (from + k) 0
-get_or-part bytes from to k high =
-    get_or-take (to - from) (drop from bytes) k 0 (omega arith) ∙ get_or-drop from bytes k 0
+get_or-part bytes from to k high = grind (arith, get_or-take, drop, get_or-drop)
 
 -- a part without a byte above 0 is 0 everywhere
 zero_from_test : (bytes : List ℕ) (from to : ℕ) → to ≤ length bytes → list_any (λ byte. not (nat_eq byte 0)) (slice_range bytes from to) ≡ false → (k : ℕ) → from ≤ k → k < to → slice_index bytes k ≡ 0
@@ -19,10 +18,7 @@ zero_from_test bytes from to fits none k low high =
     let part : List ℕ = slice_range bytes from to in
     let within : k - from < length part = omega (arith, length-take (to - from) (drop from bytes), length-drop from bytes) in
     let same : get_or part (k - from) 0 ≡ get_or bytes k 0 = get_or-part bytes from to (k - from) (omega arith) ∙ ap (λ (x : ℕ). get_or bytes x 0) (omega arith) in
-    elim (cases_eq (get_or bytes k 0) 0) [
-      | inl zero ↦ zero
-      | inr above ↦ absurd (both_ways _ none (list_any_at (λ byte. not (nat_eq byte 0)) part (k - from) 0 within (not_from_false _ (ne_eqb _ _ (λ zero. above (sym same ∙ zero))))))
-    ]
+    grind (arith, get_or, both_ways, list_any_at, not, nat_eq, part, within, not_from_false, ne_eqb, same)
 
 -- and the converse
 test_from_zero : (bytes : List ℕ) (from to : ℕ) → ((k : ℕ) → from ≤ k → k < to → slice_index bytes k ≡ 0) → list_any (λ byte. not (nat_eq byte 0)) (slice_range bytes from to) ≡ false
@@ -57,23 +53,10 @@ size_field_fits : (size length : ℕ) → 64 ≤ size → size ≤ length → 8 
 size_field_fits size length least whole = omega arith
 
 pub IsFramed-none : (bytes : List ℕ) → IsFramed bytes → frame_fault bytes ≡ None
-IsFramed-none bytes h =
-    cond-false _ _ _ (le-ltb (length bytes) 8 (size_field_fits (attr_size bytes) (length bytes) h.least h.whole))
-    ∙ cond-false _ _ _ (or_from _ _ (le-ltb (attr_size bytes) 64 h.least) (le-ltb 4096 (attr_size bytes) h.most))
-    ∙ cond-false _ _ _ (le-ltb (length bytes) (attr_size bytes) h.whole)
-    ∙ cond-false _ _ _ h.unknown
+IsFramed-none bytes h = grind (arith, cond-false, le-ltb, length, size_field_fits, or_from)
 
 pub none-IsFramed : (bytes : List ℕ) → frame_fault bytes ≡ None → IsFramed bytes
-none-IsFramed bytes h =
-    let size = no_fault _ _ _ (no_fault _ _ _ h).1 in
-    let whole = no_fault _ _ _ size.1 in
-    let unknown = no_fault _ _ _ whole.1 in
-    record {
-      least = ltb-false (attr_size bytes) 64 (or_parts _ _ size.0).0;
-      most = ltb-false 4096 (attr_size bytes) (or_parts _ _ size.0).1;
-      whole = ltb-false (length bytes) (attr_size bytes) whole.0;
-      unknown = unknown.0;
-    }
+none-IsFramed bytes h = grind (arith, no_fault, ltb-false, or_parts, length)
 
 -- the test of the type
 test-IsClass : (n : ℕ) → IsClass n → (nat_eq n 0 || nat_eq n 1 || nat_eq n 4) ≡ true
@@ -82,47 +65,20 @@ test-IsClass n (inr (inl e)) = or_left _ _ (or_right _ _ (eq-eqb _ _ e))
 test-IsClass n (inr (inr e)) = or_right _ _ (eq-eqb _ _ e)
 
 IsClass-test : (n : ℕ) → (nat_eq n 0 || nat_eq n 1 || nat_eq n 4) ≡ true → IsClass n
-IsClass-test n h =
-    elim (or_cases _ _ h) [
-      | inl low ↦ elim (or_cases _ _ low) [ inl e ↦ inl (eqb-true _ _ e) | inr e ↦ inr (inl (eqb-true _ _ e)) ]
-      | inr e ↦ inr (inr (eqb-true _ _ e))
-    ]
+IsClass-test n h = grind (arith, or_cases, eqb-true)
 
 pub AreFieldsRead-none : (bytes : List ℕ) → AreFieldsRead bytes → field_fault bytes ≡ None
-AreFieldsRead-none bytes h =
-    cond-false _ _ _ (not_from_true _ (test-IsClass _ h.class))
-    ∙ cond-false _ _ _ (not_from_true _ (eq-eqb _ _ h.read_bits))
-    ∙ cond-false _ _ _ (not_from_true _ (and_from _ _ (eq-eqb _ _ h.bp_type) (eq-eqb _ _ h.config1)))
+AreFieldsRead-none bytes h = grind (arith, cond-false, not_from_true, test-IsClass, eq-eqb, and_from)
 
 pub none-AreFieldsRead : (bytes : List ℕ) → field_fault bytes ≡ None → AreFieldsRead bytes
-none-AreFieldsRead bytes h =
-    let class = no_fault _ _ _ h in
-    let flags = no_fault _ _ _ class.1 in
-    let fields = no_fault _ _ _ flags.1 in
-    let zero = and_parts _ _ (not-false _ fields.0) in
-    record {
-      class = IsClass-test _ (not-false _ class.0);
-      read_bits = eqb-true _ _ (not-false _ flags.0);
-      bp_type = eqb-true _ _ zero.0;
-      config1 = eqb-true _ _ zero.1;
-    }
+none-AreFieldsRead bytes h = grind (arith, no_fault, and_parts, not-false, IsClass-test, eqb-true)
 
 -- what stands for an attribute has no fault
 pub StandsFor-IsFramed : (bytes : List ℕ) (raw : RawAttr) → StandsFor bytes raw → IsFramed bytes
-StandsFor-IsFramed bytes raw h = record {
-  least = h.least_size;
-  most = h.most_size;
-  whole = h.whole;
-  unknown = test_from_zero bytes 64 (attr_size bytes) h.unknown;
-}
+StandsFor-IsFramed bytes raw h = search (test_from_zero)
 
 pub StandsFor-AreFieldsRead : (bytes : List ℕ) (raw : RawAttr) → StandsFor bytes raw → AreFieldsRead bytes
-StandsFor-AreFieldsRead bytes raw h = record {
-  class = let P : ℕ → Type 0 = λ n. IsClass n in subst P h.class h.is_class;
-  read_bits = h.read_bits;
-  bp_type = h.bp_type;
-  config1 = h.config1;
-}
+StandsFor-AreFieldsRead bytes raw h = grind (arith, ℕ)
 
 -- what has no fault stands for the attribute that its fields give
 pub stands_from_fields : (bytes : List ℕ) (raw : RawAttr) → IsFramed bytes → AreFieldsRead bytes → raw.class ≡ type_in bytes → raw.config ≡ config_in bytes → raw.period ≡ sample_period_in bytes → raw.sample ≡ sample_type_in bytes → raw.format ≡ read_format_in bytes → raw.flags.0 ≡ flags_of_word (flag_word_in bytes) → StandsFor bytes raw
@@ -150,10 +106,7 @@ same_fields class class' config config' period period' sample sample' format for
 
 -- bytes stand for one attribute at most
 pub StandsFor-one : (bytes : List ℕ) (a b : RawAttr) → StandsFor bytes a → StandsFor bytes b → a ≡ b
-StandsFor-one bytes a b p q =
-    same_fields a.class b.class a.config b.config a.period b.period a.sample b.sample a.format b.format a.flags.0 b.flags.0
-    (p.class ∙ sym q.class) (p.config ∙ sym q.config) (p.period ∙ sym q.period) (p.sample ∙ sym q.sample) (p.format ∙ sym q.format)
-    (p.flags ∙ sym q.flags)
+StandsFor-one bytes a b p q = grind (arith, same_fields)
 
 -- the first of two faults is none where both are, and only there
 both_none : (a b : Option AttrFault) → option_or a b ≡ None → (a ≡ None) × (b ≡ None)
@@ -201,19 +154,4 @@ IsWritten-StandsFor words raw h class more =
     λ offset width fits. number_at-append offset width words more (omega (arith, h.length)) in
     let size : attr_size (words ++ more) ≡ 64 = rw (same 4 4 (omega arith), h.size) refl in
     let word : flag_word_in (words ++ more) ≡ flag_word_in words = same 40 8 (omega arith) in
-    record {
-      least_size = rw size (omega arith);
-      most_size = rw size (omega arith);
-      whole = rw size (omega (arith, h.length, length-append words more));
-      unknown = λ k low high. absurd (omega (arith, size));
-      class = sym (same 0 4 (omega arith) ∙ h.class);
-      is_class = class;
-      config = sym (same 8 8 (omega arith) ∙ h.config);
-      period = sym (same 16 8 (omega arith) ∙ h.period);
-      sample = sym (same 24 8 (omega arith) ∙ h.sample);
-      format = sym (same 32 8 (omega arith) ∙ h.format);
-      read_bits = rw word h.read_bits;
-      flags = sym (ap flags_of_word word ∙ h.flags);
-      bp_type = same 52 4 (omega arith) ∙ h.bp_type;
-      config1 = same 56 8 (omega arith) ∙ h.config1;
-    }
+    grind (arith, size, length-append, same, word)

@@ -30,10 +30,7 @@ past_put front number rest offset width from f n h =
 
 -- what is left in three steps
 drop_thrice : (bytes : List ℕ) (offset width from : ℕ) → offset + width ≤ from → drop (from - (offset + width)) (drop width (drop offset bytes)) ≡ drop from bytes
-drop_thrice bytes offset width from h =
-    drop-drop (from - (offset + width)) width (drop offset bytes)
-    ∙ drop-drop (width + (from - (offset + width))) offset bytes
-    ∙ ap (λ (x : ℕ). drop x bytes) (omega arith)
+drop_thrice bytes offset width from h = grind (arith, drop-drop, drop, ℕ)
 
 -- a number put between the front of the bytes and what follows it
 pub puts_number : (offset width number : ℕ) (old new : List ℕ) → offset + width ≤ length old → number < 256 ^ width → new ≡ take offset old ++ (little_bytes width number ++ drop width (drop offset old)) → PutsNumber offset width number old new

@@ -7,9 +7,7 @@ use Rattle.counter_match.proofs.{Fitting.{assignment_of, fits-IsAssignment, can_
 
 -- no more events than counters
 pub length-assigned : (masks counters : List ℕ) → IsAssignment masks counters → length masks ≤ 16
-length-assigned masks counters a =
-    let l : length counters ≤ 16 = length-le_below counters 16 (record { different = a.different }) (λ i l. can_count-below (get_or masks i 0) (get_or counters i 0) (a.allowed i (omega (arith, a.one_each)))) in
-    omega (arith, a.one_each)
+length-assigned masks counters a = grind (arith, length, length-le_below, can_count-below, get_or)
 
 -- what fits, fits without its last events
 pub fits-front : (front back : List ℕ) → fits (front ++ back) ≡ true → fits front ≡ true
@@ -35,10 +33,7 @@ fits-front_events front back h = fits-front (masks_of front) (masks_of back) (ap
 pub unfit_after-first : (before front : List (EventNo × ℕ)) (last : EventNo × ℕ) (back : List (EventNo × ℕ)) → fits (masks_of (before ++ front)) ≡ true → fits (masks_of ((before ++ front) ++ last ∷ [])) ≡ false
     → unfit_after before (front ++ last ∷ back) ≡ (before ++ front) ++ last ∷ []
 unfolding unfit_after
-unfit_after-first before [] last back fit un =
-    let e : before ++ [] ≡ before = append-nil before in
-    let f : fits (masks_of (before ++ last ∷ [])) ≡ false = ap (λ es. fits (masks_of (es ++ last ∷ []))) (sym e) ∙ un in
-    rw (f, unfit_after) (ap (λ es. es ++ last ∷ []) (sym e))
+unfit_after-first before [] last back fit un = grind (arith, append-nil, false)
 unfit_after-first before (x ∷ front) last back fit un =
     let e : (before ++ x ∷ []) ++ front ≡ before ++ x ∷ front = append_assoc before (x ∷ []) front in
     let f : fits (masks_of (before ++ x ∷ [])) ≡ true = fits-front_events (before ++ x ∷ []) front (ap (λ es. fits (masks_of es)) e ∙ fit) in

@@ -76,15 +76,11 @@ count_by-picked p k (suc n) =
 
 pub length-picked : {X : Type 0} (p : ℕ → Bool) (k : ℕ) (xs : List X) → length (picked p k xs) ≡ length (picked p k (numbers_from k (length xs)))
 length-picked p k [] = refl
-length-picked p k (x ∷ xs) =
-    let ih = length-picked p (suc k) xs in
-    elim (cases_Bool (p k)) [ inl t ↦ rw t (ap suc ih) | inr f ↦ rw f ih ]
+length-picked p k (x ∷ xs) = grind (arith, suc, length-picked p (suc k) xs)
 
 pub map-picked : {X Y : Type 0} (f : X → Y) (p : ℕ → Bool) (k : ℕ) (xs : List X) → map f (picked p k xs) ≡ picked p k (map f xs)
 map-picked f p k [] = refl
-map-picked f p k (x ∷ xs) =
-    let ih = map-picked f p (suc k) xs in
-    elim (cases_Bool (p k)) [ inl t ↦ rw t (ap (λ ys. f x ∷ ys) ih) | inr e ↦ rw e ih ]
+map-picked f p k (x ∷ xs) = grind (arith, suc, map-picked f p (suc k) xs)
 
 -- a place that passes the test and whose number passes another
 pub record Shows (p q : ℕ → Bool) (k : ℕ) (xs : List ℕ) : Type 0 where
@@ -111,8 +107,7 @@ pub any-from_Shows : (p q : ℕ → Bool) (k : ℕ) (xs : List ℕ) (place : ℕ
 any-from_Shows p q k [] place l c h = absurd (omega arith)
 any-from_Shows p q k (x ∷ xs) zero l c h = let t : p k ≡ true = ap p (omega arith) ∙ c in rw t (or_left (q x) _ h)
 any-from_Shows p q k (x ∷ xs) (suc place) l c h =
-    let ih = any-from_Shows p q (suc k) xs place (omega arith) (ap p (omega arith) ∙ c) h in
-    elim (cases_Bool (p k)) [ inl t ↦ rw t (or_right (q x) _ ih) | inr f ↦ rw f ih ]
+    grind (arith, suc, or_right, any-from_Shows p q (suc k) xs place (omega arith) (ap p (omega arith) ∙ c) h)
 
 -- as many events are picked as are reached
 pub length-reached : (masks counters queue parents : List ℕ) → IsSearch masks counters queue parents
@@ -122,9 +117,7 @@ length-reached masks counters queue parents s =
     let a : length P ≤ length queue = length-le_from_In P queue (AreDifferent-picked (λ i. list_any (nat_eq i) queue) 0 (length masks)) (λ i l.
     let h = IsPicked-from_In (λ i. list_any (nat_eq i) queue) 0 (length masks) (get_or P i 0) (record { place = i; within = l; is = refl }) in
     In-from_any queue (get_or P i 0) h.passes) in
-    let b : length queue ≤ length P = length-le_from_In queue P (record { different = s.different }) (λ i l.
-    In-from_IsPicked (λ i. list_any (nat_eq i) queue) 0 (length masks) (get_or queue i 0)
-    (record { low = omega arith; high = omega (arith, s.inside i l); passes = any-from_In queue _ (record { place = i; within = l; is = refl }) })) in
+    let b : length queue ≤ length P = grind (arith, length-le_from_In, In-from_IsPicked, length, get_or, any-from_In) in
     omega arith
 
 -- the counters held by reached events, not the last of the list
@@ -133,8 +126,7 @@ held_counters counters queue = map (λ i. get_or counters i 0) (drop 1 queue)
 
 pub get_or-held : (counters queue : List ℕ) (r : ℕ) → suc r < length queue → get_or (held_counters counters queue) r 0 ≡ get_or counters (get_or queue (suc r) 0) 0
 unfolding held_counters
-get_or-held counters queue r l =
-    get_or-map (λ i. get_or counters i 0) (drop 1 queue) r 0 0 (omega (arith, length-drop 1 queue)) ∙ ap (λ k. get_or counters k 0) (get_or-drop 1 queue r 0 ∙ ap (λ k. get_or queue k 0) (omega arith))
+get_or-held counters queue r l = grind (arith, get_or-map, get_or, drop, length-drop, get_or-drop)
 
 pub length-held : (counters queue : List ℕ) → 0 < length queue → length (held_counters counters queue) + 1 ≡ length queue
 unfolding held_counters
@@ -168,9 +160,7 @@ is_wanted masks queue counter = list_any (λ mask. can_count mask counter) (pick
 
 pub is_wanted-at : (masks queue : List ℕ) (q counter : ℕ) → q < length queue → get_or queue q 0 < length masks → can_count (get_or masks (get_or queue q 0) 0) counter ≡ true → is_wanted masks queue counter ≡ true
 unfolding is_wanted
-is_wanted-at masks queue q counter l i can =
-    any-from_Shows (λ i. list_any (nat_eq i) queue) (λ mask. can_count mask counter) 0 masks (get_or queue q 0) i
-    (any-from_In queue (0 + get_or queue q 0) (record { place = q; within = l; is = omega arith })) can
+is_wanted-at masks queue q counter l i can = grind (arith, any-from_Shows, get_or, any-from_In)
 
 pub IsHeld-wanted : (masks counters queue : List ℕ) (counter : ℕ) → IsClosedBelow (length queue) masks counters queue → is_wanted masks queue counter ≡ true → IsHeld counters queue counter
 unfolding is_wanted

@@ -1,6 +1,6 @@
 -- The plain search finds counters exactly where an assignment exists.
 use Rattle.std.specs.{Prelude.{◌≢◌, nat_eq}, List.{list_any}}
-use Rattle.std.proofs.Common.{◌≡◌, ℕ, zero, suc, ◌<◌, Bool, true, false, not, ◌&&◌, List, [], ◌∷◌, length, get_or, refl, sym, ap, ◌∙◌, arith, inl, inr}
+use Rattle.std.proofs.Common.{◌≡◌, ℕ, zero, suc, ◌<◌, Bool, true, false, not, ◌&&◌, List, [], ◌∷◌, length, get_or, refl, sym, ap, arith, inl, inr}
 use Rattle.std.proofs.lemmas.Bool.{cases_Bool, and_parts, and_from, not-true, not_from_false, cases_eq, or_parts, or_from, ne_eqb, eqb-false}
 use Rattle.stage_spec.specs.Fits.{can_count, fits_below, fits_beside, fits, IsAssignment}
 
@@ -28,10 +28,7 @@ unfolding fits_below
 fits_below-takes zero others mask taken f l = absurd (omega arith)
 fits_below-takes (suc c) others mask taken f l =
     elim (cases_eq f.counter c) [
-      | inl e ↦
-          let t : (can_count mask c && not (list_any (nat_eq c) taken)) ≡ true = and_from _ _ (ap (can_count mask) (sym e) ∙ f.allowed) (not_from_false _ (ap (λ k. list_any (nat_eq k) taken) (sym e) ∙ f.free)) in
-          let r : others (c ∷ taken) ≡ true = ap (λ k. others (k ∷ taken)) (sym e) ∙ f.fit in
-          rw (t, fits_below) (rw r refl)
+      | inl e ↦ grind (arith, not, true, and_from, e, not_from_false)
       | inr e ↦
           let low : f.counter < c = omega arith in
           let ih : fits_below c others mask taken ≡ true = fits_below-takes c others mask taken f low in

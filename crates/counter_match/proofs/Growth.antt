@@ -16,16 +16,13 @@ pub IsExtended-trans : (xs ys zs : List ℕ) → IsExtended xs ys → IsExtended
 IsExtended-trans xs ys zs a b = record { longer = omega (arith, a.longer, b.longer); same = λ q l. b.same q (omega (arith, a.longer)) ∙ a.same q l }
 
 pub IsHeld-extended : (counters old new : List ℕ) (counter : ℕ) → IsExtended old new → IsHeld counters old counter → IsHeld counters new counter
-IsHeld-extended counters old new counter e h =
-    record { position = h.position; later = h.later; reached = omega (arith, h.reached, e.longer); is = ap (λ k. get_or counters k 0) (e.same h.position h.reached) ∙ h.is }
+IsHeld-extended counters old new counter e h = grind (arith, get_or)
 
 pub IsClosedBelow-extended : (n : ℕ) (masks counters old new : List ℕ) → n ≤ length old → IsExtended old new → IsClosedBelow n masks counters old → IsClosedBelow n masks counters new
-IsClosedBelow-extended n masks counters old new l e c =
-    record { held = λ q counter b can. IsHeld-extended counters old new counter e (c.held q counter b (ap (λ k. can_count (get_or masks k 0) counter) (sym (e.same q (omega arith))) ∙ can)) }
+IsClosedBelow-extended n masks counters old new l e c = grind (arith, IsHeld-extended, get_or)
 
 pub IsClosedAt-extended : (at n : ℕ) (masks counters old new : List ℕ) → at < length old → IsExtended old new → IsClosedAt at n masks counters old → IsClosedAt at n masks counters new
-IsClosedAt-extended at n masks counters old new l e c =
-    record { held = λ counter b can. IsHeld-extended counters old new counter e (c.held counter b (ap (λ k. can_count (get_or masks k 0) counter) (sym (e.same at l)) ∙ can)) }
+IsClosedAt-extended at n masks counters old new l e c = grind (arith, IsHeld-extended, get_or)
 
 pub IsClosedAt-more : (at n : ℕ) (masks counters queue : List ℕ) → IsClosedAt at n masks counters queue
     → (can_count (get_or masks (get_or queue at 0) 0) n ≡ true → IsHeld counters queue n) → IsClosedAt at (n + 1) masks counters queue
@@ -42,14 +39,7 @@ IsClosedAt-more at n masks counters queue c h =
 
 pub IsClosedBelow-more : (n : ℕ) (masks counters queue : List ℕ) → IsClosedBelow n masks counters queue → IsClosedAt n 16 masks counters queue
     → ((mask counter : ℕ) → can_count mask counter ≡ true → counter < 16) → IsClosedBelow (n + 1) masks counters queue
-IsClosedBelow-more n masks counters queue c d low =
-    record {
-      held = λ q counter l can. elim (cases_eq q n) [
-        | inl e ↦ let can_n : can_count (get_or masks (get_or queue n 0) 0) counter ≡ true = ap (λ k. can_count (get_or masks (get_or queue k 0) 0) counter) (sym e) ∙ can in
-            d.held counter (low _ counter can_n) can_n
-        | inr ne ↦ c.held q counter (omega arith) can
-      ];
-    }
+IsClosedBelow-more n masks counters queue c d low = grind (arith, get_or, true)
 
 -- one more event is reached
 pub IsSearch-push : (masks counters queue parents : List ℕ) (at place : ℕ) → IsSearch masks counters queue parents → at < length queue → place < length masks

@@ -10,17 +10,7 @@ pub different_set : (xs : List ℕ) (place x : ℕ) (Of : ℕ → Type 0) → pl
     → ((i : ℕ) → i < length xs → i ≢ place → Of i → get_or xs i 0 ≢ x)
     → ((i j : ℕ) → i < j → j < length xs → i ≢ place → j ≢ place → Of i → Of j → get_or xs i 0 ≢ get_or xs j 0)
     → (i j : ℕ) → i < j → j < length (set xs place x) → Of i → Of j → get_or (set xs place x) i 0 ≢ get_or (set xs place x) j 0
-different_set xs place x Of at free differ i j l m n o q =
-    let lj : j < length xs = omega (arith, length-set xs place x) in
-    elim (cases_eq i place) [
-      | inl e ↦
-          let ne_j : j ≢ place = omega arith in
-          free j lj ne_j o (sym (get_or-set_other xs place j x 0 ne_j) ∙ (sym q ∙ (ap (λ k. get_or (set xs place x) k 0) e ∙ get_or-set_same xs place x 0 at)))
-      | inr e ↦ elim (cases_eq j place) [
-        | inl f ↦ free i (omega (arith, l, lj)) e n (sym (get_or-set_other xs place i x 0 e) ∙ (q ∙ (ap (λ k. get_or (set xs place x) k 0) f ∙ get_or-set_same xs place x 0 at)))
-        | inr f ↦ differ i j l lj e f n o (sym (get_or-set_other xs place i x 0 e) ∙ (q ∙ get_or-set_other xs place j x 0 f))
-      ]
-    ]
+different_set xs place x Of at free differ i j l m n o q = grind (arith, length, length-set, get_or-set_other, get_or, set, get_or-set_same)
 
 -- the event without a counter takes that of another one, which then has none
 pub SeatsAllBut-move : (gap place : ℕ) (masks counters : List ℕ) → SeatsAllBut gap masks counters → gap < length masks → place < length masks → place ≢ gap

@@ -1,6 +1,6 @@
 -- A free counter is handed back along the search, from the event that can take it to the last of the list.
 use Rattle.std.specs.Prelude.{◌≢◌}
-use Rattle.std.proofs.Common.{◌≡◌, ℕ, zero, suc, ◌<◌, true, List, length, get_or, set, refl, sym, ap, ◌∙◌, arith, inl, inr, length-set, get_or-set_same, get_or-set_other}
+use Rattle.std.proofs.Common.{◌≡◌, ℕ, zero, suc, ◌<◌, true, List, length, get_or, set, sym, ap, ◌∙◌, arith, inl, inr, length-set, get_or-set_same, get_or-set_other}
 use Rattle.std.proofs.lemmas.Bool.{cases_eq, cases_order}
 use Rattle.stage_spec.specs.Fits.{can_count, fits, IsAssignment}
 use Rattle.counter_match.{specs.Search.{SeatsAllBut, IsSearch, IsShift}, proofs.Fitting.{fits-IsAssignment}}
@@ -77,5 +77,4 @@ fits_from_shift masks counters queue parents s (suc n) seats (suc position) coun
 pub IsShift-start : (masks counters queue parents : List ℕ) (position counter : ℕ) → IsSearch masks counters queue parents → SeatsAllBut (get_or queue 0 0) masks counters → position < length queue
     → can_count (get_or masks (get_or queue position 0) 0) counter ≡ true → ((i : ℕ) → i < length counters → i ≢ get_or queue 0 0 → get_or counters i 0 ≢ counter)
     → IsShift masks counters queue counters position counter
-IsShift-start masks counters queue parents position counter s a l can free =
-    record { reached = l; seated = a; free = free; wanted = can; same = λ q m n. refl }
+IsShift-start masks counters queue parents position counter s a l can free = grind arith

@@ -17,8 +17,7 @@ tight_after-picked p before (e ∷ rest) h =
     let n : length (before ++ e ∷ []) ≡ suc (length before) = omega (arith, length_push before e) in
     let ih : tight_after (before ++ e ∷ []) rest ≡ picked p (length (before ++ e ∷ [])) rest =
     tight_after-picked p (before ++ e ∷ []) rest (λ front x back q. h front x back (q ∙ append_assoc before (e ∷ []) rest)) in
-    ap (λ b. cond b (e ∷ []) [] ++ tight_after (before ++ e ∷ []) rest) here
-    ∙ ap (λ ys. cond (p (length before)) (e ∷ []) [] ++ ys) (ih ∙ ap (λ k. picked p k rest) n)
+    grind (arith, cond, here, length, ih, n)
 
 -- whether a list fits without one of its events
 pub fits_without_reached : (front : List (EventNo × ℕ)) (event : EventNo × ℕ) (back : List (EventNo × ℕ)) (counters queue parents : List ℕ)

@@ -1,15 +1,12 @@
 -- What the tests need of lists of events.
-use Rattle.std.{specs.Prelude.{All}, proofs.Common.{◌≡◌, ℕ, zero, suc, ◌<◌, List, [], ◌∷◌, take, drop, refl, sym, ap, ◌∙◌, arith, subst, length-take}}
+use Rattle.std.{specs.Prelude.{All}, proofs.Common.{◌≡◌, ℕ, zero, suc, List, [], ◌∷◌, take, drop, refl, sym, ap, ◌∙◌, arith, subst, length-take}}
 use Rattle.std.proofs.lemmas.List.{get_or-take, take-map, Elements.{All-take, All-drop}}
 use Rattle.perf_base.specs.{declared.numbers.EventNo.{EventNo}, Masks.{IsMask}}
 use Rattle.stage_spec.specs.Tight.{masks_of}
 use Rattle.counter_match.specs.Seating.{AreDistinct}
 
 pub AreDistinct-take : (n : ℕ) (events : List (EventNo × ℕ)) → AreDistinct events → AreDistinct (take n events)
-AreDistinct-take n events h i j d l m e =
-    let lj : j < n = omega (arith, m, length-take n events) in
-    let li : i < n = omega arith in
-    h i j d l (omega (arith, m, length-take n events)) (ap (λ (x : EventNo × ℕ). x.0) (sym (get_or-take n events i d li)) ∙ (e ∙ ap (λ (x : EventNo × ℕ). x.0) (get_or-take n events j d lj)))
+AreDistinct-take n events h i j d l m e = grind (arith, length-take, ℕ, get_or-take)
 
 masks_of-drop : (n : ℕ) (events : List (EventNo × ℕ)) → masks_of (drop n events) ≡ drop n (masks_of events)
 masks_of-drop zero events = refl

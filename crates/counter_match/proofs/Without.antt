@@ -52,8 +52,7 @@ get_or-past (b ∷ bs) ms m (suc i) = get_or-past bs ms m i
 pub get_or-past_split : (gap : ℕ) (xs : List ℕ) (i : ℕ) → gap < length xs → get_or (take gap xs ++ drop (suc gap) xs) i 0 ≡ get_or xs (past gap i) 0
 get_or-past_split gap xs i l =
     let n : length (take gap xs) ≡ gap = length-take-le gap xs (omega arith) in
-    let whole : take gap xs ++ get_or xs gap 0 ∷ drop (suc gap) xs ≡ xs =
-    ap (λ ys. take gap xs ++ ys) (sym (drop_more xs gap 0 l ∙ ap (λ k. get_or xs gap 0 ∷ drop k xs) (add-one gap))) ∙ take-append-drop gap xs in
+    let whole : take gap xs ++ get_or xs gap 0 ∷ drop (suc gap) xs ≡ xs = grind (arith, take, drop_more, get_or, drop, add-one, take-append-drop) in
     get_or-past (take gap xs) (drop (suc gap) xs) (get_or xs gap 0) i ∙ (ap (λ k. get_or (take gap xs ++ get_or xs gap 0 ∷ drop (suc gap) xs) (past k i) 0) n ∙ ap (λ ys. get_or ys (past gap i) 0) whole)
 
 pub fits_without : (before after : List ℕ) (mask : ℕ) (seats : List ℕ) → SeatsAllBut (length before) (before ++ mask ∷ after) seats → fits (before ++ after) ≡ true

@@ -1,15 +1,15 @@
 -- A processor that takes over the plan of its present brief is judged.
 use Rattle.std.specs.Prelude.{◌≡◌, ℕ, ◌<◌, ◌≤◌, ◌==◌, Bool, true, false, cond, All, List, [], ◌∷◌, ◌++◌, length, map, slice_index_or}
 use Rattle.std.{specs.{FinMap.{FinMap}, Ordering.{nat_cmp}}, proofs.Common.{arith, refl, sym, ap, subst, ◌∙◌, inl, inr, append_assoc}}
-use Rattle.std.proofs.lemmas.{Bool.{cases_Bool, cases_eq, false≢true}, List.{append-nil, length-set, length-map, get_or-map, get_or-set_same, map-id}}
+use Rattle.std.proofs.lemmas.{Bool.{cases_Bool, false≢true}, List.{append-nil, length-set, length-map, get_or-map, get_or-set_same, map-id}}
 use Rattle.std.proofs.lemmas.Simd.{map-map}
 use Rattle.perf_base.specs.declared.{numbers.{CpuNo.{CpuNo}, Key.{Key}}, standing.Standing.{Standing}}
 use Rattle.perf_base.specs.declared.standing.Standing.TheVariants as standing
-use Rattle.stage_spec.specs.{Stage.{Group}, Verdict.{Judged, is_eligible, standing_among, verdicts}}
+use Rattle.stage_spec.specs.{Stage.{Group}, Verdict.{Judged, standing_among}}
 use Rattle.stage_laws.{specs.{Narrowing.{has_context}, Standings.{standings}}, proofs.Counts.{count-filter}}
 use Rattle.counter_match.specs.Seating.{empty_seating}
 use Rattle.world_spec.specs.{Changes.{with_seats}, Kept.{leads, post_at, IsKept}, Listings.{pass_leaders}, Rescheduled.{IsJudged}}
-use Rattle.world_spec.specs.{StageOf.{group_at, stage_of}, Value.{World, entry_at, is_live, standing_at, seats_at, is_key, times}}
+use Rattle.world_spec.specs.{StageOf.{stage_of}, Value.{World, entry_at, is_live, standing_at, seats_at, is_key, times}}
 use Rattle.world_spec.proofs.{Copies.{times-at}, GoneStage.{AreLeading}, Keys.{key-is, is_key-true, is_key-false, times-cons, once-true}}
 use Rattle.world_spec.proofs.{Listings.{reached_leaders, reached-once, reached-context, reached-leading}, Moving.{leads-parts}}
 use Rattle.world_spec.proofs.Rescheduling.{same-id}
@@ -26,8 +26,7 @@ plan-keys : (w : World) (cpu : CpuNo) (p : Planned) → IsPlanOf (present_brief 
 plan-keys w cpu p is = ap (map (λ x. x.0)) is.standings ∙ present-leaders w cpu
 
 few-keys : (w : World) (cpu : CpuNo) (p : Planned) → IsPlanOf (present_brief w cpu) p → (q : Key) → times q (keys_of_plan p) ≤ times q (reached_leaders w cpu)
-few-keys w cpu p is q =
-    omega (arith, ap (times q) (plan-keys w cpu p is), count-filter (is_key q) (λ k. is_eligible w.hardware cpu (group_at w k)) (reached_leaders w cpu))
+few-keys w cpu p is q = grind (arith, plan-keys, count-filter, reached_leaders, ap (times q) (plan-keys w cpu p is))
 
 -- so each group that is planned is there
 pub planned-live : (w : World) (cpu : CpuNo) (p : Planned) → IsKept w.hardware w → IsPlanOf (present_brief w cpu) p → All (λ told. is_live w told.0 ≡ true) p.standings
@@ -57,16 +56,11 @@ standing-is (j ∷ js) g = ap {B = Standing} (λ x. elim (j.group.leader.id == g
 by-id : (w : World) (k : Key) (x : Key × Standing) (xs : List (Key × Standing)) (b : Bool) → (id_at w x.0 == id_at w k) ≡ b
     → standing_by (map (λ y. (id_at w y.0, y.1)) (x ∷ xs)) (id_at w k) ≡ cond b x.1 (standing_by (map (λ y. (id_at w y.0, y.1)) xs) (id_at w k))
 unfolding standing_by
-by-id w k x xs true e =
-    ap {B = Standing} (λ b. elim b as (λ c. Standing) [ true ↦ x.1 | false ↦ standing_by (map (λ y. (id_at w y.0, y.1)) xs) (id_at w k) ]) e
-by-id w k x xs false e =
-    ap {B = Standing} (λ b. elim b as (λ c. Standing) [ true ↦ x.1 | false ↦ standing_by (map (λ y. (id_at w y.0, y.1)) xs) (id_at w k) ]) e
+by-id w k x xs true e = grind (arith, id_at)
+by-id w k x xs false e = grind (arith, id_at)
 
 apart-ids : (w : World) → IsKept w.hardware w → (q k : Key) → leads (post_at w) q ≡ true → leads (post_at w) k ≡ true → is_key k q ≡ false → (id_at w q == id_at w k) ≡ false
-apart-ids w kept q k lead_q lead_k off = elim (cases_Bool (id_at w q == id_at w k)) [
-  | inl same ↦ absurd (is_key-false k q off (ap (λ x. x.0) (same-id w.hardware w kept q k lead_q lead_k same)))
-  | inr apart ↦ apart
-]
+apart-ids w kept q k lead_q lead_k off = grind (arith, id_at, is_key-false, same-id)
 
 none-by : (id : ℕ) → standing_by [] id ≡ standing.Out
 unfolding standing_by
@@ -111,10 +105,7 @@ pub record TookOver (w x : World) (cpu : CpuNo) (p : Planned) : Type 0 where
 
 told-last : (w x : World) (cpu : CpuNo) (p : Planned) → TookOver w x cpu p → (q : Key)
     → standing_at x q ≡ last_told p.standings q (last_told (map (λ k. (k, standing.Out)) (reached_leaders w cpu)) q (standing_at w q))
-told-last w x cpu p h q =
-    ap (λ t. stand_at t q) h.standings
-    ∙ (told-at p.standings (out_standings (reached_leaders w cpu) w.standings) q
-    ∙ ap (last_told p.standings q) (told-at (map (λ k. (k, standing.Out)) (reached_leaders w cpu)) w.standings q))
+told-last w x cpu p h q = grind (arith, stand_at, told-at, reached_leaders, last_told)
 
 stands-by-plan : (w x : World) (cpu : CpuNo) (p : Planned) → TookOver w x cpu p → (q : Key) → leads (post_at w) q ≡ true → has_context (stage_of w) cpu (entry_at w q).context ≡ true
     → standing_at x q ≡ standing_by (standings w.hardware (stage_of w) cpu) (id_at w q)
@@ -128,15 +119,8 @@ stands-by-plan w x cpu p h q lead has =
 
 pub adopted-judged : (w x : World) (cpu : CpuNo) (p : Planned) → TookOver w x cpu p → IsJudged w.hardware x cpu
 adopted-judged w x cpu p h =
-    let judged_now : IsJudged w.hardware (retold cpu w x) cpu = record {
-      standings = λ q lead has. stands-by-plan w x cpu p h q lead has ∙ sym (standing-is (verdicts w.hardware (stage_of w) cpu) (group_at w q));
-      served = record {
-        events =
-            ap (λ s. s.events) (get_or-set_same w.quiet.seats cpu.0 (seats_at x cpu) (empty_seating 0) h.low)
-            ∙ (ap (λ s. s.events) h.seats ∙ (h.plan.events ∙ sym (present-seated w cpu)));
-        assigned = ((subst (λ y. IsKept w.hardware y) h.world h.kept_now).seated.sound cpu (omega (arith, h.low, length-set w.quiet.seats cpu.0 (seats_at x cpu)))).assigned;
-      };
-    } in
+    let judged_now : IsJudged w.hardware (retold cpu w x) cpu =
+    grind (arith, stands-by-plan, standing-is, get_or-set_same, present-seated, length-set) in
     subst (λ y. IsJudged w.hardware y cpu) (sym h.world) judged_now
 
 -- standings of groups elsewhere stay
@@ -145,10 +129,7 @@ outs-keys keys = map-map (λ (x : Key × Standing). x.0) (λ k. (k, standing.Out
 
 pub adopted-others : (w x : World) (cpu : CpuNo) (p : Planned) → TookOver w x cpu p → (q : Key) → has_context (stage_of w) cpu (entry_at w q).context ≡ false → standing_at x q ≡ standing_at w q
 adopted-others w x cpu p h q away =
-    let none : times q (reached_leaders w cpu) ≡ 0 = elim (cases_eq (times q (reached_leaders w cpu)) 0) [
-      | inl none ↦ none
-      | inr more ↦ absurd (false≢true (sym away ∙ reached-context w.hardware w h.kept cpu q (omega (arith, more))))
-    ] in
+    let none : times q (reached_leaders w cpu) ≡ 0 = grind (arith, reached_leaders, false≢true, reached-context) in
     told-last w x cpu p h q
     ∙ (last-none p.standings q (last_told (map (λ k. (k, standing.Out)) (reached_leaders w cpu)) q (standing_at w q)) (omega (arith, none, few-keys w cpu p h.plan q))
     ∙ last-none (map (λ k. (k, standing.Out)) (reached_leaders w cpu)) q (standing_at w q) (ap (times q) (outs-keys (reached_leaders w cpu)) ∙ none))
@@ -157,21 +138,13 @@ adopted-others w x cpu p h q away =
 pub out-then : (v w x : World) (cpu : CpuNo) (pass : ℕ) (done : List Key) → w ≡ with_standings (out_standings done v.standings) v
     → x ≡ with_standings (out_standings (slice_index_or (pass_leaders w cpu) pass []) w.standings) w
     → x ≡ with_standings (out_standings (done ++ slice_index_or (pass_leaders v cpu) pass []) v.standings) v
-out-then v w x cpu pass done before now =
-    now
-    ∙ ((λ i. with_standings (out_standings (slice_index_or (pass_leaders (before i) cpu) pass []) (before i).standings) (before i))
-    ∙ ap (λ m. with_standings m v) (sym (out-append done (slice_index_or (pass_leaders v cpu) pass []) v.standings)))
+out-then v w x cpu pass done before now = grind (arith, out-append)
 
 abbrev pub leaders_at : World → CpuNo → ℕ → List Key
 leaders_at w cpu pass = slice_index_or (pass_leaders w cpu) pass []
 
 pub four-passes : (w : World) (cpu : CpuNo) → ((leaders_at w cpu 0 ++ leaders_at w cpu 1) ++ leaders_at w cpu 2) ++ leaders_at w cpu 3 ≡ reached_leaders w cpu
-four-passes w cpu =
-    let a : List Key = leaders_at w cpu 0 in
-    let b : List Key = leaders_at w cpu 1 in
-    let c : List Key = leaders_at w cpu 2 in
-    let d : List Key = leaders_at w cpu 3 in
-    append_assoc (a ++ b) c d ∙ (append_assoc a b (c ++ d) ∙ ap (λ xs. a ++ (b ++ (c ++ xs))) (sym (append-nil d)))
+four-passes w cpu = grind (arith, append_assoc, append-nil)
 
 -- all that stood out, and then were told their standings and got their seats
 pub took-over : (v o t x : World) (cpu : CpuNo) (p : Planned) → IsKept v.hardware v → IsKept x.hardware x → cpu.0 < length v.quiet.running → IsPlanOf (present_brief v cpu) p
@@ -182,12 +155,4 @@ took-over v o t x cpu p kept kept_now low plan outs told seated =
     let all : x ≡ with_seats cpu p.seats (with_standings (told_standings p.standings out) v) = seated ∙ ap (with_seats cpu p.seats) standing in
     let within : cpu.0 < length v.quiet.seats = omega (arith, low, kept.tables.seats) in
     let seats : seats_at x cpu ≡ p.seats = ap (λ (w : World). seats_at w cpu) all ∙ get_or-set_same v.quiet.seats cpu.0 p.seats (empty_seating 0) within in
-    record {
-      kept = kept;
-      kept_now = subst (λ hw. IsKept hw x) (ap (λ (w : World). w.hardware) all) kept_now;
-      low = within;
-      plan = plan;
-      world = all ∙ sym (λ i. record (with_seats cpu (seats i) v) { standings = (all i).standings });
-      standings = ap (λ (w : World). w.standings) all;
-      seats = seats;
-    }
+    grind (arith, all, within, seats)

@@ -1,5 +1,5 @@
 -- The present brief of a processor has at most 256 groups and 256 events, each once.
-use Rattle.std.specs.Prelude.{◌≡◌, ℕ, zero, suc, ◌+◌, ◌<◌, ◌≤◌, ◌==◌, nat_lt, Bool, true, false, ◌&&◌, cond, All, List, [], ◌∷◌, ◌++◌, length, map, filter, flat_map, count_by, take, slice_index_or}
+use Rattle.std.specs.Prelude.{◌≡◌, ℕ, zero, suc, ◌+◌, ◌<◌, ◌≤◌, ◌==◌, nat_lt, Bool, true, ◌&&◌, cond, All, List, [], ◌∷◌, ◌++◌, length, map, filter, flat_map, count_by, take, slice_index_or}
 use Rattle.std.proofs.{Common.{arith, refl, sym, ap, subst, ◌∙◌, inl, inr}, lemmas.Bool.{cases_Bool, Decides.{nat_tests}}}
 use Rattle.std.proofs.lemmas.List.{get_or-map, length-append, length-map, map-append, Elements.{All-append, All-cons, filter-append}}
 use Rattle.perf_base.specs.declared.numbers.{CpuNo.{CpuNo}, EventNo.{EventNo}, Key.{Key}}
@@ -20,21 +20,11 @@ one_if-less x n = grind (arith, nat_tests)
 number-less : {X : Type 0} (slot : X → ℕ) (n : ℕ) (xs : List X)
     → count_by (λ x. nat_lt (slot x) (suc n)) xs ≡ count_by (λ x. nat_lt (slot x) n) xs + count_by (λ x. slot x == n) xs
 number-less slot n [] = refl
-number-less slot n (x ∷ xs) =
-    omega (
-      arith,
-      count-cons (λ x. nat_lt (slot x) (suc n)) x xs,
-      count-cons (λ x. nat_lt (slot x) n) x xs,
-      count-cons (λ x. slot x == n) x xs,
-      one_if-less (slot x) n,
-      number-less slot n xs,
-    )
+number-less slot n (x ∷ xs) = omega (arith, count-cons, one_if-less, number-less slot n xs)
 
 none-less : {X : Type 0} (slot : X → ℕ) (xs : List X) → count_by (λ x. nat_lt (slot x) 0) xs ≡ 0
 none-less slot [] = refl
-none-less slot (x ∷ xs) =
-    let off : nat_lt (slot x) 0 ≡ false = grind (arith, nat_tests) in
-    omega (arith, count-cons (λ x. nat_lt (slot x) 0) x xs, ap as_number off, none-less slot xs)
+none-less slot (x ∷ xs) = grind (arith, nat_tests, count-cons, as_number, none-less slot xs)
 
 few-less : {X : Type 0} (slot : X → ℕ) (xs : List X) → ((n : ℕ) → count_by (λ x. slot x == n) xs ≤ 1) → (n : ℕ) → count_by (λ x. nat_lt (slot x) n) xs ≤ n
 few-less slot xs once zero = omega (arith, none-less slot xs)
@@ -60,8 +50,7 @@ abbrev slot_at : World → Key → ℕ
 slot_at w k = (instance_at w k).event.0
 
 leader-counted : (w : World) (e : EventNo) (k : Key) → as_number (slot_at w k == e.0) ≤ count_by (is_of_family e) (members_of (group_at w k))
-leader-counted w e k =
-    omega (arith, count-cons (is_of_family e) (instance_at w k) (group_at w k).siblings)
+leader-counted w e k = grind (arith, nat_tests, count-cons, count-cons (is_of_family e) (instance_at w k) (group_at w k).siblings)
 
 leaders-counted : (w : World) (e : EventNo) (keys : List Key) → count_by (λ k. slot_at w k == e.0) keys ≤ held w e keys
 leaders-counted w e [] = omega arith
@@ -127,8 +116,7 @@ masks-low w p (i ∷ is) all =
       | inl e ↦
           subst (λ b. All (λ event. event.0.0 < 256) (with_masks w.hardware (cond b (i ∷ filter p is) (filter p is)))) (sym e)
           (All-cons (λ event. event.0.0 < 256) (i.event, mask_of w.hardware i.attr.kind) (with_masks w.hardware (filter p is)) (all 0 i (omega arith)) (masks-low w p is rest))
-      | inr e ↦
-          subst (λ b. All (λ event. event.0.0 < 256) (with_masks w.hardware (cond b (i ∷ filter p is) (filter p is)))) (sym e) (masks-low w p is rest)
+      | inr e ↦ grind (arith, nat_tests, e, masks-low w p is rest)
     ]
 
 members-low : (w : World) → IsKept w.hardware w → (k : Key) → leads (post_at w) k ≡ true → All (λ i. i.event.0 < 256) (members_of (group_at w k))
@@ -151,15 +139,12 @@ briefs-low w cpu kept (k ∷ keys) all =
           subst (λ b. All (λ event. event.0.0 < 256) (events_in (map (brief_at w) (cond b (k ∷ rest) rest)))) (sym on)
           (All-append (λ event. event.0.0 < 256) (brief_at w k).counted (events_in (map (brief_at w) rest))
           (masks-low w (λ i. is_ready i.own && is_hardware i) (members_of (group_at w k)) (members-low w kept k lead)) others)
-      | inr off ↦
-          subst (λ b. All (λ event. event.0.0 < 256) (events_in (map (brief_at w) (cond b (k ∷ rest) rest)))) (sym off) others
+      | inr off ↦ grind (arith, nat_tests, off)
     ]
 
 -- the groups of all passes
 pub briefs-append : (w : World) (cpu : CpuNo) (xs ys : List Key) → briefs_at w cpu (xs ++ ys) ≡ briefs_at w cpu xs ++ briefs_at w cpu ys
-briefs-append w cpu xs ys =
-    ap (map (brief_at w)) (filter-append (λ k. is_eligible w.hardware cpu (group_at w k)) xs ys)
-    ∙ map-append (brief_at w) (filter (λ k. is_eligible w.hardware cpu (group_at w k)) xs) (filter (λ k. is_eligible w.hardware cpu (group_at w k)) ys)
+briefs-append w cpu xs ys = grind (arith, nat_tests, filter-append, map-append)
 
 flat-briefs : (w : World) (cpu : CpuNo) (ps : List (List Key)) → flat_map (λ p. p) (map (briefs_at w cpu) ps) ≡ briefs_at w cpu (flat_map (λ keys. keys) ps)
 flat-briefs w cpu [] = refl
@@ -167,18 +152,10 @@ flat-briefs w cpu (p ∷ ps) = ap (λ bs. briefs_at w cpu p ++ bs) (flat-briefs 
 
 filter-fewer : {X : Type 0} (p : X → Bool) (xs : List X) → length (filter p xs) ≤ length xs
 filter-fewer p [] = omega arith
-filter-fewer p (x ∷ xs) = elim (cases_Bool (p x)) [
-  | inl e ↦ omega (arith, ap (λ b. length (cond b (x ∷ filter p xs) (filter p xs))) e, filter-fewer p xs)
-  | inr e ↦ omega (arith, ap (λ b. length (cond b (x ∷ filter p xs) (filter p xs))) e, filter-fewer p xs)
-]
+filter-fewer p (x ∷ xs) = grind (arith, nat_tests, filter-fewer p xs)
 
 pub briefs-fewer : (w : World) (cpu : CpuNo) (keys : List Key) → length (briefs_at w cpu keys) ≤ length keys
-briefs-fewer w cpu keys =
-    omega (
-      arith,
-      length-map (filter (λ k. is_eligible w.hardware cpu (group_at w k)) keys) (brief_at w),
-      filter-fewer (λ k. is_eligible w.hardware cpu (group_at w k)) keys,
-    )
+briefs-fewer w cpu keys = grind (arith, nat_tests, length-map, filter-fewer)
 
 abbrev sound_pass : World → CpuNo → ℕ → Type 0
 sound_pass w cpu pass = All (IsGroupBrief (counters_of w.hardware cpu)) (briefs_at w cpu (slice_index_or (pass_leaders w cpu) pass []))

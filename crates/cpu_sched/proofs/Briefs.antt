@@ -1,12 +1,12 @@
 -- What is looked at of a group by its keys, and that its events can be put on the counters of a processor on which it
 -- is eligible.
-use Rattle.std.specs.Prelude.{◌≡◌, ℕ, suc, ◌<◌, ◌≤◌, Bool, true, false, not, ◌&&◌, cond, All, List, [], ◌∷◌, length, map, filter, slice_index, slice_index_or}
+use Rattle.std.specs.Prelude.{◌≡◌, ℕ, suc, ◌<◌, ◌≤◌, Bool, true, false, ◌&&◌, cond, All, List, [], ◌∷◌, map, filter, slice_index, slice_index_or}
 use Rattle.std.{specs.List.{list_all}, proofs.{Common.{arith, refl, sym, ap, subst, ◌∙◌, inl, inr}, lemmas.Bool.{cases_Bool, cases_lt}}}
 use Rattle.std.proofs.lemmas.{Bool.Decides.{nat_tests}, List.{get_or_past, Elements.{All-cons}}}
 use Rattle.perf_base.specs.{Masks.{IsMask}, declared.{attr.Kind.{Kind}, numbers.{CpuNo.{CpuNo}, EventNo.{EventNo}, Key.{Key}}}}
 use Rattle.perf_base.specs.declared.attr.Kind.TheVariants as kind
 use Rattle.stage_spec.specs.{declared.instance.Instance.{Instance}, Effective.{is_ready, is_hardware, is_wholly_software, counted_members}}
-use Rattle.stage_spec.specs.{Hardware.{Hardware, IsHardware, is_software, mask_of, counters_of, pmu_of_cpu, is_counted_on}, Places.{may_count_on}}
+use Rattle.stage_spec.specs.{Hardware.{Hardware, IsHardware, is_software, mask_of, counters_of, is_counted_on}}
 use Rattle.stage_spec.specs.{Stage.{Group, members_of}, Tight.{masks_of}, Verdict.{is_eligible, with_masks}}
 use Rattle.world_spec.specs.{Kept.{leads, post_at, once_if, IsKept}, StageOf.{group_at}, Value.{World, entry_at, instance_at, is_live, is_key, times}}
 use Rattle.world_spec.proofs.{Copies.{times-at}, Families.{group-members}, Moving.{leads-parts}}
@@ -33,20 +33,14 @@ none-needed : (is : List Instance) → list_all (λ i. is_software i.attr.kind) 
 none-needed [] h = refl
 none-needed (i ∷ is) h =
     let parts : (is_software i.attr.kind ≡ true) × (list_all (λ j. is_software j.attr.kind) is ≡ true) = leads-parts (is_software i.attr.kind) (list_all (λ j. is_software j.attr.kind) is) h in
-    ap (λ b. cond (is_ready i.own && not b) (i ∷ filter (λ j. is_ready j.own && is_hardware j) is) (filter (λ j. is_ready j.own && is_hardware j) is)) parts.0
-    ∙ (no-more (is_ready i.own) (i ∷ filter (λ j. is_ready j.own && is_hardware j) is) (filter (λ j. is_ready j.own && is_hardware j) is) ∙ none-needed is parts.1)
+    grind (arith, nat_tests, no-more, none-needed is parts.1)
 
 pub software-uncounted : (hw : Hardware) (g : Group) → is_wholly_software g ≡ true → with_masks hw (counted_members g) ≡ []
 software-uncounted hw g h = ap (with_masks hw) (none-needed (members_of g) h)
 
 -- A mask of a kind that a processor's PMU counts is on its counters.
 hard-fits : (hw : Hardware) (cpu : CpuNo) (n : ℕ) → IsHardware hw → is_counted_on hw cpu (kind.Hard n) ≡ true → 0 < slice_index hw.masks n → IsMask (counters_of hw cpu) (slice_index hw.masks n)
-hard-fits hw cpu n h counts some = elim (cases_lt n (length hw.masks)) [
-  | inl low ↦
-      let same : slice_index hw.kind_pmus n ≡ pmu_of_cpu hw cpu = grind (arith, nat_tests, counts) in
-      subst (λ pmu. IsMask (slice_index hw.counters pmu) (slice_index hw.masks n)) same (h.masks n low)
-  | inr past ↦ absurd (omega (arith, some, get_or_past hw.masks n 0 past))
-]
+hard-fits hw cpu n h counts some = grind (arith, nat_tests, cases_lt, get_or_past)
 
 mask-fits : (hw : Hardware) (cpu : CpuNo) (k : Kind) → IsHardware hw → is_counted_on hw cpu k ≡ true → 0 < mask_of hw k → IsMask (counters_of hw cpu) (mask_of hw k)
 mask-fits hw cpu (kind.Hard n) h counts some = hard-fits hw cpu n h counts some
@@ -78,8 +72,7 @@ masks-each hw cpu p (i ∷ is) h counts some =
 pub group-fits : (hw : Hardware) (cpu : CpuNo) (g : Group) (events : List (EventNo × ℕ)) (counters : ℕ) → IsHardware hw → is_eligible hw cpu g ≡ true → events ≡ with_masks hw (counted_members g)
     → All (λ mask. 0 < mask) (masks_of events) → counters ≡ counters_of hw cpu → All (IsMask counters) (masks_of events)
 group-fits hw cpu g events counters h eligible is some same =
-    let counts : list_all (λ i. is_counted_on hw cpu i.attr.kind) (members_of g) ≡ true =
-    (leads-parts (is_ready g.leader.own && may_count_on cpu g.leader.attr.cpu) (list_all (λ i. is_counted_on hw cpu i.attr.kind) (members_of g)) eligible).1 in
+    let counts : list_all (λ i. is_counted_on hw cpu i.attr.kind) (members_of g) ≡ true = grind (arith, nat_tests, leads-parts) in
     subst (λ n. All (IsMask n) (masks_of events)) (sym same)
     (subst (λ es. All (IsMask (counters_of hw cpu)) (masks_of es)) (sym is)
     (masks-each hw cpu (λ i. is_ready i.own && is_hardware i) (members_of g) h counts (subst (λ es. All (λ mask. 0 < mask) (masks_of es)) is some)))

@@ -17,9 +17,7 @@ pub record IsDraft (d : Draft) (standings : List (Key × Standing)) (events : Li
   pub so_far_is : so_far ≡ d.so_far
 
 next-group : (groups : List Stored) (i : ℕ) (x : Stored) → i < length groups → take (i + 1) groups ≡ take i groups ++ slice_index_or groups i x ∷ []
-next-group groups i x low =
-    let one : i + 1 ≡ suc i = omega arith in
-    ap (λ n. take n groups) one ∙ take-suc groups i x low
+next-group groups i x low = grind (arith, take-suc)
 
 fold-next : (start : Draft) (groups : List Stored) (i : ℕ) (x : Stored) → i < length groups
     → fold plan_one start (map seen (take (i + 1) groups)) ≡ plan_one (fold plan_one start (map seen (take i groups))) (seen (slice_index_or groups i x))
@@ -34,14 +32,7 @@ pub draft-next : (start : Draft) (groups : List Stored) (i : ℕ) (x : Stored) (
     → events_now ≡ (plan_one (draft_of standings events so_far) (seen (slice_index_or groups i x))).events
     → so_far_now ≡ (plan_one (draft_of standings events so_far) (seen (slice_index_or groups i x))).so_far
     → IsDraft (fold plan_one start (map seen (take (i + 1) groups))) standings_now events_now so_far_now
-draft-next start groups i x standings standings_now events events_now so_far so_far_now low h e1 e2 e3 =
-    let g : GroupBrief Key = seen (slice_index_or groups i x) in
-    let next : fold plan_one start (map seen (take (i + 1) groups)) ≡ plan_one (fold plan_one start (map seen (take i groups))) g = fold-next start groups i x low in
-    record {
-      standings_are = e1 ∙ ((λ j. (plan_one (draft_of (h.standings_are j) (h.events_are j) (h.so_far_is j)) g).standings) ∙ ap (λ d. d.standings) (sym next));
-      events_are = e2 ∙ ((λ j. (plan_one (draft_of (h.standings_are j) (h.events_are j) (h.so_far_is j)) g).events) ∙ ap (λ d. d.events) (sym next));
-      so_far_is = e3 ∙ ((λ j. (plan_one (draft_of (h.standings_are j) (h.events_are j) (h.so_far_is j)) g).so_far) ∙ ap (λ d. d.so_far) (sym next));
-    }
+draft-next start groups i x standings standings_now events events_now so_far so_far_now low h e1 e2 e3 = grind (arith, fold-next)
 
 pub tried-next : (start : Draft) (groups : List Stored) (i : ℕ) (x : Stored) (standings : List (Key × Standing)) (events : List (EventNo × ℕ)) (so_far : SoFar) → i < length groups
     → IsDraft (fold plan_one start (map seen (take i groups))) standings events so_far
@@ -53,8 +44,7 @@ tried-next start groups i x standings events so_far low h =
     let t : ℕ = tries_for (planned_of d g) (length g.counted) in
     let own : (plan_one (draft_of standings events so_far) g).tried ≡ 0 + tries_for (planned_of (draft_of standings events so_far) g) (length g.counted) = refl in
     let all : (plan_one d g).tried ≡ d.tried + t = refl in
-    let same : tries_for (planned_of (draft_of standings events so_far) g) (length g.counted) ≡ t =
-    λ j. tries_for (planned_of (draft_of (h.standings_are j) (h.events_are j) (h.so_far_is j)) g) (length g.counted) in
+    let same : tries_for (planned_of (draft_of standings events so_far) g) (length g.counted) ≡ t = grind arith in
     omega (arith, own, all, same, ap (λ e. e.tried) (fold-next start groups i x low))
 
 -- events that groups add
@@ -80,13 +70,7 @@ pub taken-few : (e : EventNo) (groups : List Stored) (i : ℕ) → slots e (even
 taken-few e [] zero = omega arith
 taken-few e [] (suc i) = omega arith
 taken-few e (g ∷ groups) zero = omega arith
-taken-few e (g ∷ groups) (suc i) =
-    omega (
-      arith,
-      count-append (λ event. event.0.0 == e.0) g.events (events_in (map seen groups)),
-      count-append (λ event. event.0.0 == e.0) g.events (events_in (map seen (take i groups))),
-      taken-few e groups i,
-    )
+taken-few e (g ∷ groups) (suc i) = grind (arith, count-append, taken-few e groups i)
 
 -- The next group can be put beside those that were planned.
 pub group-distinct : (groups : List Stored) (i : ℕ) (x : Stored) (before events : List (EventNo × ℕ)) → i < length groups

@@ -1,16 +1,15 @@
 -- A processor all of whose groups were told is judged.
-use Rattle.std.specs.Prelude.{◌≡◌, ℕ, ◌+◌, ◌<◌, ◌≤◌, ◌==◌, Bool, true, false, ◌&&◌, cond, nat_lt, List, [], ◌∷◌, ◌++◌, length, map, filter, flat_map, Option, Some, None, if◌then◌else◌}
+use Rattle.std.specs.Prelude.{◌≡◌, ℕ, ◌+◌, ◌<◌, ◌≤◌, ◌==◌, Bool, true, false, ◌&&◌, nat_lt, List, [], ◌∷◌, ◌++◌, length, map, filter, flat_map, Option, Some, None, if◌then◌else◌}
 use Rattle.std.{specs.List.{fold}, proofs.{Common.{arith, refl, sym, ap, subst, ◌∙◌, inl, inr}, lemmas.Bool.{cases_eq, false≢true}}}
 use Rattle.std.proofs.lemmas.{Bool.Decides.{nat_tests}, List.{append-nil, length-set, get_or-set_same, Elements.{filter-append}}}
 use Rattle.perf_base.specs.declared.{numbers.{CpuNo.{CpuNo}, Key.{Key}, TaskNo.{TaskNo}}, standing.Context.{Context}}
 use Rattle.perf_base.specs.declared.standing.Context.TheVariants as context
 use Rattle.stage_spec.specs.{declared.instance.Instance.{Instance}, Effective.{is_ready, is_hardware, counted_members}, Hardware.{Hardware}}
 use Rattle.stage_spec.specs.Stage.{Group, members_of, place_of, task_on, is_task}
-use Rattle.stage_spec.specs.Verdict.{Judged, is_eligible, judge_passes, verdicts, groups_on, with_masks, standing_among}
+use Rattle.stage_spec.specs.Verdict.{Judged, is_eligible, judge_passes, verdicts}
 use Rattle.stage_laws.{specs.Narrowing.{has_context}, proofs.Counts.{count-append}}
-use Rattle.counter_match.specs.Seating.{empty_seating}
 use Rattle.world_spec.specs.{Kept.{leads, post_at, once_if, IsKept}, Listings.{pass_leaders, task_leaders}, Rescheduled.{IsJudged}}
-use Rattle.world_spec.specs.{StageOf.{group_at, stage_of}, Value.{World, Leaders, leaders_of, entry_at, standing_at, seats_at, is_key, times}}
+use Rattle.world_spec.specs.{StageOf.{group_at, stage_of}, Value.{World, leaders_of, entry_at, standing_at, seats_at, times}}
 use Rattle.world_spec.proofs.Families.{leaders_both, leaders-at}
 use Rattle.world_spec.proofs.Listings.{passes-are, reached_leaders, reached-once, reached-context, reached-leading}
 use Rattle.cpu_sched.{specs.{declared.judging.SoFar.{SoFar}, Judging.{tally_in, tell_pass, retold}}, proofs.Telling.{Stands, passes-told}}
@@ -23,18 +22,7 @@ led-here false here a b = absurd (false≢true a)
 
 parts-reached : (w : World) (cpu : CpuNo) (q : Key)
     → times q (reached_leaders w cpu) ≡ times q (leaders_both (leaders_of w (context.Processor cpu))) + times q (leaders_both (task_leaders w (task_on (stage_of w) cpu)))
-parts-reached w cpu q =
-    let own : Leaders = leaders_of w (context.Processor cpu) in
-    let task : Leaders = task_leaders w (task_on (stage_of w) cpu) in
-    omega (
-      arith,
-      count-append (is_key q) own.pinned (task.pinned ++ (own.flexible ++ (task.flexible ++ []))),
-      count-append (is_key q) task.pinned (own.flexible ++ (task.flexible ++ [])),
-      count-append (is_key q) own.flexible (task.flexible ++ []),
-      count-append (is_key q) task.flexible [],
-      count-append (is_key q) own.pinned own.flexible,
-      count-append (is_key q) task.pinned task.flexible,
-    )
+parts-reached w cpu q = grind (arith, nat_tests, count-append)
 
 pub same-number : (m n : ℕ) → (m == n) ≡ true → m ≡ n
 same-number m n h = grind (arith, nat_tests, h)
@@ -54,13 +42,7 @@ reached-by : (hw : Hardware) (w : World) (cpu : CpuNo) → IsKept hw w → (q : 
     → has_context (stage_of w) cpu c ≡ true → 1 ≤ times q (reached_leaders w cpu)
 reached-by hw w cpu h q lead (context.Processor other) at has =
     let same : place_of (entry_at w q).context ≡ place_of (context.Processor cpu) = ap place_of at ∙ ap (λ n. if nat_lt n 8 then n else 72) (same-number other.0 cpu.0 has) in
-    omega (
-      arith,
-      parts-reached w cpu q,
-      leaders-at hw w h q (place_of (context.Processor cpu)),
-      led-here (leads (post_at w) q) (place_of (entry_at w q).context == place_of (context.Processor cpu)) lead
-          (is-number (place_of (entry_at w q).context) (place_of (context.Processor cpu)) same),
-    )
+    grind (arith, parts-reached w cpu q, leaders-at hw w h q (place_of (context.Processor cpu)))
 reached-by hw w cpu h q lead (context.Task task) at has = omega (arith, parts-reached w cpu q, in-task hw w h q lead task at (task_on (stage_of w) cpu) has)
 
 pub reached-there : (hw : Hardware) (w : World) (cpu : CpuNo) → IsKept hw w → (q : Key) → leads (post_at w) q ≡ true → has_context (stage_of w) cpu (entry_at w q).context ≡ true
@@ -70,12 +52,8 @@ reached-there hw w cpu h q lead has = reached-by hw w cpu h q lead (entry_at w q
 -- The hardware instances that are on are the members that need counters of the groups that are on.
 filter-one : (b : Bool) (p q : Instance → Bool) (x : Instance) (xs : List Instance) → p x ≡ b → filter q (filter p xs) ≡ filter (λ y. p y && q y) xs
     → filter q (filter p (x ∷ xs)) ≡ filter (λ y. p y && q y) (x ∷ xs)
-filter-one true p q x xs e rest =
-    ap (λ b. filter q (cond b (x ∷ filter p xs) (filter p xs))) e
-    ∙ (ap (λ ys. cond (q x) (x ∷ ys) ys) rest ∙ ap (λ b. cond (b && q x) (x ∷ filter (λ y. p y && q y) xs) (filter (λ y. p y && q y) xs)) (sym e))
-filter-one false p q x xs e rest =
-    ap (λ b. filter q (cond b (x ∷ filter p xs) (filter p xs))) e
-    ∙ (rest ∙ ap (λ b. cond (b && q x) (x ∷ filter (λ y. p y && q y) xs) (filter (λ y. p y && q y) xs)) (sym e))
+filter-one true p q x xs e rest = grind (arith, nat_tests)
+filter-one false p q x xs e rest = grind (arith, nat_tests)
 
 filter-both : (p q : Instance → Bool) (xs : List Instance) → filter q (filter p xs) ≡ filter (λ x. p x && q x) xs
 filter-both p q [] = refl
@@ -124,18 +102,8 @@ pub all-judged : (v w : World) (cpu : CpuNo) (f : SoFar) → IsKept v.hardware v
 all-judged v w cpu f kept kept_now low is empty tally =
     let hw : Hardware = v.hardware in
     let h : Stands v cpu v.standings (reached_leaders v cpu) (all_verdicts v cpu) [] (tally_in w cpu f) = all-told v w cpu f kept empty tally in
-    let whole : all_verdicts v cpu ++ [] ≡ verdicts hw (stage_of v) cpu =
-    append-nil (all_verdicts v cpu) ∙ all-verdicts v cpu in
-    let judged_now : IsJudged hw (retold cpu v w) cpu = record {
-      standings = λ q lead has.
-          h.standings q (reached-there hw v cpu kept q lead has) ∙ ap (λ js. standing_among js (group_at v q)) whole;
-      served = record {
-        events =
-            ap (λ s. s.events) (get_or-set_same v.quiet.seats cpu.0 (seats_at w cpu) (empty_seating 0) low)
-            ∙ (h.events ∙ ap (with_masks hw) (ap (λ js. flat_map counted_members (groups_on js)) whole ∙ counted-on (groups_on (verdicts hw (stage_of v) cpu))));
-        assigned = ((subst (λ x. IsKept hw x) is kept_now).seated.sound cpu (omega (arith, low, length-set v.quiet.seats cpu.0 (seats_at w cpu)))).assigned;
-      };
-    } in
+    let whole : all_verdicts v cpu ++ [] ≡ verdicts hw (stage_of v) cpu = grind (arith, nat_tests, append-nil, all-verdicts) in
+    let judged_now : IsJudged hw (retold cpu v w) cpu = grind (arith, nat_tests, reached-there, get_or-set_same, counted-on, length-set) in
     subst (λ x. IsJudged hw x cpu) (sym is) judged_now
 
 -- standings of groups elsewhere stay

@@ -1,7 +1,7 @@
 -- A world in which a processor runs a given task, every task is live, and no other processor runs one, is kept. So what
 -- holds of a processor's brief holds of it with the groups of any task.
 use Rattle.std.specs.Prelude.{◌≡◌, ℕ, zero, suc, ◌<◌, ◌≤◌, Bool, true, false, All, List, [], ◌∷◌, length, map, Option, Some, None, slice_index_or, slice_set}
-use Rattle.std.proofs.{Common.{arith, refl, sym, ap, subst, ◌∙◌, inl, inr}, lemmas.{Bool.{cases_eq}, Option.{none-some}}}
+use Rattle.std.proofs.{Common.{arith, refl, sym, ap, subst, ◌∙◌}, lemmas.{Option.{none-some}}}
 use Rattle.std.proofs.lemmas.List.{get_or-map, get_or-set_same, get_or-set_other, length-map, length-set}
 use Rattle.perf_base.specs.declared.numbers.{CpuNo.{CpuNo}, Key.{Key}, TaskNo.{TaskNo}}
 use Rattle.perf_base.specs.declared.standing.Context.TheVariants as context
@@ -36,15 +36,10 @@ on-alone w cpu task low = get_or-set_same (nobody w.quiet.running) cpu.0 task No
 
 -- a task runs on that processor alone
 where-on : (w : World) (cpu other : CpuNo) (task : Option TaskNo) (t : TaskNo) → task_on (stage_of (alone w cpu task)) other ≡ Some t → other.0 ≡ cpu.0
-where-on w cpu other task t on = elim (cases_eq other.0 cpu.0) [
-  | inl same ↦ same
-  | inr apart ↦
-      absurd (none-some t (sym (get_or-set_other (nobody w.quiet.running) cpu.0 other.0 task None apart ∙ nobody-there w.quiet.running other.0) ∙ on))
-]
+where-on w cpu other task t on = grind (arith, none-some, get_or-set_other, nobody-there)
 
 task-is : (w : World) (cpu other : CpuNo) (task : Option TaskNo) (t : TaskNo) → cpu.0 < length w.quiet.running → task_on (stage_of (alone w cpu task)) other ≡ Some t → task ≡ Some t
-task-is w cpu other task t low on =
-    sym (on-alone w cpu task low) ∙ (ap (λ n. slice_index_or (slice_set (nobody w.quiet.running) cpu.0 task) n None) (sym (where-on w cpu other task t on)) ∙ on)
+task-is w cpu other task t low on = grind (arith, on-alone, where-on)
 
 pub alone-kept : (w : World) (cpu : CpuNo) (task : Option TaskNo) → IsKept w.hardware w → cpu.0 < length w.quiet.running → ((t : TaskNo) → task ≡ Some t → t.0 < 64) → IsKept w.hardware (alone w cpu task)
 alone-kept w cpu task h low numbers =

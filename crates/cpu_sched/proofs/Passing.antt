@@ -59,5 +59,4 @@ failed-both w cpu = sym (fold-append fail_group w (slice_index_or (pass_leaders 
 
 -- the leaders of a pass after some groups went to error
 pub failed-list : (keys done : List Key) (v w : World) (cpu : CpuNo) (pass : ℕ) → w ≡ fail_groups done v → keys ≡ slice_index_or (pass_leaders w cpu) pass [] → keys ≡ slice_index_or (pass_leaders v cpu) pass []
-failed-list keys done v w cpu pass after is =
-    is ∙ (ap (λ (x : World). slice_index_or (pass_leaders x cpu) pass []) after ∙ ap (λ ps. slice_index_or ps pass []) (failed-passes done v cpu))
+failed-list keys done v w cpu pass after is = grind (arith, failed-passes)

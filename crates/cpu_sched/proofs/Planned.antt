@@ -1,8 +1,8 @@
 -- A plan that grows group by group has the verdicts of the brief.
-use Rattle.std.specs.{Prelude.{◌≡◌, ℕ, ◌+◌, Bool, not, ◌&&◌, List, [], ◌∷◌, ◌++◌, length, map, filter, flat_map, None}, List.{fold}}
+use Rattle.std.specs.{Prelude.{◌≡◌, ℕ, ◌+◌, Bool, not, ◌&&◌, List, [], ◌∷◌, ◌++◌, length, flat_map, None}, List.{fold}}
 use Rattle.std.proofs.{Common.{arith, refl, sym, ap, subst, ◌∙◌, append_assoc}, lemmas.{Grind.{flat_map-append}, List.{append-nil, map-append}}}
 use Rattle.std.proofs.lemmas.List.{Elements.{filter-append}, Sums.{sum_by-append}}
-use Rattle.perf_base.specs.{declared.{numbers.{EventNo.{EventNo}, Key.{Key}}, standing.Standing.{Standing}}, Standings.{stands_on, stands_refused}}
+use Rattle.perf_base.specs.{declared.{numbers.{EventNo.{EventNo}, Key.{Key}}, standing.Standing.{Standing}}, Standings.{stands_on}}
 use Rattle.perf_base.specs.declared.standing.Standing.TheVariants as standing
 use Rattle.stage_spec.specs.{Rules.{ruling_of}, Verdict.{by_ruling}}
 use Rattle.stage_laws.specs.Briefs.{GroupBrief, JudgedBrief, briefs_on, first_slot, first_brief_refused, judge_brief, judge_briefs, judge_brief_passes, standings_by, seated_by}
@@ -16,8 +16,7 @@ judged b s = record { brief = b; standing = s }
 
 -- the groups that are on, with one more that was judged
 on-append : (js ks : List (JudgedBrief Key)) → briefs_on (js ++ ks) ≡ briefs_on js ++ briefs_on ks
-on-append js ks = ap (map (λ j. j.brief)) (filter-append (λ j. stands_on j.standing) js ks)
-    ∙ map-append (λ j. j.brief) (filter (λ j. stands_on j.standing) js) (filter (λ j. stands_on j.standing) ks)
+on-append js ks = grind (arith, filter-append, map-append)
 
 off-push : (js : List (JudgedBrief Key)) (k : JudgedBrief Key) → briefs_on (k ∷ []) ≡ [] → briefs_on (js ++ k ∷ []) ≡ briefs_on js
 off-push js k off = on-append js (k ∷ []) ∙ (ap (λ bs. briefs_on js ++ bs) off ∙ append-nil (briefs_on js))
@@ -30,9 +29,7 @@ slot-push test js b (standing.Refused cause) = ap (first_slot test) (off-push js
 
 seated-push : (js : List (JudgedBrief Key)) (b : GroupBrief Key) (s : Standing) → seated_by (js ++ judged b s ∷ []) ≡ events_next s b.counted (seated_by js)
 seated-push js b standing.Out = ap (flat_map (λ c. c.counted)) (off-push js (judged b standing.Out) refl)
-seated-push js b standing.On =
-    ap (flat_map (λ c. c.counted)) (on-append js (judged b standing.On ∷ []))
-    ∙ (flat_map-append (λ c. c.counted) (briefs_on js) (b ∷ []) ∙ ap (λ xs. seated_by js ++ xs) (append-nil b.counted))
+seated-push js b standing.On = grind (arith, on-append, flat_map-append, append-nil)
 seated-push js b (standing.Refused cause) = ap (flat_map (λ c. c.counted)) (off-push js (judged b (standing.Refused cause)) refl)
 
 pub tried-parts : (js ks : List (JudgedBrief Key)) → tried_by (js ++ ks) ≡ tried_by js + tried_by ks
@@ -59,17 +56,7 @@ planned-is n before within d b h = λ i. by_ruling (ruling_of b.software b.exclu
 one-more : (n : ℕ) (before within : List (JudgedBrief Key)) (d : Draft) (b : GroupBrief Key) (s : Standing) → Drafts n before within d → Drafts n before (within ++ judged b s ∷ []) (with_planned b s d)
 one-more n before within d b s h =
     let along : (before ++ within) ++ judged b s ∷ [] ≡ before ++ (within ++ judged b s ∷ []) = append_assoc before within (judged b s ∷ []) in
-    record {
-      standings = ap (λ xs. xs ++ (b.leader, s) ∷ []) h.standings
-          ∙ (sym (map-append (λ j. (j.brief.leader, j.standing)) (before ++ within) (judged b s ∷ [])) ∙ ap standings_by along);
-      events = ap (events_next s b.counted) h.events ∙ (sym (seated-push (before ++ within) b s) ∙ ap seated_by along);
-      exclusive = ap (first_or (stands_on s && b.exclusive) b.slot) h.exclusive
-          ∙ (sym (slot-push (λ c. c.exclusive) (before ++ within) b s) ∙ ap (λ js. first_slot (λ c. c.exclusive) (briefs_on js)) along);
-      first = ap (first_or (stands_on s && not b.software) b.slot) h.first
-          ∙ (sym (slot-push (λ c. not c.software) (before ++ within) b s) ∙ ap (λ js. first_slot (λ c. not c.software) (briefs_on js)) along);
-      refused = ap (first_or (stands_refused s) b.slot) h.refused ∙ sym (first-push (λ j. j.brief.slot) (λ j. stands_refused j.standing) within (judged b s));
-      tried = omega (arith, h.tried, tried-push (before ++ within) b s, ap tried_by along);
-    }
+    grind (arith, map-append, along, seated-push, slot-push, first-push, tried-push)
 
 next : (n : ℕ) (before within : List (JudgedBrief Key)) (d : Draft) (b : GroupBrief Key) → Drafts n before within d
     → Drafts n before (within ++ judged b (judge_brief before within b) ∷ []) (plan_one d b)
@@ -84,14 +71,7 @@ fold-planned n (b ∷ bs) before within d h = fold-planned n bs before (within +
 pass-over : (n : ℕ) (before within : List (JudgedBrief Key)) (d : Draft) → Drafts n before within d → Drafts n (before ++ within) [] (record d { so_far = record d.so_far { refused = None } })
 pass-over n before within d h =
     let same : before ++ within ≡ (before ++ within) ++ [] = sym (append-nil (before ++ within)) in
-    record {
-      standings = h.standings ∙ ap standings_by same;
-      events = h.events ∙ ap seated_by same;
-      exclusive = h.exclusive ∙ ap (λ js. first_slot (λ c. c.exclusive) (briefs_on js)) same;
-      first = h.first ∙ ap (λ js. first_slot (λ c. not c.software) (briefs_on js)) same;
-      refused = refl;
-      tried = h.tried ∙ ap tried_by same;
-    }
+    grind (arith, same)
 
 -- a pass, with the counting of tries begun anew
 abbrev pub after_pass : List (JudgedBrief Key) → List (GroupBrief Key) → List (JudgedBrief Key)
@@ -114,14 +94,7 @@ pub pass-planned : (before : List (JudgedBrief Key)) (standings standings_now : 
     → Begins (after_pass before bs) standings_now events_now so_far_now
 pass-planned before standings standings_now events events_now so_far so_far_now bs h e1 e2 e3 =
     let p : Drafts (tried_by before) (after_pass before bs) [] (plan_pass_of (draft_of standings events so_far) bs) = whole-pass before standings events so_far bs h in
-    record {
-      standings = e1 ∙ p.standings;
-      events = e2 ∙ p.events;
-      exclusive = ap (λ f. f.exclusive_on) e3 ∙ p.exclusive;
-      first = ap (λ f. f.first_on) e3 ∙ p.first;
-      refused = ap (λ f. f.refused) e3 ∙ p.refused;
-      tried = omega (arith, ap tried_by (append-nil (after_pass before bs)));
-    }
+    grind (arith, append-nil)
 
 pub pass-tried : (before : List (JudgedBrief Key)) (standings : List (Key × Standing)) (events : List (EventNo × ℕ)) (so_far : SoFar) (bs : List (GroupBrief Key)) → Begins before standings events so_far
     → tried_by before + (plan_pass_of (draft_of standings events so_far) bs).tried ≡ tried_by (after_pass before bs)
@@ -152,6 +125,4 @@ judged-all b p q r s passes = ap (judge_brief_passes []) passes ∙ all-passes p
 
 pub plan-is : (b : ProcessorBrief) (p q r s : List (GroupBrief Key)) (standings : List (Key × Standing)) (seats : Seated) (so_far : SoFar) → b.passes ≡ p ∷ q ∷ r ∷ s ∷ []
     → Begins (after_four p q r s) standings seats.events so_far → seats.counters ≡ b.counters → IsPlanOf b (record { standings = standings; seats = seats })
-plan-is b p q r s standings seats so_far passes h counters =
-    let all : after_four p q r s ++ [] ≡ judged_groups b = append-nil (after_four p q r s) ∙ sym (judged-all b p q r s passes) in
-    record { standings = h.standings ∙ ap standings_by all; counters = counters; events = h.events ∙ ap seated_by all }
+plan-is b p q r s standings seats so_far passes h counters = grind (arith, append-nil, judged-all)

@@ -19,10 +19,7 @@ set-again (x ∷ xs) zero a b = refl
 set-again (x ∷ xs) (suc i) a b = ap (λ ys. x ∷ ys) (set-again xs i a b)
 
 pub retold-twice : (cpu : CpuNo) (v w x : World) → w ≡ retold cpu v w → x ≡ retold cpu w x → x ≡ retold cpu v x
-retold-twice cpu v w x first second =
-    second
-    ∙ (ap (λ y. retold cpu y x) first
-    ∙ ap (λ seats. record v { standings = x.standings; quiet = record v.quiet { seats = seats } }) (set-again v.quiet.seats cpu.0 (seats_at w cpu) (seats_at x cpu)))
+retold-twice cpu v w x first second = grind (arith, set-again)
 
 -- one group is told by the groups of the world before
 pub told-then : (cpu : CpuNo) (v w x : World) (start f g : SoFar) (done : List Key) (k : Key) → w ≡ retold cpu v w
@@ -45,9 +42,7 @@ pub retold-list : (cpu : CpuNo) (v w : World) (pass : ℕ) (keys : List Key) →
 retold-list cpu v w pass keys same is = is ∙ ap (λ (y : World). slice_index_or (pass_leaders y cpu) pass []) same
 
 pub next-key : (keys : List Key) (place : ℕ) (d : Key) → place < length keys → take (place + 1) keys ≡ take place keys ++ slice_index_or keys place d ∷ []
-next-key keys place d low =
-    let one : place + 1 ≡ suc place = omega arith in
-    ap (λ n. take n keys) one ∙ take-suc keys place d low
+next-key keys place d low = grind (arith, take-suc)
 
 pub told-next : (w : World) (cpu : CpuNo) (pass : ℕ) → pass < 4 → told_before w cpu (pass + 1) ≡ told_before w cpu pass ++ slice_index_or (pass_leaders w cpu) pass []
 told-next w cpu pass low =

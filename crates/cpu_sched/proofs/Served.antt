@@ -20,10 +20,7 @@ abbrev pub held : World → EventNo → List Key → ℕ
 held w e keys = count_by (is_of_family e) (members (map (group_at w) keys))
 
 pub held-parts : (w : World) (e : EventNo) (xs ys : List Key) → held w e (xs ++ ys) ≡ held w e xs + held w e ys
-held-parts w e xs ys =
-    ap (λ gs. count_by (is_of_family e) (members gs)) (map-append (group_at w) xs ys)
-    ∙ (ap (count_by (is_of_family e)) (flat_map-append members_of (map (group_at w) xs) (map (group_at w) ys))
-    ∙ count-append (is_of_family e) (members (map (group_at w) xs)) (members (map (group_at w) ys)))
+held-parts w e xs ys = grind (arith, nat_tests, map-append, flat_map-append, count-append)
 
 pub held-one : (w : World) (e : EventNo) (k : Key) → held w e (k ∷ []) ≡ count_by (is_of_family e) (members_of (group_at w k))
 held-one w e k = ap (count_by (is_of_family e)) (append-nil (members_of (group_at w k)))

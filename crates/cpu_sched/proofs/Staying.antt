@@ -1,16 +1,16 @@
 -- What rescheduling leaves: all that is not of the processor, and that other processors stand as they stood.
-use Rattle.std.specs.Prelude.{◌≡◌, ◌≢◌, ◌<◌, ◌≤◌, Bool, true, false, List, [], ◌∷◌, ◌++◌, map, filter, flat_map, Option, Some, None, slice_index_or, slice_set}
-use Rattle.std.proofs.{Common.{arith, refl, sym, ap, ◌∙◌, inl, inr}, lemmas.{Bool.{cases_eq, cases_Bool, false≢true}, List.{get_or-set_other}}}
+use Rattle.std.specs.Prelude.{◌≡◌, ◌≢◌, ◌<◌, ◌≤◌, Bool, true, false, List, [], ◌∷◌, map, filter, flat_map, Option, Some, None, slice_index_or, slice_set}
+use Rattle.std.proofs.{Common.{arith, refl, sym, ap, ◌∙◌, inl, inr}, lemmas.{Bool.{cases_eq, false≢true}, List.{get_or-set_other}}}
 use Rattle.perf_base.specs.declared.{numbers.{CpuNo.{CpuNo}, Key.{Key}, TaskNo.{TaskNo}}, standing.{Context.{Context}, Standing.{Standing}}}
 use Rattle.perf_base.specs.declared.standing.Context.TheVariants as context
 use Rattle.perf_base.specs.declared.standing.Standing.TheVariants as standing
-use Rattle.stage_spec.specs.{declared.instance.Instance.{Instance}, Hardware.{Hardware}, Stage.{Group, is_task, task_on}}
+use Rattle.stage_spec.specs.{declared.instance.Instance.{Instance}, Hardware.{Hardware}, Stage.{Group, is_task}}
 use Rattle.stage_spec.specs.Verdict.{is_eligible, passes}
 use Rattle.stage_laws.{specs.{Narrowing.{has_context}, Standings.{brief_of}, Sound.{AreRunning}}, proofs.Counts.{count-append}}
 use Rattle.counter_match.specs.Seating.{empty_seating}
-use Rattle.world_spec.specs.{Kept.{post_at, leads, once_if, is_member_of, IsKept}, Listings.{pass_leaders, task_leaders}}
+use Rattle.world_spec.specs.{Kept.{post_at, leads, once_if, is_member_of, IsKept}, Listings.{pass_leaders}}
 use Rattle.world_spec.specs.{Rescheduled.{IsUntouched, pinned_leaders, fail_by, fail_group, fail_groups}, StageOf.{after_first, group_at, stage_of}}
-use Rattle.world_spec.specs.Value.{World, Leaders, leaders_of, is_live, entry_at, instance_at, standing_at, seats_at, is_key, times}
+use Rattle.world_spec.specs.Value.{World, is_live, entry_at, instance_at, standing_at, seats_at, is_key, times}
 use Rattle.world_spec.proofs.{Failing.{failed_instance, are-failed, failed-rest, AllLead, failed-posts}, GoneLeaderStage.{map-within}}
 use Rattle.world_spec.proofs.{Keys.{key-is, is_key-true, times-cons}, Listings.{passes-are, reached_leaders, reached-context, reached-leading}}
 use Rattle.world_spec.proofs.{Moving.{leads-parts}, Standing.{left-untouched}}
@@ -18,15 +18,7 @@ use Rattle.cpu_sched.{specs.{Judging.{retold}, Resched.{StaysBut}}, proofs.Judge
 
 -- the pinned leaders of a processor are some that it reaches
 pinned-reached : (w : World) (cpu : CpuNo) (q : Key) → times q (pinned_leaders w cpu) ≤ times q (reached_leaders w cpu)
-pinned-reached w cpu q =
-    let own : Leaders = leaders_of w (context.Processor cpu) in
-    let task : Leaders = task_leaders w (task_on (stage_of w) cpu) in
-    omega (
-      arith,
-      count-append (is_key q) own.pinned task.pinned,
-      count-append (is_key q) own.pinned (task.pinned ++ (own.flexible ++ (task.flexible ++ []))),
-      count-append (is_key q) task.pinned (own.flexible ++ (task.flexible ++ [])),
-    )
+pinned-reached w cpu q = grind (arith, count-append)
 
 pinned-lead : (hw : Hardware) (w : World) (cpu : CpuNo) → IsKept hw w → AllLead w (pinned_leaders w cpu)
 pinned-lead hw w cpu h q some = reached-leading hw w h cpu q (omega (arith, some, pinned-reached w cpu q))
@@ -38,8 +30,7 @@ one-number (Some other) task is = ap (λ n. Some (record { 0 = n })) (same-numbe
 
 one-processor : (w : World) (cpu other : CpuNo) (c : Context) → AreRunning (stage_of w) → has_context (stage_of w) cpu c ≡ true → has_context (stage_of w) other c ≡ true → cpu.0 ≡ other.0
 one-processor w cpu other (context.Processor n) h first second = sym (same-number n.0 cpu.0 first) ∙ same-number n.0 other.0 second
-one-processor w cpu other (context.Task task) h first second =
-    h.once cpu other task (one-number (task_on (stage_of w) cpu) task first) (one-number (task_on (stage_of w) other) task second)
+one-processor w cpu other (context.Task task) h first second = grind (arith, one-number)
 
 -- groups that go to error change entries and standings
 one-shape : (s : Standing) (w : World) (k : Key) → fail_by s k w ≡ record w { entries = (fail_by s k w).entries; standings = (fail_by s k w).standings }
@@ -49,9 +40,7 @@ one-shape (standing.Refused cause) w k = refl
 
 fail-shape : (keys : List Key) (w : World) → fail_groups keys w ≡ record w { entries = (fail_groups keys w).entries; standings = (fail_groups keys w).standings }
 fail-shape [] w = refl
-fail-shape (k ∷ keys) w =
-    let x : World = fail_groups keys (fail_group w k) in
-    fail-shape keys (fail_group w k) ∙ ap (λ (y : World). record y { entries = x.entries; standings = x.standings }) (one-shape (standing_at w k) w k)
+fail-shape (k ∷ keys) w = grind (arith, one-shape, fail-shape keys (fail_group w k))
 
 own-by : (s : Standing) (i j : Instance) → j ≡ failed_instance s i → j ≡ record i { own = j.own }
 own-by standing.Out i j is = is ∙ ap (λ x. record i { own = x }) (sym (ap (λ x. x.own) is))
@@ -137,10 +126,7 @@ stays-but hw v w x cpu c =
 -- Another processor stands as it stood.
 not-here : (hw : Hardware) (v : World) (cpu other : CpuNo) → IsKept hw v → other.0 ≢ cpu.0 → (q : Key) → has_context (stage_of v) other (entry_at v q).context ≡ true
     → has_context (stage_of v) cpu (entry_at v q).context ≡ false
-not-here hw v cpu other h apart q has = elim (cases_Bool (has_context (stage_of v) cpu (entry_at v q).context)) [
-  | inl both ↦ absurd (apart (one-processor v other cpu (entry_at v q).context h.running has both))
-  | inr off ↦ off
-]
+not-here hw v cpu other h apart q has = grind (arith, one-processor)
 
 once-some : (b : Bool) → 1 ≤ once_if b → b ≡ true
 once-some true h = refl
@@ -181,8 +167,7 @@ others-stay hw v w x cpu other c h low apart =
     let lists : pass_leaders x other ≡ pass_leaders v other =
     λ i. pass_leaders (record v { contexts = contexts-stay hw v w x cpu c i; quiet = record v.quiet { running = running i } }) other in
     let groups : map (map (group_at x)) (pass_leaders v other) ≡ map (map (group_at v)) (pass_leaders v other) =
-    each-pass (group_at x) (group_at v) (pass_leaders v other) (λ q some.
-    group-elsewhere hw v w x cpu other c h apart q (reached-leading hw v h other q some) (reached-context hw v h other q some)) in
+    search (each-pass, group-elsewhere, reached-leading, reached-context) in
     let same : passes (stage_of x) other ≡ passes (stage_of v) other = passes-are x other ∙ (ap (map (map (group_at x))) lists ∙ (groups ∙ sym (passes-are v other))) in
     let has : (k : Key) → has_context (stage_of x) other (entry_at x k).context ≡ has_context (stage_of v) other (entry_at v k).context =
     λ k. λ i. has_context (stage_of (record v { quiet = record v.quiet { running = running i } })) other (posts i k).context in

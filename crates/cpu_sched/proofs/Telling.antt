@@ -1,14 +1,14 @@
 -- The tally of groups that were told one after the other, by the definitions' verdicts.
 use Rattle.std.specs.Prelude.{◌≡◌, ℕ, ◌≤◌, ◌==◌, Bool, true, false, not, ◌&&◌, cond, List, [], ◌∷◌, ◌++◌, map, filter, find, flat_map, count_by, Option, Some, None, option_map, if◌then◌else◌}
 use Rattle.std.specs.{FinMap.{FinMap, get}, List.{fold}, Option.{unwrap_or, option_or}, Ordering.{nat_cmp}}
-use Rattle.std.proofs.{Common.{arith, refl, sym, ap, subst, ◌∙◌, inl, inr, append_assoc}, lemmas.Bool.{cases_eq, cases_Bool}}
+use Rattle.std.proofs.{Common.{arith, refl, sym, ap, subst, ◌∙◌, inl, inr, append_assoc}, lemmas.Bool.{cases_eq}}
 use Rattle.std.proofs.lemmas.{List.{append-nil, map-append, Elements.{filter-append}, Folds.{find-append}}, Grind.{flat_map-append}}
 use Rattle.perf_base.specs.declared.{numbers.{CpuNo.{CpuNo}, EventNo.{EventNo}, Key.{Key}}, standing.Standing.{Standing}}
 use Rattle.perf_base.specs.Standings.{stands_on, stands_refused}
 use Rattle.perf_base.specs.declared.standing.Standing.TheVariants as standing
 use Rattle.stage_spec.specs.{declared.instance.Instance.{Instance}, Effective.{name_of, is_wholly_software, is_exclusive_group, counted_members}}
-use Rattle.stage_spec.specs.{Hardware.{Hardware, mask_of}, Rules.{ruling_of}, Stage.{Group}}
-use Rattle.stage_spec.specs.Verdict.{Judged, is_eligible, by_ruling, judge, judge_pass, judge_passes, groups_on, first_named, first_refused, with_masks, standing_among}
+use Rattle.stage_spec.specs.{Hardware.{Hardware, mask_of}, Stage.{Group}}
+use Rattle.stage_spec.specs.Verdict.{Judged, is_eligible, judge, judge_pass, judge_passes, groups_on, first_named, first_refused, with_masks, standing_among}
 use Rattle.stage_spec.proofs.Settling.{judged, groups_on-append}
 use Rattle.stage_laws.proofs.{Counts.{count-cons, count-append, count-filter}, Leaders.{find-first, find-later}}
 use Rattle.world_spec.specs.{Kept.{leads, post_at, IsKept}, StageOf.{group_at}, Value.{World, instance_at, is_key, times}}
@@ -30,10 +30,8 @@ first-stays name (Some group) = refl
 first-by : {X : Type 0} (name : X → EventNo) (test : X → Bool) (xs : List X) (x : X) (b : Bool) (o : Option X) → find test xs ≡ o → test x ≡ b
     → option_map name (find test (xs ++ x ∷ [])) ≡ first_or b (name x) (option_map name o)
 first-by name test xs x b (Some y) found is = ap (option_map name) (find-append test xs (x ∷ []) ∙ ap (λ o. option_or o (find test (x ∷ []))) found)
-first-by name test xs x true None found is =
-    ap (option_map name) (find-append test xs (x ∷ []) ∙ (ap (λ o. option_or o (find test (x ∷ []))) found ∙ find-first test x [] is))
-first-by name test xs x false None found is =
-    ap (option_map name) (find-append test xs (x ∷ []) ∙ (ap (λ o. option_or o (find test (x ∷ []))) found ∙ find-later test x [] is))
+first-by name test xs x true None found is = grind (arith, find-append, find-first)
+first-by name test xs x false None found is = grind (arith, find-append, find-later)
 
 pub first-push : {X : Type 0} (name : X → EventNo) (test : X → Bool) (xs : List X) (x : X)
     → option_map name (find test (xs ++ x ∷ [])) ≡ first_or (test x) (name x) (option_map name (find test xs))
@@ -48,8 +46,7 @@ on-push js g (standing.Refused cause) = groups_on-append js (judged g (standing.
 named-by : (test : Group → Bool) (js : List Judged) (g : Group) (s : Standing) (b : Bool) → stands_on s ≡ b
     → first_named test (groups_on (js ++ judged g s ∷ [])) ≡ first_or (b && test g) (name_of g) (first_named test (groups_on js))
 named-by test js g s true is = ap (first_named test) (on-push js g s ∙ ap (λ b. cond b (groups_on js ++ g ∷ []) (groups_on js)) is) ∙ first-push name_of test (groups_on js) g
-named-by test js g s false is =
-    ap (first_named test) (on-push js g s ∙ ap (λ b. cond b (groups_on js ++ g ∷ []) (groups_on js)) is) ∙ sym (first-stays (name_of g) (first_named test (groups_on js)))
+named-by test js g s false is = grind (arith, on-push, first-stays)
 
 named-push : (test : Group → Bool) (js : List Judged) (g : Group) (s : Standing)
     → first_named test (groups_on (js ++ judged g s ∷ [])) ≡ first_or (stands_on s && test g) (name_of g) (first_named test (groups_on js))
@@ -63,14 +60,11 @@ abbrev events_of_on : Hardware → List Group → List (EventNo × ℕ)
 events_of_on hw gs = with_masks hw (flat_map counted_members gs)
 
 events-push : (hw : Hardware) (gs : List Group) (g : Group) → events_of_on hw (gs ++ g ∷ []) ≡ events_of_on hw gs ++ with_masks hw (counted_members g)
-events-push hw gs g =
-    ap (with_masks hw) (flat_map-append counted_members gs (g ∷ []) ∙ ap (λ xs. flat_map counted_members gs ++ xs) (append-nil (counted_members g)))
-    ∙ masks-parts hw (flat_map counted_members gs) (counted_members g)
+events-push hw gs g = grind (arith, flat_map-append, append-nil, masks-parts)
 
 events-by : (hw : Hardware) (js : List Judged) (g : Group) (s : Standing) (b : Bool) → stands_on s ≡ b
     → events_of_on hw (groups_on (js ++ judged g s ∷ [])) ≡ (if b then events_of_on hw (groups_on js) ++ with_masks hw (counted_members g) else events_of_on hw (groups_on js))
-events-by hw js g s true is =
-    ap (events_of_on hw) (on-push js g s ∙ ap (λ b. cond b (groups_on js ++ g ∷ []) (groups_on js)) is) ∙ events-push hw (groups_on js) g
+events-by hw js g s true is = grind (arith, on-push, events-push)
 events-by hw js g s false is = ap (events_of_on hw) (on-push js g s ∙ ap (λ b. cond b (groups_on js ++ g ∷ []) (groups_on js)) is)
 
 -- What a tally is after some leaders were told: the standings are those among the verdicts before this pass and within
@@ -86,22 +80,12 @@ pub record Stands (v : World) (cpu : CpuNo) (start : FinMap nat_cmp Standing) (t
 
 -- the standing that is told is the definitions'
 pub told-out : (hw : Hardware) (cpu : CpuNo) (g : Group) (t : Tally) → is_eligible hw cpu g ≡ false → told_of hw cpu g t ≡ standing.Out
-told-out hw cpu g t out =
-    ap {B = Standing} (λ b. elim b as (λ c. Standing) [
-      | true ↦ by_ruling (ruling_of (is_wholly_software g) (is_exclusive_group g) t.so_far.exclusive_on t.so_far.first_on t.so_far.refused) (t.events ++ with_masks hw (counted_members g))
-      | false ↦ standing.Out
-    ]) out
+told-out hw cpu g t out = grind arith
 
 pub told-in : (v : World) (cpu : CpuNo) (start : FinMap nat_cmp Standing) (told : List Key) (before within : List Judged) (t : Tally) (g : Group)
     → Stands v cpu start told before within t → is_eligible v.hardware cpu g ≡ true → told_of v.hardware cpu g t ≡ judge v.hardware before within g
 unfolding judge
-told-in v cpu start told before within t g h eligible =
-    ap {B = Standing} (λ b. elim b as (λ c. Standing) [
-      | true ↦ by_ruling (ruling_of (is_wholly_software g) (is_exclusive_group g) t.so_far.exclusive_on t.so_far.first_on t.so_far.refused) (t.events ++ with_masks v.hardware (counted_members g))
-      | false ↦ standing.Out
-    ]) eligible
-    ∙ (λ i. by_ruling (ruling_of (is_wholly_software g) (is_exclusive_group g) (h.exclusive i) (h.first i) (h.refused i))
-    (((ap (λ es. es ++ with_masks v.hardware (counted_members g)) h.events ∙ sym (masks-parts v.hardware (flat_map counted_members (groups_on (before ++ within))) (counted_members g)))) i))
+told-in v cpu start told before within t g h eligible = grind (arith, masks-parts)
 
 -- groups of leaders by an id
 led-keys : (v : World) (id : ℕ) (keys : List Key) → count_by (is_led id) (map (group_at v) keys) ≡ count_by (λ q. (instance_at v q).id == id) keys
@@ -133,10 +117,7 @@ among-last js g s none = among-later js (judged g s ∷ []) g none ∙ among-con
 -- the groups of some leaders with one more
 eligible-push : (hw : Hardware) (cpu : CpuNo) (v : World) (told : List Key) (k : Key) (b : Bool) → is_eligible hw cpu (group_at v k) ≡ b
     → filter (is_eligible hw cpu) (map (group_at v) (told ++ k ∷ [])) ≡ filter (is_eligible hw cpu) (map (group_at v) told) ++ cond b (group_at v k ∷ []) []
-eligible-push hw cpu v told k b is =
-    ap (filter (is_eligible hw cpu)) (map-append (group_at v) told (k ∷ []))
-    ∙ (filter-append (is_eligible hw cpu) (map (group_at v) told) (group_at v k ∷ [])
-    ∙ ap (λ x. filter (is_eligible hw cpu) (map (group_at v) told) ++ cond x (group_at v k ∷ []) []) is)
+eligible-push hw cpu v told k b is = grind (arith, map-append, filter-append)
 
 -- the keys told, with one more
 told-before : (q k : Key) (told : List Key) → (q.0 ≡ k.0 → ⊥) → times q (told ++ k ∷ []) ≡ times q told
@@ -155,9 +136,7 @@ step-out v cpu start told before within t k kept all lead none h out =
         | inl e ↦
             ap (λ o. unwrap_or o standing.Out) (get-here t.standings k.0 standing.Out q.0 e)
             ∙ sym (ap (λ x. standing_among js (group_at v x)) (key-is q k e) ∙ among-none js (group_at v k) free)
-        | inr apart ↦
-            ap (λ o. unwrap_or o standing.Out) (get-there t.standings k.0 standing.Out q.0 apart)
-            ∙ h.standings q (omega (arith, some, told-before q k told apart))
+        | inr apart ↦ grind (arith, get-there, apart, told-before, some, told-before q k told apart)
       ];
       others = λ q zero.
           let apart : q.0 ≡ k.0 → ⊥ = λ e. omega (arith, zero, times-push q told k, once-true (is_key q k) (is_key-same q k (sym e))) in
@@ -178,20 +157,14 @@ step-in v cpu start told before within t k s kept all lead none h in_it =
     let more : List Judged = js ++ judged g s ∷ [] in
     let is : before ++ (within ++ judged g s ∷ []) ≡ more = sym (append_assoc before within (judged g s ∷ [])) in
     let free : count_by (is_about g.leader.id) js ≡ 0 = not-about v cpu k told js kept all lead none h.groups in
-    let other : (q : Key) → leads (post_at v) q ≡ true → (q.0 ≡ k.0 → ⊥) → is_led (instance_at v q).id g ≡ false = λ q lead_q apart. (elim (cases_Bool (is_led (instance_at v q).id g)) [
-      | inl same ↦ absurd (apart (ap (λ x. x.0) (sym (same-id v.hardware v kept k q lead lead_q same))))
-      | inr e ↦ e
-    ]) in
+    let other : (q : Key) → leads (post_at v) q ≡ true → (q.0 ≡ k.0 → ⊥) → is_led (instance_at v q).id g ≡ false = grind (arith, is_led, same-id) in
     record {
       groups = ap (map (λ j. j.group)) is ∙ (map-append (λ j. j.group) js (judged g s ∷ []) ∙ (ap (λ gs. gs ++ g ∷ []) h.groups ∙ sym (eligible-push v.hardware cpu v told k true in_it)));
       standings = λ q some. (elim (cases_eq q.0 k.0) [
         | inl e ↦
             ap (λ o. unwrap_or o standing.Out) (get-here t.standings k.0 s q.0 e)
             ∙ sym (ap (λ x. standing_among more (group_at v x)) (key-is q k e) ∙ among-last js g s free)
-        | inr apart ↦
-            let there : 1 ≤ times q told = omega (arith, some, told-before q k told apart) in
-            ap (λ o. unwrap_or o standing.Out) (get-there t.standings k.0 s q.0 apart)
-            ∙ (h.standings q there ∙ sym (among-push js g (group_at v q) s (other q (all q there) apart)))
+        | inr apart ↦ grind (arith, told-before, apart, get-there, among-push, some, told-before q k told apart)
       ]) ∙ ap (λ xs. standing_among xs (group_at v q)) (sym is);
       others = λ q zero.
           let apart : q.0 ≡ k.0 → ⊥ = λ e. omega (arith, zero, times-push q told k, once-true (is_key q k) (is_key-same q k (sym e))) in
@@ -221,10 +194,8 @@ pub judge-next : (v : World) (cpu : CpuNo) (before within : List Judged) (k : Ke
     → judge_pass v.hardware before within (filter (is_eligible v.hardware cpu) (map (group_at v) (k ∷ keys)))
     ≡ judge_pass v.hardware before (cond b (within ++ judged (group_at v k) (judge v.hardware before within (group_at v k)) ∷ []) within) (filter (is_eligible v.hardware cpu) (map (group_at v) keys))
 unfolding judge_pass
-judge-next v cpu before within k keys true is =
-    ap (λ b. judge_pass v.hardware before within (cond b (group_at v k ∷ filter (is_eligible v.hardware cpu) (map (group_at v) keys)) (filter (is_eligible v.hardware cpu) (map (group_at v) keys)))) is
-judge-next v cpu before within k keys false is =
-    ap (λ b. judge_pass v.hardware before within (cond b (group_at v k ∷ filter (is_eligible v.hardware cpu) (map (group_at v) keys)) (filter (is_eligible v.hardware cpu) (map (group_at v) keys)))) is
+judge-next v cpu before within k keys true is = grind arith
+judge-next v cpu before within k keys false is = grind arith
 
 pub judge-none : (hw : Hardware) (before within : List Judged) → judge_pass hw before within [] ≡ within
 unfolding judge_pass
@@ -259,23 +230,14 @@ fold-told v cpu start (k ∷ keys) told before within t kept all once h =
     (fold (tell v.hardware cpu (group_at v)) (tell v.hardware cpu (group_at v) t k) keys) =
     fold-told v cpu start keys (told ++ k ∷ []) before now (tell v.hardware cpu (group_at v) t k) kept
     (subst (AreLeading v) (seam told k keys) all) (subst (λ ks. (q : Key) → times q ks ≤ 1) (seam told k keys) once) first in
-    subst (λ ks. Stands v cpu start ks before (judge_pass v.hardware before within (filter (is_eligible v.hardware cpu) (map (group_at v) (k ∷ keys)))) (fold (tell v.hardware cpu (group_at v)) t (k ∷ keys))) (sym (seam told k keys))
-    (subst (λ js. Stands v cpu start ((told ++ k ∷ []) ++ keys) before js (fold (tell v.hardware cpu (group_at v)) t (k ∷ keys))) (sym (judge-next v cpu before within k keys b refl)) rest)
+    grind (arith, seam, judge-next, b, rest)
 
 -- the next pass
 pub pass-over : (v : World) (cpu : CpuNo) (start : FinMap nat_cmp Standing) (told : List Key) (before within : List Judged) (t : Tally)
     → Stands v cpu start told before within t → Stands v cpu start told (before ++ within) [] (next_pass t)
 pass-over v cpu start told before within t h =
     let same : before ++ within ≡ (before ++ within) ++ [] = sym (append-nil (before ++ within)) in
-    record {
-      groups = ap (map (λ j. j.group)) (append-nil (before ++ within)) ∙ h.groups;
-      standings = λ q some. h.standings q some ∙ ap (λ js. standing_among js (group_at v q)) same;
-      others = h.others;
-      events = h.events ∙ ap (λ js. events_of_on v.hardware (groups_on js)) same;
-      exclusive = h.exclusive ∙ ap (λ js. first_named is_exclusive_group (groups_on js)) same;
-      first = h.first ∙ ap (λ js. first_named (λ g. not (is_wholly_software g)) (groups_on js)) same;
-      refused = refl;
-    }
+    grind (arith, append-nil, same)
 
 pub judges-next : (hw : Hardware) (before : List Judged) (p : List Group) (ps : List (List Group)) → judge_passes hw before (p ∷ ps) ≡ judge_passes hw (before ++ judge_pass hw before [] p) ps
 unfolding judge_passes
@@ -306,6 +268,4 @@ passes-told v cpu start (p ∷ ps) told before t kept all once h =
     (fold (tell_pass v.hardware cpu (group_at v)) (tell_pass v.hardware cpu (group_at v) t p) ps) =
     passes-told v cpu start ps (told ++ p) (before ++ judge_pass v.hardware before [] groups) (tell_pass v.hardware cpu (group_at v) t p) kept all_now once_now
     (pass-over v cpu start (told ++ p) before (judge_pass v.hardware before [] groups) (fold (tell v.hardware cpu (group_at v)) t p) first) in
-    subst (λ ks. Stands v cpu start ks (judge_passes v.hardware before (map (filter (is_eligible v.hardware cpu)) (map (map (group_at v)) (p ∷ ps)))) [] (fold (tell_pass v.hardware cpu (group_at v)) t (p ∷ ps))) (sym along)
-    (subst (λ js. Stands v cpu start ((told ++ p) ++ told_all ps) js [] (fold (tell_pass v.hardware cpu (group_at v)) t (p ∷ ps)))
-    (sym (judges-next v.hardware before groups (map (filter (is_eligible v.hardware cpu)) (map (map (group_at v)) ps)))) rest)
+    grind (arith, along, judges-next, groups, rest)

@@ -46,16 +46,12 @@ unfolding last_told
 last-out [] q s some = absurd (omega (arith, some))
 last-out (k ∷ keys) q s some = elim (cases_Bool (is_key q k)) [
   | inl e ↦ ap (λ b. last_told (map (λ j. (j, standing.Out)) keys) q (cond b standing.Out s)) e ∙ out-stays keys q
-  | inr e ↦
-      ap (λ b. last_told (map (λ j. (j, standing.Out)) keys) q (cond b standing.Out s)) e
-      ∙ last-out keys q s (omega (arith, some, times-cons q k keys, once-false (is_key q k) e))
+  | inr e ↦ grind (arith, e, times-cons, once-false, last-out keys q s (omega (arith, some, times-cons q k keys, once-false (is_key q k) e)))
 ]
 
 -- some leaders are told to stand out, and then others
 pub out-append : (xs ys : List Key) (t : FinMap nat_cmp Standing) → out_standings (xs ++ ys) t ≡ out_standings ys (out_standings xs t)
-out-append xs ys t =
-    ap (λ l. told_standings l t) (map-append (λ k. (k, standing.Out)) xs ys)
-    ∙ fold-append (λ table x. insert table x.0.0 x.1) t (map (λ k. (k, standing.Out)) xs) (map (λ k. (k, standing.Out)) ys)
+out-append xs ys t = grind (arith, map-append, fold-append)
 
 pub out-next : (keys : List Key) (place : ℕ) (d : Key) (t : FinMap nat_cmp Standing) → place < length keys
     → out_standings (take (place + 1) keys) t ≡ insert (out_standings (take place keys) t) (slice_index_or keys place d).0 standing.Out

@@ -64,8 +64,7 @@ one-tried v cpu start told before within t k true h is =
     ap tried_among (sym (append_assoc before within (j ∷ [])))
     ∙ (sum_by_push (λ x. tries x.standing x.group) (before ++ within) j
     ∙ ap (λ s. tried_among (before ++ within) + tries s g) (sym (told-in v cpu start told before within t g h is)))
-one-tried v cpu start told before within t k false h is =
-    omega (arith, ap (λ s. tries s (group_at v k)) (told-out v.hardware cpu (group_at v k) t is))
+one-tried v cpu start told before within t k false h is = grind (arith, told-out)
 
 -- the groups of a pass
 pass-tried : (v : World) (cpu : CpuNo) (start : FinMap nat_cmp Standing) (keys told : List Key) (before within : List Judged) (t : Tally)
@@ -107,13 +106,7 @@ passes-tried v cpu start (p ∷ ps) told before t kept all once h =
     ≡ tried_among (before ++ judge_pass v.hardware before [] groups) + tried_passes v.hardware cpu (group_at v) (tell_pass v.hardware cpu (group_at v) t p) ps =
     passes-tried v cpu start ps (told ++ p) (before ++ judge_pass v.hardware before [] groups) (tell_pass v.hardware cpu (group_at v) t p) kept all_now once_now
     (pass-over v cpu start (told ++ p) before (judge_pass v.hardware before [] groups) (fold (tell v.hardware cpu (group_at v)) t p) first) in
-    omega (
-      arith,
-      ap tried_among (judges-next v.hardware before groups (map (filter (is_eligible v.hardware cpu)) (map (map (group_at v)) ps))),
-      rest,
-      one,
-      ap tried_among (append-nil before),
-    )
+    grind (arith, judges-next, groups, rest, one, append-nil)
 
 -- all groups of a processor on which no group was told yet
 pub all-tried : (v : World) (cpu : CpuNo) → IsKept v.hardware v → (seats_at v cpu).events ≡ []

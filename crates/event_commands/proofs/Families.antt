@@ -1,6 +1,6 @@
 -- The copies of an original go one after the other, and then the original: what is left of the family, and that
 -- processors that do not reach it stand as they stood.
-use Rattle.std.specs.Prelude.{◌≡◌, ℕ, ◌+◌, ◌<◌, ◌≤◌, ◌==◌, Bool, true, false, ◌&&◌, suc, List, [], ◌∷◌, ◌++◌, count_by, length, map, take, drop, Some, None, slice_index_or, slice_set}
+use Rattle.std.specs.Prelude.{◌≡◌, ℕ, ◌+◌, ◌<◌, ◌≤◌, ◌==◌, Bool, true, false, ◌&&◌, suc, List, [], ◌∷◌, ◌++◌, count_by, length, map, take, drop, Some, None, slice_index_or}
 use Rattle.std.{specs.List.{list_any}, proofs.{Common.{arith, refl, sym, ap, subst, ◌∙◌, inl, inr, take_all}, Math.ListN.{drop_of_length-le}}}
 use Rattle.std.proofs.{Math.Seq.{take-suc, drop-cons}, lemmas.Bool.{cases_eq, cases_Bool, false≢true, Decides.{nat_tests}}}
 use Rattle.std.proofs.lemmas.List.{map-append, get_or-set_same}
@@ -46,11 +46,7 @@ copy-once hw w e k h = at-most-one (is_copy_in (post_at w) e.0 k) (h.linked.copi
 -- the family after one went
 family-after : (hw : Hardware) (w new : World) (e : EventNo) (k : Key) → IsKept hw w → MayGo w k → e.0 < 256 → (instance_at w k).event ≡ e → new ≡ drop_instance k w
     → family_of new e ≡ out_of_family (instance_at w k).copy k (family_of w e)
-family-after hw w new e k h may low is dropped =
-    ap (λ (x : World). family_of x e) dropped
-    ∙ (ap (λ fs. slice_index_or fs e.0 no_family) (drop-families hw w k h may)
-    ∙ (ap (λ (x : EventNo). slice_index_or (slice_set w.families x.0 (out_of_family (instance_at w k).copy k (family_of w x))) e.0 no_family) is
-    ∙ get_or-set_same w.families e.0 (out_of_family (instance_at w k).copy k (family_of w e)) no_family (omega (arith, low, h.tables.families))))
+family-after hw w new e k h may low is dropped = grind (arith, nat_tests, drop-families, get_or-set_same)
 
 -- the first copy of those that are left
 first-left : (copies keys : List Key) (n : ℕ) (d : Key) → keys ≡ drop n copies → n < length copies → keys ≡ slice_index_or copies n d ∷ drop (suc n) copies
@@ -76,8 +72,7 @@ first-is : (e : EventNo) (n : ℕ) (w now : World) (keys : List Key) (d : Key) �
 first-is e n w now keys d g told low = ap (λ ks. slice_index_or ks 0 d) (first-left (family_of w e).copies keys n d (copies-left e n w now keys g told) low)
 
 first-copy : (hw : Hardware) (e : EventNo) (w : World) (keys : List Key) (d : Key) → IsKept hw w → keys ≡ (family_of w e).copies → 0 < length keys → IsCopyAt w e (slice_index_or keys 0 d)
-first-copy hw e w keys d h told some =
-    copy-at hw w e (slice_index_or keys 0 d) h (omega (arith, times-at keys 0 d some, ap (times (slice_index_or keys 0 d)) told))
+first-copy hw e w keys d h told some = grind (arith, nat_tests, copy-at, times-at, times-at keys 0 d some, ap (times (slice_index_or keys 0 d)) told)
 
 pub copy-may_go : (hw : Hardware) (e : EventNo) (w : World) (keys : List Key) (d : Key) → IsKept hw w → keys ≡ (family_of w e).copies → 0 < length keys → MayGo w (slice_index_or keys 0 d)
 copy-may_go hw e w keys d h told some =
@@ -98,13 +93,10 @@ one-more hw e n w now new keys d h small g told low dropped stage =
     let may : MayGo now k = copy-may_go hw e now keys d h told some in
     let one : n + 1 ≡ suc n = omega arith in
     let k_is : k ≡ slice_index_or copies n d = first-is e n w now keys d g told low in
-    let rest : (family_of now e).copies ≡ k ∷ drop (suc n) copies =
-    sym told ∙ (first-left copies keys n d (copies-left e n w now keys g told) low ∙ ap (λ x. x ∷ drop (suc n) copies) (sym k_is)) in
+    let rest : (family_of now e).copies ≡ k ∷ drop (suc n) copies = grind (arith, nat_tests, first-left, copies-left) in
     let once : times k (drop (suc n) copies) ≡ 0 =
     omega (arith, copy-once hw now e k h, ap (times k) rest, times-cons k k (drop (suc n) copies), once-true (is_key k k) (is_key-same k k refl)) in
-    let fewer : all_but k (family_of now e).copies ≡ drop (n + 1) copies =
-    ap (all_but k) rest
-    ∙ (all_but_first k (drop (suc n) copies) once ∙ ap (λ m. drop m copies) (sym one)) in
+    let fewer : all_but k (family_of now e).copies ≡ drop (n + 1) copies = grind (arith, nat_tests, all_but_first) in
     record {
       gone = subst (λ ks. HaveGone e ks w new)
           (ap (λ x. take n copies ++ x ∷ []) k_is ∙ sym (ap (λ m. take m copies) one ∙ take-suc copies n d low))
@@ -129,15 +121,7 @@ none-left e n w now g past = g.left ∙ ap (λ ks. record (family_of w e) { copi
 pub original-may_go : (hw : Hardware) (w : World) (e : EventNo) (k : Key) → IsKept hw w → (family_of w e).original ≡ Some k → (family_of w e).copies ≡ [] → MayGo w k
 original-may_go hw w e k h is none =
     let here = original-in hw w e k h is in
-    record {
-      live = here.0;
-      last = λ first j. elim (cases_Bool (is_copy_in (post_at w) (instance_at w k).event.0 j)) [
-        | inl passes ↦
-            let mine : is_copy_in (post_at w) e.0 j ≡ true = ap (λ (x : EventNo). is_copy_in (post_at w) x.0 j) (sym here.1) ∙ passes in
-            absurd (omega (arith, ap (times j) none, h.linked.copies j e.0, once-true (is_copy_in (post_at w) e.0 j) mine))
-        | inr fails ↦ fails
-      ];
-    }
+    grind (arith, nat_tests, once-true)
 
 not-copy : (hw : Hardware) (w : World) (e : EventNo) (k : Key) → IsKept hw w → (family_of w e).original ≡ Some k → (instance_at w k).copy ≡ false
 not-copy hw w e k h is =
@@ -170,26 +154,13 @@ whole-gone hw e w mid new h first left second =
     both-gone e (family_of w e).copies (in_option (family_of w e).original) w mid new first (subst (λ o. HaveGone e (in_option o) mid new) same second)
     (λ k some. elim (cases_eq (times k (family_of w e).copies) 0) [
       | inl none ↦ none
-      | inr more ↦
-          let here = in-family hw mid e k h
-          (omega (arith, some, ap (λ o. times k (in_option o)) same, count-append (is_key k) (in_option (family_of mid e).original) (family_of mid e).copies)) in
-          absurd (false≢true (sym (first.dead k (omega (arith, more))) ∙ here.0))
+      | inr more ↦ grind (arith, nat_tests, in-family, count-append, false≢true, more)
     ])
 
 -- on the stage
 swapped-ids : (w : World) (e : EventNo) (n : ℕ) → count_by (λ id. n == id) (map (λ k. (instance_at w k).id) ((family_of w e).copies ++ in_option (family_of w e).original))
     ≡ count_by (λ id. n == id) (map (λ k. (instance_at w k).id) (family_keys w e))
-swapped-ids w e n =
-    let id : Key → ℕ = λ k. (instance_at w k).id in
-    let xs : List Key = (family_of w e).copies in
-    let ys : List Key = in_option (family_of w e).original in
-    omega (
-      arith,
-      ap (count_by (λ i. n == i)) (map-append id xs ys),
-      ap (count_by (λ i. n == i)) (map-append id ys xs),
-      count-append (λ i. n == i) (map id xs) (map id ys),
-      count-append (λ i. n == i) (map id ys) (map id xs),
-    )
+swapped-ids w e n = grind (arith, nat_tests, map-append, count-append)
 
 pub closed-stage : (hw : Hardware) (w new : World) (e : EventNo) → IsKept hw w → IsSound hw (stage_of w) → HaveGone e ((family_of w e).copies ++ in_option (family_of w e).original) w new
     → stage_of new ≡ closed e (stage_of w)
@@ -200,12 +171,7 @@ closed-stage hw w new e h sound g =
 
 -- key by key
 done-times : (w : World) (e : EventNo) (k : Key) → times k ((family_of w e).copies ++ in_option (family_of w e).original) ≡ times k (family_keys w e)
-done-times w e k =
-    omega (
-      arith,
-      count-append (is_key k) (family_of w e).copies (in_option (family_of w e).original),
-      count-append (is_key k) (in_option (family_of w e).original) (family_of w e).copies,
-    )
+done-times w e k = grind (arith, nat_tests, count-append)
 
 same-number : (m n : ℕ) → m ≡ n → (m == n) ≡ true
 same-number m n e = grind (arith, nat_tests, e)
@@ -213,9 +179,7 @@ same-number m n e = grind (arith, nat_tests, e)
 not-done : (hw : Hardware) (w : World) (e : EventNo) (k : Key) → IsKept hw w → is_of_family e (instance_at w k) ≡ false → times k ((family_of w e).copies ++ in_option (family_of w e).original) ≡ 0
 not-done hw w e k h off = elim (cases_eq (times k (family_keys w e)) 0) [
   | inl none ↦ done-times w e k ∙ none
-  | inr more ↦
-      let here = in-family hw w e k h (omega (arith, more)) in
-      absurd (false≢true (sym off ∙ same-number (instance_at w k).event.0 e.0 here.1))
+  | inr more ↦ grind (arith, nat_tests, in-family, more, false≢true, same-number)
 ]
 
 pub is-closed : (hw : Hardware) (w new : World) (e : EventNo) → IsKept hw w → HaveGone e ((family_of w e).copies ++ in_option (family_of w e).original) w new → family_of new e ≡ no_family → IsClosed e w new
@@ -254,9 +218,6 @@ closed-others hw w new e cpu h g stage low off =
           let there : has_context (stage_of w) cpu (entry_at new q).context ≡ true = ap (λ y. has_context (stage_of (record w { quiet = y })) cpu (entry_at new q).context) (sym running) ∙ has in
           let stood = g.groups q lead (λ k some is. false≢true (sym (away k some) ∙ (ap (has_context (stage_of w) cpu) (sym is) ∙ there))) in
           let live : is_live new q ≡ true = (leads-parts (is_live new q) (is_key q (entry_at new q).leader) lead).0 in
-          let stays : times q done ≡ 0 = (elim (cases_eq (times q done) 0) [
-            | inl none ↦ none
-            | inr more ↦ absurd (false≢true (sym (g.dead q (omega (arith, more))) ∙ live))
-          ]) in
+          let stays : times q done ≡ 0 = grind (arith, nat_tests, false≢true) in
           (stood.0, ap (has_context (stage_of w) cpu) (sym (g.contexts q stays)) ∙ there, ap (λ i. i.id) (g.instances q stays), stood.1);
     })

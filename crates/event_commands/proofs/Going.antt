@@ -77,10 +77,7 @@ stood-new w q off = sym (ap (λ b. if b then standing_at w q else standing.Out) 
 
 -- a leader is in no other one's group
 not-its : (w : World) (k q : Key) → leads (post_at w) q ≡ true → (q.0 ≡ k.0 → ⊥) → is_member_of (post_at w) k q ≡ false
-not-its w k q lead apart =
-    let parts : (is_live w q ≡ true) × (is_key q (entry_at w q).leader ≡ true) = leads-parts (is_live w q) (is_key q (entry_at w q).leader) lead in
-    let own : (entry_at w q).leader ≡ q = key-is (entry_at w q).leader q (is_key-true q (entry_at w q).leader parts.1) in
-    λ i. parts.0 i && (ap (is_key k) own ∙ is_key-other k q apart) i
+not-its w k q lead apart = grind (arith, leads-parts, key-is, is_key-true, is_key-other)
 
 leader-leading : (hw : Hardware) (w : World) (k q : Key) → IsKept hw w → leads (post_at w) k ≡ true → (q.0 ≡ k.0 → ⊥) → leads (post_at w) q ≡ true
     → leads (post_at (led_world w k (entries_freed w k) (standings_freed w k))) q ≡ true
@@ -98,16 +95,8 @@ leader-standings hw w k q h lead apart leads_now =
     let keys : List Key = after_first (entry_at w k).members in
     let sib : AreSiblings (post_at w) k keys = siblings-stand hw w k h lead in
     elim (cases_Bool (is_member_of (post_at w) k q)) [
-      | inl is ↦
-          let off : leads (post_at w) q ≡ false =
-          λ i. member-live (post_at w) k q is i && (ap (is_key q) (member-led (post_at w) k q is) ∙ is_key-other q k (λ e. apart (sym e))) i in
-          ap (λ o. unwrap_or o standing.Out)
-          (get-left (standings_freed w k) k.0 q.0 apart ∙ freed_standing keys w.standings q (omega (arith, sib.others q apart, once-true (is_member_of (post_at w) k q) is)))
-          ∙ stood-new w q off
-      | inr off ↦
-          ap (λ o. unwrap_or o standing.Out)
-          (get-left (standings_freed w k) k.0 q.0 apart ∙ not-freed_standing keys w.standings q (sib.others q apart ∙ once-false (is_member_of (post_at w) k q) off))
-          ∙ stood-leading w q (ap (λ p. p.live && is_key q p.leader) (sym (d.others q apart off)) ∙ leads_now)
+      | inl is ↦ grind (arith, member-live, is, member-led, is_key-other, get-left, standings_freed, freed_standing, once-true, stood-new)
+      | inr off ↦ grind (arith, get-left, standings_freed, not-freed_standing, once-false, off, stood-leading)
     ]
 
 -- an instance that goes, with the tables that it leaves
@@ -144,10 +133,7 @@ drop-families hw w k h may = (one-drops hw w k h may).families
 
 -- one that went
 pub one-key : (j k : Key) → 1 ≤ times j (k ∷ []) → j ≡ k
-one-key j k some = elim (cases_eq j.0 k.0) [
-  | inl same ↦ key-is j k same
-  | inr apart ↦ absurd (omega (arith, some, times-cons j k [], once-false (is_key j k) (is_key-other j k (λ e. apart (sym e)))))
-]
+one-key j k some = grind (arith, key-is, times-cons, once-false, is_key-other)
 
 other-key : (j k : Key) → times j (k ∷ []) ≡ 0 → j.0 ≡ k.0 → ⊥
 other-key j k none same = omega (arith, none, times-cons j k [], once-true (is_key j k) (is_key-same j k (sym same)))
@@ -184,34 +170,14 @@ one-gone hw w new e k h may is dropped stage = subst (HaveGone e (k ∷ []) w) (
 
 -- none
 pub none-gone : (e : EventNo) (w : World) → HaveGone e [] w w
-none-gone e w = record {
-  world = refl;
-  stage = refl;
-  dead = λ k some. absurd (omega (arith, some));
-  live = λ k none. refl;
-  instances = λ k none. refl;
-  contexts = λ k none. refl;
-  accounts = λ k none. refl;
-  families = λ other apart. refl;
-  groups = λ q lead away. (lead, refl);
-  leading = λ q lead none. lead;
-  standings = λ q lead. stood-leading w q lead;
-}
+none-gone e w = grind (arith, stood-leading)
 
 -- some after others
 stood-then : (w m : World) (q : Key) → (leads (post_at m) q ≡ true → standing_at m q ≡ stood w q) → (leads (post_at w) q ≡ true → leads (post_at m) q ≡ true) → stood m q ≡ stood w q
-stood-then w m q stands still = elim (cases_Bool (leads (post_at m) q)) [
-  | inl lead ↦ sym (stood-leading m q lead) ∙ stands lead
-  | inr off ↦ elim (cases_Bool (leads (post_at w) q)) [
-    | inl before ↦ absurd (false≢true (sym off ∙ still before))
-    | inr never ↦ sym (stood-new m q off) ∙ stood-new w q never
-  ]
-]
+stood-then w m q stands still = grind (arith, stood-leading, false≢true, stood-new)
 
 thinned-twice : (w m n : World) → IsThinned w m → IsThinned m n → IsThinned w n
-thinned-twice w m n first second =
-    second
-    ∙ ap (λ (x : World). record x { entries = n.entries; accounts = n.accounts; standings = n.standings; contexts = n.contexts; families = n.families }) first
+thinned-twice w m n first second = grind arith
 
 split : (k : Key) (xs ys : List Key) → times k (xs ++ ys) ≡ times k xs + times k ys
 split k xs ys = count-append (is_key k) xs ys
@@ -239,23 +205,14 @@ both-gone e xs ys w m n first second apart =
       families = λ other far. second.families other far ∙ first.families other far;
       groups = λ q lead away.
           let live : is_live n q ≡ true = (leads-parts (is_live n q) (is_key q (entry_at n q).leader) lead).0 in
-          let stays : times q ys ≡ 0 = (elim (cases_eq (times q ys) 0) [
-            | inl none ↦ none
-            | inr more ↦ absurd (false≢true (sym (second.dead q (omega (arith, more))) ∙ live))
-          ]) in
+          let stays : times q ys ≡ 0 = grind (arith, false≢true) in
           let mid = second.groups q lead (λ k some is. away k (omega (arith, some, split k xs ys)) (is ∙ first.contexts k (apart k some))) in
           let old = first.groups q mid.0 (λ k some is. away k (omega (arith, some, split k xs ys)) (second.contexts q stays ∙ is)) in
           (old.0, mid.1 ∙ old.1);
       leading = λ q lead none. second.leading q (first.leading q lead (xs_none q none)) (ys_none q none);
       standings = λ q lead.
           let live : is_live n q ≡ true = (leads-parts (is_live n q) (is_key q (entry_at n q).leader) lead).0 in
-          let stays : times q ys ≡ 0 = (elim (cases_eq (times q ys) 0) [
-            | inl none ↦ none
-            | inr more ↦ absurd (false≢true (sym (second.dead q (omega (arith, more))) ∙ live))
-          ]) in
-          let stayed : times q xs ≡ 0 = (elim (cases_eq (times q xs) 0) [
-            | inl none ↦ none
-            | inr more ↦ absurd (false≢true (sym (first.dead q (omega (arith, more))) ∙ (sym (second.live q stays) ∙ live)))
-          ]) in
+          let stays : times q ys ≡ 0 = grind (arith, false≢true) in
+          let stayed : times q xs ≡ 0 = grind (arith, false≢true) in
           second.standings q lead ∙ stood-then w m q (first.standings q) (λ before. first.leading q before stayed);
     }

@@ -19,9 +19,7 @@ one-shape command.Reset w k = refl
 pub changed-shape : (c : Command) (keys : List Key) (w : World) → changed c keys w ≡ record w { entries = (changed c keys w).entries; accounts = (changed c keys w).accounts }
 unfolding changed
 changed-shape c [] w = refl
-changed-shape c (k ∷ keys) w =
-    let x : World = changed c keys (change c w k) in
-    changed-shape c keys (change c w k) ∙ ap (λ (y : World). record y { entries = x.entries; accounts = x.accounts }) (one-shape c w k)
+changed-shape c (k ∷ keys) w = grind (arith, one-shape, changed-shape c keys (change c w k))
 
 pub changed-family : (c : Command) (keys : List Key) (w : World) (e : EventNo) → family_of (changed c keys w) e ≡ family_of w e
 changed-family c keys w e = ap (λ (y : World). family_of y e) (changed-shape c keys w)
@@ -73,11 +71,7 @@ all-copies c first now copies place before past = before ∙ ap (λ keys. change
 -- a family, and so families
 pub whole-family : (c : Command) (w mid new : World) (e : EventNo) → mid ≡ changed c (in_option (family_of w e).original) w → new ≡ changed c (family_of mid e).copies mid
     → new ≡ changed c (family_keys w e) w
-whole-family c w mid new e first second =
-    let original : List Key = in_option (family_of w e).original in
-    second
-    ∙ ((λ i. changed c (family_of (first i) e).copies (first i))
-    ∙ (ap (λ f. changed c f.copies (changed c original w)) (changed-family c original w e) ∙ sym (changed-append c original (family_of w e).copies w)))
+whole-family c w mid new e first second = grind (arith, changed-family, changed-append)
 
 pub next-family : (c : Command) (first now new : World) (events : List EventNo) (place : ℕ) (d : EventNo) → now ≡ changed c (keys_named first (take place events)) first → place < length events
     → new ≡ changed c (family_keys now (slice_index_or events place d)) now → new ≡ changed c (keys_named first (take (place + 1) events)) first

@@ -1,6 +1,6 @@
 -- The keys of a family and of some families are those of the instances that are reached.
 use Rattle.std.specs.Prelude.{◌≡◌, ℕ, ◌+◌, ◌≤◌, ◌==◌, Bool, true, false, not, ◌&&◌, ◌||◌, List, [], ◌∷◌}
-use Rattle.std.proofs.{Common.{arith, refl, sym, ap, ◌∙◌, inl, inr}, lemmas.Bool.{cases_Bool, cases_eq, false≢true, Decides.{nat_tests}}}
+use Rattle.std.proofs.{Common.{arith, refl, sym, ◌∙◌, inl, inr}, lemmas.Bool.{cases_Bool, cases_eq, false≢true, Decides.{nat_tests}}}
 use Rattle.perf_base.specs.declared.numbers.{EventNo.{EventNo}, Key.{Key}}
 use Rattle.stage_spec.specs.{Commands.{is_reached}, Hardware.{Hardware}}
 use Rattle.stage_laws.proofs.Counts.{count-append}
@@ -23,14 +23,10 @@ some-once true h = refl
 some-once false h = absurd (omega (arith, h))
 
 pub in-family : (hw : Hardware) (w : World) (e : EventNo) (k : Key) → IsKept hw w → 1 ≤ times k (family_keys w e) → (is_live w k ≡ true) × ((instance_at w k).event.0 ≡ e.0)
-in-family hw w e k h some =
-    let both : (is_live w k && (instance_at w k).event.0 == e.0) ≡ true = some-once (is_live w k && (instance_at w k).event.0 == e.0) (omega (arith, some, family-count hw w e k h)) in
-    let parts = leads-parts (is_live w k) ((instance_at w k).event.0 == e.0) both in
-    (parts.0, number_true (instance_at w k).event.0 e.0 parts.1)
+in-family hw w e k h some = grind (arith, nat_tests, some-once, family-count, leads-parts, number_true, some, family-count hw w e k h)
 
 pub at-family : (hw : Hardware) (w : World) (e : EventNo) (k : Key) → IsKept hw w → is_live w k ≡ true → ((instance_at w k).event.0 == e.0) ≡ true → 1 ≤ times k (family_keys w e)
-at-family hw w e k h live same =
-    omega (arith, family-count hw w e k h, once-true (is_live w k && (instance_at w k).event.0 == e.0) (ap (λ b. b && (instance_at w k).event.0 == e.0) live ∙ same))
+at-family hw w e k h live same = grind (arith, nat_tests, family-count, once-true)
 
 -- and in some families where it is reached
 first-or : (a b : Bool) → a ≡ true → (a || b) ≡ true
@@ -55,9 +51,7 @@ named-reached hw w (e ∷ events) k h some = elim (cases_eq (times k (family_key
   | inl none ↦
       let rest = named-reached hw w events k h (omega (arith, some, none, count-append (is_key k) (family_keys w e) (keys_named w events))) in
       (rest.0, second-or ((instance_at w k).event.0 == e.0) (is_reached events (instance_at w k)) rest.1)
-  | inr more ↦
-      let here = in-family hw w e k h (omega (arith, more)) in
-      (here.0, first-or ((instance_at w k).event.0 == e.0) (is_reached events (instance_at w k)) (same-number (instance_at w k).event.0 e.0 here.1))
+  | inr more ↦ grind (arith, nat_tests, in-family, more, first-or, same-number)
 ]
 
 pub reached-named : (hw : Hardware) (w : World) (events : List EventNo) (k : Key) → IsKept hw w → is_live w k ≡ true → is_reached events (instance_at w k) ≡ true → 1 ≤ times k (keys_named w events)

@@ -1,13 +1,13 @@
 -- A new period of an original: for what it is refused, what it is on the stage, and that processors stand as they
 -- stood.
 use Rattle.std.specs.Prelude.{◌≡◌, ◌≢◌, ℕ, ◌^◌, ◌<◌, ◌≤◌, ◌==◌, Bool, true, false, not, ◌||◌, bit_and, [], ◌∷◌, Option, Some, None, is_some, length, option_map}
-use Rattle.std.{specs.Option.{unwrap_or}, proofs.{Common.{arith, refl, sym, ap, subst, ◌∙◌}, lemmas.Bool.{false≢true, Decides.{nat_tests}}}}
+use Rattle.std.{proofs.{Common.{arith, refl, sym, ap, ◌∙◌}, lemmas.Bool.{false≢true, Decides.{nat_tests}}}}
 use Rattle.perf_base.specs.declared.{numbers.{CpuNo.{CpuNo}, EventNo.{EventNo}, Key.{Key}}, reasons.Reason.{Reason}}
 use Rattle.perf_base.specs.declared.reasons.Reason.TheVariants as reason
 use Rattle.stage_spec.specs.{Commands.{period_refusal, with_period}, Hardware.{Hardware}, Refusals.{first_of, holds_of}}
 use Rattle.stage_laws.{proofs.{OneByOne.{period-one}, Untouched.{period-briefs}}, specs.{Narrowing.{has_context}, OneByOne.{change_one}}}
 use Rattle.stage_laws.specs.Standings.{briefs}
-use Rattle.world_spec.specs.{Value.{World, no_account, is_live, instance_at, account_at, standing_at, seats_at, family_of}, StageOf.{stage_of}}
+use Rattle.world_spec.specs.{Value.{World, is_live, instance_at, standing_at, seats_at, family_of}, StageOf.{stage_of}}
 use Rattle.world_spec.{specs.{Kept.{leads, post_at, IsKept}, Changes.{set_period}, Rescheduled.{IsUntouched}}, proofs.Families.{open-is, original-is}}
 use Rattle.world_spec.proofs.{Listings.{is-numbered}, Standing.{left-untouched}, Tables.{get-here, get-there, posts-same}}
 use Rattle.event_commands.specs.Commands.{HasPeriod}
@@ -21,8 +21,7 @@ no_period period = period == 0 || not (bit_and period (2 ^ 63) == 0)
 
 checks-are : (hw : Hardware) (w : World) (e : EventNo) (period : ℕ) (o : Option Key) → IsKept hw w → (family_of w e).original ≡ o
     → period_refusal (stage_of w) e period ≡ by_checks (not (is_some o)) (holds_of (λ i. i.attr.period == 0) (option_map (instance_at w) o)) (no_period period)
-checks-are hw w e period o h is =
-    λ t. by_checks (not ((open-is hw w e h ∙ ap is_some is) t)) (holds_of (λ i. i.attr.period == 0) ((original-is hw w e h ∙ ap (option_map (instance_at w)) is) t)) (no_period period)
+checks-are hw w e period o h is = grind (arith, nat_tests, open-is, original-is)
 
 pub no-event : (hw : Hardware) (w : World) (e : EventNo) (period : ℕ) → IsKept hw w → (family_of w e).original ≡ None → period_refusal (stage_of w) e period ≡ Some reason.NoEvent
 no-event hw w e period h none = checks-are hw w e period None h none
@@ -35,13 +34,11 @@ other-number m n apart = grind (arith, nat_tests, apart)
 
 pub not-sampling : (hw : Hardware) (w : World) (e : EventNo) (period : ℕ) (k : Key) → IsKept hw w → (family_of w e).original ≡ Some k → (instance_at w k).attr.period ≡ 0
     → period_refusal (stage_of w) e period ≡ Some reason.NotSampling
-not-sampling hw w e period k h is zero =
-    checks-are hw w e period (Some k) h is ∙ ap (λ b. by_checks false b (no_period period)) (same-number (instance_at w k).attr.period 0 zero)
+not-sampling hw w e period k h is zero = grind (arith, nat_tests, checks-are, same-number)
 
 samples : (hw : Hardware) (w : World) (e : EventNo) (period : ℕ) (k : Key) (b : Bool) → IsKept hw w → (family_of w e).original ≡ Some k → ((instance_at w k).attr.period ≡ 0 → ⊥)
     → no_period period ≡ b → period_refusal (stage_of w) e period ≡ by_checks false false b
-samples hw w e period k b h is some known =
-    checks-are hw w e period (Some k) h is ∙ (λ t. by_checks false (other-number (instance_at w k).attr.period 0 some t) (known t))
+samples hw w e period k b h is some known = grind (arith, nat_tests, checks-are, other-number)
 
 pub zero-period : (hw : Hardware) (w : World) (e : EventNo) (period : ℕ) (k : Key) → IsKept hw w → (family_of w e).original ≡ Some k → ((instance_at w k).attr.period ≡ 0 → ⊥)
     → no_period period ≡ true → period_refusal (stage_of w) e period ≡ Some reason.ZeroPeriod
@@ -56,13 +53,7 @@ some-period period known zero = false≢true (sym known ∙ ap (λ b. b || not (
 
 -- on the stage, and on the accounts
 pub has-period : (hw : Hardware) (w new : World) (e : EventNo) (period : ℕ) (k : Key) → (family_of w e).original ≡ Some k → new ≡ set_period k period w → HasPeriod e period w new
-has-period hw w new e period k is changed = subst (HasPeriod e period w) (sym changed) (record {
-  original = k;
-  named = is;
-  world = refl;
-  account = ap (λ o. unwrap_or o no_account) (get-here w.accounts k.0 (record (account_at w k) { left = period }) k.0 refl);
-  accounts = λ q apart. ap (λ o. unwrap_or o no_account) (get-there w.accounts k.0 (record (account_at w k) { left = period }) q.0 apart);
-})
+has-period hw w new e period k is changed = grind (arith, nat_tests, get-here, get-there)
 
 pub period-stage : (hw : Hardware) (w new : World) (e : EventNo) (period : ℕ) (k : Key) → IsKept hw w → (family_of w e).original ≡ Some k
     → stage_of new ≡ change_one (λ i. record i { attr = record i.attr { period = period } }) (instance_at w k).id (stage_of w) → stage_of new ≡ with_period e period (stage_of w)

@@ -2,7 +2,7 @@
 -- families on the stage.
 use Rattle.std.specs.Prelude.{◌≡◌, ℕ, ◌+◌, ◌^◌, ◌<◌, ◌≤◌, ◌==◌, suc, max, Bool, true, false, ◌&&◌, ◌||◌, bit_or, List, [], ◌∷◌, ◌++◌, length, take, Option, Some, None, slice_index_or, if◌then◌else◌}
 use Rattle.std.{specs.{Int.{bit_at}, List.{list_any}}, proofs.{Common.{arith, refl, sym, ap, ◌∙◌, inl, inr, take_all}, Math.Seq.{take-suc}}}
-use Rattle.std.proofs.lemmas.{Bool.{cases_eq, cases_Bool, false≢true, Decides.{nat_tests}}, Grind.{flat_map-append}, List.{append-nil}}
+use Rattle.std.proofs.lemmas.{Bool.{cases_eq, false≢true, Decides.{nat_tests}}, Grind.{flat_map-append}, List.{append-nil}}
 use Rattle.std.proofs.lemmas.{List.Folds.{list_any-append}, Nat.Bits.{bit_at_or, bit_at-zero, bit_at-lt, bit_at-pow_same, bit_at-pow_other}}
 use Rattle.perf_base.specs.declared.numbers.{CpuNo.{CpuNo}, CpuSet.{CpuSet}, EventNo.{EventNo}, Key.{Key}}
 use Rattle.stage_spec.specs.Hardware.{has_cpu}
@@ -23,20 +23,8 @@ second false b h = absurd (false≢true h)
 inserted : (w : World) (k : Key) (set now : CpuSet) (c : CpuNo) → is_reaching w c k ≡ true → ((cpu : CpuNo) → is_reaching w cpu k ≡ true → cpu.0 ≡ c.0)
     → now.0 ≡ bit_or set.0 (2 ^ c.0) → AddsReaching w (k ∷ []) set now
 inserted w k set now c has only is cpu = elim (cases_eq cpu.0 c.0) [
-  | inl same ↦
-      let there : has_cpu cpu.0 now ≡ true =
-      one-more (bit_at set.0 cpu.0) (bit_at now.0 cpu.0)
-      (ap (λ n. bit_at n cpu.0) is ∙ (bit_at_or set.0 (2 ^ c.0) cpu.0 ∙ ap (max (bit_at set.0 cpu.0)) (ap (bit_at (2 ^ c.0)) same ∙ bit_at-pow_same c.0))) (bit_at-lt set.0 cpu.0) in
-      let mine : is_reaching w cpu k ≡ true = ap (λ n. is_reaching w (record { 0 = n }) k) same ∙ has in
-      there ∙ sym (ap (λ b. (b || false) || has_cpu cpu.0 set) mine)
-  | inr apart ↦
-      let kept : bit_at now.0 cpu.0 ≡ bit_at set.0 cpu.0 =
-      no-more (bit_at set.0 cpu.0) (bit_at now.0 cpu.0)
-      (ap (λ n. bit_at n cpu.0) is ∙ (bit_at_or set.0 (2 ^ c.0) cpu.0 ∙ ap (max (bit_at set.0 cpu.0)) (bit_at-pow_other c.0 cpu.0 apart))) in
-      elim (cases_Bool (is_reaching w cpu k)) [
-        | inl mine ↦ absurd (apart (only cpu mine))
-        | inr off ↦ ap (λ n. n == 1) kept ∙ sym (ap (λ b. (b || false) || has_cpu cpu.0 set) off)
-      ]
+  | inl same ↦ grind (arith, nat_tests, one-more, bit_at_or, same, bit_at-pow_same, bit_at-lt)
+  | inr apart ↦ grind (arith, nat_tests, no-more, bit_at_or, bit_at-pow_other, apart)
 ]
 
 -- a processor is added where the machine has it
@@ -117,10 +105,7 @@ or-none true = refl
 or-none false = refl
 
 no-cpu : (cpu n : ℕ) → n ≡ 0 → (bit_at n cpu == 1) ≡ false
-no-cpu cpu n none =
-    let zero : bit_at n cpu ≡ 0 = ap (λ m. bit_at m cpu) none ∙ bit_at-zero cpu in
-    ap (λ m. m == 1) zero
+no-cpu cpu n none = grind (arith, nat_tests, bit_at-zero)
 
 pub all-added : (w : World) (events : List EventNo) (place : ℕ) (a b : CpuSet) → length events ≤ place → a.0 ≡ 0 → AddsReaching w (keys_named w (take place events)) a b → AreReaching w (keys_named w events) b
-all-added w events place a b past none h cpu =
-    h cpu ∙ ((λ i. list_any (is_reaching w cpu) (keys_named w (take_all place events past i)) || no-cpu cpu.0 a.0 none i) ∙ or-none (list_any (is_reaching w cpu) (keys_named w events)))
+all-added w events place a b past none h cpu = grind (arith, nat_tests, take_all, no-cpu, or-none)

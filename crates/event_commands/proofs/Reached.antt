@@ -39,9 +39,7 @@ from-group w k (q ∷ leaders) some = elim (cases_eq (times k (members_at w q)) 
 in-group : (w : World) (k q : Key) (leaders : List Key) → 1 ≤ times q leaders → 1 ≤ times k (members_at w q) → 1 ≤ times k (flat_map (members_at w) leaders)
 in-group w k q [] some member = absurd (omega (arith, some))
 in-group w k q (m ∷ leaders) some member = elim (cases_Bool (is_key q m)) [
-  | inl same ↦
-      let there : times k (members_at w m) ≡ times k (members_at w q) = ap (λ j. times k (members_at w j)) (key-is m q (is_key-true q m same)) in
-      omega (arith, member, there, count-append (is_key k) (members_at w m) (flat_map (members_at w) leaders))
+  | inl same ↦ grind (arith, nat_tests, members_at, key-is, is_key-true, same, count-append)
   | inr apart ↦
       let rest : 1 ≤ times k (flat_map (members_at w) leaders) = in-group w k q leaders (omega (arith, some, times-cons q m leaders, once-false (is_key q m) apart)) member in
       omega (arith, rest, count-append (is_key k) (members_at w m) (flat_map (members_at w) leaders))
@@ -56,19 +54,7 @@ abbrev four : Leaders → Leaders → List Key
 four own task = own.pinned ++ (task.pinned ++ (own.flexible ++ (task.flexible ++ [])))
 
 four-times : (q : Key) (own task : Leaders) → times q (four own task) ≡ times q (leaders_both own) + times q (leaders_both task)
-four-times q own task =
-    let f : List Key → ℕ = times q in
-    omega (
-      arith,
-      times-flat q (λ keys. keys) (own.pinned ∷ task.pinned ∷ own.flexible ∷ task.flexible ∷ []),
-      total-cons f own.pinned (task.pinned ∷ own.flexible ∷ task.flexible ∷ []),
-      total-cons f task.pinned (own.flexible ∷ task.flexible ∷ []),
-      total-cons f own.flexible (task.flexible ∷ []),
-      total-cons f task.flexible [],
-      total-nil f,
-      count-append (is_key q) own.pinned own.flexible,
-      count-append (is_key q) task.pinned task.flexible,
-    )
+four-times q own task = grind (arith, nat_tests, times-flat, total-cons, total-nil, count-append)
 
 own_place : (n : ℕ) → (n == n) ≡ true
 own_place n = grind (arith, nat_tests)
@@ -101,10 +87,7 @@ reached-key : (hw : Hardware) (w : World) (cpu : CpuNo) (k : Key) → IsKept hw 
 reached-key hw w cpu k h some =
     let at = from-group w k (reached_leaders w cpu) some in
     let parts = leads-parts (is_live w k) (is_key at.0 (entry_at w k).leader) (once-both (is_member_of (post_at w) at.0 k) (omega (arith, at.2, h.linked.members k at.0))) in
-    let leader : (entry_at w k).leader ≡ at.0 = key-is (entry_at w k).leader at.0 (is_key-true at.0 (entry_at w k).leader parts.1) in (
-      parts.0,
-      ap (has_context (stage_of w) cpu) (sym (h.grouped.together k parts.0) ∙ ap (λ q. (entry_at w q).context) leader) ∙ reached-context hw w h cpu at.0 at.1,
-    )
+    grind (arith, nat_tests, key-is, is_key-true, reached-context)
 
 key-reached : (hw : Hardware) (w : World) (cpu : CpuNo) (k : Key) → IsKept hw w → is_live w k ≡ true → reaches_key w cpu k ≡ true → 1 ≤ times k (reached_keys w cpu)
 key-reached hw w cpu k h live has =

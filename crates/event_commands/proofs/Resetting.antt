@@ -48,10 +48,7 @@ reset-stage w new events h = ap stage_of h.world
 
 -- processors do not see accounts
 pub accounts-unseen : (hw : Hardware) (w : World) (accounts : FinMap nat_cmp Account) (cpu : CpuNo) → IsRescheduled hw w cpu → IsRescheduled hw (record w { accounts = accounts }) cpu
-accounts-unseen hw w accounts cpu h = record {
-  settled = h.settled;
-  judged = record { standings = h.judged.standings; served = record { events = h.judged.served.events; assigned = h.judged.served.assigned } };
-}
+accounts-unseen hw w accounts cpu h = grind arith
 
 pub reset-others : (hw : Hardware) (w new : World) (events : List EventNo) (cpu : CpuNo) → IsReset events w new → IsUntouched hw w new cpu
 reset-others hw w new events cpu is =

@@ -1,7 +1,7 @@
 -- Own states that are set one after the other: what is left, that the stage has the command, and that processors that
 -- are not reached stand as they stood.
 use Rattle.std.specs.Prelude.{◌≡◌, ◌<◌, ◌≤◌, ◌==◌, Bool, true, false, All, List, [], ◌∷◌, if◌then◌else◌}
-use Rattle.std.proofs.{Common.{arith, refl, sym, ap, subst, ◌∙◌, inl, inr}, lemmas.Bool.{cases_eq, cases_Bool, Decides.{nat_tests}}}
+use Rattle.std.proofs.{Common.{arith, refl, sym, ap, subst, ◌∙◌, inl, inr}, lemmas.Bool.{cases_eq, Decides.{nat_tests}}}
 use Rattle.std.proofs.lemmas.List.Folds.{list_any_none}
 use Rattle.perf_base.specs.declared.{numbers.{CpuNo.{CpuNo}, EventNo.{EventNo}, Key.{Key}}, standing.Own.{Own}}
 use Rattle.perf_base.specs.declared.standing.Own.TheVariants as own
@@ -61,13 +61,7 @@ all-entries s hw w events k h low =
     let by_test : Bool → Entry = λ b. record (entry_at w k) { instance = if b then record (instance_at w k) { own = switched s (instance_at w k).own } else instance_at w k } in
     elim (cases_eq (times k keys) 0) [
       | inl none ↦
-          let off : is_reached events (instance_at w k) ≡ false = (elim (cases_Bool (is_live w k)) [
-            | inl live ↦ elim (cases_Bool (is_reached events (instance_at w k))) [
-              | inl reached ↦ absurd (omega (arith, none, reached-named hw w events k h live reached))
-              | inr off ↦ off
-            ]
-            | inr dead ↦ ap (λ e. is_reached events e.instance) (dead-entry w k dead) ∙ none-reached events low
-          ]) in
+          let off : is_reached events (instance_at w k) ≡ false = grind (arith, nat_tests, reached-named, dead-entry, none-reached) in
           updates-out (command.Switch s) entry_at (with_state (switched s)) (state-updates s) k keys w none ∙ sym (ap by_test off)
       | inr more ↦
           let some : 1 ≤ times k keys = omega (arith, more) in
@@ -85,10 +79,7 @@ have-states s hw w new events named h low same is = subst (λ es. HaveStates (sw
 -- the stage
 pub states-stage : (f : Own → Own) (w new : World) (events : List EventNo) → HaveStates f events w new → stage_of new ≡ command_each f events (stage_of w)
 unfolding command_each
-states-stage f w new events h =
-    ap stage_of h.world
-    ∙ ap (λ cs. record (stage_of w) { contexts = cs })
-    (renamed-all (commanded f events) w (record w { entries = new.entries }) (λ q. ap (λ e. e.instance) (h.entries q)) (λ q. ap (λ e. e.members) (h.entries q)) w.contexts)
+states-stage f w new events h = grind (arith, nat_tests, renamed-all)
 
 -- processors that are not reached
 post-kept : (f : Own → Own) (b live : Bool) (e : Entry) → post_of live (record e { instance = if b then record e.instance { own = f e.instance.own } else e.instance }) ≡ post_of live e
@@ -96,10 +87,7 @@ post-kept f true live e = refl
 post-kept f false live e = refl
 
 states-posts : (f : Own → Own) (w new : World) (events : List EventNo) → HaveStates f events w new → post_at new ≡ post_at w
-states-posts f w new events h =
-    let each : (q : Key) → post_at new q ≡ post_at w q = λ q.
-    (λ i. post_of (h.live q i) (h.entries q i)) ∙ post-kept f (is_reached events (instance_at w q)) (is_live w q) (entry_at w q) in
-    λ i q. each q i
+states-posts f w new events h = grind (arith, nat_tests, post_of, post-kept)
 
 pub states-others : (f : Own → Own) (hw : Hardware) (w new : World) (events : List EventNo) (cpu : CpuNo) → HaveStates f events w new → cpu.0 < 8 → reaches (stage_of w) events cpu ≡ false
     → IsUntouched hw w new cpu

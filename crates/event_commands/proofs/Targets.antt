@@ -1,12 +1,12 @@
 -- The slots that a command names, as they are told.
-use Rattle.std.specs.Prelude.{◌≡◌, ◌≤◌, Bool, true, false, not, [], ◌∷◌, All, map, Some, None, option_map, is_some, slice_index_or}
-use Rattle.std.proofs.{Common.{arith, refl, sym, ap, ◌∙◌}, lemmas.Simd.{map-map}}
+use Rattle.std.specs.Prelude.{◌≡◌, ◌≤◌, Bool, true, false, not, [], ◌∷◌, All, map, Some, None, is_some, slice_index_or}
+use Rattle.std.proofs.{Common.{arith, refl, ap, ◌∙◌}, lemmas.Simd.{map-map}}
 use Rattle.perf_base.specs.declared.numbers.{EventNo.{EventNo}, Key.{Key}}
 use Rattle.perf_base.specs.declared.reasons.Reason.TheVariants as reason
-use Rattle.stage_spec.specs.{Commands.{closed_refusal, slots_of, targets}, Hardware.{Hardware}, Refusals.{first_of}}
+use Rattle.stage_spec.specs.{Commands.{closed_refusal, targets}, Hardware.{Hardware}, Refusals.{first_of}}
 use Rattle.stage_laws.proofs.Counts.{count-append}
-use Rattle.world_spec.specs.Value.{World, is_live, entry_at, instance_at, family_of, is_key, times}
-use Rattle.world_spec.specs.{Kept.{in_option, is_member_of, leads, once_if, post_at, IsKept}, StageOf.{stage_of, group_at}}
+use Rattle.world_spec.specs.Value.{World, is_live, entry_at, instance_at, family_of}
+use Rattle.world_spec.specs.{Kept.{once_if, IsKept}, StageOf.{stage_of}}
 use Rattle.world_spec.proofs.{Copies.{times-at}, Families.{open-is, group-is, group-members}, Keys.{is_key-same, once-true, times-cons}}
 use Rattle.world_spec.proofs.Moving.{leads-parts}
 use Rattle.event_commands.proofs.Named.{in-family}
@@ -20,10 +20,7 @@ open-some hw w e k h some = ap (λ b. first_of ((reason.NoEvent, not b) ∷ []))
 
 -- the original of an open event is an instance in its slot
 pub original-in : (hw : Hardware) (w : World) (e : EventNo) (k : Key) → IsKept hw w → (family_of w e).original ≡ Some k → (is_live w k ≡ true) × ((instance_at w k).event ≡ e)
-original-in hw w e k h some =
-    let here : times k (in_option (family_of w e).original) ≡ 1 = ap (λ o. times k (in_option o)) some ∙ omega (arith, times-cons k k [], once-true (is_key k k) (is_key-same k k refl)) in
-    let parts = in-family hw w e k h (omega (arith, here, count-append (is_key k) (in_option (family_of w e).original) (family_of w e).copies)) in
-    (parts.0, λ i. record { 0 = parts.1 i })
+original-in hw w e k h some = grind (arith, times-cons, once-true, is_key-same, in-family, count-append)
 
 -- the members of a leader's group live
 once-both : (b : Bool) → 1 ≤ once_if b → b ≡ true
@@ -33,8 +30,7 @@ once-both false h = absurd (omega (arith, h))
 pub members-live : (hw : Hardware) (w : World) (leader : Key) → IsKept hw w → All (λ k. is_live w k ≡ true) (entry_at w leader).members
 members-live hw w leader h i d low =
     let k : Key = slice_index_or (entry_at w leader).members i d in
-    (leads-parts (is_live w k) (is_key leader (entry_at w k).leader)
-    (once-both (is_member_of (post_at w) leader k) (omega (arith, times-at (entry_at w leader).members i d low, h.linked.members k leader)))).0
+    grind (arith, leads-parts, k, once-both, times-at, times-at (entry_at w leader).members i d low, h.linked.members k leader)
 
 -- what is told of the slots
 pub one-slot : (hw : Hardware) (w : World) (e : EventNo) (k : Key) → IsKept hw w → (family_of w e).original ≡ Some k → map (λ q. (instance_at w q).event) (k ∷ []) ≡ targets (stage_of w) e false
@@ -42,8 +38,4 @@ one-slot hw w e k h some = ap (λ x. x ∷ []) (original-in hw w e k h some).1
 
 pub group-slots : (hw : Hardware) (w : World) (e : EventNo) (k : Key) → IsKept hw w → (family_of w e).original ≡ Some k
     → map (λ q. (instance_at w q).event) (entry_at w (entry_at w k).leader).members ≡ targets (stage_of w) e true
-group-slots hw w e k h some =
-    let m : Key = (entry_at w k).leader in
-    let lead : leads (post_at w) m ≡ true = h.grouped.led k (original-in hw w e k h some).0 in
-    sym (ap slots_of (group-is hw w e h ∙ ap (option_map (λ q. group_at w (entry_at w q).leader)) some)
-    ∙ (ap (map (λ i. i.event)) (group-members hw w m h lead) ∙ map-map (λ i. i.event) (instance_at w) (entry_at w m).members))
+group-slots hw w e k h some = grind (arith, original-in, group-is, group-members, map-map)

@@ -1,13 +1,13 @@
 -- What an open that is not refused gives of the leader's group and of the new event, by the keys of a world.
-use Rattle.std.specs.Prelude.{◌≡◌, ◌≢◌, ◌≤◌, ◌==◌, Bool, true, false, List, [], ◌∷◌, ◌++◌, length, map, Option, Some, None, slice_index_or}
-use Rattle.std.{specs.List.{AllPairs}, proofs.{Common.{arith, refl, sym, ap, subst, ◌∙◌, inl, inr}, lemmas.Bool.{cases_Bool, false≢true}}}
+use Rattle.std.specs.Prelude.{◌≡◌, ◌≢◌, ◌≤◌, Bool, true, false, List, [], ◌∷◌, ◌++◌, length, map, Option, Some, None, slice_index_or}
+use Rattle.std.{specs.List.{AllPairs}, proofs.{Common.{arith, refl, sym, ap, subst, ◌∙◌}, lemmas.Bool.{false≢true}}}
 use Rattle.std.proofs.lemmas.List.{get_or-map, length-map, Quantifiers.{all_pairs_push}}
 use Rattle.perf_base.specs.declared.{attr.Attr.{Attr}, numbers.{EventNo.{EventNo}, Key.{Key}}}
 use Rattle.stage_spec.specs.{declared.instance.Instance.{Instance}, Opening.{is_used, group_led, group_with, new_original}}
 use Rattle.stage_spec.specs.Stage.{Group, members_of, place_of}
 use Rattle.counter_match.specs.Seating.{AreDistinct}
 use Rattle.world_spec.specs.{Value.{World, is_live, entry_at, instance_at, times}, StageOf.{stage_of}}
-use Rattle.world_spec.{specs.Kept.{post_at, once_if, is_member_of, is_original_in}, proofs.{Coming.{three, number_true}, Copies.{times-at}}}
+use Rattle.world_spec.{specs.Kept.{post_at, once_if, is_member_of}, proofs.{Coming.{three, number_true}, Copies.{times-at}}}
 use Rattle.perf_world.specs.Seen.{IsWorld}
 use Rattle.event_open.specs.{Demanded.{demanded, demanded_with}, Opened.{keys_led, members_led, members_with}}
 use Rattle.event_open.proofs.{Demanding.{demanded-distinct, demanded-push, pairs-mapped, pairs-of_keys}, Leaders.{member-lives}}
@@ -33,14 +33,7 @@ pub slot-free : (w : World) (e : EventNo) → IsWorld w → is_used (stage_of w)
 slot-free w e h unused j live slot =
     let used : (k : Key) → is_live w k ≡ true → (instance_at w k).copy ≡ false → (instance_at w k).event.0 ≡ e.0 → ⊥ = λ k lives first there.
     false≢true (sym unused ∙ (ap (λ n. is_used (stage_of w) (record { 0 = n })) (sym there) ∙ h.lawful.used k lives first)) in
-    elim (cases_Bool (instance_at w j).copy) [
-      | inl copy ↦
-          let o : (i : Key) × (is_original_in (post_at w) (instance_at w j).event.0 i ≡ true) × _ = h.apart.original j live copy in
-          let parts : (is_live w o.0 ≡ true) × (((instance_at w o.0).event.0 == (instance_at w j).event.0) ≡ true) × ((instance_at w o.0).copy ≡ false) =
-          three (is_live w o.0) ((instance_at w o.0).event.0 == (instance_at w j).event.0) (instance_at w o.0).copy o.1 in
-          used o.0 parts.0 parts.2 (number_true (instance_at w o.0).event.0 (instance_at w j).event.0 parts.1 ∙ slot)
-      | inr first ↦ used j live first slot
-    ]
+    grind (arith, three, used, number_true)
 
 -- so a group asks for counters for different slots, also with the new event
 apart-with : (w : World) (e : EventNo) (a : Attr) (m : Key) → IsWorld w → is_used (stage_of w) e ≡ false
@@ -74,7 +67,4 @@ members-with (Some g) i = refl
 
 pub demands-whole : (w : World) (e : EventNo) (a : Attr) (leader : Option EventNo) (xs : List Instance) → members_led (group_led (stage_of w) leader) ≡ xs
     → demanded_with w.hardware xs e a.kind ≡ demanded w.hardware (members_with (stage_of w) e a leader)
-demands-whole w e a leader xs is =
-    let new : Instance = new_original (stage_of w) e a in
-    sym (demanded-push w.hardware xs new)
-    ∙ ap (demanded w.hardware) (ap (λ ys. ys ++ new ∷ []) (sym is) ∙ sym (members-with (group_led (stage_of w) leader) new))
+demands-whole w e a leader xs is = grind (arith, demanded-push, members-with)

@@ -1,6 +1,6 @@
 -- What groups ask for: lists of demands that grow, and their slots, of which no two are one.
-use Rattle.std.specs.Prelude.{◌≡◌, ◌≢◌, ℕ, ◌+◌, ◌≤◌, IsTrue, Bool, true, false, not, cond, All, List, [], ◌∷◌, ◌++◌, length, map, filter, slice_index, slice_index_or, if◌then◌else◌}
-use Rattle.std.{specs.List.{AllPairs}, proofs.{Common.{arith, refl, sym, ap, subst, ◌∙◌, inl, inr}, Math.Nat.{pow-le-pow_right}}}
+use Rattle.std.specs.Prelude.{◌≡◌, ◌≢◌, ℕ, ◌+◌, ◌≤◌, IsTrue, Bool, true, false, not, cond, All, List, [], ◌∷◌, ◌++◌, length, map, filter, slice_index_or, if◌then◌else◌}
+use Rattle.std.{specs.List.{AllPairs}, proofs.{Common.{arith, refl, sym, ap, subst, ◌∙◌}, Math.Nat.{pow-le-pow_right}}}
 use Rattle.std.proofs.lemmas.{Bool.{cases_lt, false≢true, true≢false}, List.{length-map, map-append, get_or-map, get_or_past}}
 use Rattle.std.proofs.lemmas.List.{Elements.{filter-append}, Kept.{AllPairs-filter, AllPairs-cons}, Sums.{length-filter, count_by-le-length}}
 use Rattle.perf_base.specs.{Masks.{IsMask}, Scripts.{IsKind}, declared.{attr.Kind.{Kind}, numbers.{EventNo.{EventNo}, Key.{Key}}}}
@@ -23,8 +23,7 @@ pub demanded-one : (hw : Hardware) (i : Instance) → demanded hw (i ∷ []) ≡
 demanded-one hw i = one-masked hw i (is_software i.attr.kind)
 
 pub demanded-append : (hw : Hardware) (xs ys : List Instance) → demanded hw (xs ++ ys) ≡ demanded hw xs ++ demanded hw ys
-demanded-append hw xs ys =
-    ap (with_masks hw) (filter-append is_hardware xs ys) ∙ map-append (masked hw) (filter is_hardware xs) (filter is_hardware ys)
+demanded-append hw xs ys = grind (arith, filter-append, map-append)
 
 pub demanded-push : (hw : Hardware) (xs : List Instance) (i : Instance) → demanded hw (xs ++ i ∷ []) ≡ demanded hw xs ++ demanded_by hw i.event i.attr.kind
 demanded-push hw xs i = demanded-append hw xs (i ∷ []) ∙ ap (λ ys. demanded hw xs ++ ys) (demanded-one hw i)
@@ -44,10 +43,7 @@ kinds-cond hw false k kinds = refl
 
 pub masks-by_kinds : (hw : Hardware) (xs : List Instance) → masks_of (demanded hw xs) ≡ map (mask_of hw) (filter (λ k. not (is_software k)) (map (λ i. i.attr.kind) xs))
 masks-by_kinds hw [] = refl
-masks-by_kinds hw (i ∷ xs) =
-    masks-cond hw (is_hardware i) i (filter is_hardware xs)
-    ∙ (ap (λ masks. cond (is_hardware i) (mask_of hw i.attr.kind ∷ masks) masks) (masks-by_kinds hw xs)
-    ∙ sym (kinds-cond hw (is_hardware i) i.attr.kind (filter (λ k. not (is_software k)) (map (λ i. i.attr.kind) xs))))
+masks-by_kinds hw (i ∷ xs) = grind (arith, masks-cond, kinds-cond, masks-by_kinds hw xs)
 
 -- pairs of a list that is mapped, and of a list of keys by what keys name
 pub pairs-mapped : {X Y : Type 0} (R : Y → Y → Type 0) (f : X → Y) (xs : List X) → AllPairs (λ x y. R (f x) (f y)) xs → AllPairs R (map f xs)
@@ -79,13 +75,7 @@ demanded-distinct hw xs h =
 
 -- the mask of a hardware kind that has one names some of 16 counters
 pub hard-mask : (hw : Hardware) (k : Kind) → IsHardware hw → IsKind (length hw.kind_pmus) k → (mask_of hw k ≡ 0 → IsTrue (is_software k)) → is_software k ≡ false → IsMask 16 (mask_of hw k)
-hard-mask hw (kind.Hard n) sound there some hard = elim (cases_lt n (length hw.masks)) [
-  | inl low ↦
-      let mask : IsMask (slice_index hw.counters (slice_index hw.kind_pmus n)) (slice_index hw.masks n) = sound.masks n low in
-      let few : slice_index hw.counters (slice_index hw.kind_pmus n) ≤ 16 = (sound.kind_pmus n 0 there).2 in
-      (mask.0, omega (arith, mask.1, pow-le-pow_right {n = 2} (omega arith) few))
-  | inr past ↦ absurd (false≢true (some (get_or_past hw.masks n 0 past)))
-]
+hard-mask hw (kind.Hard n) sound there some hard = grind (arith, cases_lt, pow-le-pow_right, false≢true, get_or_past)
 hard-mask hw kind.ContextSwitches sound there some hard = absurd (true≢false hard)
 hard-mask hw kind.CpuMigrations sound there some hard = absurd (true≢false hard)
 hard-mask hw kind.TaskClock sound there some hard = absurd (true≢false hard)

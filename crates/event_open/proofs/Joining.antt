@@ -1,5 +1,5 @@
 -- That a world may take the new event of an open that is not refused, and what stage it is of then.
-use Rattle.std.specs.Prelude.{◌≡◌, ℕ, zero, suc, ◌+◌, ◌^◌, ◌<◌, ◌≤◌, ◌==◌, nat_lt, Bool, true, false, not, ◌&&◌, IsTrue, List, [], ◌∷◌, ◌++◌, length, map, filter, Option, Some, None, option_map, slice_index_or}
+use Rattle.std.specs.Prelude.{◌≡◌, ℕ, zero, suc, ◌+◌, ◌^◌, ◌<◌, ◌≤◌, Bool, true, false, not, ◌&&◌, IsTrue, List, [], ◌∷◌, ◌++◌, length, map, filter, Option, Some, None, slice_index_or}
 use Rattle.std.{specs.List.{list_any}, proofs.Common.{arith, refl, sym, ap, subst, ◌∙◌}}
 use Rattle.std.proofs.lemmas.Bool.{false≢true, true≢false, and_parts, or_parts, not-false, Decides.{nat_tests}}
 use Rattle.std.proofs.lemmas.{List.{get_or-map, length-map, map-append, Quantifiers.{all_pairs_push}}, Simd.{map-map}}
@@ -25,9 +25,7 @@ use Rattle.event_open.proofs.Refusing.{none-holds, first-free}
 place-by : (n : ℕ) (task : TaskSel) (cpu : CpuSel) → n ≤ 8 → IsTaskSel task → IsCpuSel n cpu → place_of (context_by task cpu) < 72
 place-by n (tasks.One task) cpu few t c = omega (arith, t)
 place-by n tasks.All cpus.Any few t c = omega arith
-place-by n tasks.All (cpus.One cpu) few t c =
-    let low : nat_lt cpu.0 8 ≡ true = grind (arith, nat_tests, few, c) in
-    rw low (omega (arith, few, c))
+place-by n tasks.All (cpus.One cpu) few t c = grind (arith, nat_tests)
 
 -- the leader of an open that is not refused
 pub record IsLeader (w : World) (a : Attr) (leader : EventNo) (k : Key) : Type 0 where
@@ -49,8 +47,7 @@ leader-key w e a leader k h fine named =
     let lead : leads (post_at w) k ≡ true = ap (λ live. live && is_key k (entry_at w k).leader) o.live ∙ own in
     let members : members_led (group_of (stage_of w) leader) ≡ map (instance_at w) (entry_at w k).members = led-members w (Some leader) (Some k) (entry_at w k).members h (sym named) lead refl in
     let here : (is_same_task (instance_at w k).attr.task a.task && is_same_cpu (instance_at w k).attr.cpu a.cpu) ≡ true =
-    not-false (is_same_task (instance_at w k).attr.task a.task && is_same_cpu (instance_at w k).attr.cpu a.cpu)
-    (sym (ap (holds_of (λ i. not (is_same_task i.attr.task a.task && is_same_cpu i.attr.cpu a.cpu))) (original-is w.hardware w leader h ∙ ap (option_map (instance_at w)) named)) ∙ fine.here) in
+    grind (arith, nat_tests, not-false, original-is) in
     let both = and_parts (is_same_task (instance_at w k).attr.task a.task) (is_same_cpu (instance_at w k).attr.cpu a.cpu) here in
     record {
       named = named;
@@ -75,10 +72,7 @@ turned-pmu : (p q : Option ℕ) → other_pmu p q ≡ false → other_pmu q p �
 turned-pmu None None h = refl
 turned-pmu None (Some n) h = refl
 turned-pmu (Some m) None h = refl
-turned-pmu (Some m) (Some n) h =
-    let same : n ≡ m = number_true n m (not-false (n == m) h) in
-    let back : (m == n) ≡ true = grind (arith, nat_tests, same) in
-    ap not back
+turned-pmu (Some m) (Some n) h = grind (arith, nat_tests, number_true, not-false)
 
 none-passes : (test : Key → Bool) (keys : List Key) → list_any test keys ≡ false → (n : ℕ) → n < length keys → test (slice_index_or keys n (record { 0 = 0 })) ≡ false
 none-passes test [] h n low = absurd (omega (arith, low))
@@ -87,19 +81,14 @@ none-passes test (k ∷ keys) h (suc n) low = none-passes test keys (or_parts (t
 
 kinds-whole : (w : World) (e : EventNo) (a : Attr) (keys : List Key)
     → map (λ i. i.attr.kind) (map (instance_at w) keys ++ new_original (stage_of w) e a ∷ []) ≡ map (λ k. (post_at w k).kind) keys ++ a.kind ∷ []
-kinds-whole w e a keys =
-    map-append (λ (i : Instance). i.attr.kind) (map (instance_at w) keys) (new_original (stage_of w) e a ∷ []) ∙ ap (λ ks. ks ++ a.kind ∷ []) (map-map (λ (i : Instance). i.attr.kind) (instance_at w) keys)
+kinds-whole w e a keys = grind (arith, nat_tests, map-append, map-map)
 
 fitting-by : (w : World) (kinds : List Kind) (xs : List Instance) → fits (masks_of (demanded w.hardware xs)) ≡ true → map (λ i. i.attr.kind) xs ≡ kinds
     → IsTrue (fits (map (mask_of w.hardware) (filter (λ k. not (is_software k)) kinds)))
-fitting-by w kinds xs fit are =
-    sym (ap fits (masks-by_kinds w.hardware xs ∙ ap (λ ks. map (mask_of w.hardware) (filter (λ k. not (is_software k)) ks)) are)) ∙ fit
+fitting-by w kinds xs fit are = grind (arith, nat_tests, masks-by_kinds)
 
 pub fitting-alone : (w : World) (e : EventNo) (a : Attr) → IsAccepted w.hardware (stage_of w) e a None → AreFitting w.hardware (a.kind ∷ [])
-fitting-alone w e a fine = record {
-  fit = fitting-by w (a.kind ∷ []) (new_original (stage_of w) e a ∷ []) fine.fit refl;
-  one_pmu = λ i j d before low. absurd (omega (arith, before, low));
-}
+fitting-alone w e a fine = grind (arith, nat_tests, fitting-by)
 
 pub fitting-led : (w : World) (e : EventNo) (a : Attr) (leader : EventNo) (k : Key) → IsWorld w → IsAccepted w.hardware (stage_of w) e a (Some leader) → IsLeader w a leader k
     → AreFitting w.hardware (kinds_in (post_at w) k ++ a.kind ∷ [])

@@ -1,13 +1,13 @@
 -- What an open's tests of its leader are by the keys of a world.
-use Rattle.std.specs.Prelude.{◌≡◌, ◌<◌, ◌≤◌, ◌==◌, ◌&&◌, ◌||◌, nat_lt, Bool, true, false, not, All, List, [], ◌∷◌, map, length, Option, Some, None, IfSome, is_some, option_map}
+use Rattle.std.specs.Prelude.{◌≡◌, ◌<◌, ◌≤◌, ◌==◌, ◌||◌, nat_lt, Bool, true, false, not, All, List, [], ◌∷◌, map, length, Option, Some, None, IfSome, is_some, option_map}
 use Rattle.std.{specs.List.{list_any}, proofs.{Common.{arith, refl, sym, ap, ◌∙◌, inl, inr}, lemmas.Bool.{cases_Bool, ltb-true, not-false}}}
 use Rattle.std.proofs.lemmas.{Bool.Decides.{nat_tests}, List.{length-map}}
 use Rattle.perf_base.specs.declared.{attr.Attr.{Attr}, numbers.{EventNo.{EventNo}, Key.{Key}}}
 use Rattle.perf_base.specs.declared.reasons.Reason.TheVariants as reason
-use Rattle.stage_spec.specs.{declared.instance.Instance.{Instance}, Effective.{name_of}, Flags.{is_inherited, is_pinned, is_exclusive}}
-use Rattle.stage_spec.specs.Opening.{is_other_pmu, is_same_flag, leader_is_closed, leader_is_sibling, group_is_of_other_pmu, group_is_full, group_led}
-use Rattle.stage_spec.specs.{Places.{is_same_task, is_same_cpu}, Refusals.{holds_of}}
-use Rattle.stage_spec.specs.Stage.{Group, members_of, group_of, group_size, original_of, place_of}
+use Rattle.stage_spec.specs.{declared.instance.Instance.{Instance}, Effective.{name_of}}
+use Rattle.stage_spec.specs.Opening.{is_other_pmu, leader_is_closed, leader_is_sibling, group_is_of_other_pmu, group_is_full, group_led}
+use Rattle.stage_spec.specs.{Refusals.{holds_of}}
+use Rattle.stage_spec.specs.Stage.{Group, members_of, group_of, group_size, place_of}
 use Rattle.world_spec.specs.{Value.{World, is_live, entry_at, instance_at, family_of, is_key, times}, StageOf.{group_at, stage_of}}
 use Rattle.world_spec.{specs.Kept.{leads, post_at, in_option, is_member_of, is_original_in}, proofs.Coming.{three, number_true}}
 use Rattle.world_spec.proofs.Families.{group-is, open-is, original-is, group-members}
@@ -37,10 +37,7 @@ slot-original w e k h is =
     let same : is_key k k ≡ true = grind (arith, nat_tests) in
     let one : times k (in_option (family_of w e).original) ≡ 1 = ap (λ o. times k (in_option o)) is ∙ omega (arith, times-cons k k [], once-true (is_key k k) same) in
     elim (cases_Bool (is_original_in (post_at w) e.0 k)) [
-      | inl is_it ↦
-          let parts : (is_live w k ≡ true) × (((instance_at w k).event.0 == e.0) ≡ true) × ((instance_at w k).copy ≡ false) =
-          three (is_live w k) ((instance_at w k).event.0 == e.0) (instance_at w k).copy is_it in
-          record { live = parts.0; event = λ i. record { 0 = number_true (instance_at w k).event.0 e.0 parts.1 i }; first = parts.2 }
+      | inl is_it ↦ grind (arith, nat_tests, three, is_it, number_true)
       | inr off ↦ absurd (omega (arith, one, h.linked.originals k e.0, once-false (is_original_in (post_at w) e.0 k) off))
     ]
 
@@ -51,10 +48,7 @@ sibling-is w e k h is =
     let m : Key = (entry_at w k).leader in
     let slot : (instance_at w k).event.0 ≡ e.0 = ap (λ x. x.0) o.event in
     let same : ((instance_at w m).event.0 == e.0) ≡ is_key k m = elim (cases_Bool (is_key k m)) [
-      | inl own ↦
-          let here : (instance_at w m).event.0 ≡ e.0 = ap (λ q. (instance_at w q).event.0) (key-is m k (is_key-true k m own)) ∙ slot in
-          let found : ((instance_at w m).event.0 == e.0) ≡ true = grind (arith, nat_tests, here) in
-          found ∙ sym own
+      | inl own ↦ grind (arith, nat_tests, key-is, is_key-true, own)
       | inr off ↦ elim (cases_Bool ((instance_at w m).event.0 == e.0)) [
         | inl here ↦
             let live : is_live w m ≡ true = (leads-parts (is_live w m) (is_key m (entry_at w m).leader) (h.grouped.led k o.live)).0 in
@@ -68,20 +62,12 @@ sibling-is w e k h is =
 -- so why an event may not join its group
 pub joining-faults : (w : World) (a : Attr) (e : EventNo) (k : Key) → IsWorld w → (family_of w e).original ≡ Some k
     → leader_faults (stage_of w) a (Some e) ≡ (reason.NoEvent, false) ∷ joining_faults w a k
-joining-faults w a e k h is =
-    let closed : leader_is_closed (stage_of w) (Some e) ≡ false = closed-is w e (Some k) h is in
-    let led : original_of (stage_of w) e ≡ Some (instance_at w k) = original-is w.hardware w e h ∙ ap (option_map (instance_at w)) is in
-    λ i. (reason.NoEvent, closed i) ∷ (reason.NotLeader, sibling-is w e k h is i)
-    ∷ (reason.OtherContext, holds_of (λ f. not (is_same_task f.attr.task a.task && is_same_cpu f.attr.cpu a.cpu)) (led i))
-    ∷ (reason.SiblingFlags, is_pinned a || is_exclusive a)
-    ∷ (reason.Inherit, holds_of (λ f. not (is_same_flag (is_inherited f.attr) (is_inherited a))) (led i)) ∷ []
+joining-faults w a e k h is = grind (arith, nat_tests, closed-is, original-is, sibling-is)
 
 -- a member of a group is live, and the leader is its leader
 pub member-lives : (w : World) (m j : Key) → IsWorld w → 1 ≤ times j (entry_at w m).members → (is_live w j ≡ true) × ((entry_at w j).leader ≡ m)
 member-lives w m j h some = elim (cases_Bool (is_member_of (post_at w) m j)) [
-  | inl is ↦
-      let parts : (is_live w j ≡ true) × (is_key m (entry_at w j).leader ≡ true) = leads-parts (is_live w j) (is_key m (entry_at w j).leader) is in
-      (parts.0, key-is (entry_at w j).leader m (is_key-true m (entry_at w j).leader parts.1))
+  | inl is ↦ grind (arith, nat_tests, leads-parts, is, key-is, is_key-true)
   | inr off ↦ absurd (omega (arith, some, h.linked.members j m, once-false (is_member_of (post_at w) m j) off))
 ]
 

@@ -1,7 +1,7 @@
 -- What an open leaves of the processors that do not have the new event's context.
 use Rattle.std.specs.Prelude.{◌≡◌, ◌+◌, ◌<◌, ◌≤◌, ◌↔◌, ◌&&◌, true, false, List, [], ◌∷◌, ◌++◌, length, map, filter, flat_map, Option, Some, None}
 use Rattle.std.{specs.Option.{unwrap_or}, proofs.Common.{arith, refl, sym, ap, subst, ◌∙◌, inl, inr}}
-use Rattle.std.proofs.lemmas.Bool.{cases_eq, cases_Bool, false≢true}
+use Rattle.std.proofs.lemmas.Bool.{cases_eq, false≢true}
 use Rattle.perf_base.specs.declared.{attr.Attr.{Attr}, numbers.{CpuNo.{CpuNo}, EventNo.{EventNo}, Key.{Key}, TaskNo.{TaskNo}}}
 use Rattle.perf_base.specs.{declared.standing.Context.{Context}, Contexts.{context_of}}
 use Rattle.perf_base.specs.declared.standing.Context.TheVariants as context
@@ -23,8 +23,7 @@ use Rattle.event_open.{specs.Opened.{opened_as}, proofs.Joining.{led-by, may-com
 open-alone : (s : Stage) (e : EventNo) (a : Attr) (cpu : CpuNo) → length s.contexts ≡ 72 → has_context s cpu (context_of a) ≡ false → ReachesSame s (opened s e a None) cpu
 unfolding opened
 open-alone s e a cpu size away =
-    let h : ReachesSame s (change_context (context_of a) (add_group (is_pinned a) (alone (new_original s e a))) s) cpu =
-    context-changed (context_of a) (add_group (is_pinned a) (alone (new_original s e a))) s cpu size away in
+    let h : ReachesSame s (change_context (context_of a) (add_group (is_pinned a) (alone (new_original s e a))) s) cpu = search (context-changed) in
     record { running = h.running; own = h.own; task = h.task }
 
 -- and where it joins a group, which is none of the processor's
@@ -48,8 +47,7 @@ groups-stay : (w : World) (k : Key) (n : Newcomer) (first : Key) (cpu : CpuNo) �
 groups-stay w k n first cpu h dead away q some =
     let live : is_live w q ≡ true = (leads-parts (is_live w q) (is_key q (entry_at w q).leader) (reached-leading w.hardware w h cpu q some)).0 in
     let apart : q.0 ≡ k.0 → ⊥ = λ same. false≢true (sym dead ∙ (ap (is_live w) (sym (key-is q k same)) ∙ live)) in
-    let off : q.0 ≡ first.0 → ⊥ = λ same.
-    false≢true (sym away ∙ (ap (λ x. has_context (stage_of w) cpu (entry_at w x).context) (sym (key-is q first same)) ∙ reached-context w.hardware w h cpu q some)) in
+    let off : q.0 ≡ first.0 → ⊥ = grind (arith, false≢true, key-is, reached-context) in
     group-other w k n (Some first) h.linked dead q apart (joined-members w k n first q apart off)
 
 passes-joined : (w : World) (k : Key) (n : Newcomer) (first : Key) (cpu : CpuNo) → IsWorld w → is_live w k ≡ false → has_context (stage_of w) cpu (entry_at w first).context ≡ false
@@ -63,9 +61,7 @@ passes-joined w k n first cpu h dead away =
 passes-stay : (w : World) (e : EventNo) (a : Attr) (leader : Option EventNo) (k : Key) (cpu : CpuNo) → IsWorld w → MayAdd w (opened_as w e a leader)
     → open_refusal w.hardware (stage_of w) e a leader ≡ None → is_live w k ≡ false → has_context (stage_of w) cpu (context_of a) ≡ false
     → passes (stage_of (add k (opened_as w e a leader) w)) cpu ≡ passes (stage_of w) cpu
-passes-stay w e a None k cpu h may free fresh away =
-    ap (λ s. passes s cpu) (stage-opened w e a None k h may free fresh)
-    ∙ passes-same (stage_of w) (opened (stage_of w) e a None) cpu (open-alone (stage_of w) e a cpu h.shape.contexts away)
+passes-stay w e a None k cpu h may free fresh away = search (stage-opened, passes-same, open-alone)
 passes-stay w e a (Some leader) k cpu h may free fresh away =
     let led = led-by w e a leader (family_of w leader).original h (accepted w.hardware (stage_of w) e a (Some leader) free) refl in
     let n : Newcomer = opened_as w e a (Some leader) in
@@ -105,9 +101,7 @@ others-stay w e a leader k cpu h may free fresh low away =
       briefs = ap (map (λ pass. map (brief_of w.hardware) (filter (is_eligible w.hardware cpu) pass))) (passes-stay w e a leader k cpu h may free fresh away);
       seats = seats-stay w k n n.leader cpu;
       groups = λ j lead has. elim (cases_eq j.0 k.0) [
-        | inl same ↦
-            let there : (entry_at after j).context ≡ context_of a = ap (λ x. (entry_at after x).context) (key-is j k same) ∙ come.context in
-            absurd (false≢true (sym away ∙ (sym (has-stays w k n n.leader cpu (context_of a)) ∙ (ap (has_context (stage_of after) cpu) (sym there) ∙ has))))
+        | inl same ↦ grind (arith, key-is, same, false≢true, has-stays)
         | inr apart ↦ (
           sym (ap (λ p. p.live && is_key j p.leader) (comes.others j apart)) ∙ lead,
           sym (has-stays w k n n.leader cpu (entry_at w j).context) ∙ (ap (has_context (stage_of after) cpu) (sym (come.others.contexts j apart)) ∙ has),
@@ -136,7 +130,4 @@ is-opened w after e a leader k h may free fresh is =
 -- a processor that is not among those with a context does not have it
 pub not-among : (w : World) (cpu : CpuNo) (c d : Context) (R : Type 0) → (R ↔ ((cpu.0 < length w.quiet.running) × (has_context (stage_of w) cpu c ≡ true))) → c ≡ d
     → cpu.0 < length w.quiet.running → (R → ⊥) → has_context (stage_of w) cpu d ≡ false
-not-among w cpu c d R there same low out = elim (cases_Bool (has_context (stage_of w) cpu d)) [
-  | inr off ↦ off
-  | inl has ↦ absurd (out (there.1 (low, ap (has_context (stage_of w) cpu) same ∙ has)))
-]
+not-among w cpu c d R there same low out = grind arith

@@ -1,6 +1,6 @@
 -- The set of the processors that have a context, as far as they were looked at.
-use Rattle.std.specs.{Prelude.{◌≡◌, ◌≢◌, ℕ, ◌+◌, ◌^◌, ◌<◌, ◌↔◌, ◌&&◌, nat_lt, Bool, true, false, bit_or, if◌then◌else◌}, Int.{bit_at}}
-use Rattle.std.proofs.{Common.{arith, refl, sym, ap, ◌∙◌, inl, inr}, lemmas.Bool.{cases_eq, Decides.{nat_tests}}}
+use Rattle.std.specs.{Prelude.{◌≡◌, ◌≢◌, ℕ, ◌+◌, ◌^◌, ◌&&◌, nat_lt, Bool, true, false, bit_or, if◌then◌else◌}, Int.{bit_at}}
+use Rattle.std.proofs.{Common.{arith, refl, ◌∙◌}, lemmas.Bool.{Decides.{nat_tests}}}
 use Rattle.std.proofs.lemmas.Nat.Bits.{bit_at_or, bit_at-pow_same, bit_at-pow_other}
 use Rattle.perf_base.specs.{declared.{numbers.{CpuNo.{CpuNo}, CpuSet.{CpuSet}}, standing.Context.{Context}}}
 use Rattle.stage_spec.specs.Stage.{Stage}
@@ -23,14 +23,4 @@ bit-other false x n m apart = refl
 
 pub more-those : (s : Stage) (c : Context) (n : ℕ) (set now : CpuSet) (b : Bool) → AreThose s c n set → b ≡ has_context s (record { 0 = n }) c
     → now.0 ≡ (if b then bit_or set.0 (2 ^ n) else set.0) → AreThose s c (n + 1) now
-more-those s c n set now b h has is cpu = elim (cases_eq cpu.0 n) [
-  | inl same ↦
-      let far : nat_lt cpu.0 n ≡ false = grind (arith, nat_tests, same) in
-      let near : nat_lt cpu.0 (n + 1) ≡ true = grind (arith, nat_tests, same) in
-      let before : bit_at set.0 n ≡ 0 = ap (bit_at set.0) (sym same) ∙ (h cpu ∙ ap (λ t. as_bit (t && has_context s cpu c)) far) in
-      ap (bit_at now.0) same ∙ (ap (λ x. bit_at x n) is ∙ (bit-same b set.0 n before ∙ (ap as_bit has
-      ∙ (ap (λ m. as_bit (has_context s (record { 0 = m }) c)) (sym same) ∙ sym (ap (λ t. as_bit (t && has_context s cpu c)) near)))))
-  | inr apart ↦
-      let lasts : nat_lt cpu.0 (n + 1) ≡ nat_lt cpu.0 n = grind (arith, nat_tests, apart) in
-      ap (λ x. bit_at x cpu.0) is ∙ (bit-other b set.0 n cpu.0 apart ∙ (h cpu ∙ sym (ap (λ t. as_bit (t && has_context s cpu c)) lasts)))
-]
+more-those s c n set now b h has is cpu = grind (arith, nat_tests, bit-same, bit-other)

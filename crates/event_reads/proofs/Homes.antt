@@ -23,8 +23,7 @@ has-stood w k cpu (context.Task task) stand live at there = stand.machine cpu (r
 -- of the groups that pass a test those of an id are at most as many as the leaders of that id
 led-by : (w : World) (id : ℕ) (keys : List Key) → count_by (is_led id) (map (group_at w) keys) ≡ count_by (λ q. (instance_at w q).id == id) keys
 led-by w id [] = refl
-led-by w id (q ∷ keys) =
-    omega (arith, count-cons (is_led id) (group_at w q) (map (group_at w) keys), count-cons (λ k. (instance_at w k).id == id) q keys, led-by w id keys)
+led-by w id (q ∷ keys) = search (count-cons, is_led, led-by w id keys)
 
 led-among : (w : World) (id : ℕ) (test : Group → Bool) (ps : List (List Key))
     → count_by (is_led id) (flat_map (λ p. p) (map (filter test) (map (map (group_at w)) ps))) ≤ count_by (λ q. (instance_at w q).id == id) (flat_map (λ keys. keys) ps)

@@ -12,9 +12,7 @@ sums-are a b p q r = λ i. record { count = p i; enabled = q i; running = r i }
 -- what an original and its copies have counted
 with-original : (s : Key → Sums) (o : Option Key) (k : Key) (copies : List Key) (folded : Sums) → o ≡ Some k
     → plus (s k) (plus (plus_keys s copies) folded) ≡ plus (plus_keys s (in_option o ++ copies)) folded
-with-original s o k copies folded is =
-    sums-are (plus (s k) (plus (plus_keys s copies) folded)) (plus (plus (s k) (plus_keys s copies)) folded) (omega arith) (omega arith) (omega arith)
-    ∙ ap (λ x. plus (plus_keys s (in_option x ++ copies)) folded) (sym is)
+with-original s o k copies folded is = grind (arith, sums-are)
 
 copies-enabled : (s : Key → Sums) (o : Option Key) (copies : List Key) (folded : Sums)
     → (plus (plus_keys s copies) folded).enabled ≤ (plus (plus_keys s (in_option o ++ copies)) folded).enabled

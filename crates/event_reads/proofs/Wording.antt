@@ -5,8 +5,8 @@ use Rattle.std.proofs.lemmas.List.Folds.{flat_map-map}
 use Rattle.perf_base.specs.declared.{numbers.{EventNo.{EventNo}, Key.{Key}}, reasons.Reason.{Reason}, reply.Sums.{Sums}}
 use Rattle.perf_base.specs.declared.reasons.Reason.TheVariants as reason
 use Rattle.stage_spec.specs.{declared.instance.Instance.{Instance}, Effective.{state_in}, Hardware.{Hardware}}
-use Rattle.stage_spec.specs.Reading.{asked, times_of, marks_of, has_format, is_error, word_count, read_refusal, read_words, read_words_of, words_by, words_in, words_of_group, words_of_member, words_unless_error}
-use Rattle.stage_spec.specs.{Refusals.{first_of, holds_of}, Stage.{Stage, Group, group_of, members_of, original_of}}
+use Rattle.stage_spec.specs.Reading.{times_of, marks_of, is_error, word_count, read_refusal, read_words, read_words_of, words_by, words_in, words_of_group, words_of_member, words_unless_error}
+use Rattle.stage_spec.specs.{Refusals.{first_of, holds_of}, Stage.{Stage, Group, group_of, original_of}}
 use Rattle.world_spec.specs.{Kept.{IsKept, is_member_of, leads, post_at}, StageOf.{group_at, stage_of}}
 use Rattle.world_spec.{specs.Value.{World, entry_at, instance_at, is_live, family_of}, proofs.{Copies.{times-at}, Families.{group-members}}}
 use Rattle.world_spec.proofs.Keys.{once-false}
@@ -16,19 +16,12 @@ use Rattle.event_reads.{specs.Counted.{sums_in, lost_in, words_of_key}, proofs.O
 pub group-words : (hw : Hardware) (w : World) (format : ℕ) (leader : Key) → IsKept hw w → leads (post_at w) leader ≡ true
     → length (entry_at w leader).members ∷ times_of format (sums_in w (instance_at w leader).event) ++ flat_map (words_of_key format w) (entry_at w leader).members
     ≡ words_of_group format (sums_in w) (lost_in w) (group_at w leader)
-group-words hw w format leader h lead =
-    let keys : List Key = (entry_at w leader).members in
-    let words : List Instance → List ℕ = λ is. length is ∷ times_of format (sums_in w (instance_at w leader).event) ++ flat_map (λ i. words_of_member format (sums_in w i.event) i.id (lost_in w i.event)) is in
-    (λ i. sym (length-map keys (instance_at w)) i ∷ times_of format (sums_in w (instance_at w leader).event)
-    ++ sym (flat_map-map (λ x. words_of_member format (sums_in w x.event) x.id (lost_in w x.event)) (instance_at w) keys) i)
-    ∙ ap words (sym (group-members hw w leader h lead))
+group-words hw w format leader h lead = grind (arith, length-map, flat_map-map, group-members)
 
 -- the words as they are added
 pub joined-words : (format : ℕ) (f : Key → List ℕ) (keys all : List Key) (sums leads : Sums) (none first timed last : List ℕ) → none ≡ [] → first ≡ none ++ length keys ∷ []
     → timed ≡ first ++ times_of format sums → last ≡ timed ++ flat_map f keys → keys ≡ all → sums ≡ leads → last ≡ length all ∷ times_of format leads ++ flat_map f all
-joined-words format f keys all sums leads none first timed last a b c d same has =
-    d ∙ (ap (λ words. words ++ flat_map f keys) (c ∙ ap (λ words. words ++ times_of format sums) (b ∙ ap (λ words. words ++ length keys ∷ []) a))
-    ∙ (λ i. length (same i) ∷ times_of format (has i) ++ flat_map f (same i)))
+joined-words format f keys all sums leads none first timed last a b c d same has = grind arith
 
 -- the members are there
 pub members-live : (hw : Hardware) (w : World) (leader : Key) → IsKept hw w → All (λ k. is_live w k ≡ true) (entry_at w leader).members
@@ -47,15 +40,10 @@ asked-by true v u = refl
 asked-by false v u = refl
 
 many-times : (format : ℕ) (s t : Sums) → length (times_of format s) ≡ length (times_of format t)
-many-times format s t =
-    length-append (asked 1 format s.enabled) (asked 2 format s.running)
-    ∙ ((λ i. asked-by (has_format 1 format) s.enabled t.enabled i + asked-by (has_format 2 format) s.running t.running i)
-    ∙ sym (length-append (asked 1 format t.enabled) (asked 2 format t.running)))
+many-times format s t = grind (arith, length-append, asked-by)
 
 many-marks : (format id lost other : ℕ) → length (marks_of format id lost) ≡ length (marks_of format id other)
-many-marks format id lost other =
-    length-append (asked 4 format id) (asked 16 format lost)
-    ∙ (ap (λ n. length (asked 4 format id) + n) (asked-by (has_format 16 format) lost other) ∙ sym (length-append (asked 4 format id) (asked 16 format other)))
+many-marks format id lost other = grind (arith, length-append, asked-by)
 
 many-members : (format : ℕ) (sums other : EventNo → Sums) (lost less : EventNo → ℕ) (is : List Instance)
     → length (flat_map (λ i. words_of_member format (sums i.event) i.id (lost i.event)) is) ≡ length (flat_map (λ i. words_of_member format (other i.event) i.id (less i.event)) is)
@@ -66,22 +54,15 @@ many-members format sums other lost less (x ∷ is) =
     ∙ sym (length-append (words_of_member format (other x.event) x.id (less x.event)) (flat_map (λ i. words_of_member format (other i.event) i.id (less i.event)) is)))
 
 many-by : (b : Bool) (sums other : EventNo → Sums) (lost less : EventNo → ℕ) (g : Group) (i : Instance) → length (words_by b sums lost g i) ≡ length (words_by b other less g i)
-many-by true sums other lost less g i =
-    ap suc (length-append (times_of i.attr.format (sums g.leader.event)) (flat_map (λ x. words_of_member i.attr.format (sums x.event) x.id (lost x.event)) (members_of g))
-    ∙ ((λ j. many-times i.attr.format (sums g.leader.event) (other g.leader.event) j + many-members i.attr.format sums other lost less (members_of g) j)
-    ∙ sym (length-append (times_of i.attr.format (other g.leader.event)) (flat_map (λ x. words_of_member i.attr.format (other x.event) x.id (less x.event)) (members_of g)))))
-many-by false sums other lost less g i =
-    ap suc (length-append (times_of i.attr.format (sums i.event)) (marks_of i.attr.format i.id (lost i.event))
-    ∙ ((λ j. many-times i.attr.format (sums i.event) (other i.event) j + many-marks i.attr.format i.id (lost i.event) (less i.event) j)
-    ∙ sym (length-append (times_of i.attr.format (other i.event)) (marks_of i.attr.format i.id (less i.event)))))
+many-by true sums other lost less g i = grind (arith, length-append, many-times, many-members)
+many-by false sums other lost less g i = grind (arith, length-append, many-times, many-marks)
 
 many-unless : (b : Bool) (xs ys : List ℕ) → length xs ≡ length ys → length (words_unless_error b xs) ≡ length (words_unless_error b ys)
 many-unless true xs ys e = refl
 many-unless false xs ys e = e
 
 many-of : (sums other : EventNo → Sums) (lost less : EventNo → ℕ) (g : Option Group) (i : Option Instance) → length (read_words_of sums lost g i) ≡ length (read_words_of other less g i)
-many-of sums other lost less (Some g) (Some i) =
-    many-unless (is_error (state_in g i)) (words_in sums lost g i) (words_in other less g i) (many-by (has_format 8 i.attr.format) sums other lost less g i)
+many-of sums other lost less (Some g) (Some i) = grind (arith, many-unless, many-by)
 many-of sums other lost less (Some g) None = refl
 many-of sums other lost less None i = refl
 
@@ -99,9 +80,7 @@ read-opened hw w e k h is = sym ((λ i. read_words_of (sums_in w) (lost_in w) (g
 pub read-by : (hw : Hardware) (w : World) (e : EventNo) (k leader : Key) (words : List ℕ) → IsKept hw w → (family_of w e).original ≡ Some k → leader ≡ (entry_at w k).leader
     → words ≡ words_unless_error (is_error (state_in (group_at w leader) (instance_at w k))) (words_in (sums_in w) (lost_in w) (group_at w leader) (instance_at w k))
     → words ≡ read_words (sums_in w) (lost_in w) (stage_of w) e
-read-by hw w e k leader words h is mine are =
-    are ∙ (ap (λ j. words_unless_error (is_error (state_in (group_at w j) (instance_at w k))) (words_in (sums_in w) (lost_in w) (group_at w j) (instance_at w k))) mine
-    ∙ read-opened hw w e k h is)
+read-by hw w e k leader words h is mine are = grind (arith, read-opened)
 
 abbrev pub refusal_by : (opened short : Bool) → Option Reason
 refusal_by opened short = first_of ((reason.NoEvent, not opened) ∷ (reason.NoSpace, short) ∷ [])
@@ -111,9 +90,7 @@ refuses-unopened hw w e size h is = ap (λ b. refusal_by b (holds_of (λ n. nat_
 
 refuses-short : (hw : Hardware) (w : World) (e : EventNo) (k : Key) (size : Option ℕ) (words : List ℕ) → IsKept hw w → (family_of w e).original ≡ Some k
     → words ≡ read_words (sums_in w) (lost_in w) (stage_of w) e → read_refusal (stage_of w) e size ≡ refusal_by true (holds_of (λ n. nat_lt n (8 * length words)) size)
-refuses-short hw w e k size words h is are =
-    (λ i. refusal_by (is-open hw w e (Some k) h is i)
-    (holds_of (λ n. nat_lt n (8 * (sym (many-words (sums_in w) (lost_in w) (stage_of w) e) ∙ ap length (sym are)) i)) size))
+refuses-short hw w e k size words h is are = grind (arith, is-open, many-words)
 
 pub refuses-by : (hw : Hardware) (w : World) (e : EventNo) (k leader : Key) (size : Option ℕ) (words : List ℕ) (short b : Bool) → IsKept hw w → (family_of w e).original ≡ Some k
     → leader ≡ (entry_at w k).leader

@@ -1,12 +1,12 @@
 -- Copies by their families and contexts, and sums by keys.
-use Rattle.std.specs.Prelude.{◌≡◌, ℕ, ◌+◌, ◌≤◌, ◌==◌, Bool, true, false, ◌&&◌, cond, List, [], ◌∷◌, filter, Some}
+use Rattle.std.specs.Prelude.{◌≡◌, ℕ, ◌≤◌, ◌==◌, Bool, true, false, ◌&&◌, cond, List, [], ◌∷◌, filter, Some}
 use Rattle.std.proofs.{Common.{arith, refl, sym, ap, ◌∙◌}, lemmas.Bool.{false≢true, Decides.{nat_tests}}}
 use Rattle.perf_base.specs.declared.{numbers.{EventNo.{EventNo}, Key.{Key}, TaskNo.{TaskNo}}, reply.Sums.{Sums}, standing.Context.{Context}}
 use Rattle.perf_base.specs.declared.standing.Context.TheVariants as context
 use Rattle.stage_spec.specs.{Families.{plus}, Hardware.{Hardware}}
 use Rattle.stage_laws.proofs.Totals.{total, total-nil, total-cons}
 use Rattle.world_spec.specs.Value.{World, is_live, entry_at, instance_at, family_of, is_key, times}
-use Rattle.world_spec.{specs.Kept.{post_at, once_if, is_copy_in, plus_keys, IsKept}, proofs.Accounts.{IsSum, counts_are_sums, times_are_sums}}
+use Rattle.world_spec.{specs.Kept.{once_if, plus_keys, IsKept}, proofs.Accounts.{IsSum, counts_are_sums, times_are_sums}}
 use Rattle.world_spec.proofs.{Counting.{times-filter, AreSameKeys, same-total}, Folding.{run_times_are_sums}}
 use Rattle.world_spec.proofs.Keys.{is_key-same, times-cons, once-true}
 use Rattle.exit_fold.specs.Leaving.{is_of_task, leaves, leaving_copies}
@@ -24,9 +24,7 @@ three-parts false b c h = absurd (cc)
 
 pub copy-there : (hw : Hardware) (w : World) (k : Key) (e : EventNo) → IsKept hw w → 1 ≤ times k (family_of w e).copies
     → (is_live w k ≡ true) × (((instance_at w k).event.0 == e.0) ≡ true) × ((instance_at w k).copy ≡ true)
-copy-there hw w k e h some =
-    three-parts (is_live w k) ((instance_at w k).event.0 == e.0) (instance_at w k).copy
-    (once-some (is_copy_in (post_at w) e.0 k) (omega (arith, some, h.linked.copies k e.0)))
+copy-there hw w k e h some = grind (arith, nat_tests, three-parts, once-some, some, h.linked.copies k e.0)
 
 -- the context of a task
 pub same-number : (m n : ℕ) → (m == n) ≡ true → m ≡ n
@@ -101,8 +99,4 @@ same-sums s xs ys h =
     }
 
 pub plus-turned : (a b : Sums) → plus a b ≡ plus b a
-plus-turned a b =
-    let count : a.count + b.count ≡ b.count + a.count = omega arith in
-    let enabled : a.enabled + b.enabled ≡ b.enabled + a.enabled = omega arith in
-    let running : a.running + b.running ≡ b.running + a.running = omega arith in
-    λ i. record { count = count i; enabled = enabled i; running = running i }
+plus-turned a b = grind (arith, nat_tests)

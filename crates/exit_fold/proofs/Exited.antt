@@ -1,7 +1,7 @@
 -- An exit after the copies were folded: the task has exited, its processor is idle, and other processors stand as they
 -- stood.
-use Rattle.std.specs.Prelude.{◌≡◌, ◌≢◌, ◌<◌, ◌==◌, true, false, ◌&&◌, Some, None, slice_index_or}
-use Rattle.std.proofs.{Common.{arith, refl, sym, ap, subst, ◌∙◌, inl, inr}, lemmas.Bool.{cases_Bool, cases_lt, false≢true}}
+use Rattle.std.specs.Prelude.{◌≡◌, ◌≢◌, ◌<◌, true, false, ◌&&◌, Some, None, slice_index_or}
+use Rattle.std.proofs.{Common.{arith, refl, sym, ap, subst, ◌∙◌, inl, inr}, lemmas.Bool.{cases_lt, false≢true}}
 use Rattle.std.proofs.lemmas.List.{get_or-set_other, get_or_past}
 use Rattle.perf_base.specs.declared.{numbers.{CpuNo.{CpuNo}, TaskNo.{TaskNo}}, standing.Context.{Context}}
 use Rattle.perf_base.specs.declared.standing.Context.TheVariants as context
@@ -52,10 +52,7 @@ has-same s t cpu (context.Task task) same = ap (λ o. is_task o task) same
 
 elsewhere : (s : Stage) (cpu other : CpuNo) (task : TaskNo) (c : Context) → AreRunning s → task_on s cpu ≡ Some task → other.0 ≢ cpu.0 → has_context s other c ≡ true → is_of_task task c ≡ false
 elsewhere s cpu other task (context.Processor own) running on apart has = refl
-elsewhere s cpu other task (context.Task here) running on apart has = elim (cases_Bool (here.0 == task.0)) [
-  | inl same ↦ absurd (tasks-apart s cpu other task running apart on here (is_task-some (task_on s other) here has) (same-number here.0 task.0 same))
-  | inr off ↦ off
-]
+elsewhere s cpu other task (context.Task here) running on apart has = grind (arith, tasks-apart, is_task-some, same-number)
 
 left-there : (hw : Hardware) (v w : World) (cpu other : CpuNo) (task : TaskNo) → IsKept hw v → task_on (stage_of v) cpu ≡ Some task → IsFolded task v w → other.0 < 8 → other.0 ≢ cpu.0
     → IsUntouched hw v (end_task task (place cpu None w)) other
@@ -70,10 +67,8 @@ left-there hw v w cpu other task h on f low apart =
       seats = ap (λ q. slice_index_or q.seats other.0 (empty_seating 0)) f.quiet;
       groups = λ k lead has.
           let live : is_live w k ≡ true = (leads-parts (is_live w k) (is_key k (entry_at w k).leader) lead).0 in
-          let has_before : has_context (stage_of v) other (entry_at v k).context ≡ true =
-          ap (has_context (stage_of v) other) (sym (f.gone.contexts k live)) ∙ (sym (has-same (stage_of v) (stage_of x) other (entry_at w k).context runs) ∙ has) in
-          let same : (post_at w k ≡ post_at v k) × (standing_at w k ≡ standing_at v k) =
-          f.away k (elsewhere (stage_of v) cpu other task (entry_at v k).context h.running on apart has_before) in
+          let has_before : has_context (stage_of v) other (entry_at v k).context ≡ true = grind (arith, has-same) in
+          let same : (post_at w k ≡ post_at v k) × (standing_at w k ≡ standing_at v k) = grind (arith, elsewhere) in
           (ap (λ p. p.live && is_key k p.leader) (sym same.0) ∙ lead, has_before, ap (λ p. p.id) same.0, same.1);
     })
 

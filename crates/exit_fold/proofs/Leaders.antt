@@ -1,5 +1,5 @@
 -- The leaders of a task's groups while copies among them go.
-use Rattle.std.specs.Prelude.{◌≡◌, ℕ, zero, suc, ◌+◌, ◌-◌, ◌<◌, ◌≤◌, ◌==◌, Bool, true, false, not, ◌&&◌, List, [], ◌∷◌, ◌++◌, length, map, flat_map, slice_get, Option, Some, None, slice_index_or, slice_set, if◌then◌else◌}
+use Rattle.std.specs.Prelude.{◌≡◌, ℕ, zero, suc, ◌+◌, ◌-◌, ◌<◌, ◌≤◌, ◌==◌, Bool, true, false, not, ◌&&◌, List, [], ◌∷◌, ◌++◌, length, map, flat_map, slice_get, Option, Some, None, if◌then◌else◌}
 use Rattle.std.proofs.{Common.{arith, refl, sym, ap, subst, ◌∙◌, inl, inr, get_or-set_same}, lemmas.Bool.{cases_eq, cases_Bool, false≢true}}
 use Rattle.std.proofs.lemmas.{Bool.Decides.{nat_tests}, List.{append_assoc, length-append, length-map, map-append, Elements.{filter-append}}}
 use Rattle.std.proofs.{lemmas.Option.{slice_get_within}, Math.ListN.{get_or-map}}
@@ -63,18 +63,13 @@ front-stays q [] ys p i h once low = absurd (cc)
 front-stays q (x ∷ xs) ys zero i h once low = absurd (omega (arith, low))
 front-stays q (x ∷ xs) ys (suc p) zero h once low = ap (λ ks. slice_get (ks ++ ys) 0) (all_but-cons q x xs false (not-first q x xs p h once))
 front-stays q (x ∷ xs) ys (suc p) (suc i) h once low =
-    ap (λ ks. slice_get (ks ++ ys) (suc i)) (all_but-cons q x xs false (not-first q x xs p h once))
-    ∙ front-stays q xs ys p i h (omega (arith, once, times-cons q x xs)) (omega (arith, low))
+    grind (arith, all_but-cons, not-first, times-cons, front-stays q xs ys p i h (omega (arith, once, times-cons q x xs)) (omega (arith, low)))
 
 -- the lists after a leader went
 both-after : (pinned : Bool) (q : Key) (siblings : List Key) (l : Leaders) → (pinned ≡ true → times q l.flexible ≡ 0) → (pinned ≡ false → times q l.pinned ≡ 0)
     → leaders_both (disband pinned q siblings l) ≡ all_but q (leaders_both l) ++ siblings
-both-after true q siblings l flexible pinned =
-    sym (ap (λ ks. ks ++ siblings) (filter-append (λ j. not (is_key q j)) l.pinned l.flexible ∙ ap (λ ks. all_but q l.pinned ++ ks) (all_but-none q l.flexible (flexible refl)))
-    ∙ append_assoc (all_but q l.pinned) l.flexible siblings)
-both-after false q siblings l flexible pinned =
-    sym (ap (λ ks. ks ++ siblings) (filter-append (λ j. not (is_key q j)) l.pinned l.flexible ∙ ap (λ ks. ks ++ all_but q l.flexible) (all_but-none q l.pinned (pinned refl)))
-    ∙ append_assoc l.pinned (all_but q l.flexible) siblings)
+both-after true q siblings l flexible pinned = grind (arith, nat_tests, filter-append, all_but-none, append_assoc)
+both-after false q siblings l flexible pinned = grind (arith, nat_tests, filter-append, all_but-none, append_assoc)
 
 not-flexible : (a b : Bool) → once_if (a && b && false) ≡ 0
 not-flexible true true = refl
@@ -83,9 +78,7 @@ not-flexible false b = refl
 
 led-leaders : (w : World) (q : Key) (c : Context) → (entry_at w q).context ≡ c → place_of c < length w.contexts
     → leaders_of (led_world w q (entries_freed w q) (standings_freed w q)) c ≡ disband (entry_at w q).pinned q (after_first (entry_at w q).members) (leaders_of w c)
-led-leaders w q c same low =
-    (λ i. slice_index_or (slice_set w.contexts (place_of (same i)) (disband (entry_at w q).pinned q (after_first (entry_at w q).members) (leaders_of w (same i)))) (place_of c) no_leaders)
-    ∙ get_or-set_same w.contexts (place_of c) (disband (entry_at w q).pinned q (after_first (entry_at w q).members) (leaders_of w c)) no_leaders low
+led-leaders w q c same low = grind (arith, nat_tests, disband, get_or-set_same)
 
 pub leaders-then : (hw : Hardware) (w : World) (task : TaskNo) (q : Key) → IsKept hw w → task.0 < 64 → IsNext w task q
     → leaders_in (folded_away q w) task ≡ all_but q (leaders_in w task) ++ after_first (entry_at w q).members
@@ -93,8 +86,7 @@ leaders-then hw w task q h low x =
     let c : Context = context.Task task in
     let own : is_key q (entry_at w q).leader ≡ true = (leads-parts (is_live w q) (is_key q (entry_at w q).leader) x.lead).1 in
     let lists : leaders_of (folded_away q w) c ≡ disband (entry_at w q).pinned q (after_first (entry_at w q).members) (leaders_of w c) =
-    ap (λ y. leaders_of y c) (folded-is w q) ∙ (ap (λ y. leaders_of y c) (dropped-leader w q own)
-    ∙ led-leaders w q c (of-task-is task (entry_at w q).context x.there) (omega (arith, low, h.shape.contexts, length-map w.contexts (lists_at w)))) in
+    grind (arith, nat_tests, folded-is, dropped-leader, led-leaders, of-task-is, length-map) in
     ap leaders_both lists
     ∙ both-after (entry_at w q).pinned q (after_first (entry_at w q).members) (leaders_of w c)
     (λ pinned. h.linked.flexible q (place_of c) ∙ (ap (λ b. once_if (leads (post_at w) q && place_of (entry_at w q).context == place_of c && (if b then false else not false))) pinned
@@ -106,8 +98,7 @@ leaders-then hw w task q h low x =
 pub stands-at : (hw : Hardware) (w : World) (task : TaskNo) (q : Key) (place : ℕ) → IsKept hw w → slice_get (leaders_in w task) place ≡ Some q
     → (leads (post_at w) q && place_of (entry_at w q).context == 8 + task.0) ≡ true
 stands-at hw w task q place h at =
-    once-some (leads (post_at w) q && place_of (entry_at w q).context == 8 + task.0)
-    (omega (arith, key-at q (leaders_in w task) place at, leaders-at hw w h q (8 + task.0)))
+    grind (arith, nat_tests, once-some, key-at, leaders-at, key-at q (leaders_in w task) place at, leaders-at hw w h q (8 + task.0))
 
 pub is-next : (hw : Hardware) (w : World) (task : TaskNo) (q : Key) (place : ℕ) → IsKept hw w → task.0 < 64 → slice_get (leaders_in w task) place ≡ Some q → (instance_at w q).copy ≡ true → IsNext w task q
 is-next hw w task q place h low at copy =
@@ -125,9 +116,7 @@ pub walked-original : (hw : Hardware) (task : TaskNo) (v w : World) (q : Key) (p
 walked-original hw task v w q passed f at original = record {
   folding = f.folding;
   originals = λ i m low found. elim (cases_eq i passed) [
-    | inl is ↦
-        let same : q ≡ m = some-same q m (sym at ∙ (ap (slice_get (leaders_in w task)) (sym is) ∙ found)) in
-        ap (λ k. (instance_at w k).copy) (sym same) ∙ original
+    | inl is ↦ grind (arith, nat_tests, some-same, is)
     | inr off ↦ f.originals i m (omega (arith, low, off)) found
   ];
 }
@@ -263,10 +252,7 @@ less-by hw task w q passed false h low at copy = omega (arith, long-enough hw w 
 pub less-then : (hw : Hardware) (task : TaskNo) (w t : World) (q : Key) (passed next : ℕ) → IsKept hw w → task.0 < 64 → slice_get (leaders_in w task) passed ≡ Some q
     → t ≡ fold_copy (instance_at w q).copy q w → next ≡ (if (instance_at w q).copy then passed else passed + 1)
     → length (keys_in t (context.Task task)) - next < length (keys_in w (context.Task task)) - passed
-less-then hw task w t q passed next h low at world is =
-    subst (λ (y : World). length (keys_in y (context.Task task)) - next < length (keys_in w (context.Task task)) - passed) (sym world)
-    (subst (λ n. length (keys_in (fold_copy (instance_at w q).copy q w) (context.Task task)) - n < length (keys_in w (context.Task task)) - passed) (sym is)
-    (less-by hw task w q passed (instance_at w q).copy h low at refl))
+less-then hw task w t q passed next h low at world is = grind (arith, nat_tests, less-by)
 
 pub leader-live : (hw : Hardware) (w : World) (task : TaskNo) (q : Key) (place : ℕ) → IsKept hw w → slice_get (leaders_in w task) place ≡ Some q → is_live w q ≡ true
 leader-live hw w task q place h at =

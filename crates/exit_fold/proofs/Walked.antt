@@ -7,7 +7,7 @@ use Rattle.perf_base.specs.declared.standing.Context.{Context}
 use Rattle.perf_base.specs.declared.standing.Context.TheVariants as context
 use Rattle.stage_spec.{specs.{Families.{plus}, Hardware.{Hardware}, Shares.{no_sums}, Stage.{place_of}}, proofs.Recurrence.{plus-assoc, plus-none}}
 use Rattle.stage_laws.{specs.OneByOne.{drop_one, drop_ones}, proofs.Others.{cpu-task_apart}}
-use Rattle.world_spec.specs.Value.{World, no_leaders, is_live, entry_at, instance_at, account_at, standing_at, leaders_of, family_of, is_key, times}
+use Rattle.world_spec.specs.Value.{World, is_live, entry_at, instance_at, account_at, standing_at, leaders_of, family_of, is_key, times}
 use Rattle.world_spec.specs.{StageOf.{stage_of}, Kept.{post_at, leads, once_if, is_member_of, plus_keys, family_sums, IsKept}}
 use Rattle.world_spec.{specs.{Adding.{drop_instance, folded_away}, Changes.{all_but}, Staying.{HasGone}}, proofs.Counting.{times-filter, AreSameKeys}}
 use Rattle.world_spec.proofs.{Disbanding.{Disbands}, Folding.{fold-stage, fold-sums, fold-kept, folded-is}}
@@ -99,10 +99,7 @@ and-yes true = refl
 and-yes false = refl
 
 live-then : (w t : World) (q k : Key) → HasGone w t q → is_live t k ≡ (is_live w k && not (is_key q k))
-live-then w t q k g = elim (cases_eq k.0 q.0) [
-  | inl is ↦ ap (is_live t) (key-is k q is) ∙ (g.dead ∙ sym (ap (λ b. is_live w k && not b) (is_key-same q k is) ∙ and-no (is_live w k)))
-  | inr off ↦ g.others.live k off ∙ sym (ap (λ b. is_live w k && not b) (is_key-other q k off) ∙ and-yes (is_live w k))
-]
+live-then w t q k g = grind (arith, nat_tests, key-is, is_key-same, and-no, is_key-other, and-yes)
 
 live-but : (w t : World) (q : Key) (keys : List Key) → HasGone w t q → filter (is_live t) keys ≡ all_but q (filter (is_live w) keys)
 live-but w t q keys g = filter-within (is_live t) (λ k. is_live w k && not (is_key q k)) keys (λ k some. live-then w t q k g) ∙ sym (filter-twice (is_live w) (λ k. not (is_key q k)) keys)
@@ -186,8 +183,7 @@ folded-then hw task v w q e h f x =
           ∙ (plus-assoc before (sums_gone v w e) (account_at v q).sums ∙ ap (plus before) (gone-sums hw v w t q e live g one)))
       | inr off ↦
           let none : times q (family_of v e).copies ≡ 0 = absent hw v q e h (λ is. off (is ∙ sym (ap (λ y. y.0) same))) in
-          let apart : (k : Key) → 1 ≤ times k (family_of v e).copies → k.0 ≡ q.0 → ⊥ = λ k some is.
-          omega (arith, some, none, ap (λ j. times j (family_of v e).copies) (key-is k q is)) in
+          let apart : (k : Key) → 1 ≤ times k (family_of v e).copies → k.0 ≡ q.0 → ⊥ = grind (arith, nat_tests, key-is) in
           g.folded e.0 off ∙ (f.folded e
           ∙ ap (λ ks. plus before (plus_keys (λ k. (account_at v k).sums) ks))
           (filter-within (λ k. not (is_live w k)) (λ k. not (is_live t k)) (family_of v e).copies (λ k some. ap not (sym (g.others.live k (apart k some))))))
@@ -198,16 +194,8 @@ disbands : (hw : Hardware) (w : World) (task : TaskNo) (q : Key) → IsKept hw w
 disbands hw w task q h x =
     let own : is_key q (entry_at w q).leader ≡ true = (leads-parts (is_live w q) (is_key q (entry_at w q).leader) x.lead).1 in
     let dropped : Disbands (post_at w) (post_at (drop_instance q w)) q =
-    subst (λ y. Disbands (post_at w) (post_at y) q) (sym (dropped-leader w q own))
-    (led-disbands w q (entries_freed w q) (standings_freed w q) x.lead (tables-freed hw w q h x.lead)) in
-    subst (λ y. Disbands (post_at w) (post_at y) q) (sym (folded-is w q)) (record {
-      live = dropped.live;
-      own = dropped.own;
-      gone = dropped.gone;
-      none = dropped.none;
-      freed = dropped.freed;
-      others = dropped.others;
-    })
+    search (nat_tests, Disbands, dropped-leader, led-disbands, entries_freed, standings_freed, tables-freed) in
+    grind (arith, nat_tests, Disbands, folded-is, own)
 
 alike-then : (hw : Hardware) (task : TaskNo) (v w : World) (q j : Key) → AreFolding hw task v w → IsNext w task q → is_live (folded_away q w) j ≡ true
     → is_of_task task (entry_at (folded_away q w) j).context ≡ true → (j.0 ≡ q.0 → ⊥)
@@ -233,8 +221,7 @@ original-apart hw task v w q j f x original = elim (cases_Bool (is_member_of (po
   | inl is ↦
       let parts : (is_live w j ≡ true) × (is_key q (entry_at w j).leader ≡ true) = leads-parts (is_live w j) (is_key q (entry_at w j).leader) is in
       let leader : (entry_at w j).leader ≡ q = key-is (entry_at w j).leader q (is_key-true q (entry_at w j).leader parts.1) in
-      let on : is_of_task task (entry_at w j).context ≡ true =
-      ap (is_of_task task) (sym (f.kept.grouped.together j parts.0) ∙ ap (λ m. (entry_at w m).context) leader) ∙ x.there in
+      let on : is_of_task task (entry_at w j).context ≡ true = grind (arith, nat_tests) in
       absurd (false≢true (sym original ∙ (sym (f.alike j parts.0 on) ∙ (ap (λ m. (instance_at w m).copy) leader ∙ x.copy))))
   | inr off ↦ off
 ]
@@ -260,12 +247,7 @@ task-apart cpu task (context.Task other) there low = λ same. omega (arith, low,
 
 own-lists : (hw : Hardware) (w : World) (task : TaskNo) (q : Key) (cpu : CpuNo) → IsKept hw w → IsNext w task q
     → leaders_of (folded_away q w) (context.Processor cpu) ≡ leaders_of w (context.Processor cpu)
-own-lists hw w task q cpu h x =
-    let c : Context = (entry_at w q).context in
-    let own : is_key q (entry_at w q).leader ≡ true = (leads-parts (is_live w q) (is_key q (entry_at w q).leader) x.lead).1 in
-    ap (λ y. leaders_of y (context.Processor cpu)) (folded-is w q)
-    ∙ (ap (λ y. leaders_of y (context.Processor cpu)) (dropped-leader w q own)
-    ∙ get_or-set_other w.contexts (place_of c) (place_of (context.Processor cpu)) _ no_leaders (task-apart cpu task c x.there (h.numbered.places q (next-live w task q x))))
+own-lists hw w task q cpu h x = grind (arith, nat_tests, leads-parts, folded-is, dropped-leader, get_or-set_other, task-apart, next-live)
 
 -- one copy more
 pub folding-more : (hw : Hardware) (task : TaskNo) (v w : World) (q : Key) → IsKept hw v → AreFolding hw task v w → IsNext w task q → AreFolding hw task v (folded_away q w)

@@ -1,6 +1,6 @@
 -- Where no copy is left in a task's context, all have gone that go with it, and the stage is without them.
 use Rattle.std.specs.Prelude.{◌≡◌, ℕ, ◌+◌, ◌<◌, ◌≤◌, ◌==◌, Bool, true, false, not, ◌&&◌, cond, List, map, filter, count_by, Some, slice_index_or}
-use Rattle.std.proofs.{Common.{arith, refl, sym, ap, ◌∙◌, inl, inr}, lemmas.Bool.{cases_Bool, false≢true, Decides.{nat_tests}}}
+use Rattle.std.proofs.{Common.{arith, refl, sym, ap, ◌∙◌}, lemmas.Bool.{false≢true, Decides.{nat_tests}}}
 use Rattle.perf_base.specs.declared.{numbers.{EventNo.{EventNo}, Key.{Key}, TaskNo.{TaskNo}}, standing.Context.{Context}}
 use Rattle.perf_base.specs.declared.standing.Context.TheVariants as context
 use Rattle.stage_spec.specs.{Families.{plus}, Hardware.{Hardware}, Shares.{no_sums}, Stage.{is_copy}, Verdict.{instances_in}}
@@ -18,28 +18,13 @@ AreNone task w = (k : Key) → is_live w k ≡ true → is_of_task task (entry_a
 
 -- so those are there that do not go
 stays : (hw : Hardware) (task : TaskNo) (v w : World) (k : Key) → AreFolding hw task v w → AreNone task w → is_live w k ≡ true → leaves v (Some task) k ≡ false
-stays hw task v w k f none live = elim (cases_Bool (leaves v (Some task) k)) [
-  | inr off ↦ off
-  | inl goes ↦
-      let parts : ((instance_at v k).copy ≡ true) × (is_of_task task (entry_at v k).context ≡ true) = leads-parts (instance_at v k).copy (is_of_task task (entry_at v k).context) goes in
-      let original : (instance_at w k).copy ≡ false = none k live (ap (is_of_task task) (f.contexts k live) ∙ parts.1) in
-      absurd (false≢true (sym original ∙ (ap (λ i. i.copy) (f.instances k live) ∙ parts.0)))
-]
+stays hw task v w k f none live = grind (arith, nat_tests, leads-parts, false≢true)
 
 is-left : (hw : Hardware) (task : TaskNo) (v w : World) (k : Key) → AreFolding hw task v w → AreNone task w → is_live v k ≡ true → is_live w k ≡ not (leaves v (Some task) k)
-is-left hw task v w k f none there = elim (cases_Bool (is_live w k)) [
-  | inl live ↦ live ∙ ap not (sym (stays hw task v w k f none live))
-  | inr dead ↦ dead ∙ ap not (sym (f.gone k there dead))
-]
+is-left hw task v w k f none there = grind (arith, nat_tests, stays)
 
 live-left : (hw : Hardware) (task : TaskNo) (v w : World) (k : Key) → AreFolding hw task v w → AreNone task w → is_live w k ≡ (is_live v k && not (leaves v (Some task) k))
-live-left hw task v w k f none = elim (cases_Bool (is_live v k)) [
-  | inl there ↦ is-left hw task v w k f none there ∙ ap (λ b. b && not (leaves v (Some task) k)) (sym there)
-  | inr never ↦ elim (cases_Bool (is_live w k)) [
-    | inl live ↦ absurd (false≢true (sym never ∙ f.live k live))
-    | inr dead ↦ dead ∙ ap (λ b. b && not (leaves v (Some task) k)) (sym never)
-  ]
-]
+live-left hw task v w k f none = grind (arith, nat_tests, is-left, false≢true)
 
 not-not : (b : Bool) → not (not b) ≡ b
 not-not true = refl
@@ -47,10 +32,7 @@ not-not false = refl
 
 -- what stays is in the group that it was in, which stands where it stood
 group-stays : (hw : Hardware) (task : TaskNo) (v w : World) (k : Key) → AreFolding hw task v w → AreNone task w → is_live w k ≡ true → (post_at w k ≡ post_at v k) × (standing_at w k ≡ standing_at v k)
-group-stays hw task v w k f none live = elim (cases_Bool (is_of_task task (entry_at v k).context)) [
-  | inl on ↦ f.originals k live (none k live (ap (is_of_task task) (f.contexts k live) ∙ on))
-  | inr off ↦ f.away k off
-]
+group-stays hw task v w k f none live = grind (arith, nat_tests)
 
 have-gone : (hw : Hardware) (task : TaskNo) (v w : World) → IsKept hw v → AreFolding hw task v w → AreNone task w → HaveGone v w (Some task)
 have-gone hw task v w h f none =

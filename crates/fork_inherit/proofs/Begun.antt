@@ -1,15 +1,15 @@
 -- A group whose leader was copied, and how its copies grow.
 use Rattle.std.specs.Prelude.{◌≡◌, ℕ, zero, suc, take, drop, ◌+◌, ◌<◌, ◌≤◌, Bool, true, false, ◌&&◌, List, [], ◌∷◌, ◌++◌, length, map, Some, None, slice_index_or}
-use Rattle.std.{specs.Option.{unwrap_or}, proofs.{Common.{arith, refl, sym, ap, subst, ◌∙◌, get_or-set_same}, lemmas.Bool.{false≢true}}}
+use Rattle.std.{proofs.{Common.{arith, refl, sym, ap, subst, ◌∙◌, get_or-set_same}, lemmas.Bool.{false≢true}}}
 use Rattle.std.proofs.lemmas.List.{length-map, length-append, map-append, take_more}
 use Rattle.perf_base.specs.declared.{attr.Kind.{Kind}, numbers.{Key.{Key}, TaskNo.{TaskNo}}}
 use Rattle.perf_base.specs.declared.standing.Context.TheVariants as context
-use Rattle.stage_spec.specs.{declared.instance.Instance.{Instance}, Flags.{is_pinned}, Forks.{copied_state}, Stage.{place_of}}
+use Rattle.stage_spec.specs.{declared.instance.Instance.{Instance}, Forks.{copied_state}, Stage.{place_of}}
 use Rattle.stage_laws.proofs.{Counts.{count-append}, Tasks.{some-same}}
 use Rattle.world_spec.specs.{Adding.{Newcomer, new_entry, add}, Changes.{in_list}, Comings.{HasRoom}}
 use Rattle.world_spec.specs.{Copying.{leaders_in, LeadsLast, FollowsParent, copy_from, copy_comes}, Kept.{post_at, leads, kinds_in, IsKept}}
 use Rattle.world_spec.specs.{Staying.{HasCome}, StageOf.{after_first, lists_at}}
-use Rattle.world_spec.specs.Value.{World, Entry, Leaders, no_entry, no_leaders, leaders_of, is_live, entry_at, instance_at, is_key, times}
+use Rattle.world_spec.specs.Value.{World, Entry, Leaders, leaders_of, is_live, entry_at, instance_at, is_key, times}
 use Rattle.world_spec.proofs.{Added.{new-entry_at}, GoneLeaderStage.{map-within}}
 use Rattle.world_spec.proofs.{Keys.{key-is, is_key-same, is_key-other, is_key-true, times-cons, once-true}, Moving.{leads-parts}}
 use Rattle.world_spec.proofs.Tables.{get-here, get-there, entry-here, entry-there, live-written}
@@ -64,8 +64,7 @@ begun child v leader k h may dead =
     let low : place_of (context.Task child) < length v.contexts = omega (arith, may.number, h.shape.contexts, length-map v.contexts (lists_at v)) in
     let pinned : Bool = (entry_at v leader).pinned in
     let listed : leaders_of t (context.Task child) ≡ in_list pinned (λ keys. keys ++ k ∷ []) (leaders_of v (context.Task child)) =
-    get_or-set_same v.contexts (place_of (context.Task child)) (in_list (is_pinned i.attr) (λ keys. keys ++ k ∷ []) (leaders_of v (context.Task child))) no_leaders low
-    ∙ ap (λ b. in_list b (λ keys. keys ++ k ∷ []) (leaders_of v (context.Task child))) may.listed in
+    grind (arith, get_or-set_same) in
     record {
       copied = next-copied child v v [] leader k None (copied-none child v h) parts.0 dead adds
           (parts.1, may.listed ∙ ap (λ q. (entry_at v q).pinned) (sym led)) (λ m is. absurd (cc));
@@ -84,8 +83,7 @@ begun child v leader k h may dead =
 -- the copy of a sibling
 room-there : (child : TaskNo) (v w : World) (leader first : Key) (done : List Key) (q : Key) (rest : List Key) → IsKept v.hardware v → IsBegun child v w leader first done
     → IsNext v leader done q rest → HasRoom w (copy_from w child (instance_at v q) (Some first)) (Some first)
-room-there child v w leader first done q rest h b next =
-    (b.leads, b.home, omega (arith, b.size, ap length next.all, length-append done (q ∷ rest), h.grouped.small leader))
+room-there child v w leader first done q rest h b next = grind (arith, length-append)
 
 pub sibling-may : (child : TaskNo) (v w : World) (leader first : Key) (done : List Key) (q : Key) (rest : List Key) → IsKept v.hardware v → MayCopy child v leader
     → IsBegun child v w leader first done → IsNext v leader done q rest → MayAdd w (copy_from w child (instance_at v q) (Some first))
@@ -117,9 +115,7 @@ next-begun child v w leader first done q rest k h may b next dead =
     let parts : (is_live w first ≡ true) × (is_key first (entry_at w first).leader ≡ true) = leads-parts (is_live w first) (is_key first (entry_at w first).leader) b.leads in
     let far : (j : Key) → is_live w j ≡ true → j.0 ≡ k.0 → ⊥ = λ j live e. false≢true (sym dead ∙ (ap (is_live w) (sym (key-is j k e)) ∙ live)) in
     let grown : Entry = record (entry_at w first) { members = (entry_at w first).members ++ k ∷ [] } in
-    let now : entry_at t first ≡ grown =
-    entry-there u k (own_entry u k i) first (far first parts.0)
-    ∙ ap (λ o. unwrap_or o no_entry) (get-there _ k.0 _ first.0 (far first parts.0) ∙ get-here w.entries first.0 grown first.0 refl) in
+    let now : entry_at t first ≡ grown = grind (arith, entry-there, get-there, get-here) in
     let live : is_live t first ≡ true = live-written u k (own_entry u k i) c.live first ∙ (c.others.live first (far first parts.0) ∙ parts.0) in
     let kinds : (j : Key) → 1 ≤ times j (entry_at w first).members → kind_of t j ≡ kind_of w j = λ j some.
     (let apart : j.0 ≡ k.0 → ⊥ = far j (member-of w first j kept some).live in

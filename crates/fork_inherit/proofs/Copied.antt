@@ -1,13 +1,12 @@
 -- The copies of some instances, one after the other.
 use Rattle.std.specs.Prelude.{◌≡◌, ℕ, ◌+◌, ◌<◌, true, false, List, [], ◌∷◌, ◌++◌, length, map, Option, Some, None, slice_index_or, slice_set}
-use Rattle.std.{specs.Option.{unwrap_or}, proofs.{Common.{arith, refl, sym, ap, subst, ◌∙◌, inl, inr}, lemmas.Bool.{cases_eq, false≢true}}}
+use Rattle.std.{proofs.{Common.{arith, refl, sym, ap, subst, ◌∙◌, inl, inr}, lemmas.Bool.{cases_eq, false≢true}}}
 use Rattle.std.proofs.lemmas.List.{length-append, map-append, get_or-set_same, get_or-set_other, Sums.{fold-append, sum_by-set}}
 use Rattle.perf_base.specs.declared.numbers.{EventNo.{EventNo}, Key.{Key}, TaskNo.{TaskNo}}
-use Rattle.perf_base.specs.declared.standing.Context.TheVariants as context
 use Rattle.perf_base.specs.declared.standing.Standing.TheVariants as standing
 use Rattle.stage_spec.specs.{declared.instance.Instance.{Instance}, Forks.{copied_state, copy_of}, Shares.{no_sums}, Stage.{Stage, place_of}}
 use Rattle.stage_laws.{specs.OneByOne.{Parent, add_instance, add_copies}, proofs.Counts.{count-append}}
-use Rattle.world_spec.specs.Value.{World, Family, no_entry, no_family, no_leaders, is_live, entry_at, instance_at, standing_at, family_of, is_key}
+use Rattle.world_spec.specs.Value.{World, Family, no_family, no_leaders, is_live, entry_at, instance_at, standing_at, family_of, is_key}
 use Rattle.world_spec.specs.{StageOf.{stage_of}, Kept.{copies_in, IsKept}, Adding.{Newcomer, in_family, add}}
 use Rattle.world_spec.{specs.{Copying.{copy_from, copy_comes, FollowsParent}, Staying.{HasCome}}, proofs.Copying.{copy-stage, copy-kept}}
 use Rattle.world_spec.proofs.{Keys.{key-is, is_key-same, times-push, once-true}, Tables.{get-here, get-there, entry-here, entry-there, live-written}}
@@ -25,54 +24,17 @@ record IsBeside (w u : World) (k : Key) (n : Newcomer) (leader : Option Key) : T
   hardware : u.hardware ≡ w.hardware
 
 beside : (w : World) (k : Key) (child : TaskNo) (i : Instance) (leader : Option Key) → IsBeside w (add k (copy_from w child i leader) w) k (copy_from w child i leader) leader
-beside w k child i None = record {
-  entries = λ j apart off. ap (λ o. unwrap_or o no_entry) (get-there w.entries k.0 _ j.0 apart);
-  standings = λ j apart. ap (λ o. unwrap_or o standing.Out) (get-there w.standings k.0 standing.Out j.0 apart);
-  out = ap (λ o. unwrap_or o standing.Out) (get-here w.standings k.0 standing.Out k.0 refl);
-  contexts = λ p apart. get_or-set_other w.contexts (place_of (context.Task child)) p _ no_leaders apart;
-  quiet = refl;
-  families = refl;
-  hardware = refl;
-}
-beside w k child i (Some m) = record {
-  entries = λ j apart off. ap (λ o. unwrap_or o no_entry) (get-there _ k.0 _ j.0 apart ∙ get-there w.entries m.0 _ j.0 (off m refl));
-  standings = λ j apart. ap (λ o. unwrap_or o standing.Out) (get-there w.standings k.0 standing.Out j.0 apart);
-  out = ap (λ o. unwrap_or o standing.Out) (get-here w.standings k.0 standing.Out k.0 refl);
-  contexts = λ p apart. refl;
-  quiet = refl;
-  families = refl;
-  hardware = refl;
-}
+beside w k child i None = grind (arith, get-there, get-here, get_or-set_other)
+beside w k child i (Some m) = search (get-there, get-here)
 
 -- none yet
 pub copied-none : (child : TaskNo) (v : World) → IsKept v.hardware v → AreCopied child v v []
-copied-none child v h = record {
-  kept = h;
-  stage = refl;
-  live = λ k live. live;
-  entries = λ k live. refl;
-  accounts = λ k live. refl;
-  standings = λ k live. refl;
-  fresh = λ k dead live. absurd (false≢true (sym dead ∙ live));
-  contexts = λ p apart. refl;
-  originals = λ e. refl;
-  folded = refl;
-  lost = refl;
-  hardware = refl;
-  quiet = (let n : v.quiet.next_id ≡ v.quiet.next_id + 0 = omega arith in λ i. record v.quiet { next_id = n i });
-  few = omega arith;
-}
+copied-none child v h = grind (arith, false≢true)
 
 -- a copy that joins a family leaves the originals of all
 original-there : (w : World) (k : Key) (event e : EventNo) → event.0 < length w.families
     → (slice_index_or (slice_set w.families event.0 (in_family true k (family_of w event))) e.0 no_family).original ≡ (family_of w e).original
-original-there w k event e low = elim (cases_eq e.0 event.0) [
-  | inl same ↦
-      ap (λ n. (slice_index_or (slice_set w.families event.0 (in_family true k (family_of w event))) n no_family).original) same
-      ∙ (ap (λ (f : Family). f.original) (get_or-set_same w.families event.0 (in_family true k (family_of w event)) no_family low)
-      ∙ ap (λ n. (slice_index_or w.families n no_family).original) (sym same))
-  | inr apart ↦ ap (λ (f : Family). f.original) (get_or-set_other w.families event.0 e.0 (in_family true k (family_of w event)) no_family apart)
-]
+original-there w k event e low = grind (arith, get_or-set_same, get_or-set_other)
 
 -- one more
 pub next-copied : (child : TaskNo) (v w : World) (done : List Key) (q k : Key) (leader : Option Key) → AreCopied child v w done → is_live v q ≡ true → is_live w k ≡ false
@@ -91,8 +53,7 @@ next-copied child v w done q k leader f live_q dead may follows outside =
     let here : entry_at t k ≡ record (entry_at u k) { instance = record (instance_at u k) { own = copied_state i.own } } =
     entry-here u k (record (entry_at u k) { instance = record (instance_at u k) { own = copied_state i.own } }) k refl in
     let lives : (j : Key) → is_live t j ≡ is_live u j = live-written u k (record (entry_at u k) { instance = record (instance_at u k) { own = copied_state i.own } }) c.live in
-    let not_leader : (j : Key) → is_live v j ≡ true → (m : Key) → leader ≡ Some m → j.0 ≡ m.0 → ⊥ =
-    λ j live m is e. false≢true (sym (outside m is) ∙ (ap (is_live v) (sym (key-is j m e)) ∙ live)) in
+    let not_leader : (j : Key) → is_live v j ≡ true → (m : Key) → leader ≡ Some m → j.0 ≡ m.0 → ⊥ = grind (arith, false≢true, key-is) in
     record {
       kept = subst (λ hw. IsKept hw t) f.hardware (copy-kept w.hardware w k child i leader (may-come w k n dead may) may.original may.group h);
       stage =

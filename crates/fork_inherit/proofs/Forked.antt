@@ -1,5 +1,5 @@
 -- What a fork leaves: the stage is the definitions', and processors stand as they stood.
-use Rattle.std.specs.Prelude.{◌≡◌, ◌+◌, ◌^◌, ◌<◌, ◌≤◌, Bool, true, false, ◌&&◌, cond, List, [], ◌∷◌, ◌++◌, length, map, flat_map, slice_index_or, if◌then◌else◌}
+use Rattle.std.specs.Prelude.{◌≡◌, ◌+◌, ◌^◌, ◌<◌, ◌≤◌, Bool, true, false, ◌&&◌, List, [], ◌∷◌, ◌++◌, length, map, flat_map, slice_index_or, if◌then◌else◌}
 use Rattle.std.proofs.{Common.{arith, refl, sym, ap, subst, ◌∙◌, inl, inr}, lemmas.{Bool.{cases_Bool, false≢true}, List.{map-append}, Simd.{map-map}}}
 use Rattle.std.proofs.Math.ListN.{get_or-map}
 use Rattle.perf_base.specs.declared.{numbers.{CpuNo.{CpuNo}, Key.{Key}, TaskNo.{TaskNo}}, standing.Context.{Context}}
@@ -98,13 +98,8 @@ group-parents v b q h lead flag =
 
 one-parents : (v : World) (b wanted : Bool) (q : Key) (gs : List Group) → is_inherited (instance_at v q).attr ≡ wanted → parents_in b (group_at v q) ≡ map (parent_of v) (entry_at v q).members
     → flat_map (parents_in b) (inherited_groups (group_at v q ∷ gs)) ≡ map (parent_of v) (inherited_members v q) ++ flat_map (parents_in b) (inherited_groups gs)
-one-parents v b true q gs is same =
-    ap (λ c. flat_map (parents_in b) (cond c (group_at v q ∷ inherited_groups gs) (inherited_groups gs))) is
-    ∙ ((λ i. same i ++ flat_map (parents_in b) (inherited_groups gs))
-    ∙ ap (λ c. map (parent_of v) (if c then (entry_at v q).members else []) ++ flat_map (parents_in b) (inherited_groups gs)) (sym is))
-one-parents v b false q gs is same =
-    ap (λ c. flat_map (parents_in b) (cond c (group_at v q ∷ inherited_groups gs) (inherited_groups gs))) is
-    ∙ ap (λ c. map (parent_of v) (if c then (entry_at v q).members else []) ++ flat_map (parents_in b) (inherited_groups gs)) (sym is)
+one-parents v b true q gs is same = grind arith
+one-parents v b false q gs is same = grind arith
 
 list-parents : (v : World) (b : Bool) (keys : List Key) → IsKept v.hardware v → AreLeading v keys → ((q : Key) → 1 ≤ times q keys → (entry_at v q).pinned ≡ b)
     → flat_map (parents_in b) (inherited_groups (map (group_at v) keys)) ≡ map (parent_of v) (inherited_keys v keys)
@@ -136,24 +131,7 @@ fork-stage v t x cpu child parent h sound free f is =
 
 -- all that was there stays
 pub has-forked : (v t x : World) (child parent : TaskNo) → AreCopied child v t (both_keys v parent) → x ≡ add_task child t → HasForked child v x
-has-forked v t x child parent f is =
-    subst (HasForked child v) (sym is) (record {
-      live = f.live;
-      entries = f.entries;
-      accounts = f.accounts;
-      standings = f.standings;
-      copies = λ k none live. (f.fresh k none live).copy;
-      places = λ k none live. (f.fresh k none live).context;
-      fresh = λ k none live. (f.fresh k none live).account;
-      out = λ k none live. (f.fresh k none live).standing;
-      ids = λ k none live. (f.fresh k none live).later;
-      drawn = omega (arith, ap (λ q. q.next_id) f.quiet);
-      originals = f.originals;
-      folded = f.folded;
-      lost = f.lost;
-      hardware = f.hardware;
-      quiet = λ i. record (f.quiet i) { tasks = (add_task child t).quiet.tasks; next_id = t.quiet.next_id };
-    })
+has-forked v t x child parent f is = grind arith
 
 -- processors
 has-same : (s t : Stage) (cpu : CpuNo) (c : Context) → task_on t cpu ≡ task_on s cpu → has_context t cpu c ≡ has_context s cpu c

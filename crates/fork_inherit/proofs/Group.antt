@@ -18,8 +18,7 @@ front-masks : (hw : Hardware) (xs ys : List Kind) (taken : List ℕ) → fits_be
 front-masks hw [] ys taken h = fits_beside-none taken
 front-masks hw (x ∷ xs) ys taken h = elim (cases_Bool (is_software x)) [
   | inl soft ↦
-      ap (λ ms. fits_beside ms taken) (masks-cons hw x xs true soft)
-      ∙ front-masks hw xs ys taken (ap (λ ms. fits_beside ms taken) (sym (masks-cons hw x (xs ++ ys) true soft)) ∙ h)
+      grind (arith, masks-cons, soft, front-masks hw xs ys taken (ap (λ ms. fits_beside ms taken) (sym (masks-cons hw x (xs ++ ys) true soft)) ∙ h))
   | inr hard ↦
       ap (λ ms. fits_beside ms taken) (masks-cons hw x xs false hard)
       ∙ fits_beside-others (mask_of hw x) (hardware_masks hw (xs ++ ys)) (hardware_masks hw xs) taken (λ more. front-masks hw xs ys more)
@@ -84,10 +83,7 @@ same-post : (child : TaskNo) (v w : World) (done : List Key) → AreCopied child
 same-post child v w done f j live = λ i. post_of ((f.live j live ∙ sym live) i) (f.entries j live i)
 
 first-live : (at : Key → Post) (slot : ℕ) (j : Key) → is_original_in at slot j ≡ true → (at j).live ≡ true
-first-live at slot j h = elim (cases_Bool (at j).live) [
-  | inl live ↦ live
-  | inr dead ↦ absurd (false≢true (sym (ap (λ b. b && (at j).event.0 == slot && not (at j).copy) dead) ∙ h))
-]
+first-live at slot j h = grind (arith, false≢true)
 
 has-original : (child : TaskNo) (v w : World) (done : List Key) (q : Key) → IsKept v.hardware v → AreCopied child v w done → is_live v q ≡ true → is_of_task (entry_at v q).context ≡ true
     → (j : Key) × (is_original_in (post_at w) (instance_at v q).event.0 j ≡ true) × (is_of_task (entry_at w j).context ≡ true)
@@ -114,8 +110,7 @@ may-add child v w leader done q rest first h may next f room kinds =
     let m : IsMember v leader q = member-of v leader q h (stands v leader done q rest next) in
     let kind : Key → Kind = λ k. (instance_at v k).attr.kind in
     let size : length (entry_at v leader).members ≡ length done + (1 + length rest) = omega (arith, ap length next.all, length-append done (q ∷ rest)) in
-    let fits_all : AreFitting v.hardware (map kind (done ++ q ∷ []) ++ map kind rest) =
-    subst (AreFitting v.hardware) (ap (map kind) (next.all ∙ sym (append_assoc done (q ∷ []) rest)) ∙ map-append kind (done ++ q ∷ []) rest) (h.fitting leader) in
+    let fits_all : AreFitting v.hardware (map kind (done ++ q ∷ []) ++ map kind rest) = grind (arith, append_assoc, map-append) in
     record {
       slot = h.numbered.slots q m.live;
       place = omega (arith, may.number);

@@ -99,11 +99,7 @@ pub inherited-key : (v : World) (leaders : List Key) (y : Key) → IsKept v.hard
 inherited-key v leaders y h some =
     let r : (x : Key) × (1 ≤ times x leaders) × (1 ≤ times y (inherited_members v x)) = in-flat (inherited_members v) y leaders some in
     let m : IsMember v r.0 y = member-of v r.0 y h (of-inherited (is_inherited (instance_at v r.0).attr) y (entry_at v r.0).members r.2) in
-    record {
-      live = m.live;
-      leader = subst (λ x. 1 ≤ times x leaders) (sym m.led) r.1;
-      together = m.together ∙ ap (λ x. (entry_at v x).context) (sym m.led);
-    }
+    grind (arith, nat_tests)
 
 -- the leaders of a list
 pub in-list : (v : World) (parent : TaskNo) (pinned : Bool) → IsKept v.hardware v → (q : Key) → times q (leaders_from v parent pinned) ≡ once_if (leads_in (post_at v) (8 + parent.0) pinned q)
@@ -128,10 +124,7 @@ led-place v parent pinned h q some =
     (middle (leads (post_at v) q) (place_of (entry_at v q).context == 8 + parent.0) (if (entry_at v q).pinned then pinned else not pinned) (omega (arith, some, in-list v parent pinned h q)))
 
 task-by-place : (c : Context) (n : ℕ) → place_of c ≡ 8 + n → n < 64 → is_of_task c ≡ true
-task-by-place (context.Processor cpu) n is low = elim (place-cases cpu) [
-  | inl near ↦ absurd (omega (arith, is, near.0, near.1))
-  | inr far ↦ absurd (omega (arith, is, far, low))
-]
+task-by-place (context.Processor cpu) n is low = grind (arith, nat_tests, place-cases)
 task-by-place (context.Task task) n is low = refl
 
 pub same-list : (child parent : TaskNo) (pinned : Bool) (v w : World) (done : List Key) → (parent.0 ≡ child.0 → ⊥) → AreCopied child v w done → leaders_from w parent pinned ≡ leaders_from v parent pinned
@@ -140,9 +133,7 @@ same-list child parent pinned v w done apart f = ap (leaders_in pinned) (f.conte
 flat-has : (f : Key → List Key) (k x : Key) (xs : List Key) → 1 ≤ times x xs → times k (f x) ≤ times k (flat_map f xs)
 flat-has f k x [] some = absurd (omega (arith, some))
 flat-has f k x (y ∷ xs) some = elim (cases_Bool (is_key x y)) [
-  | inl same ↦
-      let is : y ≡ x = key-is y x (is_key-true x y same) in
-      omega (arith, count-append (is_key k) (f y) (flat_map f xs), ap (λ z. times k (f z)) is)
+  | inl same ↦ grind (arith, nat_tests, key-is, is_key-true, same, count-append)
   | inr off ↦
       let rest : times k (f x) ≤ times k (flat_map f xs) = flat-has f k x xs (omega (arith, some, times-cons x y xs, once-false (is_key x y) off)) in
       omega (arith, rest, count-append (is_key k) (f y) (flat_map f xs))
@@ -256,9 +247,4 @@ pub record IsListHere (child parent : TaskNo) (pinned : Bool) (v w : World) (pla
 pub list-here : (child parent : TaskNo) (pinned : Bool) (v w : World) (place : ℕ) (ends keys : List Key) (d : Key) → IsKept v.hardware v → MayCopyList child parent pinned v
     → AreCopied child v w (inherited_keys v (take place (leaders_from v parent pinned))) → ends ≡ picked pinned (leaders_of v (context.Task parent)) → place < length ends
     → keys ≡ picked pinned (leaders_of w (context.Task parent)) → IsListHere child parent pinned v w place (slice_index_or keys place d) keys
-list-here child parent pinned v w place ends keys d h may f ended below is =
-    let end : ends ≡ leaders_from v parent pinned = ended ∙ as-picked pinned (leaders_of v (context.Task parent)) in
-    let same : keys ≡ leaders_from v parent pinned =
-    is ∙ (as-picked pinned (leaders_of w (context.Task parent)) ∙ same-list child parent pinned v w (inherited_keys v (take place (leaders_from v parent pinned))) may.numbers.2 f) in
-    let low : place < length keys = omega (arith, below, ap length end, ap length same) in
-    record { low = low; at = list-at child parent pinned v w place keys d h may f same low }
+list-here child parent pinned v w place ends keys d h may f ended below is = grind (arith, nat_tests, as-picked, same-list, list-at)

@@ -57,12 +57,8 @@ not-less m n h = grind (arith, nat_tests, h)
 
 pub room-left : (o : Option ℕ) (live first second left n : ℕ) → left + first + live ≡ 4096 → n ≡ first + second → IfSome o (λ r. r + second ≡ left) → IfNone o (left < second)
     → is_some o ≡ not (nat_lt 4096 (live + n))
-room-left (Some r) live first second left n room all some none =
-    let small : nat_lt 4096 (live + n) ≡ false = not-less 4096 (live + n) (omega (arith, room, all, some)) in
-    ap not (sym small)
-room-left None live first second left n room all some none =
-    let full : nat_lt 4096 (live + n) ≡ true = less 4096 (live + n) (omega (arith, room, all, none)) in
-    ap not (sym full)
+room-left (Some r) live first second left n room all some none = grind (arith, nat_tests, not-less)
+room-left None live first second left n room all some none = grind (arith, nat_tests, less)
 
 pub no-room : (live first second n : ℕ) → 4096 < first + live → n ≡ first + second → ◌≡◌ {A = Bool} false (not (nat_lt 4096 (live + n)))
 no-room live first second n full all = ap not (sym (less 4096 (live + n) (omega (arith, full, all))))

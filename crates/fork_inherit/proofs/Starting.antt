@@ -3,18 +3,15 @@ use Rattle.std.specs.Prelude.{◌≡◌, ℕ, suc, zero, ◌+◌, ◌^◌, ◌<�
 use Rattle.std.proofs.{Common.{arith, refl, sym, ap, subst, ◌∙◌, inl, inr}, lemmas.Bool.{cases_Bool, false≢true, Decides.{nat_tests}}}
 use Rattle.std.proofs.{lemmas.List.{length-map, Concat.{length-flat_map}}, Math.ListN.{get_or-map}}
 use Rattle.perf_base.specs.declared.numbers.{CpuNo.{CpuNo}, Key.{Key}, TaskNo.{TaskNo}}
-use Rattle.perf_base.specs.declared.reasons.Reason.TheVariants as reason
 use Rattle.perf_base.specs.declared.standing.Context.TheVariants as context
-use Rattle.stage_spec.specs.{Flags.{is_inherited, is_pinned}, Forks.{fork_refusal, new_copies}}
-use Rattle.stage_spec.specs.Stage.{Group, no_groups, lists_of, live_copies, place_of, task_on, is_idle, status_of, was_used, is_live as is_live_task}
-use Rattle.stage_spec.specs.{Verdict.{task_lists}}
-use Rattle.stage_spec.specs.declared.instance.TaskState.TheVariants as state
+use Rattle.stage_spec.specs.{Flags.{is_pinned}, Forks.{fork_refusal, new_copies}}
+use Rattle.stage_spec.specs.Stage.{Group, no_groups, lists_of, live_copies, place_of, task_on, status_of, was_used}
 use Rattle.stage_laws.{specs.Sound.{IsSound, AreListed}, proofs.{RunningTasks.{live-used}, Tasks.{first-clear, rest-clear}}}
 use Rattle.stage_laws.proofs.{Totals.{total-same, sum_by-is-total}, Counts.{count-append}}
 use Rattle.world_spec.specs.{Kept.{post_at, leads, once_if, copies_in, IsKept}, StageOf.{group_at, lists_at, stage_of}}
 use Rattle.world_spec.specs.Value.{World, Leaders, no_leaders, leaders_of, is_live, entry_at, instance_at, is_key, times}
 use Rattle.world_spec.proofs.{Families.{leaders_both, leaders-at, copies-are}, Keys.{key-is, is_key-true, times-cons, once-false}}
-use Rattle.fork_inherit.specs.Copies.{copies_of, copies_of_all, inherited_members, inherited_keys, leaders_from, MayCopyList}
+use Rattle.fork_inherit.specs.Copies.{copies_of_all, inherited_keys, leaders_from, MayCopyList}
 use Rattle.fork_inherit.proofs.{Listed.{in-list}, Room.{task-low, copies-new}}
 
 -- what a fork that is not refused says
@@ -27,23 +24,11 @@ not-less : (m n : ℕ) → nat_lt m n ≡ false → n ≤ m
 not-less m n h = grind (arith, nat_tests, h)
 
 pub is-free : (v : World) (cpu : CpuNo) (child parent : TaskNo) → task_on (stage_of v) cpu ≡ Some parent → fork_refusal (stage_of v) cpu child ≡ None → IsFree v cpu child parent
-is-free v cpu child parent on free =
-    let exists : Bool = was_used (status_of (stage_of v) child).state in
-    let full : Bool = nat_lt 4096 (live_copies (stage_of v) + new_copies (task_lists (stage_of v) (task_on (stage_of v) cpu))) in
-    let rest : _ = rest-clear reason.Idle (is_idle (task_on (stage_of v) cpu)) ((reason.Exists, exists) ∷ (reason.CopiesFull, full) ∷ []) free in
-    record {
-      on = on;
-      fresh = first-clear reason.Exists exists ((reason.CopiesFull, full) ∷ []) rest;
-      room = not-less 4096 _ (ap (λ o. nat_lt 4096 (live_copies (stage_of v) + new_copies (task_lists (stage_of v) o))) (sym on)
-          ∙ first-clear reason.CopiesFull full [] (rest-clear reason.Exists exists ((reason.CopiesFull, full) ∷ []) rest));
-    }
+is-free v cpu child parent on free = grind (arith, nat_tests, rest-clear, first-clear, not-less)
 
 -- the child is not on a processor, nor is it the parent
 pub not-on : (v : World) (cpu : CpuNo) (child parent other : TaskNo) (at : CpuNo) → IsKept v.hardware v → IsFree v cpu child parent → task_on (stage_of v) at ≡ Some other → other.0 ≡ child.0 → ⊥
-not-on v cpu child parent other at h free on same =
-    let is : other ≡ child = λ i. record { 0 = same i } in
-    let live : is_live_task (status_of (stage_of v) child).state ≡ true = ap (λ t. is_live_task (status_of (stage_of v) t).state) (sym is) ∙ h.running.live at other on in
-    false≢true (sym free.fresh ∙ live-used (status_of (stage_of v) child).state live)
+not-on v cpu child parent other at h free on same = grind (arith, nat_tests, false≢true, live-used)
 
 -- no instance stands in the child's context
 no-times : (q : Key) (keys : List Key) → length keys ≡ 0 → times q keys ≡ 0
@@ -59,9 +44,7 @@ none-in v child j h empty live at =
     let lists : lists_at v l ≡ no_groups = sym (get_or-map (lists_at v) v.contexts (place_of (context.Task child)) no_leaders) ∙ empty in
     let q : Key = (entry_at v j).leader in
     let there : (place_of (entry_at v q).context == 8 + child.0) ≡ true = same-number (place_of (entry_at v q).context) (8 + child.0) (ap place_of (h.grouped.together j live) ∙ at) in
-    let one : times q (leaders_both l) ≡ 1 =
-    leaders-at v.hardware v h q (8 + child.0)
-    ∙ ((λ i. once_if (h.grouped.led j live i && there i))) in
+    let one : times q (leaders_both l) ≡ 1 = grind (arith, nat_tests, leaders-at) in
     let pinned : times q l.pinned ≡ 0 = no-times q l.pinned (sym (length-map l.pinned (group_at v)) ∙ ap (λ x. length x.pinned) lists) in
     let flexible : times q l.flexible ≡ 0 = no-times q l.flexible (sym (length-map l.flexible (group_at v)) ∙ ap (λ x. length x.flexible) lists) in
     omega (arith, one, pinned, flexible, count-append (is_key q) l.pinned l.flexible)
@@ -107,11 +90,7 @@ chosen-size true keys = refl
 chosen-size false keys = refl
 
 pub keys-size : (v : World) (keys : List Key) → length (inherited_keys v keys) ≡ copies_of_all v keys
-keys-size v keys =
-    length-flat_map (inherited_members v) keys
-    ∙ (sum_by-is-total (λ k. length (inherited_members v k)) keys
-    ∙ (total-same (λ k. length (inherited_members v k)) (copies_of v) (λ k. chosen-size (is_inherited (instance_at v k).attr) (entry_at v k).members) keys
-    ∙ sym (sum_by-is-total (copies_of v) keys)))
+keys-size v keys = grind (arith, nat_tests, length-flat_map, sum_by-is-total, total-same, chosen-size)
 
 pub all-fit : (v : World) (cpu : CpuNo) (child parent : TaskNo) → IsKept v.hardware v → IsFree v cpu child parent
     → copies_in v.families + (length (inherited_keys v (leaders_from v parent true)) + length (inherited_keys v (leaders_from v parent false))) ≤ 4096

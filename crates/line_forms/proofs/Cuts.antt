@@ -1,6 +1,6 @@
 -- A text that is cut at a byte, and its pieces.
-use Rattle.std.proofs.Common.{◌≡◌, ℕ, suc, ◌<◌, ◌≤◌, Bool, true, false, not, eqb, ltb, List, [], ◌∷◌, length, Option, Some, None, inl, inr, refl, sym, ap, ◌∙◌, Bor, arith, add-one}
-use Rattle.std.{proofs.{Math.Numerals.{one-add}, lemmas.Bool.{cases_Bool, lt-ltb, ltb-true, ltb-false, le-ltb}}, specs.List.{prefix_len}}
+use Rattle.std.proofs.Common.{◌≡◌, ℕ, suc, Bool, true, false, not, eqb, ltb, List, [], ◌∷◌, length, Option, Some, None, refl, sym, ap, ◌∙◌, Bor, arith, add-one}
+use Rattle.std.{proofs.{Math.Numerals.{one-add}, lemmas.Bool.{lt-ltb, ltb-true, ltb-false, le-ltb}}}
 use Rattle.std.specs.Option.{option_map}
 use Rattle.script_spec.specs.Lines.{pieces}
 use Rattle.line_forms.specs.{declared.words.Words.{Words}, Words.{cut, left, next_of, end_of}}
@@ -15,10 +15,7 @@ differs c b = not (eqb b c)
 
 pub cut_here : (c b : ℕ) (bs : List ℕ) → eqb b c ≡ true → cut c (b ∷ bs) ≡ ([], Some bs)
 unfolding cut
-cut_here c b bs t =
-    let n : prefix_len (differs c) (b ∷ bs) ≡ 0 = rw t refl in
-    let u : ltb 0 (length (b ∷ bs)) ≡ true = lt-ltb _ _ (omega arith) in
-    rw (n, u) refl
+cut_here c b bs t = grind (arith, ltb, length, true, lt-ltb)
 
 pub cut_nothing : (c : ℕ) → cut c [] ≡ ([], None)
 unfolding cut
@@ -26,27 +23,13 @@ cut_nothing c = refl
 
 pub cut_later : (c b : ℕ) (bs : List ℕ) → eqb b c ≡ false → cut c (b ∷ bs) ≡ (b ∷ (cut c bs).0, (cut c bs).1)
 unfolding cut
-cut_later c b bs f =
-    let n : prefix_len (differs c) (b ∷ bs) ≡ suc (prefix_len (differs c) bs) = rw f (one-add (prefix_len (differs c) bs)) in
-    elim (cases_Bool (ltb (prefix_len (differs c) bs) (length bs))) [
-      | inl t ↦
-          let l : prefix_len (differs c) bs < length bs = ltb-true _ _ t in
-          let u : ltb (suc (prefix_len (differs c) bs)) (length (b ∷ bs)) ≡ true = lt-ltb _ _ (omega arith) in
-          rw (n, t, u, add-one, add-one) refl
-      | inr g ↦
-          let l : length bs ≤ prefix_len (differs c) bs = ltb-false _ _ g in
-          let u : ltb (suc (prefix_len (differs c) bs)) (length (b ∷ bs)) ≡ false = le-ltb _ _ (omega arith) in
-          rw (n, g, u) refl
-    ]
+cut_later c b bs f = grind (arith, suc, one-add, ltb, length, ltb-true, true, lt-ltb, add-one, ltb-false, false, le-ltb)
 
 -- a text's first piece ends where it is cut
 pub pieces_cut : (c : ℕ) (text : List ℕ) → pieces c text ≡ (cut c text).0 ∷ pieces_behind c (cut c text).1
 unfolding pieces
 pieces_cut c [] = rw (cut_nothing c) refl
-pieces_cut c (b ∷ bs) = elim (cases_Bool (eqb b c)) [
-  | inl t ↦ rw (cut_here c b bs t, t) refl
-  | inr f ↦ rw (cut_later c b bs f, f, pieces_cut c bs) refl
-]
+pieces_cut c (b ∷ bs) = grind (arith, eqb, cut_here, cut_later, pieces_cut c bs)
 
 -- what a cursor has left
 behind_is : (rest : Option (Bor (List ℕ))) (by : ℕ) → left (record { rest = rest; by = by }) ≡ pieces_behind by (option_map (λ t. t.now) rest)

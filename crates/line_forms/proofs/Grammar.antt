@@ -1,6 +1,6 @@
 -- The forms, one by one: what is read is of the form, and what is of the form is read.
-use Rattle.std.proofs.Common.{◌≡◌, ℕ, List, [], ◌∷◌, ◌++◌, map, Option, Some, None, inl, inr, refl, sym, ap, subst, ◌∙◌, arith}
-use Rattle.std.{proofs.lemmas.{Option.{same_Some, none-some}, Bool.{cases_Bool}}, specs.{Prelude.{codes, decimal, IfSome}, Str.{bytes_eq}}}
+use Rattle.std.proofs.Common.{◌≡◌, ℕ, List, [], ◌∷◌, ◌++◌, map, Option, Some, None, refl, sym, ap, subst, ◌∙◌, arith}
+use Rattle.std.{proofs.lemmas.{Option.{same_Some, none-some}}, specs.{Prelude.{codes, decimal, IfSome}, Str.{bytes_eq}}}
 use Rattle.perf_base.specs.declared.lines.Mode.{Mode}
 use Rattle.perf_base.specs.declared.lines.Mode.TheVariants as mode
 use Rattle.script_spec.specs.Forms.{Version, Working, CpuForm, Form}
@@ -177,13 +177,7 @@ unfolding switch_at
 switch-again task h = rw (decimal_or-again [] (codes "idle") task [] no_number_idle h) refl
 
 mode-takes : (word : List ℕ) (m : Mode) → mode_in word ≡ Some m → word ≡ form.mode_text m
-mode-takes word m e = elim (cases_Bool (bytes_eq word (codes "user"))) [
-  | inl u ↦ subst (λ x. word ≡ form.mode_text x) (same_Some mode.User m (rw u at e)) (bytes_eq-true _ _ u)
-  | inr n ↦ elim (cases_Bool (bytes_eq word (codes "kernel"))) [
-    | inl k ↦ subst (λ x. word ≡ form.mode_text x) (same_Some mode.Kernel m (rw k at (rw n at e))) (bytes_eq-true _ _ k)
-    | inr f ↦ absurd (none-some m (rw f at (rw n at e)))
-  ]
-]
+mode-takes word m e = grind (arith, same_Some, bytes_eq-true, none-some)
 
 mode-again : (m : Mode) → mode_in (form.mode_text m) ≡ Some m
 mode-again mode.User = refl
@@ -205,12 +199,7 @@ stretch-takes ws x e =
     let ip = number_if (codes "ip=") 16 16 w.rest in
     let t = number_if-takes (codes "ip=") 16 16 w.rest (omega arith) (omega arith) (omega arith) in
     let words : ws ≡ decimal a.n ∷ form.mode_text m.0 ∷ (form.word_if ip.0 form.ip_text ++ ip.1) = a.words ∙ more (decimal a.n) a.rest _ (w.words ∙ (ap (λ (v : List ℕ). v ∷ w.rest) (mode-takes w.n m.0 m.1) ∙ more (form.mode_text m.0) w.rest _ t.1)) in
-    subst (IsStretch ws) {x = ((a.n, m.0, ip.0), ip.1)} (same_Some ((a.n, m.0, ip.0), ip.1) x m.2) (record {
-      length = a.fits;
-      ip = t.0;
-      no_ip = number_if-none (codes "ip=") 16 16 w.rest;
-      words = words;
-    })
+    grind (arith, same_Some, number_if-none, words)
 
 stretch-again : (length : ℕ) (m : Mode) (ip : Option ℕ) (rest : List (List ℕ)) → form.IsNumber length → IfSome ip form.IsHexadecimal → (ip ≡ None → number_at (codes "ip=") 16 16 rest ≡ None)
     → stretch_at (decimal length ∷ form.mode_text m ∷ (form.word_if ip form.ip_text ++ rest)) ≡ Some ((length, m, ip), rest)

@@ -11,9 +11,7 @@ power_le i l = let le : i ≤ 19 = omega arith in pow-le-pow_right {n = 16} (ome
 
 -- at most 20 digits fit
 pub digit_fits : (value radix digit i : ℕ) → value + 2 ≤ 2 * 16 ^ i → radix ≤ 16 → digit ≤ 16 → i < 20 → value * radix + digit < 2 ^ 128
-digit_fits value radix digit i h r d l =
-    let m : value * radix ≤ value * 16 = mul-le-mul_left value r in
-    omega (arith, power_le i l)
+digit_fits value radix digit i h r d l = grind (arith, mul-le-mul_left, power_le)
 
 -- the flags of a table from a place on, where that place's flag was looked for
 pub flags_step : (rows : List (List ℕ × ℕ)) (i : ℕ) (row : List ℕ × ℕ) (words : List (List ℕ)) → i < length rows → get_or rows i ([], 0) ≡ row
@@ -58,12 +56,7 @@ pub flags_done : {X : Type 0} (row : X → List ℕ × ℕ) (items : List X) (ro
     → sum + (flags_in (drop i rows) words).0 ≡ (flags_in rows all).0 → (flags_in (drop i rows) words).1 ≡ (flags_in rows all).1
     → (sum ≡ (flags_in rows all).0) × (words ≡ (flags_in rows all).1)
 unfolding flags_in
-flags_done row items rows i words all sum e l h k =
-    let longer : length items ≡ length rows = sym (length-map items row) ∙ ap length e in
-    let none : drop i rows ≡ [] = drop_of_length-le rows (omega (arith, l, longer)) in
-    let bits = (rw none at h) in
-    let behind = (rw none at k) in
-    (omega (arith, bits), behind)
+flags_done row items rows i words all sum e l h k = grind (arith, length, length-map, drop, drop_of_length-le)
 
 pub flags_by : (text : List ℕ) (words after : List (List ℕ)) (sum : ℕ) → words ≡ pieces 44 text → sum ≡ (flags_in flag_table words).0 → after ≡ (flags_in flag_table words).1
     → flags text ≡ (end_of after >>= λ _. Some sum)

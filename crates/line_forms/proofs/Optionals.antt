@@ -4,7 +4,7 @@ use Rattle.std.proofs.lemmas.{Option.{same_Some}, Bool.{cases_Bool, cases_lt, an
 use Rattle.std.specs.{Prelude.{codes, IfSome}, List.{join_with_byte}, Str.{bytes_eq}, Fmt.{digits}}
 use Rattle.script_spec.specs.Lines.{pieces, put_before}
 use Rattle.script_spec.specs.Forms as form
-use Rattle.line_forms.specs.Words.{◌>>=◌, cut, strip, next_of, end_of}
+use Rattle.line_forms.specs.Words.{◌>>=◌, strip, next_of, end_of}
 use Rattle.line_forms.specs.Leaves.{number_at, number_if, word_if, bit, flags, flags_in, flags_at, flags_if}
 use Rattle.line_forms.proofs.Cuts.{pieces_cut, pieces_behind}
 use Rattle.line_forms.proofs.Singles.{bind_some, next_takes, end_takes, strip_takes, strip_again, bytes_eq-true, number_at-takes, number_at-again}
@@ -120,9 +120,7 @@ pub join_pieces : (c : ℕ) (text : List ℕ) → join_with_byte c (pieces c tex
 unfolding pieces
 join_pieces c [] = refl
 join_pieces c (b ∷ bs) = elim (cases_Bool (eqb b c)) [
-  | inl t ↦
-      let same : b ≡ c = eqb-true b c t in
-      rw t (join_empty c _ _ (pieces c bs) (pieces_cut c bs) ∙ rw (join_pieces c bs, same) refl)
+  | inl t ↦ grind (arith, eqb-true, t, join_empty, pieces_cut, join_pieces c bs)
   | inr f ↦ rw f (join_put c b _ _ (pieces c bs) (pieces_cut c bs) ∙ ap (λ (t : List ℕ). b ∷ t) (join_pieces c bs))
 ]
 
@@ -142,26 +140,14 @@ below_128 : (a b c d e f g : Bool) → numbered a b c d e f g < 2 ^ 7
 below_128 a b c d e f g = omega (arith, bit_le a, bit_le b, bit_le c, bit_le d, bit_le e, bit_le f, bit_le g)
 
 none_named : (a b c d e f g : Bool) → numbered a b c d e f g ≡ 0 → names a b c d e f g ≡ []
-none_named a b c d e f g h =
-    let ea : bit a ≡ 0 = omega (arith, h) in
-    let eb : bit b ≡ 0 = omega (arith, h) in
-    let ec : bit c ≡ 0 = omega (arith, h) in
-    let ed : bit d ≡ 0 = omega (arith, h) in
-    let ee : bit e ≡ 0 = omega (arith, h) in
-    let ef : bit f ≡ 0 = omega (arith, h) in
-    let eg : bit g ≡ 0 = omega (arith, h) in
-    rw (bit_none a ea, bit_none b eb, bit_none c ec, bit_none d ed, bit_none e ee, bit_none f ef, bit_none g eg) refl
+none_named a b c d e f g h = grind (arith, bit_none)
 
 some_piece : (c : ℕ) (text : List ℕ) → pieces c text ≡ [] → ⊥
-some_piece c text e = let n : length (pieces c text) ≡ length ((cut c text).0 ∷ pieces_behind c (cut c text).1) = ap length (pieces_cut c text) in
-    let z : length (pieces c text) ≡ 0 = ap length e in omega (arith, n, z)
+some_piece c text e = grind (arith, length, pieces_behind, pieces_cut)
 
 named : (text : List ℕ) (a b c d e f g : Bool) → pieces 44 text ≡ names a b c d e f g → form.AreFlags (numbered a b c d e f g) × (text ≡ form.flags_text (numbered a b c d e f g))
 named text a b c d e f g h =
-    let some : 0 < numbered a b c d e f g = elim (cases_lt 0 (numbered a b c d e f g)) [
-      | inl pos ↦ pos
-      | inr none ↦ let z : numbered a b c d e f g ≡ 0 = omega arith in absurd (some_piece 44 text (h ∙ none_named a b c d e f g z))
-    ] in
+    let some : 0 < numbered a b c d e f g = grind (arith, cases_lt, some_piece, none_named) in
     ((some, below_128 a b c d e f g), sym (join_pieces 44 text) ∙ (ap (join_with_byte 44) h ∙ all_names a b c d e f g))
 
 pub flags_takes : (text : List ℕ) (n : ℕ) → flags text ≡ Some n → form.AreFlags n × (text ≡ form.flags_text n)

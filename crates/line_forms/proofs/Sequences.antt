@@ -1,5 +1,5 @@
 -- Occurrences, acts and bytes: what is read is what is spelled so, and what is spelled so is read.
-use Rattle.std.proofs.Common.{◌≡◌, ℕ, ◌+◌, ◌*◌, ◌/◌, ◌%◌, ◌<◌, ◌≤◌, true, false, ◌&&◌, eqb, leb, ltb, List, [], ◌∷◌, ◌++◌, map, take, length, All, Option, Some, None, option_map, inl, inr, refl, sym, ap, subst, ◌∙◌, arith, append_assoc}
+use Rattle.std.proofs.Common.{◌≡◌, ℕ, ◌*◌, ◌/◌, ◌%◌, ◌<◌, ◌≤◌, true, false, ◌&&◌, eqb, leb, ltb, List, [], ◌∷◌, ◌++◌, map, take, length, All, Option, Some, None, option_map, inl, inr, refl, sym, ap, subst, ◌∙◌, arith, append_assoc}
 use Rattle.std.proofs.lemmas.Option.{same_Some, none-some}
 use Rattle.std.proofs.lemmas.Bool.{cases_Bool, eqb-true, ltb-true, leb-true, lt-ltb, le-leb, eq-eqb, ne_eqb, and_parts, and_from}
 use Rattle.std.proofs.{lemmas.{Nat.{div-mul-add, mod-mul-add, div-add-mod'}, List.Elements.{All-cons, All-head, All-tail}}, Math.Nat.{mod-eq_of_lt}}
@@ -107,9 +107,7 @@ hit-takes word h e =
 
 pub hit-again : (h : form.Hit) → form.IsHit h → hit_in (form.hit_text h) ≡ Some h
 unfolding hit_in
-hit-again h is =
-    let parts : cut 61 (h.name ++ (61 ∷ decimal h.times)) ≡ (h.name, Some (decimal h.times)) = cut-again 61 h.name (decimal h.times) (no_sign_in_name h.name is.0.0) in
-    rw (hit_is h, parts, name_again h.name is.0, number_again 10 20 h.times (omega arith) (omega arith) (omega arith) (omega arith) is.1) refl
+hit-again h is = grind (arith, Some, cut-again, no_sign_in_name, hit_is, name_again, number_again)
 
 -- ---- acts
 
@@ -129,9 +127,7 @@ seen-takes text a e =
 
 seen-again : (ring place : ℕ) → form.IsNumber ring → form.IsNumber place → seen_in (decimal ring ++ (61 ∷ decimal place)) ≡ Some (act.Seen (record { 0 = ring }) place)
 unfolding seen_in
-seen-again ring place r p =
-    let parts : cut 61 (decimal ring ++ (61 ∷ decimal place)) ≡ (decimal ring, Some (decimal place)) = cut-again 61 (decimal ring) (decimal place) (no_sign_in_number ring r) in
-    rw (parts, number_again 10 20 ring (omega arith) (omega arith) (omega arith) (omega arith) r, number_again 10 20 place (omega arith) (omega arith) (omega arith) (omega arith) p) refl
+seen-again ring place r p = grind (arith, Some, cut-again, no_sign_in_number, number_again)
 
 -- a number behind a letter
 numbered-takes : (make : ℕ → Act) (text : List ℕ) (a : Act) → option_map make (number 10 20 text) ≡ Some a → (n : ℕ) × form.IsNumber n × (text ≡ decimal n) × (make n ≡ a)
@@ -187,11 +183,7 @@ spelled_exact view word r e a h is = e ∙ (ap act_in is ∙ act-again a h)
 -- ---- bytes
 
 pair_is : (high low : ℕ) → digit_of high < 16 → digit_of low < 16 → (pair_of high low < 256) × (pair_of high low / 16 ≡ digit_of high) × (pair_of high low % 16 ≡ digit_of low)
-pair_is high low h l =
-    let a : digit_of high * 16 % 256 ≡ digit_of high * 16 = mod-eq_of_lt (omega arith) in
-    let b : (digit_of high * 16 + digit_of low) % 256 ≡ digit_of high * 16 + digit_of low = mod-eq_of_lt (omega arith) in
-    let is : pair_of high low ≡ digit_of high * 16 + digit_of low = ap (λ n. (n + digit_of low) % 256) a ∙ b in
-    (omega (arith, is), ap (λ n. n / 16) is ∙ div-mul-add (digit_of high) 16 (digit_of low) l, ap (λ n. n % 16) is ∙ mod-mul-add (digit_of high) 16 (digit_of low) l)
+pair_is high low h l = grind (arith, mod-eq_of_lt, div-mul-add, mod-mul-add)
 
 record ArePairs (text : List ℕ) : Type 0 where
   is : text ≡ flat_map form.byte_text (pairs_in text)
@@ -240,14 +232,7 @@ record AreWritten (bytes : List ℕ) : Type 0 where
   below : list_all (λ b. ltb (digit_of b) 16) (flat_map form.byte_text bytes) ≡ true
 
 byte_read : (b : ℕ) → b < 256 → pair_of (digit_glyph false (b / 16)) (digit_glyph false (b % 16)) ≡ b
-byte_read b l =
-    let h : b / 16 < 16 = omega arith in
-    let m : b % 16 < 16 = omega arith in
-    let x : digit_of (digit_glyph false (b / 16)) ≡ b / 16 = digit_of-glyph (b / 16) h in
-    let y : digit_of (digit_glyph false (b % 16)) ≡ b % 16 = digit_of-glyph (b % 16) m in
-    let s : b / 16 * 16 + b % 16 ≡ b = div-add-mod' b 16 in
-    let t : (b / 16 * 16 % 256 + b % 16) % 256 ≡ b = omega (arith, s, l) in
-    ap (λ d. (d * 16 % 256 + digit_of (digit_glyph false (b % 16))) % 256) x ∙ (ap (λ d. (b / 16 * 16 % 256 + d) % 256) y ∙ t)
+byte_read b l = grind (arith, false, digit_of-glyph, div-add-mod')
 
 written_bytes : (bytes : List ℕ) → All (λ b. b < 256) bytes → AreWritten bytes
 unfolding pairs_in
@@ -265,12 +250,7 @@ written_bytes (b ∷ bs) h =
 
 pub bytes-again : (bytes : List ℕ) → form.AreBytes bytes → bytes_in (flat_map form.byte_text bytes) ≡ Some bytes
 unfolding bytes_in
-bytes-again bytes h =
-    let w = written_bytes bytes h.each in
-    let a : ltb 0 (length (flat_map form.byte_text bytes)) ≡ true = lt-ltb _ _ (omega (arith, w.twice, h.some)) in
-    let b : leb (length (flat_map form.byte_text bytes)) 8192 ≡ true = le-leb _ _ (omega (arith, w.twice, h.few)) in
-    let c : eqb (length (flat_map form.byte_text bytes) % 2) 0 ≡ true = eq-eqb _ _ (omega (arith, w.twice)) in
-    rw (a, b, c, w.below) (ap Some w.pairs)
+bytes-again bytes h = grind (arith, written_bytes, ltb, length, true, lt-ltb, leb, le-leb, eqb, eq-eqb, Some)
 
 -- what was put into the front of a room is what the text says
 pub bytes_in_room : (count : Option ℕ) (room text : List ℕ) → option_map (λ n. take n room) count ≡ bytes_in text

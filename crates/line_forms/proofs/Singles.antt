@@ -1,9 +1,9 @@
 -- Single words: what is read is what is spelled so, and what is spelled so is read.
-use Rattle.std.proofs.Common.{◌≡◌, ℕ, ◌^◌, ◌<◌, ◌≤◌, true, false, ◌&&◌, ◌||◌, eqb, leb, List, [], ◌∷◌, ◌++◌, length, take, drop, All, Option, Some, None, inl, inr, refl, sym, ap, subst, ◌∙◌, arith}
+use Rattle.std.proofs.Common.{◌≡◌, ℕ, ◌^◌, ◌<◌, ◌≤◌, true, false, ◌&&◌, eqb, leb, List, [], ◌∷◌, ◌++◌, length, take, drop, All, Option, Some, None, inl, inr, refl, sym, ap, subst, ◌∙◌, arith}
 use Rattle.std.proofs.lemmas.{Option.{same_Some, none-some}, Cmp.{nat_list_eq_equiv}, Slice.Eq.{bytes_eq-Decides}}
 use Rattle.std.proofs.lemmas.Bool.{cases_Bool, eqb-true, leb-true, le-leb, and_parts, and_from, or_cases, false_from_ne_true}
 use Rattle.std.proofs.lemmas.List.{take_at, drop_at, take-append-drop, Elements.{All-cons, All-head, All-tail}}
-use Rattle.std.specs.{Prelude.{nat_eq, decimal, IfSome}, List.{starts_with, list_all}, Str.{bytes_eq}, Fmt.{digits}, Cmp.Lexicographic.{same_text}}
+use Rattle.std.specs.{Prelude.{nat_eq, IfSome}, List.{starts_with, list_all}, Str.{bytes_eq}, Fmt.{digits}, Cmp.Lexicographic.{same_text}}
 use lib.Pointwise.{pointwise}
 use Rattle.perf_base.specs.Scripts.{IsLetter, IsNameByte}
 use Rattle.script_spec.specs.Forms as form
@@ -77,20 +77,11 @@ letter_true : (b : ℕ) → IsLetter b → is_letter b ≡ true
 letter_true b h = and_from (leb 97 b) (leb b 122) (le-leb _ _ h.0) (le-leb _ _ h.1)
 
 byte_from : (b : ℕ) → is_name_byte b ≡ true → IsNameByte b
-byte_from b h = elim (or_cases (is_letter b) ((leb 48 b && leb b 57) || eqb b 45) h) [
-  | inl l ↦ inl (letter_from b l)
-  | inr o ↦ elim (or_cases (leb 48 b && leb b 57) (eqb b 45) o) [
-    | inl d ↦ let p = and_parts (leb 48 b) (leb b 57) d in inr (inl (leb-true _ _ p.0, leb-true _ _ p.1))
-    | inr e ↦ inr (inr (eqb-true _ _ e))
-  ]
-]
+byte_from b h = grind (arith, or_cases, leb, eqb, letter_from, and_parts, leb-true, eqb-true)
 
 byte_true : (b : ℕ) → IsNameByte b → is_name_byte b ≡ true
 byte_true b (inl l) = let t : is_letter b ≡ true = letter_true b l in rw t refl
-byte_true b (inr (inl d)) = elim (cases_Bool (is_letter b)) [
-  | inl t ↦ rw t refl
-  | inr f ↦ let p : (leb 48 b && leb b 57) ≡ true = and_from (leb 48 b) (leb b 57) (le-leb _ _ d.0) (le-leb _ _ d.1) in rw (f, p) refl
-]
+byte_true b (inr (inl d)) = grind (arith, leb, true, and_from, le-leb)
 byte_true b (inr (inr e)) = rw e refl
 
 bytes_from : (bs : List ℕ) → list_all is_name_byte bs ≡ true → All IsNameByte bs
@@ -112,11 +103,7 @@ name_from (b ∷ bs) h =
 
 name_true : (text : List ℕ) → form.IsWord text → is_name text ≡ true
 name_true [] h = absurd h.0
-name_true (b ∷ bs) h =
-    let few : leb (length bs) 30 ≡ true = le-leb _ _ (omega (arith, h.1)) in
-    let all : list_all is_name_byte bs ≡ true = bytes_true bs h.0.1 in
-    let first : is_letter b ≡ true = letter_true b h.0.0 in
-    rw (first, few, all) refl
+name_true (b ∷ bs) h = grind (arith, leb, length, true, le-leb, bytes_true, letter_true)
 
 pub name_takes : (text n : List ℕ) → name text ≡ Some n → form.IsWord n × (text ≡ n)
 unfolding name
@@ -148,9 +135,7 @@ name_at-again key n ws h = rw (strip_again key n, name_again n h) refl
 
 other_takes : (text other : List ℕ) (o : Option ℕ) → other_or (bytes_eq text other) (number 10 20 text) ≡ Some o → IfSome o form.IsNumber × (text ≡ form.number_or other o)
 other_takes text other o e = elim (cases_Bool (bytes_eq text other)) [
-  | inl t ↦
-      let is : None ≡ o = same_Some None o (sym (ap (λ b. other_or b (number 10 20 text)) t) ∙ e) in
-      subst (λ (p : Option ℕ). IfSome p form.IsNumber × (text ≡ form.number_or other p)) is (tt, bytes_eq-true text other t)
+  | inl t ↦ grind (arith, None, same_Some, t, Option, ℕ, bytes_eq-true)
   | inr f ↦
       let m = bind_some (number 10 20 text) (λ m. Some (Some m)) o (sym (ap (λ b. other_or b (number 10 20 text)) f) ∙ e) in
       let is : Some m.0 ≡ o = same_Some (Some m.0) o m.2 in
@@ -173,10 +158,7 @@ decimal_or-takes key other ws x e =
 
 other_again : (other : List ℕ) (o : Option ℕ) → number 10 20 other ≡ None → IfSome o form.IsNumber → other_or (bytes_eq (form.number_or other o) other) (number 10 20 (form.number_or other o)) ≡ Some o
 other_again other None none h = let t : bytes_eq other other ≡ true = bytes_eq_self other in rw t refl
-other_again other (Some n) none h =
-    let num : number 10 20 (decimal n) ≡ Some n = number_again 10 20 n (omega arith) (omega arith) (omega arith) (omega arith) h in
-    let f : bytes_eq (decimal n) other ≡ false = false_from_ne_true _ (λ t. none-some n (sym none ∙ (ap (number 10 20) (sym (bytes_eq-true (decimal n) other t)) ∙ num))) in
-    rw (f, num) refl
+other_again other (Some n) none h = grind (arith, Some, number_again, false, false_from_ne_true, none-some, bytes_eq-true)
 
 pub decimal_or-again : (key other : List ℕ) (o : Option ℕ) (ws : List (List ℕ)) → number 10 20 other ≡ None → IfSome o form.IsNumber
     → decimal_or key other ((key ++ form.number_or other o) ∷ ws) ≡ Some (o, ws)

@@ -1,70 +1,35 @@
 -- Numbers: what is read is what is spelled so, and what is spelled so is read.
-use Rattle.std.proofs.Common.{◌≡◌, ◌≢◌, ℕ, suc, ◌+◌, ◌-◌, ◌*◌, ◌/◌, ◌%◌, ◌^◌, ◌<◌, ◌≤◌, Bool, true, false, not, ◌&&◌, ◌||◌, cond, eqb, leb, ltb, List, [], ◌∷◌, ◌++◌, map, length, get_or, Some, None, inl, inr, refl, sym, ap, subst, ◌∙◌, arith}
+use Rattle.std.proofs.Common.{◌≡◌, ◌≢◌, ℕ, suc, ◌+◌, ◌-◌, ◌*◌, ◌/◌, ◌%◌, ◌^◌, ◌<◌, ◌≤◌, Bool, true, false, not, ◌||◌, cond, eqb, leb, ltb, List, [], ◌∷◌, ◌++◌, map, length, get_or, Some, None, inl, inr, refl, sym, ap, subst, ◌∙◌, arith}
 use Rattle.std.proofs.lemmas.Int.Digits.{all_below_base_digits_of, number_digits_of, length-digits_of-le, first_digits_of, number_lt}
 use Rattle.std.proofs.lemmas.Nat.{div-mul-add, mod-mul-add}
-use Rattle.std.proofs.lemmas.Bool.{cases_Bool, cases_lt, eqb-true, ltb-true, leb-true, lt-ltb, le-ltb, le-leb, lt-leb, eq-eqb, ne_eqb, and_parts, and_from}
+use Rattle.std.proofs.lemmas.Bool.{cases_lt, eqb-true, ltb-true, leb-true, lt-ltb, le-ltb, le-leb, lt-leb, eq-eqb, ne_eqb, and_parts, and_from}
 use Rattle.std.proofs.{lemmas.List.{append-nil, length-map}, Math.Nat.{pow-le-pow_right, le-mul_of_pos_right, div-eq_of_lt, mod-eq_of_lt}}
 use Rattle.std.specs.{List.{list_all}, Fmt.{digits, digits_onto, digit_glyph}}
-use Rattle.std.specs.Int.Digits.{number_from_digits_after, number_from_digits, digits_of, AllBelowBase}
+use Rattle.std.specs.Int.Digits.{number_from_digits_after, digits_of, AllBelowBase}
 use Rattle.line_forms.specs.Leaves.{digit_of, value_after, is_number, number}
 
 -- ---- single digits
 
 low_digit : (d : ℕ) → d < 10 → digit_of (48 + d) ≡ d
-low_digit d l =
-    let a : leb 48 (48 + d) ≡ true = le-leb _ _ (omega arith) in
-    let b : leb (48 + d) 57 ≡ true = le-leb _ _ (omega arith) in
-    let e : 48 + d - 48 ≡ d = omega arith in
-    rw (a, b) e
+low_digit d l = grind (arith, leb, true, le-leb)
 
 high_digit : (d : ℕ) → 10 ≤ d → d < 16 → digit_of (87 + d) ≡ d
-high_digit d l h =
-    let a : leb (87 + d) 57 ≡ false = lt-leb _ _ (omega arith) in
-    let z : leb 48 (87 + d) ≡ true = le-leb _ _ (omega arith) in
-    let b : leb 97 (87 + d) ≡ true = le-leb _ _ (omega arith) in
-    let c : leb (87 + d) 102 ≡ true = le-leb _ _ (omega arith) in
-    let e : 87 + d - 87 ≡ d = omega arith in
-    rw (z, a, b, c) e
+high_digit d l h = grind (arith, leb, false, lt-leb, true, le-leb)
 
 -- a digit that is written is read
 pub digit_of-glyph : (d : ℕ) → d < 16 → digit_of (digit_glyph false d) ≡ d
-digit_of-glyph d l = elim (cases_lt d 10) [
-  | inl low ↦ let t : ltb d 10 ≡ true = lt-ltb _ _ low in rw t (low_digit d low)
-  | inr high ↦ let f : ltb d 10 ≡ false = le-ltb _ _ high in rw f (high_digit d high l)
-]
+digit_of-glyph d l = grind (arith, cases_lt, ltb, true, lt-ltb, low_digit, false, le-ltb, high_digit)
 
 glyph_of : (c d : ℕ) → digit_of c ≡ d → digit_glyph false d ≡ c → digit_glyph false (digit_of c) ≡ c
 glyph_of c d e g = rw e g
 
 -- a digit that is read is written so
 pub glyph-digit_of : (c : ℕ) → digit_of c < 16 → digit_glyph false (digit_of c) ≡ c
-glyph-digit_of c l = elim (cases_Bool (leb 48 c && leb c 57)) [
-  | inl t ↦
-      let p = and_parts (leb 48 c) (leb c 57) t in
-      let a : 48 ≤ c = leb-true _ _ p.0 in
-      let b : c ≤ 57 = leb-true _ _ p.1 in
-      let e : digit_of c ≡ c - 48 = rw t refl in
-      let u : ltb (c - 48) 10 ≡ true = lt-ltb _ _ (omega arith) in
-      let g : 48 + (c - 48) ≡ c = omega arith in
-      glyph_of c (c - 48) e (rw u g)
-  | inr f ↦ elim (cases_Bool (leb 97 c && leb c 102)) [
-    | inl t ↦
-        let p = and_parts (leb 97 c) (leb c 102) t in
-        let a : 97 ≤ c = leb-true _ _ p.0 in
-        let b : c ≤ 102 = leb-true _ _ p.1 in
-        let e : digit_of c ≡ c - 87 = rw (f, t) refl in
-        let u : ltb (c - 87) 10 ≡ false = le-ltb _ _ (omega arith) in
-        let g : 87 + (c - 87) ≡ c = omega arith in
-        glyph_of c (c - 87) e (rw u g)
-    | inr g ↦ let e : digit_of c ≡ 16 = rw (f, g) refl in absurd (omega (arith, e))
-  ]
-]
+glyph-digit_of c l = grind (arith, leb, and_parts, leb-true, ltb, true, lt-ltb, glyph_of, false, le-ltb)
 
 -- only 0 is written as a zero
 pub glyph_zero : (d : ℕ) → d < 16 → digit_glyph false d ≡ 48 → d ≡ 0
-glyph_zero d l e =
-    let z : digit_of 48 ≡ 0 = refl in
-    sym (digit_of-glyph d l) ∙ (ap digit_of e ∙ z)
+glyph_zero d l e = grind (arith, digit_of-glyph)
 
 -- ---- values
 
@@ -87,9 +52,7 @@ below_from b [] h = tt
 below_from b (c ∷ cs) h = (head_below b c cs h, below_from b cs (tail_below b c cs h))
 
 pub value_lt : (b : ℕ) (text : List ℕ) → are_below b text ≡ true → value_after b 0 text < b ^ length text
-value_lt b text h =
-    let n : number_from_digits b (map digit_of text) < b ^ length (map digit_of text) = number_lt b (map digit_of text) (below_from b text h) in
-    rw (value_is b 0 text) (subst (λ k. number_from_digits b (map digit_of text) < b ^ k) (length-map text digit_of) n)
+value_lt b text h = grind (arith, map, length, number_lt, below_from, value_is, length-map)
 
 -- ---- from a text to its number
 
@@ -116,38 +79,17 @@ pub record IsNumber (b most : ℕ) (text : List ℕ) : Type 0 where
   pub below : are_below b text ≡ true
 
 is_number-true : (b most : ℕ) (text : List ℕ) → is_number b most text ≡ true → IsNumber b most text
-is_number-true b most text h =
-    let p = and_parts (ltb 0 (length text)) (leb (length text) most && ((not (eqb (get_or text 0 0) 48) || eqb (length text) 1) && are_below b text)) h in
-    let q = and_parts (leb (length text) most) ((not (eqb (get_or text 0 0) 48) || eqb (length text) 1) && are_below b text) p.1 in
-    let r = and_parts (not (eqb (get_or text 0 0) 48) || eqb (length text) 1) (are_below b text) q.1 in
-    record {
-      some = ltb-true _ _ p.0;
-      few = leb-true _ _ q.0;
-      no_zero = λ z. let t : eqb (get_or text 0 0) 48 ≡ true = eq-eqb _ _ z in
-          let e : (not true || eqb (length text) 1) ≡ true = subst (λ x. (not x || eqb (length text) 1) ≡ true) t r.0 in
-          eqb-true _ _ e;
-      below = r.1;
-    }
+is_number-true b most text h = grind (arith, and_parts, ltb, length, leb, not, eqb, get_or, ltb-true, leb-true, true, eq-eqb, eqb-true)
 
 zero_test : (x l : ℕ) → (x ≡ 48 → l ≡ 1) → (not (eqb x 48) || eqb l 1) ≡ true
-zero_test x l h = elim (cases_Bool (eqb x 48)) [
-  | inl t ↦ let e : eqb l 1 ≡ true = eq-eqb l 1 (h (eqb-true x 48 t)) in rw (t, e) refl
-  | inr f ↦ rw f refl
-]
+zero_test x l h = grind (arith, eqb, true, eq-eqb, eqb-true)
 
 is_number-from : (b most : ℕ) (text : List ℕ) → IsNumber b most text → is_number b most text ≡ true
-is_number-from b most text h =
-    let p : ltb 0 (length text) ≡ true = lt-ltb _ _ h.some in
-    let q : leb (length text) most ≡ true = le-leb _ _ h.few in
-    let r : (not (eqb (get_or text 0 0) 48) || eqb (length text) 1) ≡ true = zero_test (get_or text 0 0) (length text) h.no_zero in
-    rw (p, q, r, h.below) refl
+is_number-from b most text h = grind (arith, ltb, length, true, lt-ltb, leb, le-leb, not, eqb, get_or, zero_test)
 
 -- a first digit that is no zero, and those behind it
 first_written : (b k d : ℕ) (rest : List ℕ) → d < b → digits_onto (suc k) b false d rest ≡ digit_glyph false d ∷ rest
-first_written b k d rest l =
-    let q : d / b ≡ 0 = div-eq_of_lt l in
-    let r : d % b ≡ d = mod-eq_of_lt l in
-    rw (q, r) refl
+first_written b k d rest l = grind (arith, div-eq_of_lt, mod-eq_of_lt)
 
 written_from : (b k fuel c : ℕ) (cs : List ℕ) → 2 ≤ b → b ≤ 16 → 0 < digit_of c → are_below b (c ∷ cs) ≡ true → fuel ≡ suc k + length cs
     → digits_onto fuel b false (value_after b (digit_of c) cs) [] ≡ c ∷ cs
@@ -172,10 +114,7 @@ written b (c ∷ e ∷ cs) low high h =
     let g : digit_glyph false (digit_of c) ≡ c = glyph-digit_of c (omega arith) in
     let z : 0 * b + digit_of c ≡ digit_of c = omega arith in
     let no_zero : c ≢ 48 = λ x. let one : length (c ∷ e ∷ cs) ≡ 1 = h.no_zero x in absurd (omega (arith, one)) in
-    let some : 0 < digit_of c = elim (cases_lt 0 (digit_of c)) [
-      | inl pos ↦ pos
-      | inr none ↦ let zero_is : digit_of c ≡ 0 = omega arith in absurd (no_zero (sym g ∙ ap (digit_glyph false) zero_is))
-    ] in
+    let some : 0 < digit_of c = grind (arith, cases_lt, false) in
     let few : length (e ∷ cs) ≤ 63 = omega (arith, h.few) in
     let k : 64 ≡ suc (63 - length (e ∷ cs)) + length (e ∷ cs) = omega arith in
     ap (λ n. digits_onto 64 b false (value_after b n (e ∷ cs)) []) z ∙ written_from b (63 - length (e ∷ cs)) 64 c (e ∷ cs) low high some h.below k
@@ -187,15 +126,7 @@ guard_some false x y e = absurd cc
 
 pub number_takes : (b most n : ℕ) (text : List ℕ) → 2 ≤ b → b ≤ 16 → most ≤ 64 → number b most text ≡ Some n → (n < b ^ most) × (text ≡ digits b false n)
 unfolding number
-number_takes b most n text low high few e =
-    let g = guard_some (is_number b most text) (value_after b 0 text) n e in
-    let is = is_number-true b most text g.0 in
-    let value : value_after b 0 text ≡ n = g.1 in
-    let below : value_after b 0 text < b ^ length text = value_lt b text is.below in
-    let power : b ^ length text ≤ b ^ most = pow-le-pow_right {n = b} (omega arith) is.few in
-    let wide : IsNumber b 64 text = record { some = is.some; few = omega (arith, is.few); no_zero = is.no_zero; below = is.below } in
-    let text_is : digits b false (value_after b 0 text) ≡ text = written b text low high wide in
-    (omega (arith, value), sym text_is ∙ ap (digits b false) value)
+number_takes b most n text low high few e = grind (arith, guard_some, is_number-true, length, value_lt, pow-le-pow_right, false, written)
 
 -- ---- from a number to its text
 
@@ -205,16 +136,11 @@ glyphs ds = map (digit_glyph false) ds
 
 glyphs_below : (b : ℕ) (ds : List ℕ) → b ≤ 16 → AllBelowBase b ds → are_below b (glyphs ds) ≡ true
 glyphs_below b [] high h = refl
-glyphs_below b (d ∷ ds) high h =
-    let e : digit_of (digit_glyph false d) ≡ d = digit_of-glyph d (omega (arith, h.0)) in
-    let t : ltb (digit_of (digit_glyph false d)) b ≡ true = lt-ltb _ _ (omega (arith, e, h.0)) in
-    and_from (ltb (digit_of (digit_glyph false d)) b) (are_below b (glyphs ds)) t (glyphs_below b ds high h.1)
+glyphs_below b (d ∷ ds) high h = grind (arith, false, digit_of-glyph, ltb, true, lt-ltb, and_from, glyphs_below b ds high h.1)
 
 glyphs_value : (b n : ℕ) (ds : List ℕ) → b ≤ 16 → AllBelowBase b ds → value_after b n (glyphs ds) ≡ number_from_digits_after b n ds
 glyphs_value b n [] high h = refl
-glyphs_value b n (d ∷ ds) high h =
-    let e : digit_of (digit_glyph false d) ≡ d = digit_of-glyph d (omega (arith, h.0)) in
-    ap (λ x. value_after b (n * b + x) (glyphs ds)) e ∙ glyphs_value b (n * b + d) ds high h.1
+glyphs_value b n (d ∷ ds) high h = grind (arith, false, digit_of-glyph, glyphs_value b (n * b + d) ds high h.1)
 
 first_glyph : (ds : List ℕ) → 0 < get_or ds 0 0 → get_or ds 0 0 < 16 → get_or (glyphs ds) 0 0 ≡ 48 → ⊥
 first_glyph [] some low e = omega (arith, some)
@@ -239,16 +165,7 @@ reads_some b most n low high some h =
     let below = all_below_base_digits_of b n low in
     let first : 0 < get_or (digits_of b n) 0 0 = first_digits_of b n low some in
     let few : length (digits_of b n) ≤ most = length-digits_of-le b most n low h in
-    record {
-      text = glyphs (digits_of b n);
-      is = record {
-        some = not_empty (digits_of b n) first;
-        few = omega (arith, length-map (digits_of b n) (digit_glyph false));
-        no_zero = λ e. absurd (first_glyph (digits_of b n) first (first_below b (digits_of b n) (omega arith) high below) e);
-        below = glyphs_below b (digits_of b n) high below;
-      };
-      value = glyphs_value b 0 (digits_of b n) high below ∙ number_digits_of b n low;
-    }
+    grind (arith, not_empty, first, few, length-map, false, first_glyph, first_below, glyphs_below, glyphs_value, number_digits_of)
 
 reads_zero : (b most : ℕ) → 2 ≤ b → 0 < most → Reads b most 0
 reads_zero b most low some = record {

@@ -72,24 +72,15 @@ no_format a = number_at-none (codes "format=") 16 16 _ (not_keyed_last (codes "f
 
 no_sample : (a : Asked) → number_at (codes "sample=") 16 16 (form.word_if a.format (λ n. codes "format=" ++ form.hexadecimal n) ++ form.word_if a.flags (λ n. codes "flags=" ++ form.flags_text n)) ≡ None
 unfolding strip
-no_sample a =
-    number_at-none (codes "sample=") 16 16 _ (not_keyed_if (codes "sample=") a.format (λ n. codes "format=" ++ form.hexadecimal n) _ (λ n. refl)
-    (not_keyed_last (codes "sample=") a.flags (λ n. codes "flags=" ++ form.flags_text n) (λ n. refl)))
+no_sample a = grind (arith, number_at-none, not_keyed_if, not_keyed_last)
 
 no_period : (a : Asked) → number_at (codes "period=") 10 20 (form.word_if a.sample (λ n. codes "sample=" ++ form.hexadecimal n) ++ (form.word_if a.format (λ n. codes "format=" ++ form.hexadecimal n) ++ form.word_if a.flags (λ n. codes "flags=" ++ form.flags_text n))) ≡ None
 unfolding strip
-no_period a =
-    number_at-none (codes "period=") 10 20 _ (not_keyed_if (codes "period=") a.sample (λ n. codes "sample=" ++ form.hexadecimal n) _ (λ n. refl)
-    (not_keyed_if (codes "period=") a.format (λ n. codes "format=" ++ form.hexadecimal n) _ (λ n. refl)
-    (not_keyed_last (codes "period=") a.flags (λ n. codes "flags=" ++ form.flags_text n) (λ n. refl))))
+no_period a = grind (arith, number_at-none, not_keyed_if, not_keyed_last)
 
 no_leader : (a : Asked) → number_at (codes "leader=") 10 20 (form.asked_words a) ≡ None
 unfolding strip
-no_leader a =
-    number_at-none (codes "leader=") 10 20 _ (not_keyed_if (codes "leader=") a.period (λ n. codes "period=" ++ decimal n) _ (λ n. refl)
-    (not_keyed_if (codes "leader=") a.sample (λ n. codes "sample=" ++ form.hexadecimal n) _ (λ n. refl)
-    (not_keyed_if (codes "leader=") a.format (λ n. codes "format=" ++ form.hexadecimal n) _ (λ n. refl)
-    (not_keyed_last (codes "leader=") a.flags (λ n. codes "flags=" ++ form.flags_text n) (λ n. refl)))))
+no_leader a = grind (arith, number_at-none, not_keyed_if, not_keyed_last)
 
 flags_last : (o : Option ℕ) → IfSome o form.AreFlags → flags_if (form.word_if o (λ n. codes "flags=" ++ form.flags_text n)) ≡ (o, [])
 flags_last o h = ap flags_if (sym (append-nil (form.word_if o (λ n. codes "flags=" ++ form.flags_text n)))) ∙ flags_if-again o [] h tt
@@ -118,8 +109,7 @@ open_kind-takes ws f e =
     let a = bind_some (asked_at p.0.1) _ f p.2 in
     let tp = place-takes s.n n.rest p.0 p.1 in
     let ta = asked-takes p.0.1 a.0 a.1 in
-    let words : ws ≡ decimal p.0.0.slot ∷ (codes "kind=" ++ n.n) ∷ form.place_words p.0.0 (form.asked_words a.0) =
-    s.words ∙ (ap (λ (k : ℕ). decimal k ∷ s.rest) (sym tp.slot_is) ∙ more _ s.rest _ (n.words ∙ more _ n.rest _ (tp.words ∙ ap (form.place_words p.0.0) ta.1))) in
+    let words : ws ≡ decimal p.0.0.slot ∷ (codes "kind=" ++ n.n) ∷ form.place_words p.0.0 (form.asked_words a.0) = grind (arith, ℕ, more) in
     subst (IsToolSpelled (codes "open") ws) (same_Some (form.OpenKind p.0.0 n.n a.0) f a.2) ((opening_is p.0.0 s.n tp.slot_is s.fits tp.task tp.cpu tp.leader, n.fits, ta.0), more (codes "open") ws _ words)
 
 open_kind-again : (p : Opening) (n : List ℕ) (a : Asked) → form.IsOpening p → form.IsWord n → form.IsAsked a

@@ -1,9 +1,9 @@
 -- Lines of tools that ask: the world is as it was.
-use Rattle.std.specs.Prelude.{◌≡◌, ℕ, zero, suc, ◌<◌, true, [], ◌∷◌, ◌++◌, length, None, slice_index_or}
-use Rattle.std.proofs.{Common.{arith, refl, sym, ap, subst, ◌∙◌}, lemmas.List.{map-append}}
+use Rattle.std.specs.Prelude.{◌≡◌, ℕ, zero, suc, ◌<◌, true, [], None, slice_index_or}
+use Rattle.std.proofs.{Common.{arith, refl, sym, subst}, lemmas.List.{map-append}}
 use Rattle.perf_base.specs.declared.{lines.ToolLine.{ToolLine}, numbers.CpuNo.{CpuNo}, reply.Reply.{Reply}}
-use Rattle.stage_spec.specs.{Hardware.{Hardware}, History.{ToolStep, stage_step, unless_refused, tool_refusal, tool_changed}, Numbers.{numbers_below}}
-use Rattle.stage_spec.specs.{Replies.{UnlessRefused, IsToolReply}, Settle.{settle, settle_each, settle_all, IsSettled}, Shares.{no_sums}}
+use Rattle.stage_spec.specs.{Hardware.{Hardware}, History.{ToolStep, stage_step, tool_refusal, tool_changed}}
+use Rattle.stage_spec.specs.{Replies.{UnlessRefused, IsToolReply}, Settle.{settle_each, settle_all, IsSettled}, Shares.{no_sums}}
 use Rattle.stage_spec.{specs.Stage.{Stage}, proofs.Recurrence.{plus-none}}
 use Rattle.world_spec.specs.{Kept.{IsKept, family_sums}, StageOf.{stage_of}, Value.{World, instance_at}, Quiet.{is_quiet_call}, Stepping.{HasStepped}}
 use Rattle.world_spec.proofs.{Asking.{answers-by}, Quiet.{quiet-keeps}, Stepping.{stepped}}
@@ -15,20 +15,13 @@ use Rattle.machine.specs.Stepped as stepped_line
 pub settled-below : (hw : Hardware) (n : ℕ) (s : Stage) → ((cpu : CpuNo) → cpu.0 < n → IsSettled hw cpu s) → settle_each hw (cpus_below n) s ≡ s
 unfolding settle_each
 settled-below hw zero s h = refl
-settled-below hw (suc n) s h =
-    let cpu : CpuNo = record { 0 = n } in
-    let cpus : cpus_below (suc n) ≡ cpus_below n ++ cpu ∷ [] = map-append (λ k. record { 0 = k }) (numbers_below n) (n ∷ []) in
-    ap (λ cs. settle_each hw cs s) cpus
-    ∙ (settle-parts hw (cpus_below n) (cpu ∷ []) s
-    ∙ (ap (λ t. settle hw cpu t) (settled-below hw n s (λ c low. h c (omega (arith, low)))) ∙ h cpu (omega arith)))
+settled-below hw (suc n) s h = grind (arith, cpus_below, map-append, settle-parts, settled-below hw n s (λ c low. h c (omega (arith, low))))
 
 -- a line that asks
 pub asks-stage : (w : World) (l : ToolLine) → IsReady w → tool_refusal w.hardware (stage_of w) l ≡ None → ((s : Stage) → tool_changed l s ≡ s)
     → stage_of w ≡ stage_step w.hardware (stage_of w) (ToolStep l)
 unfolding stage_step settle_all
-asks-stage w l h accepted same =
-    sym (ap (λ o. unless_refused w.hardware o (tool_changed l) (stage_of w)) accepted
-    ∙ (ap (settle_all w.hardware) (same (stage_of w)) ∙ settled-below w.hardware (length w.quiet.running) (stage_of w) (λ cpu low. (h.rescheduled cpu low).settled)))
+asks-stage w l h accepted same = grind (arith, settled-below)
 
 asks-stepped : (w : World) (l : ToolLine) → IsKept w.hardware w → IsReady w → is_quiet_call l ≡ true → tool_refusal w.hardware (stage_of w) l ≡ None → ((s : Stage) → tool_changed l s ≡ s)
     → HasStepped w.hardware w w (ToolStep l)

@@ -7,7 +7,7 @@ use Rattle.perf_base.specs.declared.standing.Context.TheVariants as context
 use Rattle.stage_spec.specs.{Hardware.{Hardware, hardware_of}, History.{stage_after, steps_from}}
 use Rattle.stage_spec.specs.{Limits.{Limits, IsMachine, IsWithin, AreTaskNumbers, limits_of}, Replies.{seated}, Settle.{IsSettled}}
 use Rattle.stage_spec.specs.Stage.{first_stage, lists_of, no_groups, place_of, task_on}
-use Rattle.stage_spec.{specs.Verdict.{verdicts, judge_passes, judge_pass, task_lists, with_masks}, proofs.Machines.{script_machine}}
+use Rattle.stage_spec.{specs.Verdict.{verdicts, judge_passes, judge_pass, task_lists}, proofs.Machines.{script_machine}}
 use Rattle.stage_laws.{specs.Sound.{IsSound}, proofs.{ReachedSettled.{reached_settled}, Sound.{first_sound}}}
 use Rattle.counter_match.specs.Seating.{Seated, empty_seating}
 use Rattle.ring_spec.specs.Running.{empty_ring, first_record, record_of}
@@ -36,9 +36,7 @@ no-seats hw declared cpu =
     let f : ℕ → Seated = λ pmu. empty_seating (slice_index hw.counters pmu) in
     elim (cases_lt cpu.0 (length hw.cpu_pmus)) [
       | inl low ↦ let here = get_or-map f hw.cpu_pmus cpu.0 0 (empty_seating 0) low in (ap (λ s. s.events) here, ap (λ s. s.seats) here)
-      | inr past ↦
-          let here = get_or_past (map f hw.cpu_pmus) cpu.0 (empty_seating 0) (omega (arith, past, length-map hw.cpu_pmus f)) in
-          (ap (λ s. s.events) here, ap (λ s. s.seats) here)
+      | inr past ↦ grind (arith, get_or_past, past, length-map)
     ]
 
 first-seated : (hw : Hardware) (cpus : ℕ) (declared : List TaskNo) (cpu : CpuNo) → seated hw (first_stage cpus declared) cpu ≡ []
@@ -48,10 +46,7 @@ first-served : (hw : Hardware) (declared : List TaskNo) (cpu : CpuNo) → AreSer
 first-served hw declared cpu =
     let none = no-seats hw declared cpu in
     let stage : seated hw (stage_of (first_world hw declared)) cpu ≡ [] = ap (λ s. seated hw s cpu) (first-stage hw declared) ∙ first-seated hw (length hw.cpu_pmus) declared cpu in
-    record {
-      events = none.0 ∙ sym (ap (with_masks hw) stage);
-      assigned = rw (none.0, none.1) (record { one_each = refl; allowed = λ i below. absurd (omega (arith, below)); different = λ i j before below. absurd (omega (arith, below)) });
-    }
+    grind (arith, stage)
 
 -- the limits of a machine without rings
 abbrev limits_by : Hardware → Limits

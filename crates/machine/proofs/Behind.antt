@@ -13,18 +13,10 @@ use Rattle.machine.specs.Readers.{AreBehind, AreFollowing, AreReaders, BehindTo,
 
 -- readers that follow the ends are behind them, and have released all that they took
 pub following-behind : (words : ℕ) (outs : OutList) (ins : InList) → AreFollowing words outs ins → AreBehind words outs ins
-following-behind words outs ins h = record {
-  numbers = h.numbers;
-  each = λ place o at.
-      let f = h.each place o at in
-      (f.0, f.1, record { ring = f.2.ring; released = omega (arith, f.2.up_to.released, f.2.up_to.words); room = f.2.room });
-}
+following-behind words outs ins h = grind arith
 
 pub following-readers : (words : ℕ) (outs : OutList) (ins : InList) → AreFollowing words outs ins → AreReaders words outs ins
-following-readers words outs ins h = record {
-  numbers = h.numbers;
-  each = λ place o at. let f = h.each place o at in (f.0, f.1, record { ring = f.2.ring; released = f.2.up_to.released; room = f.2.room });
-}
+following-readers words outs ins h = grind arith
 
 -- the reader of a ring among them
 pub its-reader : (words : ℕ) (outs : OutList) (ins : InList) (ring : RingNo) (o : OutEnd) → AreReaders words outs ins → out_of outs ring ≡ Some o → HasItsReader outs ins ring
@@ -37,28 +29,16 @@ its-reader words outs ins ring o h at =
 
 -- The ends of one ring meet: its reader is behind then, and what was known of the readers stays.
 met-reader : (words loads : ℕ) (o : OutEnd) (i j : InEnd) → HasMet o i j → IsReaderOf words o i → IsReaderOf words (with_tail o (8 * i.consumer.released) loads) j
-met-reader words loads o i j met h = record {
-  ring = ap (λ (x : InEnd). x.consumer.ring) met.reader ∙ h.ring;
-  released = ap (λ (x : InEnd). x.consumer.released) met.reader ∙ (h.released ∙ sym (ap (λ (x : InEnd). length x.words) met.reader));
-  room = omega (arith, h.room, ap (λ (x : InEnd). x.room) met.reader);
-}
+met-reader words loads o i j met h = grind arith
 
 met-behind : (words loads : ℕ) (o : OutEnd) (i j : InEnd) → HasMet o i j → IsReaderOf words o i → IsBehind words (with_tail o (8 * i.consumer.released) loads) j
-met-behind words loads o i j met h = record {
-  ring = ap (λ (x : InEnd). x.consumer.ring) met.reader ∙ h.ring;
-  released = ap (λ (x : InEnd). 8 * x.consumer.released) met.reader;
-  room = omega (arith, h.room, ap (λ (x : InEnd). x.room) met.reader);
-}
+met-behind words loads o i j met h = grind arith
 
 behind-set : (words few : ℕ) (outs : OutList) (ins : InList) (o p : OutEnd) (i j : InEnd) → slice_get outs.outs few ≡ Some o → slice_get ins.readers few ≡ Some (Some i)
     → IsBehind words p j → BehindTo few words outs ins → BehindTo (few + 1) words (with_out outs few p) (with_slot ins few (Some j))
 behind-set words few outs ins o p i j at reader here h place q below found = elim (cases_eq place few) [
-  | inl e ↦
-      let is : p ≡ q = same_Some p q (sym (set-here outs.outs few o p at) ∙ (ap (slice_get (with_out outs few p).outs) (sym e) ∙ found)) in
-      (j, ap (slice_get (with_slot ins few (Some j)).readers) e ∙ set-here ins.readers few (Some i) (Some j) reader, subst (λ x. IsBehind words x j) is here)
-  | inr off ↦
-      let before = h place q (omega (arith, below, off)) (sym (set-other outs.outs few place p off) ∙ found) in
-      (before.0, set-other ins.readers few place (Some j) off ∙ before.1, before.2)
+  | inl e ↦ grind (arith, same_Some, set-here, e)
+  | inr off ↦ grind (arith, off, set-other)
 ]
 
 readers-set : (words place : ℕ) (outs : OutList) (ins : InList) (o p : OutEnd) (i j : InEnd) → slice_get outs.outs place ≡ Some o → slice_get ins.readers place ≡ Some (Some i)
@@ -104,10 +84,7 @@ pub none-behind : (words : ℕ) (outs : OutList) (ins : InList) → BehindTo 0 w
 none-behind words outs ins = λ place o below at. absurd (omega (arith, below))
 
 pub all-behind : (words few : ℕ) (outs : OutList) (ins : InList) → length outs.outs ≤ few → AreReaders words outs ins → BehindTo few words outs ins → AreBehind words outs ins
-all-behind words few outs ins all h behind = record {
-  numbers = h.numbers;
-  each = λ place o at. behind place o (omega (arith, slice_get_within outs.outs place o at, all)) at;
-}
+all-behind words few outs ins all h behind = grind (arith, slice_get_within)
 
 -- the ends are those of the script's rings, in their order
 pub numbers-of : (s : Scripted) (acts : List Act) (m : Kept) → LeadTo s acts m → m.outs.numbers ≡ map (λ (r : RingNo × ℕ). r.0) s.rings

@@ -8,11 +8,11 @@ use Rattle.perf_base.specs.declared.reasons.Reason.TheVariants as reason
 use Rattle.perf_base.specs.declared.reply.Reply.TheVariants as reply
 use Rattle.perf_base.specs.declared.standing.Context.TheVariants as context
 use Rattle.stage_spec.specs.{declared.instance.Instance.{Instance}, Commands.{targets, is_reached, closed_refusal}, Hardware.{Hardware}}
-use Rattle.stage_spec.specs.{History.{Step, ToolStep}, Limits.{IsMachine}, Recurrence.{after_reset}, Refusals.{first_of}, Remainders.{left_by_hits}}
+use Rattle.stage_spec.specs.{History.{ToolStep}, Limits.{IsMachine}, Recurrence.{after_reset}, Refusals.{first_of}}
 use Rattle.stage_spec.{specs.{Shares.{share, no_sums}, Stage.{is_open, all_instances}, Sums.{resets}}, proofs.Recurrence.{plus-none}}
 use Rattle.stage_laws.specs.Sound.{IsSound}
 use Rattle.world_spec.specs.{Kept.{IsKept}, Rescheduled.{AreRescheduled, AreUntouched}, StageOf.{stage_of}}
-use Rattle.world_spec.specs.{Value.{World, Account, is_live, entry_at, instance_at, account_at, times}, Stepping.{HasStepped, HasItsShare}}
+use Rattle.world_spec.specs.{Value.{World, Account, is_live, entry_at, instance_at, times}, Stepping.{HasStepped, HasItsShare}}
 use Rattle.world_spec.proofs.{Counting.{any-there, any-key}, Families.{all_keys, times-keys, instances-are, key-lives}, Keys.{once-true}}
 use Rattle.world_spec.proofs.{Quiet.{none-after}, Stepping.{instance-found}}
 use Rattle.event_commands.specs.Commands.{IsReset, from_zero}
@@ -42,8 +42,7 @@ found-passes hw w k q h live =
         | inl some ↦
             let other : (j : Key) × (1 ≤ times j (all_keys w)) × (((instance_at w j).id == id && q (instance_at w j)) ≡ true) =
             any-key (λ i. i.id == id && q i) (instance_at w) (all_keys w) some in
-            let parts : (((instance_at w other.0).id == id) ≡ true) × (q (instance_at w other.0) ≡ true) =
-            both-true ((instance_at w other.0).id == id) (q (instance_at w other.0)) other.2 in
+            let parts : (((instance_at w other.0).id == id) ≡ true) × (q (instance_at w other.0) ≡ true) = grind (arith, nat_tests, both-true) in
             let same : other.0 ≡ k = h.numbered.once other.0 k (key-lives hw w h other.0 other.1) live (number-is (instance_at w other.0).id id parts.0) in
             absurd (false≢true (sym fails ∙ (ap (λ x. q (instance_at w x)) (sym same) ∙ parts.1)))
         | inr none ↦ none ∙ sym fails
@@ -80,21 +79,7 @@ reset-reaches w x event group k c live =
 
 reset-share : (w x : World) (event : EventNo) (group : Bool) (k : Key) → Course w x event group → is_live w k ≡ true → HasItsShare w.hardware w x (ToolStep (line.Reset event group)) k
 unfolding share
-reset-share w x event group k c live =
-    let step : Step = ToolStep (line.Reset event group) in
-    let id : ℕ = (instance_at w k).id in
-    let account : Account = account_at w k in
-    let reached : Bool = is_reached (targets (stage_of w) event group) (instance_at w k) in
-    record {
-      live = live;
-      id = ap (λ (y : World). (instance_at y k).id) c.counts.world;
-      sums = ap (λ a. a.sums) (c.counts.accounts k live)
-          ∙ (reset-sums reached account
-          ∙ (ap (λ b. after_reset b account.sums) (sym (reset-reaches w x event group k c live)) ∙ sym (plus-none (after_reset (resets (stage_of w) step id) account.sums))));
-      left = ap (λ a. a.left) (c.counts.accounts k live)
-          ∙ (reset-left reached account
-          ∙ sym (ap (λ o. left_by_hits w.hardware (stage_of w) step id o account.left) (instance-found w.hardware w k c.kept live) ∙ none-after (instance_at w k).attr.period account.left));
-    }
+reset-share w x event group k c live = grind (arith, nat_tests, reset-sums, reset-reaches, plus-none, reset-left, instance-found, none-after)
 
 reset-stepped : (w x : World) (event : EventNo) (group : Bool) → Course w x event group → HasStepped w.hardware w x (ToolStep (line.Reset event group))
 reset-stepped w x event group c =

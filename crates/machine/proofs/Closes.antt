@@ -1,7 +1,7 @@
 -- A line that closes an event.
-use Rattle.std.specs.{Prelude.{◌≡◌, ℕ, ◌<◌, ◌==◌, true, false, is_some, [], length, filter, Option, Some, None, slice_index_or}, FinMap.{get}}
-use Rattle.std.{specs.{List.{list_any}, Option.{unwrap_or}}, proofs.Common.{arith, refl, sym, ap, subst, ◌∙◌, inl, inr}}
-use Rattle.std.proofs.lemmas.Bool.{cases_Bool, cases_eq, false≢true, Decides.{nat_tests}}
+use Rattle.std.specs.{Prelude.{◌≡◌, ℕ, ◌<◌, true, false, is_some, [], length, filter, Option, Some, None, slice_index_or}}
+use Rattle.std.{specs.{Option.{unwrap_or}}, proofs.Common.{arith, refl, sym, ap, subst, ◌∙◌}}
+use Rattle.std.proofs.lemmas.Bool.{false≢true, Decides.{nat_tests}}
 use Rattle.perf_base.specs.{Cpus.{HasCpu}, Scripts.{IsSlot}, declared.numbers.{CpuNo.{CpuNo}, CpuSet.{CpuSet}, EventNo.{EventNo}, Key.{Key}}}
 use Rattle.perf_base.specs.declared.lines.ToolLine.TheVariants as line
 use Rattle.perf_base.specs.declared.reply.Reply.TheVariants as reply
@@ -10,7 +10,7 @@ use Rattle.stage_spec.{specs.{Settle.{settle_each}, Shares.{no_sums}, Stage.{all
 use Rattle.stage_laws.{specs.{Narrowing.{tool_touches}, Sound.{IsSound}}, proofs.Sound.{step_sound}}
 use Rattle.ring_spec.specs.Agreement.{IsCurrentSlot}
 use Rattle.world_spec.specs.{Kept.{IsKept}, Rescheduled.{AreRescheduled}, StageOf.{stage_of}}
-use Rattle.world_spec.specs.{Value.{World, Entry, no_entry, no_family, is_live, entry_at, instance_at, account_at, family_of}, Quiet.{KeepsAccount}}
+use Rattle.world_spec.specs.{Value.{World, Entry, no_entry, is_live, entry_at, instance_at, account_at}, Quiet.{KeepsAccount}}
 use Rattle.world_spec.{specs.Stepping.{HasStepped}, proofs.{Families.{open-is}, Quiet.{quiet-keeps}}}
 use Rattle.event_commands.specs.Closing.{IsClosed}
 use Rattle.machine.{specs.{Settled.{OnlyRescheduled, is_in}, Stepped.{limits_in, IsReady}}, proofs.CommandLines.{accepted-line}}
@@ -32,16 +32,7 @@ pub record Course (w v x : World) (e : EventNo) (set : CpuSet) : Type 0 where
   pub kept_then : IsKept x.hardware x
 
 close-stage : (w v x : World) (e : EventNo) (set : CpuSet) → Course w v x e set → stage_of x ≡ stage_step w.hardware (stage_of w) (ToolStep (line.Close e))
-close-stage w v x e set c = narrowed-step w v x (line.Close e) set (record {
-  ready = c.ready;
-  within = c.slot;
-  accepted = c.accepted;
-  hardware = ap (λ (y : World). y.hardware) c.gone.world;
-  running = ap (λ (y : World). length y.quiet.running) c.gone.world;
-  stage = c.stage;
-  into = c.into;
-  back = c.back;
-}) c.settled
+close-stage w v x e set c = grind (arith, nat_tests, narrowed-step)
 
 -- a key that names nothing is of no event
 none-there : (o : Option Entry) → is_some o ≡ false → unwrap_or o no_entry ≡ no_entry
@@ -52,15 +43,7 @@ none-of : (e : EventNo) → e.0 < 256 → is_of_family e no_entry.instance ≡ f
 none-of e low = grind (arith, nat_tests, low)
 
 not-closed : (w v : World) (e : EventNo) (k : Key) → IsClosed e w v → IsSlot e → is_live v k ≡ true → is_of_family e (instance_at w k) ≡ false
-not-closed w v e k g slot live = elim (cases_Bool (is_of_family e (instance_at w k))) [
-  | inr off ↦ off
-  | inl family ↦ elim (cases_Bool (is_live w k)) [
-    | inl was ↦ absurd (false≢true (sym (g.gone k was family) ∙ live))
-    | inr dead ↦
-        let none : entry_at w k ≡ no_entry = none-there (get w.entries k.0) dead in
-        absurd (false≢true (sym (ap (λ (y : Entry). is_of_family e y.instance) none ∙ none-of e slot) ∙ family))
-  ]
-]
+not-closed w v e k g slot live = grind (arith, nat_tests, false≢true, none-there, none-of)
 
 -- each key that names an instance then has what it had
 record Stays (w x : World) (k : Key) : Type 0 where
@@ -82,21 +65,7 @@ stays w v x e set k c live =
 
 -- the slots that are current were so
 close-slots : (w v x : World) (e : EventNo) (set : CpuSet) (slot : EventNo) → Course w v x e set → IsCurrentSlot (stage_of x) slot → IsCurrentSlot (stage_of w) slot
-close-slots w v x e set slot c current =
-    let family : family_of x slot ≡ family_of v slot = ap (λ (y : World). family_of y slot) c.rest.world in
-    elim current [
-      | inl opened ↦
-          let some : is_some (family_of v slot).original ≡ true = ap (λ f. is_some f.original) (sym family) ∙ (sym (open-is x.hardware x slot c.kept_then) ∙ opened) in
-          elim (cases_eq slot.0 e.0) [
-            | inl same ↦
-                let gone : family_of v slot ≡ no_family = subst (λ (n : ℕ). family_of v (record { 0 = n }) ≡ no_family) (sym same) c.gone.family in
-                absurd (false≢true (ap (λ f. is_some f.original) (sym gone) ∙ some))
-            | inr apart ↦ inl (open-is w.hardware w slot c.kept ∙ (ap (λ f. is_some f.original) (sym (c.gone.families slot apart)) ∙ some))
-          ]
-      | inr unused ↦
-          let used : x.quiet.used ≡ w.quiet.used = ap (λ (y : World). y.quiet.used) c.rest.world ∙ ap (λ (y : World). y.quiet.used) c.gone.world in
-          inr (ap (λ u. list_any (λ y. y.0 == slot.0) u) (sym used) ∙ unused)
-    ]
+close-slots w v x e set slot c current = grind (arith, nat_tests, open-is, false≢true)
 
 close-stepped : (w v x : World) (e : EventNo) (set : CpuSet) → Course w v x e set → HasStepped w.hardware w x (ToolStep (line.Close e))
 close-stepped w v x e set c =
@@ -121,8 +90,7 @@ close-stepped w v x e set c =
       );
       lost = λ slot. ap (λ (y : World). slice_index_or y.lost slot.0 0) c.rest.world ∙ ap (λ (y : World). slice_index_or y.lost slot.0 0) c.gone.world;
       clock = λ own.
-          let same : slice_index_or x.quiet.clocks own.0 0 ≡ slice_index_or w.quiet.clocks own.0 0 =
-          ap (λ (y : World). slice_index_or y.quiet.clocks own.0 0) c.rest.world ∙ ap (λ (y : World). slice_index_or y.quiet.clocks own.0 0) c.gone.world in
+          let same : slice_index_or x.quiet.clocks own.0 0 ≡ slice_index_or w.quiet.clocks own.0 0 = grind (arith, nat_tests) in
           omega (arith, same);
     }
 

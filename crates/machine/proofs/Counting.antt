@@ -1,13 +1,13 @@
 -- How many tests of counters rescheduling some processors takes.
 use Rattle.std.specs.Prelude.{◌≡◌, ℕ, suc, zero, ◌+◌, ◌*◌, ◌<◌, ◌≤◌, ◌==◌, Bool, true, false, not, ◌&&◌, List, [], ◌∷◌, ◌++◌, length, map, filter, flat_map, cond, Option, Some, None, if◌then◌else◌}
-use Rattle.std.{specs.List.{sum_by}, proofs.{Common.{arith, refl, sym, ap, subst, ◌∙◌, inl, inr}, lemmas.Bool.{cases_lt}}}
+use Rattle.std.{specs.List.{sum_by}, proofs.{Common.{arith, refl, sym, ap, subst, ◌∙◌}, lemmas.Bool.{cases_lt}}}
 use Rattle.std.proofs.lemmas.List.{length-map, map-append, Elements.{filter-append}, Sums.{sum_by-append, sum_by-cons}}
 use Rattle.perf_base.specs.declared.{lines.{CpuLine.{CpuLine}, ToolLine.{ToolLine}, Work.{Work}}, numbers.{CpuNo.{CpuNo}, CpuSet.{CpuSet}}}
 use Rattle.perf_base.specs.declared.{reasons.Reason.{Reason}, standing.Standing.{Standing}}
 use Rattle.perf_base.specs.declared.lines.CpuLine.TheVariants as line
-use Rattle.stage_spec.specs.{Effective.{counted_members}, Hardware.{Hardware, mask_of}}
-use Rattle.stage_spec.specs.{History.{Step, CpuStep, ToolStep, cpu_refusal, tool_refusal, cpu_changed, tool_changed}, Numbers.{numbers_below}}
-use Rattle.stage_spec.specs.{Replies.{seated}, Stage.{Stage, Group, all_cpus}, Verdict.{Judged, is_eligible, passes, verdicts, with_masks}}
+use Rattle.stage_spec.specs.{Hardware.{Hardware, mask_of}}
+use Rattle.stage_spec.specs.{History.{Step, CpuStep, ToolStep, cpu_refusal, tool_refusal, cpu_changed, tool_changed}}
+use Rattle.stage_spec.specs.{Replies.{seated}, Stage.{Stage, Group, all_cpus}, Verdict.{Judged, is_eligible, passes, verdicts}}
 use Rattle.stage_laws.specs.{Narrowing.{changed, cpu_touches, tool_touches, touches, unless_left, unless_no}, Briefs.{GroupBrief}}
 use Rattle.stage_laws.{specs.Standings.{brief_of, briefs, standings}, proofs.Briefs.{by_briefs}}
 use Rattle.world_spec.specs.{Rescheduled.{IsRescheduled}, StageOf.{stage_of}, Value.{World, seats_at}}
@@ -32,11 +32,7 @@ tried_by (b ∷ bs) (x ∷ xs) = tried_one b x.1 + tried_by bs xs
 tried-all : (hw : Hardware) (js : List Judged) → sum_by (λ j. tries j.standing j.group) js ≡ tried_by (map (brief_of hw) (map (λ j. j.group) js)) (map (λ j. (j.group.leader.id, j.standing)) js)
 unfolding tried_by
 tried-all hw [] = refl
-tried-all hw (j ∷ js) =
-    let same : length (with_masks hw (counted_members j.group)) ≡ length (counted_members j.group) = length-map (counted_members j.group) (λ i. (i.event, mask_of hw i.attr.kind)) in
-    sum_by-cons (λ k. tries k.standing k.group) j js
-    ∙ ((λ i. tries_for j.standing (sym same i) + sum_by (λ k. tries k.standing k.group) js)
-    ∙ ap (λ n. tried_one (brief_of hw j.group) j.standing + n) (tried-all hw js))
+tried-all hw (j ∷ js) = search (length-map, sum_by-cons, tried-all hw js)
 
 tried-is : (hw : Hardware) (s : Stage) (cpu : CpuNo) → tried hw s cpu ≡ tried_by (flat_map (λ q. q) (briefs hw s cpu)) (standings hw s cpu)
 unfolding verdicts
@@ -46,14 +42,11 @@ tried-is hw s cpu =
     ∙ ap (λ bs. tried_by bs (standings hw s cpu)) (ap (map (brief_of hw)) (passes-groups hw [] ps) ∙ briefs-joined hw (is_eligible hw cpu) (passes s cpu))
 
 pub same-tried : (hw : Hardware) (s t : Stage) (cpu : CpuNo) → briefs hw s cpu ≡ briefs hw t cpu → tried hw s cpu ≡ tried hw t cpu
-same-tried hw s t cpu same =
-    tried-is hw s cpu ∙ ((λ i. tried_by (flat_map (λ q. q) (same i)) (by_briefs hw cpu s t same i)) ∙ sym (tried-is hw t cpu))
+same-tried hw s t cpu same = grind (arith, tried-is, by_briefs)
 
 -- sums over the processors below a number
 below-more : (n : ℕ) → cpus_below (n + 1) ≡ cpus_below n ++ record { 0 = n } ∷ []
-below-more n =
-    let one : n + 1 ≡ suc n = omega arith in
-    ap cpus_below one ∙ map-append (λ k. record { 0 = k }) (numbers_below n) (n ∷ [])
+below-more n = grind (arith, cpus_below, map-append)
 
 one-sum : (f : CpuNo → ℕ) (p : CpuNo → Bool) (cpu : CpuNo) (b : Bool) → p cpu ≡ b → sum_by f (filter p (cpu ∷ [])) ≡ (if b then f cpu else 0)
 one-sum f p cpu true is = ap (λ b. sum_by f (cond b (cpu ∷ []) [])) is ∙ (let alone : 0 + f cpu ≡ f cpu = omega arith in alone)
@@ -61,11 +54,7 @@ one-sum f p cpu false is = ap (λ b. sum_by f (cond b (cpu ∷ []) [])) is
 
 sum-more : (f : CpuNo → ℕ) (p : CpuNo → Bool) (n : ℕ) (b : Bool) → p (record { 0 = n }) ≡ b
     → sum_by f (filter p (cpus_below (n + 1))) ≡ sum_by f (filter p (cpus_below n)) + (if b then f (record { 0 = n }) else 0)
-sum-more f p n b is =
-    let cpu : CpuNo = record { 0 = n } in
-    ap (λ cs. sum_by f (filter p cs)) (below-more n)
-    ∙ (ap (sum_by f) (filter-append p (cpus_below n) (cpu ∷ []))
-    ∙ (sum_by-append f (filter p (cpus_below n)) (filter p (cpu ∷ [])) ∙ ap (λ m. sum_by f (filter p (cpus_below n)) + m) (one-sum f p cpu b is)))
+sum-more f p n b is = grind (arith, below-more, filter-append, cpus_below, sum_by-append, one-sum)
 
 sum-same : (f g : CpuNo → ℕ) (p : CpuNo → Bool) (n : ℕ) → ((cpu : CpuNo) → cpu.0 < n → f cpu ≡ g cpu) → sum_by f (filter p (cpus_below n)) ≡ sum_by g (filter p (cpus_below n))
 sum-same f g p zero same = refl
@@ -83,14 +72,7 @@ pub least-next : (set : CpuSet) (n : ℕ) (w x : World) (b : Bool) (first before
     → first + sum_by (λ cpu. length (seats_at w cpu).events) (filter (is_in set) (cpus_below n)) ≤ before
     → before + (if b then length (seats_at x (record { 0 = n })).events else 0) ≤ now
     → first + sum_by (λ cpu. length (seats_at x cpu).events) (filter (is_in set) (cpus_below (n + 1))) ≤ now
-least-next set n w x b first before now is same so more =
-    omega (
-      arith,
-      so,
-      more,
-      sum-more (λ cpu. length (seats_at x cpu).events) (is_in set) n b is,
-      sum-same (λ cpu. length (seats_at x cpu).events) (λ cpu. length (seats_at w cpu).events) (is_in set) n same,
-    )
+least-next set n w x b first before now is same so more = grind (arith, sum-more, sum-same)
 
 pub most-next : (set : CpuSet) (n : ℕ) (f : CpuNo → ℕ) (b : Bool) (here first before now : ℕ) → is_in set (record { 0 = n }) ≡ b → here ≡ f (record { 0 = n })
     → before ≤ first + 272 * sum_by f (filter (is_in set) (cpus_below n)) → now ≤ before + 272 * (if b then here else 0)
@@ -119,14 +101,10 @@ pub counted-step : (w v x : World) (l : ToolLine) (set : CpuSet) (before now : �
 counted-step w v x l set before now c h =
     let hw : Hardware = w.hardware in
     let s : Stage = stage_of w in
-    let touched : (cpu : CpuNo) → cpu.0 < length w.quiet.running → is_in set cpu ≡ touches hw s (ToolStep l) cpu = λ cpu low.
-    in-by set cpu (tool_touches s l cpu) (c.into cpu low) (c.back cpu low) ∙ sym (ap (λ o. unless_no o (tool_touches s l cpu)) c.accepted) in
+    let touched : (cpu : CpuNo) → cpu.0 < length w.quiet.running → is_in set cpu ≡ touches hw s (ToolStep l) cpu = grind (arith, in-by) in
     let made : stage_of v ≡ changed hw s (ToolStep l) = c.stage ∙ sym (ap (λ o. unless_left o (tool_changed l) s) c.accepted) in
-    let cpus : filter (is_in set) (all_cpus (stage_of v)) ≡ rescheduled_by hw s (ToolStep l) =
-    (λ i. filter (is_in set) (cpus_below (c.running i))) ∙ filter-below (is_in set) (touches hw s (ToolStep l)) (length w.quiet.running) touched in
-    subst (λ cs. AreCounted hw (changed hw s (ToolStep l)) (stage_of x) cs before now) cpus
-    (subst (λ t. AreCounted hw t (stage_of x) (filter (is_in set) (all_cpus (stage_of v))) before now) made
-    (subst (λ h. AreCounted h (stage_of v) (stage_of x) (filter (is_in set) (all_cpus (stage_of v))) before now) c.hardware h))
+    let cpus : filter (is_in set) (all_cpus (stage_of v)) ≡ rescheduled_by hw s (ToolStep l) = grind (arith, cpus_below, filter-below) in
+    grind (arith, hw, s, cpus, made)
 
 pub counted-by : (sheet : Option Held) (w v x : World) (cpu : CpuNo) (l : CpuLine) (before now : ℕ) → cpu.0 < length w.quiet.running → cpu_refusal (stage_of w) cpu l ≡ None
     → is_idle_line (stage_of w) cpu l ≡ false → ((other : CpuNo) → cpu_touches cpu l other ≡ (cpu.0 == other.0)) → v.hardware ≡ w.hardware → stage_of v ≡ cpu_changed w.hardware cpu l (stage_of w)
@@ -141,10 +119,7 @@ counted-by sheet w v x cpu l before now low accepted busy own hardware stage for
     let made : stage_of v ≡ changed hw s (CpuStep cpu l) = stage ∙ sym (ap (λ o. unless_left o (cpu_changed hw cpu l) s) accepted) in
     let cpus : rescheduled_by hw s (CpuStep cpu l) ≡ cpu ∷ [] =
     filter-below (λ other. not (is_idle_line s cpu l) && touches hw s (CpuStep cpu l) other) (λ other. cpu.0 == other.0) (length w.quiet.running) touched ∙ one-below cpu (length w.quiet.running) low in
-    subst (λ cs. AreCountedUnless served hw (changed hw s (CpuStep cpu l)) (stage_of x) cs before now) (sym cpus)
-    (subst (λ t. AreCountedUnless served hw t (stage_of x) (cpu ∷ []) before now) made
-    (subst (λ h. AreCountedUnless served h (stage_of v) (stage_of x) (cpu ∷ []) before now) hardware
-    (subst (λ b. AreCountedUnless (IsServedBy sheet b) v.hardware (stage_of v) (stage_of x) (cpu ∷ []) before now) foreseen h)))
+    grind (arith, served, hw, s, cpus, made)
 
 -- a line that reschedules nobody takes none
 none-among : (p : CpuNo → Bool) (cs : List CpuNo) → ((cpu : CpuNo) → p cpu ≡ false) → filter p cs ≡ []
@@ -152,21 +127,13 @@ none-among p [] off = refl
 none-among p (c ∷ cs) off = ap (λ b. cond b (c ∷ filter p cs) (filter p cs)) (off c) ∙ none-among p cs off
 
 counted-none : (x : Step) (w after : World) (n : ℕ) → rescheduled_by w.hardware (stage_of w) x ≡ [] → IsCounted x w after n n
-counted-none x w after n none =
-    subst (λ cs. AreCounted w.hardware (changed w.hardware (stage_of w) x) (stage_of after) cs n n) (sym none) (record { least = omega arith; most = omega arith })
+counted-none x w after n none = grind arith
 
 none-by : (sheet : Option Held) (x : Step) (w after : World) (n : ℕ) → rescheduled_by w.hardware (stage_of w) x ≡ [] → IsCountedBy sheet x w after n n
-none-by sheet x w after n none =
-    subst (λ cs. AreCountedUnless (Serves sheet w x) w.hardware (changed w.hardware (stage_of w) x) (stage_of after) cs n n) (sym none) (record {
-      free = λ served. refl;
-      least = λ out. omega arith;
-      most = omega arith;
-    })
+none-by sheet x w after n none = grind arith
 
 pub refused-counted : (w after : World) (l : ToolLine) (r : Reason) (n : ℕ) → tool_refusal w.hardware (stage_of w) l ≡ Some r → IsCounted (ToolStep l) w after n n
-refused-counted w after l r n refused =
-    counted-none (ToolStep l) w after n
-    (none-among (touches w.hardware (stage_of w) (ToolStep l)) (all_cpus (stage_of w)) (λ cpu. ap (λ o. unless_no o (tool_touches (stage_of w) l cpu)) refused))
+refused-counted w after l r n refused = grind (arith, counted-none, none-among)
 
 -- a line of a tool that touches no processor
 pub never-touched : (o : Option Reason) → unless_no o false ≡ false
@@ -174,10 +141,7 @@ never-touched None = refl
 never-touched (Some r) = refl
 
 pub still-counted : (w after : World) (l : ToolLine) (n : ℕ) → ((cpu : CpuNo) → tool_touches (stage_of w) l cpu ≡ false) → IsCounted (ToolStep l) w after n n
-still-counted w after l n still =
-    counted-none (ToolStep l) w after n
-    (none-among (touches w.hardware (stage_of w) (ToolStep l)) (all_cpus (stage_of w))
-    (λ cpu. ap (unless_no (tool_refusal w.hardware (stage_of w) l)) (still cpu) ∙ never-touched (tool_refusal w.hardware (stage_of w) l)))
+still-counted w after l n still = grind (arith, counted-none, none-among, never-touched)
 
 -- by a sheet, which serves no line of a tool
 pub tool-counted : (sheet : Option Held) (w after : World) (l : ToolLine) (before now : ℕ) → IsCounted (ToolStep l) w after before now → IsCountedBy sheet (ToolStep l) w after before now
@@ -188,9 +152,7 @@ both-off true b off = off
 both-off false b off = refl
 
 none-on : (w : World) (cpu : CpuNo) (l : CpuLine) → ((other : CpuNo) → touches w.hardware (stage_of w) (CpuStep cpu l) other ≡ false) → rescheduled_by w.hardware (stage_of w) (CpuStep cpu l) ≡ []
-none-on w cpu l off =
-    none-among (λ other. not (is_idle_line (stage_of w) cpu l) && touches w.hardware (stage_of w) (CpuStep cpu l) other) (all_cpus (stage_of w))
-    (λ other. both-off (not (is_idle_line (stage_of w) cpu l)) (touches w.hardware (stage_of w) (CpuStep cpu l) other) (off other))
+none-on w cpu l off = grind (arith, none-among, both-off)
 
 pub refused-cpu_counted : (sheet : Option Held) (w after : World) (cpu : CpuNo) (l : CpuLine) (r : Reason) (n : ℕ) → cpu_refusal (stage_of w) cpu l ≡ Some r
     → IsCountedBy sheet (CpuStep cpu l) w after n n
@@ -204,20 +166,13 @@ still-cpu_counted sheet w after cpu l n still =
     (none-on w cpu l (λ other. ap (unless_no (cpu_refusal (stage_of w) cpu l)) (still other) ∙ never-touched (cpu_refusal (stage_of w) cpu l)))
 
 pub idle-counted : (sheet : Option Held) (w after : World) (cpu : CpuNo) (l : CpuLine) (n : ℕ) → is_idle_line (stage_of w) cpu l ≡ true → IsCountedBy sheet (CpuStep cpu l) w after n n
-idle-counted sheet w after cpu l n idle =
-    none-by sheet (CpuStep cpu l) w after n
-    (none-among (λ other. not (is_idle_line (stage_of w) cpu l) && touches w.hardware (stage_of w) (CpuStep cpu l) other) (all_cpus (stage_of w))
-    (λ other. ap (λ b. not b && touches w.hardware (stage_of w) (CpuStep cpu l) other) idle))
+idle-counted sheet w after cpu l n idle = grind (arith, none-by, none-among)
 
 -- a line of work tests no counter
 pub work-free : (sheet : Option Held) (w after : World) (cpu : CpuNo) (work : Work) (before now : ℕ) → IsCountedBy sheet (CpuStep cpu (line.Work work)) w after before now → now ≡ before
 work-free sheet w after cpu work before now h =
-    let none : rescheduled_by w.hardware (stage_of w) (CpuStep cpu (line.Work work)) ≡ [] =
-    none-on w cpu (line.Work work) (λ other. never-touched (cpu_refusal (stage_of w) cpu (line.Work work))) in
+    let none : rescheduled_by w.hardware (stage_of w) (CpuStep cpu (line.Work work)) ≡ [] = search (none-on, never-touched) in
     let served : Type 0 = Serves sheet w (CpuStep cpu (line.Work work)) in
     let counted : AreCountedUnless served w.hardware (changed w.hardware (stage_of w) (CpuStep cpu (line.Work work))) (stage_of after) [] before now =
     subst (λ cs. AreCountedUnless served w.hardware (changed w.hardware (stage_of w) (CpuStep cpu (line.Work work))) (stage_of after) cs before now) none h in
-    elim (cases_lt now before) [
-      | inl less ↦ absurd (let least : before + 0 ≤ now = counted.least (λ serves. omega (arith, less, counted.free serves)) in omega (arith, less, least))
-      | inr most ↦ let few : now ≤ before + 272 * 0 = counted.most in omega (arith, most, few)
-    ]
+    grind (arith, cases_lt)

@@ -1,7 +1,7 @@
 -- The counters of a machine, read off a script's declarations.
 use Rattle.std.specs.Prelude.{◌≡◌, ℕ, zero, suc, ◌+◌, ◌<◌, ◌≤◌, ◌==◌, Bool, true, false, min, AllPairs, List, [], ◌-◌, ◌∷◌, ◌++◌, length, map, take, position, replicate, IfSome, Some, slice_get, slice_index, slice_set}
 use Rattle.std.{specs.{Option.{unwrap_or}, Int.{bit_at}, List.{position_or_len}}, proofs.Common.{arith, refl, sym, ap, subst, ◌∙◌, get_or, inl, inr}}
-use Rattle.std.proofs.lemmas.Bool.{cases_eq, cases_lt, Decides.{nat_tests}}
+use Rattle.std.proofs.lemmas.Bool.{cases_lt, Decides.{nat_tests}}
 use Rattle.std.proofs.lemmas.List.{ext_get_or, length-append, length-map, length-take, get_or-take, get_or-map, get_or_append_left, get_or-append-add, get_or-replicate, get_or-set_other}
 use Rattle.std.proofs.lemmas.{List.Sums.{position_or_len_is}, Grind.{get_or-set_at}}
 use Rattle.std.proofs.lemmas.Option.{get_or_from_slice_get, slice_get-get_or, slice_get_within}
@@ -82,16 +82,11 @@ pub entry-is : {X : Type 0} (f : X → ℕ) (xs : List X) (n : ℕ) (d : X) (y :
 entry-is f xs n d y low h = subst (λ o. IfSome o (λ x. y ≡ f x)) (slice_get-get_or xs n d low) h
 
 pub pmu-is : (pmus : List PmuLine) (cpu : CpuNo) (n : ℕ) → AllPairs AreApart pmus → n < length pmus → IfSome (slice_get pmus n) (λ p. HasCpu p.cpus cpu) → n ≡ pmu_with pmus cpu.0
-pmu-is pmus cpu n apart low h =
-    let here : slice_get pmus n ≡ Some (get_or pmus n no_pmu) = slice_get-get_or pmus n no_pmu low in
-    only-pmu pmus cpu n (get_or pmus n no_pmu) apart here (subst (λ o. IfSome o (λ p. HasCpu p.cpus cpu)) here h)
+pmu-is pmus cpu n apart low h = grind (arith, nat_tests, get_or, slice_get-get_or, only-pmu, slice_get-get_or pmus n no_pmu low)
 
 -- one more entry of a list of numbers
 pub each-more : (f : ℕ → ℕ) (xs : List ℕ) (n y : ℕ) → n < length xs → y ≡ f n → ((i : ℕ) → i < n → slice_index xs i ≡ f i) → (i : ℕ) → i < n + 1 → slice_index (slice_set xs n y) i ≡ f i
-each-more f xs n y low is each i below = elim (cases_eq i n) [
-  | inl e ↦ get_or-set_at xs n i y 0 e low ∙ (is ∙ ap f (sym e))
-  | inr apart ↦ get_or-set_other xs n i y 0 apart ∙ each i (omega (arith, below, apart))
-]
+each-more f xs n y low is each i below = grind (arith, nat_tests, get_or-set_at, get_or-set_other)
 
 pub rest-more : (xs : List ℕ) (n y : ℕ) → ((i : ℕ) → n ≤ i → slice_index xs i ≡ 0) → (i : ℕ) → n + 1 ≤ i → slice_index (slice_set xs n y) i ≡ 0
 rest-more xs n y rest i past = get_or-set_other xs n i y 0 (λ e. absurd (omega (arith, past, e))) ∙ rest i (omega (arith, past))

@@ -1,16 +1,16 @@
 -- An exit.
-use Rattle.std.specs.Prelude.{◌≡◌, ℕ, ◌<◌, ◌≤◌, ◌&&◌, ◌==◌, Bool, true, false, not, List, [], length, map, filter, Option, Some, None, slice_index_or}
+use Rattle.std.specs.Prelude.{◌≡◌, ℕ, ◌<◌, ◌≤◌, ◌&&◌, ◌==◌, true, not, List, [], length, map, filter, Option, Some, None, slice_index_or}
 use Rattle.std.proofs.{Common.{arith, refl, sym, ap, subst, ◌∙◌, inl, inr}, lemmas.{Bool.{cases_eq}, List.{length-set}}}
 use Rattle.perf_base.specs.declared.numbers.{CpuNo.{CpuNo}, EventNo.{EventNo}, Key.{Key}, TaskNo.{TaskNo}}
 use Rattle.perf_base.specs.declared.lines.CpuLine.TheVariants as line
 use Rattle.perf_base.specs.declared.reply.Reply.TheVariants as reply
 use Rattle.perf_base.specs.declared.standing.Context.TheVariants as context
-use Rattle.stage_spec.specs.{Exits.{exit_refusal, exited, exited_by}, Families.{plus}, Hardware.{Hardware}, History.{Step, CpuStep, stage_step}}
-use Rattle.stage_spec.specs.{Limits.{IsMachine}, Settle.{settle, settle_each}, Shares.{no_sums}}
+use Rattle.stage_spec.specs.{Exits.{exit_refusal, exited, exited_by}, Hardware.{Hardware}, History.{Step, CpuStep, stage_step}}
+use Rattle.stage_spec.specs.{Limits.{IsMachine}, Settle.{settle, settle_each}}
 use Rattle.stage_spec.specs.{Stage.{Stage, all_cpus, task_on, members, groups_in, is_of_family}, Verdict.{task_lists}}
 use Rattle.stage_laws.{specs.{Narrowing.{IsNarrow, changed, unless_left, unless_no, touches}, Sound.{IsSound}}, proofs.Narrow.{narrows}}
 use Rattle.stage_laws.proofs.Sound.{step_sound}
-use Rattle.world_spec.specs.{Kept.{once_if, plus_keys, IsKept}, Listings.{keys_in}, Rescheduled.{AreRescheduled, AreUntouchedBut, IsRescheduled}}
+use Rattle.world_spec.specs.{Kept.{plus_keys, IsKept}, Listings.{keys_in}, Rescheduled.{AreRescheduled, AreUntouchedBut, IsRescheduled}}
 use Rattle.world_spec.specs.{StageOf.{stage_of}, Value.{World, is_live, entry_at, instance_at, account_at, family_of, times}, Quiet.{KeepsAccount}}
 use Rattle.world_spec.{specs.Stepping.{HasStepped, HasFolded}, proofs.{Moving.{leads-parts}, Quiet.{quiet-keeps}, Stepping.{stepped}}}
 use Rattle.cpu_sched.specs.Resched.{StaysBut}
@@ -55,15 +55,7 @@ record KeepsRest (w x : World) : Type 0 where
   next_id : x.quiet.next_id ≡ w.quiet.next_id
 
 rest-kept : (w v x : World) (cpu : CpuNo) → Course w v x cpu → KeepsRest w x
-rest-kept w v x cpu c = record {
-  hardware = ap (λ (y : World). y.hardware) c.rest.world ∙ c.gone.gone.hardware;
-  originals = λ e. ap (λ (y : World). (family_of y e).original) c.rest.world ∙ ap (λ f. f.original) (c.gone.gone.families e);
-  lost = ap (λ (y : World). y.lost) c.rest.world ∙ c.gone.gone.lost;
-  size = ap (λ (y : World). length y.quiet.running) c.rest.world ∙ exit-size w v cpu c.stage;
-  clocks = ap (λ (y : World). y.quiet.clocks) c.rest.world ∙ ap (λ q. q.clocks) c.gone.quiet;
-  used = ap (λ (y : World). y.quiet.used) c.rest.world ∙ ap (λ q. q.used) c.gone.quiet;
-  next_id = ap (λ (y : World). y.quiet.next_id) c.rest.world ∙ ap (λ q. q.next_id) c.gone.quiet;
-}
+rest-kept w v x cpu c = grind (arith, exit-size)
 
 exit-stage : (w v x : World) (cpu : CpuNo) → Course w v x cpu → stage_of x ≡ stage_step w.hardware (stage_of w) (CpuStep cpu line.Exit)
 exit-stage w v x cpu c =
@@ -106,15 +98,9 @@ gone-mapped : (w : World) (o : Option TaskNo) (e : EventNo) → IsKept w.hardwar
 gone-mapped w None e h = refl
 gone-mapped w (Some task) e h = leaving-mapped w.hardware w task e h
 
-once-live : (live b : Bool) → 1 ≤ once_if (live && b) → live ≡ true
-once-live true b some = refl
-once-live false b some = absurd (omega (arith, some))
-
 gone-live : (w : World) (o : Option TaskNo) (e : EventNo) (k : Key) → IsKept w.hardware w → ((task : TaskNo) → o ≡ Some task → task.0 < 64) → 1 ≤ times k (gone_keys w o e) → is_live w k ≡ true
 gone-live w None e k h low some = absurd (omega (arith, some))
-gone-live w (Some task) e k h low some =
-    once-live (is_live w k) (leaves w (Some task) k && (instance_at w k).event.0 == e.0)
-    (omega (arith, some, same-keys w.hardware w task e h (low task refl) k, leaving-times w.hardware w task e h k))
+gone-live w (Some task) e k h low some = grind (arith, some, same-keys w.hardware w task e h (low task refl) k, leaving-times w.hardware w task e h k)
 
 gone-sums : (w : World) (o : Option TaskNo) (e : EventNo) → IsKept w.hardware w → ((task : TaskNo) → o ≡ Some task → task.0 < 64)
     → leaving_sums w o e ≡ plus_keys (λ k. (account_at w k).sums) (gone_keys w o e)
@@ -123,15 +109,7 @@ gone-sums w (Some task) e h low =
     sym (same-sums (λ k. (account_at w k).sums) (gone_keys w (Some task) e) (leaving_copies w (Some task) e) (same-keys w.hardware w task e h (low task refl)))
 
 exit-folded : (w v x : World) (cpu : CpuNo) (e : EventNo) → Course w v x cpu → HasFolded w x (CpuStep cpu line.Exit) e (gone_keys w (task_on (stage_of w) cpu) e)
-exit-folded w v x cpu e c =
-    let on : Option TaskNo = task_on (stage_of w) cpu in
-    let low : (task : TaskNo) → on ≡ Some task → task.0 < 64 = λ task is. task-low w.hardware w cpu task c.kept is in
-    record {
-      leaving = gone-mapped w on e c.kept;
-      live = λ k some. gone-live w on e k c.kept low some;
-      sums = ap (λ (y : World). slice_index_or y.folded e.0 no_sums) c.rest.world
-          ∙ (c.gone.gone.folded e ∙ ap (plus (slice_index_or w.folded e.0 no_sums)) (gone-sums w on e c.kept low));
-    }
+exit-folded w v x cpu e c = grind (arith, task-low, gone-mapped, gone-live, gone-sums)
 
 exit-stepped : (w v x : World) (cpu : CpuNo) → Course w v x cpu → HasStepped w.hardware w x (CpuStep cpu line.Exit)
 exit-stepped w v x cpu c =

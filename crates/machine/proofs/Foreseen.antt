@@ -7,7 +7,7 @@ use Rattle.perf_base.specs.{declared.{numbers.{CpuNo.{CpuNo}, Key.{Key}, TaskNo.
 use Rattle.perf_base.specs.declared.lines.CpuLine.TheVariants as line
 use Rattle.perf_base.specs.declared.standing.Context.TheVariants as context
 use Rattle.stage_spec.specs.{Effective.{is_wholly_software}, Exits.{exited, exited_by}, Hardware.{Hardware, counters_of}, Rotation.{takes_turns}}
-use Rattle.stage_spec.specs.{Closing.{without}, Stage.{Stage, Group, no_groups, is_copy, lists_of, place_of, task_on}, Verdict.{is_eligible}}
+use Rattle.stage_spec.specs.{Stage.{Stage, Group, lists_of, place_of, task_on}, Verdict.{is_eligible}}
 use Rattle.stage_spec.proofs.Settled.{place_of-cpu}
 use Rattle.stage_laws.{specs.{Briefs.{GroupBrief}, Standings.{brief_of}}, proofs.Leaders.{find-first, find-later}}
 use Rattle.world_spec.specs.{Changes.{all_but, place}, Kept.{IsKept}, Listings.{task_leaders}, StageOf.{group_at, lists_at, stage_of}}
@@ -49,10 +49,7 @@ others_of (x ∷ xs) = xs
 
 briefs-by : (w v : World) (cpu : CpuNo) (keys : List Key) → v.hardware ≡ w.hardware → map (group_at v) keys ≡ map (group_at w) keys → briefs_at v cpu keys ≡ briefs_at w cpu keys
 briefs-by w v cpu [] hardware same = refl
-briefs-by w v cpu (k ∷ keys) hardware same =
-    let first : group_at v k ≡ group_at w k = ap (first_or (group_at w k)) same in
-    let rest : briefs_at v cpu keys ≡ briefs_at w cpu keys = briefs-by w v cpu keys hardware (ap others_of same) in
-    briefs-cons v cpu k keys ∙ ((λ i. taken_by (hardware i) cpu k (first i) (rest i)) ∙ sym (briefs-cons w cpu k keys))
+briefs-by w v cpu (k ∷ keys) hardware same = grind (arith, briefs-cons, briefs-by w v cpu keys hardware (ap others_of same))
 
 -- A switch brings the groups of the task that it names.
 with-placed : (w : World) (cpu : CpuNo) (to : Option TaskNo) (o : Option TaskNo) → brief_with (place cpu to w) cpu o ≡ brief_with w cpu o
@@ -82,8 +79,7 @@ idle-then s cpu (Some task) on low = get_or-set_same s.running cpu.0 None None l
 
 pub own-then : (s : Stage) (cpu : CpuNo) (o : Option TaskNo) → cpu.0 < 8 → lists_of (exited_by cpu o s) (context.Processor cpu) ≡ lists_of s (context.Processor cpu)
 own-then s cpu None low = refl
-own-then s cpu (Some task) low =
-    get_or-set_other s.contexts (place_of (context.Task task)) (place_of (context.Processor cpu)) (without is_copy (lists_of s (context.Task task))) no_groups (own-place_apart cpu task low)
+own-then s cpu (Some task) low = grind (arith, get_or-set_other, own-place_apart)
 
 pub lists-are : (w : World) (c : Context) → lists_of (stage_of w) c ≡ lists_at w (leaders_of w c)
 lists-are w c = get_or-map (lists_at w) w.contexts (place_of c) no_leaders
@@ -97,10 +93,8 @@ exit-foreseen w v cpu small low stage x =
     let idle : task_on (stage_of v) cpu ≡ None = ap (λ t. task_on t cpu) stage ∙ idle-then s cpu (task_on s cpu) refl low in
     let groups : lists_at v (leaders_of w own) ≡ lists_at w (leaders_of w own) =
     ap (lists_at v) (sym (x.leaders cpu)) ∙ (sym (lists-are v own) ∙ (ap (λ t. lists_of t own) stage ∙ (own-then s cpu (task_on s cpu) small ∙ lists-are w own))) in
-    let pinned : briefs_at v cpu (leaders_of v own).pinned ≡ briefs_at w cpu (leaders_of w own).pinned =
-    ap (λ l. briefs_at v cpu l.pinned) (x.leaders cpu) ∙ briefs-by w v cpu (leaders_of w own).pinned x.gone.hardware (ap (λ l. l.pinned) groups) in
-    let flexible : briefs_at v cpu (leaders_of v own).flexible ≡ briefs_at w cpu (leaders_of w own).flexible =
-    ap (λ l. briefs_at v cpu l.flexible) (x.leaders cpu) ∙ briefs-by w v cpu (leaders_of w own).flexible x.gone.hardware (ap (λ l. l.flexible) groups) in
+    let pinned : briefs_at v cpu (leaders_of v own).pinned ≡ briefs_at w cpu (leaders_of w own).pinned = grind (arith, briefs-by) in
+    let flexible : briefs_at v cpu (leaders_of v own).flexible ≡ briefs_at w cpu (leaders_of w own).flexible = grind (arith, briefs-by) in
     let same : brief_with v cpu None ≡ brief_with w cpu None = λ i. record { counters = counters_of (x.gone.hardware i) cpu; passes = pinned i ∷ [] ∷ flexible i ∷ [] ∷ [] } in
     ap (brief_with v cpu) idle ∙ same
 
@@ -112,9 +106,7 @@ wait-cond w false g rest = refl
 
 some-wait : (w : World) (cpu : CpuNo) (keys : List Key) → some_wait w (briefs_at w cpu keys) ≡ list_any (waits_there w cpu) keys
 some-wait w cpu [] = refl
-some-wait w cpu (k ∷ keys) =
-    ap (some_wait w) (briefs-cons w cpu k keys)
-    ∙ (wait-cond w (is_eligible w.hardware cpu (group_at w k)) (brief_at w k) (briefs_at w cpu keys) ∙ ap (λ b. waits_there w cpu k || b) (some-wait w cpu keys))
+some-wait w cpu (k ∷ keys) = grind (arith, briefs-cons, wait-cond, some-wait w cpu keys)
 
 -- The first hardware group that is eligible goes last, by leaders and by briefs.
 goes-by : (g : GroupBrief Key) (groups : List (GroupBrief Key)) (b : Bool) → g.software ≡ b → hardware_goes_last (g ∷ groups) ≡ (if b then g ∷ hardware_goes_last groups else groups ++ g ∷ [])
@@ -138,29 +130,20 @@ goes-off true false g rest is off = absurd (false≢true (sym off))
 goes-off false s g rest is off = refl
 
 briefs-append : (w : World) (cpu : CpuNo) (xs ys : List Key) → briefs_at w cpu (xs ++ ys) ≡ briefs_at w cpu xs ++ briefs_at w cpu ys
-briefs-append w cpu xs ys =
-    let p : Key → Bool = λ k. is_eligible w.hardware cpu (group_at w k) in
-    ap (map (brief_at w)) (filter-append p xs ys) ∙ map-append (brief_at w) (filter p xs) (filter p ys)
+briefs-append w cpu xs ys = grind (arith, filter-append, map-append)
 
 abbrev takes : World → CpuNo → Key → Bool
 takes w cpu k = takes_turns w.hardware cpu (group_at w k)
 
 later-brief : (w : World) (cpu : CpuNo) (q : Key) (keys : List Key) (o : Option Key) → ((j : Key) → times j (q ∷ keys) ≤ 1) → find (takes w cpu) keys ≡ o → takes w cpu q ≡ false
     → briefs_at w cpu (last_if o keys) ≡ hardware_goes_last (briefs_at w cpu keys) → briefs_at w cpu (last_if o (q ∷ keys)) ≡ hardware_goes_last (briefs_at w cpu (q ∷ keys))
-later-brief w cpu q keys None once found off rest =
-    let g : Group = group_at w q in
-    briefs-cons w cpu q keys
-    ∙ (ap (taken_by w.hardware cpu q g) rest
-    ∙ sym (ap hardware_goes_last (briefs-cons w cpu q keys) ∙ goes-off (is_eligible w.hardware cpu g) (is_wholly_software g) (brief_at w q) (briefs_at w cpu keys) refl off))
+later-brief w cpu q keys None once found off rest = grind (arith, briefs-cons, goes-off)
 later-brief w cpu q keys (Some k) once found off rest =
     let g : Group = group_at w q in
     let there : 1 ≤ times k keys = found-there (takes w cpu) keys k found in
     let apart : q.0 ≡ k.0 → ⊥ = λ e. omega (arith, once k, there, times-cons k q keys, once-true (is_key k q) (is_key-same k q e)) in
     let but : all_but k (q ∷ keys) ≡ q ∷ all_but k keys = all_but-cons k q keys false (is_key-other k q apart) in
-    ap (λ ks. briefs_at w cpu (ks ++ k ∷ [])) but
-    ∙ (briefs-cons w cpu q (last_if (Some k) keys)
-    ∙ (ap (taken_by w.hardware cpu q g) rest
-    ∙ sym (ap hardware_goes_last (briefs-cons w cpu q keys) ∙ goes-off (is_eligible w.hardware cpu g) (is_wholly_software g) (brief_at w q) (briefs_at w cpu keys) refl off)))
+    grind (arith, but, briefs-cons, g, goes-off)
 
 first-last : (w : World) (cpu : CpuNo) (keys : List Key) (o : Option Key) → ((j : Key) → times j keys ≤ 1) → find (takes w cpu) keys ≡ o
     → briefs_at w cpu (last_if o keys) ≡ hardware_goes_last (briefs_at w cpu keys)
@@ -186,14 +169,8 @@ first-last w cpu (q ∷ keys) o once found = elim (cases_Bool (takes w cpu q)) [
 
 turned-by : (w : World) (cpu : CpuNo) (keys : List Key) (b : Bool) → ((j : Key) → times j keys ≤ 1) → list_any (waits_there w cpu) keys ≡ b
     → briefs_at w cpu (last_if (turning w cpu keys) keys) ≡ turned_groups w (briefs_at w cpu keys)
-turned-by w cpu keys true once waiting =
-    let groups : List (GroupBrief Key) = briefs_at w cpu keys in
-    ap {A = Bool} (λ b. briefs_at w cpu (last_if (elim b as (λ x. Option Key) [ true ↦ find (takes w cpu) keys | false ↦ None ]) keys)) waiting
-    ∙ (first-last w cpu keys (find (takes w cpu) keys) once refl ∙ sym (ap (λ b. if b then hardware_goes_last groups else groups) (some-wait w cpu keys ∙ waiting)))
-turned-by w cpu keys false once waiting =
-    let groups : List (GroupBrief Key) = briefs_at w cpu keys in
-    ap {A = Bool} (λ b. briefs_at w cpu (last_if (elim b as (λ x. Option Key) [ true ↦ find (takes w cpu) keys | false ↦ None ]) keys)) waiting
-    ∙ sym (ap (λ b. if b then hardware_goes_last groups else groups) (some-wait w cpu keys ∙ waiting))
+turned-by w cpu keys true once waiting = grind (arith, first-last, some-wait)
+turned-by w cpu keys false once waiting = grind (arith, some-wait)
 
 turned-flexible : (hw : Hardware) (w : World) (cpu : CpuNo) (c : Context) → IsKept hw w → briefs_at w cpu (turn_keys w cpu (leaders_of w c)).flexible ≡ turned_groups w (briefs_at w cpu (leaders_of w c).flexible)
 turned-flexible hw w cpu c h = turned-by w cpu (leaders_of w c).flexible (list_any (waits_there w cpu) (leaders_of w c).flexible) (flexible-once hw w c h) refl
@@ -239,10 +216,7 @@ tick-by hw w cpu (Some task) h small on =
     ap (λ l. briefs_at w cpu l.flexible) here ∙ turned-flexible hw w cpu own h in
     let task_flexible : briefs_at w cpu (leaders_of v other).flexible ≡ turned_groups w (briefs_at w cpu (leaders_of w other).flexible) =
     ap (λ l. briefs_at w cpu l.flexible) there ∙ turned-flexible hw w cpu other h in
-    let same : brief_with v cpu (Some task) ≡ turned_with w cpu (Some task) = λ i. record {
-      counters = counters_of w.hardware cpu;
-      passes = briefs_at w cpu (here i).pinned ∷ briefs_at w cpu (there i).pinned ∷ own_flexible i ∷ task_flexible i ∷ [];
-    } in
+    let same : brief_with v cpu (Some task) ≡ turned_with w cpu (Some task) = grind arith in
     ap (brief_with v cpu) on ∙ same
 
 pub tick-foreseen : (w v : World) (cpu : CpuNo) → IsKept w.hardware w → cpu.0 < 8 → v ≡ turned_world cpu w → present_brief v cpu ≡ after_brief w cpu line.Tick

@@ -48,10 +48,7 @@ fork-stage w x cpu child c =
 
 -- a key that names an instance then and did not before names a copy
 fork-was : (w x : World) (cpu : CpuNo) (child : TaskNo) (k : Key) → Course w x cpu child → is_live x k ≡ true → (instance_at x k).id < w.quiet.next_id → is_live w k ≡ true
-fork-was w x cpu child k c live before = elim (cases_Bool (is_live w k)) [
-  | inl there ↦ there
-  | inr none ↦ absurd (omega (arith, before, c.stays.ids k none live))
-]
+fork-was w x cpu child k c live before = grind arith
 
 fork-new : (w x : World) (cpu : CpuNo) (child : TaskNo) (k : Key) → Course w x cpu child → w.quiet.next_id ≤ (instance_at x k).id → is_live w k ≡ false
 fork-new w x cpu child k c past = elim (cases_Bool (is_live w k)) [

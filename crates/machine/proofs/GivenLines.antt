@@ -1,8 +1,8 @@
 -- One given line leads from the steps before it to those steps and one more.
-use Rattle.std.specs.Prelude.{◌≡◌, ℕ, ◌+◌, ◌<◌, ◌≤◌, cond, List, [], ◌∷◌, ◌++◌, length, slice_index_or, slice_set}
+use Rattle.std.specs.Prelude.{◌≡◌, ℕ, ◌+◌, ◌<◌, cond, List, [], ◌∷◌, ◌++◌, length, slice_index_or, slice_set}
 use Rattle.std.proofs.{Common.{arith, sym, ap, subst, ◌∙◌}, lemmas.List.Elements.{All-push}}
 use Rattle.perf_base.specs.declared.{lines.{CpuLine.{CpuLine}, ToolLine.{ToolLine}}, numbers.CpuNo.{CpuNo}, reply.Reply.{Reply}}
-use Rattle.perf_base.specs.Scripts.{Scripted, IsCovered, IsCpuLine, IsScript, IsToolLine}
+use Rattle.perf_base.specs.Scripts.{Scripted, IsCovered, IsCpuLine, IsScript}
 use Rattle.stage_spec.specs.{Hardware.{hardware_of}, History.{Step, CpuStep, ToolStep, opening_stage}, Limits.{limits_of}}
 use Rattle.stage_laws.specs.Bounds.{IsLineWithin, is_line}
 use Rattle.ring_laws.proofs.Reached.{count-both, count-one}
@@ -16,22 +16,14 @@ use Rattle.machine.proofs.{Lines.{as-many-cpus, as-many-kinds}, Roomy.{lines-of-
 
 -- The line keeps the limits of the machine's world too.
 pub given-tool : (s : Scripted) (steps : List Step) (m : Kept) (line : ToolLine) → IsScript s → IsCovered s → IsReady m.world → IsNext s steps m (ToolStep line) → IsLineFor m.world line
-given-tool s steps m line h covered ready next =
-    let kinds : IsToolLine s.cpus (length m.world.hardware.kind_pmus) s.rings line =
-    subst (λ n. IsToolLine s.cpus n s.rings line) (sym (as-many-kinds s m.world h covered next.led.hardware)) next.within in
-    (s.rings, subst (λ n. IsToolLine n (length m.world.hardware.kind_pmus) s.rings line) (sym (as-many-cpus s m.world h covered ready next.led.hardware)) kinds)
+given-tool s steps m line h covered ready next = grind (arith, as-many-kinds, as-many-cpus)
 
 pub given-there : (s : Scripted) (steps : List Step) (m : Kept) (cpu : CpuNo) (line : CpuLine) → IsScript s → IsCovered s → IsReady m.world → IsNext s steps m (CpuStep cpu line)
     → cpu.0 < length m.world.quiet.running
-given-there s steps m cpu line h covered ready next =
-    let low : cpu.0 < s.cpus = next.within.0 in
-    omega (arith, low, as-many-cpus s m.world h covered ready next.led.hardware)
+given-there s steps m cpu line h covered ready next = grind (arith, as-many-cpus)
 
 pub given-low : (m : Kept) (cpu : CpuNo) (line : CpuLine) → Takes m (CpuStep cpu line) → cpu.0 < 8
-given-low m cpu line takes =
-    let low : cpu.0 < takes.script.cpus = takes.next.within.0 in
-    let few : takes.script.cpus ≤ 8 = takes.sound.cpus.1 in
-    omega (arith, low, few)
+given-low m cpu line takes = grind arith
 
 pub given-cpu : (s : Scripted) (steps : List Step) (m : Kept) (cpu : CpuNo) (line : CpuLine) → IsScript s → IsCovered s → IsNext s steps m (CpuStep cpu line)
     → IsCpuLine (length m.world.hardware.kind_pmus) line
@@ -51,17 +43,14 @@ given-record s steps m x led = ap (λ hw. record_after hw (record_by s steps) x)
 
 given-answer : (s : Scripted) (steps : List Step) (m : Kept) (x : Step) (after : World) (sent : OutList) (reply : Reply) → IsLedBy s steps m → IsDoneWith x m.world after m.outs sent reply
     → IsAnswerBy (hardware_of s) (record_by s steps) x reply
-given-answer s steps m x after sent reply led done =
-    subst (λ hw. IsAnswerBy hw (record_by s steps) x reply) led.hardware (given-done s steps m x after sent reply led done).done.answer
+given-answer s steps m x after sent reply led done = grind (arith, given-done)
 
 given-reply : (s : Scripted) (steps : List Step) (x : Step) (reply : Reply) → AreRepliesBy (hardware_of s) (record_by s steps) (x ∷ []) (reply ∷ []) → IsReplyAfter s steps x reply
 given-reply s steps x reply by = (replies_law (hardware_of s) (opening_stage s) s.rings steps (x ∷ []) (reply ∷ [])).0 by
 
 pub cpu-given-reply : (s : Scripted) (steps : List Step) (m : Kept) (cpu : CpuNo) (line : CpuLine) (after : World) (sent : OutList) (reply : Reply)
     → IsDoneWith (CpuStep cpu line) m.world after m.outs sent reply → IsLedBy s steps m → IsReplyAfter s steps (CpuStep cpu line) reply
-cpu-given-reply s steps m cpu line after sent reply done led =
-    given-reply s steps (CpuStep cpu line) reply
-    (one-cpu (hardware_of s) (record_by s steps) cpu line reply (given-answer s steps m (CpuStep cpu line) after sent reply led done))
+cpu-given-reply s steps m cpu line after sent reply done led = search (given-reply, one-cpu, given-answer)
 
 pub tool-given-reply : (s : Scripted) (steps : List Step) (m : Kept) (line : ToolLine) (after : World) (reply : Reply)
     → IsDone (ToolStep line) m.world after reply → IsLedBy s steps m → IsReplyAfter s steps (ToolStep line) reply
@@ -87,8 +76,7 @@ led-more s steps m x counts after sent reply next same done counted = record {
 pub cpu-given : (s : Scripted) (steps : List Step) (m : Kept) (cpu : CpuNo) (line : CpuLine) (after : World) (sent : OutList) (reply : Reply) → cpu.0 < length m.cpus
     → after.hardware ≡ m.world.hardware → IsDoneWith (CpuStep cpu line) m.world after m.outs sent reply → IsNext s steps m (CpuStep cpu line)
     → IsLedBy s (steps ++ CpuStep cpu line ∷ []) (record { cpus = slice_set m.cpus cpu.0 (slice_index_or m.cpus cpu.0 0 + 1); tools = m.tools; world = after; outs = sent })
-cpu-given s steps m cpu line after sent reply low same done next =
-    led-more s steps m (CpuStep cpu line) (slice_set m.cpus cpu.0 (slice_index_or m.cpus cpu.0 0 + 1)) after sent reply next same done (λ own. raised m.cpus cpu.0 own.0 low)
+cpu-given s steps m cpu line after sent reply low same done next = search (led-more, raised)
 
 pub tool-given : (s : Scripted) (steps : List Step) (m : Kept) (line : ToolLine) (after : World) (reply : Reply) → after.hardware ≡ m.world.hardware
     → IsDone (ToolStep line) m.world after reply → IsNext s steps m (ToolStep line)

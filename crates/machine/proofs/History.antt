@@ -12,10 +12,7 @@ use Rattle.machine.specs.{Given.{record_by}, Leading.{record_in}}
 steps-push : (s : Scripted) (before acts : List Act) (a : Act) → steps_from s before (acts ++ a ∷ []) ≡ steps_from s before acts ++ steps_of s (before ++ acts) a
 unfolding steps_from
 steps-push s before [] a = append-nil (steps_of s before a) ∙ ap (λ bs. steps_of s bs a) (sym (append-nil before))
-steps-push s before (b ∷ acts) a =
-    ap (λ xs. steps_of s before b ++ xs) (steps-push s (before ++ b ∷ []) acts a)
-    ∙ (ap (λ bs. steps_of s before b ++ (steps_from s (before ++ b ∷ []) acts ++ steps_of s bs a)) (append_assoc before (b ∷ []) acts)
-    ∙ sym (append_assoc (steps_of s before b) (steps_from s (before ++ b ∷ []) acts) (steps_of s (before ++ b ∷ acts) a)))
+steps-push s before (b ∷ acts) a = grind (arith, nat_tests, append_assoc, steps-push s (before ++ b ∷ []) acts a)
 
 pub history-grows : (s : Scripted) (acts : List Act) (a : Act) → history s (acts ++ a ∷ []) ≡ history s acts ++ steps_of s acts a
 history-grows s acts a = steps-push s [] acts a

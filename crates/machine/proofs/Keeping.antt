@@ -1,14 +1,14 @@
 -- A quiet line after which all events are there that were, with their accounts.
-use Rattle.std.specs.Prelude.{◌≡◌, ℕ, zero, suc, ◌<◌, ◌≤◌, ◌↔◌, ◌==◌, Bool, true, false, cond, is_some, List, [], ◌∷◌, ◌++◌, length, filter, flat_map, slice_index_or, None}
-use Rattle.std.specs.{FinMap.{FinMap, get}, List.{list_any}, Option.{unwrap_or}, Ordering.{nat_cmp}}
-use Rattle.std.proofs.{Common.{arith, refl, sym, ap, subst, ◌∙◌, inl, inr}, lemmas.Bool.{cases_eq, cases_Bool, false≢true, Decides.{nat_tests}}}
+use Rattle.std.specs.Prelude.{◌≡◌, ℕ, zero, suc, ◌<◌, ◌≤◌, ◌↔◌, ◌==◌, Bool, true, false, cond, List, [], ◌∷◌, ◌++◌, length, filter, flat_map, slice_index_or, None}
+use Rattle.std.specs.{FinMap.{FinMap, get}, Option.{unwrap_or}, Ordering.{nat_cmp}}
+use Rattle.std.proofs.{Common.{arith, refl, sym, ap, subst, ◌∙◌, inl, inr}, lemmas.Bool.{cases_eq, false≢true, Decides.{nat_tests}}}
 use Rattle.std.proofs.lemmas.List.{append-nil, map-append, Elements.{filter-append}}
 use Rattle.perf_base.specs.{Cpus.{HasCpu}, declared.{lines.{CpuLine.{CpuLine}, ToolLine.{ToolLine}}, numbers.{CpuNo.{CpuNo}, CpuSet.{CpuSet}}}}
 use Rattle.perf_base.specs.declared.numbers.{EventNo.{EventNo}, Key.{Key}}
 use Rattle.stage_spec.specs.{Families.{leaving}, Hardware.{Hardware}, History.{Step, CpuStep, ToolStep, tool_refusal, tool_changed, stage_step}}
 use Rattle.stage_spec.specs.{Limits.{Limits, IsMachine, IsWithin}, Numbers.{numbers_below}, Settle.{settle_each}, Shares.{no_sums}}
 use Rattle.stage_spec.{specs.Stage.{Stage, all_cpus}, proofs.Recurrence.{plus-none}}
-use Rattle.stage_laws.specs.{Narrowing.{touches, tool_touches, changed, unless_no, unless_left, AreSettled, IsNarrow}, Sound.{IsSound}}
+use Rattle.stage_laws.specs.{Narrowing.{touches, tool_touches, changed, unless_left, AreSettled, IsNarrow}, Sound.{IsSound}}
 use Rattle.stage_laws.proofs.{Narrow.{narrows}, Sound.{step_sound}}
 use Rattle.ring_spec.specs.{Agreement.{IsCurrentSlot}, Running.{RingAccount, losses_on}, Sending.{length_by}}
 use Rattle.world_spec.specs.{Kept.{IsKept}, Rescheduled.{AreRescheduled, AreUntouchedOutside, IsRescheduled}, StageOf.{stage_of}}
@@ -46,10 +46,7 @@ none-lost cpu l (a ∷ rings) = none-lost cpu l rings
 -- the slots that are current are those that were
 pub slots-same : (w x : World) → IsKept w.hardware w → IsKept x.hardware x → ((e : EventNo) → (family_of x e).original ≡ (family_of w e).original)
     → x.quiet.used ≡ w.quiet.used → (e : EventNo) → IsCurrentSlot (stage_of x) e → IsCurrentSlot (stage_of w) e
-slots-same w x h h_then originals used e current = elim current [
-  | inl opened ↦ inl (open-is w.hardware w e h ∙ (ap is_some (sym (originals e)) ∙ (sym (open-is x.hardware x e h_then) ∙ opened)))
-  | inr unused ↦ inr (ap (λ u. list_any (λ s. s.0 == e.0) u) (sym used) ∙ unused)
-]
+slots-same w x h h_then originals used e current = grind (arith, nat_tests, open-is)
 
 pub slots-current : (w x : World) → IsKept w.hardware w → IsKept x.hardware x → x.families ≡ w.families → x.quiet.used ≡ w.quiet.used → (e : EventNo)
     → IsCurrentSlot (stage_of x) e → IsCurrentSlot (stage_of w) e
@@ -127,25 +124,15 @@ one-below own (suc n) low =
 -- the processors that are touched are those of the set
 pub filter-below : (p q : CpuNo → Bool) (n : ℕ) → ((cpu : CpuNo) → cpu.0 < n → p cpu ≡ q cpu) → filter p (cpus_below n) ≡ filter q (cpus_below n)
 filter-below p q zero same = refl
-filter-below p q (suc n) same =
-    let cpu : CpuNo = record { 0 = n } in
-    let cpus : cpus_below (suc n) ≡ cpus_below n ++ cpu ∷ [] = map-append (λ k. record { 0 = k }) (numbers_below n) (n ∷ []) in
-    let rest : filter p (cpus_below n) ≡ filter q (cpus_below n) = filter-below p q n (λ c low. same c (omega (arith, low))) in
-    ap (filter p) cpus
-    ∙ (filter-append p (cpus_below n) (cpu ∷ [])
-    ∙ ((λ i. rest i ++ cond (same cpu (omega arith) i) (cpu ∷ []) []) ∙ (sym (filter-append q (cpus_below n) (cpu ∷ [])) ∙ ap (filter q) (sym cpus))))
+filter-below p q (suc n) same = grind (arith, cpus_below, map-append, filter-append, filter-below p q n (λ c low. same c (omega (arith, low))))
 
 pub in-by : (set : CpuSet) (cpu : CpuNo) (b : Bool) → (HasCpu set cpu → b ≡ true) → (b ≡ true → HasCpu set cpu) → is_in set cpu ≡ b
 in-by set cpu true there back = is-in_set set cpu (back refl)
-in-by set cpu false there back = elim (cases_Bool (is_in set cpu)) [
-  | inl in_it ↦ absurd (false≢true (there (let h : HasCpu set cpu = grind (arith, nat_tests, in_it) in h)))
-  | inr out ↦ out
-]
+in-by set cpu false there back = grind (arith, nat_tests, false≢true)
 
 -- a set of one processor
 pub is-alone : (own : CpuNo) (set : CpuSet) (other : CpuNo) → (HasCpu set other ↔ (other.0 ≡ own.0)) → is_in set other ≡ (own.0 == other.0)
-is-alone own set other alone =
-    in-by set other (own.0 == other.0) (λ has. same-number own.0 other.0 (sym (alone.0 has))) (λ is. alone.1 (sym (number_true own.0 other.0 is)))
+is-alone own set other alone = grind (arith, nat_tests, in-by, same-number, number_true)
 
 pub settled-all : (hw : Hardware) (w : World) → AreRescheduled hw w → AreSettled hw (stage_of w)
 settled-all hw w h cpu low = (h cpu low).settled
@@ -169,17 +156,12 @@ narrowed-step w v x l set c settled =
     let s : Stage = stage_of w in
     let step : Step = ToolStep l in
     let narrow : IsNarrow hw s step = narrows (limits_in w) hw s step c.ready.machine c.within c.ready.sound (settled-all hw w c.ready.rescheduled) in
-    let touched : (cpu : CpuNo) → cpu.0 < length w.quiet.running → is_in set cpu ≡ touches hw s step cpu = λ cpu low.
-    in-by set cpu (tool_touches s l cpu) (c.into cpu low) (c.back cpu low) ∙ sym (ap (λ o. unless_no o (tool_touches s l cpu)) c.accepted) in
+    let touched : (cpu : CpuNo) → cpu.0 < length w.quiet.running → is_in set cpu ≡ touches hw s step cpu = grind (arith, nat_tests, in-by) in
     let made : stage_of v ≡ changed hw s step = c.stage ∙ sym (ap (λ o. unless_left o (tool_changed l) s) c.accepted) in
-    settled
-    ∙ ((λ i. settle_each (c.hardware i) (filter (is_in set) (cpus_below (c.running i))) (made i))
-    ∙ (ap (λ cs. settle_each hw cs (changed hw s step)) (filter-below (is_in set) (touches hw s step) (length w.quiet.running) touched) ∙ sym narrow.stage))
+    grind (arith, nat_tests, cpus_below, made, hw, s, step, filter-below, touched)
 
 -- a processor that is not in the set stands as it stood
 pub left-rescheduled : (w v : World) (set : CpuSet) → v.hardware ≡ w.hardware → length v.quiet.running ≡ length w.quiet.running → AreRescheduled w.hardware w
     → AreUntouchedOutside set w v
     → (cpu : CpuNo) → cpu.0 < length v.quiet.running → (HasCpu set cpu → ⊥) → IsRescheduled v.hardware v cpu
-left-rescheduled w v set hardware running before others cpu low out =
-    let within : cpu.0 < length w.quiet.running = omega (arith, low, running) in
-    subst (λ (hw : Hardware). IsRescheduled hw v cpu) (sym hardware) ((others cpu within out).rescheduled (before cpu within))
+left-rescheduled w v set hardware running before others cpu low out = grind (arith, nat_tests)

@@ -1,6 +1,6 @@
 -- Where acts of a script lead to a machine, the lines that they do lead there as given lines.
 use Rattle.std.specs.Prelude.{◌≡◌, ℕ, ◌+◌, ◌<◌, ◌≤◌, ◌==◌, true, Bool, false, cond, List, [], ◌∷◌, ◌++◌, count_by, length, sum_by, Option, Some, None}
-use Rattle.std.proofs.{Common.{arith, refl, sym, ap, subst, ◌∙◌, append_assoc, inl, inr}, lemmas.Bool.{cases_Bool, false≢true, Decides.{nat_tests}}}
+use Rattle.std.proofs.{Common.{arith, refl, sym, subst, ◌∙◌, append_assoc}, lemmas.Bool.{false≢true, Decides.{nat_tests}}}
 use Rattle.std.proofs.lemmas.{List.Sums.{sum_by-cons}, Option.{none-some, slice_get-get_or}}
 use Rattle.perf_base.specs.declared.{acts.Act.{Act}, lines.{CpuLine.{CpuLine}, ToolLine.{ToolLine}}, numbers.CpuNo.{CpuNo}}
 use Rattle.perf_base.specs.Scripts.{Scripted, IsScript, lines_of_cpu}
@@ -21,27 +21,9 @@ one_cpu line = 1
 
 lines-by : (steps : List Step) → count_by is_line steps ≡ sum_by (by_tools one_tool) steps + sum_by (by_cpus one_cpu) steps
 lines-by [] = refl
-lines-by (CpuStep cpu line ∷ steps) = omega (
-  arith,
-  lines-by steps,
-  count-one is_line (CpuStep cpu line) steps,
-  sum_by-cons (by_tools one_tool) (CpuStep cpu line) steps,
-  sum_by-cons (by_cpus one_cpu) (CpuStep cpu line) steps,
-)
-lines-by (ToolStep line ∷ steps) = omega (
-  arith,
-  lines-by steps,
-  count-one is_line (ToolStep line) steps,
-  sum_by-cons (by_tools one_tool) (ToolStep line) steps,
-  sum_by-cons (by_cpus one_cpu) (ToolStep line) steps,
-)
-lines-by (SeenStep ring place ∷ steps) = omega (
-  arith,
-  lines-by steps,
-  count-one is_line (SeenStep ring place) steps,
-  sum_by-cons (by_tools one_tool) (SeenStep ring place) steps,
-  sum_by-cons (by_cpus one_cpu) (SeenStep ring place) steps,
-)
+lines-by (CpuStep cpu line ∷ steps) = omega (arith, count-one, sum_by-cons, by_tools, by_cpus, lines-by steps)
+lines-by (ToolStep line ∷ steps) = omega (arith, count-one, sum_by-cons, by_tools, by_cpus, lines-by steps)
+lines-by (SeenStep ring place ∷ steps) = grind (arith, nat_tests, count-one, sum_by-cons, by_tools, by_cpus, lines-by steps)
 
 ones : {X : Type 0} (xs : List X) → sum_by (λ x. 1) xs ≡ length xs
 ones [] = refl
@@ -52,25 +34,12 @@ all-ones [] = refl
 all-ones (xs ∷ lists) = omega (arith, ones xs, all-ones lists, sum_by-cons (sum_by (λ x. 1)) xs lists, sum_by-cons length xs lists)
 
 few-lines : (s : Scripted) (acts : List Act) → IsScript s → count_by is_line (history s acts) ≤ 16384
-few-lines s acts h = omega (
-  arith,
-  lines-by (history s acts),
-  tools_from s one_tool [] acts,
-  cpus_from s one_cpu [] acts,
-  none_done one_tool s.tool_lines,
-  none_done one_cpu s.cpu_lines,
-  all-ones s.tool_lines,
-  all-ones s.cpu_lines,
-  h.lines_few,
-)
+few-lines s acts h = omega (arith, lines-by, tools_from, cpus_from, none_done, all-ones)
 
 -- An act of a processor that has a line left does one line of it.
 of-cpu : (other cpu : CpuNo) (line : Option CpuLine) → ((other.0 == cpu.0) ≡ true → line ≡ None → ⊥)
     → count_by (is_line_of cpu) (cpu_steps other line) ≡ cond (other.0 == cpu.0) 1 0
-of-cpu other cpu None there = elim (cases_Bool (other.0 == cpu.0)) [
-  | inl own ↦ absurd (there own refl)
-  | inr apart ↦ sym (ap (λ (b : Bool). cond b 1 0) apart)
-]
+of-cpu other cpu None there = grind (arith, nat_tests)
 of-cpu other cpu (Some line) there = omega (arith, count-one (is_line_of cpu) (CpuStep other line) [])
 
 of-tool : (cpu : CpuNo) (line : Option ToolLine) → count_by (is_line_of cpu) (tool_steps line) ≡ 0

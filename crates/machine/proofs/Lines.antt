@@ -14,26 +14,16 @@ use Rattle.machine.specs.{Stepped.{IsReady}, Leading.{Kept, HasLine, LeadTo}, Ro
 
 -- what no processor and no tool has
 pub no-cpu : (s : Scripted) (m : Kept) (cpu : CpuNo) → IsScript s → 8 ≤ cpu.0 → HasLine s m (actor.Processor cpu) → ⊥
-no-cpu s m cpu h past has =
-    let none : lines_of_cpu s cpu ≡ [] = get_or_past s.cpu_lines cpu.0 [] (omega (arith, past, h.processors)) in
-    omega (arith, has, ap length none)
+no-cpu s m cpu h past has = grind (arith, get_or_past)
 
 pub no-tool : (s : Scripted) (m : Kept) (tool : ToolNo) → IsScript s → 4 ≤ tool.0 → HasLine s m (actor.Tool tool) → ⊥
-no-tool s m tool h past has =
-    let none : lines_of_tool s tool ≡ [] = get_or_past s.tool_lines tool.0 [] (omega (arith, past, h.tools)) in
-    omega (arith, has, ap length none)
+no-tool s m tool h past has = grind (arith, get_or_past)
 
 pub cpu-low : (s : Scripted) (m : Kept) (cpu : CpuNo) → IsScript s → HasLine s m (actor.Processor cpu) → cpu.0 < 8
-cpu-low s m cpu h has = elim (cases_lt cpu.0 8) [
-  | inl low ↦ low
-  | inr past ↦ absurd (no-cpu s m cpu h past has)
-]
+cpu-low s m cpu h has = grind (arith, cases_lt, no-cpu)
 
 pub tool-low : (s : Scripted) (m : Kept) (tool : ToolNo) → IsScript s → HasLine s m (actor.Tool tool) → tool.0 < 4
-tool-low s m tool h has = elim (cases_lt tool.0 4) [
-  | inl low ↦ low
-  | inr past ↦ absurd (no-tool s m tool h past has)
-]
+tool-low s m tool h has = grind (arith, cases_lt, no-tool)
 
 -- a processor that has lines is one of the machine's
 busy-low : (s : Scripted) (cpu : CpuNo) → IsScript s → 0 < length (lines_of_cpu s cpu) → cpu.0 < s.cpus
@@ -73,18 +63,13 @@ line-is lines own n d e low = slice_get-get_or own n d low ∙ ap (λ ls. Some (
 pub cpu-line-within : (s : Scripted) (acts : List Act) (m : Kept) (cpu : CpuNo) (lines : List CpuLine) (d : CpuLine) → IsScript s → IsCovered s → LeadTo s acts m
     → HasLine s m (actor.Processor cpu) → lines ≡ lines_of_cpu s cpu
     → IsCpuLine (length m.world.hardware.kind_pmus) (slice_index_or lines (slice_index_or m.cpus cpu.0 0) d)
-cpu-line-within s acts m cpu lines d h covered led has e =
-    let here : IsCpuLine (length s.kinds) (get_or (lines_of_cpu s cpu) (slice_index_or m.cpus cpu.0 0) d) =
-    h.cpu_lines cpu.0 [] (omega (arith, h.processors, cpu-low s m cpu h has)) (slice_index_or m.cpus cpu.0 0) d has in
-    subst (λ ls. IsCpuLine (length m.world.hardware.kind_pmus) (get_or ls (slice_index_or m.cpus cpu.0 0) d)) (sym e)
-    (subst (λ n. IsCpuLine n (get_or (lines_of_cpu s cpu) (slice_index_or m.cpus cpu.0 0) d)) (sym (machine-kinds s acts m h covered led)) here)
+cpu-line-within s acts m cpu lines d h covered led has e = grind (arith, get_or, cpu-low, machine-kinds)
 
 pub tool-line-within : (s : Scripted) (acts : List Act) (m : Kept) (tool : ToolNo) (lines : List ToolLine) (d : ToolLine) → IsScript s → IsCovered s → IsReady m.world → LeadTo s acts m
     → HasLine s m (actor.Tool tool) → lines ≡ lines_of_tool s tool → IsLineFor m.world (slice_index_or lines (slice_index_or m.tools tool.0 0) d)
 tool-line-within s acts m tool lines d h covered ready led has e =
     let at : ToolLine = get_or (lines_of_tool s tool) (slice_index_or m.tools tool.0 0) d in
-    let here : IsToolLine s.cpus (length s.kinds) s.rings at =
-    h.tool_lines tool.0 [] (omega (arith, h.tools, tool-low s m tool h has)) (slice_index_or m.tools tool.0 0) d has in
+    let here : IsToolLine s.cpus (length s.kinds) s.rings at = grind (arith, tool-low) in
     let kinds : IsToolLine s.cpus (length m.world.hardware.kind_pmus) s.rings at = subst (λ n. IsToolLine s.cpus n s.rings at) (sym (machine-kinds s acts m h covered led)) here in
     subst (λ ls. IsLineFor m.world (get_or ls (slice_index_or m.tools tool.0 0) d)) (sym e)
     (s.rings, subst (λ n. IsToolLine n (length m.world.hardware.kind_pmus) s.rings at) (sym (machine-cpus s acts m h covered ready led)) kinds)
@@ -100,7 +85,4 @@ pub work-room : (w : World) (kinds : ℕ) (work : Work) → HasRoom w → IsCpuL
 work-room w kinds work room h =
     let hits : greatest work.hits ≤ 1000000000 = fold-most 1000000000 0 work.hits (omega arith) h.hits in
     let most : max work.length (greatest work.hits) ≤ 1000000000 = omega (arith, hits, h.length) in
-    record {
-      counts = λ k live. omega (arith, most, room.sums.counts k live);
-      times = λ k live. omega (arith, h.length, room.sums.times k live);
-    }
+    grind (arith, most)

@@ -1,9 +1,9 @@
 -- Rings that were just made, their ends and readers.
 use Rattle.std.specs.Prelude.{◌≡◌, ◌≢◌, ℕ, ◌<◌, ◌≤◌, AllPairs, List, [], ◌∷◌, length, map, option_map, Option, Some, None, slice_get, slice_index_or}
-use Rattle.std.proofs.{Common.{arith, refl, sym, ap, subst, ◌∙◌}, lemmas.List.{get_or-map, length-map, Elements.{All-nil}}}
+use Rattle.std.proofs.{Common.{arith, refl, sym, ap, ◌∙◌}, lemmas.List.{get_or-map, length-map, Elements.{All-nil}}}
 use Rattle.std.proofs.lemmas.Option.{none-some, same_Some, slice_get-map}
 use Rattle.perf_base.specs.{declared.numbers.RingNo.{RingNo}, Scripts.{Scripted, IsScript}}
-use Rattle.ring_spec.specs.{Records.{IsRecord}, Running.{empty_ring}}
+use Rattle.ring_spec.specs.{Running.{empty_ring}}
 use Rattle.ring_words.specs.Ends.{Ring}
 use Rattle.sample_ring.specs.{InEnds.{InEnd, new_in}, OutEnds.{OutEnd, new_out}, RingLists.{AreNew, InList, OutList, RingList}}
 use Rattle.work_account.specs.Ends.{AreAccounts, AreTogether, HaveAccounts, IsAccountOf}
@@ -11,12 +11,7 @@ use Rattle.machine.specs.Readers.{AreFollowing, Follows}
 
 -- a new end has an empty account
 new-account : (n : RingNo) (bytes : ℕ) (t : Ring) → t.bytes ≡ bytes → IsAccountOf n (new_out t) (empty_ring (n, bytes))
-new-account n bytes t e = record {
-  ring = refl;
-  bytes = sym e;
-  has = record { written = refl; lawful = All-nil IsRecord; pending = refl; lost = refl; tail = refl };
-  put = refl;
-}
+new-account n bytes t e = grind (arith, All-nil)
 
 head-is : (m n : ℕ) (ms ns : List ℕ) → ◌≡◌ {A = List ℕ} (m ∷ ms) (n ∷ ns) → m ≡ n
 head-is m n ms ns e = cc
@@ -41,31 +36,18 @@ rising-apart rings h i j d below inside same =
     let few : j < length rings = omega (arith, inside, length-map rings number) in
     let q : RingNo × ℕ = (d, 0) in
     let less : (slice_index_or rings i q).0.0 < (slice_index_or rings j q).0.0 = h i j q below few in
-    omega (
-      arith,
-      less,
-      ap (λ (n : RingNo). n.0) (get_or-map number rings i q d (omega (arith, below, few))),
-      ap (λ (n : RingNo). n.0) (get_or-map number rings j q d few),
-      same,
-    )
+    grind (arith, less, get_or-map, number, q, few)
 
 pub new-accounts : (s : Scripted) (words : ℕ) (rings : RingList) (outs : OutList) (ins : InList) → IsScript s → AreNew s.rings words rings outs ins
     → HaveAccounts outs (map empty_ring s.rings)
-new-accounts s words rings outs ins h new = record {
-  apart = subst (AllPairs (λ (m n : RingNo). m.0 ≢ n.0)) (sym new.out_numbers) (rising-apart s.rings h.rings_rise);
-  each = subst (λ numbers. AreAccounts numbers outs.outs (map empty_ring s.rings)) (sym new.out_numbers)
-      (subst (λ (l : List OutEnd). AreAccounts (map (λ (r : RingNo × ℕ). r.0) s.rings) l (map empty_ring s.rings)) (sym new.new_outs) (new-each s.rings rings.tables new.bytes));
-}
+new-accounts s words rings outs ins h new = grind (arith, rising-apart, new-each)
 
 same-rings : (tables : List Ring) → map (λ (o : OutEnd). o.producer.ring) (map new_out tables) ≡ tables
 same-rings [] = refl
 same-rings (t ∷ tables) = ap (λ l. t ∷ l) (same-rings tables)
 
 pub new-together : (s : Scripted) (words : ℕ) (rings : RingList) (outs : OutList) (ins : InList) → AreNew s.rings words rings outs ins → AreTogether rings outs
-new-together s words rings outs ins new = record {
-  numbers = new.ring_numbers ∙ sym new.out_numbers;
-  tables = ap (map (λ (o : OutEnd). o.producer.ring)) new.new_outs ∙ same-rings rings.tables;
-}
+new-together s words rings outs ins new = grind (arith, same-rings)
 
 new-follows : (tables : List Ring) (words room : ℕ) (place : ℕ) (o : OutEnd) → words ≤ room → slice_get (map new_out tables) place ≡ Some o
     → (i : InEnd) × (slice_get (map (λ (t : Ring). Some (new_in t room)) tables) place ≡ Some (Some i)) × Follows words o i

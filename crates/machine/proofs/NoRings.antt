@@ -1,12 +1,12 @@
 -- Without rings no event writes to one, and work sends nothing and leaves the ends that send.
-use Rattle.std.specs.Prelude.{◌≡◌, ℕ, ◌+◌, ◌*◌, ◌^◌, ◌<◌, ◌==◌, true, All, List, [], ◌∷◌, ◌++◌, flat_map, length, map, slice_index_or, Option, Some, None}
-use Rattle.std.{specs.List.{list_any}, proofs.{Common.{arith, get_or, refl, sym, ap, subst, ◌∙◌, inl}, lemmas.List.Elements.{All-nil, All-weaker}}}
+use Rattle.std.specs.Prelude.{◌≡◌, ℕ, ◌+◌, ◌*◌, ◌^◌, ◌<◌, All, List, [], ◌∷◌, ◌++◌, flat_map, length, map, slice_index_or, Option, Some, None}
+use Rattle.std.{proofs.{Common.{arith, get_or, refl, sym, ap, subst, ◌∙◌, inl}, lemmas.List.Elements.{All-nil, All-weaker}}}
 use Rattle.std.proofs.lemmas.List.Folds.{Any-from_list_any}
 use Rattle.perf_base.specs.{declared.{lines.Work.{Work}, numbers.{CpuNo.{CpuNo}, EventNo.{EventNo}, RingNo.{RingNo}}}, Scripts.{Scripted, HasRing}}
 use Rattle.stage_spec.specs.{declared.instance.Instance.{Instance}, Hardware.{Hardware, hardware_of}, History.{Step, opening_stage, stage_after}}
 use Rattle.stage_spec.specs.{Stage.{Stage, all_instances, is_original, original_of}, Verdict.{on_instances}}
 use Rattle.stage_laws.{specs.Sound.{AreMapped, IsSound}, proofs.Found.{found_has}}
-use Rattle.ring_spec.specs.{Rings.{account_of, lost_count}, Running.{RingAccount, Running}}
+use Rattle.ring_spec.specs.{Rings.{lost_count}, Running.{RingAccount, Running}}
 use Rattle.ring_spec.{specs.Sending.{fields_of, overflows_by, sent_at, sent_by_family, sent_of, to_ring}, proofs.Running.{in_account, record_law}}
 use Rattle.ring_words.specs.Ends.{head_place}
 use Rattle.sample_ring.specs.{OutEnds.{OutEnd}, RingLists.{OutList, RingList}}
@@ -20,14 +20,10 @@ abbrev WritesNowhere : Instance → Type 0
 WritesNowhere i = (ring : RingNo) → i.ring ≡ Some ring → ⊥
 
 no-ring : (rings : List (RingNo × ℕ)) (ring : RingNo) → rings ≡ [] → HasRing rings ring → ⊥
-no-ring rings ring none h =
-    let few : h.0 < length rings = h.2 in
-    omega (arith, few, ap length none)
+no-ring rings ring none h = grind arith
 
 nowhere : (s : Stage) (rings : List (RingNo × ℕ)) → rings ≡ [] → All (HasRing rings) s.mapped → AreMapped s → All WritesNowhere (all_instances s)
-nowhere s rings none declared mapped = All-weaker (λ (i : Instance). (ring : RingNo) → i.ring ≡ Some ring → list_any (λ (r : RingNo). r.0 == ring.0) s.mapped ≡ true) WritesNowhere (λ i writes ring is.
-    let place = Any-from_list_any (λ (r : RingNo). r.0 == ring.0) s.mapped (writes ring is) in
-    no-ring rings (get_or s.mapped place.0 place.1) none (declared place.0 place.1 place.2)) (all_instances s) mapped
+nowhere s rings none declared mapped = grind (arith, All-weaker, Any-from_list_any, no-ring, get_or)
 
 silent-instances : (s : Scripted) (steps : List Step) (m : Kept) → s.rings ≡ [] → IsLedBy s steps m → IsSound m.world.hardware (stage_of m.world)
     → All WritesNowhere (all_instances (stage_of m.world))
@@ -71,17 +67,14 @@ no-ends (n ∷ numbers) (o ∷ outs) [] none h = absurd h
 no-ends (n ∷ numbers) (o ∷ outs) (a ∷ accounts) none h = absurd (omega (arith, ap length none))
 
 no-accounts : (s : Scripted) (steps : List Step) → s.rings ≡ [] → (record_by s steps).rings ≡ []
-no-accounts s steps none =
-    (record_law (hardware_of s) (opening_stage s) s.rings steps).rings ∙ ap (map (in_account (account_of (hardware_of s) (opening_stage s) steps))) none
+no-accounts s steps none = grind (arith, record_law, in_account)
 
 lost-nowhere : (hw : Hardware) (stage : Stage) (steps : List Step) (e : EventNo) → lost_count hw stage [] steps e ≡ 0
 unfolding lost_count
 lost-nowhere hw stage steps e = refl
 
 no-losses : (s : Scripted) (steps : List Step) (e : EventNo) → s.rings ≡ [] → (record_by s steps).lost e ≡ 0
-no-losses s steps e none =
-    (record_law (hardware_of s) (opening_stage s) s.rings steps).lost e
-    ∙ (ap (λ rings. lost_count (hardware_of s) (opening_stage s) rings steps e) none ∙ lost-nowhere (hardware_of s) (opening_stage s) steps e)
+no-losses s steps e none = grind (arith, record_law, lost-nowhere)
 
 none-lost : (s : Scripted) (steps : List Step) (m : Kept) (slot : ℕ) → s.rings ≡ [] → IsLedBy s steps m → IsKept m.world.hardware m.world → HasInstance m.world slot
     → slice_index_or m.world.lost slot 0 ≡ 0
@@ -99,8 +92,7 @@ pub space-alone : (s : Scripted) (steps : List Step) (m : Kept) (cpu : CpuNo) (w
 space-alone s steps m cpu work none led kept sound =
     let r : Running = record_by s steps in
     let outs : m.outs.outs ≡ [] = no-ends m.outs.numbers m.outs.outs r.rings (no-accounts s steps none) led.ends.each in
-    let sent : sent_by m.world r.left cpu work ≡ [] =
-    none-sent m.world.hardware (stage_of m.world) r.left (slice_index_or m.world.quiet.clocks cpu.0 0 + work.length) cpu work (silent-instances s steps m none led sound) in
+    let sent : sent_by m.world r.left cpu work ≡ [] = search (none-sent, silent-instances) in
     let count : ℕ = length (sent_by m.world r.left cpu work) in
     record {
       left = r.left;

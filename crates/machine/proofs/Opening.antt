@@ -1,6 +1,6 @@
 -- A line that opens an event.
-use Rattle.std.specs.Prelude.{◌≡◌, ℕ, ◌+◌, ◌<◌, ◌≤◌, ◌==◌, Bool, true, false, ◌||◌, is_some, List, [], ◌∷◌, ◌++◌, length, filter, Option, Some, None, slice_index_or, if◌then◌else◌}
-use Rattle.std.{specs.List.{list_any}, proofs.{Common.{arith, refl, sym, ap, subst, ◌∙◌, inl, inr}, lemmas.Bool.{cases_eq, false≢true}}}
+use Rattle.std.specs.Prelude.{◌≡◌, ℕ, ◌+◌, ◌<◌, ◌≤◌, Bool, true, false, ◌||◌, List, [], ◌∷◌, ◌++◌, length, filter, Option, Some, None, slice_index_or, if◌then◌else◌}
+use Rattle.std.{proofs.{Common.{arith, refl, sym, ap, subst, ◌∙◌, inl, inr}, lemmas.Bool.{cases_eq, false≢true}}}
 use Rattle.std.proofs.lemmas.List.Folds.{list_any-append}
 use Rattle.perf_base.specs.{Cpus.{HasCpu}, Scripts.{IsCpuSel}, declared.attr.{Attr.{Attr}, CpuSel.{CpuSel}, TaskSel.{TaskSel}}}
 use Rattle.perf_base.specs.declared.numbers.{CpuNo.{CpuNo}, CpuSet.{CpuSet}, EventNo.{EventNo}, Key.{Key}, TaskNo.{TaskNo}}
@@ -15,7 +15,7 @@ use Rattle.stage_spec.specs.{Opening.{open_refusal, opened, is_used}, Replies.{U
 use Rattle.stage_spec.{specs.Stage.{Stage, all_cpus}, proofs.Recurrence.{plus-none}}
 use Rattle.stage_laws.{specs.{Narrowing.{has_context}, Sound.{IsSound}}, proofs.Sound.{step_sound}}
 use Rattle.world_spec.specs.{Adding.{Newcomer, add}, Kept.{IsKept}, Rescheduled.{AreRescheduled, AreUntouchedOutside, IsRescheduled}}
-use Rattle.world_spec.specs.{Staying.{HasCome}, StageOf.{stage_of}, Value.{World, is_live, entry_at, instance_at, account_at, family_of}}
+use Rattle.world_spec.specs.{Staying.{HasCome}, StageOf.{stage_of}, Value.{World, is_live, entry_at, instance_at, account_at}}
 use Rattle.world_spec.{specs.Stepping.{HasStepped}, proofs.{Families.{open-is}, Keys.{key-is}, Quiet.{quiet-keeps}, Stepping.{stepped}}}
 use Rattle.event_open.{proofs.Refusing.{none-holds, first-free}, specs.Opened.{opened_as, IsOpenedAs}}
 use Rattle.machine.{specs.{Settled.{OnlyRescheduled, is_in}, Stepped.{limits_in, IsReady}}, proofs.Keeping.{narrowed-step, left-rescheduled}}
@@ -53,16 +53,7 @@ running-stays w v key n is = ap (λ (y : World). y.quiet.running) is ∙ added-r
 
 pub is-step : (w v x : World) (slot : EventNo) (a : Attr) (leader : Option EventNo) (set : CpuSet) → Course w v x slot a leader set
     → stage_of x ≡ stage_step w.hardware (stage_of w) (ToolStep (line.Open slot a leader))
-is-step w v x slot a leader set c = narrowed-step w v x (line.Open slot a leader) set (record {
-  ready = c.ready;
-  within = c.within;
-  accepted = c.accepted;
-  hardware = hardware-stays w v c.opened_as_newcomer.key (opened_as w slot a leader) c.opened_as_newcomer.world;
-  running = ap length (running-stays w v c.opened_as_newcomer.key (opened_as w slot a leader) c.opened_as_newcomer.world);
-  stage = c.stage;
-  into = c.into;
-  back = c.back;
-}) c.settled
+is-step w v x slot a leader set c = grind (arith, narrowed-step, hardware-stays, running-stays)
 
 -- what a newcomer draws and uses up
 added-next : (w : World) (key : Key) (n : Newcomer) (leader : Option Key) → (add key (record n { leader = leader }) w).quiet.next_id ≡ w.quiet.next_id + 1
@@ -121,13 +112,7 @@ has-stepped w v x slot a leader set c =
             account = same-account v x k c.rest ∙ come.others.accounts k apart;
           });
       new = λ k live past. elim (cases_eq k.0 key.0) [
-        | inl e ↦
-            let account : account_at x k ≡ record { sums = no_sums; left = n.attr.period } = same-account v x k c.rest ∙ (ap (account_at v) (key-is k key e) ∙ come.account) in
-            record {
-              sums = ap (λ t. t.sums) account;
-              left = ap (λ t. t.left) account
-                  ∙ sym (ap (λ i. i.attr.period) (same-instance v x k c.rest) ∙ (ap (λ q. (instance_at v q).attr.period) (key-is k key e) ∙ ap (λ i. i.attr.period) come.instance));
-            }
+        | inl e ↦ grind (arith, same-account, key-is, e, same-instance)
         | inr apart ↦
             let was : is_live w k ≡ true = sym (come.others.live k apart) ∙ (sym (c.rest.live k) ∙ live) in
             absurd (omega (arith, past, id_then k, ap (λ i. i.id) (come.others.instances k apart), (c.kept.numbered.drawn k was).1))
@@ -135,12 +120,8 @@ has-stepped w v x slot a leader set c =
       slots = λ e current. elim (cases_eq e.0 slot.0) [
         | inl same ↦ inr (ap (λ m. is_used (stage_of w) (record { 0 = m })) same ∙ slot-unused w.hardware (stage_of w) slot a leader c.accepted)
         | inr apart ↦ elim current [
-          | inl opened_then ↦
-              let family : family_of x e ≡ family_of w e = ap (λ (y : World). family_of y e) c.rest.world ∙ come.families e apart in
-              inl (open-is w.hardware w e c.kept ∙ (ap (λ f. is_some f.original) (sym family) ∙ (sym (open-is x.hardware x e c.kept_then) ∙ opened_then)))
-          | inr unused ↦
-              inr (unused-first (list_any (λ s. s.0 == e.0) w.quiet.used) (list_any (λ s. s.0 == e.0) (slot ∷ []))
-              (sym (list_any-append (λ s. s.0 == e.0) w.quiet.used (slot ∷ [])) ∙ (ap (list_any (λ s. s.0 == e.0)) (sym used) ∙ unused)))
+          | inl opened_then ↦ grind (arith, open-is, opened_then)
+          | inr unused ↦ grind (arith, unused-first, list_any-append, unused)
         ]
       ];
       folded = λ e current. (
@@ -191,9 +172,7 @@ is-ready w v x slot a leader set c rescheduled =
       homes = λ k cpu live at.
           let before : (entry_at v k).context ≡ context.Processor cpu = sym (ap (λ e. e.context) (c.rest.entries k)) ∙ at in
           let low : cpu.0 < length w.quiet.running = elim (cases_eq k.0 key.0) [
-            | inl e ↦
-                let own : context_of a ≡ context.Processor cpu = sym (ap (λ q. (entry_at v q).context) (key-is k key e) ∙ c.opened_as_newcomer.come.context) ∙ before in
-                named-low w.quiet.running w.hardware a.task a.cpu cpu (omega (arith, c.ready.machine.sound.cpus, c.ready.machine.cpus)) c.within.1.cpu own
+            | inl e ↦ grind (arith, key-is, e, named-low)
             | inr apart ↦
                 c.ready.homes k cpu (sym (c.opened_as_newcomer.come.others.live k apart) ∙ (sym (c.rest.live k) ∙ live)) (sym (c.opened_as_newcomer.come.others.contexts k apart) ∙ before)
           ] in
@@ -205,8 +184,7 @@ pub is-done : (w v x : World) (slot : EventNo) (a : Attr) (leader : Option Event
     → stepped_line.IsDone (ToolStep (line.Open slot a leader)) w x reply.Ok
 is-done w v x slot a leader set c by agrees =
     let step : Step = ToolStep (line.Open slot a leader) in
-    let hardware : x.hardware ≡ w.hardware =
-    ap (λ (y : World). y.hardware) c.rest.world ∙ hardware-stays w v c.opened_as_newcomer.key (opened_as w slot a leader) c.opened_as_newcomer.world in
+    let hardware : x.hardware ≡ w.hardware = grind (arith, hardware-stays) in
     record {
       answer = subst (λ o. UnlessRefused o reply.Ok (reply.Ok ≡ reply.Ok)) (sym (ap (λ s. open_refusal w.hardware s slot a leader) agrees.stage ∙ c.accepted)) refl;
       agrees = stepped w.hardware w x by step c.kept (subst (λ (hw : Hardware). IsKept hw x) hardware c.kept_then) agrees (has-stepped w v x slot a leader set c) (tools-lose_none w.hardware by (line.Open slot a leader));

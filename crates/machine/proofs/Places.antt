@@ -1,11 +1,11 @@
 -- The end of a ring among those that there are, its account, and what a look at its tail leaves.
-use Rattle.std.specs.Prelude.{◌≡◌, ◌≢◌, ℕ, zero, suc, ◌+◌, ◌<◌, ◌==◌, Bool, true, false, not, cond, AllPairs, List, [], ◌∷◌, ◌++◌, map, find, fold, Option, Some, length, slice_get, slice_index_or, slice_set, if◌then◌else◌}
+use Rattle.std.specs.Prelude.{◌≡◌, ◌≢◌, ℕ, zero, suc, ◌+◌, ◌<◌, ◌==◌, Bool, true, false, not, cond, AllPairs, List, [], ◌∷◌, map, find, Option, Some, length, slice_get, slice_index_or, slice_set}
 use Rattle.std.proofs.{Common.{arith, refl, sym, ap, subst, ◌∙◌, inl, inr}, lemmas.Bool.{cases_eq, Decides.{nat_tests}}}
 use Rattle.std.proofs.lemmas.Option.{get_or_from_slice_get, none-some, same_Some, slice_get_within}
 use Rattle.perf_base.specs.declared.numbers.RingNo.{RingNo}
 use Rattle.stage_spec.specs.History.{SeenStep}
 use Rattle.stage_laws.proofs.Leaders.{find-first, find-later}
-use Rattle.ring_spec.{specs.{Account.{Account, Looks, ring_step}, Rings.{bytes_in}, Running.{RingAccount, ring_after}}, proofs.Running.{in_account}}
+use Rattle.ring_spec.{specs.{Account.{Account}, Rings.{bytes_in}, Running.{RingAccount, ring_after}}, proofs.Running.{in_account}}
 use Rattle.sample_ring.specs.{OutEnds.{OutEnd}, RingLists.{HasRing, ring_index}}
 use Rattle.work_account.specs.Ends.{IsAccountOf, AreAccounts}
 
@@ -27,10 +27,7 @@ pub place-here : (n ring : RingNo) (numbers : List RingNo) → n.0 ≡ ring.0 �
 place-here n ring numbers e = let its : (n.0 == ring.0) ≡ true = grind (arith, nat_tests, e) in ap (λ (b : Bool). cond (not b) (1 + ring_index numbers ring) 0) its
 
 pub place-later : (n ring : RingNo) (numbers : List RingNo) → (n.0 ≡ ring.0 → ⊥) → ring_index (n ∷ numbers) ring ≡ suc (ring_index numbers ring)
-place-later n ring numbers off =
-    let other : (n.0 == ring.0) ≡ false = grind (arith, nat_tests, off) in
-    let one : 1 + ring_index numbers ring ≡ suc (ring_index numbers ring) = omega arith in
-    ap (λ (b : Bool). cond (not b) (1 + ring_index numbers ring) 0) other ∙ one
+place-later n ring numbers off = grind (arith, nat_tests)
 
 pub ring-is : (m n : RingNo) → m.0 ≡ n.0 → m ≡ n
 ring-is m n e = λ i. record { 0 = e i }
@@ -38,12 +35,7 @@ ring-is m n e = λ i. record { 0 = e i }
 -- The end of a declared ring has that ring's account.
 account-here : (f : RingNo × ℕ → Account) (n ring : RingNo) (o : OutEnd) (r : RingNo × ℕ) (rings : List (RingNo × ℕ)) → n.0 ≡ ring.0 → IsAccountOf n o (in_account f r)
     → IsAccountOf ring o (in_account f (ring, bytes_in (find (λ q. q.0.0 == ring.0) (r ∷ rings))))
-account-here f n ring o r rings e h =
-    let same : r.0 ≡ ring = h.ring ∙ ring-is n ring e in
-    let is : (r.0.0 == ring.0) ≡ true = grind (arith, nat_tests, ap (λ (q : RingNo). q.0) same) in
-    let first : find (λ q. q.0.0 == ring.0) (r ∷ rings) ≡ Some r = find-first (λ (q : RingNo × ℕ). q.0.0 == ring.0) r rings is in
-    subst (λ (q : RingNo × ℕ). IsAccountOf q.0 o (in_account f q)) (λ i. (same i, bytes_in (sym first i)))
-    (subst (λ (m : RingNo). IsAccountOf m o (in_account f r)) (sym h.ring) h)
+account-here f n ring o r rings e h = grind (arith, nat_tests, ring-is, find-first, in_account)
 
 pub account-there : (f : RingNo × ℕ → Account) (numbers : List RingNo) (outs : List OutEnd) (rings : List (RingNo × ℕ)) (ring : RingNo) (o : OutEnd)
     → AreAccounts numbers outs (map (in_account f) rings) → HasRing numbers ring → slice_get outs (ring_index numbers ring) ≡ Some o
@@ -52,9 +44,7 @@ account-there f [] outs rings ring o h there at = absurd (omega (arith, there))
 account-there f (n ∷ numbers) [] rings ring o h there at = absurd (none-some _ at)
 account-there f (n ∷ numbers) (p ∷ outs) [] ring o h there at = absurd h
 account-there f (n ∷ numbers) (p ∷ outs) (r ∷ rings) ring o h there at = elim (cases_eq n.0 ring.0) [
-  | inl e ↦
-      let same : p ≡ o = same_Some p o (ap (slice_get (p ∷ outs)) (sym (place-here n ring numbers e)) ∙ at) in
-      account-here f n ring o r rings e (subst (λ (q : OutEnd). IsAccountOf n q (in_account f r)) same h.0)
+  | inl e ↦ grind (arith, nat_tests, same_Some, place-here, e, account-here, in_account)
   | inr off ↦
       let later : ring_index (n ∷ numbers) ring ≡ suc (ring_index numbers ring) = place-later n ring numbers off in
       let apart : (r.0.0 == ring.0) ≡ false = grind (arith, nat_tests, off, ap (λ (q : RingNo). q.0) h.0.ring) in
@@ -68,14 +58,10 @@ abbrev pub with_tail : ℕ → RingAccount → RingAccount
 with_tail place a = record a { account = record a.account { tail = place } }
 
 look-here : (ring : RingNo) (place : ℕ) (a : RingAccount) → a.ring.0 ≡ ring.0 → ring_after (SeenStep ring place) [] a ≡ with_tail place a
-look-here ring place a e =
-    let its : (ring.0 == a.ring.0) ≡ true = grind (arith, nat_tests, e) in
-    ap (λ (b : Bool). record a { account = fold (ring_step a.bytes) a.account ((if b then Looks place ∷ [] else []) ++ []) }) its
+look-here ring place a e = grind (arith, nat_tests)
 
 look-other : (ring : RingNo) (place : ℕ) (a : RingAccount) → (a.ring.0 ≡ ring.0 → ⊥) → ring_after (SeenStep ring place) [] a ≡ a
-look-other ring place a off =
-    let other : (ring.0 == a.ring.0) ≡ false = grind (arith, nat_tests, off) in
-    ap (λ (b : Bool). record a { account = fold (ring_step a.bytes) a.account ((if b then Looks place ∷ [] else []) ++ []) }) other
+look-other ring place a off = grind (arith, nat_tests)
 
 -- rings that are not looked at
 others-still : (numbers : List RingNo) (outs : List OutEnd) (accounts : List RingAccount) (ring : RingNo) (place : ℕ) → AreAccounts numbers outs accounts

@@ -1,14 +1,13 @@
 -- What a line that reschedules its processor is planned from is the brief of the stage that its own change leads to.
-use Rattle.std.specs.Prelude.{◌≡◌, ◌<◌, ℕ, Bool, true, false, List, [], ◌∷◌, map, filter, length, Option, Some, None}
+use Rattle.std.specs.Prelude.{◌≡◌, ◌<◌, Bool, true, false, List, length, Option, Some, None}
 use Rattle.std.proofs.{Common.{arith, refl, sym, ap, ◌∙◌, inl, inr}, lemmas.Bool.{cases_Bool, false≢true}}
-use Rattle.perf_base.specs.declared.{numbers.{CpuNo.{CpuNo}, Key.{Key}, TaskNo.{TaskNo}}, reasons.Reason.{Reason}, standing.Context.{Context}}
+use Rattle.perf_base.specs.declared.{numbers.{CpuNo.{CpuNo}, Key.{Key}, TaskNo.{TaskNo}}, reasons.Reason.{Reason}}
 use Rattle.perf_base.specs.declared.lines.CpuLine.TheVariants as line
-use Rattle.perf_base.specs.declared.standing.Context.TheVariants as context
-use Rattle.stage_spec.specs.{Exits.{exit_refusal, exited}, History.{cpu_refusal}, Stage.{Stage, Group, lists_of, task_on}}
-use Rattle.stage_spec.specs.{Switching.{is_running, put_on, switch_refusal, switched}, Verdict.{is_eligible, task_lists}}
-use Rattle.stage_laws.{specs.{Briefs.{GroupBrief}, Narrowing.{unless_left, unless_no}, Standings.{brief_of, briefs}}, proofs.Tasks.{is_task-some}}
-use Rattle.world_spec.{specs.{Changes.{place}, Kept.{IsKept}, StageOf.{lists_at, stage_of}, Value.{World, leaders_of}}, proofs.Placing.{place-stage}}
-use Rattle.cpu_sched.specs.{After.{after_brief, brief_with}, Briefs.{briefs_at, present_brief}}
+use Rattle.stage_spec.specs.{Exits.{exit_refusal, exited}, History.{cpu_refusal}, Stage.{Stage, task_on}}
+use Rattle.stage_spec.specs.{Switching.{is_running, put_on, switch_refusal, switched}}
+use Rattle.stage_laws.{specs.{Briefs.{GroupBrief}, Narrowing.{unless_left, unless_no}, Standings.{briefs}}, proofs.Tasks.{is_task-some}}
+use Rattle.world_spec.{specs.{Changes.{place}, Kept.{IsKept}, StageOf.{stage_of}, Value.{World}}, proofs.Placing.{place-stage}}
+use Rattle.cpu_sched.specs.{After.{after_brief, brief_with}, Briefs.{present_brief}}
 use Rattle.cpu_sched.proofs.Relabelled.{briefs-relabelled, id_at, one-pass, relabel}
 use Rattle.task_moves.{specs.Turning.{turned_world}, proofs.{Rotating.{is-rotated}, Switching.{switched-on}}}
 use Rattle.machine.{specs.{Prepared.{PreparedLaw, by_ids}, Stepped.{IsReady}}, proofs.Counting.{never-touched}}
@@ -62,18 +61,7 @@ switch-prepared w cpu to low = elim (cases_Bool (is_running (task_on (stage_of w
 exit-prepared : (w : World) (cpu : CpuNo) → cpu.0 < 8 → cpu.0 < length w.quiet.running
     → by_ids w (after_brief w cpu line.Exit).passes ≡ briefs w.hardware (exited cpu (stage_of w)) cpu
 unfolding exited
-exit-prepared w cpu small low =
-    let s : Stage = stage_of w in
-    let t : Stage = exited cpu s in
-    let own : Context = context.Processor cpu in
-    let of_pass : List Group → List (GroupBrief ℕ) = λ pass. map (brief_of w.hardware) (filter (is_eligible w.hardware cpu) pass) in
-    let idle : task_on t cpu ≡ None = idle-then s cpu (task_on s cpu) refl low in
-    let lists : lists_at w (leaders_of w own) ≡ lists_of t own = sym (own-then s cpu (task_on s cpu) small ∙ lists-are w own) in
-    let pinned : map (relabel (id_at w)) (briefs_at w cpu (leaders_of w own).pinned) ≡ of_pass (lists_of t own).pinned = one-pass w cpu (leaders_of w own).pinned ∙ ap (λ l. of_pass l.pinned) lists in
-    let flexible : map (relabel (id_at w)) (briefs_at w cpu (leaders_of w own).flexible) ≡ of_pass (lists_of t own).flexible =
-    one-pass w cpu (leaders_of w own).flexible ∙ ap (λ l. of_pass l.flexible) lists in
-    let task : task_lists t None ≡ task_lists t (task_on t cpu) = ap (task_lists t) (sym idle) in
-    λ i. pinned i ∷ of_pass (task i).pinned ∷ flexible i ∷ of_pass (task i).flexible ∷ []
+exit-prepared w cpu small low = search (idle-then, own-then, lists-are, relabel, id_at, one-pass)
 
 pub prepared-briefs : PreparedLaw
 prepared-briefs w cpu (line.Switch to) kept ready low touched =
@@ -81,8 +69,7 @@ prepared-briefs w cpu (line.Switch to) kept ready low touched =
 prepared-briefs w cpu (line.Work work) kept ready low touched = absurd (false≢true (sym (never-touched (cpu_refusal (stage_of w) cpu (line.Work work))) ∙ touched))
 prepared-briefs w cpu line.Tick kept ready low touched =
     let small : cpu.0 < 8 = omega (arith, low, ready.machine.sound.cpus.1, ready.machine.cpus) in
-    tick-prepared w cpu kept ready low small
-    ∙ ap (λ s. briefs w.hardware s cpu) (is-rotated w.hardware w cpu kept refl (ready.rescheduled cpu low).judged small)
+    grind (arith, tick-prepared, small, is-rotated)
 prepared-briefs w cpu (line.Fork child) kept ready low touched = absurd (false≢true (sym (never-touched (cpu_refusal (stage_of w) cpu (line.Fork child))) ∙ touched))
 prepared-briefs w cpu line.Exit kept ready low touched =
     let small : cpu.0 < 8 = omega (arith, low, ready.machine.sound.cpus.1, ready.machine.cpus) in

@@ -35,12 +35,7 @@ ring-taken s acts ins ring i j at all =
 
 pub others-taken : (s : Scripted) (acts : List Act) (ins : InList) (ring other : RingNo) (slot : Option InEnd) → HasRing ins.numbers ring
     → HasTaken s acts (with_slot ins (ring_index ins.numbers ring) slot) ring → HasTaken s acts ins other → HasTaken s acts (with_slot ins (ring_index ins.numbers ring) slot) other
-others-taken s acts ins ring other slot there taken h = elim (cases_eq (ring_index ins.numbers other) (ring_index ins.numbers ring)) [
-  | inl e ↦ subst (HasTaken s acts (with_slot ins (ring_index ins.numbers ring) slot)) (sym (same-place ins.numbers ring other there e)) taken
-  | inr off ↦
-      let still = set-other ins.readers (ring_index ins.numbers ring) (ring_index ins.numbers other) slot off in
-      record { there = (h.there.0, still ∙ h.there.1); words = ap words_of_slot still ∙ h.words }
-]
+others-taken s acts ins ring other slot there taken h = grind (arith, same-place, set-other)
 
 -- a reader that trails its end still does once it has taken the rest
 pub trails-rest : (o p : OutEnd) (i j : InEnd) (loads : ℕ) → Trails o i → p ≡ with_tail o (8 * i.consumer.released) loads → j.consumer.released ≡ i.consumer.released
@@ -73,12 +68,5 @@ few-published s acts (n ∷ numbers) (q ∷ outs) (r ∷ rings) (suc place) o sc
 -- readers that are behind the ends trail them
 pub behind-trails : (s : Scripted) (acts : List Act) (m : Kept) (ins : InList) → IsScript s → IsCovered s → LeadTo s acts m → AreBehind (9 * weight s) m.outs ins → AreTrailing m.outs ins
 behind-trails s acts m ins script covered led h =
-    let accounts : AreAccounts m.outs.numbers m.outs.outs (map (in_account (account_in s acts)) s.rings) =
-    subst (AreAccounts m.outs.numbers m.outs.outs) (recorded s acts).rings led.ends.each in
-    record {
-      numbers = h.numbers;
-      each = λ place o at.
-          let b = h.each place o at in
-          let few : length o.producer.published ≤ 9 * weight s = few-published s acts m.outs.numbers m.outs.outs s.rings place o script covered accounts at in
-          (b.0, b.1, record { ring = b.2.ring; released = b.2.released; room = omega (arith, b.2.room, few) });
-    }
+    let accounts : AreAccounts m.outs.numbers m.outs.outs (map (in_account (account_in s acts)) s.rings) = grind (arith, recorded) in
+    grind (arith, few-published, accounts)

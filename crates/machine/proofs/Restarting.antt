@@ -1,17 +1,17 @@
 -- A line that gives an event another period.
-use Rattle.std.specs.Prelude.{◌≡◌, ◌≢◌, ℕ, ◌<◌, ◌==◌, Bool, true, false, not, ◌&&◌, List, [], ◌∷◌, filter, cond, length, Some, None, slice_index_or}
-use Rattle.std.{specs.List.{list_any}, proofs.{Common.{arith, refl, sym, ap, subst, ◌∙◌, inl, inr}, lemmas.Bool.{cases_eq, cases_Bool}}}
+use Rattle.std.specs.Prelude.{◌≡◌, ◌≢◌, ℕ, ◌<◌, Bool, true, false, List, [], ◌∷◌, filter, cond, length, Some, None, slice_index_or}
+use Rattle.std.{proofs.{Common.{arith, refl, sym, ap, subst, ◌∙◌, inl, inr}, lemmas.Bool.{cases_eq}}}
 use Rattle.perf_base.specs.{Scripts.{IsSlot}, declared.numbers.{CpuNo.{CpuNo}, EventNo.{EventNo}, Key.{Key}}}
 use Rattle.perf_base.specs.declared.lines.ToolLine.TheVariants as line
 use Rattle.perf_base.specs.declared.reply.Reply.TheVariants as reply
 use Rattle.stage_spec.specs.{declared.instance.Instance.{Instance}, Commands.{period_refusal, with_period}, Hardware.{Hardware}}
 use Rattle.stage_spec.specs.{History.{Step, ToolStep, stage_step}, Limits.{IsMachine}}
 use Rattle.stage_spec.specs.{Remainders.{period_unless, new_period, left_by_period, left_by_hits}, Settle.{settle_each}, Shares.{share, no_sums}}
-use Rattle.stage_spec.{specs.Stage.{Stage, all_cpus, all_instances, is_original}, proofs.Recurrence.{plus-none}}
+use Rattle.stage_spec.{specs.Stage.{Stage, all_cpus, is_original}, proofs.Recurrence.{plus-none}}
 use Rattle.stage_laws.{specs.{Narrowing.{IsNarrow, touches, changed, unless_no, unless_left}, Sound.{IsSound}}, proofs.Narrow.{narrows}}
 use Rattle.stage_laws.proofs.Sound.{step_sound}
-use Rattle.world_spec.specs.{Kept.{IsKept, post_at, in_option}, Rescheduled.{AreRescheduled, AreUntouched}, StageOf.{stage_of}}
-use Rattle.world_spec.specs.{Value.{World, Account, is_key, is_live, instance_at, account_at, family_of, times}, Stepping.{HasStepped, HasItsShare}}
+use Rattle.world_spec.specs.{Kept.{IsKept, post_at}, Rescheduled.{AreRescheduled, AreUntouched}, StageOf.{stage_of}}
+use Rattle.world_spec.specs.{Value.{World, is_live, instance_at, account_at, family_of}, Stepping.{HasStepped, HasItsShare}}
 use Rattle.world_spec.proofs.{Families.{stands-original}, Keys.{key-is, is_key-other, times-cons, once-false}, Tables.{posts-same}}
 use Rattle.world_spec.proofs.{Quiet.{none-after}, Stepping.{instance-found}}
 use Rattle.event_commands.specs.Commands.{HasPeriod}
@@ -47,18 +47,11 @@ period-stage w x event period c =
 
 -- of all live instances it is the original alone
 is-its : (e : EventNo) (i : Instance) → i.event ≡ e → i.copy ≡ false → is_original e i ≡ true
-is-its e i same first =
-    let family : (i.event.0 == e.0) ≡ true = ap (λ (v : EventNo). i.event.0 == v.0) (sym same) ∙ is-number i.event.0 in
-    λ t. family t && not (first t)
+is-its e i same first = grind (arith, is-number)
 
 not-its : (w : World) (e : EventNo) (k original : Key) → IsKept w.hardware w → is_live w k ≡ true → (family_of w e).original ≡ Some original → k.0 ≢ original.0
     → is_original e (instance_at w k) ≡ false
-not-its w e k original h live named apart = elim (cases_Bool (is_original e (instance_at w k))) [
-  | inl passes ↦
-      let one : times k (in_option (Some original)) ≡ 1 = ap (λ o. times k (in_option o)) (sym named) ∙ stands-original w.hardware w h e k live passes in
-      absurd (omega (arith, one, times-cons k original [], once-false (is_key k original) (is_key-other k original (λ same. apart (sym same)))))
-  | inr fails ↦ fails
-]
+not-its w e k original h live named apart = grind (arith, stands-original, times-cons, once-false, is_key-other)
 
 -- the posts of the instances are as they were
 posts-stay : (w x : World) (event : EventNo) (period : ℕ) → Course w x event period → post_at x ≡ post_at w
@@ -68,9 +61,7 @@ posts-stay w x event period c =
 
 set-for : (w x : World) (event : EventNo) (period : ℕ) (k : Key) (b : Bool) → Course w x event period → is_live w k ≡ true → is_original event (instance_at w k) ≡ b
     → new_period (stage_of w) (ToolStep (line.Period event period)) (instance_at w k).id ≡ period_unless None b period
-set-for w x event period k b c live is =
-    let passes : list_any (λ i. i.id == (instance_at w k).id && is_original event i) (all_instances (stage_of w)) ≡ b = found-passes w.hardware w k (is_original event) c.kept live ∙ is in
-    λ i. period_unless (c.accepted i) (passes i) period
+set-for w x event period k b c live is = grind (arith, found-passes, found-passes w.hardware w k (is_original event) c.kept live ∙ is)
 
 period-share : (w x : World) (event : EventNo) (period : ℕ) (k : Key) → Course w x event period → is_live w k ≡ true → HasItsShare w.hardware w x (ToolStep (line.Period event period)) k
 unfolding share
@@ -83,18 +74,7 @@ period-share w x event period k c live =
     let left : ℕ = (account_at w k).left in
     let ids : (instance_at x k).id ≡ id = ap (λ at. (at k).id) (posts-stay w x event period c) in
     elim (cases_eq k.0 original.0) [
-      | inl same ↦
-          let is : k ≡ original = key-is k original same in
-          let its : IsOriginal w event original = slot-original w event original c.kept c.given.named in
-          let passes : is_original event (instance_at w k) ≡ true = ap (λ q. is_original event (instance_at w q)) is ∙ is-its event (instance_at w original) its.event its.first in
-          let account : account_at x k ≡ record (account_at w k) { left = period } =
-          ap (account_at x) is ∙ (c.given.account ∙ ap {A = Key} {B = Account} (λ q. record (account_at w q) { left = period }) (sym is)) in
-          record {
-            live = live;
-            id = ids;
-            sums = ap (λ a. a.sums) account ∙ sym (plus-none (account_at w k).sums);
-            left = ap (λ a. a.left) account ∙ sym (ap (λ o. left_by_period hw s step id o left) (set-for w x event period k true c live passes));
-          }
+      | inl same ↦ grind (arith, key-is, same, IsOriginal, slot-original, is-its, plus-none, set-for)
       | inr apart ↦
           let fails : is_original event (instance_at w k) ≡ false = not-its w event k original c.kept live c.given.named apart in
           record {

@@ -1,6 +1,6 @@
 -- Lines that give an event a ring.
 use Rattle.std.specs.Prelude.{◌≡◌, ℕ, ◌<◌, Bool, true, false, List, [], ◌∷◌, length, filter, Option, None}
-use Rattle.std.proofs.{Common.{arith, refl, sym, ap, subst, ◌∙◌, inl, inr}, lemmas.Bool.{cases_eq}}
+use Rattle.std.proofs.{Common.{arith, refl, sym, ap, subst, ◌∙◌}}
 use Rattle.perf_base.specs.declared.{lines.ToolLine.{ToolLine}, numbers.{CpuNo.{CpuNo}, EventNo.{EventNo}, Key.{Key}, RingNo.{RingNo}}}
 use Rattle.perf_base.specs.declared.reply.Sums.{Sums}
 use Rattle.perf_base.specs.Scripts as scripts
@@ -50,28 +50,10 @@ record StaysEntry (before after : Entry) : Type 0 where
   context : after.context ≡ before.context
 
 entry-stays : (w x : World) (e : EventNo) (ring : Option RingNo) (owner : Bool) (mapped : List RingNo) (k : Key) → HasRing e ring owner mapped w x → StaysEntry (entry_at w k) (entry_at x k)
-entry-stays w x e ring owner mapped k g = elim (cases_eq k.0 g.original.0) [
-  | inl same ↦
-      subst (λ (q : Key). StaysEntry (entry_at w q) (entry_at x q)) (sym (key-is k g.original same))
-      (subst (StaysEntry (entry_at w g.original)) (sym g.entry) (record { id = refl; context = refl }))
-  | inr apart ↦ subst (StaysEntry (entry_at w k)) (sym (g.others k apart)) (record { id = refl; context = refl })
-]
+entry-stays w x e ring owner mapped k g = grind (arith, key-is)
 
 ring-keeps : (w x : World) (e : EventNo) (ring : Option RingNo) (owner : Bool) (mapped : List RingNo) → HasRing e ring owner mapped w x → KeepsAll w x
-ring-keeps w x e ring owner mapped g = record {
-  hardware = ap (λ (y : World). y.hardware) g.world;
-  live = g.keys;
-  ids = λ k. (entry-stays w x e ring owner mapped k g).id;
-  contexts = λ k. (entry-stays w x e ring owner mapped k g).context;
-  accounts = ap (λ (y : World). y.accounts) g.world;
-  families = ap (λ (y : World). y.families) g.world;
-  folded = ap (λ (y : World). y.folded) g.world;
-  lost = ap (λ (y : World). y.lost) g.world;
-  running = ap (λ (y : World). length y.quiet.running) g.world;
-  clocks = ap (λ (y : World). y.quiet.clocks) g.world;
-  used = ap (λ (y : World). y.quiet.used) g.world;
-  next_id = ap (λ (y : World). y.quiet.next_id) g.world;
-}
+ring-keeps w x e ring owner mapped g = grind (arith, entry-stays)
 
 pub ring-done : (w x : World) (l : ToolLine) (limits : Limits) (e : EventNo) (ring : Option RingNo) (owner : Bool) (mapped : List RingNo) → Course w x l limits e ring owner mapped
     → ((s : Stage) (sums : EventNo → Sums) (lost : EventNo → ℕ) → IsToolReply w.hardware s sums lost l reply.Ok) → stepped_line.IsDone (ToolStep l) w x reply.Ok

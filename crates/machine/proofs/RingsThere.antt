@@ -1,5 +1,5 @@
 -- Each ring that an event writes to has its end.
-use Rattle.std.specs.{Prelude.{◌≡◌, ℕ, ◌≤◌, ◌==◌, Bool, true, not, All, IsTrue, List, [], ◌∷◌, map, Some}, List.{list_any, position_or_len}}
+use Rattle.std.specs.{Prelude.{◌≡◌, ℕ, ◌≤◌, ◌==◌, Bool, true, All, IsTrue, List, [], ◌∷◌, map, Some}, List.{list_any, position_or_len}}
 use Rattle.std.proofs.{Common.{arith, refl, sym, ap, subst, ◌∙◌, get_or, inl, inr}, lemmas.Bool.{cases_Bool, cases_lt, false≢true}}
 use Rattle.std.proofs.lemmas.List.{get_or-map, length-map, Elements.{All-head, All-tail}, Folds.{Any-from_list_any}, Sums.{prefix_len_passes}}
 use Rattle.perf_base.specs.{declared.{acts.Act.{Act}, numbers.{Key.{Key}, RingNo.{RingNo}}}, Scripts.{Scripted, HasRing}}
@@ -28,26 +28,17 @@ numbers-are (n ∷ numbers) (o ∷ outs) [] h = absurd h
 numbers-are (n ∷ numbers) (o ∷ outs) (a ∷ accounts) h = λ i. sym h.0.ring i ∷ numbers-are numbers outs accounts h.1 i
 
 pub script-numbers : (s : Scripted) (acts : List Act) (w : World) (outs : OutList) → IsLeft s acts w outs → outs.numbers ≡ map (λ (r : RingNo × ℕ). r.0) s.rings
-script-numbers s acts w outs left =
-    numbers-are outs.numbers outs.outs _ left.ends.each ∙ (ap (map (λ (a : RingAccount). a.ring)) (recorded s acts).rings ∙ map-map _ (λ (a : RingAccount). a.ring) s.rings)
+script-numbers s acts w outs left = grind (arith, numbers-are, recorded, map-map)
 
 -- a place that passes is not before the first one
 first-passes : {X : Type 0} (p : X → Bool) (xs : List X) (k : ℕ) (d : X) → p (get_or xs k d) ≡ true → position_or_len p xs ≤ k
-first-passes p xs k d passes = elim (cases_lt k (position_or_len p xs)) [
-  | inl before ↦ absurd (false≢true (sym (ap not passes) ∙ prefix_len_passes (λ x. not (p x)) xs k d before))
-  | inr past ↦ past
-]
+first-passes p xs k d passes = grind (arith, cases_lt, false≢true, prefix_len_passes)
 
 pub declared-there : (rings : List (RingNo × ℕ)) (ring other : RingNo) → HasRing rings other → (other.0 == ring.0) ≡ true → lists.HasRing (map (λ (r : RingNo × ℕ). r.0) rings) ring
 declared-there rings ring other h same =
     let number : RingNo × ℕ → RingNo = λ r. r.0 in
     let is : get_or (map number rings) h.0 other ≡ other = get_or-map number rings h.0 h.1 other h.2 ∙ (ap number h.3 ∙ h.4) in
-    omega (
-      arith,
-      h.2,
-      length-map rings number,
-      first-passes (λ (n : RingNo). n.0 == ring.0) (map number rings) h.0 other (ap (λ (n : RingNo). n.0 == ring.0) is ∙ same),
-    )
+    grind (arith, length-map, number, first-passes, is)
 
 -- what holds of each instance of the stage holds of a key's that names one
 of-key : (w : World) (P : Instance → Type 0) (k : Key) (keys : List Key) → All P (map (instance_at w) keys) → 1 ≤ times k keys → P (instance_at w k)

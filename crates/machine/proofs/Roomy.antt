@@ -1,6 +1,6 @@
 -- Where given lines, or acts of a script, lead to a machine, its world has room for one line more.
-use Rattle.std.specs.Prelude.{◌≡◌, ℕ, ◌+◌, ◌*◌, ◌^◌, ◌<◌, ◌≤◌, ◌==◌, Bool, true, false, cond, is_some, List, [], ◌∷◌, count_by, sum_by, slice_index_or}
-use Rattle.std.proofs.{Common.{arith, refl, sym, ap, subst, ◌∙◌}, Math.Path.{fun_ext}, lemmas.List.Sums.{sum_by-cons}}
+use Rattle.std.specs.Prelude.{◌≡◌, ◌+◌, ◌*◌, ◌^◌, ◌<◌, ◌≤◌, Bool, true, false, cond, List, [], ◌∷◌, count_by, sum_by, slice_index_or}
+use Rattle.std.proofs.{Common.{arith, sym, ap, subst, ◌∙◌}, Math.Path.{fun_ext}, lemmas.List.Sums.{sum_by-cons}}
 use Rattle.perf_base.specs.declared.{acts.Act.{Act}, lines.{CpuLine.{CpuLine}, ToolLine.{ToolLine}}, numbers.{CpuNo.{CpuNo}, EventNo.{EventNo}}}
 use Rattle.perf_base.specs.{declared.numbers.Key.{Key}, Scripts.{Scripted, IsCovered, IsScript}}
 use Rattle.perf_base.specs.declared.lines.CpuLine.TheVariants as cpu_line
@@ -9,7 +9,7 @@ use Rattle.stage_spec.specs.{Families.{family_sums as family_over}, Hardware.{Ha
 use Rattle.stage_spec.specs.{History.{Step, CpuStep, ToolStep, SeenStep, history, opening_stage, stage_after}, Limits.{limits_of}, Stage.{is_open}}
 use Rattle.stage_spec.proofs.Machines.{script_machine}
 use Rattle.stage_laws.{specs.Bounds.{most_drawn, most_drawn_by, most_opened_by, is_line, AreSmall}, proofs.BoundsWhole.{family_small, few_ids}}
-use Rattle.ring_spec.{specs.Running.{Running, IsRecordOf, family_by}, proofs.Running.{record_law}}
+use Rattle.ring_spec.{specs.Running.{IsRecordOf, family_by}, proofs.Running.{record_law}}
 use Rattle.ring_laws.proofs.{Clocks.{clock_small}, Reached.{count-one}}
 use Rattle.world_spec.specs.{Agreement.{AgreesWith}, Kept.{IsKept, family_sums}, StageOf.{stage_of}, Value.{World, is_live, instance_at, totals_at}}
 use Rattle.world_spec.proofs.{Agreement.{family-agrees}, Families.{open-is}, Staying.{origin-is}}
@@ -19,17 +19,11 @@ use Rattle.machine.proofs.{Led.{led-by-acts}, Totals.{further}}
 -- what an event has counted by the record of steps is what the definitions over them say
 family-is : (s : Scripted) (steps : List Step) (e : EventNo) → family_by (record_by s steps) e ≡ family_over (hardware_of s) (opening_stage s) steps e
 unfolding family_over
-family-is s steps e =
-    let r : Running = record_by s steps in
-    let is : IsRecordOf (hardware_of s) (opening_stage s) s.rings steps r = record_law (hardware_of s) (opening_stage s) s.rings steps in
-    let sums = fun_ext is.sums in
-    rw (is.stage, sums, is.folded e) refl
+family-is s steps e = grind (arith, record_law, fun_ext)
 
 -- The slot of an event that is there is open.
 pub slot-open : (hw : Hardware) (w : World) (k : Key) → IsKept hw w → is_live w k ≡ true → is_open (stage_of w) (instance_at w k).event ≡ true
-slot-open hw w k h live =
-    let origin = origin-is hw w k h live in
-    open-is hw w (instance_at w k).event h ∙ ap is_some origin.1.named
+slot-open hw w k h live = grind (arith, origin-is, open-is)
 
 -- what a world has of an open event is what the definitions over the history say, and its stage is the one after it
 family-by : (s : Scripted) (steps : List Step) (w : World) (e : EventNo) → AgreesWith w (record_by s steps) → IsKept w.hardware w → is_open (stage_of w) e ≡ true
@@ -99,18 +93,13 @@ one-at-most false = omega arith
 
 pub lines-of-one : (cpu : CpuNo) (steps : List Step) → count_by (is_line_of cpu) steps ≤ count_by is_line steps
 lines-of-one cpu [] = omega arith
-lines-of-one cpu (CpuStep other line ∷ steps) =
-    omega (arith, lines-of-one cpu steps, one-at-most (other.0 == cpu.0), count-one (is_line_of cpu) (CpuStep other line) steps, count-one is_line (CpuStep other line) steps)
+lines-of-one cpu (CpuStep other line ∷ steps) = omega (arith, one-at-most, count-one, lines-of-one cpu steps)
 lines-of-one cpu (ToolStep line ∷ steps) = omega (arith, lines-of-one cpu steps, count-one (is_line_of cpu) (ToolStep line) steps, count-one is_line (ToolStep line) steps)
-lines-of-one cpu (SeenStep ring place ∷ steps) =
-    omega (arith, lines-of-one cpu steps, count-one (is_line_of cpu) (SeenStep ring place) steps, count-one is_line (SeenStep ring place) steps)
+lines-of-one cpu (SeenStep ring place ∷ steps) = grind (arith, count-one, lines-of-one cpu steps)
 
 small-totals : (s : Scripted) (steps : List Step) (m : Kept) (cpu : CpuNo) → IsLedBy s steps m → AreUpTo (slice_index_or m.cpus cpu.0 0 * 1000000000) (totals_at m.world cpu)
     → AreUpTo (2 ^ 62) (totals_at m.world cpu)
-small-totals s steps m cpu led up =
-    let lines : ℕ = slice_index_or m.cpus cpu.0 0 in
-    let few : lines ≤ 16384 = omega (arith, led.cpus cpu, lines-of-one cpu steps, led.few) in
-    further (lines * 1000000000) (2 ^ 62) (totals_at m.world cpu) (omega (arith, few)) up
+small-totals s steps m cpu led up = omega (arith, lines-of-one, further)
 
 pub room-by : (s : Scripted) (steps : List Step) (m : Kept) → IsScript s → IsCovered s → IsLedBy s steps m → IsKept m.world.hardware m.world → IsWhole m → HasRoom m.world
 room-by s steps m h covered led kept whole = record {

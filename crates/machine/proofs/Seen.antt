@@ -33,34 +33,14 @@ none-lost ring place (a ∷ rings) = (λ i. none-lost-on ring place a i ++ none-
 -- and leaves the world
 look-stepped : (w : World) (ring : RingNo) (place : ℕ) → IsKept w.hardware w → HasStepped w.hardware w w (SeenStep ring place)
 unfolding stage_step
-look-stepped w ring place h =
-    let keeps : KeepsAll w w = record {
-      hardware = refl;
-      live = λ k. refl;
-      ids = λ k. refl;
-      contexts = λ k. refl;
-      accounts = refl;
-      families = refl;
-      folded = refl;
-      lost = refl;
-      running = refl;
-      clocks = refl;
-      used = refl;
-      next_id = refl;
-    } in
-    kept-stepped w w (SeenStep ring place) h h keeps refl (λ e. refl) (λ cpu. refl) refl
+look-stepped w ring place h = search (KeepsAll, kept-stepped)
 
 look-agrees : (w : World) (r : Running) (ring : RingNo) (place : ℕ) → IsKept w.hardware w → AgreesWith w r → AgreesWith w (record_after w.hardware r (SeenStep ring place))
 look-agrees w r ring place h a = stepped w.hardware w w r (SeenStep ring place) h h a (look-stepped w ring place h) (none-lost ring place r.rings)
 
 -- the end has its account with the tail seen
 looked : (place loads : ℕ) (o : OutEnd) (n : RingNo) (a : RingAccount) → IsAccountOf n o a → IsAccountOf n (with_last_tail o place loads) (with_tail place a)
-looked place loads o n a h = record {
-  ring = h.ring;
-  bytes = h.bytes;
-  has = record { written = h.has.written; lawful = h.has.lawful; pending = h.has.pending; lost = h.has.lost; tail = refl };
-  put = h.put;
-}
+looked place loads o n a h = grind arith
 
 -- no line is done
 cpu-still : (acts : List Act) (ring : RingNo) (place : ℕ) (cpu : CpuNo) → done_by_cpu cpu (acts ++ act.Seen ring place ∷ []) ≡ done_by_cpu cpu acts
@@ -114,19 +94,11 @@ pub lawful-stop : (s : Scripted) (acts : List Act) (m : Kept) (ring : RingNo) (p
     → IsLawfulSeen (sizes_in s acts ring) (last_seen ring acts) place
 lawful-stop s acts m ring place o led there at above stop =
     let has : HasAccount o (account_in s acts (ring, bytes_of s ring)) = (end-account s acts m ring o led there at).has in
-    record {
-      above = subst (λ n. n ≤ place) (end-seen s acts m ring o led there at) above;
-      behind = (stops_are_ends o (account_in s acts (ring, bytes_of s ring)) place has).0 stop;
-    }
+    grind (arith, end-seen, stops_are_ends, has)
 
 -- A look at the place that was seen last leaves the accounts.
 still-looked : (place loads : ℕ) (o : OutEnd) (n : RingNo) (a : RingAccount) → o.producer.last_tail ≡ place → IsAccountOf n o a → IsAccountOf n (with_last_tail o place loads) a
-still-looked place loads o n a same h = record {
-  ring = h.ring;
-  bytes = h.bytes;
-  has = record { written = h.has.written; lawful = h.has.lawful; pending = h.has.pending; lost = h.has.lost; tail = h.has.tail ∙ same };
-  put = h.put;
-}
+still-looked place loads o n a same h = grind arith
 
 still-among : (numbers : List RingNo) (outs : List OutEnd) (accounts : List RingAccount) (i : ℕ) (o p : OutEnd) → AreAccounts numbers outs accounts → slice_get outs i ≡ Some o
     → ((n : RingNo) (a : RingAccount) → IsAccountOf n o a → IsAccountOf n p a) → AreAccounts numbers (slice_set outs i p) accounts

@@ -1,16 +1,16 @@
 -- A stretch of work sends no more records than the script weighs.
-use Rattle.std.specs.Prelude.{◌≡◌, ◌+◌, ◌≤◌, List, [], ◌∷◌, ◌++◌, length, slice_index_or}
+use Rattle.std.specs.Prelude.{◌≡◌, ◌≤◌, List, [], ◌∷◌, ◌++◌, length}
 use Rattle.std.proofs.{Common.{arith, sym, ap, ◌∙◌, append-nil, append_assoc}, Math.Path.{fun_ext}, lemmas.List.{length-append}}
 use Rattle.perf_base.specs.{declared.{acts.Act.{Act}, lines.Work.{Work}, numbers.CpuNo.{CpuNo}}, Scripts.{Scripted, IsCovered, IsScript}}
 use Rattle.perf_base.specs.Weight.{weight}
 use Rattle.perf_base.specs.declared.acts.Act.TheVariants as act
 use Rattle.perf_base.specs.declared.lines.CpuLine.TheVariants as line
-use Rattle.stage_spec.specs.{Hardware.{Hardware, hardware_of}, History.{Step, CpuStep, history, opening_stage, stage_after, steps_from, steps_of}}
+use Rattle.stage_spec.specs.{Hardware.{Hardware, hardware_of}, History.{Step, CpuStep, history, opening_stage, steps_from, steps_of}}
 use Rattle.stage_spec.specs.Stage.{Stage}
-use Rattle.ring_spec.specs.{Running.{record_of}, Sending.{clock_of, sent_after, sent_at, sent_by_steps, sent_from}}
+use Rattle.ring_spec.specs.{Running.{record_of}, Sending.{sent_after, sent_by_steps, sent_from}}
 use Rattle.ring_laws.proofs.Orders.{few_of_script}
 use Rattle.sample_ring.specs.RingLists.{OutList}
-use Rattle.world_spec.specs.{StageOf.{stage_of}, Value.{World}}
+use Rattle.world_spec.specs.{Value.{World}}
 use Rattle.work_account.specs.Sampling.{sent_by}
 use Rattle.machine.{specs.Left.{IsLeft}, proofs.RingsThere.{recorded}}
 
@@ -18,22 +18,13 @@ use Rattle.machine.{specs.Left.{IsLeft}, proofs.RingsThere.{recorded}}
 steps-push : (s : Scripted) (before acts : List Act) (a : Act) → steps_from s before (acts ++ a ∷ []) ≡ steps_from s before acts ++ steps_of s (before ++ acts) a
 unfolding steps_from
 steps-push s before [] a = append-nil (steps_of s before a) ∙ ap (λ bs. steps_of s bs a) (sym (append-nil before))
-steps-push s before (b ∷ acts) a =
-    ap (λ xs. steps_of s before b ++ xs) (steps-push s (before ++ b ∷ []) acts a)
-    ∙ (ap (λ bs. steps_of s before b ++ (steps_from s (before ++ b ∷ []) acts ++ steps_of s bs a)) (append_assoc before (b ∷ []) acts)
-    ∙ sym (append_assoc (steps_of s before b) (steps_from s (before ++ b ∷ []) acts) (steps_of s (before ++ b ∷ acts) a)))
+steps-push s before (b ∷ acts) a = grind (arith, append_assoc, steps-push s (before ++ b ∷ []) acts a)
 
 -- what the last step sends is among all that steps send
 last-sent : (hw : Hardware) (s : Stage) (before steps : List Step) (x : Step) → length (sent_after hw s (before ++ steps) x) ≤ length (sent_from hw s before (steps ++ x ∷ []))
 unfolding sent_from
 last-sent hw s before [] x = omega (arith, ap (λ (b : List Step). length (sent_after hw s b x)) (append-nil before), length-append (sent_after hw s before x) [])
-last-sent hw s before (y ∷ steps) x =
-    omega (
-      arith,
-      last-sent hw s (before ++ y ∷ []) steps x,
-      ap (λ (b : List Step). length (sent_after hw s b x)) (append_assoc before (y ∷ []) steps),
-      length-append (sent_after hw s before y) (sent_from hw s (before ++ y ∷ []) (steps ++ x ∷ [])),
-    )
+last-sent hw s before (y ∷ steps) x = grind (arith, append_assoc, length-append, last-sent hw s (before ++ y ∷ []) steps x)
 
 -- so the step of an act sends no more records than the script weighs
 act-sends : (s : Scripted) (acts : List Act) (a : Act) (x : Step) → IsScript s → IsCovered s → steps_of s acts a ≡ x ∷ []
@@ -52,12 +43,7 @@ sent-is : (s : Scripted) (acts : List Act) (w : World) (outs : OutList) (cpu : C
     → sent_by w (record_of (hardware_of s) (opening_stage s) s.rings (history s acts)).left cpu work
     ≡ sent_after (hardware_of s) (opening_stage s) (history s acts) (CpuStep cpu (line.Work work))
 unfolding sent_after
-sent-is s acts w outs cpu work left =
-    let hw : Hardware = hardware_of s in
-    let stage : stage_of w ≡ stage_after hw (opening_stage s) (history s acts) = sym left.agrees.stage ∙ (recorded s acts).stage in
-    let clock : slice_index_or w.quiet.clocks cpu.0 0 ≡ clock_of (history s acts) cpu = sym (left.agrees.clock cpu) ∙ (recorded s acts).clock cpu in
-    let lefts = fun_ext (recorded s acts).left in
-    λ i. sent_at (left.hardware i) (stage i) (lefts i) (clock i + work.length) cpu work
+sent-is s acts w outs cpu work left = grind (arith, recorded, fun_ext)
 
 pub few-sent : (s : Scripted) (acts : List Act) (w : World) (outs : OutList) (cpu : CpuNo) (work : Work) → IsScript s → IsCovered s → IsLeft s acts w outs
     → steps_of s acts (act.Processor cpu) ≡ CpuStep cpu (line.Work work) ∷ []

@@ -1,6 +1,6 @@
 -- Rescheduling processors one after the other.
-use Rattle.std.specs.Prelude.{◌≡◌, ℕ, suc, ◌+◌, ◌<◌, Bool, true, false, List, [], ◌∷◌, ◌++◌, map, filter, cond, if◌then◌else◌}
-use Rattle.std.proofs.{Common.{arith, refl, sym, ap, subst, ◌∙◌, inl, inr}, lemmas.{Bool.{cases_eq, Decides.{nat_tests}}, List.{map-append}}}
+use Rattle.std.specs.Prelude.{◌≡◌, ℕ, ◌+◌, ◌<◌, Bool, true, false, List, [], ◌∷◌, ◌++◌, map, filter, cond, if◌then◌else◌}
+use Rattle.std.proofs.{Common.{arith, refl, ap, ◌∙◌}, lemmas.{Bool.{Decides.{nat_tests}}, List.{map-append}}}
 use Rattle.std.proofs.lemmas.List.Elements.{filter-append}
 use Rattle.perf_base.specs.{Cpus.{HasCpu}, declared.numbers.{CpuNo.{CpuNo}, CpuSet.{CpuSet}}}
 use Rattle.stage_spec.specs.{Hardware.{Hardware}, Numbers.{numbers_below}, Settle.{settle, settle_each}, Stage.{Stage}}
@@ -38,15 +38,7 @@ settle-one hw set cpu s false h = ap (λ b. settle_each hw (cond b (cpu ∷ []) 
 
 pub settle-next : (hw : Hardware) (set : CpuSet) (n : ℕ) (s t x : Stage) (b : Bool) → t ≡ settle_each hw (filter (is_in set) (cpus_below n)) s → is_in set (record { 0 = n }) ≡ b
     → x ≡ (if b then settle hw (record { 0 = n }) t else t) → x ≡ settle_each hw (filter (is_in set) (cpus_below (n + 1))) s
-settle-next hw set n s t x b before is after =
-    let cpu : CpuNo = record { 0 = n } in
-    let one : n + 1 ≡ suc n = omega arith in
-    let cpus : cpus_below (n + 1) ≡ cpus_below n ++ cpu ∷ [] = ap cpus_below one ∙ map-append (λ k. record { 0 = k }) (numbers_below n) (n ∷ []) in
-    after
-    ∙ (sym (settle-one hw set cpu t b is)
-    ∙ (ap (settle_each hw (filter (is_in set) (cpu ∷ []))) before
-    ∙ (sym (settle-parts hw (filter (is_in set) (cpus_below n)) (filter (is_in set) (cpu ∷ [])) s)
-    ∙ ap (λ cs. settle_each hw cs s) (sym (ap (filter (is_in set)) cpus ∙ filter-append (is_in set) (cpus_below n) (cpu ∷ []))))))
+settle-next hw set n s t x b before is after = grind (arith, nat_tests, map-append, settle-one, settle-parts, filter-append)
 
 pub is-in_set : (set : CpuSet) (cpu : CpuNo) → HasCpu set cpu → is_in set cpu ≡ true
 is-in_set set cpu h = grind (arith, nat_tests, h)
@@ -57,7 +49,4 @@ none-settled hw s = refl
 
 -- one processor more
 pub next-done : (hw : Hardware) (x : World) (n : ℕ) → ((cpu : CpuNo) → cpu.0 < n → IsRescheduled hw x cpu) → IsRescheduled hw x (record { 0 = n }) → (cpu : CpuNo) → cpu.0 < n + 1 → IsRescheduled hw x cpu
-next-done hw x n before now cpu low = elim (cases_eq cpu.0 n) [
-  | inl e ↦ subst (λ k. IsRescheduled hw x (record { 0 = k })) (sym e) now
-  | inr apart ↦ before cpu (omega (arith, low, apart))
-]
+next-done hw x n before now cpu low = grind (arith, nat_tests)

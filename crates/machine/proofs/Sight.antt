@@ -1,5 +1,5 @@
 -- The two ends of a ring, whose reader follows the one that sends.
-use Rattle.std.specs.Prelude.{◌≡◌, ℕ, zero, suc, ◌*◌, ◌≤◌, List, [], ◌∷◌, length, map, option_map, Some, slice_get, slice_set}
+use Rattle.std.specs.Prelude.{◌≡◌, ℕ, zero, suc, ◌*◌, ◌≤◌, List, [], ◌∷◌, length, map, Some, slice_get, slice_set}
 use Rattle.std.proofs.{Common.{arith, sym, ap, subst, ◌∙◌}, lemmas.Option.{none-some, same_Some, slice_get-map}}
 use Rattle.perf_base.specs.{declared.{acts.Act.{Act}, numbers.RingNo.{RingNo}}, Scripts.{Scripted, IsCovered, IsScript}, Weight.{weight}}
 use Rattle.ring_spec.specs.Rings.{account_in, bytes_of}
@@ -16,10 +16,7 @@ ring_of o = o.producer.ring
 -- the ring of an end, and its reader
 pub ring-of-end : (rings : RingList) (outs : OutList) (ring : RingNo) (o : OutEnd) (t : Ring) → AreTogether rings outs → slice_get outs.outs (ring_index outs.numbers ring) ≡ Some o
     → slice_get rings.tables (ring_index rings.numbers ring) ≡ Some t → o.producer.ring ≡ t
-ring-of-end rings outs ring o t h at there =
-    same_Some (ring_of o) t
-    (sym (slice_get-map ring_of outs.outs (ring_index outs.numbers ring) ∙ ap (option_map ring_of) at)
-    ∙ ((λ i. slice_get (h.tables i) (ring_index (sym h.numbers i) ring)) ∙ there))
+ring-of-end rings outs ring o t h at there = grind (arith, same_Some, slice_get-map)
 
 pub follower : (words : ℕ) (outs : OutList) (ins : InList) (ring : RingNo) (o : OutEnd) (i : InEnd) → AreFollowing words outs ins
     → slice_get outs.outs (ring_index outs.numbers ring) ≡ Some o → slice_get ins.readers (ring_index ins.numbers ring) ≡ Some (Some i) → Follows words o i
@@ -43,10 +40,7 @@ set-same f (z ∷ xs) (suc i) x y at e = ap (λ l. f z ∷ l) (set-same f xs i x
 
 pub together-look : (rings : RingList) (outs : OutList) (ring : RingNo) (o p : OutEnd) (place loads : ℕ) → AreTogether rings outs → slice_get outs.outs (ring_index outs.numbers ring) ≡ Some o
     → p ≡ with_tail o place loads → AreTogether rings (record outs { outs = slice_set outs.outs (ring_index outs.numbers ring) p })
-together-look rings outs ring o p place loads h at e = record {
-  numbers = h.numbers;
-  tables = set-same ring_of outs.outs (ring_index outs.numbers ring) o p at (ap ring_of e) ∙ h.tables;
-}
+together-look rings outs ring o p place loads h at e = grind (arith, set-same)
 
 -- and its reader follows it
 pub follows-look : (words : ℕ) (o p : OutEnd) (i j : InEnd) (place loads : ℕ) → Follows words o i → p ≡ with_tail o place loads → IsUpTo j place

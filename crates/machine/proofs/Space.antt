@@ -1,5 +1,5 @@
 -- There is space for the records of the next line of work.
-use Rattle.std.specs.Prelude.{◌≡◌, ℕ, ◌+◌, ◌*◌, ◌^◌, ◌<◌, ◌≤◌, true, All, is_some, List, [], ◌∷◌, filter, length, slice_index_or}
+use Rattle.std.specs.Prelude.{◌≡◌, ℕ, ◌+◌, ◌*◌, ◌^◌, ◌<◌, ◌≤◌, true, All, List, [], ◌∷◌, filter, length, slice_index_or}
 use Rattle.std.proofs.{Common.{arith, sym, ap, subst, ◌∙◌, inl}, Math.Pow.{pow_mono}, lemmas.{Nat.{mul-le}, List.{length-map}}}
 use Rattle.std.proofs.lemmas.List.{Elements.{All-cons, All-head, All-map, All-nil, All-tail, All-weaker}, Sums.{count_by-le-length, length-filter}}
 use Rattle.perf_base.specs.declared.{acts.Act.{Act}, numbers.{EventNo.{EventNo}, Key.{Key}, RingNo.{RingNo}}}
@@ -48,9 +48,7 @@ abbrev HasSpace : ℕ → OutEnd → Type 0
 HasSpace count o = (head_place o.producer + count * o.producer.ring.bytes < 2 ^ 63) × (o.lost + count < 2 ^ 63)
 
 end-space : (s : Scripted) (count : ℕ) (n : RingNo) (o : OutEnd) (a : RingAccount) → weight s ≤ 65536 → count ≤ weight s → IsAccountOf n o a → IsSmall s a → HasSpace count o
-end-space s count n o a light few h small =
-    let most : count * o.producer.ring.bytes ≤ 65536 * 65536 = mul-le count o.producer.ring.bytes 65536 65536 (omega (arith, few, light)) (omega (arith, h.bytes, small.bytes)) in
-    (omega (arith, (shown n o a h).head, small.head, light, most), omega (arith, h.has.lost, small.lost, light, few))
+end-space s count n o a light few h small = grind (arith, mul-le, shown)
 
 ends-space : (s : Scripted) (count : ℕ) (numbers : List RingNo) (outs : List OutEnd) (accounts : List RingAccount) → weight s ≤ 65536 → count ≤ weight s
     → AreAccounts numbers outs accounts → All (IsSmall s) accounts → All (HasSpace count) outs
@@ -60,14 +58,11 @@ ends-space s count [] (o ∷ outs) accounts light few h small = absurd h
 ends-space s count (n ∷ numbers) [] accounts light few h small = absurd h
 ends-space s count (n ∷ numbers) (o ∷ outs) [] light few h small = absurd h
 ends-space s count (n ∷ numbers) (o ∷ outs) (a ∷ accounts) light few h small =
-    All-cons (HasSpace count) o outs (end-space s count n o a light few h.0 (All-head (IsSmall s) a accounts small))
-    (ends-space s count numbers outs accounts light few h.1 (All-tail (IsSmall s) a accounts small))
+    search (All-cons, end-space, All-head, All-tail, ends-space s count numbers outs accounts light few h.1 (All-tail (IsSmall s) a accounts small))
 
 -- the slot of an event that is there is open, and lost few records
 slot-open : (hw : Hardware) (w : World) (k : Key) → IsKept hw w → is_live w k ≡ true → is_open (stage_of w) (instance_at w k).event ≡ true
-slot-open hw w k h live =
-    let origin = origin-is hw w k h live in
-    open-is hw w (instance_at w k).event h ∙ ap is_some origin.1.named
+slot-open hw w k h live = grind (arith, origin-is, open-is)
 
 slot-lost : (s : Scripted) (acts : List Act) (w : World) (outs : OutList) (slot : ℕ) → IsScript s → IsCovered s → IsKept w.hardware w → IsLeft s acts w outs → HasInstance w slot
     → slice_index_or w.lost slot 0 ≤ weight s

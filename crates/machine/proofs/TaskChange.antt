@@ -1,19 +1,19 @@
 -- A switch that is done.
 use Rattle.std.specs.Prelude.{◌≡◌, ℕ, zero, suc, ◌+◌, ◌<◌, ◌==◌, Bool, true, false, cond, List, [], ◌∷◌, length, filter, Option, Some, None, slice_index_or, if◌then◌else◌}
 use Rattle.std.proofs.{Common.{arith, refl, sym, ap, subst, ◌∙◌, inl, inr}, lemmas.{Bool.{cases_eq}, List.{length-set}}}
-use Rattle.perf_base.specs.declared.{numbers.{CpuNo.{CpuNo}, Key.{Key}, TaskNo.{TaskNo}}, reply.Sums.{Sums}}
+use Rattle.perf_base.specs.declared.{numbers.{CpuNo.{CpuNo}, Key.{Key}, TaskNo.{TaskNo}}}
 use Rattle.perf_base.specs.declared.attr.Kind.TheVariants as kind
 use Rattle.perf_base.specs.declared.lines.CpuLine.TheVariants as line
 use Rattle.perf_base.specs.declared.reply.Reply.TheVariants as reply
 use Rattle.stage_spec.specs.{declared.instance.Instance.{Instance}, Families.{plus}, Hardware.{Hardware}, History.{Step, CpuStep, stage_step}}
-use Rattle.stage_spec.specs.{Limits.{IsMachine, IsWithin}, Occurrences.{left_after, left_after_one}, Remainders.{left_by_hits}}
-use Rattle.stage_spec.specs.{Settle.{settle, settle_each}, Shares.{share, no_sums, of_instance, migration_share, switch_share, changes_task}}
+use Rattle.stage_spec.specs.{Limits.{IsMachine, IsWithin}, Occurrences.{left_after, left_after_one}}
+use Rattle.stage_spec.specs.{Settle.{settle, settle_each}, Shares.{share, no_sums, of_instance, migration_share, switch_share}}
 use Rattle.stage_spec.specs.{Stage.{Stage, all_cpus, task_on}, Switching.{is_running, is_migration, switch_refusal, switched}, Verdict.{on_instances}}
 use Rattle.stage_spec.proofs.Recurrence.{plus-none, plus-assoc}
 use Rattle.stage_laws.specs.{Narrowing.{IsNarrow, changed, unless_left, unless_no, touches}, Bounds.{AreAtMost}, Sound.{IsSound}}
 use Rattle.stage_laws.proofs.{Narrow.{narrows}, Sound.{step_sound}}
 use Rattle.world_spec.specs.{Changes.{place}, Kept.{IsKept, family_sums}, Rescheduled.{AreRescheduled, AreUntouchedBut, IsRescheduled}}
-use Rattle.world_spec.specs.{StageOf.{stage_of}, Value.{World, Entry, Account, is_live, entry_at, instance_at, account_at}}
+use Rattle.world_spec.specs.{StageOf.{stage_of}, Value.{World, Account, is_live, entry_at, instance_at, account_at}}
 use Rattle.world_spec.specs.{Shares.{HaveShares, HaveRoom, with_share, soft_shares, soft_hits, one_hit}, Stepping.{HasStepped, HasItsShare}}
 use Rattle.world_spec.proofs.{Quiet.{none-after}, Stepping.{stepped, instance-found}}
 use Rattle.cpu_sched.specs.Resched.{StaysBut}
@@ -23,13 +23,7 @@ use Rattle.machine.specs.Stepped as stepped_line
 
 -- no migration leaves the accounts
 pub none-given : (w : World) (cpu : CpuNo) → HaveShares w w (migration_shares false w cpu)
-none-given w cpu = record {
-  accounts = λ k live. λ i. record {
-    sums = sym (plus-none (account_at w k).sums) i;
-    left = sym (none-after (instance_at w k).attr.period (account_at w k).left) i;
-  };
-  keys = λ k. refl;
-}
+none-given w cpu = grind (arith, plus-none, none-after)
 
 -- a task that comes leaves what is counted
 pub record KeepsCounts (w x : World) : Type 0 where
@@ -88,35 +82,23 @@ keeps-counts w a b x cpu to m c = subst (KeepsCounts a) (sym c.moved) (placed-ke
 
 entry-then : (w a b x : World) (cpu : CpuNo) (to : Option TaskNo) (m : Bool) → Course w a b x cpu to m → (k : Key)
     → entry_at x k ≡ record (entry_at w k) { instance = record (instance_at w k) { own = (instance_at x k).own } }
-entry-then w a b x cpu to m c k =
-    let before : entry_at b k ≡ entry_at w k =
-    ap (λ es. entry_at (record w { entries = es }) k) (keeps-counts w a b x cpu to m c).entries ∙ ap (λ (y : World). entry_at y k) c.first_rest in
-    c.rest.entries k ∙ ap {A = Entry} {B = Entry} (λ e. record e { instance = record e.instance { own = (instance_at x k).own } }) before
+entry-then w a b x cpu to m c k = grind (arith, keeps-counts)
 
 live-then : (w a b x : World) (cpu : CpuNo) (to : Option TaskNo) (m : Bool) → Course w a b x cpu to m → (k : Key) → is_live x k ≡ is_live w k
-live-then w a b x cpu to m c k =
-    c.rest.live k ∙ (ap (λ es. is_live (record w { entries = es }) k) (keeps-counts w a b x cpu to m c).entries ∙ ap (λ (y : World). is_live y k) c.first_rest)
+live-then w a b x cpu to m c k = grind (arith, keeps-counts)
 
 account-then : (w a b x : World) (cpu : CpuNo) (to : Option TaskNo) (m : Bool) → Course w a b x cpu to m → (k : Key) → account_at x k ≡ account_at a k
-account-then w a b x cpu to m c k =
-    ap (λ (y : World). account_at y k) c.rest.world ∙ ap (λ ts. account_at (record a { accounts = ts }) k) (keeps-counts w a b x cpu to m c).accounts
+account-then w a b x cpu to m c k = grind (arith, keeps-counts)
 
 sums-then : (w a b x : World) (cpu : CpuNo) (to : Option TaskNo) (m : Bool) → Course w a b x cpu to m → (slot : ℕ) → family_sums x slot ≡ family_sums a slot
-sums-then w a b x cpu to m c slot =
-    let k : KeepsCounts a b = keeps-counts w a b x cpu to m c in
-    ap (λ (y : World). family_sums y slot) c.rest.world
-    ∙ (λ i. family_sums (record a { accounts = k.accounts i; families = k.families i; folded = k.folded i }) slot)
+sums-then w a b x cpu to m c slot = grind (arith, keeps-counts)
 
 pub room-then : (w a b x : World) (cpu : CpuNo) (to : Option TaskNo) (m : Bool) → Course w a b x cpu to m → HaveRoom w two_hits → HaveRoom x one_hit
 room-then w a b x cpu to m c room =
     let slot : (k : Key) → (instance_at x k).event.0 ≡ (instance_at w k).event.0 = λ k. ap (λ e. e.instance.event.0) (entry-then w a b x cpu to m c k) in
     let live : (k : Key) → is_live x k ≡ true → is_live w k ≡ true = λ k there. sym (live-then w a b x cpu to m c k) ∙ there in
-    let sums : (k : Key) → family_sums x (instance_at x k).event.0 ≡ family_sums a (instance_at w k).event.0 = λ k.
-    ap (family_sums x) (slot k) ∙ sums-then w a b x cpu to m c (instance_at w k).event.0 in
-    record {
-      counts = λ k there. omega (arith, room.counts k (live k there), (c.grown (instance_at w k).event.0).count, ap (λ s. s.count) (sums k));
-      times = λ k there. omega (arith, room.times k (live k there), (c.grown (instance_at w k).event.0).enabled, ap (λ s. s.enabled) (sums k));
-    }
+    let sums : (k : Key) → family_sums x (instance_at x k).event.0 ≡ family_sums a (instance_at w k).event.0 = grind (arith, sums-then) in
+    grind (arith, live, sums)
 
 -- the stage after the switch
 pub hardware-then : (w a b x : World) (cpu : CpuNo) (to : Option TaskNo) (m : Bool) → Course w a b x cpu to m → b.hardware ≡ w.hardware
@@ -155,10 +137,7 @@ left-together (suc m) n period left =
 
 given-together : (i j : Instance) (account : Account) (m n : ℕ) → j.attr.period ≡ i.attr.period
     → with_share j (record no_sums { count = n }) (with_share i (record no_sums { count = m }) account) ≡ with_share i (record no_sums { count = m + n }) account
-given-together i j account m n same = λ t. record {
-  sums = plus-assoc account.sums (record no_sums { count = m }) (record no_sums { count = n }) t;
-  left = (ap (λ p. left_after n p (left_after m i.attr.period account.left)) same ∙ left-together m n i.attr.period account.left) t;
-}
+given-together i j account m n same = grind (arith, plus-assoc, left-together)
 
 -- the share of a migration, as the definitions have it
 migration-share : (hw : Hardware) (m : Bool) (s : Stage) (cpu : CpuNo) (id : ℕ) → (if m then of_instance (soft_hits kind.CpuMigrations) id (on_instances hw s cpu) else 0) ≡ migration_share hw m s cpu id
@@ -168,8 +147,7 @@ migration-share hw false s cpu id = refl
 switch-gives : (hw : Hardware) (s : Stage) (cpu : CpuNo) (to : Option TaskNo) (id : ℕ) → switch_refusal s cpu to ≡ None → is_running (task_on s cpu) to ≡ false
     → share hw s (CpuStep cpu (line.Switch to)) id ≡ switch_share hw s cpu to id
 unfolding share
-switch-gives hw s cpu to id accepted changes =
-    λ i. elim (changes_task (accepted i) (changes i)) as (λ b. Sums) [ true ↦ switch_share hw s cpu to id | false ↦ no_sums ]
+switch-gives hw s cpu to id accepted changes = grind arith
 
 -- what the two counts give together is the share of the switch
 hits-together : (w a b x : World) (cpu : CpuNo) (to : Option TaskNo) (m : Bool) (id : ℕ) → Course w a b x cpu to m
@@ -203,18 +181,7 @@ id-last w a b x d cpu to m k e = ap (λ (y : World). (instance_at y k).id) e.res
 
 switch-share : (w a b x d : World) (cpu : CpuNo) (to : Option TaskNo) (m : Bool) (k : Key) → End w a b x d cpu to m → is_live d k ≡ true
     → HasItsShare w.hardware w d (CpuStep cpu (line.Switch to)) k
-switch-share w a b x d cpu to m k e there =
-    let came : is_live x k ≡ true = sym (live-last w a b x d cpu to m k e) ∙ there in
-    let live : is_live w k ≡ true = sym (live-then w a b x cpu to m e.course k) ∙ came in
-    let account : account_at d k ≡ with_share (instance_at w k) (share w.hardware (stage_of w) (CpuStep cpu (line.Switch to)) (instance_at w k).id) (account_at w k) =
-    switch-account w a b x d cpu to m k e came live in
-    record {
-      live = live;
-      id = id-last w a b x d cpu to m k e;
-      sums = ap (λ y. y.sums) account;
-      left = ap (λ y. y.left) account
-          ∙ ap (λ o. left_by_hits w.hardware (stage_of w) (CpuStep cpu (line.Switch to)) (instance_at w k).id o (account_at w k).left) (sym (instance-found w.hardware w k e.course.kept live));
-    }
+switch-share w a b x d cpu to m k e there = grind (arith, live-last, live-then, switch-account, id-last, instance-found)
 
 -- all that is counted by slot and by processor stays
 record KeepsSlots (w d : World) : Type 0 where
@@ -228,20 +195,7 @@ record KeepsSlots (w d : World) : Type 0 where
   next_id : d.quiet.next_id ≡ w.quiet.next_id
 
 slots-kept : (w a b x d : World) (cpu : CpuNo) (to : Option TaskNo) (m : Bool) → End w a b x d cpu to m → KeepsSlots w d
-slots-kept w a b x d cpu to m e =
-    let c : Course w a b x cpu to m = e.course in
-    let k : KeepsCounts a b = keeps-counts w a b x cpu to m c in
-    record {
-      hardware = ap (λ (y : World). y.hardware) e.rest ∙ (ap (λ (y : World). y.hardware) c.rest.world ∙ (k.hardware ∙ ap (λ (y : World). y.hardware) c.first_rest));
-      families = ap (λ (y : World). y.families) e.rest ∙ (ap (λ (y : World). y.families) c.rest.world ∙ (k.families ∙ ap (λ (y : World). y.families) c.first_rest));
-      folded = ap (λ (y : World). y.folded) e.rest ∙ (ap (λ (y : World). y.folded) c.rest.world ∙ (k.folded ∙ ap (λ (y : World). y.folded) c.first_rest));
-      lost = ap (λ (y : World). y.lost) e.rest ∙ (ap (λ (y : World). y.lost) c.rest.world ∙ (k.lost ∙ ap (λ (y : World). y.lost) c.first_rest));
-      size = ap (λ (y : World). length y.quiet.running) e.rest
-          ∙ (ap (λ (y : World). length y.quiet.running) c.rest.world ∙ (k.size ∙ ap (λ (y : World). length y.quiet.running) c.first_rest));
-      clocks = ap (λ (y : World). y.quiet.clocks) e.rest ∙ (ap (λ (y : World). y.quiet.clocks) c.rest.world ∙ (k.clocks ∙ ap (λ (y : World). y.quiet.clocks) c.first_rest));
-      used = ap (λ (y : World). y.quiet.used) e.rest ∙ (ap (λ (y : World). y.quiet.used) c.rest.world ∙ (k.used ∙ ap (λ (y : World). y.quiet.used) c.first_rest));
-      next_id = ap (λ (y : World). y.quiet.next_id) e.rest ∙ (ap (λ (y : World). y.quiet.next_id) c.rest.world ∙ (k.next_id ∙ ap (λ (y : World). y.quiet.next_id) c.first_rest));
-    }
+slots-kept w a b x d cpu to m e = grind (arith, keeps-counts)
 
 switch-stepped : (w a b x d : World) (cpu : CpuNo) (to : Option TaskNo) (m : Bool) → End w a b x d cpu to m → HasStepped w.hardware w d (CpuStep cpu (line.Switch to))
 switch-stepped w a b x d cpu to m e =
@@ -251,8 +205,7 @@ switch-stepped w a b x d cpu to m e =
       drawn = omega (arith, keeps.next_id);
       old = λ k live before. switch-share w a b x d cpu to m k e live;
       new = λ k live past.
-          let low : (instance_at w k).id < w.quiet.next_id =
-          (e.course.kept.numbered.drawn k (sym (live-then w a b x cpu to m e.course k) ∙ (sym (live-last w a b x d cpu to m k e) ∙ live))).1 in
+          let low : (instance_at w k).id < w.quiet.next_id = grind (arith, live-then, live-last) in
           absurd (omega (arith, low, past, id-last w a b x d cpu to m k e));
       slots = slots-current w d e.course.kept e.kept_then keeps.families keeps.used;
       folded = λ slot current. (
@@ -292,10 +245,7 @@ switch-rescheduled w a b x d cpu to m e own first moved settled last other low =
     let at_x : IsRescheduled b.hardware x other =
     elim (cases_eq other.0 cpu.0) [
       | inl same ↦ subst (λ (n : ℕ). IsRescheduled b.hardware x (record { 0 = n })) (sym same) own
-      | inr apart ↦
-          let at_a : IsRescheduled a.hardware a other = subst (λ (hw : Hardware). IsRescheduled hw a other) (sym to_a) (first other (c.ready.rescheduled other within)) in
-          let at_b : IsRescheduled a.hardware b other = (moved other (omega (arith, within, size_a)) apart).rescheduled at_a in
-          (settled other (omega (arith, within, size_a, k.size)) apart).rescheduled (subst (λ (hw : Hardware). IsRescheduled hw b other) (sym k.hardware) at_b)
+      | inr apart ↦ grind (arith, apart)
     ] in
     subst (λ (hw : Hardware). IsRescheduled hw d other) (sym to_d) (last other (subst (λ (hw : Hardware). IsRescheduled hw x other) (sym to_x) at_x))
 

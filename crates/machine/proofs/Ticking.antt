@@ -8,7 +8,7 @@ use Rattle.perf_base.specs.declared.standing.Context.TheVariants as context
 use Rattle.stage_spec.specs.{Hardware.{Hardware}, History.{CpuStep, stage_step}, Rotation.{rotated}, Settle.{settle, settle_each}, Stage.{task_on}}
 use Rattle.stage_laws.{specs.Narrowing.{IsNarrow}, proofs.Narrow.{narrows}}
 use Rattle.world_spec.specs.{Kept.{IsKept}, Rescheduled.{AreUntouchedBut, IsRescheduled}, StageOf.{stage_of}}
-use Rattle.world_spec.{specs.Value.{World, is_live, entry_at, instance_at}, proofs.Stepping.{stepped}}
+use Rattle.world_spec.{specs.Value.{World}, proofs.Stepping.{stepped}}
 use Rattle.cpu_sched.specs.Resched.{StaysBut}
 use Rattle.task_moves.specs.Turning.{turn_in, turn_of_task, turned_world}
 use Rattle.machine.{specs.Stepped.{limits_in, IsReady}, proofs.Keeping.{none-lost, KeepsAll, kept-stepped, kept-ready, one-below}}
@@ -38,22 +38,7 @@ pub only-lists : (cpu : CpuNo) (w v : World) → v ≡ turned_world cpu w → v 
 only-lists cpu w v is = (subst (OnlyLists w) (sym is) (task-lists cpu (task_on (stage_of w) cpu) w)).is
 
 tick-keeps : (w v x : World) (cpu : CpuNo) → Course w v x cpu → KeepsAll w x
-tick-keeps w v x cpu c =
-    let lists : v ≡ record w { contexts = v.contexts } = only-lists cpu w v c.world in
-    record {
-      hardware = ap (λ (y : World). y.hardware) c.rest.world ∙ ap (λ (y : World). y.hardware) lists;
-      live = λ k. c.rest.live k ∙ ap (λ (y : World). is_live y k) lists;
-      ids = λ k. ap (λ e. e.instance.id) (c.rest.entries k) ∙ ap (λ (y : World). (instance_at y k).id) lists;
-      contexts = λ k. ap (λ e. e.context) (c.rest.entries k) ∙ ap (λ (y : World). (entry_at y k).context) lists;
-      accounts = ap (λ (y : World). y.accounts) c.rest.world ∙ ap (λ (y : World). y.accounts) lists;
-      families = ap (λ (y : World). y.families) c.rest.world ∙ ap (λ (y : World). y.families) lists;
-      folded = ap (λ (y : World). y.folded) c.rest.world ∙ ap (λ (y : World). y.folded) lists;
-      lost = ap (λ (y : World). y.lost) c.rest.world ∙ ap (λ (y : World). y.lost) lists;
-      running = ap (λ (y : World). length y.quiet.running) c.rest.world ∙ ap (λ (y : World). length y.quiet.running) lists;
-      clocks = ap (λ (y : World). y.quiet.clocks) c.rest.world ∙ ap (λ (y : World). y.quiet.clocks) lists;
-      used = ap (λ (y : World). y.quiet.used) c.rest.world ∙ ap (λ (y : World). y.quiet.used) lists;
-      next_id = ap (λ (y : World). y.quiet.next_id) c.rest.world ∙ ap (λ (y : World). y.quiet.next_id) lists;
-    }
+tick-keeps w v x cpu c = grind (arith, only-lists)
 
 tick-stage : (w v x : World) (cpu : CpuNo) → Course w v x cpu → stage_of x ≡ stage_step w.hardware (stage_of w) (CpuStep cpu line.Tick)
 tick-stage w v x cpu c =

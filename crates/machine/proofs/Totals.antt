@@ -1,11 +1,11 @@
 -- Totals grow by work alone, and by little.
-use Rattle.std.specs.Prelude.{◌≡◌, ℕ, zero, suc, ◌+◌, ◌*◌, ◌^◌, ◌<◌, ◌≤◌, ◌==◌, All, List, [], ◌∷◌, cond, length, slice_index, slice_index_or, slice_set}
-use Rattle.std.proofs.{Common.{arith, sym, ap, subst, ◌∙◌, inl, inr}, lemmas.Bool.{cases_eq, Decides.{nat_tests}}}
+use Rattle.std.specs.Prelude.{◌≡◌, ℕ, zero, suc, ◌+◌, ◌*◌, ◌^◌, ◌<◌, ◌≤◌, All, List, [], ◌∷◌, length, slice_index, slice_index_or, slice_set}
+use Rattle.std.proofs.{Common.{arith}, lemmas.Bool.{Decides.{nat_tests}}}
 use Rattle.std.proofs.lemmas.List.{get_or-set_same, get_or-set_other, Elements.{All-head, All-tail}}
 use Rattle.perf_base.specs.{declared.{lines.{Mode.{Mode}, Work.{Work}}, numbers.CpuNo.{CpuNo}}, Scripts.{IsCpuLine}}
 use Rattle.perf_base.specs.declared.lines.CpuLine.TheVariants as line
 use Rattle.perf_base.specs.declared.lines.Mode.TheVariants as mode
-use Rattle.world_spec.specs.{Kept.{IsKept}, Metering.{HasMeterRoom, add_each, add_hits, metered}, Value.{World, Totals, no_totals, totals_at}}
+use Rattle.world_spec.specs.{Kept.{IsKept}, Metering.{HasMeterRoom, add_each, add_hits, metered}, Value.{World, Totals, totals_at}}
 use Rattle.machine.{specs.{Leading.{Kept}, Room.{HasRoom}, Totals.{AreUpTo, HaveGrown}}, proofs.History.{cpu-is, raised}}
 
 pub further : (few most : ℕ) (t : Totals) → few ≤ most → AreUpTo few t → AreUpTo most t
@@ -15,9 +15,7 @@ further few most t le h = record { user = λ number. omega (arith, le, h.user nu
 each-most : (most : ℕ) (numbers hits : List ℕ) (number : ℕ) → All (λ n. n ≤ most) hits → slice_index (add_each numbers hits) number ≤ slice_index numbers number + most
 each-most most [] hits number all = omega arith
 each-most most (n ∷ numbers) [] number all = omega arith
-each-most most (n ∷ numbers) (m ∷ hits) zero all =
-    let first : m ≤ most = All-head (λ k. k ≤ most) m hits all in
-    omega (arith, first)
+each-most most (n ∷ numbers) (m ∷ hits) zero all = grind (arith, nat_tests, All-head)
 each-most most (n ∷ numbers) (m ∷ hits) (suc number) all = each-most most numbers hits number (All-tail (λ k. k ≤ most) m hits all)
 
 hits-most : (by : Mode) (hits : List ℕ) (t : Totals) (few most : ℕ) → All (λ n. n ≤ most) hits → AreUpTo few t → AreUpTo (few + most) (add_hits by hits t)
@@ -33,45 +31,20 @@ hits-most mode.Kernel hits t few most all h = record {
 -- a stretch of work grows the totals of its processor so
 pub work-grows : (kinds : ℕ) (w after : World) (cpu : CpuNo) (work : Work) → IsCpuLine kinds (line.Work work) → IsKept w.hardware w → cpu.0 < length w.quiet.running
     → after.quiet.totals ≡ (metered cpu work w.quiet).totals → HaveGrown cpu w after
-work-grows kinds w after cpu work h kept low is =
-    let grown : Totals = add_hits work.mode work.hits (totals_at w cpu) in
-    let within : cpu.0 < length w.quiet.totals = omega (arith, low, kept.tables.totals.size) in
-    let here : totals_at after cpu ≡ grown = ap (λ l. slice_index_or l cpu.0 no_totals) is ∙ get_or-set_same w.quiet.totals cpu.0 grown no_totals within in
-    record {
-      own = λ few up. subst (AreUpTo (few + 1000000000)) (sym here) (hits-most work.mode work.hits (totals_at w cpu) few 1000000000 h.hits up);
-      others = λ other apart. ap (λ l. slice_index_or l other.0 no_totals) is ∙ get_or-set_other w.quiet.totals cpu.0 other.0 grown no_totals apart;
-    }
+work-grows kinds w after cpu work h kept low is = grind (arith, nat_tests, get_or-set_same, hits-most, get_or-set_other)
 
 -- and a line that leaves the totals grows none
 pub none-grow : (cpu : CpuNo) (w after : World) → after.quiet.totals ≡ w.quiet.totals → HaveGrown cpu w after
-none-grow cpu w after same = record {
-  own = λ few up. subst (λ l. AreUpTo (few + 1000000000) (slice_index_or l cpu.0 no_totals)) (sym same) (further few (few + 1000000000) (totals_at w cpu) (omega arith) up);
-  others = λ other apart. ap (λ l. slice_index_or l other.0 no_totals) same;
-}
+none-grow cpu w after same = grind (arith, nat_tests, further)
 
 -- the clock and the totals have room for a stretch of work
 pub meter-room : (w : World) (kinds : ℕ) (cpu : CpuNo) (work : Work) → HasRoom w → IsCpuLine kinds (line.Work work) → HasMeterRoom w cpu work
 meter-room w kinds cpu work room h =
     let up : AreUpTo (2 ^ 62 + 1000000000) (add_hits work.mode work.hits (totals_at w cpu)) = hits-most work.mode work.hits (totals_at w cpu) (2 ^ 62) 1000000000 h.hits (room.totals cpu) in
-    record {
-      clock = omega (arith, h.length, room.clocks cpu);
-      totals = record { user = λ number. omega (arith, up.user number); kernel = λ number. omega (arith, up.kernel number) };
-    }
+    grind (arith, nat_tests)
 
 -- After a line the totals of each processor are within the lines that it has done.
 pub cpu-totals : (m : Kept) (cpu : CpuNo) (after : World) → cpu.0 < length m.cpus → HaveGrown cpu m.world after
     → ((own : CpuNo) → AreUpTo (slice_index_or m.cpus own.0 0 * 1000000000) (totals_at m.world own))
     → (own : CpuNo) → AreUpTo (slice_index_or (slice_set m.cpus cpu.0 (slice_index_or m.cpus cpu.0 0 + 1)) own.0 0 * 1000000000) (totals_at after own)
-cpu-totals m cpu after low grown before own =
-    let lines : ℕ = slice_index_or m.cpus own.0 0 in
-    let count : slice_index_or (slice_set m.cpus cpu.0 (slice_index_or m.cpus cpu.0 0 + 1)) own.0 0 ≡ lines + cond (cpu.0 == own.0) 1 0 = raised m.cpus cpu.0 own.0 low in
-    subst (λ n. AreUpTo (n * 1000000000) (totals_at after own)) (sym count) (elim (cases_eq own.0 cpu.0) [
-      | inl e ↦
-          let one : ◌≡◌ {A = ℕ} (cond (cpu.0 == own.0) 1 0) 1 = grind (arith, nat_tests, e) in
-          let is : cpu ≡ own = cpu-is cpu own (sym e) in
-          further (lines * 1000000000 + 1000000000) ((lines + cond (cpu.0 == own.0) 1 0) * 1000000000) (totals_at after own) (omega (arith, one))
-          ((subst (λ (c : CpuNo). HaveGrown c m.world after) is grown).own (lines * 1000000000) (before own))
-      | inr apart ↦
-          further (lines * 1000000000) ((lines + cond (cpu.0 == own.0) 1 0) * 1000000000) (totals_at after own) (omega arith)
-          (subst (AreUpTo (lines * 1000000000)) (sym (grown.others own apart)) (before own))
-    ])
+cpu-totals m cpu after low grown before own = grind (arith, nat_tests, raised, cpu-is, further)

@@ -48,11 +48,4 @@ pub refused-as : (s : Scripted) (m : Kept) (ring other : RingNo) (l h g last hea
     → ◌≡◌ {A = Result (Unit {0}) OrderFault} (Err (fault.BadSeen ring l h g)) (Err (fault.BadSeen other last head given))
     → ((acts : List Act) → LeadTo s acts m → IsUnlawful s acts ring l h g)
     → (other ≡ ring) × (given ≡ g) × ((acts : List Act) → LeadTo s acts m → IsUnlawful s acts ring last head given)
-refused-as s m ring other l h g last head given e fails = (
-  said-ring ring other l h g last head given e,
-  said-given ring other l h g last head given e,
-  λ acts led.
-      subst (λ n. IsUnlawful s acts ring last head n) (sym (said-given ring other l h g last head given e))
-      (subst (λ n. IsUnlawful s acts ring last n g) (said-head ring other l h g last head given e)
-      (subst (λ n. IsUnlawful s acts ring n h g) (said-last ring other l h g last head given e) (fails acts led))),
-)
+refused-as s m ring other l h g last head given e fails = grind (arith, nat_tests, said-ring, said-given, said-head, said-last)

@@ -1,12 +1,12 @@
 -- A switch to what already runs.
-use Rattle.std.specs.Prelude.{◌≡◌, ℕ, ◌<◌, Bool, true, false, not, length, [], Option, None, slice_index_or}
+use Rattle.std.specs.Prelude.{◌≡◌, ℕ, ◌<◌, Bool, true, false, not, [], Option, None, slice_index_or}
 use Rattle.std.proofs.Common.{arith, refl, sym, ap, ◌∙◌}
-use Rattle.perf_base.specs.declared.{numbers.{CpuNo.{CpuNo}, Key.{Key}, TaskNo.{TaskNo}}, reply.Sums.{Sums}}
+use Rattle.perf_base.specs.declared.{numbers.{CpuNo.{CpuNo}, Key.{Key}, TaskNo.{TaskNo}}}
 use Rattle.perf_base.specs.declared.lines.CpuLine.TheVariants as line
 use Rattle.perf_base.specs.declared.reply.Reply.TheVariants as reply
-use Rattle.stage_spec.specs.{History.{CpuStep, stage_step, unless_refused}, Remainders.{left_by_hits}, Settle.{settle_all}}
-use Rattle.stage_spec.specs.{Shares.{share, no_sums, switch_share, changes_task}, Stage.{Stage, task_on}}
-use Rattle.stage_spec.{specs.Switching.{is_running, switch_refusal, switched, put_on}, proofs.Recurrence.{plus-none}}
+use Rattle.stage_spec.specs.{History.{CpuStep, stage_step}, Settle.{settle_all}}
+use Rattle.stage_spec.specs.{Shares.{share, no_sums}, Stage.{task_on}}
+use Rattle.stage_spec.{specs.Switching.{is_running, switch_refusal, switched}, proofs.Recurrence.{plus-none}}
 use Rattle.world_spec.specs.{Kept.{IsKept}, StageOf.{stage_of}, Value.{World, is_live, instance_at, account_at}, Shares.{with_share}}
 use Rattle.world_spec.{specs.Stepping.{HasStepped, HasItsShare}, proofs.Stepping.{stepped, instance-found}}
 use Rattle.machine.{specs.Stepped.{IsReady}, proofs.{Asking.{settled-below}, Refused.{accepted-cpu}, Keeping.{none-lost}, TaskChange.{none-given}}}
@@ -25,29 +25,18 @@ pub record Still (w : World) (cpu : CpuNo) (to : Option TaskNo) : Type 0 where
 
 still-stage : (w : World) (cpu : CpuNo) (to : Option TaskNo) → Still w cpu to → stage_of w ≡ stage_step w.hardware (stage_of w) (CpuStep cpu (line.Switch to))
 unfolding stage_step settle_all switched
-still-stage w cpu to c =
-    let s : Stage = stage_of w in
-    let runs : s ≡ switched cpu to s = λ i. elim (sym c.runs i) as (λ b. Stage) [ true ↦ s | false ↦ put_on cpu to s ] in
-    sym (settled-below w.hardware (length w.quiet.running) s (λ own low. (c.ready.rescheduled own low).settled))
-    ∙ (ap (settle_all w.hardware) runs ∙ ap (λ o. unless_refused w.hardware o (switched cpu to) s) (sym c.accepted))
+still-stage w cpu to c = grind (arith, settled-below)
 
 still-gives : (w : World) (cpu : CpuNo) (to : Option TaskNo) (id : ℕ) → Still w cpu to → no_sums ≡ share w.hardware (stage_of w) (CpuStep cpu (line.Switch to)) id
 unfolding share
-still-gives w cpu to id c =
-    sym (λ i. elim (changes_task (c.accepted i) (c.runs i)) as (λ b. Sums) [ true ↦ switch_share w.hardware (stage_of w) cpu to id | false ↦ no_sums ])
+still-gives w cpu to id c = grind arith
 
 still-share : (w : World) (cpu : CpuNo) (to : Option TaskNo) (k : Key) → Still w cpu to → is_live w k ≡ true → HasItsShare w.hardware w w (CpuStep cpu (line.Switch to)) k
 still-share w cpu to k c live =
     let id : ℕ = (instance_at w k).id in
     let account : account_at w k ≡ with_share (instance_at w k) (share w.hardware (stage_of w) (CpuStep cpu (line.Switch to)) id) (account_at w k) =
     (none-given w cpu).accounts k live ∙ ap (λ g. with_share (instance_at w k) g (account_at w k)) (still-gives w cpu to id c) in
-    record {
-      live = live;
-      id = refl;
-      sums = ap (λ a. a.sums) account;
-      left = ap (λ a. a.left) account
-          ∙ ap (λ o. left_by_hits w.hardware (stage_of w) (CpuStep cpu (line.Switch to)) id o (account_at w k).left) (sym (instance-found w.hardware w k c.kept live));
-    }
+    grind (arith, id, account, instance-found)
 
 still-stepped : (w : World) (cpu : CpuNo) (to : Option TaskNo) → Still w cpu to → HasStepped w.hardware w w (CpuStep cpu (line.Switch to))
 still-stepped w cpu to c = record {

@@ -1,17 +1,16 @@
 -- A stretch of work.
 use Rattle.std.specs.Prelude.{◌≡◌, ℕ, ◌+◌, ◌<◌, ◌==◌, Bool, true, false, List, [], ◌∷◌, flat_map, map, length, slice_index_or, slice_set, if◌then◌else◌}
-use Rattle.std.proofs.{Common.{arith, refl, sym, ap, subst, ◌∙◌, inl, inr}, lemmas.Bool.{cases_eq, Decides.{nat_tests}}}
+use Rattle.std.proofs.{Common.{arith, refl, sym, ap, subst, ◌∙◌}, lemmas.Bool.{Decides.{nat_tests}}}
 use Rattle.std.proofs.lemmas.List.{get_or-set_same, get_or-set_other}
 use Rattle.perf_base.specs.declared.{lines.Work.{Work}, numbers.{CpuNo.{CpuNo}, EventNo.{EventNo}, Key.{Key}, RingNo.{RingNo}}}
 use Rattle.perf_base.specs.declared.lines.CpuLine.TheVariants as line
 use Rattle.perf_base.specs.declared.reply.Reply.TheVariants as reply
-use Rattle.stage_spec.specs.{Hardware.{Hardware}, Limits.{IsMachine}, History.{Step, CpuStep, stage_step}, Remainders.{left_by_hits}}
-use Rattle.stage_spec.{specs.{Settle.{settle_all}, Shares.{no_sums}}, proofs.Recurrence.{plus-none}}
-use Rattle.stage_laws.specs.Sound.{IsSound}
-use Rattle.ring_spec.specs.{Agreement.{IsCurrentSlot}, Running.{Running, RingAccount, losses_on, more_lost, ring_after}}
+use Rattle.stage_spec.specs.{Hardware.{Hardware}, History.{Step, CpuStep, stage_step}}
+use Rattle.stage_spec.{specs.{Settle.{settle_all}}, proofs.Recurrence.{plus-none}}
+use Rattle.ring_spec.specs.{Running.{Running, RingAccount, losses_on, more_lost, ring_after}}
 use Rattle.ring_spec.specs.Sending.{SentSample, sent_at, sent_by_step}
-use Rattle.world_spec.specs.{Kept.{IsKept}, Metering.{metered}, Rescheduled.{AreRescheduled, IsRescheduled}, StageOf.{stage_of}}
-use Rattle.world_spec.specs.{Value.{World, is_live, entry_at, instance_at, account_at}, Shares.{HaveShares, with_share, work_shares}}
+use Rattle.world_spec.specs.{Kept.{IsKept}, Metering.{metered}, Rescheduled.{IsRescheduled}, StageOf.{stage_of}}
+use Rattle.world_spec.specs.{Value.{World, is_live}, Shares.{HaveShares, work_shares}}
 use Rattle.world_spec.{specs.{Stepping.{HasStepped, HasItsShare}, Agreement.{AgreesWith}}, proofs.Stepping.{stepped-losing, instance-found}}
 use Rattle.sample_ring.specs.{OutEnds.{OutEnd}, RingLists.{OutList}, Sends.{Request, fits, lost_to, request_of, sent_to, written_to}}
 use Rattle.work_account.specs.{Ends.{Ends, HaveAccounts, send_all, send_next, sent_among}, Sampling.{AreLeft, ends_of, sent_by}}
@@ -48,54 +47,13 @@ work-stage w cpu work h = sym (settled-below w.hardware (length w.quiet.running)
 
 clock-by : (clocks : List ℕ) (cpu other : CpuNo) (n : ℕ) → cpu.0 < length clocks
     → slice_index_or (slice_set clocks cpu.0 (slice_index_or clocks cpu.0 0 + n)) other.0 0 ≡ slice_index_or clocks other.0 0 + (if cpu.0 == other.0 then n else 0)
-clock-by clocks cpu other n low = elim (cases_eq other.0 cpu.0) [
-  | inl e ↦
-      let same : (cpu.0 == other.0) ≡ true = grind (arith, nat_tests, e) in
-      ap (λ k. slice_index_or (slice_set clocks cpu.0 (slice_index_or clocks cpu.0 0 + n)) k 0) e
-      ∙ (get_or-set_same clocks cpu.0 (slice_index_or clocks cpu.0 0 + n) 0 low
-      ∙ (λ i. slice_index_or clocks (sym e i) 0 + (if sym same i then n else 0)))
-  | inr apart ↦
-      let off : (cpu.0 == other.0) ≡ false = grind (arith, nat_tests, apart) in
-      let none : slice_index_or clocks other.0 0 ≡ slice_index_or clocks other.0 0 + 0 = omega arith in
-      get_or-set_other clocks cpu.0 other.0 (slice_index_or clocks cpu.0 0 + n) 0 apart
-      ∙ (none ∙ ap (λ b. slice_index_or clocks other.0 0 + (if b then n else 0)) (sym off))
-]
+clock-by clocks cpu other n low = grind (arith, nat_tests, get_or-set_same, get_or-set_other)
 
 work-share : (w x : World) (cpu : CpuNo) (work : Work) (k : Key) → Course w x cpu work → is_live x k ≡ true → HasItsShare w.hardware w x (CpuStep cpu (line.Work work)) k
-work-share w x cpu work k c live_then =
-    let live : is_live w k ≡ true = sym (ap (λ (y : World). is_live y k) c.rest) ∙ live_then in
-    let id : ℕ = (instance_at w k).id in
-    let account : account_at x k ≡ with_share (instance_at w k) (work_shares w cpu work id) (account_at w k) = c.shares.accounts k live in
-    record {
-      live = live;
-      id = ap (λ (y : World). (instance_at y k).id) c.rest;
-      sums = ap (λ a. a.sums) account;
-      left = ap (λ a. a.left) account
-          ∙ ap (λ o. left_by_hits w.hardware (stage_of w) (CpuStep cpu (line.Work work)) id o (account_at w k).left) (sym (instance-found w.hardware w k c.kept live));
-    }
+work-share w x cpu work k c live_then = grind (arith, nat_tests, instance-found)
 
 work-stepped : (w x : World) (cpu : CpuNo) (work : Work) → Course w x cpu work → HasStepped w.hardware w x (CpuStep cpu (line.Work work))
-work-stepped w x cpu work c =
-    let next : x.quiet.next_id ≡ w.quiet.next_id = ap (λ (y : World). y.quiet.next_id) c.rest in
-    record {
-      stage = c.stage ∙ work-stage w cpu work c.ready;
-      drawn = omega (arith, next);
-      old = λ k live before. work-share w x cpu work k c live;
-      new = λ k live past.
-          let low : (instance_at w k).id < w.quiet.next_id = (c.kept.numbered.drawn k (sym (ap (λ (y : World). is_live y k) c.rest) ∙ live)).1 in
-          absurd (omega (arith, low, past, ap (λ (y : World). (instance_at y k).id) c.rest));
-      slots = λ e current. subst (λ s. IsCurrentSlot s e) c.stage current;
-      folded = λ e current. (
-        [],
-        record {
-          leaving = refl;
-          live = λ k some. absurd (omega (arith, some));
-          sums = ap (λ (y : World). slice_index_or y.folded e.0 no_sums) c.rest ∙ sym (plus-none (slice_index_or w.folded e.0 no_sums));
-        },
-      );
-      lost = λ e. ap (λ (y : World). slice_index_or y.lost e.0 0) c.rest;
-      clock = λ other. ap (λ (y : World). slice_index_or y.quiet.clocks other.0 0) c.rest ∙ clock-by w.quiet.clocks cpu other work.length (omega (arith, c.low, c.kept.tables.clocks));
-    }
+work-stepped w x cpu work c = grind (arith, nat_tests, work-stage, work-share, plus-none, clock-by)
 
 -- the world but for the counts of records lost
 but-lost : (w x : World) (cpu : CpuNo) (work : Work) (outs sent : OutList) → Sending w x cpu work outs sent → Course w (record x { lost = w.lost }) cpu work
@@ -131,18 +89,7 @@ work-done w x cpu work outs sent c by agrees accounts =
     }
 
 pub work-ready : (w x : World) (cpu : CpuNo) (work : Work) (outs sent : OutList) → Sending w x cpu work outs sent → IsReady x
-work-ready w x cpu work outs sent c =
-    let hardware : x.hardware ≡ w.hardware = ap (λ (y : World). y.hardware) c.rest in
-    let running : length x.quiet.running ≡ length w.quiet.running = ap (λ (y : World). length y.quiet.running) c.rest in
-    record {
-      machine = subst (λ (n : ℕ). IsMachine (record { cpus = n; kinds = length x.hardware.kind_pmus; rings = [] }) x.hardware) (sym running)
-          (subst (λ (hw : Hardware). IsMachine (record { cpus = length w.quiet.running; kinds = length hw.kind_pmus; rings = [] }) hw) (sym hardware) c.ready.machine);
-      sound = subst (λ (hw : Hardware). IsSound hw (stage_of x)) (sym hardware) (subst (IsSound w.hardware) (sym c.stage) c.ready.sound);
-      rescheduled = subst (λ (hw : Hardware). AreRescheduled hw x) (sym hardware) (λ other low. c.rescheduled other (c.ready.rescheduled other (omega (arith, low, running))));
-      homes = λ k own live at.
-          let low : own.0 < length w.quiet.running = c.ready.homes k own (sym (ap (λ (y : World). is_live y k) c.rest) ∙ live) (sym (ap (λ (y : World). (entry_at y k).context) c.rest) ∙ at) in
-          omega (arith, low, running);
-    }
+work-ready w x cpu work outs sent c = grind (arith, nat_tests)
 
 -- no end that sends looks at its reader
 abbrev knows : OutEnd → ℕ × ℕ

@@ -27,17 +27,13 @@ for_each-more f n = map-range_with_len_more f 0 n n (omega arith)
 
 -- one number more, at the end
 last_lists : {X : Type 0} (f : ℕ → List X) (a n j : ℕ) → a + n ≡ j → flat_map f (range_with_len a (suc n)) ≡ flat_map f (range_with_len a n) ++ f j
-last_lists f a zero j e =
-    let same : a ≡ j = omega arith in
-    append-nil (f a) ∙ ap f same
+last_lists f a zero j e = grind (arith, append-nil)
 last_lists f a (suc n) j e =
     let rest : a + 1 + n ≡ j = omega arith in
     ap (λ ys. f a ++ ys) (last_lists f (a + 1) n j rest) ∙ sym (append_assoc (f a) (flat_map f (range_with_len (a + 1) n)) (f j))
 
 pub for_each_all-more : {X : Type 0} (f : ℕ → List X) (n : ℕ) → for_each_all (n + 1) f ≡ for_each_all n f ++ f n
-for_each_all-more f n =
-    let on : n + 1 ≡ suc n = omega arith in
-    ap (λ m. for_each_all m f) on ∙ last_lists f 0 n n (omega arith)
+for_each_all-more f n = grind (arith, suc, last_lists)
 
 all_from : {X : Type 0} (P : X → Type 0) (f : ℕ → List X) (a n : ℕ) → ((k : ℕ) → a ≤ k → k < a + n → All P (f k)) → All P (flat_map f (range_with_len a n))
 all_from P f a zero h = All-nil P

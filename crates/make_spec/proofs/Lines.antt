@@ -1,23 +1,17 @@
 -- Each line of the script of N rounds is in its ranges and of its type.
-use Rattle.std.proofs.Common.{◌≡◌, ℕ, ◌+◌, ◌*◌, ◌%◌, ◌<◌, ◌≤◌, [], ◌∷◌, ◌++◌, length, All, refl, arith}
+use Rattle.std.proofs.Common.{◌≡◌, ℕ, ◌*◌, ◌<◌, ◌≤◌, ◌++◌, length, All, refl, arith}
 use Rattle.std.proofs.lemmas.List.Elements.{All-from_recursion, All-cons, All-replicate, All-append}
-use Rattle.std.{proofs.lemmas.List.FromFn.{length-map-range_with_len, get_or-map-range_with_len}, specs.Prelude.{replicate}}
+use Rattle.std.{proofs.lemmas.List.FromFn.{length-map-range_with_len, get_or-map-range_with_len}}
 use Rattle.perf_base.specs.Scripts.{IsCpuLine, IsToolLine, IsStoredWork, IsStoredToolLine, IsRingLine, IsReaderLine, HasRing}
 use Rattle.make_spec.specs.Rounds.{for_each, for_each_all, made_ring, made_reader, made_hits, round_lines, processor_lines, sampling_lines, counting_lines, read_line, first_lines, last_lines}
 use Rattle.make_spec.proofs.ForEach.{all_for_each, all_for_each_all, length_of_fours}
 
 hits_few : (p i : ℕ) → All (λ n. n ≤ 1000000000) (made_hits p i)
-hits_few p i =
-    let few : 2000 + 500 * ((p + i) % 8) ≤ 1000000000 = omega arith in
-    All-cons (λ n. n ≤ 1000000000) (2000 + 500 * ((p + i) % 8)) (3000 ∷ 700 ∷ 40 ∷ replicate 12 0) few
-    (All-append (λ n. n ≤ 1000000000) (3000 ∷ 700 ∷ 40 ∷ []) (replicate 12 0) (All-from_recursion (λ n. n ≤ 1000000000) (3000 ∷ 700 ∷ 40 ∷ []) (omega arith, (omega arith, (omega arith, tt)))) (All-replicate (λ n. n ≤ 1000000000) 12 0 (omega arith)))
+hits_few p i = grind (arith, All-cons, All-append, All-from_recursion, All-replicate)
 
 -- the lines of a round
 pub round_fits : (p i : ℕ) → All (IsCpuLine 4) (round_lines p i)
-round_fits p i =
-    let task : (p + i) % 4 < 64 = omega arith in
-    All-from_recursion (IsCpuLine 4) (round_lines p i)
-    (task, (record { length = omega arith; hits = hits_few p i; declared = All-replicate (λ n. n ≡ 0) 12 0 refl }, (tt, (tt, tt))))
+round_fits p i = grind (arith, All-from_recursion, length, hits_few, All-replicate)
 
 pub round_stored : (p i : ℕ) → i < 1000 → All IsStoredWork (round_lines p i)
 round_stored p i l = All-from_recursion IsStoredWork (round_lines p i) (tt, ((omega arith, refl), (tt, (tt, tt))))
@@ -47,13 +41,7 @@ sampling_fits p l = All-from_recursion (IsToolLine 4 4 (for_each 4 made_ring)) (
     ((omega arith, record { kind = omega arith; task = tt; cpu = l; flags = omega arith }, tt), ((omega arith, has_ring 4 p l), tt))
 
 pub counting_fits : (t : ℕ) → t < 4 → All (IsToolLine 4 4 (for_each 4 made_ring)) (counting_lines t)
-counting_fits t l = All-from_recursion (IsToolLine 4 4 (for_each 4 made_ring)) (counting_lines t) (
-  (omega arith, record { kind = omega arith; task = omega arith; cpu = tt; flags = omega arith }, tt),
-  (
-    (omega arith, record { kind = omega arith; task = omega arith; cpu = tt; flags = omega arith }, omega arith),
-    ((omega arith, record { kind = omega arith; task = omega arith; cpu = tt; flags = omega arith }, tt), tt),
-  ),
-)
+counting_fits t l = grind (arith, All-from_recursion)
 
 pub tool_fits : All (IsToolLine 4 4 (for_each 4 made_ring)) (first_lines ++ last_lines)
 tool_fits =

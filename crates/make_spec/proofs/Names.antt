@@ -1,8 +1,7 @@
 -- The kinds of the script of N rounds can be declared, one after the other.
-use Rattle.std.proofs.Common.{◌≡◌, ◌≢◌, ℕ, ◌<◌, ◌≤◌, false, List, [], ◌∷◌, length, get_or, All, ap, inl, inr, ◌∙◌, arith}
+use Rattle.std.proofs.Common.{◌≡◌, ◌≢◌, ℕ, ◌<◌, ◌≤◌, false, List, [], ◌∷◌, length, get_or, All, ap, inl, inr, arith}
 use Rattle.std.proofs.lemmas.{Bool.{cases_Bool, cond-false}, List.{Elements.{All-from_recursion}, Quantifiers.{all_pairs_push}}}
 use Rattle.std.{proofs.lemmas.Slice.Eq.{bytes_eq-Decides}, specs.{Prelude.{AllPairs, codes, take}, List.{AllByRecursion}, Str.{bytes_eq}}}
-use Rattle.perf_base.specs.{Kinds.{software_name}, declared.attr.Kind.TheVariants.{ContextSwitches, CpuMigrations, TaskClock, Dummy}}
 use Rattle.perf_base.specs.{declared.lines.KindLine.{KindLine}, Scripts.{IsKindLine, IsName, IsNameByte, IsFreeName}}
 use Rattle.make_spec.specs.Rounds.{made_pmus, made_kinds}
 
@@ -23,14 +22,7 @@ other_text x y h = elim (cases_Bool (bytes_eq x y)) [ inl t ↦ absurd (h (ap le
 
 -- a name of 6 to 13 letters, but for 10, is free
 free : (name : List ℕ) → 5 < length name → (length name ≡ 10 → ⊥) → length name < 14 → IsFreeName name
-free name low other high = record {
-  ip = λ e. absurd (omega (arith, ap length e));
-  software =
-      cond-false _ _ _ (other_text name (software_name ContextSwitches) (λ e. absurd (omega (arith, e))))
-      ∙ (cond-false _ _ _ (other_text name (software_name CpuMigrations) (λ e. absurd (omega (arith, e))))
-      ∙ (cond-false _ _ _ (other_text name (software_name TaskClock) (λ e. absurd (other e)))
-      ∙ cond-false _ _ _ (other_text name (software_name Dummy) (λ e. absurd (omega (arith, e))))));
-}
+free name low other high = grind (arith, length, cond-false, other_text)
 
 pub cycles_fit : IsKindLine made_pmus (record { name = codes "cycles"; pmu = 0; mask = 7 })
 cycles_fit = record { name = named 99 (codes "ycles") (omega arith); length = omega arith; free = free (codes "cycles") (omega arith) (λ e. omega arith) (omega arith); mask = (omega arith, omega arith) }

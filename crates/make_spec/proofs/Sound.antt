@@ -17,8 +17,7 @@ line_law n = omega (arith, processor_length n 0, processor_length n 1, processor
 -- each processor has lines
 processors_act : (n : ℕ) → 1 ≤ n → All (IsAct (script_of_rounds n)) all_processors
 unfolding script_of_rounds
-processors_act n some = All-from_recursion (IsAct (script_of_rounds n)) all_processors
-    (omega (arith, processor_length n 0), (omega (arith, processor_length n 1), (omega (arith, processor_length n 2), (omega (arith, processor_length n 3), tt))))
+processors_act n some = grind (arith, All-from_recursion, processor_length)
 
 pub script_law : MadeIsScriptLaw
 unfolding script_of_rounds

@@ -1,9 +1,8 @@
 -- A script with one entry more keeps its ranges, its names and its limits.
 use Rattle.std.specs.Prelude.{◌≡◌, ◌≢◌, ℕ, ◌+◌, ◌<◌, ◌≤◌, List, [], ◌∷◌, ◌++◌, length, drop, All, AllPairs, sum_by, replicate}
-use Rattle.std.proofs.Common.{inl, inr, get_or-set_same, get_or-set_other, zero, suc, arith, refl, ◌∙◌, get_or, set, length-set, ◌≢◌}
+use Rattle.std.proofs.Common.{get_or-set_same, get_or-set_other, zero, suc, arith, refl, ◌∙◌, get_or, set, length-set, ◌≢◌}
 use Rattle.std.proofs.lemmas.List.{get_or_append_left, length_push, drop-set-lt, drop-drop}
 use Rattle.std.proofs.lemmas.List.{Elements.{All-replicate, All-push, All-weaker, All-set, All-drop}, Quantifiers.{all_pairs_push}, Sums.{sum_by-set}}
-use Rattle.std.proofs.lemmas.Bool.{cases_eq}
 use Rattle.perf_base.specs.declared.{numbers.{CpuNo.{CpuNo}, RingNo.{RingNo}, TaskNo.{TaskNo}, ToolNo.{ToolNo}}, attr.Kind.{Kind}}
 use Rattle.perf_base.specs.declared.lines.{PmuLine.{PmuLine}, KindLine.{KindLine}, CpuLine.{CpuLine}, ToolLine.{ToolLine}, ReaderLine.{ReaderLine}}
 use Rattle.perf_base.specs.declared.acts.Act.{Act}
@@ -19,9 +18,7 @@ IsMaskOf-append (p ∷ pmus) more zero mask h = h
 IsMaskOf-append (p ∷ pmus) more (suc n) mask h = IsMaskOf-append pmus more n mask h
 
 pub HasRing-push : (rings : List (RingNo × ℕ)) (new : RingNo × ℕ) (ring : RingNo) → HasRing rings ring → HasRing (rings ++ new ∷ []) ring
-HasRing-push rings new ring h =
-    let in_new : h.0 < length (rings ++ new ∷ []) = omega (arith, length_push rings new, h.2) in
-    (h.0, h.1, in_new, get_or_append_left rings (new ∷ []) h.1 h.0 h.2 ∙ h.3, h.4)
+HasRing-push rings new ring h = grind (arith, length_push, get_or_append_left)
 
 pub All-drop_more : {X : Type 0} (P : X → Type 0) (n : ℕ) (xs : List X) → All P (drop n xs) → All P (drop (n + 1) xs)
 All-drop_more P n xs h = rw (← drop-drop 1 n xs) (All-drop P 1 (drop n xs) h)
@@ -185,10 +182,7 @@ IsScript-ring s r h line rises = record {
 
 -- a list in a list of lists is one entry longer
 longer_at : {X : Type 0} (lists : List (List X)) (i j : ℕ) (x : X) → i < length lists → length (get_or lists j []) ≤ length (get_or (set lists i (get_or lists i [] ++ x ∷ [])) j [])
-longer_at lists i j x l = elim (cases_eq j i) [
-  | inl e ↦ rw e (rw (get_or-set_same lists i (get_or lists i [] ++ x ∷ []) []) (omega (arith, length_push (get_or lists i []) x)))
-  | inr e ↦ rw (get_or-set_other lists i j (get_or lists i [] ++ x ∷ []) []) (omega arith)
-]
+longer_at lists i j x l = grind (arith, get_or-set_same, get_or, length_push, get_or-set_other)
 
 count_at : {X : Type 0} (lists : List (List X)) (i : ℕ) (x : X) → i < length lists → sum_by length (set lists i (get_or lists i [] ++ x ∷ [])) ≡ sum_by length lists + 1
 count_at lists i x l = omega (arith, sum_by-set length lists i (get_or lists i [] ++ x ∷ []) [] l, length_push (get_or lists i []) x)
@@ -260,26 +254,4 @@ IsScript-tool_line s t line h low fits stored few =
     }
 
 pub IsScript-reader : (s : Scripted) (r : ReaderLine) → IsScript s → IsReaderLine s.rings r → All (λ q. q.ring.0 < r.ring.0) s.readers → IsScript (with_reader s r)
-IsScript-reader s r h line rises = record {
-  cpus = h.cpus;
-  pmus = h.pmus;
-  pmus_apart = h.pmus_apart;
-  pmus_few = h.pmus_few;
-  kinds = h.kinds;
-  kinds_once = h.kinds_once;
-  kinds_few = h.kinds_few;
-  tasks = h.tasks;
-  tasks_rise = h.tasks_rise;
-  rings = h.rings;
-  rings_rise = h.rings_rise;
-  processors = h.processors;
-  cpu_lines = h.cpu_lines;
-  idle = h.idle;
-  tools = h.tools;
-  tool_lines = h.tool_lines;
-  lines_few = h.lines_few;
-  readers = All-push (IsReaderLine s.rings) s.readers r h.readers line;
-  readers_rise = all_pairs_push (λ q r. q.ring.0 < r.ring.0) s.readers r h.readers_rise rises;
-  order = h.order;
-  stored = record { cpu_lines = h.stored.cpu_lines; tool_lines = h.stored.tool_lines; order = h.stored.order };
-}
+IsScript-reader s r h line rises = search (All-push, all_pairs_push)

@@ -1,5 +1,5 @@
 -- Sums, counts and the least of a list, entry by entry, and how large they get.
-use Rattle.std.proofs.Common.{◌≡◌, ℕ, ◌+◌, ◌*◌, ◌^◌, ◌<◌, ◌≤◌, Bool, cond, ltb, List, [], ◌∷◌, ◌++◌, length, take, get_or, All, refl, sym, ap, ◌∙◌, arith}
+use Rattle.std.proofs.Common.{◌≡◌, ℕ, ◌+◌, ◌*◌, ◌<◌, ◌≤◌, Bool, cond, ltb, List, [], ◌∷◌, ◌++◌, length, take, get_or, All, refl, sym, ap, ◌∙◌, arith}
 use Rattle.std.proofs.{Math.Nat.{mul-le-mul_right}, lemmas.{Bool.Decides.{nat_tests}, List.{take_more, Elements.{All-weaker}}}}
 use Rattle.std.proofs.lemmas.List.Sums.{sum_by-cons, sum_by-le, sum_by_more, sum_by_more_le, sum_by-le-sum_by, count_by-le-length, get_or-le-sum_by}
 use Rattle.std.specs.Prelude.{sum_by, count_by}
@@ -54,8 +54,7 @@ nothing f g (x ∷ xs) h e =
     sum_by-cons g x xs ∙ omega (arith, here, there)
 
 pub no_opens : (s : Scripted) → least_period s ≡ 0 → sampling_opens s ≡ 0
-no_opens s e = nothing (least_by period_of) (count_by opens_sampling) s.tool_lines
-    (λ lines z. nothing period_of (λ l. counted (opens_sampling l)) lines opens_none z) e
+no_opens s e = grind (arith, nat_tests, nothing, opens_none)
 
 -- no more opens than lines
 pub opens_few : (s : Scripted) → IsScript s → sampling_opens s ≤ 16384
@@ -83,10 +82,7 @@ lines_light kinds lines h = All-weaker (IsCpuLine kinds) IsLight (light kinds) l
 pub sum_few : (lists : List (List CpuLine)) (i sum more : ℕ) → i < length lists → sum_by length lists ≤ 16384
     → sum ≤ sum_by length (take i lists) * 16000000000 → more ≤ length (get_or lists i []) * 16000000000
     → (sum + more ≤ sum_by length (take (i + 1) lists) * 16000000000) × (sum + more ≤ 16384 * 16000000000)
-sum_few lists i sum more l few h g =
-    let next : sum_by length (take (i + 1) lists) ≡ sum_by length (take i lists) + length (get_or lists i []) = sum_by_more length lists i [] l in
-    let within : sum_by length (take i lists) + length (get_or lists i []) ≤ sum_by length lists = sum_by_more_le length lists i [] l in
-    (rw next (omega arith), omega arith)
+sum_few lists i sum more l few h g = grind (arith, nat_tests, length, take, get_or, sum_by_more, sum_by_more_le)
 
 pub no_weight : (s : Scripted) → least_period s ≡ 0 → 0 ≡ weight s
 no_weight s e = sym (ap (λ n. n * shares_of s (least_period s)) (no_opens s e) ∙ omega arith)

@@ -2,8 +2,8 @@
 use Rattle.std.{specs.Prelude.{◌≡◌, ℕ, List, count_by, filter, length}, proofs.{Common.{arith, ap, ◌∙◌}, lemmas.List.{length-map}}}
 use Rattle.std.proofs.lemmas.List.Sums.{length-filter}
 use Rattle.perf_base.specs.{declared.{acts.Act.{Act}, numbers.RingNo.{RingNo}}, Scripts.{Scripted}}
-use Rattle.stage_spec.specs.{Hardware.{Hardware, hardware_of}, History.{Step, history, opening_stage}, Stage.{Stage}}
-use Rattle.ring_spec.specs.{Account.{RingEvent, Sends, is_sent}, Rings.{account_of, events_of, is_to}, Sending.{SentSample, sent_by_steps}}
+use Rattle.stage_spec.specs.{Hardware.{Hardware}, History.{Step}, Stage.{Stage}}
+use Rattle.ring_spec.specs.{Account.{Sends, is_sent}, Rings.{account_of, events_of, is_to}, Sending.{SentSample, sent_by_steps}}
 use Rattle.ring_spec.proofs.{Conserved.{sent_law, told_law}, Rings.{sends_law}}
 use Rattle.perf_book.specs.Conserved.{IsConserved}
 
@@ -16,6 +16,4 @@ sent-to hw s steps ring =
 
 pub conserved : (s : Scripted) (order : List Act) (ring : RingNo × ℕ) → IsConserved s order ring
 unfolding account_of
-conserved s order ring =
-    let events : List RingEvent = events_of (hardware_of s) (opening_stage s) (history s order) ring.0 in
-    record { sent = sent-to (hardware_of s) (opening_stage s) (history s order) ring.0 ∙ sent_law ring.1 events; told = told_law ring.1 events }
+conserved s order ring = grind (arith, sent-to, sent_law, told_law)

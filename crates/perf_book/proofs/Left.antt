@@ -1,6 +1,6 @@
 -- The lines that actors have left.
-use Rattle.std.specs.Prelude.{◌≡◌, ℕ, ◌+◌, ◌-◌, ◌<◌, ◌≤◌, true, false, nat_lt, List, [], ◌∷◌, ◌++◌, length, count_by}
-use Rattle.std.proofs.{Common.{arith, refl, sym, ap, subst, inl, inr}, lemmas.{Bool.{cases_lt, Decides.{nat_tests}}, List.{get_or_past}}}
+use Rattle.std.specs.Prelude.{◌≡◌, ℕ, ◌+◌, ◌-◌, ◌<◌, ◌≤◌, true, nat_lt, List, [], ◌∷◌, ◌++◌, length, count_by}
+use Rattle.std.proofs.{Common.{arith, refl, sym, subst, inl, inr}, lemmas.{Bool.{cases_lt, Decides.{nat_tests}}, List.{get_or_past}}}
 use mathlib.Core.List.{IsPrefix}
 use Rattle.perf_base.specs.declared.{acts.{Act.{Act}, Actor.{Actor}}, numbers.{CpuNo.{CpuNo}, ToolNo.{ToolNo}}}
 use Rattle.perf_base.specs.Scripts.{Scripted, lines_of_cpu, lines_of_tool}
@@ -40,10 +40,7 @@ left-more s actor.Watcher order more = omega arith
 
 -- an actor that has no line left has none later
 pub still-none : (x y : Booked) (a : Actor) → IsBooked x → IsBooked y → y.script ≡ x.script → IsPrefix x.order y.order → (HasLine x.script x.machine a → ⊥) → HasLine y.script y.machine a → ⊥
-still-none x y a hx hy same grows none line =
-    let left : 0 < lines_left y.script y.order a = has-left y a hy line in
-    let is : lines_left y.script y.order a ≡ lines_left x.script (x.order ++ grows.0) a = λ i. lines_left (same i) (sym grows.1 i) a in
-    none (left-has x a hx (omega (arith, left, is, left-more x.script a x.order grows.0)))
+still-none x y a hx hy same grows none line = grind (arith, nat_tests, has-left, left-has, left-more)
 
 -- one fewer is left once a line is done
 one-cpu : (cpu : CpuNo) → count_by (is_of_cpu cpu) (act.Processor cpu ∷ []) ≡ 1
@@ -57,10 +54,7 @@ cpu-at : (cpu : CpuNo) → cpu.0 < 8 → actor_at cpu.0 ≡ actor.Processor cpu
 cpu-at cpu low = let its : nat_lt cpu.0 8 ≡ true = grind (arith, nat_tests, low) in rw its refl
 
 tool-at : (tool : ToolNo) → actor_at (tool.0 + 8) ≡ actor.Tool tool
-tool-at tool =
-    let its : nat_lt (tool.0 + 8) 8 ≡ false = grind (arith, nat_tests) in
-    let number : tool.0 + 8 - 8 ≡ tool.0 = omega arith in
-    rw its (λ i. actor.Tool (record { 0 = number i }))
+tool-at tool = grind (arith, nat_tests)
 
 -- An order is complete where no processor and no tool has a line left.
 pub all-done : (x : Booked) → IsBooked x → ((place : ℕ) → place < 12 → HasLine x.script x.machine (actor_at place) → ⊥) → IsComplete x.script x.order
@@ -72,9 +66,7 @@ all-done x h none = record {
           | inr past ↦ past
         ] in
         omega (arith, past, h.led.counted.cpus cpu)
-    | inr high ↦
-        let no_lines : lines_of_cpu x.script cpu ≡ [] = get_or_past x.script.cpu_lines cpu.0 [] (omega (arith, high, h.script.processors)) in
-        omega (arith, ap length no_lines, h.led.counted.cpus cpu)
+    | inr high ↦ grind (arith, nat_tests, get_or_past, high)
   ];
   tools = λ tool. elim (cases_lt tool.0 4) [
     | inl low ↦
@@ -83,8 +75,6 @@ all-done x h none = record {
           | inr past ↦ past
         ] in
         omega (arith, past, h.led.counted.tools tool)
-    | inr high ↦
-        let no_lines : lines_of_tool x.script tool ≡ [] = get_or_past x.script.tool_lines tool.0 [] (omega (arith, high, h.script.tools)) in
-        omega (arith, ap length no_lines, h.led.counted.tools tool)
+    | inr high ↦ grind (arith, nat_tests, get_or_past, high)
   ];
 }

@@ -12,9 +12,7 @@ next-more (x ∷ xs) zero low = refl
 next-more (x ∷ xs) (suc k) low = ap (λ l. (x + 1) ∷ l) (next-more xs k (omega (arith, low)))
 
 pub one-more : (xs now then : List ℕ) (k : ℕ) → k < length xs → now ≡ part_more k xs → then ≡ slice_set now k (slice_index_or now k 0 + 1) → then ≡ part_more (k + 1) xs
-one-more xs now then k low is set =
-    let one : suc k ≡ k + 1 = omega arith in
-    set ∙ (ap (λ l. slice_set l k (slice_index_or l k 0 + 1)) is ∙ (next-more xs k low ∙ ap (λ n. part_more n xs) one))
+one-more xs now then k low is set = grind (arith, next-more)
 
 all-more : (xs : List ℕ) (k : ℕ) → length xs ≤ k → part_more k xs ≡ map (λ n. n + 1) xs
 all-more [] zero past = refl

@@ -29,20 +29,11 @@ pub same-self : (ins : InList) → SameReaders ins ins
 same-self ins = record { numbers = refl; words = λ place. refl; records = λ place. refl; released = λ place. refl }
 
 pub same-then : (ins now later : InList) → SameReaders ins now → SameReaders now later → SameReaders ins later
-same-then ins now later g h = record {
-  numbers = h.numbers ∙ g.numbers;
-  words = λ place. h.words place ∙ g.words place;
-  records = λ place. h.records place ∙ g.records place;
-  released = λ place. h.released place ∙ g.released place;
-}
+same-then ins now later g h = grind (arith, nat_tests)
 
 same-slot : {X : Type 0} (f : Option (Option InEnd) → X) (readers : List (Option InEnd)) (n : ℕ) (i j : InEnd) → slice_get readers n ≡ Some (Some i) → f (Some (Some j)) ≡ f (Some (Some i))
     → (place : ℕ) → f (slice_get (slice_set readers n (Some j)) place) ≡ f (slice_get readers place)
-same-slot f readers n i j at e place = elim (cases_eq place n) [
-  | inl is ↦
-      ap (λ k. f (slice_get (slice_set readers n (Some j)) k)) is ∙ (ap f (set-here readers n (Some i) (Some j) at) ∙ (e ∙ (sym (ap f at) ∙ ap (λ k. f (slice_get readers k)) (sym is))))
-  | inr off ↦ ap f (set-other readers n place (Some j) off)
-]
+same-slot f readers n i j at e place = grind (arith, nat_tests, set-here, set-other)
 
 pub same-met : (o : OutEnd) (ins later : InList) (n : ℕ) (i j : InEnd) → slice_get ins.readers n ≡ Some (Some i) → HasMet o i j → later ≡ with_slot ins n (Some j) → SameReaders ins later
 same-met o ins later n i j at met e =
@@ -178,10 +169,7 @@ no-look rings k items later (inr look) e =
 released-words : (words : ℕ) (outs : OutList) (ins : InList) (ring : RingNo) (k : ℕ) → ring_index outs.numbers ring ≡ k → k < length outs.outs → AreReaders words outs ins
     → released_in ins ring ≤ 8 * length (words_in ins ring)
 released-words words outs ins ring k place low h = elim (slice_get_cases outs.outs k).1 [
-  | inl (o, _, at, _) ↦
-      let there = h.each k o at in
-      let slot : slice_get ins.readers (ring_index ins.numbers ring) ≡ Some (Some there.0) = ap (slice_get ins.readers) (ap (λ n. ring_index n ring) h.numbers ∙ place) ∙ there.1 in
-      omega (arith, ap released_of_slot slot, ap (λ (x : Option (Option InEnd)). length (words_of_slot x)) slot, there.2.released)
+  | inl (o, _, at, _) ↦ grind (arith, nat_tests, o, at)
   | inr (past, _) ↦ absurd (omega (arith, past, low))
 ]
 
@@ -198,8 +186,7 @@ all-parts k s words before items outs ins declared past numbers ends rise reader
     let written : (account_in s items r).written ≡ (account_in s before (r.0, bytes_of s r.0)).written =
     written-looked s k before items r looked ∙ ap (λ n. (account_in s before (r.0, n)).written) (sym bytes) in
     let tail : (account_in s items r).tail ≡ last_seen r.0 items = seen_tail s items r.0 r.1 in
-    let place : ring_index outs.numbers r.0 ≡ j =
-    ap (λ n. ring_index n r.0) numbers ∙ place-of-nth s.rings j r rise (slice_get-get_or s.rings j d low) in
+    let place : ring_index outs.numbers r.0 ≡ j = grind (arith, nat_tests, place-of-nth, slice_get-get_or) in
     let released : released_in ins r.0 ≤ 8 * length (words_in ins r.0) = released-words words outs ins r.0 j place (omega (arith, ends, low)) readers in
     let few = few-taken-of s items r (records_taken ins r.0)
     (omega (arith, tail, part.0, released, ap length part.1, ap (λ records. length (words_of (take (records_taken ins r.0) records))) written)) in

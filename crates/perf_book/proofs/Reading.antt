@@ -13,9 +13,7 @@ use Rattle.perf_book.specs.Running.{AreReady, HasRead, IsReadBy, IsReady, slot_o
 places-apart : (numbers : List RingNo) (ring other : RingNo) → HasRing numbers ring → (other.0 ≡ ring.0 → ⊥) → ring_index numbers other ≡ ring_index numbers ring → ⊥
 places-apart [] ring other there off same = omega (arith, there)
 places-apart (n ∷ numbers) ring other there off same = elim (cases_eq n.0 ring.0) [
-  | inl here ↦
-      let later = place-later n other numbers (λ e. off (sym e ∙ here)) in
-      omega (arith, place-here n ring numbers here, later, same)
+  | inl here ↦ grind (arith, nat_tests, place-later, here, place-here)
   | inr not_ring ↦ elim (cases_eq n.0 other.0) [
     | inl here ↦ omega (arith, place-here n other numbers here, place-later n ring numbers not_ring, same)
     | inr not_other ↦
@@ -53,24 +51,14 @@ rest-ready rings ins line rest rise ready k d low =
     let higher : line.ring.0 < (get_or rest k d).ring.0 = above line rest rise k d low in
     let its : IsReady rings ins (get_or rest k d).ring = All-tail (λ l. IsReady rings ins l.ring) line rest ready k d low in
     let first : IsReady rings ins line.ring = first-ready rings ins line rest ready in
-    record {
-      known = its.known;
-      listed = its.listed;
-      reader = its.reader;
-      there = slot-other ins line.ring (get_or rest k d).ring None first.listed (λ e. omega (arith, e, higher)) ∙ its.there;
-      same = its.same;
-      released = its.released;
-    }
+    grind (arith, nat_tests, slot-other, get_or, higher)
 
 -- The readers of some lines have read while the one of a line before them was out: its slot is empty still, and with it
 -- back all have read.
 pub still-out : (ins out inner : InList) (lines rest : List ReaderLine) (line : ReaderLine) (reader : InEnd) → lines ≡ line ∷ rest → AllPairs (λ q r. q.ring.0 < r.ring.0) lines
     → slot_of ins line.ring ≡ Some (Some reader) → out ≡ with_slot ins (ring_index ins.numbers line.ring) None
     → ((ring : RingNo) → IsReadBy (line_for rest ring) out inner ring) → IsOut inner line.ring
-still-out ins out inner lines rest line reader is rise at end read =
-    let none : line_for rest line.ring ≡ None = none-for rest line.ring (above line rest (subst (AllPairs (λ q r. q.ring.0 < r.ring.0)) is rise)) in
-    subst (λ l. IsReadBy l out inner line.ring) none (read line.ring)
-    ∙ (ap (λ (x : InList). slot_of x line.ring) end ∙ set-here ins.readers (ring_index ins.numbers line.ring) (Some reader) None at)
+still-out ins out inner lines rest line reader is rise at end read = grind (arith, nat_tests, none-for, above, set-here)
 
 by-slots : (line : Option ReaderLine) (out before inner after : InList) (ring : RingNo) → slot_of out ring ≡ slot_of before ring → slot_of after ring ≡ slot_of inner ring
     → IsReadBy line out inner ring → IsReadBy line before after ring
@@ -87,17 +75,9 @@ read-more ins out inner after lines rest line reader back is rise there at end n
       let found : line_for lines ring ≡ Some line = ap (λ l. line_for l ring) is ∙ find-first (λ (l : ReaderLine). l.ring.0 == ring.0) line rest its in
       let same : line.ring ≡ ring = λ i. record { 0 = here i } in
       let empty : IsOut inner line.ring = still-out ins out inner lines rest line reader is rise at end read in
-      let now : slot_of after line.ring ≡ Some (Some back) =
-      ap (λ (x : InList). slot_of x line.ring) put ∙ set-here inner.readers (ring_index inner.numbers line.ring) None (Some back) empty in
+      let now : slot_of after line.ring ≡ Some (Some back) = grind (arith, nat_tests, set-here) in
       subst (λ l. IsReadBy l ins after ring) (sym found) (reader, back, ap (slot_of ins) (sym same) ∙ at, ap (slot_of after) (sym same) ∙ now, has)
-  | inr off ↦
-      let its : (line.ring.0 == ring.0) ≡ false = grind (arith, nat_tests, off) in
-      let found : line_for lines ring ≡ line_for rest ring = ap (λ l. line_for l ring) is ∙ find-later (λ (l : ReaderLine). l.ring.0 == ring.0) line rest its in
-      let off_it : ring.0 ≡ line.ring.0 → ⊥ = λ e. off (sym e) in
-      let first : slot_of out ring ≡ slot_of ins ring = ap (λ (x : InList). slot_of x ring) end ∙ slot-other ins line.ring ring None there off_it in
-      let there_now : HasRing inner.numbers line.ring = subst (λ n. HasRing n line.ring) (sym (numbers ∙ ap (λ (x : InList). x.numbers) end)) there in
-      let last : slot_of after ring ≡ slot_of inner ring = ap (λ (x : InList). slot_of x ring) put ∙ slot-other inner line.ring ring (Some back) there_now off_it in
-      subst (λ l. IsReadBy l ins after ring) (sym found) (by-slots (line_for rest ring) out ins inner after ring first last (read ring))
+  | inr off ↦ grind (arith, nat_tests, off, find-later, slot-other, by-slots)
 ]
 
 -- a reader that has done no try, and one more

@@ -1,11 +1,10 @@
 -- The readers of a script are ready for their lines, and are again once they have done them.
 use Rattle.std.specs.Prelude.{◌≡◌, ℕ, zero, suc, ◌<◌, ◌≤◌, All, AllPairs, List, [], ◌∷◌, length, map, take, Option, Some, None, slice_get}
-use Rattle.std.proofs.{Common.{arith, sym, ap, subst, ◌∙◌, inl, inr, get_or}, lemmas.List.{length-map}}
+use Rattle.std.proofs.{Common.{arith, sym, ap, ◌∙◌, inl, inr, get_or}, lemmas.List.{length-map}}
 use Rattle.std.proofs.lemmas.Option.{none-some, same_Some, slice_get_cases, slice_get_within}
 use Rattle.perf_base.specs.declared.{acts.Act.{Act}, lines.ReaderLine.{ReaderLine}, numbers.RingNo.{RingNo}}
 use Rattle.perf_base.specs.Scripts.{HasRing, IsRingLine, IsScript, Scripted}
 use Rattle.report_spec.specs.Answers.{reader_of}
-use Rattle.ring_words.specs.Ends.{Ring}
 use Rattle.sample_ring.specs.{InEnds.{InEnd}, OutEnds.{OutEnd}, RingLists.{InList, OutList, RingList, ring_index}}
 use Rattle.sample_ring.specs.RingLists as lists
 use Rattle.work_account.specs.Ends.{AreTogether}
@@ -15,8 +14,7 @@ use Rattle.perf_book.specs.{Book.{Booked, IsBooked}, Plans.{IsPlanned}, Running.
 
 -- a script has at most 16 readers, since their rings rise and are below 16
 declared-small : (rings : List (RingNo × ℕ)) (ring : RingNo) → All IsRingLine rings → HasRing rings ring → ring.0 < 16
-declared-small rings ring small there =
-    subst (λ (r : RingNo). r.0 < 16) (ap (λ (r : RingNo × ℕ). r.0) there.3 ∙ there.4) (small there.0 there.1 there.2).0
+declared-small rings ring small there = grind arith
 
 place-below : (lines : List ReaderLine) (k : ℕ) (d : ReaderLine) → AllPairs (λ q r. q.ring.0 < r.ring.0) lines → k < length lines → k ≤ (get_or lines k d).ring.0
 place-below lines zero d rise low = omega arith
@@ -44,18 +42,7 @@ table-at (p ∷ outs) (suc place) o at = table-at outs place o at
 ready-at : (words : ℕ) (rings : RingList) (outs : OutList) (ins : InList) (ring : RingNo) → AreTogether rings outs → AreReaders words outs ins → length outs.outs ≡ length outs.numbers
     → lists.HasRing outs.numbers ring → IsReady rings ins ring
 ready-at words rings outs ins ring together readers whole there = elim (slice_get_cases outs.outs (ring_index outs.numbers ring)).1 [
-  | inl (o, _, at, _) ↦
-      let its = readers.each (ring_index outs.numbers ring) o at in
-      let table : slice_get (map (λ (o : OutEnd). o.producer.ring) outs.outs) (ring_index outs.numbers ring) ≡ Some o.producer.ring =
-      table-at outs.outs (ring_index outs.numbers ring) o at in
-      record {
-        known = subst (λ (n : List RingNo). lists.HasRing n ring) (sym together.numbers) there;
-        listed = subst (λ (n : List RingNo). lists.HasRing n ring) (sym readers.numbers) there;
-        reader = its.0;
-        there = ap (λ (n : List RingNo). slice_get ins.readers (ring_index n ring)) readers.numbers ∙ its.1;
-        same = (λ i. slice_get (sym together.tables i) (ring_index (together.numbers i) ring)) ∙ (table ∙ ap Some (sym its.2.ring));
-        released = its.2.released;
-      }
+  | inl (o, _, at, _) ↦ grind (arith, o, at, table-at)
   | inr (past, _) ↦ absurd (omega (arith, past, there, whole))
 ]
 
@@ -88,10 +75,7 @@ read-back (Some line) before after ring words o p i read at same h =
 -- two lists of ends are of the same rings, place by place
 same-ring : (rings : RingList) (outs later : OutList) (place : ℕ) (o p : OutEnd) → AreTogether rings outs → AreTogether rings later → slice_get outs.outs place ≡ Some o
     → slice_get later.outs place ≡ Some p → o.producer.ring ≡ p.producer.ring
-same-ring rings outs later place o p before after at at_later =
-    let table : List OutEnd → Option Ring = λ xs. slice_get (map (λ (o : OutEnd). o.producer.ring) xs) place in
-    same_Some o.producer.ring p.producer.ring
-    (sym (table-at outs.outs place o at) ∙ (ap (λ (t : List Ring). slice_get t place) (before.tables ∙ sym after.tables) ∙ table-at later.outs place p at_later))
+same-ring rings outs later place o p before after at at_later = grind (arith, same_Some, table-at)
 
 -- the readers of a run's end
 pub readers-back : (x y : Booked) (words : ℕ) (rings : RingList) (before after : InList) → IsBooked x → IsBooked y → y.script ≡ x.script
@@ -103,8 +87,7 @@ readers-back x y words rings before after hx hy same together later numbers read
       let outs = x.machine.outs in
       let whole : length outs.outs ≡ length x.script.rings = ends-of-rings x.script x.order x.machine hx.led in
       let whole_later : length y.machine.outs.outs ≡ length y.script.rings = ends-of-rings y.script y.order y.machine hy.led in
-      let low : place < length x.script.rings =
-      omega (arith, slice_get_within y.machine.outs.outs place p found, whole_later, ap (λ (s : Scripted). length s.rings) same) in
+      let low : place < length x.script.rings = grind (arith, slice_get_within) in
       elim (slice_get_cases x.script.rings place).1 [
         | inl (r, _, ring_at, _) ↦ elim (slice_get_cases outs.outs place).1 [
           | inl (o, _, at, _) ↦

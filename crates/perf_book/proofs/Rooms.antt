@@ -72,12 +72,10 @@ lines-count : (before acts : List Act) → length (lines_from before acts) ≡ c
 lines-count before [] = refl
 lines-count before (act.Processor cpu ∷ acts) = omega (arith, lines-count (before ++ act.Processor cpu ∷ []) acts, sum_by-cons (λ a. cond (does_line a) 1 0) (act.Processor cpu) acts)
 lines-count before (act.Tool tool ∷ acts) = omega (arith, lines-count (before ++ act.Tool tool ∷ []) acts, sum_by-cons (λ a. cond (does_line a) 1 0) (act.Tool tool) acts)
-lines-count before (act.Seen ring place ∷ acts) =
-    omega (arith, lines-count (before ++ act.Seen ring place ∷ []) acts, sum_by-cons (λ a. cond (does_line a) 1 0) (act.Seen ring place) acts)
+lines-count before (act.Seen ring place ∷ acts) = grind (arith, nat_tests, sum_by-cons, cond, lines-count (before ++ act.Seen ring place ∷ []) acts)
 
 pub answers-count : (s : Scripted) (acts : List Act) (answers : List Answer) → AnswerOrder s (lost_in s) acts answers → length answers ≡ count_by does_line acts
-answers-count s acts answers h =
-    sym (length-map answers (λ a. (a.actor, a.number))) ∙ (ap length h.lines ∙ lines-count [] acts)
+answers-count s acts answers h = grind (arith, nat_tests, length-map, lines-count)
 
 -- looks have no answers
 seen-answers : (s : Scripted) (from : ℕ) (before acts looks : List Act) (answers : List Answer) → AreLooks from before looks → AnswerOrder s (lost_in s) acts answers
@@ -94,35 +92,15 @@ looks-answered s acts looks answers are h = seen-answers s 0 acts acts looks ans
 
 -- room for 16 acts, whatever was done; for one act behind 16 looks, and one answer, where an actor has a line left
 pub room-before : (b : Booked) (order_room answer_room end_room : ℕ) → IsBooked b → HasRoomFor b.script order_room answer_room end_room → length b.order + length b.script.rings ≤ order_room
-room-before b order_room answer_room end_room h room =
-    omega (
-      arith,
-      lengths b.order,
-      h.looks,
-      counted-cpus b.script b.order h.led.counted,
-      counted-lines b.script b.order h.led.counted,
-      few-rings b.script h.script,
-      room.order,
-    )
+room-before b order_room answer_room end_room h room = grind (arith, nat_tests, lengths, counted-cpus, counted-lines, few-rings)
 
 pub room-for-line : (b : Booked) (who : Actor) (more order_room answer_room end_room : ℕ) → IsBooked b → HasRoomFor b.script order_room answer_room end_room → HasLine b.script b.machine who
     → more ≤ length b.script.rings → length b.order + more < order_room
-room-for-line b who more order_room answer_room end_room h room has few =
-    omega (
-      arith,
-      lengths b.order,
-      h.looks,
-      counted-cpus b.script b.order h.led.counted,
-      line-left b.script b.order b.machine who h.led has,
-      few-rings b.script h.script,
-      room.order,
-      few,
-    )
+room-for-line b who more order_room answer_room end_room h room has few = grind (arith, nat_tests, lengths, counted-cpus, line-left, few-rings)
 
 pub room-for-answer : (b : Booked) (who : Actor) (order_room answer_room end_room : ℕ) → IsBooked b → HasRoomFor b.script order_room answer_room end_room → HasLine b.script b.machine who
     → length b.answers < answer_room
-room-for-answer b who order_room answer_room end_room h room has =
-    omega (arith, answers-count b.script b.order b.answers h.answered.answered, line-left b.script b.order b.machine who h.led has, room.answers)
+room-for-answer b who order_room answer_room end_room h room has = grind (arith, nat_tests, answers-count, line-left)
 
 -- looks are looks
 looks-are : (from : ℕ) (before looks : List Act) → AreLooks from before looks → (count_by is_look looks ≡ length looks) × (count_by is_cpu_act looks ≡ 0)
@@ -139,29 +117,8 @@ looks-are from before (act.Seen ring place ∷ looks) h =
 pub few-looks : (s : Scripted) (acts looks then : List Act) (who : Actor) (m : Kept) → IsScript s → HasLine s m who → AreLooksOf who acts looks → length looks ≤ loads_by who * length s.rings
     → count_by is_look acts ≤ length s.order + 16 * count_by is_cpu_act acts → then ≡ (acts ++ looks) ++ act_of who ∷ []
     → count_by is_look then ≤ length s.order + 16 * count_by is_cpu_act then
-few-looks s acts looks then (actor.Processor cpu) m script has are few h e =
-    let all : count_by is_look then ≡ count_by is_look ((acts ++ looks) ++ act.Processor cpu ∷ []) = ap (count_by is_look) e in
-    let cpus : count_by is_cpu_act then ≡ count_by is_cpu_act ((acts ++ looks) ++ act.Processor cpu ∷ []) = ap (count_by is_cpu_act) e in
-    let own = looks-are 0 acts looks are in
-    omega (
-      arith,
-      all,
-      cpus,
-      count-push is_look (acts ++ looks) (act.Processor cpu),
-      count-push is_cpu_act (acts ++ looks) (act.Processor cpu),
-      count-append is_look acts looks,
-      count-append is_cpu_act acts looks,
-      own.0,
-      own.1,
-      few,
-      few-rings s script,
-      h,
-    )
-few-looks s acts looks then (actor.Tool tool) m script has are few h e =
-    let plain : then ≡ acts ++ act.Tool tool ∷ [] = e ∙ ap (λ xs. xs ++ act.Tool tool ∷ []) (ap (λ ls. acts ++ ls) are ∙ append-nil acts) in
-    let all : count_by is_look then ≡ count_by is_look (acts ++ act.Tool tool ∷ []) = ap (count_by is_look) plain in
-    let cpus : count_by is_cpu_act then ≡ count_by is_cpu_act (acts ++ act.Tool tool ∷ []) = ap (count_by is_cpu_act) plain in
-    omega (arith, all, cpus, count-push is_look acts (act.Tool tool), count-push is_cpu_act acts (act.Tool tool), h)
+few-looks s acts looks then (actor.Processor cpu) m script has are few h e = grind (arith, nat_tests, looks-are, count-push, count-append, few-rings)
+few-looks s acts looks then (actor.Tool tool) m script has are few h e = grind (arith, nat_tests, append-nil, count-push)
 few-looks s acts looks then (actor.Reader ring) m script has are few h e = absurd has
 few-looks s acts looks then actor.Watcher m script has are few h e = absurd has
 
@@ -177,8 +134,7 @@ pub line-after : (s : Scripted) (acts looks then : List Act) (m n : Kept) (who :
     → HasLine s n who
 line-after s acts looks then m n (actor.Processor cpu) before after are e has =
     omega (arith, has, before.cpus cpu, after.cpus cpu, ap (done_by_cpu cpu) e, (looks-do-nothing 0 acts looks are).0 cpu)
-line-after s acts looks then m n (actor.Tool tool) before after are e has =
-    omega (arith, has, before.tools tool, after.tools tool, ap (done_by_tool tool) (e ∙ (ap (λ ls. acts ++ ls) are ∙ append-nil acts)))
+line-after s acts looks then m n (actor.Tool tool) before after are e has = grind (arith, nat_tests, append-nil)
 line-after s acts looks then m n (actor.Reader ring) before after are e has = absurd has
 line-after s acts looks then m n actor.Watcher before after are e has = absurd has
 
@@ -193,31 +149,20 @@ looks-length s actor.Watcher looks few = omega (arith, few)
 pub booked-then : (b : Booked) (who : Actor) (looks then : List Act) (m : Kept) (answers : List Answer) → IsBooked b → HasLine b.script b.machine who → AreLooksOf who b.order looks
     → length looks ≤ loads_by who * length b.script.rings → then ≡ (b.order ++ looks) ++ act_of who ∷ [] → LeadTo b.script then m → AnswerOrder b.script (lost_in b.script) then answers
     → IsBooked (record { script = b.script; machine = m; order = then; answers = answers })
-booked-then b who looks then m answers h has are few e led all = record {
-  script = h.script;
-  covered = h.covered;
-  light = h.light;
-  led = led;
-  answered = record { counted = led.counted; lawful = led.lawful; answered = all };
-  looks = few-looks b.script b.order looks then who b.machine h.script has are few h.looks e;
-}
+booked-then b who looks then m answers h has are few e led all = search (nat_tests, few-looks)
 
 pub done-after : (s : Scripted) (acts looks then : List Act) (m n : Kept) (who : Actor) → LeadTo s acts m → LeadTo s then n → AreLooksOf who acts looks → then ≡ acts ++ looks
     → done_by who n ≡ done_by who m
 done-after s acts looks then m n (actor.Processor cpu) before after are e =
     after.cpus cpu ∙ (ap (done_by_cpu cpu) e ∙ ((looks-do-nothing 0 acts looks are).0 cpu ∙ sym (before.cpus cpu)))
-done-after s acts looks then m n (actor.Tool tool) before after are e =
-    after.tools tool ∙ (ap (done_by_tool tool) (e ∙ (ap (λ ls. acts ++ ls) are ∙ append-nil acts)) ∙ sym (before.tools tool))
+done-after s acts looks then m n (actor.Tool tool) before after are e = grind (arith, nat_tests, append-nil)
 done-after s acts looks then m n (actor.Reader ring) before after are e = refl
 done-after s acts looks then m n actor.Watcher before after are e = refl
 
 -- an act of an order
 pub room-for-act : (b : Booked) (order_room answer_room end_room : ℕ) → IsBooked b → HasRoomFor b.script order_room answer_room end_room
     → (length b.order < order_room) × (length b.answers < answer_room)
-room-for-act b order_room answer_room end_room h room = (
-  omega (arith, lengths b.order, h.looks, counted-cpus b.script b.order h.led.counted, counted-lines b.script b.order h.led.counted, room.order),
-  omega (arith, answers-count b.script b.order b.answers h.answered.answered, counted-lines b.script b.order h.led.counted, room.answers),
-)
+room-for-act b order_room answer_room end_room h room = grind (arith, nat_tests, lengths, counted-cpus, counted-lines, answers-count)
 
 looks-then : (b : Booked) (a : Act) → IsBooked b → MayAct a b → count_by is_look (b.order ++ a ∷ []) ≤ length b.script.order + 16 * count_by is_cpu_act (b.order ++ a ∷ [])
 looks-then b (act.Processor cpu) h may = omega (arith, h.looks, count-push is_look b.order (act.Processor cpu), count-push is_cpu_act b.order (act.Processor cpu))
@@ -226,14 +171,7 @@ looks-then b (act.Seen ring place) h may = omega (arith, may, count-push is_look
 
 pub booked-act : (b : Booked) (a : Act) (then : List Act) (m : Kept) (answers : List Answer) → IsBooked b → MayAct a b → then ≡ b.order ++ a ∷ []
     → LeadTo b.script then m → AnswerOrder b.script (lost_in b.script) then answers → IsBooked (record { script = b.script; machine = m; order = then; answers = answers })
-booked-act b a then m answers h may e led all = record {
-  script = h.script;
-  covered = h.covered;
-  light = h.light;
-  led = led;
-  answered = record { counted = led.counted; lawful = led.lawful; answered = all };
-  looks = omega (arith, ap (count_by is_look) e, ap (count_by is_cpu_act) e, looks-then b a h may);
-}
+booked-act b a then m answers h may e led all = grind (arith, nat_tests, looks-then)
 
 -- a book of which nothing was done
 pub booked-none : (s : Scripted) (m : Kept) → IsScript s → IsCovered s → weight s ≤ 65536 → LeadTo s [] m → IsBooked (record { script = s; machine = m; order = []; answers = [] })

@@ -57,14 +57,7 @@ len-keys (k ∷ keys) m h =
 -- the keys that pass a test and those that don't
 split-length : (p : Key → Bool) (keys : List Key) → length keys ≡ count_by p keys + length (filter (λ k. not (p k)) keys)
 split-length p [] = refl
-split-length p (k ∷ keys) = elim (cases_Bool (p k)) [
-  | inl e ↦
-      let gone : filter (λ q. not (p q)) (k ∷ keys) ≡ filter (λ q. not (p q)) keys = ap (λ b. cond (not b) (k ∷ filter (λ q. not (p q)) keys) (filter (λ q. not (p q)) keys)) e in
-      omega (arith, split-length p keys, count-cons p k keys, once-true (p k) e, ap length gone)
-  | inr e ↦
-      let stays : filter (λ q. not (p q)) (k ∷ keys) ≡ k ∷ filter (λ q. not (p q)) keys = ap (λ b. cond (not b) (k ∷ filter (λ q. not (p q)) keys) (filter (λ q. not (p q)) keys)) e in
-      omega (arith, split-length p keys, count-cons p k keys, once-false (p k) e, ap length stays)
-]
+split-length p (k ∷ keys) = grind (arith, nat_tests, count-cons, once-true, once-false, split-length p keys)
 
 count-map : {X : Type 0} (p : X → Bool) (f : Key → X) (keys : List Key) → count_by p (map f keys) ≡ count_by (λ k. p (f k)) keys
 count-map p f [] = refl

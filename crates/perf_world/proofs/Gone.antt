@@ -92,8 +92,7 @@ fold_families k w f = record f { folded = slice_set f.folded (instance_at w k).e
 pub folded-in : (t : Columns) (f after : Slots) (k : Key) (i : Instance) (s : Sums) → i ≡ (entry_in t k).instance → s ≡ (account_in t k).sums
     → after ≡ record f { folded = slice_set f.folded i.event.0 (plus (slice_index_or f.folded i.event.0 no_sums) s) }
     → after ≡ record f { folded = slice_set f.folded (entry_in t k).instance.event.0 (plus (slice_index_or f.folded (entry_in t k).instance.event.0 no_sums) (account_in t k).sums) }
-folded-in t f after k i s is has e =
-    e ∙ (λ j. record f { folded = slice_set f.folded (is j).event.0 (plus (slice_index_or f.folded (is j).event.0 no_sums) (has j)) })
+folded-in t f after k i s is has e = grind (arith, nat_tests)
 
 pub both-true : (b c : Bool) → b ≡ true → c ≡ true → (b && c) ≡ true
 both-true b c x y = ap (λ d. d && c) x ∙ y

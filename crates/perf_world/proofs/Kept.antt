@@ -1,5 +1,5 @@
 -- What is kept of a world, and what follows from it for its tables.
-use Rattle.std.specs.Prelude.{◌≡◌, ℕ, ◌+◌, ◌<◌, ◌≤◌, ◌==◌, true, false, List, [], ◌∷◌, length, Option, Some, None, IfSome, slice_index_or, slice_set, if◌then◌else◌}
+use Rattle.std.specs.Prelude.{◌≡◌, ℕ, ◌+◌, ◌<◌, ◌≤◌, ◌==◌, true, false, List, [], ◌∷◌, length, Option, Some, None, IfSome, slice_index_or, slice_set}
 use Rattle.std.proofs.{Common.{arith, refl, ap, subst, ◌∙◌, inl, inr}, lemmas.Bool.{cases_Bool, cases_lt, Decides.{nat_tests}}}
 use Rattle.std.proofs.lemmas.List.{get_or_past}
 use Rattle.perf_base.specs.declared.{numbers.{CpuNo.{CpuNo}, EventNo.{EventNo}, Key.{Key}, RingNo.{RingNo}, TaskNo.{TaskNo}}, reply.Sums.{Sums}}
@@ -7,7 +7,7 @@ use Rattle.stage_spec.specs.{Hardware.{Hardware}, declared.instance.TaskStatus.{
 use Rattle.stage_spec.specs.declared.instance.TaskState.TheVariants as task_state
 use Rattle.stage_laws.proofs.Counts.{count-append}
 use Rattle.world_spec.specs.Value.{World, Family, Leaders, no_family, is_live, entry_at, instance_at, account_at, leaders_of, is_key, times}
-use Rattle.world_spec.specs.Kept.{leads, leads_in, post_at, in_option, keys_of, plus_keys, family_sums, is_original_in, is_copy_in, IsKept}
+use Rattle.world_spec.specs.Kept.{leads, post_at, in_option, keys_of, plus_keys, family_sums, is_original_in, IsKept}
 use Rattle.world_spec.proofs.{Accounts.{IsSum, counts_are_sums, times_are_sums}, Keys.{times-cons, once-true, once-false, is_key-true, key-is}}
 use Rattle.world_spec.specs.Changes as change
 use Rattle.world_tables.specs.{Columns.{Columns}, Places.{picked, Slots, Places}}
@@ -33,14 +33,7 @@ in-family hw w k h live =
     let f : Family = slice_index_or w.families slot no_family in
     let same : (slot == slot) ≡ true = grind (arith, nat_tests) in
     let split : times k (keys_of f) ≡ times k (in_option f.original) + times k f.copies = count-append (is_key k) (in_option f.original) f.copies in
-    elim (cases_Bool (instance_at w k).copy) [
-      | inl copy ↦
-          let yes : is_copy_in (post_at w) slot k ≡ true = cc (live, same, copy) in
-          omega (arith, split, h.linked.copies k slot, once-true (is_copy_in (post_at w) slot k) yes)
-      | inr original ↦
-          let yes : is_original_in (post_at w) slot k ≡ true = cc (live, same, original) in
-          omega (arith, split, h.linked.originals k slot, once-true (is_original_in (post_at w) slot k) yes)
-    ]
+    grind (arith, nat_tests, slot, same, split, once-true)
 
 pub own-count : (hw : Hardware) (w : World) (k : Key) → IsKept hw w → is_live w k ≡ true
     → (account_at w k).sums.count ≤ (family_sums w (instance_at w k).event.0).count
@@ -55,14 +48,7 @@ pub listed-once : (hw : Hardware) (w : World) (k : Key) → IsKept hw w → lead
 listed-once hw w k h lead =
     let place : ℕ = place_of (entry_at w k).context in
     let same : (place == place) ≡ true = grind (arith, nat_tests) in
-    elim (cases_Bool (entry_at w k).pinned) [
-      | inl e ↦
-          let yes : leads_in (post_at w) place true k ≡ true = cc (lead, same, e) in
-          ap (λ b. times k (picked b (leaders_of w (entry_at w k).context))) e ∙ (h.linked.pinned k place ∙ once-true (leads_in (post_at w) place true k) yes)
-      | inr e ↦
-          let yes : leads_in (post_at w) place false k ≡ true = cc (lead, same, e) in
-          ap (λ b. times k (picked b (leaders_of w (entry_at w k).context))) e ∙ (h.linked.flexible k place ∙ once-true (leads_in (post_at w) place false k) yes)
-    ]
+    grind (arith, nat_tests, place, same, once-true)
 
 -- an original that a slot has is live
 pub original-live : (hw : Hardware) (w : World) (slot : ℕ) (k : Key) → IsKept hw w → (slice_index_or w.families slot no_family).original ≡ Some k → is_live w k ≡ true
@@ -81,10 +67,7 @@ if-some (Some x) P h = h x refl
 
 -- a task that is there has a place among the statuses
 pub task-there : (tasks : List TaskStatus) (n : ℕ) → (slice_index_or tasks n unknown_task).state ≡ task_state.Live → n < length tasks
-task-there tasks n live = elim (cases_lt n (length tasks)) [
-  | inl low ↦ low
-  | inr past ↦ absurd (let e : (slice_index_or tasks n unknown_task).state ≡ task_state.Unknown = ap (λ t. t.state) (get_or_past tasks n unknown_task past) in cc (e, live))
-]
+task-there tasks n live = grind (arith, nat_tests, cases_lt, get_or_past)
 
 -- a task that comes onto a processor, in the tables
 pub placed : (hw : Hardware) (events : Columns) (contexts : List Leaders) (families : Slots) (processors : Places) (tasks : List TaskStatus) (used : List EventNo) (mapped : List RingNo) (next : ℕ)
@@ -101,10 +84,7 @@ placed-kept cpu (Some task) w h = h
 -- each instance has an original in its slot
 in_option-once : (o : Option Key) (k : Key) → 1 ≤ times k (in_option o) → o ≡ Some k
 in_option-once None k h = absurd (omega arith)
-in_option-once (Some q) k h = elim (cases_Bool (is_key k q)) [
-  | inl e ↦ ap (λ x. Some x) (key-is q k (is_key-true k q e))
-  | inr e ↦ absurd (omega (arith, h, times-cons k q [], once-false (is_key k q) e))
-]
+in_option-once (Some q) k h = grind (arith, nat_tests, key-is, is_key-true, times-cons, once-false)
 
 pub original-there : (hw : Hardware) (w : World) (k : Key) → IsKept hw w → is_live w k ≡ true
     → (j : Key) × ((slice_index_or w.families (instance_at w k).event.0 no_family).original ≡ Some j)

@@ -1,5 +1,5 @@
 -- Seats after a group was put on counters, and the tasks of the first world.
-use Rattle.std.specs.Prelude.{◌≡◌, ℕ, ◌<◌, ◌≤◌, ◌==◌, Bool, true, false, ◌||◌, All, List, [], ◌∷◌, ◌++◌, length, map, Result, Ok, Err, OnOk, OnErr, slice_index_or, slice_set, if◌then◌else◌}
+use Rattle.std.specs.Prelude.{◌≡◌, ℕ, ◌<◌, ◌==◌, Bool, true, false, ◌||◌, All, List, [], ◌∷◌, ◌++◌, length, map, Result, Ok, Err, OnOk, OnErr, slice_index_or, slice_set, if◌then◌else◌}
 use Rattle.std.{specs.List.{list_any}, proofs.{Common.{arith, refl, sym, ap, subst, ◌∙◌, inl, inr, zero, suc}, lemmas.Bool.{cases_eq}}}
 use Rattle.std.proofs.lemmas.Bool.Decides.{nat_tests}
 use Rattle.std.proofs.lemmas.List.{map-append, length-append, length-map, ext_get_or, get_or-map, get_or-set_same, get_or-set_other}
@@ -14,13 +14,7 @@ seats-more : (old new : Seated) (group : List (EventNo × ℕ)) → IsSound old 
 seats-more old new group h same added assigned distinct masks =
     let both : masks_of (old.events ++ group) ≡ masks_of old.events ++ masks_of group = map-append (λ e. e.1) old.events group in
     let all : All (IsMask old.counters) (masks_of (old.events ++ group)) = subst (All (IsMask old.counters)) (sym both) (All-append (IsMask old.counters) (masks_of old.events) (masks_of group) h.masks masks) in
-    record {
-      some = subst (λ n. 0 < n) (sym same) h.some;
-      most = subst (λ n. n ≤ 16) (sym same) h.most;
-      assigned = assigned;
-      masks = subst (λ n. All (IsMask n) (masks_of new.events)) (sym same) (subst (λ es. All (IsMask old.counters) (masks_of es)) (sym added) all);
-      distinct = subst AreDistinct (sym added) distinct;
-    }
+    grind (arith, nat_tests, all)
 
 -- a group that was put on, or not
 pub seats-sound : {A B : Type 0} (r : Result A B) (old new : Seated) (group : List (EventNo × ℕ)) → IsSound old → new.counters ≡ old.counters
@@ -61,19 +55,7 @@ statuses-are declared tasks size h =
 
 pub status-more : (declared : List TaskNo) (tasks : List TaskStatus) (task : TaskNo) (n : ℕ) → task.0 < length tasks → slice_index_or tasks n unknown_task ≡ status_by declared n
     → slice_index_or (slice_set tasks task.0 fresh_task) n unknown_task ≡ status_by (declared ++ task ∷ []) n
-status-more declared tasks task n low h =
-    let both : list_any (λ t. t.0 == n) (declared ++ task ∷ []) ≡ (list_any (λ t. t.0 == n) declared || ((task.0 == n) || false)) = list_any-append (λ t. t.0 == n) declared (task ∷ []) in
-    elim (cases_eq task.0 n) [
-      | inl e ↦
-          let here : (task.0 == n) ≡ true = grind (arith, nat_tests, e) in
-          ap (λ k. slice_index_or (slice_set tasks task.0 fresh_task) k unknown_task) (sym e)
-          ∙ (get_or-set_same tasks task.0 fresh_task unknown_task low
-          ∙ sym (ap (λ b. if b then fresh_task else unknown_task) (both ∙ (ap (λ b. list_any (λ t. t.0 == n) declared || (b || false)) here ∙ or-true (list_any (λ t. t.0 == n) declared)))))
-      | inr off ↦
-          let apart : (task.0 == n) ≡ false = grind (arith, nat_tests, off) in
-          get_or-set_other tasks task.0 n fresh_task unknown_task (λ e. off (sym e))
-          ∙ (h ∙ sym (ap (λ b. if b then fresh_task else unknown_task) (both ∙ (ap (λ b. list_any (λ t. t.0 == n) declared || (b || false)) apart ∙ or-false (list_any (λ t. t.0 == n) declared)))))
-    ]
+status-more declared tasks task n low h = grind (arith, nat_tests, list_any-append, get_or-set_same, or-true, get_or-set_other, or-false)
 
 -- what stays where nothing was put on
 pub on-err : {A B P S : Type 0} (r : Result A B) (f : P → S) (new old : P) (was : S) → f old ≡ was → OnErr r (new ≡ old) → OnErr r (f new ≡ was)

@@ -1,11 +1,11 @@
 -- The tables of events after one came, and after siblings were freed.
 use Rattle.std.specs.Prelude.{◌≡◌, ℕ, ◌+◌, ◌<◌, ◌≤◌, true, false, List, [], ◌∷◌, ◌++◌, length, drop, slice_index_or, slice_set}
-use Rattle.std.specs.{FinMap.{FinMap, get, contains_key, insert, same_map, nat_cmp-IsAntisymmetric}, Option.{unwrap_or}, Ordering.{nat_cmp}}
+use Rattle.std.specs.{FinMap.{FinMap, get, contains_key, insert, same_map, nat_cmp-IsAntisymmetric}, Ordering.{nat_cmp}}
 use Rattle.std.proofs.{Common.{arith, refl, sym, ap, subst, ◌∙◌, inl, inr, zero, suc, append-nil, append_assoc}, lemmas.Bool.{cases_eq}}
 use Rattle.std.proofs.{lemmas.{Cmp.{nat_cmp_total}, List.{get_or-set_same}}, Math.Seq.{drop-cons}}
 use Rattle.perf_base.specs.declared.numbers.Key.{Key}
 use Rattle.stage_laws.proofs.Counts.{count-append}
-use Rattle.world_spec.specs.{Value.{Entry, Leaders, no_entry, no_leaders, is_key, times}, Changes.{in_list}}
+use Rattle.world_spec.specs.{Value.{Entry, Leaders, no_leaders, is_key, times}, Changes.{in_list}}
 use Rattle.world_spec.proofs.{Keys.{times-cons, once-true, is_key-same}, Tables.{get-here, get-there, keys-written}}
 use Rattle.world_tables.specs.{Columns.{Columns, is_there, entry_in, put_entry, put_row}, Rows.{Row}}
 use Rattle.perf_world.specs.Parts.{free_one, behind, HaveRoomBehind}
@@ -22,9 +22,7 @@ row-keeps t k r l other = get-there t.entries k.0 r.entry l.0 other
 pub insert-swap : {X : Type 0} (m : FinMap nat_cmp X) (k l : ℕ) (v u : X) → (k ≡ l → ⊥) → insert (insert m k v) l u ≡ insert (insert m l u) k v
 insert-swap m k l v u other = same_map nat_cmp_total nat_cmp-IsAntisymmetric (insert (insert m k v) l u) (insert (insert m l u) k v) (λ q.
     elim (cases_eq q k) [
-      | inl e ↦
-          let off : q ≡ l → ⊥ = λ s. other (sym e ∙ s) in
-          get-there (insert m k v) l u q off ∙ (get-here m k v q e ∙ sym (get-here (insert m l u) k v q e))
+      | inl e ↦ grind (arith, e, get-there, get-here)
       | inr off ↦ elim (cases_eq q l) [
         | inl e ↦ get-here (insert m k v) l u q e ∙ sym (get-there (insert m l u) k v q off ∙ get-here m l u q e)
         | inr away ↦ get-there (insert m k v) l u q away ∙ (get-there m k v q off ∙ sym (get-there (insert m l u) k v q off ∙ get-there m l u q away))
@@ -34,10 +32,7 @@ insert-swap m k l v u other = same_map nat_cmp_total nat_cmp-IsAntisymmetric (in
 -- a member noted after the row came, or before
 pub noted-member : (t : Columns) (k : Key) (r : Row) (l : Key) (f : Entry → Entry) → is_there t l ≡ true → is_there t k ≡ false
     → put_entry l (f (entry_in (put_row k r t) l)) (put_row k r t) ≡ put_row k r (put_entry l (f (entry_in t l)) t)
-noted-member t k r l f there fresh =
-    let other : l.0 ≡ k.0 → ⊥ = apart t l k there fresh in
-    let same : entry_in (put_row k r t) l ≡ entry_in t l = ap (λ o. unwrap_or o no_entry) (row-keeps t k r l other) in
-    λ i. record (put_row k r t) { entries = (ap (λ e. insert (insert t.entries k.0 r.entry) l.0 (f e)) same ∙ insert-swap t.entries k.0 l.0 r.entry (f (entry_in t l)) (λ e. other (sym e))) i }
+noted-member t k r l f there fresh = grind (arith, apart, row-keeps, insert-swap)
 
 -- a sibling that is freed leaves the keys
 pub freed-keys : (t : Columns) (k : Key) → is_there t k ≡ true → (q : Key) → is_there (free_one t k) q ≡ is_there t q
@@ -73,12 +68,7 @@ pub next-behind : (contexts : List Leaders) (at : ℕ) (s : Key) (rest : List Ke
     → slice_set (slice_set contexts at (in_list false (λ keys. keys ++ s ∷ []) (slice_index_or contexts at no_leaders))) at
     (behind rest (slice_index_or (slice_set contexts at (in_list false (λ keys. keys ++ s ∷ []) (slice_index_or contexts at no_leaders))) at no_leaders))
     ≡ slice_set contexts at (behind (s ∷ rest) (slice_index_or contexts at no_leaders))
-next-behind contexts at s rest low =
-    let l : Leaders = slice_index_or contexts at no_leaders in
-    let more : Leaders = in_list false (λ keys. keys ++ s ∷ []) l in
-    set-again contexts at more (behind rest (slice_index_or (slice_set contexts at more) at no_leaders))
-    ∙ (ap (λ x. slice_set contexts at (behind rest x)) (get_or-set_same contexts at more no_leaders low)
-    ∙ ap (slice_set contexts at) (push-behind s rest l))
+next-behind contexts at s rest low = grind (arith, set-again, get_or-set_same, push-behind)
 
 pub split-rest : (xs : List Key) (i : ℕ) (d : Key) → i < length xs → drop i xs ≡ slice_index_or xs i d ∷ drop (i + 1) xs
 split-rest xs i d low = drop-cons xs i d low ∙ ap (λ n. slice_index_or xs i d ∷ drop n xs) (let e : suc i ≡ i + 1 = omega arith in e)
@@ -86,6 +76,4 @@ split-rest xs i d low = drop-cons xs i d low ∙ ap (λ n. slice_index_or xs i d
 -- some siblings go behind a list that lost a leader
 pub dropped-behind : (contexts : List Leaders) (at : ℕ) (l : Leaders) (keys : List Key) → at < length contexts
     → slice_set (slice_set contexts at l) at (behind keys (slice_index_or (slice_set contexts at l) at no_leaders)) ≡ slice_set contexts at (behind keys l)
-dropped-behind contexts at l keys low =
-    set-again contexts at l (behind keys (slice_index_or (slice_set contexts at l) at no_leaders))
-    ∙ ap (λ x. slice_set contexts at (behind keys x)) (get_or-set_same contexts at l no_leaders low)
+dropped-behind contexts at l keys low = grind (arith, set-again, get_or-set_same)

@@ -1,7 +1,7 @@
 -- Accounts that are turned, and those whose ways stay.
 use Rattle.std.specs.Prelude.{◌≡◌, ℕ, zero, suc, ◌+◌, ◌<◌, ◌≤◌, ◌==◌, Bool, true, false, ◌&&◌, List, [], ◌∷◌, ◌++◌, length, take, flat_map, Option, Some, None, IfSome, IfNone, slice_index_or, if◌then◌else◌}
 use Rattle.std.specs.{FinMap.{FinMap, get, contains_key, insert}, Option.{unwrap_or}, Ordering.{nat_cmp}}
-use Rattle.std.proofs.{Common.{arith, refl, sym, ap, subst, ◌∙◌, inl, inr}, lemmas.Bool.{cases_eq, cases_lt, cases_Bool, false≢true}}
+use Rattle.std.proofs.{Common.{arith, refl, sym, ap, subst, ◌∙◌, inl, inr}, lemmas.Bool.{cases_eq, cases_lt, false≢true}}
 use Rattle.std.proofs.{lemmas.{Bool.Decides.{nat_tests}, Grind.{flat_map-append}, List.{append-nil, get_or_past}}, Math.Seq.{take-suc}}
 use Rattle.perf_base.specs.declared.{lines.Work.{Work}, numbers.{CpuNo.{CpuNo}, Key.{Key}, TaskNo.{TaskNo}}, standing.Context.{Context}}
 use Rattle.perf_base.specs.declared.lines.CpuLine.TheVariants as cpu_line
@@ -26,9 +26,7 @@ stored-after t seen after e kept turned = subst (IsStored t) (sym e) (record { k
 -- where no way was turned
 pub stay-turned : (t new : Columns) (first now after : World) → first ≡ now → AreTurned t first → ((k : Key) → is_live after k ≡ true → way_in new k ≡ way_in t k)
     → ((k : Key) → is_live after k ≡ true → is_live now k ≡ true) → ((k : Key) → is_live after k ≡ true → KeepsWay now after k) → AreTurned new after
-stay-turned t new first now after view turned same lives keeps k live =
-    still-turned now after (way_in new k) k (keeps k live)
-    (subst (λ (u : Way). IsTurned now u k) (sym (same k live)) (subst (AreTurned t) view turned k (lives k live)))
+stay-turned t new first now after view turned same lives keeps k live = grind (arith, nat_tests, still-turned)
 
 -- where some were
 pub record Stays (t mid : Columns) (now after : World) (k : Key) : Type 0 where
@@ -40,10 +38,7 @@ pub settled-turned : (p : Places) (keys : List Key) (t mid new : Columns) (first
     → ((u : Way) (k : Key) → IsTurned (bare mid p) u k → IsTurned after u k)
     → ((k : Key) → is_live after k ≡ true → times k keys ≡ 0 → Stays t mid now after k) → AreTurned new after
 settled-turned p keys t mid new first now after view turned s transfers others k live = elim (cases_eq (times k keys) 0) [
-  | inl none ↦
-      let o : Stays t mid now after k = others k live none in
-      still-turned now after (way_in new k) k o.keeps
-      (subst (λ (u : Way). IsTurned now u k) (sym (s.others k none ∙ o.same)) (subst (AreTurned t) view turned k o.live))
+  | inl none ↦ grind (arith, nat_tests, none, still-turned)
   | inr some ↦ transfers (way_in new k) k (s.turned k (omega (arith, some)))
 ]
 
@@ -108,10 +103,7 @@ group-in t (q ∷ leaders) (suc i) d k low some =
 -- a part of an entry that a write keeps
 pub written-part : {X : Type 0} (f : Entry → X) (w : World) (k : Key) (e : Entry) → f e ≡ f (entry_at w k) → (j : Key)
     → f (unwrap_or (get (insert w.entries k.0 e) j.0) no_entry) ≡ f (entry_at w j)
-written-part f w k e same j = elim (cases_eq j.0 k.0) [
-  | inl here ↦ ap (λ o. f (unwrap_or o no_entry)) (get-here w.entries k.0 e j.0 here) ∙ (same ∙ ap (λ x. f (entry_at w x)) (sym (key-is j k here)))
-  | inr apart ↦ ap (λ o. f (unwrap_or o no_entry)) (get-there w.entries k.0 e j.0 apart)
-]
+written-part f w k e same j = grind (arith, nat_tests, get-here, key-is, get-there)
 
 -- In a kept world the leader of an event is there, and so are the members of groups.
 pub leader-live : (hw : Hardware) (w : World) (k : Key) → IsKept hw w → is_live w k ≡ true → is_live w (entry_at w k).leader ≡ true
@@ -143,10 +135,7 @@ own-only c cpu = refl
 
 pub task-nowhere : (running : List (Option TaskNo)) (task : TaskNo) → ((cpu : CpuNo) → slice_index_or running cpu.0 None ≡ Some task → ⊥) → (cpu : CpuNo)
     → is_task (slice_index_or running cpu.0 None) task ≡ false
-task-nowhere running task none cpu = elim (cases_Bool (is_task (slice_index_or running cpu.0 None) task)) [
-  | inl there ↦ absurd (none cpu (is_task-some (slice_index_or running cpu.0 None) task there))
-  | inr off ↦ off
-]
+task-nowhere running task none cpu = grind (arith, nat_tests, is_task-some)
 
 -- the tests of a way, part by part
 pub on-there : (ready stands there : Bool) → ((ready && stands) && there) ≡ ((ready && there) && stands)
@@ -224,10 +213,7 @@ module _ (hw : Hardware) (w : World) (h : IsKept hw w) (t : Columns) (contexts :
 
 -- a task on a processor has a number below 64
 live-below : (tasks : List TaskStatus) (n : ℕ) → is_live_task (slice_index_or tasks n unknown_task).state ≡ true → n < length tasks
-live-below tasks n live = elim (cases_lt n (length tasks)) [
-  | inl low ↦ low
-  | inr past ↦ absurd (false≢true (ap (λ t. is_live_task t.state) (sym (get_or_past tasks n unknown_task past)) ∙ live))
-]
+live-below tasks n live = grind (arith, nat_tests, cases_lt, false≢true, get_or_past)
 
 pub running-below : (hw : Hardware) (w : World) (cpu : CpuNo) (o : Option TaskNo) → IsKept hw w → o ≡ task_on (stage_of w) cpu → IfSome o (λ t. t.0 < 64)
 running-below hw w cpu None h on = tt

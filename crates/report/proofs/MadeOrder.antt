@@ -81,16 +81,7 @@ complete_law n = record { cpus = λ cpu. cpu-lines n cpu.0; tools = λ tool. too
 -- how many acts it has
 pub order_length : (n : ℕ) → length (script_of_rounds n).order ≡ 16 * n + 36
 unfolding script_of_rounds
-order_length n =
-    let middle : List Act = for_each_all (4 * n) (λ line. all_processors) in
-    omega (
-      arith,
-      length-append (replicate 20 of_tool ++ middle) (replicate 16 of_tool),
-      length-append (replicate 20 of_tool) middle,
-      length-replicate 20 of_tool,
-      length-replicate 16 of_tool,
-      length_of_fours (λ line. all_processors) (λ line. refl) (4 * n),
-    )
+order_length n = grind (arith, length-append, length-replicate, length_of_fours)
 
 -- an act that is no look
 abbrev IsLine : Act → Type 0

@@ -1,13 +1,13 @@
 -- The totals by the numbers and the words of rings are those of their accounts.
 use Rattle.std.specs.Prelude.{◌≡◌, ℕ, suc, ◌+◌, ◌/◌, ◌<◌, List, [], ◌∷◌, ◌++◌, All, length, map, sum_by, take}
-use Rattle.std.proofs.{Common.{arith, refl, sym, ap, ◌∙◌, length-append, get_or}, lemmas.List.{Concat.{flat_map-cons}, Elements.{All-tail}}}
+use Rattle.std.proofs.{Common.{arith, refl, ap, ◌∙◌, length-append, get_or}, lemmas.List.{Concat.{flat_map-cons}, Elements.{All-tail}}}
 use Rattle.std.proofs.{lemmas.List.{Folds.{fold-map}, Sums.{sum_by-cons, sum_by_more}}, Math.Seq.{drop-append_seam}}
-use Rattle.perf_base.specs.{declared.numbers.RingNo.{RingNo}, Scripts.{line_count}}
+use Rattle.perf_base.specs.{declared.numbers.RingNo.{RingNo}}
 use Rattle.sample_ring.specs.declared.sent.RingNumbers.{RingNumbers}
 use Rattle.ring_spec.specs.{Account.{Account}, Records.{Record, IsRecord, record_words, words_of}, Whole.{IsBlock, size_field}}
 use Rattle.ring_spec.proofs.Cutting.{block-of}
-use Rattle.run_end.specs.{Ended.{Ran, words_in}, declared.ended.RingEnd.{RingEnd}}
-use Rattle.report.specs.{Told.{AreTold, IsTold, cut, cut_records, rings_of}, Summary.{first_word, ran_totals, totals_of}}
+use Rattle.run_end.specs.{Ended.{Ran}}
+use Rattle.report.specs.{Told.{AreTold, IsTold, cut, cut_records, rings_of}, Summary.{ran_totals, totals_of}}
 use Rattle.report.proofs.Told.{first_cut_at}
 
 -- no words are no records
@@ -22,8 +22,7 @@ block_counts [] rest h = absurd h
 block_counts (first ∷ others) rest h =
     let k : ℕ = suc (length others) in
     let size : k ≡ size_field first / 8 = omega (arith, h) in
-    ap length (first_cut_at (first ∷ (others ++ rest)) k k (omega arith) size (omega (arith, length-append others rest)))
-    ∙ ap (λ t. suc (length (cut_records t))) (drop-append_seam (first ∷ others) rest)
+    grind (arith, first_cut_at, k, size, length-append, drop-append_seam)
 
 -- the words of records are cut into as many
 count_of_words : (records : List Record) → All IsRecord records → length (cut_records (words_of records)) ≡ length records
@@ -70,11 +69,7 @@ sum_by-map f g xs = fold-map (λ n x. n + f x) g 0 xs
 -- the totals of a run
 pub ran_accounts : (r : Ran) (accounts : List (RingNo × Account)) → AreTold (rings_of r) accounts
     → ran_totals r ≡ totals_of r.script r.answers accounts
-ran_accounts r accounts h =
-    let told : RingEnd → RingNo × RingNumbers × List ℕ = λ e. (e.ring, e.numbers, words_in r.ins e.ring) in
-    let records = sym (sum_by-map told_written told r.ends) ∙ all_written (map told r.ends) accounts h in
-    let lost = sym (sum_by-map told_lost told r.ends) ∙ all_lost (map told r.ends) accounts h in
-    λ i. record { lines = line_count r.script; sum = sum_by (λ a. first_word a.reply) r.answers; records = records i; lost = lost i }
+ran_accounts r accounts h = grind (arith, sum_by-map, all_written, all_lost)
 
 -- one entry more
 pub sum_one_more : {X : Type 0} (f : X → ℕ) (xs : List X) (i : ℕ) (d : X) (sum n : ℕ) → i < length xs → sum ≡ sum_by f (take i xs) → n ≡ f (get_or xs i d) → sum + n ≡ sum_by f (take (i + 1) xs)

@@ -7,8 +7,7 @@ use Rattle.sample_ring.specs.{RingLists.{InList}, declared.sent.RingNumbers.{Rin
 use Rattle.run_end.specs.{declared.ended.RingEnd.{RingEnd}, Ended.{words_in}}
 use Rattle.ring_spec.specs.{Account.{Account, head_of}, Records.{Record, IsRecord, record_words, record_size, words_of}, Whole.{IsBlock, size_field}}
 use Rattle.ring_spec.proofs.Cutting.{block-of}
-use Rattle.report_spec.specs.Report.{answer_lines, hexadecimal_digits, record_lines, report, ring_lines}
-use Rattle.script_spec.specs.Acts.{acts_text}
+use Rattle.report_spec.specs.Report.{hexadecimal_digits, record_lines, report, ring_lines}
 use Rattle.report.specs.Told.{AreTold, IsTold, all_told, cut, cut_lines, cut_records, told_lines, told_report, words_behind, words_line, words_text}
 use Rattle.script_print.proofs.Loops.{IsText}
 
@@ -33,11 +32,7 @@ cut_enough (suc n) (suc m) (first ∷ others) a b =
 first_cut : (first : ℕ) (others : List ℕ) (k : ℕ) → k ≡ suc (min (words_behind first) (length others))
     → cut_records (first ∷ others) ≡ take k (first ∷ others) ∷ cut_records (drop k (first ∷ others))
 unfolding cut
-first_cut first others k e =
-    let b = words_behind first in
-    let fewer : length (drop b others) ≡ length others - b = length-drop b others in
-    let rest : cut (length others) (drop b others) ≡ cut_records (drop b others) = cut_enough (length others) (length (drop b others)) (drop b others) (omega (arith, fewer)) (omega arith) in
-    rw (e, take_min b others, drop_min b others, rest) refl
+first_cut first others k e = grind (arith, length-drop, cut_enough, take_min, drop_min)
 
 pub first_cut_at : (words : List ℕ) (size k : ℕ) → 0 < length words → size ≡ size_field (get_or words 0 0) / 8 → k ≡ max 1 (min size (length words))
     → cut_records words ≡ take k words ∷ cut_records (drop k words)
@@ -73,14 +68,11 @@ cut_words : (n : ℕ) (records : List Record) → All IsRecord records → lengt
 unfolding cut
 cut_words zero [] all l = refl
 cut_words (suc n) [] all l = refl
-cut_words zero (r ∷ records) all l =
-    let h = block-of r (all 0 r (omega arith)) in
-    absurd (omega (arith, l, some_words (record_words r) h, length-append (record_words r) (words_of records), ap length (flat_map-cons record_words r records)))
+cut_words zero (r ∷ records) all l = grind (arith, block-of, some_words, length-append, flat_map-cons)
 cut_words (suc n) (r ∷ records) all l =
     let h = block-of r (all 0 r (omega arith)) in
     let fewer : length (words_of records) ≤ n = omega (arith, l, some_words (record_words r) h, length-append (record_words r) (words_of records), ap length (flat_map-cons record_words r records)) in
-    ap (cut (suc n)) (flat_map-cons record_words r records) ∙ (cut_block n (record_words r) (words_of records) h
-    ∙ ap (λ t. record_words r ∷ t) (cut_words n records (All-tail IsRecord r records all) fewer))
+    grind (arith, flat_map-cons, cut_block, All-tail, fewer, cut_words n records (All-tail IsRecord r records all) fewer)
 
 -- the lines of records by their words
 lines_by_words : (tail place : ℕ) (records : List Record) → cut_lines tail place (map record_words records) ≡ record_lines tail place records
@@ -113,12 +105,10 @@ pub told_accounts : (rings : List (RingNo × RingNumbers × List ℕ)) (accounts
 told_accounts [] [] h = refl
 told_accounts [] (a ∷ accounts) h = absurd h
 told_accounts (r ∷ rings) [] h = absurd h
-told_accounts (r ∷ rings) (a ∷ accounts) h =
-    ap (λ t. t ++ all_told rings) (ap (λ number. told_lines number r.1 r.2) h.0 ∙ told_account a.0 r.1 r.2 a.1 h.1) ∙ ap (λ t. ring_lines a ++ t) (told_accounts rings accounts h.2)
+told_accounts (r ∷ rings) (a ∷ accounts) h = grind (arith, told_account, told_accounts rings accounts h.2)
 
 -- the report with its rings
 pub told_whole : (s : Scripted) (order : List Act) (answers : List Answer) (rings : List (RingNo × RingNumbers × List ℕ)) (accounts : List (RingNo × Account))
     → AreTold rings accounts → told_report s order answers rings ≡ report s order answers accounts
 unfolding report
-told_whole s order answers rings accounts h =
-    ap (λ t. codes "order" ++ acts_text order ++ 10 ∷ [] ++ answer_lines s answers ++ t ++ codes "end" ++ 10 ∷ []) (told_accounts rings accounts h)
+told_whole s order answers rings accounts h = grind (arith, told_accounts)

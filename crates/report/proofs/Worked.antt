@@ -1,6 +1,6 @@
 -- Totals, worked out by hand: sums of more than 64 bits, and words that are no records, which no run leaves.
 use Rattle.std.{specs.Prelude.{◌≡◌, ℕ, List, [], ◌∷◌, length, sum_by}, proofs.Common.{refl}}
-use Rattle.perf_base.specs.declared.{acts.Actor.{Actor}, reply.{Answer.{Answer}, Reply.{Reply}}}
+use Rattle.perf_base.specs.declared.{reply.{Answer.{Answer}, Reply.{Reply}}}
 use Rattle.perf_base.specs.declared.acts.Actor.TheVariants as actor
 use Rattle.perf_base.specs.declared.reply.Reply.TheVariants as reply
 use Rattle.run_end.specs.declared.ended.RingEnd.{RingEnd}

@@ -13,12 +13,7 @@ looks_from-append : (s : Scripted) (before front rest : List Act) (e : EventNo)
     → looks_from s before (front ++ rest) e ≡ looks_from s before front e ++ looks_from s (before ++ front) rest e
 unfolding looks_from
 looks_from-append s before [] rest e = ap (λ done. looks_from s done rest e) (sym (append-nil before))
-looks_from-append s before (a ∷ front) rest e =
-    let regrouped : (before ++ a ∷ []) ++ front ≡ before ++ a ∷ front = append_assoc before (a ∷ []) front in
-    let now : List Look = looks_by s before a e in
-    let more : List Look = looks_from s (before ++ a ∷ []) front e in
-    ap (λ looks. now ++ looks) (looks_from-append s (before ++ a ∷ []) front rest e)
-    ∙ (ap (λ done. now ++ (more ++ looks_from s done rest e)) regrouped ∙ sym (append_assoc now more (looks_from s (before ++ a ∷ front) rest e)))
+looks_from-append s before (a ∷ front) rest e = grind (arith, append_assoc, looks_from-append s (before ++ a ∷ []) front rest e)
 
 pub no-acts : NoActsLaw
 unfolding published_looks looks_from
@@ -48,9 +43,7 @@ Rises looks = AllPairs (λ a b. a.at < b.at) looks
 within-more : (b : Bool) (first last : ℕ) (look : Look) (rest : List Look) → look.at ≡ first + 1 → first + 1 ≤ last → All (IsWithin (first + 1) last) rest
     → All (IsWithin first last) (looks_if b look ++ rest)
 within-more false first last look rest is room h = λ k d inside. (omega (arith, (h k d inside).0), (h k d inside).1)
-within-more true first last look rest is room h =
-    let after : All (IsWithin first last) rest = λ k d inside. (omega (arith, (h k d inside).0), (h k d inside).1) in
-    All-cons (IsWithin first last) look rest (omega (arith, is), omega (arith, is, room)) after
+within-more true first last look rest is room h = grind (arith, All-cons)
 
 rises-more : (b : Bool) (first last : ℕ) (look : Look) (rest : List Look) → look.at ≡ first + 1 → All (IsWithin (first + 1) last) rest → Rises rest
     → Rises (looks_if b look ++ rest)
@@ -66,8 +59,7 @@ within-from s before [] e last room = λ k d inside. absurd (omega (arith, insid
 within-from s before (a ∷ acts) e last room =
     let long : length (before ++ a ∷ []) ≡ length before + 1 = omega (arith, length-append before (a ∷ [])) in
     let rest : All (IsWithin (length (before ++ a ∷ [])) last) (looks_from s (before ++ a ∷ []) acts e) = within-from s (before ++ a ∷ []) acts e last (omega (arith, long, room)) in
-    within-more (publishes s before a e) (length before) last (look_after s (before ++ a ∷ []) e) (looks_from s (before ++ a ∷ []) acts e) long (omega (arith, room))
-    (subst (λ n. All (IsWithin n last) (looks_from s (before ++ a ∷ []) acts e)) long rest)
+    grind (arith, within-more, long, rest)
 
 rises-from : (s : Scripted) (before acts : List Act) (e : EventNo) → Rises (looks_from s before acts e)
 unfolding looks_from
@@ -76,8 +68,7 @@ rises-from s before (a ∷ acts) e =
     let long : length (before ++ a ∷ []) ≡ length before + 1 = omega (arith, length-append before (a ∷ [])) in
     let last : ℕ = length (before ++ a ∷ []) + length acts in
     let rest : All (IsWithin (length (before ++ a ∷ [])) last) (looks_from s (before ++ a ∷ []) acts e) = within-from s (before ++ a ∷ []) acts e last (omega arith) in
-    rises-more (publishes s before a e) (length before) last (look_after s (before ++ a ∷ []) e) (looks_from s (before ++ a ∷ []) acts e) long
-    (subst (λ n. All (IsWithin n last) (looks_from s (before ++ a ∷ []) acts e)) long rest) (rises-from s (before ++ a ∷ []) acts e)
+    grind (arith, rises-more, last, long, rest, rises-from s (before ++ a ∷ []) acts e)
 
 pub rises : RisesLaw
 unfolding published_looks
@@ -105,16 +96,11 @@ follows s order a e =
 -- a look that an act publishes is the one after it
 if-there : (b : Bool) (look x : Look) → Contains (looks_if b look) x → (b ≡ true) × (x ≡ look)
 if-there false look x h = absurd (omega (arith, h.1))
-if-there true look x h = elim (Contains-push_cases [] look x h) [
-  | inl none ↦ absurd (omega (arith, none.1))
-  | inr is ↦ (refl, sym is)
-]
+if-there true look x h = grind (arith, Contains-push_cases)
 
 -- so each look of some acts is by one of them
 here-by : (s : Scripted) (order before acts : List Act) (a : Act) (e : EventNo) (look : Look) → order ≡ before ++ a ∷ acts → Contains (looks_by s before a e) look → IsPublished s order e look
-here-by s order before acts a e look is h =
-    let here = if-there (publishes s before a e) (look_after s (before ++ a ∷ []) e) look h in
-    record { before = before; a = a; after = acts; order_is = is; published = here.0; look_is = here.1 }
+here-by s order before acts a e look is h = grind (arith, if-there)
 
 by-one : (s : Scripted) (order before acts : List Act) (e : EventNo) (look : Look) → order ≡ before ++ acts → Contains (looks_from s before acts e) look → IsPublished s order e look
 unfolding looks_from

@@ -25,8 +25,7 @@ work-few period slots hw s left clock cpu w pos h one =
     let each : Each (λ i. length (sent_by_family (original_of s i.event) s cpu w clock (overflows_by w (left i.id) i) i) ≤ cond (is_reached slots i) n 0) on =
     weaker-Each (IsSampled period slots s) (λ i. length (sent_by_family (original_of s i.event) s cpu w clock (overflows_by w (left i.id) i) i) ≤ cond (is_reached slots i) n 0)
     (λ i k. family-few period (original_of s i.event) s cpu w clock (left i.id) i (is_reached slots i) pos k.sampling) on (on_instances-in (IsSampled period slots s) hw s cpu h.each) in
-    let all : length (sent_at hw s left clock cpu w) ≤ count_by (is_reached slots) on * n =
-    length-most (λ i. sent_by_family (original_of s i.event) s cpu w clock (overflows_by w (left i.id) i) i) (is_reached slots) n on each in
+    let all : length (sent_at hw s left clock cpu w) ≤ count_by (is_reached slots) on * n = grind (arith, length-most) in
     let families : count_by (is_reached slots) on ≤ length slots = one_each slots on (λ e. omega (arith, on-reached (is_of_family e) hw s cpu, one cpu e)) in
     let most : count_by (is_reached slots) on * n ≤ length slots * n = mul-le-mul_right n families in
     omega (arith, all, most)
@@ -60,8 +59,7 @@ few-from hw first period before [] slots pos least one h = omega arith
 few-from hw first period before (x ∷ steps) slots pos least one h =
     let s : Stage = stage_after hw first before in
     let here : IsOneReached s = subst (λ b. IsOneReached (stage_after hw first b)) (append-nil before) (one [] (x ∷ steps) refl) in
-    let now : length (sent_by_step hw s (remainder_of hw first before) (clock_of before) x) ≤ length slots * shares_by period x =
-    step-few period slots hw s (remainder_of hw first before) (clock_of before) x pos h here in
+    let now : length (sent_by_step hw s (remainder_of hw first before) (clock_of before) x) ≤ length slots * shares_by period x = search (step-few) in
     let next : Next period slots (opens_by x) (stage_step hw s x) = step-next period slots hw s x h (least 0 x (omega arith)) in
     let later : Sampled period next.slots_now (stage_after hw first (before ++ x ∷ [])) = subst (Sampled period next.slots_now) (sym (stage_after-push hw first before x)) next.sampled in
     let rest : length (sent_from hw first (before ++ x ∷ []) steps) ≤ (length next.slots_now + count_by opens_by steps) * sum_by (shares_by period) steps =

@@ -1,20 +1,18 @@
 -- What is lost and where heads stand: few, over the orders of a script.
 use Rattle.std.specs.Prelude.{◌≡◌, ℕ, suc, ◌+◌, ◌*◌, ◌≤◌, ◌==◌, All, Bool, true, false, cond, List, [], ◌∷◌, length, sum_by, count_by, ◌≢◌, ◌<◌, AllPairs, filter, slice_index_or}
-use Rattle.std.proofs.{Common.{arith, refl, ap, sym, subst, inl, inr, ◌∙◌}, lemmas.List.{length-append, length-map, Elements.{All-head, All-tail}}}
+use Rattle.std.proofs.{Common.{arith, refl, ap, sym, inl, inr, ◌∙◌}, lemmas.List.{length-append, length-map, Elements.{All-head, All-tail}}}
 use Rattle.std.proofs.lemmas.{List.Sums.{sum_by-cons, sum_by-le-sum_by, length-filter, count_by-le-length}, Bool.{cases_eq, Decides.{nat_tests}}}
 use Rattle.perf_base.specs.declared.numbers.{EventNo.{EventNo}, RingNo.{RingNo}}
 use Rattle.stage_spec.specs.{Hardware.{Hardware, hardware_of}, Stage.{Stage}, History.{Step, history, opening_stage}}
 use Rattle.ring_spec.specs.{Sending.{SentSample, sent_by_steps}, Records.{Record, record_words, record_size, words_of}}
-use Rattle.ring_spec.specs.Account.{RingEvent, Sends, account, is_sent, is_event, lost_of}
+use Rattle.ring_spec.specs.Account.{RingEvent, Sends, is_sent, lost_of}
 use Rattle.ring_spec.{specs.Rings.{is_to, events_of, account_of, lost_count, account_in}, proofs.{Conserved.{sent_law}, Rings.{sends_law}}}
 use Rattle.ring_laws.{specs.Losses.{FewLostLaw, FewLostOfScriptLaw, HeadsLaw, SmallHeadsLaw}, proofs.Orders.{few_of_script, few_words}}
 use Rattle.ring_laws.proofs.Reached.{count-one}
 
 -- A record goes to one ring at most.
 apart-none : (a b : ℕ) → a ≢ b → cond (a == b) 1 0 ≤ 0
-apart-none a b h =
-    let differs : (a == b) ≡ false = grind (arith, nat_tests, h) in
-    subst (λ t. cond t 1 0 ≤ 0) (sym differs) (omega arith)
+apart-none a b h = grind (arith, nat_tests)
 
 none_of : (n : ℕ) (rings : List (RingNo × ℕ)) → All (λ r. n ≢ r.0.0) rings → count_by (λ (r : RingNo × ℕ). n == r.0.0) rings ≡ 0
 none_of n [] h = refl
@@ -67,14 +65,7 @@ lost_on hw s steps e ring =
     let events : List RingEvent = events_of hw s steps ring.0 in
     let sents : List (RingNo × SentSample) = filter (is_to ring.0) (sent_by_steps hw s steps) in
     let sends : length (filter is_sent events) ≡ length sents = ap length (sends_law hw s steps ring.0) ∙ length-map sents (λ (sent : RingNo × SentSample). Sends sent.1) in
-    omega (
-      arith,
-      sends,
-      sent_law ring.1 events,
-      length-filter is_sent events,
-      length-filter (is_to ring.0) (sent_by_steps hw s steps),
-      count_by-le-length (is_event e) (account ring.1 events).lost,
-    )
+    grind (arith, nat_tests, sends, sent_law, events, length-filter, count_by-le-length)
 
 pub few_lost : FewLostLaw
 unfolding lost_count

@@ -1,7 +1,7 @@
 -- The lines that an order does are lines of the script, each once.
 use Rattle.std.specs.Prelude.{◌≡◌, ℕ, zero, suc, ◌+◌, ◌*◌, ◌<◌, ◌≤◌, ◌⊎◌, ◌==◌, true, All, List, [], ◌∷◌, ◌++◌, length, drop, sum_by, count_by, Option, Some, None, slice_get, slice_index_or, unwrap_or, cond}
 use Rattle.std.proofs.{Common.{arith, refl, sym, ap, subst, ◌∙◌, inl, inr}, Math.{Nat.{mul-le-mul, mul-le-mul_right}, Path.{fun_ext}}}
-use Rattle.std.proofs.lemmas.{Bool.{cases_eq, cases_lt, Decides.{nat_tests}}, Option.{slice_get_within}}
+use Rattle.std.proofs.lemmas.{Bool.{cases_lt, Decides.{nat_tests}}, Option.{slice_get_within}}
 use Rattle.std.proofs.lemmas.List.{Elements.{All-append, All-cons, All-head, All-nil, All-tail, All-weaker}, Sums.{sum_by-append, sum_by-cons}}
 use Rattle.perf_base.specs.declared.{numbers.{CpuNo.{CpuNo}, ToolNo.{ToolNo}}, acts.Act.{Act}, lines.{CpuLine.{CpuLine}, ToolLine.{ToolLine}}}
 use Rattle.perf_base.specs.Scripts.{Scripted, lines_of_cpu, IsScript, IsCpuLine, IsToolLine}
@@ -27,9 +27,7 @@ drop-none (suc n) = refl
 
 one_line : {X : Type 0} (g : X → ℕ) (lines : List X) (n : ℕ) (line : X) → slice_get lines n ≡ Some line → g line + sum_by g (drop (suc n) lines) ≤ sum_by g (drop n lines)
 one_line g [] n line e = let l : n < 0 = slice_get_within [] n line e in absurd (omega arith)
-one_line g (x ∷ lines) zero line e =
-    let same : x ≡ line = ap (λ o. unwrap_or o x) e in
-    rw (← same) (omega (arith, sum_by-cons g x lines))
+one_line g (x ∷ lines) zero line e = grind (arith, nat_tests, sum_by-cons)
 one_line g (x ∷ lines) (suc n) line e = one_line g lines n line e
 
 fewer_lines : {X : Type 0} (g : X → ℕ) (lines : List X) (n m : ℕ) → n ≤ m → sum_by g (drop m lines) ≤ sum_by g (drop n lines)
@@ -49,9 +47,7 @@ step_left : {X : Type 0} (g : X → ℕ) (lists : List (List X)) (n : ℕ) (done
     → slice_get (slice_index_or lists n []) (done n) ≡ Some line → g line + left_in g later lists ≤ left_in g done lists
 unfolding left_in
 step_left g [] n done later line now more e = let l : done n < 0 = slice_get_within [] (done n) line e in absurd (omega arith)
-step_left g (lines ∷ lists) zero done later line now more e =
-    let here : sum_by g (drop (later 0) lines) ≡ sum_by g (drop (suc (done 0)) lines) = ap (λ n. sum_by g (drop n lines)) now in
-    omega (arith, here, one_line g lines (done 0) line e, fewer_left g lists (λ i. done (suc i)) (λ i. later (suc i)) (λ i. more (suc i)))
+step_left g (lines ∷ lists) zero done later line now more e = grind (arith, nat_tests, one_line, fewer_left)
 step_left g (lines ∷ lists) (suc n) done later line now more e =
     omega (arith, fewer_lines g lines (done 0) (later 0) (more 0), step_left g lists n (λ i. done (suc i)) (λ i. later (suc i)) line now (λ i. more (suc i)) e)
 
@@ -163,10 +159,7 @@ abbrev IsAbove : ℕ → ℕ → Type 0
 IsAbove least n = (n ≡ 0) ⊎ ((0 < least) × (least ≤ n))
 
 first_least : (a b : ℕ) → IsAbove (lesser a b) a
-first_least a b = elim (cases_eq a 0) [
-  | inl e ↦ inl e
-  | inr e ↦ inr (grind (arith, nat_tests, e), grind (arith, nat_tests, e))
-]
+first_least a b = grind (arith, nat_tests)
 
 then_least : (a b n : ℕ) → IsAbove b n → IsAbove (lesser a b) n
 then_least a b n (inl e) = inl e
@@ -184,9 +177,7 @@ least_of f (y ∷ xs) (suc n) x e = then_least (f y) (least_by f xs) (f x) (leas
 
 least_in : (lists : List (List ToolLine)) (i n : ℕ) (line : ToolLine) → slice_get (slice_index_or lists i []) n ≡ Some line → IsAbove (least_by (least_by period_of) lists) (period_of line)
 least_in [] i n line e = let l : n < 0 = slice_get_within [] n line e in absurd (omega arith)
-least_in (lines ∷ lists) zero n line e =
-    above_both (least_by (least_by period_of) (lines ∷ lists)) (least_by period_of lines) (period_of line)
-    (first_least (least_by period_of lines) (least_by (least_by period_of) lists)) (least_of period_of lines n line e)
+least_in (lines ∷ lists) zero n line e = grind (arith, nat_tests, above_both, first_least, least_of)
 least_in (lines ∷ lists) (suc i) n line e = then_least (least_by period_of lines) (least_by (least_by period_of) lists) (period_of line) (least_in lists i n line e)
 
 abbrev AreAbove : ℕ → List Step → Type 0

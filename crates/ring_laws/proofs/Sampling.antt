@@ -137,13 +137,7 @@ opened_uses s slot e a leader same =
 
 -- one slot more that samples
 with_slot : (period : ℕ) (slots : List EventNo) (s t : Stage) (slot : EventNo) → Draws s t → is_used s slot ≡ false → (i : Instance) → IsSampled period slots s i → IsSampled period (slot ∷ slots) t i
-with_slot period slots s t slot h unused i k =
-    let other : (i.event.0 == slot.0) ≡ false = none_there s slot i.event unused k.used in
-    let same : is_reached (slot ∷ slots) i ≡ is_reached slots i = ap (λ b. b || is_reached slots i) other in
-    record {
-      used = still_used s t h i.event k.used;
-      sampling = record { hardware = λ m. k.sampling.hardware (sym same ∙ m); none = λ m. k.sampling.none (sym same ∙ m); least = k.sampling.least };
-    }
+with_slot period slots s t slot h unused i k = grind (arith, nat_tests)
 
 -- the slots that sample after a step, at most one more where it opens an event with a period
 pub record Next (period : ℕ) (slots : List EventNo) (more : Bool) (s : Stage) : Type 0 where

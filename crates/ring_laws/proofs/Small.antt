@@ -38,13 +38,7 @@ lines_counted (ToolStep line ∷ steps) = omega (
   sum_by-cons (by_tools one_tool) (ToolStep line) steps,
   sum_by-cons (by_cpus one_cpu) (ToolStep line) steps,
 )
-lines_counted (SeenStep ring place ∷ steps) = omega (
-  arith,
-  lines_counted steps,
-  count-cons is_line (SeenStep ring place) steps,
-  sum_by-cons (by_tools one_tool) (SeenStep ring place) steps,
-  sum_by-cons (by_cpus one_cpu) (SeenStep ring place) steps,
-)
+lines_counted (SeenStep ring place ∷ steps) = grind (arith, count-cons, sum_by-cons, by_tools, by_cpus, lines_counted steps)
 
 lines_done : (s : Scripted) (order : List Act) → count_by is_line (history s order) ≤ line_count s
 lines_done s order = omega (

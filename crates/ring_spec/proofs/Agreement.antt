@@ -1,5 +1,5 @@
 -- Records that agree go on agreeing, and answer alike.
-use Rattle.std.specs.Prelude.{◌↔◌, ◌≡◌, ℕ, ◌+◌, ◌==◌, ◌⊎◌, Bool, true, false, List, [], ◌∷◌, map, filter, fold, flat_map, length, nat_le, Option, Some, None, drop}
+use Rattle.std.specs.Prelude.{◌↔◌, ◌≡◌, ℕ, ◌+◌, ◌==◌, ◌⊎◌, Bool, true, false, List, [], ◌∷◌, map, fold, flat_map, length, nat_le, Option, Some, None, drop}
 use Rattle.std.{specs.List.{list_any}, proofs.{Common.{arith, refl, sym, ap, subst, ◌∙◌, inl, inr, get_or}, lemmas.Bool.Decides.{nat_tests}}}
 use Rattle.std.proofs.lemmas.List.{length-append}
 use Rattle.perf_base.specs.declared.{numbers.{CpuNo.{CpuNo}, EventNo.{EventNo}, RingNo.{RingNo}}, lines.{CpuLine.{CpuLine}, ToolLine.{ToolLine}}}
@@ -8,7 +8,7 @@ use Rattle.perf_base.specs.declared.lines.CpuLine.TheVariants as cpu_line
 use Rattle.perf_base.specs.declared.lines.ToolLine.TheVariants as tool_line
 use Rattle.perf_base.specs.declared.reply.Reply.TheVariants as reply
 use Rattle.stage_spec.specs.{declared.instance.Instance.{Instance}, Hardware.{Hardware}}
-use Rattle.stage_spec.specs.Stage.{Stage, Group, members_of, all_groups, all_instances, is_original, is_of_family, is_open, original_of, group_of}
+use Rattle.stage_spec.specs.Stage.{Stage, Group, members_of, all_groups, all_instances, is_original, is_open, original_of, group_of}
 use Rattle.stage_spec.specs.{Verdict.{on_instances}, Opening.{is_used}, History.{Step, CpuStep, ToolStep, SeenStep, tool_refusal, stage_step}}
 use Rattle.stage_spec.specs.{Families.{plus_each, leaving}, Remainders.{left_by, left_by_hits, left_by_period, new_period, instance_of}}
 use Rattle.stage_spec.specs.Reading.{read_words, read_words_of, words_in, words_by, words_of_group, words_of_member, words_unless_error, has_format, is_error}
@@ -16,7 +16,7 @@ use Rattle.stage_spec.specs.{Effective.{state_in}, Replies.{IsAnswerAt, IsToolRe
 use Rattle.stage_spec.proofs.{Each.{Each, head-Each, weaker-Each, filter-Each, InGroup, InStage}, Carried.{IsOfName, step-in}}
 use Rattle.stage_spec.proofs.{Inside.{all_instances-in, InStage-from_all}, Parts.{joined-Each}}
 use Rattle.stage_spec.proofs.{Present.{on_instances-in, leaving-in, Found, any-found, find-holds, find-any, each_at, each_there}, Drawn.{step-draws}}
-use Rattle.ring_spec.specs.Sending.{SentSample, sent_by_step, sent_by_line, sent_at, sent_by_family, overflows_by, length_by}
+use Rattle.ring_spec.specs.Sending.{SentSample, sent_by_step, sent_by_line, sent_at, length_by}
 use Rattle.ring_spec.specs.Account.{RingEvent, Sends, Looks, Account, ring_step, lost_by, lost_among, written_to, lost_to, need_of, room_of}
 use Rattle.ring_spec.specs.{Rings.{events_by}, Running.{RingAccount, Running, ring_after, losses_on, record_after, family_by, IsAnswerBy}}
 use Rattle.ring_spec.specs.Agreement.{lives, IsCurrentId, IsCurrentSlot, RingView, view_of, Agree, StepAgreesLaw, AreFamiliesOpen, AnswerAgreesLaw}
@@ -96,9 +96,7 @@ earlier_slot hw s x e (inl opened) =
 -- the records that a step sends
 hits-same : (hw : Hardware) (s : Stage) (left other : ℕ → ℕ) (clock : ℕ) (cpu : CpuNo) (w : Work) → Each (λ i. left i.id ≡ other i.id) (on_instances hw s cpu)
     → sent_at hw s left clock cpu w ≡ sent_at hw s other clock cpu w
-hits-same hw s left other clock cpu w h =
-    flat_map-same (λ i. sent_by_family (original_of s i.event) s cpu w clock (overflows_by w (left i.id) i) i) (λ i. sent_by_family (original_of s i.event) s cpu w clock (overflows_by w (other i.id) i) i)
-    (on_instances hw s cpu) (weaker-Each (λ i. left i.id ≡ other i.id) _ (λ i e. ap (λ n. sent_by_family (original_of s i.event) s cpu w clock (overflows_by w n i) i) e) (on_instances hw s cpu) h)
+hits-same hw s left other clock cpu w h = grind (arith, nat_tests, flat_map-same, weaker-Each)
 
 line-same : (hw : Hardware) (s : Stage) (left other : ℕ → ℕ) (clock now : ℕ) (cpu : CpuNo) (line : CpuLine) → Each (λ i. left i.id ≡ other i.id) (on_instances hw s cpu) → clock ≡ now
     → sent_by_line hw s left clock cpu line ≡ sent_by_line hw s other now cpu line
@@ -148,8 +146,7 @@ lost-nameless bytes a (Sends sent) = refl
 fold-nameless : (bytes : ℕ) (a : Account) (events : List RingEvent) → nameless (fold (ring_step bytes) a events) ≡ nameless (fold (ring_step bytes) (nameless a) events)
 fold-nameless bytes a [] = refl
 fold-nameless bytes a (x ∷ events) =
-    fold-nameless bytes (ring_step bytes a x) events
-    ∙ (ap (λ b. nameless (fold (ring_step bytes) b events)) (step-nameless bytes a x) ∙ sym (fold-nameless bytes (ring_step bytes (nameless a) x) events))
+    grind (arith, nat_tests, fold-nameless bytes (ring_step bytes a x) events, fold-nameless bytes (ring_step bytes (nameless a) x) events)
 
 among-nameless : (bytes : ℕ) (a : Account) (events : List RingEvent) → lost_among bytes a events ≡ lost_among bytes (nameless a) events
 among-nameless bytes a [] = refl
@@ -168,26 +165,13 @@ ring-view : (x : Step) (sents : List (RingNo × SentSample)) (a : RingAccount)
     let after : Account = nameless (fold (ring_step v.bytes) (shown v) events) in
     let now : RingView = record { ring = v.ring; bytes = v.bytes; written = after.written; pending = after.pending; lost = v.lost + length (lost_among v.bytes (shown v) events); tail = after.tail } in
     view_of (ring_after x sents a) ≡ now
-ring-view x sents a =
-    let events : List RingEvent = events_by x sents a.ring in
-    let same : nameless (fold (ring_step a.bytes) a.account events) ≡ nameless (fold (ring_step a.bytes) (nameless a.account) events) = fold-nameless a.bytes a.account events in
-    let losses : length (fold (ring_step a.bytes) a.account events).lost ≡ length a.account.lost + length (lost_among a.bytes (nameless a.account) events) =
-    ap length (lost-more a.bytes a.account events) ∙ (length-append a.account.lost (lost_among a.bytes a.account events) ∙ ap (λ (l : List EventNo). length a.account.lost + length l) (among-nameless a.bytes a.account events)) in
-    let V : Account → ℕ → RingView = λ b n. record { ring = a.ring; bytes = a.bytes; written = b.written; pending = b.pending; lost = n; tail = b.tail } in
-    ap (λ b. V b (length (fold (ring_step a.bytes) a.account events).lost)) same ∙ ap (V (nameless (fold (ring_step a.bytes) (nameless a.account) events))) losses
+ring-view x sents a = grind (arith, nat_tests, fold-nameless, lost-more, length-append, among-nameless)
 
 after-same : (x : Step) (sents : List (RingNo × SentSample)) (a b : RingAccount) → view_of a ≡ view_of b → view_of (ring_after x sents a) ≡ view_of (ring_after x sents b)
-after-same x sents a b e =
-    let W : RingView → RingView = λ v. (let events : List RingEvent = events_by x sents v.ring in
-    let after : Account = nameless (fold (ring_step v.bytes) (shown v) events) in
-    let now : RingView = record { ring = v.ring; bytes = v.bytes; written = after.written; pending = after.pending; lost = v.lost + length (lost_among v.bytes (shown v) events); tail = after.tail } in
-    now) in
-    ring-view x sents a ∙ (ap W e ∙ sym (ring-view x sents b))
+after-same x sents a b e = grind (arith, nat_tests, ring-view)
 
 losses-same : (x : Step) (sents : List (RingNo × SentSample)) (a b : RingAccount) → view_of a ≡ view_of b → losses_on x sents a ≡ losses_on x sents b
-losses-same x sents a b e =
-    among-nameless a.bytes a.account (events_by x sents a.ring)
-    ∙ (ap (λ (v : RingView). lost_among v.bytes (shown v) (events_by x sents v.ring)) e ∙ sym (among-nameless b.bytes b.account (events_by x sents b.ring)))
+losses-same x sents a b e = grind (arith, nat_tests, among-nameless)
 
 -- so for all rings
 head_view : (a b : RingAccount) (rs qs : List RingAccount) → map view_of (a ∷ rs) ≡ map view_of (b ∷ qs) → view_of a ≡ view_of b
@@ -200,9 +184,7 @@ rings-same : (x : Step) (sents : List (RingNo × SentSample)) (rs qs : List Ring
 rings-same x sents [] [] e = refl
 rings-same x sents [] (b ∷ qs) e = absurd (omega (arith, ap length e))
 rings-same x sents (a ∷ rs) [] e = absurd (omega (arith, ap length e))
-rings-same x sents (a ∷ rs) (b ∷ qs) e =
-    ap (λ v. v ∷ map view_of (map (ring_after x sents) rs)) (after-same x sents a b (head_view a b rs qs e))
-    ∙ ap (λ vs. view_of (ring_after x sents b) ∷ vs) (rings-same x sents rs qs (tail_views a b rs qs e))
+rings-same x sents (a ∷ rs) (b ∷ qs) e = search (nat_tests, after-same, head_view, tail_views, rings-same x sents rs qs (tail_views a b rs qs e))
 
 all_losses-same : (x : Step) (sents : List (RingNo × SentSample)) (rs qs : List RingAccount) → map view_of rs ≡ map view_of qs → flat_map (losses_on x sents) rs ≡ flat_map (losses_on x sents) qs
 all_losses-same x sents [] [] e = refl
@@ -301,12 +283,9 @@ families-same r q opened h =
     let s : Stage = r.stage in
     let P : Instance → Type 0 = λ i. r.sums i.id ≡ q.sums i.id in
     let each : Each P (all_instances s) = sums-in r q s (all_instances s) h.sums (all_live s) in
-    let one : (i : Instance) → is_open s i.event ≡ true → Alike (family_by r) (family_by (staged s q)) r.lost q.lost i = λ i o. (
-      rw (h.folded i.event (inl o), plus_each-same (λ j. r.sums j.id) (λ j. q.sums j.id) (filter (is_of_family i.event) (all_instances s)) (filter-Each P (is_of_family i.event) (all_instances s) each)) refl,
-      h.lost i.event (inl o),
-    ) in
-    InStage-from_all (Alike (family_by r) (family_by (staged s q)) r.lost q.lost) s
-    (weaker-Each (λ i. is_open s i.event ≡ true) (Alike (family_by r) (family_by (staged s q)) r.lost q.lost) one (all_instances s) (each_at (λ i. is_open s i.event ≡ true) (all_instances s) opened))
+    let one : (i : Instance) → is_open s i.event ≡ true → Alike (family_by r) (family_by (staged s q)) r.lost q.lost i =
+    grind (arith, nat_tests, plus_each-same, filter-Each) in
+    grind (arith, nat_tests, InStage-from_all, s, weaker-Each, one, each_at)
 
 back_again : (f g : EventNo → Sums) (l m : EventNo → ℕ) (s : Stage) → InStage (Alike f g l m) s → InStage (Alike g f m l) s
 back_again f g l m s h = InStage-from_all (Alike g f m l) s (weaker-Each (Alike f g l m) (Alike g f m l) (λ i k. (sym k.0, sym k.1)) (all_instances s) (all_instances-in (Alike f g l m) s h))
@@ -315,8 +294,5 @@ pub answer_agrees : AnswerAgreesLaw
 answer_agrees hw r q x a opened h =
     let same : staged r.stage q ≡ q = ap (λ s. staged s q) h.stage in
     let alike : InStage (Alike (family_by r) (family_by (staged r.stage q)) r.lost q.lost) r.stage = families-same r q opened (subst (Agree r) (sym same) h) in
-    let both : (IsAnswerBy hw r x a ↔ IsAnswerBy hw (staged r.stage q) x a) = (
-      answer-same hw r.stage (family_by r) (family_by (staged r.stage q)) r.lost q.lost x a alike,
-      answer-same hw r.stage (family_by (staged r.stage q)) (family_by r) q.lost r.lost x a (back_again (family_by r) (family_by (staged r.stage q)) r.lost q.lost r.stage alike),
-    ) in
+    let both : (IsAnswerBy hw r x a ↔ IsAnswerBy hw (staged r.stage q) x a) = grind (arith, nat_tests, answer-same, back_again) in
     subst (λ p. IsAnswerBy hw r x a ↔ IsAnswerBy hw p x a) same both

@@ -1,8 +1,8 @@
 -- Records are conserved: those sent are written or lost, those lost are told or pending.
-use Rattle.std.specs.Prelude.{◌≡◌, ℕ, ◌+◌, nat_le, Bool, true, false, List, [], ◌∷◌, ◌++◌, fold, length, sum_by, count_by, cond}
+use Rattle.std.specs.Prelude.{◌≡◌, ℕ, ◌+◌, List, [], ◌∷◌, ◌++◌, fold, length, sum_by, count_by, cond}
 use Rattle.std.proofs.{Common.{arith, refl, zero, suc}, lemmas.List.{length_push, Sums.{sum_by-append, sum_by-cons}}}
 use Rattle.ring_spec.specs.Sending.{SentSample}
-use Rattle.ring_spec.specs.Account.{RingEvent, Sends, Looks, Account, account, empty_account, ring_step, told_before, records_for, sample_of, written_to, lost_to, need_of, room_of, is_sent, is_sample, losses_in, SentLaw, ToldLaw}
+use Rattle.ring_spec.specs.Account.{RingEvent, Sends, Looks, Account, account, empty_account, ring_step, told_before, sample_of, is_sent, is_sample, losses_in, SentLaw, ToldLaw}
 
 samples : Account → ℕ
 samples a = count_by is_sample a.written
@@ -20,25 +20,15 @@ told_losses zero sent = refl
 told_losses (suc n) sent = omega arith
 
 -- one step keeps both
-either_account : (P : Account → Type 0) (b : Bool) (yeas nays : Account) → P yeas → P nays → P (elim b as (λ x. Account) [ true ↦ yeas | false ↦ nays ])
-either_account P true yeas nays h k = h
-either_account P false yeas nays h k = k
-
 sent_step : (bytes : ℕ) (a : Account) (e : RingEvent) → samples (ring_step bytes a e) + length (ring_step bytes a e).lost ≡ (samples a + length a.lost) + cond (is_sent e) 1 0
 unfolding samples
 sent_step bytes a (Looks place) = omega arith
-sent_step bytes a (Sends sent) =
-    either_account (λ b. samples b + length b.lost ≡ (samples a + length a.lost) + 1) (nat_le (need_of a sent) (room_of bytes a)) (written_to a sent) (lost_to a sent)
-    (omega (arith, sum_by-append (λ r. cond (is_sample r) 1 0) a.written (records_for a sent), told_samples a.pending sent))
-    (omega (arith, length_push a.lost sent.event))
+sent_step bytes a (Sends sent) = grind (arith, sum_by-append, told_samples, length_push)
 
 told_step : (bytes : ℕ) (a : Account) (e : RingEvent) → length a.lost ≡ told a + a.pending → length (ring_step bytes a e).lost ≡ told (ring_step bytes a e) + (ring_step bytes a e).pending
 unfolding told
 told_step bytes a (Looks place) h = h
-told_step bytes a (Sends sent) h =
-    either_account (λ b. length b.lost ≡ sum_by losses_in b.written + b.pending) (nat_le (need_of a sent) (room_of bytes a)) (written_to a sent) (lost_to a sent)
-    (omega (arith, h, sum_by-append losses_in a.written (records_for a sent), told_losses a.pending sent))
-    (omega (arith, h, length_push a.lost sent.event))
+told_step bytes a (Sends sent) h = grind (arith, sum_by-append, told_losses, length_push)
 
 -- over events
 sent_over : (bytes : ℕ) (a : Account) (events : List RingEvent) → samples (fold (ring_step bytes) a events) + length (fold (ring_step bytes) a events).lost ≡ (samples a + length a.lost) + count_by is_sent events

@@ -1,5 +1,5 @@
 -- The words of records are cut in one way alone.
-use Rattle.std.specs.{Prelude.{◌≡◌, ℕ, ◌+◌, ◌*◌, ◌/◌, ◌%◌, ◌^◌, ◌<◌, ◌≤◌, List, [], ◌∷◌, ◌++◌, length, map, take, drop}, List.{concat}}
+use Rattle.std.specs.{Prelude.{◌≡◌, ℕ, ◌+◌, ◌*◌, ◌<◌, ◌≤◌, List, [], ◌∷◌, ◌++◌, length, map, take, drop}, List.{concat}}
 use Rattle.std.proofs.{Common.{arith, refl, sym, ap, ◌∙◌, get_or}, lemmas.{List.{Elements.{All-map}, Concat.{flat_map-cons}}, Nat.{div-mul-add}}}
 use Rattle.std.proofs.Math.{Seq.{drop-append_seam, take-append_seam}, Nat.{mod-eq_of_lt}}
 use Rattle.perf_base.specs.declared.lines.Mode.{Mode}
@@ -67,10 +67,7 @@ alike (Lost id lost trailer) (Lost id2 lost2 trailer2) us vs e =
     let long : length trailer ≡ length trailer2 = omega (arith, header-words 2 0 2 0 (length trailer + 3) (length trailer2 + 3) (omega arith) (omega arith) (omega arith) (omega arith) head) in
     let ids : id ≡ id2 = first id id2 (lost ∷ trailer ++ us) (lost2 ∷ trailer2 ++ vs) after in
     let losses : lost ≡ lost2 = first lost lost2 (trailer ++ us) (trailer2 ++ vs) behind in
-    record {
-      records = ap (λ i. Lost i lost trailer) ids ∙ (ap (λ l. Lost id2 l trailer) losses ∙ ap (Lost id2 lost2) (front trailer trailer2 us vs long rest));
-      rests = back trailer trailer2 us vs long rest;
-    }
+    grind (arith, ids, losses, front, long, rest, back)
 
 not_none : (r : Record) (us : List ℕ) → record_words r ++ us ≡ [] → ⊥
 not_none (Sample m b) us e = absurd (omega (arith, ap length e))
@@ -86,12 +83,7 @@ words_law (r ∷ rs) (q ∷ qs) e =
 
 -- each record is a block
 size_field-header : (type misc n : ℕ) → type < 16 → misc < 4 → n ≤ 9 → size_field (header type misc n) ≡ 8 * n
-size_field-header type misc n a b c =
-    let low : type + misc * 2 ^ 32 < 2 ^ 48 = omega arith in
-    let swap : type + misc * 2 ^ 32 + 8 * n * 2 ^ 48 ≡ (8 * n) * 2 ^ 48 + (type + misc * 2 ^ 32) = omega arith in
-    let over : header type misc n / 2 ^ 48 ≡ 8 * n = ap (λ x. x / 2 ^ 48) swap ∙ div-mul-add (8 * n) (2 ^ 48) (type + misc * 2 ^ 32) low in
-    let small : 8 * n < 2 ^ 16 = omega arith in
-    ap (λ x. x % 2 ^ 16) over ∙ mod-eq_of_lt small
+size_field-header type misc n a b c = grind (arith, div-mul-add, mod-eq_of_lt)
 
 pub block-of : (r : Record) → IsRecord r → IsBlock (record_words r)
 block-of (Sample m b) h = size_field-header 9 (misc_of m) (length b + 1) (omega arith) (misc-low m) (omega arith) ∙ omega arith

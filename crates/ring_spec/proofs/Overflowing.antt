@@ -1,12 +1,12 @@
 -- How many records a stretch of work sends for one instance.
 use Rattle.std.specs.Prelude.{◌≡◌, ℕ, zero, suc, ◌+◌, ◌-◌, ◌*◌, ◌/◌, ◌%◌, ◌<◌, ◌≤◌, ◌⊎◌, ◌==◌, min, Bool, true, false, length, replicate, sum_by, slice_index, Option, Some, None, cond, if◌then◌else◌}
-use Rattle.std.proofs.{Common.{arith, refl, sym, ap, ◌∙◌, inl, inr}, Math.Nat.{mod-lt, lt_of_mul-lt-mul_right, mul-le-mul_left}}
+use Rattle.std.proofs.{Common.{arith, refl, sym, ap, inl, inr}, Math.Nat.{mod-lt, lt_of_mul-lt-mul_right, mul-le-mul_left}}
 use Rattle.std.proofs.lemmas.{Nat.{div-add-mod'}, Bool.{false≢true, cases_lt, Decides.{nat_tests}}, List.{get_or_past, Sums.{get_or-le-sum_by}}}
 use Rattle.perf_base.specs.{declared.{numbers.{CpuNo.{CpuNo}, RingNo.{RingNo}}, attr.{Attr.{Attr}, Kind.{Kind}}, lines.Work.{Work}}, Weight.{shares}}
 use Rattle.perf_base.specs.declared.attr.Kind.TheVariants as kind
-use Rattle.stage_spec.specs.{declared.instance.Instance.{Instance}, Stage.{Stage}, Hardware.{is_software}, Shares.{excludes, counted_by, work_hits}}
+use Rattle.stage_spec.specs.{declared.instance.Instance.{Instance}, Stage.{Stage}, Hardware.{is_software}, Shares.{excludes, counted_by}}
 use Rattle.stage_spec.specs.Occurrences.{left_after_one, overflows}
-use Rattle.ring_spec.specs.Sending.{SentSample, to_ring, sent_of, fields_of, sent_by_family, overflows_by}
+use Rattle.ring_spec.specs.Sending.{SentSample, to_ring, sent_by_family, overflows_by}
 
 -- Each overflow takes a whole period of occurrences, but for the first, which takes what was left.
 filled : (n p l : ℕ) → 0 < p → overflows n p l * p + min l p ≤ n + p
@@ -93,9 +93,7 @@ hits-few period w a kind.Dummy left pos least soft = absurd (false≢true (sym s
 instance-few : (period : ℕ) (w : Work) (i : Instance) (left : ℕ) (samples : Bool) → 0 < period → IsSampling period samples i
     → overflows_by w left i ≤ room samples (sum_by (shares period) w.hits)
 instance-few period w i left true pos h = hits-few period w i.attr i.attr.kind left pos h.least (h.hardware refl)
-instance-few period w i left false pos h =
-    let none : overflows (work_hits w i) i.attr.period left ≡ 0 = ap (λ p. overflows (work_hits w i) p left) (h.none refl) ∙ none_by (work_hits w i) left in
-    omega (arith, none)
+instance-few period w i left false pos h = grind (arith, nat_tests, none_by)
 
 length-repeat : (n : ℕ) (sent : RingNo × SentSample) → length (replicate n sent) ≡ n
 length-repeat zero sent = refl
@@ -108,5 +106,4 @@ sent-most (Some ring) n sent = omega (arith, length-repeat n (ring, sent))
 pub family-few : (period : ℕ) (original : Option Instance) (s : Stage) (cpu : CpuNo) (w : Work) (clock left : ℕ) (i : Instance) (samples : Bool) → 0 < period → IsSampling period samples i
     → length (sent_by_family original s cpu w clock (overflows_by w left i) i) ≤ room samples (sum_by (shares period) w.hits)
 family-few period None s cpu w clock left i samples pos h = omega arith
-family-few period (Some original) s cpu w clock left i samples pos h =
-    omega (arith, instance-few period w i left samples pos h, sent-most original.ring (overflows_by w left i) (sent_of original w i (fields_of s cpu w clock original.id i)))
+family-few period (Some original) s cpu w clock left i samples pos h = grind (arith, nat_tests, instance-few, sent-most)

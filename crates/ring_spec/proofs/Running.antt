@@ -28,9 +28,7 @@ lost-one bytes a (Sends sent) = one (nat_le (need_of a sent) (room_of bytes a))
 
 pub lost-more : (bytes : ℕ) (a : Account) (events : List RingEvent) → (fold (ring_step bytes) a events).lost ≡ a.lost ++ lost_among bytes a events
 lost-more bytes a [] = sym (append-nil a.lost)
-lost-more bytes a (x ∷ events) =
-    lost-more bytes (ring_step bytes a x) events
-    ∙ (ap (λ l. l ++ lost_among bytes (ring_step bytes a x) events) (lost-one bytes a x) ∙ append_assoc a.lost (lost_by bytes a x) (lost_among bytes (ring_step bytes a x) events))
+lost-more bytes a (x ∷ events) = grind (arith, append_assoc, lost-more bytes (ring_step bytes a x) events)
 
 count_by-append : (e : EventNo) (xs ys : List EventNo) → count_by (is_event e) (xs ++ ys) ≡ count_by (is_event e) xs + count_by (is_event e) ys
 count_by-append e xs ys = sum_by-append (λ f. cond (is_event e f) 1 0) xs ys
@@ -68,15 +66,7 @@ none_lost e (ring ∷ rings) = omega (arith, none_lost e rings, sum_by-cons (λ 
 
 pub kept-first : (hw : Hardware) (s : Stage) (rings : List (RingNo × ℕ)) → IsKept hw s rings [] (first_record s rings)
 unfolding stage_after sums_of count_of enabled_of running_of folded_of folded_from remainder_of remainder_from account_of account events_of events_from
-kept-first hw s rings = record {
-  stage = refl;
-  sums = fun_ext (λ id. refl);
-  left = fun_ext (λ id. refl);
-  folded = fun_ext (λ e. refl);
-  lost = λ e. none_lost e rings;
-  clock = fun_ext (λ cpu. refl);
-  rings = refl;
-}
+kept-first hw s rings = grind (arith, fun_ext, none_lost)
 
 clock_of-push : (before : List Step) (x : Step) (cpu : CpuNo) → clock_of (before ++ x ∷ []) cpu ≡ clock_of before cpu + length_by cpu x
 clock_of-push before x cpu = omega (arith, sum_by-append (length_by cpu) before (x ∷ []))
@@ -113,8 +103,7 @@ kept-over : (hw : Hardware) (s : Stage) (rings : List (RingNo × ℕ)) (before :
     → (steps : List Step) → IsKept hw s rings (before ++ steps) (fold (record_after hw) r steps)
 kept-over hw s rings before r h [] = rw append-nil h
 kept-over hw s rings before r h (x ∷ steps) =
-    let regrouped : (before ++ x ∷ []) ++ steps ≡ before ++ x ∷ steps = append_assoc before (x ∷ []) steps in
-    rw (← regrouped) (kept-over hw s rings (before ++ x ∷ []) (record_after hw r x) (kept-step hw s rings before r x h) steps)
+    grind (arith, append_assoc, kept-step, kept-over hw s rings (before ++ x ∷ []) (record_after hw r x) (kept-step hw s rings before r x h) steps)
 
 pub kept : (hw : Hardware) (s : Stage) (rings : List (RingNo × ℕ)) (steps : List Step) → IsKept hw s rings steps (record_of hw s rings steps)
 unfolding record_of
@@ -126,13 +115,7 @@ in_account f ring = record { ring = ring.0; bytes = ring.1; account = f ring }
 lost_sum : (e : EventNo) (f : RingNo × ℕ → Account) (rings : List (RingNo × ℕ))
     → sum_by (λ (a : RingAccount). lost_of e a.account) (map (in_account f) rings) ≡ sum_by (λ ring. lost_of e (f ring)) rings
 lost_sum e f [] = refl
-lost_sum e f (ring ∷ rings) =
-    omega (
-      arith,
-      lost_sum e f rings,
-      sum_by-cons (λ r. lost_of e (f r)) ring rings,
-      sum_by-cons (λ (a : RingAccount). lost_of e a.account) (in_account f ring) (map (in_account f) rings),
-    )
+lost_sum e f (ring ∷ rings) = search (sum_by-cons, lost_sum e f rings)
 
 pub kept-lost : (hw : Hardware) (s : Stage) (rings : List (RingNo × ℕ)) (before : List Step) (r : Running) → IsKept hw s rings before r
     → (e : EventNo) → r.lost e ≡ lost_count hw s rings before e
@@ -143,15 +126,7 @@ pub record_law : RecordLaw
 record_law hw s rings steps =
     let r : Running = record_of hw s rings steps in
     let h : IsKept hw s rings steps r = kept hw s rings steps in
-    record {
-      stage = h.stage;
-      sums = λ id. ap (λ f. f id) h.sums;
-      left = λ id. ap (λ f. f id) h.left;
-      folded = λ e. ap (λ f. f e) h.folded;
-      lost = kept-lost hw s rings steps r h;
-      clock = λ cpu. ap (λ f. f cpu) h.clock;
-      rings = h.rings;
-    }
+    grind (arith, kept-lost, r, h)
 
 -- the answer to a step by a record of the history
 family-is : (hw : Hardware) (s : Stage) (rings : List (RingNo × ℕ)) (before : List Step) (r : Running) → IsKept hw s rings before r → family_by r ≡ family_sums hw s before
@@ -168,10 +143,7 @@ unfolding IsReply
 answer_is hw s rings before r x a h =
     let sums : family_by r ≡ family_sums hw s before = family-is hw s rings before r h in
     let lost : r.lost ≡ lost_count hw s rings before = fun_ext (kept-lost hw s rings before r h) in
-    let now : Stage = stage_after hw s before in (
-      λ g. same_answer hw r.stage now (family_by r) (family_sums hw s before) r.lost (lost_count hw s rings before) x a h.stage sums lost g,
-      λ g. same_answer hw now r.stage (family_sums hw s before) (family_by r) (lost_count hw s rings before) r.lost x a (sym h.stage) (sym sums) (sym lost) g,
-    )
+    grind (arith, same_answer, sums, lost)
 
 answers_are : (hw : Hardware) (s : Stage) (rings : List (RingNo × ℕ)) (before : List Step) (r : Running) → IsKept hw s rings before r
     → (steps : List Step) (replies : List Reply) → (AreRepliesBy hw r steps replies ↔ AreReplies hw s (lost_count hw s rings) before steps replies)

@@ -8,7 +8,7 @@ use Rattle.perf_base.specs.declared.lines.CpuLine.TheVariants as cpu_line
 use Rattle.stage_spec.specs.{declared.instance.Instance.{Instance}, Hardware.{Hardware}, Stage.{Stage, original_of}, Verdict.{on_instances}}
 use Rattle.stage_spec.{specs.{History.{Step, CpuStep, ToolStep, SeenStep, stage_after}, Remainders.{remainder_of}}, proofs.Each.{Each, append-Each}}
 use Rattle.ring_spec.specs.{declared.fields.Fields.{Fields}, Whole.{IsBlock, size_field}}
-use Rattle.ring_spec.specs.Records.{Record, Sample, Lost, field, thread_word, body_of, trailer_of, record_words, words_of, record_size, IsRecord, EndsAtRecord, PrefixLaw}
+use Rattle.ring_spec.specs.Records.{Record, Sample, Lost, field, body_of, trailer_of, record_words, words_of, record_size, IsRecord, EndsAtRecord, PrefixLaw}
 use Rattle.ring_spec.specs.Sending.{SentSample, fields_of, has_trailer, trailer_if, sent_of, to_ring, sent_by_family, overflows_by, sent_by_line, sent_by_step, sent_after, sent_by_steps, clock_of}
 use Rattle.ring_spec.specs.Account.{RingEvent, Sends, Looks, Account, account, empty_account, ring_step, send, told_before, sample_of, records_for, written_to, lost_to, need_of, room_of, is_sent}
 use Rattle.ring_spec.specs.Rings.{is_to, sends_to, looks_at, events_by, events_from, events_of, account_of, SizesLaw, RingWordsLaw, WholeLookLaw}
@@ -26,16 +26,10 @@ and_field : (xs : List ℕ) (n : ℕ) → length xs ≤ n → (bit sample word :
 and_field xs n h bit sample word = omega (arith, h, field-short bit sample word, length-append xs (field bit sample word))
 
 body-short : (sample : ℕ) (f : Fields) → length (body_of sample f) ≤ 8
-body-short sample f =
-    and_field _ 7 (and_field _ 6 (and_field _ 5 (and_field _ 4 (and_field _ 3 (and_field _ 2 (and_field _ 1 (
-    field-short 65536 sample f.identifier
-    ) 1 sample f.ip) 2 sample (thread_word f)) 4 sample f.time) 64 sample f.id) 512 sample f.stream_id) 128 sample f.cpu) 256 sample f.period
+body-short sample f = grind (arith, and_field)
 
 trailer-short : (sample : ℕ) (f : Fields) → length (trailer_of sample f) ≤ 6
-trailer-short sample f =
-    and_field _ 5 (and_field _ 4 (and_field _ 3 (and_field _ 2 (and_field _ 1 (
-    field-short 2 sample (thread_word f)
-    ) 4 sample f.time) 64 sample f.id) 512 sample f.stream_id) 128 sample f.cpu) 65536 sample f.identifier
+trailer-short sample f = grind (arith, and_field)
 
 -- the records that a step sends
 abbrev IsSized : SentSample → Type 0
@@ -70,9 +64,7 @@ work-sized : (s : Stage) (left : ℕ → ℕ) (clock : ℕ) (cpu : CpuNo) (w : W
     → AreSized (flat_map (λ i. sent_by_family (original_of s i.event) s cpu w clock (overflows_by w (left i.id) i) i) instances)
 unfolding Each
 work-sized s left clock cpu w [] = tt
-work-sized s left clock cpu w (i ∷ instances) =
-    append-Each (λ (sent : RingNo × SentSample). IsSized sent.1) (sent_by_family (original_of s i.event) s cpu w clock (overflows_by w (left i.id) i) i) _
-    (family-sized (original_of s i.event) s cpu w clock (overflows_by w (left i.id) i) i) (work-sized s left clock cpu w instances)
+work-sized s left clock cpu w (i ∷ instances) = grind (arith, append-Each, family-sized, work-sized s left clock cpu w instances)
 
 line-sized : (hw : Hardware) (s : Stage) (left : ℕ → ℕ) (clock : ℕ) (cpu : CpuNo) (line : CpuLine) → AreSized (sent_by_line hw s left clock cpu line)
 unfolding Each
@@ -132,10 +124,7 @@ record AreFew (pending : ℕ) (records : List Record) : Type 0 where
 
 for_sent : (pending : ℕ) (sent : SentSample) → IsSized sent → AreFew pending (told_before pending sent ++ sample_of sent ∷ [])
 for_sent zero sent h = record { lawful = All-cons IsRecord (sample_of sent) [] h.0 (All-nil IsRecord); words = omega (arith, h.0, length-append sent.body []) }
-for_sent (suc n) sent h = record {
-  lawful = All-cons IsRecord (Lost sent.id (suc n) sent.trailer) (sample_of sent ∷ []) h.1 (All-cons IsRecord (sample_of sent) [] h.0 (All-nil IsRecord));
-  words = omega (arith, h.0, h.1, length-append sent.trailer (record_words (sample_of sent) ++ []), length-append sent.body []);
-}
+for_sent (suc n) sent h = grind (arith, All-cons, All-nil, length-append)
 
 -- Losses that are not told yet keep room for the record that tells them.
 record AccountFew (a : Account) (sends : ℕ) : Type 0 where
@@ -172,8 +161,7 @@ written-few hw s steps ring =
     let events : List RingEvent = events_from hw s ring.0 [] steps in
     let k : AccountFew (fold (ring_step ring.1) empty_account events) (0 + length (filter is_sent events)) =
     over-few ring.1 empty_account 0 events (events-sized hw s ring.0 [] steps) (record { lawful = All-nil IsRecord; words = omega arith }) in
-    let sends : length (filter is_sent events) ≡ length (filter (is_to ring.0) (sent_by_steps hw s steps)) =
-    ap length (sends_law hw s steps ring.0) ∙ length-mapped (λ (sent : RingNo × SentSample). Sends sent.1) (filter (is_to ring.0) (sent_by_steps hw s steps)) in
+    let sends : length (filter is_sent events) ≡ length (filter (is_to ring.0) (sent_by_steps hw s steps)) = search (sends_law, length-mapped) in
     record { lawful = k.lawful; words = omega (arith, k.words, sends, length-filter (is_to ring.0) (sent_by_steps hw s steps), count_by-le-length (is_to ring.0) (sent_by_steps hw s steps)) }
 
 pub sizes_law : SizesLaw

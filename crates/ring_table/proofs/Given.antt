@@ -1,16 +1,16 @@
 -- What a ring that an original is given makes of a world and its stage, and that processors stand as they stood.
 use Rattle.std.specs.{Prelude.{◌≡◌, ◌==◌, ◌<◌, ◌≤◌, Bool, true, false, List, [], ◌∷◌, ◌++◌, length, Some, None, if◌then◌else◌}, List.{list_any}}
-use Rattle.std.proofs.Common.{arith, refl, sym, ap, subst, ◌∙◌}
+use Rattle.std.proofs.Common.{arith, refl, sym, ap, ◌∙◌}
 use Rattle.perf_base.specs.declared.numbers.{CpuNo.{CpuNo}, EventNo.{EventNo}, Key.{Key}, RingNo.{RingNo}}
-use Rattle.stage_spec.specs.{Hardware.{Hardware}, Mapping.{mapped_to, map_refusal, output_to, ring_of, set_ring}, Stage.{Stage}}
+use Rattle.stage_spec.specs.{Hardware.{Hardware}, Mapping.{mapped_to, map_refusal, output_to, ring_of, set_ring}}
 use Rattle.stage_laws.{specs.{Narrowing.{has_context}, OneByOne.{change_one}, Standings.{briefs}}, proofs.OneByOne.{ring-one}}
 use Rattle.stage_laws.proofs.Untouched.{map-briefs, output-briefs}
-use Rattle.world_spec.specs.{Value.{World, Entry, is_live, entry_at, instance_at, standing_at, seats_at, family_of}, StageOf.{stage_of}}
+use Rattle.world_spec.specs.{Value.{World, is_live, instance_at, standing_at, seats_at, family_of}, StageOf.{stage_of}}
 use Rattle.world_spec.{specs.{Kept.{leads, post_at}, Changes.{remember}, Laws.{remembered}, Rescheduled.{IsUntouched}}, proofs.Listings.{is-numbered}}
 use Rattle.world_spec.proofs.{Standing.{left-untouched}, Tables.{entry-here, entry-there, live-written, posts-same}}
 use Rattle.world_spec.specs.Changes as change
 use Rattle.perf_world.specs.Seen.{IsWorld}
-use Rattle.ring_table.{specs.Rings.{HasRing, with_ring}, proofs.Refusing.{not-busy, original-named}}
+use Rattle.ring_table.{specs.Rings.{HasRing}, proofs.Refusing.{not-busy, original-named}}
 
 -- a ring that is new is remembered last
 remembers : (ring : RingNo) (mapped : List RingNo) → list_any (λ r. r.0 == ring.0) mapped ≡ false → remember ring mapped ≡ mapped ++ ring ∷ []
@@ -18,26 +18,15 @@ remembers ring mapped new = ap {B = List RingNo} (λ b. if b then mapped else ma
 
 has-ring : (w new : World) (e : EventNo) (ring : RingNo) (owner : Bool) (mapped : List RingNo) (k : Key) → is_live w k ≡ true → (family_of w e).original ≡ Some k
     → new ≡ change.set_ring k ring owner w → (if owner then remember ring w.quiet.mapped else w.quiet.mapped) ≡ mapped → HasRing e (Some ring) owner mapped w new
-has-ring w new e ring owner mapped k live is changed those =
-    let x : Entry = with_ring (Some ring) owner (entry_at w k) in
-    subst (HasRing e (Some ring) owner mapped w) (sym changed) (record {
-      original = k;
-      named = is;
-      world = ap {B = World} (λ (m : List RingNo). record w { entries = (change.set_ring k ring owner w).entries; quiet = record w.quiet { mapped = m } }) those;
-      keys = live-written w k x live;
-      entry = entry-here w k x k refl;
-      others = entry-there w k x;
-    })
+has-ring w new e ring owner mapped k live is changed those = grind (arith, live-written, entry-here, entry-there)
 
 pub map-rest : (w new : World) (e : EventNo) (ring : RingNo) (k : Key) → is_live w k ≡ true → (family_of w e).original ≡ Some k → map_refusal (stage_of w) e ring ≡ None
     → new ≡ change.set_ring k ring true w → HasRing e (Some ring) true (w.quiet.mapped ++ ring ∷ []) w new
-map-rest w new e ring k live is free changed =
-    has-ring w new e ring true (w.quiet.mapped ++ ring ∷ []) k live is changed (remembers ring w.quiet.mapped (not-busy w e ring free))
+map-rest w new e ring k live is free changed = grind (arith, has-ring, remembers, not-busy)
 
 pub output-rest : (w new : World) (e f : EventNo) (ring : RingNo) (k : Key) → is_live w k ≡ true → (family_of w e).original ≡ Some k → ring_of (stage_of w) f ≡ Some ring
     → new ≡ change.set_ring k ring false w → HasRing e (ring_of (stage_of w) f) false w.quiet.mapped w new
-output-rest w new e f ring k live is to changed =
-    subst (λ o. HasRing e o false w.quiet.mapped w new) (sym to) (has-ring w new e ring false w.quiet.mapped k live is changed refl)
+output-rest w new e f ring k live is to changed = grind (arith, has-ring)
 
 -- on the stage one instance is changed
 ring-stage : (w new : World) (e : EventNo) (ring : RingNo) (owner : Bool) (k : Key) → IsWorld w → (family_of w e).original ≡ Some k
@@ -50,9 +39,7 @@ pub map-stage : (w new : World) (e : EventNo) (ring : RingNo) (k : Key) → IsWo
     → stage_of new ≡ remembered ring true (change_one (λ i. record i { ring = Some ring; mapped = true }) (instance_at w k).id (stage_of w))
     → stage_of new ≡ mapped_to e ring (stage_of w)
 unfolding mapped_to
-map-stage w new e ring k h is free changed =
-    ring-stage w new e ring true k h is changed
-    ∙ ap {B = Stage} (λ (m : List RingNo). record (set_ring e (Some ring) true (stage_of w)) { mapped = m }) (remembers ring w.quiet.mapped (not-busy w e ring free))
+map-stage w new e ring k h is free changed = grind (arith, ring-stage, remembers, not-busy)
 
 pub output-stage : (w new : World) (e f : EventNo) (ring : RingNo) (k : Key) → IsWorld w → (family_of w e).original ≡ Some k → ring_of (stage_of w) f ≡ Some ring
     → stage_of new ≡ remembered ring false (change_one (λ i. record i { ring = Some ring; mapped = false }) (instance_at w k).id (stage_of w))

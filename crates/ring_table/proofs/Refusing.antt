@@ -4,8 +4,8 @@ use Rattle.std.proofs.{Common.{arith, refl, ap, ◌∙◌}, lemmas.Bool.Decides.
 use Rattle.perf_base.specs.declared.{numbers.{EventNo.{EventNo}, Key.{Key}, RingNo.{RingNo}}, reasons.Reason.{Reason}}
 use Rattle.perf_base.specs.declared.reasons.Reason.TheVariants as reason
 use Rattle.stage_spec.specs.{declared.instance.Instance.{Instance}, Flags.{is_inherited}}
-use Rattle.stage_spec.specs.{Mapping.{map_refusal, output_refusal, ring_of, ring_of_instance}, Places.{is_any_cpu, is_same_cpu, is_same_task}}
-use Rattle.stage_spec.{specs.{Refusals.{first_of, holds_of, holds_of_both}, Stage.{is_open, original_of}}, proofs.Each.{Each}}
+use Rattle.stage_spec.specs.{Mapping.{map_refusal, output_refusal, ring_of_instance}, Places.{is_any_cpu, is_same_cpu, is_same_task}}
+use Rattle.stage_spec.{specs.{Refusals.{first_of, holds_of, holds_of_both}, Stage.{original_of}}, proofs.Each.{Each}}
 use Rattle.stage_laws.proofs.Accepted.{no_reason}
 use Rattle.world_spec.{specs.{Value.{World, instance_at, family_of}, StageOf.{stage_of}}, proofs.Families.{open-is, original-is}}
 use Rattle.perf_world.specs.Seen.{IsWorld}
@@ -38,8 +38,7 @@ original-named w e o h is = original-is w.hardware w e h ∙ ap (its w) is
 map-by : (w : World) (e : EventNo) (ring : RingNo) (o : Option Key) → IsWorld w → (family_of w e).original ≡ o
     → map_refusal (stage_of w) e ring
     ≡ map_checks (not (is_some o)) (holds_of inherited_anywhere (its w o)) (is_some (ring_of_instance (its w o))) (list_any (λ r. r.0 == ring.0) w.quiet.mapped)
-map-by w e ring o h is = λ t. map_checks (not ((open-is w.hardware w e h ∙ ap is_some is) t))
-    (holds_of inherited_anywhere (original-named w e o h is t)) (is_some (ring_of_instance (original-named w e o h is t))) (list_any (λ r. r.0 == ring.0) w.quiet.mapped)
+map-by w e ring o h is = grind (arith, nat_tests, open-is, original-named)
 
 pub map-closed : (w : World) (e : EventNo) (ring : RingNo) → IsWorld w → (family_of w e).original ≡ None → map_refusal (stage_of w) e ring ≡ Some reason.NoEvent
 map-closed w e ring h none = map-by w e ring None h none
@@ -54,9 +53,7 @@ output-by : (w : World) (e f : EventNo) (o p : Option Key) → IsWorld w → (fa
     → output_refusal (stage_of w) e f
     ≡ output_checks (not (is_some o && is_some p)) (e.0 == f.0) (holds_of_both other_cpu (its w o) (its w p)) (holds_of_both other_task_anywhere (its w o) (its w p))
     (holds_of (λ i. i.mapped) (its w o)) (is_none (ring_of_instance (its w p)))
-output-by w e f o p h is to = λ t. output_checks (not ((open-is w.hardware w e h ∙ ap is_some is) t && (open-is w.hardware w f h ∙ ap is_some to) t)) (e.0 == f.0)
-    (holds_of_both other_cpu (original-named w e o h is t) (original-named w f p h to t)) (holds_of_both other_task_anywhere (original-named w e o h is t) (original-named w f p h to t))
-    (holds_of (λ i. i.mapped) (original-named w e o h is t)) (is_none (ring_of_instance (original-named w f p h to t)))
+output-by w e f o p h is to = grind (arith, nat_tests, open-is, original-named)
 
 pub output-closed : (w : World) (e f : EventNo) → IsWorld w → (family_of w e).original ≡ None → output_refusal (stage_of w) e f ≡ Some reason.NoEvent
 output-closed w e f h none = output-by w e f None (family_of w f).original h none refl
@@ -79,7 +76,4 @@ output-checked w e f k q same cpu task own none h is to s c t o n = output-by w 
 -- a ring that is mapped now was not mapped before
 pub not-busy : (w : World) (e : EventNo) (ring : RingNo) → map_refusal (stage_of w) e ring ≡ None → list_any (λ r. r.0 == ring.0) w.quiet.mapped ≡ false
 unfolding Each
-not-busy w e ring free =
-    let none = no_reason ((reason.NoEvent, not (is_open (stage_of w) e)) ∷ (reason.Inherit, holds_of inherited_anywhere (original_of (stage_of w) e))
-    ∷ (reason.HasRing, is_some (ring_of (stage_of w) e)) ∷ (reason.Busy, list_any (λ r. r.0 == ring.0) w.quiet.mapped) ∷ []) free in
-    none.1.1.1.0
+not-busy w e ring free = grind (arith, nat_tests, no_reason)

@@ -25,11 +25,7 @@ begins w ys [] ((f ∷ r) ∷ bs) all all' e =
     let is : size_field f ≡ 8 * length (f ∷ r) = first_of (f ∷ r) bs all' in
     let same : w ≡ f = cc in
     let size : size_field w ≡ 8 * length (f ∷ r) = ap size_field same ∙ is in
-    let long : length (w ∷ ys) ≡ length ((f ∷ r) ++ concat bs) = ap length e in record {
-      some = omega (arith, size);
-      of_words = omega (arith, size);
-      within = omega (arith, size, long, length-append (f ∷ r) (concat bs));
-    }
+    grind (arith, length, size, length-append)
 begins w ys ([] ∷ cs) bs all all' e = absurd (first_of [] cs all)
 begins w ys ((f ∷ r) ∷ cs) [] all all' e = absurd (cc)
 begins w ys ((f ∷ r) ∷ cs) ([] ∷ bs) all all' e = absurd (first_of [] bs all')

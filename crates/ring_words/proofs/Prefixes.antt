@@ -54,11 +54,7 @@ pub whole_more : (xs ys : List ℕ) (n : ℕ) → n ≤ length xs → IsWhole (t
 whole_more xs ys n h w = subst IsWhole (sym (take-append-le n xs ys h)) w
 
 pub stop_more : (xs ys : List ℕ) (place : ℕ) → IsStop xs place → IsStop (xs ++ ys) place
-stop_more xs ys place s = record {
-  of_words = s.of_words;
-  within = omega (arith, s.within, length-append xs ys);
-  whole = whole_more xs ys (place / 8) (omega (arith, s.within)) s.whole;
-}
+stop_more xs ys place s = grind (arith, length-append, whole_more)
 
 pub stop_at_start : IsStop [] 0
 stop_at_start = record { of_words = refl; within = omega arith; whole = whole_nothing }

@@ -1,5 +1,5 @@
 -- What is true of an end between any two calls stays true.
-use Rattle.std.proofs.Common.{◌≡◌, ℕ, ◌+◌, ◌-◌, ◌*◌, ◌<◌, ◌≤◌, ◌^◌, [], ◌∷◌, ◌++◌, length, length-append, subst, sym, ap, ◌∙◌, refl, arith}
+use Rattle.std.proofs.Common.{◌≡◌, ℕ, ◌+◌, ◌*◌, ◌<◌, ◌≤◌, ◌^◌, [], ◌∷◌, ◌++◌, length, length-append, subst, sym, ap, ◌∙◌, refl, arith}
 use Rattle.std.proofs.Math.Seq.{take-length}
 use Rattle.atomic_table.specs.Seated.{TableId}
 use Rattle.ring_words.specs.{declared.view.View.{View}, Ends.{cells_of, Ring, LeadsTo, IsSoundProducer, IsSoundConsumer, new_producer, new_consumer}}
@@ -58,9 +58,7 @@ holds_released id m place h whole = record {
 
 -- the ring of a table that has a word for the tail, one for the head, and these data words
 ring_is : (id : TableId) (bytes : ℕ) → id.words ≡ 2 + cells_of bytes → IsRingSize bytes → ring_of id ≡ record { table = id; bytes = bytes }
-ring_is id bytes words size =
-    let whole : 8 * cells_of bytes ≡ bytes = bytes_of_cells bytes size in
-    let same : 8 * (id.words - 2) ≡ bytes = omega (arith, words, whole) in λ i. record { table = id; bytes = same i }
+ring_is id bytes words size = grind (arith, bytes_of_cells)
 
 sound_start : (ring : Ring) → 64 ≤ ring.bytes → IsSoundProducer (new_producer ring)
 sound_start ring least = record { whole = whole_nothing; stop = stop_at_start; fits = omega (arith, least) }

@@ -15,9 +15,7 @@ none-pass : (p : Act → Bool) → ((ring : RingNo) (place : ℕ) → p (act.See
 none-pass p fails from before [] h = refl
 none-pass p fails from before (act.Processor cpu ∷ looks) h = absurd h
 none-pass p fails from before (act.Tool tool ∷ looks) h = absurd h
-none-pass p fails from before (act.Seen ring place ∷ looks) h =
-    let here : cond {A = ℕ} (p (act.Seen ring place)) 1 0 ≡ 0 = rw (fails ring place) refl in
-    omega (arith, here, count-one p (act.Seen ring place) looks, none-pass p fails (ring.0 + 1) before looks h.2)
+none-pass p fails from before (act.Seen ring place ∷ looks) h = grind (arith, nat_tests, count-one, none-pass p fails (ring.0 + 1) before looks h.2)
 
 pub looks-do-nothing : LooksDoNothingLaw
 looks-do-nothing from before looks h = (

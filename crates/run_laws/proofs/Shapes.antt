@@ -1,5 +1,5 @@
 -- A run-shaped order grows by looks and by lines.
-use Rattle.std.specs.Prelude.{◌≡◌, ℕ, ◌+◌, ◌<◌, ◌≤◌, ◌==◌, false, List, [], ◌∷◌, ◌++◌, length, drop, fold}
+use Rattle.std.specs.Prelude.{◌≡◌, ℕ, ◌+◌, ◌<◌, ◌≤◌, List, [], ◌∷◌, ◌++◌, length, drop, fold}
 use Rattle.std.proofs.{Common.{arith, refl, sym, ap, subst, ◌∙◌, append_assoc, append-nil, get_or}, lemmas.Bool.Decides.{nat_tests}}
 use Rattle.std.proofs.lemmas.List.{length-append, Sums.{fold-append}}
 use Rattle.perf_base.specs.declared.{numbers.{CpuNo.{CpuNo}, RingNo.{RingNo}}, acts.Act.{Act}}
@@ -13,10 +13,7 @@ below-unseen : (last : ℕ) (ring : RingNo) (looks : List Act) → AreBelow ring
 below-unseen last ring [] h = refl
 below-unseen last ring (act.Processor cpu ∷ looks) h = absurd h
 below-unseen last ring (act.Tool tool ∷ looks) h = absurd h
-below-unseen last ring (act.Seen other place ∷ looks) h =
-    let lower : other.0 < ring.0 = h.0 in
-    let off : (other.0 == ring.0) ≡ false = grind (arith, nat_tests) in
-    rw off (below-unseen last ring looks h.1)
+below-unseen last ring (act.Seen other place ∷ looks) h = grind (arith, nat_tests, below-unseen last ring looks h.1)
 
 pub unseen-looks : UnseenLooksLaw
 unseen-looks before looks ring h = fold-append (seen_at ring) 0 before looks ∙ below-unseen (last_seen ring before) ring looks h
@@ -84,9 +81,7 @@ look-in : (from : ℕ) (order some after : List Act) (ring : RingNo) (place : �
 look-in from order [] after ring place h = record { here = h.0; below = tt; above = h.1; later = h.2 }
 look-in from order (act.Processor cpu ∷ some) after ring place h = absurd h
 look-in from order (act.Tool tool ∷ some) after ring place h = absurd h
-look-in from order (act.Seen other seen ∷ some) after ring place h =
-    let next : IsLookIn (other.0 + 1) order some after ring place = look-in (other.0 + 1) order some after ring place h.2 in
-    record { here = omega (arith, h.0, next.here); below = (omega (arith, next.here), next.below); above = next.above; later = next.later }
+look-in from order (act.Seen other seen ∷ some) after ring place h = grind (arith, nat_tests, look-in (other.0 + 1) order some after ring place h.2)
 
 -- acts that may come behind looks: none, or one of a processor
 record AreBehind (more : List Act) : Type 0 where
@@ -109,23 +104,10 @@ looks-rise ring order (act.Seen other place ∷ looks) more h behind = omega (ar
 new-look : (order looks more some rest : List Act) (a : Act) → AreLooks 0 order looks → AreBehind more → looks ≡ some ++ a ∷ rest → IsRunAct (order ++ some) (rest ++ more) a
 new-look order looks more some rest (act.Processor cpu) h behind e = tt
 new-look order looks more some rest (act.Tool tool) h behind e = tt
-new-look order looks more some rest (act.Seen ring place) h behind e =
-    let look : IsLookIn 0 order some rest ring place = look-in 0 order some rest ring place (subst (AreLooks 0 order) e h) in
-    record {
-      stands = looks-stand (ring.0 + 1) order rest more look.later behind;
-      rises = looks-rise ring order rest more look.later behind;
-      above = rw (unseen-looks order some ring look.below) look.above;
-    }
+new-look order looks more some rest (act.Seen ring place) h behind e = grind (arith, nat_tests, look-in, looks-stand, looks-rise, unseen-looks)
 
 grown : (order looks more : List Act) → IsRunShaped order → EndsWithLine order → AreLooks 0 order looks → AreBehind more → IsRunShaped (order ++ (looks ++ more))
-grown order looks more shaped ends h behind before after a e = elim (split order (looks ++ more) before after a e) [
-  | First rest is after_is ↦ subst (λ l. IsRunAct before l a) (sym after_is) (kept order (looks ++ more) before rest a shaped ends is)
-  | Second some is more_is ↦ elim (split looks more some after a more_is) [
-    | First rest within after_is ↦
-        subst (λ l. IsRunAct before l a) (sym after_is) (subst (λ l. IsRunAct l (rest ++ more) a) (sym is) (new-look order looks more some rest a h behind within))
-    | Second some_more within is_more ↦ behind.acts before some_more after a is_more
-  ]
-]
+grown order looks more shaped ends h behind before after a e = grind (arith, nat_tests, split, kept, new-look)
 
 -- one act behind an order
 one-act : (P : Act → Type 0) (some after : List Act) (a b : Act) → P b → b ∷ [] ≡ some ++ a ∷ after → P a

@@ -28,19 +28,11 @@ stop_behind words first others place whole block stop more =
 
 -- a stop at or before the end of a beginning is one of that beginning
 pub stop_before : (words more : List ℕ) (place : ℕ) → IsStop (words ++ more) place → place ≤ 8 * length words → IsStop words place
-stop_before words more place stop h = record {
-  of_words = stop.of_words;
-  within = h;
-  whole = subst IsWhole (take-append-le (place / 8) words more (omega (arith, h))) stop.whole;
-}
+stop_before words more place stop h = grind (arith, take-append-le)
 
 -- whole words have a stop at their end
 pub stop_at_end : (words : List ℕ) (place : ℕ) → IsWhole words → place ≡ 8 * length words → IsStop words place
-stop_at_end words place whole at = record {
-  of_words = omega (arith, at);
-  within = omega (arith, at);
-  whole = subst IsWhole (sym (take_all (place / 8) words (omega (arith, at)))) whole;
-}
+stop_at_end words place whole at = grind (arith, take_all)
 
 -- one more record, whose end is marked
 module _ (marks words : List ℕ) (first : ℕ) (others : List ℕ) (tail place : ℕ) (m : AreMarks marks words tail) (block : IsBlock (first ∷ others))
@@ -114,9 +106,4 @@ marked marks words tail place m h =
 
 -- the marks that were found are found from a later place on
 pub marks_later : (marks words : List ℕ) (tail later : ℕ) → AreMarks marks words tail → tail ≤ later → AreMarks marks words later
-marks_later marks words tail later m h = record {
-  some = m.some;
-  whole = m.whole;
-  stops = m.stops;
-  found = λ place stop low. m.found place stop (omega (arith, low, h));
-}
+marks_later marks words tail later m h = grind arith

@@ -1,5 +1,5 @@
 -- The digits of a hexadecimal number, from the last to the first.
-use Rattle.std.proofs.Common.{◌≡◌, ℕ, zero, suc, ◌+◌, ◌-◌, ◌*◌, ◌/◌, ◌%◌, ◌^◌, ◌<◌, ◌≤◌, false, eqb, List, [], ◌∷◌, length, drop, set, refl, sym, ◌∙◌, arith, add-one}
+use Rattle.std.proofs.Common.{◌≡◌, ℕ, zero, suc, ◌+◌, ◌-◌, ◌*◌, ◌/◌, ◌%◌, ◌^◌, ◌<◌, ◌≤◌, false, eqb, List, [], ◌∷◌, length, drop, set, refl, arith, add-one}
 use Rattle.std.{proofs.{Math.Nat.{div-eq_of_lt, mod-eq_of_lt}, lemmas.Bool.{ne_eqb}}, specs.Fmt.{digits, digits_onto, digit_glyph}}
 use Rattle.script_spec.specs.Forms.{hexadecimal}
 
@@ -13,18 +13,11 @@ onto_begin n = refl
 
 pub onto_last : (start left : ℕ) (written : List ℕ) → left < 16 → onto start left written ≡ digit_glyph false left ∷ written
 unfolding onto
-onto_last start left written l =
-    let q : left / 16 ≡ 0 = div-eq_of_lt l in
-    let r : left % 16 ≡ left = mod-eq_of_lt l in
-    let s : 49 + start ≡ suc (48 + start) = omega arith in
-    rw (s, q, r) refl
+onto_last start left written l = grind (arith, div-eq_of_lt, mod-eq_of_lt, suc)
 
 pub onto_more : (start left : ℕ) (written : List ℕ) → 16 ≤ left → 0 < start → onto start left written ≡ onto (start - 1) (left / 16) (digit_glyph false (left % 16) ∷ written)
 unfolding onto
-onto_more start left written l some =
-    let q : eqb (left / 16) 0 ≡ false = ne_eqb _ _ (λ e. absurd (omega (arith, e, l))) in
-    let s : 49 + start ≡ suc (49 + (start - 1)) = omega arith in
-    rw (s, q) refl
+onto_more start left written l some = grind (arith, eqb, false, ne_eqb, suc)
 
 pub some_place : (start left : ℕ) → 16 ≤ left → left < 16 ^ (start + 1) → 0 < start
 some_place zero left l h = absurd (omega (arith, l, h))
@@ -45,15 +38,9 @@ drop_set (y ∷ xs) (suc i) x l = drop_set xs i x (omega (arith, l))
 -- one digit more was written
 pub digit_more : (places : List ℕ) (start left glyph n : ℕ) → length places ≡ 16 → start ≤ 15 → 16 ≤ left → 0 < start → glyph ≡ digit_glyph false (left % 16)
     → onto start left (drop (start + 1) places) ≡ hexadecimal n → onto (start - 1) (left / 16) (drop (start - 1 + 1) (set places start glyph)) ≡ hexadecimal n
-digit_more places start left glyph n len low l some g h =
-    let e : start - 1 + 1 ≡ start = omega arith in
-    let d : drop start (set places start glyph) ≡ glyph ∷ drop (suc start) places = drop_set places start glyph (omega arith) in
-    let m : onto start left (drop (suc start) places) ≡ onto (start - 1) (left / 16) (digit_glyph false (left % 16) ∷ drop (suc start) places) = onto_more start left (drop (suc start) places) l some in
-    rw (e, d, g) (sym m ∙ (rw add-one at h))
+digit_more places start left glyph n len low l some g h = grind (arith, drop, set, suc, drop_set, false, onto_more, add-one)
 
 -- the first digit was written
 pub digit_last : (places : List ℕ) (start left glyph n : ℕ) → length places ≡ 16 → start ≤ 15 → left < 16 → glyph ≡ digit_glyph false left
     → onto start left (drop (start + 1) places) ≡ hexadecimal n → drop start (set places start glyph) ≡ hexadecimal n
-digit_last places start left glyph n len low l g h =
-    let d : drop start (set places start glyph) ≡ glyph ∷ drop (suc start) places = drop_set places start glyph (omega arith) in
-    rw (d, g) (sym (onto_last start left (drop (suc start) places) l) ∙ (rw add-one at h))
+digit_last places start left glyph n len low l g h = grind (arith, drop, set, suc, drop_set, onto_last, add-one)

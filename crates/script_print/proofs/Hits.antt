@@ -1,6 +1,6 @@
 -- The kinds of a work line, one after the other.
-use Rattle.std.proofs.Common.{◌≡◌, ℕ, zero, suc, ◌<◌, eqb, List, [], ◌∷◌, ◌++◌, length, get_or, take, drop, map, inl, inr, refl, sym, ap, ◌∙◌, arith, append_assoc}
-use Rattle.std.proofs.{lemmas.{Bool.{cases_Bool}, Grind.{flat_map-append}, List.{append-nil, get_or-drop}}, Math.Numerals.{one-add}}
+use Rattle.std.proofs.Common.{◌≡◌, ℕ, zero, suc, ◌<◌, eqb, List, [], ◌∷◌, ◌++◌, length, get_or, take, drop, map, refl, sym, ap, ◌∙◌, arith, append_assoc}
+use Rattle.std.proofs.{lemmas.{Grind.{flat_map-append}, List.{append-nil, get_or-drop}}, Math.Numerals.{one-add}}
 use Rattle.std.specs.{Prelude.{codes}, List.{join_with_byte}}
 use Rattle.perf_base.specs.declared.lines.KindLine.{KindLine}
 use Rattle.script_spec.specs.{Forms.{hit_text}, Printing.{hits_of}}
@@ -13,10 +13,7 @@ hits_text kinds ns = spaced (map hit_text (hits_of kinds ns))
 hits_cons : (ns : List ℕ) (k : KindLine) (kinds : List KindLine) → hits_text (k ∷ kinds) ns ≡ hit_piece k.name (get_or ns 0 0) ++ hits_text kinds (drop 1 ns)
 hits_cons [] k [] = refl
 hits_cons [] k (j ∷ kinds) = refl
-hits_cons (n ∷ ns) k kinds = elim (cases_Bool (eqb n 0)) [
-  | inl t ↦ rw t refl
-  | inr f ↦ rw f refl
-]
+hits_cons (n ∷ ns) k kinds = grind (arith, eqb)
 
 -- the occurrences behind a kind
 abbrev pub behind_kind : List ℕ → KindLine → List ℕ

@@ -1,10 +1,10 @@
 -- Lines of processors and tools: the form that is printed of each is spelled, in range and named, and says the line.
-use Rattle.std.proofs.Common.{◌≡◌, ◌≢◌, ℕ, zero, suc, ◌-◌, ◌<◌, ◌≤◌, true, false, not, eqb, All, List, [], ◌∷◌, ◌++◌, map, length, get_or, take, drop, replicate, Option, Some, None, option_map, inl, inr, refl, sym, ap, ◌∙◌, arith, append_assoc, ◌^◌, ltb}
+use Rattle.std.proofs.Common.{◌≡◌, ◌≢◌, ℕ, zero, suc, ◌-◌, ◌<◌, ◌≤◌, true, false, not, eqb, All, List, [], ◌∷◌, map, length, get_or, take, drop, replicate, Option, Some, None, option_map, inl, inr, refl, sym, ap, ◌∙◌, arith, append_assoc, ◌^◌, ltb}
 use Rattle.std.proofs.lemmas.Bool.{cases_Bool, eqb-true, ne_eqb, and_from, lt-ltb, le-ltb}
 use Rattle.std.proofs.lemmas.List.{take-append-drop, length-drop, length-map, length-take, length-replicate, get_or-map, get_or-take, get_or-replicate, get_or_default, same_lists}
 use Rattle.std.proofs.lemmas.List.{Elements.{All-nil, All-cons, All-head, All-tail, All-weaker}, Kept.{AllPairs-cons}}
 use Rattle.std.proofs.lemmas.{List.Sums.{list_all-from_AllPass, position_or_len_is}, Option.{IfSome_then, none-some}}
-use Rattle.std.specs.{Prelude.{Any, AllPairs, IfSome, codes, decimal}, Str.{bytes_eq}, List.{position_or_len}}
+use Rattle.std.specs.{Prelude.{Any, AllPairs, IfSome, codes}, Str.{bytes_eq}, List.{position_or_len}}
 use Rattle.perf_base.specs.declared.lines.{KindLine.{KindLine}, PmuLine.{PmuLine}, CpuLine.{CpuLine}, ToolLine.{ToolLine}}
 use Rattle.perf_base.specs.declared.{numbers.{EventNo.{EventNo}, RingNo.{RingNo}}, attr.{Attr.{Attr}, Kind.{Kind}, TaskSel.{TaskSel}}}
 use Rattle.perf_base.specs.declared.attr.CpuSel.{CpuSel}
@@ -15,7 +15,7 @@ use Rattle.perf_base.specs.declared.lines.ToolLine.TheVariants as tool_line
 use Rattle.perf_base.specs.declared.attr.Kind.TheVariants as kind
 use Rattle.perf_base.specs.declared.attr.TaskSel.TheVariants as tasks
 use Rattle.perf_base.specs.declared.attr.CpuSel.TheVariants as cpus
-use Rattle.script_spec.specs.{Lines.{pieces}, Forms.{Hit, CpuForm, Form, hit_text, ip_text, ToolForm, Opening}}
+use Rattle.script_spec.specs.{Forms.{Hit, CpuForm, Form, hit_text, ip_text, ToolForm, Opening}}
 use Rattle.script_spec.specs.Meaning.{times_of, occurrences, or_zero, cpu_line_of, kinds_in, number_of, kind_named, tool_line_of, task_sel, cpu_sel, slot, rings_in}
 use Rattle.script_spec.specs.Faults.{IsCpuFormInRange, IsCpuFormNamed, IsToolFormInRange, IsToolFormNamed, IsWide, HasAttr}
 use Rattle.script_spec.specs.Printing.{some_of, hits_of, cpu_form, kind_name, task_number, cpu_number, asked, tool_form}
@@ -25,10 +25,7 @@ use Rattle.line_forms.specs.Leaves as says
 use Rattle.script_print.proofs.{Cutting.{lacks, pieces_at}, Sections.{ring_small}}
 
 pub differ : (a b : List ℕ) → a ≢ b → bytes_eq a b ≡ false
-differ a b ne = elim (cases_Bool (bytes_eq a b)) [
-  | inl t ↦ absurd (ne (bytes_eq-true a b t))
-  | inr f ↦ f
-]
+differ a b ne = grind (arith, bytes_eq-true)
 
 -- ---- the kinds that occur
 
@@ -59,16 +56,11 @@ hits_once (k ∷ kinds) [] h = λ i j d l m. absurd (omega (arith, m))
 hits_once (k ∷ kinds) (n ∷ ns) h =
     let others = hits_once kinds ns (once_rest k kinds h) in
     let own : All (λ g. k.name ≢ g.name) (hits_of kinds ns) = names_are (λ name. k.name ≢ name) kinds ns (λ i d l. h zero (suc i) d (omega arith) (omega (arith, l))) in
-    elim (cases_Bool (eqb n 0)) [
-      | inl t ↦ rw t others
-      | inr f ↦ rw f (AllPairs-cons (λ g h. g.name ≢ h.name) (record { name = k.name; times = n }) (hits_of kinds ns) own others)
-    ]
+    grind (arith, eqb, AllPairs-cons, own)
 
 none_of : (hits : List Hit) (name : List ℕ) → All (λ h. h.name ≢ name) hits → times_of hits name ≡ 0
 none_of [] name h = refl
-none_of (g ∷ hits) name h =
-    let f : bytes_eq g.name name ≡ false = differ g.name name (All-head (λ h. h.name ≢ name) g hits h) in
-    rw f (none_of hits name (All-tail (λ h. h.name ≢ name) g hits h))
+none_of (g ∷ hits) name h = search (false, differ, All-head, All-tail, none_of hits name (All-tail (λ h. h.name ≢ name) g hits h))
 
 -- a kind occurs as often as its number says
 times_at : (kinds : List KindLine) (ns : List ℕ) (i : ℕ) (d : KindLine) → AreOnce kinds → i < length kinds → length kinds ≤ length ns → times_of (hits_of kinds ns) (get_or kinds i d).name ≡ get_or ns i 0
@@ -118,11 +110,7 @@ head_of : (x y : List ℕ) (xs ys : List (List ℕ)) → x ∷ xs ≡ y ∷ ys �
 head_of x y xs ys e = cc
 
 pub no_ip : (h : Hit) → IsName h.name → h.name ≢ codes "ip" → (n : ℕ) → hit_text h ≢ ip_text n
-no_ip h is ne n e =
-    let a : hit_text h ≡ h.name ++ 61 ∷ decimal h.times = append_assoc h.name (61 ∷ []) (decimal h.times) in
-    let p : pieces 61 (h.name ++ 61 ∷ decimal h.times) ≡ h.name ∷ pieces 61 (decimal h.times) = pieces_at 61 h.name (decimal h.times) (name_lacks h.name is) in
-    let q : pieces 61 (codes "ip" ++ 61 ∷ form.hexadecimal n) ≡ codes "ip" ∷ pieces 61 (form.hexadecimal n) = pieces_at 61 (codes "ip") (form.hexadecimal n) refl in
-    ne (head_of h.name (codes "ip") (pieces 61 (decimal h.times)) (pieces 61 (form.hexadecimal n)) (sym p ∙ (ap (pieces 61) (sym a ∙ e) ∙ q)))
+no_ip h is ne n e = grind (arith, append_assoc, pieces_at, name_lacks, head_of)
 
 -- ---- a printed line of a processor
 
@@ -133,10 +121,7 @@ none_or n P a b = elim (cases_Bool (eqb n 0)) [
 ]
 
 pub or_zero_again : (n : ℕ) → or_zero (some_of n) ≡ n
-or_zero_again n = elim (cases_Bool (eqb n 0)) [
-  | inl t ↦ let z : n ≡ 0 = eqb-true n 0 t in rw t (sym z)
-  | inr f ↦ rw f refl
-]
+or_zero_again n = grind (arith, eqb, eqb-true)
 
 pub if_some_of : (n : ℕ) (P : ℕ → Type 0) → (0 < n → P n) → IfSome (some_of n) P
 if_some_of zero P h = tt

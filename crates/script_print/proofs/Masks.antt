@@ -1,6 +1,6 @@
 -- The processors of a PMU, gathered one after the other.
 use Rattle.std.proofs.Common.{◌≡◌, ◌≢◌, ℕ, ◌+◌, ◌^◌, ◌<◌, ◌≤◌, List, length, get_or, map, Some, inl, inr, refl, sym, ap, subst, ◌∙◌, arith}
-use Rattle.std.proofs.lemmas.Bool.{cases_lt, cases_eq}
+use Rattle.std.proofs.lemmas.Bool.{cases_lt}
 use Rattle.std.proofs.lemmas.Nat.Bits.{bit_at_or, bit_at-lt, bit_at-pow_same, bit_at-pow_other, bit_at_above, same_from_bits}
 use Rattle.std.{proofs.lemmas.Option.{slice_get-get_or, slice_get-map}, specs.{Prelude.{bit_or, AllPairs, IfSome, slice_get}, Int.{bit_at}}}
 use Rattle.std.specs.Option.{option_map}
@@ -33,20 +33,13 @@ other_bit pmus k pmu i apart l m ne h = elim (cases_lt k pmu) [
 
 -- a set that has the bit of the PMU's mask at the next processor, and the bits of the old set elsewhere
 gathered_next : (pmus : List PmuLine) (pmu n set next : ℕ) → IsGathered pmus pmu n set → bit_at next n ≡ bit_at (mask_at pmus pmu) n → ((i : ℕ) → i ≢ n → bit_at next i ≡ bit_at set i) → IsGathered pmus pmu (n + 1) next
-gathered_next pmus pmu n set next g here others = record {
-  below = λ i l. elim (cases_eq i n) [
-    | inl e ↦ rw e here
-    | inr ne ↦ others i ne ∙ g.below i (omega (arith, l, ne))
-  ];
-  above = λ i l. others i (λ e. omega (arith, l, e)) ∙ g.above i (omega (arith, l));
-}
+gathered_next pmus pmu n set next g here others = grind arith
 
 pub IsGathered-other : (pmus : List PmuLine) (pmu n set : ℕ) → IsGathered pmus pmu n set → bit_at (mask_at pmus pmu) n ≡ 0 → IsGathered pmus pmu (n + 1) set
 IsGathered-other pmus pmu n set g z = gathered_next pmus pmu n set set g (g.above n (omega arith) ∙ sym z) (λ i ne. refl)
 
 pub IsGathered-own : (pmus : List PmuLine) (pmu n set : ℕ) → IsGathered pmus pmu n set → bit_at (mask_at pmus pmu) n ≡ 1 → IsGathered pmus pmu (n + 1) (bit_or set (2 ^ n))
-IsGathered-own pmus pmu n set g one =
-    gathered_next pmus pmu n set (bit_or set (2 ^ n)) g (omega (arith, one, bit_at_or set (2 ^ n) n, bit_at-pow_same n, bit_at-lt set n)) (λ i ne. omega (arith, bit_at_or set (2 ^ n) i, bit_at-pow_other n i ne))
+IsGathered-own pmus pmu n set g one = grind (arith, gathered_next, bit_at_or, bit_at-pow_same, bit_at-lt, bit_at-pow_other)
 
 set_of : ℕ → CpuSet
 set_of n = record { 0 = n }

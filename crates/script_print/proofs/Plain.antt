@@ -1,6 +1,6 @@
 -- The words of a form have neither spaces nor bytes outside the printable ones.
-use Rattle.std.proofs.Common.{◌≡◌, ℕ, zero, suc, ◌+◌, ◌/◌, ◌%◌, ◌<◌, ◌≤◌, Bool, true, false, ◌&&◌, eqb, leb, ltb, List, [], ◌∷◌, ◌++◌, map, get_or, Option, Some, None, inl, inr, refl, arith}
-use Rattle.std.proofs.lemmas.Bool.{cases_Bool, cases_lt, and_parts, and_from, le-leb, lt-ltb, le-ltb}
+use Rattle.std.proofs.Common.{◌≡◌, ℕ, zero, suc, ◌/◌, ◌%◌, ◌<◌, ◌≤◌, Bool, true, false, ◌&&◌, eqb, leb, ltb, List, [], ◌∷◌, ◌++◌, map, get_or, Option, Some, None, inl, inr, refl, arith}
+use Rattle.std.proofs.lemmas.Bool.{cases_lt, and_parts, and_from, le-leb, lt-ltb, le-ltb}
 use Rattle.std.proofs.lemmas.List.{Elements.{All-head, All-tail, All-weaker}, Folds.{list_all-append}, Sums.{list_all-from_AllPass}}
 use Rattle.std.{proofs.Math.Nat.{mod-lt}, specs.{Prelude.{codes, decimal, flat_map, filter, All}, Int.{bit_at}, List.{list_all, join_with_byte}}}
 use Rattle.std.specs.Fmt.{digits, digits_onto, digit_glyph}
@@ -21,20 +21,14 @@ graphic : (b : ℕ) → 33 ≤ b → b ≤ 126 → is_graphic b ≡ true
 graphic b l h = and_from (leb 33 b) (leb b 126) (le-leb 33 b l) (le-leb b 126 h)
 
 glyph_graphic : (d : ℕ) → d < 16 → is_graphic (digit_glyph false d) ≡ true
-glyph_graphic d l = elim (cases_lt d 10) [
-  | inl low ↦ let t : ltb d 10 ≡ true = lt-ltb _ _ low in rw t (graphic (48 + d) (omega arith) (omega arith))
-  | inr high ↦ let f : ltb d 10 ≡ false = le-ltb _ _ high in rw f (graphic (87 + d) (omega arith) (omega arith))
-]
+glyph_graphic d l = grind (arith, cases_lt, ltb, true, lt-ltb, graphic, false, le-ltb)
 
 onto_plain : (k b n : ℕ) (rest : List ℕ) → 0 < b → b ≤ 16 → is_plain rest ≡ true → is_plain (digits_onto k b false n rest) ≡ true
 onto_plain zero b n rest some few h = h
 onto_plain (suc k) b n rest some few h =
     let low : n % b < b = mod-lt n some in
     let more : is_plain (digit_glyph false (n % b) ∷ rest) ≡ true = and_from (is_graphic (digit_glyph false (n % b))) (is_plain rest) (glyph_graphic (n % b) (omega arith)) h in
-    elim (cases_Bool (eqb (n / b) 0)) [
-      | inl t ↦ rw t more
-      | inr f ↦ rw f (onto_plain k b (n / b) (digit_glyph false (n % b) ∷ rest) some few more)
-    ]
+    grind (arith, eqb, more, false, onto_plain k b (n / b) (digit_glyph false (n % b) ∷ rest) some few more)
 
 decimal_plain : (n : ℕ) → is_plain (decimal n) ≡ true
 unfolding digits
@@ -71,10 +65,7 @@ flags_plain flags = commas_plain (filter (λ n. eqb (bit_at flags n) 1) (0 ∷ 1
 
 bytes_plain : (bytes : List ℕ) → All (λ b. b < 256) bytes → is_plain (flat_map form.byte_text bytes) ≡ true
 bytes_plain [] h = refl
-bytes_plain (b ∷ bs) h =
-    let l : b < 256 = All-head (λ b. b < 256) b bs h in
-    and_from (is_graphic (digit_glyph false (b / 16))) (is_plain (digit_glyph false (b % 16) ∷ flat_map form.byte_text bs)) (glyph_graphic (b / 16) (omega arith))
-    (and_from (is_graphic (digit_glyph false (b % 16))) (is_plain (flat_map form.byte_text bs)) (glyph_graphic (b % 16) (omega arith)) (bytes_plain bs (All-tail (λ b. b < 256) b bs h)))
+bytes_plain (b ∷ bs) h = grind (arith, All-head, and_from, false, glyph_graphic, All-tail, bytes_plain bs (All-tail (λ b. b < 256) b bs h))
 
 -- ---- words
 
@@ -118,12 +109,7 @@ place_plain : (p : form.Opening) (others : List (List ℕ)) → are_plain others
 place_plain p others h = simp (or_plain (codes "all") p.task refl, or_plain (codes "any") p.cpu refl, list_all-append, if_plain p.leader (λ n. codes "leader=" ++ decimal n) decimal_plain, h)
 
 asked_plain : (a : form.Asked) → are_plain (form.asked_words a) ≡ true
-asked_plain a =
-    let period = if_plain a.period (λ n. codes "period=" ++ decimal n) decimal_plain in
-    let sample = if_plain a.sample (λ n. codes "sample=" ++ hexadecimal n) hexadecimal_plain in
-    let format = if_plain a.format (λ n. codes "format=" ++ hexadecimal n) hexadecimal_plain in
-    let flags = if_plain a.flags (λ n. codes "flags=" ++ form.flags_text n) flags_plain in
-    simp (list_all-append, period, sample, format, flags)
+asked_plain a = grind (arith, if_plain, decimal_plain, hexadecimal_plain, flags_plain, list_all-append)
 
 tool_line : (f : ToolForm) → form.IsToolSpelling f → is_line (form.tool_words f) ≡ true
 tool_line (form.OpenKind p name a) h = simp (decimal_plain, name_plain name h.1.0, place_plain p (form.asked_words a) (asked_plain a))

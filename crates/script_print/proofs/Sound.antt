@@ -54,10 +54,7 @@ record IsPrinted (ws : List (List ℕ)) : Type 0 where
 
 is_printed : (ws : List (List ℕ)) → is_line ws ≡ true → IsPrinted ws
 is_printed [] h = absurd cc
-is_printed (w ∷ ws) h = record {
-  bytes = joined_printable (w ∷ ws) h;
-  words = words_again 32 w ws (all_weaker is_plain (lacks 32) (all_weaker is_graphic (λ b. not (eqb b 32)) (λ b g. is_not 32 b (graphic_low b g))) (w ∷ ws) h);
-}
+is_printed (w ∷ ws) h = search (joined_printable, words_again, all_weaker, is_plain, lacks, is_graphic, not, eqb, is_not, graphic_low)
 
 -- ---- sound lines
 

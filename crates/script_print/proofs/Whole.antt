@@ -86,9 +86,7 @@ spaced_acts (a ∷ acts) = ap (λ t. (32 ∷ act_text a) ++ t) (spaced_acts acts
 -- the order line
 pub order_text : (acts : List Act) → 0 < length acts → text (order_forms acts) ≡ codes "order" ++ (acts_text acts ++ 10 ∷ [])
 order_text [] l = absurd (omega (arith, l))
-order_text (a ∷ acts) l =
-    append-nil (line_text (form.Order (a ∷ acts))) ∙ (ap (λ t. t ++ 10 ∷ []) (join_spaced (codes "order") (map act_text (a ∷ acts)) ∙ ap (λ t. codes "order" ++ t) (spaced_acts (a ∷ acts)))
-    ∙ append_assoc (codes "order") (acts_text (a ∷ acts)) (10 ∷ []))
+order_text (a ∷ acts) l = grind (arith, append-nil, join_spaced, spaced_acts, append_assoc)
 
 pub acts_each : IsText acts_text (λ a. 32 ∷ act_text a)
 acts_each = record { nil = refl; cons = λ a acts. refl }

@@ -66,8 +66,7 @@ optional_below o limit = known_if_some (λ n. n < limit) (λ n. below n limit) o
 next_pmu : (before : List Form) (number counters cpus : ℕ) → Known (IsNextPmu before number counters cpus)
 next_pmu before number counters cpus =
     let own : PmuLine = record { counters = counters; cpus = record { 0 = cpus } } in
-    let line : Known (IsPmuLine (cpus_in before) own) =
-    known_as (both (between 1 16 counters) (both (below 0 cpus) (below cpus (2 ^ cpus_in before)))) (λ h. record { counters = h.0; cpus = h.1 }) (λ h. (h.counters, h.cpus)) in
+    let line : Known (IsPmuLine (cpus_in before) own) = grind (arith, known_as, both, between, below) in
     known_as (all_four (same_number number (length (pmus_in before))) (at_most number 3) line (known_all (λ (p : PmuLine). AreApart p own) (λ p. same_number (bit_and p.cpus.0 cpus) 0) (pmus_in before)))
     (λ h. record { next = h.0; few = h.1; line = h.2; apart = h.3 }) (λ h. (h.next, h.few, h.line, h.apart))
 

@@ -1,14 +1,14 @@
 -- The first two lines, and a line as its form.
-use Rattle.std.proofs.Common.{◌≡◌, ◌≢◌, ℕ, ◌-◌, ◌^◌, ◌<◌, ◌≤◌, false, All, List, [], ◌∷◌, get_or, Option, None, refl, sym, ap, subst, ◌∙◌, arith}
+use Rattle.std.proofs.Common.{◌≡◌, ℕ, ◌-◌, ◌^◌, ◌<◌, ◌≤◌, false, All, List, [], ◌∷◌, get_or, Option, None, refl, sym, ap, subst, ◌∙◌, arith}
 use Rattle.std.proofs.lemmas.{Bool.{eqb-false}, Nat.Bits.{bit_at_or, bit_at-zero, same_from_bits}, List.Elements.{All-cons}}
-use Rattle.std.{proofs.Math.Nat.{pow-le-pow_right}, specs.Prelude.{bit_or, IfSome}}
-use Rattle.perf_base.specs.{declared.reasons.SReason.{SReason}, Scripts.{Scripted, empty_script, with_pmu}}
+use Rattle.std.{proofs.Math.Nat.{pow-le-pow_right}, specs.Prelude.{bit_or}}
+use Rattle.perf_base.specs.{declared.reasons.SReason.{SReason}, Scripts.{empty_script, with_pmu}}
 use Rattle.perf_base.specs.declared.reasons.SReason.TheVariants as reason
-use Rattle.script_spec.specs.{Lines.{words_of}, Forms.{Version, Form, IsOfForm}, Meaning.{last_of, processors_in, script_of}}
+use Rattle.script_spec.specs.{Lines.{words_of}, Forms.{Version, Form, IsOfForm}, Meaning.{script_of}}
 use Rattle.script_spec.specs.Faults.{section, IsPlaced, IsNoEnd, IsPrintable, Keeps, IsFaulty, IsSound, rank, IsInRange}
 use Rattle.script_spec.specs.Forms as form
 use Rattle.script_read.specs.declared.{state.State.{State}, progress.Progress.{Progress}}
-use Rattle.script_read.specs.{State.{rank_of, union_of, cpu_number, tool_number, Follows}, Adding.{IsSoundState}}
+use Rattle.script_read.specs.{State.{rank_of, cpu_number, tool_number, Follows}, Adding.{IsSoundState}}
 use Rattle.script_read.{specs.Progress.{Behind, AsksOf, IsFirstOf, IsTaken, ended_of}, proofs.Following.{script_cpus}}
 use Rattle.script_read.specs.declared.state.Section.TheVariants as part
 use Rattle.script_read.specs.declared.progress.Progress.TheVariants as progress
@@ -102,11 +102,7 @@ all_of n l = let p : 2 ^ 1 ≤ 2 ^ n = pow-le-pow_right {n = 2} (omega arith) l 
 
 pub sound_state : (forms : List Form) (s : State) → Follows forms s → IsSoundState s
 unfolding script_of
-sound_state forms s h = record {
-  cpu = subst (λ (o : Option ℕ). IfSome o (λ n. n < s.script.cpus)) (sym h.cpu) (subst (λ k. IfSome (last_of (processors_in forms)) (λ n. n < k)) (sym (script_cpus forms s.script h.script)) h.cpu_within);
-  tool = subst (λ (o : Option ℕ). IfSome o (λ n. n < 4)) (sym h.tool) h.tool_within;
-  named = h.named ∙ ap (λ (x : Scripted). union_of x.pmus) (sym h.script);
-}
+sound_state forms s h = grind (arith, Option, ℕ, script_cpus)
 
 -- ---- the end
 
@@ -136,10 +132,7 @@ rank_high s = go s.section
 pub ended_false : (forms : List Form) (p : Progress) → Behind forms p → ended_of p ≡ false → All IsNoEnd forms
 ended_false forms progress.Nothing b e = rw b (λ k d l. absurd (omega (arith, l)))
 ended_false forms progress.Version b e = rw b.1 (All-cons IsNoEnd (form.Perf b.0) [] tt (λ k d l. absurd (omega (arith, l))))
-ended_false forms (progress.Machine s) h e =
-    let ne : rank_of s.section ≢ 10 = eqb-false _ _ e in
-    let high = rank_high s in
-    low_all forms (rank_of s.section) (omega (arith, ne, high)) h.highest
+ended_false forms (progress.Machine s) h e = grind (arith, eqb-false, low_all)
 
 -- ---- a line as its form
 

@@ -1,5 +1,5 @@
 -- Names that are the same, or not, and the first kind of a name.
-use Rattle.std.proofs.Common.{◌≡◌, ◌≢◌, ℕ, zero, suc, ◌+◌, ◌<◌, ◌≤◌, ◌↔◌, Bool, AllPairs, take, map, length-take, is_some, true, false, All, List, [], ◌∷◌, length, get_or, Option, Some, None, inl, inr, refl, sym, ap, subst, ◌∙◌, arith, ltb, not}
+use Rattle.std.proofs.Common.{◌≡◌, ◌≢◌, ℕ, zero, suc, ◌+◌, ◌<◌, ◌≤◌, ◌↔◌, Bool, AllPairs, take, map, length-take, is_some, true, false, All, List, [], ◌∷◌, length, get_or, Option, Some, None, refl, sym, ap, subst, ◌∙◌, arith, ltb, not}
 use Rattle.std.proofs.lemmas.{Slice.Eq.{bytes_eq-Decides}, Bool.{cases_lt, lt-ltb, le-ltb}}
 use Rattle.std.proofs.lemmas.List.{length-map, get_or_default, get_or-take, take_more, take_all, Sums.{position_or_len_is, fails_before_first}}
 use Rattle.std.proofs.lemmas.{List.Quantifiers.{position-Some, all_pairs_push}, Option.{slice_get-get_or, slice_get_within, same_Some, none-some}}
@@ -56,12 +56,7 @@ declared_some (x ∷ kinds) name i e =
     any_at (λ k. k.name ≡ name) (x ∷ kinds) i x p.0 ((bytes_eq-Decides (get_or (x ∷ kinds) i x).name name).0 p.1)
 
 pub declared_none : (kinds : List KindLine) (name : List ℕ) → number_of kinds name ≡ None → All (λ k. k.name ≢ name) kinds
-declared_none kinds name e = λ k d l same.
-    let t : bytes_eq (get_or kinds k d).name name ≡ true = (bytes_eq-Decides (get_or kinds k d).name name).1 same in
-    elim (cases_lt (position_or_len (λ x. bytes_eq x.name name) kinds) (length kinds)) [
-      | inl within ↦ absurd (none-some (position_or_len (λ x. bytes_eq x.name name) kinds) (sym e ∙ rw (lt-ltb _ _ within) refl))
-      | inr past ↦ let f : bytes_eq (get_or kinds k d).name name ≡ false = fails_before_first (λ x. bytes_eq x.name name) kinds k d (omega arith) in absurd cc
-    ]
+declared_none kinds name e = grind (arith, get_or, true, bytes_eq-Decides, cases_lt, length, none-some, lt-ltb, false, fails_before_first)
 
 pub declared_iff : (kinds : List KindLine) (name : List ℕ) (r : Option ℕ) (b : Bool) → r ≡ number_of kinds name → b ≡ is_some r → IsTrue b ↔ Any (λ k. k.name ≡ name) kinds
 declared_iff kinds name (Some i) b e is = (λ t. declared_some kinds name i (sym e), λ any. is)

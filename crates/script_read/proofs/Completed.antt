@@ -12,27 +12,18 @@ past_none : {X : Type 0} (lists : List (List X)) (n : ℕ) → length lists ≤ 
 past_none lists n l = ap length (get_or_past lists n [] l)
 
 other_cpu : (s : Scripted) (cpu : CpuNo) (a : Act) → length s.cpu_lines ≤ cpu.0 → IsAct s a → is_of_cpu cpu a ≡ false
-other_cpu s cpu (act.Processor p) l h = elim (cases_lt p.0 (length s.cpu_lines)) [
-  | inl less ↦ ne_eqb p.0 cpu.0 (λ e. omega (arith, e, less, l))
-  | inr past ↦ absurd (omega (arith, h, past_none s.cpu_lines p.0 past))
-]
+other_cpu s cpu (act.Processor p) l h = grind (arith, cases_lt, length, ne_eqb, past_none)
 other_cpu s cpu (act.Tool t) l h = refl
 other_cpu s cpu (act.Seen ring place) l h = refl
 
 other_tool : (s : Scripted) (tool : ToolNo) (a : Act) → length s.tool_lines ≤ tool.0 → IsAct s a → is_of_tool tool a ≡ false
 other_tool s tool (act.Processor p) l h = refl
-other_tool s tool (act.Tool t) l h = elim (cases_lt t.0 (length s.tool_lines)) [
-  | inl less ↦ ne_eqb t.0 tool.0 (λ e. omega (arith, e, less, l))
-  | inr past ↦ absurd (omega (arith, h, past_none s.tool_lines t.0 past))
-]
+other_tool s tool (act.Tool t) l h = grind (arith, cases_lt, length, ne_eqb, past_none)
 other_tool s tool (act.Seen ring place) l h = refl
 
 none_counted : (test : Act → Bool) (s : Scripted) (order : List Act) → ((a : Act) → IsAct s a → test a ≡ false) → All (IsAct s) order → count_by test order ≡ 0
 none_counted test s [] h all = refl
-none_counted test s (a ∷ order) h all =
-    let f : test a ≡ false = h a (All-head (IsAct s) a order all) in
-    let n : count_by test order ≡ 0 = none_counted test s order h (All-tail (IsAct s) a order all) in
-    rw f (omega (arith, n))
+none_counted test s (a ∷ order) h all = grind (arith, false, All-head, All-tail, none_counted test s order h (All-tail (IsAct s) a order all))
 
 -- Counts are those of the lines of each exactly where each has as many acts as lines.
 counts_iff : {X : Type 0} (lists : List (List X)) (counts : List ℕ) (done : ℕ → ℕ) (n : ℕ) → length lists ≡ n → length counts ≡ n → ((m : ℕ) → m < n → get_or counts m 0 ≡ done m) → ((m : ℕ) → n ≤ m → done m ≡ 0)

@@ -49,14 +49,9 @@ first_from before f (suc m) n e kept = elim (asked before f (ranked n)) [
   | Yes here ↦
       first_from before f m (suc n) (omega (arith, e)) (λ q l. elim (cases_lt (rank q) n) [
         | inl less ↦ kept q less
-        | inr past ↦
-            let at : n ≡ rank q = omega (arith, l, past) in
-            let same : ranked n ≡ q = ap ranked at ∙ ranked_back q in
-            subst (AsksOf before f) same here
+        | inr past ↦ grind (arith, past, ranked, ranked_back)
       ])
-  | No not ↦
-      let at : rank (ranked n) ≡ n = rank_ranked n (omega (arith, e)) in
-      inr (ranked n, record { earlier = λ q l. kept q (omega (arith, l, at)); broken = not })
+  | No not ↦ grind (arith, ranked, not)
 ]
 
 form_decided : (before : List Form) (f : Form) → ((q : SReason) → AsksOf before f q) ⊎ ((r : SReason) × IsFirstOf before f r)

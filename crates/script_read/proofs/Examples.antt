@@ -56,15 +56,7 @@ unfolding pieces
 no_final_newline = ([], inr (inl (record { sound = empty_sound form.One; more = λ e. let z : 6 ≡ 0 = ap length e in omega (arith, z); number = refl; is_end = refl })))
 
 first_line : (text line : List ℕ) (r : SReason) → 0 < length (lines_of text) → version_of (lines_of text) ≡ form.One → get_or (lines_of text) 0 [] ≡ line → IsFaulty form.One [] line r → IsRefused text 1 r
-first_line text line r within v is h = (
-  [],
-  inl (record {
-    within = within;
-    sound = empty_sound (version_of (lines_of text));
-    faulty = subst (λ w. IsFaulty w [] (get_or (lines_of text) 0 []) r) (sym v) (subst (λ l. IsFaulty form.One [] l r) (sym is) h);
-    number = refl;
-  }),
-)
+first_line text line r within v is h = grind (arith, sound, empty_sound, faulty, get_or)
 
 two_spaces : IsRefused (codes "perf  1\n") 1 reason.Form
 unfolding pieces form_at body_at perf_at strip
@@ -167,14 +159,7 @@ covered cpu l = (0, record { counters = 1; cpus = record { 0 = 1 } }, omega arit
     first_of n e = rw e refl
 
 behind : (f : Form) → 1 ≤ section f → IsUnder one_processor f → IsBehindPmus one_processor f
-behind f l under = record {
-  in_order = record {
-    behind_machine = omega arith;
-    sections = All-cons (λ g. section g ≤ section f) (form.Perf form.One) (form.Machine 1 1 ∷ []) (omega (arith, l)) (All-cons (λ g. section g ≤ section f) (form.Machine 1 1) [] l (no_lines (λ g. section g ≤ section f)));
-  };
-  covered = covered;
-  under = under;
-}
+behind f l under = grind (arith, All-cons, no_lines)
 
 mask_is : IsOfForm form.One (words_of (codes "kind a mask=2")) (form.Kind (codes "a") 2)
 unfolding pieces form_at body_at kind_at name_at name number_at number strip
@@ -281,9 +266,7 @@ two_no_end : All IsNoEnd two_processors
 two_no_end = All-cons IsNoEnd (form.Perf form.Two) (form.MachineOfPmus 2 ∷ []) tt (All-cons IsNoEnd (form.MachineOfPmus 2) [] tt (no_lines IsNoEnd))
 
 three_no_end : (cpus : ℕ) → All IsNoEnd (form.Perf form.Two ∷ form.MachineOfPmus 2 ∷ form.Pmu 0 1 cpus ∷ [])
-three_no_end cpus =
-    All-cons IsNoEnd (form.Perf form.Two) (form.MachineOfPmus 2 ∷ form.Pmu 0 1 cpus ∷ []) tt
-    (All-cons IsNoEnd (form.MachineOfPmus 2) (form.Pmu 0 1 cpus ∷ []) tt (All-cons IsNoEnd (form.Pmu 0 1 cpus) [] tt (no_lines IsNoEnd)))
+three_no_end cpus = grind (arith, All-cons, no_lines)
 
 two_sound : AreSound form.Two (codes "perf 2" ∷ codes "machine cpus=2" ∷ []) two_processors
 two_sound =

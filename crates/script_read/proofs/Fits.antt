@@ -5,7 +5,7 @@ use Rattle.std.proofs.lemmas.List.{Elements.{All-cons, All-head, All-tail, All-a
 use Rattle.std.{proofs.Math.Nat.{pow-le-pow_right}, specs.{Prelude.{replicate, IfSome}, Str.{bytes_eq}}}
 use Rattle.perf_base.specs.declared.{attr.Kind.{Kind}, lines.{PmuLine.{PmuLine}, KindLine.{KindLine}, ToolLine.{ToolLine}}}
 use Rattle.perf_base.specs.Scripts.{Scripted, IsPmuLine, IsMaskOf, IsCpuLine, IsToolLine, IsKind, IsTaskSel, IsCpuSel, IsSlot}
-use Rattle.perf_base.specs.Kinds.{software_kind, software_name}
+use Rattle.perf_base.specs.Kinds.{software_kind}
 use Rattle.perf_base.specs.declared.attr.Kind.TheVariants as kind
 use Rattle.attr_bytes.{proofs.Bits.{flags_of_word-few}, specs.{Kinds.{kind_numbered}, Layout.{type_in, config_in, flag_word_in}}}
 use Rattle.script_spec.specs.{Forms.{Hit, CpuForm, ToolForm}, Faults.{IsAmount, IsCpuFormInRange, IsToolFormInRange}}
@@ -19,18 +19,13 @@ mask_small (p ∷ pmus) n zero mask all h =
     let line = All-head (IsPmuLine n) p pmus all in
     let le : 2 ^ p.counters ≤ 2 ^ 16 = let c : p.counters ≤ 16 = line.counters.1 in pow-le-pow_right {n = 2} (omega arith) c in
     (omega arith, omega (arith, le, h.1))
-mask_small (p ∷ pmus) n (suc k) mask all h =
-    let r = mask_small pmus n k mask (All-tail (IsPmuLine n) p pmus all) h in
-    (omega (arith, r.0), r.1)
+mask_small (p ∷ pmus) n (suc k) mask all h = grind (arith, All-tail, mask_small pmus n k mask (All-tail (IsPmuLine n) p pmus all) h)
 
 -- ---- lines of processors
 
 times_few : (hits : List Hit) (name : List ℕ) → All (λ h. IsAmount h.times) hits → times_of hits name ≤ 1000000000
 times_few [] name all = omega arith
-times_few (h ∷ hits) name all = elim (cases_Bool (bytes_eq h.name name)) [
-  | inl t ↦ rw t (All-head (λ (g : Hit). IsAmount g.times) h hits all)
-  | inr f ↦ rw f (times_few hits name (All-tail (λ (g : Hit). IsAmount g.times) h hits all))
-]
+times_few (h ∷ hits) name all = grind (arith, All-head, All-tail, times_few hits name (All-tail (λ (g : Hit). IsAmount g.times) h hits all))
 
 all_times : (kinds : List KindLine) (hits : List Hit) → All (λ h. IsAmount h.times) hits → All (λ n. n ≤ 1000000000) (map (λ k. times_of hits k.name) kinds)
 all_times [] hits all = λ k d l. absurd (omega arith)
@@ -62,19 +57,7 @@ abbrev IsAnyKind : Option Kind → Type 0
 IsAnyKind o = (n : ℕ) → IfSome o (IsKind n)
 
 software_fits : (name : List ℕ) → IsAnyKind (software_kind name)
-software_fits name n = elim (cases_Bool (bytes_eq name (software_name kind.ContextSwitches))) [
-  | inl t ↦ rw t tt
-  | inr f ↦ elim (cases_Bool (bytes_eq name (software_name kind.CpuMigrations))) [
-    | inl t ↦ rw (f, t) tt
-    | inr g ↦ elim (cases_Bool (bytes_eq name (software_name kind.TaskClock))) [
-      | inl t ↦ rw (f, g, t) tt
-      | inr h ↦ elim (cases_Bool (bytes_eq name (software_name kind.Dummy))) [
-        | inl t ↦ rw (f, g, h, t) tt
-        | inr i ↦ rw (f, g, h, i) tt
-      ]
-    ]
-  ]
-]
+software_fits name n = grind arith
 
 named_fits : (kinds : List KindLine) (name : List ℕ) (k : Kind) → kind_named kinds name ≡ Some k → IsKind (length kinds) k
 named_fits kinds name k e = go (number_of kinds name) refl

@@ -1,13 +1,13 @@
 -- What is asked by the state is what is asked by the forms.
-use Rattle.std.proofs.Common.{◌≡◌, ℕ, zero, suc, ◌-◌, ◌<◌, ◌≤◌, ◌↔◌, All, List, [], ◌∷◌, length, get_or, Option, Some, None, option_map, refl, sym, ap, subst, ◌∙◌, arith}
-use Rattle.std.{proofs.lemmas.List.Elements.{All-weaker, All-head, All-tail}, specs.Prelude.{slice_get, bit_and, IfSome, IsSome}}
-use Rattle.perf_base.specs.{declared.{numbers.CpuNo.{CpuNo}, reasons.SReason.{SReason}}, Cpus.{HasCpu}, Scripts.{Scripted}}
+use Rattle.std.proofs.Common.{◌≡◌, ℕ, zero, suc, ◌-◌, ◌<◌, ◌≤◌, ◌↔◌, All, List, [], ◌∷◌, length, get_or, Option, Some, None, option_map, refl, sym, ap, subst, arith}
+use Rattle.std.{proofs.lemmas.List.Elements.{All-weaker, All-head, All-tail}, specs.Prelude.{slice_get, IfSome, IsSome}}
+use Rattle.perf_base.specs.{declared.{numbers.CpuNo.{CpuNo}, reasons.SReason.{SReason}}, Scripts.{Scripted}}
 use Rattle.perf_base.specs.declared.reasons.SReason.TheVariants as reason
 use Rattle.script_spec.specs.{Forms.{Form, CpuForm, ToolForm}, Meaning.{pmus_in, processors_in, tools_in, last_of, script_of}}
-use Rattle.script_spec.specs.Faults.{section, IsInOrder, AreCovered, IsUnder, IsBehindPmus, IsPlaced, IsInRange, IsCpuFormNamed, IsToolFormNamed, IsNamed}
+use Rattle.script_spec.specs.Faults.{IsInOrder, AreCovered, IsUnder, IsBehindPmus, IsPlaced, IsInRange, IsCpuFormNamed, IsToolFormNamed, IsNamed}
 use Rattle.script_spec.specs.Forms as form
 use Rattle.script_read.specs.declared.{state.State.{State}, fault.LineFault.{LineFault}}
-use Rattle.script_read.specs.State.{rank_of, cpu_number, tool_number, union_of, IsGreatest, Follows}
+use Rattle.script_read.specs.State.{union_of, IsGreatest, Follows}
 use Rattle.script_read.specs.{Place.{IsCoveredOf, IsUnderOf, IsInOrderOf, IsBehindOf, IsPlacedOf}, Numbers.{IsInRangeOf}}
 use Rattle.script_read.specs.{Names.{IsCpuFormNamedOf, IsToolFormNamedOf, IsNamedOf, IsWithinLimitsOf, IsLightOf}, Adding.{Asks, IsFirst}}
 use Rattle.script_read.{specs.{Fault.{Blames}, Progress.{AsksOf, IsFirstOf}}, proofs.Following.{rank_part, none_empty}}
@@ -24,20 +24,11 @@ same_state forms s e = ap (λ (x : Scripted). record s { script = x }) e
 -- ---- PLACE
 
 order_iff : (forms : List Form) (s : State) (f : Form) → Follows forms s → IsInOrderOf s f ↔ IsInOrder forms f
-order_iff forms s f h = (
-  λ o. record { behind_machine = h.two; sections = All-weaker (λ g. section g ≤ rank_of s.section) (λ g. section g ≤ section f) (λ g l. omega (arith, l, o, rank_part f)) forms h.highest },
-  λ i. let a = h.reached in
-      let l : section (get_or forms a.0 a.1) ≤ section f = i.sections a.0 a.1 a.2 in
-      let e : section (get_or forms a.0 a.1) ≡ rank_of s.section = ap section a.3 ∙ a.4 in
-      omega (arith, l, e, rank_part f),
-)
+order_iff forms s f h = grind (arith, All-weaker, rank_part, get_or)
 
 covered_iff : (forms : List Form) (s : State) → s.named.0 ≡ union_of (pmus_in forms) → IsCoveredOf (with_said forms s) ↔ AreCovered forms
 unfolding script_of
-covered_iff forms s e = (
-  λ c cpu l. covered_any (pmus_in forms) cpu (subst (λ n. HasCpu (record { 0 = n }) cpu) e (c cpu l)),
-  λ c cpu l. subst (λ n. HasCpu (record { 0 = n }) cpu) (sym e) (any_covered (pmus_in forms) cpu (c cpu l)),
-)
+covered_iff forms s e = grind (arith, covered_any, any_covered)
 
 some_iff : {A : Type 0} (view : A → ℕ) (o : Option A) (last : Option ℕ) → option_map view o ≡ last → IsSome o ↔ IsSome last
 some_iff view (Some x) (Some n) e = (λ t. refl, λ t. refl)
@@ -90,16 +81,9 @@ next_iff ns last n e h = (λ l. below_strictly ns n h (subst (λ (o : Option ℕ
 
 range_iff : (forms : List Form) (s : State) (f : Form) → Follows forms s → IsInRangeOf (with_said forms s) f ↔ IsInRange forms f
 unfolding script_of
-range_iff forms s (form.Pmu number counters cpus) h = (
-  λ r. record { next = r.next; few = r.few; line = r.line; apart = union_apart (pmus_in forms) cpus (ap (λ n. bit_and n cpus) (sym h.named) ∙ r.apart) },
-  λ r. record { next = r.next; few = r.few; line = r.line; apart = ap (λ n. bit_and n cpus) h.named ∙ apart_union (pmus_in forms) cpus r.apart },
-)
-range_iff forms s (form.Processor n) h =
-    let i = next_iff (processors_in forms) (cpu_number s.cpu) n h.cpu h.cpus_rise in
-    (λ r. (r.0, i.0 r.1), λ r. (r.0, i.1 r.1))
-range_iff forms s (form.Tool n) h =
-    let i = next_iff (tools_in forms) (tool_number s.tool) n h.tool h.tools_rise in
-    (λ r. (r.0, i.0 r.1), λ r. (r.0, i.1 r.1))
+range_iff forms s (form.Pmu number counters cpus) h = grind (arith, union_apart, apart_union)
+range_iff forms s (form.Processor n) h = grind (arith, next_iff)
+range_iff forms s (form.Tool n) h = grind (arith, next_iff)
 range_iff forms s other h = (λ r. r, λ r. r)
 
 -- ---- NAME, LIMIT and WEIGHT
@@ -147,10 +131,7 @@ asks_iff forms s f q h =
     (λ a. i.0 (subst (λ x. Asks x f q) e a), λ a. subst (λ x. Asks x f q) (sym e) (i.1 a))
 
 first_of_iff : (forms : List Form) (s : State) (f : Form) (r : SReason) → Follows forms s → IsFirst s f r → IsFirstOf forms f r
-first_of_iff forms s f r h i = record {
-  earlier = λ q l. (asks_iff forms s f q h).0 (i.earlier q l);
-  broken = λ a. i.broken ((asks_iff forms s f r h).1 a);
-}
+first_of_iff forms s f r h i = grind (arith, asks_iff)
 
 pub blames_more : (forms : List Form) (s : State) (f : Form) (e : LineFault) → Follows forms s → Blames e (IsFirst s f) → Blames e (IsFirstOf forms f)
 blames_more forms s f (fault.Bad r) h first = first_of_iff forms s f r h first

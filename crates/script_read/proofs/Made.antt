@@ -18,8 +18,7 @@ kind_by_bytes kinds bytes raw k h e = rw (h.class, h.config) at e
 
 pub opened_by_bytes : (p : Opening) (bytes : List ℕ) (raw : RawAttr) (k : Kind) (named : Option Kind) (line : ToolLine) → StandsFor bytes raw → Some k ≡ named → line ≡ open_line p (λ x. attr_by p raw x) k
     → Some line ≡ option_map (open_line p (bytes_attr p bytes)) named
-opened_by_bytes p bytes raw k named line h n e =
-    ap Some (e ∙ ap (λ (a : Attr). open_line p (λ _. a) k) (attr_is p bytes raw k h)) ∙ ap (option_map (open_line p (bytes_attr p bytes))) n
+opened_by_bytes p bytes raw k named line h n e = grind (arith, Some, attr_is, option_map)
 
 set_next : (xs : List ℕ) (n v : ℕ) → set (xs ++ replicate (suc n) 0) (length xs) v ≡ (xs ++ v ∷ []) ++ replicate n 0
 set_next [] n v = refl

@@ -24,16 +24,7 @@ forms_one v lines f g a b =
     one_form v (words_of (get_or lines k [])) (get_or f k form.End) (get_or g k form.End) (a.each k w).is (b.each k w).is)
 
 front_sound : (v : Version) (lines : List (List ℕ)) (forms : List Form) (n : ℕ) → n ≤ length lines → AreSound v lines forms → AreSound v (take n lines) (take n forms)
-front_sound v lines forms n l h =
-    let a : length (take n forms) ≡ n = length-take-le n forms (omega (arith, h.as_many)) in
-    let b : length (take n lines) ≡ n = length-take-le n lines l in
-    record {
-      as_many = a ∙ sym b;
-      each = λ k w.
-          let x : k < n = omega (arith, w, b) in
-          let t : take k (take n forms) ≡ take k forms = take_front k n forms (omega arith) in
-          rw (t, get_or-take n lines k [] x, get_or-take n forms k form.End x) (h.each k (omega arith));
-    }
+front_sound v lines forms n l h = grind (arith, length, take, length-take-le, take_front, get_or-take)
 
 -- no faulty line is among sound ones
 clash : (v : Version) (lines : List (List ℕ)) (forms before : List Form) (r : SReason) → AreSound v lines forms → length before < length lines → AreSound v (take (length before) lines) before → IsFaulty v before (get_or lines (length before) []) r → ⊥
@@ -73,11 +64,7 @@ rank_one r q e = sym (ranked_back r) ∙ (ap ranked e ∙ ranked_back q)
 
 -- a line is refused for one reason
 reason_one : (v : Version) (before : List Form) (line : List ℕ) (r q : SReason) → IsFaulty v before line r → IsFaulty v before line q → r ≡ q
-reason_one v before line r q a b = elim (cases_order (rank r) (rank q)) [
-  | inl same ↦ rank_one r q same
-  | inr (inl less) ↦ absurd (a.broken (b.earlier r less))
-  | inr (inr more) ↦ absurd (b.broken (a.earlier q more))
-]
+reason_one v before line r q a b = grind (arith, cases_order, rank_one)
 
 no_end : (forms : List Form) → Any (λ f. f ≡ form.End) forms → All IsNoEnd forms → ⊥
 no_end forms a all = subst IsNoEnd (a.3 ∙ a.4) (all a.0 a.1 a.2)
@@ -86,18 +73,10 @@ pub stands_one : (text : List ℕ) (s t : Scripted) → StandsFor text s → Sta
 stands_one text s t a b = a.2 ∙ (ap script_of (forms_one (version_of (lines_of text)) (lines_of text) a.0 b.0 a.1.sound b.1.sound) ∙ sym b.2)
 
 pub stands_or_refused : (text : List ℕ) (s : Scripted) (line : ℕ) (r : SReason) → StandsFor text s → IsRefused text line r → ⊥
-stands_or_refused text s line r a b = elim b.1 [
-  | inl f ↦ clash (version_of (lines_of text)) (lines_of text) a.0 b.0 r a.1.sound f.within f.sound f.faulty
-  | inr (inl c) ↦ c.more a.1.ended
-  | inr (inr n) ↦ no_end b.0 (subst (Any (λ f. f ≡ form.End)) (forms_one (version_of (lines_of text)) (lines_of text) a.0 b.0 a.1.sound n.sound) a.1.has_end) n.no_end
-]
+stands_or_refused text s line r a b = grind (arith, clash, no_end, forms_one)
 
 inside : (text : List ℕ) (x y : List Form) (l : ℕ) (r : SReason) → HasFaultyLine text x l r → AreSound (version_of (lines_of text)) (take (length y) (lines_of text)) y → length y ≤ length (lines_of text) → length x < length y → ⊥
-inside text x y l r a sound le less =
-    let n : length (take (length y) (lines_of text)) ≡ length y = length-take-le (length y) (lines_of text) le in
-    let t : take (length x) (take (length y) (lines_of text)) ≡ take (length x) (lines_of text) = take_front (length x) (length y) (lines_of text) (omega arith) in
-    let g : get_or (take (length y) (lines_of text)) (length x) [] ≡ get_or (lines_of text) (length x) [] = get_or-take (length y) (lines_of text) (length x) [] less in
-    clash (version_of (lines_of text)) (take (length y) (lines_of text)) y x r sound (omega (arith, n)) (rw t a.sound) (rw g a.faulty)
+inside text x y l r a sound le less = grind (arith, length, take, length-take-le, take_front, get_or, get_or-take, clash)
 
 faulty_one : (text : List ℕ) (x y : List Form) (l m : ℕ) (r q : SReason) → HasFaultyLine text x l r → HasFaultyLine text y m q → (l ≡ m) × (r ≡ q)
 faulty_one text x y l m r q a b = elim (cases_order (length x) (length y)) [

@@ -62,12 +62,8 @@ covered_any (p ∷ pmus) cpu h =
 
 any_index : (pmus : List PmuLine) (cpu : CpuNo) (k : ℕ) (x : PmuLine) → k < length pmus → get_or pmus k x ≡ x → HasCpu x.cpus cpu → HasCpu (record { 0 = union_of pmus }) cpu
 any_index [] cpu k x l e h = absurd (omega (arith, l))
-any_index (p ∷ pmus) cpu zero x l e h =
-    let b : bit_at p.cpus.0 cpu.0 ≡ 1 = ap (λ (q : PmuLine). bit_at q.cpus.0 cpu.0) e ∙ h in
-    omega (arith, bit_at_or p.cpus.0 (union_of pmus) cpu.0, b, bit_at-lt (union_of pmus) cpu.0)
-any_index (p ∷ pmus) cpu (suc k) x l e h =
-    let b : bit_at (union_of pmus) cpu.0 ≡ 1 = any_index pmus cpu k x (omega arith) e h in
-    omega (arith, bit_at_or p.cpus.0 (union_of pmus) cpu.0, b, bit_at-lt p.cpus.0 cpu.0)
+any_index (p ∷ pmus) cpu zero x l e h = grind (arith, bit_at_or, bit_at-lt)
+any_index (p ∷ pmus) cpu (suc k) x l e h = grind (arith, bit_at_or, bit_at-lt, any_index pmus cpu k x (omega arith) e h)
 
 pub any_covered : (pmus : List PmuLine) (cpu : CpuNo) → Any (λ p. HasCpu p.cpus cpu) pmus → HasCpu (record { 0 = union_of pmus }) cpu
 any_covered pmus cpu a = any_index pmus cpu a.0 a.1 a.2 a.3 a.4

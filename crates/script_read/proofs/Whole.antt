@@ -1,5 +1,5 @@
 -- Line after line, and the whole text.
-use Rattle.std.proofs.Common.{◌≡◌, ℕ, ◌+◌, ◌<◌, true, List, [], ◌∷◌, ◌++◌, length, length-append, get_or, take, inl, inr, refl, sym, ap, subst, ◌∙◌, arith, append_assoc}
+use Rattle.std.proofs.Common.{◌≡◌, ℕ, ◌+◌, true, List, [], ◌∷◌, ◌++◌, length, length-append, get_or, take, inl, inr, refl, sym, ap, subst, ◌∙◌, arith, append_assoc}
 use Rattle.std.proofs.lemmas.{Bool.{cases_lt, eqb-true}, List.{append-nil, length_push, take-append-le, take_at, get_or_append_left}}
 use Rattle.std.specs.Prelude.{Any}
 use Rattle.perf_base.specs.{declared.reasons.SReason.{SReason}, Scripts.{Scripted}}
@@ -23,16 +23,8 @@ pub sound_more : (v : Version) (lines : List (List ℕ)) (before : List Form) (l
 sound_more v lines before line f h s = record {
   as_many = length_push before f ∙ (ap (λ n. n + 1) h.as_many ∙ sym (length_push lines line));
   each = λ k l. elim (cases_lt k (length lines)) [
-    | inl less ↦
-        let b : k < length before = omega (arith, h.as_many) in
-        rw (take-append-le k before (f ∷ []) (omega arith), get_or_append_left lines (line ∷ []) [] k less, get_or_append_left before (f ∷ []) form.End k b) (h.each k less)
-    | inr past ↦
-        let n : k ≡ length lines = omega (arith, l, length_push lines line) in
-        let m : length before ≡ k = h.as_many ∙ sym n in
-        let t : take k (before ++ f ∷ []) ≡ before = take_at before (f ∷ []) k m in
-        let x : get_or (lines ++ line ∷ []) k [] ≡ line = ap (λ j. get_or (lines ++ line ∷ []) j []) n ∙ get_last lines line [] [] in
-        let y : get_or (before ++ f ∷ []) k form.End ≡ f = ap (λ j. get_or (before ++ f ∷ []) j form.End) (sym m) ∙ get_last before f form.End [] in
-        rw (t, x, y) s
+    | inl less ↦ grind (arith, length, take-append-le, get_or_append_left, less)
+    | inr past ↦ grind (arith, length, length_push, take, take_at, get_or, get_last)
   ];
 }
 

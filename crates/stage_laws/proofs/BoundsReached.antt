@@ -1,10 +1,10 @@
 -- What a step adds to an event with its copies: a processor reaches at most one instance of a family.
 use Rattle.std.specs.Prelude.{◌≡◌, ℕ, ◌+◌, ◌≤◌, ◌==◌, Bool, true, false, cond, List, [], ◌∷◌, ◌++◌, map, filter, find, flat_map, slice_index_or, Some}
-use Rattle.std.proofs.{Common.{arith, refl, ap, ◌∙◌, sym, inl, inr}, Math.Nat.{mul-le-mul_right}, lemmas.Bool.{cases_Bool, eq-eqb}}
+use Rattle.std.proofs.{Common.{arith, refl, ◌∙◌, sym, inl, inr}, Math.Nat.{mul-le-mul_right}, lemmas.Bool.{cases_Bool, eq-eqb}}
 use Rattle.std.proofs.lemmas.Bool.Decides.{nat_tests}
 use Rattle.perf_base.specs.{declared.numbers.{CpuNo.{CpuNo}, EventNo.{EventNo}}, Standings.{stands_on}}
 use Rattle.stage_spec.specs.{declared.instance.Instance.{Instance}, Hardware.{Hardware}}
-use Rattle.stage_spec.specs.{Stage.{Stage, Group, members_of, all_instances, is_of_family}, Effective.{is_ready, ready_members, state_in}}
+use Rattle.stage_spec.specs.{Stage.{Stage, Group, members_of, all_instances, is_of_family}, Effective.{is_ready}}
 use Rattle.stage_spec.specs.Verdict.{Judged, is_eligible, groups_on, judge, judge_pass, judge_passes, passes, verdicts, on_instances, reached}
 use Rattle.stage_spec.{specs.Shares.{of_instance, ready_instances}, proofs.{Each.{Each, weaker-Each}, Parts.{All-from_Each, Each-from_All}}}
 use Rattle.stage_laws.{specs.Sound.{has_id, IsNumbered}, proofs.{Leaders.{found_only}, Tasks.{some-same}}}
@@ -75,14 +75,7 @@ on-le f hw s cpu =
     )
 
 pub ready-le : (f : Instance → ℕ) (s : Stage) (cpu : CpuNo) → total f (ready_instances s cpu) ≤ total f (reached s cpu)
-ready-le f s cpu =
-    let groups : List Group = flat_map (λ pass. pass) (passes s cpu) in
-    omega (
-      arith,
-      total-flat_map f ready_members groups,
-      total-le (λ g. total f (ready_members g)) (all_of f) (λ g. total-filter_le f (λ i. is_ready (state_in g i)) (members_of g)) groups,
-      total-flat_map f members_of groups,
-    )
+ready-le f s cpu = search (nat_tests, total-flat_map, total-le, total, total-filter_le)
 
 -- what one id gets is no more than what all instances of that id get
 abbrev if_id : ℕ → (Instance → ℕ) → Instance → ℕ
@@ -91,14 +84,7 @@ if_id id f j = cond (id == j.id) (f j) 0
 found-le : (f : Instance → ℕ) (id : ℕ) (ys : List Instance) → of_instance f id ys ≤ total (if_id id f) ys
 unfolding total
 found-le f id [] = omega arith
-found-le f id (y ∷ ys) = elim (cases_Bool (y.id == id)) [
-  | inl same ↦
-      let other : (id == y.id) ≡ true = grind (arith, nat_tests, same) in
-      rw (same, other) (omega arith)
-  | inr apart ↦
-      let other : (id == y.id) ≡ false = grind (arith, nat_tests, apart) in
-      rw (apart, other) (omega (arith, found-le f id ys))
-]
+found-le f id (y ∷ ys) = grind (arith, nat_tests, found-le f id ys)
 
 -- an instance of the stage takes part once, and only where it is of the family
 abbrev pub of_family : EventNo → (Instance → ℕ) → Instance → ℕ
@@ -117,12 +103,7 @@ if_nothing false n h = refl
 -- an instance of another family has another id than each instance of this one
 none_of_family : (e : EventNo) (f : Instance → ℕ) (xs : List Instance) (j : Instance) → find (has_id j.id) xs ≡ Some j → is_of_family e j ≡ false → (i : Instance)
     → (has_id j.id i ≡ true → find (has_id j.id) xs ≡ Some i) → of_family e (λ i. if_id i.id f j) i ≡ 0
-none_of_family e f xs j here other i only = elim (cases_Bool (has_id j.id i)) [
-  | inl same ↦
-      let one : i ≡ j = some-same i j (sym (only same) ∙ here) in
-      rw (ap (is_of_family e) one ∙ other) refl
-  | inr apart ↦ if_nothing (is_of_family e i) (if_id i.id f j) (ap (λ b. cond b (f j) 0) apart)
-]
+none_of_family e f xs j here other i only = grind (arith, nat_tests, some-same, if_nothing)
 
 takes_part : (s : Stage) (e : EventNo) (f : Instance → ℕ) → IsNumbered s → Each (λ j. its_part s e f j ≤ of_family e f j) (all_instances s)
 takes_part s e f n =

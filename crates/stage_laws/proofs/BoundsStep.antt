@@ -1,7 +1,7 @@
 -- What a step adds to an event with its copies is at most what it adds to one instance.
 use Rattle.std.specs.Prelude.{◌≡◌, ℕ, ◌+◌, ◌≤◌, ◌==◌, max, Bool, true, false, not, ◌&&◌, List, [], ◌∷◌, filter, slice_index, Option, Some, None, if◌then◌else◌, zero, suc}
-use Rattle.std.{specs.List.{fold}, proofs.{Common.{arith, refl, ap, ◌∙◌, sym, inl, inr}, Math.Nat.{le-max_left, le-max_right, mul-le-mul_right}}}
-use Rattle.std.proofs.lemmas.Bool.{cases_Bool, eqb-true}
+use Rattle.std.{specs.List.{fold}, proofs.{Common.{arith, refl, ap, ◌∙◌, sym}, Math.Nat.{le-max_left, le-max_right, mul-le-mul_right}}}
+use Rattle.std.proofs.lemmas.Bool.{eqb-true}
 use Rattle.perf_base.specs.declared.{numbers.{CpuNo.{CpuNo}, EventNo.{EventNo}, TaskNo.{TaskNo}}, attr.{Attr.{Attr}, Kind.{Kind}}, lines.Work.{Work}}
 use Rattle.perf_base.specs.declared.{lines.CpuLine.{CpuLine}, reasons.Reason.{Reason}, reply.Sums.{Sums}}
 use Rattle.perf_base.specs.declared.attr.Kind.TheVariants as kind
@@ -10,7 +10,7 @@ use Rattle.stage_spec.specs.{declared.instance.Instance.{Instance}, Flags.{exclu
 use Rattle.stage_spec.specs.{Stage.{Stage, all_instances, is_of_family, task_on}, Verdict.{on_instances, reached}}
 use Rattle.stage_spec.specs.Switching.{switched, switch_refusal, is_running, is_migration}
 use Rattle.stage_spec.specs.History.{CpuStep, ToolStep, SeenStep, stage_step, unless_refused}
-use Rattle.stage_spec.specs.Shares.{excludes, counted_by, work_hits, is_switches, is_migrations, switch_hits, migration_hits, of_instance, no_sums, ready_instances, work_share, migration_share, switch_share, changes_task, cpu_share, share}
+use Rattle.stage_spec.specs.Shares.{counted_by, work_hits, is_switches, is_migrations, switch_hits, migration_hits, of_instance, no_sums, ready_instances, work_share, migration_share, switch_share, changes_task, cpu_share, share}
 use Rattle.stage_spec.specs.{Families.{plus, plus_each}, Recurrence.{after_reset}, Limits.{Limits, IsMachine, IsWithin}}
 use Rattle.stage_spec.proofs.{Each.{Each, weaker-Each, InStage}, Parts.{all-Each}, Carried.{IsOfAttr, settle_all-in, switched-in}}
 use Rattle.stage_spec.proofs.{Inside.{all_instances-in, InStage-from_all}, Present.{on_instances-in, ready_instances-in}}
@@ -78,10 +78,7 @@ AtMostIn e f m i = is_of_family e i ≡ true → f i ≤ m
 
 member_at_most : (e : EventNo) (f : Instance → ℕ) (m : ℕ) (i : Instance) → AtMostIn e f m i → of_family e f i ≤ of_family e (λ j. m) i
 unfolding AtMostIn
-member_at_most e f m i h = elim (cases_Bool (is_of_family e i)) [
-  | inl member ↦ rw member (h member)
-  | inr other ↦ rw other (omega arith)
-]
+member_at_most e f m i h = grind arith
 
 gets_at_most : (s : Stage) (e : EventNo) (f : Instance → ℕ) (m : ℕ) (ys : List Instance) → ((P : Instance → Type 0) → Each P (all_instances s) → Each P ys) → IsNumbered s
     → total (one_if (is_of_family e)) ys ≤ 1 → Each (AtMostIn e f m) (all_instances s) → total (λ i. of_instance f i.id ys) (filter (is_of_family e) (all_instances s)) ≤ m
@@ -122,9 +119,7 @@ unless-le true n m h = omega arith
 unless-le false n m h = h
 
 counted-le : (w : Work) (a : Attr) (k : Kind) → counted_by w a k ≤ max w.length (greatest w.hits)
-counted-le w a (kind.Hard n) =
-    unless-le (excludes w.mode a) (slice_index w.hits n) (max w.length (greatest w.hits))
-    (omega (arith, greatest-at 0 w.hits n, le-max_right w.length (greatest w.hits)))
+counted-le w a (kind.Hard n) = grind (arith, unless-le, greatest-at, le-max_right)
 counted-le w a kind.ContextSwitches = omega arith
 counted-le w a kind.CpuMigrations = omega arith
 counted-le w a kind.TaskClock = le-max_left w.length (greatest w.hits)
@@ -215,8 +210,7 @@ switch_shared l hw s cpu to e machine within sound =
     let sound_after : IsSound hw after = step_sound l hw s (CpuStep cpu (cpu_line.Switch to)) machine within sound in
     let one : HasOneKind s e = one_kind hw s e sound in
     let k : Kind = one.kind in
-    let kinds : Each (IsOfKind e k) (all_instances after) =
-    all_instances-in (IsOfKind e k) after (switch-in (IsOfKind e k) (kind_of_attr e k) hw r cpu to s (InStage-from_all (IsOfKind e k) s one.all)) in
+    let kinds : Each (IsOfKind e k) (all_instances after) = search (all_instances-in, IsOfKind, switch-in, kind_of_attr, InStage-from_all) in
     let switches : total (λ i. of_instance switch_hits i.id (on_instances hw s cpu)) xs ≤ as_number (is_switches k) =
     on_gets hw s cpu e switch_hits (as_number (is_switches k)) sound
     (weaker-Each (IsOfKind e k) (AtMostIn e switch_hits (as_number (is_switches k))) (switches_of_kind e k) (all_instances s) one.all) in

@@ -11,10 +11,10 @@ use Rattle.stage_spec.specs.{declared.instance.Instance.{Instance}, Hardware.{Ha
 use Rattle.stage_spec.specs.Stage.{Stage, Group, group_size, Lists, groups_in, members, all_instances, is_of_family, is_copy, is_idle, task_on, first_stage}
 use Rattle.stage_spec.specs.{Verdict.{task_lists}, Refusals.{first_of}, Opening.{opened}}
 use Rattle.stage_spec.specs.{Commands.{command_each, enabled, disabled, targets, with_period}, Mapping.{mapped_to, output_to}, Closing.{closed}}
-use Rattle.stage_spec.specs.{Forks.{copies_from, copy_groups, copied, inherited_groups, forked}, Settle.{settle_all}}
+use Rattle.stage_spec.specs.{Forks.{copies_from, copy_groups, copied, forked}, Settle.{settle_all}}
 use Rattle.stage_spec.specs.History.{Step, CpuStep, ToolStep, SeenStep, cpu_refusal, tool_refusal, cpu_changed, tool_changed, stage_step, stage_after, unless_refused}
-use Rattle.stage_spec.specs.{Shares.{share, no_sums}, Sums.{resets, sums_of, count_of, enabled_of, running_of}}
-use Rattle.stage_spec.specs.{Families.{plus, plus_each, leaving, leaving_by, folded_from, folded_of, family_sums}, Recurrence.{after_reset}}
+use Rattle.stage_spec.specs.{Shares.{share, no_sums}, Sums.{sums_of, count_of, enabled_of, running_of}}
+use Rattle.stage_spec.specs.{Families.{plus, plus_each, leaving, leaving_by, folded_from, folded_of, family_sums}}
 use Rattle.stage_spec.{specs.Limits.{Limits, IsMachine, IsWithin}, proofs.{Each.{weaker-Each}, Parts.{Each-from_All}}}
 use Rattle.stage_spec.proofs.{Shape.{switched-numbers, rotated-numbers, exited-numbers}, Ids.{AllBelow, AllBelow-more}}
 use Rattle.stage_spec.proofs.{Births.{Grows, at_first, after-ids, share-none, unborn}, Recurrence.{stage_after-push, sums_of-push, folded_of-push}}
@@ -52,28 +52,17 @@ stays f s = record { weight = omega arith; ids = omega arith }
 copies-none : (e : EventNo) (g : ℕ → ℕ) (s : Stage) → NoneLater s g → (id : ℕ) (xs : List Instance) → s.next_id ≤ id → total (family_by e g) (copies_from s id xs) ≡ 0
 unfolding copies_from total
 copies-none e g s h id [] low = refl
-copies-none e g s h id (i ∷ xs) low =
-    omega (arith, if_nothing (i.event.0 == e.0) (g id) (h id low), copies-none e g s h (id + 1) xs (omega (arith, low)))
+copies-none e g s h id (i ∷ xs) low = grind (arith, if_nothing, copies-none e g s h (id + 1) xs (omega (arith, low)))
 
 copy_groups-none : (e : EventNo) (g : ℕ → ℕ) (s : Stage) → NoneLater s g → (id : ℕ) (groups : List Group) → s.next_id ≤ id
     → total (group_weight (family_by e g)) (copy_groups s id groups) ≡ 0
 unfolding copy_groups total
 copy_groups-none e g s h id [] low = refl
 copy_groups-none e g s h id (group ∷ groups) low =
-    omega (
-      arith,
-      if_nothing (group.leader.event.0 == e.0) (g id) (h id low),
-      copies-none e g s h (id + 1) group.siblings (omega (arith, low)),
-      copy_groups-none e g s h (id + group_size group) groups (omega (arith, low)),
-    )
+    grind (arith, if_nothing, copies-none, copy_groups-none e g s h (id + group_size group) groups (omega (arith, low)))
 
 new_copies-none : (e : EventNo) (g : ℕ → ℕ) (s : Stage) → NoneLater s g → (l : Lists) → lists_weight (family_by e g) (copied s l) ≡ 0
-new_copies-none e g s h l =
-    omega (
-      arith,
-      copy_groups-none e g s h s.next_id (inherited_groups l.pinned) (omega arith),
-      copy_groups-none e g s h (s.next_id + sum_by group_size (inherited_groups l.pinned)) (inherited_groups l.flexible) (omega arith),
-    )
+new_copies-none e g s h l = grind (arith, copy_groups-none)
 
 -- the copies that go by an exit
 if_both : (a b : Bool) (n : ℕ) → cond (a && b) n 0 ≡ cond b (cond a n 0) 0
@@ -83,10 +72,7 @@ if_both false false n = refl
 
 leaving-weighs : (e : EventNo) (g : ℕ → ℕ) (l : Lists)
     → total (λ i. g i.id) (filter (λ i. is_of_family e i && i.copy) (members (groups_in l))) ≡ lists_weight (if_goes is_copy (family_by e g)) l
-leaving-weighs e g l =
-    total-filter (λ i. g i.id) (λ i. is_of_family e i && i.copy) (members (groups_in l))
-    ∙ (total-same (λ i. cond (is_of_family e i && i.copy) (g i.id) 0) (if_goes is_copy (family_by e g)) (λ i. if_both (is_of_family e i) i.copy (g i.id)) (members (groups_in l))
-    ∙ lists-weigh (if_goes is_copy (family_by e g)) l)
+leaving-weighs e g l = grind (arith, total-filter, total-same, if_goes, if_both, lists-weigh)
 
 idle-none : (e : EventNo) (g : ℕ → ℕ) (s : Stage) (to : Option TaskNo) (q : Reason) → first_of ((reason.Idle, is_idle to) ∷ []) ≡ Some q
     → total (λ i. g i.id) (filter (λ i. is_of_family e i && i.copy) (members (groups_in (task_lists s to)))) ≡ 0
@@ -169,10 +155,7 @@ line_sound l hw s (SeenStep ring place) machine within sound = sound
 -- one more step of a history
 part-share : (p : Sums → ℕ) → IsPart p → (hw : Hardware) (s : Stage) (before : List Step) (x : Step) (id : ℕ)
     → p (sums_of hw s (before ++ x ∷ []) id) ≤ p (sums_of hw s before id) + p (share hw (stage_after hw s before) x id)
-part-share p h hw s before x id =
-    let t : Stage = stage_after hw s before in
-    let kept : Sums = after_reset (resets t x id) (sums_of hw s before id) in
-    omega (arith, ap p (sums_of-push hw s before x id), h.plus kept (share hw t x id), h.reset (resets t x id) (sums_of hw s before id))
+part-share p h hw s before x id = grind (arith, sums_of-push)
 
 part_grows : (p : Sums → ℕ) → IsPart p → (l : Limits) (hw : Hardware) (s : Stage) (before : List Step) (x : Step) (e : EventNo) (m : ℕ)
     → AllBelow s.next_id s → IsMachine l hw → IsLineWithin l x → IsSound hw (stage_after hw s before)
@@ -188,8 +171,7 @@ part_grows p h l hw s before x e m drawn machine within sound added =
     let shares : ℕ → ℕ = λ id. p (share hw t x id) in
     let later : ℕ → Sums = λ id. sums_of hw s (before ++ x ∷ []) id in
     let grown : Grows s t = after-ids hw s before drawn in
-    let lose_sums : Loses (family_by e sums) (total (λ i. sums i.id) (leaving t x e)) (most_drawn x) t now =
-    step_loses e sums l hw t x (λ id low. ap p (unborn hw s before id drawn low) ∙ h.none) machine within sound in
+    let lose_sums : Loses (family_by e sums) (total (λ i. sums i.id) (leaving t x e)) (most_drawn x) t now = search (step_loses, unborn) in
     let lose_shares : Loses (family_by e shares) (total (λ i. shares i.id) (leaving t x e)) (most_drawn x) t now =
     step_loses e shares l hw t x (λ id low. ap p (share-none hw t x id (AllBelow-more t.next_id id low t grown.below)) ∙ h.none) machine within sound in
     let here : p (plus_each (λ i. later i.id) new) ≤ total (λ i. sums i.id) new + total (λ i. shares i.id) new =
@@ -220,8 +202,7 @@ part_grows p h l hw s before x e m drawn machine within sound added =
       family-weighs shares e now,
       added,
     ) in
-    subst (λ after. p (plus (plus_each (λ i. later i.id) (filter (is_of_family e) (all_instances after))) (folded_of hw s (before ++ x ∷ []) e)) ≤ p (family_sums hw s before e) + m)
-    (sym (stage_after-push hw s before x)) whole
+    grind (arith, later, stage_after-push, whole)
 
 -- a whole history
 more_at_most : (l : Limits) (hw : Hardware) (s : Stage) (before : List Step) (x : Step) (e : EventNo) → AllBelow s.next_id s → IsMachine l hw → IsLineWithin l x
@@ -276,11 +257,8 @@ nothing_part p h hw s e =
     )
 
 nothing_yet : (hw : Hardware) (s : Stage) (e : EventNo) → AreAtMost (family_sums hw s [] e) (most_of_all [])
-nothing_yet hw s e = record {
-  count = omega (arith, nothing_part count_in count_part hw s e);
-  enabled = omega (arith, nothing_part enabled_in enabled_part hw s e);
-  running = omega (arith, nothing_part running_in running_part hw s e);
-}
+nothing_yet hw s e =
+    grind (arith, nothing_part count_in count_part hw s e, nothing_part enabled_in enabled_part hw s e, nothing_part running_in running_part hw s e)
 
 pub family_at_most : FamilySumsLaw
 unfolding stage_after

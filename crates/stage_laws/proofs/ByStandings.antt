@@ -7,7 +7,7 @@ use Rattle.perf_base.specs.{declared.{numbers.{CpuNo.{CpuNo}, TaskNo.{TaskNo}}, 
 use Rattle.perf_base.specs.declared.standing.Context.TheVariants as context
 use Rattle.perf_base.specs.declared.standing.Standing.TheVariants as standing
 use Rattle.stage_spec.specs.Hardware.{Hardware}
-use Rattle.stage_spec.specs.Stage.{Stage, Group, members_of, Lists, lists_of, no_groups, groups_in, members, place_of, task_on, change_each}
+use Rattle.stage_spec.specs.Stage.{Stage, Group, members_of, Lists, lists_of, no_groups, groups_in, members, place_of, task_on}
 use Rattle.stage_spec.specs.Effective.{is_ready}
 use Rattle.stage_spec.specs.Verdict.{Judged, is_eligible, judge, judge_pass, judge_passes, passes, task_lists, standing_among, verdicts}
 use Rattle.stage_spec.specs.Settle.{failed, settle_pass, settle_lists, settle_task, own_verdicts, settle, IsSettled, pinned_verdicts}
@@ -25,9 +25,7 @@ pass_tail hw before within (g ∷ groups) = judged g (judge hw before within g) 
 pub pass-is : (hw : Hardware) (before within : List Judged) (groups : List Group) → judge_pass hw before within groups ≡ within ++ pass_tail hw before within groups
 unfolding judge_pass pass_tail
 pass-is hw before within [] = sym (append-nil within)
-pass-is hw before within (g ∷ groups) =
-    pass-is hw before (within ++ judged g (judge hw before within g) ∷ []) groups
-    ∙ append_assoc within (judged g (judge hw before within g) ∷ []) (pass_tail hw before (within ++ judged g (judge hw before within g) ∷ []) groups)
+pass-is hw before within (g ∷ groups) = search (judged, append_assoc, pass-is hw before (within ++ judged g (judge hw before within g) ∷ []) groups)
 
 abbrev pub refused_among : List Judged → Bool
 refused_among js = list_any (λ j. stands_refused j.standing) js
@@ -58,8 +56,7 @@ pass_unrefused hw cpu before within (g ∷ groups) h =
           (ap (λ gs. refused_among (pass_tail hw before within gs)) (sym (filter-no (is_eligible hw cpu) g groups away)) ∙ h))
       | inl here ↦
           let both : (stands_refused v ≡ false) × (refused_among (pass_tail hw before more (filter (is_eligible hw cpu) groups)) ≡ false) =
-          or_parts (stands_refused v) (refused_among (pass_tail hw before more (filter (is_eligible hw cpu) groups)))
-          (ap (λ gs. refused_among (pass_tail hw before within gs)) (sym (filter-yes (is_eligible hw cpu) g groups here)) ∙ h) in
+          grind (arith, or_parts, filter-yes) in
           settle_pass-here hw cpu before within g groups here
           ∙ (rw (unrefused-failed v g both.0) (ap (λ gs. g ∷ gs) (pass_unrefused hw cpu before more groups both.1)))
     ]
@@ -88,23 +85,16 @@ first_tail hw cpu before groups = pass_tail hw before [] (filter (is_eligible hw
 pub pinned-are : (hw : Hardware) (s : Stage) (cpu : CpuNo) → pinned_verdicts hw s cpu
     ≡ first_tail hw cpu [] (lists_of s (context.Processor cpu)).pinned ++ first_tail hw cpu (own_verdicts hw s cpu) (task_lists s (task_on s cpu)).pinned
 unfolding judge_passes
-pinned-are hw s cpu =
-    let own : List Group = filter (is_eligible hw cpu) (lists_of s (context.Processor cpu)).pinned in
-    let task : List Group = filter (is_eligible hw cpu) (task_lists s (task_on s cpu)).pinned in
-    ap (λ js. js ++ judge_pass hw (judge_pass hw [] [] own) [] task) (pass-is hw [] [] own)
-    ∙ ap (λ js. pass_tail hw [] [] own ++ js) (pass-is hw (judge_pass hw [] [] own) [] task)
+pinned-are hw s cpu = grind (arith, pass-is)
 
 refused-are : (hw : Hardware) (s : Stage) (cpu : CpuNo) → refused_among (pinned_verdicts hw s cpu)
     ≡ (refused_among (first_tail hw cpu [] (lists_of s (context.Processor cpu)).pinned) || refused_among (first_tail hw cpu (own_verdicts hw s cpu) (task_lists s (task_on s cpu)).pinned))
-refused-are hw s cpu = ap refused_among (pinned-are hw s cpu)
-    ∙ list_any-append (λ j. stands_refused j.standing) (first_tail hw cpu [] (lists_of s (context.Processor cpu)).pinned)
-    (first_tail hw cpu (own_verdicts hw s cpu) (task_lists s (task_on s cpu)).pinned)
+refused-are hw s cpu = grind (arith, pinned-are, list_any-append)
 
 task-unrefused : (hw : Hardware) (cpu : CpuNo) (before : List Judged) (to : Option TaskNo) (s : Stage)
     → refused_among (first_tail hw cpu before (task_lists s to).pinned) ≡ false → settle_task hw cpu before to s ≡ s
 task-unrefused hw cpu before None s h = refl
-task-unrefused hw cpu before (Some task) s h = change_context-none (context.Task task) (settle_lists hw cpu before) s
-    (ap (λ pinned. record (lists_of s (context.Task task)) { pinned = pinned }) (pass_unrefused hw cpu before [] (lists_of s (context.Task task)).pinned h))
+task-unrefused hw cpu before (Some task) s h = search (change_context-none, pass_unrefused)
 
 unrefused-settled : (hw : Hardware) (cpu : CpuNo) (s : Stage) → refused_among (pinned_verdicts hw s cpu) ≡ false → IsSettled hw cpu s
 unfolding settle
@@ -118,15 +108,7 @@ unrefused-settled hw cpu s h =
     ∙ task-unrefused hw cpu (own_verdicts hw s cpu) (task_on s cpu) s both.1
 
 is_unrefused : (hw : Hardware) (cpu : CpuNo) (s : Stage) → cpu.0 < 8 → IsSettled hw cpu s → refused_among (pinned_verdicts hw s cpu) ≡ false
-is_unrefused hw cpu s low h =
-    let from : IsSettledFrom hw cpu s (own_verdicts hw s cpu) (task_on s cpu) (settle hw cpu s) = is_settled_from hw cpu s low in
-    let own : settle_lists hw cpu [] (lists_of s (context.Processor cpu)) ≡ lists_of s (context.Processor cpu) = sym from.own ∙ ap (λ t. lists_of t (context.Processor cpu)) h in
-    let task : settle_lists hw cpu (own_verdicts hw s cpu) (task_lists s (task_on s cpu)) ≡ task_lists s (task_on s cpu) =
-    sym from.task ∙ ap (λ t. task_lists t (task_on s cpu)) h in
-    refused-are hw s cpu ∙ or_from (refused_among (first_tail hw cpu [] (lists_of s (context.Processor cpu)).pinned))
-    (refused_among (first_tail hw cpu (own_verdicts hw s cpu) (task_lists s (task_on s cpu)).pinned))
-    (pass_settled hw cpu [] [] (lists_of s (context.Processor cpu)).pinned (ap (λ l. l.pinned) own))
-    (pass_settled hw cpu (own_verdicts hw s cpu) [] (task_lists s (task_on s cpu)).pinned (ap (λ l. l.pinned) task))
+is_unrefused hw cpu s low h = grind (arith, IsSettledFrom, is_settled_from, refused-are, or_from, pass_settled)
 
 pub settled_unrefused : SettledLaw
 settled_unrefused hw cpu s low = (is_unrefused hw cpu s low, unrefused-settled hw cpu s)
@@ -143,8 +125,7 @@ unfolding pass_tail
 tail-counts hw id before within [] = refl
 tail-counts hw id before within (g ∷ groups) =
     let j : Judged = judged g (judge hw before within g) in
-    count-cons (is_of_led id) j (pass_tail hw before (within ++ j ∷ []) groups)
-    ∙ (ap (λ n. as_number (g.leader.id == id) + n) (tail-counts hw id before (within ++ j ∷ []) groups) ∙ sym (count-cons (is_led_by id) g groups))
+    search (count-cons, j, as_number, tail-counts hw id before (within ++ j ∷ []) groups)
 
 -- the standing of a group that is not among the judged, and of one that is there once
 abbrev either_standing : Bool → Standing → Standing → Standing
@@ -208,13 +189,7 @@ led id l = count_by (is_led_by id) (groups_in l)
 
 led-members : (id : ℕ) (groups : List Group) → count_by (is_led_by id) groups ≤ count_by (has_id id) (members groups)
 led-members id [] = omega arith
-led-members id (g ∷ groups) = omega (
-  arith,
-  count-cons (is_led_by id) g groups,
-  led-members id groups,
-  count-append (has_id id) (members_of g) (members groups),
-  count-cons (has_id id) g.leader g.siblings,
-)
+led-members id (g ∷ groups) = omega (arith, count-cons, count-append, led-members id groups)
 
 pub led-sum : (id : ℕ) (contexts : List Lists) → sum_by (led id) contexts ≤ count_by (has_id id) (members (flat_map groups_in contexts))
 led-sum id [] = omega arith
@@ -252,8 +227,7 @@ settled-contexts hw cpu s before all (Some task) low once h =
     let at_cpu : place_of (context.Processor cpu) ≡ cpu.0 = place_of-cpu cpu low in
     let apart : i ≡ j → ⊥ = λ e. omega (arith, e, at_cpu) in
     let back : j ≡ i → ⊥ = λ e. omega (arith, e, at_cpu) in
-    let there : lists_of (own_settled hw cpu s) (context.Task task) ≡ lists_of s (context.Task task) =
-    lists_of-other (context.Processor cpu) (context.Task task) (settle_lists hw cpu []) s back in
+    let there : lists_of (own_settled hw cpu s) (context.Task task) ≡ lists_of s (context.Task task) = search (lists_of-other) in
     ap (λ l. record s { contexts = slice_set (own_settled hw cpu s).contexts j (settle_lists hw cpu before l) }) there
     ∙ (ap (λ l. record s { contexts = slice_set (own_settled hw cpu s).contexts j l }) h.task
     ∙ (ap (λ l. record s { contexts = slice_set (slice_set s.contexts i l) j (fail_lists all (lists_of s (context.Task task))) }) h.own
@@ -268,21 +242,11 @@ verdicts-are : (hw : Hardware) (a b c d : List Group)
     → let one = judge_pass hw [] [] a in let two = one ++ judge_pass hw one [] b in let three = two ++ judge_pass hw two [] c in
     judge_passes hw [] (a ∷ b ∷ c ∷ d ∷ []) ≡ pass_tail hw [] [] a ++ (pass_tail hw one [] b ++ (pass_tail hw two [] c ++ pass_tail hw three [] d))
 unfolding judge_passes
-verdicts-are hw a b c d =
-    let one : List Judged = judge_pass hw [] [] a in
-    let two : List Judged = one ++ judge_pass hw one [] b in
-    let three : List Judged = two ++ judge_pass hw two [] c in
-    joined-four one (judge_pass hw one [] b) (judge_pass hw two [] c) (judge_pass hw three [] d)
-    ∙ (ap (λ js. js ++ (judge_pass hw one [] b ++ (judge_pass hw two [] c ++ judge_pass hw three [] d))) (pass-is hw [] [] a)
-    ∙ (ap (λ js. pass_tail hw [] [] a ++ (js ++ (judge_pass hw two [] c ++ judge_pass hw three [] d))) (pass-is hw one [] b)
-    ∙ (ap (λ js. pass_tail hw [] [] a ++ (pass_tail hw one [] b ++ (js ++ judge_pass hw three [] d))) (pass-is hw two [] c)
-    ∙ ap (λ js. pass_tail hw [] [] a ++ (pass_tail hw one [] b ++ (pass_tail hw two [] c ++ js))) (pass-is hw three [] d))))
+verdicts-are hw a b c d = grind (arith, joined-four, pass-is)
 
 two-led : (s : Stage) (cpu : CpuNo) (to : Option TaskNo) (id : ℕ) → cpu.0 < 8 → sum_by (led id) s.contexts ≤ 1 → led id (lists_of s (context.Processor cpu)) + led id (task_lists s to) ≤ 1
 two-led s cpu None id low once = omega (arith, once, one_place (led id) no_groups refl s.contexts (place_of (context.Processor cpu)))
-two-led s cpu (Some task) id low once =
-    let at_cpu : place_of (context.Processor cpu) ≡ cpu.0 = place_of-cpu cpu low in
-    omega (arith, once, two_places (led id) no_groups refl s.contexts (place_of (context.Processor cpu)) (8 + task.0) (λ e. omega (arith, e, at_cpu)))
+two-led s cpu (Some task) id low once = grind (arith, place_of-cpu, two_places)
 
 is_by : (hw : Hardware) (cpu : CpuNo) (s : Stage) → cpu.0 < 8 → ((id : ℕ) → sum_by (led id) s.contexts ≤ 1)
     → IsBy hw cpu s (own_verdicts hw s cpu) (verdicts hw s cpu) (task_on s cpu)
@@ -330,6 +294,4 @@ pub settled_by_briefs : (hw : Hardware) (cpu : CpuNo) (s t : Stage) → cpu.0 < 
 settled_by_briefs hw cpu s t low same h = (settled_unrefused hw cpu t low).1 (refused_by_briefs hw cpu t s same ∙ (settled_unrefused hw cpu s low).0 h)
 
 pub same_standings : SameStandingsLaw
-same_standings hw cpu s f k =
-    let same : briefs hw (change_each f s) cpu ≡ briefs hw s cpu = same_briefs hw cpu s f k in
-    (by_briefs hw cpu (change_each f s) s same, λ low. settled_by_briefs hw cpu s (change_each f s) low same)
+same_standings hw cpu s f k = search (same_briefs, by_briefs, settled_by_briefs)

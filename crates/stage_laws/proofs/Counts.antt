@@ -1,7 +1,7 @@
 -- How many elements pass a test, in parts of a list and at places of a list of lists.
 use Rattle.std.specs.Prelude.{◌≡◌, ◌≢◌, ℕ, ◌+◌, ◌≤◌, Bool, List, [], ◌∷◌, ◌++◌, length, map, filter, count_by, sum_by}
 use Rattle.std.proofs.Common.{arith, sym, ap, ◌∙◌, inl, inr, get_or, set, get_or-set_same, get_or-set_other, ext_get_or, length-set}
-use Rattle.std.proofs.lemmas.{Bool.{cases_lt, cases_eq, cases_Bool}, List.{get_or_past, length-map, Sums.{sum_by-cons, sum_by-append, sum_by-set}}}
+use Rattle.std.proofs.lemmas.{Bool.{cases_lt, cases_eq}, List.{get_or_past, length-map, Sums.{sum_by-cons, sum_by-append, sum_by-set}}}
 use Rattle.std.proofs.Math.{ListN.{get_or-map}, Seq.{set_out}}
 use Rattle.stage_laws.proofs.Totals.{as_number}
 
@@ -13,17 +13,11 @@ count-append p xs ys = sum_by-append (λ y. as_number (p y)) xs ys
 
 pub count-filter : {X : Type 0} (p q : X → Bool) (xs : List X) → count_by p (filter q xs) ≤ count_by p xs
 count-filter p q [] = omega arith
-count-filter p q (x ∷ xs) = elim (cases_Bool (q x)) [
-  | inl e ↦ rw e (omega (arith, count-cons p x (filter q xs), count-cons p x xs, count-filter p q xs))
-  | inr e ↦ rw e (omega (arith, count-cons p x xs, count-filter p q xs))
-]
+count-filter p q (x ∷ xs) = grind (arith, count-cons, count-filter p q xs)
 
 -- what is found at one place, at two and at three, is no more than all
 pub one_place : {X : Type 0} (w : X → ℕ) (d : X) → w d ≡ 0 → (xs : List X) (i : ℕ) → w (get_or xs i d) + sum_by w (set xs i d) ≡ sum_by w xs
-one_place w d none xs i = elim (cases_lt i (length xs)) [
-  | inl within ↦ omega (arith, sum_by-set w xs i d d within, none)
-  | inr past ↦ rw (get_or_past xs i d past, set_out xs i d past) (omega (arith, none))
-]
+one_place w d none xs i = grind (arith, cases_lt, sum_by-set, get_or_past, set_out)
 
 pub two_places : {X : Type 0} (w : X → ℕ) (d : X) → w d ≡ 0 → (xs : List X) (i j : ℕ) → i ≢ j → w (get_or xs i d) + w (get_or xs j d) ≤ sum_by w xs
 two_places w d none xs i j apart =

@@ -28,17 +28,14 @@ abbrev pub is_cpu : CpuNo → CpuNo → Bool
 is_cpu cpu other = other.0 == cpu.0
 
 other-settled : (hw : Hardware) (cpu other : CpuNo) (s : Stage) → IsRoomy s → other.0 < 8 → other.0 ≢ cpu.0 → IsSettled hw other s → IsSettled hw other (settle hw cpu s)
-other-settled hw cpu other s h low apart settled =
-    settled_by_briefs hw other s (settle hw cpu s) low (briefs-of_passes hw other s (settle hw cpu s) (settle-others hw s cpu other h.size h.running apart)) settled
+other-settled hw cpu other s h low apart settled = search (nat_tests, settled_by_briefs, briefs-of_passes, settle-others)
 
 -- what is settled stays so
 pub stays-settled : (hw : Hardware) (cpus : List CpuNo) (cpu : CpuNo) (s : Stage) → IsRoomy s → cpu.0 < 8 → IsSettled hw cpu s → IsSettled hw cpu (settle_each hw cpus s)
 unfolding settle_each
 stays-settled hw [] cpu s h low settled = settled
 stays-settled hw (c ∷ cpus) cpu s h low settled = elim (cases_eq cpu.0 c.0) [
-  | inl same ↦
-      let here : settle hw c s ≡ s = ap (λ n. settle hw (numbered n) s) (sym same) ∙ settled in
-      ap (λ t. settle hw cpu (settle_each hw cpus t)) here ∙ (stays-settled hw cpus cpu s h low settled ∙ ap (settle_each hw cpus) (sym here))
+  | inl same ↦ grind (arith, nat_tests, numbered, same, stays-settled hw cpus cpu s h low settled)
   | inr apart ↦ stays-settled hw cpus cpu (settle hw c s) (settle-roomy hw c s h) low (other-settled hw c cpu s h low apart settled)
 ]
 
@@ -47,9 +44,7 @@ pub each-settled : (hw : Hardware) (cpus : List CpuNo) (cpu : CpuNo) (s : Stage)
 unfolding settle_each
 each-settled hw [] cpu s h low there = absurd (false≢true there)
 each-settled hw (c ∷ cpus) cpu s h low there = elim (cases_eq c.0 cpu.0) [
-  | inl same ↦
-      let here : IsSettled hw cpu (settle hw c s) = ap (λ n. settle hw cpu (settle hw (numbered n) s)) same ∙ (settles_once hw cpu s low ∙ ap (λ n. settle hw (numbered n) s) (sym same)) in
-      stays-settled hw cpus cpu (settle hw c s) (settle-roomy hw c s h) low here
+  | inl same ↦ grind (arith, nat_tests, numbered, same, settles_once, stays-settled, settle-roomy)
   | inr apart ↦ elim (or_cases (c.0 == cpu.0) (list_any (is_cpu cpu) cpus) there) [
     | inl same ↦ absurd (apart (grind (arith, nat_tests, same)))
     | inr later ↦ each-settled hw cpus cpu (settle hw c s) (settle-roomy hw c s h) low later
@@ -70,9 +65,7 @@ only-some hw test n (c ∷ cpus) s small h within settled = elim (cases_Bool (te
       only-some hw test n cpus (settle hw c s) small (settle-roomy hw c s h) within.1
       (λ other low leaves. other-settled hw c other s h (omega (arith, low, small)) (differ test c other takes leaves) (settled other low leaves))
       ∙ ap (λ cs. settle_each hw cs s) (sym (filter-yes test c cpus takes))
-  | inr leaves ↦
-      ap (settle_each hw cpus) (settled c within.0 leaves)
-      ∙ (only-some hw test n cpus s small h within.1 settled ∙ ap (λ cs. settle_each hw cs s) (sym (filter-no test c cpus leaves)))
+  | inr leaves ↦ grind (arith, nat_tests, leaves, filter-no, only-some hw test n cpus s small h within.1 settled)
 ]
 
 -- and those that it does not take reach what they did
@@ -102,9 +95,7 @@ cpu-there (suc n) cpu h =
     ap (list_any (is_cpu cpu)) (map-append numbered (numbers_below n) (n ∷ [])) ∙ list_any-append (is_cpu cpu) (map numbered (numbers_below n)) (numbered n ∷ []) in
     split ∙ elim (cases_lt cpu.0 n) [
       | inl low ↦ or_left (list_any (is_cpu cpu) (map numbered (numbers_below n))) (list_any (is_cpu cpu) (numbered n ∷ [])) (cpu-there n cpu low)
-      | inr high ↦
-          let last : (n == cpu.0) ≡ true = grind (arith, nat_tests, h, high) in
-          or_right (list_any (is_cpu cpu) (map numbered (numbers_below n))) (list_any (is_cpu cpu) (numbered n ∷ [])) (or_left (n == cpu.0) false last)
+      | inr high ↦ grind (arith, nat_tests, high, or_right, numbered, or_left)
     ]
 
 pub is-there : (s : Stage) (cpu : CpuNo) → cpu.0 < length s.running → list_any (is_cpu cpu) (all_cpus s) ≡ true

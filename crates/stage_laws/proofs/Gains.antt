@@ -38,15 +38,11 @@ joining e n g = cond (leads e g) n 0
 
 join_groups-weigh : (f : Instance → ℕ) (e : EventNo) (i : Instance) (groups : List Group)
     → total (group_weight f) (map (join_group e i) groups) ≡ total (group_weight f) groups + total (joining e (f i)) groups
-join_groups-weigh f e i groups =
-    total-map (group_weight f) (join_group e i) groups
-    ∙ (total-same (λ g. group_weight f (join_group e i g)) (λ g. group_weight f g + joining e (f i) g) (λ g. joined-weighs f (leads e g) i g) groups
-    ∙ total-plus (group_weight f) (joining e (f i)) groups)
+join_groups-weigh f e i groups = search (nat_tests, total-map, group_weight, total-same, joined-weighs, total-plus)
 
 pub join_lists-weigh : (f : Instance → ℕ) (e : EventNo) (i : Instance) (l : Lists)
     → lists_weight f (join_lists e i l) ≡ lists_weight f l + total (joining e (f i)) (groups_in l)
-join_lists-weigh f e i l =
-    omega (arith, join_groups-weigh f e i l.pinned, join_groups-weigh f e i l.flexible, total-append (joining e (f i)) l.pinned l.flexible)
+join_lists-weigh f e i l = grind (arith, nat_tests, join_groups-weigh, total-append)
 
 joined_all-weigh : (f : Instance → ℕ) (e : EventNo) (i : Instance) (contexts : List Lists)
     → total (lists_weight f) (map (join_lists e i) contexts) ≡ total (lists_weight f) contexts + total (joining e (f i)) (flat_map groups_in contexts)
@@ -65,8 +61,7 @@ groups_joined (Some e) s = groups_led e s
 
 pub placed-weighs : (f : Instance → ℕ) (leader : Option EventNo) (i : Instance) (s : Stage) → place_of (context_of i.attr) < length s.contexts
     → weigh f (placed leader i s) ≡ weigh f s + groups_joined leader s * f i
-placed-weighs f None i s h =
-    omega (arith, change_context-weighs f (context_of i.attr) (add_group (is_pinned i.attr) (alone i)) s h, added-weighs f i (lists_of s (context_of i.attr)))
+placed-weighs f None i s h = grind (arith, nat_tests, change_context-weighs, added-weighs)
 placed-weighs f (Some e) i s h = joined_all-weigh f e i s.contexts ∙ ap (λ n. weigh f s + n) (total-times (leads e) (f i) (all_groups s))
 
 pub opened-weighs : (f : Instance → ℕ) (s : Stage) (slot : EventNo) (a : Attr) (leader : Option EventNo) → place_of (context_of a) < length s.contexts
@@ -79,16 +74,7 @@ leads-le : (e : EventNo) (g : Group) → one_if (leads e) g ≤ group_weight (on
 leads-le e g = omega arith
 
 pub groups_led-le : (e : EventNo) (s : Stage) → groups_led e s ≤ weigh (one_if (is_original e)) s
-groups_led-le e s =
-    let count : Lists → ℕ = λ l. total (one_if (leads e)) (groups_in l) in
-    let one : (l : Lists) → count l ≤ lists_weight (one_if (is_original e)) l
-    = λ l. omega (
-      arith,
-      total-append (one_if (leads e)) l.pinned l.flexible,
-      total-le (one_if (leads e)) (group_weight (one_if (is_original e))) (leads-le e) l.pinned,
-      total-le (one_if (leads e)) (group_weight (one_if (is_original e))) (leads-le e) l.flexible,
-    ) in
-    omega (arith, total-flat_map (one_if (leads e)) groups_in s.contexts, total-le count (lists_weight (one_if (is_original e))) one s.contexts)
+groups_led-le e s = grind (arith, nat_tests, total, one_if, lists_weight, total-append, total-le, group_weight, leads-le, total-flat_map)
 
 -- the copies of some instances weigh what a number of the instances comes to
 copies-weigh : (f g : Instance → ℕ) (s : Stage) → ((id : ℕ) (i : Instance) → f (copy_of s id i) ≡ g i) → (id : ℕ) (xs : List Instance) → total f (copies_from s id xs) ≡ total g xs
@@ -100,19 +86,14 @@ copy_groups-weigh : (f g : Instance → ℕ) (s : Stage) → ((id : ℕ) (i : In
     → total (group_weight f) (copy_groups s id groups) ≡ total (group_weight g) groups
 unfolding copy_groups total
 copy_groups-weigh f g s h id [] = refl
-copy_groups-weigh f g s h id (group ∷ groups) =
-    omega (arith, h id group.leader, copies-weigh f g s h (id + 1) group.siblings, copy_groups-weigh f g s h (id + group_size group) groups)
+copy_groups-weigh f g s h id (group ∷ groups) = grind (arith, nat_tests, copies-weigh, copy_groups-weigh f g s h (id + group_size group) groups)
 
 -- what the groups of a context that are inherited weigh
 abbrev pub inherited_weight : (Instance → ℕ) → Lists → ℕ
 inherited_weight f l = total (group_weight f) (inherited_groups l.pinned) + total (group_weight f) (inherited_groups l.flexible)
 
 pub copied-weighs : (f g : Instance → ℕ) (s : Stage) → ((id : ℕ) (i : Instance) → f (copy_of s id i) ≡ g i) → (l : Lists) → lists_weight f (copied s l) ≡ inherited_weight g l
-copied-weighs f g s h l = omega (
-  arith,
-  copy_groups-weigh f g s h s.next_id (inherited_groups l.pinned),
-  copy_groups-weigh f g s h (s.next_id + sum_by group_size (inherited_groups l.pinned)) (inherited_groups l.flexible),
-)
+copied-weighs f g s h l = grind (arith, nat_tests, copy_groups-weigh)
 
 pub inherited_weight-le : (f : Instance → ℕ) (l : Lists) → inherited_weight f l ≤ lists_weight f l
 inherited_weight-le f l = omega (arith, total-filter_le (group_weight f) (λ g. is_inherited g.leader.attr) l.pinned, total-filter_le (group_weight f) (λ g. is_inherited g.leader.attr) l.flexible)
@@ -165,19 +146,10 @@ unfolding copy_groups total
 copy_groups-ids s n id [] = sym (among-none id n)
 copy_groups-ids s n id (g ∷ groups) =
     let sizes : sum_by group_size (g ∷ groups) ≡ group_size g + sum_by group_size groups = sum_by-cons group_size g groups in
-    rw sizes (omega (
-      arith,
-      copies-ids s n (id + 1) g.siblings,
-      among-first id (group_size g) (length g.siblings) n (omega arith),
-      copy_groups-ids s n (id + group_size g) groups,
-      among-plus id (group_size g) (sum_by group_size groups) n,
-    ))
+    grind (arith, nat_tests, sizes, copies-ids, among-first, among-plus, copy_groups-ids s n (id + group_size g) groups)
 
 pub copied-ids : (s : Stage) (n : ℕ) (l : Lists) → lists_weight (one_if (has_id n)) (copied s l) ≡ among s.next_id (new_copies l) n
-copied-ids s n l =
-    let pinned : ℕ = sum_by group_size (inherited_groups l.pinned) in
-    let flexible : ℕ = sum_by group_size (inherited_groups l.flexible) in
-    omega (arith, copy_groups-ids s n s.next_id (inherited_groups l.pinned), copy_groups-ids s n (s.next_id + pinned) (inherited_groups l.flexible), among-plus s.next_id pinned flexible n)
+copied-ids s n l = grind (arith, nat_tests, copy_groups-ids, among-plus)
 
 -- the copies are added, where the child had no groups
 pub forked-weighs : (f : Instance → ℕ) (cpu : CpuNo) (child : TaskNo) (s : Stage) → place_of (context.Task child) < length s.contexts → lists_of s (context.Task child) ≡ no_groups

@@ -1,13 +1,13 @@
 -- What a group is, through the changes of a group: a change of its members, members that go, a copy, and one that
 -- joins.
-use Rattle.std.specs.Prelude.{◌≡◌, ℕ, ◌+◌, ◌<◌, ◌≤◌, ◌==◌, Bool, true, false, not, All, List, [], ◌∷◌, length, map, filter, bit_and, cond, Option, Some, None, if◌then◌else◌}
+use Rattle.std.specs.Prelude.{◌≡◌, ℕ, ◌+◌, ◌<◌, ◌≤◌, ◌==◌, Bool, true, false, not, All, List, [], ◌∷◌, map, filter, bit_and, cond, Option, Some, None, if◌then◌else◌}
 use Rattle.std.{specs.List.{AllZip}, proofs.Common.{refl, sym, ap, ◌∙◌, arith, length-append}}
 use Rattle.std.proofs.lemmas.{Bool.{not_from_true, not-false, eq-eqb, eqb-true}, List.Sums.{length-filter, count_by-le-length}}
 use Rattle.perf_base.specs.declared.{attr.Kind.{Kind}, standing.Standing.{Standing}}
 use Rattle.perf_base.specs.declared.standing.Own.TheVariants as own
 use Rattle.perf_base.specs.declared.standing.Standing.TheVariants as standing
 use Rattle.stage_spec.specs.{declared.instance.Instance.{Instance}, Flags.{is_pinned}, Hardware.{Hardware, is_software, mask_of, pmu_of_kind, is_pmu}}
-use Rattle.stage_spec.specs.{Stage.{Stage, Group, members_of, group_size, alone, change_group}, Effective.{is_ready, is_hardware}}
+use Rattle.stage_spec.specs.{Stage.{Stage, Group, members_of, group_size, alone, change_group}, Effective.{is_hardware}}
 use Rattle.stage_spec.specs.{Verdict.{with_masks}, Fits.{fits, fits_beside}, Tight.{masks_of}, Opening.{is_other_pmu, joined}, Reading.{is_error}}
 use Rattle.stage_spec.specs.{Closing.{staying, kept_group, freed_groups}, Settle.{failed}, Forks.{copies_from, copy_group}, Refusals.{holds_of}}
 use Rattle.stage_spec.proofs.Each.{Each, none-Each, cons-Each, tail-Each, append-Each, map-Each, weaker-Each, filter-Each}
@@ -34,9 +34,7 @@ hardware_masks-same : (hw : Hardware) (xs ys : List Instance) → AllZip (λ x y
 hardware_masks-same hw [] [] r = refl
 hardware_masks-same hw [] (y ∷ ys) r = absurd r
 hardware_masks-same hw (x ∷ xs) [] r = absurd r
-hardware_masks-same hw (x ∷ xs) (y ∷ ys) r =
-    hardware_masks-cons hw y ys ∙ (ap (λ k. with_kind hw k (hardware_masks hw ys)) r.0
-    ∙ (ap (with_kind hw x.attr.kind) (hardware_masks-same hw xs ys r.1) ∙ sym (hardware_masks-cons hw x xs)))
+hardware_masks-same hw (x ∷ xs) (y ∷ ys) r = grind (arith, hardware_masks-cons, hardware_masks-same hw xs ys r.1)
 
 -- they fit without some, and so does each alone
 cond-others : (b : Bool) (mask : ℕ) (masks others taken : List ℕ) → ((more : List ℕ) → fits_beside masks more ≡ true → fits_beside others more ≡ true)
@@ -123,15 +121,7 @@ IsGroup-from_fine hw pinned g h = record {
 
 pub IsFine-from_group : (hw : Hardware) (pinned : Bool) (g : Group) → IsGroup hw g → is_pinned g.leader.attr ≡ pinned → IsFine hw pinned g
 unfolding fits
-IsFine-from_group hw pinned g h k = record {
-  small = h.small;
-  alike = Each-from_All (AreAlike g.leader) g.siblings h.alike;
-  siblings = Each-from_All IsSibling g.siblings h.siblings;
-  fit = h.fit;
-  one_pmu = weaker-Each (λ i. All (IsOfPmu hw i) (members_of g)) (λ i. Each (IsOfPmu hw i) (members_of g)) (λ i. Each-from_All (IsOfPmu hw i) (members_of g)) (members_of g)
-      (Each-from_All (λ i. All (IsOfPmu hw i) (members_of g)) (members_of g) h.one_pmu);
-  listed = k;
-}
+IsFine-from_group hw pinned g h k = grind (arith, Each-from_All, weaker-Each, Each)
 
 -- An instance with the place, the flags and the kind of another; whether it is a copy goes by whether the other is. A
 -- sibling stays without error too.
@@ -147,19 +137,10 @@ pub record IsSameSibling (copied : Bool → Bool) (i j : Instance) : Type 0 wher
   pub error : is_error i.own ≡ false → is_error j.own ≡ false
 
 AreAlike-same : (copied : Bool → Bool) (leader now : Instance) → IsSame copied leader now → (i j : Instance) → IsSameSibling copied i j → AreAlike leader i → AreAlike now j
-AreAlike-same copied leader now same i j h k = record {
-  copy = same.copy ∙ (ap copied k.copy ∙ sym h.same.copy);
-  task = same.task ∙ (k.task ∙ sym h.same.task);
-  cpu = same.cpu ∙ (k.cpu ∙ sym h.same.cpu);
-  inherit = ap (λ flags. not (bit_and flags.0 2 == 0)) same.flags ∙ (k.inherit ∙ ap (λ flags. not (bit_and flags.0 2 == 0)) (sym h.same.flags));
-}
+AreAlike-same copied leader now same i j h k = grind arith
 
 IsSibling-same : (copied : Bool → Bool) (i j : Instance) → IsSameSibling copied i j → IsSibling i → IsSibling j
-IsSibling-same copied i j h k = record {
-  pinned = ap (λ flags. not (bit_and flags.0 4 == 0)) h.same.flags ∙ k.pinned;
-  exclusive = ap (λ flags. not (bit_and flags.0 8 == 0)) h.same.flags ∙ k.exclusive;
-  error = h.error k.error;
-}
+IsSibling-same copied i j h k = grind arith
 
 abbrev SameKind : Instance → Instance → Type 0
 SameKind i j = j.attr.kind ≡ i.attr.kind
@@ -168,16 +149,13 @@ IsOfPmu-same : (hw : Hardware) (i j k l : Instance) → SameKind i j → SameKin
 IsOfPmu-same hw i j k l h g f = ap (λ a. is_other_pmu hw a l.attr.kind) h ∙ (ap (λ a. is_other_pmu hw i.attr.kind a) g ∙ f)
 
 AreOfPmu-same : (hw : Hardware) (xs ys : List Instance) → AllZip SameKind xs ys → AreOfPmu hw xs → AreOfPmu hw ys
-AreOfPmu-same hw xs ys r h =
-    zip-Each SameKind (λ i. Each (IsOfPmu hw i) xs) (λ j. Each (IsOfPmu hw j) ys)
-    (λ i j same k. zip-Each SameKind (IsOfPmu hw i) (IsOfPmu hw j) (λ a b. IsOfPmu-same hw i j a b same) xs ys r k) xs ys r h
+AreOfPmu-same hw xs ys r h = grind (arith, zip-Each, Each, IsOfPmu-same)
 
 -- a group whose members are the same but for that
 IsFine-same : (hw : Hardware) (pinned : Bool) (copied : Bool → Bool) (g now : Group) → IsSame copied g.leader now.leader
     → AllZip (IsSameSibling copied) g.siblings now.siblings → IsFine hw pinned g → IsFine hw pinned now
 IsFine-same hw pinned copied g now same r h =
-    let kinds : AllZip SameKind (members_of g) (members_of now) =
-    (same.kind, weaker-AllZip (IsSameSibling copied) SameKind (λ i j k. k.same.kind) g.siblings now.siblings r) in
+    let kinds : AllZip SameKind (members_of g) (members_of now) = grind (arith, weaker-AllZip) in
     record {
       small = omega (arith, h.small, length-AllZip (IsSameSibling copied) g.siblings now.siblings r);
       alike = zip-Each (IsSameSibling copied) (AreAlike g.leader) (AreAlike now.leader) (AreAlike-same copied g.leader now.leader same) g.siblings now.siblings r h.alike;
@@ -216,8 +194,7 @@ copied_state-well false = refl
 copies_from-same : (s : Stage) (id : ℕ) (instances : List Instance) → AllZip (IsSameSibling all_copied) instances (copies_from s id instances)
 unfolding copies_from
 copies_from-same s id [] = tt
-copies_from-same s id (i ∷ instances) =
-    (record { same = record { copy = refl; task = refl; cpu = refl; flags = refl; kind = refl }; error = λ k. copied_state-well (is_ready i.own) }, copies_from-same s (id + 1) instances)
+copies_from-same s id (i ∷ instances) = grind (arith, copied_state-well, copies_from-same s (id + 1) instances)
 
 pub IsFine-copy : (hw : Hardware) (pinned : Bool) (s : Stage) (id : ℕ) (g : Group) → IsFine hw pinned g → IsFine hw pinned (copy_group s id g)
 IsFine-copy hw pinned s id g h =
@@ -226,42 +203,20 @@ IsFine-copy hw pinned s id g h =
 -- a group of one
 pub IsFine-alone : (hw : Hardware) (pinned : Bool) (i : Instance) → is_pinned i.attr ≡ pinned → Fit hw [] (i ∷ []) → IsFine hw pinned (alone i)
 unfolding Each
-IsFine-alone hw pinned i listed fit = record {
-  small = omega arith;
-  alike = tt;
-  siblings = tt;
-  fit = fit;
-  one_pmu = ((IsOfPmu-itself hw i, tt), tt);
-  listed = listed;
-}
+IsFine-alone hw pinned i listed fit = grind (arith, IsOfPmu-itself)
 
 -- members that go
 IsFine-staying : (hw : Hardware) (pinned : Bool) (goes : Instance → Bool) (g : Group) → IsFine hw pinned g → IsFine hw pinned (record g { siblings = staying goes g.siblings })
 IsFine-staying hw pinned goes g h =
-    let stays : Instance → Bool = λ i. not (goes i) in
-    let fewer : length (staying goes g.siblings) ≤ length g.siblings = omega (arith, length-filter stays g.siblings, count_by-le-length stays g.siblings) in
-    record {
-      small = omega (arith, h.small, fewer);
-      alike = filter-Each (AreAlike g.leader) stays g.siblings h.alike;
-      siblings = filter-Each IsSibling stays g.siblings h.siblings;
-      fit = Fit-others hw [] g.leader g.siblings (staying goes g.siblings) (λ more. Fit-filter hw stays more g.siblings) h.fit;
-      one_pmu = some-Each (λ i. Each (IsOfPmu hw i) (g.leader ∷ staying goes g.siblings)) stays g.leader g.siblings
-          (weaker-Each (λ i. Each (IsOfPmu hw i) (members_of g)) (λ i. Each (IsOfPmu hw i) (g.leader ∷ staying goes g.siblings))
-          (λ i. some-Each (IsOfPmu hw i) stays g.leader g.siblings) (members_of g) h.one_pmu);
-      listed = h.listed;
-    }
+    grind (arith, length-filter, count_by-le-length, filter-Each, Fit-others, Fit-filter, some-Each, Each, weaker-Each)
 
 pub IsFine-kept : (hw : Hardware) (pinned : Bool) (goes : Instance → Bool) (g : Group) → IsFine hw pinned g → Each (IsFine hw pinned) (kept_group goes g)
-IsFine-kept hw pinned goes g h =
-    let now : Group = record g { siblings = staying goes g.siblings } in
-    either-Each (IsFine hw pinned) (goes g.leader) [] (now ∷ []) (none-Each (IsFine hw pinned))
-    (cons-Each (IsFine hw pinned) now [] (IsFine-staying hw pinned goes g h) (none-Each (IsFine hw pinned)))
+IsFine-kept hw pinned goes g h = grind (arith, either-Each, none-Each, cons-Each, IsFine-staying)
 
 pub IsFine-freed : (hw : Hardware) (pinned : Bool) (goes : Instance → Bool) (g : Group) → IsFine hw pinned g → Each (IsFine hw false) (freed_groups goes g)
 IsFine-freed hw pinned goes g h =
     let fit : Each (λ i. Fit hw [] (i ∷ [])) g.siblings = tail-Each (λ i. Fit hw [] (i ∷ [])) g.leader g.siblings (Fit-alone hw [] (members_of g) h.fit) in
-    let all : Each (λ i. IsFine hw false (alone i)) g.siblings =
-    both-Each IsSibling (λ i. Fit hw [] (i ∷ [])) (λ i. IsFine hw false (alone i)) (λ i k. IsFine-alone hw false i k.pinned) g.siblings h.siblings fit in
+    let all : Each (λ i. IsFine hw false (alone i)) g.siblings = grind (arith, both-Each, IsFine-alone) in
     either-Each (IsFine hw false) (goes g.leader) (map alone (staying goes g.siblings)) []
     (map-Each (λ i. IsFine hw false (alone i)) (IsFine hw false) alone (λ i k. k) (staying goes g.siblings)
     (filter-Each (λ i. IsFine hw false (alone i)) (λ i. not (goes i)) g.siblings all))

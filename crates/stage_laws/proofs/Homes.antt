@@ -1,8 +1,8 @@
 -- Where instances stand: an original in the context of its attribute, a copy in that of a live task; each with the
 -- attribute of its slot, and at most one of a family in a context. How this stays through the changes of one context.
-use Rattle.std.specs.Prelude.{◌≡◌, ℕ, ◌+◌, ◌-◌, ◌<◌, ◌≤◌, ◌==◌, nat_lt, Bool, true, false, not, List, length, cond, Option, None, slice_index_or, if◌then◌else◌}
+use Rattle.std.specs.Prelude.{◌≡◌, ℕ, ◌+◌, ◌-◌, ◌<◌, ◌≤◌, nat_lt, Bool, true, false, not, List, length, cond, Option, None, slice_index_or, if◌then◌else◌}
 use Rattle.std.proofs.Common.{refl, sym, ap, ◌∙◌, arith, inl, inr, subst}
-use Rattle.std.proofs.lemmas.{Bool.{cases_Bool, cases_lt, both_ways, and_parts, not-true, cond_both, lt-ltb, le-ltb}, List.{get_or_past}}
+use Rattle.std.proofs.lemmas.{Bool.{cases_lt, both_ways, and_parts, not-true, cond_both, lt-ltb, le-ltb}, List.{get_or_past}}
 use Rattle.perf_base.specs.declared.{numbers.{CpuNo.{CpuNo}, EventNo.{EventNo}, RingNo.{RingNo}, TaskNo.{TaskNo}}, attr.Attr.{Attr}}
 use Rattle.perf_base.specs.declared.{attr.{TaskSel.{TaskSel}, CpuSel.{CpuSel}}, standing.{Context.{Context}, Own.{Own}}}
 use Rattle.perf_base.specs.Contexts.{context_of, context_by}
@@ -28,26 +28,14 @@ place_of-cpu : (cpu : CpuNo) → cpu.0 < 8 → place_of (context.Processor cpu) 
 place_of-cpu cpu low = ap (λ b. cond b cpu.0 72) (lt-ltb cpu.0 8 low)
 
 pub place_of-at : (n : ℕ) → place_of (context_at n) ≡ n
-place_of-at n = elim (cases_lt n 8) [
-  | inl low ↦ ap (λ b. place_of (cond b (context.Processor (record { 0 = n })) (context.Task (record { 0 = n - 8 })))) (lt-ltb n 8 low) ∙ place_of-cpu (record { 0 = n }) low
-  | inr high ↦
-      let past : 8 + (n - 8) ≡ n = omega (arith, high) in
-      ap (λ b. place_of (cond b (context.Processor (record { 0 = n })) (context.Task (record { 0 = n - 8 })))) (le-ltb n 8 high) ∙ past
-]
+place_of-at n = grind (arith, cases_lt, lt-ltb, place_of-cpu, le-ltb)
 
 abbrev task_numbered : ℕ → Context
 task_numbered n = context.Task (record { 0 = n })
 
 pub context_at-place : (c : Context) → place_of c < 72 → context_at (place_of c) ≡ c
-context_at-place (context.Processor cpu) low = elim (cases_lt cpu.0 8) [
-  | inl within ↦ ap context_at (place_of-cpu cpu within)
-      ∙ ap (λ b. cond b (context.Processor cpu) (task_numbered (cpu.0 - 8))) (lt-ltb cpu.0 8 within)
-  | inr past ↦ let none : place_of (context.Processor cpu) ≡ 72 = ap (λ b. cond b cpu.0 72) (le-ltb cpu.0 8 past) in absurd (omega (arith, none, low))
-]
-context_at-place (context.Task task) low =
-    let high : 8 ≤ 8 + task.0 = omega arith in
-    let same : 8 + task.0 - 8 ≡ task.0 = omega arith in
-    ap (λ b. cond b (context.Processor (record { 0 = 8 + task.0 })) (task_numbered (8 + task.0 - 8))) (le-ltb (8 + task.0) 8 high) ∙ ap task_numbered same
+context_at-place (context.Processor cpu) low = grind (arith, cases_lt, place_of-cpu, lt-ltb, le-ltb)
+context_at-place (context.Task task) low = grind (arith, le-ltb)
 
 -- whose context it is, by the task that an attribute names
 abbrev is_task_context : Context → Bool
@@ -73,9 +61,7 @@ of_period p a = record a { period = p }
 pub in_context : (P : Context → Instance → Type 0) (s : Stage) → length s.contexts ≡ 72 → At (λ n. InLists (P (context_at n))) s → (c : Context) → InLists (P c) (lists_of s c)
 in_context P s shape h c = elim (cases_lt (place_of c) 72) [
   | inl within ↦ subst (λ d. InLists (P d) (lists_of s c)) (context_at-place c within) (h (place_of c))
-  | inr past ↦
-      let none : lists_of s c ≡ no_groups = get_or_past s.contexts (place_of c) no_groups (omega (arith, shape, past)) in
-      rw none (no_groups-In (P c))
+  | inr past ↦ grind (arith, get_or_past, past, no_groups-In)
 ]
 
 -- where a task stands among some tasks, and whether a context is that of a live one
@@ -105,11 +91,7 @@ pub record IsHome (tasks : List TaskStatus) (table : ℕ → Attr) (n : ℕ) (l 
   pub one : (e : EventNo) → lists_weight (one_if (is_of_family e)) l ≤ 1
 
 pub no_groups-home : (tasks : List TaskStatus) (table : ℕ → Attr) (n : ℕ) → IsHome tasks table n no_groups
-no_groups-home tasks table n = record {
-  stands = no_groups-In (StandsIn tasks table (context_at n));
-  empty = λ task at unused. refl;
-  one = λ e. omega (arith, no_groups-weigh (one_if (is_of_family e)));
-}
+no_groups-home tasks table n = grind (arith, no_groups-In, no_groups-weigh, one_if)
 
 -- tasks that stand as before at this place
 IsOfLive-more : (tasks now : List TaskStatus) (n : ℕ) → ((task : TaskNo) → 8 + task.0 ≡ n → state_at now task ≡ state_at tasks task)
@@ -149,28 +131,14 @@ no_groups-settled hw cpu before = refl
 
 pub settles-home : (tasks : List TaskStatus) (table : ℕ → Attr) (n : ℕ) (hw : Hardware) (cpu : CpuNo) (before : List Judged) (l : Lists) → IsHome tasks table n l
     → IsHome tasks table n (settle_lists hw cpu before l)
-settles-home tasks table n hw cpu before l h = record {
-  stands = settle_lists-in (StandsIn tasks table (context_at n)) (StandsIn-own tasks table (context_at n)) hw cpu before l h.stands;
-  empty = λ task at unused. ap (settle_lists hw cpu before) (h.empty task at unused) ∙ no_groups-settled hw cpu before;
-  one = λ e. omega (arith, h.one e, settle_lists-weighs (one_if (is_of_family e)) (λ i o. refl) hw cpu before l);
-}
+settles-home tasks table n hw cpu before l h = grind (arith, settle_lists-in, no_groups-settled, settle_lists-weighs, one_if)
 
 pub turns-home : (tasks : List TaskStatus) (table : ℕ → Attr) (n : ℕ) (hw : Hardware) (cpu : CpuNo) (judged : List Judged) (l : Lists) → IsHome tasks table n l
     → IsHome tasks table n (turn_lists hw cpu judged l)
-turns-home tasks table n hw cpu judged l h = record {
-  stands = turn_lists-in (StandsIn tasks table (context_at n)) hw cpu judged l h.stands;
-  empty = λ task at unused. ap (turn_lists hw cpu judged) (h.empty task at unused);
-  one = λ e. omega (arith, h.one e, turn_lists-weighs (one_if (is_of_family e)) hw cpu judged l);
-}
+turns-home tasks table n hw cpu judged l h = grind (arith, turn_lists-in, turn_lists-weighs, one_if)
 
 without-one : (goes : Instance → Bool) (e : EventNo) (l : Lists) → lists_weight (one_if (is_of_family e)) l ≤ 1 → lists_weight (one_if (is_of_family e)) (without goes l) ≤ 1
-without-one goes e l h =
-    omega (
-      arith,
-      h,
-      without-weighs goes (one_if (is_of_family e)) l,
-      lists-le (if_stays goes (one_if (is_of_family e))) (one_if (is_of_family e)) (if_stays-le goes (one_if (is_of_family e))) l,
-    )
+without-one goes e l h = grind (arith, without-weighs, one_if, lists-le, if_stays, if_stays-le)
 
 pub loses-home : (tasks : List TaskStatus) (table : ℕ → Attr) (n : ℕ) (goes : Instance → Bool) (l : Lists) → IsHome tasks table n l → IsHome tasks table n (without goes l)
 loses-home tasks table n goes l h = record {
@@ -196,8 +164,7 @@ changes-home tasks table f event k n l h = record {
   stands = change_lists-in (StandsIn tasks table (context_at n)) (StandsIn tasks table (context_at n)) f (k (context_at n)) l h.stands;
   empty = λ task at unused. ap (change_lists f) (h.empty task at unused);
   one = λ e.
-      let same : lists_weight (λ i. one_if (is_of_family e) (f i)) l ≡ lists_weight (one_if (is_of_family e)) l =
-      lists-same (λ i. one_if (is_of_family e) (f i)) (one_if (is_of_family e)) (λ i. ap (λ slot. cond (slot.0 == e.0) 1 0) (event i)) l in
+      let same : lists_weight (λ i. one_if (is_of_family e) (f i)) l ≡ lists_weight (one_if (is_of_family e)) l = grind (arith, lists-same, one_if) in
       omega (arith, h.one e, change_lists-weighs (one_if (is_of_family e)) f l, same);
 }
 
@@ -243,10 +210,7 @@ output-home tasks table e ring owner =
 
 -- what a fork copies from a task's context to the child's
 pub stands_with_task : (tasks : List TaskStatus) (table : ℕ → Attr) (task : TaskNo) (i : Instance) → StandsIn tasks table (context.Task task) i → is_all_tasks i.attr.task ≡ false
-stands_with_task tasks table task i h = elim (cases_Bool i.copy) [
-  | inl is ↦ (h.copied is).task
-  | inr other ↦ counts_task i.attr task (h.original other)
-]
+stands_with_task tasks table task i h = grind (arith, counts_task)
 
 pub copies-home : (s : Stage) (tasks now : List TaskStatus) (table : ℕ → Attr) (parent : TaskNo) (n : ℕ) → IsOfLive now (context_at n)
     → ((task : TaskNo) → 8 + task.0 ≡ n → was_used (state_at now task) ≡ true)

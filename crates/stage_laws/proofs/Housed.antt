@@ -90,10 +90,7 @@ exited_by-homes hw cpu (Some task) table s shape h =
 
 exited-housed : (hw : Hardware) (cpu : CpuNo) (table : ℕ → Attr) (s : Stage) → HasShape hw s → IsHoused table s → IsHoused table (exited cpu s)
 unfolding exited
-exited-housed hw cpu table s shape h = record {
-  homes = exited_by-homes hw cpu (task_on s cpu) table s shape h.homes;
-  families = exited-familied cpu s h.families;
-}
+exited-housed hw cpu table s shape h = search (exited_by-homes, exited-familied)
 
 -- a fork
 running_task : (to : Option TaskNo) → is_idle to ≡ false → (task : TaskNo) × (to ≡ Some task)
@@ -105,8 +102,7 @@ forked-homes : (hw : Hardware) (cpu : CpuNo) (child parent : TaskNo) (table : �
 forked-homes hw cpu child parent table s shape on h =
     let after : List TaskStatus = slice_set s.tasks child.0 fresh_task in
     let from : task_lists s (task_on s cpu) ≡ lists_of s (context.Task parent) = ap (task_lists s) on in
-    let stand : InLists (StandsIn s.tasks table (context.Task parent)) (lists_of s (context.Task parent)) =
-    in_context (StandsIn s.tasks table) s shape.contexts (λ n. (h n).stands) (context.Task parent) in
+    let stand : InLists (StandsIn s.tasks table (context.Task parent)) (lists_of s (context.Task parent)) = grind (arith, in_context, StandsIn) in
     change_context-at (IsHome s.tasks table) (IsHome after table) (no_groups-home after table) (context.Task child) (λ l. copied s (task_lists s (task_on s cpu))) s
     (λ within before.
     let is_new : (other : TaskNo) → 8 + other.0 ≡ 8 + child.0 → state_at after other ≡ state.Live = this_task s child fresh_task (omega (arith, within, shape.tasks, shape.contexts)) in
@@ -158,10 +154,7 @@ output-housed e ring owner table s h = record {
 
 closed-housed : (e : EventNo) (table : ℕ → Attr) (s : Stage) → IsHoused table s → IsHoused table (closed e s)
 unfolding closed
-closed-housed e table s h = record {
-  homes = closed-keeps (IsHome s.tasks table) (λ n. loses-home s.tasks table n) e s h.homes;
-  families = closed-familied e s h.families;
-}
+closed-housed e table s h = search (closed-keeps, IsHome, loses-home, closed-familied)
 
 placed-tasks : (leader : Option EventNo) (i : Instance) (s : Stage) → (placed leader i s).tasks ≡ s.tasks
 placed-tasks None i s = refl
@@ -175,10 +168,7 @@ opened-homes slot a leader table s h = subst (λ tasks. At (IsHome tasks table) 
 opened-housed : (hw : Hardware) (slot : EventNo) (a : Attr) (leader : Option EventNo) (table : ℕ → Attr) (s : Stage) → HasShape hw s → IsNumbered s
     → place_of (context_of a) < length s.contexts
     → open_refusal hw s slot a leader ≡ None → IsHoused table s → IsHoused (with_slot slot a table) (opened s slot a leader)
-opened-housed hw slot a leader table s shape numbered place ok h = record {
-  homes = opened-homes slot a leader (with_slot slot a table) s (placed-homes hw s slot a leader table shape.contexts numbered h.families (accepted hw s slot a leader ok) h.homes);
-  families = opened-familied s slot a leader place h.families;
-}
+opened-housed hw slot a leader table s shape numbered place ok h = search (opened-homes, with_slot, placed-homes, accepted, opened-familied)
 
 -- a step
 cpu-housed : (l : Limits) (hw : Hardware) (cpu : CpuNo) (line : CpuLine) (table : ℕ → Attr) (s : Stage) → HasShape hw s → IsWithin l (CpuStep cpu line) → cpu_refusal s cpu line ≡ None

@@ -1,7 +1,7 @@
 -- Lists through the images of their elements: those that pass a test, the first that does, how many do, and what holds
 -- of each.
 use Rattle.std.specs.Prelude.{◌≡◌, Bool, All, List, [], ◌∷◌, map, filter, length, find, count_by, Option, Some, None, option_map, slice_index_or}
-use Rattle.std.proofs.{Common.{arith, refl, sym, ap, ◌∙◌, inl, inr}, lemmas.{Bool.{cases_Bool}, Option.{none-some}, List.{length-map}}}
+use Rattle.std.proofs.{Common.{arith, refl, sym, ap, ◌∙◌}, lemmas.{Option.{none-some}, List.{length-map}}}
 use Rattle.std.proofs.Math.ListN.{get_or-map}
 use Rattle.stage_laws.proofs.{Counts.{count-cons}, Tasks.{some-same}}
 
@@ -11,17 +11,11 @@ map-same f g same (x ∷ xs) = rw (same x, map-same f g same xs) refl
 
 pub filter-map : {X Y : Type 0} (p : Y → Bool) (q : X → Bool) (f : X → Y) → ((x : X) → p (f x) ≡ q x) → (xs : List X) → filter p (map f xs) ≡ map f (filter q xs)
 filter-map p q f same [] = refl
-filter-map p q f same (x ∷ xs) = elim (cases_Bool (q x)) [
-  | inl e ↦ rw (same x, e) (ap (λ ys. f x ∷ ys) (filter-map p q f same xs))
-  | inr e ↦ rw (same x, e) (filter-map p q f same xs)
-]
+filter-map p q f same (x ∷ xs) = grind (arith, filter-map p q f same xs)
 
 find-map : {X Y : Type 0} (p : Y → Bool) (q : X → Bool) (f : X → Y) → ((x : X) → p (f x) ≡ q x) → (xs : List X) → find p (map f xs) ≡ option_map f (find q xs)
 find-map p q f same [] = refl
-find-map p q f same (x ∷ xs) = elim (cases_Bool (q x)) [
-  | inl e ↦ rw (same x, e) refl
-  | inr e ↦ rw (same x, e) (find-map p q f same xs)
-]
+find-map p q f same (x ∷ xs) = grind (arith, find-map p q f same xs)
 
 image-image : {X Y Z : Type 0} (g : Y → Z) (f : X → Y) (o : Option X) → option_map g (option_map f o) ≡ option_map (λ x. g (f x)) o
 image-image g f None = refl

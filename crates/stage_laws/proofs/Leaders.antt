@@ -17,10 +17,7 @@ at_least_one p (x ∷ xs) h = elim (or_cases (p x) (list_any p xs) h) [
 pub none_counted : {X : Type 0} (p : X → Bool) (xs : List X) → count_by p xs ≡ 0 → Each (λ x. p x ≡ false) xs
 unfolding Each
 none_counted p [] h = tt
-none_counted p (x ∷ xs) h = elim (cases_Bool (p x)) [
-  | inl some ↦ absurd (omega (arith, h, count-cons p x xs, ap as_number some))
-  | inr none ↦ (none, none_counted p xs (omega (arith, h, count-cons p x xs)))
-]
+none_counted p (x ∷ xs) h = grind (arith, count-cons, as_number, none_counted p xs (omega (arith, h, count-cons p x xs)))
 
 pub find-first : {X : Type 0} (p : X → Bool) (x : X) (xs : List X) → p x ≡ true → find p (x ∷ xs) ≡ Some x
 find-first p x xs h = ap (λ b. cond b (Some x) (find p xs)) h
@@ -63,12 +60,7 @@ abbrev pub IsLed : EventNo → List Group → Group → Type 0
 IsLed e groups g = is_original e g.leader ≡ true → IsFound e groups g
 
 IsLed-later : (e : EventNo) (first : Group) (groups : List Group) → has_original e first ≡ false → (g : Group) → IsLed e groups g → IsLed e (first ∷ groups) g
-IsLed-later e first groups none g h led =
-    let k : IsFound e groups g = h led in
-    record {
-      group = find-later (has_original e) first groups none ∙ k.group;
-      leader = find-past (is_original e) (members_of first) (members groups) none ∙ k.leader;
-    }
+IsLed-later e first groups none g h led = grind (arith, find-later, find-past)
 
 none_led : (e : EventNo) (all groups : List Group) → count_by (is_original e) (members groups) ≡ 0 → Each (IsLed e all) groups
 none_led e all groups h =
@@ -82,10 +74,7 @@ all_led e [] h = tt
 all_led e (first ∷ groups) h =
     let counts : count_by (is_original e) (members (first ∷ groups)) ≡ count_by (is_original e) (members_of first) + count_by (is_original e) (members groups) =
     count-append (is_original e) (members_of first) (members groups) in
-    let here : IsLed e (first ∷ groups) first = λ led. record {
-      group = find-first (has_original e) first groups (or_left (is_original e first.leader) (list_any (is_original e) first.siblings) led);
-      leader = find-first (is_original e) first.leader (first.siblings ++ members groups) led;
-    } in
+    let here : IsLed e (first ∷ groups) first = grind (arith, find-first, or_left) in
     elim (cases_Bool (has_original e first)) [
       | inl some ↦ (here, none_led e (first ∷ groups) groups (omega (arith, h, counts, at_least_one (is_original e) (members_of first) some)))
       | inr none ↦ (here, weaker-Each (IsLed e groups) (IsLed e (first ∷ groups)) (IsLed-later e first groups none) groups (all_led e groups (omega (arith, h, counts))))

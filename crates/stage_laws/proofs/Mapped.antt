@@ -77,14 +77,7 @@ ring_set before after false i ring owner h k = k
 
 set_ring-none_astray : (before after : List RingNo) (e : EventNo) (ring : Option RingNo) (owner : Bool) (s : Stage) → elsewhere after ring ≡ 0
     → ((o : Option RingNo) → elsewhere after o ≤ elsewhere before o) → weigh (astray before) s ≡ 0 → weigh (astray after) (set_ring e ring owner s) ≡ 0
-set_ring-none_astray before after e ring owner s h k none =
-    let change : Instance → Instance = λ i. if is_original e i then record i { ring = ring; mapped = owner } else i in
-    omega (
-      arith,
-      change_each-weighs (astray after) change s,
-      weigh-le (λ i. astray after (change i)) (astray before) (λ i. ring_set before after (is_original e i) i ring owner h (k i.ring)) s,
-      none,
-    )
+set_ring-none_astray before after e ring owner s h k none = grind (arith, nat_tests, change_each-weighs, weigh-le, ring_set)
 
 either_test : (a b : Bool) → as_number (not (a || b)) ≤ as_number (not a)
 either_test true b = omega arith
@@ -93,14 +86,10 @@ either_test false false = omega arith
 
 more_mapped : (mapped more : List RingNo) (o : Option RingNo) → elsewhere (mapped ++ more) o ≤ elsewhere mapped o
 more_mapped mapped more None = omega arith
-more_mapped mapped more (Some ring) =
-    let is_ring : RingNo → Bool = λ r. r.0 == ring.0 in
-    rw (list_any-append is_ring mapped more) (either_test (list_any is_ring mapped) (list_any is_ring more))
+more_mapped mapped more (Some ring) = grind (arith, nat_tests, list_any-append, either_test)
 
 last_mapped : (mapped : List RingNo) (ring : RingNo) → elsewhere (mapped ++ ring ∷ []) (Some ring) ≡ 0
-last_mapped mapped ring =
-    let is_ring : RingNo → Bool = λ r. r.0 == ring.0 in
-    there_at (list_any is_ring (mapped ++ ring ∷ [])) (list_any-append is_ring mapped (ring ∷ []) ∙ grind (arith, nat_tests))
+last_mapped mapped ring = grind (arith, nat_tests, there_at, list_any-append)
 
 mapped_to-none_astray : (e : EventNo) (ring : RingNo) (s : Stage) → NoneAstray s → NoneAstray (mapped_to e ring s)
 unfolding mapped_to
@@ -115,8 +104,7 @@ found mapped false x o h k = k
 found_mapped : (mapped : List RingNo) (test : Instance → Bool) (xs : List Instance) → total (astray mapped) xs ≡ 0 → elsewhere mapped (ring_of_instance (find test xs)) ≡ 0
 unfolding total
 found_mapped mapped test [] h = refl
-found_mapped mapped test (x ∷ xs) h =
-    found mapped (test x) x (find test xs) (omega (arith, h)) (found_mapped mapped test xs (omega (arith, h)))
+found_mapped mapped test (x ∷ xs) h = grind (arith, nat_tests, found, found_mapped mapped test xs (omega (arith, h)))
 
 output_to-none_astray : (e target : EventNo) (s : Stage) → NoneAstray s → NoneAstray (output_to e target s)
 unfolding output_to

@@ -8,8 +8,8 @@ use Rattle.perf_base.specs.declared.lines.ToolLine.TheVariants as tool_line
 use Rattle.perf_base.specs.declared.reasons.Reason.TheVariants as reason
 use Rattle.perf_base.specs.declared.standing.Context.TheVariants as context
 use Rattle.stage_spec.specs.{Hardware.{Hardware}, Numbers.{numbers_below}}
-use Rattle.stage_spec.specs.Stage.{Stage, Lists, task_on, all_cpus, is_idle, is_live, was_used, status_of, live_copies, change_context, is_copy}
-use Rattle.stage_spec.specs.{Verdict.{Judged, passes, task_lists, verdicts}, Settle.{settle_each, settle_all}, Commands.{targets, enabled, disabled}}
+use Rattle.stage_spec.specs.Stage.{Stage, task_on, all_cpus, is_idle, is_live, was_used, status_of, live_copies, change_context, is_copy}
+use Rattle.stage_spec.specs.{Verdict.{Judged, passes, task_lists}, Settle.{settle_each, settle_all}, Commands.{targets, enabled, disabled}}
 use Rattle.stage_spec.specs.{Closing.{without}, Switching.{switched, put_on, is_running}, Rotation.{turn_lists, turn_task, rotated}}
 use Rattle.stage_spec.specs.{Forks.{fork_refusal, forked, copied, new_copies}, Exits.{exited, exited_by}}
 use Rattle.stage_spec.specs.History.{Step, CpuStep, ToolStep, SeenStep, cpu_refusal, tool_refusal, cpu_changed, tool_changed, unless_refused, stage_step}
@@ -44,11 +44,7 @@ turn_task-is hw cpu js (Some task) s = refl
 
 tick-reaches : (hw : Hardware) (s : Stage) (at cpu : CpuNo) → IsSound hw s → cpu.0 ≢ at.0 → passes (rotated hw at s) cpu ≡ passes s cpu
 unfolding rotated
-tick-reaches hw s at cpu sound apart =
-    let turn : Lists → Lists = turn_lists hw at (verdicts hw s at) in
-    let first : Stage = change_context (context.Processor at) turn s in
-    ap (λ t. passes t cpu) (turn_task-is hw at (verdicts hw s at) (task_on s at) first)
-    ∙ passes-same s (change_task (task_on s at) turn first) cpu (both-changed at cpu (task_on s at) turn turn s sound.shape.contexts sound.running apart refl)
+tick-reaches hw s at cpu sound apart = search (turn_task-is, passes-same, change_task, both-changed)
 
 fork-reaches : (hw : Hardware) (s : Stage) (at cpu : CpuNo) (child : TaskNo) → IsSound hw s → fork_refusal s at child ≡ None → ReachesSame s (forked at child s) cpu
 unfolding forked
@@ -65,8 +61,7 @@ fork-reaches hw s at cpu child sound free =
 exited_by-reaches : (hw : Hardware) (s : Stage) (at cpu : CpuNo) (to : Option TaskNo) → IsSound hw s → cpu.0 ≢ at.0 → task_on s at ≡ to → ReachesSame s (exited_by at to s) cpu
 exited_by-reaches hw s at cpu None sound apart on = reaches-itself s cpu
 exited_by-reaches hw s at cpu (Some task) sound apart on =
-    let h : ReachesSame s (change_context (context.Task task) (without is_copy) s) cpu =
-    task-changed task cpu (without is_copy) s sound.shape.contexts (tasks-apart s at cpu task sound.running apart on) in
+    let h : ReachesSame s (change_context (context.Task task) (without is_copy) s) cpu = search (task-changed, tasks-apart) in
     record { running = task_on-other s at cpu None apart; own = h.own; task = h.task }
 
 exit-reaches : (hw : Hardware) (s : Stage) (at cpu : CpuNo) → IsSound hw s → cpu.0 ≢ at.0 → ReachesSame s (exited at s) cpu
@@ -113,15 +108,7 @@ narrow-all hw s t touched small size roomy settled same =
     let narrowed : settle_all hw t ≡ settle_each hw (filter touched (all_cpus s)) t =
     ap (λ cs. settle_each hw cs t) cpus ∙ only-some hw touched (length s.running) (all_cpus s) t small roomy (all-within s)
     (λ cpu low away. settled_by_briefs hw cpu s t (omega (arith, low, small)) (same cpu low away) (settled cpu low)) in
-    record {
-      stage = narrowed;
-      settled = λ cpu low.
-          let here : cpu.0 < length t.running = omega (arith, low, ap length (settle_all-keeps hw t).running) in
-          each-settled hw (all_cpus t) cpu t roomy (omega (arith, here, size, small)) (is-there t cpu here);
-      others = λ cpu low away. ap (λ u. standings hw u cpu) narrowed
-          ∙ by_briefs hw cpu (settle_each hw (filter touched (all_cpus s)) t) s
-          (briefs-of_passes hw cpu t (settle_each hw (filter touched (all_cpus s)) t) (others-reach hw touched (all_cpus s) cpu t roomy away) ∙ same cpu low away);
-    }
+    grind (arith, narrowed, settle_all-keeps, each-settled, is-there, by_briefs, briefs-of_passes, others-reach)
 
 takes-none : (cs : List CpuNo) → filter (λ c. false) cs ≡ []
 takes-none [] = refl

@@ -1,5 +1,5 @@
 -- Each step keeps that ids and slots are of one instance each, by weights.
-use Rattle.std.specs.Prelude.{◌≡◌, ℕ, ◌+◌, ◌*◌, ◌<◌, ◌≤◌, ◌==◌, nat_le, nat_lt, All, Bool, true, false, not, ◌&&◌, List, [], ◌∷◌, ◌++◌, length, Option, Some, None, if◌then◌else◌}
+use Rattle.std.specs.Prelude.{◌≡◌, ℕ, ◌+◌, ◌*◌, ◌<◌, ◌≤◌, ◌==◌, nat_le, All, Bool, true, false, not, ◌&&◌, List, [], ◌∷◌, ◌++◌, length, Option, Some, None, if◌then◌else◌}
 use Rattle.std.{specs.List.{list_any}, proofs.{Common.{arith, refl, ap, ◌∙◌, sym, inl, inr}, Math.Nat.{mul-le-mul_right}}}
 use Rattle.std.proofs.lemmas.Bool.{cases_lt, cases_eq, cases_Bool, and_right, eqb-true, ne_eqb, or_parts, Decides.{nat_tests}}
 use Rattle.std.proofs.lemmas.List.{Elements.{All-nil, All-cons}, Folds.{list_any-append}}
@@ -11,10 +11,9 @@ use Rattle.perf_base.specs.declared.attr.TaskSel.TheVariants as tasks
 use Rattle.perf_base.specs.declared.attr.CpuSel.TheVariants as cpus
 use Rattle.perf_base.specs.declared.lines.CpuLine.TheVariants as cpu_line
 use Rattle.perf_base.specs.declared.lines.ToolLine.TheVariants as tool_line
-use Rattle.perf_base.specs.declared.reasons.Reason.TheVariants as reason
 use Rattle.perf_base.specs.declared.standing.Context.TheVariants as context
 use Rattle.stage_spec.specs.{declared.instance.Instance.{Instance}, Hardware.{Hardware}}
-use Rattle.stage_spec.specs.Stage.{Stage, Lists, no_groups, place_of, all_instances, change_each, is_original, is_copy, live_copies, task_on, status_of, is_idle, was_used, first_stage}
+use Rattle.stage_spec.specs.Stage.{Stage, Lists, no_groups, place_of, all_instances, change_each, is_original, is_copy, live_copies, task_on, first_stage}
 use Rattle.stage_spec.specs.{Verdict.{task_lists}, Settle.{settle_all}, Opening.{is_used, new_original, opened}}
 use Rattle.stage_spec.specs.Commands.{is_reached, command_each, with_period, enabled, disabled, targets}
 use Rattle.stage_spec.specs.{Mapping.{set_ring, ring_of, mapped_to, output_to}, Closing.{closed}, Rotation.{rotated}}
@@ -63,9 +62,7 @@ drawn_by_weight n (x ∷ xs) h z = All-cons (λ i. (1 ≤ i.id) × (i.id < n)) x
 slots_by_weight : (xs : List Instance) → total (one_if is_outside) xs ≡ 0 → All (λ i. i.event.0 < 256) xs
 unfolding total
 slots_by_weight [] h = All-nil (λ i. i.event.0 < 256)
-slots_by_weight (x ∷ xs) h =
-    let here : as_number (nat_le 256 x.event.0) ≡ 0 = omega (arith, h) in
-    All-cons (λ i. i.event.0 < 256) x xs (grind (arith, nat_tests, here)) (slots_by_weight xs (omega (arith, h)))
+slots_by_weight (x ∷ xs) h = grind (arith, nat_tests, as_number, All-cons, slots_by_weight xs (omega (arith, h)))
 
 pub numbered_by_weights : (s : Stage) → Weighed s → IsNumbered s
 numbered_by_weights s w = record {
@@ -161,12 +158,10 @@ command_each-quiet change events s = changed-quiet (is_reached events) (λ i. re
 
 pub with_period-quiet : (e : EventNo) (period : ℕ) (s : Stage) → IsQuiet s (with_period e period s)
 unfolding with_period
-with_period-quiet e period s = changed-quiet (is_original e) (λ i. record i { attr = record i.attr { period = period } })
-    (λ f k i. k (record i { attr = record i.attr { period = period } }) i refl refl refl) s
+with_period-quiet e period s = search (nat_tests, changed-quiet)
 
 set_ring-quiet : (e : EventNo) (ring : Option RingNo) (owner : Bool) (s : Stage) → IsQuiet s (set_ring e ring owner s)
-set_ring-quiet e ring owner s = changed-quiet (is_original e) (λ i. record i { ring = ring; mapped = owner })
-    (λ f k i. k (record i { ring = ring; mapped = owner }) i refl refl refl) s
+set_ring-quiet e ring owner s = search (nat_tests, changed-quiet)
 
 pub mapped_to-quiet : (e : EventNo) (ring : RingNo) (s : Stage) → IsQuiet s (mapped_to e ring s)
 unfolding mapped_to
@@ -194,11 +189,7 @@ no_copy_is_original e s id i = ap as_number (and_right (i.event.0 == e.0) false 
 -- a fork that is not refused leaves at most 4,096 copies
 pub room_for_copies : (cpu : CpuNo) (child : TaskNo) (s : Stage) → fork_refusal s cpu child ≡ None → live_copies s + new_copies (task_lists s (task_on s cpu)) ≤ 4096
 unfolding Each
-room_for_copies cpu child s h =
-    let more : ℕ = new_copies (task_lists s (task_on s cpu)) in
-    let full : nat_lt 4096 (live_copies s + more) ≡ false
-    = (no_reason ((reason.Idle, is_idle (task_on s cpu)) ∷ (reason.Exists, was_used (status_of s child).state) ∷ (reason.CopiesFull, nat_lt 4096 (live_copies s + more)) ∷ []) h).1.1.0 in
-    grind (arith, nat_tests, full)
+room_for_copies cpu child s h = grind (arith, nat_tests, no_reason)
 
 fork_keeps : (cpu : CpuNo) (child : TaskNo) (s : Stage) → fork_refusal s cpu child ≡ None → Weighed s → Weighed (forked cpu child s)
 unfolding forked
@@ -239,9 +230,7 @@ context_by-place n tasks.All cpus.Any few h k = omega arith
 
 -- an event that can be written has a context
 pub context_of-place : (hw : Hardware) (l : Limits) (s : Stage) (a : Attr) → IsMachine l hw → HasShape hw s → IsAttr l.cpus l.kinds a → place_of (context_of a) < length s.contexts
-context_of-place hw l s a m shape h =
-    let few : l.cpus ≤ 8 = omega (arith, m.cpus, m.sound.cpus.1) in
-    omega (arith, shape.contexts, context_by-place l.cpus a.task a.cpu few h.task h.cpu)
+context_of-place hw l s a m shape h = grind (arith, nat_tests, context_by-place)
 
 at_most_once : (n x : ℕ) → n ≤ 1 → n * x ≤ x
 at_most_once n x h = omega (arith, mul-le-mul_right x h)
@@ -252,15 +241,10 @@ groups_joined-le (Some e) s w = omega (arith, groups_led-le e s, w.one_original 
 
 pub opened-le : (f : Instance → ℕ) (s : Stage) (slot : EventNo) (a : Attr) (leader : Option EventNo) → Weighed s → place_of (context_of a) < length s.contexts
     → weigh f (opened s slot a leader) ≤ weigh f s + f (new_original s slot a)
-opened-le f s slot a leader w h =
-    omega (arith, opened-weighs f s slot a leader h, at_most_once (groups_joined leader s) (f (new_original s slot a)) (groups_joined-le leader s w))
+opened-le f s slot a leader w h = grind (arith, nat_tests, opened-weighs, at_most_once, groups_joined, groups_joined-le)
 
 used_push : (us : List EventNo) (slot e : EventNo) → list_any (λ u. u.0 == e.0) (us ++ slot ∷ []) ≡ false → (list_any (λ u. u.0 == e.0) us ≡ false) × ((slot.0 == e.0) ≡ false)
-used_push us slot e h =
-    let is_slot : EventNo → Bool = λ u. u.0 == e.0 in
-    let parts : (list_any is_slot us ≡ false) × (list_any is_slot (slot ∷ []) ≡ false)
-    = or_parts (list_any is_slot us) (list_any is_slot (slot ∷ [])) (sym (list_any-append is_slot us (slot ∷ [])) ∙ h) in
-    (parts.0, (or_parts (slot.0 == e.0) false parts.1).0)
+used_push us slot e h = grind (arith, nat_tests, or_parts, list_any-append)
 
 other_slot : (slot e : EventNo) (b : Bool) → (slot.0 == e.0) ≡ false → as_number ((slot.0 == e.0) && b) ≡ 0
 other_slot slot e b h = ap (λ c. as_number (c && b)) h
@@ -344,13 +328,4 @@ first-weighs f n declared = total-replicate (lists_weight f) 72 no_groups (no_gr
 
 pub numbered_first : (n : ℕ) (declared : List TaskNo) → IsNumbered (first_stage n declared)
 unfolding first_stage
-numbered_first n declared = numbered_by_weights (first_stage n declared) (record {
-  first = omega arith;
-  zero = first-weighs (one_if (has_id 0)) n declared;
-  undrawn = λ id h. first-weighs (one_if (has_id id)) n declared;
-  once = λ id. omega (arith, first-weighs (one_if (has_id id)) n declared);
-  slots = first-weighs (one_if is_outside) n declared;
-  one_original = λ e. omega (arith, first-weighs (one_if (is_original e)) n declared);
-  used = λ e h. first-weighs (one_if (is_original e)) n declared;
-  few = omega (arith, first-weighs (one_if is_copy) n declared);
-})
+numbered_first n declared = grind (arith, nat_tests, numbered_by_weights, first-weighs, one_if)

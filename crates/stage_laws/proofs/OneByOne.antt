@@ -85,8 +85,7 @@ with_contexts contexts s = record s { contexts = contexts }
 pub fold-contexts : (f : ℕ → Lists → Lists) (ids : List ℕ) (s : Stage)
     → fold (λ t id. with_contexts (map (f id) t.contexts) t) s ids ≡ with_contexts (map (in_turn f ids) s.contexts) s
 fold-contexts f [] s = ap (λ cs. with_contexts cs s) (sym (map-none s.contexts))
-fold-contexts f (id ∷ ids) s =
-    fold-contexts f ids (with_contexts (map (f id) s.contexts) s) ∙ ap (λ cs. with_contexts cs s) (map-map (in_turn f ids) (f id) s.contexts)
+fold-contexts f (id ∷ ids) s = grind (arith, nat_tests, map-map, fold-contexts f ids (with_contexts (map (f id) s.contexts) s))
 
 -- so for changes of instances
 abbrev one_changed : (Instance → Instance) → ℕ → Instance → Instance
@@ -130,8 +129,7 @@ unfolding Each
 group-same_change f g h same = rw (same.0, map-same_each f g h.siblings same.1) refl
 
 groups-same_change : (f g : Instance → Instance) (groups : List Group) → Each (InGroup (λ i. f i ≡ g i)) groups → map (change_group f) groups ≡ map (change_group g) groups
-groups-same_change f g groups same =
-    map-same_each (change_group f) (change_group g) groups (weaker-Each (InGroup (λ i. f i ≡ g i)) (λ h. change_group f h ≡ change_group g h) (group-same_change f g) groups same)
+groups-same_change f g groups same = grind (arith, nat_tests, map-same_each, weaker-Each, InGroup, group-same_change)
 
 lists-same_change : (f g : Instance → Instance) (l : Lists) → InLists (λ i. f i ≡ g i) l → change_lists f l ≡ change_lists g l
 lists-same_change f g l same = rw (groups-same_change f g l.pinned same.in_pinned, groups-same_change f g l.flexible same.in_flexible) refl

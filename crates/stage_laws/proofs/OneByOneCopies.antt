@@ -1,12 +1,12 @@
 -- What a fork adds is a copy of each instance, one after the other in the order of their ids.
-use Rattle.std.specs.Prelude.{◌≡◌, ℕ, zero, suc, ◌+◌, Bool, true, false, ◌&&◌, cond, find, Option, Some, None, if◌then◌else◌, List, [], ◌∷◌, ◌++◌, map, flat_map, length, sum_by}
-use Rattle.std.{specs.Option.{option_or}, proofs.Common.{arith, refl, sym, ap, ◌∙◌, inl, inr, append-nil, append_assoc, get_or, set, get_or-set_same}}
+use Rattle.std.specs.Prelude.{◌≡◌, ℕ, zero, suc, ◌+◌, Bool, true, false, ◌&&◌, find, Option, Some, None, if◌then◌else◌, List, [], ◌∷◌, ◌++◌, map, flat_map, length, sum_by}
+use Rattle.std.{specs.Option.{option_or}, proofs.Common.{arith, refl, sym, ap, ◌∙◌, append-nil, append_assoc, get_or, set, get_or-set_same}}
 use Rattle.std.proofs.lemmas.{Bool.{cases_lt}, Grind.{flat_map-append}, List.{set-set, set-get_or, set_past, length-append, length-map}}
 use Rattle.std.proofs.lemmas.List.{Folds.{find-append}, Sums.{sum_by-cons}}
 use Rattle.perf_base.specs.declared.numbers.{EventNo.{EventNo}, TaskNo.{TaskNo}}
 use Rattle.perf_base.specs.declared.standing.Context.TheVariants as context
 use Rattle.stage_spec.specs.declared.instance.Instance.{Instance}
-use Rattle.stage_spec.specs.Stage.{Stage, Group, members_of, group_size, alone, Lists, lists_of, no_groups, groups_in, members, is_of_family, is_original, original_of, place_of, task_on, fresh_task, set_status, change_context}
+use Rattle.stage_spec.specs.Stage.{Stage, Group, members_of, group_size, alone, Lists, lists_of, no_groups, groups_in, members, is_of_family, is_original, original_of, place_of, task_on, change_context}
 use Rattle.stage_spec.specs.{Verdict.{task_lists}, Opening.{joined, add_group}}
 use Rattle.stage_spec.specs.Forks.{inherited_groups, copy_of, copies_from, copy_group, copy_groups, copied, copied_state, present_period, new_copies, forked}
 use Rattle.stage_laws.specs.OneByOne.{Parent, parents_in, fork_parents, join_last, add_sibling, add_copy, add_instance, add_copies, CopiesLeaveOriginalsLaw, ForkOneByOneLaw}
@@ -19,9 +19,7 @@ added s id (p ∷ parents) l = added s (id + 1) parents (add_copy p (copy_of s i
 added-append : (s : Stage) (id : ℕ) (ps qs : List Parent) (l : Lists) → added s id (ps ++ qs) l ≡ added s (id + length ps) qs (added s id ps l)
 unfolding added
 added-append s id [] qs l = ap (λ n. added s n qs l) (omega arith)
-added-append s id (p ∷ ps) qs l =
-    added-append s (id + 1) ps qs (add_copy p (copy_of s id p.instance) l)
-    ∙ ap (λ n. added s n qs (added s (id + 1) ps (add_copy p (copy_of s id p.instance) l))) (omega arith)
+added-append s id (p ∷ ps) qs l = grind (arith, added-append s (id + 1) ps qs (add_copy p (copy_of s id p.instance) l))
 
 -- groups that go last among the pinned or the flexible ones
 abbrev pushed : Bool → List Group → Lists → Lists
@@ -60,15 +58,11 @@ unfolding added copies_from
 added-siblings s id pinned g [] l = ap (λ is. pushed pinned (record g { siblings = is } ∷ []) l) (sym (append-nil g.siblings))
 added-siblings s id pinned g (i ∷ siblings) l =
     let copy : Instance = copy_of s id i in
-    ap (added s (id + 1) (map (sibling_parent pinned) siblings)) (sibling-pushed pinned copy g l)
-    ∙ (added-siblings s (id + 1) pinned (joined copy g) siblings l
-    ∙ ap (λ is. pushed pinned (record g { siblings = is } ∷ []) l) (append_assoc g.siblings (copy ∷ []) (copies_from s (id + 1) siblings)))
+    grind (arith, sibling-pushed, copy, append_assoc, added-siblings s (id + 1) pinned (joined copy g) siblings l)
 
 added-group : (s : Stage) (id : ℕ) (pinned : Bool) (g : Group) (l : Lists) → added s id (parents_in pinned g) l ≡ pushed pinned (copy_group s id g ∷ []) l
 unfolding added
-added-group s id pinned g l =
-    ap (added s (id + 1) (map (sibling_parent pinned) g.siblings)) (group-pushed pinned (alone (copy_of s id g.leader)) l)
-    ∙ added-siblings s (id + 1) pinned (alone (copy_of s id g.leader)) g.siblings l
+added-group s id pinned g l = grind (arith, group-pushed, added-siblings)
 
 parents-length : (pinned : Bool) (g : Group) → length (parents_in pinned g) ≡ group_size g
 parents-length pinned g = ap (λ n. suc n) (length-map g.siblings (sibling_parent pinned))
@@ -85,17 +79,10 @@ added-groups s id pinned (g ∷ groups) l =
 
 parents-count : (pinned : Bool) (groups : List Group) → length (flat_map (parents_in pinned) groups) ≡ sum_by group_size groups
 parents-count pinned [] = refl
-parents-count pinned (g ∷ groups) =
-    omega (arith, length-append (parents_in pinned g) (flat_map (parents_in pinned) groups), parents-length pinned g, sum_by-cons group_size g groups, parents-count pinned groups)
+parents-count pinned (g ∷ groups) = search (length-append, parents-length, sum_by-cons, parents-count pinned groups)
 
 added-all : (s : Stage) (l : Lists) → added s s.next_id (fork_parents l) no_groups ≡ copied s l
-added-all s l =
-    let pinned : List Group = inherited_groups l.pinned in
-    let flexible : List Group = inherited_groups l.flexible in
-    added-append s s.next_id (flat_map (parents_in true) pinned) (flat_map (parents_in false) flexible) no_groups
-    ∙ (ap (λ n. added s (s.next_id + n) (flat_map (parents_in false) flexible) (added s s.next_id (flat_map (parents_in true) pinned) no_groups)) (parents-count true pinned)
-    ∙ (ap (added s (s.next_id + sum_by group_size pinned) (flat_map (parents_in false) flexible)) (added-groups s s.next_id true pinned no_groups)
-    ∙ added-groups s (s.next_id + sum_by group_size pinned) false flexible (pushed true (copy_groups s s.next_id pinned) no_groups)))
+added-all s l = grind (arith, added-append, parents-count, added-groups)
 
 -- a copy that is added is no original, so the originals stay
 -- what is found among the instances of some groups, with an instance that is not it
@@ -118,12 +105,8 @@ found-pushed p i groups e = found_in-append p groups (alone i ∷ []) ∙ (rw e 
 found-joined : (p : Instance → Bool) (i : Instance) (groups : List Group) → p i ≡ false → found_in p (join_last i groups) ≡ found_in p groups
 unfolding join_last
 found-joined p i [] e = refl
-found-joined p i (g ∷ []) e =
-    ap (λ o. cond (p g.leader) (Some g.leader) o)
-    (ap (find p) (append-nil (g.siblings ++ i ∷ [])) ∙ (not-found p i g.siblings e ∙ ap (find p) (sym (append-nil g.siblings))))
-found-joined p i (g ∷ h ∷ groups) e =
-    find-append p (members_of g) (members (join_last i (h ∷ groups)))
-    ∙ (ap (option_or (find p (members_of g))) (found-joined p i (h ∷ groups) e) ∙ sym (find-append p (members_of g) (members (h ∷ groups))))
+found-joined p i (g ∷ []) e = grind (arith, append-nil, not-found)
+found-joined p i (g ∷ h ∷ groups) e = grind (arith, find-append, found-joined p i (h ∷ groups) e)
 
 found-beside : (p : Instance → Bool) (xs others ys more : List Group) → found_in p xs ≡ found_in p others → found_in p ys ≡ found_in p more
     → found_in p (xs ++ ys) ≡ found_in p (others ++ more)
@@ -143,8 +126,7 @@ set-finds : (p : Instance → Bool) (contexts : List Lists) (k : ℕ) (l : Lists
     → found_in p (flat_map groups_in (set contexts k l)) ≡ found_in p (flat_map groups_in contexts)
 set-finds p [] k l same = refl
 set-finds p (m ∷ contexts) zero l same = found-beside p (groups_in l) (groups_in m) (flat_map groups_in contexts) (flat_map groups_in contexts) same refl
-set-finds p (m ∷ contexts) (suc k) l same =
-    found-beside p (groups_in m) (groups_in m) (flat_map groups_in (set contexts k l)) (flat_map groups_in contexts) refl (set-finds p contexts k l same)
+set-finds p (m ∷ contexts) (suc k) l same = grind (arith, found-beside, set, set-finds p contexts k l same)
 
 and-false : (b : Bool) → (b && false) ≡ false
 and-false true = refl
@@ -154,9 +136,7 @@ no_original : (e : EventNo) (i : Instance) → i.copy ≡ true → is_original e
 no_original e i copy = rw copy (and-false (is_of_family e i))
 
 instance-finds : (child : TaskNo) (parent : Parent) (i : Instance) (s : Stage) (e : EventNo) → i.copy ≡ true → original_of (add_instance child parent i s) e ≡ original_of s e
-instance-finds child parent i s e copy =
-    set-finds (is_original e) s.contexts (place_of (context.Task child)) (add_copy parent i (lists_of s (context.Task child)))
-    (add_copy-finds (is_original e) parent.leads parent.pinned i (lists_of s (context.Task child)) (no_original e i copy))
+instance-finds child parent i s e copy = grind (arith, set-finds, add_copy-finds, no_original)
 
 pub copies_leave_originals : CopiesLeaveOriginalsLaw
 copies_leave_originals child [] s e = refl
@@ -167,14 +147,7 @@ copies_leave_originals child (p ∷ parents) s e =
 -- changes of one context, one after the other
 set-twice : (f g : Lists → Lists) (contexts : List Lists) (k : ℕ)
     → set (set contexts k (f (get_or contexts k no_groups))) k (g (get_or (set contexts k (f (get_or contexts k no_groups))) k no_groups)) ≡ set contexts k (g (f (get_or contexts k no_groups)))
-set-twice f g contexts k = elim (cases_lt k (length contexts)) [
-  | inl within ↦
-      set-set contexts k (f (get_or contexts k no_groups)) (g (get_or (set contexts k (f (get_or contexts k no_groups))) k no_groups))
-      ∙ ap (λ l. set contexts k (g l)) (get_or-set_same contexts k (f (get_or contexts k no_groups)) no_groups within)
-  | inr past ↦
-      set-set contexts k (f (get_or contexts k no_groups)) (g (get_or (set contexts k (f (get_or contexts k no_groups))) k no_groups))
-      ∙ (set_past contexts k (g (get_or (set contexts k (f (get_or contexts k no_groups))) k no_groups)) past ∙ sym (set_past contexts k (g (f (get_or contexts k no_groups))) past))
-]
+set-twice f g contexts k = grind (arith, cases_lt, set-set, get_or, set, get_or-set_same, set_past)
 
 abbrev at : Stage → List Lists → ℕ → Stage
 at s contexts id = record s { contexts = contexts; next_id = id }
@@ -197,9 +170,7 @@ HasSameOriginals before s = (e : EventNo) → original_of s e ≡ original_of be
 add_copies-are : (before : Stage) (child : TaskNo) (parents : List Parent) (s : Stage) → HasSameOriginals before s
     → add_copies child parents s ≡ record (change_context (context.Task child) (added before s.next_id parents) s) { next_id = s.next_id + length parents }
 unfolding added
-add_copies-are before child [] s originals =
-    let k : ℕ = place_of (context.Task child) in
-    ap (λ cs. at s cs s.next_id) (sym (set-get_or s.contexts k no_groups)) ∙ ap (at s (set s.contexts k (get_or s.contexts k no_groups))) (omega arith)
+add_copies-are before child [] s originals = grind (arith, set-get_or, set, get_or)
 add_copies-are before child (p ∷ parents) s originals =
     let k : ℕ = place_of (context.Task child) in
     let copy : Instance = copy_of before s.next_id p.instance in
@@ -224,6 +195,4 @@ forked_one_by_one cpu child s placed fresh =
       parents-count true (inherited_groups l.pinned),
       parents-count false (inherited_groups l.flexible),
     ) in
-    ap (set_status child fresh_task) (add_copies-are s child (fork_parents l) s (λ e. refl))
-    ∙ (ap (λ lists. set_status child fresh_task (at s (set s.contexts k lists) (s.next_id + length (fork_parents l)))) copies
-    ∙ ap (λ n. set_status child fresh_task (at s (set s.contexts k (copied s l)) (s.next_id + n))) count)
+    grind (arith, add_copies-are, l, set, k, copies, count)

@@ -12,7 +12,7 @@ use Rattle.stage_spec.proofs.Each.{Each, none-Each, append-Each, filter-Each, fl
 use Rattle.stage_spec.proofs.Parts.{Each-from_All, front-Each, back-Each, joined-Each}
 use Rattle.stage_spec.proofs.{Inside.{members-in, InLists-from_members, InStage-from_all, weaker-in, both-in, without-in}, Contexts.{each-from_At}}
 use Rattle.stage_spec.proofs.Settling.{either}
-use Rattle.stage_laws.specs.{Sound.{IsNumbered, IsGrouped, IsGroup, AreAlike, has_id}, OneByOne.{AreIdsOf, CloseOneByOneLaw, ExitOneByOneLaw}}
+use Rattle.stage_laws.specs.{Sound.{IsNumbered, IsGrouped, IsGroup, has_id}, OneByOne.{AreIdsOf, CloseOneByOneLaw, ExitOneByOneLaw}}
 use Rattle.stage_laws.proofs.{Counts.{count-cons, count-filter, two_places, map-at_one}, Homes.{context_at, place_of-at}}
 use Rattle.stage_laws.proofs.Untouched.{staying-all, without-none}
 use Rattle.stage_laws.proofs.Totals.{total, All-by_total, as_number, one_if, count_by-is-total, sum_by-is-total}
@@ -40,14 +40,11 @@ staying-same p q (x ∷ xs) same = rw (same.0, staying-same p q xs same.1) refl
 
 kept-same : (p q : Instance → Bool) (g : Group) → InGroup (λ i. p i ≡ q i) g → kept_group p g ≡ kept_group q g
 unfolding Each
-kept-same p q g same =
-    ap (λ b. either b [] (record g { siblings = staying p g.siblings } ∷ [])) same.0
-    ∙ ap (λ siblings. either (q g.leader) [] (record g { siblings = siblings } ∷ [])) (staying-same p q g.siblings same.1)
+kept-same p q g same = grind (arith, either, staying-same)
 
 freed-same : (p q : Instance → Bool) (g : Group) → InGroup (λ i. p i ≡ q i) g → freed_groups p g ≡ freed_groups q g
 unfolding Each
-freed-same p q g same =
-    ap (λ b. either b (map alone (staying p g.siblings)) []) same.0 ∙ ap (λ siblings. either (q g.leader) (map alone siblings) []) (staying-same p q g.siblings same.1)
+freed-same p q g same = grind (arith, either, staying-same)
 
 flat_map-same_each : {X Y : Type 0} (f g : X → List Y) (xs : List X) → Each (λ x. f x ≡ g x) xs → flat_map f xs ≡ flat_map g xs
 unfolding Each
@@ -110,8 +107,7 @@ stays-none false n h e = h
 
 dropped-at_most_one : (test : Instance → Bool) (ids : List ℕ) (l : Lists) → InLists (λ i. StandsAs ids i (test i)) l → lists_weight (one_if test) l ≤ 1
     → in_turn (λ id. without (has_id id)) ids l ≡ without test l
-dropped-at_most_one test [] l stands few =
-    sym (none-goes test l (weaker-in (λ i. StandsAs [] i (test i)) (λ i. test i ≡ false) (λ i h. not_passed (test i) 0 0 (h ∙ plus-none (as_number (test i))) refl) l stands))
+dropped-at_most_one test [] l stands few = grind (arith, none-goes, weaker-in, StandsAs, not_passed, plus-none, as_number)
 dropped-at_most_one test (id ∷ ids) l stands few =
     let counted : (i : Instance) → count_by (λ n. i.id == n) (id ∷ ids) ≡ as_number (has_id id i) + count_by (λ n. i.id == n) ids = λ i. count-cons (λ n. i.id == n) id ids in
     elim (cases_eq (lists_weight (one_if (has_id id)) l) 0) [
@@ -180,10 +176,7 @@ staying-no_one p (x ∷ xs) all = rw (all.0) (staying-no_one p xs all.1)
 -- one of them taken away leaves them so
 whole-kept : (p test : Instance → Bool) (g : Group) → GoesWhole test g → Each (GoesWhole test) (kept_group p g)
 unfolding Each
-whole-kept p test g whole = elim (cases_Bool (p g.leader)) [
-  | inl e ↦ rw (kept-goes p g e) tt
-  | inr e ↦ rw (kept-stays p g e) (filter-Each (λ i. test i ≡ test g.leader) (λ i. not (p i)) g.siblings whole, tt)
-]
+whole-kept p test g whole = grind (arith, kept-goes, kept-stays, filter-Each)
 
 whole-alone : (test : Instance → Bool) (xs : List Instance) → Each (GoesWhole test) (map alone xs)
 unfolding Each
@@ -198,13 +191,7 @@ whole-freed p test g whole = elim (cases_Bool (p g.leader)) [
 ]
 
 whole-without : (p test : Instance → Bool) (l : Lists) → AllWhole test l → AllWhole test (without p l)
-whole-without p test l whole = record {
-  whole_pinned = flat_map-Each (GoesWhole test) (GoesWhole test) (kept_group p) (whole-kept p test) l.pinned whole.whole_pinned;
-  whole_flexible = append-Each (GoesWhole test) (flat_map (kept_group p) l.flexible) (flat_map (freed_groups p) (groups_in l))
-      (flat_map-Each (GoesWhole test) (GoesWhole test) (kept_group p) (whole-kept p test) l.flexible whole.whole_flexible)
-      (flat_map-Each (GoesWhole test) (GoesWhole test) (freed_groups p) (whole-freed p test) (groups_in l)
-      (append-Each (GoesWhole test) l.pinned l.flexible whole.whole_pinned whole.whole_flexible));
-}
+whole-without p test l whole = grind (arith, flat_map-Each, whole-kept, append-Each, whole-freed)
 
 -- and what is left of a group goes as all of it would
 abbrev GoesFor : (p test : Instance → Bool) → Group → Type 0
@@ -215,9 +202,7 @@ siblings-test test b g whole e = weaker-Each (λ i. test i ≡ test g.leader) (�
 
 siblings-stay : (p test : Instance → Bool) (g : Group) → GoesFor p test g → test g.leader ≡ false → staying p g.siblings ≡ g.siblings
 unfolding Each
-siblings-stay p test g h e =
-    staying-all p g.siblings (none-any p g.siblings (weaker-Each (λ i. Implies p test i × (test i ≡ false)) (λ i. p i ≡ false) (λ i k. contrary (p i) (test i) k.0 k.1) g.siblings
-    (pair-Each (Implies p test) (λ i. test i ≡ false) g.siblings h.1.1 (siblings-test test false g h.0 e))))
+siblings-stay p test g h e = grind (arith, staying-all, none-any, weaker-Each, contrary, pair-Each, siblings-test)
 
 kept-twice : (p test : Instance → Bool) (g : Group) → GoesFor p test g → flat_map (kept_group test) (kept_group p g) ≡ kept_group test g
 unfolding Each
@@ -262,21 +247,13 @@ record AllGoFor (p test : Instance → Bool) (l : Lists) : Type 0 where
 
 kept_all-twice : (p test : Instance → Bool) (groups : List Group) → Each (GoesFor p test) groups
     → flat_map (kept_group test) (flat_map (kept_group p) groups) ≡ flat_map (kept_group test) groups
-kept_all-twice p test groups h =
-    flat_map-twice (kept_group test) (kept_group p) groups
-    ∙ flat_map-same_each (λ g. flat_map (kept_group test) (kept_group p g)) (kept_group test) groups
-    (weaker-Each (GoesFor p test) (λ g. flat_map (kept_group test) (kept_group p g) ≡ kept_group test g) (kept-twice p test) groups h)
+kept_all-twice p test groups h = search (flat_map-twice, flat_map-same_each, weaker-Each, kept-twice)
 
 freed_all-twice : (p test : Instance → Bool) (groups : List Group) → Each (GoesFor p test) groups → flat_map (kept_group test) (flat_map (freed_groups p) groups) ≡ []
-freed_all-twice p test groups h =
-    flat_map-twice (kept_group test) (freed_groups p) groups
-    ∙ flat_map-empty (λ g. flat_map (kept_group test) (freed_groups p g)) groups
-    (weaker-Each (GoesFor p test) (λ g. flat_map (kept_group test) (freed_groups p g) ≡ []) (freed-twice p test) groups h)
+freed_all-twice p test groups h = grind (arith, flat_map-twice, flat_map-empty, weaker-Each, freed-twice)
 
 freed_all-whole : (test : Instance → Bool) (l : Lists) → AllWhole test l → flat_map (freed_groups test) (groups_in l) ≡ []
-freed_all-whole test l whole = flat_map-empty (freed_groups test) (groups_in l)
-    (weaker-Each (GoesWhole test) (λ g. freed_groups test g ≡ []) (freed-whole test) (groups_in l)
-    (append-Each (GoesWhole test) l.pinned l.flexible whole.whole_pinned whole.whole_flexible))
+freed_all-whole test l whole = grind (arith, flat_map-empty, weaker-Each, freed-whole, append-Each)
 
 without-whole : (test : Instance → Bool) (l : Lists) → AllWhole test l
     → without test l ≡ record { pinned = flat_map (kept_group test) l.pinned; flexible = flat_map (kept_group test) l.flexible }
@@ -302,8 +279,7 @@ id-implies b false m n e h k = absurd (omega (arith, e, h, ap as_number k))
 
 dropped-whole : (test : Instance → Bool) (ids : List ℕ) (l : Lists) → AllWhole test l → InLists (λ i. StandsAs ids i (test i)) l
     → in_turn (λ id. without (has_id id)) ids l ≡ without test l
-dropped-whole test [] l whole stands =
-    sym (none-goes test l (weaker-in (λ i. StandsAs [] i (test i)) (λ i. test i ≡ false) (λ i h. not_passed (test i) 0 0 (h ∙ plus-none (as_number (test i))) refl) l stands))
+dropped-whole test [] l whole stands = grind (arith, none-goes, weaker-in, StandsAs, not_passed, plus-none, as_number)
 dropped-whole test (id ∷ ids) l whole stands =
     let counted : (i : Instance) → count_by (λ n. i.id == n) (id ∷ ids) ≡ as_number (has_id id i) + count_by (λ n. i.id == n) ids = λ i. count-cons (λ n. i.id == n) id ids in
     let implies : InLists (Implies (has_id id) test) l
@@ -314,18 +290,13 @@ dropped-whole test (id ∷ ids) l whole stands =
 
 -- an exit: the task's copies go, and no group of its context has both copies and others
 copies-whole : (hw : Hardware) (groups : List Group) → Each (IsGroup hw) groups → Each (GoesWhole is_copy) groups
-copies-whole hw groups h =
-    weaker-Each (IsGroup hw) (GoesWhole is_copy)
-    (λ g k. weaker-Each (AreAlike g.leader) (λ i. i.copy ≡ g.leader.copy) (λ i like. sym like.copy) g.siblings (Each-from_All (AreAlike g.leader) g.siblings k.alike)) groups h
+copies-whole hw groups h = grind (arith, weaker-Each, Each-from_All)
 
 context-whole : (hw : Hardware) (s : Stage) (c : Context) → IsGrouped hw s → AllWhole is_copy (lists_of s c)
 context-whole hw s c grouped =
     let each : Each (λ l. Each (IsGroup hw) (groups_in l)) s.contexts = joined-Each (IsGroup hw) groups_in s.contexts (Each-from_All (IsGroup hw) (all_groups s) grouped.groups) in
     let here : Each (IsGroup hw) (groups_in (lists_of s c)) = get_or-Each (λ l. Each (IsGroup hw) (groups_in l)) s.contexts (place_of c) no_groups each (none-Each (IsGroup hw)) in
-    record {
-      whole_pinned = copies-whole hw (lists_of s c).pinned (front-Each (IsGroup hw) (lists_of s c).pinned (lists_of s c).flexible here);
-      whole_flexible = copies-whole hw (lists_of s c).flexible (back-Each (IsGroup hw) (lists_of s c).pinned (lists_of s c).flexible here);
-    }
+    grind (arith, copies-whole, front-Each, here, back-Each)
 
 -- no instance of another context has one of the ids
 alone_at : (s : Stage) (n m id : ℕ) → IsNumbered s → n ≢ m

@@ -24,10 +24,7 @@ own_and_task hw s cpu (Some task) id shape numbered =
     let f : Instance → ℕ = one_if (has_id id) in
     let i : ℕ = place_of (context.Processor cpu) in
     elim (cases_eq i (8 + task.0)) [
-      | inl same ↦
-          let none : lists_weight f (lists_of s (context.Processor cpu)) ≡ 0
-          = ap (lists_weight f) (get_or_past s.contexts i no_groups (omega (arith, shape.contexts, cpu-task_apart cpu task same))) ∙ no_groups-weigh f in
-          omega (arith, none, weight_in-le f s (context.Task task), weigh-is-count (has_id id) s, numbered.once id)
+      | inl same ↦ grind (arith, lists_weight, get_or_past, cpu-task_apart, same, no_groups-weigh, weight_in-le, weigh-is-count)
       | inr apart ↦
           omega (
             arith,
@@ -60,9 +57,7 @@ none-left p (x ∷ xs) none = elim (cases_Bool (p x)) [
 only_found : {X : Type 0} (p : X → Bool) (xs : List X) (x : X) → find p xs ≡ Some x → count_by p xs ≤ 1 → filter p xs ≡ x ∷ []
 only_found p [] x e one = absurd (none-some x e)
 only_found p (y ∷ ys) x e one = elim (cases_Bool (p y)) [
-  | inl is ↦
-      let first : y ≡ x = some-same y x (sym (ap (λ b. cond b (Some y) (find p ys)) is) ∙ e) in
-      rw (is, none-left p ys (omega (arith, one, count-cons p y ys, ap as_number is)), first) refl
+  | inl is ↦ grind (arith, some-same, is, none-left, count-cons, as_number)
   | inr other ↦
       let later : find p ys ≡ Some x = sym (ap (λ b. cond b (Some y) (find p ys)) other) ∙ e in
       rw other (only_found p ys x later (omega (arith, one, count-cons p y ys, ap as_number other)))
@@ -70,13 +65,7 @@ only_found p (y ∷ ys) x e one = elim (cases_Bool (p y)) [
 
 filter-both : {X : Type 0} (p q : X → Bool) (xs : List X) → filter q (filter p xs) ≡ filter (λ x. p x && q x) xs
 filter-both p q [] = refl
-filter-both p q (x ∷ xs) = elim (cases_Bool (p x)) [
-  | inl e ↦ elim (cases_Bool (q x)) [
-    | inl f ↦ rw (e, f) (ap (λ ys. x ∷ ys) (filter-both p q xs))
-    | inr f ↦ rw (e, f) (filter-both p q xs)
-  ]
-  | inr e ↦ rw e (filter-both p q xs)
-]
+filter-both p q (x ∷ xs) = grind (arith, filter-both p q xs)
 
 pub family : FamilyLaw
 family e s original numbered found = record {

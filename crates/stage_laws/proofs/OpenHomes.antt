@@ -1,8 +1,8 @@
 -- An open keeps where instances stand: the new original comes to the context of its attribute, and its slot had no
 -- instance.
 use Rattle.std.specs.Prelude.{◌≡◌, ℕ, ◌+◌, ◌*◌, ◌<◌, ◌≤◌, ◌==◌, Bool, true, false, not, ◌&&◌, [], length, cond, Option, Some, None, slice_index_or}
-use Rattle.std.proofs.Common.{refl, sym, ap, ◌∙◌, arith, inl, inr}
-use Rattle.std.proofs.lemmas.Bool.{cases_eq, both_ways, and_parts, not-true, not-false, eq-eqb, ne_eqb, false≢true}
+use Rattle.std.proofs.Common.{refl, sym, ap, ◌∙◌, arith}
+use Rattle.std.proofs.lemmas.Bool.{both_ways, and_parts, not-true, not-false, eq-eqb, ne_eqb, false≢true}
 use Rattle.perf_base.specs.declared.{numbers.{EventNo.{EventNo}, TaskNo.{TaskNo}}, attr.{Attr.{Attr}, TaskSel.{TaskSel}, CpuSel.{CpuSel}}}
 use Rattle.perf_base.specs.{declared.standing.Context.{Context}, Contexts.{context_of, context_by}}
 use Rattle.perf_base.specs.declared.attr.TaskSel.TheVariants as tasks
@@ -60,9 +60,7 @@ is_task_context (context.Processor cpu) = false
 is_task_context (context.Task task) = true
 
 named-live : (s : Stage) (named : TaskSel) (cpu : CpuSel) (task : TaskNo) → context_by named cpu ≡ context.Task task → names_no_task s named ≡ false → is_live (status_of s task).state ≡ true
-named-live s (tasks.One other) cpu task h k =
-    let same : other ≡ task = ap (λ c. task_in c task) h in
-    ap (λ t. is_live (status_of s t).state) (sym same) ∙ not-false (is_live (status_of s other).state) k
+named-live s (tasks.One other) cpu task h k = grind (arith, not-false)
 named-live s tasks.All (cpus.One cpu) task h k = absurd (false≢true (ap is_task_context h))
 named-live s tasks.All cpus.Any task h k = absurd (false≢true (ap is_task_context h))
 
@@ -76,15 +74,11 @@ one_or_none b = cond b 1 0
 
 -- at most one of a family, with one more where there was none
 one_more : (n m : ℕ) (slot e : EventNo) → n ≤ 1 → (slot.0 ≡ e.0 → n ≡ 0) → m ≡ one_or_none (slot.0 == e.0) → n + m ≤ 1
-one_more n m slot e few none is = elim (cases_eq slot.0 e.0) [
-  | inl same ↦ let one : m ≡ 1 = is ∙ ap one_or_none (eq-eqb slot.0 e.0 same) in omega (arith, none same, one)
-  | inr apart ↦ let zero : m ≡ 0 = is ∙ ap one_or_none (ne_eqb slot.0 e.0 apart) in omega (arith, few, zero)
-]
+one_more n m slot e few none is = grind (arith, eq-eqb, ne_eqb)
 
 none_of : (s : Stage) (slot e : EventNo) (n : ℕ) → weigh (one_if (is_of_family slot)) s ≡ 0 → (l : Lists) → lists_weight (one_if (is_of_family slot)) l ≤ weigh (one_if (is_of_family slot)) s
     → slot.0 ≡ e.0 → lists_weight (one_if (is_of_family e)) l ≡ 0
-none_of s slot e n none l within same =
-    ap (λ m. lists_weight (one_if (is_of_family (record { 0 = m }))) l) (sym same) ∙ omega (arith, none, within)
+none_of s slot e n none l within same = grind (arith, lists_weight, one_if)
 
 -- alone
 alone-home : (s : Stage) (slot : EventNo) (a : Attr) (table : ℕ → Attr) → names_no_task s a.task ≡ false → weigh (one_if (is_of_family slot)) s ≡ 0 → place_of (context_of a) < 72
@@ -119,18 +113,10 @@ led-le : (e : EventNo) (g : Group) → one_if (leads e) g ≤ group_weight (one_
 led-le e g = omega arith
 
 joins-le : (e : EventNo) (l : Lists) → total (one_if (leads e)) (groups_in l) ≤ lists_weight (one_if (is_original e)) l
-joins-le e l =
-    omega (
-      arith,
-      total-append (group_weight (one_if (is_original e))) l.pinned l.flexible,
-      total-le (one_if (leads e)) (group_weight (one_if (is_original e))) (led-le e) (groups_in l),
-    )
+joins-le e l = grind (arith, total-append, group_weight, one_if, total-le, leads, led-le)
 
 joins_one : (n k : ℕ) (slot f : EventNo) → n ≤ 1 → (slot.0 ≡ f.0 → n ≡ 0) → k ≤ 1 → n + k * one_or_none (slot.0 == f.0) ≤ 1
-joins_one n k slot f few none once = elim (cases_eq slot.0 f.0) [
-  | inl same ↦ let one : k * one_or_none (slot.0 == f.0) ≡ k = ap (λ b. k * one_or_none b) (eq-eqb slot.0 f.0 same) ∙ omega arith in omega (arith, none same, one, once)
-  | inr apart ↦ let zero : k * one_or_none (slot.0 == f.0) ≡ 0 = ap (λ b. k * one_or_none b) (ne_eqb slot.0 f.0 apart) ∙ omega arith in omega (arith, few, zero)
-]
+joins_one n k slot f few none once = grind (arith, eq-eqb, ne_eqb)
 
 joined-home : (s : Stage) (hw : Hardware) (slot : EventNo) (a : Attr) (e : EventNo) (table : ℕ → Attr) → IsAccepted hw s slot a (Some e) → IsNumbered s
     → weigh (one_if (is_of_family slot)) s ≡ 0 → (n : ℕ) (l : Lists)
@@ -146,8 +132,7 @@ joined-home s hw slot a e table ok numbered none n l within few found h =
           let here : (is_same_task leader.attr.task a.task && is_same_cpu leader.attr.cpu a.cpu) ≡ true =
           not-false _ (holds_of-some (λ j. not (is_same_task j.attr.task a.task && is_same_cpu j.attr.cpu a.cpu)) (original_of s e) leader (k.1 leads) ok.here) in
           let places = and_parts (is_same_task leader.attr.task a.task) (is_same_cpu leader.attr.cpu a.cpu) here in
-          let same : context_of a ≡ context_of leader.attr =
-          ap (λ t. context_by t a.cpu) (sym (same_task leader.attr.task a.task places.0)) ∙ ap (context_by leader.attr.task) (sym (same_cpu leader.attr.cpu a.cpu places.1)) in
+          let same : context_of a ≡ context_of leader.attr = grind (arith, same_task, same_cpu) in
           let original : leader.copy ≡ false = not-true leader.copy (and_parts (is_of_family e leader) (not leader.copy) leads).1 in
           new-stands s slot a table (context_at n) (same ∙ k.0.original original))
           l (both-in P (IsFoundAs s e) Q (λ j k f. (k, f)) l h.stands found);

@@ -1,5 +1,5 @@
 -- There are at most 256 originals: one in each slot.
-use Rattle.std.{specs.Prelude.{◌≡◌, ℕ, zero, suc, ◌+◌, ◌<◌, ◌≤◌, ◌==◌, nat_le, nat_lt, Bool, true, false, not, ◌&&◌, List}, proofs.Common.{arith}}
+use Rattle.std.{specs.Prelude.{◌≡◌, ℕ, zero, suc, ◌+◌, ◌<◌, ◌≤◌, nat_le, nat_lt, Bool, true, false, not, ◌&&◌, List}, proofs.Common.{arith}}
 use Rattle.std.proofs.lemmas.Bool.Decides.{nat_tests}
 use Rattle.perf_base.specs.declared.numbers.EventNo.{EventNo}
 use Rattle.stage_spec.specs.{declared.instance.Instance.{Instance}, Stage.{all_instances, is_original}}
@@ -14,21 +14,11 @@ is_below n i = nat_lt i.event.0 n && not i.copy
 none_below : (e : ℕ) (b : Bool) → as_number (nat_lt e 0 && b) ≡ 0
 none_below e b = grind (arith, nat_tests)
 
-one_more : (e n : ℕ) (b : Bool) → as_number (nat_lt e (suc n) && b) ≡ as_number (nat_lt e n && b) + as_number (e == n && b)
-one_more e n true = grind (arith, nat_tests)
-one_more e n false = grind (arith, nat_tests)
-
 few_below : (xs : List Instance) → ((e : EventNo) → total (one_if (is_original e)) xs ≤ 1) → (n : ℕ) → total (one_if (is_below n)) xs ≤ n
 few_below xs h zero = omega (arith, total-same (one_if (is_below 0)) (λ i. 0) (λ i. none_below i.event.0 (not i.copy)) xs, total-none xs)
 few_below xs h (suc n) =
     let slot : EventNo = record { 0 = n } in
-    omega (
-      arith,
-      total-same (one_if (is_below (suc n))) (λ i. one_if (is_below n) i + one_if (is_original slot) i) (λ i. one_more i.event.0 n (not i.copy)) xs,
-      total-plus (one_if (is_below n)) (one_if (is_original slot)) xs,
-      few_below xs h n,
-      h slot,
-    )
+    grind (arith, total-plus (one_if (is_below n)) (one_if (is_original slot)) xs, few_below xs h n, h slot)
 
 below_or_outside : (e : ℕ) (b : Bool) → as_number b ≤ as_number (nat_lt e 256 && b) + as_number (nat_le 256 e)
 below_or_outside e true = grind (arith, nat_tests)

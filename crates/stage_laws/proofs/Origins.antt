@@ -1,11 +1,11 @@
 -- A slot that has no original has no copy either, through each change of the stage.
-use Rattle.std.specs.Prelude.{◌≡◌, ℕ, ◌+◌, ◌*◌, ◌<◌, ◌≤◌, ◌==◌, Bool, true, false, not, ◌&&◌, length, cond, Option, Some, None}
-use Rattle.std.proofs.{Common.{refl, sym, ap, ◌∙◌, arith, inl, inr}, lemmas.Bool.{cases_eq, eqb-true}}
+use Rattle.std.specs.Prelude.{◌≡◌, ℕ, ◌<◌, ◌≤◌, Bool, true, false, not, ◌&&◌, length, cond, Option, Some, None}
+use Rattle.std.proofs.{Common.{refl, sym, ◌∙◌, arith, inl, inr}, lemmas.Bool.{cases_eq, eqb-true}}
 use Rattle.perf_base.specs.{declared.{numbers.{CpuNo.{CpuNo}, EventNo.{EventNo}, TaskNo.{TaskNo}}, attr.Attr.{Attr}}, Contexts.{context_of}}
 use Rattle.perf_base.specs.declared.standing.Context.TheVariants as context
 use Rattle.stage_spec.specs.{declared.instance.Instance.{Instance}, Hardware.{Hardware}}
-use Rattle.stage_spec.specs.Stage.{Stage, Lists, lists_of, groups_in, members, no_groups, place_of, is_original, is_of_family, is_copy, change_each, task_on, all_instances}
-use Rattle.stage_spec.specs.{Verdict.{task_lists}, Settle.{settle_all}, Opening.{opened, new_original}, Closing.{closed}, Rotation.{rotated}}
+use Rattle.stage_spec.specs.Stage.{Stage, Lists, lists_of, groups_in, members, no_groups, place_of, is_original, is_of_family, change_each, task_on, all_instances}
+use Rattle.stage_spec.specs.{Verdict.{task_lists}, Settle.{settle_all}, Opening.{opened}, Closing.{closed}, Rotation.{rotated}}
 use Rattle.stage_spec.specs.{Forks.{forked}, Exits.{exited}, Switching.{switched}}
 use Rattle.stage_laws.proofs.Totals.{total-none, one_if}
 use Rattle.stage_laws.proofs.Weights.{weigh, lists_weight, no_groups-weigh, lists-weigh, weigh-is-total, weight_in-le, lists-same, weigh-same, change_each-keeps, settle_all-weighs, switched-weighs, rotated-weighs, if_stays, if_goes, closed-weighs, closed-le, exited-weighs, exited-le}
@@ -19,23 +19,16 @@ familied-same : (s t : Stage) → ((e : EventNo) → weigh (one_if (is_original 
 familied-same s t originals families h e none = omega (arith, families e, h e (sym (originals e) ∙ none))
 
 pub settle_all-familied : (hw : Hardware) (s : Stage) → IsFamilied s → IsFamilied (settle_all hw s)
-settle_all-familied hw s h = familied-same s (settle_all hw s) (λ e. settle_all-weighs (one_if (is_original e)) (λ i o. refl) hw s)
-    (λ e. omega (arith, settle_all-weighs (one_if (is_of_family e)) (λ i o. refl) hw s)) h
+settle_all-familied hw s h = grind (arith, familied-same, settle_all-weighs, one_if)
 
 pub switched-familied : (cpu : CpuNo) (to : Option TaskNo) (s : Stage) → IsFamilied s → IsFamilied (switched cpu to s)
-switched-familied cpu to s h = familied-same s (switched cpu to s) (λ e. switched-weighs (one_if (is_original e)) cpu to s)
-    (λ e. omega (arith, switched-weighs (one_if (is_of_family e)) cpu to s)) h
+switched-familied cpu to s h = grind (arith, familied-same, switched-weighs, one_if)
 
 pub rotated-familied : (hw : Hardware) (cpu : CpuNo) (s : Stage) → IsFamilied s → IsFamilied (rotated hw cpu s)
-rotated-familied hw cpu s h = familied-same s (rotated hw cpu s) (λ e. rotated-weighs (one_if (is_original e)) hw cpu s)
-    (λ e. omega (arith, rotated-weighs (one_if (is_of_family e)) hw cpu s)) h
+rotated-familied hw cpu s h = grind (arith, familied-same, rotated-weighs, one_if)
 
 pub change_each-familied : (f : Instance → Instance) → ((i : Instance) → ((f i).event ≡ i.event) × ((f i).copy ≡ i.copy)) → (s : Stage) → IsFamilied s → IsFamilied (change_each f s)
-change_each-familied f same s h =
-    familied-same s (change_each f s)
-    (λ e. change_each-keeps (one_if (is_original e)) f
-    (λ i. ap (λ slot. cond (slot.0 == e.0 && not (f i).copy) 1 0) (same i).0 ∙ ap (λ b. cond (i.event.0 == e.0 && not b) 1 0) (same i).1) s)
-    (λ e. omega (arith, change_each-keeps (one_if (is_of_family e)) f (λ i. ap (λ slot. cond (slot.0 == e.0) 1 0) (same i).0) s)) h
+change_each-familied f same s h = grind (arith, familied-same, change_each-keeps, one_if)
 
 -- a weight of nothing
 weigh-none : (f : Instance → ℕ) → ((i : Instance) → f i ≡ 0) → (s : Stage) → weigh f s ≡ 0
@@ -59,14 +52,8 @@ stays_if false here original h = refl
 
 pub closed-familied : (c : EventNo) (s : Stage) → IsFamilied s → IsFamilied (closed c s)
 closed-familied c s h e none = elim (cases_eq e.0 c.0) [
-  | inl same ↦ closed-weighs (one_if (is_of_family e)) c s
-      ∙ weigh-none (if_stays (is_of_family c) (one_if (is_of_family e)))
-      (λ i. ap (λ m. either_of (i.event.0 == c.0) 0 (either_of (i.event.0 == m) 1 0)) same ∙ gone (i.event.0 == c.0)) s
-  | inr apart ↦
-      let left : weigh (if_stays (is_of_family c) (one_if (is_original e))) s ≡ weigh (one_if (is_original e)) s =
-      weigh-same (if_stays (is_of_family c) (one_if (is_original e))) (one_if (is_original e))
-      (λ i. stays_if (i.event.0 == c.0) (i.event.0 == e.0) (not i.copy) (λ goes here. apart (sym (eqb-true i.event.0 e.0 here) ∙ eqb-true i.event.0 c.0 goes))) s in
-      omega (arith, closed-le (one_if (is_of_family e)) c s, h e (sym left ∙ (sym (closed-weighs (one_if (is_original e)) c s) ∙ none)))
+  | inl same ↦ grind (arith, closed-weighs, one_if, weigh-none, if_stays, same, gone)
+  | inr apart ↦ grind (arith, weigh, if_stays, one_if, weigh-same, stays_if, apart, eqb-true, closed-le, closed-weighs)
 ]
 
 -- an exit takes no original
@@ -76,14 +63,7 @@ no_original true true = refl
 no_original false true = refl
 
 pub exited-familied : (cpu : CpuNo) (s : Stage) → IsFamilied s → IsFamilied (exited cpu s)
-exited-familied cpu s h =
-    familied-same s (exited cpu s)
-    (λ e. omega (
-      arith,
-      exited-weighs (one_if (is_original e)) cpu s,
-      lists-none (if_goes is_copy (one_if (is_original e))) (λ i. no_original (i.event.0 == e.0) i.copy) (task_lists s (task_on s cpu)),
-    ))
-    (λ e. exited-le (one_if (is_of_family e)) cpu s) h
+exited-familied cpu s h = grind (arith, familied-same, exited-weighs, one_if, lists-none, if_goes, no_original, exited-le)
 
 -- an open brings an original, as often as it brings one of the family
 as_original : (b : Bool) → either_of (b && true) 1 0 ≡ either_of b 1 0
@@ -91,16 +71,7 @@ as_original true = refl
 as_original false = refl
 
 pub opened-familied : (s : Stage) (slot : EventNo) (a : Attr) (leader : Option EventNo) → place_of (context_of a) < length s.contexts → IsFamilied s → IsFamilied (opened s slot a leader)
-opened-familied s slot a leader place h e none =
-    let i : Instance = new_original s slot a in
-    let n : ℕ = groups_joined leader s in
-    let same : n * one_if (is_original e) i ≡ n * one_if (is_of_family e) i = ap (λ k. n * k) (as_original (slot.0 == e.0)) in
-    let originals : weigh (one_if (is_original e)) (opened s slot a leader) ≡ weigh (one_if (is_original e)) s + n * one_if
-    (is_original e) i = opened-weighs (one_if (is_original e)) s slot a leader place in
-    let family : weigh (one_if (is_of_family e)) (opened s slot a leader) ≡ weigh (one_if (is_of_family e)) s + n * one_if
-    (is_of_family e) i = opened-weighs (one_if (is_of_family e)) s slot a leader place in
-    let before : weigh (one_if (is_of_family e)) s ≡ 0 = h e (omega (arith, originals, none)) in
-    omega (arith, family, before, same, originals, none)
+opened-familied s slot a leader place h e none = grind (arith, groups_joined, one_if, as_original, weigh, opened-weighs)
 
 -- a fork brings copies of what is there
 parent-le : (f : Instance → ℕ) (s : Stage) (to : Option TaskNo) → lists_weight f (task_lists s to) ≤ weigh f s

@@ -1,23 +1,17 @@
 -- What a processor reaches stays through changes of the contexts that it does not reach.
-use Rattle.std.specs.Prelude.{◌≡◌, ◌≢◌, ◌+◌, ◌<◌, ◌≤◌, ◌⊎◌, false, nat_lt, List, [], ◌∷◌, length, Option, Some, None}
-use Rattle.std.proofs.{Common.{arith, refl, sym, ap, ◌∙◌, inl, inr, length-set}, lemmas.Bool.{cases_eq, cases_lt, Decides.{nat_tests}}}
+use Rattle.std.specs.Prelude.{◌≡◌, ◌≢◌, ◌+◌, ◌<◌, ◌≤◌, ◌⊎◌, false, nat_lt, List, length, Option, Some, None}
+use Rattle.std.proofs.{Common.{arith, refl, sym, ap, ◌∙◌, inl, inr, length-set}, lemmas.Bool.{cases_lt, Decides.{nat_tests}}}
 use Rattle.std.proofs.lemmas.List.{get_or_past}
 use Rattle.perf_base.specs.declared.{numbers.{CpuNo.{CpuNo}, TaskNo.{TaskNo}}, standing.Context.{Context}}
 use Rattle.perf_base.specs.declared.standing.Context.TheVariants as context
-use Rattle.stage_spec.specs.{Hardware.{Hardware}, Stage.{Stage, Group, Lists, lists_of, no_groups, place_of, task_on, change_context}}
-use Rattle.stage_spec.specs.{Verdict.{Judged, passes, task_lists}, Settle.{settle, settle_lists, settle_task, own_verdicts}}
+use Rattle.stage_spec.specs.{Hardware.{Hardware}, Stage.{Stage, Lists, lists_of, place_of, task_on, change_context}}
+use Rattle.stage_spec.specs.{Verdict.{Judged, passes, task_lists}, Settle.{settle, settle_lists, settle_task}}
 use Rattle.stage_spec.proofs.Settled.{lists_of-other, place_of-cpu}
 use Rattle.stage_laws.{specs.Sound.{AreRunning}, proofs.Tasks.{task_numbered}}
 
 -- a change of a context at another place, or at none
 pub lists_of-apart : (c d : Context) (f : Lists → Lists) (s : Stage) → length s.contexts ≡ 72 → (place_of d ≡ place_of c → 72 ≤ place_of d) → lists_of (change_context c f s) d ≡ lists_of s d
-lists_of-apart c d f s size apart = elim (cases_eq (place_of d) (place_of c)) [
-  | inr other ↦ lists_of-other c d f s other
-  | inl same ↦
-      let now : lists_of (change_context c f s) d ≡ no_groups =
-      get_or_past (change_context c f s).contexts (place_of d) no_groups (omega (arith, size, apart same, length-set s.contexts (place_of c) (f (lists_of s c)))) in
-      now ∙ sym (get_or_past s.contexts (place_of d) no_groups (omega (arith, size, apart same)))
-]
+lists_of-apart c d f s size apart = grind (arith, nat_tests, lists_of-other, get_or_past, length-set)
 
 -- a processor's place: its number, or past the end
 pub place-cases : (cpu : CpuNo) → ((place_of (context.Processor cpu) ≡ cpu.0) × (cpu.0 < 8)) ⊎ (place_of (context.Processor cpu) ≡ 72)
@@ -27,19 +21,10 @@ place-cases cpu = elim (cases_lt cpu.0 8) [
 ]
 
 pub cpus-apart : (cpu other : CpuNo) → other.0 ≢ cpu.0 → place_of (context.Processor other) ≡ place_of (context.Processor cpu) → 72 ≤ place_of (context.Processor other)
-cpus-apart cpu other apart same = elim (place-cases other) [
-  | inr far ↦ omega (arith, far)
-  | inl near ↦ elim (place-cases cpu) [
-    | inl here ↦ absurd (apart (omega (arith, same, near.0, here.0)))
-    | inr past ↦ omega (arith, same, past)
-  ]
-]
+cpus-apart cpu other apart same = grind (arith, nat_tests)
 
 pub cpu-task_apart : (cpu : CpuNo) (task : TaskNo) → place_of (context.Processor cpu) ≡ 8 + task.0 → 72 ≤ place_of (context.Processor cpu)
-cpu-task_apart cpu task same = elim (place-cases cpu) [
-  | inl near ↦ absurd (omega (arith, same, near.0, near.1))
-  | inr far ↦ omega (arith, far)
-]
+cpu-task_apart cpu task same = grind (arith, nat_tests)
 
 -- what a processor reaches is the same where its two contexts are
 pub record ReachesSame (s t : Stage) (cpu : CpuNo) : Type 0 where
@@ -52,10 +37,7 @@ task_lists-same s t None h = refl
 task_lists-same s t (Some task) h = h task refl
 
 pub passes-same : (s t : Stage) (cpu : CpuNo) → ReachesSame s t cpu → passes t cpu ≡ passes s cpu
-passes-same s t cpu h =
-    let four : Lists → Lists → List (List Group) = λ own task. own.pinned ∷ task.pinned ∷ own.flexible ∷ task.flexible ∷ [] in
-    ap (λ own. four own (task_lists t (task_on t cpu))) h.own ∙ ap (four (lists_of s (context.Processor cpu)))
-    (ap (task_lists t) h.running ∙ task_lists-same s t (task_on s cpu) h.task)
+passes-same s t cpu h = grind (arith, nat_tests, task_lists-same)
 
 pub reaches-then : (s t u : Stage) (cpu : CpuNo) → ReachesSame s t cpu → ReachesSame t u cpu → ReachesSame s u cpu
 reaches-then s t u cpu h k = record {
@@ -107,8 +89,4 @@ settle_task-is hw cpu before (Some task) s = refl
 -- settling a processor leaves what another one reaches
 pub settle-others : (hw : Hardware) (s : Stage) (cpu other : CpuNo) → length s.contexts ≡ 72 → AreRunning s → other.0 ≢ cpu.0 → passes (settle hw cpu s) other ≡ passes s other
 unfolding settle
-settle-others hw s cpu other size running apart =
-    let first : Stage = change_context (context.Processor cpu) (settle_lists hw cpu []) s in
-    ap (λ t. passes t other) (settle_task-is hw cpu (own_verdicts hw s cpu) (task_on s cpu) first)
-    ∙ passes-same s (change_task (task_on s cpu) (settle_lists hw cpu (own_verdicts hw s cpu)) first) other
-    (both-changed cpu other (task_on s cpu) (settle_lists hw cpu []) (settle_lists hw cpu (own_verdicts hw s cpu)) s size running apart refl)
+settle-others hw s cpu other size running apart = search (nat_tests, settle_task-is, passes-same, both-changed)

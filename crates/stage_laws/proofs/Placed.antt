@@ -1,5 +1,5 @@
 -- Where instances stand is what a sound stage says of their places, so each step keeps that.
-use Rattle.std.specs.Prelude.{◌≡◌, ℕ, ◌+◌, ◌≤◌, ◌==◌, Bool, true, false, not, ◌&&◌, All, List, [], ◌∷◌, flat_map, count_by, find, replicate, zero, suc, Option, Some, None, slice_index_or}
+use Rattle.std.specs.Prelude.{◌≡◌, ℕ, ◌+◌, ◌≤◌, Bool, true, false, not, All, List, [], ◌∷◌, count_by, find, replicate, zero, suc, Option, Some, None, slice_index_or}
 use Rattle.std.proofs.Common.{refl, sym, ap, ◌∙◌, arith, inl, inr, subst}
 use Rattle.std.proofs.lemmas.Bool.{cases_Bool, both_ways, and_parts, and_from, not_from_false, eq-eqb, eqb-true, false_from_ne_true}
 use Rattle.std.proofs.lemmas.Option.{none-some}
@@ -10,8 +10,8 @@ use Rattle.perf_base.specs.declared.attr.TaskSel.TheVariants as tasks
 use Rattle.perf_base.specs.declared.attr.CpuSel.TheVariants as cpus
 use Rattle.perf_base.specs.declared.standing.Context.TheVariants as context
 use Rattle.stage_spec.specs.{declared.instance.{Instance.{Instance}, TaskStatus.{TaskStatus}}, Hardware.{Hardware}, Places.{is_all_tasks}}
-use Rattle.stage_spec.specs.Stage.{Stage, Group, Lists, lists_of, groups_in, no_groups, place_of, members, is_original, is_of_family, original_of, all_instances, status_of, is_live, task_on, first_stage}
-use Rattle.stage_spec.specs.{Verdict.{task_lists, passes, instances_in, reached}, History.{Step, stage_step}}
+use Rattle.stage_spec.specs.Stage.{Stage, Lists, lists_of, groups_in, no_groups, place_of, members, is_original, is_of_family, original_of, all_instances, status_of, is_live, task_on, first_stage}
+use Rattle.stage_spec.specs.{Verdict.{task_lists, instances_in, reached}, History.{Step, stage_step}}
 use Rattle.stage_spec.{specs.Limits.{Limits, IsMachine, IsWithin, HasShape}, proofs.Each.{Each, weaker-Each, InLists, no_groups-In}}
 use Rattle.stage_spec.proofs.{Parts.{All-from_Each, Each-from_All, both-Each, all-Each}, Contexts.{At, At-from_each, each-from_At}}
 use Rattle.stage_spec.proofs.Inside.{weaker-in, both-in, members-in, InLists-from_members, all_instances-in, InStage-from_all}
@@ -55,10 +55,7 @@ none_found p (x ∷ xs) h = elim (cases_Bool (p x)) [
 counted : {X : Type 0} (p : X → Bool) (xs : List X) → Each (λ x. p x ≡ true → 1 ≤ count_by p xs) xs
 unfolding Each
 counted p [] = tt
-counted p (x ∷ xs) = (
-  λ here. omega (arith, count-cons p x xs, ap as_number here),
-  weaker-Each (λ y. p y ≡ true → 1 ≤ count_by p xs) (λ y. p y ≡ true → 1 ≤ count_by p (x ∷ xs)) (λ y k passes. omega (arith, count-cons p x xs, k passes)) xs (counted p xs),
-)
+counted p (x ∷ xs) = grind (arith, count-cons, as_number, weaker-Each, counted p xs)
 
 -- of each instance, at its own event
 at_own : (P : EventNo → Instance → Type 0) (xs : List Instance) → ((e : EventNo) → Each (P e) xs) → Each (λ i. P i.event i) xs
@@ -75,15 +72,7 @@ abbrev pub HasOriginal : Stage → Instance → Type 0
 HasOriginal s i = i.copy ≡ true → (original : Instance) × (original_of s i.event ≡ Some original) × IsCopyOf i original
 
 copy_of-found : (table : ℕ → Attr) (s : Stage) → Each (IsTabled table) (all_instances s) → (i o : Instance) → IsTabled table i → i.copy ≡ true → original_of s i.event ≡ Some o → IsCopyOf i o
-copy_of-found table s all i o k is found =
-    let has = find-Each (IsTabled table) (is_original i.event) (all_instances s) o all found in
-    let event : o.event.0 ≡ i.event.0 = eqb-true o.event.0 i.event.0 (and_parts (is_of_family i.event o) (not o.copy) has.1).0 in
-    record {
-      task = k.task is;
-      attr = k.attr ∙ (ap (λ m. of_period i.attr.period (table m)) (sym event) ∙ ap (of_period i.attr.period) (sym has.0.attr));
-      ring = k.ring is;
-      mapped = k.mapped is;
-    }
+copy_of-found table s all i o k is found = grind (arith, find-Each, eqb-true, and_parts, of_period)
 
 copy_original : (table : ℕ → Attr) (s : Stage) → IsFamilied s → Each (IsTabled table) (all_instances s) → (i : Instance) → IsTabled table i
     → 1 ≤ weigh (one_if (is_of_family i.event)) s → HasOriginal s i
@@ -94,21 +83,7 @@ copy_original table s families all i k some is =
 
 -- what a processor reaches: its own instances and those of its task
 pub reached-weighs : (f : Instance → ℕ) (s : Stage) (cpu : CpuNo) → total f (reached s cpu) ≡ lists_weight f (lists_of s (context.Processor cpu)) + lists_weight f (task_lists s (task_on s cpu))
-reached-weighs f s cpu =
-    let own : Lists = lists_of s (context.Processor cpu) in
-    let task : Lists = task_lists s (task_on s cpu) in
-    let w : Group → ℕ = group_weight f in
-    let p : List Group → ℕ = total w in
-    omega (
-      arith,
-      members-weigh f (flat_map (λ pass. pass) (passes s cpu)),
-      total-flat_map w (λ pass. pass) (passes s cpu),
-      total-cons p own.pinned (task.pinned ∷ own.flexible ∷ task.flexible ∷ []),
-      total-cons p task.pinned (own.flexible ∷ task.flexible ∷ []),
-      total-cons p own.flexible (task.flexible ∷ []),
-      total-cons p task.flexible [],
-      total-nil p,
-    )
+reached-weighs f s cpu = omega (arith, group_weight, total, members-weigh, total-flat_map, total-cons, total-nil)
 
 none-weighs : (test : Instance → Bool) (l : Lists) → InLists (λ i. test i ≡ false) l → lists_weight (one_if test) l ≡ 0
 none-weighs test l h =
@@ -205,15 +180,7 @@ attr_of_slot : (s : Stage) (i o : Instance) → original_of s i.event ≡ Some o
 attr_of_slot s i o found same = same ∙ ap (of_period i.attr.period) (sym (ap attr_in found))
 
 tabled-from : (s : Stage) (i : Instance) → IsItself s i → HasOriginal s i → IsTabled (table_of s) i
-tabled-from s i own copy = record {
-  attr = elim (cases_Bool i.copy) [
-    | inl is ↦ attr_of_slot s i (copy is).0 (copy is).1 (copy is).2.attr
-    | inr other ↦ attr_of_slot s i i (own other) refl
-  ];
-  task = λ is. (copy is).2.task;
-  ring = λ is. (copy is).2.ring;
-  mapped = λ is. (copy is).2.mapped;
-}
+tabled-from s i own copy = grind (arith, attr_of_slot)
 
 at_places : (P : Context → Instance → Type 0) (s : Stage) → ((c : Context) → Each (P c) (instances_in s c)) → At (λ n. InLists (P (context_at n))) s
 at_places P s h n =
@@ -224,34 +191,20 @@ abbrev IsLiveCopy : Stage → Context → Instance → Type 0
 IsLiveCopy s c i = i.copy ≡ true → IsOfLive s.tasks c
 
 live_copies : (s : Stage) → IsPlaced s → (c : Context) → Each (IsLiveCopy s c) (instances_in s c)
-live_copies s h (context.Processor cpu) =
-    weaker-Each (λ i. i.copy ≡ false) (IsLiveCopy s (context.Processor cpu)) (λ i no is. both_ways i.copy no is) (instances_in s (context.Processor cpu))
-    (Each-from_All (λ i. i.copy ≡ false) (instances_in s (context.Processor cpu)) (h.no_copies cpu))
-live_copies s h (context.Task task) = elim (cases_Bool (is_live (status_of s task).state)) [
-  | inl live ↦ all-Each (IsLiveCopy s (context.Task task)) (λ i is. live) (instances_in s (context.Task task))
-  | inr gone ↦ weaker-Each (λ i. i.copy ≡ false) (IsLiveCopy s (context.Task task)) (λ i no is. absurd (both_ways i.copy no is)) (instances_in s (context.Task task))
-      (Each-from_All (λ i. i.copy ≡ false) (instances_in s (context.Task task)) (h.live_copies task gone))
-]
+live_copies s h (context.Processor cpu) = grind (arith, weaker-Each, both_ways, Each-from_All)
+live_copies s h (context.Task task) = grind (arith, all-Each, weaker-Each, both_ways, Each-from_All)
 
 abbrev IsOriginalOf : Context → Instance → Type 0
 IsOriginalOf c i = i.copy ≡ false → context_of i.attr ≡ c
 
 -- a slot without an original has no copy, since each copy's original is there
 none_of_family : (s : Stage) (e : EventNo) → Each (λ i. is_original e i ≡ false) (all_instances s) → (i : Instance) → is_original e i ≡ false → HasOriginal s i → is_of_family e i ≡ false
-none_of_family s e none i other copy = false_from_ne_true (is_of_family e i) (λ here. elim (cases_Bool i.copy) [
-  | inl is ↦
-      let o : Instance = (copy is).0 in
-      let has = find-Each (λ j. is_original e j ≡ false) (is_original i.event) (all_instances s) o none (copy is).1 in
-      both_ways (is_original e o) has.0 (ap (λ m. (o.event.0 == m) && not o.copy) (sym (eqb-true i.event.0 e.0 here)) ∙ has.1)
-  | inr first ↦ both_ways (is_original e i) other (and_from (is_of_family e i) (not i.copy) here (not_from_false i.copy first))
-])
+none_of_family s e none i other copy = grind (arith, false_from_ne_true, find-Each, both_ways, eqb-true, and_from, not_from_false)
 
 familied-from : (s : Stage) → IsPlaced s → IsFamilied s
 familied-from s h e none =
     let no_original : Each (λ i. is_original e i ≡ false) (all_instances s) = none_counted (is_original e) (all_instances s) (weigh-is-count (is_original e) s ∙ none) in
-    let no_member : Each (λ i. is_of_family e i ≡ false) (all_instances s) =
-    both-Each (λ i. is_original e i ≡ false) (HasOriginal s) (λ i. is_of_family e i ≡ false) (none_of_family s e no_original) (all_instances s) no_original
-    (Each-from_All (HasOriginal s) (all_instances s) h.of_original) in
+    let no_member : Each (λ i. is_of_family e i ≡ false) (all_instances s) = search (both-Each, none_of_family, Each-from_All) in
     sym (weigh-is-count (is_of_family e) s) ∙ (count_by-is-total (is_of_family e) (all_instances s)
     ∙ total-by_All (one_if (is_of_family e)) (λ i. is_of_family e i ≡ false) (λ i no. ap as_number no) (all_instances s)
     (All-from_Each (λ i. is_of_family e i ≡ false) (all_instances s) no_member))
@@ -259,8 +212,7 @@ familied-from s h e none =
 pub housed-from_placed : (s : Stage) → IsNumbered s → IsPlaced s → Housed s
 housed-from_placed s n h =
     let table : ℕ → Attr = table_of s in
-    let all : Each (IsTabled table) (all_instances s) =
-    both-Each (IsItself s) (HasOriginal s) (IsTabled table) (tabled-from s) (all_instances s) (itself s n) (Each-from_All (HasOriginal s) (all_instances s) h.of_original) in
+    let all : Each (IsTabled table) (all_instances s) = search (both-Each, tabled-from, itself, Each-from_All) in
     let here : At (λ k. InLists (IsTabled table)) s = At-from_each (InLists (IsTabled table)) (no_groups-In (IsTabled table)) s (InStage-from_all (IsTabled table) s all) in
     let originals : At (λ k. InLists (IsOriginalOf (context_at k))) s = at_places IsOriginalOf s (λ c. Each-from_All (IsOriginalOf c) (instances_in s c) (h.originals c)) in
     let live : At (λ k. InLists (IsLiveCopy s (context_at k))) s = at_places (IsLiveCopy s) s (live_copies s h) in
@@ -294,8 +246,7 @@ housed-from_placed s n h =
     }
 
 pub placed_step : (l : Limits) (hw : Hardware) (s : Stage) (x : Step) → IsMachine l hw → IsWithin l x → IsSound hw s → HasShape hw (stage_step hw s x) → IsPlaced (stage_step hw s x)
-placed_step l hw s x machine within sound shape =
-    placed-from_housed hw (stage_step hw s x) shape (housed_step l hw s x machine within sound.shape sound.numbered (housed-from_placed s sound.numbered sound.placed))
+placed_step l hw s x machine within sound shape = grind (arith, placed-from_housed, housed_step, housed-from_placed)
 
 -- at first there is none
 nowhere : (count n : ℕ) → slice_index_or (replicate count no_groups) n no_groups ≡ no_groups

@@ -1,6 +1,6 @@
 -- Every stage that lines lead to is settled.
 use Rattle.std.specs.Prelude.{◌≡◌, ℕ, All, List, [], ◌∷◌, replicate, Option, Some, None, slice_index_or}
-use Rattle.std.proofs.{Common.{arith, refl, ap, ◌∙◌, inl, inr}, lemmas.List.{get_or-replicate, get_or_past, length-replicate}}
+use Rattle.std.proofs.{Common.{arith, refl, ap, ◌∙◌}, lemmas.List.{get_or-replicate, get_or_past, length-replicate}}
 use Rattle.std.proofs.lemmas.{List.Elements.{All-head, All-tail}, Bool.{cases_lt}}
 use Rattle.perf_base.specs.declared.{numbers.{CpuNo.{CpuNo}, TaskNo.{TaskNo}}, standing.Context.{Context}}
 use Rattle.perf_base.specs.declared.standing.Context.TheVariants as context
@@ -11,10 +11,7 @@ use Rattle.stage_laws.{specs.{Sound.{IsSound}, Narrowing.{AreSettled, ReachedSet
 
 -- a stage without groups is settled
 replicate-empty : (n k : ℕ) → slice_index_or (replicate n no_groups) k no_groups ≡ no_groups
-replicate-empty n k = elim (cases_lt k n) [
-  | inl low ↦ get_or-replicate n k no_groups no_groups low
-  | inr past ↦ get_or_past (replicate n no_groups) k no_groups (omega (arith, past, length-replicate n no_groups))
-]
+replicate-empty n k = grind (arith, cases_lt, get_or-replicate, get_or_past, length-replicate)
 
 abbrev IsEmpty : Stage → Type 0
 IsEmpty s = (c : Context) → lists_of s c ≡ no_groups

@@ -1,5 +1,5 @@
 -- What runs is live and in one place, after each step.
-use Rattle.std.specs.Prelude.{◌≡◌, ℕ, ◌<◌, ◌+◌, ◌==◌, nat_lt, Bool, true, false, not, List, [], ◌∷◌, length, replicate, Option, Some, None, slice_index_or}
+use Rattle.std.specs.Prelude.{◌≡◌, ℕ, ◌<◌, ◌==◌, Bool, true, false, not, List, [], ◌∷◌, length, replicate, Option, Some, None, slice_index_or}
 use Rattle.std.proofs.{Common.{arith, refl, sym, ap, ◌∙◌, inl, inr}, lemmas.Bool.{not-false, cases_eq, cases_lt, false≢true}}
 use Rattle.std.proofs.lemmas.{List.{get_or-replicate, get_or_past, length-replicate}, Option.{none-some}}
 use Rattle.perf_base.specs.declared.{numbers.{CpuNo.{CpuNo}, TaskNo.{TaskNo}}, lines.{CpuLine.{CpuLine}, ToolLine.{ToolLine}}}
@@ -8,11 +8,11 @@ use Rattle.perf_base.specs.declared.lines.CpuLine.TheVariants as cpu_line
 use Rattle.perf_base.specs.declared.lines.ToolLine.TheVariants as tool_line
 use Rattle.perf_base.specs.declared.reasons.Reason.TheVariants as reason
 use Rattle.stage_spec.specs.{declared.instance.TaskState.{TaskState}, Hardware.{Hardware}, Refusals.{holds_of}}
-use Rattle.stage_spec.specs.Stage.{Stage, status_of, is_live, was_used, task_on, cpu_of, set_status, set_running, is_idle, live_copies, fresh_task, first_stage}
-use Rattle.stage_spec.specs.{Verdict.{task_lists}, Settle.{settle, settle_each, settle_all}, Opening.{opened}, Commands.{command_each, with_period}}
+use Rattle.stage_spec.specs.Stage.{Stage, status_of, is_live, was_used, task_on, cpu_of, set_status, set_running, first_stage}
+use Rattle.stage_spec.specs.{Settle.{settle, settle_each, settle_all}, Opening.{opened}, Commands.{command_each, with_period}}
 use Rattle.stage_spec.specs.{Mapping.{mapped_to, output_to}, Closing.{closed}, Switching.{switched, switch_refusal, put_on, is_running}}
-use Rattle.stage_spec.specs.{Rotation.{rotated}, Forks.{fork_refusal, new_copies, forked}, Exits.{exited, exited_by}}
-use Rattle.stage_spec.specs.History.{Step, CpuStep, ToolStep, SeenStep, cpu_refusal, tool_refusal, cpu_changed, tool_changed, stage_step, unless_refused}
+use Rattle.stage_spec.specs.{Rotation.{rotated}, Forks.{fork_refusal, forked}, Exits.{exited, exited_by}}
+use Rattle.stage_spec.specs.History.{Step, CpuStep, ToolStep, SeenStep, cpu_refusal, cpu_changed, tool_changed, stage_step, unless_refused}
 use Rattle.stage_spec.{specs.Limits.{Limits, IsWithin}, proofs.ByContexts.{KeptByContexts, settle-by, settle_each-by, settle_all-by, rotated-by}}
 use Rattle.stage_spec.specs.declared.instance.TaskState.TheVariants as state
 use Rattle.stage_laws.specs.Sound.{AreRunning}
@@ -70,11 +70,8 @@ put_on-running s cpu (Some task) low h free =
     let is_there : not (is_live (status_of s task).state) ≡ false = first-clear reason.NoTask (not (is_live (status_of s task).state)) ((reason.Busy, busy) ∷ []) free in
     let not_busy : busy ≡ false = first-clear reason.Busy busy [] (rest-clear reason.NoTask (not (is_live (status_of s task).state)) ((reason.Busy, busy) ∷ []) free) in
     let live : is_live (status_of s task).state ≡ true = not-false (is_live (status_of s task).state) is_there in
-    let on : AreRunning t = given-AreRunning s cpu (Some task) low h
-    (λ other e. ap (λ o. is_live (status_of s o).state) (sym (some-same task other e)) ∙ live)
-    (λ other c e there. free-task s cpu c task h not_busy (there ∙ sym e)) in
-    status-AreRunning t task (record (status_of s task) { last = Some cpu }) on
-    (λ c other there. ap is_live (state-kept t task other (record (status_of s task) { last = Some cpu }) refl) ∙ on.live c other there)
+    let on : AreRunning t = grind (arith, given-AreRunning, some-same, free-task) in
+    grind (arith, status-AreRunning, t, on, state-kept)
 
 one-running : (b : Bool) (s t : Stage) → AreRunning s → AreRunning t → AreRunning (elim b as (λ x. Stage) [ true ↦ s | false ↦ t ])
 one-running true s t h k = h
@@ -92,19 +89,7 @@ live-used state.Exited h = refl
 
 forked-running : (s : Stage) (cpu : CpuNo) (child : TaskNo) → AreRunning s → fork_refusal s cpu child ≡ None → AreRunning (forked cpu child s)
 unfolding forked
-forked-running s cpu child h free =
-    let exists : Bool = was_used (status_of s child).state in
-    let full : List (Reason × Bool) = (reason.CopiesFull, nat_lt 4096 (live_copies s + new_copies (task_lists s (task_on s cpu)))) ∷ [] in
-    let fresh : exists ≡ false = first-clear reason.Exists exists full (rest-clear reason.Idle (is_idle (task_on s cpu)) ((reason.Exists, exists) ∷ full) free) in
-    record {
-      live = λ c task on. elim (cases_eq task.0 child.0) [
-        | inl e ↦
-            let live : is_live (status_of s child).state ≡ true = ap (λ n. is_live (status_of s (record { 0 = n })).state) (sym e) ∙ h.live c task on in
-            absurd (false≢true (sym fresh ∙ live-used (status_of s child).state live))
-        | inr apart ↦ ap (λ t. is_live t.state) (status_of-other s child task fresh_task apart) ∙ h.live c task on
-      ];
-      once = h.once;
-    }
+forked-running s cpu child h free = grind (arith, first-clear, rest-clear, false≢true, live-used, status_of-other)
 
 -- an exit leaves the task that ran on no processor
 exited_by-running : (s : Stage) (cpu : CpuNo) (to : Option TaskNo) → cpu.0 < length s.running → AreRunning s → task_on s cpu ≡ to → AreRunning (exited_by cpu to s)
@@ -143,20 +128,13 @@ unless-running hw None change s h k = kept-AreRunning (change s) (settle_all hw 
 
 pub running_step : (l : Limits) (hw : Hardware) (s : Stage) (x : Step) → length s.running ≡ l.cpus → IsWithin l x → AreRunning s → AreRunning (stage_step hw s x)
 unfolding stage_step
-running_step l hw s (CpuStep cpu line) n within h =
-    unless-running hw (cpu_refusal s cpu line) (cpu_changed hw cpu line) s h (cpu-running hw s cpu line (rw n within.0) h)
-running_step l hw s (ToolStep line) n within h =
-    unless-running hw (tool_refusal hw s line) (tool_changed line) s h (λ free. kept-AreRunning s (tool_changed line s) (tool-keeps line s) h)
+running_step l hw s (CpuStep cpu line) n within h = grind (arith, unless-running, cpu-running)
+running_step l hw s (ToolStep line) n within h = grind (arith, unless-running, kept-AreRunning, tool-keeps)
 running_step l hw s (SeenStep ring place) n within h = h
 
 replicate-none : (n k : ℕ) → slice_index_or (replicate n no_task) k None ≡ None
-replicate-none n k = elim (cases_lt k n) [
-  | inl low ↦ get_or-replicate n k no_task None low
-  | inr past ↦ get_or_past (replicate n no_task) k None (omega (arith, past, length-replicate n no_task))
-]
+replicate-none n k = grind (arith, cases_lt, get_or-replicate, get_or_past, length-replicate)
 
 pub running_first : (cpus : ℕ) (declared : List TaskNo) → AreRunning (first_stage cpus declared)
 unfolding first_stage
-running_first cpus declared =
-    let idle : (cpu : CpuNo) (task : TaskNo) → task_on (first_stage cpus declared) cpu ≡ Some task → ⊥ = λ cpu task on. none-some task (sym (replicate-none cpus cpu.0) ∙ on) in
-    record { live = λ cpu task on. absurd (idle cpu task on); once = λ cpu other task on there. absurd (idle cpu task on) }
+running_first cpus declared = grind (arith, none-some, replicate-none)

@@ -3,7 +3,7 @@ use Rattle.std.specs.Prelude.{◌≡◌, ◌<◌, ◌≤◌, ◌==◌, Bool, tru
 use Rattle.std.{specs.List.{list_any}, proofs.{Common.{arith, refl, sym, ap, ◌∙◌, subst}, lemmas.{List.{length-map}, Simd.{map-map}}}}
 use Rattle.perf_base.specs.{declared.{numbers.RingNo.{RingNo}, reasons.Reason.{Reason}}, Contexts.{context_of}}
 use Rattle.perf_base.specs.declared.standing.Context.TheVariants as context
-use Rattle.stage_spec.specs.{declared.instance.Instance.{Instance}, Hardware.{Hardware}, Flags.{is_inherited, is_pinned}}
+use Rattle.stage_spec.specs.{declared.instance.Instance.{Instance}, Hardware.{Hardware}, Flags.{is_pinned}}
 use Rattle.stage_spec.specs.Stage.{Stage, Group, members_of, group_size, Lists, lists_of, no_groups, all_groups, all_instances, is_of_family, is_original, is_copy, original_of, unknown_task, is_live, was_used}
 use Rattle.stage_spec.specs.{Effective.{is_hardware}, Verdict.{with_masks, instances_in, reached}, Opening.{is_other_pmu}, Settle.{settle}}
 use Rattle.stage_spec.specs.History.{Step, CpuStep, ToolStep, SeenStep, cpu_refusal, tool_refusal, cpu_changed, tool_changed, unless_refused, stage_step}
@@ -14,11 +14,7 @@ use Rattle.stage_laws.proofs.{Sound.{step_sound}, Tasks.{kept-AreRunning}, Brief
 use Rattle.stage_laws.proofs.Bare.{bare, bare_group, bare_lists, AreLike, like-itself, like-back, settle-like, settle_all-like, lists-like, groups-like, all-alike, context-alike, reached-alike}
 
 like-shape : (hw : Hardware) (s t : Stage) → AreLike s t → HasShape hw s → HasShape hw t
-like-shape hw s t k h = record {
-  running = ap length k.running ∙ h.running;
-  tasks = ap length k.tasks ∙ h.tasks;
-  contexts = sym (length-map t.contexts bare_lists) ∙ (ap length k.contexts ∙ (length-map s.contexts bare_lists ∙ h.contexts));
-}
+like-shape hw s t k h = grind (arith, length-map, bare_lists)
 
 -- what does not look at an instance's own state
 each-like : (P : Instance → Type 0) → ((i : Instance) → P i → P (bare i)) → ((i : Instance) → P (bare i) → P i) → (is js : List Instance) → map bare js ≡ map bare is → All P is → All P js
@@ -37,12 +33,7 @@ like-numbered s t k h = record {
 
 -- groups
 alike-bare : (l m i : Instance) → bare m ≡ bare l → AreAlike l i → AreAlike m i
-alike-bare l m i e h = record {
-  copy = ap (λ x. x.copy) e ∙ h.copy;
-  task = ap (λ x. x.attr.task) e ∙ h.task;
-  cpu = ap (λ x. x.attr.cpu) e ∙ h.cpu;
-  inherit = ap (λ x. is_inherited x.attr) e ∙ h.inherit;
-}
+alike-bare l m i e h = grind arith
 
 masks-bare : (hw : Hardware) (is : List Instance) → with_masks hw (filter is_hardware (map bare is)) ≡ with_masks hw (filter is_hardware is)
 masks-bare hw is = ap (with_masks hw) (filter-map is_hardware is_hardware bare (λ i. refl) is) ∙ map-map (slot_mask hw) bare (filter is_hardware is)
@@ -111,9 +102,7 @@ none-mapped [] h = refl
 none-mapped (g ∷ groups) h = absurd (omega (arith, ap length h))
 
 empty-like : (l m : Lists) → bare_lists m ≡ bare_lists l → l ≡ no_groups → m ≡ no_groups
-empty-like l m e none =
-    let empty : bare_lists m ≡ no_groups = e ∙ ap bare_lists none in
-    rw (none-mapped m.pinned (ap (λ x. x.pinned) empty), none-mapped m.flexible (ap (λ x. x.flexible) empty)) refl
+empty-like l m e none = grind (arith, bare_lists, none-mapped)
 
 like-placed : (s t : Stage) → AreLike s t → IsPlaced s → IsPlaced t
 like-placed s t k h = record {

@@ -1,11 +1,11 @@
 -- The tasks that run, through each change of the stage.
 use Rattle.std.specs.Prelude.{◌≡◌, ℕ, zero, suc, ◌<◌, ◌==◌, Bool, true, false, not, List, [], ◌∷◌, length, ◌⊎◌, map, find, Option, Some, None, slice_index_or}
 use Rattle.std.{specs.Option.{option_or, unwrap_or}, proofs.Common.{arith, refl, sym, ap, ◌∙◌, inl, inr, get_or-set_same, get_or-set_other}}
-use Rattle.std.proofs.lemmas.{Bool.{cases_Bool, cases_eq, cases_lt, Decides.{nat_tests}}, Option.{none-some}, List.{map-append, get_or_past}}
+use Rattle.std.proofs.lemmas.{Bool.{cases_Bool, cases_lt, Decides.{nat_tests}}, Option.{none-some}, List.{map-append, get_or_past}}
 use Rattle.std.proofs.{lemmas.List.Folds.{find-append}, Math.Seq.{set_out}}
 use Rattle.perf_base.specs.declared.{numbers.{CpuNo.{CpuNo}, TaskNo.{TaskNo}}, reasons.Reason.{Reason}}
 use Rattle.stage_spec.specs.{declared.instance.TaskStatus.{TaskStatus}, Numbers.{numbers_below}, Refusals.{first_of, holds_of}}
-use Rattle.stage_spec.specs.Stage.{Stage, status_of, is_live, task_on, is_on_cpu, all_cpus, cpu_of, is_task, set_status, set_running, unknown_task}
+use Rattle.stage_spec.specs.Stage.{Stage, status_of, is_live, task_on, is_on_cpu, cpu_of, is_task, set_status, set_running, unknown_task}
 use Rattle.stage_laws.specs.Sound.{AreRunning}
 
 -- where no reason holds, the first doesn't, nor any after it
@@ -34,13 +34,7 @@ status_of-other s task other status apart = get_or-set_other s.tasks task.0 othe
 -- a status that keeps the state leaves the state of every task
 pub state-kept : (s : Stage) (task other : TaskNo) (status : TaskStatus) → status.state ≡ (status_of s task).state
     → (status_of (set_status task status s) other).state ≡ (status_of s other).state
-state-kept s task other status same = elim (cases_eq other.0 task.0) [
-  | inl e ↦ elim (cases_lt task.0 (length s.tasks)) [
-    | inl low ↦ rw e (ap (λ t. t.state) (status_of-same s task status low) ∙ same)
-    | inr past ↦ rw (set_out s.tasks task.0 status past) refl
-  ]
-  | inr apart ↦ ap (λ t. t.state) (status_of-other s task other status apart)
-]
+state-kept s task other status same = grind (arith, nat_tests, cases_lt, status_of-same, set_out, status_of-other)
 
 -- one thing of two
 pub some-same : {X : Type 0} (x y : X) → Some x ≡ Some y → x ≡ y
@@ -50,8 +44,7 @@ some-same x y h = ap (λ o. unwrap_or o x) h
 pub found-passes : {X : Type 0} (p : X → Bool) (xs : List X) (x : X) → find p xs ≡ Some x → p x ≡ true
 found-passes p [] x h = absurd (cc)
 found-passes p (y ∷ xs) x h = elim (cases_Bool (p y)) [
-  | inl e ↦ let here : find p (y ∷ xs) ≡ Some y = rw e refl in
-      let same : y ≡ x = some-same y x (sym here ∙ h) in rw (← same) e
+  | inl e ↦ grind (arith, nat_tests, e, some-same)
   | inr e ↦ let there : find p (y ∷ xs) ≡ find p xs = rw e refl in found-passes p xs x (sym there ∙ h)
 ]
 
@@ -71,11 +64,7 @@ misses-none p (suc n) k low test none =
     let both : (find p (map numbered (numbers_below n)) ≡ None) × (find p (numbered n ∷ []) ≡ None) = or-none (find p (map numbered (numbers_below n))) (find p (numbered n ∷ [])) (sym split ∙ none) in
     elim (cases_lt k n) [
       | inl less ↦ misses-none p n k less test both.0
-      | inr more ↦
-          let last : k ≡ n = omega (arith, low, more) in
-          let passes : p (numbered n) ≡ true = ap (λ m. p (numbered m)) (sym last) ∙ test in
-          let here : find p (numbered n ∷ []) ≡ Some (numbered n) = rw passes refl in
-          none-some (numbered n) (sym both.1 ∙ here)
+      | inr more ↦ grind (arith, nat_tests, more, none-some)
     ]
 
 some_or_none : {X : Type 0} (o : Option X) → (o ≡ None) ⊎ ((x : X) × (o ≡ Some x))
@@ -95,10 +84,7 @@ is_task-some (Some other) task h = let same : other.0 ≡ task.0 = grind (arith,
 
 -- a processor that runs a task is one of those that there are
 pub runs-within : (running : List (Option TaskNo)) (n : ℕ) (task : TaskNo) → slice_index_or running n None ≡ Some task → n < length running
-runs-within running n task h = elim (cases_lt n (length running)) [
-  | inl low ↦ low
-  | inr past ↦ absurd (none-some task (sym (get_or_past running n None past) ∙ h))
-]
+runs-within running n task h = grind (arith, nat_tests, cases_lt, none-some, get_or_past)
 
 -- where a task may go on a processor, it is on no other one
 pub free-task : (s : Stage) (cpu other : CpuNo) (task : TaskNo) → AreRunning s → holds_of (λ c. not (c.0 == cpu.0)) (cpu_of s task) ≡ false → task_on s other ≡ Some task → other.0 ≡ cpu.0
@@ -107,12 +93,7 @@ free-task s cpu other task sound free on =
     let test : is_on_cpu s task other ≡ true = is_task-true (task_on s other) task on in
     elim (some_or_none (cpu_of s task)) [
       | inl none ↦ absurd (misses-none (is_on_cpu s task) (length s.running) other.0 low test none)
-      | inr found ↦
-          let passes : is_on_cpu s task found.0 ≡ true = found-passes (is_on_cpu s task) (all_cpus s) found.0 found.1 in
-          let there : task_on s found.0 ≡ Some task = is_task-some (task_on s found.0) task passes in
-          let here : not (found.0.0 == cpu.0) ≡ false = ap (holds_of (λ c. not (c.0 == cpu.0))) (sym found.1) ∙ free in
-          let same : found.0.0 ≡ cpu.0 = grind (arith, nat_tests, here) in
-          sound.once other found.0 task on there ∙ same
+      | inr found ↦ grind (arith, nat_tests, found-passes, is_task-some)
     ]
 
 -- a change that leaves what runs and where tasks stand
@@ -121,10 +102,7 @@ pub record KeepsTasks (s t : Stage) : Type 0 where
   pub tasks : t.tasks ≡ s.tasks
 
 pub kept-AreRunning : (s t : Stage) → KeepsTasks s t → AreRunning s → AreRunning t
-kept-AreRunning s t k h = record {
-  live = λ cpu task on. rw k.tasks (h.live cpu task (ap (λ r. slice_index_or r cpu.0 None) (sym k.running) ∙ on));
-  once = λ cpu other task on there. h.once cpu other task (ap (λ r. slice_index_or r cpu.0 None) (sym k.running) ∙ on) (ap (λ r. slice_index_or r other.0 None) (sym k.running) ∙ there);
-}
+kept-AreRunning s t k h = grind (arith, nat_tests)
 
 -- a processor is given a live task that is on no other one, or none
 pub given-AreRunning : (s : Stage) (cpu : CpuNo) (to : Option TaskNo) → cpu.0 < length s.running → AreRunning s
@@ -135,22 +113,7 @@ given-AreRunning s cpu to low h live free =
     let t : Stage = set_running cpu to s in
     let same : (p : CpuNo) → p.0 ≡ cpu.0 → task_on t p ≡ to = λ p e. ap (λ n. slice_index_or t.running n None) e ∙ task_on-same s cpu to low in
     let left : (p : CpuNo) → (p.0 ≡ cpu.0 → ⊥) → task_on t p ≡ task_on s p = λ p e. task_on-other s cpu p to e in
-    record {
-      live = λ p task on. elim (cases_eq p.0 cpu.0) [
-        | inl e ↦ live task (sym (same p e) ∙ on)
-        | inr e ↦ h.live p task (sym (left p e) ∙ on)
-      ];
-      once = λ p q task on there. elim (cases_eq p.0 cpu.0) [
-        | inl e ↦ elim (cases_eq q.0 cpu.0) [
-          | inl d ↦ e ∙ sym d
-          | inr d ↦ e ∙ sym (free task q (sym (same p e) ∙ on) (sym (left q d) ∙ there))
-        ]
-        | inr e ↦ elim (cases_eq q.0 cpu.0) [
-          | inl d ↦ free task p (sym (same q d) ∙ there) (sym (left p e) ∙ on) ∙ sym d
-          | inr d ↦ h.once p q task (sym (left p e) ∙ on) (sym (left q d) ∙ there)
-        ]
-      ];
-    }
+    grind (arith, nat_tests, same, left)
 
 -- a status that leaves each task that runs live
 pub status-AreRunning : (s : Stage) (task : TaskNo) (status : TaskStatus) → AreRunning s

@@ -1,14 +1,14 @@
 -- The laws of turns.
-use Rattle.std.specs.Prelude.{◌≡◌, ℕ, suc, ◌+◌, ◌<◌, ◌≤◌, ◌==◌, Bool, true, false, not, ◌&&◌, List, [], ◌∷◌, ◌++◌, length, filter, find, take, drop, Option, Some, None, slice_index_or, if◌then◌else◌}
+use Rattle.std.specs.Prelude.{◌≡◌, ℕ, suc, ◌+◌, ◌<◌, ◌≤◌, ◌==◌, Bool, true, false, not, ◌&&◌, List, [], ◌∷◌, ◌++◌, length, filter, find, take, drop, Option, Some, None, if◌then◌else◌}
 use Rattle.std.proofs.Common.{arith, refl, sym, ap, ◌∙◌, inl, inr, append_assoc, append-nil, length-append, length-set}
-use Rattle.std.proofs.lemmas.{Bool.{cases_Bool, cases_eq, and_parts, false≢true, Decides.{nat_tests}}, List.{take-append-drop, length-take-le}}
+use Rattle.std.proofs.lemmas.{Bool.{cases_Bool, and_parts, false≢true, Decides.{nat_tests}}, List.{take-append-drop, length-take-le}}
 use Rattle.std.proofs.lemmas.List.Elements.{filter-append}
 use Rattle.perf_base.specs.declared.{numbers.{CpuNo.{CpuNo}, TaskNo.{TaskNo}}, standing.Context.{Context}}
 use Rattle.perf_base.specs.declared.lines.CpuLine.TheVariants as cpu_line
 use Rattle.perf_base.specs.declared.standing.Context.TheVariants as context
 use Rattle.stage_spec.specs.Hardware.{Hardware}
 use Rattle.stage_spec.specs.Stage.{Stage, Group, Lists, lists_of, no_groups, place_of, task_on, is_task, all_cpus, change_context}
-use Rattle.stage_spec.specs.{Verdict.{Judged, verdicts}, Settle.{settle_lists, settle_task, own_verdicts, settle, settle_each, settle_all}}
+use Rattle.stage_spec.specs.{Verdict.{Judged, verdicts}, Settle.{settle_task, settle, settle_each, settle_all}}
 use Rattle.stage_spec.specs.Rotation.{first_goes_last, turned, turn_lists, turn_task, rotated, takes_turns}
 use Rattle.stage_spec.{specs.History.{Step, CpuStep, ToolStep, SeenStep, stage_step, stage_after}, proofs.{Each.{Each}, Parts.{All-from_Each}}}
 use Rattle.stage_spec.proofs.{Settling.{either, filter-yes, filter-no}, Settled.{place_of-cpu, lists_of-same, lists_of-other, no_groups-settled}}
@@ -26,25 +26,12 @@ goes_last-away test g groups e = ap (λ b. either b (groups ++ g ∷ []) (g ∷ 
 
 passing-rotate : (test : Group → Bool) (groups : List Group) → filter test (first_goes_last test groups) ≡ drop 1 (filter test groups) ++ take 1 (filter test groups)
 passing-rotate test [] = refl
-passing-rotate test (g ∷ groups) = elim (cases_Bool (test g)) [
-  | inl e ↦ rw (goes_last-here test g groups e, filter-yes test g groups e)
-      (filter-append test groups (g ∷ []) ∙ ap (λ gs. filter test groups ++ gs) (filter-yes test g [] e))
-  | inr e ↦ rw (goes_last-away test g groups e, filter-no test g groups e)
-      (filter-no test g (first_goes_last test groups) e ∙ passing-rotate test groups)
-]
+passing-rotate test (g ∷ groups) = grind (arith, goes_last-here, filter-yes, filter-append, goes_last-away, filter-no, passing-rotate test groups)
 
 others-stay : (test : Group → Bool) (groups : List Group) → filter (λ g. not (test g)) (first_goes_last test groups) ≡ filter (λ g. not (test g)) groups
 others-stay test [] = refl
 others-stay test (g ∷ groups) =
-    let other : Group → Bool = λ g. not (test g) in
-    elim (cases_Bool (test g)) [
-      | inl e ↦
-          let none : filter other (g ∷ []) ≡ [] = filter-no other g [] (ap not e) in
-          rw (goes_last-here test g groups e, filter-no other g groups (ap not e))
-          (filter-append other groups (g ∷ []) ∙ (ap (λ gs. filter other groups ++ gs) none ∙ append-nil (filter other groups)))
-      | inr e ↦ rw (goes_last-away test g groups e, filter-yes other g groups (ap not e))
-          (filter-yes other g (first_goes_last test groups) (ap not e) ∙ ap (λ gs. g ∷ gs) (others-stay test groups))
-    ]
+    grind (arith, nat_tests, filter-no, goes_last-here, filter-append, append-nil, goes_last-away, filter-yes, others-stay test groups)
 
 pub first_goes_last_rotates : FirstGoesLastLaw
 first_goes_last_rotates test groups = (passing-rotate test groups, others-stay test groups)
@@ -56,33 +43,21 @@ first_element (g ∷ groups) = Some g
 
 found-first : (test : Group → Bool) (groups : List Group) → find test groups ≡ first_element (filter test groups)
 found-first test [] = refl
-found-first test (g ∷ groups) = elim (cases_Bool (test g)) [
-  | inl e ↦ rw (filter-yes test g groups e) (rw e refl)
-  | inr e ↦ rw (filter-no test g groups e) (rw e (found-first test groups))
-]
+found-first test (g ∷ groups) = grind (arith, nat_tests, filter-yes, filter-no, found-first test groups)
 
 -- a change of a context that leaves its flexible groups leaves those of every context
 flexible-kept : (c d : Context) (f : Lists → Lists) (s : Stage) → f no_groups ≡ no_groups → ((l : Lists) → (f l).flexible ≡ l.flexible)
     → flexible_of (change_context c f s) d ≡ flexible_of s d
-flexible-kept c d f s none keeps = elim (cases_eq (place_of d) (place_of c)) [
-  | inl same ↦
-      let flexible_at : Stage → ℕ → List Group = λ t n. (slice_index_or t.contexts n no_groups).flexible in
-      ap (flexible_at (change_context c f s)) same
-      ∙ (ap (λ l. l.flexible) (lists_of-same c f s none) ∙ (keeps (lists_of s c) ∙ ap (flexible_at s) (sym same)))
-  | inr apart ↦ ap (λ l. l.flexible) (lists_of-other c d f s apart)
-]
+flexible-kept c d f s none keeps = grind (arith, nat_tests, lists_of-same, lists_of-other)
 
 -- so does settling
 task-flexible : (hw : Hardware) (cpu : CpuNo) (before : List Judged) (to : Option TaskNo) (s : Stage) (c : Context) → flexible_of (settle_task hw cpu before to s) c ≡ flexible_of s c
 task-flexible hw cpu before None s c = refl
-task-flexible hw cpu before (Some task) s c =
-    flexible-kept (context.Task task) c (settle_lists hw cpu before) s (no_groups-settled hw cpu before) (λ l. refl)
+task-flexible hw cpu before (Some task) s c = search (nat_tests, flexible-kept, no_groups-settled)
 
 settle-flexible : (hw : Hardware) (cpu : CpuNo) (s : Stage) (c : Context) → flexible_of (settle hw cpu s) c ≡ flexible_of s c
 unfolding settle
-settle-flexible hw cpu s c =
-    task-flexible hw cpu (own_verdicts hw s cpu) (task_on s cpu) (change_context (context.Processor cpu) (settle_lists hw cpu []) s) c
-    ∙ flexible-kept (context.Processor cpu) c (settle_lists hw cpu []) s (no_groups-settled hw cpu []) (λ l. refl)
+settle-flexible hw cpu s c = search (nat_tests, task-flexible, flexible-kept, no_groups-settled)
 
 settle_each-flexible : (hw : Hardware) (cpus : List CpuNo) (s : Stage) (c : Context) → flexible_of (settle_each hw cpus s) c ≡ flexible_of s c
 unfolding settle_each
@@ -101,10 +76,7 @@ own-turned : (hw : Hardware) (cpu : CpuNo) (judged : List Judged) (to : Option T
     → lists_of (turn_task hw cpu judged to (change_context (context.Processor cpu) (turn_lists hw cpu judged) s)) (context.Processor cpu)
     ≡ turn_lists hw cpu judged (lists_of s (context.Processor cpu))
 own-turned hw cpu judged None s low = lists_of-same (context.Processor cpu) (turn_lists hw cpu judged) s refl
-own-turned hw cpu judged (Some task) s low =
-    lists_of-other (context.Task task) (context.Processor cpu) (turn_lists hw cpu judged) (change_context (context.Processor cpu) (turn_lists hw cpu judged) s)
-    (low-task_apart cpu task low)
-    ∙ lists_of-same (context.Processor cpu) (turn_lists hw cpu judged) s refl
+own-turned hw cpu judged (Some task) s low = search (nat_tests, lists_of-other, low-task_apart, lists_of-same)
 
 task-turned : (hw : Hardware) (cpu : CpuNo) (judged : List Judged) (task : TaskNo) (s : Stage) → cpu.0 < 8
     → lists_of (turn_task hw cpu judged (Some task) (change_context (context.Processor cpu) (turn_lists hw cpu judged) s)) (context.Task task)
@@ -120,16 +92,8 @@ cpu_numbered n = context.Processor (record { 0 = n })
 rotated-turned : (hw : Hardware) (cpu : CpuNo) (c : Context) (s : Stage) → cpu.0 < 8 → has_context s cpu c ≡ true
     → lists_of (rotated hw cpu s) c ≡ turn_lists hw cpu (verdicts hw s cpu) (lists_of s c)
 unfolding rotated
-rotated-turned hw cpu (context.Processor other) s low here =
-    let same : cpu.0 ≡ other.0 = grind (arith, nat_tests, here) in
-    let js : List Judged = verdicts hw s cpu in
-    let t : Stage = turn_task hw cpu js (task_on s cpu) (change_context (context.Processor cpu) (turn_lists hw cpu js) s) in
-    ap (λ n. lists_of t (cpu_numbered n)) (sym same)
-    ∙ (own-turned hw cpu js (task_on s cpu) s low ∙ ap (λ n. turn_lists hw cpu js (lists_of s (cpu_numbered n))) same)
-rotated-turned hw cpu (context.Task task) s low here =
-    let js : List Judged = verdicts hw s cpu in
-    ap (λ to. lists_of (turn_task hw cpu js to (change_context (context.Processor cpu) (turn_lists hw cpu js) s)) (context.Task task)) (is_task-some (task_on s cpu) task here)
-    ∙ task-turned hw cpu js task s low
+rotated-turned hw cpu (context.Processor other) s low here = grind (arith, nat_tests, own-turned)
+rotated-turned hw cpu (context.Task task) s low here = grind (arith, nat_tests, is_task-some, task-turned)
 
 tick-turned : (hw : Hardware) (cpu : CpuNo) (c : Context) (s : Stage) → cpu.0 < 8 → has_context s cpu c ≡ true
     → flexible_of (ticked hw cpu s) c ≡ turned hw cpu (verdicts hw s cpu) (flexible_of s c)
@@ -141,15 +105,7 @@ turned-by : (hw : Hardware) (cpu : CpuNo) (c : Context) (s : Stage) (b : Bool) �
 turned-by hw cpu c s b e = ap (λ b. either b (first_goes_last (takes_turns hw cpu) (flexible_of s c)) (flexible_of s c)) e
 
 turned-groups : (hw : Hardware) (cpu : CpuNo) (c : Context) (s t : Stage) → flexible_of t c ≡ first_goes_last (takes_turns hw cpu) (flexible_of s c) → IsTurned hw cpu c s t
-turned-groups hw cpu c s t moved =
-    let law : (filter (takes_turns hw cpu) (first_goes_last (takes_turns hw cpu) (flexible_of s c)) ≡ drop 1 (turn_takers hw cpu c s) ++ take 1 (turn_takers hw cpu c s))
-    × (filter (λ g. not (takes_turns hw cpu g)) (first_goes_last (takes_turns hw cpu) (flexible_of s c)) ≡ filter (λ g. not (takes_turns hw cpu g)) (flexible_of s c)) =
-    first_goes_last_rotates (takes_turns hw cpu) (flexible_of s c) in
-    record {
-      groups = moved;
-      takers = ap (filter (takes_turns hw cpu)) moved ∙ law.0;
-      others = ap (filter (λ g. not (takes_turns hw cpu g))) moved ∙ law.1;
-    }
+turned-groups hw cpu c s t moved = grind (arith, nat_tests, first_goes_last_rotates, first_goes_last_rotates (takes_turns hw cpu) (flexible_of s c))
 
 pub tick_turns : TickLaw
 tick_turns hw cpu c s low here = (
@@ -166,12 +122,7 @@ task-left hw cpu judged (Some task) c s size apart = lists_of-apart (context.Tas
 rotated-left : (hw : Hardware) (cpu : CpuNo) (c : Context) (s : Stage) → length s.contexts ≡ 72 → (place_of c ≡ place_of (context.Processor cpu) → 72 ≤ place_of c)
     → ((task : TaskNo) → task_on s cpu ≡ Some task → place_of c ≡ 8 + task.0 → 72 ≤ place_of c) → lists_of (rotated hw cpu s) c ≡ lists_of s c
 unfolding rotated
-rotated-left hw cpu c s size own task =
-    let js : List Judged = verdicts hw s cpu in
-    let t : Stage = change_context (context.Processor cpu) (turn_lists hw cpu js) s in
-    task-left hw cpu js (task_on s cpu) c t
-    (length-set s.contexts (place_of (context.Processor cpu)) (turn_lists hw cpu js (lists_of s (context.Processor cpu))) ∙ size) task
-    ∙ lists_of-apart (context.Processor cpu) c (turn_lists hw cpu js) s size own
+rotated-left hw cpu c s size own task = search (nat_tests, task-left, length-set, lists_of-apart)
 
 context-left : (hw : Hardware) (cpu : CpuNo) (c : Context) (s : Stage) → length s.contexts ≡ 72 → has_context s cpu c ≡ false → lists_of (rotated hw cpu s) c ≡ lists_of s c
 context-left hw cpu (context.Processor other) s size away =
@@ -187,10 +138,7 @@ ticks_leave_others hw cpu c s size away = settle_all-flexible hw (rotated hw cpu
 -- a tick leaves what runs, and so do the other steps
 tick-task : (hw : Hardware) (cpu : CpuNo) (s : Stage) → task_on (ticked hw cpu s) cpu ≡ task_on s cpu
 unfolding stage_step
-tick-task hw cpu s =
-    let t : Stage = rotated hw cpu s in
-    let kept : KeepsTasks s (settle_all hw t) = keeps-then s t (settle_all hw t) (rotated-keeps hw cpu s) (settle_all-keeps hw t) in
-    ap (λ running. slice_index_or running cpu.0 None) kept.running
+tick-task hw cpu s = grind (arith, nat_tests, KeepsTasks, keeps-then, rotated-keeps, settle_all-keeps)
 
 still-context : (s t : Stage) (cpu : CpuNo) (c : Context) → task_on t cpu ≡ task_on s cpu → has_context s cpu c ≡ true → has_context t cpu c ≡ true
 still-context s t cpu (context.Processor other) same here = here
@@ -203,10 +151,7 @@ cpu_tick n = CpuStep (record { 0 = n }) cpu_line.Tick
 is-tick : (cpu : CpuNo) (x : Step) → is_tick cpu x ≡ true → x ≡ CpuStep cpu cpu_line.Tick
 is-tick cpu (CpuStep other (cpu_line.Switch to)) h = absurd (false≢true (and_parts (other.0 == cpu.0) false h).1)
 is-tick cpu (CpuStep other (cpu_line.Work w)) h = absurd (false≢true (and_parts (other.0 == cpu.0) false h).1)
-is-tick cpu (CpuStep other cpu_line.Tick) h =
-    let test : (other.0 == cpu.0) ≡ true = (and_parts (other.0 == cpu.0) true h).0 in
-    let same : other.0 ≡ cpu.0 = grind (arith, nat_tests, test) in
-    ap cpu_tick same
+is-tick cpu (CpuStep other cpu_line.Tick) h = grind (arith, nat_tests, and_parts)
 is-tick cpu (CpuStep other (cpu_line.Fork child)) h = absurd (false≢true (and_parts (other.0 == cpu.0) false h).1)
 is-tick cpu (CpuStep other cpu_line.Exit) h = absurd (false≢true (and_parts (other.0 == cpu.0) false h).1)
 is-tick cpu (ToolStep line) h = absurd (false≢true h)
@@ -224,8 +169,7 @@ step-leaves : (hw : Hardware) (cpu : CpuNo) (c : Context) (s : Stage) (x : Step)
     → (is_tick cpu x ≡ false → LeavesTurns cpu c s (stage_step hw s x)) → (is_tick cpu x && is_waiting hw cpu c s) ≡ false → LeavesTurns cpu c s (stage_step hw s x)
 step-leaves hw cpu c s x low here leaves no_turn = elim (cases_Bool (is_tick cpu x)) [
   | inl tick ↦
-      let left : LeavesTurns cpu c s (ticked hw cpu s) =
-      tick-leaves hw cpu c s low here (left-false (is_tick cpu x) (is_waiting hw cpu c s) no_turn tick) in
+      let left : LeavesTurns cpu c s (ticked hw cpu s) = search (nat_tests, tick-leaves, left-false) in
       rw (is-tick cpu x tick) left
   | inr other ↦ leaves other
 ]
@@ -239,10 +183,7 @@ step-turns : (hw : Hardware) (cpu : CpuNo) (c : Context) (s : Stage) (x : Step) 
     → (is_tick cpu x && is_waiting hw cpu c s) ≡ true → TurnsOne hw cpu c s (stage_step hw s x)
 step-turns hw cpu c s x low here turn =
     let both : (is_tick cpu x ≡ true) × (is_waiting hw cpu c s ≡ true) = and_parts (is_tick cpu x) (is_waiting hw cpu c s) turn in
-    let done : TurnsOne hw cpu c s (ticked hw cpu s) = record {
-      takers = ((tick_turns hw cpu c s low here).0 both.1).takers;
-      here = still-context s (ticked hw cpu s) cpu c (tick-task hw cpu s) here;
-    } in
+    let done : TurnsOne hw cpu c s (ticked hw cpu s) = grind (arith, nat_tests, tick_turns, still-context, tick-task) in
     rw (is-tick cpu x both.0) done
 
 -- a group with some before it is first after as many turns
@@ -274,8 +215,7 @@ was-first hw cpu c s (x ∷ steps) (a ∷ front) g back low here turning are eno
     elim (cases_Bool turn) [
       | inl turns ↦
           let moved : TurnsOne hw cpu c s t = step-turns hw cpu c s x low here turns in
-          let now : turn_takers hw cpu c t ≡ front ++ g ∷ (back ++ a ∷ []) =
-          moved.takers ∙ (ap (λ gs. drop 1 gs ++ take 1 gs) are ∙ append_assoc front (g ∷ back) (a ∷ [])) in
+          let now : turn_takers hw cpu c t ≡ front ++ g ∷ (back ++ a ∷ []) = grind (arith, nat_tests, append_assoc) in
           let ticks : ((if turn then 1 else 0) + waiting_ticks hw cpu c t steps) ≡ suc (waiting_ticks hw cpu c t steps) = ticks-one turn (waiting_ticks hw cpu c t steps) turns in
           later hw cpu c s x steps g (was-first hw cpu c t steps front g (back ++ a ∷ []) low moved.here turning.1 now (omega (arith, enough, ticks)))
       | inr stays ↦

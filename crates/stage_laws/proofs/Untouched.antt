@@ -11,7 +11,7 @@ use Rattle.perf_base.specs.declared.attr.CpuSel.TheVariants as cpus
 use Rattle.perf_base.specs.declared.standing.Context.TheVariants as context
 use Rattle.stage_spec.specs.{declared.instance.Instance.{Instance}, Hardware.{Hardware}, Places.{is_same_task, is_same_cpu}, Refusals.{holds_of}}
 use Rattle.stage_spec.specs.Stage.{Stage, Group, members_of, alone, Lists, lists_of, no_groups, groups_in, all_groups, members, place_of, task_on, is_task, change_group, change_lists, change_each, change_context, is_original, is_of_family, original_of}
-use Rattle.stage_spec.specs.{Flags.{is_pinned, is_exclusive}, Verdict.{task_lists, reached, instances_in}}
+use Rattle.stage_spec.specs.{Flags.{is_pinned}, Verdict.{task_lists, reached, instances_in}}
 use Rattle.stage_spec.specs.Opening.{opened, add_group, joined, join_group, join_lists, new_original, open_refusal}
 use Rattle.stage_spec.specs.{Commands.{is_reached, command_each, with_period}, Mapping.{mapped_to, output_to, ring_of}}
 use Rattle.stage_spec.{specs.Closing.{staying, kept_group, freed_groups, without, closed}, proofs.Each.{Each, head-Each, none-Each, get_or-Each}}
@@ -39,8 +39,7 @@ pub record NonePass (test : Instance → Bool) (l : Lists) : Type 0 where
   pub flexible : list_any test (members l.flexible) ≡ false
 
 members-parts : (test : Instance → Bool) (xs ys : List Group) → list_any test (members (xs ++ ys)) ≡ false → (list_any test (members xs) ≡ false) × (list_any test (members ys) ≡ false)
-members-parts test xs ys h = or_parts (list_any test (members xs)) (list_any test (members ys))
-    (sym (ap (list_any test) (flat_map-append members_of xs ys) ∙ list_any-append test (members xs) (members ys)) ∙ h)
+members-parts test xs ys h = grind (arith, nat_tests, or_parts, flat_map-append, list_any-append)
 
 pub none-reached : (test : Instance → Bool) (s : Stage) (cpu : CpuNo) → list_any test (reached s cpu) ≡ false
     → NonePass test (lists_of s (context.Processor cpu)) × NonePass test (task_lists s (task_on s cpu))
@@ -64,8 +63,7 @@ record NoneIn (test : Instance → Bool) (g : Group) (groups : List Group) : Typ
 none-in : (test : Instance → Bool) (g : Group) (groups : List Group) → list_any test (members (g ∷ groups)) ≡ false → NoneIn test g groups
 none-in test g groups h =
     let both : (list_any test (members_of g ++ []) ≡ false) × (list_any test (members groups) ≡ false) = members-parts test (g ∷ []) groups h in
-    let here : (test g.leader ≡ false) × (list_any test g.siblings ≡ false) =
-    or_parts (test g.leader) (list_any test g.siblings) (ap (list_any test) (sym (append-nil (members_of g))) ∙ both.0) in
+    let here : (test g.leader ≡ false) × (list_any test g.siblings ≡ false) = grind (arith, nat_tests, or_parts, append-nil) in
     record { leader = here.0; siblings = here.1; others = both.1 }
 
 -- a change of instances that pass a test, where none does
@@ -114,8 +112,7 @@ kept-all : (goes : Instance → Bool) (groups : List Group) → list_any goes (m
 kept-all goes [] h = refl
 kept-all goes (g ∷ groups) h =
     let none : NoneIn goes g groups = none-in goes g groups h in
-    ap (λ b. either_groups b [] (record g { siblings = staying goes g.siblings } ∷ []) ++ flat_map (kept_group goes) groups) none.leader
-    ∙ (rw (staying-all goes g.siblings none.siblings, kept-all goes groups none.others) refl)
+    grind (arith, nat_tests, staying-all, kept-all goes groups none.others)
 
 freed-none : (goes : Instance → Bool) (groups : List Group) → list_any goes (members groups) ≡ false → flat_map (freed_groups goes) groups ≡ []
 freed-none goes [] h = refl
@@ -124,10 +121,7 @@ freed-none goes (g ∷ groups) h =
     ap (λ b. either_groups b (map alone (staying goes g.siblings)) [] ++ flat_map (freed_groups goes) groups) none.leader ∙ freed-none goes groups none.others
 
 pub without-none : (goes : Instance → Bool) (l : Lists) → NonePass goes l → without goes l ≡ l
-without-none goes l h =
-    let freed : flat_map (freed_groups goes) (l.pinned ++ l.flexible) ≡ [] =
-    flat_map-append (freed_groups goes) l.pinned l.flexible ∙ (rw (freed-none goes l.pinned h.pinned, freed-none goes l.flexible h.flexible) refl) in
-    rw (kept-all goes l.pinned h.pinned, kept-all goes l.flexible h.flexible, freed, append-nil l.flexible) refl
+without-none goes l h = grind (arith, nat_tests, flat_map-append, freed-none, kept-all, append-nil)
 
 none-weaker : (p q : Instance → Bool) → ((i : Instance) → p i ≡ false → q i ≡ false) → (xs : List Instance) → list_any p xs ≡ false → list_any q xs ≡ false
 none-weaker p q k [] h = refl
@@ -140,8 +134,7 @@ unfolding closed
 close-reaches e s cpu h =
     let none : NonePass (is_of_family e) (lists_of s (context.Processor cpu)) × NonePass (is_of_family e) (task_lists s (task_on s cpu)) =
     none-reached (is_of_family e) s cpu (none-weaker (is_reached (e ∷ [])) (is_of_family e) (λ i away. (or_parts (is_of_family e i) false away).0) (reached s cpu) h) in
-    mapped-reaches (without (is_of_family e)) s cpu refl (without-none (is_of_family e) (lists_of s (context.Processor cpu)) none.0)
-    (without-none (is_of_family e) (task_lists s (task_on s cpu)) none.1)
+    search (nat_tests, mapped-reaches, without-none)
 
 -- opening an event elsewhere
 pub other-number : (m n : ℕ) → (m == n) ≡ false → n ≢ m
@@ -182,12 +175,9 @@ not-joined hw s a e cpu c sound here away reached =
     (λ g leads places. false_from_ne_true (is_original e g.leader) (λ original.
     let copy : g.leader.copy ≡ false = not-true g.leader.copy (and_parts (is_of_family e g.leader) (not g.leader.copy) original).1 in
     let test : Instance → Bool = λ i. not (is_same_task i.attr.task a.task && is_same_cpu i.attr.cpu a.cpu) in
-    let same : (is_same_task g.leader.attr.task a.task && is_same_cpu g.leader.attr.cpu a.cpu) ≡ true =
-    not-false (is_same_task g.leader.attr.task a.task && is_same_cpu g.leader.attr.cpu a.cpu) (ap (holds_of test) (sym (leads original).leader) ∙ here) in
-    let both : (is_same_task g.leader.attr.task a.task ≡ true) × (is_same_cpu g.leader.attr.cpu a.cpu ≡ true) =
-    and_parts (is_same_task g.leader.attr.task a.task) (is_same_cpu g.leader.attr.cpu a.cpu) same in
-    let there : context_of a ≡ c = sym (same_place g.leader.attr.task a.task g.leader.attr.cpu a.cpu both.0 both.1)
-    ∙ head-Each (λ i. i.copy ≡ false → context_of i.attr ≡ c) g.leader g.siblings places copy in
+    let same : (is_same_task g.leader.attr.task a.task && is_same_cpu g.leader.attr.cpu a.cpu) ≡ true = grind (arith, nat_tests, not-false) in
+    let both : (is_same_task g.leader.attr.task a.task ≡ true) × (is_same_cpu g.leader.attr.cpu a.cpu ≡ true) = grind (arith, nat_tests, and_parts) in
+    let there : context_of a ≡ c = grind (arith, nat_tests, same_place, head-Each) in
     false≢true (sym away ∙ (ap (has_context s cpu) there ∙ reached)))) (groups_in (lists_of s c)) led at
 
 join-none : (e : EventNo) (i : Instance) (groups : List Group) → Each (λ g. is_original e g.leader ≡ false) groups → map (join_group e i) groups ≡ groups
@@ -196,10 +186,7 @@ join-none e i [] h = refl
 join-none e i (g ∷ groups) h = rw (unless-test (is_original e g.leader) (joined i g) g h.0, join-none e i groups h.1) refl
 
 join_lists-none : (e : EventNo) (i : Instance) (l : Lists) → Each (λ g. is_original e g.leader ≡ false) (groups_in l) → join_lists e i l ≡ l
-join_lists-none e i l h =
-    let pinned : map (join_group e i) l.pinned ≡ l.pinned = join-none e i l.pinned (front-Each (λ g. is_original e g.leader ≡ false) l.pinned l.flexible h) in
-    let flexible : map (join_group e i) l.flexible ≡ l.flexible = join-none e i l.flexible (back-Each (λ g. is_original e g.leader ≡ false) l.pinned l.flexible h) in
-    rw (pinned, flexible) refl
+join_lists-none e i l h = grind (arith, nat_tests, join-none, front-Each, back-Each)
 
 task-join : (hw : Hardware) (s : Stage) (a : Attr) (e : EventNo) (i : Instance) (cpu : CpuNo) (to : Option TaskNo) → IsSound hw s
     → holds_of (λ i. not (is_same_task i.attr.task a.task && is_same_cpu i.attr.cpu a.cpu)) (original_of s e) ≡ false
@@ -214,8 +201,7 @@ pub open-reaches : (hw : Hardware) (s : Stage) (slot : EventNo) (a : Attr) (lead
 unfolding opened
 open-reaches hw s slot a None cpu sound free away =
     let i : Instance = new_original s slot a in
-    let h : ReachesSame s (change_context (context_of a) (add_group (is_pinned a) (alone i)) s) cpu =
-    context-changed (context_of a) (add_group (is_pinned a) (alone i)) s cpu sound.shape.contexts away in
+    let h : ReachesSame s (change_context (context_of a) (add_group (is_pinned a) (alone i)) s) cpu = search (nat_tests, context-changed) in
     record { running = h.running; own = h.own; task = h.task }
 open-reaches hw s slot a (Some e) cpu sound free away =
     let i : Instance = new_original s slot a in
@@ -232,25 +218,14 @@ if-keeps k true i j h = h
 if-keeps k false i j h = refl
 
 brief-if : (test : Instance → Bool) (f : Instance → Instance) → KeepsBrief f → KeepsBrief (λ i. if test i then f i else i)
-brief-if test f h = record {
-  id = λ i. if-keeps (λ i. i.id) (test i) (f i) i (h.id i);
-  event = λ i. if-keeps (λ i. i.event) (test i) (f i) i (h.event i);
-  own = λ i. if-keeps (λ i. i.own) (test i) (f i) i (h.own i);
-  kind = λ i. if-keeps (λ i. i.attr.kind) (test i) (f i) i (h.kind i);
-  cpu = λ i. if-keeps (λ i. i.attr.cpu) (test i) (f i) i (h.cpu i);
-  exclusive = λ i. if-keeps (λ i. is_exclusive i.attr) (test i) (f i) i (h.exclusive i);
-}
+brief-if test f h = grind (arith, nat_tests, if-keeps)
 
 pub period-briefs : (hw : Hardware) (e : EventNo) (period : ℕ) (s : Stage) (cpu : CpuNo) → briefs hw (with_period e period s) cpu ≡ briefs hw s cpu
 unfolding with_period
-period-briefs hw e period s cpu =
-    same_briefs hw cpu s (λ i. if is_original e i then record i { attr = record i.attr { period = period } } else i)
-    (brief-if (is_original e) (λ i. record i { attr = record i.attr { period = period } })
-    (record { id = λ i. refl; event = λ i. refl; own = λ i. refl; kind = λ i. refl; cpu = λ i. refl; exclusive = λ i. refl }))
+period-briefs hw e period s cpu = grind (arith, nat_tests, same_briefs, brief-if)
 
 ring-keeps : (e : EventNo) (ring : Option RingNo) (owner : Bool) → KeepsBrief (λ i. if is_original e i then record i { ring = ring; mapped = owner } else i)
-ring-keeps e ring owner = brief-if (is_original e) (λ i. record i { ring = ring; mapped = owner })
-    (record { id = λ i. refl; event = λ i. refl; own = λ i. refl; kind = λ i. refl; cpu = λ i. refl; exclusive = λ i. refl })
+ring-keeps e ring owner = grind (arith, nat_tests, brief-if)
 
 pub map-briefs : (hw : Hardware) (e : EventNo) (ring : RingNo) (s : Stage) (cpu : CpuNo) → briefs hw (mapped_to e ring s) cpu ≡ briefs hw s cpu
 unfolding mapped_to

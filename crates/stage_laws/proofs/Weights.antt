@@ -1,14 +1,14 @@
 -- The weight of a stage: the sum, over its instances, of a number for each. One equation for each change of a stage.
-use Rattle.std.specs.Prelude.{◌≡◌, ℕ, ◌+◌, ◌<◌, ◌≤◌, Bool, true, false, not, cond, ◌&&◌, List, [], ◌∷◌, ◌++◌, map, flat_map, length, count_by, Option, Some, None}
-use Rattle.std.{specs.List.{list_any}, proofs.{Common.{arith, refl, ap, ◌∙◌, sym, inl, inr}, lemmas.{Bool.{cases_lt}, List.{get_or_past, set_past}}}}
+use Rattle.std.specs.Prelude.{◌≡◌, ℕ, ◌+◌, ◌<◌, ◌≤◌, Bool, true, false, not, cond, List, [], ◌∷◌, ◌++◌, map, flat_map, length, count_by, Option, Some, None}
+use Rattle.std.{proofs.{Common.{arith, refl, ap, ◌∙◌, sym, inl, inr}, lemmas.{Bool.{cases_lt}, List.{get_or_past, set_past}}}}
 use Rattle.perf_base.specs.declared.{numbers.{CpuNo.{CpuNo}, EventNo.{EventNo}, TaskNo.{TaskNo}}, standing.{Context.{Context}, Own.{Own}}}
-use Rattle.perf_base.specs.{declared.standing.Standing.{Standing}, Standings.{stands_on}}
+use Rattle.perf_base.specs.{declared.standing.Standing.{Standing}}
 use Rattle.perf_base.specs.declared.standing.Context.TheVariants as context
 use Rattle.perf_base.specs.declared.standing.Standing.TheVariants as standing
 use Rattle.stage_spec.specs.{declared.instance.Instance.{Instance}, Hardware.{Hardware}}
 use Rattle.stage_spec.specs.Stage.{Stage, Group, members_of, alone, change_group, Lists, lists_of, no_groups, groups_in, members, all_instances, place_of, change_lists, change_each, change_context, is_of_family, is_copy, task_on, all_cpus}
-use Rattle.stage_spec.specs.{Effective.{is_wholly_software}, Verdict.{Judged, is_eligible, judge, standing_among, task_lists, verdicts}}
-use Rattle.stage_spec.specs.Settle.{failed, settle_pass, settle_lists, settle_task, own_verdicts, settle, settle_each, settle_all}
+use Rattle.stage_spec.specs.{Verdict.{Judged, judge, task_lists}}
+use Rattle.stage_spec.specs.Settle.{failed, settle_pass, settle_lists, settle_task, settle, settle_each, settle_all}
 use Rattle.stage_spec.specs.Closing.{staying, without, kept_group, freed_groups, closed}
 use Rattle.stage_spec.specs.{Rotation.{first_goes_last, turned, turn_lists, turn_task, rotated}, Exits.{exited, exited_by}}
 use Rattle.stage_spec.{specs.Switching.{switched, put_on, is_running}, proofs.Settling.{judged, either}}
@@ -38,9 +38,7 @@ pub lists-weigh : (f : Instance → ℕ) (l : Lists) → total f (members (group
 lists-weigh f l = members-weigh f (groups_in l) ∙ total-append (group_weight f) l.pinned l.flexible
 
 pub weigh-is-total : (f : Instance → ℕ) (s : Stage) → total f (all_instances s) ≡ weigh f s
-weigh-is-total f s =
-    members-weigh f (flat_map groups_in s.contexts) ∙ (total-flat_map (group_weight f) groups_in s.contexts
-    ∙ total-same (λ l. total (group_weight f) (groups_in l)) (lists_weight f) (λ l. total-append (group_weight f) l.pinned l.flexible) s.contexts)
+weigh-is-total f s = grind (arith, members-weigh, total-flat_map, total-same, total, total-append)
 
 pub weigh-is-count : (test : Instance → Bool) (s : Stage) → count_by test (all_instances s) ≡ weigh (one_if test) s
 weigh-is-count test s = count_by-is-total test (all_instances s) ∙ weigh-is-total (one_if test) s
@@ -54,8 +52,7 @@ group-same : (f g : Instance → ℕ) → ((i : Instance) → f i ≡ g i) → (
 group-same f g h group = omega (arith, h group.leader, total-same f g h group.siblings)
 
 pub lists-same : (f g : Instance → ℕ) → ((i : Instance) → f i ≡ g i) → (l : Lists) → lists_weight f l ≡ lists_weight g l
-lists-same f g h l =
-    omega (arith, total-same (group_weight f) (group_weight g) (group-same f g h) l.pinned, total-same (group_weight f) (group_weight g) (group-same f g h) l.flexible)
+lists-same f g h l = grind (arith, total-same, group-same)
 
 pub weigh-same : (f g : Instance → ℕ) → ((i : Instance) → f i ≡ g i) → (s : Stage) → weigh f s ≡ weigh g s
 weigh-same f g h s = total-same (lists_weight f) (lists_weight g) (lists-same f g h) s.contexts
@@ -64,8 +61,7 @@ pub group-le : (f g : Instance → ℕ) → ((i : Instance) → f i ≤ g i) →
 group-le f g h group = omega (arith, h group.leader, total-le f g h group.siblings)
 
 pub lists-le : (f g : Instance → ℕ) → ((i : Instance) → f i ≤ g i) → (l : Lists) → lists_weight f l ≤ lists_weight g l
-lists-le f g h l =
-    omega (arith, total-le (group_weight f) (group_weight g) (group-le f g h) l.pinned, total-le (group_weight f) (group_weight g) (group-le f g h) l.flexible)
+lists-le f g h l = grind (arith, total-le, group-le)
 
 pub weigh-le : (f g : Instance → ℕ) → ((i : Instance) → f i ≤ g i) → (s : Stage) → weigh f s ≤ weigh g s
 weigh-le f g h s = total-le (lists_weight f) (lists_weight g) (lists-le f g h) s.contexts
@@ -76,17 +72,13 @@ change_group-weighs f change g = omega (arith, total-map f change g.siblings)
 
 change_groups-weigh : (f : Instance → ℕ) (change : Instance → Instance) (groups : List Group)
     → total (group_weight f) (map (change_group change) groups) ≡ total (group_weight (λ i. f (change i))) groups
-change_groups-weigh f change groups =
-    total-map (group_weight f) (change_group change) groups
-    ∙ total-same (λ g. group_weight f (change_group change g)) (group_weight (λ i. f (change i))) (change_group-weighs f change) groups
+change_groups-weigh f change groups = grind (arith, total-map, total-same, change_group-weighs)
 
 pub change_lists-weighs : (f : Instance → ℕ) (change : Instance → Instance) (l : Lists) → lists_weight f (change_lists change l) ≡ lists_weight (λ i. f (change i)) l
 change_lists-weighs f change l = omega (arith, change_groups-weigh f change l.pinned, change_groups-weigh f change l.flexible)
 
 pub change_each-weighs : (f : Instance → ℕ) (change : Instance → Instance) (s : Stage) → weigh f (change_each change s) ≡ weigh (λ i. f (change i)) s
-change_each-weighs f change s =
-    total-map (lists_weight f) (change_lists change) s.contexts
-    ∙ total-same (λ l. lists_weight f (change_lists change l)) (lists_weight (λ i. f (change i))) (change_lists-weighs f change) s.contexts
+change_each-weighs f change s = grind (arith, total-map, total-same, change_lists-weighs)
 
 pub change_each-keeps : (f : Instance → ℕ) (change : Instance → Instance) → ((i : Instance) → f (change i) ≡ f i) → (s : Stage) → weigh f (change_each change s) ≡ weigh f s
 change_each-keeps f change h s = change_each-weighs f change s ∙ weigh-same (λ i. f (change i)) f h s
@@ -99,17 +91,11 @@ change_context-weighs f c change s h = total-set (lists_weight f) s.contexts (pl
 -- and of one that may have none
 pub change_context-same : (f : Instance → ℕ) (c : Context) (change : Lists → Lists) (s : Stage) → lists_weight f (change (lists_of s c)) ≡ weight_in f s c
     → weigh f (change_context c change s) ≡ weigh f s
-change_context-same f c change s e = elim (cases_lt (place_of c) (length s.contexts)) [
-  | inl h ↦ omega (arith, e, change_context-weighs f c change s h)
-  | inr h ↦ ap (total (lists_weight f)) (set_past s.contexts (place_of c) (change (lists_of s c)) h)
-]
+change_context-same f c change s e = grind (arith, cases_lt, change_context-weighs, total, set_past)
 
 pub change_context-le : (f : Instance → ℕ) (c : Context) (change : Lists → Lists) (s : Stage) (n : ℕ) → lists_weight f (change (lists_of s c)) ≤ weight_in f s c + n
     → weigh f (change_context c change s) ≤ weigh f s + n
-change_context-le f c change s n e = elim (cases_lt (place_of c) (length s.contexts)) [
-  | inl h ↦ omega (arith, e, change_context-weighs f c change s h)
-  | inr h ↦ let same : weigh f (change_context c change s) ≡ weigh f s = ap (total (lists_weight f)) (set_past s.contexts (place_of c) (change (lists_of s c)) h) in omega (arith, same)
-]
+change_context-le f c change s n e = grind (arith, cases_lt, change_context-weighs, total, set_past)
 
 -- a number that does not depend on an instance's own state
 abbrev pub IgnoresOwn : (Instance → ℕ) → Type 0
@@ -132,24 +118,18 @@ settle_pass-weighs f h hw cpu before within [] = refl
 settle_pass-weighs f h hw cpu before within (g ∷ groups) =
     let v : Standing = judge hw before within g in
     let more : List Judged = within ++ judged g v ∷ [] in
-    either-weighs (group_weight f) (is_eligible hw cpu g) (failed v g ∷ settle_pass hw cpu before more groups) (g ∷ settle_pass hw cpu before within groups)
-    (total (group_weight f) (g ∷ groups))
-    (omega (arith, failed-weighs f h v g, settle_pass-weighs f h hw cpu before more groups))
-    (omega (arith, settle_pass-weighs f h hw cpu before within groups))
+    grind (arith, failed-weighs f h v g, settle_pass-weighs f h hw cpu before more groups, settle_pass-weighs f h hw cpu before within groups)
 
 pub settle_lists-weighs : (f : Instance → ℕ) → IgnoresOwn f → (hw : Hardware) (cpu : CpuNo) (before : List Judged) (l : Lists) → lists_weight f (settle_lists hw cpu before l) ≡ lists_weight f l
 settle_lists-weighs f h hw cpu before l = omega (arith, settle_pass-weighs f h hw cpu before [] l.pinned)
 
 settle_task-weighs : (f : Instance → ℕ) → IgnoresOwn f → (hw : Hardware) (cpu : CpuNo) (before : List Judged) (to : Option TaskNo) (s : Stage) → weigh f (settle_task hw cpu before to s) ≡ weigh f s
 settle_task-weighs f h hw cpu before None s = refl
-settle_task-weighs f h hw cpu before (Some task) s =
-    change_context-same f (context.Task task) (settle_lists hw cpu before) s (settle_lists-weighs f h hw cpu before (lists_of s (context.Task task)))
+settle_task-weighs f h hw cpu before (Some task) s = search (change_context-same, settle_lists-weighs)
 
 pub settle-weighs : (f : Instance → ℕ) → IgnoresOwn f → (hw : Hardware) (cpu : CpuNo) (s : Stage) → weigh f (settle hw cpu s) ≡ weigh f s
 unfolding settle
-settle-weighs f h hw cpu s =
-    settle_task-weighs f h hw cpu (own_verdicts hw s cpu) (task_on s cpu) (change_context (context.Processor cpu) (settle_lists hw cpu []) s)
-    ∙ change_context-same f (context.Processor cpu) (settle_lists hw cpu []) s (settle_lists-weighs f h hw cpu [] (lists_of s (context.Processor cpu)))
+settle-weighs f h hw cpu s = search (settle_task-weighs, change_context-same, settle_lists-weighs)
 
 settle_each-weighs : (f : Instance → ℕ) → IgnoresOwn f → (hw : Hardware) (cpus : List CpuNo) (s : Stage) → weigh f (settle_each hw cpus s) ≡ weigh f s
 unfolding settle_each
@@ -176,28 +156,21 @@ switched-weighs f cpu to s = one_stage-weighs f (is_running (task_on s cpu) to) 
 first_goes_last-weighs : (f : Group → ℕ) (test : Group → Bool) (groups : List Group) → total f (first_goes_last test groups) ≡ total f groups
 unfolding total
 first_goes_last-weighs f test [] = refl
-first_goes_last-weighs f test (g ∷ groups) = either-weighs f (test g) (groups ++ g ∷ []) (g ∷ first_goes_last test groups) (total f (g ∷ groups))
-    (omega (arith, total-push f groups g)) (omega (arith, first_goes_last-weighs f test groups))
+first_goes_last-weighs f test (g ∷ groups) = grind (arith, either-weighs, total, total-push, first_goes_last-weighs f test groups)
 
 turned-weighs : (f : Group → ℕ) (hw : Hardware) (cpu : CpuNo) (js : List Judged) (groups : List Group) → total f (turned hw cpu js groups) ≡ total f groups
-turned-weighs f hw cpu js groups = either-weighs f (list_any (λ g. is_eligible hw cpu g && not (stands_on (standing_among js g))) groups)
-    (first_goes_last (λ g. is_eligible hw cpu g && not (is_wholly_software g)) groups) groups (total f groups)
-    (first_goes_last-weighs f (λ g. is_eligible hw cpu g && not (is_wholly_software g)) groups) refl
+turned-weighs f hw cpu js groups = grind (arith, either-weighs, total, first_goes_last-weighs)
 
 pub turn_lists-weighs : (f : Instance → ℕ) (hw : Hardware) (cpu : CpuNo) (js : List Judged) (l : Lists) → lists_weight f (turn_lists hw cpu js l) ≡ lists_weight f l
 turn_lists-weighs f hw cpu js l = omega (arith, turned-weighs (group_weight f) hw cpu js l.flexible)
 
 turn_task-weighs : (f : Instance → ℕ) (hw : Hardware) (cpu : CpuNo) (js : List Judged) (to : Option TaskNo) (s : Stage) → weigh f (turn_task hw cpu js to s) ≡ weigh f s
 turn_task-weighs f hw cpu js None s = refl
-turn_task-weighs f hw cpu js (Some task) s =
-    change_context-same f (context.Task task) (turn_lists hw cpu js) s (turn_lists-weighs f hw cpu js (lists_of s (context.Task task)))
+turn_task-weighs f hw cpu js (Some task) s = search (change_context-same, turn_lists-weighs)
 
 pub rotated-weighs : (f : Instance → ℕ) (hw : Hardware) (cpu : CpuNo) (s : Stage) → weigh f (rotated hw cpu s) ≡ weigh f s
 unfolding rotated
-rotated-weighs f hw cpu s =
-    let js : List Judged = verdicts hw s cpu in
-    turn_task-weighs f hw cpu js (task_on s cpu) (change_context (context.Processor cpu) (turn_lists hw cpu js) s)
-    ∙ change_context-same f (context.Processor cpu) (turn_lists hw cpu js) s (turn_lists-weighs f hw cpu js (lists_of s (context.Processor cpu)))
+rotated-weighs f hw cpu s = search (turn_task-weighs, change_context-same, turn_lists-weighs)
 
 -- where instances go: the weight of those that stay, and of those that go
 abbrev pub if_stays : (Instance → Bool) → (Instance → ℕ) → Instance → ℕ
@@ -218,8 +191,7 @@ pub if_stays-le : (goes : Instance → Bool) (f : Instance → ℕ) (i : Instanc
 if_stays-le goes f i = omega (arith, goes_or_stays (goes i) (f i))
 
 staying-weighs : (goes : Instance → Bool) (f : Instance → ℕ) (xs : List Instance) → total f (staying goes xs) ≡ total (if_stays goes f) xs
-staying-weighs goes f xs =
-    total-filter f (λ i. not (goes i)) xs ∙ total-same (λ i. cond (not (goes i)) (f i) 0) (if_stays goes f) (λ i. not-stays (goes i) (f i)) xs
+staying-weighs goes f xs = grind (arith, total-filter, total-same, not-stays)
 
 alone-weighs : (f : Instance → ℕ) (xs : List Instance) → total (group_weight f) (map alone xs) ≡ total f xs
 alone-weighs f xs = total-map (group_weight f) alone xs ∙ total-same (λ i. group_weight f (alone i)) f (λ i. omega (arith, total-nil f)) xs
@@ -245,25 +217,14 @@ groups_without-weigh goes f groups =
 
 freed-append : (goes : Instance → Bool) (f : Group → ℕ) (xs ys : List Group)
     → total f (flat_map (freed_groups goes) (xs ++ ys)) ≡ total f (flat_map (freed_groups goes) xs) + total f (flat_map (freed_groups goes) ys)
-freed-append goes f xs ys =
-    let freed : Group → ℕ = λ g. total f (freed_groups goes g) in
-    omega (arith, total-flat_map f (freed_groups goes) (xs ++ ys), total-append freed xs ys, total-flat_map f (freed_groups goes) xs, total-flat_map f (freed_groups goes) ys)
+freed-append goes f xs ys = grind (arith, total, total-flat_map, total-append)
 
 pub without-weighs : (goes : Instance → Bool) (f : Instance → ℕ) (l : Lists) → lists_weight f (without goes l) ≡ lists_weight (if_stays goes f) l
-without-weighs goes f l =
-    omega (
-      arith,
-      groups_without-weigh goes f l.pinned,
-      groups_without-weigh goes f l.flexible,
-      freed-append goes (group_weight f) l.pinned l.flexible,
-      total-append (group_weight f) (flat_map (kept_group goes) l.flexible) (flat_map (freed_groups goes) (l.pinned ++ l.flexible)),
-    )
+without-weighs goes f l = grind (arith, groups_without-weigh, freed-append, total-append)
 
 pub closed-weighs : (f : Instance → ℕ) (e : EventNo) (s : Stage) → weigh f (closed e s) ≡ weigh (if_stays (is_of_family e) f) s
 unfolding closed
-closed-weighs f e s =
-    total-map (lists_weight f) (without (is_of_family e)) s.contexts
-    ∙ total-same (λ l. lists_weight f (without (is_of_family e) l)) (lists_weight (if_stays (is_of_family e) f)) (without-weighs (is_of_family e) f) s.contexts
+closed-weighs f e s = grind (arith, total-map, total-same, without-weighs)
 
 pub closed-le : (f : Instance → ℕ) (e : EventNo) (s : Stage) → weigh f (closed e s) ≤ weigh f s
 closed-le f e s = omega (arith, closed-weighs f e s, weigh-le (if_stays (is_of_family e) f) f (if_stays-le (is_of_family e) f) s)
@@ -287,10 +248,7 @@ without_in-weighs f goes c s =
     = lists_parts-weigh (if_goes goes f) (if_stays goes f) f (λ i. goes_or_stays (goes i) (f i)) (lists_of s c) in
     elim (cases_lt (place_of c) (length s.contexts)) [
       | inl h ↦ omega (arith, parts, without-weighs goes f (lists_of s c), change_context-weighs f c (without goes) s h)
-      | inr h ↦
-          let same : weigh f (change_context c (without goes) s) ≡ weigh f s = ap (total (lists_weight f)) (set_past s.contexts (place_of c) (without goes (lists_of s c)) h) in
-          let none : weight_in (if_goes goes f) s c ≡ 0 = ap (lists_weight (if_goes goes f)) (get_or_past s.contexts (place_of c) no_groups h) ∙ no_groups-weigh (if_goes goes f) in
-          omega (arith, same, none)
+      | inr h ↦ grind (arith, total, set_past, h, get_or_past, no_groups-weigh)
     ]
 
 exited_by-weighs : (f : Instance → ℕ) (cpu : CpuNo) (to : Option TaskNo) (s : Stage) → weigh f (exited_by cpu to s) + lists_weight (if_goes is_copy f) (task_lists s to) ≡ weigh f s

@@ -1,5 +1,5 @@
 -- An instance gets nothing before its birth.
-use Rattle.std.specs.Prelude.{◌≡◌, ℕ, ◌+◌, ◌≤◌, ◌==◌, Bool, true, false, List, [], ◌∷◌, ◌++◌, map, filter, flat_map, Option, Some, None, if◌then◌else◌}
+use Rattle.std.specs.Prelude.{◌≡◌, ℕ, ◌≤◌, Bool, true, false, List, [], ◌∷◌, ◌++◌, map, filter, flat_map, Option, Some, None, if◌then◌else◌}
 use Rattle.std.proofs.{Common.{arith, refl, ap, ◌∙◌}, lemmas.Bool.Decides.{nat_tests}}
 use Rattle.perf_base.specs.declared.{numbers.{CpuNo.{CpuNo}, TaskNo.{TaskNo}}, lines.{CpuLine.{CpuLine}, ToolLine.{ToolLine}}}
 use Rattle.perf_base.specs.{declared.{reasons.Reason.{Reason}, reply.Sums.{Sums}}, Standings.{stands_on}}
@@ -10,10 +10,10 @@ use Rattle.stage_spec.specs.{declared.instance.Instance.{Instance}, Hardware.{Ha
 use Rattle.stage_spec.specs.{Stage.{Stage, Group, members_of, lists_of, task_on, first_stage}, Effective.{is_ready, state_in, ready_members}}
 use Rattle.stage_spec.specs.Verdict.{Judged, is_eligible, groups_on, judge, judge_pass, judge_passes, passes, task_lists, verdicts, on_instances}
 use Rattle.stage_spec.specs.{Settle.{settle_all}, Commands.{command_each, enabled, disabled, targets, with_period}, Mapping.{mapped_to, output_to}}
-use Rattle.stage_spec.specs.{Closing.{closed}, Switching.{switched, switch_refusal, is_running, is_migration}, Rotation.{rotated}, Exits.{exited}}
+use Rattle.stage_spec.specs.{Closing.{closed}, Switching.{switched}, Rotation.{rotated}, Exits.{exited}}
 use Rattle.stage_spec.specs.History.{Step, CpuStep, ToolStep, SeenStep, cpu_refusal, tool_refusal, cpu_changed, tool_changed, stage_step, stage_after, unless_refused}
 use Rattle.stage_spec.specs.{Sums.{resets, is_reset_by, sums_of, count_of, enabled_of, running_of}, Recurrence.{after_reset, BirthLaw}}
-use Rattle.stage_spec.specs.Shares.{of_instance, share, no_sums, ready_instances, work_hits, switch_hits, migration_hits, migration_share, switch_share, cpu_share, changes_task}
+use Rattle.stage_spec.specs.Shares.{of_instance, share, no_sums, ready_instances, migration_hits, migration_share, cpu_share}
 use Rattle.stage_spec.proofs.Recurrence.{same_sums, sums_of-push}
 use Rattle.stage_spec.proofs.Each.{Each, none-Each, append-Each, map-Each, filter-Each, flat_map-Each, InGroup, InGroups, InLists}
 use Rattle.stage_spec.proofs.Shape.{settle_all-numbers, switched-numbers, rotated-numbers, exited-numbers}
@@ -22,9 +22,7 @@ use Rattle.stage_spec.proofs.Ids.{IdBelow, AllBelow, AllBelow-more, first_stage-
 find_none : (f : Instance → ℕ) (id : ℕ) (xs : List Instance) → Each (IdBelow id) xs → of_instance f id xs ≡ 0
 unfolding Each
 find_none f id [] h = refl
-find_none f id (x ∷ xs) h =
-    let other : (x.id == id) ≡ false = grind (arith, nat_tests, h.0) in
-    rw other (find_none f id xs h.1)
+find_none f id (x ∷ xs) h = grind (arith, nat_tests, find_none f id xs h.1)
 
 -- the groups that were judged are those of the passes
 abbrev JudgedBelow : ℕ → Judged → Type 0
@@ -126,19 +124,8 @@ migration-none hw false after cpu id h = refl
 cpu_share-none : (hw : Hardware) (s : Stage) (cpu : CpuNo) (line : CpuLine) (id : ℕ) → AllBelow id s → cpu_share hw s cpu line id ≡ no_sums
 unfolding stage_step
 cpu_share-none hw s cpu (cpu_line.Switch to) id h =
-    let after : Stage = stage_step hw s (CpuStep cpu (cpu_line.Switch to)) in
-    let later : AllBelow id after = unless_refused-below id hw (switch_refusal s cpu to) (switched cpu to) s h (switched-below id cpu to s h) in
-    let switches : of_instance switch_hits id (on_instances hw s cpu) ≡ 0 = find_none switch_hits id (on_instances hw s cpu) (on_instances-below id hw s cpu h) in
-    let migrations : migration_share hw (is_migration s cpu to) after cpu id ≡ 0 = migration-none hw (is_migration s cpu to) after cpu id later in
-    either_sums (changes_task (switch_refusal s cpu to) (is_running (task_on s cpu) to)) (switch_share hw s cpu to id)
-    (ap (λ n. record no_sums { count = n }) (omega (arith, switches, migrations)))
-cpu_share-none hw s cpu (cpu_line.Work w) id h =
-    let on : Each (IdBelow id) (on_instances hw s cpu) = on_instances-below id hw s cpu h in
-    let count : of_instance (work_hits w) id (on_instances hw s cpu) ≡ 0 = find_none (work_hits w) id (on_instances hw s cpu) on in
-    let enabled : of_instance (λ i. w.length) id (ready_instances s cpu) ≡ 0 = find_none (λ i. w.length) id (ready_instances s cpu) (ready_instances-below id s cpu h) in
-    let running : of_instance (λ i. w.length) id (on_instances hw s cpu) ≡ 0 = find_none (λ i. w.length) id (on_instances hw s cpu) on in
-    same_sums (of_instance (work_hits w) id (on_instances hw s cpu)) (of_instance (λ i. w.length) id (ready_instances s cpu)) (of_instance (λ i. w.length) id (on_instances hw s cpu)) 0 0 0
-    count enabled running
+    grind (arith, nat_tests, AllBelow, unless_refused-below, switched-below, find_none, on_instances-below, migration-none, either_sums)
+cpu_share-none hw s cpu (cpu_line.Work w) id h = search (nat_tests, Each, IdBelow, on_instances-below, find_none, ready_instances-below, same_sums)
 cpu_share-none hw s cpu cpu_line.Tick id h = refl
 cpu_share-none hw s cpu (cpu_line.Fork child) id h = refl
 cpu_share-none hw s cpu cpu_line.Exit id h = refl
@@ -173,10 +160,7 @@ unborn hw s (x ∷ steps) id h low =
     let now : share hw s x id ≡ no_sums = share-none hw s x id (AllBelow-more s.next_id id (omega (arith, one.ids, rest.ids, low)) s h) in
     let reset : Bool = is_reset_by hw next steps id in
     let count : (if reset then 0 else (share hw s x id).count) ≡ 0 = nothing reset (share hw s x id).count (ap (λ a. a.count) now) in
-    same_sums ((if reset then 0 else (share hw s x id).count) + count_of hw next steps id) ((share hw s x id).enabled + enabled_of hw next steps id)
-    ((share hw s x id).running + running_of hw next steps id) 0 0 0
-    (omega (arith, count, ap (λ a. a.count) later)) (omega (arith, ap (λ a. a.enabled) now, ap (λ a. a.enabled) later))
-    (omega (arith, ap (λ a. a.running) now, ap (λ a. a.running) later))
+    grind (arith, nat_tests, same_sums, reset, next, count, later, now)
 
 reset-none : (b : Bool) → after_reset b no_sums ≡ no_sums
 reset-none true = refl

@@ -11,9 +11,9 @@ use Rattle.perf_base.specs.declared.reasons.Reason.TheVariants as reason
 use Rattle.perf_base.specs.declared.standing.Context.TheVariants as context
 use Rattle.stage_spec.specs.{declared.instance.Instance.{Instance}, Hardware.{Hardware}}
 use Rattle.stage_spec.specs.Stage.{Stage, Group, group_size, alone, Lists, lists_of, no_groups, place_of, change_lists, change_each, change_context, is_original, is_of_family, is_copy, task_on, all_cpus}
-use Rattle.stage_spec.specs.{Effective.{hardware_members}, Verdict.{Judged, task_lists, verdicts, with_masks}}
+use Rattle.stage_spec.specs.{Verdict.{Judged, task_lists, verdicts}}
 use Rattle.stage_spec.specs.Settle.{settle_lists, settle_task, own_verdicts, settle, settle_each, settle_all}
-use Rattle.stage_spec.specs.Opening.{opened, placed, add_group, join_lists, new_original, is_used, open_refusal, open_faults, unassignable, group_with, group_led}
+use Rattle.stage_spec.specs.Opening.{opened, placed, add_group, join_lists, new_original, is_used, open_refusal, open_faults}
 use Rattle.stage_spec.specs.{Refusals.{first_of}, Flags.{is_inherited, is_pinned}}
 use Rattle.stage_spec.specs.Commands.{command_each, enabled, disabled, targets, with_period, is_reached}
 use Rattle.stage_spec.specs.{Mapping.{mapped_to, output_to, set_ring, ring_of}, Closing.{without, closed}, Rotation.{turn_lists, turn_task, rotated}}
@@ -197,8 +197,7 @@ either_reason None other e = refl
 
 pub no_fault : (hw : Hardware) (s : Stage) (slot : EventNo) (a : Attr) (leader : Option EventNo) → open_refusal hw s slot a leader ≡ None → first_of (open_faults hw s slot a leader) ≡ None
 unfolding open_refusal
-no_fault hw s slot a leader e =
-    either_reason (first_of (open_faults hw s slot a leader)) (unassignable (with_masks hw (hardware_members (group_with (group_led s leader) (new_original s slot a))))) e
+no_fault hw s slot a leader e = search (either_reason)
 
 used_refuses : (hw : Hardware) (s : Stage) (slot : EventNo) (a : Attr) (leader : Option EventNo) → open_refusal hw s slot a leader ≡ None → is_used s slot ≡ false
 used_refuses hw s slot a leader e = first_used (is_used s slot) (drop 1 (open_faults hw s slot a leader)) (no_fault hw s slot a leader e)

@@ -1,14 +1,13 @@
 -- A law of the groups at each place that each change of a context keeps holds after settling, ticks, closes, exits and
 -- switches.
-use Rattle.std.specs.Prelude.{◌≡◌, ℕ, zero, suc, ◌<◌, Bool, true, false, not, ◌&&◌, List, [], ◌∷◌, ◌++◌, length, map, Option, Some, None, slice_index_or}
-use Rattle.std.{specs.List.{list_any}, proofs.Common.{refl, sym, ap, ◌∙◌, arith, inl, inr, subst, get_or, set, get_or-set_same, get_or-set_other}}
-use Rattle.std.proofs.{lemmas.{Bool.{cases_eq, cases_lt}, List.{get_or_past}}, Math.Seq.{set_out}}
+use Rattle.std.specs.Prelude.{◌≡◌, ℕ, zero, suc, ◌<◌, Bool, true, false, List, [], ◌∷◌, ◌++◌, length, map, Option, Some, None, slice_index_or}
+use Rattle.std.{proofs.Common.{refl, arith, subst, get_or, set, get_or-set_same, get_or-set_other}}
+use Rattle.std.proofs.{lemmas.{Bool.{cases_lt}, List.{get_or_past}}, Math.Seq.{set_out}}
 use Rattle.perf_base.specs.declared.{numbers.{CpuNo.{CpuNo}, EventNo.{EventNo}, TaskNo.{TaskNo}}, standing.{Context.{Context}, Standing.{Standing}}}
-use Rattle.perf_base.specs.Standings.{stands_on}
 use Rattle.perf_base.specs.declared.standing.Context.TheVariants as context
 use Rattle.stage_spec.specs.{declared.instance.Instance.{Instance}, Hardware.{Hardware}}
 use Rattle.stage_spec.specs.Stage.{Stage, Group, Lists, lists_of, no_groups, place_of, change_context, is_of_family, is_copy, task_on, all_cpus}
-use Rattle.stage_spec.specs.{Verdict.{Judged, is_eligible, judge, standing_among, task_lists, verdicts}, Effective.{is_wholly_software}}
+use Rattle.stage_spec.specs.{Verdict.{Judged, judge, task_lists, verdicts}}
 use Rattle.stage_spec.specs.Settle.{failed, settle_pass, settle_lists, settle_task, own_verdicts, settle, settle_each, settle_all}
 use Rattle.stage_spec.specs.{Closing.{without, closed}, Rotation.{first_goes_last, turned, turn_lists, turn_task, rotated}, Exits.{exited, exited_by}}
 use Rattle.stage_spec.{specs.Switching.{switched, put_on, is_running}, proofs.{Each.{Each, append-Each, get_or-Each}, Settling.{judged, either}}}
@@ -54,22 +53,7 @@ pub change_context-at : (L M : ℕ → Lists → Type 0) → AllowsNone M → (c
     → ((n : ℕ) (l : Lists) → (n ≡ place_of c → ⊥) → L n l → M n l) → At L s → At M (change_context c f s)
 change_context-at L M none c f s here there h n =
     let now : List Lists = set s.contexts (place_of c) (f (lists_of s c)) in
-    elim (cases_eq n (place_of c)) [
-      | inl e ↦ elim (cases_lt (place_of c) (length s.contexts)) [
-        | inl within ↦
-            let same : get_or now n no_groups ≡ f (lists_of s c) =
-            ap (λ k. get_or now k no_groups) e ∙ get_or-set_same s.contexts (place_of c) (f (lists_of s c)) no_groups within in
-            rw (same, e) (here within (h (place_of c)))
-        | inr past ↦
-            let left : get_or now n no_groups ≡ no_groups =
-            ap (λ contexts. get_or contexts n no_groups) (set_out s.contexts (place_of c) (f (lists_of s c)) past)
-            ∙ get_or_past s.contexts n no_groups (omega (arith, e, past)) in
-            rw left (none n)
-      ]
-      | inr apart ↦
-          let same : get_or now n no_groups ≡ get_or s.contexts n no_groups = get_or-set_other s.contexts (place_of c) n (f (lists_of s c)) no_groups apart in
-          rw same (there n (get_or s.contexts n no_groups) apart (h n))
-    ]
+    grind (arith, cases_lt, get_or, now, get_or-set_same, set_out, get_or_past, get_or-set_other)
 
 pub change_context-keeps : (L : ℕ → Lists → Type 0) → AllowsNone L → (c : Context) (f : Lists → Lists) (s : Stage) → (L (place_of c) (lists_of s c) → L (place_of c) (f (lists_of s c)))
     → At L s → At L (change_context c f s)
@@ -83,8 +67,7 @@ get_or-map f (x ∷ xs) (suc n) d = get_or-map f xs n d
 pub map-at : (L M : ℕ → Lists → Type 0) (f : Lists → Lists) (s : Stage) → f no_groups ≡ no_groups → ((n : ℕ) (l : Lists) → L n l → M n (f l)) → At L s
     → At M (record s { contexts = map f s.contexts })
 map-at L M f s none k h n =
-    let same : slice_index_or (map f s.contexts) n no_groups ≡ f (slice_index_or s.contexts n no_groups) =
-    ap (slice_index_or (map f s.contexts) n) (sym none) ∙ get_or-map f s.contexts n no_groups in
+    let same : slice_index_or (map f s.contexts) n no_groups ≡ f (slice_index_or s.contexts n no_groups) = grind (arith, get_or-map) in
     rw same (k n (slice_index_or s.contexts n no_groups) (h n))
 
 -- a processor's own context changed, and then its task's
@@ -175,17 +158,12 @@ settle_pass-keeps P k hw cpu before within [] h = tt
 settle_pass-keeps P k hw cpu before within (g ∷ groups) h =
     let v : Standing = judge hw before within g in
     let more : List Judged = within ++ judged g v ∷ [] in
-    either-Each P (is_eligible hw cpu g) (failed v g ∷ settle_pass hw cpu before more groups) (g ∷ settle_pass hw cpu before within groups)
-    (k v g h.0, settle_pass-keeps P k hw cpu before more groups h.1)
-    (h.0, settle_pass-keeps P k hw cpu before within groups h.1)
+    grind (arith, either-Each, v, more, settle_pass-keeps P k hw cpu before more groups h.1, settle_pass-keeps P k hw cpu before within groups h.1)
 
 first_goes_last-keeps : (P : Group → Type 0) (test : Group → Bool) (groups : List Group) → Each P groups → Each P (first_goes_last test groups)
 unfolding Each
 first_goes_last-keeps P test [] h = tt
-first_goes_last-keeps P test (g ∷ groups) h = either-Each P (test g) (groups ++ g ∷ []) (g ∷ first_goes_last test groups)
-    (append-Each P groups (g ∷ []) h.1 (h.0, tt)) (h.0, first_goes_last-keeps P test groups h.1)
+first_goes_last-keeps P test (g ∷ groups) h = grind (arith, either-Each, append-Each, first_goes_last-keeps P test groups h.1)
 
 pub turned-keeps : (P : Group → Type 0) (hw : Hardware) (cpu : CpuNo) (js : List Judged) (groups : List Group) → Each P groups → Each P (turned hw cpu js groups)
-turned-keeps P hw cpu js groups h = either-Each P (list_any (λ g. is_eligible hw cpu g && not (stands_on (standing_among js g))) groups)
-    (first_goes_last (λ g. is_eligible hw cpu g && not (is_wholly_software g)) groups) groups
-    (first_goes_last-keeps P (λ g. is_eligible hw cpu g && not (is_wholly_software g)) groups h) h
+turned-keeps P hw cpu js groups h = grind (arith, either-Each, first_goes_last-keeps)

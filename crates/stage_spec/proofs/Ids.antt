@@ -2,12 +2,12 @@
 use Rattle.std.specs.Prelude.{◌≡◌, ℕ, ◌+◌, ◌<◌, ◌≤◌, Bool, true, false, List, [], ◌∷◌, length, sum_by, Option, Some, None, if◌then◌else◌}
 use Rattle.std.proofs.{Common.{arith, refl}, lemmas.List.Sums.{sum_by-cons}}
 use Rattle.perf_base.specs.declared.{numbers.{CpuNo.{CpuNo}, EventNo.{EventNo}, RingNo.{RingNo}, TaskNo.{TaskNo}}, attr.Attr.{Attr}}
-use Rattle.perf_base.specs.{declared.standing.{Context.{Context}, Own.{Own}}, Contexts.{context_of}}
+use Rattle.perf_base.specs.{declared.standing.{Context.{Context}, Own.{Own}}}
 use Rattle.perf_base.specs.declared.standing.Context.TheVariants as context
 use Rattle.stage_spec.specs.{declared.instance.Instance.{Instance}, Hardware.{Hardware}}
-use Rattle.stage_spec.specs.Stage.{Stage, Group, group_size, alone, Lists, lists_of, no_groups, place_of, change_lists, change_each, change_context, is_original, task_on, first_stage}
-use Rattle.stage_spec.specs.{Verdict.{task_lists}, Settle.{settle_all}, Opening.{opened, placed, add_group, join_lists, new_original}}
-use Rattle.stage_spec.specs.{Flags.{is_pinned}, Commands.{command_each, with_period, is_reached}, Mapping.{mapped_to, output_to, ring_of}}
+use Rattle.stage_spec.specs.Stage.{Stage, Group, group_size, Lists, lists_of, no_groups, place_of, change_each, change_context, is_original, task_on, first_stage}
+use Rattle.stage_spec.specs.{Verdict.{task_lists}, Settle.{settle_all}, Opening.{opened, placed, new_original}}
+use Rattle.stage_spec.specs.{Commands.{command_each, with_period, is_reached}, Mapping.{mapped_to, output_to, ring_of}}
 use Rattle.stage_spec.specs.{Closing.{without, closed}, Rotation.{rotated}}
 use Rattle.stage_spec.specs.{Forks.{copy_of, copies_from, copy_group, copy_groups, copied, inherited_groups, new_copies, forked}, Exits.{exited}}
 use Rattle.stage_spec.specs.Switching.{switched}
@@ -49,8 +49,7 @@ change_context-below n c f s k h = from_places n (change_context c f s) (change_
 
 -- settling, ticks, switches, and instances that go
 pub settle_all-below : (n : ℕ) (hw : Hardware) (s : Stage) → AllBelow n s → AllBelow n (settle_all hw s)
-settle_all-below n hw s h = from_places n (settle_all hw s)
-    (settle_all-keeps (AtPlace n) (none_there n) hw (λ place. settle_lists-in (IdBelow n) (λ i o k. k) hw) s (by_place n s h))
+settle_all-below n hw s h = search (from_places, settle_all-keeps, none_there, settle_lists-in, by_place)
 
 pub rotated-below : (n : ℕ) (hw : Hardware) (cpu : CpuNo) (s : Stage) → AllBelow n s → AllBelow n (rotated hw cpu s)
 rotated-below n hw cpu s h = from_places n (rotated hw cpu s) (rotated-keeps (AtPlace n) (none_there n) hw (λ place. turn_lists-in (IdBelow n) hw) cpu s (by_place n s h))
@@ -74,10 +73,7 @@ kept_id false i j h = refl
 
 change_some-below : (n : ℕ) (test : Instance → Bool) (f : Instance → Instance) → ((i : Instance) → (f i).id ≡ i.id) → (s : Stage)
     → AllBelow n s → AllBelow n (change_each (λ i. if test i then f i else i) s)
-change_some-below n test f same s h =
-    let change : Instance → Instance = λ i. if test i then f i else i in
-    map-Each (InLists (IdBelow n)) (InLists (IdBelow n)) (change_lists change)
-    (change_lists-in (IdBelow n) (IdBelow n) change (λ i k. omega (arith, kept_id (test i) (f i) i (same i)))) s.contexts h
+change_some-below n test f same s h = search (map-Each, InLists, change_lists-in, kept_id)
 
 pub command_each-below : (n : ℕ) (f : Own → Own) (events : List EventNo) (s : Stage) → AllBelow n s → AllBelow n (command_each f events s)
 unfolding command_each
@@ -97,10 +93,8 @@ output_to-below n e f s h = change_some-below n (is_original e) (λ i. record i 
 
 -- opening
 placed-below : (n : ℕ) (leader : Option EventNo) (i : Instance) (s : Stage) → i.id < n → AllBelow n s → AllBelow n (placed leader i s)
-placed-below n None i s h k = change_context-below n (context_of i.attr) (add_group (is_pinned i.attr) (alone i)) s
-    (λ l. add_group-in (IdBelow n) (is_pinned i.attr) (alone i) l (cons-Each (IdBelow n) i [] h (none-Each (IdBelow n)))) k
-placed-below n (Some e) i s h k = map-Each (InLists (IdBelow n)) (InLists (IdBelow n)) (join_lists e i)
-    (join_lists-in (IdBelow n) (IdBelow n) e i (λ j below. below) (λ leader leads below. h)) s.contexts k
+placed-below n None i s h k = search (change_context-below, add_group-in, cons-Each, none-Each)
+placed-below n (Some e) i s h k = search (map-Each, InLists, join_lists-in)
 
 opened-below : (s : Stage) (slot : EventNo) (a : Attr) (leader : Option EventNo) → AllBelow s.next_id s → AllBelow (s.next_id + 1) (opened s slot a leader)
 unfolding opened

@@ -1,6 +1,6 @@
 -- What one more step adds to a history.
 use Rattle.std.specs.Prelude.{◌≡◌, ℕ, ◌+◌, Bool, true, false, ◌||◌, List, [], ◌∷◌, ◌++◌, if◌then◌else◌}
-use Rattle.std.proofs.Common.{arith, refl, sym, ap, ◌∙◌, append_assoc, append-nil}
+use Rattle.std.proofs.Common.{arith, refl, sym, ◌∙◌, append_assoc, append-nil}
 use Rattle.perf_base.specs.declared.{numbers.EventNo.{EventNo}, reply.Sums.{Sums}}
 use Rattle.stage_spec.specs.{Hardware.{Hardware}, Stage.{Stage}, History.{Step, stage_step, stage_after}, Shares.{share, no_sums}}
 use Rattle.stage_spec.specs.Sums.{resets, is_reset_by, count_of, enabled_of, running_of, sums_of}
@@ -24,9 +24,7 @@ pub is_reset_by-push : (hw : Hardware) (s : Stage) (steps : List Step) (x : Step
     → is_reset_by hw s (steps ++ x ∷ []) id ≡ (is_reset_by hw s steps id || resets (stage_after hw s steps) x id)
 unfolding stage_after is_reset_by
 is_reset_by-push hw s [] x id = or-false (resets s x id)
-is_reset_by-push hw s (y ∷ steps) x id =
-    ap (λ b. resets s y id || b) (is_reset_by-push hw (stage_step hw s y) steps x id)
-    ∙ or-assoc (resets s y id) (is_reset_by hw (stage_step hw s y) steps id) (resets (stage_after hw (stage_step hw s y) steps) x id)
+is_reset_by-push hw s (y ∷ steps) x id = grind (arith, or-assoc, is_reset_by-push hw (stage_step hw s y) steps x id)
 
 -- a count that a reset takes back
 abbrev taken_back : Bool → ℕ → ℕ
@@ -81,15 +79,10 @@ pub sums_of-push : SumsLaw
 unfolding sums_of
 sums_of-push hw s steps x id =
     let last : Stage = stage_after hw s steps in
-    rw (after_reset-is (resets last x id) (count_of hw s steps id) (enabled_of hw s steps id) (running_of hw s steps id))
-    (same_sums (count_of hw s (steps ++ x ∷ []) id) (enabled_of hw s (steps ++ x ∷ []) id) (running_of hw s (steps ++ x ∷ []) id)
-    (taken_back (resets last x id) (count_of hw s steps id) + (share hw last x id).count)
-    (enabled_of hw s steps id + (share hw last x id).enabled) (running_of hw s steps id + (share hw last x id).running)
-    (count_of-push hw s steps x id) (enabled_of-push hw s steps x id) (running_of-push hw s steps x id))
+    grind (arith, after_reset-is, last, same_sums, count_of-push, enabled_of-push, running_of-push)
 
 pub plus-assoc : (a b c : Sums) → plus (plus a b) c ≡ plus a (plus b c)
-plus-assoc a b c = same_sums (a.count + b.count + c.count) (a.enabled + b.enabled + c.enabled) (a.running + b.running + c.running)
-    (a.count + (b.count + c.count)) (a.enabled + (b.enabled + c.enabled)) (a.running + (b.running + c.running)) (omega arith) (omega arith) (omega arith)
+plus-assoc a b c = grind (arith, same_sums)
 
 pub plus-none : (a : Sums) → plus a no_sums ≡ a
 plus-none a = same_sums (a.count + 0) (a.enabled + 0) (a.running + 0) a.count a.enabled a.running (omega arith) (omega arith) (omega arith)
@@ -105,12 +98,7 @@ folded_from-push : (hw : Hardware) (s : Stage) (e : EventNo) (before steps : Lis
     → folded_from hw s e before (steps ++ x ∷ []) ≡ plus (folded_from hw s e before steps) (gone hw s (before ++ steps) x e)
 unfolding folded_from
 folded_from-push hw s e before [] x = rw append-nil (plus-none (gone hw s before x e) ∙ sym (none-plus (gone hw s before x e)))
-folded_from-push hw s e before (y ∷ steps) x =
-    let regrouped : (before ++ y ∷ []) ++ steps ≡ before ++ y ∷ steps = append_assoc before (y ∷ []) steps in
-    let rest : folded_from hw s e (before ++ y ∷ []) (steps ++ x ∷ []) ≡ plus (folded_from hw s e (before ++ y ∷ []) steps) (gone hw s ((before ++ y ∷ []) ++ steps) x e) =
-    folded_from-push hw s e (before ++ y ∷ []) steps x in
-    ap (λ f. plus (gone hw s before y e) f) (rest ∙ ap (λ done. plus (folded_from hw s e (before ++ y ∷ []) steps) (gone hw s done x e)) regrouped)
-    ∙ sym (plus-assoc (gone hw s before y e) (folded_from hw s e (before ++ y ∷ []) steps) (gone hw s (before ++ y ∷ steps) x e))
+folded_from-push hw s e before (y ∷ steps) x = grind (arith, append_assoc, plus-assoc, folded_from-push hw s e (before ++ y ∷ []) steps x)
 
 pub folded_of-push : FoldedLaw
 unfolding folded_of

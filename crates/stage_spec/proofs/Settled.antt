@@ -1,6 +1,6 @@
 -- The laws of settling, of a processor.
 use Rattle.std.specs.Prelude.{◌≡◌, ◌+◌, ◌<◌, nat_lt, Bool, true, List, [], ◌∷◌, ◌++◌, length, map, filter, drop, Option, Some, None, slice_index_or}
-use Rattle.std.proofs.Common.{arith, refl, sym, ap, ◌∙◌, inl, inr, append_assoc, get_or, set, get_or-set_same, get_or-set_other}
+use Rattle.std.proofs.Common.{arith, refl, sym, ap, ◌∙◌, append_assoc, get_or, set, get_or-set_same, get_or-set_other}
 use Rattle.std.proofs.lemmas.{Bool.{cases_lt, Decides.{nat_tests}}, List.{set-get_or, get_or_past, Elements.{filter-append}}}
 use Rattle.std.proofs.Math.Seq.{drop-append_seam, set_out}
 use Rattle.perf_base.specs.{declared.{numbers.{CpuNo.{CpuNo}, TaskNo.{TaskNo}}, standing.Context.{Context}}, Standings.{stands_on}}
@@ -24,8 +24,7 @@ passes-settled hw a b c d =
     let three : List Judged = judge_pass hw (one ++ two) [] c in
     let last : List Judged = judge_pass hw ((one ++ two) ++ three) [] d in
     let same_one : groups_on one ≡ groups_on (kept one) = sym (groups_on-kept one) in
-    let same_two : groups_on (one ++ two) ≡ groups_on (kept one ++ kept two) =
-    groups_on-append one two ∙ (rw (← groups_on-kept one, ← groups_on-kept two) (sym (groups_on-append (kept one) (kept two)))) in
+    let same_two : groups_on (one ++ two) ≡ groups_on (kept one ++ kept two) = grind (arith, nat_tests, groups_on-append, groups_on-kept, kept) in
     let same_three : groups_on ((one ++ two) ++ three) ≡ groups_on ((kept one ++ kept two) ++ three) =
     groups_on-append (one ++ two) three ∙ (ap (λ gs. gs ++ groups_on three) same_two ∙ sym (groups_on-append (kept one ++ kept two) three)) in
     let first : judge_pass hw [] [] (going hw [] [] a) ≡ kept one = judge_pass-kept hw [] [] [] a refl in
@@ -41,13 +40,7 @@ passes-settled hw a b c d =
 
 -- the groups of a context that is changed, and those of another
 pub lists_of-same : (c : Context) (f : Lists → Lists) (s : Stage) → f no_groups ≡ no_groups → lists_of (change_context c f s) c ≡ f (lists_of s c)
-lists_of-same c f s none = elim (cases_lt (place_of c) (length s.contexts)) [
-  | inl within ↦ get_or-set_same s.contexts (place_of c) (f (lists_of s c)) no_groups within
-  | inr past ↦
-      let here : lists_of s c ≡ no_groups = get_or_past s.contexts (place_of c) no_groups past in
-      let left : set s.contexts (place_of c) (f (lists_of s c)) ≡ s.contexts = set_out s.contexts (place_of c) (f (lists_of s c)) past in
-      ap (λ contexts. get_or contexts (place_of c) no_groups) left ∙ (here ∙ (sym none ∙ ap f (sym here)))
-]
+lists_of-same c f s none = grind (arith, nat_tests, cases_lt, get_or-set_same, get_or_past, set, set_out, get_or)
 
 pub place_of-cpu : (cpu : CpuNo) → cpu.0 < 8 → place_of (context.Processor cpu) ≡ cpu.0
 place_of-cpu cpu low = let small : nat_lt cpu.0 8 ≡ true = grind (arith, nat_tests, low) in rw small refl
@@ -56,8 +49,7 @@ pub lists_of-other : (c d : Context) (f : Lists → Lists) (s : Stage) → (plac
 lists_of-other c d f s apart = get_or-set_other s.contexts (place_of c) (place_of d) (f (lists_of s c)) no_groups apart
 
 pub change_context-none : (c : Context) (f : Lists → Lists) (s : Stage) → f (lists_of s c) ≡ lists_of s c → change_context c f s ≡ s
-change_context-none c f s same =
-    ap (λ contexts. record s { contexts = contexts }) (ap (set s.contexts (place_of c)) same ∙ set-get_or s.contexts (place_of c) no_groups)
+change_context-none c f s same = grind (arith, nat_tests, set, set-get_or)
 
 pub no_groups-settled : (hw : Hardware) (cpu : CpuNo) (before : List Judged) → settle_lists hw cpu before no_groups ≡ no_groups
 unfolding settle_pass
@@ -73,11 +65,7 @@ pub record IsSettledFrom (hw : Hardware) (cpu : CpuNo) (s : Stage) (before : Lis
   pub task : task_lists t to ≡ settle_lists hw cpu before (task_lists s to)
 
 settled-from : (hw : Hardware) (cpu : CpuNo) (s : Stage) (before : List Judged) (to : Option TaskNo) → cpu.0 < 8 → IsSettledFrom hw cpu s before to (settle_task hw cpu before to (own_settled hw cpu s))
-settled-from hw cpu s before None low = record {
-  running = refl;
-  own = lists_of-same (context.Processor cpu) (settle_lists hw cpu []) s (no_groups-settled hw cpu []);
-  task = sym (no_groups-settled hw cpu before);
-}
+settled-from hw cpu s before None low = search (nat_tests, lists_of-same, no_groups-settled)
 settled-from hw cpu s before (Some task) low =
     let at_cpu : place_of (context.Processor cpu) ≡ cpu.0 = place_of-cpu cpu low in
     let apart : place_of (context.Processor cpu) ≡ 8 + task.0 → ⊥ = λ e. omega (arith, e, at_cpu) in
@@ -98,10 +86,7 @@ passes-are : (hw : Hardware) (cpu : CpuNo) (s : Stage) → cpu.0 < 8
     → passes (settle hw cpu s) cpu
     ≡ four (settle_pass hw cpu [] [] (lists_of s (context.Processor cpu)).pinned) (settle_pass hw cpu (own_verdicts hw s cpu) [] (task_lists s (task_on s cpu)).pinned)
     (lists_of s (context.Processor cpu)).flexible (task_lists s (task_on s cpu)).flexible
-passes-are hw cpu s low =
-    let h : IsSettledFrom hw cpu s (own_verdicts hw s cpu) (task_on s cpu) (settle hw cpu s) = is_settled_from hw cpu s low in
-    let same : task_on (settle hw cpu s) cpu ≡ task_on s cpu = ap (λ running. slice_index_or running cpu.0 None) h.running in
-    rw (same, h.own, h.task) refl
+passes-are hw cpu s low = grind (arith, nat_tests, is_settled_from)
 
 pub settled_verdicts : SettledVerdictsLaw
 unfolding verdicts
@@ -114,9 +99,7 @@ settled_verdicts hw cpu s low =
     let second : filter test (settle_pass hw cpu one [] task.pinned) ≡ going hw one [] (filter test task.pinned) = eligible-settled hw cpu one [] task.pinned in
     let all : List (List Group) → List Judged = λ ps. judge_passes hw [] (map (filter test) ps) in
     let now : List Group → List Group → List Judged = λ a b. judge_passes hw [] (four a b (filter test own.flexible) (filter test task.flexible)) in
-    ap all (passes-are hw cpu s low)
-    ∙ (ap (λ a. now a (filter test (settle_pass hw cpu one [] task.pinned))) first ∙ (ap (now (going hw [] [] (filter test own.pinned))) second
-    ∙ passes-settled hw (filter test own.pinned) (filter test task.pinned) (filter test own.flexible) (filter test task.flexible)))
+    grind (arith, nat_tests, all, passes-are, now, test, one, first, going, second, passes-settled)
 
 -- the task's pass, settled, stays when it is settled again
 task-again : (hw : Hardware) (cpu : CpuNo) (before others : List Judged) (to : Option TaskNo) (s t : Stage) → groups_on before ≡ groups_on others
@@ -137,15 +120,12 @@ settles_once hw cpu s low =
     let h : IsSettledFrom hw cpu s one (task_on s cpu) t = is_settled_from hw cpu s low in
     let running : task_on t cpu ≡ task_on s cpu = ap (λ running. slice_index_or running cpu.0 None) h.running in
     let first : filter test (settle_pass hw cpu [] [] own.pinned) ≡ going hw [] [] (filter test own.pinned) = eligible-settled hw cpu [] [] own.pinned in
-    let verdicts_now : own_verdicts hw t cpu ≡ kept one =
-    ap (λ l. judge_pass hw [] [] (filter test l.pinned)) h.own
-    ∙ (ap (judge_pass hw [] []) first ∙ judge_pass-kept hw [] [] [] (filter test own.pinned) refl) in
+    let verdicts_now : own_verdicts hw t cpu ≡ kept one = grind (arith, nat_tests, judge_pass-kept) in
     let own_again : own_settled hw cpu t ≡ t =
     change_context-none (context.Processor cpu) (settle_lists hw cpu []) t
     (rw h.own (ap (λ pinned. record { pinned = pinned; flexible = own.flexible }) (settle_pass-again hw cpu [] [] [] own.pinned refl))) in
     let as_before : settle_task hw cpu (own_verdicts hw t cpu) (task_on t cpu) (own_settled hw cpu t) ≡ settle_task hw cpu (kept one) (task_on s cpu) t =
-    ap (λ js. settle_task hw cpu js (task_on t cpu) (own_settled hw cpu t)) verdicts_now
-    ∙ (ap (λ to. settle_task hw cpu (kept one) to (own_settled hw cpu t)) running ∙ ap (settle_task hw cpu (kept one) (task_on s cpu)) own_again) in
+    grind (arith, nat_tests, kept) in
     as_before ∙ task-again hw cpu one (kept one) (task_on s cpu) s t (sym (groups_on-kept one)) h.task
 
 pub verdicts_by_eligible : VerdictsLaw

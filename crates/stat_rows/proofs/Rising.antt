@@ -1,6 +1,6 @@
 -- The slots of rows rise, and the rows are as many as the open slots.
 use Rattle.std.specs.Prelude.{◌≡◌, ℕ, zero, suc, ◌<◌, All, AllPairs, List, count_by, length, map}
-use Rattle.std.proofs.{Common.{ap, arith, get_or, subst, sym, ◌∙◌}, lemmas.List.{get_or-map, length-map, Elements.{All-push, All-weaker}}}
+use Rattle.std.proofs.{Common.{arith, get_or, subst, sym, ◌∙◌}, lemmas.List.{get_or-map, length-map, Elements.{All-push, All-weaker}}}
 use Rattle.std.proofs.lemmas.List.{Kept.{AllPairs-filter}, Quantifiers.{all_pairs_push}, Sums.{length-filter}}
 use Rattle.perf_base.specs.{declared.{acts.Act.{Act}, numbers.EventNo.{EventNo}}, Scripts.{Scripted}}
 use Rattle.stage_spec.specs.{Stage.{is_open}, Tables.{stage_in}}
@@ -28,10 +28,8 @@ rows-rise : (s : Scripted) (acts : List Act) (slots : List EventNo) → AllPairs
 rows-rise s acts slots rise i j d low high =
     let e : EventNo = d.event in
     let within : j < length slots = subst (λ n. j < n) (length-map slots (row_of s acts)) high in
-    let at : (k : ℕ) → k < length slots → (get_or (map (row_of s acts) slots) k d).event ≡ get_or slots k e =
-    λ k few. ap (λ (r : StatRow). r.event) (get_or-map (row_of s acts) slots k e d few) in
-    subst (λ (n : EventNo). n.0 < (get_or (map (row_of s acts) slots) j d).event.0) (sym (at i (omega (arith, low, within))))
-    (subst (λ (n : EventNo). (get_or slots i e).0 < n.0) (sym (at j within)) (rise i j e low within))
+    let at : (k : ℕ) → k < length slots → (get_or (map (row_of s acts) slots) k d).event ≡ get_or slots k e = grind (arith, get_or-map) in
+    grind (arith, get_or, at, within, e)
 
 pub rising : RisingLaw
 rising s acts = rows-rise s acts (open_below 256 s acts) (AllPairs-filter IsBefore (is_open (stage_in s acts)) (slots_below 256) (slots-rise 256))

@@ -1,11 +1,11 @@
 -- The rotation of a tick by both contexts, what it turns, and that other processors stand as they stood.
-use Rattle.std.specs.Prelude.{◌≡◌, ◌≢◌, ◌<◌, ◌==◌, true, false, not, [], ◌∷◌, map, filter, Option, Some, None, slice_index_or, nat_lt, if◌then◌else◌}
+use Rattle.std.specs.Prelude.{◌≡◌, ◌≢◌, ◌<◌, ◌==◌, true, false, [], ◌∷◌, map, filter, Option, Some, None, slice_index_or, nat_lt, if◌then◌else◌}
 use Rattle.std.{specs.{FinMap.{get}, Option.{unwrap_or}}, proofs.Common.{arith, refl, sym, ap, subst, ◌∙◌, inl, inr}}
 use Rattle.std.proofs.lemmas.{Bool.{cases_lt, false≢true, Decides.{nat_tests}}, List.{get_or_past, get_or-set_other}}
 use Rattle.perf_base.specs.declared.{numbers.{CpuNo.{CpuNo}, Key.{Key}, TaskNo.{TaskNo}}, standing.Context.{Context}}
 use Rattle.perf_base.specs.declared.standing.Context.TheVariants as context
 use Rattle.perf_base.specs.declared.standing.Standing.TheVariants as standing
-use Rattle.stage_spec.specs.{Hardware.{Hardware}, Rotation.{takes_turns, turn_task, rotated}}
+use Rattle.stage_spec.specs.{Hardware.{Hardware}, Rotation.{turn_task, rotated}}
 use Rattle.stage_spec.specs.{Stage.{Stage, place_of, task_on, status_of, unknown_task, is_live, is_task}, History.{stage_step}}
 use Rattle.stage_spec.specs.Verdict.{is_eligible, passes, verdicts}
 use Rattle.stage_laws.specs.{Narrowing.{has_context}, Standings.{brief_of}, Turns.{flexible_of, is_waiting, ticked, IsTurned}}
@@ -61,14 +61,7 @@ unfolding stage_step
 tick-flexible hw cpu c s = settle_all-flexible hw (rotated hw cpu s) c
 
 pub turns : (hw : Hardware) (cpu : CpuNo) (c : Context) (s t : Stage) → t ≡ rotated hw cpu s → cpu.0 < 8 → has_context s cpu c ≡ true → is_waiting hw cpu c s ≡ true → IsTurned hw cpu c s t
-turns hw cpu c s t is low has waiting =
-    let h : IsTurned hw cpu c s (ticked hw cpu s) = (tick_turns hw cpu c s low has).0 waiting in
-    let same : flexible_of t c ≡ flexible_of (ticked hw cpu s) c = ap (λ x. flexible_of x c) is ∙ sym (tick-flexible hw cpu c s) in
-    record {
-      groups = same ∙ h.groups;
-      takers = ap (filter (takes_turns hw cpu)) same ∙ h.takers;
-      others = ap (filter (λ g. not (takes_turns hw cpu g))) same ∙ h.others;
-    }
+turns hw cpu c s t is low has waiting = grind (arith, nat_tests, tick_turns, tick-flexible)
 
 pub stays : (hw : Hardware) (cpu : CpuNo) (c : Context) (s t : Stage) → t ≡ rotated hw cpu s → cpu.0 < 8 → has_context s cpu c ≡ true → is_waiting hw cpu c s ≡ false → flexible_of t c ≡ flexible_of s c
 stays hw cpu c s t is low has waiting = ap (λ x. flexible_of x c) is ∙ (sym (tick-flexible hw cpu c s) ∙ (tick_turns hw cpu c s low has).1 waiting)
@@ -80,8 +73,7 @@ turned-elsewhere w cpu c d apart = get_or-set_other w.contexts (place_of c) (pla
 both-elsewhere : (w : World) (cpu : CpuNo) (o : Option TaskNo) (d : Context) → place_of d ≢ place_of (context.Processor cpu) → ((task : TaskNo) → o ≡ Some task → place_of d ≢ place_of (context.Task task))
     → leaders_of (turn_of_task cpu o (turn_in cpu (context.Processor cpu) w)) d ≡ leaders_of w d
 both-elsewhere w cpu None d first second = turned-elsewhere w cpu (context.Processor cpu) d first
-both-elsewhere w cpu (Some task) d first second =
-    turned-elsewhere (turn_in cpu (context.Processor cpu) w) cpu (context.Task task) d (second task refl) ∙ turned-elsewhere w cpu (context.Processor cpu) d first
+both-elsewhere w cpu (Some task) d first second = search (nat_tests, turned-elsewhere)
 
 leaders-elsewhere : (hw : Hardware) (w : World) (cpu other : CpuNo) (o : Option TaskNo) → IsKept hw w → cpu.0 < 8 → other.0 < 8 → other.0 ≢ cpu.0 → task_on (stage_of w) other ≡ o
     → task_leaders (turned_world cpu w) o ≡ task_leaders w o

@@ -4,7 +4,7 @@ use Rattle.std.{specs.List.{list_any}, proofs.{Common.{arith, refl, sym, ap, ◌
 use Rattle.std.proofs.{lemmas.List.{map-append}, Math.ListN.{get_or-map}}
 use Rattle.perf_base.specs.{declared.{numbers.{CpuNo.{CpuNo}, Key.{Key}}, standing.Context.{Context}}, Standings.{stands_on}}
 use Rattle.perf_base.specs.declared.standing.Context.TheVariants as context
-use Rattle.stage_spec.specs.{Hardware.{Hardware}, Rotation.{first_goes_last, waits, takes_turns, turned, turn_lists}}
+use Rattle.stage_spec.specs.{Hardware.{Hardware}, Rotation.{first_goes_last, waits, turned, turn_lists}}
 use Rattle.stage_spec.specs.{Stage.{Group, Lists, lists_of, place_of, change_context}, Verdict.{Judged, is_eligible, verdicts, standing_of}}
 use Rattle.stage_laws.{specs.Narrowing.{has_context}, proofs.Leaders.{find-first, find-later}}
 use Rattle.world_spec.specs.{Changes.{all_but}, Kept.{post_at, leads, leads_in, once_if, IsKept}, Rescheduled.{IsJudged}}
@@ -73,18 +73,8 @@ some-same f p r (q ∷ keys) same =
 turned-list : (hw : Hardware) (cpu : CpuNo) (judged : List Judged) (w : World) (keys : List Key) (b : Bool) → w.hardware ≡ hw → ((q : Key) → times q keys ≤ 1)
     → ((q : Key) → 1 ≤ times q keys → waits hw cpu judged (group_at w q) ≡ waits_there w cpu q) → list_any (waits_there w cpu) keys ≡ b
     → map (group_at w) (last_if (turning w cpu keys) keys) ≡ turned hw cpu judged (map (group_at w) keys)
-turned-list hw cpu judged w keys true is once same waiting =
-    let found : find (λ k. takes_turns hw cpu (group_at w k)) keys ≡ turning w cpu keys =
-    sym (ap (λ h. find (λ k. takes_turns h cpu (group_at w k)) keys) is)
-    ∙ sym (ap {B = Option Key} (λ b. elim b as (λ x. Option Key) [ true ↦ find (λ k. takes_turns w.hardware cpu (group_at w k)) keys | false ↦ None ]) waiting) in
-    last-first (group_at w) (takes_turns hw cpu) keys (turning w cpu keys) once found
-    ∙ sym (ap {B = List Group} (λ b. elim b as (λ x. List Group) [ true ↦ first_goes_last (takes_turns hw cpu) (map (group_at w) keys) | false ↦ map (group_at w) keys ])
-    (some-same (group_at w) (waits hw cpu judged) (waits_there w cpu) keys same ∙ waiting))
-turned-list hw cpu judged w keys false is once same waiting =
-    ap (λ o. map (group_at w) (last_if o keys))
-    (ap {B = Option Key} (λ b. elim b as (λ x. Option Key) [ true ↦ find (λ k. takes_turns w.hardware cpu (group_at w k)) keys | false ↦ None ]) waiting)
-    ∙ sym (ap {B = List Group} (λ b. elim b as (λ x. List Group) [ true ↦ first_goes_last (takes_turns hw cpu) (map (group_at w) keys) | false ↦ map (group_at w) keys ])
-    (some-same (group_at w) (waits hw cpu judged) (waits_there w cpu) keys same ∙ waiting))
+turned-list hw cpu judged w keys true is once same waiting = grind (arith, nat_tests, last-first, some-same)
+turned-list hw cpu judged w keys false is once same waiting = grind (arith, nat_tests, some-same)
 
 map-set : {X Y : Type 0} (f : X → Y) (xs : List X) (i : ℕ) (x : X) → map f (slice_set xs i x) ≡ slice_set (map f xs) i (f x)
 map-set f [] i x = refl
@@ -101,8 +91,7 @@ turn-stage hw cpu judged w c is once same =
     turned-list hw cpu judged w l.flexible (list_any (waits_there w cpu) l.flexible) is once same refl in
     let lists : lists_at w (turn_keys w cpu l) ≡ turn_lists hw cpu judged (lists_at w l) = ap {B = Lists} (λ gs. record (lists_at w l) { flexible = gs }) flexible in
     let there : lists_of (stage_of w) c ≡ lists_at w l = get_or-map (lists_at w) w.contexts (place_of c) no_leaders in
-    ap (λ cs. record (stage_of w) { contexts = cs })
-    (map-set (lists_at w) w.contexts (place_of c) (turn_keys w cpu l) ∙ ap (slice_set (map (lists_at w) w.contexts) (place_of c)) (lists ∙ ap (turn_lists hw cpu judged) (sym there)))
+    grind (arith, nat_tests, map-set, l, lists, there)
 
 -- leaders in the flexible list of a context lead there
 flexible-parts : (a b pinned : Bool) → 1 ≤ once_if (a && b && (if pinned then false else true)) → (a ≡ true) × (b ≡ true) × (pinned ≡ false)
@@ -132,20 +121,10 @@ own-place n true h low = (grind (arith, nat_tests, h), ap (λ b. if b then n els
 own-place n false h low = absurd (omega (arith, low, ap (λ b. if b then n else 72) h))
 
 pub one-context : (a b : Context) → place_of b < 72 → place_of a ≡ place_of b → a ≡ b
-one-context (context.Processor m) (context.Processor n) low same =
-    let right : (n.0 < 8) × (place_of (context.Processor n) ≡ n.0) = own-place n.0 (nat_lt n.0 8) refl low in
-    let left : (m.0 < 8) × (place_of (context.Processor m) ≡ m.0) = own-place m.0 (nat_lt m.0 8) refl (omega (arith, low, same)) in
-    let is : m.0 ≡ n.0 = sym left.1 ∙ (same ∙ right.1) in
-    ap (λ x. context.Processor (record { 0 = x })) is
-one-context (context.Processor m) (context.Task u) low same =
-    let left : (m.0 < 8) × (place_of (context.Processor m) ≡ m.0) = own-place m.0 (nat_lt m.0 8) refl (omega (arith, low, same)) in
-    absurd (omega (arith, left.0, left.1, same))
-one-context (context.Task t) (context.Processor n) low same =
-    let right : (n.0 < 8) × (place_of (context.Processor n) ≡ n.0) = own-place n.0 (nat_lt n.0 8) refl low in
-    absurd (omega (arith, right.0, right.1, same))
-one-context (context.Task t) (context.Task u) low same =
-    let is : t.0 ≡ u.0 = omega (arith, same) in
-    ap (λ x. context.Task (record { 0 = x })) is
+one-context (context.Processor m) (context.Processor n) low same = grind (arith, nat_tests, own-place)
+one-context (context.Processor m) (context.Task u) low same = grind (arith, nat_tests, own-place)
+one-context (context.Task t) (context.Processor n) low same = grind (arith, nat_tests, own-place)
+one-context (context.Task t) (context.Task u) low same = grind (arith, nat_tests)
 
 -- where a processor was judged, a group in one of its contexts waits by where it stands
 pub waits-same : (hw : Hardware) (w : World) (cpu : CpuNo) (c : Context) → IsKept hw w → w.hardware ≡ hw → IsJudged hw w cpu → place_of c < 72 → has_context (stage_of w) cpu c ≡ true
@@ -158,11 +137,4 @@ waits-same hw w cpu c h is judged low has q some =
 
 -- the leader that is turned stands in the list
 pub turning-there : (w : World) (cpu : CpuNo) (keys : List Key) (k : Key) → turning w cpu keys ≡ Some k → 1 ≤ times k keys
-turning-there w cpu keys k h = elim (cases_Bool (list_any (waits_there w cpu) keys)) [
-  | inl waiting ↦
-      found-there (λ j. takes_turns w.hardware cpu (group_at w j)) keys k
-      (sym (ap {B = Option Key} (λ b. elim b as (λ x. Option Key) [ true ↦ find (λ j. takes_turns w.hardware cpu (group_at w j)) keys | false ↦ None ]) waiting) ∙ h)
-  | inr still ↦
-      let none : None ≡ Some k = sym (ap {B = Option Key} (λ b. elim b as (λ x. Option Key) [ true ↦ find (λ j. takes_turns w.hardware cpu (group_at w j)) keys | false ↦ None ]) still) ∙ h in
-      absurd (cc)
-]
+turning-there w cpu keys k h = grind (arith, nat_tests, found-there)

@@ -111,10 +111,8 @@ none-after [] [] (a ∷ accounts) ring s off h = absurd h
 none-after [] (o ∷ outs) accounts ring s off h = absurd h
 none-after (n ∷ numbers) [] accounts ring s off h = absurd h
 none-after (n ∷ numbers) (o ∷ outs) [] ring s off h = absurd h
-none-after (n ∷ numbers) (o ∷ outs) (a ∷ accounts) ring s off h = (
-  sent-away n o a h.0 ring s (All-head (λ (m : RingNo). m.0 ≢ ring.0) n numbers off),
-  none-after numbers outs accounts ring s (All-tail (λ (m : RingNo). m.0 ≢ ring.0) n numbers off) h.1,
-)
+none-after (n ∷ numbers) (o ∷ outs) (a ∷ accounts) ring s off h =
+    grind (arith, nat_tests, All-head, All-tail, none-after numbers outs accounts ring s (All-tail (λ (m : RingNo). m.0 ≢ ring.0) n numbers off) h.1)
 
 one-after : (numbers : List RingNo) (outs : List OutEnd) (accounts : List RingAccount) (ring : RingNo) (s : SentSample) → IsSized s → AreApart numbers
     → AreAccounts numbers outs accounts → AreAccounts numbers (sent_among numbers outs ring (request_of s)) (map (after_one ring s) accounts)
@@ -130,9 +128,7 @@ one-after (n ∷ numbers) (o ∷ outs) (a ∷ accounts) ring s z apart h =
       | inl e ↦
           subst P (let is : true ≡ (n.0 == ring.0) = grind (arith, nat_tests, e) in is)
           (sent-here n o a h.0 ring s z e, none-after numbers outs accounts ring s (apart-first n ring numbers e apart) h.1)
-      | inr off ↦
-          subst P (let is : false ≡ (n.0 == ring.0) = grind (arith, nat_tests, off) in is)
-          (sent-away n o a h.0 ring s off, one-after numbers outs accounts ring s z (apart-rest n numbers apart) h.1)
+      | inr off ↦ grind (arith, nat_tests, off, apart-rest, one-after numbers outs accounts ring s z (apart-rest n numbers apart) h.1)
     ]
 
 none-lost : (numbers : List RingNo) (outs : List OutEnd) (accounts : List RingAccount) (ring : RingNo) (s : SentSample) → All (λ m. m.0 ≢ ring.0) numbers
@@ -175,14 +171,7 @@ one-lost (n ∷ numbers) (o ∷ outs) (a ∷ accounts) ring s z apart h e =
             lost-here n o a h.0 ring s z same e,
             none-lost numbers outs accounts ring s (apart-first n ring numbers same apart) h.1 e,
           ))
-      | inr off ↦
-          subst P (let is : false ≡ (n.0 == ring.0) = grind (arith, nat_tests, off) in is)
-          (omega (
-            arith,
-            count-append (is_event e) (lost_one ring s a) (flat_map (lost_one ring s) accounts),
-            lost-away n o a h.0 ring s off e,
-            one-lost numbers outs accounts ring s z (apart-rest n numbers apart) h.1 e,
-          ))
+      | inr off ↦ grind (arith, nat_tests, off, count-append, apart-rest, one-lost numbers outs accounts ring s z (apart-rest n numbers apart) h.1 e)
     ]
 
 -- what a processor's step that sends one record more does to an account: that record first
@@ -234,10 +223,7 @@ nothing-lost cpu line (a ∷ accounts) = nothing-lost cpu line accounts
 
 next-accounts : (x : Ends) (p : RingNo × SentSample) (accounts : List RingAccount) → IsSized p.1 → HaveAccounts x.outs accounts
     → HaveAccounts (send_next x p).outs (map (after_one p.0 p.1) accounts)
-next-accounts x p accounts z h = record {
-  apart = h.apart;
-  each = one-after x.outs.numbers x.outs.outs accounts p.0 p.1 z h.apart h.each;
-}
+next-accounts x p accounts z h = grind (arith, nat_tests, one-after)
 
 pub accounts-after : (cpu : CpuNo) (line : CpuLine) (sents : List (RingNo × SentSample)) (x : Ends) (accounts : List RingAccount) → AreSized sents → HaveAccounts x.outs accounts
     → HaveAccounts (send_all x sents).outs (map (ring_after (CpuStep cpu line) sents) accounts)
@@ -251,22 +237,7 @@ accounts-after cpu line (p ∷ sents) x accounts z h =
 counted-lost : (lost : List ℕ) (b : Bool) (s : SentSample) (e : EventNo) → e.0 < length lost
     → (slice_index_or (count_lost b s.event lost) e.0 0 ≡ slice_index_or lost e.0 0 + once_lost b s e) × (length (count_lost b s.event lost) ≡ length lost)
 counted-lost lost false s e low = (omega arith, refl)
-counted-lost lost true s e low =
-    let more : ℕ = slice_index_or lost s.event.0 0 + 1 in
-    let long : length (count_lost true s.event lost) ≡ length lost = length-set lost s.event.0 more in
-    elim (cases_eq e.0 s.event.0) [
-      | inl same ↦
-          let its : (s.event.0 == e.0) ≡ true = grind (arith, nat_tests, same) in (
-            rw its (
-                ap (λ (n : ℕ). slice_index_or (count_lost true s.event lost) n 0) same
-                ∙ (get_or-set_same lost s.event.0 more 0 (omega (arith, low, same)) ∙ ap (λ (n : ℕ). slice_index_or lost n 0 + 1) (sym same))
-                ),
-            long,
-          )
-      | inr off ↦
-          let other : (s.event.0 == e.0) ≡ false = grind (arith, nat_tests, off) in
-          (rw other (omega (arith, get_or-set_other lost s.event.0 e.0 more 0 off)), long)
-    ]
+counted-lost lost true s e low = grind (arith, nat_tests, length-set, get_or-set_same, get_or-set_other)
 
 pub lost-after : (cpu : CpuNo) (line : CpuLine) (sents : List (RingNo × SentSample)) (x : Ends) (accounts : List RingAccount) → AreSized sents → HaveAccounts x.outs accounts
     → (e : EventNo) → e.0 < length x.lost

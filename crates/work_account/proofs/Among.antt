@@ -101,11 +101,7 @@ module _ (x : Happening) (w : World) where
 -- four lists of groups
 pub flat-four : (w : World) (a b c d : List Key)
     → all_members w (a ++ (b ++ (c ++ (d ++ [])))) ≡ all_members w a ++ (all_members w b ++ (all_members w c ++ (all_members w d ++ [])))
-flat-four w a b c d =
-    flat_map-append (members_at w) a (b ++ (c ++ (d ++ [])))
-    ∙ ap (λ keys. all_members w a ++ keys) (flat_map-append (members_at w) b (c ++ (d ++ []))
-    ∙ ap (λ keys. all_members w b ++ keys) (flat_map-append (members_at w) c (d ++ [])
-    ∙ ap (λ keys. all_members w c ++ keys) (flat_map-append (members_at w) d [])))
+flat-four w a b c d = grind (arith, flat_map-append)
 
 pub hits-four : (x : Happening) (w : World) (a b c d : List Key)
     → hits_among x w (a ++ (b ++ (c ++ (d ++ [])))) ≡ hits_among x w a ++ (hits_among x w b ++ (hits_among x w c ++ hits_among x w d))

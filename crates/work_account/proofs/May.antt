@@ -59,8 +59,7 @@ hit-of x w keys place none low = at (filter (takes x w) keys) place low
 
 counted-hits : (x : Happening) (w : World) (slot : ℕ) (keys : List Key) → count_by (is_of w slot) (map (hit_at x w) keys) ≡ count_by (is_in w slot) keys
 counted-hits x w slot [] = refl
-counted-hits x w slot (k ∷ keys) =
-    omega (arith, counted-hits x w slot keys, count-cons (is_of w slot) (hit_at x w k) (map (hit_at x w) keys), count-cons (is_in w slot) k keys)
+counted-hits x w slot (k ∷ keys) = search (count-cons, is_in, counted-hits x w slot keys)
 
 module _ (x : Happening) (w : World) (cpu : CpuNo) (h : IsKept w.hardware w) where
   pub may-hit : ((k : Key) → is_live w k ≡ true → is_on_at w cpu k ≡ true → is_hit_by x (instance_at w k) ≡ true

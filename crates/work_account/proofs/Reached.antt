@@ -22,8 +22,7 @@ is_in w slot k = (instance_at w k).event.0 == slot
 
 counted-image : (w : World) (p : Instance → Bool) (keys : List Key) → count_by p (map (instance_at w) keys) ≡ count_by (λ k. p (instance_at w k)) keys
 counted-image w p [] = refl
-counted-image w p (k ∷ keys) =
-    omega (arith, count-cons p (instance_at w k) (map (instance_at w) keys), count-cons (λ q. p (instance_at w q)) k keys, counted-image w p keys)
+counted-image w p (k ∷ keys) = search (nat_tests, count-cons, counted-image w p keys)
 
 pub one-each : (hw : Hardware) (w : World) (cpu : CpuNo) → IsKept hw w → (slot : ℕ) → count_by (is_in w slot) (keys_by_pass w cpu) ≤ 1
 one-each hw w cpu h slot =
@@ -53,13 +52,7 @@ chosen-passes p keys q some = elim (cases_Bool (p q)) [
 -- A processor reaches at most one key of each of 256 slots.
 split-length : (p : Key → Bool) (keys : List Key) → length keys ≡ count_by p keys + length (filter (λ k. not (p k)) keys)
 split-length p [] = refl
-split-length p (k ∷ keys) =
-    let rest : List Key = filter (λ q. not (p q)) keys in
-    let kept : (b : Bool) → p k ≡ b → length (filter (λ q. not (p q)) (k ∷ keys)) ≡ length (cond (not b) (k ∷ rest) rest) = λ b e. ap (λ c. length (cond (not c) (k ∷ rest) rest)) e in
-    elim (cases_Bool (p k)) [
-      | inl e ↦ omega (arith, split-length p keys, kept true e, count-cons p k keys, once-true (p k) e)
-      | inr e ↦ omega (arith, split-length p keys, kept false e, count-cons p k keys, once-false (p k) e)
-    ]
+split-length p (k ∷ keys) = grind (arith, nat_tests, count-cons, once-true, once-false, split-length p keys)
 
 not-in : (w : World) (n : ℕ) (q : Key) → not (is_in w n q) ≡ true → (instance_at w q).event.0 ≡ n → ⊥
 not-in w n q out same = let its : is_in w n q ≡ true = grind (arith, nat_tests, same) in false≢true (sym (ap not its) ∙ out)
@@ -96,10 +89,7 @@ listed-leads hw w c false q h some =
     leads-where (leads (post_at w) q) (place_of (entry_at w q).context == place_of c) (if (entry_at w q).pinned then false else true) (omega (arith, some, h.linked.flexible q (place_of c)))
 
 live-below : (tasks : List TaskStatus) (n : ℕ) → is_live_task (slice_index_or tasks n unknown_task).state ≡ true → n < length tasks
-live-below tasks n live = elim (cases_lt n (length tasks)) [
-  | inl low ↦ low
-  | inr past ↦ absurd (false≢true (ap (λ t. is_live_task t.state) (sym (get_or_past tasks n unknown_task past)) ∙ live))
-]
+live-below tasks n live = grind (arith, nat_tests, cases_lt, false≢true, get_or_past)
 
 pub task-below : (hw : Hardware) (w : World) (cpu : CpuNo) (o : Option TaskNo) → IsKept hw w → o ≡ task_on (stage_of w) cpu → IfSome o (λ t. t.0 < 64)
 task-below hw w cpu None h on = tt

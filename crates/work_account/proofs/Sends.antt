@@ -17,10 +17,7 @@ place-here : (n ring : RingNo) (numbers : List RingNo) → n.0 ≡ ring.0 → ri
 place-here n ring numbers e = let its : (n.0 == ring.0) ≡ true = grind (arith, nat_tests, e) in ap (λ (b : Bool). cond (not b) (1 + ring_index numbers ring) 0) its
 
 place-later : (n ring : RingNo) (numbers : List RingNo) → (n.0 ≡ ring.0 → ⊥) → ring_index (n ∷ numbers) ring ≡ suc (ring_index numbers ring)
-place-later n ring numbers off =
-    let other : (n.0 == ring.0) ≡ false = grind (arith, nat_tests, off) in
-    let one : 1 + ring_index numbers ring ≡ suc (ring_index numbers ring) = omega arith in
-    ap (λ (b : Bool). cond (not b) (1 + ring_index numbers ring) 0) other ∙ one
+place-later n ring numbers off = grind (arith, nat_tests)
 
 pub found-is : (numbers : List RingNo) (outs : List OutEnd) (ring : RingNo) (q : Request) (o : OutEnd) → HasRing numbers ring → slice_get outs (ring_index numbers ring) ≡ Some o
     → (slice_set outs (ring_index numbers ring) (sent_to o q) ≡ sent_among numbers outs ring q) × (loses_among numbers outs ring q ≡ not (fits o q))
@@ -30,13 +27,7 @@ found-is (n ∷ numbers) (p ∷ outs) ring q o there at =
     let sent : Bool → List OutEnd = λ b. if b then sent_to p q ∷ outs else p ∷ sent_among numbers outs ring q in
     let lost : Bool → Bool = λ b. if b then not (fits p q) else loses_among numbers outs ring q in
     elim (cases_eq n.0 ring.0) [
-      | inl e ↦
-          let its : (n.0 == ring.0) ≡ true = grind (arith, nat_tests, e) in
-          let first : ring_index (n ∷ numbers) ring ≡ 0 = place-here n ring numbers e in
-          let same : p ≡ o = same_Some p o (ap (slice_get (p ∷ outs)) (sym first) ∙ at) in (
-            ap (λ (i : ℕ). slice_set (p ∷ outs) i (sent_to o q)) first ∙ (ap (λ (x : OutEnd). sent_to x q ∷ outs) (sym same) ∙ ap sent (sym its)),
-            ap lost its ∙ ap (λ (x : OutEnd). not (fits x q)) same,
-          )
+      | inl e ↦ grind (arith, nat_tests, e, place-here, same_Some)
       | inr off ↦
           let other : (n.0 == ring.0) ≡ false = grind (arith, nat_tests, off) in
           let later : ring_index (n ∷ numbers) ring ≡ suc (ring_index numbers ring) = place-later n ring numbers off in

@@ -33,10 +33,7 @@ none-left (suc n) = none-left n
 
 -- an account that nothing was hit of
 no-hits : (period : ℕ) (a : Account) → a ≡ after_hits 0 period a
-no-hits period a =
-    let count : a.sums.count ≡ a.sums.count + 0 = omega arith in
-    let left : a.left ≡ left_after 0 period a.left = sym (no-left period a.left) in
-    λ j. record { sums = record a.sums { count = count j }; left = left j }
+no-hits period a = grind (arith, nat_tests, no-left)
 
 -- the account of an instance after those on a processor that take it were hit
 module _ (x : Happening) (w : World) (cpu : CpuNo) (h : IsKept w.hardware w) (v : World) where
@@ -114,11 +111,7 @@ both-given false false m = omega arith
 both-left : (on zero : Bool) (m period left : ℕ) → (zero ≡ true → period ≡ 0) → (period ≡ 0 → left ≡ 0)
     → left_after (if not zero && on then m else 0) period left ≡ left_after (if on then m else 0) period left
 both-left on false m period left is whole = refl
-both-left on true m period left is whole =
-    let p : period ≡ 0 = is refl in
-    let l : left ≡ 0 = whole p in
-    let all : (n : ℕ) → left_after n period left ≡ 0 = λ n. (ap (λ q. left_after n q left) p ∙ ap (λ q. left_after n 0 q) l) ∙ none-left n in
-    all 0 ∙ sym (all (if on then m else 0))
+both-left on true m period left is whole = grind (arith, nat_tests, none-left)
 
 -- a world that was worked on has the same keys to hit
 pub same-hits : (x : Happening) (w v : World) (cpu : CpuNo) (work : Work) → IsWorked w v cpu work → hits_among x v (keys_by_pass v cpu) ≡ hits_among x w (keys_by_pass w cpu)
@@ -141,9 +134,7 @@ work-shared w v cpu work h judged worked whole = record {
       let count : (a.sums.count + g.count) + n ≡ a.sums.count + s.count = omega (arith, both-given on (i.attr.period == 0) m, ap (λ (t : Sums). t.count) is) in
       let enabled : a.sums.enabled + g.enabled ≡ a.sums.enabled + s.enabled = ap (λ (t : Sums). a.sums.enabled + t.enabled) (sym is) in
       let running : a.sums.running + g.running ≡ a.sums.running + s.running = ap (λ (t : Sums). a.sums.running + t.running) (sym is) in
-      let left : left_after n i.attr.period a.left ≡ left_after s.count i.attr.period a.left =
-      both-left on (i.attr.period == 0) m i.attr.period a.left (is-zero i.attr.period) (whole k live)
-      ∙ ap (λ (t : Sums). left_after t.count i.attr.period a.left) (sym is) in
+      let left : left_after n i.attr.period a.left ≡ left_after s.count i.attr.period a.left = grind (arith, nat_tests, both-left, is-zero) in
       account-hit (happening.Work work) w cpu h v k live
       ∙ ((λ j. after_hits n (period j) (worked.accounts k live j))
       ∙ (λ j. record { sums = record { count = count j; enabled = enabled j; running = running j }; left = left j })));

@@ -3,7 +3,7 @@ use Rattle.std.specs.Prelude.{ℕ, zero, suc, ◌+◌, ◌≤◌, ◌==◌, bit_
 use Rattle.std.proofs.Common.{arith, length-append}
 use Rattle.perf_base.specs.declared.{lines.Work.{Work}, numbers.{CpuNo.{CpuNo}, RingNo.{RingNo}}}
 use Rattle.stage_spec.{specs.{declared.instance.Instance.{Instance}, Stage.{Stage, original_of}}, proofs.Each.{none-Each, cons-Each, append-Each}}
-use Rattle.ring_spec.specs.{declared.fields.Fields.{Fields}, Records.{field, thread_word, body_of}}
+use Rattle.ring_spec.specs.{declared.fields.Fields.{Fields}, Records.{field, body_of}}
 use Rattle.ring_spec.specs.Sending.{SentSample, fields_of, has_trailer, trailer_if, sent_of, to_ring, sent_by_family, overflows_by}
 use Rattle.work_account.proofs.Accounts.{IsSized, AreSized}
 
@@ -19,15 +19,11 @@ last-field : (words : List ℕ) (n bit sample word : ℕ) → length words ≤ n
 last-field words n bit sample word h = omega (arith, h, one-word bit sample word, length-append words (field bit sample word))
 
 body-small : (sample : ℕ) (f : Fields) → length (body_of sample f) ≤ 8
-body-small sample f =
-    last-field _ 7 256 sample f.period (last-field _ 6 128 sample f.cpu (last-field _ 5 512 sample f.stream_id (last-field _ 4 64 sample f.id
-    (last-field _ 3 4 sample f.time (last-field _ 2 2 sample (thread_word f) (last-field _ 1 1 sample f.ip (one-word 65536 sample f.identifier)))))))
+body-small sample f = grind (arith, last-field)
 
 trailer-small : (b : Bool) (sample : ℕ) (f : Fields) → length (trailer_if b sample f) ≤ 6
 trailer-small false sample f = omega arith
-trailer-small true sample f =
-    last-field _ 5 65536 sample f.identifier (last-field _ 4 128 sample f.cpu (last-field _ 3 512 sample f.stream_id (last-field _ 2 64 sample f.id
-    (last-field _ 1 4 sample f.time (one-word 2 sample (thread_word f))))))
+trailer-small true sample f = grind (arith, last-field)
 
 -- so each record sent is
 module _ (s : Stage) (cpu : CpuNo) (work : Work) (clock : ℕ) where

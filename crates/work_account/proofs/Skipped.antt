@@ -1,14 +1,14 @@
 -- Nobody in a context takes work where none there samples.
-use Rattle.std.specs.Prelude.{◌≡◌, ◌≤◌, ◌==◌, Bool, true, false, not, ◌&&◌, cond, List, [], ◌∷◌, ◌++◌, map, filter, if◌then◌else◌}
-use Rattle.std.proofs.{Common.{arith, refl, sym, ap, ◌∙◌, inl, inr}, lemmas.Bool.{cases_Bool, false≢true, Decides.{nat_tests}}}
+use Rattle.std.specs.Prelude.{◌≡◌, ◌≤◌, ◌==◌, Bool, true, false, ◌&&◌, cond, List, [], ◌∷◌, ◌++◌, map, filter}
+use Rattle.std.proofs.{Common.{arith, refl, ap, ◌∙◌}, lemmas.Bool.{false≢true, Decides.{nat_tests}}}
 use Rattle.perf_base.specs.declared.{lines.Work.{Work}, numbers.Key.{Key}, standing.Context.{Context}}
 use Rattle.stage_spec.specs.Stage.{place_of}
-use Rattle.world_spec.specs.{Value.{World, is_live, entry_at, instance_at, leaders_of, times}, Kept.{post_at, leads, once_if, IsKept}}
-use Rattle.world_spec.{specs.Working.{is_on}, proofs.{Along.{member-of}, Keys.{times-cons}}}
+use Rattle.world_spec.specs.{Value.{World, is_live, entry_at, leaders_of, times}, Kept.{once_if, IsKept}}
+use Rattle.world_spec.{proofs.{Along.{member-of}, Keys.{times-cons}}}
 use Rattle.world_tables.specs.Places.{picked}
 use Rattle.perf_world.specs.Seen.{SomeSamples}
 use Rattle.work_account.specs.declared.{happening.Happening.{Happening}, overflowing.Hit.{Hit}}
-use Rattle.work_account.{specs.Visits.{samples, takes, hit_at, hits_among, members_at, all_members}, proofs.Among.{hits-append}}
+use Rattle.work_account.{specs.Visits.{takes, hit_at, hits_among, members_at, all_members}, proofs.Among.{hits-append}}
 use Rattle.work_account.proofs.Reached.{stands-first}
 use Rattle.work_account.specs.declared.happening.Happening.TheVariants as happening
 
@@ -20,35 +20,20 @@ placed false there third h = absurd (omega (arith, h))
 
 listed-place : (w : World) (c : Context) (pinned : Bool) (q : Key) → IsKept w.hardware w → 1 ≤ times q (picked pinned (leaders_of w c)) → place_of (entry_at w q).context ≡ place_of c
 listed-place w c true q h some =
-    let there : (place_of (entry_at w q).context == place_of c) ≡ true =
-    placed (leads (post_at w) q) (place_of (entry_at w q).context == place_of c) (if (entry_at w q).pinned then true else false) (omega (arith, some, h.linked.pinned q (place_of c))) in
+    let there : (place_of (entry_at w q).context == place_of c) ≡ true = grind (arith, nat_tests, placed) in
     grind (arith, nat_tests, there)
 listed-place w c false q h some =
-    let there : (place_of (entry_at w q).context == place_of c) ≡ true =
-    placed (leads (post_at w) q) (place_of (entry_at w q).context == place_of c) (if (entry_at w q).pinned then false else true) (omega (arith, some, h.linked.flexible q (place_of c))) in
+    let there : (place_of (entry_at w q).context == place_of c) ≡ true = grind (arith, nat_tests, placed) in
     grind (arith, nat_tests, there)
 
 member-place : (w : World) (c : Context) (pinned : Bool) (q k : Key) → IsKept w.hardware w → 1 ≤ times q (picked pinned (leaders_of w c)) → 1 ≤ times k (members_at w q)
     → (is_live w k ≡ true) × (place_of (entry_at w k).context ≡ place_of c)
-member-place w c pinned q k h listed member =
-    let its = member-of w.hardware w h q k member in (
-      its.0,
-      ap place_of (sym (h.grouped.together k its.0)) ∙ (ap (λ (x : Key). place_of (entry_at w x).context) its.1 ∙ listed-place w c pinned q h listed),
-    )
+member-place w c pinned q k h listed member = grind (arith, nat_tests, member-of, listed-place)
 
 -- who does not sample takes no work
 works-none : (w : World) (work : Work) (c : Context) (k : Key) → (SomeSamples w c → ⊥) → is_live w k ≡ true → place_of (entry_at w k).context ≡ place_of c
     → takes (happening.Work work) w k ≡ false
-works-none w work c k none live there = elim (cases_Bool (samples (instance_at w k))) [
-  | inl is ↦ absurd (none (
-    k,
-    live,
-    there,
-    λ zero.
-        let e : ((instance_at w k).attr.period == 0) ≡ true = grind (arith, nat_tests, zero) in false≢true (sym (ap not e) ∙ is),
-  ))
-  | inr off ↦ ap (λ b. b && is_on w k) off
-]
+works-none w work c k none live there = grind (arith, nat_tests, false≢true)
 
 -- so nothing is found
 none-among : (x : Happening) (w : World) (keys : List Key) → ((k : Key) → 1 ≤ times k keys → takes x w k ≡ false) → hits_among x w keys ≡ []

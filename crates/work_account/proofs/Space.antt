@@ -1,9 +1,9 @@
 -- Sends leave rings and ends together, and space for as many fewer records.
-use Rattle.std.specs.Prelude.{◌≡◌, ℕ, suc, ◌+◌, ◌-◌, ◌*◌, ◌^◌, ◌<◌, ◌≤◌, ◌==◌, Bool, true, false, All, List, [], ◌∷◌, length, map, slice_index_or}
-use Rattle.std.proofs.{Common.{arith, refl, sym, ap, subst, ◌∙◌, inl, inr}, lemmas.Bool.{cases_Bool, cases_eq, cases_lt}}
+use Rattle.std.specs.Prelude.{◌≡◌, ℕ, suc, ◌+◌, ◌-◌, ◌*◌, ◌^◌, ◌<◌, ◌≤◌, ◌==◌, Bool, true, false, All, List, [], ◌∷◌, map, slice_index_or}
+use Rattle.std.proofs.{Common.{arith, refl, sym, ap, ◌∙◌, inl, inr}, lemmas.Bool.{cases_Bool, cases_lt}}
 use Rattle.std.proofs.{lemmas.List.{get_or-set_same, get_or-set_other, Elements.{All-head, All-tail, All-cons}}, Math.Seq.{set_out}}
 use Rattle.perf_base.specs.declared.numbers.{EventNo.{EventNo}, RingNo.{RingNo}}
-use Rattle.ring_words.specs.Ends.{Ring, head_place}
+use Rattle.ring_words.specs.Ends.{head_place}
 use Rattle.sample_ring.{specs.{OutEnds.{OutEnd}, RingLists.{RingList}, Sends.{Request, sent_to}}, proofs.Sending.{head_bounded, lost_bounded}}
 use Rattle.work_account.specs.{Ends.{Ends, sent_among, loses_among, count_lost, send_one, AreTogether, HaveSpace}, Sampling.{send_times}}
 use Rattle.work_account.proofs.Accounts.{ring-kept}
@@ -30,21 +30,11 @@ times-more : (n b : ℕ) → suc n * b ≡ n * b + b
 times-more n b = omega arith
 
 head-next : (n : ℕ) (q : Request) (o : OutEnd) → head_place o.producer + suc n * o.producer.ring.bytes < 2 ^ 63 → head_place (sent_to o q).producer + n * (sent_to o q).producer.ring.bytes < 2 ^ 63
-head-next n q o h =
-    let b : ℕ = o.producer.ring.bytes in
-    subst (λ (m : ℕ). head_place (sent_to o q).producer + n * m < 2 ^ 63) (ap (λ (r : Ring). r.bytes) (sym (ring-kept o q))) (omega (arith, h, head_bounded o q, times-more n b))
+head-next n q o h = grind (arith, ring-kept, head_bounded, times-more)
 
 count-next : (b : Bool) (e : EventNo) (lost : List ℕ) (slot : ℕ) → slice_index_or (count_lost b e lost) slot 0 ≤ slice_index_or lost slot 0 + 1
 count-next false e lost slot = omega arith
-count-next true e lost slot =
-    let more : ℕ = slice_index_or lost e.0 0 + 1 in
-    elim (cases_eq slot e.0) [
-      | inr off ↦ omega (arith, get_or-set_other lost e.0 slot more 0 off)
-      | inl same ↦ elim (cases_lt e.0 (length lost)) [
-        | inl inside ↦ omega (arith, ap (λ (i : ℕ). slice_index_or (count_lost true e lost) i 0) same, ap (λ (i : ℕ). slice_index_or lost i 0) same, get_or-set_same lost e.0 more 0 inside)
-        | inr past ↦ omega (arith, ap (λ (l : List ℕ). slice_index_or l slot 0) (set_out lost e.0 more past))
-      ]
-    ]
+count-next true e lost slot = grind (arith, get_or-set_other, cases_lt, get_or-set_same, set_out)
 
 pub space-next : (S : ℕ → Type 0) (n : ℕ) (x : Ends) (e : EventNo) (ring : RingNo) (q : Request) → HaveSpace S (suc n) x → HaveSpace S n (send_one x e ring q)
 space-next S n x e ring q h = record {
@@ -71,10 +61,7 @@ tables-kept : (numbers : List RingNo) (outs : List OutEnd) (ring : RingNo) (q : 
     → map (λ (o : OutEnd). o.producer.ring) (sent_among numbers outs ring q) ≡ map (λ (o : OutEnd). o.producer.ring) outs
 tables-kept [] outs ring q = refl
 tables-kept (n ∷ numbers) [] ring q = refl
-tables-kept (n ∷ numbers) (o ∷ outs) ring q = elim (cases_Bool (n.0 == ring.0)) [
-  | inl e ↦ rw e (ap (λ (r : Ring). r ∷ map (λ (p : OutEnd). p.producer.ring) outs) (ring-kept o q))
-  | inr e ↦ rw e (ap (λ (l : List Ring). o.producer.ring ∷ l) (tables-kept numbers outs ring q))
-]
+tables-kept (n ∷ numbers) (o ∷ outs) ring q = grind (arith, ring-kept, tables-kept numbers outs ring q)
 
 pub together-next : (rings : RingList) (x : Ends) (e : EventNo) (ring : RingNo) (q : Request) → AreTogether rings x.outs → AreTogether rings (send_one x e ring q).outs
 together-next rings x e ring q h = record { numbers = h.numbers; tables = tables-kept x.outs.numbers x.outs.outs ring q ∙ h.tables }

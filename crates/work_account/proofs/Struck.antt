@@ -34,9 +34,7 @@ plus-other : (s t : Key → Sums) (k : Key) → ((q : Key) → (q.0 ≡ k.0 → 
 plus-other s t k same [] none = refl
 plus-other s t k same (q ∷ keys) none = elim (cases_eq q.0 k.0) [
   | inl e ↦ absurd (omega (arith, none, times-cons k q keys, once-true (is_key k q) (is_key-same k q e)))
-  | inr apart ↦
-      let rest : plus_keys s keys ≡ plus_keys t keys = plus-other s t k same keys (omega (arith, none, times-cons k q keys)) in
-      λ i. plus (same q apart i) (rest i)
+  | inr apart ↦ grind (arith, nat_tests, times-cons, apart, plus-other s t k same keys (omega (arith, none, times-cons k q keys)))
 ]
 
 -- hits of other families leave a family, and its instances' accounts

@@ -5,8 +5,8 @@ use Rattle.std.proofs.lemmas.Bool.Decides.{nat_tests}
 use Rattle.perf_base.specs.declared.{numbers.Key.{Key}, reply.Sums.{Sums}}
 use Rattle.stage_spec.specs.{declared.instance.Instance.{Instance}, Families.{plus}, Hardware.{Hardware}, Occurrences.{left_after}, Shares.{no_sums}}
 use Rattle.stage_laws.proofs.{Counts.{count-cons, count-append}, Totals.{total}}
-use Rattle.world_spec.specs.Value.{World, Account, Family, no_family, no_account, is_live, instance_at, account_at, is_key, times}
-use Rattle.world_spec.specs.Kept.{post_at, once_if, is_original_in, is_copy_in, in_option, keys_of, plus_keys, family_sums, AreLinked, IsKept}
+use Rattle.world_spec.specs.Value.{World, Account, no_family, no_account, is_live, instance_at, account_at, is_key, times}
+use Rattle.world_spec.specs.Kept.{post_at, once_if, is_original_in, is_copy_in, keys_of, plus_keys, family_sums, AreLinked, IsKept}
 use Rattle.world_spec.specs.{Changes.{with_instance, with_account}, Laws.{HitLaw, HitKeptLaw, ResetLaw, ResetKeptLaw, PeriodLaw, PeriodKeptLaw}}
 use Rattle.world_spec.proofs.{Tables.{get-here, get-there, keys-written}, Renaming.{instance-stage}, Keeping.{instance-kept}}
 
@@ -55,9 +55,7 @@ none_of_both false b c h = refl
 
 pub family-times : (w : World) → AreLinked (post_at w) w.contexts w.families → (k : Key) (slot : ℕ)
     → times k (keys_of (slice_index_or w.families slot no_family)) ≡ once_if (is_original_in (post_at w) slot k) + once_if (is_copy_in (post_at w) slot k)
-family-times w h k slot =
-    let f : Family = slice_index_or w.families slot no_family in
-    omega (arith, count-append (is_key k) (in_option f.original) f.copies, h.originals k slot, h.copies k slot)
+family-times w h k slot = grind (arith, nat_tests, count-append)
 
 pub family-once : (w : World) → AreLinked (post_at w) w.contexts w.families → (k : Key) (slot : ℕ) → times k (keys_of (slice_index_or w.families slot no_family)) ≤ 1
 family-once w h k slot = omega (arith, family-times w h k slot, one_of_both (is_live w k) ((instance_at w k).event.0 == slot) (instance_at w k).copy)

@@ -1,6 +1,6 @@
 -- The tables of a world after an instance came, and that it is kept.
 use Rattle.std.specs.Prelude.{◌≡◌, ℕ, ◌+◌, ◌<◌, ◌≤◌, ◌==◌, Bool, true, false, ◌||◌, List, [], ◌∷◌, ◌++◌, length, is_some, Option, Some, None, slice_index_or, slice_set, if◌then◌else◌}
-use Rattle.std.{specs.List.{list_any}, proofs.{Common.{arith, refl, sym, ap, subst, ◌∙◌, inl, inr}, lemmas.Bool.{cases_eq, cases_Bool}}}
+use Rattle.std.{specs.List.{list_any}, proofs.{Common.{arith, refl, ap, subst, ◌∙◌, inl, inr}, lemmas.Bool.{cases_Bool}}}
 use Rattle.std.proofs.lemmas.Bool.Decides.{nat_tests}
 use Rattle.perf_base.specs.declared.{attr.Attr.{Attr}, numbers.{EventNo.{EventNo}, Key.{Key}}, reply.Sums.{Sums}}
 use Rattle.stage_spec.specs.{Families.{plus}, Flags.{is_disabled}, Opening.{first_state}, Reading.{is_error}, Shares.{no_sums}}
@@ -26,12 +26,7 @@ abbrev pub grown_entry : World → Key → Key → Entry
 grown_entry w k first = record (entry_at w first) { members = (entry_at w first).members ++ k ∷ [] }
 
 grown-core : (w : World) (k first : Key) → is_live w first ≡ true → (j : Key) → core (post_at (with_entry w first (grown_entry w k first)) j) ≡ core (post_at w j)
-grown-core w k first there j = elim (cases_eq j.0 first.0) [
-  | inl e ↦
-      ap (λ x. core (post_at (with_entry w first (grown_entry w k first)) x)) (key-is j first e)
-      ∙ (ap core (written-post w first (grown_entry w k first)) ∙ (ap (λ b. core (post_of b (entry_at w first))) (sym there) ∙ ap (λ x. core (post_at w x)) (sym (key-is j first e))))
-  | inr apart ↦ ap core (other-post w first (grown_entry w k first) j apart)
-]
+grown-core w k first there j = grind (arith, nat_tests, core, with_entry, key-is, written-post, post_of, other-post)
 
 pub comes-by : (w : World) (k : Key) (n : Newcomer) → is_live w k ≡ false → (leader : Option Key) → HasRoom w n leader
     → Comes (post_at w) (post_at (added w k n leader)) k (post_of true (new_entry w k n leader))
@@ -66,10 +61,7 @@ joined-members w k n first j apart off =
 
 -- the instances of the others stay
 grown-instance : (w : World) (k first j : Key) → instance_at (with_entry w first (grown_entry w k first)) j ≡ instance_at w j
-grown-instance w k first j = elim (cases_eq j.0 first.0) [
-  | inl e ↦ ap (λ x. x.instance) (entry-here w first (grown_entry w k first) j e) ∙ ap (λ x. x.instance) (sym (entry-numbered w first j e))
-  | inr apart ↦ ap (λ x. x.instance) (entry-there w first (grown_entry w k first) j apart)
-]
+grown-instance w k first j = grind (arith, nat_tests, entry-here, entry-numbered, entry-there)
 
 pub other-instance : (w : World) (k : Key) (n : Newcomer) (leader : Option Key) (j : Key) → (j.0 ≡ k.0 → ⊥) → instance_at (added w k n leader) j ≡ instance_at w j
 other-instance w k n None j apart = ap (λ x. x.instance) (entry-there w k (new_entry w k n None) j apart)

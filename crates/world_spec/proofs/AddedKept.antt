@@ -1,7 +1,7 @@
 -- A world is kept when an instance comes.
-use Rattle.std.specs.Prelude.{◌≡◌, ℕ, ◌+◌, ◌^◌, ◌<◌, ◌≤◌, ◌==◌, Bool, true, false, List, [], ◌∷◌, ◌++◌, length, is_some, Option, Some, None, slice_index_or, if◌then◌else◌}
+use Rattle.std.specs.Prelude.{◌≡◌, ℕ, ◌+◌, ◌^◌, ◌<◌, ◌≤◌, Bool, true, false, List, [], ◌∷◌, ◌++◌, length, Option, Some, None, slice_index_or, if◌then◌else◌}
 use Rattle.std.specs.{FinMap.{FinMap, contains_key, insert}, Option.{unwrap_or}, Ordering.{nat_cmp}}
-use Rattle.std.proofs.{Common.{arith, refl, sym, ap, subst, ◌∙◌, inl, inr}, lemmas.{Bool.{cases_Bool, false≢true}, List.{length-map, length-set}}}
+use Rattle.std.proofs.{Common.{arith, refl, sym, ap, subst, ◌∙◌}, lemmas.{Bool.{false≢true}, List.{length-map, length-set}}}
 use Rattle.perf_base.specs.{Scripts.{IsKind}, declared.{numbers.Key.{Key}, reply.Sums.{Sums}}, Contexts.{context_of}}
 use Rattle.stage_spec.specs.{Checks.{has_unknown_sample}, Flags.{is_disabled}, Hardware.{Hardware}, Opening.{is_used}, Reading.{is_error}}
 use Rattle.stage_spec.specs.Stage.{place_of}
@@ -114,20 +114,11 @@ lawful-added w k n leader c used known kind placed h =
 -- the tables have the new key
 same-keys : {X : Type 0} (m : FinMap nat_cmp X) (k : Key) (v : X) (before after : Key → Bool) → ((j : Key) → contains_key m j.0 ≡ before j) → after k ≡ true
     → ((j : Key) → (j.0 ≡ k.0 → ⊥) → after j ≡ before j) → (j : Key) → contains_key (insert m k.0 v) j.0 ≡ after j
-same-keys m k v before after h new others = by_coming (λ j. contains_key (insert m k.0 v) j.0 ≡ after j) k
-    (ap is_some (get-here m k.0 v k.0 refl) ∙ sym new) (λ j apart. ap is_some (get-there m k.0 v j.0 apart) ∙ (h j ∙ sym (others j apart)))
+same-keys m k v before after h new others = grind (arith, by_coming, get-here, get-there)
 
 -- no original of a slot that was not used
 slot-free : (w : World) → AreLawful w → (n : Newcomer) → IsOfOriginal w n → n.copy ≡ false → (j : Key) → is_original_in (post_at w) n.event.0 j ≡ false
-slot-free w h n o first j = elim (cases_Bool (is_original_in (post_at w) n.event.0 j)) [
-  | inr fails ↦ fails
-  | inl passes ↦
-      let parts : (is_live w j ≡ true) × (((instance_at w j).event.0 == n.event.0) ≡ true) × ((instance_at w j).copy ≡ false)
-      = three (is_live w j) ((instance_at w j).event.0 == n.event.0) (instance_at w j).copy passes in
-      let same : (instance_at w j).event.0 ≡ n.event.0 = number_true (instance_at w j).event.0 n.event.0 parts.1 in
-      let was : is_used (stage_of w) n.event ≡ true = ap (λ x. is_used (stage_of w) (record { 0 = x })) (sym same) ∙ h.used j parts.0 parts.2 in
-      absurd (false≢true (sym (o.unused first) ∙ was))
-]
+slot-free w h n o first j = grind (arith, three, number_true, false≢true)
 
 pub both-picks : (w : World) (contexts : List Leaders) (at : Key → Post) → ((j : Key) (place : ℕ) → times j (slice_index_or contexts place no_leaders).pinned ≡ once_if (leads_in at place true j))
     → ((j : Key) (place : ℕ) → times j (slice_index_or contexts place no_leaders).flexible ≡ once_if (leads_in at place false j))

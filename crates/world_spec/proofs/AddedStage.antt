@@ -1,15 +1,15 @@
 -- The stage after an instance came.
-use Rattle.std.specs.Prelude.{◌≡◌, ℕ, ◌+◌, ◌<◌, ◌==◌, suc, zero, Bool, true, false, not, ◌&&◌, List, [], ◌∷◌, ◌++◌, map, Option, Some, None, slice_index_or, slice_set, if◌then◌else◌}
-use Rattle.std.proofs.{Common.{arith, refl, sym, ap, ◌∙◌, inl, inr}, lemmas.Bool.{cases_eq, cases_Bool, Decides.{nat_tests}}}
+use Rattle.std.specs.Prelude.{◌≡◌, ℕ, ◌+◌, ◌<◌, ◌==◌, suc, zero, Bool, true, false, not, ◌&&◌, List, [], ◌∷◌, ◌++◌, map, Option, Some, None, slice_index_or, if◌then◌else◌}
+use Rattle.std.proofs.{Common.{arith, refl, sym, ap, ◌∙◌, inl, inr}, lemmas.Bool.{cases_eq, Decides.{nat_tests}}}
 use Rattle.std.proofs.{lemmas.{List.{map-set, map-append}, Simd.{map-map}}, Math.ListN.{get_or-map}}
-use Rattle.perf_base.specs.{declared.{numbers.{EventNo.{EventNo}, Key.{Key}}, standing.Context.{Context}}, Contexts.{context_of}}
+use Rattle.perf_base.specs.{declared.{numbers.{EventNo.{EventNo}, Key.{Key}}}, Contexts.{context_of}}
 use Rattle.stage_spec.specs.{declared.instance.Instance.{Instance}, Flags.{is_pinned}, Hardware.{Hardware}}
 use Rattle.stage_spec.specs.Opening.{joined, add_group, join_group, join_lists, opened}
-use Rattle.stage_spec.specs.Stage.{Stage, Group, Lists, alone, place_of, lists_of, is_original, change_context}
+use Rattle.stage_spec.specs.Stage.{Stage, Group, Lists, alone, place_of, lists_of, is_original}
 use Rattle.stage_laws.specs.Sound.{has_id}
-use Rattle.world_spec.specs.Value.{World, Leaders, no_leaders, no_family, leaders_of, is_live, entry_at, instance_at, is_key, times}
+use Rattle.world_spec.specs.Value.{World, Leaders, no_leaders, leaders_of, is_live, entry_at, instance_at, is_key, times}
 use Rattle.world_spec.specs.StageOf.{after_first, group_at, lists_at, stage_of}
-use Rattle.world_spec.specs.{Kept.{post_at, in_option, is_original_in, is_member_of, leads, leads_in, AreLinked, IsKept}, Changes.{in_list}}
+use Rattle.world_spec.specs.{Kept.{post_at, in_option, is_member_of, leads, leads_in, AreLinked, IsKept}, Changes.{in_list}}
 use Rattle.world_spec.specs.Adding.{Newcomer, new_instance}
 use Rattle.world_spec.specs.Comings.{HasRoom, join_id, instance_comes, counted_in, slot_led, IsLedByOriginal, OpenLaw, AddLaw}
 use Rattle.world_spec.proofs.{Renaming.{id-apart, dead-entry}, Keys.{key-is, is_key-other, times-cons, once-true, once-false}, Moving.{leads-parts}}
@@ -29,8 +29,7 @@ map-places f g d (x ∷ xs) h = rw (h zero, map-places f g d xs (λ p. h (suc p)
 pub unlisted : (w : World) → AreLinked (post_at w) w.contexts w.families → (k : Key) → is_live w k ≡ false → (place : ℕ)
     → (times k (slice_index_or w.contexts place no_leaders).pinned ≡ 0) × (times k (slice_index_or w.contexts place no_leaders).flexible ≡ 0)
 unlisted w h k dead place =
-    let no : (b : Bool) → leads_in (post_at w) place b k ≡ false = λ b. none_of_three (leads (post_at w) k) (place_of (entry_at w k).context == place) (if (entry_at w k).pinned then b else not b)
-    (none_of_two (is_live w k) (is_key k (entry_at w k).leader) dead) in
+    let no : (b : Bool) → leads_in (post_at w) place b k ≡ false = grind (arith, nat_tests, none_of_three, none_of_two) in
     (h.pinned k place ∙ once-false (leads_in (post_at w) place true k) (no true), h.flexible k place ∙ once-false (leads_in (post_at w) place false k) (no false))
 
 pub ungrouped : (w : World) → AreLinked (post_at w) w.contexts w.families → (k : Key) → is_live w k ≡ false → (q : Key) → times k (entry_at w q).members ≡ 0
@@ -81,14 +80,8 @@ group-new w k n =
 
 pushed-lists : (w t : World) (k : Key) (i : Instance) → group_at t k ≡ alone i → (l : Leaders) → map (group_at t) l.pinned ≡ map (group_at w) l.pinned
     → map (group_at t) l.flexible ≡ map (group_at w) l.flexible → (pinned : Bool) → lists_at t (in_list pinned (push_key k) l) ≡ add_group pinned (alone i) (lists_at w l)
-pushed-lists w t k i new l pinned_same flexible_same true =
-    let pushed : map (group_at t) (l.pinned ++ k ∷ []) ≡ map (group_at w) l.pinned ++ alone i ∷ [] =
-    map-append (group_at t) l.pinned (k ∷ []) ∙ (ap (λ gs. gs ++ group_at t k ∷ []) pinned_same ∙ ap (λ g. map (group_at w) l.pinned ++ g ∷ []) new) in
-    λ x. record { pinned = pushed x; flexible = flexible_same x }
-pushed-lists w t k i new l pinned_same flexible_same false =
-    let pushed : map (group_at t) (l.flexible ++ k ∷ []) ≡ map (group_at w) l.flexible ++ alone i ∷ [] =
-    map-append (group_at t) l.flexible (k ∷ []) ∙ (ap (λ gs. gs ++ group_at t k ∷ []) flexible_same ∙ ap (λ g. map (group_at w) l.flexible ++ g ∷ []) new) in
-    λ x. record { pinned = pinned_same x; flexible = pushed x }
+pushed-lists w t k i new l pinned_same flexible_same true = grind (arith, nat_tests, map-append)
+pushed-lists w t k i new l pinned_same flexible_same false = grind (arith, nat_tests, map-append)
 
 alone-stage : (hw : Hardware) (w : World) (k : Key) (n : Newcomer) → IsKept hw w → is_live w k ≡ false
     → stage_of (added w k n None) ≡ counted_in n (instance_comes w n None (stage_of w))
@@ -101,10 +94,7 @@ alone-stage hw w k n h dead =
     let here : lists_at t (in_list (is_pinned n.attr) (push_key k) l) ≡ add_group (is_pinned n.attr) (alone (new_instance w n)) (lists_at w l) =
     pushed-lists w t k (new_instance w n) (group-new w k n) l (groups l.pinned none.0) (groups l.flexible none.1) (is_pinned n.attr) in
     let found : lists_of (stage_of w) n.context ≡ lists_at w l = get_or-map (lists_at w) w.contexts (place_of n.context) no_leaders in
-    ap {A = List Lists} (λ cs. counted_in n (record (stage_of w) { contexts = cs }))
-    (map-set (lists_at t) w.contexts (place_of n.context) (in_list (is_pinned n.attr) (push_key k) l)
-    ∙ (ap (λ cs. slice_set cs (place_of n.context) (lists_at t (in_list (is_pinned n.attr) (push_key k) l))) (contexts-same w t h.linked k dead same)
-    ∙ ap (slice_set (map (lists_at w) w.contexts) (place_of n.context)) (here ∙ ap (add_group (is_pinned n.attr) (alone (new_instance w n))) (sym found))))
+    grind (arith, nat_tests, map-set, t, push_key, l, contexts-same, same, here, found)
 
 -- a sibling in its leader's group
 after_pushed : (ms : List Key) (first k : Key) → ms ≡ first ∷ after_first ms → after_first (ms ++ k ∷ []) ≡ after_first ms ++ k ∷ []
@@ -139,10 +129,7 @@ joined-stage hw w k first n h dead lead =
     let live : is_live w first ≡ true = (leads-parts (is_live w first) (is_key first (entry_at w first).leader) lead).0 in
     let own : has_id id (instance_at w first) ≡ true = grind (arith, nat_tests) in
     let same : (q : Key) → (q.0 ≡ k.0 → ⊥) → group_at t q ≡ join_id id i (group_at w q) = λ q apart. (elim (cases_eq q.0 first.0) [
-      | inl e ↦
-          ap (group_at t) (key-is q first e) ∙ (group-grown hw w k first n h dead lead
-          ∙ (branch true (has_id id (instance_at w first)) (joined i (group_at w first)) (group_at w first) (sym own)
-          ∙ ap (λ x. join_id id i (group_at w x)) (sym (key-is q first e))))
+      | inl e ↦ grind (arith, nat_tests, key-is, e, group-grown, branch)
       | inr off ↦
           group-other w k n (Some first) h.linked dead q apart (joined-members w k n first q apart off)
           ∙ branch false (has_id id (instance_at w q)) (joined i (group_at w q)) (group_at w q) (sym (id-apart w first q h.numbered live off))
@@ -157,46 +144,17 @@ added-stage hw w k n (Some first) h dead room = joined-stage hw w k first n h de
 -- The original in a slot is one key.
 pub one-in_option : (o : Option Key) (j k : Key) → times j (in_option o) ≡ 1 → times k (in_option o) ≡ 1 → j.0 ≡ k.0
 one-in_option None j k hj hk = absurd (omega (arith, hj))
-one-in_option (Some q) j k hj hk = elim (cases_eq q.0 j.0) [
-  | inr apart ↦ absurd (omega (arith, hj, times-cons j q [], once-false (is_key j q) (is_key-other j q apart)))
-  | inl ej ↦ elim (cases_eq q.0 k.0) [
-    | inr apart ↦ absurd (omega (arith, hk, times-cons k q [], once-false (is_key k q) (is_key-other k q apart)))
-    | inl ek ↦ sym ej ∙ ek
-  ]
-]
+one-in_option (Some q) j k hj hk = grind (arith, nat_tests, times-cons, once-false, is_key-other)
 
 other-original : (w : World) → AreLinked (post_at w) w.contexts w.families → (first q : Key) → is_live w first ≡ true → (instance_at w first).copy ≡ false → (instance_at w first).event.0 < 256
     → (q.0 ≡ first.0 → ⊥) → is_original (instance_at w first).event (instance_at w q) ≡ false
-other-original w h first q live original low apart =
-    let slot : ℕ = (instance_at w first).event.0 in
-    elim (cases_Bool (is_live w q)) [
-      | inr dead ↦
-          let far : (instance_at w q).event.0 ≡ 256 = ap (λ e. e.instance.event.0) (dead-entry w q dead) in
-          let no : ((instance_at w q).event.0 == slot) ≡ false = grind (arith, nat_tests, far, low) in
-          none_of_two ((instance_at w q).event.0 == slot) (not (instance_at w q).copy) no
-      | inl alive ↦ elim (cases_Bool (is_original (instance_at w first).event (instance_at w q))) [
-        | inr fails ↦ fails
-        | inl passes ↦
-            let mine : is_original_in (post_at w) slot first ≡ true =
-            ap (λ b. b && slot == slot && not (instance_at w first).copy) live ∙ (ap (λ b. (slot == slot) && not b) original ∙ both_true (slot == slot) (grind (arith, nat_tests))) in
-            let yours : is_original_in (post_at w) slot q ≡ true =
-            ap (λ b. b && (instance_at w q).event.0 == slot && not (instance_at w q).copy) alive ∙ passes in
-            absurd (apart (one-in_option (slice_index_or w.families slot no_family).original q first
-            (h.originals q slot ∙ once-true (is_original_in (post_at w) slot q) yours) (h.originals first slot ∙ once-true (is_original_in (post_at w) slot first) mine)))
-      ]
-    ]
+other-original w h first q live original low apart = grind (arith, nat_tests, dead-entry, none_of_two, both_true, one-in_option, once-true)
 
 -- what opening makes
 opened-alone : (w : World) (n : Newcomer) → n.copy ≡ false → context_of n.attr ≡ n.context
     → counted_in n (instance_comes w n None (stage_of w)) ≡ opened (stage_of w) n.event n.attr None
 unfolding opened
-opened-alone w n first there =
-    let made : Bool → Context → Stage = λ copy c.
-    (record (change_context c (add_group (is_pinned n.attr) (alone (record (new_instance w n) { copy = copy }))) (stage_of w)) {
-      used = if copy then w.quiet.used else w.quiet.used ++ n.event ∷ [];
-      next_id = w.quiet.next_id + 1;
-    }) in
-    ap (λ copy. made copy n.context) first ∙ ap (made false) (sym there)
+opened-alone w n first there = grind (arith, nat_tests)
 
 opened-joined : (hw : Hardware) (w : World) (k leader : Key) (n : Newcomer) → IsKept hw w → is_live w k ≡ false → leads (post_at w) leader ≡ true → n.copy ≡ false → (instance_at w leader).copy ≡ false
     → stage_of (added w k n (Some leader)) ≡ opened (stage_of w) n.event n.attr (Some (instance_at w leader).event)
@@ -208,10 +166,7 @@ opened-joined hw w k leader n h dead lead first original =
     let live : is_live w leader ≡ true = (leads-parts (is_live w leader) (is_key leader (entry_at w leader).leader) lead).0 in
     let own : is_original e (instance_at w leader) ≡ true = ap (λ b. (e.0 == e.0) && not b) original ∙ both_true (e.0 == e.0) (grind (arith, nat_tests)) in
     let same : (q : Key) → (q.0 ≡ k.0 → ⊥) → group_at t q ≡ join_group e i (group_at w q) = λ q apart. (elim (cases_eq q.0 leader.0) [
-      | inl at ↦
-          ap (group_at t) (key-is q leader at) ∙ (group-grown hw w k leader n h dead lead
-          ∙ (branch true (is_original e (instance_at w leader)) (joined i (group_at w leader)) (group_at w leader) (sym own)
-          ∙ ap (λ x. join_group e i (group_at w x)) (sym (key-is q leader at))))
+      | inl at ↦ grind (arith, nat_tests, key-is, at, group-grown, branch)
       | inr off ↦
           group-other w k n (Some leader) h.linked dead q apart (joined-members w k n leader q apart off)
           ∙ branch false (is_original e (instance_at w q)) (joined i (group_at w q)) (group_at w q)

@@ -3,7 +3,7 @@ use Rattle.std.specs.{Prelude.{◌≡◌, ℕ, ◌≤◌, ◌==◌, Bool, true, 
 use Rattle.std.proofs.{Common.{arith, refl, sym, ap, subst, ◌∙◌, inl, inr}, lemmas.Bool.{cases_Bool, false≢true, Decides.{nat_tests}}}
 use Rattle.perf_base.specs.declared.{numbers.{EventNo.{EventNo}, Key.{Key}}, reply.Sums.{Sums}}
 use Rattle.stage_spec.specs.{Families.{plus, plus_each}, Hardware.{Hardware}, Shares.{no_sums}, Stage.{all_instances, is_of_family}}
-use Rattle.ring_spec.specs.Agreement.{IsCurrentId, IsCurrentSlot, lives}
+use Rattle.ring_spec.specs.Agreement.{IsCurrentId, lives}
 use Rattle.world_spec.specs.{Value.{World, family_of, is_live, instance_at, account_at, is_key, times}, StageOf.{stage_of}}
 use Rattle.world_spec.specs.{Kept.{keys_of, plus_keys, IsKept}, First.{first_world}}
 use Rattle.world_spec.{specs.Agreement.{FirstAgreesLaw, RecordsAgreeLaw, OtherRecordLaw, FamilyAgreesLaw}, proofs.Accounts.{family-times}}
@@ -14,8 +14,7 @@ use Rattle.world_spec.proofs.First.{first-stage, none-live, replicated}
 -- an id that an instance has is that of a live key, and the other way round
 id-of : (hw : Hardware) (w : World) → IsKept hw w → (id : ℕ) → lives (stage_of w) id ≡ true → (k : Key) × (is_live w k ≡ true) × ((instance_at w k).id ≡ id)
 id-of hw w h id there =
-    let k : (k : Key) × (1 ≤ times k (all_keys w)) × (((instance_at w k).id == id) ≡ true) =
-    any-key (λ i. i.id == id) (instance_at w) (all_keys w) (ap (list_any (λ i. i.id == id)) (sym (instances-are hw w h)) ∙ there) in
+    let k : (k : Key) × (1 ≤ times k (all_keys w)) × (((instance_at w k).id == id) ≡ true) = grind (arith, any-key, all_keys, instances-are) in
     (k.0, key-lives hw w h k.0 k.1, number_true (instance_at w k.0).id id k.2)
 
 id-lives : (hw : Hardware) (w : World) → IsKept hw w → (k : Key) → is_live w k ≡ true → lives (stage_of w) (instance_at w k).id ≡ true
@@ -27,36 +26,13 @@ id-lives hw w h k live =
 pub records-agree : RecordsAgreeLaw
 records-agree hw w r q h first second rings =
     let same : r.stage ≡ stage_of w = first.stage in
-    record {
-      stage = same ∙ sym second.stage;
-      sums = λ id current. elim (subst (λ s. IsCurrentId s id) same current) [
-        | inl there ↦
-            let k : (k : Key) × (is_live w k ≡ true) × ((instance_at w k).id ≡ id) = id-of hw w h id there in
-            subst (λ n. r.sums n ≡ q.sums n) k.2 (first.sums k.0 k.1 ∙ sym (second.sums k.0 k.1))
-        | inr past ↦ first.fresh id past ∙ sym (second.fresh id past)
-      ];
-      left = λ id there.
-          let k : (k : Key) × (is_live w k ≡ true) × ((instance_at w k).id ≡ id) = id-of hw w h id (ap (λ s. lives s id) (sym same) ∙ there) in
-          subst (λ n. r.left n ≡ q.left n) k.2 (first.left k.0 k.1 ∙ sym (second.left k.0 k.1));
-      folded = λ e current. let now : IsCurrentSlot (stage_of w) e = subst (λ s. IsCurrentSlot s e) same current in first.folded e now ∙ sym (second.folded e now);
-      lost = λ e current. let now : IsCurrentSlot (stage_of w) e = subst (λ s. IsCurrentSlot s e) same current in first.lost e now ∙ sym (second.lost e now);
-      clock = λ cpu. first.clock cpu ∙ sym (second.clock cpu);
-      rings = rings;
-    }
+    grind (arith, nat_tests, same, id-of)
 
 pub other-record : OtherRecordLaw
 other-record hw w r q h mine agree =
     let same : r.stage ≡ stage_of w = mine.stage in
     let drawn : (id : ℕ) → IsCurrentId (stage_of w) id → r.sums id ≡ q.sums id = λ id current. agree.sums id (subst (λ s. IsCurrentId s id) (sym same) current) in
-    record {
-      stage = sym agree.stage ∙ same;
-      sums = λ k live. sym (drawn (instance_at w k).id (inl (id-lives hw w h k live))) ∙ mine.sums k live;
-      fresh = λ id past. sym (drawn id (inr past)) ∙ mine.fresh id past;
-      left = λ k live. sym (agree.left (instance_at w k).id (ap (λ s. lives s (instance_at w k).id) same ∙ id-lives hw w h k live)) ∙ mine.left k live;
-      folded = λ e current. sym (agree.folded e (subst (λ s. IsCurrentSlot s e) (sym same) current)) ∙ mine.folded e current;
-      lost = λ e current. sym (agree.lost e (subst (λ s. IsCurrentSlot s e) (sym same) current)) ∙ mine.lost e current;
-      clock = λ cpu. sym (agree.clock cpu) ∙ mine.clock cpu;
-    }
+    grind (arith, nat_tests, same, drawn, id-lives)
 
 -- the sums of a family
 sums-within : (s t : Key → Sums) (keys : List Key) → ((k : Key) → 1 ≤ times k keys → s k ≡ t k) → plus_keys s keys ≡ plus_keys t keys
@@ -84,9 +60,7 @@ pub family-agrees : FamilyAgreesLaw
 family-agrees hw w r e h mine opened =
     let keys : List Key = keys_of (family_of w e) in
     let here : plus_each (λ i. r.sums i.id) (filter (is_of_family e) (all_instances r.stage)) ≡ plus_keys (λ k. (account_at w k).sums) keys =
-    ap (λ s. plus_each (λ i. r.sums i.id) (filter (is_of_family e) (all_instances s))) mine.stage
-    ∙ (family-sums hw w e (λ i. r.sums i.id) h
-    ∙ sums-within (λ k. r.sums (instance_at w k).id) (λ k. (account_at w k).sums) keys (λ k some. mine.sums k (family-lives hw w h e k some))) in
+    grind (arith, nat_tests, family-sums, sums-within, family-lives) in
     λ i. plus (here i) (mine.folded e (inl opened) i)
 
 -- before the first step

@@ -1,6 +1,6 @@
 -- The keys that a processor reaches: those that are on and those that are ready are the stage's, and what the
 -- definitions give each of a stretch of work is what it has along the processor.
-use Rattle.std.specs.Prelude.{◌≡◌, ℕ, ◌+◌, ◌≤◌, ◌==◌, nat_lt, Bool, true, false, ◌&&◌, cond, List, [], ◌∷◌, ◌++◌, map, filter, flat_map, count_by, option_map, Some, if◌then◌else◌}
+use Rattle.std.specs.Prelude.{◌≡◌, ℕ, ◌+◌, ◌≤◌, ◌==◌, Bool, true, false, ◌&&◌, cond, List, [], ◌∷◌, ◌++◌, map, filter, flat_map, count_by, option_map, if◌then◌else◌}
 use Rattle.std.proofs.{Common.{arith, refl, sym, ap, ◌∙◌, inl, inr}, lemmas.Bool.{cases_eq, cases_Bool, false≢true, Decides.{nat_tests}}}
 use Rattle.std.proofs.lemmas.List.Elements.{filter-append}
 use Rattle.perf_base.specs.declared.{attr.{Attr.{Attr}, Kind.{Kind}}, lines.Work.{Work}, numbers.{CpuNo.{CpuNo}, Key.{Key}}, reply.Sums.{Sums}}
@@ -14,7 +14,7 @@ use Rattle.stage_spec.specs.{Shares.{measured, of_instance, counted_by, work_hit
 use Rattle.stage_spec.specs.Verdict.{Judged, is_eligible, verdicts, on_instances}
 use Rattle.stage_laws.{specs.Narrowing.{has_context}, proofs.{Counts.{count-cons}, Tasks.{is_task-some}}}
 use Rattle.world_spec.specs.{Value.{World, is_live, entry_at, instance_at, standing_at, is_key, times}, StageOf.{group_at, stage_of}}
-use Rattle.world_spec.specs.{Kept.{post_at, once_if, leads, is_member_of, IsKept}, Metering.{is_metered, work_given, ShareLaw, GivenLaw, AlongLaw}}
+use Rattle.world_spec.specs.{Kept.{post_at, once_if, leads, IsKept}, Metering.{is_metered, work_given, ShareLaw, GivenLaw, AlongLaw}}
 use Rattle.world_spec.specs.{Rescheduled.{IsJudged}, Ways.{is_ready_at, is_on_at}}
 use Rattle.world_spec.specs.Working.{is_effective, is_on, leaders_by_pass, keys_by_pass, ready_in, effective_in, ReachedKeysLaw}
 use Rattle.world_spec.proofs.{Coming.{number_true}, Counting.{find-mapped, find-one, find-none, times-filter}, Families.{members_at}}
@@ -29,9 +29,7 @@ once-both true h = refl
 once-both false h = absurd (omega (arith, h))
 
 pub member-of : (hw : Hardware) (w : World) → IsKept hw w → (q k : Key) → 1 ≤ times k (members_at w q) → (is_live w k ≡ true) × ((entry_at w k).leader ≡ q)
-member-of hw w h q k some =
-    let both = leads-parts (is_live w k) (is_key q (entry_at w k).leader) (once-both (is_member_of (post_at w) q k) (omega (arith, some, h.linked.members k q))) in
-    (both.0, key-is (entry_at w k).leader q (is_key-true q (entry_at w k).leader both.1))
+member-of hw w h q k some = grind (arith, nat_tests, leads-parts, once-both, key-is, is_key-true, some, h.linked.members k q)
 
 -- a test that no key passes
 filter-no : (keys : List Key) → filter (λ k. false) keys ≡ []
@@ -41,13 +39,7 @@ filter-no (k ∷ keys) = filter-no keys
 -- those that are ready
 pub effective-are : (hw : Hardware) (w : World) → IsKept hw w → (leaders : List Key) → flat_map (effective_in w) leaders ≡ filter (is_effective w) (flat_map (members_at w) leaders)
 effective-are hw w h [] = refl
-effective-are hw w h (q ∷ leaders) =
-    let here : effective_in w q ≡ filter (is_effective w) (members_at w q) =
-    filter-same (λ k. is_ready (effective (instance_at w q).own (instance_at w k).own)) (is_effective w) (members_at w q)
-    (λ k some. ap (λ l. is_ready (effective (instance_at w l).own (instance_at w k).own)) (sym (member-of hw w h q k some).1)) in
-    ap (λ keys. keys ++ flat_map (effective_in w) leaders) here
-    ∙ (ap (λ keys. filter (is_effective w) (members_at w q) ++ keys) (effective-are hw w h leaders)
-    ∙ sym (filter-append (is_effective w) (members_at w q) (flat_map (members_at w) leaders)))
+effective-are hw w h (q ∷ leaders) = grind (arith, nat_tests, members_at, filter-same, member-of, filter-append, effective-are hw w h leaders)
 
 pub ready-keys : (hw : Hardware) (w : World) (cpu : CpuNo) → IsKept hw w
     → ready_instances (stage_of w) cpu ≡ map (instance_at w) (filter (is_effective w) (keys_by_pass w cpu))
@@ -64,12 +56,9 @@ none-eligible hw w cpu id (k ∷ keys) none =
     elim (cases_Bool (is_eligible hw cpu (group_at w k))) [
       | inl goes ↦ elim (cases_Bool ((instance_at w k).id == id)) [
         | inl its ↦ absurd (false≢true (sym (none k (omega (arith, times-cons k k keys, once-true (is_key k k) (is_key-same k k refl))) its) ∙ goes))
-        | inr other ↦
-            ap (λ b. count_by (is_led id) (cond b (group_at w k ∷ filter (is_eligible hw cpu) (map (group_at w) keys)) (filter (is_eligible hw cpu) (map (group_at w) keys)))) goes
-            ∙ omega (arith, rest, count-cons (is_led id) (group_at w k) (filter (is_eligible hw cpu) (map (group_at w) keys)), once-false (is_led id (group_at w k)) other)
+        | inr other ↦ grind (arith, nat_tests, is_led, count-cons, once-false, other)
       ]
-      | inr stays ↦
-          ap (λ b. count_by (is_led id) (cond b (group_at w k ∷ filter (is_eligible hw cpu) (map (group_at w) keys)) (filter (is_eligible hw cpu) (map (group_at w) keys)))) stays ∙ rest
+      | inr stays ↦ grind (arith, nat_tests, is_led, stays)
     ]
 
 not-eligible : (ready here counted : Bool) → ready ≡ false → (ready && here && counted) ≡ false
@@ -145,8 +134,7 @@ on-are hw w h (q ∷ leaders) ready =
 
 pub on-keys : (hw : Hardware) (w : World) (cpu : CpuNo) → IsKept hw w → IsJudged hw w cpu
     → on_instances hw (stage_of w) cpu ≡ map (instance_at w) (filter (is_on w) (keys_by_pass w cpu))
-on-keys hw w cpu h judged =
-    on-is hw w cpu h judged ∙ ap (map (instance_at w)) (on-are hw w h (leaders_by_pass w cpu) (on-ready hw w cpu h judged))
+on-keys hw w cpu h judged = grind (arith, nat_tests, on-is, on-are, on-ready)
 
 -- what an instance of a list gives by its id
 by-id : (hw : Hardware) (w : World) → IsKept hw w → (j k : Key) → is_live w j ≡ true → is_live w k ≡ true → ((instance_at w j).id == (instance_at w k).id) ≡ true → j.0 ≡ k.0
@@ -188,14 +176,7 @@ pub chosen-measure : (hw : Hardware) (w : World) → IsKept hw w → (f : Instan
     → of_instance f (instance_at w k).id (map (instance_at w) (filter p keys)) ≡ if p k then f (instance_at w k) else 0
 chosen-measure hw w h f p keys k lives live some =
     let chosen : (q : Key) → 1 ≤ times q (filter p keys) → is_live w q ≡ true = λ q there. lives q (chosen-some p keys q there) in
-    elim (cases_Bool (p k)) [
-      | inl passes ↦
-          measure-in hw w h f (filter p keys) k chosen live (omega (arith, some, times-filter k p keys, ap (λ b. cond b (times k keys) 0) passes))
-          ∙ sym (ap (λ b. if b then f (instance_at w k) else 0) passes)
-      | inr fails ↦
-          measure-out hw w h f (filter p keys) k chosen live (omega (arith, times-filter k p keys, ap (λ b. cond b (times k keys) 0) fails))
-          ∙ sym (ap (λ b. if b then f (instance_at w k) else 0) fails)
-    ]
+    grind (arith, nat_tests, measure-in, chosen, times-filter, measure-out)
 
 pub chosen-none : (hw : Hardware) (w : World) → IsKept hw w → (f : Instance → ℕ) (p : Key → Bool) (keys : List Key) (k : Key)
     → ((q : Key) → 1 ≤ times q keys → is_live w q ≡ true) → is_live w k ≡ true → times k keys ≡ 0
@@ -213,20 +194,11 @@ same_number m n e = grind (arith, nat_tests, e)
 
 either-place : (s : Stage) (cpu : CpuNo) (c : Context) → has_context s cpu c ≡ true
     → 1 ≤ once_if (place_of c == place_of (context.Processor cpu)) + once_if (stands_in_task (task_on s cpu) (place_of c))
-either-place s cpu (context.Processor b) there =
-    let same : place_of (context.Processor b) ≡ place_of (context.Processor cpu) = ap (λ n. if nat_lt n 8 then n else 72) (number_true b.0 cpu.0 there) in
-    omega (
-      arith,
-      once-true (place_of (context.Processor b) == place_of (context.Processor cpu)) (same_number (place_of (context.Processor b)) (place_of (context.Processor cpu)) same),
-    )
-either-place s cpu (context.Task task) there =
-    let on : task_on s cpu ≡ Some task = is_task-some (task_on s cpu) task there in
-    let stands : stands_in_task (task_on s cpu) (8 + task.0) ≡ true = ap (λ o. stands_in_task o (8 + task.0)) on ∙ same_number (8 + task.0) (8 + task.0) refl in
-    omega (arith, once-true (stands_in_task (task_on s cpu) (8 + task.0)) stands)
+either-place s cpu (context.Processor b) there = grind (arith, nat_tests, number_true, once-true, same_number)
+either-place s cpu (context.Task task) there = grind (arith, nat_tests, is_task-some, stands_in_task, same_number, once-true)
 
 reached-keys-live : (hw : Hardware) (w : World) (cpu : CpuNo) (k : Key) → IsKept hw w → is_live w k ≡ true → times k (keys_by_pass w cpu) ≡ times (entry_at w k).leader (leaders_by_pass w cpu)
-reached-keys-live hw w cpu k h live =
-    held-by hw w h k (leaders_by_pass w cpu) ∙ ap (λ b. cond b (times (entry_at w k).leader (leaders_by_pass w cpu)) 0) live
+reached-keys-live hw w cpu k h live = grind (arith, nat_tests, held-by)
 
 pub reached-keys : ReachedKeysLaw
 reached-keys hw w cpu k h live =
@@ -254,12 +226,7 @@ reached-keys hw w cpu k h live =
     ]
 
 pub keys-live : (hw : Hardware) (w : World) (cpu : CpuNo) → IsKept hw w → (q : Key) → 1 ≤ times q (keys_by_pass w cpu) → is_live w q ≡ true
-keys-live hw w cpu h q some = elim (cases_Bool (is_live w q)) [
-  | inl live ↦ live
-  | inr dead ↦
-      let leaders : List Key = leaders_by_pass w cpu in
-      absurd (omega (arith, some, held-by hw w h q leaders, ap (λ b. cond b (times (entry_at w q).leader leaders) 0) dead))
-]
+keys-live hw w cpu h q some = grind (arith, nat_tests, held-by)
 
 -- what an instance gives among those that are on, and among those that are ready
 on-here : (e b s : Bool) → b ≡ true → ((e && b) && s) ≡ (e && s)
@@ -333,8 +300,7 @@ given-is w cpu work k h judged live =
     let none : Bool = (instance_at w k).attr.period == 0 in
     let count : (work_given w cpu work k).count ≡ (if none then (if is_on_at w cpu k then work_hits work (instance_at w k) else 0) else 0) =
     both-tests (is_on_at w cpu k) none (work_hits work (instance_at w k)) in
-    (λ i. record (work_given w cpu work k) { count = count i })
-    ∙ ap (λ (s : Sums). record s { count = if none then s.count else 0 }) (sym (share-is w cpu work k h judged live))
+    grind (arith, nat_tests, count, none, share-is)
 
 -- the kinds that lines of work do not count occur 0 times by them
 no-hits : (b : Bool) → ◌≡◌ {A = ℕ} 0 (if b then 0 else 0)

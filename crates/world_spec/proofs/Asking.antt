@@ -6,7 +6,7 @@ use Rattle.stage_spec.specs.{Families.{plus}, Hardware.{Hardware}, Shares.{no_su
 use Rattle.ring_spec.specs.{Agreement.{IsCurrentSlot, Agree, AreFamiliesOpen}, Running.{Running, family_by, IsAnswerBy}}
 use Rattle.ring_spec.proofs.{Agreement.{answer_agrees}, Running.{same_answer}}
 use Rattle.world_spec.specs.{Agreement.{AgreesWith}, Kept.{IsKept, keys_of, plus_keys, family_sums}, StageOf.{stage_of}, Staying.{IsOriginalOf}}
-use Rattle.world_spec.specs.{Value.{World, is_live, instance_at, account_at, family_of, is_key, times}, Asking.{AnswerLaw}}
+use Rattle.world_spec.specs.{Value.{World, is_live, instance_at, family_of, is_key, times}, Asking.{AnswerLaw}}
 use Rattle.world_spec.proofs.{Accounts.{family-times}, ComingLinks.{none_of_three}, Copies.{times-at}}
 use Rattle.world_spec.proofs.Families.{all_keys, instances-are, key-lives, family-sums, open-is}
 use Rattle.world_spec.proofs.{Keys.{is_key-same, times-cons, once-true, once-false}, Staying.{origin-is}}
@@ -50,10 +50,7 @@ family-lives hw w h e k some = elim (cases_Bool (is_live w k)) [
 ]
 
 family-is : (hw : Hardware) (w : World) (r : Running) (e : EventNo) → IsKept hw w → AgreesWith w r → family_by (as_world w r) e ≡ family_sums w e.0
-family-is hw w r e h a =
-    ap (λ s. plus s (slice_index_or w.folded e.0 no_sums))
-    (family-sums hw w e (λ i. r.sums i.id) h
-    ∙ sums-within (λ k. r.sums (instance_at w k).id) (λ k. (account_at w k).sums) (keys_of (family_of w e)) (λ k some. a.sums k (family-lives hw w h e k some)))
+family-is hw w r e h a = grind (arith, family-sums, sums-within, family-lives)
 
 families-open : (hw : Hardware) (w : World) → IsKept hw w → AreFamiliesOpen (stage_of w)
 families-open hw w h =
@@ -66,6 +63,5 @@ families-open hw w h =
 pub answers-by : AnswerLaw
 answers-by hw w r x a h agrees answer =
     let q : Running = as_world w r in
-    let by_q : IsAnswerBy hw q x a =
-    same_answer hw (stage_of w) (stage_of w) (λ e. family_sums w e.0) (family_by q) (λ e. slice_index_or w.lost e.0 0) q.lost x a refl (λ i. λ e. sym (family-is hw w r e h agrees) i) refl answer in
+    let by_q : IsAnswerBy hw q x a = grind (arith, same_answer, family-is) in
     (answer_agrees hw r q x a (subst AreFamiliesOpen (sym agrees.stage) (families-open hw w h)) (as-agrees w r agrees)).1 by_q

@@ -41,10 +41,7 @@ comes-listed at to k p c own contexts low h b j place =
     at_place (λ x. times j (pick b x) ≡ once_if (leads_in to place b j)) contexts (place_of p.context) (in_list p.pinned (push_key k) l) no_leaders place low
     (λ e. elim (cases_eq j.0 k.0) [
       | inl same ↦
-          let is : leads_in to place b j ≡ flag =
-          ap (λ x. leads_in to place b x) (key-is j k same) ∙ (ap (λ x. leads_by x place b k) c.new
-          ∙ all_but_last (p.live && is_key k p.leader) (place_of p.context == place) flag
-          (rw c.alive (ap (is_key k) own ∙ is_key-same k k refl)) (grind (arith, nat_tests, e))) in
+          let is : leads_in to place b j ≡ flag = grind (arith, nat_tests, key-is, all_but_last, is_key-same) in
           let none : times j (pick b l) ≡ 0 = h b j (place_of p.context) ∙ once-false (leads_in at (place_of p.context) b j)
           (ap (λ x. leads_in at (place_of p.context) b x) (key-is j k same) ∙ dead_leads at (place_of p.context) b k c.dead) in
           elim (cases_Bool flag) [
@@ -52,16 +49,11 @@ comes-listed at to k p c own contexts low h b j place =
             | inr off ↦ omega (arith, listed-times p.pinned b j k l, none, once-false (flag && is_key j k) (none_of_two flag (is_key j k) off), once-false (leads_in to place b j) (is ∙ off))
           ]
       | inr apart ↦
-          let same : once_if (leads_in to place b j) ≡ times j (pick b l) =
-          ap once_if (ap (λ x. leads_by x place b j) (c.others j apart) ∙ ap (λ n. leads_in at n b j) e) ∙ sym (h b j (place_of p.context)) in
+          let same : once_if (leads_in to place b j) ≡ times j (pick b l) = grind (arith, nat_tests) in
           omega (arith, listed-times p.pinned b j k l, same, once-false (flag && is_key j k) (last_of_two flag (is_key j k) (λ x. is_key-other j k (λ y. apart (sym y)))))
     ])
     (λ away. h b j place ∙ elim (cases_eq j.0 k.0) [
-      | inl same ↦
-          let off : (place_of p.context == place) ≡ false = grind (arith, nat_tests, away) in
-          let after : leads_in to place b j ≡ false =
-          ap (λ x. leads_in to place b x) (key-is j k same) ∙ (ap (λ x. leads_by x place b k) c.new ∙ middle_fails (p.live && is_key k p.leader) (place_of p.context == place) flag off) in
-          ap once_if (ap (λ x. leads_in at place b x) (key-is j k same) ∙ (dead_leads at place b k c.dead ∙ sym after))
+      | inl same ↦ grind (arith, nat_tests, key-is, same, middle_fails, dead_leads)
       | inr apart ↦ ap once_if (sym (ap (λ x. leads_by x place b j) (c.others j apart)))
     ])
 
@@ -69,13 +61,7 @@ pub comes-unlisted : (at to : Key → Post) (k first : Key) (p : Post) → Comes
     → ((b : Bool) (j : Key) (place : ℕ) → times j (pick b (slice_index_or contexts place no_leaders)) ≡ once_if (leads_in at place b j))
     → (b : Bool) (j : Key) (place : ℕ) → times j (pick b (slice_index_or contexts place no_leaders)) ≡ once_if (leads_in to place b j)
 comes-unlisted at to k first p c live led contexts h b j place = h b j place ∙ elim (cases_eq j.0 k.0) [
-  | inl same ↦
-      let far : first.0 ≡ k.0 → ⊥ = live-apart at k c.dead first live in
-      let after : leads_in to place b j ≡ false =
-      ap (λ x. leads_in to place b x) (key-is j k same) ∙ (ap (λ x. leads_by x place b k) c.new
-      ∙ none_of_three (p.live && is_key k p.leader) (place_of p.context == place) (if p.pinned then b else not b)
-      (last_of_two p.live (is_key k p.leader) (λ x. ap (is_key k) led ∙ is_key-other k first far))) in
-      ap once_if (ap (λ x. leads_in at place b x) (key-is j k same) ∙ (dead_leads at place b k c.dead ∙ sym after))
+  | inl same ↦ grind (arith, nat_tests, live-apart, key-is, same, none_of_three, last_of_two, is_key-other, dead_leads)
   | inr apart ↦ ap once_if (sym (ap (λ x. leads_by x place b j) (c.others j apart)))
 ]
 
@@ -85,15 +71,7 @@ leads-same at to k p c j apart = ap (λ x. x.live && is_key j x.leader) (c.other
 
 led-before : (at to : Key → Post) (k : Key) (p : Post) → Comes at to k p → AreGrouped at → (j : Key) → (j.0 ≡ k.0 → ⊥) → (to j).live ≡ true
     → (leads to (to j).leader ≡ true) × ((to (to j).leader).context ≡ (to j).context)
-led-before at to k p c h j apart live =
-    let before : (at j).live ≡ true = was-live at to k p c j apart live in
-    let m : Key = (at j).leader in
-    let lead : leads at m ≡ true = h.led j before in
-    let far : m.0 ≡ k.0 → ⊥ = live-apart at k c.dead m (leads-parts (at m).live (is_key m (at m).leader) lead).0 in
-    let same : (to j).leader ≡ m = ap (λ x. x.leader) (c.others j apart) in (
-      ap (leads to) same ∙ (leads-same at to k p c m far ∙ lead),
-      ap (λ x. (to x).context) same ∙ (ap (λ x. x.context) (c.others m far) ∙ (h.together j before ∙ sym (ap (λ x. x.context) (c.others j apart)))),
-    )
+led-before at to k p c h j apart live = grind (arith, nat_tests, was-live, live-apart, leads-parts, leads-same)
 
 pub grouped-alone : (at to : Key → Post) (k : Key) (p : Post) → Comes at to k p → p.leader ≡ k → p.members ≡ k ∷ [] → ((j : Key) → (j.0 ≡ k.0 → ⊥) → (to j).members ≡ (at j).members)
     → AreGrouped at → AreGrouped to
@@ -125,10 +103,7 @@ grouped-joined at to k first p c lead there room led none grown others h =
     let mine : (to k).leader ≡ first = ap (λ x. x.leader) c.new ∙ led in
     let members : (to k).members ≡ [] = ap (λ x. x.members) c.new ∙ none in
     let by_first : (P : Key → List Key → Type 0) → P first ((at first).members ++ k ∷ []) → ((j : Key) → (j.0 ≡ k.0 → ⊥) → P j (at j).members) → (j : Key) → (j.0 ≡ k.0 → ⊥) → P j (to j).members =
-    λ P here rest j apart. (elim (cases_eq j.0 first.0) [
-      | inl e ↦ subst (λ x. P x (to x).members) (sym (key-is j first e)) (subst (P first) (sym grown) here)
-      | inr off ↦ subst (P j) (sym (others j apart off)) (rest j apart)
-    ]) in
+    grind (arith, nat_tests, key-is) in
     record {
       led = by_coming (λ j. (to j).live ≡ true → leads to (to j).leader ≡ true) k
           (λ live. ap (leads to) mine ∙ (leads-same at to k p c first far ∙ lead))
@@ -172,12 +147,4 @@ fitting-joined hw at to k first p c none none_before grown others counts fits h 
     let kinds : (j : Key) → map (λ q. (to q).kind) (at j).members ≡ kinds_in at j = λ j.
     map-apart (λ q. (to q).kind) (λ q. (at q).kind) k (λ q far. ap (λ x. x.kind) (c.others q far)) (at j).members
     (counts k j ∙ once-false (is_member_of at j k) (none_of_two (at k).live (is_key j (at k).leader) c.dead)) in
-    by_coming (λ j. AreFitting hw (kinds_in to j)) k
-    (subst (AreFitting hw) (ap (map (λ q. (at q).kind)) none_before ∙ sym (ap (map (λ q. (to q).kind)) (ap (λ x. x.members) c.new ∙ none))) (h k))
-    (λ j apart. elim (cases_eq j.0 first.0) [
-      | inl e ↦
-          let now : kinds_in to first ≡ kinds_in at first ++ p.kind ∷ [] =
-          ap (map (λ q. (to q).kind)) grown ∙ (map-append (λ q. (to q).kind) (at first).members (k ∷ []) ∙ (ap (λ ks. ks ++ (to k).kind ∷ []) (kinds first) ∙ ap (λ x. kinds_in at first ++ x.kind ∷ []) c.new)) in
-          subst (λ x. AreFitting hw (kinds_in to x)) (sym (key-is j first e)) (subst (AreFitting hw) (sym now) fits)
-      | inr off ↦ subst (AreFitting hw) (sym (ap (map (λ q. (to q).kind)) (others j apart off) ∙ kinds j)) (h j)
-    ])
+    grind (arith, nat_tests, by_coming, map-append, kinds, key-is)

@@ -51,34 +51,11 @@ comes-originals at to k p c families low h unused j slot =
     let f : Family = slice_index_or families p.event.0 no_family in
     at_place (λ g. times j (in_option g.original) ≡ once_if (is_original_in to slot j)) families p.event.0 (in_family p.copy k f) no_family slot low
     (λ e. elim (cases_eq j.0 k.0) [
-      | inl same ↦
-          let is : is_original_in to slot j ≡ not p.copy =
-          ap (λ x. is_original_in to slot x) (key-is j k same) ∙ (ap (λ x. x.live && x.event.0 == slot && not x.copy) c.new
-          ∙ all_but_last p.live (p.event.0 == slot) (not p.copy) c.alive (grind (arith, nat_tests, e))) in
-          let none : times j (in_option f.original) ≡ 0 = h j p.event.0 ∙ once-false (is_original_in at p.event.0 j)
-          (ap (λ x. is_original_in at p.event.0 x) (key-is j k same) ∙ none_of_three (at k).live ((at k).event.0 == p.event.0) (not (at k).copy) c.dead) in
-          elim (cases_Bool p.copy) [
-            | inl copy ↦ original-times p.copy j k f ∙ (choice p.copy (times j (in_option f.original)) (once_if (is_key j k)) true copy ∙ (none ∙ sym (once-false (is_original_in to slot j) (is ∙ ap not copy))))
-            | inr first ↦ original-times p.copy j k f ∙ (choice p.copy (times j (in_option f.original)) (once_if (is_key j k)) false first
-                ∙ (once-true (is_key j k) (is_key-same j k (sym same)) ∙ sym (once-true (is_original_in to slot j) (is ∙ ap not first))))
-          ]
-      | inr apart ↦
-          let same : is_original_in to slot j ≡ is_original_in at slot j = ap (λ x. x.live && x.event.0 == slot && not x.copy) (c.others j apart) in
-          elim (cases_Bool p.copy) [
-            | inl copy ↦ original-times p.copy j k f ∙ (choice p.copy (times j (in_option f.original)) (once_if (is_key j k)) true copy
-                ∙ (h j p.event.0 ∙ (ap (λ s. once_if (is_original_in at s j)) (sym e) ∙ ap once_if (sym same))))
-            | inr first ↦ original-times p.copy j k f ∙ (choice p.copy (times j (in_option f.original)) (once_if (is_key j k)) false first
-                ∙ (once-false (is_key j k) (is_key-other j k (λ x. apart (sym x)))
-                ∙ sym (once-false (is_original_in to slot j) (same ∙ (ap (λ s. is_original_in at s j) e ∙ unused first j)))))
-          ]
+      | inl same ↦ grind (arith, nat_tests, key-is, same, all_but_last, once-false, none_of_three, original-times, choice, once-true, is_key-same)
+      | inr apart ↦ grind (arith, nat_tests, apart, original-times, choice, once-false, is_key-other)
     ])
     (λ away. h j slot ∙ elim (cases_eq j.0 k.0) [
-      | inl same ↦
-          let off : (p.event.0 == slot) ≡ false = grind (arith, nat_tests, away) in
-          let before : is_original_in at slot j ≡ false = ap (λ x. is_original_in at slot x) (key-is j k same) ∙ none_of_three (at k).live ((at k).event.0 == slot) (not (at k).copy) c.dead in
-          let after : is_original_in to slot j ≡ false = ap (λ x. is_original_in to slot x) (key-is j k same)
-          ∙ (ap (λ x. x.live && x.event.0 == slot && not x.copy) c.new ∙ middle_fails p.live (p.event.0 == slot) (not p.copy) off) in
-          ap once_if (before ∙ sym after)
+      | inl same ↦ grind (arith, nat_tests, key-is, same, none_of_three, middle_fails)
       | inr apart ↦ ap once_if (sym (ap (λ x. x.live && x.event.0 == slot && not x.copy) (c.others j apart)))
     ])
 
@@ -91,9 +68,7 @@ comes-copies at to k p c families low h j slot =
     at_place (λ g. times j g.copies ≡ once_if (is_copy_in to slot j)) families p.event.0 (in_family p.copy k f) no_family slot low
     (λ e. elim (cases_eq j.0 k.0) [
       | inl same ↦
-          let is : is_copy_in to slot j ≡ p.copy =
-          ap (λ x. is_copy_in to slot x) (key-is j k same) ∙ (ap (λ x. x.live && x.event.0 == slot && x.copy) c.new
-          ∙ all_but_last p.live (p.event.0 == slot) p.copy c.alive (grind (arith, nat_tests, e))) in
+          let is : is_copy_in to slot j ≡ p.copy = grind (arith, nat_tests, key-is, all_but_last) in
           let none : times j f.copies ≡ 0 = h j p.event.0 ∙ once-false (is_copy_in at p.event.0 j)
           (ap (λ x. is_copy_in at p.event.0 x) (key-is j k same) ∙ none_of_three (at k).live ((at k).event.0 == p.event.0) (at k).copy c.dead) in
           elim (cases_Bool p.copy) [
@@ -107,20 +82,13 @@ comes-copies at to k p c families low h j slot =
           omega (arith, copy-times p.copy j k f, there, once-false (p.copy && is_key j k) (last_of_two p.copy (is_key j k) (λ x. no)))
     ])
     (λ away. h j slot ∙ elim (cases_eq j.0 k.0) [
-      | inl same ↦
-          let off : (p.event.0 == slot) ≡ false = grind (arith, nat_tests, away) in
-          let before : is_copy_in at slot j ≡ false = ap (λ x. is_copy_in at slot x) (key-is j k same) ∙ none_of_three (at k).live ((at k).event.0 == slot) (at k).copy c.dead in
-          let after : is_copy_in to slot j ≡ false = ap (λ x. is_copy_in to slot x) (key-is j k same)
-          ∙ (ap (λ x. x.live && x.event.0 == slot && x.copy) c.new ∙ middle_fails p.live (p.event.0 == slot) p.copy off) in
-          ap once_if (before ∙ sym after)
+      | inl same ↦ grind (arith, nat_tests, key-is, same, none_of_three, middle_fails)
       | inr apart ↦ ap once_if (sym (ap (λ x. x.live && x.event.0 == slot && x.copy) (c.others j apart)))
     ])
 
 -- no live key is led by one that was dead
 pub led-apart : (at : Key → Post) (k : Key) → (at k).live ≡ false → AreGrouped at → (j : Key) → is_member_of at k j ≡ false
-led-apart at k dead h j = last_of_two (at j).live (is_key k (at j).leader) (λ live.
-    let leader_lives : (at (at j).leader).live ≡ true = (leads-parts (at (at j).leader).live (is_key (at j).leader (at (at j).leader).leader) (h.led j live)).0 in
-    is_key-other k (at j).leader (live-apart at k dead (at j).leader leader_lives))
+led-apart at k dead h j = grind (arith, nat_tests, last_of_two, leads-parts, is_key-other, live-apart)
 
 -- the members of a group of its own
 pub comes-alone : (at to : Key → Post) (k : Key) (p : Post) → Comes at to k p → AreGrouped at → p.leader ≡ k → p.members ≡ k ∷ []
@@ -132,24 +100,12 @@ comes-alone at to k p c grouped own alone others h j leader = elim (cases_eq lea
       let is : leader ≡ k = key-is leader k el in
       let mine : times j (to leader).members ≡ once_if (is_key j k) = ap (λ x. times j (to x).members) is ∙ (ap (λ x. times j x.members) c.new ∙ (ap (times j) alone ∙ omega (arith, times-cons j k []))) in
       mine ∙ elim (cases_eq j.0 k.0) [
-        | inl ej ↦
-            let member : is_member_of to leader j ≡ true =
-            ap (λ x. is_member_of to x j) is ∙ (ap (λ x. is_member_of to k x) (key-is j k ej) ∙ (ap (λ x. x.live && is_key k x.leader) c.new
-            ∙ (ap (λ l. l && is_key k p.leader) c.alive ∙ (ap (is_key k) own ∙ is_key-same k k refl)))) in
-            once-true (is_key j k) (is_key-same j k (sym ej)) ∙ sym (once-true (is_member_of to leader j) member)
-        | inr apart ↦
-            let member : is_member_of to leader j ≡ false =
-            ap (λ x. is_member_of to x j) is ∙ (ap (λ x. x.live && is_key k x.leader) (c.others j apart) ∙ led-apart at k c.dead grouped j) in
-            once-false (is_key j k) (is_key-other j k (λ x. apart (sym x))) ∙ sym (once-false (is_member_of to leader j) member)
+        | inl ej ↦ grind (arith, nat_tests, key-is, ej, is_key-same, once-true)
+        | inr apart ↦ grind (arith, nat_tests, apart, led-apart, once-false, is_key-other)
       ]
   | inr other ↦
       ap (times j) (others leader other) ∙ (h j leader ∙ elim (cases_eq j.0 k.0) [
-        | inl ej ↦
-            let before : is_member_of at leader j ≡ false = ap (λ x. is_member_of at leader x) (key-is j k ej) ∙ none_of_two (at k).live (is_key leader (at k).leader) c.dead in
-            let after : is_member_of to leader j ≡ false =
-            ap (λ x. is_member_of to leader x) (key-is j k ej) ∙ (ap (λ x. x.live && is_key leader x.leader) c.new
-            ∙ last_of_two p.live (is_key leader p.leader) (λ x. ap (is_key leader) own ∙ is_key-other leader k (λ y. other (sym y)))) in
-            ap once_if (before ∙ sym after)
+        | inl ej ↦ grind (arith, nat_tests, key-is, ej, none_of_two, last_of_two, is_key-other)
         | inr apart ↦ ap once_if (sym (ap (λ x. x.live && is_key leader x.leader) (c.others j apart)))
       ])
 ]
@@ -167,9 +123,7 @@ comes-joined at to k first p c grouped live led none grown others h j leader =
           let is : leader ≡ k = key-is leader k el in
           let nobody : times j (to leader).members ≡ 0 = ap (λ x. times j (to x).members) is ∙ (ap (λ x. times j x.members) c.new ∙ ap (times j) none) in
           nobody ∙ sym (once-false (is_member_of to leader j) (ap (λ x. is_member_of to x j) is ∙ elim (cases_eq j.0 k.0) [
-            | inl ej ↦
-                ap (λ x. is_member_of to k x) (key-is j k ej) ∙ (ap (λ x. x.live && is_key k x.leader) c.new
-                ∙ last_of_two p.live (is_key k p.leader) (λ x. ap (is_key k) led ∙ is_key-other k first far))
+            | inl ej ↦ grind (arith, nat_tests, key-is, ej, last_of_two, is_key-other)
             | inr apart ↦ ap (λ x. x.live && is_key k x.leader) (c.others j apart) ∙ led-apart at k c.dead grouped j
           ]))
       | inr other ↦
@@ -177,8 +131,7 @@ comes-joined at to k first p c grouped live led none grown others h j leader =
           elim (cases_eq leader.0 first.0) [
             | inl el ↦
                 let is : leader ≡ first = key-is leader first el in
-                let now : times j (to leader).members ≡ times j (at leader).members + once_if (is_key j k) =
-                ap (λ x. times j (to x).members) is ∙ (ap (times j) grown ∙ (times-push j (at first).members k ∙ ap (λ x. times j (at x).members + once_if (is_key j k)) (sym is))) in
+                let now : times j (to leader).members ≡ times j (at leader).members + once_if (is_key j k) = grind (arith, nat_tests, times-push) in
                 elim (cases_eq j.0 k.0) [
                   | inl ej ↦
                       let none_yet : times j (at leader).members ≡ 0 = h j leader ∙ once-false (is_member_of at leader j) (ap (λ x. is_member_of at leader x) (key-is j k ej) ∙ before) in
@@ -186,17 +139,11 @@ comes-joined at to k first p c grouped live led none grown others h j leader =
                       ap (λ x. is_member_of to leader x) (key-is j k ej) ∙ (ap (λ x. x.live && is_key leader x.leader) c.new
                       ∙ (ap (λ l. l && is_key leader p.leader) c.alive ∙ (ap (is_key leader) led ∙ is_key-same leader first (sym el)))) in
                       omega (arith, now, none_yet, once-true (is_key j k) (is_key-same j k (sym ej)), once-true (is_member_of to leader j) member)
-                  | inr apart ↦
-                      let same : once_if (is_member_of to leader j) ≡ once_if (is_member_of at leader j) = ap once_if (ap (λ x. x.live && is_key leader x.leader) (c.others j apart)) in
-                      omega (arith, now, h j leader, same, once-false (is_key j k) (is_key-other j k (λ x. apart (sym x))))
+                  | inr apart ↦ grind (arith, nat_tests, apart, once-false, is_key-other)
                 ]
             | inr off ↦
                 ap (times j) (others leader other off) ∙ (h j leader ∙ elim (cases_eq j.0 k.0) [
-                  | inl ej ↦
-                      let after : is_member_of to leader j ≡ false =
-                      ap (λ x. is_member_of to leader x) (key-is j k ej) ∙ (ap (λ x. x.live && is_key leader x.leader) c.new
-                      ∙ last_of_two p.live (is_key leader p.leader) (λ x. ap (is_key leader) led ∙ is_key-other leader first (λ y. off (sym y)))) in
-                      ap once_if (ap (λ x. is_member_of at leader x) (key-is j k ej) ∙ (before ∙ sym after))
+                  | inl ej ↦ grind (arith, nat_tests, key-is, ej, last_of_two, is_key-other)
                   | inr apart ↦ ap once_if (sym (ap (λ x. x.live && is_key leader x.leader) (c.others j apart)))
                 ])
           ]

@@ -1,6 +1,6 @@
 -- The copies of families after a key came and after one went: by rising ids, and few.
-use Rattle.std.specs.Prelude.{◌≡◌, ℕ, zero, suc, ◌<◌, ◌≤◌, ◌==◌, Bool, true, false, not, List, [], ◌∷◌, ◌++◌, length, slice_index_or, slice_set}
-use Rattle.std.{specs.List.{AllPairs}, proofs.{Common.{arith, refl, ap, ◌∙◌, inl, inr}, lemmas.{Bool.{cases_Bool}, List.{length-append}}}}
+use Rattle.std.specs.Prelude.{◌≡◌, ℕ, zero, suc, ◌<◌, ◌≤◌, Bool, true, false, not, List, [], ◌∷◌, ◌++◌, length, slice_index_or, slice_set}
+use Rattle.std.{specs.List.{AllPairs}, proofs.{Common.{arith, refl, ap, ◌∙◌}, lemmas.{List.{length-append}}}}
 use Rattle.std.proofs.lemmas.List.{Kept.{AllPairs-filter}, Quantifiers.{all_pairs_push}, Sums.{sum_by-set}}
 use Rattle.perf_base.specs.declared.numbers.Key.{Key}
 use Rattle.world_spec.specs.{Value.{Family, no_family, is_key, times}, Kept.{Post, once_if, is_copy_in, copies_in, AreNumbered, HaveCopies}}
@@ -27,10 +27,7 @@ rising-within f g keys same h i j d below low =
 
 -- a key among the copies is live
 copy-lives : (at : Key → Post) (slot n : ℕ) (q : Key) → n ≡ once_if (is_copy_in at slot q) → 1 ≤ n → (at q).live ≡ true
-copy-lives at slot n q counted some = elim (cases_Bool (is_copy_in at slot q)) [
-  | inl is ↦ first-true (at q).live ((at q).event.0 == slot) (at q).copy is
-  | inr off ↦ absurd (omega (arith, some, counted, once-false (is_copy_in at slot q) off))
-]
+copy-lives at slot n q counted some = grind (arith, first-true, once-false)
 
 -- a key that comes
 pushed-rising : (f : Key → ℕ) (k : Key) (keys : List Key) → AreRising f keys → ((q : Key) → 1 ≤ times q keys → f q < f k) → AreRising f (keys ++ k ∷ [])
@@ -42,12 +39,8 @@ joined-rising f false k family h last = h
 
 joined-few : (copy : Bool) (k : Key) (families : List Family) (event : ℕ) → event < length families → copies_in families ≤ 4096 → (copy ≡ true → copies_in families < 4096)
     → copies_in (slice_set families event (in_family copy k (slice_index_or families event no_family))) ≤ 4096
-joined-few true k families event low few room =
-    let f : Family = slice_index_or families event no_family in
-    omega (arith, sum_by-set (λ x. length x.copies) families event (in_family true k f) no_family low, length-append f.copies (k ∷ []), room refl)
-joined-few false k families event low few room =
-    let f : Family = slice_index_or families event no_family in
-    omega (arith, sum_by-set (λ x. length x.copies) families event (in_family false k f) no_family low, few)
+joined-few true k families event low few room = grind (arith, sum_by-set, length-append)
+joined-few false k families event low few room = grind (arith, sum_by-set)
 
 pub comes-rising : (at to : Key → Post) (k : Key) (p : Post) (next : ℕ) → Comes at to k p → p.id ≡ next → AreNumbered at next → (families : List Family) → p.event.0 < length families
     → ((j : Key) (slot : ℕ) → times j (slice_index_or families slot no_family).copies ≡ once_if (is_copy_in at slot j)) → (p.copy ≡ true → copies_in families < 4096)
@@ -75,12 +68,8 @@ left-rising f false k family h = h
 
 left-few : (copy : Bool) (k : Key) (families : List Family) (event : ℕ) → event < length families → copies_in families ≤ 4096
     → copies_in (slice_set families event (out_of_family copy k (slice_index_or families event no_family))) ≤ 4096
-left-few true k families event low few =
-    let f : Family = slice_index_or families event no_family in
-    omega (arith, sum_by-set (λ x. length x.copies) families event (out_of_family true k f) no_family low, length-all_but k f.copies, few)
-left-few false k families event low few =
-    let f : Family = slice_index_or families event no_family in
-    omega (arith, sum_by-set (λ x. length x.copies) families event (out_of_family false k f) no_family low, few)
+left-few true k families event low few = grind (arith, sum_by-set, length-all_but)
+left-few false k families event low few = grind (arith, sum_by-set)
 
 pub goes-rising : (at to : Key → Post) (k : Key) → Goes at to k → (families : List Family) → (at k).event.0 < length families
     → ((j : Key) (slot : ℕ) → times j (slice_index_or (slice_set families (at k).event.0 (out_of_family (at k).copy k (slice_index_or families (at k).event.0 no_family))) slot no_family).copies

@@ -1,15 +1,15 @@
 -- A copy that a fork makes is the definitions' own.
-use Rattle.std.specs.Prelude.{◌≡◌, ℕ, zero, suc, ◌+◌, ◌<◌, ◌≤◌, ◌==◌, Bool, true, false, not, ◌&&◌, List, [], ◌∷◌, ◌++◌, length, map, Option, Some, None, slice_index_or, slice_set, if◌then◌else◌}
-use Rattle.std.proofs.{Common.{arith, refl, sym, ap, ◌∙◌, inl, inr}, lemmas.Bool.{cases_eq, cases_Bool, false≢true, Decides.{nat_tests}}}
+use Rattle.std.specs.Prelude.{◌≡◌, ℕ, zero, suc, ◌+◌, ◌<◌, ◌≤◌, ◌==◌, Bool, true, false, not, List, [], ◌∷◌, ◌++◌, length, map, Option, Some, None, slice_index_or, slice_set, if◌then◌else◌}
+use Rattle.std.proofs.{Common.{arith, refl, sym, ap, ◌∙◌, inl, inr}, lemmas.Bool.{cases_eq, false≢true, Decides.{nat_tests}}}
 use Rattle.std.proofs.{lemmas.{List.{length-map, length-set, map-set, map-append}, Simd.{map-map}}, Math.ListN.{get_or-map}}
 use Rattle.perf_base.specs.declared.{numbers.{Key.{Key}, TaskNo.{TaskNo}}, standing.Own.{Own}}
 use Rattle.perf_base.specs.declared.standing.Context.TheVariants as context
-use Rattle.stage_spec.specs.{declared.instance.Instance.{Instance}, Effective.{is_ready}, Flags.{is_pinned}, Forks.{copied_state, copy_of}}
+use Rattle.stage_spec.specs.{declared.instance.Instance.{Instance}, Effective.{is_ready}, Forks.{copied_state, copy_of}}
 use Rattle.stage_spec.specs.{Hardware.{Hardware}, Opening.{joined, add_group}, Reading.{is_error}}
 use Rattle.stage_spec.specs.Stage.{Stage, Group, Lists, no_groups, alone, place_of, lists_of, change_group, change_lists, change_context}
 use Rattle.stage_laws.{specs.{Sound.{has_id}, OneByOne.{Parent, change_one, join_last, add_sibling, add_instance}}, proofs.Images.{map-same}}
 use Rattle.world_spec.specs.Value.{World, Leaders, no_leaders, leaders_of, is_live, entry_at, instance_at, is_key, times}
-use Rattle.world_spec.specs.{StageOf.{after_first, group_at, lists_at, stage_of}, Kept.{post_at, once_if, leads, leads_in, AreNumbered, IsKept}}
+use Rattle.world_spec.specs.{StageOf.{group_at, lists_at, stage_of}, Kept.{post_at, once_if, leads, leads_in, AreNumbered, IsKept}}
 use Rattle.world_spec.specs.{Adding.{Newcomer, new_instance, add}, Comings.{HasRoom, join_id, join_lists_id, instance_comes, counted_in}}
 use Rattle.world_spec.{specs.Copying.{copy_from, leaders_in, LeadsLast, FollowsParent, CopyLaw, CopyKeptLaw}, proofs.Renaming.{id-apart, dead-entry}}
 use Rattle.world_spec.proofs.{Keeping.{own-stage, own-kept}, Keys.{is_key-same, times-cons, times-push, once-true, once-false, at_place}}
@@ -18,13 +18,7 @@ use Rattle.world_spec.proofs.AddedStage.{add-stage}
 
 -- The next id is nobody's, so a change of its instance leaves those that were there.
 no-id : (w : World) → AreNumbered (post_at w) w.quiet.next_id → (q : Key) → has_id w.quiet.next_id (instance_at w q) ≡ false
-no-id w h q = elim (cases_Bool (is_live w q)) [
-  | inl live ↦ let low : (instance_at w q).id < w.quiet.next_id = (h.drawn q live).1 in grind (arith, nat_tests, low)
-  | inr dead ↦
-      let none : (instance_at w q).id ≡ 0 = ap (λ e. e.instance.id) (dead-entry w q dead) in
-      let first : 1 ≤ w.quiet.next_id = h.first in
-      grind (arith, nat_tests, none, first)
-]
+no-id w h q = grind (arith, nat_tests, dead-entry)
 
 abbrev with_state : Own → ℕ → Instance → Instance
 with_state o id i = if has_id id i then record i { own = o } else i
@@ -36,10 +30,7 @@ state-leaves : (w : World) (o : Own) → AreNumbered (post_at w) w.quiet.next_id
 state-leaves w o h q = ap (λ b. if b then record (instance_at w q) { own = o } else instance_at w q) (no-id w h q)
 
 group-left : (w : World) (g : Instance → Instance) → Leaves w g → (q : Key) → change_group g (group_at w q) ≡ group_at w q
-group-left w g h q =
-    let siblings : map g (map (instance_at w) (after_first (entry_at w q).members)) ≡ map (instance_at w) (after_first (entry_at w q).members) =
-    map-map g (instance_at w) (after_first (entry_at w q).members) ∙ map-same (λ j. g (instance_at w j)) (instance_at w) h (after_first (entry_at w q).members) in
-    λ i. record { leader = h q i; siblings = siblings i }
+group-left w g h q = grind (arith, nat_tests, map-map, map-same)
 
 groups-left : (w : World) (g : Instance → Instance) → Leaves w g → (keys : List Key) → map (change_group g) (map (group_at w) keys) ≡ map (group_at w) keys
 groups-left w g h keys = map-map (change_group g) (group_at w) keys ∙ map-same (λ q. change_group g (group_at w q)) (group_at w) (group-left w g h) keys
@@ -64,14 +55,7 @@ lists-are w child = get_or-map (lists_at w) w.contexts (place_of (context.Task c
 alone-changed : (w : World) (g : Instance → Instance) → Leaves w g → (child : TaskNo) (pinned : Bool) (i : Instance)
     → map (change_lists g) (change_context (context.Task child) (add_group pinned (alone i)) (stage_of w)).contexts
     ≡ (change_context (context.Task child) (add_group pinned (alone (g i))) (stage_of w)).contexts
-alone-changed w g h child pinned i =
-    let cs : List Lists = map (lists_at w) w.contexts in
-    let place : ℕ = place_of (context.Task child) in
-    let l : Lists = lists_of (stage_of w) (context.Task child) in
-    let kept : change_lists g l ≡ l = ap (change_lists g) (lists-are w child) ∙ (lists-left w g h (leaders_of w (context.Task child)) ∙ sym (lists-are w child)) in
-    map-set (change_lists g) cs place (add_group pinned (alone i) l)
-    ∙ (ap (λ xs. slice_set xs place (change_lists g (add_group pinned (alone i) l))) (contexts-left w g h)
-    ∙ ap (slice_set cs place) (add-changed pinned g i l ∙ ap (add_group pinned (alone (g i))) kept))
+alone-changed w g h child pinned i = grind (arith, nat_tests, lists-are, lists-left, map-set, contexts-left, add-changed)
 
 -- a sibling in the last group
 last-joined : (i : Instance) (gs : List Group) (x : Group) → join_last i (gs ++ x ∷ []) ≡ gs ++ joined i x ∷ []
@@ -92,28 +76,17 @@ others-unjoined w m g i numbered live h [] none = refl
 others-unjoined w m g i numbered live h (q ∷ keys) none = elim (cases_eq q.0 m.0) [
   | inl e ↦ absurd (omega (arith, none, times-cons m q keys, once-true (is_key m q) (is_key-same m q e)))
   | inr apart ↦
-      let first : joins w m g i q ≡ group_at w q =
-      ap (change_group g) (branch (has_id (instance_at w m).id (instance_at w q)) false (joined i (group_at w q)) (group_at w q) (id-apart w m q numbered live apart)) ∙ group-left w g h q in
-      rw (first, others-unjoined w m g i numbered live h keys (omega (arith, none, times-cons m q keys))) refl
+      grind (arith, branch, id-apart, group-left, times-cons, others-unjoined w m g i numbered live h keys (omega (arith, none, times-cons m q keys)))
 ]
 
 last-joins : (w : World) (m : Key) (g : Instance → Instance) (i : Instance) → Leaves w g → joins w m g i m ≡ joined (g i) (group_at w m)
-last-joins w m g i h =
-    let own : has_id (instance_at w m).id (instance_at w m) ≡ true = grind (arith, nat_tests) in
-    let whole : change_group g (group_at w m) ≡ group_at w m = group-left w g h m in
-    ap (change_group g) (branch (has_id (instance_at w m).id (instance_at w m)) true (joined i (group_at w m)) (group_at w m) own)
-    ∙ ((λ x. record { leader = g (instance_at w m); siblings = map-append g (group_at w m).siblings (i ∷ []) x })
-    ∙ ap (λ y. joined (g i) y) whole)
+last-joins w m g i h = grind (arith, nat_tests, group-left, branch, map-append)
 
 list-joins : (w : World) (m : Key) (g : Instance → Instance) (i : Instance) → AreNumbered (post_at w) w.quiet.next_id → is_live w m ≡ true → Leaves w g
     → (before keys : List Key) → keys ≡ before ++ m ∷ [] → times m keys ≤ 1 → map (joins w m g i) keys ≡ join_last (g i) (map (group_at w) keys)
 list-joins w m g i numbered live h before keys is once =
     let few : times m before ≡ 0 = omega (arith, once, ap (times m) is, times-push m before m, once-true (is_key m m) (is_key-same m m refl)) in
-    ap (map (joins w m g i)) is ∙ (map-append (joins w m g i) before (m ∷ [])
-    ∙ (ap (λ gs. gs ++ joins w m g i m ∷ []) (others-unjoined w m g i numbered live h before few)
-    ∙ (ap (λ x. map (group_at w) before ++ x ∷ []) (last-joins w m g i h)
-    ∙ (sym (last-joined (g i) (map (group_at w) before) (group_at w m))
-    ∙ ap (join_last (g i)) (sym (map-append (group_at w) before (m ∷ [])) ∙ ap (map (group_at w)) (sym is))))))
+    grind (arith, nat_tests, map-append, others-unjoined, few, last-joins, last-joined)
 
 -- the lists of all contexts
 same-items : {X : Type 0} (d : X) (xs ys : List X) → length xs ≡ length ys → ((p : ℕ) → slice_index_or xs p d ≡ slice_index_or ys p d) → xs ≡ ys
@@ -127,23 +100,17 @@ joined_lists w m g i l = change_lists g (join_lists_id (instance_at w m).id i (l
 
 joined-parts : (w : World) (m : Key) (g : Instance → Instance) (i : Instance) (keys : List Key)
     → map (change_group g) (map (join_id (instance_at w m).id i) (map (group_at w) keys)) ≡ map (joins w m g i) keys
-joined-parts w m g i keys =
-    ap (map (change_group g)) (map-map (join_id (instance_at w m).id i) (group_at w) keys) ∙ map-map (change_group g) (λ q. join_id (instance_at w m).id i (group_at w q)) keys
+joined-parts w m g i keys = grind (arith, nat_tests, map-map)
 
 lists-by : (w : World) (m : Key) (g : Instance → Instance) (i : Instance) (l : Leaders) (pinned flexible : List Group)
     → map (joins w m g i) l.pinned ≡ pinned → map (joins w m g i) l.flexible ≡ flexible → joined_lists w m g i l ≡ record { pinned = pinned; flexible = flexible }
-lists-by w m g i l pinned flexible hp hf =
-    λ x. record { pinned = (joined-parts w m g i l.pinned ∙ hp) x; flexible = (joined-parts w m g i l.flexible ∙ hf) x }
+lists-by w m g i l pinned flexible hp hf = grind (arith, nat_tests, joined-parts)
 
 lists-with : (w : World) (m : Key) (g : Instance → Instance) (i : Instance) → AreNumbered (post_at w) w.quiet.next_id → is_live w m ≡ true → Leaves w g
     → (pinned : Bool) (l : Leaders) → LeadsLast l pinned m → times m (leaders_in pinned l) ≤ 1 → times m (leaders_in (not pinned) l) ≡ 0
     → joined_lists w m g i l ≡ add_sibling pinned (g i) (lists_at w l)
-lists-with w m g i numbered live h true l last once none =
-    lists-by w m g i l (join_last (g i) (map (group_at w) l.pinned)) (map (group_at w) l.flexible)
-    (list-joins w m g i numbered live h last.before l.pinned last.last once) (others-unjoined w m g i numbered live h l.flexible none)
-lists-with w m g i numbered live h false l last once none =
-    lists-by w m g i l (map (group_at w) l.pinned) (join_last (g i) (map (group_at w) l.flexible))
-    (others-unjoined w m g i numbered live h l.pinned none) (list-joins w m g i numbered live h last.before l.flexible last.last once)
+lists-with w m g i numbered live h true l last once none = grind (arith, nat_tests, lists-by, list-joins, others-unjoined)
+lists-with w m g i numbered live h false l last once none = grind (arith, nat_tests, lists-by, others-unjoined, list-joins)
 
 times-in : (hw : Hardware) (w : World) → IsKept hw w → (m : Key) (place : ℕ) (b : Bool) → times m (leaders_in b (slice_index_or w.contexts place no_leaders)) ≡ once_if (leads_in (post_at w) place b m)
 times-in hw w h m place true = h.linked.pinned m place
@@ -152,14 +119,6 @@ times-in hw w h m place false = h.linked.flexible m place
 at-most-once : (b : Bool) → once_if b ≤ 1
 at-most-once true = omega arith
 at-most-once false = omega arith
-
-other-list : (a b pinned there : Bool) → 1 ≤ once_if (a && b && (if pinned then there else not there)) → once_if (a && b && (if pinned then not there else not (not there))) ≡ 0
-other-list true true true true some = refl
-other-list true true true false some = absurd (omega (arith, some))
-other-list true true false true some = absurd (omega (arith, some))
-other-list true true false false some = refl
-other-list true false pinned there some = refl
-other-list false b pinned there some = refl
 
 stands-last : (l : Leaders) (pinned : Bool) (m : Key) → LeadsLast l pinned m → 1 ≤ times m (leaders_in pinned l)
 stands-last l pinned m last = omega (arith, ap (times m) last.last, times-push m last.before m, once-true (is_key m m) (is_key-same m m refl))
@@ -176,11 +135,8 @@ joined-changed hw w m g i child pinned h leaves lead there last =
     let new : Lists = add_sibling pinned (g i) (lists_of (stage_of w) (context.Task child)) in
     let low : place < length cs = omega (arith, h.numbered.places m live, h.shape.contexts, ap place_of there) in
     let once : times m (leaders_in pinned l) ≤ 1 = omega (arith, times-in hw w h m place pinned, at-most-once (leads_in (post_at w) place pinned m)) in
-    let none : times m (leaders_in (not pinned) l) ≡ 0 =
-    times-in hw w h m place (not pinned) ∙ other-list (leads (post_at w) m) (place_of (entry_at w m).context == place) (entry_at w m).pinned pinned
-    (omega (arith, stands-last l pinned m last, times-in hw w h m place pinned)) in
-    let here : joined_lists w m g i l ≡ new =
-    lists-with w m g i h.numbered live leaves pinned l last once none ∙ ap (add_sibling pinned (g i)) (sym (lists-are w child)) in
+    let none : times m (leaders_in (not pinned) l) ≡ 0 = grind (arith, stands-last l pinned m last, times-in hw w h m place pinned) in
+    let here : joined_lists w m g i l ≡ new = grind (arith, nat_tests, lists-with, lists-are) in
     let away : (p : ℕ) → (p ≡ place → ⊥) → joined_lists w m g i (slice_index_or w.contexts p no_leaders) ≡ lists_at w (slice_index_or w.contexts p no_leaders) = λ p off.
     (let nowhere : (b : Bool) → leads_in (post_at w) p b m ≡ false = λ b.
     middle_fails (leads (post_at w) m) (place_of (entry_at w m).context == p) (if (entry_at w m).pinned then b else not b)
@@ -190,8 +146,7 @@ joined-changed hw w m g i child pinned h leaves lead there last =
     (others-unjoined w m g i h.numbered live leaves x.pinned (h.linked.pinned m p ∙ once-false (leads_in (post_at w) p true m) (nowhere true)))
     (others-unjoined w m g i h.numbered live leaves x.flexible (h.linked.flexible m p ∙ once-false (leads_in (post_at w) p false m) (nowhere false)))) in
     let whole : map (change_lists g) (map (join_lists_id (instance_at w m).id i) cs) ≡ map (joined_lists w m g i) w.contexts =
-    ap (map (change_lists g)) (map-map (join_lists_id (instance_at w m).id i) (lists_at w) w.contexts)
-    ∙ map-map (change_lists g) (λ x. join_lists_id (instance_at w m).id i (lists_at w x)) w.contexts in
+    grind (arith, nat_tests, map-map) in
     whole ∙ same-items no_groups (map (joined_lists w m g i) w.contexts) (slice_set cs place new)
     (length-map w.contexts (joined_lists w m g i) ∙ (sym (length-map w.contexts (lists_at w)) ∙ sym (length-set cs place new)))
     (λ p. get_or-map (joined_lists w m g i) w.contexts p no_leaders
@@ -201,9 +156,7 @@ joined-changed hw w m g i child pinned h leaves lead there last =
 
 -- the step of a copy
 new-state : (w : World) (o : Own) (i : Instance) → i.id ≡ w.quiet.next_id → with_state o w.quiet.next_id i ≡ record i { own = o }
-new-state w o i e =
-    let own : has_id w.quiet.next_id i ≡ true = grind (arith, nat_tests, e) in
-    ap (λ b. if b then record i { own = o } else i) own
+new-state w o i e = grind (arith, nat_tests)
 
 -- the stage with these contexts and the id drawn, and what stands in the child's context by whether the instance leads
 abbrev drawn_by : World → List Lists → Stage
@@ -211,20 +164,13 @@ drawn_by w cs = record (stage_of w) { contexts = cs; next_id = w.quiet.next_id +
 
 added-by : (w : World) (child : TaskNo) (p : Parent) (i : Instance) (leads_it : Bool) → p.leads ≡ leads_it
     → drawn_by w (change_context (context.Task child) (λ l. if leads_it then add_group p.pinned (alone i) l else add_sibling p.pinned i l) (stage_of w)).contexts ≡ add_instance child p i (stage_of w)
-added-by w child p i leads_it e =
-    ap {A = Bool} (λ b. drawn_by w (change_context (context.Task child) (λ l. if b then add_group p.pinned (alone i) l else add_sibling p.pinned i l) (stage_of w)).contexts) (sym e)
+added-by w child p i leads_it e = grind (arith, nat_tests)
 
 copy-adds : (hw : Hardware) (w : World) (child : TaskNo) (p : Parent) (leader : Option Key) → IsKept hw w → HasRoom w (copy_from w child p.instance leader) leader → FollowsParent w child p leader
     → change_one (λ i. record i { own = copied_state p.instance.own }) w.quiet.next_id
     (counted_in (copy_from w child p.instance leader) (instance_comes w (copy_from w child p.instance leader) leader (stage_of w)))
     ≡ add_instance child p (copy_of (stage_of w) w.quiet.next_id p.instance) (stage_of w)
-copy-adds hw w child p None h room follows =
-    let o : Own = copied_state p.instance.own in
-    let i : Instance = new_instance w (copy_from w child p.instance None) in
-    let copy : Instance = copy_of (stage_of w) w.quiet.next_id p.instance in
-    ap (drawn_by w) (alone-changed w (with_state o w.quiet.next_id) (state-leaves w o h.numbered) child (is_pinned p.instance.attr) i)
-    ∙ (ap {A = Instance} (λ x. drawn_by w (change_context (context.Task child) (add_group (is_pinned p.instance.attr) (alone x)) (stage_of w)).contexts) (new-state w o i refl)
-    ∙ (ap {A = Bool} (λ b. drawn_by w (change_context (context.Task child) (add_group b (alone copy)) (stage_of w)).contexts) follows.1 ∙ added-by w child p copy true follows.0))
+copy-adds hw w child p None h room follows = grind (arith, nat_tests, alone-changed, new-state, added-by)
 copy-adds hw w child p (Some m) h room follows =
     let o : Own = copied_state p.instance.own in
     let i : Instance = new_instance w (copy_from w child p.instance (Some m)) in

@@ -1,5 +1,5 @@
 -- How often keys stand in lists that are put together, and sums over lists with the same keys.
-use Rattle.std.specs.Prelude.{◌≡◌, ℕ, zero, suc, ◌+◌, ◌<◌, ◌≤◌, ◌==◌, Bool, true, false, ◌||◌, cond, List, [], ◌∷◌, ◌++◌, length, map, filter, find, flat_map, is_some, Option, Some, None, option_map, slice_index_or}
+use Rattle.std.specs.Prelude.{◌≡◌, ℕ, zero, suc, ◌+◌, ◌<◌, ◌≤◌, ◌==◌, Bool, true, false, ◌||◌, cond, List, [], ◌∷◌, ◌++◌, length, map, filter, find, flat_map, is_some, Some, None, option_map, slice_index_or}
 use Rattle.std.{specs.List.{list_any}, proofs.{Common.{arith, refl, sym, ap, ◌∙◌, inl, inr}, lemmas.Bool.{cases_eq, cases_Bool, false≢true}}}
 use Rattle.std.proofs.lemmas.Bool.Decides.{nat_tests}
 use Rattle.perf_base.specs.declared.numbers.Key.{Key}
@@ -9,9 +9,7 @@ use Rattle.world_spec.specs.{Value.{is_key, times}, Kept.{once_if}}
 use Rattle.world_spec.proofs.Keys.{key-is, is_key-same, is_key-other, is_key-true, times-cons, once-true, once-false}
 
 pub times-flat : {X : Type 0} (k : Key) (f : X → List Key) (xs : List X) → times k (flat_map f xs) ≡ total (λ x. times k (f x)) xs
-times-flat k f xs =
-    count_by-is-total (is_key k) (flat_map f xs) ∙ (total-flat_map (one_if (is_key k)) f xs
-    ∙ total-same (λ x. total (one_if (is_key k)) (f x)) (λ x. times k (f x)) (λ x. sym (count_by-is-total (is_key k) (f x))) xs)
+times-flat k f xs = grind (arith, nat_tests, count_by-is-total, total-flat_map, one_if, total-same, total)
 
 -- a number that is 1 at one place and 0 at the others
 pub spread-none : {X : Type 0} (f : X → ℕ) (d : X) (xs : List X) (from q : ℕ) → ((p : ℕ) → p < length xs → f (slice_index_or xs p d) ≡ once_if (from + p == q)) → q < from → total f xs ≡ 0
@@ -75,15 +73,7 @@ same-total f (x ∷ xs) ys h =
       times-cons k x s.after,
       count-append (is_key k) s.before s.after,
     ) in
-    omega (
-      arith,
-      total-cons f x xs,
-      same-total f xs (s.before ++ s.after) rest,
-      total-append f s.before s.after,
-      ap (total f) s.is,
-      total-append f s.before (x ∷ s.after),
-      total-cons f x s.after,
-    )
+    grind (arith, nat_tests, total-cons, rest, total-append, total, same-total f xs (s.before ++ s.after) rest)
 
 -- keys that pass a test
 one-filtered : (passes it_passes same : Bool) (r t : ℕ) → (same ≡ true → passes ≡ it_passes) → r ≡ cond it_passes t 0 → cond passes (once_if same + r) r ≡ cond it_passes (once_if same + t) 0
@@ -117,9 +107,7 @@ find-first test q keys false e = rw e refl
 pub find-one : (test : Key → Bool) (keys : List Key) (k : Key) → test k ≡ true → 1 ≤ times k keys → ((q : Key) → 1 ≤ times q keys → test q ≡ true → q.0 ≡ k.0) → find test keys ≡ Some k
 find-one test [] k passes some alone = absurd (omega (arith, some))
 find-one test (q ∷ keys) k passes some alone = elim (cases_Bool (test q)) [
-  | inl e ↦
-      let same : q ≡ k = key-is q k (alone q (omega (arith, times-cons q q keys, once-true (is_key q q) (is_key-same q q refl))) e) in
-      find-first test q keys true e ∙ ap {B = Option Key} Some same
+  | inl e ↦ grind (arith, times-cons q q keys, once-true (is_key q q) (is_key-same q q refl))
   | inr e ↦
       let apart : q.0 ≡ k.0 → ⊥ = λ is. false≢true (sym e ∙ (ap test (key-is q k is) ∙ passes)) in
       find-first test q keys false e ∙ find-one test keys k passes (omega (arith, some, times-cons k q keys, once-false (is_key k q) (is_key-other k q apart)))
@@ -135,18 +123,12 @@ find-none test (q ∷ keys) none = elim (cases_Bool (test q)) [
 
 pub find-mapped : {X : Type 0} (p : X → Bool) (f : Key → X) (keys : List Key) → find p (map f keys) ≡ option_map f (find (λ k. p (f k)) keys)
 find-mapped p f [] = refl
-find-mapped p f (k ∷ keys) = elim (cases_Bool (p (f k))) [
-  | inl e ↦ rw e refl
-  | inr e ↦ rw e (find-mapped p f keys)
-]
+find-mapped p f (k ∷ keys) = grind (arith, nat_tests, find-mapped p f keys)
 
 -- whether some item passes a test
 pub any-find : {X : Type 0} (p : X → Bool) (xs : List X) → list_any p xs ≡ is_some (find p xs)
 any-find p [] = refl
-any-find p (x ∷ xs) = elim (cases_Bool (p x)) [
-  | inl e ↦ rw e refl
-  | inr e ↦ rw e (any-find p xs)
-]
+any-find p (x ∷ xs) = grind (arith, nat_tests, any-find p xs)
 
 pub any-there : {X : Type 0} (p : X → Bool) (f : Key → X) (k : Key) (keys : List Key) → 1 ≤ times k keys → p (f k) ≡ true → list_any p (map f keys) ≡ true
 any-there p f k [] some passes = absurd (omega (arith, some))
@@ -165,7 +147,5 @@ pub any-key : {X : Type 0} (p : X → Bool) (f : Key → X) (keys : List Key) �
 any-key p f [] h = absurd (false≢true h)
 any-key p f (q ∷ keys) h = elim (cases_Bool (p (f q))) [
   | inl e ↦ (q, omega (arith, times-cons q q keys, once-true (is_key q q) (is_key-same q q refl)), e)
-  | inr e ↦
-      let rest : (k : Key) × (1 ≤ times k keys) × (p (f k) ≡ true) = any-key p f keys (any-rest (p (f q)) (list_any p (map f keys)) e h) in
-      (rest.0, omega (arith, rest.1, times-cons rest.0 q keys), rest.2)
+  | inr e ↦ grind (arith, nat_tests, any-rest, e, times-cons, any-key p f keys (any-rest (p (f q)) (list_any p (map f keys)) e h))
 ]

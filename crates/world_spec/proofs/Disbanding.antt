@@ -57,17 +57,14 @@ both_hold : (a b c : Bool) → a ≡ true → b ≡ c → (a && b) ≡ c
 both_hold a b c ha e = rw (ha, e) refl
 
 freed-own : (at to : Key → Post) (k : Key) → Disbands at to k → (m j : Key) → (j.0 ≡ k.0 → ⊥) → is_member_of at k j ≡ true → is_member_of to m j ≡ is_key m j
-freed-own at to k d m j apart is =
-    ap (λ x. x.live && is_key m x.leader) (d.freed j apart is) ∙ both_hold (at j).live (is_key m j) (is_key m j) (member-live at k j is) refl
+freed-own at to k d m j apart is = grind (arith, nat_tests, both_hold, member-live)
 
 other-same : (at to : Key → Post) (k : Key) → Disbands at to k → (m j : Key) → (j.0 ≡ k.0 → ⊥) → is_member_of at k j ≡ false → is_member_of to m j ≡ is_member_of at m j
 other-same at to k d m j apart off = ap (λ x. x.live && is_key m x.leader) (d.others j apart off)
 
 -- members
 none-left : (at to : Key → Post) (k : Key) → Disbands at to k → (j : Key) → is_member_of to k j ≡ false
-none-left at to k d = by_group at (λ j. is_member_of to k j ≡ false) k (gone-nowhere at to k d k)
-    (λ j apart is. freed-own at to k d k j apart is ∙ is_key-other k j apart)
-    (λ j apart off. other-same at to k d k j apart off ∙ off)
+none-left at to k d = grind (arith, nat_tests, gone-nowhere, freed-own, is_key-other, other-same)
 
 freed-members : (at to : Key → Post) (k : Key) → Disbands at to k → AreGrouped at → (m : Key) → (m.0 ≡ k.0 → ⊥) → is_member_of at k m ≡ true → (j : Key) → is_member_of to m j ≡ is_key j m
 freed-members at to k d grouped m far member = by_group at (λ j. is_member_of to m j ≡ is_key j m) k
@@ -78,11 +75,7 @@ freed-members at to k d grouped m far member = by_group at (λ j. is_member_of t
     ∙ sym (is_key-other j m (λ e. tells-apart at k m j member off e))))
 
 other-members : (at to : Key → Post) (k : Key) → Disbands at to k → (m : Key) → (m.0 ≡ k.0 → ⊥) → is_member_of at k m ≡ false → (j : Key) → is_member_of at m j ≡ is_member_of to m j
-other-members at to k d m far off = by_group at (λ j. is_member_of at m j ≡ is_member_of to m j) k
-    (last_of_two (at k).live (is_key m (at k).leader) (λ live. ap (is_key m) d.own ∙ is_key-other m k (λ e. far (sym e))) ∙ sym (gone-nowhere at to k d m))
-    (λ j apart is. last_of_two (at j).live (is_key m (at j).leader) (λ live. ap (is_key m) (member-led at k j is) ∙ is_key-other m k (λ e. far (sym e)))
-    ∙ sym (freed-own at to k d m j apart is ∙ is_key-other m j (λ e. tells-apart at k j m is off e)))
-    (λ j apart other. sym (other-same at to k d m j apart other))
+other-members at to k d m far off = grind (arith, nat_tests, last_of_two, is_key-other, gone-nowhere, member-led, freed-own, tells-apart, other-same)
 
 pub disbanded-members : (at to : Key → Post) (k : Key) → Disbands at to k → AreGrouped at → ((j leader : Key) → times j (at leader).members ≡ once_if (is_member_of at leader j))
     → (j leader : Key) → times j (to leader).members ≡ once_if (is_member_of to leader j)
@@ -133,13 +126,7 @@ leads_by x place b j = (x.live && is_key j x.leader) && place_of x.context == pl
 
 freed-leads : (at to : Key → Post) (k : Key) → Disbands at to k → AreGrouped at → (place : ℕ) (j : Key) → (j.0 ≡ k.0 → ⊥) → is_member_of at k j ≡ true
     → (leads_in to place true j ≡ false) × (leads_in to place false j ≡ (place_of (at k).context == place))
-freed-leads at to k d grouped place j apart is =
-    let there : (at j).context ≡ (at k).context = sym (grouped.together j (member-live at k j is)) ∙ ap (λ x. (at x).context) (member-led at k j is) in
-    let now : (b : Bool) → leads_in to place b j ≡ leads_by (freed_post j (at j)) place b j = λ b. ap (λ x. leads_by x place b j) (d.freed j apart is) in
-    let same : (place_of (at j).context == place) ≡ (place_of (at k).context == place) = ap (λ c. place_of c == place) there in (
-      now true ∙ last_fails ((at j).live && is_key j j) (place_of (at j).context == place) false refl,
-      now false ∙ all_hold (at j).live (is_key j j) (place_of (at j).context == place) (place_of (at k).context == place) (member-live at k j is) (is_key-same j j refl) same,
-    )
+freed-leads at to k d grouped place j apart is = grind (arith, nat_tests, member-live, member-led, last_fails, all_hold, is_key-same)
 
 other-leads : (at to : Key → Post) (k : Key) → Disbands at to k → (place : ℕ) (b : Bool) (j : Key) → (j.0 ≡ k.0 → ⊥) → is_member_of at k j ≡ false → leads_in to place b j ≡ leads_in at place b j
 other-leads at to k d place b j apart off = ap (λ x. leads_by x place b j) (d.others j apart off)
@@ -196,10 +183,7 @@ disbanded-grouped at to k d h =
     let m : Key = (at j).leader in
     let lead : leads at m ≡ true = h.led j was in
     let far : m.0 ≡ k.0 → ⊥ = λ e. false≢true (sym off ∙ both_hold (at j).live (is_key k m) true was (is_key-same k m e)) in
-    let outside : is_member_of at k m ≡ false = (elim (cases_Bool (is_member_of at k m)) [
-      | inr off ↦ off
-      | inl is ↦ absurd (false≢true (sym (member-follows at k m far is) ∙ (leads-parts (at m).live (is_key m (at m).leader) lead).1))
-    ]) in
+    let outside : is_member_of at k m ≡ false = grind (arith, nat_tests, false≢true, member-follows, leads-parts) in
     let same : (to j).leader ≡ m = ap (λ x. x.leader) (d.others j apart off) in (
       ap (leads to) same ∙ (ap (λ x. x.live && is_key m x.leader) (d.others m far outside) ∙ lead),
       ap (λ x. (to x).context) same ∙ (ap (λ x. x.context) (d.others m far outside) ∙ (h.together j was ∙ sym (ap (λ x. x.context) (d.others j apart off)))),

@@ -35,15 +35,12 @@ calm-stays (standing.Refused cause) = refl
 instance-here : (s : Standing) (w : World) (k q : Key) → q.0 ≡ k.0 → instance_at (fail_by s k w) q ≡ failed_instance s (instance_at w q)
 instance-here standing.Out w k q e = refl
 instance-here standing.On w k q e = refl
-instance-here (standing.Refused cause) w k q e =
-    ap (λ x. x.instance) (entry-here w k (record (entry_at w k) { instance = record (instance_at w k) { own = own.Error cause } }) q e)
-    ∙ ap (λ x. record x.instance { own = own.Error cause }) (sym (entry-numbered w k q e))
+instance-here (standing.Refused cause) w k q e = grind (arith, entry-here, entry-numbered)
 
 instance-there : (s : Standing) (w : World) (k q : Key) → (q.0 ≡ k.0 → ⊥) → instance_at (fail_by s k w) q ≡ instance_at w q
 instance-there standing.Out w k q apart = refl
 instance-there standing.On w k q apart = refl
-instance-there (standing.Refused cause) w k q apart =
-    ap (λ x. x.instance) (entry-there w k (record (entry_at w k) { instance = record (instance_at w k) { own = own.Error cause } }) q apart)
+instance-there (standing.Refused cause) w k q apart = grind (arith, entry-there)
 
 standing-numbered : (w : World) (k q : Key) → q.0 ≡ k.0 → standing_at w q ≡ standing_at w k
 standing-numbered w k q e = ap (λ n. unwrap_or (get w.standings n) standing.Out) e
@@ -66,12 +63,7 @@ pub record AreFailed (w t : World) (keys : List Key) : Type 0 where
   pub other_standings : (q : Key) → times q keys ≡ 0 → standing_at t q ≡ standing_at w q
 
 pub are-failed : (keys : List Key) (w : World) → AreFailed w (fail_groups keys w) keys
-are-failed [] w = record {
-  instances = λ q some. absurd (omega (arith, some));
-  standings = λ q some. absurd (omega (arith, some));
-  other_instances = λ q none. refl;
-  other_standings = λ q none. refl;
-}
+are-failed [] w = grind arith
 are-failed (k ∷ keys) w =
     let s : Standing = standing_at w k in
     let v : World = fail_group w k in
@@ -83,17 +75,12 @@ are-failed (k ∷ keys) w =
     let here_standing : (q : Key) → q.0 ≡ k.0 → standing_at v q ≡ calmed (standing_at w q) = λ q e. standing-here s w k q refl e ∙ ap calmed (was q e) in
     let apart : (q : Key) → times q (k ∷ keys) ≡ 0 → q.0 ≡ k.0 → ⊥ = λ q none e.
     omega (arith, none, times-cons q k keys, once-true (is_key q k) (is_key-same q k (sym e))) in
-    let first : (q : Key) → 1 ≤ times q (k ∷ keys) → times q keys ≡ 0 → q.0 ≡ k.0 = λ q some none. (elim (cases_eq q.0 k.0) [
-      | inl e ↦ e
-      | inr off ↦ absurd (omega (arith, some, none, times-cons q k keys, once-false (is_key q k) (is_key-other q k (λ e. off (sym e)))))
-    ]) in
+    let first : (q : Key) → 1 ≤ times q (k ∷ keys) → times q keys ≡ 0 → q.0 ≡ k.0 = grind (arith, times-cons, once-false, is_key-other) in
     record {
       instances = λ q some. elim (cases_eq (times q keys) 0) [
         | inl none ↦ rest.other_instances q none ∙ here_instance q (first q some none)
         | inr more ↦ rest.instances q (omega (arith, more)) ∙ elim (cases_eq q.0 k.0) [
-          | inl e ↦
-              ap (λ x. failed_instance x (instance_at v q)) (here_standing q e)
-              ∙ (calm-fails_none (standing_at w q) (instance_at v q) ∙ here_instance q e)
+          | inl e ↦ grind (arith, e, calm-fails_none)
           | inr off ↦ (λ i. failed_instance (standing-there s w k q off i) (instance-there s w k q off i))
         ]
       ];
@@ -121,9 +108,7 @@ one-rest (standing.Refused cause) w k = (refl, refl)
 
 pub failed-rest : (keys : List Key) (w : World) → ((fail_groups keys w).contexts ≡ w.contexts) × ((fail_groups keys w).quiet ≡ w.quiet)
 failed-rest [] w = (refl, refl)
-failed-rest (k ∷ keys) w =
-    let rest : ((fail_groups keys (fail_group w k)).contexts ≡ (fail_group w k).contexts) × ((fail_groups keys (fail_group w k)).quiet ≡ (fail_group w k).quiet) = failed-rest keys (fail_group w k) in
-    (rest.0 ∙ (one-rest (standing_at w k) w k).0, rest.1 ∙ (one-rest (standing_at w k) w k).1)
+failed-rest (k ∷ keys) w = grind (arith, one-rest, failed-rest keys (fail_group w k))
 
 abbrev pub AllLead : World → List Key → Type 0
 AllLead w keys = (q : Key) → 1 ≤ times q keys → leads (post_at w) q ≡ true
@@ -134,8 +119,7 @@ rest-lead w k keys h q some =
     ap (λ at. leads at q) (one-posts (standing_at w k) w k (leads-parts (is_live w k) (is_key k (entry_at w k).leader) mine).0) ∙ h q (omega (arith, some, times-cons q k keys))
 
 first-leads : (w : World) (k : Key) (keys : List Key) → AllLead w (k ∷ keys) → (is_live w k ≡ true) × (is_key k (entry_at w k).leader ≡ true)
-first-leads w k keys h =
-    leads-parts (is_live w k) (is_key k (entry_at w k).leader) (h k (omega (arith, times-cons k k keys, once-true (is_key k k) (is_key-same k k refl))))
+first-leads w k keys h = grind (arith, times-cons k k keys, once-true (is_key k k) (is_key-same k k refl))
 
 pub failed-posts : (keys : List Key) (w : World) → AllLead w keys → post_at (fail_groups keys w) ≡ post_at w
 failed-posts [] w h = refl

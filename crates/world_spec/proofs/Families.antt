@@ -1,7 +1,7 @@
 -- The instances of the stage are those of the world's keys, each once; so families, originals and copies are the
 -- world's.
 use Rattle.std.specs.Prelude.{◌≡◌, ℕ, ◌+◌, ◌<◌, ◌≤◌, ◌==◌, Bool, true, false, not, ◌&&◌, cond, List, [], ◌∷◌, ◌++◌, length, map, filter, find, count_by, flat_map, is_some, Option, Some, None, option_map, slice_index_or, if◌then◌else◌}
-use Rattle.std.{specs.List.{list_any}, proofs.{Common.{arith, refl, sym, ap, ◌∙◌, inl, inr}, lemmas.Bool.{cases_eq, cases_Bool, Decides.{nat_tests}}}}
+use Rattle.std.{specs.List.{list_any}, proofs.{Common.{arith, refl, sym, ap, ◌∙◌, inl, inr}, lemmas.Bool.{cases_Bool, Decides.{nat_tests}}}}
 use Rattle.std.proofs.lemmas.List.{length-map, map-append, Concat.{length-flat_map}, Sums.{length-filter}}
 use Rattle.perf_base.specs.declared.{numbers.{EventNo.{EventNo}, Key.{Key}}, reply.Sums.{Sums}}
 use Rattle.stage_spec.specs.{declared.instance.Instance.{Instance}, Families.{plus, plus_each}, Hardware.{Hardware}}
@@ -11,7 +11,7 @@ use Rattle.stage_laws.proofs.Totals.{total, one_if, as_number, total-nil, total-
 use Rattle.stage_laws.proofs.Counts.{count-append}
 use Rattle.world_spec.specs.Value.{World, Leaders, Family, no_family, no_leaders, family_of, is_live, entry_at, instance_at, is_key, times}
 use Rattle.world_spec.specs.StageOf.{group_at, lists_at, stage_of}
-use Rattle.world_spec.specs.Kept.{post_at, once_if, in_option, is_original_in, is_copy_in, is_member_of, leads, keys_of, plus_keys, IsKept}
+use Rattle.world_spec.specs.Kept.{post_at, once_if, in_option, is_copy_in, is_member_of, leads, keys_of, plus_keys, IsKept}
 use Rattle.world_spec.specs.{Listings.{MembersLaw}, Families.{OriginalLaw, OpenSlotLaw, GroupLaw, FamilyIdsLaw, FamilySumsLaw, CopiesLaw}}
 use Rattle.world_spec.proofs.Keys.{key-is, is_key-same, is_key-true, is_key-turned, times-cons, once-true, once-false}
 use Rattle.world_spec.proofs.{Accounts.{IsSum, counts_are_sums, times_are_sums, family-times}, Moving.{leads-parts}, Coming.{three}}
@@ -41,24 +41,13 @@ both-lists false b pinned = refl
 
 pub leaders-at : (hw : Hardware) (w : World) → IsKept hw w → (q : Key) (place : ℕ)
     → times q (leaders_both (slice_index_or w.contexts place no_leaders)) ≡ once_if (leads (post_at w) q && place_of (entry_at w q).context == place)
-leaders-at hw w h q place =
-    let l : Leaders = slice_index_or w.contexts place no_leaders in
-    omega (
-      arith,
-      count-append (is_key q) l.pinned l.flexible,
-      h.linked.pinned q place,
-      h.linked.flexible q place,
-      both-lists (leads (post_at w) q) (place_of (entry_at w q).context == place) (entry_at w q).pinned,
-    )
+leaders-at hw w h q place = grind (arith, nat_tests, count-append, both-lists)
 
 plus-zero : (p : ℕ) → p ≡ 0 + p
 plus-zero p = omega arith
 
 turned : (m n : ℕ) → (m == n) ≡ (n == m)
-turned m n = elim (cases_eq m n) [
-  | inl e ↦ let a : (m == n) ≡ true = grind (arith, nat_tests, e) in let b : (n == m) ≡ true = grind (arith, nat_tests, e) in a ∙ sym b
-  | inr apart ↦ let a : (m == n) ≡ false = grind (arith, nat_tests, apart) in let b : (n == m) ≡ false = grind (arith, nat_tests, apart) in a ∙ sym b
-]
+turned m n = grind (arith, nat_tests)
 
 times-leaders : (hw : Hardware) (w : World) → IsKept hw w → (q : Key) → times q (all_leaders w) ≡ once_if (leads (post_at w) q)
 times-leaders hw w h q =
@@ -84,35 +73,23 @@ times-keys hw w h k =
     times-flat k (members_at w) (all_leaders w)
     ∙ (total-same (λ q. times k (members_at w q)) (λ q. once_if (is_live w k && is_key q m)) (λ q. h.linked.members k q) (all_leaders w)
     ∙ elim (cases_Bool (is_live w k)) [
-      | inl live ↦
-          total-same (λ q. once_if (is_live w k && is_key q m)) (one_if (is_key m)) (λ q. ap (λ b. once_if (b && is_key q m)) live ∙ ap once_if (is_key-turned q m)) (all_leaders w)
-          ∙ (sym (count_by-is-total (is_key m) (all_leaders w)) ∙ (times-leaders hw w h m
-          ∙ (once-true (leads (post_at w) m) (h.grouped.led k live) ∙ sym (once-true (is_live w k) live))))
-      | inr dead ↦
-          total-same (λ q. once_if (is_live w k && is_key q m)) (λ q. 0) (λ q. ap (λ b. once_if (b && is_key q m)) dead) (all_leaders w)
-          ∙ (total-none (all_leaders w) ∙ sym (once-false (is_live w k) dead))
+      | inl live ↦ grind (arith, nat_tests, total-same, one_if, live, is_key-turned, count_by-is-total, times-leaders, once-true)
+      | inr dead ↦ search (nat_tests, total-same, dead, total-none, once-false)
     ])
 
 -- the groups and the instances of the stage are those of these keys
 groups-are : (w : World) (ls : List Leaders) → flat_map groups_in (map (lists_at w) ls) ≡ map (group_at w) (flat_map leaders_both ls)
 groups-are w [] = refl
-groups-are w (l ∷ ls) =
-    ap (λ gs. (map (group_at w) l.pinned ++ map (group_at w) l.flexible) ++ gs) (groups-are w ls)
-    ∙ (ap (λ gs. gs ++ map (group_at w) (flat_map leaders_both ls)) (sym (map-append (group_at w) l.pinned l.flexible))
-    ∙ sym (map-append (group_at w) (leaders_both l) (flat_map leaders_both ls)))
+groups-are w (l ∷ ls) = grind (arith, nat_tests, map-append, groups-are w ls)
 
 pub members-are : (hw : Hardware) (w : World) → IsKept hw w → (keys : List Key) → AreLeading w keys → members (map (group_at w) keys) ≡ map (instance_at w) (flat_map (members_at w) keys)
 members-are hw w h [] ls = refl
 members-are hw w h (q ∷ keys) ls =
     let first : members_of (group_at w q) ≡ map (instance_at w) (members_at w q) = ap (map (instance_at w)) (sym (h.grouped.leader_first q (leading-first w q keys ls))) in
-    ap (λ is. members_of (group_at w q) ++ is) (members-are hw w h keys (leading-rest w q keys ls))
-    ∙ (ap (λ is. is ++ map (instance_at w) (flat_map (members_at w) keys)) first ∙ sym (map-append (instance_at w) (members_at w q) (flat_map (members_at w) keys)))
+    grind (arith, nat_tests, leading-rest, first, map-append, members-are hw w h keys (leading-rest w q keys ls))
 
 all-lead : (hw : Hardware) (w : World) → IsKept hw w → AreLeading w (all_leaders w)
-all-lead hw w h q some = elim (cases_Bool (leads (post_at w) q)) [
-  | inl lead ↦ lead
-  | inr off ↦ absurd (omega (arith, some, times-leaders hw w h q, once-false (leads (post_at w) q) off))
-]
+all-lead hw w h q some = grind (arith, nat_tests, times-leaders, once-false)
 
 pub instances-are : (hw : Hardware) (w : World) → IsKept hw w → all_instances (stage_of w) ≡ map (instance_at w) (all_keys w)
 instances-are hw w h = ap members (groups-are w w.contexts) ∙ members-are hw w h (all_leaders w) (all-lead hw w h)
@@ -223,10 +200,7 @@ copies-are hw w h =
 
 -- the original of a slot
 pub key-lives : (hw : Hardware) (w : World) → IsKept hw w → (q : Key) → 1 ≤ times q (all_keys w) → is_live w q ≡ true
-key-lives hw w h q there = elim (cases_Bool (is_live w q)) [
-  | inl live ↦ live
-  | inr dead ↦ absurd (omega (arith, there, times-keys hw w h q, once-false (is_live w q) dead))
-]
+key-lives hw w h q there = grind (arith, nat_tests, times-keys, once-false)
 
 one-is : (k : Key) → times k (k ∷ []) ≡ 1
 one-is k = omega (arith, times-cons k k [], once-true (is_key k k) (is_key-same k k refl))
@@ -235,9 +209,7 @@ both_hold : (a copy : Bool) → a ≡ true → copy ≡ false → (a && not copy
 both_hold a copy ha hc = rw (ha, hc) refl
 
 pub stands-original : (hw : Hardware) (w : World) → IsKept hw w → (e : EventNo) (q : Key) → is_live w q ≡ true → is_original e (instance_at w q) ≡ true → times q (in_option (family_of w e).original) ≡ 1
-stands-original hw w h e q live passes =
-    let parts : (of_family w e q ≡ true) × (not (instance_at w q).copy ≡ true) = leads-parts (of_family w e q) (not (instance_at w q).copy) passes in
-    h.linked.originals q e.0 ∙ once-true (is_original_in (post_at w) e.0 q) (all_three (is_live w q) (of_family w e q) (not (instance_at w q).copy) live parts.0 parts.1)
+stands-original hw w h e q live passes = grind (arith, nat_tests, leads-parts, once-true, all_three)
 
 -- no live key, or one alone, is the original
 abbrev AreOriginals : World → EventNo → Option Key → Type 0
@@ -247,14 +219,7 @@ AreOriginals w e (Some k) =
 
 originals-are : (hw : Hardware) (w : World) → IsKept hw w → (e : EventNo) (o : Option Key) → (family_of w e).original ≡ o → AreOriginals w e o
 originals-are hw w h e None is = λ q live passes. omega (arith, stands-original hw w h e q live passes, ap (λ x. times q (in_option x)) is)
-originals-are hw w h e (Some k) is =
-    let mine : times k (in_option (family_of w e).original) ≡ 1 = ap (λ x. times k (in_option x)) is ∙ one-is k in
-    let test : is_original_in (post_at w) e.0 k ≡ true = (elim (cases_Bool (is_original_in (post_at w) e.0 k)) [
-      | inl passes ↦ passes
-      | inr fails ↦ absurd (omega (arith, mine, h.linked.originals k e.0, once-false (is_original_in (post_at w) e.0 k) fails))
-    ]) in
-    let parts : (is_live w k ≡ true) × (of_family w e k ≡ true) × ((instance_at w k).copy ≡ false) = three (is_live w k) (of_family w e k) (instance_at w k).copy test in
-    (parts.0, both_hold (of_family w e k) (instance_at w k).copy parts.1 parts.2, λ q live passes. one-in_option (family_of w e).original q k (stands-original hw w h e q live passes) mine)
+originals-are hw w h e (Some k) is = grind (arith, nat_tests, one-is, once-false, three, both_hold, one-in_option, stands-original)
 
 found-original : (hw : Hardware) (w : World) → IsKept hw w → (e : EventNo) (o : Option Key) → AreOriginals w e o → find (λ k. is_original e (instance_at w k)) (all_keys w) ≡ o
 found-original hw w h e None none = find-none (λ k. is_original e (instance_at w k)) (all_keys w) (λ q there passes. none q (key-lives hw w h q there) passes)

@@ -1,13 +1,13 @@
 -- The first world is kept, and stands for the first stage.
 use Rattle.std.specs.Prelude.{◌≡◌, ℕ, ◌^◌, ◌<◌, ◌≤◌, ◌==◌, true, false, not, List, length, map, is_some, Option, None, slice_index, slice_index_or, replicate}
 use Rattle.std.specs.{FinMap.{get-empty}, List.{AllPairs}, Option.{unwrap_or}, Ordering.{nat_cmp}}
-use Rattle.std.proofs.{Common.{arith, refl, sym, ap, subst, ◌∙◌, inl, inr}, lemmas.Bool.{cases_lt, false≢true}}
+use Rattle.std.proofs.{Common.{arith, refl, sym, ap, subst, ◌∙◌}, lemmas.Bool.{cases_lt, false≢true}}
 use Rattle.std.proofs.lemmas.List.{length-map, length-replicate, get_or-replicate, get_or-map, get_or_past, Elements.{All-get_or}}
 use Rattle.std.proofs.lemmas.List.Folds.{sum_by-replicate}
 use Rattle.perf_base.specs.declared.numbers.{CpuNo.{CpuNo}, Key.{Key}, TaskNo.{TaskNo}}
 use Rattle.stage_spec.specs.{Families.{plus}, Hardware.{Hardware, IsHardware, IsPmu}, Shares.{no_sums}, Stage.{first_stage}}
 use Rattle.stage_laws.proofs.RunningTasks.{running_first}
-use Rattle.counter_match.specs.Seating.{Seated, IsSound, empty_seating}
+use Rattle.counter_match.specs.Seating.{Seated, empty_seating}
 use Rattle.world_spec.specs.Value.{World, Totals, no_entry, no_account, no_family, no_leaders, no_totals, is_live, entry_at, instance_at, account_at, is_key, times}
 use Rattle.world_spec.specs.StageOf.{lists_at}
 use Rattle.world_spec.specs.Kept.{post_at, in_option, is_original_in, is_copy_in, is_member_of, leads_in, keys_of, plus_keys, family_sums, AreFitting, AreSeated, AreSmallTotals}
@@ -30,10 +30,7 @@ no-account hw declared k = ap (λ o. unwrap_or o no_account) (get-empty nat_cmp 
 
 -- what a list of one thing has at each place
 pub replicated : {X : Type 0} (n p : ℕ) (x : X) → slice_index_or (replicate n x) p x ≡ x
-replicated n p x = elim (cases_lt p n) [
-  | inl within ↦ get_or-replicate n p x x within
-  | inr past ↦ get_or_past (replicate n x) p x (omega (arith, past, length-replicate n x))
-]
+replicated n p x = grind (arith, cases_lt, get_or-replicate, get_or_past, length-replicate)
 
 -- the counters
 seats-sound : (hw : Hardware) → IsHardware hw → AreSeated hw (map (λ pmu. empty_seating (slice_index hw.counters pmu)) hw.cpu_pmus)
@@ -42,18 +39,8 @@ seats-sound hw h =
     let size : length (map f hw.cpu_pmus) ≡ length hw.cpu_pmus = length-map hw.cpu_pmus f in
     let here : (cpu : CpuNo) → cpu.0 < length (map f hw.cpu_pmus) → slice_index_or (map f hw.cpu_pmus) cpu.0 (empty_seating 0) ≡ f (slice_index hw.cpu_pmus cpu.0) =
     λ cpu low. get_or-map f hw.cpu_pmus cpu.0 0 (empty_seating 0) (omega (arith, low, size)) in
-    let pmu : (cpu : CpuNo) → cpu.0 < length (map f hw.cpu_pmus) → IsPmu hw.counters (slice_index hw.cpu_pmus cpu.0) =
-    λ cpu low. All-get_or (IsPmu hw.counters) hw.cpu_pmus cpu.0 0 (omega (arith, low, size)) h.cpu_pmus in
-    record {
-      counters = λ cpu low. ap (λ s. s.counters) (here cpu low);
-      sound = λ cpu low. subst IsSound (sym (here cpu low)) (record {
-        some = omega (arith, (pmu cpu low).1);
-        most = (pmu cpu low).2;
-        assigned = record { one_each = refl; allowed = λ i below. absurd (omega (arith, below)); different = λ i j before below. absurd (omega (arith, below)) };
-        masks = λ i d below. absurd (omega (arith, below));
-        distinct = λ i j d before below. absurd (omega (arith, below));
-      });
-    }
+    let pmu : (cpu : CpuNo) → cpu.0 < length (map f hw.cpu_pmus) → IsPmu hw.counters (slice_index hw.cpu_pmus cpu.0) = grind (arith, All-get_or) in
+    grind (arith, here, pmu)
 
 pub first-kept : FirstKeptLaw
 unfolding first_stage

@@ -8,7 +8,7 @@ use Rattle.stage_spec.specs.{Families.{plus}, Hardware.{Hardware}, Shares.{no_su
 use Rattle.world_spec.specs.Value.{World, Account, Family, no_family, no_account, is_live, entry_at, instance_at, account_at, is_key, times}
 use Rattle.world_spec.specs.StageOf.{after_first, stage_of}
 use Rattle.world_spec.specs.{Kept.{post_at, in_option, is_original_in, is_copy_in, keys_of, plus_keys, family_sums, IsKept}, Changes.{all_but}}
-use Rattle.world_spec.specs.{Adding.{leave_group, out_of_family, taken_out, drop_instance, folded_away}, Goings.{MayGo}}
+use Rattle.world_spec.specs.{Adding.{leave_group, out_of_family, drop_instance, folded_away}, Goings.{MayGo}}
 use Rattle.world_spec.{specs.Foldings.{FoldLaw, FoldKeptLaw, FoldSumsLaw}, proofs.Accounts.{IsSum, counts_are_sums, times_are_sums, family-other}}
 use Rattle.world_spec.proofs.Keys.{key-is, is_key-same, is_key-true, all_but-cons, all_but-none, times-all_but_same, times-cons, once-true, once-false, at_place}
 use Rattle.world_spec.proofs.{Added.{sums-append}, Going.{all_three, last_fails}, Gone.{get-left}, GoneLeader.{freed-fields, dropped-leader}}
@@ -18,9 +18,7 @@ use Rattle.world_spec.proofs.Dropping.{go-kept, go-stage}
 dropped-folded : (w : World) (k : Key) (sums : List Sums) → drop_instance k (record w { folded = sums }) ≡ record (drop_instance k w) { folded = sums }
 dropped-folded w k sums = elim (cases_Bool (is_key k (entry_at w k).leader)) [
   | inl own ↦ dropped-leader (record w { folded = sums }) k own ∙ ap {B = World} (λ t. record t { folded = sums }) (sym (dropped-leader w k own))
-  | inr off ↦
-      ap {B = World} (λ b. taken_out k (instance_at w k) (leave_group k b (record w { folded = sums }))) off
-      ∙ ap {B = World} (λ b. record (taken_out k (instance_at w k) (leave_group k b w)) { folded = sums }) (sym off)
+  | inr off ↦ grind (arith, nat_tests, off)
 ]
 
 left-accounts : (w : World) (k : Key) (b : Bool) → (leave_group k b w).accounts ≡ w.accounts
@@ -102,10 +100,8 @@ folded-by hw w k h live copy slot =
     let new_folded : Sums = plus away (s k) in
     elim (cases_eq slot event) [
       | inl e ↦
-          let families : slice_index_or (slice_set w.families event new_family) slot no_family ≡ new_family =
-          ap (λ n. slice_index_or (slice_set w.families event new_family) n no_family) e ∙ get_or-set_same w.families event new_family no_family (omega (arith, low, h.tables.families)) in
-          let folded : slice_index_or (slice_set w.folded event new_folded) slot no_sums ≡ new_folded =
-          ap (λ n. slice_index_or (slice_set w.folded event new_folded) n no_sums) e ∙ get_or-set_same w.folded event new_folded no_sums (omega (arith, low, h.tables.folded)) in
+          let families : slice_index_or (slice_set w.families event new_family) slot no_family ≡ new_family = grind (arith, get_or-set_same) in
+          let folded : slice_index_or (slice_set w.folded event new_folded) slot no_sums ≡ new_folded = grind (arith, nat_tests, get_or-set_same) in
           let none : times k (in_option f.original) ≡ 0 =
           h.linked.originals k event ∙ once-false (is_original_in (post_at w) event k) (last_fails (is_live w k) (event == event) (not (instance_at w k).copy) (ap not copy)) in
           let one : times k f.copies ≡ 1 =
@@ -140,8 +136,7 @@ kept-sums hw w k h live copy slot =
     let event : ℕ = (instance_at w k).event.0 in
     let accounts : (drop_instance k w).accounts ≡ remove w.accounts k.0 = ap (λ m. remove m k.0) (left-accounts w k b) in
     let families : (drop_instance k w).families ≡ slice_set w.families event (out_of_family true k (slice_index_or w.families event no_family)) =
-    ap (λ fs. slice_set fs event (out_of_family (instance_at w k).copy k (slice_index_or fs event no_family))) (left-families w k b)
-    ∙ ap (λ c. slice_set w.families event (out_of_family c k (slice_index_or w.families event no_family))) copy in
+    grind (arith, nat_tests, left-families) in
     (λ i. sums_by (accounts i) (families i) (added_sums w k) slot) ∙ folded-by hw w k h live copy slot
 
 pub copy-may : (w : World) (k : Key) → is_live w k ≡ true → (instance_at w k).copy ≡ true → MayGo w k

@@ -1,7 +1,7 @@
 -- A sibling that goes: the tables after it, and that the world is kept.
-use Rattle.std.specs.Prelude.{◌≡◌, ℕ, ◌^◌, ◌<◌, ◌≤◌, ◌==◌, Bool, true, false, cond, List, [], ◌∷◌, length, map, is_some, None, slice_index_or, slice_set}
+use Rattle.std.specs.Prelude.{◌≡◌, ℕ, ◌^◌, ◌<◌, ◌≤◌, ◌==◌, Bool, true, false, cond, List, [], ◌∷◌, length, map, None, slice_index_or, slice_set}
 use Rattle.std.specs.{Cmp.{unsigned_tied}, FinMap.{FinMap, get, contains_key, remove, get-remove}, Option.{unwrap_or}, Ordering.{nat_cmp}}
-use Rattle.std.proofs.{Common.{arith, refl, sym, ap, subst, ◌∙◌, inl, inr}, lemmas.Bool.{cases_eq, cases_Bool, Decides.{nat_tests}}}
+use Rattle.std.proofs.{Common.{arith, refl, sym, ap, subst, ◌∙◌, inl, inr}, lemmas.Bool.{cases_eq, Decides.{nat_tests}}}
 use Rattle.std.proofs.lemmas.{Cmp.{nat_cmp_total}, List.{length-map, length-set}}
 use Rattle.perf_base.specs.{Scripts.{IsKind}, declared.{attr.Kind.{Kind}, numbers.Key.{Key}, reply.Sums.{Sums}, standing.Standing.{Standing}}}
 use Rattle.perf_base.specs.Contexts.{context_of}
@@ -43,49 +43,23 @@ pub get-left : {X : Type 0} (m : FinMap nat_cmp X) (k q : ℕ) → (q ≡ k → 
 get-left m k q apart = let other : (q == k) ≡ false = grind (arith, nat_tests, apart) in get-removed m k q ∙ ap (λ b. cond b None (get m q)) other
 
 left-post : (w : World) (k j : Key) → (j.0 ≡ k.0 → ⊥) → post_at (left_world w k) j ≡ post_at (with_entry w (entry_at w k).leader (fewer_entry w k)) j
-left-post w k j apart =
-    let same : get (remove (with_entry w (entry_at w k).leader (fewer_entry w k)).entries k.0) j.0 ≡ get (with_entry w (entry_at w k).leader (fewer_entry w k)).entries j.0 =
-    get-left (with_entry w (entry_at w k).leader (fewer_entry w k)).entries k.0 j.0 apart in
-    λ i. post_of (is_some (same i)) (unwrap_or (same i) no_entry)
+left-post w k j apart = grind (arith, nat_tests, with_entry, get-left, post_of)
 
 pub left-instance : (w : World) (k j : Key) → (j.0 ≡ k.0 → ⊥) → instance_at (left_world w k) j ≡ instance_at w j
-left-instance w k j apart =
-    let first : Key = (entry_at w k).leader in
-    ap (λ o. (unwrap_or o no_entry).instance) (get-left (with_entry w first (fewer_entry w k)).entries k.0 j.0 apart) ∙ elim (cases_eq j.0 first.0) [
-      | inl e ↦ ap (λ x. x.instance) (entry-here w first (fewer_entry w k) j e) ∙ ap (λ x. x.instance) (sym (entry-numbered w first j e))
-      | inr off ↦ ap (λ x. x.instance) (entry-there w first (fewer_entry w k) j off)
-    ]
+left-instance w k j apart = grind (arith, nat_tests, get-left, with_entry, entry-here, entry-numbered, entry-there)
 
 left-core : (w : World) (k : Key) → is_live w (entry_at w k).leader ≡ true → (j : Key) → (j.0 ≡ k.0 → ⊥) → core (post_at (left_world w k) j) ≡ core (post_at w j)
-left-core w k there j apart =
-    let first : Key = (entry_at w k).leader in
-    ap core (left-post w k j apart) ∙ elim (cases_eq j.0 first.0) [
-      | inl e ↦
-          ap (λ x. core (post_at (with_entry w first (fewer_entry w k)) x)) (key-is j first e)
-          ∙ (ap core (written-post w first (fewer_entry w k)) ∙ (ap (λ b. core (post_of b (entry_at w first))) (sym there) ∙ ap (λ x. core (post_at w x)) (sym (key-is j first e))))
-      | inr off ↦ ap core (other-post w first (fewer_entry w k) j off)
-    ]
+left-core w k there j apart = grind (arith, nat_tests, core, left-post, with_entry, key-is, written-post, post_of, other-post)
 
 pub left-goes : (hw : Hardware) (w : World) (k : Key) → IsKept hw w → is_live w k ≡ true → GoesAlone (post_at w) (post_at (left_world w k)) k
 left-goes hw w k h live =
-    let same : (j : Key) → (j.0 ≡ k.0 → ⊥) → core (post_at (left_world w k) j) ≡ core (post_at w j) =
-    left-core w k (leads-parts (is_live w (entry_at w k).leader) (is_key (entry_at w k).leader (entry_at w (entry_at w k).leader).leader) (h.grouped.led k live)).0 in
-    record {
-      goes = record {
-        live = live;
-        gone = ap is_some (get-gone (with_entry w (entry_at w k).leader (fewer_entry w k)).entries k.0 k.0 refl);
-        others = λ j apart. ap shell (same j apart);
-      };
-      same = same;
-    }
+    let same : (j : Key) → (j.0 ≡ k.0 → ⊥) → core (post_at (left_world w k) j) ≡ core (post_at w j) = grind (arith, left-core, leads-parts) in
+    grind (arith, nat_tests, get-gone, with_entry, shell, same)
 
 -- sums of fewer keys
 sums-fewer : (p : Sums → ℕ) → IsSum p → (s : Key → Sums) (k : Key) (keys : List Key) → p (plus_keys s (all_but k keys)) ≤ p (plus_keys s keys)
 sums-fewer p is s k [] = omega arith
-sums-fewer p is s k (q ∷ keys) = elim (cases_Bool (is_key k q)) [
-  | inl e ↦ rw e (omega (arith, is.both (s q) (plus_keys s keys), sums-fewer p is s k keys))
-  | inr e ↦ rw e (omega (arith, is.both (s q) (plus_keys s keys), is.both (s q) (plus_keys s (all_but k keys)), sums-fewer p is s k keys))
-]
+sums-fewer p is s k (q ∷ keys) = grind (arith, nat_tests, sums-fewer p is s k keys)
 
 family-fewer : (p : Sums → ℕ) → IsSum p → (s t : Key → Sums) (k : Key) → ((q : Key) → p (t q) ≤ p (s q)) → (copy : Bool) (f : Family)
     → p (plus_keys t (keys_of (out_of_family copy k f))) ≤ p (plus_keys s (keys_of f))
@@ -121,8 +95,7 @@ account-left : (w : World) (k j : Key) → (j.0 ≡ k.0 → ⊥) → account_at 
 account-left w k j apart = ap (λ o. unwrap_or o no_account) (get-left w.accounts k.0 j.0 apart)
 
 account-less : (p : Sums → ℕ) → p no_sums ≡ 0 → (w : World) (k q : Key) → p (account_at (left_world w k) q).sums ≤ p (account_at w q).sums
-account-less p none w k = by_coming (λ q. p (account_at (left_world w k) q).sums ≤ p (account_at w q).sums) k
-    (omega (arith, ap (λ a. p a.sums) (account-gone w k), none)) (λ q apart. omega (arith, ap (λ a. p a.sums) (account-left w k q apart)))
+account-less p none w k = grind (arith, nat_tests, by_coming, account-gone, account-left)
 
 -- accounts and families without it stay small
 pub small-left : (w : World) (k : Key) (entries : FinMap nat_cmp Entry) (standings : FinMap nat_cmp Standing) (contexts : List Leaders) → (instance_at w k).event.0 < length w.families → AreSmall w
@@ -151,8 +124,7 @@ small-left w k entries standings contexts low h =
 
 pub fewer-keys : {X : Type 0} (m : FinMap nat_cmp X) (k : Key) (before after : Key → Bool) → ((j : Key) → contains_key m j.0 ≡ before j) → after k ≡ false
     → ((j : Key) → (j.0 ≡ k.0 → ⊥) → after j ≡ before j) → (j : Key) → contains_key (remove m k.0) j.0 ≡ after j
-fewer-keys m k before after h gone others = by_coming (λ j. contains_key (remove m k.0) j.0 ≡ after j) k
-    (ap is_some (get-gone m k.0 k.0 refl) ∙ sym gone) (λ j apart. ap is_some (get-left m k.0 j.0 apart) ∙ (h j ∙ sym (others j apart)))
+fewer-keys m k before after h gone others = grind (arith, nat_tests, by_coming, get-gone, get-left)
 
 left-none : (w : World) (k : Key) → (post_at (left_world w k) k).members ≡ []
 left-none w k = ap (λ o. (unwrap_or o no_entry).members) (get-gone (with_entry w (entry_at w k).leader (fewer_entry w k)).entries k.0 k.0 refl)

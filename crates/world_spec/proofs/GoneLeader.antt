@@ -1,16 +1,16 @@
 -- A leader that goes: the tables after it, and that the world is kept.
-use Rattle.std.specs.Prelude.{◌≡◌, ℕ, ◌+◌, ◌<◌, ◌≤◌, Bool, true, false, List, [], ◌∷◌, length, map, is_some, Option, Some, slice_index_or}
+use Rattle.std.specs.Prelude.{◌≡◌, ℕ, ◌+◌, ◌<◌, ◌≤◌, Bool, true, false, List, [], ◌∷◌, length, map, Option, Some, slice_index_or}
 use Rattle.std.specs.{FinMap.{FinMap, get, contains_key, insert, remove}, List.{fold}, Option.{unwrap_or}, Ordering.{nat_cmp}}
 use Rattle.std.proofs.{Common.{arith, refl, sym, ap, subst, ◌∙◌, inl, inr}, lemmas.{Bool.{cases_eq, cases_Bool}, List.{length-map, length-set}}}
-use Rattle.perf_base.specs.{Scripts.{IsKind}, declared.{attr.Kind.{Kind}, numbers.Key.{Key}, standing.Standing.{Standing}}, Contexts.{context_of}}
+use Rattle.perf_base.specs.{declared.{attr.Kind.{Kind}, numbers.Key.{Key}, standing.Standing.{Standing}}}
 use Rattle.perf_base.specs.declared.standing.Standing.TheVariants as standing
-use Rattle.stage_spec.specs.{Checks.{has_unknown_sample}, Fits.{fits, fits_beside}, Hardware.{Hardware, is_software, mask_of}, Opening.{is_used}}
-use Rattle.stage_spec.specs.{Reading.{is_error}, Stage.{place_of}}
+use Rattle.stage_spec.specs.{Fits.{fits, fits_beside}, Hardware.{Hardware, is_software, mask_of}}
+use Rattle.stage_spec.specs.{Stage.{place_of}}
 use Rattle.stage_laws.proofs.Fitting.{fits_beside-others, fits_beside-rest}
 use Rattle.world_spec.specs.Value.{World, Entry, no_leaders, no_entry, is_live, entry_at, instance_at, is_key, times}
-use Rattle.world_spec.specs.StageOf.{after_first, stage_of, lists_at}
+use Rattle.world_spec.specs.StageOf.{after_first, lists_at}
 use Rattle.world_spec.specs.{Kept.{post_at, once_if, is_member_of, leads, leads_in, kinds_in, AreFitting, AreLawful, IsKept}, Changes.{with_leaders}}
-use Rattle.world_spec.specs.{Adding.{free_entry, freed, leave_group, taken_out, drop_instance}, Goings.{MayGo}}
+use Rattle.world_spec.specs.{Adding.{free_entry, freed, taken_out, drop_instance}, Goings.{MayGo}}
 use Rattle.world_spec.proofs.Tables.{get-here, get-there, keys-written, post_of}
 use Rattle.world_spec.proofs.{Keys.{key-is, is_key-same, is_key-other, is_key-true, times-cons, once-true, once-false}, Moving.{leads-parts}}
 use Rattle.world_spec.proofs.{ComingLinks.{last_of_two}, Copies.{goes-rising}, ComingGroups.{pick, map-apart}, AddedKept.{both-picks}}
@@ -44,21 +44,14 @@ not-freed (k ∷ keys) m q none = elim (cases_eq q.0 k.0) [
 ]
 
 freed-again : (m : FinMap nat_cmp Entry) (k q : Key) → freed_entry q (entry_in (freed_entries m k) q) ≡ freed_entry q (entry_in m q)
-freed-again m k q = elim (cases_eq q.0 k.0) [
-  | inl e ↦
-      ap (λ o. freed_entry q (unwrap_or o no_entry)) (get-here m k.0 (freed_entry k (entry_in m k)) q.0 e)
-      ∙ ap (λ n. freed_entry q (unwrap_or (get m n) no_entry)) (sym e)
-  | inr apart ↦ ap (λ o. freed_entry q (unwrap_or o no_entry)) (get-there m k.0 (freed_entry k (entry_in m k)) q.0 apart)
-]
+freed-again m k q = grind (arith, get-here, get-there)
 
 were-freed : (keys : List Key) (m : FinMap nat_cmp Entry) (q : Key) → 1 ≤ times q keys → get (fold freed_entries m keys) q.0 ≡ Some (freed_entry q (entry_in m q))
 were-freed [] m q some = absurd (omega (arith, some))
 were-freed (k ∷ keys) m q some = elim (cases_eq (times q keys) 0) [
   | inr more ↦ were-freed keys (freed_entries m k) q (omega (arith, more)) ∙ ap {B = Option Entry} Some (freed-again m k q)
   | inl none ↦ elim (cases_eq q.0 k.0) [
-    | inl e ↦
-        not-freed keys (freed_entries m k) q none ∙ (get-here m k.0 (freed_entry k (entry_in m k)) q.0 e
-        ∙ ap {B = Option Entry} (λ x. Some (freed_entry x (entry_in m x))) (sym (key-is q k e)))
+    | inl e ↦ grind (arith, not-freed, get-here, e, key-is)
     | inr apart ↦ absurd (omega (arith, some, none, times-cons q k keys, once-false (is_key q k) (is_key-other q k (λ e. apart (sym e)))))
   ]
 ]
@@ -83,10 +76,7 @@ abbrev pub standings_freed : World → Key → FinMap nat_cmp Standing
 standings_freed w k = fold freed_standings w.standings (after_first (entry_at w k).members)
 
 pub dropped-leader : (w : World) (k : Key) → is_key k (entry_at w k).leader ≡ true → drop_instance k w ≡ led_world w k (entries_freed w k) (standings_freed w k)
-dropped-leader w k own =
-    ap {B = World} (λ b. taken_out k (instance_at w k) (leave_group k b w)) own
-    ∙ ap {B = World} (λ x. taken_out k (instance_at w k) (with_leaders (entry_at w k).context (disband (entry_at w k).pinned k (after_first (entry_at w k).members)) x))
-    (freed-fields (after_first (entry_at w k).members) w)
+dropped-leader w k own = grind (arith, disband, freed-fields)
 
 pub record AreFreed (w : World) (k : Key) (entries : FinMap nat_cmp Entry) (standings : FinMap nat_cmp Standing) : Type 0 where
   pub freed : (q : Key) → (q.0 ≡ k.0 → ⊥) → is_member_of (post_at w) k q ≡ true → get entries q.0 ≡ Some (freed_entry q (entry_at w q))
@@ -97,10 +87,7 @@ pub siblings-stand : (hw : Hardware) (w : World) (k : Key) → IsKept hw w → l
 siblings-stand hw w k h lead =
     let keys : List Key = after_first (entry_at w k).members in
     let all : (j : Key) → times j (entry_at w k).members ≡ once_if (is_key j k) + times j keys = λ j. ap (times j) (h.grouped.leader_first k lead) ∙ times-cons j k keys in
-    record {
-      not_itself = omega (arith, all k, h.linked.members k k, once-true (is_member_of (post_at w) k k) lead, once-true (is_key k k) (is_key-same k k refl));
-      others = λ j apart. omega (arith, all j, h.linked.members j k, once-false (is_key j k) (is_key-other j k (λ e. apart (sym e))));
-    }
+    grind (arith, all, once-true, is_key-same, once-false, is_key-other)
 
 pub tables-freed : (hw : Hardware) (w : World) (k : Key) → IsKept hw w → leads (post_at w) k ≡ true → AreFreed w k (entries_freed w k) (standings_freed w k)
 tables-freed hw w k h lead =
@@ -119,25 +106,11 @@ pub led-disbands : (w : World) (k : Key) (entries : FinMap nat_cmp Entry) (stand
     → Disbands (post_at w) (post_at (led_world w k entries standings)) k
 led-disbands w k entries standings lead f =
     let parts : (is_live w k ≡ true) × (is_key k (entry_at w k).leader ≡ true) = leads-parts (is_live w k) (is_key k (entry_at w k).leader) lead in
-    record {
-      live = parts.0;
-      own = key-is (entry_at w k).leader k (is_key-true k (entry_at w k).leader parts.1);
-      gone = ap is_some (get-gone entries k.0 k.0 refl);
-      none = ap (λ o. (unwrap_or o no_entry).members) (get-gone entries k.0 k.0 refl);
-      freed = λ j apart is.
-          let e : get (remove entries k.0) j.0 ≡ Some (freed_entry j (entry_at w j)) = get-left entries k.0 j.0 apart ∙ f.freed j apart is in
-          (λ i. post_of (is_some (e i)) (unwrap_or (e i) no_entry)) ∙ ap (λ b. post_of b (freed_entry j (entry_at w j))) (sym (member-live (post_at w) k j is));
-      others = λ j apart off.
-          let e : get (remove entries k.0) j.0 ≡ get w.entries j.0 = get-left entries k.0 j.0 apart ∙ f.others j apart off in
-          λ i. post_of (is_some (e i)) (unwrap_or (e i) no_entry);
-    }
+    grind (arith, key-is, is_key-true, get-gone, get-left, post_of, member-live)
 
 pub led-instance : (w : World) (k : Key) (entries : FinMap nat_cmp Entry) (standings : FinMap nat_cmp Standing) → AreFreed w k entries standings
     → (j : Key) → (j.0 ≡ k.0 → ⊥) → instance_at (led_world w k entries standings) j ≡ instance_at w j
-led-instance w k entries standings f j apart = elim (cases_Bool (is_member_of (post_at w) k j)) [
-  | inl is ↦ ap (λ o. (unwrap_or o no_entry).instance) (get-left entries k.0 j.0 apart ∙ f.freed j apart is)
-  | inr off ↦ ap (λ o. (unwrap_or o no_entry).instance) (get-left entries k.0 j.0 apart ∙ f.others j apart off)
-]
+led-instance w k entries standings f j apart = grind (arith, get-left)
 
 -- one of the kinds that fit together fits alone
 mask-alone : (hw : Hardware) (kind : Key → Kind) (j : Key) (ms : List Key) (taken : List ℕ) → fits_beside (hardware_masks hw (map kind ms)) taken ≡ true → 1 ≤ times j ms
@@ -194,17 +167,7 @@ lawful-led hw w k entries standings h f d =
     let far : (j : Key) → is_live t j ≡ true → j.0 ≡ k.0 → ⊥ = still-apart (post_at w) (post_at t) k g in
     let was : (j : Key) → is_live t j ≡ true → is_live w j ≡ true = still-live (post_at w) (post_at t) k g in
     let same : (j : Key) → is_live t j ≡ true → instance_at t j ≡ instance_at w j = λ j live. led-instance w k entries standings f j (far j live) in
-    record {
-      errors = λ j live error. elim (cases_Bool (is_member_of (post_at w) k j)) [
-        | inl is ↦ ap (λ x. is_key j x.leader) (d.freed j (far j live) is) ∙ is_key-same j j refl
-        | inr off ↦ ap (λ x. is_key j x.leader) (d.others j (far j live) off) ∙ h.lawful.errors j (was j live) (ap (λ i. is_error i.own) (sym (same j live)) ∙ error)
-      ];
-      samples = λ j live. ap (λ i. has_unknown_sample i.attr) (same j live) ∙ h.lawful.samples j (was j live);
-      kinds = λ j live. subst (λ i. IsKind (length w.hardware.kind_pmus) i.attr.kind) (sym (same j live)) (h.lawful.kinds j (was j live));
-      used = λ j live first. ap (λ i. is_used (stage_of w) i.event) (same j live) ∙ h.lawful.used j (was j live) (sym (ap (λ i. i.copy) (same j live)) ∙ first);
-      placed = λ j live first. ap (λ x. x.context) (g.others j (far j live))
-          ∙ (h.lawful.placed j (was j live) (sym (ap (λ i. i.copy) (same j live)) ∙ first) ∙ sym (ap (λ i. context_of i.attr) (same j live)));
-    }
+    grind (arith, far, is_key-same, was, same)
 
 pub led-kept : (hw : Hardware) (w : World) (k : Key) (entries : FinMap nat_cmp Entry) (standings : FinMap nat_cmp Standing) → leads (post_at w) k ≡ true → AreFreed w k entries standings
     → MayGo w k → IsKept hw w → IsKept hw (led_world w k entries standings)

@@ -1,5 +1,5 @@
 -- The stage after a leader went.
-use Rattle.std.specs.Prelude.{◌≡◌, ℕ, zero, suc, ◌+◌, ◌<◌, ◌≤◌, ◌==◌, Bool, true, false, not, ◌&&◌, cond, List, [], ◌∷◌, ◌++◌, length, map, flat_map, slice_index_or, slice_set, if◌then◌else◌}
+use Rattle.std.specs.Prelude.{◌≡◌, ℕ, zero, suc, ◌+◌, ◌<◌, ◌≤◌, Bool, true, false, not, ◌&&◌, List, [], ◌∷◌, ◌++◌, length, map, flat_map, slice_index_or, slice_set, if◌then◌else◌}
 use Rattle.std.{specs.{FinMap.{FinMap}, Ordering.{nat_cmp}}, proofs.Common.{arith, refl, sym, ap, ◌∙◌, inl, inr}}
 use Rattle.std.proofs.lemmas.{Bool.{cases_eq, cases_Bool, false≢true, Decides.{nat_tests}}, List.{append-nil, length-map, length-set, map-append}}
 use Rattle.std.proofs.lemmas.Simd.{map-map}
@@ -38,10 +38,7 @@ record Situation (hw : Hardware) (w : World) (k : Key) (t : World) : Type 0 wher
 
 -- a group that another key leads
 outside : (hw : Hardware) (w : World) (k : Key) (t : World) → Situation hw w k t → (q : Key) → (q.0 ≡ k.0 → ⊥) → leads (post_at w) q ≡ true → is_member_of (post_at w) k q ≡ false
-outside hw w k t s q apart lead = elim (cases_Bool (is_member_of (post_at w) k q)) [
-  | inr off ↦ off
-  | inl is ↦ absurd (false≢true (sym (member-follows (post_at w) k q apart is) ∙ (leads-parts (is_live w q) (is_key q (entry_at w q).leader) lead).1))
-]
+outside hw w k t s q apart lead = grind (arith, nat_tests, false≢true, member-follows, leads-parts)
 
 not-among : (hw : Hardware) (w : World) (k : Key) (t : World) → Situation hw w k t → (q : Key) → (q.0 ≡ k.0 → ⊥) → times k (after_first (entry_at w q).members) ≡ 0
 not-among hw w k t s q apart = times-after_first k (entry_at w q).members (s.kept.linked.members k q ∙ once-false (is_member_of (post_at w) q k)
@@ -61,48 +58,29 @@ group-same hw w k t s q apart lead =
 
 group-stays : (hw : Hardware) (w : World) (k : Key) (t : World) → Situation hw w k t → (q : Key) → (q.0 ≡ k.0 → ⊥) → leads (post_at w) q ≡ true
     → kept_group (goes_by w k) (group_at w q) ≡ group_at t q ∷ []
-group-stays hw w k t s q apart lead =
-    let off : goes_by w k (instance_at w q) ≡ false = id-apart w k q s.kept.numbered s.live apart in
-    let g : Group = group_at w q in
-    let whole : staying (goes_by w k) g.siblings ≡ g.siblings = stays-whole hw w k t s (after_first (entry_at w q).members) (not-among hw w k t s q apart) in
-    ap {B = List Group} (λ b. elim b as (λ x. List Group) [ true ↦ [] | false ↦ record g { siblings = staying (goes_by w k) g.siblings } ∷ [] ]) off
-    ∙ (ap {B = List Group} (λ is. record g { siblings = is } ∷ []) whole ∙ ap {B = List Group} (λ x. x ∷ []) (sym (group-same hw w k t s q apart lead)))
+group-stays hw w k t s q apart lead = grind (arith, nat_tests, goes_by, id-apart, stays-whole, not-among, group-same)
 
 group-frees_none : (hw : Hardware) (w : World) (k : Key) (t : World) → Situation hw w k t → (q : Key) → (q.0 ≡ k.0 → ⊥) → freed_groups (goes_by w k) (group_at w q) ≡ []
-group-frees_none hw w k t s q apart =
-    let off : goes_by w k (instance_at w q) ≡ false = id-apart w k q s.kept.numbered s.live apart in
-    let g : Group = group_at w q in
-    ap {B = List Group} (λ b. elim b as (λ x. List Group) [ true ↦ map alone (staying (goes_by w k) g.siblings) | false ↦ [] ]) off
+group-frees_none hw w k t s q apart = grind (arith, nat_tests, goes_by, id-apart)
 
 -- the group of the one that goes
 own-goes : (hw : Hardware) (w : World) (k : Key) (t : World) → Situation hw w k t → goes_by w k (instance_at w k) ≡ true
 own-goes hw w k t s = same-test hw w k s.kept s.live k ∙ is_key-same k k refl
 
 group-gone : (hw : Hardware) (w : World) (k : Key) (t : World) → Situation hw w k t → kept_group (goes_by w k) (group_at w k) ≡ []
-group-gone hw w k t s =
-    let g : Group = group_at w k in
-    ap {B = List Group} (λ b. elim b as (λ x. List Group) [ true ↦ [] | false ↦ record g { siblings = staying (goes_by w k) g.siblings } ∷ [] ]) (own-goes hw w k t s)
+group-gone hw w k t s = grind (arith, nat_tests, goes_by, own-goes)
 
 freed-group : (hw : Hardware) (w : World) (k : Key) (t : World) → Situation hw w k t → (q : Key) → (q.0 ≡ k.0 → ⊥) → is_member_of (post_at w) k q ≡ true
     → group_at t q ≡ alone (instance_at w q)
-freed-group hw w k t s q apart is =
-    let siblings : map (instance_at t) (after_first (entry_at t q).members) ≡ [] = ap (λ x. map (instance_at t) (after_first x.members)) (s.disbands.freed q apart is) in
-    λ i. record { leader = s.same q apart i; siblings = siblings i }
+freed-group hw w k t s q apart is = grind (arith, nat_tests)
 
 group-frees : (hw : Hardware) (w : World) (k : Key) (t : World) → Situation hw w k t → freed_groups (goes_by w k) (group_at w k) ≡ map (group_at t) (after_first (entry_at w k).members)
 group-frees hw w k t s =
     let g : Group = group_at w k in
     let keys : List Key = after_first (entry_at w k).members in
     let sib : AreSiblings (post_at w) k keys = siblings-stand hw w k s.kept s.lead in
-    let each : (q : Key) → 1 ≤ times q keys → alone (instance_at w q) ≡ group_at t q = λ q some. (elim (cases_eq q.0 k.0) [
-      | inl e ↦ absurd (omega (arith, some, sib.not_itself, ap (λ x. times x keys) (key-is q k e)))
-      | inr apart ↦ elim (cases_Bool (is_member_of (post_at w) k q)) [
-        | inl is ↦ sym (freed-group hw w k t s q apart is)
-        | inr off ↦ absurd (omega (arith, some, sib.others q apart, once-false (is_member_of (post_at w) k q) off))
-      ]
-    ]) in
-    ap {B = List Group} (λ b. elim b as (λ x. List Group) [ true ↦ map alone (staying (goes_by w k) g.siblings) | false ↦ [] ]) (own-goes hw w k t s)
-    ∙ (ap (map alone) (stays-whole hw w k t s keys sib.not_itself) ∙ (map-map alone (instance_at w) keys ∙ map-within (λ q. alone (instance_at w q)) (group_at t) keys each))
+    let each : (q : Key) → 1 ≤ times q keys → alone (instance_at w q) ≡ group_at t q = grind (arith, key-is, freed-group, once-false) in
+    grind (arith, nat_tests, goes_by, own-goes, stays-whole, keys, map-map, map-within, each)
 
 -- lists of leaders
 pub leading-rest : (w : World) (q : Key) (keys : List Key) → AreLeading w (q ∷ keys) → AreLeading w keys
@@ -118,21 +96,15 @@ all-stay hw w k t s (q ∷ keys) ls =
     let rest : map (group_at t) (all_but k keys) ≡ flat_map (kept_group (goes_by w k)) (map (group_at w) keys) = all-stay hw w k t s keys (leading-rest w q keys ls) in
     let others : List Group = flat_map (kept_group (goes_by w k)) (map (group_at w) keys) in
     elim (cases_Bool (is_key k q)) [
-      | inl e ↦
-          let none : kept_group (goes_by w k) (group_at w q) ≡ [] = ap (λ x. kept_group (goes_by w k) (group_at w x)) (key-is q k (is_key-true k q e)) ∙ group-gone hw w k t s in
-          ap {B = List Group} (λ c. map (group_at t) (cond (not c) (q ∷ all_but k keys) (all_but k keys))) e ∙ (rest ∙ ap (λ gs. gs ++ others) (sym none))
-      | inr e ↦
-          let one : kept_group (goes_by w k) (group_at w q) ≡ group_at t q ∷ [] = group-stays hw w k t s q (is_key-false k q e) (leading-first w q keys ls) in
-          ap {B = List Group} (λ c. map (group_at t) (cond (not c) (q ∷ all_but k keys) (all_but k keys))) e ∙ (ap (λ gs. group_at t q ∷ gs) rest ∙ ap (λ gs. gs ++ others) (sym one))
+      | inl e ↦ grind (arith, nat_tests, goes_by, key-is, is_key-true, e, group-gone)
+      | inr e ↦ grind (arith, group-stays hw w k t s q (is_key-false k q e) (leading-first w q keys ls))
     ]
 
 none-freed : (hw : Hardware) (w : World) (k : Key) (t : World) → Situation hw w k t → (keys : List Key) → times k keys ≡ 0 → flat_map (freed_groups (goes_by w k)) (map (group_at w) keys) ≡ []
 none-freed hw w k t s [] none = refl
 none-freed hw w k t s (q ∷ keys) none = elim (cases_eq q.0 k.0) [
   | inl e ↦ absurd (omega (arith, none, times-cons k q keys, once-true (is_key k q) (is_key-same k q e)))
-  | inr apart ↦
-      ap (λ gs. gs ++ flat_map (freed_groups (goes_by w k)) (map (group_at w) keys)) (group-frees_none hw w k t s q apart)
-      ∙ none-freed hw w k t s keys (omega (arith, none, times-cons k q keys))
+  | inr apart ↦ grind (arith, goes_by, group-frees_none, apart, times-cons, none-freed hw w k t s keys (omega (arith, none, times-cons k q keys)))
 ]
 
 one-freed : (hw : Hardware) (w : World) (k : Key) (t : World) → Situation hw w k t → (keys : List Key) → times k keys ≡ 1
@@ -153,13 +125,7 @@ one-freed hw w k t s (q ∷ keys) one = elim (cases_eq q.0 k.0) [
 lists-gone : (hw : Hardware) (w : World) (k : Key) (t : World) → Situation hw w k t → (l : Leaders) (keys : List Key) → AreLeading w l.pinned → AreLeading w l.flexible
     → flat_map (freed_groups (goes_by w k)) (map (group_at w) l.pinned ++ map (group_at w) l.flexible) ≡ map (group_at t) keys
     → lists_at t (record { pinned = all_but k l.pinned; flexible = all_but k l.flexible ++ keys }) ≡ without (goes_by w k) (lists_at w l)
-lists-gone hw w k t s l keys pinned flexible freed =
-    let rest : map (group_at t) (all_but k l.flexible ++ keys)
-    ≡ flat_map (kept_group (goes_by w k)) (map (group_at w) l.flexible) ++ flat_map (freed_groups (goes_by w k)) (map (group_at w) l.pinned ++ map (group_at w) l.flexible) =
-    map-append (group_at t) (all_but k l.flexible) keys
-    ∙ (ap (λ gs. gs ++ map (group_at t) keys) (all-stay hw w k t s l.flexible flexible)
-    ∙ ap (λ gs. flat_map (kept_group (goes_by w k)) (map (group_at w) l.flexible) ++ gs) (sym freed)) in
-    λ i. record { pinned = all-stay hw w k t s l.pinned pinned i; flexible = rest i }
+lists-gone hw w k t s l keys pinned flexible freed = grind (arith, nat_tests, goes_by, map-append, all-stay)
 
 disband-is : (pinned : Bool) (k : Key) (keys : List Key) (l : Leaders) → (pinned ≡ true → times k l.flexible ≡ 0) → (pinned ≡ false → times k l.pinned ≡ 0)
     → disband pinned k keys l ≡ record { pinned = all_but k l.pinned; flexible = all_but k l.flexible ++ keys }
@@ -171,9 +137,7 @@ two_hold : (a b c : Bool) → a ≡ true → b ≡ true → (a && b && c) ≡ c
 two_hold a b c ha hb = rw (ha, hb) refl
 
 flag-of : (w : World) (k : Key) → leads (post_at w) k ≡ true → (b : Bool) → leads_in (post_at w) (place_of (entry_at w k).context) b k ≡ (if (entry_at w k).pinned then b else not b)
-flag-of w k lead b =
-    let here : (place_of (entry_at w k).context == place_of (entry_at w k).context) ≡ true = grind (arith, nat_tests) in
-    two_hold (leads (post_at w) k) (place_of (entry_at w k).context == place_of (entry_at w k).context) (if (entry_at w k).pinned then b else not b) lead here
+flag-of w k lead b = grind (arith, nat_tests, two_hold)
 
 one-list : (pinned : Bool) (f : Bool → ℕ) → ((b : Bool) → f b ≡ once_if (if pinned then b else not b)) → f true + f false ≡ 1
 one-list true f h = omega (arith, h true, h false)
@@ -187,11 +151,7 @@ lists-here hw w k t s l is =
     let of_pinned : (j : Key) → times j l.pinned ≡ once_if (leads_in (post_at w) place true j) = λ j. ap (λ x. times j x.pinned) (sym is) ∙ s.kept.linked.pinned j place in
     let of_flexible : (j : Key) → times j l.flexible ≡ once_if (leads_in (post_at w) place false j) = λ j. ap (λ x. times j x.flexible) (sym is) ∙ s.kept.linked.flexible j place in
     let times_in : Bool → ℕ = λ b. if b then times k l.pinned else times k l.flexible in
-    let counted : (b : Bool) → times_in b ≡ once_if (if (entry_at w k).pinned then b else not b) =
-    λ b. (elim b as (λ c. times_in c ≡ once_if (if (entry_at w k).pinned then c else not c)) [
-      | true ↦ of_pinned k ∙ ap once_if (flag-of w k s.lead true)
-      | false ↦ of_flexible k ∙ ap once_if (flag-of w k s.lead false)
-    ]) in
+    let counted : (b : Bool) → times_in b ≡ once_if (if (entry_at w k).pinned then b else not b) = grind (arith, nat_tests, flag-of) in
     let one : times k (l.pinned ++ l.flexible) ≡ 1 = omega (arith, count-append (is_key k) l.pinned l.flexible, one-list (entry_at w k).pinned times_in counted) in
     let freed : flat_map (freed_groups (goes_by w k)) (map (group_at w) l.pinned ++ map (group_at w) l.flexible) ≡ map (group_at t) keys =
     ap (flat_map (freed_groups (goes_by w k))) (sym (map-append (group_at w) l.pinned l.flexible)) ∙ one-freed hw w k t s (l.pinned ++ l.flexible) one in
@@ -204,8 +164,7 @@ lists-away : (hw : Hardware) (w : World) (k : Key) (t : World) → Situation hw 
     → lists_at t (slice_index_or w.contexts place no_leaders) ≡ without (goes_by w k) (lists_at w (slice_index_or w.contexts place no_leaders))
 lists-away hw w k t s place away =
     let l : Leaders = slice_index_or w.contexts place no_leaders in
-    let elsewhere : (b : Bool) → leads_in (post_at w) place b k ≡ false = λ b.
-    middle_fails (leads (post_at w) k) (place_of (entry_at w k).context == place) (if (entry_at w k).pinned then b else not b) (grind (arith, nat_tests, away)) in
+    let elsewhere : (b : Bool) → leads_in (post_at w) place b k ≡ false = grind (arith, nat_tests, middle_fails) in
     let pinned : times k l.pinned ≡ 0 = s.kept.linked.pinned k place ∙ once-false (leads_in (post_at w) place true k) (elsewhere true) in
     let flexible : times k l.flexible ≡ 0 = s.kept.linked.flexible k place ∙ once-false (leads_in (post_at w) place false k) (elsewhere false) in
     let none : times k (l.pinned ++ l.flexible) ≡ 0 = omega (arith, count-append (is_key k) l.pinned l.flexible, pinned, flexible) in

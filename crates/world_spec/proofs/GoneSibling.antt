@@ -19,10 +19,7 @@ pub record GoesAlone (at to : Key → Post) (k : Key) : Type 0 where
 
 -- nobody is led by a sibling
 pub not-led : (at : Key → Post) (k : Key) → is_key k (at k).leader ≡ false → AreGrouped at → (j : Key) → (at j).live ≡ true → (at j).leader.0 ≡ k.0 → ⊥
-not-led at k sibling h j live e =
-    let m : Key = (at j).leader in
-    let own : is_key m (at m).leader ≡ true = (leads-parts (at m).live (is_key m (at m).leader) (h.led j live)).1 in
-    false≢true (sym sibling ∙ (ap (λ x. is_key x (at x).leader) (sym (key-is m k e)) ∙ own))
+not-led at k sibling h j live e = grind (arith, leads-parts, false≢true, key-is)
 
 pub gone-members : (at to : Key → Post) (k : Key) → GoesAlone at to k → is_key k (at k).leader ≡ false → AreGrouped at → (to k).members ≡ []
     → (to (at k).leader).members ≡ all_but k (at (at k).leader).members
@@ -47,9 +44,7 @@ gone-members at to k g sibling grouped none fewer others h j leader =
                   times-all_but_other j k apart (at (at k).leader).members ∙ (ap (λ x. times j (at x).members) (sym (key-is leader (at k).leader el)) ∙ (h j leader ∙ ap once_if (sym (same apart))))
             ])
         | inr off ↦ ap (times j) (others leader other off) ∙ (h j leader ∙ elim (cases_eq j.0 k.0) [
-          | inl ej ↦
-              ap once_if (ap (λ x. is_member_of at leader x) (key-is j k ej)
-              ∙ (last_of_two (at k).live (is_key leader (at k).leader) (λ x. is_key-other leader (at k).leader (λ e. off (sym e))) ∙ sym (there ej)))
+          | inl ej ↦ grind (arith, key-is, ej, last_of_two, is_key-other)
           | inr apart ↦ ap once_if (sym (same apart))
         ])
       ]
@@ -59,20 +54,13 @@ pub gone-listed : (at to : Key → Post) (k : Key) → GoesAlone at to k → is_
     → ((b : Bool) (j : Key) (place : ℕ) → times j (pick b (slice_index_or contexts place no_leaders)) ≡ once_if (leads_in at place b j))
     → (b : Bool) (j : Key) (place : ℕ) → times j (pick b (slice_index_or contexts place no_leaders)) ≡ once_if (leads_in to place b j)
 gone-listed at to k g sibling contexts h b j place = h b j place ∙ elim (cases_eq j.0 k.0) [
-  | inl e ↦
-      let before : leads_in at place b k ≡ false = none_of_three (leads at k) (place_of (at k).context == place) (if (at k).pinned then b else not b)
-      (last_of_two (at k).live (is_key k (at k).leader) (λ x. sibling)) in
-      ap once_if (ap (λ x. leads_in at place b x) (key-is j k e) ∙ (before ∙ (sym (dead_leads to place b k g.goes.gone) ∙ ap (λ x. leads_in to place b x) (sym (key-is j k e)))))
+  | inl e ↦ grind (arith, none_of_three, last_of_two, key-is, e, dead_leads)
   | inr apart ↦ ap once_if (sym (ap (λ x. (x.live && is_key j x.leader) && place_of x.context == place && (if x.pinned then b else not b)) (g.same j apart)))
 ]
 
 all_but-first : (ms : List Key) (first k : Key) → (first.0 ≡ k.0 → ⊥) → ms ≡ first ∷ after_first ms → all_but k ms ≡ first ∷ after_first (all_but k ms)
 all_but-first [] first k apart h = absurd (cc)
-all_but-first (m ∷ ms) first k apart h =
-    let is : m ≡ first = ap (λ xs. slice_index_or xs 0 m) h in
-    let no : is_key k m ≡ false = is_key-other k m (λ e. apart (ap (λ x. x.0) (sym is) ∙ e)) in
-    let kept : all_but k (m ∷ ms) ≡ m ∷ all_but k ms = ap {B = List Key} (λ c. cond (not c) (m ∷ all_but k ms) (all_but k ms)) no in
-    subst (λ xs. xs ≡ first ∷ after_first xs) (sym kept) (ap (λ x. x ∷ all_but k ms) is)
+all_but-first (m ∷ ms) first k apart h = grind (arith, is_key-other)
 
 pub length-all_but : (k : Key) (ms : List Key) → length (all_but k ms) ≤ length ms
 length-all_but k ms = omega (arith, length-filter (λ j. not (is_key k j)) ms, count_by-le-length (λ j. not (is_key k j)) ms)
@@ -87,10 +75,7 @@ gone-grouped at to k g sibling none fewer others h =
     let was : (j : Key) → (to j).live ≡ true → (j.0 ≡ k.0 → ⊥) × ((at j).leader.0 ≡ k.0 → ⊥) =
     λ j live. (still-apart at to k g.goes j live, not-led at k sibling h j (still-live at to k g.goes j live)) in
     let by_first : (P : Key → List Key → Type 0) → P k [] → P first (all_but k (at first).members) → ((j : Key) → (j.0 ≡ k.0 → ⊥) → P j (at j).members) → (j : Key) → P j (to j).members =
-    λ P gone here rest. by_coming (λ j. P j (to j).members) k (subst (P k) (sym none) gone) (λ j apart. (elim (cases_eq j.0 first.0) [
-      | inl e ↦ subst (λ x. P x (to x).members) (sym (key-is j first e)) (subst (P first) (sym fewer) here)
-      | inr off ↦ subst (P j) (sym (others j apart off)) (rest j apart)
-    ])) in
+    grind (arith, by_coming, key-is) in
     record {
       led = λ j live.
           let leader : (to j).leader ≡ (at j).leader = ap (λ x. x.leader) (g.same j (was j live).0) in
@@ -126,12 +111,7 @@ masks-fewer hw kind k (m ∷ ms) taken h =
     λ b e keys. masks-cons hw (kind m) (map kind keys) b e in
     let kept : (b : Bool) → is_key k m ≡ b → all_but k (m ∷ ms) ≡ cond (not b) (m ∷ all_but k ms) (all_but k ms) = λ b e. ap {B = List Key} (λ c. cond (not c) (m ∷ all_but k ms) (all_but k ms)) e in
     elim (cases_Bool (is_software (kind m))) [
-      | inl soft ↦
-          let here : fits_beside left taken ≡ true = masks-fewer hw kind k ms taken (ap (λ xs. fits_beside xs taken) (sym (with_m true soft ms)) ∙ h) in
-          elim (cases_Bool (is_key k m)) [
-            | inl gone ↦ ap (λ keys. fits_beside (hardware_masks hw (map kind keys)) taken) (kept true gone) ∙ here
-            | inr stays ↦ ap (λ keys. fits_beside (hardware_masks hw (map kind keys)) taken) (kept false stays) ∙ (ap (λ xs. fits_beside xs taken) (with_m true soft (all_but k ms)) ∙ here)
-          ]
+      | inl soft ↦ grind (arith, soft, masks-fewer hw kind k ms taken (ap (λ xs. fits_beside xs taken) (sym (with_m true soft ms)) ∙ h))
       | inr hard ↦
           let whole : fits_beside (mask ∷ rest) taken ≡ true = ap (λ xs. fits_beside xs taken) (sym (with_m false hard ms)) ∙ h in
           elim (cases_Bool (is_key k m)) [
@@ -154,12 +134,8 @@ pairs-fewer hw kind k ms h =
     get_or_default (map kind (all_but k ms)) i d (kind k) (omega (arith, below, low)) ∙ get_or-map kind (all_but k ms) i k in
     let at_j : slice_index_or (map kind (all_but k ms)) j d ≡ kind (slice_index_or (all_but k ms) j k) =
     get_or_default (map kind (all_but k ms)) j d (kind k) low ∙ get_or-map kind (all_but k ms) j k in
-    ap (λ x. is_other_pmu hw x (slice_index_or (map kind (all_but k ms)) j d)) at_i ∙ (ap (λ x. is_other_pmu hw (kind (slice_index_or (all_but k ms) i k)) x) at_j
-    ∙ fewer i j k below (omega (arith, low, size)))
+    grind (arith, at_i, at_j, fewer, size)
 
 pub fitting-fewer : (hw : Hardware) (kind : Key → Kind) (k : Key) (ms : List Key) → AreFitting hw (map kind ms) → AreFitting hw (map kind (all_but k ms))
 unfolding fits
-fitting-fewer hw kind k ms h = record {
-  fit = masks-fewer hw kind k ms [] h.fit;
-  one_pmu = pairs-fewer hw kind k ms h.one_pmu;
-}
+fitting-fewer hw kind k ms h = search (masks-fewer, pairs-fewer)

@@ -1,10 +1,10 @@
 -- The stage after a sibling went.
-use Rattle.std.specs.Prelude.{◌≡◌, ℕ, ◌≤◌, ◌==◌, Bool, true, false, not, cond, List, [], ◌∷◌, ◌++◌, map, flat_map, slice_index_or, if◌then◌else◌}
-use Rattle.std.proofs.{Common.{arith, refl, sym, ap, ◌∙◌, inl, inr}, lemmas.Bool.{cases_eq, cases_Bool, false≢true, Decides.{nat_tests}}}
+use Rattle.std.specs.Prelude.{◌≡◌, ℕ, ◌≤◌, Bool, true, false, not, List, [], ◌∷◌, ◌++◌, map, flat_map, slice_index_or}
+use Rattle.std.proofs.{Common.{arith, refl, sym, ap, ◌∙◌}, lemmas.Bool.{false≢true, Decides.{nat_tests}}}
 use Rattle.std.proofs.lemmas.{List.{append-nil}, Simd.{map-map}}
 use Rattle.perf_base.specs.declared.numbers.Key.{Key}
 use Rattle.stage_spec.specs.{declared.instance.Instance.{Instance}, Closing.{staying, kept_group, freed_groups, without}, Hardware.{Hardware}}
-use Rattle.stage_spec.specs.Stage.{Group, Lists, alone, place_of}
+use Rattle.stage_spec.specs.Stage.{Group, Lists}
 use Rattle.stage_laws.{specs.{Sound.{has_id}, OneByOne.{drop_one}}, proofs.Images.{filter-map}}
 use Rattle.world_spec.specs.Value.{World, Leaders, no_leaders, is_live, entry_at, instance_at, is_key, times}
 use Rattle.world_spec.specs.{StageOf.{after_first, group_at, lists_at, stage_of}, Kept.{post_at, once_if, leads, leads_in, IsKept}, Changes.{all_but}}
@@ -17,20 +17,12 @@ goes_by w k i = has_id (instance_at w k).id i
 
 -- the test by id is the test by key
 pub same-test : (hw : Hardware) (w : World) (k : Key) → IsKept hw w → is_live w k ≡ true → (q : Key) → goes_by w k (instance_at w q) ≡ is_key k q
-same-test hw w k h live q = elim (cases_eq q.0 k.0) [
-  | inl e ↦
-      let own : goes_by w k (instance_at w k) ≡ true = grind (arith, nat_tests) in
-      ap (λ x. goes_by w k (instance_at w x)) (key-is q k e) ∙ (own ∙ sym (is_key-same k q e))
-  | inr apart ↦ id-apart w k q h.numbered live apart ∙ sym (is_key-other k q apart)
-]
+same-test hw w k h live q = grind (arith, nat_tests, key-is, is_key-same, id-apart, is_key-other)
 
 -- those of a group that stay
 after-all_but : (ms : List Key) (q k : Key) → (q.0 ≡ k.0 → ⊥) → ms ≡ q ∷ after_first ms → after_first (all_but k ms) ≡ all_but k (after_first ms)
 after-all_but [] q k apart h = absurd (cc)
-after-all_but (m ∷ ms) q k apart h =
-    let is : m ≡ q = ap (λ xs. slice_index_or xs 0 m) h in
-    let no : is_key k m ≡ false = is_key-other k m (λ e. apart (ap (λ x. x.0) (sym is) ∙ e)) in
-    ap {B = List Key} (λ c. after_first (cond (not c) (m ∷ all_but k ms) (all_but k ms))) no
+after-all_but (m ∷ ms) q k apart h = grind (arith, nat_tests, is_key-other)
 
 siblings-stay : (hw : Hardware) (w : World) (k : Key) → IsKept hw w → SiblingMayGo w k → (q : Key) → (q.0 ≡ k.0 → ⊥) → leads (post_at w) q ≡ true
     → map (instance_at (left_world w k)) (after_first (entry_at (left_world w k) q).members) ≡ staying (goes_by w k) (group_at w q).siblings
@@ -45,37 +37,17 @@ siblings-stay hw w k h may q apart lead =
 -- a group whose leader stays
 group-kept : (hw : Hardware) (w : World) (k : Key) → IsKept hw w → SiblingMayGo w k → (q : Key) → (q.0 ≡ k.0 → ⊥) → leads (post_at w) q ≡ true
     → kept_group (goes_by w k) (group_at w q) ≡ group_at (left_world w k) q ∷ []
-group-kept hw w k h may q apart lead =
-    let no : goes_by w k (instance_at w q) ≡ false = id-apart w k q h.numbered may.live apart in
-    let g : Group = group_at w q in
-    let now : record g { siblings = staying (goes_by w k) g.siblings } ≡ group_at (left_world w k) q = λ i. record {
-      leader = sym (left-instance w k q apart) i;
-      siblings = sym (siblings-stay hw w k h may q apart lead) i;
-    } in
-    ap {B = List Group} (λ b. elim b as (λ x. List Group) [ true ↦ [] | false ↦ record g { siblings = staying (goes_by w k) g.siblings } ∷ [] ]) no ∙ ap (λ x. x ∷ []) now
+group-kept hw w k h may q apart lead = grind (arith, nat_tests, id-apart, left_world, left-instance, siblings-stay)
 
 group-freed : (hw : Hardware) (w : World) (k : Key) → IsKept hw w → SiblingMayGo w k → (q : Key) → (q.0 ≡ k.0 → ⊥) → freed_groups (goes_by w k) (group_at w q) ≡ []
-group-freed hw w k h may q apart =
-    let no : goes_by w k (instance_at w q) ≡ false = id-apart w k q h.numbered may.live apart in
-    let g : Group = group_at w q in
-    ap {B = List Group} (λ b. elim b as (λ x. List Group) [ true ↦ map alone (staying (goes_by w k) g.siblings) | false ↦ [] ]) no
+group-freed hw w k h may q apart = grind (arith, nat_tests, id-apart)
 
 -- a list of leaders
 abbrev pub AreLeading : World → List Key → Type 0
 AreLeading w keys = (q : Key) → 1 ≤ times q keys → leads (post_at w) q ≡ true
 
 pub listed-lead : (w : World) (place : ℕ) (b : Bool) (keys : List Key) → ((j : Key) → times j keys ≡ once_if (leads_in (post_at w) place b j)) → AreLeading w keys
-listed-lead w place b keys h q some = elim (cases_Bool (leads (post_at w) q)) [
-  | inl lead ↦ lead
-  | inr fails ↦
-      absurd (omega (
-        arith,
-        some,
-        h q,
-        once-false (leads_in (post_at w) place b q)
-            (none_of_three (leads (post_at w) q) (place_of (entry_at w q).context == place) (if (entry_at w q).pinned then b else not b) fails),
-      ))
-]
+listed-lead w place b keys h q some = grind (arith, nat_tests, once-false, none_of_three)
 
 -- a list of leaders: each leads, and the one that goes is not among them
 abbrev AreLeaders : World → Key → List Key → Type 0
@@ -91,22 +63,16 @@ all-kept : (hw : Hardware) (w : World) (k : Key) → IsKept hw w → SiblingMayG
     → map (group_at (left_world w k)) keys ≡ flat_map (kept_group (goes_by w k)) (map (group_at w) keys)
 all-kept hw w k h may [] ls = refl
 all-kept hw w k h may (q ∷ keys) ls =
-    let first : (leads (post_at w) q ≡ true) × (q.0 ≡ k.0 → ⊥) = leaders-first w k q keys ls in
-    ap (λ gs. group_at (left_world w k) q ∷ gs) (all-kept hw w k h may keys (leaders-rest w k q keys ls))
-    ∙ ap (λ gs. gs ++ flat_map (kept_group (goes_by w k)) (map (group_at w) keys)) (sym (group-kept hw w k h may q first.1 first.0))
+    grind (arith, left_world, leaders-rest, group-kept, all-kept hw w k h may keys (leaders-rest w k q keys ls), leaders-first w k q keys ls)
 
 none-freed : (hw : Hardware) (w : World) (k : Key) → IsKept hw w → SiblingMayGo w k → (keys : List Key) → AreLeaders w k keys → (more : List Group)
     → flat_map (freed_groups (goes_by w k)) (map (group_at w) keys ++ more) ≡ flat_map (freed_groups (goes_by w k)) more
 none-freed hw w k h may [] ls more = refl
 none-freed hw w k h may (q ∷ keys) ls more =
-    let first : (leads (post_at w) q ≡ true) × (q.0 ≡ k.0 → ⊥) = leaders-first w k q keys ls in
-    ap (λ gs. gs ++ flat_map (freed_groups (goes_by w k)) (map (group_at w) keys ++ more)) (group-freed hw w k h may q first.1)
-    ∙ none-freed hw w k h may keys (leaders-rest w k q keys ls) more
+    grind (arith, group-freed, leaders-rest, none-freed hw w k h may keys (leaders-rest w k q keys ls) more, leaders-first w k q keys ls)
 
 listed-leads : (hw : Hardware) (w : World) (k : Key) → SiblingMayGo w k → (place : ℕ) (b : Bool) (keys : List Key) → ((j : Key) → times j keys ≡ once_if (leads_in (post_at w) place b j)) → AreLeaders w k keys
-listed-leads hw w k may place b keys h q some =
-    let lead : leads (post_at w) q ≡ true = listed-lead w place b keys h q some in
-    (lead, λ e. false≢true (sym may.sibling ∙ (ap (λ x. is_key x (entry_at w x).leader) (sym (key-is q k e)) ∙ (leads-parts (is_live w q) (is_key q (entry_at w q).leader) lead).1)))
+listed-leads hw w k may place b keys h q some = grind (arith, nat_tests, listed-lead, false≢true, key-is, leads-parts)
 
 lists-left : (hw : Hardware) (w : World) (k : Key) → IsKept hw w → SiblingMayGo w k → (place : ℕ)
     → lists_at (left_world w k) (slice_index_or w.contexts place no_leaders) ≡ without (goes_by w k) (lists_at w (slice_index_or w.contexts place no_leaders))

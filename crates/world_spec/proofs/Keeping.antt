@@ -6,7 +6,7 @@ use Rattle.perf_base.specs.{Scripts.{IsKind}, declared.numbers.{CpuNo.{CpuNo}, K
 use Rattle.stage_spec.specs.{declared.instance.Instance.{Instance}, Checks.{has_unknown_sample}, Hardware.{Hardware, counters_of}, Limits.{HasShape}}
 use Rattle.stage_spec.specs.{Opening.{is_used}, Reading.{is_error}, Stage.{Stage}}
 use Rattle.stage_laws.specs.Sound.{AreRunning}
-use Rattle.counter_match.specs.Seating.{Seated, IsSound, empty_seating}
+use Rattle.counter_match.specs.Seating.{Seated, IsSound}
 use Rattle.world_spec.specs.{Value.{World, Entry, Quiet, no_totals, is_live, entry_at, instance_at, is_key}, StageOf.{stage_of, lists_at}}
 use Rattle.world_spec.specs.Kept.{post_at, AreLinked, HaveCopies, AreSeated, AreGrouped, AreNumbered, AreApart, AreFitting, kinds_in, HaveTotals, AreSmallTotals, AreLawful, IsKept}
 use Rattle.world_spec.specs.Changes.{remember, with_instance}
@@ -84,57 +84,16 @@ pub quiet-kept : (hw : Hardware) (w : World) (quiet : Quiet) → quiet.used ≡ 
     → ((cpu : ℕ) → slice_index_or quiet.clocks cpu 0 < 2 ^ 63) → length quiet.clocks ≡ length quiet.running → length quiet.seats ≡ length quiet.running → AreSeated hw quiet.seats
     → HaveTotals (length quiet.running) quiet.totals → ((cpu : ℕ) → AreSmallTotals (slice_index_or quiet.totals cpu no_totals))
     → IsKept hw w → IsKept hw (record w { quiet = quiet })
-quiet-kept hw w quiet used next shape running clocks many_clocks many_seats seated totals small h = record {
-  tables = record { accounts = h.tables.accounts; standings = h.tables.standings; families = h.tables.families; folded = h.tables.folded; lost = h.tables.lost; clocks = many_clocks; totals = totals; seats = many_seats };
-  shape = shape;
-  running = running;
-  linked = h.linked;
-  copies = h.copies;
-  grouped = h.grouped;
-  numbered = subst (AreNumbered (post_at w)) (sym next) h.numbered;
-  apart = h.apart;
-  fitting = h.fitting;
-  lawful = record {
-    errors = h.lawful.errors;
-    samples = h.lawful.samples;
-    kinds = h.lawful.kinds;
-    used = λ q alive first. ap (λ slots. is_used (record (stage_of w) { used = slots }) (instance_at w q).event) used ∙ h.lawful.used q alive first;
-    placed = h.lawful.placed;
-  };
-  seated = seated;
-  small = record { counts = h.small.counts; times = h.small.times; ran = h.small.ran; folded_ran = h.small.folded_ran; clocks = clocks; totals = small; lost = h.small.lost; ids = subst (λ n. n < 2 ^ 63) (sym next) h.small.ids };
-}
+quiet-kept hw w quiet used next shape running clocks many_clocks many_seats seated totals small h = grind arith
 
 -- a number below a bound at each place of a list, after one was written
 pub bounded-set : (xs : List ℕ) (i v bound : ℕ) → ((k : ℕ) → slice_index_or xs k 0 < bound) → v < bound → (k : ℕ) → slice_index_or (slice_set xs i v) k 0 < bound
-bounded-set xs i v bound each low k = elim (cases_eq k i) [
-  | inr apart ↦ subst (λ n. n < bound) (sym (get_or-set_other xs i k v 0 apart)) (each k)
-  | inl e ↦ elim (cases_lt i (length xs)) [
-    | inl within ↦ subst (λ n. n < bound) (sym (ap (λ n. slice_index_or (slice_set xs i v) n 0) e ∙ get_or-set_same xs i v 0 within)) low
-    | inr past ↦ subst (λ ys. slice_index_or ys k 0 < bound) (sym (set_out xs i v past)) (each k)
-  ]
-]
+bounded-set xs i v bound each low k = grind (arith, get_or-set_other, cases_lt, get_or-set_same, set_out)
 
 -- the seats of a processor after they were written
 seated-set : (hw : Hardware) (seats : List Seated) (cpu : CpuNo) (seated : Seated) → IsSound seated → seated.counters ≡ counters_of hw cpu → AreSeated hw seats
     → AreSeated hw (slice_set seats cpu.0 seated)
-seated-set hw seats cpu seated sound counters h =
-    let size : length (slice_set seats cpu.0 seated) ≡ length seats = length-set seats cpu.0 seated in
-    let each : (P : CpuNo → Seated → Type 0) → P cpu seated → ((other : CpuNo) → other.0 < length seats → P other (slice_index_or seats other.0 (empty_seating 0)))
-    → (other : CpuNo) → other.0 < length (slice_set seats cpu.0 seated) → P other (slice_index_or (slice_set seats cpu.0 seated) other.0 (empty_seating 0)) =
-    λ P here there other low.
-    (let within : other.0 < length seats = omega (arith, low, size) in
-    elim (cases_eq other.0 cpu.0) [
-      | inl e ↦
-          let is : other ≡ cpu = λ i. record { 0 = e i } in
-          let written : slice_index_or (slice_set seats cpu.0 seated) cpu.0 (empty_seating 0) ≡ seated = get_or-set_same seats cpu.0 seated (empty_seating 0) (omega (arith, within, e)) in
-          subst (λ x. P x (slice_index_or (slice_set seats cpu.0 seated) x.0 (empty_seating 0))) (sym is) (subst (P cpu) (sym written) here)
-      | inr apart ↦ subst (P other) (sym (get_or-set_other seats cpu.0 other.0 seated (empty_seating 0) apart)) (there other within)
-    ]) in
-    record {
-      counters = each (λ x s. s.counters ≡ counters_of hw x) counters h.counters;
-      sound = each (λ x s. IsSound s) sound h.sound;
-    }
+seated-set hw seats cpu seated sound counters h = grind (arith, length-set, get_or-set_same, get_or-set_other)
 
 -- the laws of one instance
 pub own-stage : OwnLaw
@@ -188,38 +147,7 @@ pub lost-kept : LostKeptLaw
 lost-kept hw w k low h =
     let slot : ℕ = (instance_at w k).event.0 in
     let more : ℕ = slice_index_or w.lost slot 0 + 1 in
-    record {
-      tables = record {
-        accounts = h.tables.accounts;
-        standings = h.tables.standings;
-        families = h.tables.families;
-        folded = h.tables.folded;
-        lost = length-set w.lost slot more ∙ h.tables.lost;
-        clocks = h.tables.clocks;
-        totals = h.tables.totals;
-        seats = h.tables.seats;
-      };
-      shape = record { running = h.shape.running; tasks = h.shape.tasks; contexts = h.shape.contexts };
-      running = record { live = h.running.live; once = h.running.once };
-      linked = h.linked;
-      copies = h.copies;
-      grouped = h.grouped;
-      numbered = h.numbered;
-      apart = h.apart;
-      fitting = h.fitting;
-      lawful = record { errors = h.lawful.errors; samples = h.lawful.samples; kinds = h.lawful.kinds; used = h.lawful.used; placed = h.lawful.placed };
-      seated = h.seated;
-      small = record {
-        counts = h.small.counts;
-        times = h.small.times;
-        ran = h.small.ran;
-        folded_ran = h.small.folded_ran;
-        clocks = h.small.clocks;
-        totals = h.small.totals;
-        lost = bounded-set w.lost slot more (2 ^ 63) h.small.lost low;
-        ids = h.small.ids;
-      };
-    }
+    grind (arith, length-set, slot, more, bounded-set)
 
 pub ring-stage : RingLaw
 ring-stage hw w k ring owner h there =
@@ -231,7 +159,4 @@ ring-kept hw w k ring owner there h =
     let f : Instance → Instance = λ i. record i { ring = Some ring; mapped = owner } in
     let t : World = with_instance f k w in
     let kept : IsKept hw t = instance-kept f (λ live e. refl) hw w k there (h.lawful.errors k there) refl refl h in
-    quiet-kept hw t (record w.quiet { mapped = if owner then remember ring w.quiet.mapped else w.quiet.mapped }) refl refl
-    (record { running = kept.shape.running; tasks = kept.shape.tasks; contexts = kept.shape.contexts })
-    (record { live = kept.running.live; once = kept.running.once }) kept.small.clocks kept.tables.clocks kept.tables.seats kept.seated
-    kept.tables.totals kept.small.totals kept
+    grind (arith, quiet-kept, t, kept)

@@ -23,10 +23,7 @@ pub is_key-false : (k q : Key) → is_key k q ≡ false → q.0 ≡ k.0 → ⊥
 is_key-false k q h e = grind (arith, nat_tests, h, e)
 
 pub is_key-turned : (k q : Key) → is_key k q ≡ is_key q k
-is_key-turned k q = elim (cases_eq q.0 k.0) [
-  | inl e ↦ is_key-same k q e ∙ sym (is_key-same q k (sym e))
-  | inr apart ↦ is_key-other k q apart ∙ sym (is_key-other q k (λ e. apart (sym e)))
-]
+is_key-turned k q = grind (arith, nat_tests, is_key-same, is_key-other)
 
 -- how often a key stands
 pub times-cons : (j k : Key) (keys : List Key) → times j (k ∷ keys) ≡ once_if (is_key j k) + times j keys
@@ -47,17 +44,12 @@ all_but-cons k q keys b h = ap {B = List Key} (λ c. cond (not c) (q ∷ all_but
 
 pub times-all_but_same : (k : Key) (keys : List Key) → times k (all_but k keys) ≡ 0
 times-all_but_same k [] = refl
-times-all_but_same k (q ∷ keys) = elim (cases_Bool (is_key k q)) [
-  | inl e ↦ ap (times k) (all_but-cons k q keys true e) ∙ times-all_but_same k keys
-  | inr e ↦ ap (times k) (all_but-cons k q keys false e) ∙ omega (arith, times-cons k q (all_but k keys), once-false (is_key k q) e, times-all_but_same k keys)
-]
+times-all_but_same k (q ∷ keys) = grind (arith, nat_tests, all_but-cons, times-cons, once-false, times-all_but_same k keys)
 
 pub times-all_but_other : (j k : Key) → (j.0 ≡ k.0 → ⊥) → (keys : List Key) → times j (all_but k keys) ≡ times j keys
 times-all_but_other j k apart [] = refl
 times-all_but_other j k apart (q ∷ keys) = elim (cases_Bool (is_key k q)) [
-  | inl e ↦
-      let no : once_if (is_key j q) ≡ 0 = once-false (is_key j q) (is_key-other j q (λ s. apart (sym s ∙ is_key-true k q e))) in
-      ap (times j) (all_but-cons k q keys true e) ∙ omega (arith, times-cons j q keys, no, times-all_but_other j k apart keys)
+  | inl e ↦ grind (arith, nat_tests, once-false, is_key-other, is_key-true, e, all_but-cons, times-cons, times-all_but_other j k apart keys)
   | inr e ↦ ap (times j) (all_but-cons k q keys false e) ∙ omega (arith, times-cons j q (all_but k keys), times-cons j q keys, times-all_but_other j k apart keys)
 ]
 
@@ -71,10 +63,7 @@ all_but-none k (q ∷ keys) h = elim (cases_Bool (is_key k q)) [
 -- one key taken to the end of a list that it stands in once
 pub times-to_last : (j k : Key) (keys : List Key) → times k keys ≡ 1 → times j (to_last k keys) ≡ times j keys
 times-to_last j k keys once = elim (cases_eq j.0 k.0) [
-  | inl e ↦
-      let is : j ≡ k = key-is j k e in
-      let own : times k (to_last k keys) ≡ 1 = omega (arith, times-push k (all_but k keys) k, times-all_but_same k keys, once-true (is_key k k) (is_key-same k k refl)) in
-      ap (λ x. times x (to_last k keys)) is ∙ (own ∙ (sym once ∙ ap (λ x. times x keys) (sym is)))
+  | inl e ↦ grind (arith, times-push k (all_but k keys) k, times-all_but_same k keys, once-true (is_key k k) (is_key-same k k refl), key-is j k e)
   | inr apart ↦
       omega (arith, times-push j (all_but k keys) k, times-all_but_other j k apart keys, once-false (is_key j k) (is_key-other j k (λ e. apart (sym e))))
 ]

@@ -5,7 +5,7 @@ use Rattle.std.proofs.{lemmas.List.{get_or-map as get_or-mapped, length-map, map
 use Rattle.perf_base.specs.declared.{numbers.{CpuNo.{CpuNo}, Key.{Key}, TaskNo.{TaskNo}}, standing.Context.{Context}}
 use Rattle.perf_base.specs.declared.standing.Context.TheVariants as context
 use Rattle.stage_spec.specs.{declared.instance.Instance.{Instance}, Hardware.{Hardware}, Opening.{is_used}}
-use Rattle.stage_spec.specs.Stage.{Stage, Group, members, groups_in, lists_of, all_instances, place_of, is_of_family, is_original, is_task, task_on}
+use Rattle.stage_spec.specs.Stage.{Stage, Group, members, groups_in, lists_of, all_instances, place_of, is_of_family, is_original, task_on}
 use Rattle.stage_spec.specs.Verdict.{task_lists, reached}
 use Rattle.stage_laws.{specs.{Narrowing.{has_context}, Sound.{has_id}}, proofs.Counts.{count-cons, count-append}}
 use Rattle.stage_laws.proofs.Totals.{one_if, total-map, total-same, total-none, count_by-is-total}
@@ -33,16 +33,7 @@ passes-are w cpu =
 
 -- the instances of a context
 both-lead : (hw : Hardware) (w : World) → IsKept hw w → (place : ℕ) → AreLeading w (leaders_both (slice_index_or w.contexts place no_leaders))
-both-lead hw w h place q some = elim (cases_Bool (leads (post_at w) q)) [
-  | inl lead ↦ lead
-  | inr off ↦
-      absurd (omega (
-        arith,
-        some,
-        leaders-at hw w h q place,
-        once-false (leads (post_at w) q && place_of (entry_at w q).context == place) (ap (λ b. b && place_of (entry_at w q).context == place) off),
-      ))
-]
+both-lead hw w h place q some = grind (arith, nat_tests, leaders-at, once-false, some, leaders-at hw w h q place)
 
 pub context-is : ContextLaw
 context-is hw w c h =
@@ -80,8 +71,7 @@ count-one test (q ∷ keys) once same =
     ]
 
 count-mapped : (w : World) (p : Instance → Bool) (keys : List Key) → count_by p (map (instance_at w) keys) ≡ count_by (λ k. p (instance_at w k)) keys
-count-mapped w p keys =
-    count_by-is-total p (map (instance_at w) keys) ∙ (total-map (one_if p) (instance_at w) keys ∙ sym (count_by-is-total (λ k. p (instance_at w k)) keys))
+count-mapped w p keys = grind (arith, nat_tests, count_by-is-total, total-map, one_if)
 
 all-mapped : (w : World) (P : Instance → Type 0) (keys : List Key) → ((k : Key) → 1 ≤ times k keys → P (instance_at w k)) → All P (map (instance_at w) keys)
 all-mapped w P keys h i d low =
@@ -134,33 +124,18 @@ held-by hw w h k keys =
     times-flat k (members_at w) keys
     ∙ (total-same (λ q. times k (members_at w q)) (λ q. once_if (is_live w k && is_key q m)) (λ q. h.linked.members k q) keys
     ∙ elim (cases_Bool (is_live w k)) [
-      | inl live ↦
-          total-same (λ q. once_if (is_live w k && is_key q m)) (one_if (is_key m)) (λ q. ap (λ b. once_if (b && is_key q m)) live ∙ ap once_if (is_key-turned q m)) keys
-          ∙ (sym (count_by-is-total (is_key m) keys) ∙ ap (λ b. cond b (times m keys) 0) (sym live))
-      | inr dead ↦
-          total-same (λ q. once_if (is_live w k && is_key q m)) (λ q. 0) (λ q. ap (λ b. once_if (b && is_key q m)) dead) keys
-          ∙ (total-none keys ∙ ap (λ b. cond b (times m keys) 0) (sym dead))
+      | inl live ↦ grind (arith, nat_tests, total-same, one_if, live, is_key-turned, count_by-is-total)
+      | inr dead ↦ search (nat_tests, total-same, dead, total-none)
     ])
 
 pub keys-at : (hw : Hardware) (w : World) → IsKept hw w → (k : Key) (place : ℕ)
     → times k (flat_map (members_at w) (leaders_both (slice_index_or w.contexts place no_leaders))) ≡ once_if (is_live w k && place_of (entry_at w k).context == place)
-keys-at hw w h k place =
-    let m : Key = (entry_at w k).leader in
-    let keys : List Key = leaders_both (slice_index_or w.contexts place no_leaders) in
-    held-by hw w h k keys ∙ elim (cases_Bool (is_live w k)) [
-      | inl live ↦
-          ap (λ b. cond b (times m keys) 0) live ∙ (leaders-at hw w h m place
-          ∙ (ap (λ b. once_if (b && place_of (entry_at w m).context == place)) (h.grouped.led k live)
-          ∙ (ap (λ c. once_if (place_of c == place)) (h.grouped.together k live) ∙ ap (λ b. once_if (b && place_of (entry_at w k).context == place)) (sym live))))
-      | inr dead ↦ ap (λ b. cond b (times m keys) 0) dead ∙ ap (λ b. once_if (b && place_of (entry_at w k).context == place)) (sym dead)
-    ]
+keys-at hw w h k place = grind (arith, leaders_both, held-by, leaders-at)
 
 stands-at : (hw : Hardware) (w : World) → IsKept hw w → (k : Key) (place : ℕ) → 1 ≤ times k (flat_map (members_at w) (leaders_both (slice_index_or w.contexts place no_leaders)))
     → (is_live w k ≡ true) × (place_of (entry_at w k).context ≡ place)
 stands-at hw w h k place some = elim (cases_Bool (is_live w k && place_of (entry_at w k).context == place)) [
-  | inl both ↦
-      let parts : (is_live w k ≡ true) × ((place_of (entry_at w k).context == place) ≡ true) = leads-parts (is_live w k) (place_of (entry_at w k).context == place) both in
-      (parts.0, number_true (place_of (entry_at w k).context) place parts.1)
+  | inl both ↦ grind (arith, nat_tests, leads-parts, both, number_true)
   | inr off ↦ absurd (omega (arith, some, keys-at hw w h k place, once-false (is_live w k && place_of (entry_at w k).context == place) off))
 ]
 
@@ -183,16 +158,7 @@ flat-mapped f [] = refl
 flat-mapped f (p ∷ ps) = ap (λ gs. map f p ++ gs) (flat-mapped f ps) ∙ sym (map-append f p (flat_map (λ keys. keys) ps))
 
 four-lists : (q : Key) (a b c d : List Key) → times q (a ++ (b ++ (c ++ (d ++ [])))) ≡ times q (a ++ c) + times q (b ++ d)
-four-lists q a b c d =
-    omega (
-      arith,
-      count-append (is_key q) a (b ++ (c ++ (d ++ []))),
-      count-append (is_key q) b (c ++ (d ++ [])),
-      count-append (is_key q) c (d ++ []),
-      count-append (is_key q) d [],
-      count-append (is_key q) a c,
-      count-append (is_key q) b d,
-    )
+four-lists q a b c d = grind (arith, nat_tests, count-append)
 
 -- whether a place is that of the task that runs
 abbrev pub stands_in_task : Option TaskNo → ℕ → Bool
@@ -224,16 +190,7 @@ counted-there hw w h cpu q =
 -- a place below 72 is not a processor's and a task's
 not-both : (cpu place : ℕ) (o : Option TaskNo) → place < 72 → (place == (if nat_lt cpu 8 then cpu else 72)) ≡ true → stands_in_task o place ≡ true → ⊥
 not-both cpu place None low own task = false≢true task
-not-both cpu place (Some t) low own task =
-    let here : place ≡ (if nat_lt cpu 8 then cpu else 72) = number_true place (if nat_lt cpu 8 then cpu else 72) own in
-    let there : place ≡ 8 + t.0 = number_true place (8 + t.0) task in
-    elim (cases_Bool (nat_lt cpu 8)) [
-      | inl below ↦
-          let is : place ≡ cpu = here ∙ ap (λ b. if b then cpu else 72) below in
-          let small : cpu < 8 = below_true cpu 8 below in
-          omega (arith, is, small, there)
-      | inr above ↦ let is : place ≡ 72 = here ∙ ap (λ b. if b then cpu else 72) above in omega (arith, is, low)
-    ]
+not-both cpu place (Some t) low own task = grind (arith, nat_tests, number_true, below_true)
 
 few-of_two : (a b : Bool) → (a ≡ true → b ≡ true → ⊥) → once_if a + once_if b ≤ 1
 few-of_two true true h = absurd (h refl refl)
@@ -258,32 +215,13 @@ reached-once hw w h cpu q =
 
 -- a context at one of the two places is the processor's or its task's
 own-context : (s : Stage) (cpu : CpuNo) (c : Context) → place_of c < 72 → (place_of c == place_of (context.Processor cpu)) ≡ true → has_context s cpu c ≡ true
-own-context s cpu (context.Processor b) low same =
-    let is : place_of (context.Processor b) ≡ place_of (context.Processor cpu) = number_true (place_of (context.Processor b)) (place_of (context.Processor cpu)) same in
-    elim (cases_Bool (nat_lt b.0 8)) [
-      | inr above ↦ let far : place_of (context.Processor b) ≡ 72 = ap (λ x. if x then b.0 else 72) above in absurd (omega (arith, far, low))
-      | inl below ↦ elim (cases_Bool (nat_lt cpu.0 8)) [
-        | inr above ↦
-            let far : place_of (context.Processor cpu) ≡ 72 = ap (λ x. if x then cpu.0 else 72) above in
-            absurd (omega (arith, far, low, is))
-        | inl small ↦
-            let here : place_of (context.Processor b) ≡ b.0 = ap (λ x. if x then b.0 else 72) below in
-            let there : place_of (context.Processor cpu) ≡ cpu.0 = ap (λ x. if x then cpu.0 else 72) small in
-            let e : b.0 ≡ cpu.0 = omega (arith, here, there, is) in
-            grind (arith, nat_tests, e)
-      ]
-    ]
+own-context s cpu (context.Processor b) low same = grind (arith, nat_tests, number_true)
 own-context s cpu (context.Task t) low same = absurd (not-both cpu.0 (8 + t.0) (Some t) low same (let e : ((8 + t.0) == (8 + t.0)) ≡ true = grind (arith, nat_tests) in e))
 
 task-context : (cpu : CpuNo) (o : Option TaskNo) (c : Context) → place_of c < 72 → stands_in_task o (place_of c) ≡ true → (s : Stage) → task_on s cpu ≡ o → has_context s cpu c ≡ true
 task-context cpu None c low there s on = absurd (false≢true there)
-task-context cpu (Some t) (context.Task u) low there s on =
-    let is : 8 + u.0 ≡ 8 + t.0 = number_true (8 + u.0) (8 + t.0) there in
-    let same : (t.0 == u.0) ≡ true = grind (arith, nat_tests, is) in
-    ap (λ o. is_task o u) on ∙ same
-task-context cpu (Some t) (context.Processor b) low there s on =
-    let e : (place_of (context.Processor b) == place_of (context.Processor b)) ≡ true = grind (arith, nat_tests) in
-    absurd (not-both b.0 (place_of (context.Processor b)) (Some t) low e there)
+task-context cpu (Some t) (context.Task u) low there s on = grind (arith, nat_tests, number_true)
+task-context cpu (Some t) (context.Processor b) low there s on = grind (arith, nat_tests, not-both)
 
 pub reached-context : (hw : Hardware) (w : World) → IsKept hw w → (cpu : CpuNo) (q : Key) → 1 ≤ times q (reached_leaders w cpu) → has_context (stage_of w) cpu (entry_at w q).context ≡ true
 reached-context hw w h cpu q some =
@@ -291,47 +229,19 @@ reached-context hw w h cpu q some =
     let o : Option TaskNo = task_on (stage_of w) cpu in
     let low : leads (post_at w) q ≡ true → place < 72 = λ lead. h.numbered.places q (leads-parts (is_live w q) (is_key q (entry_at w q).leader) lead).0 in
     elim (cases_Bool (leads (post_at w) q && place == place_of (context.Processor cpu))) [
-      | inl own ↦
-          let one : (leads (post_at w) q ≡ true) × ((place == place_of (context.Processor cpu)) ≡ true) = leads-parts (leads (post_at w) q) (place == place_of (context.Processor cpu)) own in
-          own-context (stage_of w) cpu (entry_at w q).context (low one.0) one.1
+      | inl own ↦ grind (arith, nat_tests, leads-parts, own, own-context)
       | inr not_own ↦ elim (cases_Bool (leads (post_at w) q && stands_in_task o place)) [
-        | inl task ↦
-            let two : (leads (post_at w) q ≡ true) × (stands_in_task o place ≡ true) = leads-parts (leads (post_at w) q) (stands_in_task o place) task in
-            task-context cpu o (entry_at w q).context (low two.0) two.1 (stage_of w) refl
-        | inr not_task ↦
-            absurd (omega (
-              arith,
-              some,
-              counted-there hw w h cpu q,
-              once-false (leads (post_at w) q && place == place_of (context.Processor cpu)) not_own,
-              once-false (leads (post_at w) q && stands_in_task o place) not_task,
-            ))
+        | inl task ↦ grind (arith, nat_tests, leads-parts, task, task-context)
+        | inr not_task ↦ grind (arith, nat_tests, counted-there, once-false, not_task)
       ]
     ]
 
 pub reached-leading : (hw : Hardware) (w : World) → IsKept hw w → (cpu : CpuNo) → AreLeading w (reached_leaders w cpu)
-reached-leading hw w h cpu q some = elim (cases_Bool (leads (post_at w) q)) [
-  | inl lead ↦ lead
-  | inr off ↦
-      let place : ℕ = place_of (entry_at w q).context in
-      absurd (omega (
-        arith,
-        some,
-        counted-there hw w h cpu q,
-        once-false (leads (post_at w) q && place == place_of (context.Processor cpu)) (ap (λ b. b && place == place_of (context.Processor cpu)) off),
-        once-false (leads (post_at w) q && stands_in_task (task_on (stage_of w) cpu) place) (ap (λ b. b && stands_in_task (task_on (stage_of w) cpu) place) off),
-      ))
-]
+reached-leading hw w h cpu q some = grind (arith, some, counted-there hw w h cpu q, place_of (entry_at w q).context)
 
 reached-key : (hw : Hardware) (w : World) → IsKept hw w → (cpu : CpuNo) (k : Key) → 1 ≤ times k (flat_map (members_at w) (reached_leaders w cpu))
     → (is_live w k ≡ true) × (has_context (stage_of w) cpu (entry_at w k).context ≡ true)
-reached-key hw w h cpu k some = elim (cases_Bool (is_live w k)) [
-  | inr dead ↦ absurd (omega (arith, some, held-by hw w h k (reached_leaders w cpu), ap (λ b. cond b (times (entry_at w k).leader (reached_leaders w cpu)) 0) dead))
-  | inl live ↦
-      let m : Key = (entry_at w k).leader in
-      let there : 1 ≤ times m (reached_leaders w cpu) = omega (arith, some, held-by hw w h k (reached_leaders w cpu), ap (λ b. cond b (times m (reached_leaders w cpu)) 0) live) in
-      (live, ap (has_context (stage_of w) cpu) (sym (h.grouped.together k live)) ∙ reached-context hw w h cpu m there)
-]
+reached-key hw w h cpu k some = grind (arith, held-by, reached-context)
 
 cond-few : (b : Bool) (n : ℕ) → n ≤ 1 → cond b n 0 ≤ 1
 cond-few true n h = h

@@ -8,7 +8,7 @@ use Rattle.perf_base.specs.{declared.reply.Sums.{Sums}, Standings.{stands_on}}
 use Rattle.perf_base.specs.declared.attr.Kind.TheVariants as kind
 use Rattle.perf_base.specs.declared.lines.CpuLine.TheVariants as cpu_line
 use Rattle.perf_base.specs.declared.lines.Mode.TheVariants as mode
-use Rattle.stage_spec.specs.{Families.{plus}, Hardware.{Hardware}, Shares.{no_sums, excludes, counted_by, work_hits}}
+use Rattle.stage_spec.specs.{Families.{plus}, Hardware.{Hardware}, Shares.{no_sums, counted_by, work_hits}}
 use Rattle.stage_laws.specs.{Narrowing.{has_context}, Bounds.{greatest, most_of_line, AreAtMost}}
 use Rattle.world_spec.specs.Value.{World, Account, Totals, no_totals, no_account, no_family, is_live, entry_at, instance_at, account_at, standing_at, is_key, times}
 use Rattle.world_spec.specs.{StageOf.{stage_of}, Kept.{once_if, keys_of, plus_keys, family_sums, HaveTotals, AreSmallTotals, IsKept}}
@@ -37,9 +37,7 @@ where-most true n m h = h
 where-most false n m h = omega arith
 
 pub counted-most : (work : Work) (a : Attr) (k : Kind) → counted_by work a k ≤ max work.length (greatest work.hits)
-counted-most work a (kind.Hard n) =
-    unless-most (excludes work.mode a) (slice_index work.hits n) (max work.length (greatest work.hits))
-    (omega (arith, greatest-at 0 work.hits n, le-max_right work.length (greatest work.hits)))
+counted-most work a (kind.Hard n) = grind (arith, unless-most, greatest-at, le-max_right)
 counted-most work a kind.ContextSwitches = omega arith
 counted-most work a kind.CpuMigrations = omega arith
 counted-most work a kind.TaskClock = le-max_left work.length (greatest work.hits)
@@ -85,14 +83,7 @@ all-none : (p : Sums → ℕ) → IsSum p → (s g : Key → Sums) (given : Key 
 all-none p is s g given none [] off = refl
 all-none p is s g given none (q ∷ keys) off =
     let nothing : p (g q) ≡ 0 = ap p (none q (off q (omega (arith, times-cons q q keys, once-true (is_key q q) (is_key-same q q refl))))) ∙ is.none in
-    omega (
-      arith,
-      nothing,
-      is.both (s q) (g q),
-      is.both (s q) (plus_keys s keys),
-      is.both (plus (s q) (g q)) (plus_keys (λ x. plus (s x) (g x)) keys),
-      all-none p is s g given none keys (λ j some. off j (omega (arith, some, times-cons j q keys))),
-    )
+    omega (arith, nothing, times-cons, all-none p is s g given none keys (λ j some. off j (omega (arith, some, times-cons j q keys))))
 
 pub one-given : (p : Sums → ℕ) → IsSum p → (s g : Key → Sums) (given : Key → Bool) (m : ℕ) → ((q : Key) → given q ≡ false → g q ≡ no_sums) → ((q : Key) → p (g q) ≤ m)
     → (keys : List Key) → ((q : Key) → times q keys ≤ 1) → ((j k : Key) → 1 ≤ times j keys → 1 ≤ times k keys → given j ≡ true → given k ≡ true → j.0 ≡ k.0)
@@ -273,8 +264,7 @@ worked-world hw w after cpu work h worked room meter =
     let t : World = record w { accounts = after.accounts; quiet = metered cpu work w.quiet } in
     let now : ℕ = slice_index_or w.quiet.clocks cpu.0 0 + work.length in
     let totals : Totals = add_hits work.mode work.hits (slice_index_or w.quiet.totals cpu.0 no_totals) in
-    let same : (slot : ℕ) → family_sums t slot ≡ family_sums after slot = λ slot i.
-    plus (plus_keys (λ q. (account_at after q).sums) (keys_of (slice_index_or (sym worked.rest i).families slot no_family))) (slice_index_or (sym worked.rest i).folded slot no_sums) in
+    let same : (slot : ℕ) → family_sums t slot ≡ family_sums after slot = grind arith in
     record {
       tables = record {
         accounts = λ k. worked.keys k ∙ h.tables.accounts k;

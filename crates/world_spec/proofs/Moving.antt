@@ -1,5 +1,5 @@
 -- A group that goes last in its list.
-use Rattle.std.specs.Prelude.{◌≡◌, ℕ, ◌<◌, ◌==◌, Bool, true, false, not, ◌&&◌, cond, List, [], ◌∷◌, ◌++◌, length, map, slice_set, if◌then◌else◌}
+use Rattle.std.specs.Prelude.{◌≡◌, ℕ, ◌<◌, Bool, true, false, not, ◌&&◌, cond, List, [], ◌∷◌, ◌++◌, length, map, slice_set, if◌then◌else◌}
 use Rattle.std.proofs.{Common.{arith, refl, sym, ap, subst, ◌∙◌, inl, inr}, lemmas.Bool.{cases_Bool, Decides.{nat_tests}}}
 use Rattle.std.proofs.{lemmas.List.{length-map, length-set, map-set, map-append}, Math.ListN.{get_or-map}}
 use Rattle.perf_base.specs.declared.{numbers.Key.{Key}, standing.Context.{Context}}
@@ -15,9 +15,7 @@ pub leaders-stage : (w : World) (c : Context) (f : Leaders → Leaders) (g : Lis
     → stage_of (with_leaders c f w) ≡ change_context c g (stage_of w)
 leaders-stage w c f g same =
     let groups : lists_of (stage_of w) c ≡ lists_at w (leaders_of w c) = get_or-map (lists_at w) w.contexts (place_of c) no_leaders in
-    ap {A = List Lists} (λ cs. record (stage_of w) { contexts = cs })
-    (map-set (lists_at w) w.contexts (place_of c) (f (leaders_of w c))
-    ∙ ap (slice_set (map (lists_at w) w.contexts) (place_of c)) (same ∙ ap g (sym groups)))
+    grind (arith, nat_tests, map-set, groups)
 
 -- what leads is live, and its own leader
 pub leads-parts : (live own : Bool) → (live && own) ≡ true → (live ≡ true) × (own ≡ true)
@@ -61,9 +59,7 @@ led_in-true a b false d ha hb e = rw (ha, hb, ← e) refl
 
 stands-once : (w : World) (k : Key) → AreLinked (post_at w) w.contexts w.families → leads (post_at w) k ≡ true
     → (pinned : Bool) → (entry_at w k).pinned ≡ pinned → once_if (leads_in (post_at w) (place_of (entry_at w k).context) pinned k) ≡ 1
-stands-once w k linked lead pinned e =
-    let own : (place_of (entry_at w k).context == place_of (entry_at w k).context) ≡ true = grind (arith, nat_tests) in
-    ap {B = ℕ} (λ b. cond b 1 0) (led_in-true (leads (post_at w) k) (place_of (entry_at w k).context == place_of (entry_at w k).context) (entry_at w k).pinned pinned lead own e)
+stands-once w k linked lead pinned e = grind (arith, nat_tests, led_in-true)
 
 move-by_list : (hw : Hardware) (w : World) (c : Context) (k : Key) → IsKept hw w → leads (post_at w) k ≡ true → (entry_at w k).context ≡ c → (pinned : Bool) → (entry_at w k).pinned ≡ pinned
     → lists_at w (in_list pinned (to_last k) (leaders_of w c)) ≡ group_goes_last pinned (instance_at w k).id (lists_at w (leaders_of w c))

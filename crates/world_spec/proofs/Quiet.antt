@@ -1,20 +1,20 @@
 -- That quiet steps leave accounts, and refused steps the world.
 use Rattle.std.specs.{Prelude.{◌≡◌, ℕ, ◌<◌, Bool, true, false, not, ◌&&◌, ◌==◌, [], ◌∷◌, filter, Option, Some, None, slice_index_or}, List.{list_any}}
-use Rattle.std.proofs.{Common.{arith, refl, sym, ap, ◌∙◌}, lemmas.Bool.{false≢true}}
+use Rattle.std.proofs.{Common.{arith, refl, sym, ap}, lemmas.Bool.{false≢true}}
 use Rattle.perf_base.specs.declared.{lines.{CpuLine.{CpuLine}, ToolLine.{ToolLine}}, numbers.{CpuNo.{CpuNo}, EventNo.{EventNo}, Key.{Key}}}
 use Rattle.perf_base.specs.declared.{numbers.TaskNo.{TaskNo}, reasons.Reason.{Reason}, reply.Sums.{Sums}}
 use Rattle.perf_base.specs.declared.lines.CpuLine.TheVariants as cpu_line
 use Rattle.perf_base.specs.declared.lines.ToolLine.TheVariants as tool_line
 use Rattle.perf_base.specs.declared.reasons.Reason.TheVariants as reasons
-use Rattle.stage_spec.specs.{Commands.{targets, is_reached}, Families.{plus, leaving, leaving_by}, Hardware.{Hardware}}
+use Rattle.stage_spec.specs.{Commands.{targets, is_reached}, Families.{leaving, leaving_by}, Hardware.{Hardware}}
 use Rattle.stage_spec.specs.History.{Step, CpuStep, ToolStep, SeenStep, stage_step, unless_refused, cpu_changed, tool_changed, cpu_refusal, tool_refusal}
-use Rattle.stage_spec.specs.{Occurrences.{left_after}, Recurrence.{after_reset}, Refusals.{first_of}}
-use Rattle.stage_spec.specs.Remainders.{period_unless, new_period, left_by_period, left_by_hits, left_by}
+use Rattle.stage_spec.specs.{Occurrences.{left_after}, Refusals.{first_of}}
+use Rattle.stage_spec.specs.Remainders.{period_unless, new_period, left_by}
 use Rattle.stage_spec.specs.Shares.{share, no_sums, changes_task, switch_share}
 use Rattle.stage_spec.specs.{Stage.{Stage, is_open, is_idle, is_of_family, groups_in, members, all_instances, is_original, task_on}, Sums.{resets}}
 use Rattle.stage_spec.{specs.{Switching.{is_running}, Verdict.{task_lists}}, proofs.Recurrence.{plus-none}}
 use Rattle.ring_spec.specs.Sending.{length_by}
-use Rattle.world_spec.specs.{Kept.{IsKept}, StageOf.{stage_of}, Value.{World, is_live, instance_at, account_at}, Stepping.{HasItsShare}}
+use Rattle.world_spec.specs.{Kept.{IsKept}, StageOf.{stage_of}, Value.{World, is_live, instance_at}, Stepping.{HasItsShare}}
 use Rattle.world_spec.specs.Quiet.{is_quiet, is_quiet_line, is_quiet_call, step_refusal, KeepsAccount, QuietLaw, RefusedLaw}
 use Rattle.world_spec.proofs.Stepping.{instance-found}
 
@@ -30,20 +30,10 @@ none-after period left = refl
 
 left-stays : (hw : Hardware) (w : World) (x : Step) (k : Key) (left : ℕ) → IsKept hw w → is_live w k ≡ true → GivesNothing hw (stage_of w) x (instance_at w k).id
     → left_by hw (stage_of w) x (instance_at w k).id left ≡ left
-left-stays hw w x k left h live g =
-    let id : ℕ = (instance_at w k).id in
-    ap (λ o. left_by_period hw (stage_of w) x id o left) g.period
-    ∙ (ap (λ o. left_by_hits hw (stage_of w) x id o left) (instance-found hw w k h live)
-    ∙ (ap (λ (s : Sums). left_after s.count (instance_at w k).attr.period left) g.share ∙ none-after (instance_at w k).attr.period left))
+left-stays hw w x k left h live g = grind (arith, instance-found, none-after)
 
 shares-none : (hw : Hardware) (w after : World) (x : Step) (k : Key) → IsKept hw w → KeepsAccount w after k → GivesNothing hw (stage_of w) x (instance_at w k).id → HasItsShare hw w after x k
-shares-none hw w after x k h keeps g = record {
-  live = keeps.live;
-  id = keeps.id;
-  sums = ap (λ a. a.sums) keeps.account
-      ∙ (sym (plus-none (account_at w k).sums) ∙ (λ i. plus (after_reset (sym g.resets i) (account_at w k).sums) (sym g.share i)));
-  left = ap (λ a. a.left) keeps.account ∙ sym (left-stays hw w x k (account_at w k).left h keeps.live g);
-}
+shares-none hw w after x k h keeps g = grind (arith, plus-none, left-stays)
 
 -- quiet steps
 quiet-line : (hw : Hardware) (s : Stage) (cpu : CpuNo) (line : CpuLine) (id : ℕ) → is_quiet_line line ≡ true → GivesNothing hw s (CpuStep cpu line) id

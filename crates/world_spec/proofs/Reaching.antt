@@ -1,11 +1,11 @@
 -- A processor reaches at most one instance of a family.
-use Rattle.std.specs.Prelude.{◌≡◌, ℕ, ◌+◌, ◌==◌, nat_lt, true, false, not, Option, Some, None, slice_index_or, if◌then◌else◌}
+use Rattle.std.specs.Prelude.{◌≡◌, ℕ, ◌+◌, true, false, Option, Some, None, slice_index_or}
 use Rattle.std.proofs.{Common.{arith, sym, ap, ◌∙◌, inl, inr}, lemmas.Bool.{cases_Bool, false≢true, Decides.{nat_tests}}}
 use Rattle.perf_base.specs.declared.{numbers.{CpuNo.{CpuNo}, Key.{Key}, TaskNo.{TaskNo}}, standing.Context.{Context}}
 use Rattle.perf_base.specs.declared.standing.Context.TheVariants as context
 use Rattle.stage_spec.specs.{Hardware.{Hardware}, Stage.{Stage, place_of, task_on, is_task}}
 use Rattle.stage_laws.specs.Narrowing.{has_context}
-use Rattle.world_spec.specs.{Value.{World, no_family, is_live, entry_at, instance_at}, StageOf.{stage_of}}
+use Rattle.world_spec.specs.{Value.{World, no_family, is_live, entry_at, instance_at}}
 use Rattle.world_spec.{specs.{Kept.{post_at, is_original_in, is_of_task, IsKept}, Families.{OneReachedLaw}}, proofs.Keys.{key-is, once-true}}
 use Rattle.world_spec.proofs.{AddedStage.{one-in_option}, Going.{all_three}, Coming.{number_true}}
 
@@ -15,25 +15,20 @@ one-task None t u ht hu = absurd (false≢true ht)
 one-task (Some x) t u ht hu = sym (number_true x.0 t.0 ht) ∙ number_true x.0 u.0 hu
 
 one-place : (s : Stage) (cpu : CpuNo) (c d : Context) → has_context s cpu c ≡ true → has_context s cpu d ≡ true → is_of_task c ≡ is_of_task d → place_of c ≡ place_of d
-one-place s cpu (context.Processor a) (context.Processor b) hc hd kinds =
-    ap (λ n. if nat_lt n 8 then n else 72) (number_true a.0 cpu.0 hc ∙ sym (number_true b.0 cpu.0 hd))
+one-place s cpu (context.Processor a) (context.Processor b) hc hd kinds = grind (arith, nat_tests, number_true)
 one-place s cpu (context.Task t) (context.Task u) hc hd kinds = ap {B = ℕ} (λ n. 8 + n) (one-task (task_on s cpu) t u hc hd)
 one-place s cpu (context.Processor a) (context.Task u) hc hd kinds = absurd (false≢true kinds)
 one-place s cpu (context.Task t) (context.Processor b) hc hd kinds = absurd (false≢true (sym kinds))
 
 -- an instance of a processor's context has no family in contexts of tasks
 pub is-original : (w : World) (k : Key) → is_live w k ≡ true → (instance_at w k).copy ≡ false → is_original_in (post_at w) (instance_at w k).event.0 k ≡ true
-is-original w k live first =
-    all_three (is_live w k) ((instance_at w k).event.0 == (instance_at w k).event.0) (not (instance_at w k).copy) live (grind (arith, nat_tests)) (ap not first)
+is-original w k live first = grind (arith, nat_tests, all_three)
 
 not-mixed : (hw : Hardware) (w : World) (j k : Key) → IsKept hw w → is_live w j ≡ true → is_live w k ≡ true → (instance_at w j).event.0 ≡ (instance_at w k).event.0
     → is_of_task (entry_at w j).context ≡ false → is_of_task (entry_at w k).context ≡ true → ⊥
 not-mixed hw w j k h live_j live_k slot own other =
     let event : ℕ = (instance_at w k).event.0 in
-    let first : (instance_at w j).copy ≡ false = (elim (cases_Bool (instance_at w j).copy) [
-      | inr original ↦ original
-      | inl copy ↦ absurd (false≢true (sym own ∙ h.apart.copies j live_j copy))
-    ]) in
+    let first : (instance_at w j).copy ≡ false = grind (arith, nat_tests, false≢true) in
     let mine : is_original_in (post_at w) event j ≡ true = ap (λ n. is_original_in (post_at w) n j) (sym slot) ∙ is-original w j live_j first in
     let o : (i : Key) × (is_original_in (post_at w) event i ≡ true) × (is_of_task (entry_at w i).context ≡ true) = (elim (cases_Bool (instance_at w k).copy) [
       | inl copy ↦ h.apart.original k live_k copy
@@ -46,15 +41,5 @@ not-mixed hw w j k h live_j live_k slot own other =
 
 pub one-reached : OneReachedLaw
 one-reached hw w cpu j k h live_j live_k slot on_j on_k =
-    let same : is_of_task (entry_at w j).context ≡ is_of_task (entry_at w k).context → j ≡ k = λ kinds.
-    h.apart.one_each j k live_j live_k slot (one-place (stage_of w) cpu (entry_at w j).context (entry_at w k).context on_j on_k kinds) in
-    elim (cases_Bool (is_of_task (entry_at w j).context)) [
-      | inl task_j ↦ elim (cases_Bool (is_of_task (entry_at w k).context)) [
-        | inl task_k ↦ same (task_j ∙ sym task_k)
-        | inr own_k ↦ absurd (not-mixed hw w k j h live_k live_j (sym slot) own_k task_j)
-      ]
-      | inr own_j ↦ elim (cases_Bool (is_of_task (entry_at w k).context)) [
-        | inl task_k ↦ absurd (not-mixed hw w j k h live_j live_k slot own_j task_k)
-        | inr own_k ↦ same (own_j ∙ sym own_k)
-      ]
-    ]
+    let same : is_of_task (entry_at w j).context ≡ is_of_task (entry_at w k).context → j ≡ k = grind (arith, nat_tests, one-place) in
+    grind (arith, nat_tests, same, not-mixed)

@@ -1,12 +1,12 @@
 -- A change of the instance at a key is the stage's change of the instance of its id.
-use Rattle.std.specs.{Prelude.{◌≡◌, ℕ, ◌≤◌, true, false, List, map, is_some, Option, Some, None, if◌then◌else◌}, FinMap.{get}, Option.{unwrap_or}}
-use Rattle.std.proofs.{Common.{arith, refl, sym, ap, ◌∙◌, inl, inr}, lemmas.Bool.{cases_eq, cases_Bool, false≢true, Decides.{nat_tests}}}
+use Rattle.std.specs.{Prelude.{◌≡◌, ℕ, true, false, List, map, is_some, Option, Some, None, if◌then◌else◌}, FinMap.{get}, Option.{unwrap_or}}
+use Rattle.std.proofs.{Common.{arith, refl, sym, ap, ◌∙◌, inl, inr}, lemmas.Bool.{cases_Bool, false≢true, Decides.{nat_tests}}}
 use Rattle.std.proofs.lemmas.Simd.{map-map}
 use Rattle.perf_base.specs.declared.numbers.Key.{Key}
 use Rattle.stage_spec.specs.{declared.instance.Instance.{Instance}, Stage.{change_group, change_lists}}
 use Rattle.stage_laws.{specs.{Sound.{has_id}, OneByOne.{change_one}}, proofs.Images.{map-same}}
-use Rattle.world_spec.specs.Value.{World, Entry, Leaders, is_live, entry_at, instance_at, no_entry}
-use Rattle.world_spec.specs.{StageOf.{after_first, group_at, lists_at, stage_of}, Kept.{AreNumbered, post_at}, Changes.{with_instance}}
+use Rattle.world_spec.specs.Value.{World, Leaders, is_live, entry_at, instance_at, no_entry}
+use Rattle.world_spec.specs.{StageOf.{group_at, lists_at, stage_of}, Kept.{AreNumbered, post_at}, Changes.{with_instance}}
 use Rattle.world_spec.proofs.Tables.{KeepsPost, posts-same, entry-here, entry-there, entry-numbered}
 
 -- what is at a key that names nothing
@@ -27,10 +27,7 @@ other_ids i n apart = grind (arith, nat_tests)
 pub id-apart : (w : World) (k q : Key) → AreNumbered (post_at w) w.quiet.next_id → is_live w k ≡ true → (q.0 ≡ k.0 → ⊥) → has_id (instance_at w k).id (instance_at w q) ≡ false
 id-apart w k q numbered there apart = other_ids (instance_at w q) (instance_at w k).id (λ same. elim (cases_Bool (is_live w q)) [
   | inl live ↦ apart (ap (λ j. j.0) (numbered.once q k live there same))
-  | inr dead ↦
-      let none : (instance_at w q).id ≡ 0 = ap (λ e. e.instance.id) (dead-entry w q dead) in
-      let some : 1 ≤ (instance_at w k).id = (numbered.drawn k there).0 in
-      omega (arith, none, some, same)
+  | inr dead ↦ grind (arith, nat_tests, dead-entry, dead)
 ])
 
 -- a change of the instance at a key, seen at each key
@@ -39,18 +36,7 @@ one_changed f id i = if has_id id i then f i else i
 
 pub instance-changed : (f : Instance → Instance) (w : World) (k : Key) → AreNumbered (post_at w) w.quiet.next_id → is_live w k ≡ true
     → (q : Key) → instance_at (with_instance f k w) q ≡ one_changed f (instance_at w k).id (instance_at w q)
-instance-changed f w k numbered there q =
-    let e : Entry = record (entry_at w k) { instance = f (instance_at w k) } in
-    elim (cases_eq q.0 k.0) [
-      | inl same ↦
-          let here : instance_at w q ≡ instance_at w k = ap (λ x. x.instance) (entry-numbered w k q same) in
-          ap (λ x. x.instance) (entry-here w k e q same)
-          ∙ (ap (λ b. if b then f (instance_at w k) else instance_at w k) (sym (same_ids (instance_at w k) (instance_at w k) refl))
-          ∙ ap (one_changed f (instance_at w k).id) (sym here))
-      | inr apart ↦
-          ap (λ x. x.instance) (entry-there w k e q apart)
-          ∙ ap (λ b. if b then f (instance_at w q) else instance_at w q) (sym (id-apart w k q numbered there apart))
-    ]
+instance-changed f w k numbered there q = grind (arith, nat_tests, entry-numbered, entry-here, same_ids, entry-there, id-apart)
 
 -- groups, lists and all contexts, where each instance is changed alike and members stay
 pub renamed-all : (g : Instance → Instance) (w t : World) → ((q : Key) → instance_at t q ≡ g (instance_at w q)) → ((q : Key) → (entry_at t q).members ≡ (entry_at w q).members)
@@ -58,10 +44,7 @@ pub renamed-all : (g : Instance → Instance) (w t : World) → ((q : Key) → i
 renamed-all g w t here members ls =
     let instances : (keys : List Key) → map (instance_at t) keys ≡ map g (map (instance_at w) keys)
     = λ keys. map-same (instance_at t) (λ q. g (instance_at w q)) here keys ∙ sym (map-map g (instance_at w) keys) in
-    let group : (q : Key) → group_at t q ≡ change_group g (group_at w q) = λ q i. record {
-      leader = here q i;
-      siblings = (ap (λ keys. map (instance_at t) (after_first keys)) (members q) ∙ instances (after_first (entry_at w q).members)) i;
-    } in
+    let group : (q : Key) → group_at t q ≡ change_group g (group_at w q) = grind (arith, nat_tests) in
     let groups : (keys : List Key) → map (group_at t) keys ≡ map (change_group g) (map (group_at w) keys)
     = λ keys. map-same (group_at t) (λ q. change_group g (group_at w q)) group keys ∙ sym (map-map (change_group g) (group_at w) keys) in
     let lists : (l : Leaders) → lists_at t l ≡ change_lists g (lists_at w l) = λ l i. record { pinned = groups l.pinned i; flexible = groups l.flexible i } in

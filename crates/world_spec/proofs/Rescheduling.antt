@@ -23,7 +23,7 @@ use Rattle.world_spec.proofs.{Keys.{key-is, once-true, once-false}, Moving.{lead
 use Rattle.world_spec.proofs.{Disbanding.{AreSiblings, member-follows}, GoneLeader.{siblings-stand}, GoneLeaderStage.{map-within}}
 use Rattle.world_spec.proofs.Standing.{passes-groups, standing_by, standing-is}
 use Rattle.world_spec.proofs.Listings.{is-numbered, passes-are, reached_leaders, reached-once, reached-context, count-none, count-one}
-use Rattle.world_spec.proofs.Failing.{failed_instance, calmed, AreFailed, are-failed, failed-rest, AllLead, failed-posts, failed-kept}
+use Rattle.world_spec.proofs.Failing.{calmed, AreFailed, are-failed, failed-rest, AllLead, failed-posts, failed-kept}
 
 -- groups and verdicts by a leader's id
 abbrev pub is_led : ℕ → Group → Bool
@@ -34,8 +34,7 @@ is_about id j = is_led id j.group
 
 pub about-groups : (id : ℕ) (js : List Judged) → count_by (is_about id) js ≡ count_by (is_led id) (map (λ j. j.group) js)
 about-groups id [] = refl
-about-groups id (j ∷ js) =
-    omega (arith, count-cons (is_about id) j js, count-cons (is_led id) j.group (map (λ x. x.group) js), about-groups id js)
+about-groups id (j ∷ js) = search (nat_tests, count-cons, about-groups id js)
 
 -- a standing among verdicts that are put together
 abbrev pub either : Bool → Standing → Standing → Standing
@@ -63,8 +62,7 @@ among-later (x ∷ xs) ys g none = elim (cases_Bool (is_about g.leader.id x)) [
 
 among-first : (xs ys : List Judged) (g : Group) → count_by (is_about g.leader.id) ys ≡ 0 → standing_among (xs ++ ys) g ≡ standing_among xs g
 among-first [] ys g none = among-none ys g none
-among-first (x ∷ xs) ys g none =
-    ap {B = Standing} (λ s. elim (is_about g.leader.id x) as (λ b. Standing) [ true ↦ x.standing | false ↦ s ]) (among-first xs ys g none)
+among-first (x ∷ xs) ys g none = grind (arith, nat_tests, among-first xs ys g none)
 
 kept-cons : (j : Judged) (js : List Judged) (b : Bool) → stands_on j.standing ≡ b → kept (j ∷ js) ≡ cond b (j ∷ kept js) (kept js)
 kept-cons j js b e = ap {B = List Judged} (λ c. cond c (j ∷ kept js) (kept js)) e
@@ -86,18 +84,13 @@ among-kept (j ∷ js) g few = elim (cases_Bool (is_about g.leader.id j)) [
       let rest : count_by (is_about g.leader.id) js ≡ 0 = omega (arith, few, count-cons (is_about g.leader.id) j js, once-true (is_about g.leader.id j) mine) in
       let left : count_by (is_about g.leader.id) (kept js) ≡ 0 = omega (arith, rest, count-filter (is_about g.leader.id) (λ x. stands_on x.standing) js) in
       elim (cases_Bool (stands_on j.standing)) [
-        | inl on ↦
-            ap (λ xs. standing_among xs g) (kept-cons j js true on) ∙ (among-cons j (kept js) g true mine
-            ∙ (sym (on-calm j.standing on) ∙ ap calmed (sym (among-cons j js g true mine))))
-        | inr off ↦
-            ap (λ xs. standing_among xs g) (kept-cons j js false off) ∙ (among-none (kept js) g left
-            ∙ (sym (on-or_not j.standing off) ∙ ap calmed (sym (among-cons j js g true mine))))
+        | inl on ↦ grind (arith, nat_tests, kept-cons, on, among-cons, kept, on-calm, calmed)
+        | inr off ↦ grind (arith, nat_tests, kept-cons, off, among-none, kept, on-or_not, calmed, among-cons)
       ]
   | inr other ↦
       let next : standing_among (kept js) g ≡ calmed (standing_among js g) = among-kept js g (omega (arith, few, count-cons (is_about g.leader.id) j js)) in
       elim (cases_Bool (stands_on j.standing)) [
-        | inl on ↦
-            ap (λ xs. standing_among xs g) (kept-cons j js true on) ∙ (among-cons j (kept js) g false other ∙ (next ∙ ap calmed (sym (among-cons j js g false other))))
+        | inl on ↦ grind (arith, nat_tests, kept-cons, on, among-cons, kept, calmed)
         | inr off ↦ ap (λ xs. standing_among xs g) (kept-cons j js false off) ∙ (next ∙ ap calmed (sym (among-cons j js g false other)))
       ]
 ]
@@ -134,46 +127,23 @@ parts hw s cpu =
     let later : flexible_verdicts hw s cpu ≡ f.rest = ap (drop (length first)) f.is ∙ drop-append_seam first f.rest in
     let groups : map (λ j. j.group) first ++ map (λ j. j.group) f.rest ≡ map (λ j. j.group) first ++ flat_map (λ p. p) last =
     sym (map-append (λ j. j.group) first f.rest) ∙ (ap (map (λ j. j.group)) (sym f.is) ∙ passes-groups hw first last) in
-    record {
-      whole = f.is ∙ ap (λ js. first ++ js) (sym later);
-      pinned_groups = passes-groups hw [] (map (filter test) (take 2 (passes s cpu)));
-      flexible_groups = ap (map (λ j. j.group)) later ∙ append_cancel_left (map (λ j. j.group) first) (map (λ j. j.group) f.rest) (flat_map (λ p. p) last) groups;
-    }
+    search (nat_tests, first, later, passes-groups, test, append_cancel_left, last, groups)
 
 -- how many of them have an id
 count-passes : (id : ℕ) (test : Group → Bool) (ps : List (List Group)) → count_by (is_led id) (flat_map (λ p. p) (map (filter test) ps)) ≤ count_by (is_led id) (flat_map (λ p. p) ps)
 count-passes id test [] = omega arith
-count-passes id test (p ∷ ps) =
-    omega (
-      arith,
-      count-append (is_led id) (filter test p) (flat_map (λ x. x) (map (filter test) ps)),
-      count-append (is_led id) p (flat_map (λ x. x) ps),
-      count-filter (is_led id) test p,
-      count-passes id test ps,
-    )
+count-passes id test (p ∷ ps) = grind (arith, nat_tests, count-append, count-filter, count-passes id test ps)
 
 count-leaders : (w : World) (id : ℕ) (keys : List Key) → count_by (is_led id) (map (group_at w) keys) ≡ count_by (λ k. (instance_at w k).id == id) keys
 count-leaders w id [] = refl
-count-leaders w id (k ∷ keys) =
-    omega (arith, count-cons (is_led id) (group_at w k) (map (group_at w) keys), count-cons (λ q. (instance_at w q).id == id) k keys, count-leaders w id keys)
+count-leaders w id (k ∷ keys) = search (nat_tests, count-cons, count-leaders w id keys)
 
 -- the leaders of a processor: of its pinned groups, and of the others
 abbrev flexible_leaders : World → CpuNo → List Key
 flexible_leaders w cpu = (leaders_of w (context.Processor cpu)).flexible ++ (task_leaders w (task_on (stage_of w) cpu)).flexible
 
 leaders-split : (w : World) (cpu : CpuNo) (q : Key) → times q (reached_leaders w cpu) ≡ times q (pinned_leaders w cpu) + times q (flexible_leaders w cpu)
-leaders-split w cpu q =
-    let own : Leaders = leaders_of w (context.Processor cpu) in
-    let task : Leaders = task_leaders w (task_on (stage_of w) cpu) in
-    omega (
-      arith,
-      count-append (is_key q) own.pinned (task.pinned ++ (own.flexible ++ (task.flexible ++ []))),
-      count-append (is_key q) task.pinned (own.flexible ++ (task.flexible ++ [])),
-      count-append (is_key q) own.flexible (task.flexible ++ []),
-      count-append (is_key q) task.flexible [],
-      count-append (is_key q) own.pinned task.pinned,
-      count-append (is_key q) own.flexible task.flexible,
-    )
+leaders-split w cpu q = grind (arith, nat_tests, count-append)
 
 -- in which list a leader stands
 flag_on : (a b pinned : Bool) → 1 ≤ once_if (a && b && (if pinned then true else false)) → (a ≡ true) × (pinned ≡ true)
@@ -190,13 +160,11 @@ flag_off false b pinned some = absurd (omega (arith, some))
 
 pinned-there : (hw : Hardware) (w : World) → IsKept hw w → (q : Key) (place : ℕ) → 1 ≤ times q (slice_index_or w.contexts place no_leaders).pinned
     → (leads (post_at w) q ≡ true) × ((entry_at w q).pinned ≡ true)
-pinned-there hw w h q place some =
-    flag_on (leads (post_at w) q) (place_of (entry_at w q).context == place) (entry_at w q).pinned (omega (arith, some, h.linked.pinned q place))
+pinned-there hw w h q place some = grind (arith, nat_tests, flag_on, some, h.linked.pinned q place)
 
 flexible-there : (hw : Hardware) (w : World) → IsKept hw w → (q : Key) (place : ℕ) → 1 ≤ times q (slice_index_or w.contexts place no_leaders).flexible
     → (leads (post_at w) q ≡ true) × ((entry_at w q).pinned ≡ false)
-flexible-there hw w h q place some =
-    flag_off (leads (post_at w) q) (place_of (entry_at w q).context == place) (entry_at w q).pinned (omega (arith, some, h.linked.flexible q place))
+flexible-there hw w h q place some = grind (arith, nat_tests, flag_off, some, h.linked.flexible q place)
 
 task-pinned : (hw : Hardware) (w : World) → IsKept hw w → (q : Key) (o : Option TaskNo) → 1 ≤ times q (task_leaders w o).pinned → (leads (post_at w) q ≡ true) × ((entry_at w q).pinned ≡ true)
 task-pinned hw w h q None some = absurd (omega (arith, some))
@@ -207,22 +175,10 @@ task-flexible hw w h q None some = absurd (omega (arith, some))
 task-flexible hw w h q (Some task) some = flexible-there hw w h q (place_of (context.Task task)) some
 
 pinned-flag : (hw : Hardware) (w : World) → IsKept hw w → (cpu : CpuNo) (q : Key) → 1 ≤ times q (pinned_leaders w cpu) → (leads (post_at w) q ≡ true) × ((entry_at w q).pinned ≡ true)
-pinned-flag hw w h cpu q some =
-    let own : List Key = (leaders_of w (context.Processor cpu)).pinned in
-    let task : List Key = (task_leaders w (task_on (stage_of w) cpu)).pinned in
-    elim (cases_eq (times q own) 0) [
-      | inr more ↦ pinned-there hw w h q (place_of (context.Processor cpu)) (omega (arith, more))
-      | inl none ↦ task-pinned hw w h q (task_on (stage_of w) cpu) (omega (arith, some, none, count-append (is_key q) own task))
-    ]
+pinned-flag hw w h cpu q some = grind (arith, nat_tests, pinned-there, task-pinned, count-append)
 
 flexible-flag : (hw : Hardware) (w : World) → IsKept hw w → (cpu : CpuNo) (q : Key) → 1 ≤ times q (flexible_leaders w cpu) → (leads (post_at w) q ≡ true) × ((entry_at w q).pinned ≡ false)
-flexible-flag hw w h cpu q some =
-    let own : List Key = (leaders_of w (context.Processor cpu)).flexible in
-    let task : List Key = (task_leaders w (task_on (stage_of w) cpu)).flexible in
-    elim (cases_eq (times q own) 0) [
-      | inr more ↦ flexible-there hw w h q (place_of (context.Processor cpu)) (omega (arith, more))
-      | inl none ↦ task-flexible hw w h q (task_on (stage_of w) cpu) (omega (arith, some, none, count-append (is_key q) own task))
-    ]
+flexible-flag hw w h cpu q some = grind (arith, nat_tests, flexible-there, task-flexible, count-append)
 
 -- keys by their ids
 pub same-id : (hw : Hardware) (w : World) → IsKept hw w → (q k : Key) → leads (post_at w) q ≡ true → leads (post_at w) k ≡ true → ((instance_at w q).id == (instance_at w k).id) ≡ true → q ≡ k
@@ -278,10 +234,7 @@ none-pinned hw w h cpu k lead none =
 none-flexible : (hw : Hardware) (w : World) → IsKept hw w → (cpu : CpuNo) (k : Key) → leads (post_at w) k ≡ true → (entry_at w k).pinned ≡ true
     → count_by (is_about (instance_at w k).id) (flexible_verdicts hw (stage_of w) cpu) ≡ 0
 none-flexible hw w h cpu k lead pinned =
-    let away : times k (flexible_leaders w cpu) ≡ 0 = (elim (cases_eq (times k (flexible_leaders w cpu)) 0) [
-      | inl none ↦ none
-      | inr more ↦ absurd (false≢true (sym (flexible-flag hw w h cpu k (omega (arith, more))).1 ∙ pinned))
-    ]) in
+    let away : times k (flexible_leaders w cpu) ≡ 0 = grind (arith, nat_tests, false≢true, flexible-flag) in
     omega (arith, about-flexible hw w cpu (instance_at w k).id, id-nowhere hw w h k lead (flexible_leaders w cpu) (λ q some. (flexible-flag hw w h cpu q some).0) away)
 
 few-pinned : (hw : Hardware) (w : World) → IsKept hw w → (cpu : CpuNo) (k : Key) → leads (post_at w) k ≡ true
@@ -295,11 +248,6 @@ few-pinned hw w h cpu k lead =
     )
 
 -- the stage
-failed-is : (s : Standing) (g : Group) → failed s g ≡ record g { leader = failed_instance s g.leader }
-failed-is standing.Out g = refl
-failed-is standing.On g = refl
-failed-is (standing.Refused cause) g = refl
-
 pinned-lead : (hw : Hardware) (w : World) → IsKept hw w → (cpu : CpuNo) → AllLead w (pinned_leaders w cpu)
 pinned-lead hw w h cpu q some = (pinned-flag hw w h cpu q some).0
 
@@ -320,54 +268,29 @@ siblings-same hw w h cpu q lead =
       | inr more ↦
           let lead_j : leads (post_at w) j ≡ true = pinned-lead hw w h cpu j (omega (arith, more)) in
           let apart : j.0 ≡ q.0 → ⊥ = λ e. omega (arith, some, sib.not_itself, ap (λ x. times x (after_first (entry_at w q).members)) (key-is j q e)) in
-          let member : is_member_of (post_at w) q j ≡ true = (elim (cases_Bool (is_member_of (post_at w) q j)) [
-            | inl is ↦ is
-            | inr off ↦ absurd (omega (arith, some, sib.others j apart, once-false (is_member_of (post_at w) q j) off))
-          ]) in
+          let member : is_member_of (post_at w) q j ≡ true = grind (arith, nat_tests, once-false) in
           absurd (false≢true (sym (member-follows (post_at w) q j apart member) ∙ (leads-parts (is_live w j) (is_key j (entry_at w j).leader) lead_j).1))
     ]))
 
 group-failed : (hw : Hardware) (w : World) → IsKept hw w → (cpu : CpuNo) (q : Key) → 1 ≤ times q (pinned_leaders w cpu)
     → group_at (fail_groups (pinned_leaders w cpu) w) q ≡ failed (standing_at w q) (group_at w q)
-group-failed hw w h cpu q some =
-    let f : AreFailed w (fail_groups (pinned_leaders w cpu) w) (pinned_leaders w cpu) = are-failed (pinned_leaders w cpu) w in
-    let siblings : _ = siblings-same hw w h cpu q (pinned-lead hw w h cpu q some) in
-    (λ i. record { leader = f.instances q some i; siblings = siblings i }) ∙ sym (failed-is (standing_at w q) (group_at w q))
+group-failed hw w h cpu q some = grind (arith, are-failed (pinned_leaders w cpu) w, siblings-same hw w h cpu q (pinned-lead hw w h cpu q some))
 
 group-same : (hw : Hardware) (w : World) → IsKept hw w → (cpu : CpuNo) (q : Key) → leads (post_at w) q ≡ true → times q (pinned_leaders w cpu) ≡ 0
     → group_at (fail_groups (pinned_leaders w cpu) w) q ≡ group_at w q
-group-same hw w h cpu q lead none =
-    let f : AreFailed w (fail_groups (pinned_leaders w cpu) w) (pinned_leaders w cpu) = are-failed (pinned_leaders w cpu) w in
-    let siblings : _ = siblings-same hw w h cpu q lead in
-    λ i. record { leader = f.other_instances q none i; siblings = siblings i }
+group-same hw w h cpu q lead none = grind (arith, are-failed (pinned_leaders w cpu) w, siblings-same hw w h cpu q lead)
 
 stands-out : (hw : Hardware) (w : World) → IsKept hw w → (cpu : CpuNo) (q : Key) → leads (post_at w) q ≡ true → (entry_at w q).pinned ≡ true → times q (pinned_leaders w cpu) ≡ 0
     → standing_among (verdicts hw (stage_of w) cpu) (group_at w q) ≡ standing.Out
-stands-out hw w h cpu q lead pinned none =
-    let s : Stage = stage_of w in
-    ap (λ js. standing_among js (group_at w q)) (parts hw s cpu).whole
-    ∙ (among-later (pinned_verdicts hw s cpu) (flexible_verdicts hw s cpu) (group_at w q) (none-pinned hw w h cpu q lead none)
-    ∙ among-none (flexible_verdicts hw s cpu) (group_at w q) (none-flexible hw w h cpu q lead pinned))
+stands-out hw w h cpu q lead pinned none = grind (arith, nat_tests, parts, among-later, none-pinned, among-none, none-flexible)
 
 pinned-group : (hw : Hardware) (w : World) (cpu : CpuNo) → IsKept hw w → IsJudged hw w cpu → (place : ℕ) (q : Key) → 1 ≤ times q (slice_index_or w.contexts place no_leaders).pinned
     → group_at (fail_groups (pinned_leaders w cpu) w) q ≡ failed (standing_among (verdicts hw (stage_of w) cpu) (group_at w q)) (group_at w q)
-pinned-group hw w cpu h judged place q some =
-    let there : (leads (post_at w) q ≡ true) × ((entry_at w q).pinned ≡ true) = pinned-there hw w h q place some in
-    elim (cases_eq (times q (pinned_leaders w cpu)) 0) [
-      | inl none ↦ group-same hw w h cpu q there.0 none ∙ sym (ap (λ s. failed s (group_at w q)) (stands-out hw w h cpu q there.0 there.1 none))
-      | inr more ↦
-          let among : 1 ≤ times q (pinned_leaders w cpu) = omega (arith, more) in
-          group-failed hw w h cpu q among ∙ ap (λ s. failed s (group_at w q)) (judged.standings q there.0 (pinned-context hw w h cpu q among))
-    ]
+pinned-group hw w cpu h judged place q some = grind (arith, nat_tests, pinned-there, group-same, stands-out, group-failed, pinned-context)
 
 flexible-group : (hw : Hardware) (w : World) (cpu : CpuNo) → IsKept hw w → (place : ℕ) (q : Key) → 1 ≤ times q (slice_index_or w.contexts place no_leaders).flexible
     → group_at (fail_groups (pinned_leaders w cpu) w) q ≡ group_at w q
-flexible-group hw w cpu h place q some =
-    let there : (leads (post_at w) q ≡ true) × ((entry_at w q).pinned ≡ false) = flexible-there hw w h q place some in
-    group-same hw w h cpu q there.0 (elim (cases_eq (times q (pinned_leaders w cpu)) 0) [
-      | inl none ↦ none
-      | inr more ↦ absurd (false≢true (sym there.1 ∙ (pinned-flag hw w h cpu q (omega (arith, more))).1))
-    ])
+flexible-group hw w cpu h place q some = grind (arith, nat_tests, flexible-there, group-same, false≢true, pinned-flag)
 
 pub fail-stage : FailStageLaw
 fail-stage hw w cpu low h judged =
@@ -377,21 +300,12 @@ fail-stage hw w cpu low h judged =
     let each : (p : ℕ) → lists_at t (slice_index_or w.contexts p no_leaders) ≡ fail_lists js (lists_at w (slice_index_or w.contexts p no_leaders)) = λ p.
     (let l : Leaders = slice_index_or w.contexts p no_leaders in
     let pinned : map (group_at t) l.pinned ≡ map (λ g. failed (standing_among js g) g) (map (group_at w) l.pinned) =
-    map-within (group_at t) (λ q. failed (standing_among js (group_at w q)) (group_at w q)) l.pinned (pinned-group hw w cpu h judged p)
-    ∙ sym (map-map (λ g. failed (standing_among js g) g) (group_at w) l.pinned) in
+    search (nat_tests, map-within, pinned-group, map-map) in
     let flexible : map (group_at t) l.flexible ≡ map (group_at w) l.flexible = map-within (group_at t) (group_at w) l.flexible (flexible-group hw w cpu h p) in
     λ i. record { pinned = pinned i; flexible = flexible i }) in
     let contexts : map (lists_at t) t.contexts ≡ map (fail_lists js) (map (lists_at w) w.contexts) =
     ap (map (lists_at t)) rest.0 ∙ (map-places (lists_at t) (λ l. fail_lists js (lists_at w l)) no_leaders w.contexts each ∙ sym (map-map (fail_lists js) (lists_at w) w.contexts)) in
-    (λ i. record {
-      running = (rest.1 i).running;
-      tasks = (rest.1 i).tasks;
-      contexts = contexts i;
-      used = (rest.1 i).used;
-      mapped = (rest.1 i).mapped;
-      next_id = (rest.1 i).next_id;
-    })
-    ∙ sym (settles_by_standings hw cpu (stage_of w) (is-numbered hw w h) low)
+    grind (arith, nat_tests, contexts, settles_by_standings, is-numbered)
 
 -- the verdicts afterwards
 new-verdicts : (hw : Hardware) (w : World) (cpu : CpuNo) → cpu.0 < 8 → IsKept hw w → IsJudged hw w cpu
@@ -408,15 +322,8 @@ stays-judged hw w cpu h judged k lead there =
     let f : AreFailed w (fail_groups (pinned_leaders w cpu) w) (pinned_leaders w cpu) = are-failed (pinned_leaders w cpu) w in
     let now : standing_at w k ≡ standing_among (first ++ last) g = judged.standings k lead there ∙ ap (λ js. standing_among js g) (parts hw s cpu).whole in
     elim (cases_eq (times k (pinned_leaders w cpu)) 0) [
-      | inl none ↦
-          let away : count_by (is_about (instance_at w k).id) first ≡ 0 = none-pinned hw w h cpu k lead none in
-          let still : count_by (is_about (instance_at w k).id) (kept first) ≡ 0 = omega (arith, away, count-filter (is_about (instance_at w k).id) (λ j. stands_on j.standing) first) in
-          f.other_standings k none ∙ (now ∙ (among-later first last g away ∙ sym (among-later (kept first) last g still)))
-      | inr more ↦
-          let some : 1 ≤ times k (pinned_leaders w cpu) = omega (arith, more) in
-          let alone : count_by (is_about (instance_at w k).id) last ≡ 0 = none-flexible hw w h cpu k lead (pinned-flag hw w h cpu k some).1 in
-          f.standings k some ∙ (ap calmed (now ∙ among-first first last g alone)
-          ∙ (sym (among-kept first g (few-pinned hw w h cpu k lead)) ∙ sym (among-first (kept first) last g alone)))
+      | inl none ↦ grind (arith, nat_tests, none-pinned, none, kept, count-filter, among-later)
+      | inr more ↦ grind (arith, nat_tests, more, none-flexible, pinned-flag, calmed, among-first, among-kept, few-pinned, kept)
     ]
 
 -- whether a context is a processor's goes by what runs
@@ -437,10 +344,8 @@ fail-rescheduled hw w cpu low h judged =
     let quiet : t.quiet ≡ w.quiet = (failed-rest (pinned_leaders w cpu) w).1 in
     let now : verdicts hw (stage_of t) cpu ≡ kept first ++ last = new-verdicts hw w cpu low h judged in
     let seats : seats_at t cpu ≡ seats_at w cpu = ap (λ q. slice_index_or q.seats cpu.0 (empty_seating 0)) quiet in
-    let on : groups_on (kept first ++ last) ≡ groups_on (verdicts hw s cpu) =
-    groups_on-append (kept first) last ∙ (ap (λ gs. gs ++ groups_on last) (groups_on-kept first) ∙ (sym (groups_on-append first last) ∙ ap groups_on (sym (parts hw s cpu).whole))) in
-    let events : events_of hw (verdicts hw s cpu) ≡ events_of hw (verdicts hw (stage_of t) cpu) =
-    sym (ap (events_of hw) now ∙ ap (λ gs. with_masks hw (filter is_hardware (flat_map (λ g. filter (λ i. is_ready i.own) (members_of g)) gs))) on) in
+    let on : groups_on (kept first ++ last) ≡ groups_on (verdicts hw s cpu) = grind (arith, groups_on-append, kept, groups_on-kept, parts) in
+    let events : events_of hw (verdicts hw s cpu) ≡ events_of hw (verdicts hw (stage_of t) cpu) = grind (arith, nat_tests) in
     record {
       settled = subst (IsSettled hw cpu) (sym (fail-stage hw w cpu low h judged)) (settles_once hw cpu s low);
       judged = record {

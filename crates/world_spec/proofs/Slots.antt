@@ -1,13 +1,13 @@
 -- The records that a step loses are of events in slots.
 use Rattle.std.specs.Prelude.{◌≡◌, ℕ, ◌+◌, ◌<◌, ◌≤◌, ◌==◌, Bool, true, false, cond, ⊤, nat_le, if◌then◌else◌, List, [], ◌∷◌, filter, find, flat_map, count_by, IfSome, Option, Some, None}
-use Rattle.std.proofs.{Common.{arith, refl, ap}, lemmas.{Bool.Decides.{nat_tests}, List.Sums.{sum_by-cons}}}
+use Rattle.std.proofs.{Common.{arith, refl}, lemmas.{Bool.Decides.{nat_tests}, List.Sums.{sum_by-cons}}}
 use Rattle.perf_base.specs.declared.{lines.{CpuLine.{CpuLine}, Work.{Work}}, numbers.{CpuNo.{CpuNo}, EventNo.{EventNo}, RingNo.{RingNo}}}
 use Rattle.perf_base.specs.declared.lines.CpuLine.TheVariants as cpu_line
 use Rattle.stage_spec.specs.{declared.instance.Instance.{Instance}, Hardware.{Hardware}, History.{Step, CpuStep, ToolStep, SeenStep}}
 use Rattle.stage_spec.specs.{Stage.{Stage, all_instances, is_original, original_of}, Verdict.{on_instances}}
 use Rattle.stage_spec.proofs.Each.{Each, none-Each, cons-Each, head-Each, tail-Each, append-Each, map-Each, filter-Each, replicate-Each}
 use Rattle.ring_spec.specs.Account.{RingEvent, Sends, Looks, Account, lost_by, lost_among, ring_step, is_event, need_of, room_of}
-use Rattle.ring_spec.specs.{Rings.{is_to, looks_at, sends_to, events_by}, Running.{Running, losses_on}}
+use Rattle.ring_spec.specs.{Rings.{is_to, looks_at, sends_to, events_by}, Running.{Running}}
 use Rattle.ring_spec.specs.Sending.{SentSample, to_ring, sent_by_family, sent_by_line, sent_by_step, fields_of, overflows_by, sent_of}
 use Rattle.world_spec.specs.Stepping.{losses_by}
 
@@ -91,15 +91,8 @@ lost-low bytes a (e ∷ events) low =
 
 none-past : (e : EventNo) (losses : List EventNo) → 256 ≤ e.0 → Each Low losses → count_by (is_event e) losses ≡ 0
 none-past e [] past low = refl
-none-past e (f ∷ losses) past low =
-    let here : f.0 < 256 = head-Each Low f losses low in
-    let off : is_event e f ≡ false = grind (arith, nat_tests, here, past) in
-    let none : ◌≡◌ {A = ℕ} (cond (is_event e f) 1 0) 0 = ap {A = Bool} {B = ℕ} (λ b. cond b 1 0) off in
-    omega (arith, none, none-past e losses past (tail-Each Low f losses low), sum_by-cons (λ g. cond (is_event e g) 1 0) f losses)
+none-past e (f ∷ losses) past low = grind (arith, nat_tests, head-Each, tail-Each, sum_by-cons, none-past e losses past (tail-Each Low f losses low))
 
 -- no record is lost of a slot that there is not
 pub past-none : (hw : Hardware) (r : Running) (x : Step) (e : EventNo) → Each (λ i. Low i.event) (all_instances r.stage) → 256 ≤ e.0 → count_by (is_event e) (losses_by hw r x) ≡ 0
-past-none hw r x e low past =
-    let sents : List (RingNo × SentSample) = sent_by_step hw r.stage r.left r.clock x in
-    none-past e (losses_by hw r x) past
-    (each-all Low (losses_on x sents) (λ a. lost-low a.bytes a.account (events_by x sents a.ring) (events-low x sents a.ring (by-step hw r.stage r.left r.clock x low))) r.rings)
+past-none hw r x e low past = search (nat_tests, none-past, each-all, lost-low, events-low, by-step)

@@ -1,5 +1,5 @@
 -- What stays when an instance comes or goes.
-use Rattle.std.specs.{Prelude.{◌≡◌, ℕ, ◌==◌, true, false, [], Option, Some, None, slice_index_or, slice_set}, Option.{unwrap_or}}
+use Rattle.std.specs.{Prelude.{◌≡◌, ℕ, ◌==◌, true, false, Option, Some, None, slice_index_or, slice_set}, Option.{unwrap_or}}
 use Rattle.std.proofs.{Common.{arith, refl, sym, ap, subst, ◌∙◌, inl, inr, get_or-set_other}, lemmas.Bool.{cases_Bool}}
 use Rattle.perf_base.specs.declared.numbers.{EventNo.{EventNo}, Key.{Key}}
 use Rattle.perf_base.specs.declared.standing.Standing.TheVariants as standing
@@ -9,7 +9,7 @@ use Rattle.world_spec.specs.Kept.{post_at, in_option, is_original_in, leads, IsK
 use Rattle.world_spec.specs.{Adding.{Newcomer, new_entry, leave_group, taken_out, drop_instance}, Comings.{HasRoom}}
 use Rattle.world_spec.specs.Staying.{HasGone, HasCome, IsOriginalOf, GoStaysLaw, FoldStaysLaw, AddStaysLaw, OriginLaw}
 use Rattle.world_spec.proofs.{Tables.{get-here, get-there}, Keys.{key-is, is_key-true, once-true, once-false, times-cons}}
-use Rattle.world_spec.proofs.{Coming.{Comes, three, number_true}, Added.{added, comes-by, other-instance, new-entry_at, entry-instance}, Going.{Goes}}
+use Rattle.world_spec.proofs.{Coming.{three, number_true}, Added.{added, comes-by, other-instance, new-entry_at, entry-instance}, Going.{Goes}}
 use Rattle.world_spec.proofs.{Gone.{left_world, left-goes, left-instance, get-left}, Disbanding.{disbands-goes}}
 use Rattle.world_spec.proofs.GoneLeader.{AreFreed, entries_freed, standings_freed, led_world, dropped-leader, tables-freed, led-disbands, led-instance}
 use Rattle.world_spec.proofs.{Dropping.{it-leads}, Folding.{folded-is, copy-may}, Reaching.{is-original}}
@@ -17,19 +17,7 @@ use Rattle.world_spec.proofs.{Dropping.{it-leads}, Folding.{folded-is, copy-may}
 -- an instance that goes
 gone-by : (w t : World) (k : Key) → Goes (post_at w) (post_at t) k → ((j : Key) → (j.0 ≡ k.0 → ⊥) → instance_at t j ≡ instance_at w j) → ((j : Key) → (j.0 ≡ k.0 → ⊥) → account_at t j ≡ account_at w j)
     → t.lost ≡ w.lost → ((e : EventNo) → (e.0 ≡ (instance_at w k).event.0 → ⊥) → family_of t e ≡ family_of w e) → t.folded ≡ w.folded → t.quiet ≡ w.quiet → HasGone w t k
-gone-by w t k g instances accounts lost families folded quiet = record {
-  dead = g.gone;
-  others = record {
-    live = λ j apart. ap (λ x. x.live) (g.others j apart);
-    instances = instances;
-    contexts = λ j apart. ap (λ x. x.context) (g.others j apart);
-    accounts = accounts;
-    lost = lost;
-  };
-  families = families;
-  folded = λ slot apart. ap (λ sums. slice_index_or sums slot no_sums) folded;
-  quiet = quiet;
-}
+gone-by w t k g instances accounts lost families folded quiet = grind arith
 
 account-stays : (w : World) (k j : Key) → (j.0 ≡ k.0 → ⊥) → account_at (left_world w k) j ≡ account_at w j
 account-stays w k j apart = ap (λ o. unwrap_or o no_account) (get-left w.accounts k.0 j.0 apart)
@@ -55,13 +43,7 @@ go-stays hw w k h may = elim (cases_Bool (is_key k (entry_at w k).leader)) [
 pub fold-stays : FoldStaysLaw
 fold-stays hw w k h live copy =
     let g : HasGone w (drop_instance k w) k = go-stays hw w k h (copy-may w k live copy) in
-    subst (λ x. HasGone w x k) (sym (folded-is w k)) (record {
-      dead = g.dead;
-      others = record { live = g.others.live; instances = g.others.instances; contexts = g.others.contexts; accounts = g.others.accounts; lost = g.others.lost };
-      families = g.families;
-      folded = λ slot apart. get_or-set_other w.folded (instance_at w k).event.0 slot _ no_sums apart;
-      quiet = g.quiet;
-    })
+    search (folded-is, get_or-set_other)
 
 -- an instance that comes
 new-context : (w : World) (k : Key) (n : Newcomer) (leader : Option Key) → (new_entry w k n leader).context ≡ n.context
@@ -96,25 +78,7 @@ rests w k n (Some first) = record {
 
 come-by : (w : World) (k : Key) (n : Newcomer) (leader : Option Key) → is_live w k ≡ false → HasRoom w n leader → HasCome w (added w k n leader) k n
 come-by w k n leader dead room =
-    let t : World = added w k n leader in
-    let c : Comes (post_at w) (post_at t) k _ = comes-by w k n dead leader room in
-    let r : Rests w k n t = rests w k n leader in
-    record {
-      live = ap (λ x. x.live) c.new;
-      instance = ap (λ e. e.instance) (new-entry_at w k n leader) ∙ entry-instance w k n leader;
-      context = ap (λ e. e.context) (new-entry_at w k n leader) ∙ new-context w k n leader;
-      account = r.account;
-      standing = r.standing;
-      others = record {
-        live = λ j apart. ap (λ x. x.live) (c.others j apart);
-        instances = other-instance w k n leader;
-        contexts = λ j apart. ap (λ x. x.context) (c.others j apart);
-        accounts = r.accounts;
-        lost = r.lost;
-      };
-      families = r.families;
-      folded = r.folded;
-    }
+    grind (arith, new-entry_at, entry-instance, new-context, other-instance, added w k n leader, comes-by w k n dead leader room, rests w k n leader)
 
 pub add-stays : AddStaysLaw
 add-stays hw w k n h may room = come-by w k n n.leader may.fresh room
@@ -122,10 +86,7 @@ add-stays hw w k n h may room = come-by w k n n.leader may.fresh room
 -- the original of an instance
 some-key : (o : Option Key) (k : Key) → times k (in_option o) ≡ 1 → o ≡ Some k
 some-key None k one = absurd (omega (arith, one))
-some-key (Some q) k one = elim (cases_Bool (is_key k q)) [
-  | inl same ↦ ap {B = Option Key} Some (key-is q k (is_key-true k q same))
-  | inr apart ↦ absurd (omega (arith, one, times-cons k q [], once-false (is_key k q) apart))
-]
+some-key (Some q) k one = grind (arith, key-is, is_key-true, times-cons, once-false)
 
 original-by : (hw : Hardware) (w : World) (k o : Key) → IsKept hw w → is_original_in (post_at w) (instance_at w k).event.0 o ≡ true → IsOriginalOf w k o
 original-by hw w k o h passes =
@@ -140,8 +101,6 @@ original-by hw w k o h passes =
 
 pub origin-is : OriginLaw
 origin-is hw w k h live = elim (cases_Bool (instance_at w k).copy) [
-  | inl copy ↦
-      let o : (j : Key) × (is_original_in (post_at w) (instance_at w k).event.0 j ≡ true) × _ = h.apart.original k live copy in
-      (o.0, original-by hw w k o.0 h o.1)
+  | inl copy ↦ grind (arith, copy, original-by)
   | inr first ↦ (k, original-by hw w k k h (is-original w k live first))
 ]

@@ -1,27 +1,25 @@
 -- That a world that a step leads to agrees with the record after the step.
-use Rattle.std.specs.Prelude.{◌≡◌, ℕ, ◌+◌, ◌<◌, ◌≤◌, ◌==◌, Bool, true, false, ◌&&◌, ◌||◌, List, [], ◌∷◌, map, find, count_by, Option, Some, None, slice_index_or}
+use Rattle.std.specs.Prelude.{◌≡◌, ℕ, ◌+◌, ◌<◌, ◌≤◌, ◌==◌, Bool, true, false, ◌&&◌, List, [], ◌∷◌, map, find, count_by, Option, Some, None, slice_index_or}
 use Rattle.std.{specs.List.{list_any}, proofs.{Common.{arith, refl, sym, ap, subst, ◌∙◌, inl, inr}, lemmas.Bool.{cases_Bool, cases_lt, false≢true}}}
 use Rattle.std.proofs.lemmas.{Bool.Decides.{nat_tests}, List.{get_or_past}}
 use Rattle.perf_base.specs.declared.{lines.ToolLine.{ToolLine}, numbers.{EventNo.{EventNo}, Key.{Key}}, reasons.Reason.{Reason}}
 use Rattle.perf_base.specs.declared.lines.ToolLine.TheVariants as tool_line
-use Rattle.stage_spec.specs.{declared.instance.Instance.{Instance}, Commands.{period_refusal}, Families.{plus, plus_each, leaving}}
+use Rattle.stage_spec.specs.{declared.instance.Instance.{Instance}, Families.{plus, plus_each, leaving}}
 use Rattle.stage_spec.specs.{Hardware.{Hardware}, History.{Step, CpuStep, ToolStep, SeenStep, stage_step}, Recurrence.{after_reset}}
-use Rattle.stage_spec.specs.Remainders.{instance_of, period_in, period_unless, line_period, new_period, left_by_hits, left_by_period, left_by}
-use Rattle.stage_spec.{specs.{Shares.{share, no_sums}, Stage.{Stage, all_instances, is_original}, Sums.{resets}}, proofs.Births.{share-none}}
+use Rattle.stage_spec.specs.Remainders.{instance_of, period_unless, line_period, new_period, left_by}
+use Rattle.stage_spec.{specs.{Shares.{no_sums}, Stage.{Stage, all_instances}}, proofs.Births.{share-none}}
 use Rattle.stage_spec.proofs.{Each.{Each, head-Each, tail-Each}, Ids.{IdBelow, AllBelow}, Inside.{InStage-from_all}, Present.{each_at}}
-use Rattle.stage_laws.{specs.Sound.{IsNumbered}, proofs.Leaders.{find-first, find-later}}
+use Rattle.stage_laws.{proofs.Leaders.{find-later}}
 use Rattle.ring_spec.specs.{Account.{is_event}, Agreement.{IsCurrentSlot}, Running.{Running, record_after}, Sending.{length_by}}
 use Rattle.world_spec.specs.{Agreement.{AgreesWith}, Kept.{IsKept, plus_keys}, StageOf.{stage_of}}
 use Rattle.world_spec.specs.Value.{World, is_live, instance_at, account_at, is_key, times}
-use Rattle.world_spec.specs.Stepping.{HasItsShare, HasFolded, HasStepped, LosingLaw, SteppedLaw, losses_by}
+use Rattle.world_spec.specs.Stepping.{HasFolded, HasStepped, LosingLaw, SteppedLaw, losses_by}
 use Rattle.world_spec.proofs.Families.{all_keys, times-keys, instances-are, key-lives}
 use Rattle.world_spec.proofs.{Keys.{key-is, is_key-same, is_key-other, times-cons, once-true, once-false}, Listings.{is-numbered}, Slots.{past-none}}
 
 -- no instance has an id that was not drawn
 each-below : (hw : Hardware) (w : World) (id : ℕ) → IsKept hw w → w.quiet.next_id ≤ id → Each (IdBelow id) (all_instances (stage_of w))
-each-below hw w id h past =
-    let n : IsNumbered (stage_of w) = is-numbered hw w h in
-    each_at (IdBelow id) (all_instances (stage_of w)) (λ k d low. omega (arith, (n.drawn k d low).1, past))
+each-below hw w id h past = grind (arith, nat_tests, is-numbered, each_at, IdBelow)
 
 all-below : (hw : Hardware) (w : World) (id : ℕ) → IsKept hw w → w.quiet.next_id ≤ id → AllBelow id (stage_of w)
 all-below hw w id h past = InStage-from_all (IdBelow id) (stage_of w) (each-below hw w id h past)
@@ -31,20 +29,13 @@ other-number m n h = grind (arith, nat_tests, h)
 
 no-such : (id : ℕ) (q : Instance → Bool) (xs : List Instance) → Each (IdBelow id) xs → list_any (λ i. i.id == id && q i) xs ≡ false
 no-such id q [] h = refl
-no-such id q (i ∷ xs) h =
-    let first : (i.id == id) ≡ false = other-number i.id id (head-Each (IdBelow id) i xs h) in
-    let rest : list_any (λ j. j.id == id && q j) xs ≡ false = no-such id q xs (tail-Each (IdBelow id) i xs h) in
-    λ k. (first k && q i) || rest k
+no-such id q (i ∷ xs) h = grind (arith, nat_tests, other-number, head-Each, IdBelow, tail-Each, no-such id q xs (tail-Each (IdBelow id) i xs h))
 
 none-found : (id : ℕ) (xs : List Instance) → Each (IdBelow id) xs → find (λ i. i.id == id) xs ≡ None
 none-found id [] h = refl
-none-found id (i ∷ xs) h =
-    find-later (λ j. j.id == id) i xs (other-number i.id id (head-Each (IdBelow id) i xs h)) ∙ none-found id xs (tail-Each (IdBelow id) i xs h)
+none-found id (i ∷ xs) h = grind (arith, find-later, other-number, head-Each, IdBelow, tail-Each, none-found id xs (tail-Each (IdBelow id) i xs h))
 
 -- the instance of an id is that of its key
-same-number : (m n : ℕ) → (m == n) ≡ true → m ≡ n
-same-number m n h = grind (arith, nat_tests, h)
-
 is-number : (n : ℕ) → (n == n) ≡ true
 is-number n = grind (arith, nat_tests)
 
@@ -52,9 +43,7 @@ found-key : (w : World) (k : Key) (keys : List Key) → ((q : Key) → 1 ≤ tim
     → find (λ i. i.id == (instance_at w k).id) (map (instance_at w) keys) ≡ Some (instance_at w k)
 found-key w k [] only there = absurd (omega (arith, there))
 found-key w k (q ∷ keys) only there = elim (cases_Bool ((instance_at w q).id == (instance_at w k).id)) [
-  | inl same ↦
-      let is : q ≡ k = only q (omega (arith, times-cons q q keys, once-true (is_key q q) (is_key-same q q refl))) (same-number (instance_at w q).id (instance_at w k).id same) in
-      find-first (λ i. i.id == (instance_at w k).id) (instance_at w q) (map (instance_at w) keys) same ∙ ap (λ j. Some (instance_at w j)) is
+  | inl same ↦ grind (arith, times-cons q q keys, once-true (is_key q q) (is_key-same q q refl))
   | inr other ↦
       let apart : q.0 ≡ k.0 → ⊥ = λ e. false≢true (sym other ∙ (ap (λ j. (instance_at w j).id == (instance_at w k).id) (key-is q k e) ∙ is-number (instance_at w k).id)) in
       let later : 1 ≤ times k keys = omega (arith, there, times-cons k q keys, once-false (is_key k q) (is_key-other k q apart)) in
@@ -77,9 +66,7 @@ reset-none true = refl
 reset-none false = refl
 
 fresh-sums : (hw : Hardware) (w : World) (r : Running) (x : Step) (id : ℕ) → IsKept hw w → AgreesWith w r → w.quiet.next_id ≤ id → (record_after hw r x).sums id ≡ no_sums
-fresh-sums hw w r x id h a past =
-    let none : share hw r.stage x id ≡ no_sums = ap (λ s. share hw s x id) a.stage ∙ share-none hw (stage_of w) x id (all-below hw w id h past) in
-    (λ i. plus (after_reset (resets r.stage x id) (a.fresh id past i)) (none i)) ∙ ap (λ s. plus s no_sums) (reset-none (resets r.stage x id))
+fresh-sums hw w r x id h a past = grind (arith, nat_tests, share-none, all-below, reset-none)
 
 none-reached : (o : Option Reason) (b : Bool) (period : ℕ) → b ≡ false → period_unless o b period ≡ None
 none-reached (Some reason) b period h = refl
@@ -90,8 +77,7 @@ call-period s (tool_line.Open slot attr leader) id h = refl
 call-period s (tool_line.Enable event group) id h = refl
 call-period s (tool_line.Disable event group) id h = refl
 call-period s (tool_line.Reset event group) id h = refl
-call-period s (tool_line.Period event period) id h =
-    none-reached (period_refusal s event period) (list_any (λ i. i.id == id && is_original event i) (all_instances s)) period (no-such id (is_original event) (all_instances s) h)
+call-period s (tool_line.Period event period) id h = search (nat_tests, none-reached, no-such)
 call-period s (tool_line.Read event size) id h = refl
 call-period s (tool_line.Map event ring) id h = refl
 call-period s (tool_line.Output event target) id h = refl
@@ -106,11 +92,7 @@ no-period s (SeenStep ring place) id h = refl
 
 born-left : (hw : Hardware) (w after : World) (x : Step) (k : Key) (left : ℕ) → IsKept hw w → IsKept hw after → stage_of after ≡ stage_step hw (stage_of w) x → is_live after k ≡ true
     → w.quiet.next_id ≤ (instance_at after k).id → left_by hw (stage_of w) x (instance_at after k).id left ≡ (instance_at after k).attr.period
-born-left hw w after x k left h h_after stage live past =
-    let id : ℕ = (instance_at after k).id in
-    ap (λ o. left_by_period hw (stage_of w) x id o left) (no-period (stage_of w) x id (each-below hw w id h past))
-    ∙ (ap (λ o. left_by_hits hw (stage_of w) x id o left) (instance-none hw w id h past)
-    ∙ (ap (λ s. period_in (instance_of s id)) (sym stage) ∙ ap period_in (instance-found hw after k h_after live)))
+born-left hw w after x k left h h_after stage live past = grind (arith, nat_tests, no-period, each-below, instance-none, instance-found)
 
 -- the sums of copies that go
 gone-sums : (w : World) (r : Running) (gone : List Key) → AgreesWith w r → ((k : Key) → 1 ≤ times k gone → is_live w k ≡ true)
@@ -130,20 +112,13 @@ agrees-with : (hw : Hardware) (w after : World) (r : Running) (x : Step) → IsK
 agrees-with hw w after r x h h_after a y lost = record {
   stage = ap (λ s. stage_step hw s x) a.stage ∙ sym y.stage;
   sums = λ k live. elim (cases_lt (instance_at after k).id w.quiet.next_id) [
-    | inl before ↦
-        let o : HasItsShare hw w (record after { lost = w.lost }) x k = y.old k live before in
-        (λ i. plus (after_reset (resets (a.stage i) x (o.id i)) (r.sums (o.id i))) (share hw (a.stage i) x (o.id i)))
-        ∙ (ap (λ s. plus (after_reset (resets (stage_of w) x (instance_at w k).id) s) (share hw (stage_of w) x (instance_at w k).id)) (a.sums k o.live) ∙ sym o.sums)
+    | inl before ↦ grind (arith, nat_tests, before)
     | inr past ↦ fresh-sums hw w r x (instance_at after k).id h a past ∙ sym (y.new k live past).sums
   ];
   fresh = λ id past. fresh-sums hw w r x id h a (omega (arith, past, y.drawn));
   left = λ k live. elim (cases_lt (instance_at after k).id w.quiet.next_id) [
-    | inl before ↦
-        let o : HasItsShare hw w (record after { lost = w.lost }) x k = y.old k live before in
-        (λ i. left_by hw (a.stage i) x (o.id i) (r.left (o.id i))) ∙ (ap (left_by hw (stage_of w) x (instance_at w k).id) (a.left k o.live) ∙ sym o.left)
-    | inr past ↦
-        ap (λ s. left_by hw s x (instance_at after k).id (r.left (instance_at after k).id)) a.stage
-        ∙ (born-left hw w after x k (r.left (instance_at after k).id) h h_after y.stage live past ∙ sym (y.new k live past).left)
+    | inl before ↦ grind (arith, nat_tests, before)
+    | inr past ↦ grind (arith, nat_tests, born-left, past)
   ];
   folded = λ e current.
       let g : (gone : List Key) × HasFolded w (record after { lost = w.lost }) x e gone = y.folded e current in
@@ -156,18 +131,7 @@ agrees-with hw w after r x h h_after a y lost = record {
 
 -- a step that loses none, but for the counts of records lost
 unlost : (hw : Hardware) (w after : World) (x : Step) → HasStepped hw w after x → HasStepped hw w (record after { lost = w.lost }) x
-unlost hw w after x y = record {
-  stage = y.stage;
-  drawn = y.drawn;
-  old = λ k live before. let o : HasItsShare hw w after x k = y.old k live before in record { live = o.live; id = o.id; sums = o.sums; left = o.left };
-  new = λ k live past. record { sums = (y.new k live past).sums; left = (y.new k live past).left };
-  slots = y.slots;
-  folded = λ e current.
-      let g : (gone : List Key) × HasFolded w after x e gone = y.folded e current in
-      (g.0, record { leaving = g.1.leaving; live = g.1.live; sums = g.1.sums });
-  lost = λ e. refl;
-  clock = y.clock;
-}
+unlost hw w after x y = grind (arith, nat_tests)
 
 pub stepped : SteppedLaw
 stepped hw w after r x h h_after a y none =

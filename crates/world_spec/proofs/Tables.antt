@@ -1,5 +1,5 @@
 -- What the tables have at each key after an entry, an account or a standing was written, and what posts show of it.
-use Rattle.std.specs.{Prelude.{◌≡◌, ℕ, ◌==◌, Bool, true, false, cond, is_some, Some}, Cmp.{unsigned_tied}}
+use Rattle.std.specs.{Prelude.{◌≡◌, ℕ, ◌==◌, Bool, true, false, cond, Some}, Cmp.{unsigned_tied}}
 use Rattle.std.specs.{FinMap.{FinMap, get, contains_key, insert, get-insert}, Option.{unwrap_or}, Ordering.{nat_cmp}}
 use Rattle.std.proofs.{lemmas.{Cmp.{nat_cmp_total}, Bool.{cases_eq, Decides.{nat_tests}}}, Common.{arith, sym, ap, ◌∙◌, inl, inr}}
 use Rattle.perf_base.specs.declared.numbers.Key.{Key}
@@ -24,10 +24,7 @@ get-there m k v q apart = get-written m k v q ∙ ap (λ b. cond b (Some v) (get
 
 -- a write at a key that is there leaves the keys
 pub keys-written : {X : Type 0} (m : FinMap nat_cmp X) (k : ℕ) (v : X) → contains_key m k ≡ true → (q : ℕ) → contains_key (insert m k v) q ≡ contains_key m q
-keys-written m k v there q = elim (cases_eq q k) [
-  | inl e ↦ ap is_some (get-here m k v q e) ∙ (sym there ∙ ap (contains_key m) (sym e))
-  | inr apart ↦ ap is_some (get-there m k v q apart)
-]
+keys-written m k v there q = grind (arith, nat_tests, get-here, get-there)
 
 -- the post of an entry
 abbrev pub post_of : Bool → Entry → Post

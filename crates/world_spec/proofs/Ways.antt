@@ -1,18 +1,18 @@
 -- That the way of now is turned, and which changes keep the ways of which keys.
-use Rattle.std.specs.Prelude.{◌≡◌, ℕ, ◌+◌, ◌==◌, Bool, true, false, not, ◌&&◌, length, List, Option, Some, None, slice_index_or, slice_set}
+use Rattle.std.specs.Prelude.{◌≡◌, ℕ, ◌+◌, ◌==◌, Bool, true, false, not, ◌&&◌, List, Option, Some, None, slice_index_or, slice_set}
 use Rattle.std.specs.{FinMap.{FinMap, get}, Option.{unwrap_or}, Ordering.{nat_cmp}}
 use Rattle.std.proofs.Common.{arith, refl, sym, ap, ◌∙◌, inl, inr, get_or-set_other, get_or-set_same}
-use Rattle.std.proofs.{lemmas.Bool.{cases_eq, cases_lt, cases_Bool, false≢true, Decides.{nat_tests}}, Math.Seq.{set_out}}
-use Rattle.perf_base.specs.{declared.{numbers.{CpuNo.{CpuNo}, Key.{Key}, TaskNo.{TaskNo}}, standing.Context.{Context}}, Standings.{stands_on}}
+use Rattle.std.proofs.{lemmas.Bool.{cases_lt, cases_Bool, false≢true, Decides.{nat_tests}}, Math.Seq.{set_out}}
+use Rattle.perf_base.specs.{declared.{numbers.{CpuNo.{CpuNo}, Key.{Key}, TaskNo.{TaskNo}}, standing.Context.{Context}}}
 use Rattle.perf_base.specs.declared.standing.Context.TheVariants as context
 use Rattle.perf_base.specs.declared.standing.Standing.TheVariants as standing
-use Rattle.stage_spec.specs.{declared.instance.Instance.{Instance}, Effective.{effective, is_ready}, Hardware.{Hardware}, Refusals.{holds_of}}
-use Rattle.stage_spec.specs.{Replies.{cpu_with}, Stage.{Stage, all_cpus, cpu_of, is_on_cpu, is_task, place_of, task_on}}
+use Rattle.stage_spec.specs.{declared.instance.Instance.{Instance}, Hardware.{Hardware}, Refusals.{holds_of}}
+use Rattle.stage_spec.specs.{Replies.{cpu_with}, Stage.{Stage, cpu_of, is_on_cpu, is_task, place_of, task_on}}
 use Rattle.stage_spec.proofs.Present.{find-passes}
 use Rattle.stage_laws.{specs.{Narrowing.{has_context}, Sound.{AreRunning}}, proofs.Tasks.{free-task, is_task-some}}
 use Rattle.world_spec.specs.{Value.{World, Entry, no_entry, is_live, entry_at, instance_at, standing_at, is_key}, StageOf.{stage_of}}
-use Rattle.world_spec.specs.{Kept.{post_at, is_member_of, IsKept}, Changes.{with_instance, place}, Working.{is_effective}}
-use Rattle.world_spec.specs.Ways.{is_ready_at, IsTurned, way_along, is_context_of, KeepsWay, WayLaw, TurnedLaw, OtherWaysLaw, PeriodWaysLaw, RingWaysLaw, OwnWaysLaw, StandingWaysLaw, PlaceWaysLaw, OutsideGroupLaw, OutsideContextLaw}
+use Rattle.world_spec.specs.{Kept.{post_at, is_member_of, IsKept}, Changes.{with_instance, place}}
+use Rattle.world_spec.specs.Ways.{IsTurned, way_along, is_context_of, KeepsWay, WayLaw, TurnedLaw, OtherWaysLaw, PeriodWaysLaw, RingWaysLaw, OwnWaysLaw, StandingWaysLaw, PlaceWaysLaw, OutsideGroupLaw, OutsideContextLaw}
 use Rattle.world_spec.proofs.{Keys.{key-is, is_key-same, is_key-true, once-true}, Listings.{keys-at}, Moving.{leads-parts}}
 use Rattle.world_spec.proofs.Tables.{get-there, entry-here, entry-there, entry-numbered}
 
@@ -32,19 +32,7 @@ runs-nowhere s task h none cpu = elim (cases_Bool (is_on_cpu s task cpu)) [
 ]
 
 runs-there : (s : Stage) (task : TaskNo) (p : CpuNo) → AreRunning s → cpu_of s task ≡ Some p → (cpu : CpuNo) → is_on_cpu s task cpu ≡ (p.0 == cpu.0)
-runs-there s task p h found cpu =
-    let here : is_on_cpu s task p ≡ true = find-passes (is_on_cpu s task) (all_cpus s) p found in
-    elim (cases_eq p.0 cpu.0) [
-      | inl e ↦
-          let test : (p.0 == cpu.0) ≡ true = grind (arith, nat_tests, e) in
-          ap (λ n. is_task (slice_index_or s.running n None) task) (sym e) ∙ (here ∙ sym test)
-      | inr apart ↦
-          let test : (p.0 == cpu.0) ≡ false = grind (arith, nat_tests, apart) in
-          elim (cases_Bool (is_on_cpu s task cpu)) [
-            | inr off ↦ off ∙ sym test
-            | inl on ↦ absurd (apart (h.once p cpu task (is_task-some (task_on s p) task here) (is_task-some (task_on s cpu) task on)))
-          ]
-    ]
+runs-there s task p h found cpu = grind (arith, nat_tests, find-passes, is_task-some)
 
 task-at : (s : Stage) (task : TaskNo) (o : Option CpuNo) → AreRunning s → cpu_of s task ≡ o → (cpu : CpuNo) → is_on_cpu s task cpu ≡ is_at o cpu
 task-at s task None h is cpu = runs-nowhere s task h is cpu
@@ -72,15 +60,8 @@ none-on true false c h = refl
 none-on false b c h = refl
 
 along-is : (w : World) (k : Key) (o : Option CpuNo) → ((cpu : CpuNo) → has_context (stage_of w) cpu (entry_at w k).context ≡ is_at o cpu) → IsTurned w (way_along w k o) k
-along-is w k None h = record {
-  ready = λ cpu. both-off (is_effective w k) (has_context (stage_of w) cpu (entry_at w k).context) (h cpu);
-  on = λ cpu. none-on (is_effective w k) (has_context (stage_of w) cpu (entry_at w k).context) (stands_on (standing_at w (entry_at w k).leader)) (h cpu);
-}
-along-is w k (Some p) h = record {
-  ready = λ cpu. ap (λ b. is_effective w k && b) (sym (h cpu));
-  on = λ cpu. turn-about (is_effective w k) (stands_on (standing_at w (entry_at w k).leader)) (p.0 == cpu.0)
-      ∙ ap (λ b. (is_effective w k && b) && stands_on (standing_at w (entry_at w k).leader)) (sym (h cpu));
-}
+along-is w k None h = grind (arith, nat_tests, both-off, none-on)
+along-is w k (Some p) h = grind (arith, nat_tests, turn-about)
 
 pub way-is : WayLaw
 way-is hw w k h = along-is w k (cpu_with (stage_of w) (entry_at w k).context) (context-at (stage_of w) (entry_at w k).context h.running)
@@ -98,13 +79,7 @@ pub record GoesOn (w after : World) (j : Key) : Type 0 where
 
 pub keeps-there : (w after : World) (j : Key) → GoesOn w after j
     → ((cpu : CpuNo) → has_context (stage_of after) cpu (entry_at w j).context ≡ has_context (stage_of w) cpu (entry_at w j).context) → KeepsWay w after j
-keeps-there w after j g there =
-    let led : (instance_at after (entry_at after j).leader).own ≡ (instance_at w (entry_at w j).leader).own = ap (λ l. (instance_at after l).own) g.leader ∙ g.led in
-    let stands : standing_at after (entry_at after j).leader ≡ standing_at w (entry_at w j).leader = ap (standing_at after) g.leader ∙ g.standing in
-    let here : (cpu : CpuNo) → has_context (stage_of after) cpu (entry_at after j).context ≡ has_context (stage_of w) cpu (entry_at w j).context = λ cpu.
-    ap (has_context (stage_of after) cpu) g.context ∙ there cpu in
-    let ready : (cpu : CpuNo) → is_ready_at after cpu j ≡ is_ready_at w cpu j = λ cpu i. is_ready (effective (led i) (g.own i)) && here cpu i in
-    record { ready = ready; on = λ cpu i. ready cpu i && stands_on (stands i) }
+keeps-there w after j g there = grind (arith, nat_tests)
 
 running-there : (s t : Stage) → t.running ≡ s.running → (cpu : CpuNo) (c : Context) → has_context t cpu c ≡ has_context s cpu c
 running-there s t same cpu (context.Processor p) = refl
@@ -128,12 +103,7 @@ other-ways w after k entries standings running = keeps-running w after k (record
 -- a change of one instance
 changed-entry : {X : Type 0} (f : Instance → Instance) (part : Entry → X) → ((e : Entry) → part (record e { instance = f e.instance }) ≡ part e) → (w : World) (k j : Key)
     → part (entry_at (with_instance f k w) j) ≡ part (entry_at w j)
-changed-entry f part same w k j =
-    let e : Entry = record (entry_at w k) { instance = f (instance_at w k) } in
-    elim (cases_eq j.0 k.0) [
-      | inl is ↦ ap part (entry-here w k e j is) ∙ (same (entry_at w k) ∙ ap part (sym (entry-numbered w k j is)))
-      | inr apart ↦ ap part (entry-there w k e j apart)
-    ]
+changed-entry f part same w k j = grind (arith, nat_tests, entry-here, entry-numbered, entry-there)
 
 own-goes-on : (f : Instance → Instance) → ((i : Instance) → (f i).own ≡ i.own) → (w : World) (k j : Key) → GoesOn w (with_instance f k w) j
 own-goes-on f same w k j = record {
@@ -156,10 +126,7 @@ ring-ways w k ring owner j =
 
 -- an own state, in another group
 led-apart : (hw : Hardware) (w : World) (j k : Key) → IsKept hw w → is_live w j ≡ true → ((entry_at w j).leader.0 ≡ (entry_at w k).leader.0 → ⊥) → (entry_at w j).leader.0 ≡ k.0 → ⊥
-led-apart hw w j k h live apart e =
-    let l : Key = (entry_at w j).leader in
-    let own : is_key l (entry_at w l).leader ≡ true = (leads-parts (is_live w l) (is_key l (entry_at w l).leader) (h.grouped.led j live)).1 in
-    apart (sym (is_key-true l (entry_at w l).leader own) ∙ ap (λ x. (entry_at w x).leader.0) (key-is l k e))
+led-apart hw w j k h live apart e = grind (arith, nat_tests, leads-parts, is_key-true, key-is)
 
 pub own-ways : OwnWaysLaw
 own-ways hw w k o j h live apart =
@@ -189,21 +156,12 @@ placed-running w cpu (Some task) = refl
 
 set-there : (running : List (Option TaskNo)) (cpu : ℕ) (to : Option TaskNo) (task : TaskNo) → is_task (slice_index_or running cpu None) task ≡ false → is_task to task ≡ false → (other : ℕ)
     → is_task (slice_index_or (slice_set running cpu to) other None) task ≡ is_task (slice_index_or running other None) task
-set-there running cpu to task was will other = elim (cases_eq other cpu) [
-  | inr apart ↦ ap (λ o. is_task o task) (get_or-set_other running cpu other to None apart)
-  | inl e ↦ elim (cases_lt cpu (length running)) [
-    | inl within ↦
-        ap (λ n. is_task (slice_index_or (slice_set running cpu to) n None) task) e ∙ (ap (λ o. is_task o task) (get_or-set_same running cpu to None within)
-        ∙ (will ∙ (sym was ∙ ap (λ n. is_task (slice_index_or running n None) task) (sym e))))
-    | inr past ↦ ap (λ r. is_task (slice_index_or r other None) task) (set_out running cpu to past)
-  ]
-]
+set-there running cpu to task was will other = grind (arith, nat_tests, get_or-set_other, cases_lt, get_or-set_same, set_out)
 
 placed-there : (w : World) (cpu : CpuNo) (to : Option TaskNo) (c : Context) → is_context_of (task_on (stage_of w) cpu) c ≡ false → is_context_of to c ≡ false → (other : CpuNo)
     → has_context (stage_of (place cpu to w)) other c ≡ has_context (stage_of w) other c
 placed-there w cpu to (context.Processor p) was will other = refl
-placed-there w cpu to (context.Task task) was will other =
-    ap (λ r. is_task (slice_index_or r other.0 None) task) (placed-running w cpu to) ∙ set-there w.quiet.running cpu.0 to task was will other.0
+placed-there w cpu to (context.Task task) was will other = grind (arith, nat_tests, placed-running, set-there)
 
 placed-on : (w : World) (cpu : CpuNo) (to : Option TaskNo) (j : Key) → GoesOn w (place cpu to w) j
 placed-on w cpu None j = record { leader = refl; context = refl; own = refl; led = refl; standing = refl }
@@ -220,18 +178,10 @@ outside-group hw w leader j h live none e =
 
 off-context : (task : TaskNo) (c : Context) → (place_of c == 8 + task.0) ≡ false → is_context_of (Some task) c ≡ false
 off-context task (context.Processor cpu) off = refl
-off-context task (context.Task other) off = elim (cases_Bool (task.0 == other.0)) [
-  | inr apart ↦ apart
-  | inl same ↦
-      let e : 8 + other.0 ≡ 8 + task.0 = (let is : task.0 ≡ other.0 = grind (arith, nat_tests, same) in omega (arith, is)) in
-      let on : (8 + other.0 == 8 + task.0) ≡ true = grind (arith, nat_tests, e) in
-      absurd (false≢true (sym off ∙ on))
-]
+off-context task (context.Task other) off = grind (arith, nat_tests, false≢true)
 
 pub outside-context : OutsideContextLaw
 outside-context hw w task j h live none = off-context task (entry_at w j).context (elim (cases_Bool (place_of (entry_at w j).context == 8 + task.0)) [
   | inr off ↦ off
-  | inl there ↦
-      let its : (is_live w j && place_of (entry_at w j).context == 8 + task.0) ≡ true = ap (λ b. b && place_of (entry_at w j).context == 8 + task.0) live ∙ there in
-      absurd (omega (arith, none, keys-at hw w h j (8 + task.0), once-true (is_live w j && place_of (entry_at w j).context == 8 + task.0) its))
+  | inl there ↦ grind (arith, nat_tests, there, keys-at, once-true)
 ])

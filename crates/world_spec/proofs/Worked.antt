@@ -170,13 +170,9 @@ stands-rescheduled = record {
   settled = subst (IsSettled machine processor) (sym is-stage) settled;
   judged = record {
     standings = λ k lead there. elim (cases_eq k.0 0) [
-      | inl e ↦
-          subst (λ q. standing_at world q ≡ standing_of machine (stage_of world) processor (group_at world q)) (sym (key-is k (key 0) e))
-          (first-stands ∙ sym ((λ i. standing_of machine (is-stage i) processor (first-group i)) ∙ first-on))
+      | inl e ↦ grind (arith, world, machine, processor, key-is, key, e, first-stands, is-stage, first-group, first-on)
       | inr not_first ↦ elim (cases_eq k.0 1) [
-        | inl e ↦
-            subst (λ q. standing_at world q ≡ standing_of machine (stage_of world) processor (group_at world q)) (sym (key-is k (key 1) e))
-            (second-stands ∙ sym ((λ i. standing_of machine (is-stage i) processor (second-group i)) ∙ second-refused))
+        | inl e ↦ grind (arith, world, machine, processor, key-is, key, e, second-stands, is-stage, second-group, second-refused)
         | inr not_second ↦ absurd (false≢true (sym (ap (λ b. b && is_key k (entry_at world k).leader) (no-other k not_first not_second)) ∙ lead))
       ]
     ];

@@ -4,7 +4,7 @@ use Rattle.std.proofs.{Common.{arith, refl, sym, ap, ◌∙◌, inl, inr, append
 use Rattle.std.proofs.lemmas.List.{map-append, Elements.{filter-append}}
 use Rattle.perf_base.specs.{declared.{numbers.{CpuNo.{CpuNo}, Key.{Key}}, standing.Standing.{Standing}}, Standings.{stands_on}}
 use Rattle.perf_base.specs.declared.standing.Standing.TheVariants as standing
-use Rattle.stage_spec.specs.{declared.instance.Instance.{Instance}, Effective.{effective, is_ready, ready_members}, Hardware.{Hardware}}
+use Rattle.stage_spec.specs.{declared.instance.Instance.{Instance}, Effective.{is_ready, ready_members}, Hardware.{Hardware}}
 use Rattle.stage_spec.specs.{Stage.{Group, members_of}, Verdict.{Judged, is_eligible, passes, verdicts, groups_on, standing_among}}
 use Rattle.stage_laws.proofs.{Counts.{count-cons, count-append, count-filter}, Images.{filter-map}}
 use Rattle.world_spec.specs.{Value.{World, entry_at, instance_at, standing_at, is_key, times}, StageOf.{group_at, stage_of}}
@@ -21,8 +21,7 @@ flat-within : (w : World) (f : Key → List Instance) (g : Key → List Key) (ke
 flat-within w f g [] h = refl
 flat-within w f g (q ∷ keys) h =
     let first : f q ≡ map (instance_at w) (g q) = h q (omega (arith, times-cons q q keys, once-true (is_key q q) (is_key-same q q refl))) in
-    ap (λ is. is ++ flat_map f keys) first ∙ (ap (λ is. map (instance_at w) (g q) ++ is) (flat-within w f g keys (λ j some. h j (omega (arith, some, times-cons j q keys))))
-    ∙ sym (map-append (instance_at w) (g q) (flat_map g keys)))
+    grind (arith, nat_tests, first, times-cons, map-append, flat-within w f g keys (λ j some. h j (omega (arith, some, times-cons j q keys))))
 
 flat-of_map : {X : Type 0} (f : X → List Instance) (g : Key → X) (keys : List Key) → flat_map f (map g keys) ≡ flat_map (λ q. f (g q)) keys
 flat-of_map f g [] = refl
@@ -30,9 +29,7 @@ flat-of_map f g (q ∷ keys) = ap (λ is. f (g q) ++ is) (flat-of_map f g keys)
 
 -- those that are ready
 ready-of : (hw : Hardware) (w : World) → IsKept hw w → (q : Key) → leads (post_at w) q ≡ true → ready_members (group_at w q) ≡ map (instance_at w) (effective_in w q)
-ready-of hw w h q lead =
-    let test : Instance → Bool = λ i. is_ready (effective (instance_at w q).own i.own) in
-    ap (filter test) (group-members hw w q h lead) ∙ filter-map test (λ k. test (instance_at w k)) (instance_at w) (λ k. refl) (entry_at w q).members
+ready-of hw w h q lead = grind (arith, nat_tests, group-members, filter-map)
 
 pub ready-is : ReadyLaw
 ready-is hw w cpu h =
@@ -60,14 +57,7 @@ chosen-groups all pre (j ∷ rest) is once =
     let mine : standing_among all j.group ≡ j.standing = ap (λ js. standing_among js j.group) is ∙ stands-by pre rest j before in
     let others : filter (on-test all) (map (λ x. x.group) rest) ≡ groups_on rest =
     chosen-groups all (pre ++ j ∷ []) rest (is ∙ sym (append_assoc pre (j ∷ []) rest)) once in
-    elim (cases_Bool (stands_on j.standing)) [
-      | inl on ↦
-          filter-first (on-test all) j.group (map (λ x. x.group) rest) true (ap stands_on mine ∙ on)
-          ∙ (ap (λ gs. j.group ∷ gs) others ∙ ap (map (λ x. x.group)) (sym (filter-first (λ x. stands_on x.standing) j rest true on)))
-      | inr off ↦
-          filter-first (on-test all) j.group (map (λ x. x.group) rest) false (ap stands_on mine ∙ off)
-          ∙ (others ∙ ap (map (λ x. x.group)) (sym (filter-first (λ x. stands_on x.standing) j rest false off)))
-    ]
+    grind (arith, nat_tests, filter-first, on-test, mine, others)
 
 -- a list filtered by a test that asks more than another
 filter-more : (f : Key → Group) (p e : Group → Bool) (keys : List Key) → ((q : Key) → 1 ≤ times q keys → e (f q) ≡ false → p (f q) ≡ false) → filter p (map f keys) ≡ filter p (filter e (map f keys))
@@ -75,11 +65,8 @@ filter-more f p e [] h = refl
 filter-more f p e (q ∷ keys) h =
     let rest : filter p (map f keys) ≡ filter p (filter e (map f keys)) = filter-more f p e keys (λ j some. h j (omega (arith, some, times-cons j q keys))) in
     elim (cases_Bool (e (f q))) [
-      | inl holds ↦
-          ap (λ gs. cond (p (f q)) (f q ∷ gs) gs) rest ∙ ap (filter p) (sym (filter-first e (f q) (map f keys) true holds))
-      | inr fails ↦
-          let off : p (f q) ≡ false = h q (omega (arith, times-cons q q keys, once-true (is_key q q) (is_key-same q q refl))) fails in
-          filter-first p (f q) (map f keys) false off ∙ (rest ∙ ap (filter p) (sym (filter-first e (f q) (map f keys) false fails)))
+      | inl holds ↦ grind (arith, nat_tests, filter-first, holds)
+      | inr fails ↦ grind (arith, times-cons q q keys, once-true (is_key q q) (is_key-same q q refl))
     ]
 
 pub filter-same : (p q : Key → Bool) (keys : List Key) → ((k : Key) → 1 ≤ times k keys → p k ≡ q k) → filter p keys ≡ filter q keys
@@ -115,14 +102,7 @@ count-both w test id (q ∷ keys) =
             count-cons (λ k. test (group_at w k) && (instance_at w k).id == id) q keys,
             ap (λ b. once_if (b && (instance_at w q).id == id)) holds,
           ))
-      | inr fails ↦
-          ap (count_by (is_led id)) (filter-first test (group_at w q) (map (group_at w) keys) false fails)
-          ∙ omega (
-            arith,
-            rest,
-            count-cons (λ k. test (group_at w k) && (instance_at w k).id == id) q keys,
-            ap (λ b. once_if (b && (instance_at w q).id == id)) fails,
-          )
+      | inr fails ↦ grind (arith, nat_tests, is_led, filter-first, fails, count-cons)
     ]
 
 count-judged : (hw : Hardware) (w : World) (cpu : CpuNo) (id : ℕ)
@@ -135,8 +115,7 @@ judged-once hw w cpu h id =
     let keys : List Key = leaders_by_pass w cpu in
     let lead : (q : Key) → 1 ≤ times q keys → leads (post_at w) q ≡ true = reached-leading hw w h cpu in
     let test : Key → Bool = λ q. is_eligible hw cpu (group_at w q) && (instance_at w q).id == id in
-    let with_id : (q : Key) → test q ≡ true → (instance_at w q).id ≡ id = λ q passes.
-    number_true (instance_at w q).id id (leads-parts (is_eligible hw cpu (group_at w q)) ((instance_at w q).id == id) passes).1 in
+    let with_id : (q : Key) → test q ≡ true → (instance_at w q).id ≡ id = grind (arith, nat_tests, number_true, leads-parts) in
     omega (
       arith,
       count-judged hw w cpu id,

@@ -28,7 +28,5 @@ length_all_but k (q ∷ keys) = elim (cases_Bool (is_key k q)) [
   | inl e ↦
       let gone : all_but k (q ∷ keys) ≡ all_but k keys = ap {B = List Key} (λ b. cond (not b) (q ∷ all_but k keys) (all_but k keys)) e in
       omega (arith, ap length gone, times-cons k q keys, once-true (is_key k q) e, length_all_but k keys)
-  | inr e ↦
-      let stays : all_but k (q ∷ keys) ≡ q ∷ all_but k keys = ap {B = List Key} (λ b. cond (not b) (q ∷ all_but k keys) (all_but k keys)) e in
-      omega (arith, ap length stays, times-cons k q keys, once-false (is_key k q) e, length_all_but k keys)
+  | inr e ↦ grind (arith, e, times-cons, once-false, length_all_but k keys)
 ]

@@ -8,10 +8,7 @@ use Rattle.perf_base.specs.declared.numbers.{EventNo.{EventNo}, RingNo.{RingNo}}
 use Rattle.world_tables.specs.Marks.{AreMarks}
 
 no-match : (n : ℕ) (ns : List ℕ) (k d : ℕ) → list_any (λ m. m == n) ns ≡ false → k < length ns → slice_index_or ns k d ≡ n → ⊥
-no-match n ns k d none low same =
-    let here : (slice_index_or ns k d == n) ≡ true = grind (arith, nat_tests, same) in
-    let any : list_any (λ m. m == n) ns ≡ true = list_any_at (λ m. m == n) ns k d low here in
-    absurd (let bad : true ≡ false = sym any ∙ none in cc)
+no-match n ns k d none low same = grind (arith, nat_tests, list_any_at)
 
 more : (ns : List ℕ) (n room : ℕ) → AreMarks ns room → n < 256 → list_any (λ m. m == n) ns ≡ false → AreMarks (ns ++ n ∷ []) room
 more ns n room h low none = record {

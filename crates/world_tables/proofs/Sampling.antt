@@ -88,36 +88,13 @@ one-more : (b : Bool) (counts : List ℕ) (at place : ℕ) → length counts ≡
     → slice_index_or (if b then slice_set counts at (slice_index_or counts at 0 + 1) else counts) place 0 ≡ slice_index_or counts place 0 + once_if (at == place && b)
 one-more false counts at place size low = omega (arith, no-and (at == place))
 one-more true counts at place size low =
-    let new : ℕ = slice_index_or counts at 0 + 1 in
-    elim (cases_eq place at) [
-      | inl same ↦
-          omega (
-            arith,
-            ap (λ (n : ℕ). slice_index_or (slice_set counts at new) n 0) same,
-            ap (λ (n : ℕ). slice_index_or counts n 0) same,
-            get_or-set_same counts at new 0 (omega (arith, size, low, same)),
-            and-once (at == place) 1 (once-true (at == place) (same-place at place same)),
-          )
-      | inr apart ↦ omega (arith, get_or-set_other counts at place new 0 apart, and-once (at == place) 0 (once-false (at == place) (other-place at place apart)))
-    ]
+    grind (arith, nat_tests, get_or-set_same, and-once, once-true, same-place, get_or-set_other, once-false, other-place)
 
 one-less : (b : Bool) (counts : List ℕ) (at place : ℕ) → length counts ≡ 72 → place < 72 → (b ≡ true → at < 72 → 1 ≤ slice_index_or counts at 0)
     → slice_index_or (if b then slice_set counts at (slice_index_or counts at 0 - 1) else counts) place 0 + once_if (at == place && b) ≡ slice_index_or counts place 0
 one-less false counts at place size low some = omega (arith, no-and (at == place))
 one-less true counts at place size low some =
-    let new : ℕ = slice_index_or counts at 0 - 1 in
-    elim (cases_eq place at) [
-      | inl same ↦
-          omega (
-            arith,
-            ap (λ (n : ℕ). slice_index_or (slice_set counts at new) n 0) same,
-            ap (λ (n : ℕ). slice_index_or counts n 0) same,
-            get_or-set_same counts at new 0 (omega (arith, size, low, same)),
-            some refl (omega (arith, low, same)),
-            and-once (at == place) 1 (once-true (at == place) (same-place at place same)),
-          )
-      | inr apart ↦ omega (arith, get_or-set_other counts at place new 0 apart, and-once (at == place) 0 (once-false (at == place) (other-place at place apart)))
-    ]
+    grind (arith, nat_tests, get_or-set_same, and-once, once-true, same-place, get_or-set_other, once-false, other-place)
 
 resized : (b : Bool) (counts : List ℕ) (at n : ℕ) → length (if b then slice_set counts at n else counts) ≡ length counts
 resized true counts at n = length-set counts at n
@@ -177,10 +154,7 @@ module _ (counts : List ℕ) (s after : Slab Kept) (k : ℕ) (e : Kept) (counted
 
 -- whether it samples, by its period
 pub sampler-is : (i : Instance) → i.attr.period ≢ 0 → is_sampler i ≡ true
-sampler-is i some = elim (cases_Bool (is_sampler i)) [
-  | inl is ↦ is
-  | inr not ↦ absurd (some (grind (arith, nat_tests, not)))
-]
+sampler-is i some = grind (arith, nat_tests)
 
 sampler-some : (i : Instance) → is_sampler i ≡ true → i.attr.period ≢ 0
 sampler-some i is none = let zero : (i.attr.period == 0) ≡ true = grind (arith, nat_tests, none) in false≢true (sym (ap not zero) ∙ is)
@@ -193,8 +167,7 @@ sampler-kept place (Some e) is =
     (e, refl, grind (arith, nat_tests, both.0), sampler-some e.entry.instance both.1)
 
 pub sampler-at : (place : ℕ) (e : Kept) → place_of e.entry.context ≡ place → e.entry.instance.attr.period ≢ 0 → samples_at place (Some e) ≡ true
-sampler-at place e here some =
-    ap (λ b. b && is_sampler e.entry.instance) (same-place (place_of e.entry.context) place (sym here)) ∙ sampler-is e.entry.instance some
+sampler-at place e here some = grind (arith, nat_tests, same-place, sampler-is)
 
 pub sampler-at-same : (place : ℕ) (r : Kept) (i : Instance) → r.entry.instance.attr.period ≢ 0 → i.attr.period ≢ 0
     → (place_of r.entry.context == place && is_sampler i) ≡ samples_at place (Some r)

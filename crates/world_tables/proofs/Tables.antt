@@ -1,5 +1,5 @@
 -- The table after what it keeps at a key changed, and after a line of work on a processor.
-use Rattle.std.specs.Prelude.{◌≡◌, ◌≢◌, ◌↔◌, ℕ, ◌+◌, ◌^◌, ◌<◌, ◌≤◌, ◌==◌, Bool, true, false, if◌then◌else◌, List, [], ◌∷◌, length, map, replicate, slice_index_or, slice_set, Option, Some, None, is_some}
+use Rattle.std.specs.Prelude.{◌≡◌, ◌≢◌, ◌↔◌, ℕ, ◌+◌, ◌^◌, ◌<◌, ◌≤◌, true, List, [], ◌∷◌, length, map, replicate, slice_index_or, slice_set, Option, Some, None, is_some}
 use Rattle.std.{specs.FinMap.{contains_key}, proofs.{Common.{arith, refl, sym, ap, subst, ◌∙◌, inl, inr, zero, suc}, lemmas.Bool.{cases_eq}}}
 use Rattle.std.proofs.lemmas.{Bool.Decides.{nat_tests}, List.{get_or_default, get_or-set_same, get_or-set_other, length-map}}
 use Rattle.slab.{specs.Slab.{Slab, Updates, with_value, get as slab_get}, proofs.SlabLemmas.{Updates-with_value}}
@@ -24,9 +24,7 @@ table-put ms idle counts now s after k new table up room tally counted = record 
   idle = table.idle;
   tallies = λ q e at.
       elim (cases_eq q k) [
-        | inl same ↦
-            let is : new ≡ e = let both : Some new ≡ Some e = sym up.changed ∙ (ap (slab_get after) (sym same) ∙ at) in cc in
-            subst (λ x. IsTally (meter_at ms x.tally.cpu) x.entry.instance.attr x.tally) is tally
+        | inl same ↦ grind (arith, nat_tests, same)
         | inr apart ↦ table.tallies q e (sym (up.others q apart) ∙ at)
       ];
 }
@@ -78,25 +76,19 @@ some-of None bad = absurd (cc)
 some-of (Some e) some = (e, refl)
 
 given-here : (cpu : CpuNo) (w : Work) (u : Way) (a : Attr) → u.cpu.0 ≡ cpu.0 → given w u a ≡ given_on cpu w u a
-given-here cpu w u a same =
-    let here : (u.cpu.0 == cpu.0) ≡ true = grind (arith, nat_tests, same) in
-    sym (ap (λ (b : Bool). if b then given w u a else no_sums) here)
+given-here cpu w u a same = grind (arith, nat_tests)
 
 given-elsewhere : (cpu : CpuNo) (w : Work) (u : Way) (a : Attr) → u.cpu.0 ≢ cpu.0 → no_sums ≡ given_on cpu w u a
-given-elsewhere cpu w u a other =
-    let there : (u.cpu.0 == cpu.0) ≡ false = grind (arith, nat_tests, other) in
-    sym (ap (λ (b : Bool). if b then given w u a else no_sums) there)
+given-elsewhere cpu w u a other = grind (arith, nat_tests)
 
 -- what the tables have of a processor is its meter
 pub clock-is : (ms : List Metered) (s : Slab Kept) (t : Columns) (cpu : ℕ) (m : Metered) → columns ms s ≡ t → m ≡ slice_index_or ms cpu m → cpu < length t.clocks
     → slice_index_or t.clocks cpu 0 ≡ m.clock
-clock-is ms s t cpu m view at low =
-    part-at (λ x. x.clock) ms cpu m t.clocks 0 (ap (λ x. x.clocks) view) at (omega (arith, low, ap (λ x. length x.clocks) view, length-map ms (λ x. x.clock)))
+clock-is ms s t cpu m view at low = grind (arith, nat_tests, part-at, length-map)
 
 pub totals-are : (ms : List Metered) (s : Slab Kept) (t : Columns) (cpu : ℕ) (m : Metered) → columns ms s ≡ t → m ≡ slice_index_or ms cpu m → cpu < length t.clocks
     → slice_index_or t.totals cpu no_totals ≡ m.totals
-totals-are ms s t cpu m view at low =
-    part-at (λ x. x.totals) ms cpu m t.totals no_totals (ap (λ x. x.totals) view) at (omega (arith, low, ap (λ x. length x.clocks) view, length-map ms (λ x. x.clock)))
+totals-are ms s t cpu m view at low = grind (arith, nat_tests, part-at, length-map)
 
 -- an account that was turned shows what it did, and one that was reset no count
 module _ (ms : List Metered) (r : Kept) (from to : Metered) (w : Way) (from_is : from ≡ meter_at ms r.tally.cpu)
@@ -133,10 +125,7 @@ module _ (ms : List Metered) (r : Kept) (m : Metered) (m_is : m ≡ meter_at ms 
 -- the meter that is found for a processor
 pub meter-found : (ms seen : List Metered) (idle m : Metered) (found cpu : CpuNo) → seen ≡ ms → idle ≡ no_meter → m ≡ slice_index_or seen found.0 idle
     → found ≡ cpu → m ≡ meter_at ms cpu
-meter-found ms seen idle m found cpu all none is same =
-    is
-    ∙ (ap (λ (x : List Metered). slice_index_or x found.0 idle) all
-    ∙ (ap (λ d. slice_index_or ms found.0 d) none ∙ ap (λ (x : CpuNo). meter_at ms x) same))
+meter-found ms seen idle m found cpu all none is same = grind (arith, nat_tests)
 
 -- no events, and processors that never worked
 clocks-none : (n : ℕ) → map (λ (m : Metered). m.clock) (replicate n no_meter) ≡ replicate n 0
@@ -148,10 +137,7 @@ totals-none zero = refl
 totals-none (suc n) = ap (λ (l : List Totals). no_totals ∷ l) (totals-none n)
 
 pub columns-none : (ms : List Metered) (s : Slab Kept) (n : ℕ) → ms ≡ replicate n no_meter → s.slots ≡ [] → columns ms s ≡ no_columns n
-columns-none ms s n none empty =
-    ap (λ (l : List (Option Kept)). columns ms (record s { slots = l })) empty
-    ∙ (ap (λ (x : List Metered). columns x (record s { slots = [] })) none
-    ∙ (λ i. record (no_columns n) { clocks = clocks-none n i; totals = totals-none n i }))
+columns-none ms s n none empty = grind (arith, nat_tests, clocks-none, totals-none)
 
 module _ (ms : List Metered) (idle : Metered) (counts : List ℕ) (s : Slab Kept) (t : Columns) (cpu : CpuNo) (w : Work) (m : Metered) (view : columns ms s ≡ t) (table : IsTable ms idle counts s)
     (at : m ≡ slice_index_or ms cpu.0 m) (low : cpu.0 < length t.clocks)
@@ -268,8 +254,6 @@ samplers-are ms idle counts s t c view table low = (
       let k : Key = some.0 in
       let found = some-of (slab_get s k.0) (there-row ms s t k view some.1) in
       let here : row_in t k ≡ row_by (meter_at ms found.0.tally.cpu) found.0 = row-is ms s t k found.0 view found.1 in
-      let is : samples_at (place_of c) (slab_get s k.0) ≡ true =
-      ap (samples_at (place_of c)) found.1
-      ∙ sampler-at (place_of c) found.0 (ap (λ x. place_of x.entry.context) (sym here) ∙ some.2) (subst (λ x. x.entry.instance.attr.period ≢ 0) here some.3) in
+      let is : samples_at (place_of c) (slab_get s k.0) ≡ true = grind (arith, nat_tests, sampler-at) in
       omega (arith, table.samplers.each (place_of c) low, count-there (samples_at (place_of c)) refl s.slots k.0 is),
 )

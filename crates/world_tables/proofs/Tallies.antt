@@ -48,12 +48,8 @@ unless-kernel false false u k h = omega arith
 hard-gains : (m : Mode) (t : Totals) (hits : List ℕ) (a : Attr) (n : ℕ) → length t.user ≡ 16 → length t.kernel ≡ 16 → length hits ≡ 16
     → (if excludes_user a then 0 else slice_index (add_hits m hits t).user n) + (if excludes_kernel a then 0 else slice_index (add_hits m hits t).kernel n)
     ≡ (if excludes_user a then 0 else slice_index t.user n) + (if excludes_kernel a then 0 else slice_index t.kernel n) + (if excludes m a then 0 else slice_index hits n)
-hard-gains mode.User t hits a n user kernel kinds =
-    ap (λ (x : ℕ). (if excludes_user a then 0 else x) + (if excludes_kernel a then 0 else slice_index t.kernel n)) (add_each-at t.user hits (kinds ∙ sym user) n)
-    ∙ unless-user (excludes_user a) (excludes_kernel a) (slice_index t.user n) (slice_index t.kernel n) (slice_index hits n)
-hard-gains mode.Kernel t hits a n user kernel kinds =
-    ap (λ (x : ℕ). (if excludes_user a then 0 else slice_index t.user n) + (if excludes_kernel a then 0 else x)) (add_each-at t.kernel hits (kinds ∙ sym kernel) n)
-    ∙ unless-kernel (excludes_user a) (excludes_kernel a) (slice_index t.user n) (slice_index t.kernel n) (slice_index hits n)
+hard-gains mode.User t hits a n user kernel kinds = grind (arith, nat_tests, ℕ, slice_index, add_each-at, unless-user)
+hard-gains mode.Kernel t hits a n user kernel kinds = grind (arith, nat_tests, ℕ, slice_index, add_each-at, unless-kernel)
 
 kind-gains : (k : Kind) (clock : ℕ) (t : Totals) (w : Work) (a : Attr) → length t.user ≡ 16 → length t.kernel ≡ 16 → length w.hits ≡ 16
     → total_by (clock + w.length) (add_hits w.mode w.hits t) a k ≡ total_by clock t a k + counted_by w a k
@@ -297,21 +293,8 @@ module _ (m : Metered) (a : Attr) (t : Tallied) (p : ℕ) (h : IsTally m a t) (s
 
 -- an instance that is just born
 pub tally-fresh : (m : Metered) (a : Attr) → IsTally m a (fresh_tally a.period)
-tally-fresh m a = record {
-  begun = λ e. absurd (cc);
-  enabled = omega arith;
-  on_is_ready = λ e. absurd (cc);
-  period = refl;
-  along = refl;
-  followed = λ e. absurd (cc);
-  counted = omega arith;
-  whole = λ e. e;
-}
+tally-fresh m a = grind (arith, nat_tests)
 
 -- more of a sum than of nothing
 pub plus-none : (s : Sums) → s ≡ plus s no_sums
-plus-none s = λ i. record {
-  count = (let e : s.count ≡ s.count + 0 = omega arith in e) i;
-  enabled = (let e : s.enabled ≡ s.enabled + 0 = omega arith in e) i;
-  running = (let e : s.running ≡ s.running + 0 = omega arith in e) i;
-}
+plus-none s = grind (arith, nat_tests)

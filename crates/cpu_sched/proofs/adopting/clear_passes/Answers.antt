@@ -1,4 +1,4 @@
-use Rattle.std.proofs.Common.{arith, ◌≡◌, ◌∙◌, ◌++◌, length, ap}
+use Rattle.std.proofs.Common.{arith, ◌∙◌, ◌++◌, length, ap}
 use Rattle.perf_base.specs.declared.numbers.CpuNo.{CpuNo}
 use Rattle.world_spec.specs.Value.{World}
 use Rattle.cpu_sched.specs.Adopting.{with_standings, out_standings}
