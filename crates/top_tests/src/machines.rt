@@ -1,0 +1,311 @@
+//! A machine that is called by one pass, by two threads, and by two threads whose first calls meet; and which calls may
+//! be made.
+
+ghost use Rattle.std.specs.Prelude.{◌≡◌, [], IfOk};
+ghost use Rattle.shared_object.specs.Histories.{BelongsTo};
+ghost use Rattle.perf_share.specs.Calls.{Fits};
+
+use crate::signal::Signal;
+use perf_base::{
+    Attr, AttrFlags, CpuLine, CpuNo, CpuSel, EventNo, Kind, Mode, Name, NoMemory, Reply, RingNo,
+    Script, TaskNo, TaskSel, ToolLine, Words, Work,
+};
+use perf_share::{Answer, Call, Pass, Share, meet};
+use std::alloc::Global;
+use std::process::Abort;
+use std::sync::Wait;
+use std::test::Fail;
+use std::thread::join;
+
+// One processor with one counter, which counts cycles.
+fn one_counter(alloc: Global) -> Result<Script, NoMemory>
+    ensures { IfOk result (λ script. script.rings ≡ []) }
+{
+    let mut script = Script::new(alloc, 1);
+    script.add_pmu(1, 1)?;
+    script.add_kind(Name::from_slice(b"cycles"), 0, 1)?;
+    Ok(script)
+}
+
+// Two processors with a counter each.
+fn two_processors(alloc: Global) -> Result<Script, NoMemory>
+    ensures { IfOk result (λ script. script.rings ≡ []) }
+{
+    let mut script = Script::new(alloc, 2);
+    script.add_pmu(1, 3)?;
+    Ok(script)
+}
+
+// The shared machine of a script, and its first pass.
+fn share_of(rt: &impl Abort, alloc: Global, script: &Script) -> Result<(Share, Pass), Fail>
+    requires { script.now.rings ≡ [] }
+    ensures { IfOk result (λ r. BelongsTo r.1 r.0) }
+{
+    assert!(rt; script.is_covered());
+    let made = Share::new(alloc, script);
+    Ok(made.ok().ok_or("memory")?)
+}
+
+// Cycles on processor 0, with both times in each read.
+fn open(slot: u16) -> Call {
+    Call::Tool(ToolLine::Open {
+        slot: EventNo(slot),
+        attr: Attr {
+            kind: Kind::Hard(0),
+            task: TaskSel::All,
+            cpu: CpuSel::One(CpuNo(0)),
+            period: 0,
+            sample: 0,
+            format: 3,
+            flags: AttrFlags(0),
+        },
+        leader: None,
+    })
+}
+
+fn read(slot: u16) -> Call {
+    Call::Tool(ToolLine::Read {
+        event: EventNo(slot),
+        size: None,
+    })
+}
+
+// A stretch of work of a processor, in which cycles occur so often.
+fn work(cpu: u8, length: u64, cycles: u64) -> Call {
+    Call::Cpu(
+        CpuNo(cpu),
+        CpuLine::Work(Work {
+            length,
+            mode: Mode::User,
+            ip: 0,
+            hits: [cycles, 0, 0, 0, 0, 0, 0, 0, 0, 0, 0, 0, 0, 0, 0, 0],
+        }),
+    )
+}
+
+// Tries a call that fits.
+fn try_fitting(rt: &impl Abort, share: &Share, pass: &mut Pass, call: &Call) -> Answer<Reply>
+    requires { BelongsTo pass.old share.now }
+    ensures { BelongsTo pass.new share.now }
+{
+    assert!(rt; share.fits(call));
+    share.try_call(pass, call)
+}
+
+#[test]
+fn one_pass_opens_works_and_reads(rt: HostRuntime) -> Result<(), Fail> {
+    let alloc: Global = rt.alloc();
+    let script = one_counter(alloc).ok().ok_or("memory")?;
+    let (share, mut pass) = share_of(&rt, alloc, &script)?;
+    let opened = try_fitting(&rt, &share, &mut pass, &open(0));
+    let worked = try_fitting(&rt, &share, &mut pass, &work(0, 100, 500));
+    let told = try_fitting(&rt, &share, &mut pass, &read(0));
+    assert_eq!(rt; opened, Answer::Done(Reply::Ok));
+    assert_eq!(rt; worked, Answer::Done(Reply::Ok));
+    let words = Words::from_slice(&[500, 100, 100]);
+    assert_eq!(rt; told, Answer::Done(Reply::Read(words)));
+    let history = share.close(pass).ok().ok_or("a call is under way")?;
+    assert_eq!(rt; history.len(), 3);
+    let (call, reply) = history.get(1);
+    assert_eq!(rt; *call, work(0, 100, 500));
+    assert_eq!(rt; *reply, Reply::Ok);
+    Ok(())
+}
+
+#[test]
+fn which_calls_fit(rt: HostRuntime) -> Result<(), Fail> {
+    let alloc: Global = rt.alloc();
+    let script = one_counter(alloc).ok().ok_or("memory")?;
+    let (share, _pass) = share_of(&rt, alloc, &script)?;
+    let event = EventNo(0);
+    let table = [
+        (open(255), true),
+        (open(256), false),
+        (work(0, 1_000_000_000, 1_000_000_000), true),
+        (work(0, 1_000_000_001, 0), false),
+        (work(0, 1, 1_000_000_001), false),
+        (work(1, 1, 0), false),
+        (
+            Call::Tool(ToolLine::Map {
+                event,
+                ring: RingNo(0),
+            }),
+            false,
+        ),
+        (
+            Call::Tool(ToolLine::Output {
+                event,
+                target: EventNo(1),
+            }),
+            true,
+        ),
+        (Call::Tool(ToolLine::Seats { cpu: CpuNo(1) }), false),
+        (Call::Cpu(CpuNo(0), CpuLine::Fork(TaskNo(63))), true),
+        (
+            Call::Cpu(CpuNo(0), CpuLine::Switch(Some(TaskNo(64)))),
+            false,
+        ),
+    ];
+    for (call, fits) in &table {
+        assert_eq!(rt; share.fits(call), *fits);
+    }
+    Ok(())
+}
+
+// Makes a call so many times.
+fn call_often(rt: &impl Wait, share: &Share, mut pass: Pass, call: &Call, times: u64) -> Pass
+    requires together { BelongsTo pass share.now }
+    requires fits { Fits share.now.key call.now }
+    ensures { BelongsTo result share.now }
+{
+    for _ in 0..times {
+        let _ = share.call(rt, &mut pass, call);
+    }
+    pass
+}
+
+#[test]
+fn two_threads_have_one_history(rt: HostRuntime) -> Result<(), Fail> {
+    let alloc: Global = rt.alloc();
+    let script = two_processors(alloc).ok().ok_or("memory")?;
+    let (share, mut pass) = share_of(&rt, alloc, &script)?;
+    let (left, right) = (work(0, 1, 0), work(1, 1, 0));
+    assert!(rt; share.fits(&left));
+    assert!(rt; share.fits(&right));
+    let other = pass.split(&share);
+    let (mut pass, mut other) = join(
+        &rt,
+        || call_often(&rt, &share, pass, &left, 100),
+        || call_often(&rt, &share, other, &right, 100),
+    );
+    meet(&share, &mut pass, &mut other);
+    assert_eq!(rt; share.look(&mut other), 200);
+    let history = share.close(pass).ok().ok_or("a call is under way")?;
+    assert_eq!(rt; history.len(), 200);
+    Ok(())
+}
+
+// Makes its first call when the other thread has its pass too, and says whether it met the other.
+fn call_with_other(
+    rt: &impl Wait,
+    share: &Share,
+    mut pass: Pass,
+    call: &Call,
+    own: &Signal,
+    other: &Signal,
+) -> (Pass, bool)
+    requires together { BelongsTo pass share.now }
+    requires fits { Fits share.now.key call.now }
+    ensures { BelongsTo result.0 share.now }
+{
+    own.announce();
+    let met = other.wait();
+    let _ = share.call(rt, &mut pass, call);
+    (pass, met)
+}
+
+#[test]
+fn first_calls_of_two_threads_meet(rt: HostRuntime) -> Result<(), Fail> {
+    let alloc: Global = rt.alloc();
+    let script = two_processors(alloc).ok().ok_or("memory")?;
+    let (share, mut pass) = share_of(&rt, alloc, &script)?;
+    let (left, right) = (work(0, 1, 0), work(1, 1, 0));
+    assert!(rt; share.fits(&left));
+    assert!(rt; share.fits(&right));
+    let other = pass.split(&share);
+    let (one, two) = (Signal::new(), Signal::new());
+    let ((pass, one_met), (_, two_met)) = join(
+        &rt,
+        || call_with_other(&rt, &share, pass, &left, &one, &two),
+        || call_with_other(&rt, &share, other, &right, &two, &one),
+    );
+    assert!(rt; one_met && two_met);
+    let history = share.close(pass).ok().ok_or("a call is under way")?;
+    assert_eq!(rt; history.len(), 2);
+    Ok(())
+}
+
+// What a watcher found: how often a call was under way, and whether what it read ever fell.
+#[derive(Clone, Copy, PartialEq, Eq, Debug)]
+struct Watched {
+    busy: u64,
+    fell: bool,
+}
+
+// The count that a read gave, if it gave one.
+fn count_of(answer: &Answer<Reply>) -> Option<u64> {
+    match answer {
+        Answer::Done(Reply::Read(words)) => words.as_slice().first().copied(),
+        _ => None,
+    }
+}
+
+// Reads an event so many times, and goes on at once where a call of another thread is under way.
+fn watch(share: &Share, mut pass: Pass, call: &Call, times: u64) -> (Pass, Watched)
+    requires together { BelongsTo pass share.now }
+    requires fits { Fits share.now.key call.now }
+    ensures { BelongsTo result.0 share.now }
+{
+    let mut found = Watched {
+        busy: 0,
+        fell: false,
+    };
+    let mut last = 0;
+    for _ in 0..times {
+        let answer = share.try_call(&mut pass, call);
+        if let Answer::Busy { turn: _ } = answer {
+            found.busy = found.busy.saturating_add(1);
+        }
+        if let Some(count) = count_of(&answer) {
+            found.fell = found.fell || count < last;
+            last = count;
+        }
+    }
+    (pass, found)
+}
+
+// The program of docs/SHARING.md.
+#[test]
+fn a_watcher_reads_what_a_worker_counts(rt: HostRuntime) -> Result<(), Fail> {
+    let alloc: Global = rt.alloc();
+    let script = one_counter(alloc).ok().ok_or("memory")?;
+    let (share, mut pass) = share_of(&rt, alloc, &script)?;
+    let (open, work, read) = (open(0), work(0, 100, 500), read(0));
+    assert!(rt; share.fits(&open));
+    assert!(rt; share.fits(&work));
+    assert!(rt; share.fits(&read));
+    assert_eq!(rt; share.try_call(&mut pass, &open), Answer::Done(Reply::Ok));
+    let worker = pass.split(&share);
+    let ((mut watcher, found), mut worker) = join(
+        &rt,
+        || watch(&share, pass, &read, 200),
+        || call_often(&rt, &share, worker, &work, 100),
+    );
+    assert!(rt; !found.fell);
+    meet(&share, &mut watcher, &mut worker);
+    let words = Words::from_slice(&[50_000, 10_000, 10_000]);
+    assert_eq!(rt;
+        share.call(&rt, &mut watcher, &read),
+        Answer::Done(Reply::Read(words))
+    );
+    let history = share.close(watcher).ok().ok_or("a call is under way")?;
+    // The open, the work, and each read that was not refused as busy.
+    assert_eq!(rt; Some(history.len() as u64), 302_u64.checked_sub(found.busy));
+    Ok(())
+}
+
+// A value of this type may go to another thread.
+fn crosses<T: Send>(value: T) -> T
+    ensures { result ≡ value }
+{
+    value
+}
+
+// A value of this type may be seen by several threads.
+fn is_shared<T: Sync>(_value: &T) {}
+
+// A shared machine and its passes may go to other threads.
+fn all_cross(share: Share, pass: Pass) -> (Share, Pass) {
+    is_shared(&share);
+    (crosses(share), crosses(pass))
+}

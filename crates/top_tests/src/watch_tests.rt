@@ -1,0 +1,152 @@
+//! What a watcher sees of a run.
+
+ghost use Rattle.std.specs.Prelude.{◌≡◌, ◌*◌, ◌<◌, []};
+ghost use Rattle.perf_base.specs.Weight.{weight};
+ghost use Rattle.work_account.specs.Ends.{AreTogether};
+ghost use Rattle.machine.specs.Readers.{AreReaders};
+
+use crate::planning_tests::{open, stretch};
+use crate::processor_tests::begin;
+use crate::signal::Signal;
+use perf_base::{Actor, CpuLine, CpuNo, EventNo, Name, NoMemory, Script, Sums, ToolNo};
+use perf_book::{Book, Gate, OpenGate, Watch, run_watched};
+use sample_ring::{Ins, Rings};
+use std::alloc::Global;
+use std::process::Abort;
+use std::sync::Wait;
+use std::test::Fail;
+use std::thread::Threads;
+use user_page::{Look, Page};
+
+// Holds processor 0 until the event is open; and the tool's next line, and the watcher, until the processor has worked.
+#[derive(Drop)]
+struct LooksLast {
+    opened: Signal,
+    worked: Signal,
+}
+
+impl Gate for LooksLast {
+    fn before(&self, actor: Actor, line: u32) {
+        match (actor, line) {
+            (Actor::Processor(CpuNo(0)), 0) => {
+                self.opened.wait();
+            }
+            (Actor::Tool(ToolNo(0)), 1) => {
+                self.opened.announce();
+                self.worked.wait();
+            }
+            (Actor::Processor(CpuNo(0)), 1) => self.worked.announce(),
+            (Actor::Watcher, 0) => {
+                self.worked.wait();
+            }
+            _ => {}
+        }
+    }
+}
+
+// A processor that works for 10 units of time with 500 occurrences, and ticks; and a tool that opens two events.
+fn worked_once(alloc: Global) -> Result<Script, NoMemory> {
+    let mut script = Script::new(alloc, 1);
+    script.add_pmu(2, 1)?;
+    script.add_kind(Name::from_slice(b"a"), 0, 3)?;
+    script.add_cpu_line(CpuNo(0), stretch(500))?;
+    script.add_cpu_line(CpuNo(0), CpuLine::Tick)?;
+    script.add_tool_line(ToolNo(0), open(0))?;
+    script.add_tool_line(ToolNo(0), open(1))?;
+    Ok(script)
+}
+
+// A script whose only line declares its counter.
+fn without_lines(alloc: Global) -> Result<Script, NoMemory> {
+    let mut script = Script::new(alloc, 1);
+    script.add_pmu(1, 1)?;
+    Ok(script)
+}
+
+// What is left of a run: the book, the watcher's last look, and a look behind the end.
+#[derive(Drop)]
+struct Seen {
+    book: Book,
+    look: Look,
+    last: Look,
+}
+
+// Runs a book with a watcher of event 0.
+fn watched<R: Threads + Wait + Sync, G: Gate + Sync>(
+    rt: &R,
+    alloc: Global,
+    begun: (Book, Rings, Ins),
+    looks: u32,
+    gate: &G,
+) -> Result<Seen, NoMemory>
+    requires empty { begun.0.order ≡ [] }
+    requires together { AreTogether begun.1 begun.0.machine.outs }
+    requires readers { AreReaders (9 * weight begun.0.script) begun.0.machine.outs begun.2 }
+    requires some { 0 < looks }
+{
+    let (book, rings, ins) = begun;
+    let (page, writer, watcher) = Page::new(alloc)?;
+    let watch = Watch {
+        page: &page,
+        writer,
+        watcher,
+        event: EventNo(0),
+        looks,
+    };
+    match run_watched(rt, alloc, book, &rings, ins, watch, gate) {
+        Err(_) => Err(NoMemory),
+        Ok(watched) => {
+            let mut watcher = watched.watcher;
+            let last = watcher.look(&page);
+            Ok(Seen {
+                book: watched.book,
+                look: watched.look,
+                last,
+            })
+        }
+    }
+}
+
+#[test]
+fn a_look_behind_a_line_sees_what_it_counted(rt: HostRuntime) -> Result<(), Fail> {
+    let alloc: Global = rt.alloc();
+    let script = worked_once(alloc).ok().ok_or("memory")?;
+    let begun = begin(&rt, alloc, script)?;
+    let gate = LooksLast {
+        opened: Signal::new(),
+        worked: Signal::new(),
+    };
+    let seen = watched(&rt, alloc, begun, 1, &gate).ok().ok_or("memory")?;
+    let numbers = |look: Look| (look.count, look.enabled, look.running);
+    assert_eq!(rt; numbers(seen.look), (500, 10, 10));
+    assert!(rt; seen.look.at >= 2 && seen.look.at <= 4);
+    assert_eq!(rt; numbers(seen.last), (500, 10, 10));
+    assert_eq!(rt; seen.last.at, 4);
+    let sums = Sums {
+        count: 500,
+        enabled: 10,
+        running: 10,
+    };
+    assert_eq!(rt; seen.book.family(EventNo(0)), Some(sums));
+    assert_eq!(rt; seen.book.family(EventNo(2)), None);
+    Ok(())
+}
+
+#[test]
+fn nothing_is_published_of_an_empty_script(rt: HostRuntime) -> Result<(), Fail> {
+    let alloc: Global = rt.alloc();
+    let script = without_lines(alloc).ok().ok_or("memory")?;
+    let begun = begin(&rt, alloc, script)?;
+    let seen = watched(&rt, alloc, begun, 3, &OpenGate)
+        .ok()
+        .ok_or("memory")?;
+    let zeros = Look {
+        at: 0,
+        count: 0,
+        enabled: 0,
+        running: 0,
+    };
+    assert_eq!(rt; seen.look, zeros);
+    assert_eq!(rt; seen.last, zeros);
+    Ok(())
+}
