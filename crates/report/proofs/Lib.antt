@@ -3,4 +3,3 @@ pub mod Entries
 pub mod MadeOrder
 pub mod SummedUp
 pub mod Told
-mod Worked
