@@ -10,6 +10,7 @@ TOOLS = os.path.join(os.path.dirname(os.path.abspath(__file__)), "..")
 sys.path.insert(0, TOOLS)
 
 import definition_lines
+import missing_answers
 import run_then_replay
 import seated_reports
 
@@ -53,6 +54,48 @@ class Runs(unittest.TestCase):
 class Seats(unittest.TestCase):
     def test_other_lines_stay(self):
         self.assertEqual(seated_reports.without_counters("t0.0 read 5\nt0.1 seats 3=1\n"), "t0.0 read 5\nt0.1 seats 3\n")
+
+
+class Answers(unittest.TestCase):
+    USE = "use Rattle.attr_bytes.proofs.kinds.kind_of.Goals as goal"
+    SAID = f"""fn attr_bytes::kinds::kind_of: no proof: expected answers in ./proofs/kinds/kind_of/Answers.antt
+help: write ./proofs/kinds/kind_of/Answers.antt with these lines, and check again: each hole's goal is what is left
+    use Rattle.std.proofs.Common.{{rules, length}}
+    {USE}
+
+    -- src/kinds.rt:10:1
+    pub returns-in-0 : goal.returns-in-0
+    returns-in-0 c = ?
+
+    -- src/kinds.rt:10:1
+    pub takes : goal.takes
+    takes c κs = ?
+note: `returns-in-0` of proofs/kinds/kind_of/Answers.antt must prove: false
+"""
+
+    def goal(self, name="returns-in-0", given="c"):
+        return missing_answers.Goal(name, f"goal.{name}", given, self.USE)
+
+    def test_goals_are_read_with_their_file(self):
+        goals = [self.goal(), self.goal("takes", "c κs")]
+        self.assertEqual(missing_answers.offered(self.SAID), [("proofs/kinds/kind_of/Answers.antt", goals)])
+
+    def test_a_check_that_offers_nothing_has_no_goals(self):
+        self.assertEqual(missing_answers.offered("logic=proved functions=18\n"), [])
+
+    def test_refused_answers_are_read_by_file_and_name(self):
+        said = "./proofs/a/Answers.antt:5:13: error: `returns`: `search`: no proof of `p`\nsrc/a.rt:1:1: error: `b`\n"
+        self.assertEqual(missing_answers.refused(said), {("proofs/a/Answers.antt", "returns")})
+
+    def test_a_first_answer_makes_the_file(self):
+        uses = f"use Rattle.std.proofs.Common.{{rules}}\n{self.USE}\n"
+        wanted = uses + "\npub takes : goal.takes\ntakes c κs = search rules\n"
+        self.assertEqual(missing_answers.with_answers(None, [(self.goal("takes", "c κs"), 0)]), wanted)
+
+    def test_an_answer_goes_behind_those_that_are_there(self):
+        text = f"use Rattle.std.proofs.Common.{{rules, length}}\n{self.USE}\n\npub a : goal.a\na c = length\n"
+        wanted = text + "\npub returns-in-0 : goal.returns-in-0\nreturns-in-0 c = search rules\n"
+        self.assertEqual(missing_answers.with_answers(text, [(self.goal(), 0)]), wanted)
 
 
 if __name__ == "__main__":

@@ -1,0 +1,180 @@
+#!/usr/bin/env python3
+"""Writes the answers whose lack makes the check of a must-fail edit run a second time.
+
+    tools/maintain/missing_answers.py CRATE [EDIT ..]
+
+Where a goal stays open that no answers file has, a check runs once more to print what such a file could hold. This
+takes as long as the check itself, and `rt ci` checks a crate once with each edit. So this applies each edit of a crate,
+or those named, one after the other, and looks what the check prints. Of each edit that lacks an answer it adds one goal
+to the `Answers.antt` of the function, with what the check tries by itself: `search rules`, or, where that alone proves
+the goal of the right body, `grind (arith, common_steps)`. Where neither does, or the right body has no such goal,
+nothing is added.
+
+Run it at the top of the repository, once `rt check` passes in the crate, and change nothing there while it runs. It
+prints a line for each edit and each goal. Behind it: `rt fmt` and `rt check` in the crate.
+"""
+
+import collections
+import glob
+import os
+import re
+import subprocess
+import sys
+import tempfile
+
+# A check that runs twice takes longer than this for the second time, in seconds.
+SECOND_RUN = 0.6
+BLOCK = re.compile(r"^help: write \./(proofs/\S+/Answers\.antt) with these lines.*\n((?:    .*\n|\s*\n)+)", re.M)
+GOAL = re.compile(r"^    pub (\S+) : (goal\.\S+.*)\n    \1 (.*?)\s*= \?$", re.M)
+USE = re.compile(r"^    (use Rattle\.\S+\.Goals as goal)$", re.M)
+REFUSED = re.compile(r"^(?:note: )?(?:\./)?(proofs/\S+/Answers\.antt):\d+:\d+: error: `([^`]+)`", re.M)
+
+# A goal: its name, its type, what its answer is given, and the line that imports its module.
+Goal = collections.namedtuple("Goal", "name type given use")
+
+# What the check tries by itself, in its order, with the names that it takes and their import.
+TACTICS = [
+    ("search rules", ["rules"], "use Rattle.std.proofs.Common.{rules}"),
+    (
+        "grind (arith, common_steps)",
+        ["arith", "common_steps"],
+        "use Rattle.std.proofs.{Common.{arith}, lemmas.Grind.{common_steps}}",
+    ),
+]
+
+
+def offered(said):
+    """The goals that a check offers to answer: pairs of a file and a list of goals, in the order printed."""
+    found = []
+    for path, body in BLOCK.findall(said):
+        use = USE.search(body)
+        if use:
+            found.append((path, [Goal(*goal, use[1]) for goal in GOAL.findall(body)]))
+    return found
+
+
+def refused(said):
+    """The answers that a check refuses: pairs of a file and a name."""
+    return set(REFUSED.findall(said))
+
+
+def with_answers(text, goals):
+    """An answers file, or None where there is none, with goals added: pairs of a goal and its place in TACTICS."""
+    lines = [] if text is None else text.rstrip("\n").split("\n")
+    uses = [line for line in lines if line.startswith("use ")]
+    for goal, tactic in goals:
+        words, use = TACTICS[tactic][1:]
+        if not all(re.search(rf"\b{word}\b", "\n".join(uses)) for word in words):
+            uses.append(use)
+        if goal.use not in uses:
+            uses.append(goal.use)
+    rest = [line for line in lines if not line.startswith("use ")]
+    while rest and not rest[0]:
+        rest.pop(0)
+    for goal, tactic in goals:
+        answer = f"{goal.name} {goal.given} = {TACTICS[tactic][0]}"
+        rest += [""] * bool(rest) + [f"pub {goal.name} : {goal.type}", answer]
+    return "\n".join([*uses, "", *rest]) + "\n"
+
+
+def read(path):
+    """A file's text, or None."""
+    if not os.path.exists(path):
+        return None
+    with open(path, encoding="utf-8") as file:
+        return file.read()
+
+
+def write(path, text):
+    """Writes a file, or removes it and the folders that are left empty."""
+    if text is None:
+        os.remove(path)
+        if not os.listdir(os.path.dirname(path)):
+            os.removedirs(os.path.dirname(path))
+        return
+    os.makedirs(os.path.dirname(path), exist_ok=True)
+    with open(path, "w", encoding="utf-8") as file:
+        file.write(text)
+
+
+def edited(edit):
+    """The file that an edit changes, its text, and its text with the edit; None where the edit can't be applied."""
+    parts = re.findall(r"^(file|old|new): ?(.*)$", read(edit), re.M)
+    path, text = parts[0][1], read(parts[0][1])
+    changed = text
+    for (_, old), (_, new) in zip(parts[1::2], parts[2::2]):
+        if text.count(old) != 1:
+            return None
+        changed = changed.replace(old, new)
+    return path, text, changed
+
+
+def check():
+    """What a check of the crate says, and how long its second run took."""
+    with tempfile.NamedTemporaryFile("r", suffix=".stages") as times:
+        words = ["rt", "check", "--stage-times", times.name]
+        ran = subprocess.run(words, capture_output=True, text=True, errors="replace")
+        took = re.search(r"^stage offers (\S+)", times.read(), re.M)
+    return ran.stdout, float(took[1]) if took else 0.0
+
+
+def lacking(edits):
+    """The goals that edits lack, one for each edit at most, by their files."""
+    found = collections.defaultdict(list)
+    for edit in edits:
+        change = edited(edit)
+        if not change:
+            print(f"{os.path.basename(edit)}: can't be applied")
+            continue
+        path, text, changed = change
+        try:
+            write(path, changed)
+            said, took = check()
+        finally:
+            write(path, text)
+        for answers, goals in offered(said) if took > SECOND_RUN else []:
+            if goals and not {goal.name for goal in goals} & {goal.name for goal in found[answers]}:
+                found[answers].append(goals[0])
+        print(f"{os.path.basename(edit)}: second run {took:.1f} s", flush=True)
+    return found
+
+
+def settle(found):
+    """Adds what a check of the right body admits, and says what that was."""
+    before = {path: read(path) for path in found}
+    left = {(path, goal.name): (goal, 0) for path, goals in found.items() for goal in goals}
+    while left:
+        for path, text in before.items():
+            goals = [it for (of, _), it in left.items() if of == path]
+            if goals:
+                write(path, with_answers(text, goals))
+            elif read(path) != text:
+                write(path, text)
+        bad = [it for it in refused(check()[0]) if it in left]
+        if not bad:
+            break
+        for it in bad:
+            goal, tactic = left.pop(it)
+            if tactic + 1 < len(TACTICS):
+                left[it] = goal, tactic + 1
+            else:
+                print(f"{it[0]}: {it[1]} not added")
+                if not any(of == it[0] for of, _ in left) and read(it[0]) != before[it[0]]:
+                    write(it[0], before[it[0]])
+    for (path, name), (_, tactic) in left.items():
+        print(f"{path}: {name} = {TACTICS[tactic][0]}")
+
+
+def main(words):
+    """Returns the status: 2 where the call is none."""
+    if not words or not os.path.isdir(f"crates/{words[0]}/must-fail"):
+        print(__doc__, file=sys.stderr)
+        return 2
+    os.chdir(f"crates/{words[0]}")
+    edits = sorted(glob.glob("must-fail/*.edit"))
+    settle(lacking([it for it in edits if not words[1:] or os.path.basename(it)[:-5] in words[1:]]))
+    return 0
+
+
+if __name__ == "__main__":
+    sys.exit(main(sys.argv[1:]))
