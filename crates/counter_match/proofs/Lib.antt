@@ -15,4 +15,3 @@ pub mod Listing
 pub mod Refusal
 pub mod Trials
 pub mod Berge
-pub mod Rows

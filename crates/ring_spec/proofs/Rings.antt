@@ -30,9 +30,6 @@ account_of-push hw s steps x ring = ap (fold (ring_step ring.1) empty_account) (
     ∙ fold-append (ring_step ring.1) empty_account (events_of hw s steps ring.0) (events_after hw s ring.0 steps x)
 
 -- all rings together
-keeps_cond : {X : Type 0} (p : X → Bool) (b : Bool) (x : X) (xs : List X) → p x ≡ b → filter p (x ∷ xs) ≡ cond b (x ∷ filter p xs) (filter p xs)
-keeps_cond p b x xs e = ap (λ c. cond c (x ∷ filter p xs) (filter p xs)) e
-
 filter-both : {X : Type 0} (p : X → Bool) (xs ys : List X) → filter p (xs ++ ys) ≡ filter p xs ++ filter p ys
 filter-both p [] ys = refl
 filter-both p (x ∷ xs) ys = one (p x) (filter-both p xs ys)

@@ -1,5 +1,5 @@
 -- The record kept step by step is that of the history, and replies by it are the definitions'.
-use Rattle.std.specs.Prelude.{◌↔◌, ◌≡◌, ℕ, ◌+◌, nat_le, Bool, true, false, List, [], ◌∷◌, ◌++◌, map, fold, flat_map, sum_by, count_by, cond}
+use Rattle.std.specs.Prelude.{◌↔◌, ◌≡◌, ℕ, ◌+◌, List, [], ◌∷◌, ◌++◌, map, fold, flat_map, sum_by, count_by, cond}
 use Rattle.std.proofs.{Common.{arith, refl, sym, ap, ◌∙◌, append_assoc, append-nil}, Math.Path.{fun_ext}}
 use Rattle.std.proofs.lemmas.List.Sums.{sum_by-append, sum_by-cons}
 use Rattle.perf_base.specs.declared.{numbers.{CpuNo.{CpuNo}, EventNo.{EventNo}, RingNo.{RingNo}}, reply.{Reply.{Reply}, Sums.{Sums}}}
@@ -8,7 +8,7 @@ use Rattle.stage_spec.specs.{Sums.{sums_of, count_of, enabled_of, running_of}, R
 use Rattle.stage_spec.specs.{Families.{folded_of, folded_from, family_sums}, Replies.{IsAnswerAt, IsReply, AreReplies}}
 use Rattle.stage_spec.proofs.{Recurrence.{stage_after-push, sums_of-push, folded_of-push}, Remainders.{remainder_of-push}}
 use Rattle.ring_spec.specs.Sending.{SentSample, sent_by_step, sent_after, length_by, clock_of}
-use Rattle.ring_spec.specs.Account.{RingEvent, Sends, Looks, Account, account, ring_step, lost_by, lost_among, lost_of, is_event, written_to, lost_to, need_of, room_of}
+use Rattle.ring_spec.specs.Account.{RingEvent, Account, account, ring_step, lost_among, lost_of, is_event}
 use Rattle.ring_spec.specs.Rings.{events_by, events_of, events_from, account_of, lost_count}
 use Rattle.ring_spec.specs.Running.{RingAccount, Running, first_record, empty_ring, ring_after, losses_on, record_after, record_of, family_by, IsAnswerBy, AreRepliesBy, RecordLaw, RepliesLaw}
 use Rattle.ring_spec.proofs.Rings.{account_of-push}
@@ -16,15 +16,6 @@ use Rattle.ring_spec.proofs.Rings.{account_of-push}
 pub map-map : {X Y Z : Type 0} (f : X → Y) (g : Y → Z) (xs : List X) → map g (map f xs) ≡ map (λ x. g (f x)) xs
 map-map f g [] = refl
 map-map f g (x ∷ xs) = ap (λ ys. g (f x) ∷ ys) (map-map f g xs)
-
--- what some events add to the losses of a ring
-lost-one : (bytes : ℕ) (a : Account) (x : RingEvent) → (ring_step bytes a x).lost ≡ a.lost ++ lost_by bytes a x
-lost-one bytes a (Looks place) = sym (append-nil a.lost)
-lost-one bytes a (Sends sent) = one (nat_le (need_of a sent) (room_of bytes a))
-  where
-    one : (b : Bool) → (elim b as (λ x. Account) [ true ↦ written_to a sent | false ↦ lost_to a sent ]).lost ≡ a.lost ++ (elim b as (λ x. List EventNo) [ true ↦ [] | false ↦ sent.event ∷ [] ])
-    one true = sym (append-nil a.lost)
-    one false = refl
 
 pub lost-more : (bytes : ℕ) (a : Account) (events : List RingEvent) → (fold (ring_step bytes) a events).lost ≡ a.lost ++ lost_among bytes a events
 lost-more bytes a [] = sym (append-nil a.lost)

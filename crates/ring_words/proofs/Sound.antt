@@ -1,11 +1,9 @@
 -- What is true of an end between any two calls stays true.
-use Rattle.std.proofs.Common.{◌≡◌, ℕ, ◌+◌, ◌*◌, ◌<◌, ◌≤◌, ◌^◌, [], ◌∷◌, ◌++◌, length, length-append, subst, sym, ap, ◌∙◌, refl, arith}
-use Rattle.std.proofs.Math.Seq.{take-length}
+use Rattle.std.proofs.Common.{◌≡◌, ℕ, ◌+◌, ◌*◌, ◌≤◌, [], length, length-append, subst, sym, ap, ◌∙◌, refl, arith}
 use Rattle.atomic_table.specs.Seated.{TableId}
-use Rattle.ring_words.specs.{declared.view.View.{View}, Ends.{cells_of, Ring, LeadsTo, IsSoundProducer, IsSoundConsumer, new_producer, new_consumer}}
-use Rattle.ring_words.specs.Steps.{LearnsHead}
-use Rattle.ring_words.specs.Views.{Holder, IsProducer, ring_of, both_ends, producer_of, consumer_of, producer_end, consumer_end, all_published, saw_head, with_taken, all_released, HoldsProducer, HoldsConsumer}
-use Rattle.ring_words.proofs.{Prefixes.{whole_nothing, whole_both, whole_more, stop_at_start, stop_more}, Sizes.{least_bytes, bytes_of_cells}}
+use Rattle.ring_words.specs.{declared.view.View.{View}, Ends.{cells_of, Ring, IsSoundProducer, IsSoundConsumer, new_producer, new_consumer}}
+use Rattle.ring_words.specs.Views.{Holder, IsProducer, ring_of, both_ends, producer_of, consumer_of, producer_end, consumer_end, all_published, HoldsProducer}
+use Rattle.ring_words.proofs.{Prefixes.{whole_nothing, whole_both, stop_at_start, stop_more}, Sizes.{least_bytes, bytes_of_cells}}
 use Rattle.ring_spec.specs.Whole.{IsWhole}
 use Rattle.perf_base.specs.Scripts.{IsRingSize}
 
@@ -23,37 +21,6 @@ holds_published id m place h put = record {
   place_is = omega (arith, h.place_is, length-append m.0.published m.0.put);
   below = h.below;
   sound = sound_published id m.0 h.sound put;
-}
-
-pub holds_looked : (id : TableId) (m : Holder) (place head : ℕ) → HoldsConsumer id m place → LearnsHead m.0 head → head < 2 ^ 64 → HoldsConsumer id (saw_head m.0 head, m.1) place
-holds_looked id m place head h l fits = record {
-  role = h.role;
-  bare = h.bare;
-  place_is = h.place_is;
-  below = fits;
-  sound = record { leads = l.leads; released = h.sound.released; whole = h.sound.whole };
-}
-
-pub holds_taken : (id : TableId) (m : Holder) (place word : ℕ) → HoldsConsumer id m place → LeadsTo (m.0.taken ++ word ∷ []) m.0.last_head → HoldsConsumer id (with_taken m.0 word, m.1) (place + 8)
-holds_taken id m place word h l = record {
-  role = h.role;
-  bare = h.bare;
-  place_is = omega (arith, h.place_is, length-append m.0.taken (word ∷ []));
-  below = h.below;
-  sound = record {
-    leads = l;
-    released = omega (arith, h.sound.released, length-append m.0.taken (word ∷ []));
-    whole = whole_more m.0.taken (word ∷ []) m.0.released h.sound.released h.sound.whole;
-  };
-}
-
-pub holds_released : (id : TableId) (m : Holder) (place : ℕ) → HoldsConsumer id m place → IsWhole m.0.taken → HoldsConsumer id (all_released m.0, m.1) place
-holds_released id m place h whole = record {
-  role = h.role;
-  bare = h.bare;
-  place_is = h.place_is;
-  below = h.below;
-  sound = record { leads = h.sound.leads; released = omega arith; whole = subst IsWhole (sym (take-length m.0.taken)) whole };
 }
 
 -- the ring of a table that has a word for the tail, one for the head, and these data words

@@ -1,10 +1,10 @@
 -- What a record more leaves at the end that takes records.
-use Rattle.std.proofs.Common.{◌≡◌, ℕ, ◌+◌, ◌*◌, ◌≤◌, List, [], ◌∷◌, ◌++◌, Option, None, length, refl, sym, ap, ◌∙◌, subst, append_assoc, append-nil, length-append, arith}
+use Rattle.std.proofs.Common.{◌≡◌, ℕ, ◌+◌, ◌*◌, ◌≤◌, List, [], ◌∷◌, ◌++◌, Option, None, length, sym, ap, ◌∙◌, subst, append_assoc, append-nil, length-append, arith}
 use Rattle.std.{proofs.lemmas.List.{Elements.{All-append, All-cons, All-nil}, Folds.{concat-append}}, specs.List.{concat}}
 use mathlib.Core.List.{IsPrefix}
 use Rattle.ring_spec.specs.Whole.{size_field, IsBlock, IsWhole}
-use Rattle.ring_words.{proofs.Prefixes.{prefix_self}, specs.Ends.{IsSoundConsumer}}
-use Rattle.sample_ring.specs.{InEnds.{InEnd, AreRecords, kept_words, IsSoundIn}, Ins.{HoldsIn, Takes}}
+use Rattle.ring_words.{specs.Ends.{IsSoundConsumer}}
+use Rattle.sample_ring.specs.{InEnds.{InEnd, AreRecords, kept_words, IsSoundIn}, Ins.{HoldsIn}}
 
 -- the words taken are whole where none is kept
 pub taken_words : (i : InEnd) → IsSoundIn i → i.kept ≡ None → i.consumer.taken ≡ i.words
@@ -45,6 +45,3 @@ holds_more i capacity place first words h kept p size within sound =
       released = h.released;
       few = omega (arith, h.few, long);
     }
-
-pub takes_nothing : (i : InEnd) → Takes i i
-takes_nothing i = record { ring = refl; room = refl; loads = refl; head = refl; words = prefix_self i.words }

@@ -8,7 +8,7 @@ use Rattle.script_spec.specs.{Lines.{words_of}, Forms.{Version, Form, IsOfForm},
 use Rattle.script_spec.specs.Faults.{section, IsPlaced, IsNoEnd, IsPrintable, Keeps, IsFaulty, IsSound, rank, IsInRange}
 use Rattle.script_spec.specs.Forms as form
 use Rattle.script_read.specs.declared.{state.State.{State}, progress.Progress.{Progress}}
-use Rattle.script_read.specs.{State.{rank_of, cpu_number, tool_number, Follows}, Adding.{IsSoundState}}
+use Rattle.script_read.specs.{State.{cpu_number, tool_number, Follows}, Adding.{IsSoundState}}
 use Rattle.script_read.{specs.Progress.{Behind, AsksOf, IsFirstOf, IsTaken, ended_of}, proofs.Following.{script_cpus}}
 use Rattle.script_read.specs.declared.state.Section.TheVariants as part
 use Rattle.script_read.specs.declared.progress.Progress.TheVariants as progress
@@ -112,22 +112,6 @@ low_section other l = tt
 
 low_all : (forms : List Form) (n : ℕ) → n < 10 → All (λ g. section g ≤ n) forms → All IsNoEnd forms
 low_all forms n l h = λ k d w. low_section (get_or forms k d) (omega (arith, l, h k d w))
-
-rank_high : (s : State) → rank_of s.section ≤ 10
-rank_high s = go s.section
-  where
-    go : (x : _) → rank_of x ≤ 10
-    go part.Perf = omega arith
-    go part.Machine = omega arith
-    go part.Pmus = omega arith
-    go part.Kinds = omega arith
-    go part.Tasks = omega arith
-    go part.Rings = omega arith
-    go part.Processors = omega arith
-    go part.Tools = omega arith
-    go part.Readers = omega arith
-    go part.Order = omega arith
-    go part.End = omega arith
 
 pub ended_false : (forms : List Form) (p : Progress) → Behind forms p → ended_of p ≡ false → All IsNoEnd forms
 ended_false forms progress.Nothing b e = rw b (λ k d l. absurd (omega (arith, l)))

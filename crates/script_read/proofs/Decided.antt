@@ -13,22 +13,6 @@ use Rattle.script_read.proofs.Asked.{known_printable, known_no_end, asked}
 
 -- ---- a form
 
-rank_ranked : (n : ℕ) → n < 10 → rank (ranked n) ≡ n
-rank_ranked zero l = refl
-rank_ranked (suc zero) l = refl
-rank_ranked (suc (suc zero)) l = refl
-rank_ranked (suc (suc (suc zero))) l = refl
-rank_ranked (suc (suc (suc (suc zero)))) l = refl
-rank_ranked (suc (suc (suc (suc (suc zero))))) l = refl
-rank_ranked (suc (suc (suc (suc (suc (suc zero)))))) l = refl
-rank_ranked (suc (suc (suc (suc (suc (suc (suc zero))))))) l = refl
-rank_ranked (suc (suc (suc (suc (suc (suc (suc (suc zero)))))))) l = refl
-rank_ranked (suc (suc (suc (suc (suc (suc (suc (suc (suc n))))))))) l = last n (omega (arith, l))
-  where
-    last : (m : ℕ) → m < 1 → rank (ranked (suc (suc (suc (suc (suc (suc (suc (suc (suc m)))))))))) ≡ suc (suc (suc (suc (suc (suc (suc (suc (suc m))))))))
-    last zero l = refl
-    last (suc m) l = absurd (omega (arith, l))
-
 rank_low : (q : SReason) → rank q < 10
 rank_low reason.End = omega arith
 rank_low reason.Ascii = omega arith

@@ -82,10 +82,6 @@ unfolding fits_beside
 fits_beside-rest mask masks taken h =
     fits_below-any (fits_beside masks taken ≡ true) 16 mask (fits_beside masks) taken (λ c. fits_beside-fewer masks taken (c ∷ taken) (AreTaken-push c taken)) h
 
-pub fits_beside-first : (mask : ℕ) (masks taken : List ℕ) → fits_beside (mask ∷ masks) taken ≡ true → fits_beside (mask ∷ []) taken ≡ true
-unfolding fits_beside
-fits_beside-first mask masks taken h = fits_beside-others mask masks [] taken (λ more k. refl) h
-
 pub fits_beside-none : (taken : List ℕ) → fits_beside [] taken ≡ true
 unfolding fits_beside
 fits_beside-none taken = refl

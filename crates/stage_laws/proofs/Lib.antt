@@ -23,7 +23,6 @@ pub mod OneByOne
 pub mod OneByOneCopies
 pub mod OneByOneDrops
 pub mod OneByOneFamilies
-pub mod OpenGains
 pub mod OpenHomes
 pub mod Originals
 pub mod Origins

@@ -50,11 +50,6 @@ new-stands s slot a table c h = record {
   copied = λ k. absurd (false≢true k);
 }
 
--- the task that it names is live
-abbrev task_in : Context → TaskNo → TaskNo
-task_in (context.Processor cpu) other = other
-task_in (context.Task task) other = task
-
 abbrev is_task_context : Context → Bool
 is_task_context (context.Processor cpu) = false
 is_task_context (context.Task task) = true

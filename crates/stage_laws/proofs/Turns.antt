@@ -144,10 +144,6 @@ still-context : (s t : Stage) (cpu : CpuNo) (c : Context) → task_on t cpu ≡ 
 still-context s t cpu (context.Processor other) same here = here
 still-context s t cpu (context.Task task) same here = ap (λ to. is_task to task) same ∙ here
 
--- a tick of a processor is its tick
-abbrev cpu_tick : ℕ → Step
-cpu_tick n = CpuStep (record { 0 = n }) cpu_line.Tick
-
 is-tick : (cpu : CpuNo) (x : Step) → is_tick cpu x ≡ true → x ≡ CpuStep cpu cpu_line.Tick
 is-tick cpu (CpuStep other (cpu_line.Switch to)) h = absurd (false≢true (and_parts (other.0 == cpu.0) false h).1)
 is-tick cpu (CpuStep other (cpu_line.Work w)) h = absurd (false≢true (and_parts (other.0 == cpu.0) false h).1)

@@ -2,6 +2,7 @@ mod Answered
 mod Answering
 mod Attributes
 mod FewOn
+mod Fitting
 mod Lists
 mod Machines
 mod Numbered
