@@ -1,6 +1,6 @@
 //! The book.
 
-ghost use Rattle.std.specs.Prelude.{◌≡◌, ℕ, ◌+◌, ◌*◌, ◌<◌, ◌≤◌, ◌↔◌, IsTrue, List, [], ◌∷◌, ◌++◌, Err, IfOk, OnErr, OnOk, Some, length, map};
+ghost use Rattle.std.specs.Prelude.{◌≡◌, ℕ, ◌+◌, ◌*◌, ◌<◌, ◌≤◌, ◌↔◌, IsTrue, List, [], ◌∷◌, ◌++◌, Err, IfOk, OnErr, OnOk, Some, length, map, vec_capacity};
 ghost use Rattle.perf_base.specs.declared.acts.Act.{Act as ActNo};
 ghost use Rattle.perf_base.specs.declared.numbers.RingNo.{RingNo as Ring};
 ghost use Rattle.perf_base.specs.Scripts.{IsCovered};
@@ -16,7 +16,7 @@ ghost use Rattle.machine.specs.Counted.{IsCountedBy};
 ghost use Rattle.machine.specs.Leading.{HasLine, act_of, done_by, next_step};
 ghost use Rattle.machine.specs.Readers.{AreFollowing, loads_of};
 ghost use Rattle.machine.specs.Stepping.{HasNoLine, IsUnlawful, NamesRing};
-ghost use Rattle.perf_book.specs.Book.{AreLooksOf, Booked, IsBooked, MayAct, loads_by};
+ghost use Rattle.perf_book.specs.Book.{AreLooksOf, Booked, HasRoomFor, IsBooked, MayAct, loads_by};
 ghost use Rattle.perf_book.specs.Keeping.{KeepsAnswer, next_line};
 ghost use Rattle.perf_book.specs.Sheets.{MayBring, sheet_after};
 
@@ -58,6 +58,21 @@ impl Model for Book {
         × HasRoomFor b.script (vec_capacity b.order) (vec_capacity b.answers) (vec_capacity b.ends) × (b.ends.items ≡ []) };
 }
 
+/// Empty lists with room for all acts of a script, for the answers to its lines, and for what its rings come to.
+fn empty_lists(
+    alloc: Global,
+    script: &Script,
+) -> Result<(Vec<Act>, Vec<Answer>, Vec<RingEnd>), NoMemory>
+    requires short { length script.now.order ≤ 4194304 }
+    ensures empty { IfOk result (λ r. (r.0.items ≡ []) × (r.1.items ≡ []) × (r.2.items ≡ [])) }
+    ensures room { IfOk result (λ r. HasRoomFor script.now (vec_capacity r.0) (vec_capacity r.1) (vec_capacity r.2)) }
+{
+    let order = Vec::with_capacity(alloc, count_acts(script))?;
+    let answers = Vec::with_capacity(alloc, script.line_count() + 1)?;
+    let ends = Vec::with_capacity(alloc, script.rings().len())?;
+    Ok((order, answers, ends))
+}
+
 impl Book {
     /// A book whose lines are all still to be done, of a script each of whose processors is of a PMU, of a weight of at
     /// most 65,536 and with at most 4,194,304 acts in its order, and of the ends that send of the script's rings, which
@@ -72,10 +87,8 @@ impl Book {
         ensures outs { IfOk result (λ b. b.machine.outs ≡ outs) }
         ensures empty { IfOk result (λ b. (b.order ≡ []) × (b.answers ≡ [])) }
     {
+        let (order, answers, ends) = empty_lists(alloc, &script)?;
         let machine = Machine::new(alloc, &script, outs)?;
-        let order = Vec::with_capacity(alloc, count_acts(&script))?;
-        let answers = Vec::with_capacity(alloc, script.line_count() + 1)?;
-        let ends = Vec::with_capacity(alloc, script.rings().len())?;
         Ok(Book {
             script,
             machine,
