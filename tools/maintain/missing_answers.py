@@ -24,7 +24,9 @@ import tempfile
 
 # A check that runs twice takes longer than this for the second time, in seconds.
 SECOND_RUN = 0.6
-BLOCK = re.compile(r"^help: write \./(proofs/\S+/Answers\.antt) with these lines.*\n((?:    .*\n|\s*\n)+)", re.M)
+BLOCK = re.compile(
+    r"^help: (?:write|add these lines to) \./(proofs/\S+/Answers\.antt)(?: with these lines|,).*\n((?:    .*\n|\s*\n)+)", re.M
+)
 GOAL = re.compile(r"^    pub (\S+) : (goal\.\S+.*)\n    \1 (.*?)\s*= \?$", re.M)
 USE = re.compile(r"^    (use Rattle\.\S+\.Goals as goal)$", re.M)
 REFUSED = re.compile(r"^(?:note: )?(?:\./)?(proofs/\S+/Answers\.antt):\d+:\d+: error: `([^`]+)`", re.M)
@@ -65,7 +67,7 @@ def with_answers(text, goals):
     for goal, tactic in goals:
         words, use = TACTICS[tactic][1:]
         if not all(re.search(rf"\b{word}\b", "\n".join(uses)) for word in words):
-            uses.append(use)
+            uses.insert(0, use)
         if goal.use not in uses:
             uses.append(goal.use)
     rest = [line for line in lines if not line.startswith("use ")]

@@ -80,6 +80,12 @@ note: `returns-in-0` of proofs/kinds/kind_of/Answers.antt must prove: false
         goals = [self.goal(), self.goal("takes", "c κs")]
         self.assertEqual(missing_answers.offered(self.SAID), [("proofs/kinds/kind_of/Answers.antt", goals)])
 
+    def test_goals_are_read_for_a_file_that_is_there(self):
+        said = self.SAID.replace("help: write ./", "help: add these lines to ./")
+        said = said.replace("Answers.antt with these lines, and", "Answers.antt, leaving out each name, and")
+        self.assertIn("help: add these lines to ./proofs/kinds/kind_of/Answers.antt, leaving out", said)
+        self.assertEqual(missing_answers.offered(said), missing_answers.offered(self.SAID))
+
     def test_a_check_that_offers_nothing_has_no_goals(self):
         self.assertEqual(missing_answers.offered("logic=proved functions=18\n"), [])
 
