@@ -1,3 +1,4 @@
+use Rattle.std.proofs.Common.{rules}
 use Rattle.std.specs.Prelude.{◌≡◌}
 use Rattle.perf_top.proofs.Noting.{other-noted}
 use Rattle.perf_ask.specs.declared.status.Status.TheVariants as status
@@ -12,3 +13,6 @@ pub returns-in-Ok-2-clause-note : goal.returns-in-Ok-2-clause-note
 returns-in-Ok-2-clause-note g c =
     let other : c.args.status ≡ status.Done → ⊥ = λ e. let t = c.is_done.ensures.1 e in absurd cc in
     other-noted g.N.Sink.shows c.args.status c.put_note.result c.args.notes.now c.put_note.new.notes other c.put_note.ensures
+
+pub returns-then-is_done-clause-note : goal.returns-then-is_done-clause-note
+returns-then-is_done-clause-note g c = search rules

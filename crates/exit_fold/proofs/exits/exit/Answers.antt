@@ -1,3 +1,4 @@
+use Rattle.std.proofs.Common.{rules}
 use Rattle.std.proofs.Common.{arith, ◌∙◌, ap, sym, length}
 use Rattle.stage_spec.specs.Hardware.{Hardware}
 use Rattle.exit_fold.proofs.Exited.{task-low, still-live, exit-stage, others-stand}
@@ -23,3 +24,9 @@ returns-clause-others c =
     others-stand c.args.world.now.hardware c.args.world.now c.fold_copies.new.world c.place.new.self c.end_task.new.self c.args.cpu other c.in-Some.task c.pmus.ensures.kept
     (sym c.task_on.ensures ∙ c.in-Some.is) c.fold_copies.ensures.folded c.place.ensures.world c.end_task.ensures.world
     (omega (arith, low, c.pmus.ensures.kept.shape.running, ap (λ (hw : Hardware). length hw.cpu_pmus) c.pmus.ensures.pmus, c.cpus-cpus.ensures.sound.cpus.1)) apart
+
+pub returns-clause-processors : goal.returns-clause-processors
+returns-clause-processors c = search rules
+
+pub returns-in_default-clause-refused : goal.returns-in_default-clause-refused
+returns-in_default-clause-refused c = search rules

@@ -1,3 +1,4 @@
+use Rattle.std.proofs.Common.{rules}
 use Rattle.std.specs.{Prelude.{◌≡◌, ℕ, List, Option, drop, length}, Iterator.Runs.{EachRunFrom, IsSkipRun, SomeRun, WholeRun}}
 use Rattle.std.proofs.Common.{◌∙◌}
 use Rattle.perf_ask.proofs.collecting.words_of.Goals as goal
@@ -10,3 +11,6 @@ behind-first each w = let r : SomeRun _ _ (λ q. IsSkipRun w.0 q 1) = each w.0 w
 
 pub returns-in-Ok-collect-clause-words : goal.returns-in-Ok-collect-clause-words
 returns-in-Ok-collect-clause-words c = rw c.in-Ok.is (behind-first c.skip.ensures.runs (c.in-Ok-collect.ensures.runs tt))
+
+pub returns-in-Err-collect-clause-words : goal.returns-in-Err-collect-clause-words
+returns-in-Err-collect-clause-words c = search rules

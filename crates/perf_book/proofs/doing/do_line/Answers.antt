@@ -1,3 +1,4 @@
+use Rattle.std.proofs.Common.{rules}
 use Rattle.std.{specs.Prelude.{◌≡◌, List, ◌∷◌, [], ◌++◌}, proofs.Common.{ap, subst, sym, ◌∙◌}}
 use Rattle.perf_base.specs.declared.{acts.Act.{Act}, reply.Answer.{Answer}}
 use Rattle.report_spec.specs.Answers.{lost_in}
@@ -19,3 +20,6 @@ returns-clause-answered g c =
 
 pub returns-clause-loads : goal.returns-clause-loads
 returns-clause-loads g c = same-loads c.args.machine.now.outs c.line-reply.new.self.outs c.line-reply.ensures.seen
+
+pub returns-clause-counted : goal.returns-clause-counted
+returns-clause-counted g c = search rules

@@ -1,3 +1,4 @@
+use Rattle.std.proofs.Common.{rules}
 use Rattle.std.{specs.Prelude.{◌≡◌, ℕ, ◌+◌, List, [], map}, proofs.Common.{arith, refl, sym, subst, append-nil, inl, inr}}
 use Rattle.perf_base.specs.declared.acts.{Act.{Act}, Actor.{Actor}}
 use Rattle.machine.specs.Readers.{loads_of}
@@ -28,3 +29,6 @@ returns-in-Tool c =
       filled = omega arith;
       capacity = refl;
     }
+
+pub returns-in-Processor-clause-loads : goal.returns-in-Processor-clause-loads
+returns-in-Processor-clause-loads c = search rules

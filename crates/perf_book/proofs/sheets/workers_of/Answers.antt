@@ -1,3 +1,4 @@
+use Rattle.std.proofs.Common.{rules}
 use Rattle.std.proofs.Common.{◌≡◌, ℕ, suc, ◌+◌, ◌-◌, ◌++◌, List, arith, map, reverse, subst, sym}
 use Rattle.perf_base.specs.{declared.acts.Actor.{Actor}, Scripts.{Scripted}}
 use Rattle.perf_book.{specs.Plans.{turn_in, workers_below, workers_of}, proofs.Turns.{one-more}}
@@ -18,3 +19,6 @@ loop-place-preserved c =
       turns = subst (λ (n : ℕ). workers_below s n ++ reverse (map turn_in c.add_worker.new.workers.items) ≡ workers_of s) after
           (subst (λ (ts : List (Actor × ℕ)). workers_below s (11 - place) ++ reverse ts ≡ workers_of s) (sym c.in_ok-add_worker.ensures.added) more);
     }
+
+pub loop-place-init : goal.loop-place-init
+loop-place-init c = search rules

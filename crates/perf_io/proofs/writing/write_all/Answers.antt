@@ -13,3 +13,6 @@ loop-done-preserved g c =
       flushed = c.in_ok-done.ensures.flushed ∙ c.loop-done.invariant.flushed;
       nothing = λ none. absurd (omega arith);
     }
+
+pub returns-clause-wrote : goal.returns-clause-wrote
+returns-clause-wrote g c = grind (arith, common_steps)

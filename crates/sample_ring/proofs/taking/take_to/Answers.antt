@@ -17,3 +17,9 @@ loop-out-preserved c =
       same = search rules;
       sound = c.take_one.ensures.sound;
     }
+
+pub loop-out-init : goal.loop-out-init
+loop-out-init c = search rules
+
+pub returns-clause-out : goal.returns-clause-out
+returns-clause-out c = search rules

@@ -1,3 +1,4 @@
+use Rattle.std.proofs.Common.{rules}
 use Rattle.std.proofs.Common.{refl}
 use Rattle.line_forms.specs.Forms.{opening_of}
 use Rattle.script_read.proofs.Made.{kind_by_bytes, opened_by_bytes}
@@ -10,3 +11,6 @@ returns-clause-ok c =
     let numbered = rw c.in_ok-kind.ensures.ok_part at c.kind_of_raw.ensures in
     let kind = kind_by_bytes c.args.script.now.kinds c.args.bytes.now c.in_ok-raw.raw _ raw.0 numbered in
     (place.0, raw.1, rw (← kind) refl, opened_by_bytes (opening_of c.args.opening.now) c.args.bytes.now c.in_ok-raw.raw c.in_ok-kind.kind _ c.opened.result raw.0 kind (rw place.1 at c.opened.ensures))
+
+pub returns-in_err-raw-clause-bad : goal.returns-in_err-raw-clause-bad
+returns-in_err-raw-clause-bad c = search rules

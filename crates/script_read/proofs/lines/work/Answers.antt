@@ -1,3 +1,4 @@
+use Rattle.std.proofs.Common.{rules}
 use Rattle.std.proofs.Common.{◌≡◌, true, refl}
 use Rattle.script_read.proofs.lines.work.Goals as goal
 
@@ -17,3 +18,6 @@ returns-clause-ok c =
     let amounts = rw c.deref.ensures.value at c.are_amounts.ensures in
     let kinds = rw c.deref-2.ensures.value at c.are_kinds.ensures in
     ((length.0, amounts.0 small), kinds.0 known, rw (length.1, c.word.ensures, c.occurrences.ensures, c.deref-3.ensures.value) refl)
+
+pub returns-in_err-length-clause-bad : goal.returns-in_err-length-clause-bad
+returns-in_err-length-clause-bad c = search rules

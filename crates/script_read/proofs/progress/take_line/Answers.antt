@@ -1,3 +1,4 @@
+use Rattle.std.proofs.Common.{rules}
 use Rattle.std.proofs.{Common.{◌≡◌, ◌∙◌, sym, ap, false, Err}, lemmas.Result.{err_from_is_err_and}}
 use Rattle.line_forms.specs.Forms.{form_of, version_of}
 use Rattle.script_read.{specs.Progress.{ended_of}, proofs.{Beginning.{ended_false, ascii_faulty}, Lined.{line_ok, line_bad, stop_bad}}}
@@ -23,3 +24,6 @@ pub returns-clause-bad : goal.returns-clause-bad
 returns-clause-bad c =
     let e : ended_of c.args.progress ≡ false = sym c.has_ended.ensures ∙ c.if-has_ended.false in
     line_bad c.take_form.result (version_of c.args.version) c.args.line.now (form_of c.in_ok-form.form) c.args.progress e (c.is_printable.ensures.0 cc) c.in_ok-form.ensures.ok c.in_ok-form.ensures.one c.take_form.ensures.bad
+
+pub returns-then-has_ended-clause-bad : goal.returns-then-has_ended-clause-bad
+returns-then-has_ended-clause-bad c = search rules

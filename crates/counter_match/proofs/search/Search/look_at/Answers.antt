@@ -1,3 +1,4 @@
+use Rattle.std.proofs.Common.{rules}
 use Rattle.std.proofs.Common.{arith, ◌<◌, length}
 use Rattle.stage_spec.specs.Tight.{masks_of}
 use Rattle.counter_match.proofs.Growth.{IsExtended-trans, IsClosedAt-extended, IsClosedAt-more}
@@ -15,3 +16,6 @@ loop-counter-preserved g c =
           (c.look.ensures.held c.if-look.false);
       counted = omega (arith, c.look.ensures.step, i.counted);
     }
+
+pub loop-counter-init : goal.loop-counter-init
+loop-counter-init g c = search rules

@@ -1,3 +1,4 @@
+use Rattle.std.proofs.Common.{rules}
 use Rattle.std.proofs.{Common.{arith, ◌≡◌, ◌<◌, ◌≤◌, ◌∙◌, length}, lemmas.List.{length-map}}
 use Rattle.stage_spec.specs.Tight.{masks_of}
 use Rattle.counter_match.proofs.{Fitting.{can_count-below}, Growth.{IsClosedBelow-extended, IsClosedBelow-more, length-search}}
@@ -42,3 +43,6 @@ returns-clause-most g c =
     let n : length (masks_of c.args.events.now) ≡ length c.args.events.now = length-map c.args.events.now (λ e. e.1) in
     let l : length c.loop-position.self.queue.items ≤ length (masks_of c.args.events.now) = length-search (masks_of c.args.events.now) c.args.seats.now _ c.loop-position.self.parents.items i.search in
     omega (arith, i.most, i.within)
+
+pub returns-clause-closed : goal.returns-clause-closed
+returns-clause-closed g c = search rules

@@ -1,3 +1,4 @@
+use Rattle.std.proofs.Common.{rules}
 use Rattle.std.proofs.{Common.{◌≡◌, ◌*◌, ◌+◌, ◌≤◌, None, length, ap, ◌∙◌, arith}, lemmas.List.{length_push}}
 use Rattle.ring_spec.specs.Whole.{size_field}
 use Rattle.ring_words.specs.Ends.{BeginsBlock}
@@ -17,3 +18,6 @@ invariant_of-self-2 c =
 
 pub returns-clause-sound : goal.returns-clause-sound
 returns-clause-sound c = (invariant_of-self-2 c).sound
+
+pub invariant_of-self : goal.invariant_of-self
+invariant_of-self c = search rules

@@ -13,3 +13,6 @@ pub split_seat-other-requires : goal.split_seat-other-requires
 split_seat-other-requires c =
     let start : c.in-Ok.seat.me.0 ≡ both_ends = ap (λ (m : Holder). m.0) c.in-Ok.ensures.ok.4 in
     (search rules, search rules, may_part _ _ (ap (λ (v : View). v.writes) start) (ap (λ (v : View). v.watches) start))
+
+pub invariant_of-watcher : goal.invariant_of-watcher
+invariant_of-watcher c = search rules

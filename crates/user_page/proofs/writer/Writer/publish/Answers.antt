@@ -1,3 +1,4 @@
+use Rattle.std.proofs.Common.{rules}
 use Rattle.user_page.proofs.Lists.{list_more}
 use Rattle.user_page.proofs.writer.Writer.publish.Goals as goal
 
@@ -6,3 +7,6 @@ returns-clause-sound c = rw c.publish_look-self-inside.ensures.view (list_more _
 
 pub invariant_of-self : goal.invariant_of-self
 invariant_of-self c = record { sits = c.publish_look-self-inside.ensures.writer; sound = returns-clause-sound c }
+
+pub returns-clause-end : goal.returns-clause-end
+returns-clause-end c = search rules

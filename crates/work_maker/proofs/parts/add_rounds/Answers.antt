@@ -1,0 +1,5 @@
+use Rattle.std.proofs.Common.{rules}
+use Rattle.work_maker.proofs.parts.add_rounds.Goals as goal
+
+pub returns : goal.returns
+returns c = search rules
