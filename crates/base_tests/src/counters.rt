@@ -5,6 +5,7 @@ ghost use Rattle.stage_spec.specs.Tight.{masks_of};
 ghost use Rattle.perf_base.specs.Masks.{IsMask};
 ghost use Rattle.counter_match.specs.Seating.{AreDistinct};
 
+use crate::checks::{check, check_eq};
 use counter_match::Seats;
 use perf_base::{EventNo, SeatList, Steps, Tight};
 use std::alloc::{AllocError, Global};
@@ -216,9 +217,9 @@ fn cases(rt: HostRuntime) -> Result<(), Fail> {
         ),
     ];
     for (counters, masks, want) in table {
-        assert!(rt; counters > 0 && counters <= 16 && masks.len() <= 17);
+        check(&rt, counters > 0 && counters <= 16 && masks.len() <= 17);
         let text = told_plainly(rt.alloc(), counters, masks)?;
-        assert_eq!(rt; text.as_str(), want);
+        check_eq(&rt, text.as_str(), want);
     }
     Ok(())
 }
@@ -327,13 +328,16 @@ fn all_agree_plainly(
 #[test]
 fn agrees_with_the_plain_search(rt: HostRuntime) -> Result<(), Fail> {
     let alloc = rt.alloc();
-    assert!(rt; all_agree_plainly(alloc, 3, 0, 7, 1, 1)?);
-    assert!(rt; all_agree_plainly(alloc, 3, 1, 7, 7, 1)?);
-    assert!(rt; all_agree_plainly(alloc, 3, 2, 7, 49, 1)?);
-    assert!(rt; all_agree_plainly(alloc, 3, 3, 7, 343, 1)?);
-    assert!(rt; all_agree_plainly(alloc, 3, 4, 7, 2401, 1)?);
-    assert!(rt; all_agree_plainly(alloc, 16, 6, 12, 100, 7919)?);
-    assert!(rt; all_agree_plainly(alloc, 16, 9, 12, 100, 1_299_709_421)?);
+    check(&rt, all_agree_plainly(alloc, 3, 0, 7, 1, 1)?);
+    check(&rt, all_agree_plainly(alloc, 3, 1, 7, 7, 1)?);
+    check(&rt, all_agree_plainly(alloc, 3, 2, 7, 49, 1)?);
+    check(&rt, all_agree_plainly(alloc, 3, 3, 7, 343, 1)?);
+    check(&rt, all_agree_plainly(alloc, 3, 4, 7, 2401, 1)?);
+    check(&rt, all_agree_plainly(alloc, 16, 6, 12, 100, 7919)?);
+    check(
+        &rt,
+        all_agree_plainly(alloc, 16, 9, 12, 100, 1_299_709_421)?,
+    );
     Ok(())
 }
 
@@ -354,5 +358,5 @@ fn copies<L: Ledger>(blank: Blank) -> bool
 
 #[test]
 fn copies_other_seats(rt: HostRuntime) {
-    assert!(rt; copies::<Brand>(Blank::new(1)));
+    check(&rt, copies::<Brand>(Blank::new(1)));
 }

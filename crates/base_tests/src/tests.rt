@@ -1,5 +1,6 @@
 //! That shared values cross threads, and which bits are flags.
 
+use crate::checks::{check, check_eq};
 use bitflags::Flags;
 use counter_match::Seats;
 use event_counts::CountAcc;
@@ -18,17 +19,17 @@ use std::marker::Brand;
 #[test]
 fn flags_are_those_of_their_table(rt: HostRuntime) {
     for bits in [0, 1, 65, 127] {
-        assert_eq!(rt; AttrFlags::from_bits(bits), Some(AttrFlags(bits)));
+        check_eq(&rt, AttrFlags::from_bits(bits), Some(AttrFlags(bits)));
     }
-    assert!(rt; AttrFlags::from_bits(128).is_none());
-    assert!(rt; !AttrFlags(0).contains(AttrFlags::DISABLED));
+    check(&rt, AttrFlags::from_bits(128).is_none());
+    check(&rt, !AttrFlags(0).contains(AttrFlags::DISABLED));
     for bits in [1, 65, 127] {
         assert!(rt; AttrFlags(bits).contains(AttrFlags::DISABLED), "{bits}");
     }
     let mut names = AttrFlags(66).iter_names();
-    assert_eq!(rt; names.next().map(|x| x.0), Some("inherit"));
-    assert_eq!(rt; names.next().map(|x| x.0), Some("sample_id_all"));
-    assert!(rt; names.next().is_none());
+    check_eq(&rt, names.next().map(|x| x.0), Some("inherit"));
+    check_eq(&rt, names.next().map(|x| x.0), Some("sample_id_all"));
+    check(&rt, names.next().is_none());
 }
 
 fn crosses<T: Send + Sync>() {}

@@ -2,6 +2,7 @@
 ghost use Rattle.std.specs.Prelude.{◌≡◌, ◌+◌, ◌*◌, ◌^◌, ◌<◌, IfSome};
 ghost use Rattle.user_page.specs.Looks.{last_look};
 
+use crate::checks::{check, check_eq};
 use std::process::Abort;
 use std::test::Fail;
 use std::thread::join;
@@ -59,7 +60,7 @@ fn check_rows(rt: &impl Abort, page: &Page, writer: &mut Writer, watcher: &mut W
     for (count, acts) in [(0u8, 0u8), (1, 1), (0, 1), (3, 4), (0, 4), (2, 6)] {
         publish_looks(page, writer, at, count as u64);
         at += count as u64;
-        assert_eq!(rt; watcher.look(page), look_at(acts as u64));
+        check_eq(rt, watcher.look(page), look_at(acts as u64));
     }
     at
 }
@@ -72,11 +73,11 @@ fn a_look_is_the_last_one_published(rt: HostRuntime) -> Result<(), Fail> {
     let mut writer = crosses(writer);
     let mut watcher = crosses(watcher);
     let at = check_rows(&rt, &page, &mut writer, &mut watcher);
-    assert_eq!(rt; at, 6);
+    check_eq(&rt, at, 6);
     publish_looks(&page, &mut writer, at, 2);
     meet(&page, &mut writer, &mut watcher);
-    assert_eq!(rt; watcher.look(&page), look_at(8));
-    assert_eq!(rt; watcher.look(&page), look_at(8));
+    check_eq(&rt, watcher.look(&page), look_at(8));
+    check_eq(&rt, watcher.look(&page), look_at(8));
     Ok(())
 }
 
@@ -98,8 +99,8 @@ fn read_looks(rt: &impl Abort, page: &Page, mut watcher: Watcher) -> Watcher
     let mut last = 0;
     for _ in 0..LOOKS {
         let look = watcher.look(page);
-        assert!(rt; last <= look.at && look.at <= LOOKS);
-        assert_eq!(rt; look, look_at(look.at));
+        check(rt, last <= look.at && look.at <= LOOKS);
+        check_eq(rt, look, look_at(look.at));
         last = look.at;
     }
     watcher
@@ -114,6 +115,6 @@ fn two_threads_share_a_page(rt: HostRuntime) -> Result<(), Fail> {
         || read_looks(&rt, &page, watcher),
     );
     meet(&page, &mut writer, &mut watcher);
-    assert_eq!(rt; watcher.look(&page), look_at(LOOKS));
+    check_eq(&rt, watcher.look(&page), look_at(LOOKS));
     Ok(())
 }

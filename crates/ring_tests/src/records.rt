@@ -1,11 +1,13 @@
 //! The faults of words, and records with their words.
 
+use crate::checks::check_eq;
 use perf_base::Mode;
 use ring_spec::Fields;
 use sample_records::{
     Record, RecordFault, RecordWords, Trailer, header_of, header_word, lost_record, read_fields,
     read_record, read_trailer, sample_record, words_of,
 };
+use std::process::Abort;
 
 fn list_of(words: &[u64]) -> RecordWords {
     let mut list = RecordWords::new();
@@ -47,6 +49,11 @@ fn fields_of_copy() -> Fields {
     }
 }
 
+// Checks what is read of words.
+fn check_read(rt: &impl Abort, words: &[u64], want: Result<(Record, usize), RecordFault>) {
+    assert_eq!(rt; read_record(words), want, "at {words:?}");
+}
+
 #[test]
 fn faults_go_by_the_words(rt: HostRuntime) {
     let lost = Record::Lost {
@@ -63,25 +70,25 @@ fn faults_go_by_the_words(rt: HostRuntime) {
         (&[0x0018_0000_0000_0002, 1, 2], Ok((lost, 3))),
     ];
     for (words, want) in rows {
-        assert_eq!(rt; read_record(words), want, "at {words:?}");
+        check_read(&rt, words, want);
     }
 }
 
 #[test]
 fn header_has_its_fields(rt: HostRuntime) {
     let header = header_of(0x0048_0001_0000_0009);
-    assert_eq!(rt; (header.kind, header.misc, header.size), (9, 1, 72));
-    assert_eq!(rt; header_word(9, 1, 72), 0x0048_0001_0000_0009);
+    check_eq(&rt, (header.kind, header.misc, header.size), (9, 1, 72));
+    check_eq(&rt, header_word(9, 1, 72), 0x0048_0001_0000_0009);
 }
 
 #[test]
 fn sample_of_copy_is_written_and_read(rt: HostRuntime) {
     let record = sample_record(Mode::Kernel, ALL, &fields_of_copy());
-    assert_eq!(rt; words_of(&record).as_slice(), SAMPLE_OF_COPY.as_slice());
-    assert_eq!(rt; read_record(&SAMPLE_OF_COPY), Ok((record, 9)));
-    assert_eq!(rt; read_fields(&record, ALL), Ok(fields_of_copy()));
-    assert_eq!(rt; read_fields(&record, 1), Err(RecordFault::BadSize));
-    assert_eq!(rt; read_trailer(&record, ALL), Err(RecordFault::BadType));
+    check_eq(&rt, words_of(&record).as_slice(), SAMPLE_OF_COPY.as_slice());
+    check_eq(&rt, read_record(&SAMPLE_OF_COPY), Ok((record, 9)));
+    check_eq(&rt, read_fields(&record, ALL), Ok(fields_of_copy()));
+    check_eq(&rt, read_fields(&record, 1), Err(RecordFault::BadSize));
+    check_eq(&rt, read_trailer(&record, ALL), Err(RecordFault::BadType));
 }
 
 #[test]
@@ -97,8 +104,8 @@ fn trailer_is_written_and_read(rt: HostRuntime) {
     };
     let record = lost_record(1, 1, &trailer);
     let words = [0x0020_0000_0000_0002, 1, 1, 2];
-    assert_eq!(rt; words_of(&record).as_slice(), words.as_slice());
-    assert_eq!(rt; read_record(&words), Ok((record, 4)));
+    check_eq(&rt, words_of(&record).as_slice(), words.as_slice());
+    check_eq(&rt, read_record(&words), Ok((record, 4)));
     let read = Fields {
         identifier: 0,
         ip: 0,
@@ -110,9 +117,9 @@ fn trailer_is_written_and_read(rt: HostRuntime) {
         cpu: 0,
         period: 0,
     };
-    assert_eq!(rt; read_trailer(&record, 5), Ok(read));
-    assert_eq!(rt; read_trailer(&record, 0), Err(RecordFault::BadSize));
-    assert_eq!(rt; read_fields(&record, 5), Err(RecordFault::BadType));
+    check_eq(&rt, read_trailer(&record, 5), Ok(read));
+    check_eq(&rt, read_trailer(&record, 0), Err(RecordFault::BadSize));
+    check_eq(&rt, read_fields(&record, 5), Err(RecordFault::BadType));
     let bare = lost_record(
         1,
         1,
@@ -121,9 +128,10 @@ fn trailer_is_written_and_read(rt: HostRuntime) {
             ..trailer
         },
     );
-    assert_eq!(rt;
+    check_eq(
+        &rt,
         words_of(&bare).as_slice(),
-        [0x0018_0000_0000_0002, 1, 1].as_slice()
+        [0x0018_0000_0000_0002, 1, 1].as_slice(),
     );
 }
 
@@ -133,11 +141,15 @@ fn high_half_of_processor_is_a_fault(rt: HostRuntime) {
         mode: Mode::User,
         body: list_of(&[0x1_0000_0001]),
     };
-    assert_eq!(rt; read_fields(&record, 128), Err(RecordFault::BadPad));
+    check_eq(&rt, read_fields(&record, 128), Err(RecordFault::BadPad));
     let record = Record::Lost {
         id: 1,
         lost: 1,
         trailer: list_of(&[3, 0x1_0000_0001, 4]),
     };
-    assert_eq!(rt; read_trailer(&record, 0x100c0), Err(RecordFault::BadPad));
+    check_eq(
+        &rt,
+        read_trailer(&record, 0x100c0),
+        Err(RecordFault::BadPad),
+    );
 }

@@ -3,6 +3,7 @@ ghost use Rattle.std.specs.Prelude.{◌≡◌, ◌+◌, ◌*◌, ◌^◌, ◌<�
 ghost use Rattle.ring_spec.specs.Whole.{IsWhole};
 ghost use Rattle.ring_words.specs.Ends.{new_producer, head_place, room_of, IsSoundProducer, IsSoundConsumer};
 
+use crate::checks::{check, check_eq};
 use ring_words::{Consumer, Producer, RingTable, close, make_ring, meet};
 use std::process::Abort;
 use std::test::Fail;
@@ -34,7 +35,7 @@ fn take_block(rt: &impl Abort, table: &RingTable, consumer: &mut Consumer) -> u6
 {
     let first = consumer.take_word(table);
     let second = consumer.take_word(table);
-    assert_eq!(rt; first, FIRST);
+    check(rt, first == FIRST);
     second
 }
 
@@ -77,7 +78,7 @@ fn take_three(rt: &impl Abort, table: &RingTable, producer: &mut Producer, consu
     meet(table, producer, consumer);
     for i in 0..3u64 {
         let second = take_block(rt, table, consumer);
-        assert_eq!(rt; second, i);
+        check_eq(rt, second, i);
     }
     consumer.publish_tail(table);
     meet(table, producer, consumer);
@@ -104,7 +105,7 @@ fn three_blocks_fill_a_small_ring(rt: HostRuntime) -> Result<(), Fail> {
     put_one_more(&table, &mut producer);
     take_three(&rt, &table, &mut producer, &mut consumer);
     let ends = close(table, producer, consumer);
-    assert_eq!(rt; ends, (48, 48));
+    check_eq(&rt, ends, (48, 48));
     Ok(())
 }
 
@@ -150,7 +151,7 @@ fn read_blocks(
     for _ in 0..turns {
         if 16 * count + 16 <= head {
             let second = take_block(rt, table, &mut consumer);
-            assert_eq!(rt; second, count);
+            check_eq(rt, second, count);
             consumer.publish_tail(table);
             count += 1;
         } else {
@@ -171,7 +172,7 @@ fn two_threads_share_a_ring(rt: HostRuntime) -> Result<(), Fail> {
     );
     let (consumer, count) = read_blocks(&rt, &table, consumer, count, turns);
     let ends = close(table, producer, consumer);
-    assert_eq!(rt; ends, (head, head));
-    assert_eq!(rt; 16 * count, head);
+    check_eq(&rt, ends, (head, head));
+    check_eq(&rt, 16 * count, head);
     Ok(())
 }

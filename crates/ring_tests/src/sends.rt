@@ -3,6 +3,7 @@ ghost use Rattle.std.specs.Prelude.{◌≡◌};
 ghost use Rattle.perf_base.specs.Scripts.{IsRingSize};
 ghost use Rattle.sample_ring.specs.RingLists.{HasReader, HasRing};
 
+use crate::checks::check_eq;
 use perf_base::{Mode, RingNo};
 use ring_spec::Fields;
 use ring_words::RingTable;
@@ -78,10 +79,10 @@ fn take_past_the_room(rt: &impl Abort, table: &RingTable, out: &mut Out, reader:
     send(rt, table, out, IP, 5);
     send(rt, table, out, IP, 6);
     meet(table, out, reader);
-    assert_eq!(rt; reader.take(table, 2), 1);
-    assert_eq!(rt; reader.take(table, 2), 0);
-    assert_eq!(rt; reader.words(), [USER_16, 5].as_slice());
-    assert_eq!(rt; (reader.records(), reader.place()), (1, 16));
+    check_eq(rt, reader.take(table, 2), 1);
+    check_eq(rt, reader.take(table, 2), 0);
+    check_eq(rt, reader.words(), [USER_16, 5].as_slice());
+    check_eq(rt, (reader.records(), reader.place()), (1, 16));
 }
 
 #[test]
@@ -134,9 +135,10 @@ struct Tally {
 fn add(rt: &impl Abort, tally: &mut Tally, record: &Record) {
     match record {
         Record::Sample { body, .. } => {
-            assert_eq!(rt;
+            check_eq(
+                rt,
                 body.as_slice().first(),
-                Some(&tally.samples.wrapping_add(tally.told))
+                Some(&tally.samples.wrapping_add(tally.told)),
             );
             tally.samples = tally.samples.wrapping_add(1);
         }
@@ -169,8 +171,8 @@ fn compare(rt: &impl Abort, table: &RingTable, out: &mut Out, reader: &mut In)
     reader.rest(table);
     let tally = add_all(rt, reader.words());
     let RingNumbers { lost, pending, .. } = out.numbers();
-    assert_eq!(rt; tally.told.wrapping_add(pending), lost);
-    assert_eq!(rt; tally.samples.wrapping_add(lost), COUNT);
+    check_eq(rt, tally.told.wrapping_add(pending), lost);
+    check_eq(rt, tally.samples.wrapping_add(lost), COUNT);
 }
 
 // Each end is in a thread of its own until all is sent.
@@ -216,12 +218,12 @@ fn lend(rt: &impl Abort, outs: &mut Outs, ins: &mut Ins)
     requires outs { HasRing outs.old.numbers RING }
     requires ins { HasReader ins.old RING }
 {
-    assert_eq!(rt; outs.out(RING).numbers(), numbers(0, 0, 0, 0));
-    assert_eq!(rt; outs.lent(RING).numbers(), numbers(0, 0, 0, 0));
+    check_eq(rt, outs.out(RING).numbers(), numbers(0, 0, 0, 0));
+    check_eq(rt, outs.lent(RING).numbers(), numbers(0, 0, 0, 0));
     let reader = ins.take_reader(RING);
     ins.give_reader(RING, reader);
-    assert_eq!(rt; ins.reader(RING).place(), 0);
-    assert_eq!(rt; ins.lent(RING).records(), 0);
+    check_eq(rt, ins.reader(RING).place(), 0);
+    check_eq(rt, ins.lent(RING).records(), 0);
 }
 
 // Each end of a ring may go to another thread.

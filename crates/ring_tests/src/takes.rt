@@ -3,6 +3,7 @@ ghost use Rattle.std.specs.Prelude.{◌≡◌, length};
 ghost use Rattle.perf_base.specs.Scripts.{IsRingSize};
 ghost use Rattle.sample_ring.specs.Taking.{IsUpTo};
 
+use crate::checks::{check, check_eq};
 use perf_base::{Mode, RingNo};
 use ring_spec::Fields;
 use ring_words::RingTable;
@@ -93,13 +94,13 @@ fn take_up_to(
     ensures room { reader.new.room ≡ room }
 {
     let RingNumbers { head, tail, .. } = out.numbers();
-    assert!(rt; head / 8 <= room as u64);
-    assert!(rt; tail <= place);
-    assert!(rt; out.ends_record(place));
+    check(rt, head / 8 <= room as u64);
+    check(rt, tail <= place);
+    check(rt, out.ends_record(place));
     take_to(table, out, reader, place);
-    assert_eq!(rt; reader.place(), place);
-    assert_eq!(rt; reader.words().len() as u64, place / 8);
-    assert_eq!(rt; out.numbers().tail, place);
+    check_eq(rt, reader.place(), place);
+    check_eq(rt, reader.words().len() as u64, place / 8);
+    check_eq(rt, out.numbers().tail, place);
 }
 
 // Does one line.
@@ -121,13 +122,14 @@ fn run_line(
     ensures room { reader.new.room ≡ room }
 {
     match line {
-        Line::Writes(sample) => assert_eq!(rt; send(rt, table, out, *sample), Sent::Written),
+        Line::Writes(sample) => check_eq(rt, send(rt, table, out, *sample), Sent::Written),
         Line::Loses(sample, need) => {
             let RingNumbers { head, tail, .. } = out.numbers();
             let need = *need;
-            assert_eq!(rt;
+            check_eq(
+                rt,
                 send(rt, table, out, *sample),
-                Sent::Lost { head, tail, need }
+                Sent::Lost { head, tail, need },
             );
         }
         Line::TakesTo(place) => take_up_to(rt, table, out, reader, room, *place),
@@ -153,11 +155,11 @@ fn run_table(
         run_line(rt, table, out, reader, words.len(), line);
     }
     let RingNumbers { head, tail, .. } = out.numbers();
-    assert!(rt; head / 8 <= words.len() as u64);
+    check(rt, head / 8 <= words.len() as u64);
     take_all(table, out, reader);
-    assert_eq!(rt; reader.words(), words);
-    assert_eq!(rt; reader.place(), tail);
-    assert_eq!(rt; out.numbers(), *numbers);
+    check_eq(rt, reader.words(), words);
+    check_eq(rt, reader.place(), tail);
+    check_eq(rt, out.numbers(), *numbers);
 }
 
 fn run(

@@ -7,6 +7,8 @@ mod acts;
 #[cfg(test)]
 mod attributes;
 #[cfg(test)]
+mod checks;
+#[cfg(test)]
 mod printing;
 #[cfg(test)]
 mod sinks;

@@ -3,8 +3,10 @@
 ghost use Rattle.std.specs.Prelude.{◌≡◌};
 ghost use Rattle.perf_io.specs.Wrote.{Wrote};
 
+use crate::checks::{check, check_eq};
+use crate::streams::sink_failing;
 use buffered_sink::{Written, write_buffered};
-use perf_io::{Failed, MemSink, Sink, write_all};
+use perf_io::{Failed, Sink, write_all};
 use std::alloc::{AllocError, Global};
 use std::test::Fail;
 
@@ -60,11 +62,11 @@ fn few_calls_write_many_pieces(rt: HostRuntime) -> Result<(), Fail> {
         (9000, 5000, 9, 5000),
     ];
     for (piece, room, fails, come) in &table {
-        let mut sink = MemSink::new(rt.alloc(), *piece, vec![in rt.alloc(); *fails]?, *room)?;
+        let mut sink = sink_failing(rt.alloc(), *piece, *fails, *room)?;
         let answer = write_slow(&mut sink, &bytes);
-        assert_eq!(rt; answer.is_ok(), *come == 9000);
-        assert_eq!(rt; sink.bytes().len(), *come);
-        assert!(rt; bytes.starts_with(sink.bytes()));
+        check_eq(&rt, answer.is_ok(), *come == 9000);
+        check_eq(&rt, sink.bytes().len(), *come);
+        check(&rt, bytes.starts_with(sink.bytes()));
     }
     Ok(())
 }
@@ -72,16 +74,16 @@ fn few_calls_write_many_pieces(rt: HostRuntime) -> Result<(), Fail> {
 #[test]
 fn without_a_room_each_piece_is_a_call(rt: HostRuntime) -> Result<(), Fail> {
     let bytes = sample(rt.alloc())?;
-    let mut sink = MemSink::new(rt.alloc(), 9000, vec![in rt.alloc(); 2999]?, 9000)?;
+    let mut sink = sink_failing(rt.alloc(), 9000, 2999, 9000)?;
     let slow = Slow { bytes: &bytes };
-    assert!(rt; slow.write_to(&mut sink).is_err());
-    assert_eq!(rt; sink.bytes().len(), 8997);
+    check(&rt, slow.write_to(&mut sink).is_err());
+    check_eq(&rt, sink.bytes().len(), 8997);
     Ok(())
 }
 
 #[test]
 fn an_empty_text_makes_no_call(rt: HostRuntime) -> Result<(), Fail> {
-    let mut sink = MemSink::new(rt.alloc(), 1, vec![in rt.alloc(); 0]?, 0)?;
-    assert!(rt; write_slow(&mut sink, b"").is_ok());
+    let mut sink = sink_failing(rt.alloc(), 1, 0, 0)?;
+    check(&rt, write_slow(&mut sink, b"").is_ok());
     Ok(())
 }

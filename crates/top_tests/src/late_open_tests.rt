@@ -9,6 +9,7 @@ ghost use Rattle.machine.specs.Counted.{IsCountedBy};
 ghost use Rattle.top_tests.specs.LateOpen.{before_plan, behind_tick, shared_counter};
 ghost use Rattle.machine.specs.Leading.{HasLine, IsOf, LeadTo, act_of, next_step};
 
+use crate::checks::check;
 use crate::planning_tests::{open, stretch};
 use cpu_sched::Sheet;
 use machine::Machine;
@@ -155,9 +156,9 @@ fn do_lines<L: Ledger, P: Ledger>(
 
 // The whole case. It answers whether the processor has no line left.
 fn late_open(alloc: Global) -> Result<bool, NoMemory> {
+    let mut sheet = Sheet::new(alloc)?;
     let script = shared_counter(alloc)?;
     let (mut machine, rings) = begin(alloc, &script)?;
-    let mut sheet = Sheet::new(alloc)?;
     do_lines::<Brand, Brand>(
         &mut machine,
         &script,
@@ -173,6 +174,6 @@ fn late_open(alloc: Global) -> Result<bool, NoMemory> {
 fn an_open_behind_the_plan_of_a_tick_brings_its_tests_back(rt: HostRuntime) -> Result<(), Fail> {
     let alloc: Global = rt.alloc();
     let ended = late_open(alloc).ok().ok_or("memory")?;
-    assert!(rt; ended);
+    check(&rt, ended);
     Ok(())
 }

@@ -6,6 +6,8 @@
 #[cfg(test)]
 mod calling;
 #[cfg(test)]
+mod checks;
+#[cfg(test)]
 mod late_open_tests;
 #[cfg(test)]
 mod machines;

@@ -5,6 +5,7 @@ ghost use Rattle.std.specs.Prelude.{◌≡◌, [], IfOk};
 ghost use Rattle.shared_object.specs.Histories.{BelongsTo};
 ghost use Rattle.perf_share.specs.Calls.{Fits};
 
+use crate::checks::{check, check_eq};
 use crate::signal::Signal;
 use perf_base::{
     Attr, AttrFlags, CpuLine, CpuNo, CpuSel, EventNo, Kind, Mode, Name, NoMemory, Reply, RingNo,
@@ -41,7 +42,7 @@ fn share_of(rt: &impl Abort, alloc: Global, script: &Script) -> Result<(Share, P
     requires { script.now.rings ≡ [] }
     ensures { IfOk result (λ r. BelongsTo r.1 r.0) }
 {
-    assert!(rt; script.is_covered());
+    check(rt, script.is_covered());
     let made = Share::new(alloc, script);
     Ok(made.ok().ok_or("memory")?)
 }
@@ -88,7 +89,7 @@ fn try_fitting(rt: &impl Abort, share: &Share, pass: &mut Pass, call: &Call) -> 
     requires { BelongsTo pass.old share.now }
     ensures { BelongsTo pass.new share.now }
 {
-    assert!(rt; share.fits(call));
+    check(rt, share.fits(call));
     share.try_call(pass, call)
 }
 
@@ -100,15 +101,15 @@ fn one_pass_opens_works_and_reads(rt: HostRuntime) -> Result<(), Fail> {
     let opened = try_fitting(&rt, &share, &mut pass, &open(0));
     let worked = try_fitting(&rt, &share, &mut pass, &work(0, 100, 500));
     let told = try_fitting(&rt, &share, &mut pass, &read(0));
-    assert_eq!(rt; opened, Answer::Done(Reply::Ok));
-    assert_eq!(rt; worked, Answer::Done(Reply::Ok));
+    check_eq(&rt, opened, Answer::Done(Reply::Ok));
+    check_eq(&rt, worked, Answer::Done(Reply::Ok));
     let words = Words::from_slice(&[500, 100, 100]);
-    assert_eq!(rt; told, Answer::Done(Reply::Read(words)));
+    check_eq(&rt, told, Answer::Done(Reply::Read(words)));
     let history = share.close(pass).ok().ok_or("a call is under way")?;
-    assert_eq!(rt; history.len(), 3);
+    check(&rt, history.len() == 3);
     let (call, reply) = history.get(1);
-    assert_eq!(rt; *call, work(0, 100, 500));
-    assert_eq!(rt; *reply, Reply::Ok);
+    check_eq(&rt, *call, work(0, 100, 500));
+    check_eq(&rt, *reply, Reply::Ok);
     Ok(())
 }
 
@@ -147,7 +148,7 @@ fn which_calls_fit(rt: HostRuntime) -> Result<(), Fail> {
         ),
     ];
     for (call, fits) in &table {
-        assert_eq!(rt; share.fits(call), *fits);
+        check_eq(&rt, share.fits(call), *fits);
     }
     Ok(())
 }
@@ -170,8 +171,8 @@ fn two_threads_have_one_history(rt: HostRuntime) -> Result<(), Fail> {
     let script = two_processors(alloc).ok().ok_or("memory")?;
     let (share, mut pass) = share_of(&rt, alloc, &script)?;
     let (left, right) = (work(0, 1, 0), work(1, 1, 0));
-    assert!(rt; share.fits(&left));
-    assert!(rt; share.fits(&right));
+    check(&rt, share.fits(&left));
+    check(&rt, share.fits(&right));
     let other = pass.split(&share);
     let (mut pass, mut other) = join(
         &rt,
@@ -179,9 +180,9 @@ fn two_threads_have_one_history(rt: HostRuntime) -> Result<(), Fail> {
         || call_often(&rt, &share, other, &right, 100),
     );
     meet(&share, &mut pass, &mut other);
-    assert_eq!(rt; share.look(&mut other), 200);
+    check_eq(&rt, share.look(&mut other), 200);
     let history = share.close(pass).ok().ok_or("a call is under way")?;
-    assert_eq!(rt; history.len(), 200);
+    check_eq(&rt, history.len(), 200);
     Ok(())
 }
 
@@ -210,8 +211,8 @@ fn first_calls_of_two_threads_meet(rt: HostRuntime) -> Result<(), Fail> {
     let script = two_processors(alloc).ok().ok_or("memory")?;
     let (share, mut pass) = share_of(&rt, alloc, &script)?;
     let (left, right) = (work(0, 1, 0), work(1, 1, 0));
-    assert!(rt; share.fits(&left));
-    assert!(rt; share.fits(&right));
+    check(&rt, share.fits(&left));
+    check(&rt, share.fits(&right));
     let other = pass.split(&share);
     let (one, two) = (Signal::new(), Signal::new());
     let ((pass, one_met), (_, two_met)) = join(
@@ -219,9 +220,9 @@ fn first_calls_of_two_threads_meet(rt: HostRuntime) -> Result<(), Fail> {
         || call_with_other(&rt, &share, pass, &left, &one, &two),
         || call_with_other(&rt, &share, other, &right, &two, &one),
     );
-    assert!(rt; one_met && two_met);
+    check(&rt, one_met && two_met);
     let history = share.close(pass).ok().ok_or("a call is under way")?;
-    assert_eq!(rt; history.len(), 2);
+    check_eq(&rt, history.len(), 2);
     Ok(())
 }
 
@@ -271,26 +272,35 @@ fn a_watcher_reads_what_a_worker_counts(rt: HostRuntime) -> Result<(), Fail> {
     let script = one_counter(alloc).ok().ok_or("memory")?;
     let (share, mut pass) = share_of(&rt, alloc, &script)?;
     let (open, work, read) = (open(0), work(0, 100, 500), read(0));
-    assert!(rt; share.fits(&open));
-    assert!(rt; share.fits(&work));
-    assert!(rt; share.fits(&read));
-    assert_eq!(rt; share.try_call(&mut pass, &open), Answer::Done(Reply::Ok));
+    check(&rt, share.fits(&open));
+    check(&rt, share.fits(&work));
+    check(&rt, share.fits(&read));
+    check_eq(
+        &rt,
+        share.try_call(&mut pass, &open),
+        Answer::Done(Reply::Ok),
+    );
     let worker = pass.split(&share);
     let ((mut watcher, found), mut worker) = join(
         &rt,
         || watch(&share, pass, &read, 200),
         || call_often(&rt, &share, worker, &work, 100),
     );
-    assert!(rt; !found.fell);
+    check(&rt, !found.fell);
     meet(&share, &mut watcher, &mut worker);
     let words = Words::from_slice(&[50_000, 10_000, 10_000]);
-    assert_eq!(rt;
+    check_eq(
+        &rt,
         share.call(&rt, &mut watcher, &read),
-        Answer::Done(Reply::Read(words))
+        Answer::Done(Reply::Read(words)),
     );
     let history = share.close(watcher).ok().ok_or("a call is under way")?;
     // The open, the work, and each read that was not refused as busy.
-    assert_eq!(rt; Some(history.len() as u64), 302_u64.checked_sub(found.busy));
+    check_eq(
+        &rt,
+        Some(history.len() as u64),
+        302_u64.checked_sub(found.busy),
+    );
     Ok(())
 }
 

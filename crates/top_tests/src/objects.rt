@@ -5,6 +5,7 @@ ghost use Rattle.shared_object.specs.Histories.{BelongsTo};
 ghost use Rattle.top_tests.specs.Counter.{HasCounted, AnswersValues};
 ghost use Rattle.top_tests.specs.declared.objects.CounterCall.TheVariants.{Add, Read};
 
+use crate::checks::{check, check_eq};
 use crate::signal::Signal;
 use shared_object::{Answer, Pass, Sequential, Share, meet};
 use std::alloc::Global;
@@ -64,13 +65,13 @@ fn one_pass_is_never_refused(rt: HostRuntime) -> Result<(), Fail> {
     let first = share.try_call(&mut pass, &CounterCall::Add(7));
     let second = share.try_call(&mut pass, &CounterCall::Add(30));
     let third = share.try_call(&mut pass, &CounterCall::Read);
-    assert_eq!(rt; first, Answer::Done(12));
-    assert_eq!(rt; second, Answer::Done(42));
-    assert_eq!(rt; third, Answer::Done(42));
+    check_eq(&rt, first, Answer::Done(12));
+    check_eq(&rt, second, Answer::Done(42));
+    check_eq(&rt, third, Answer::Done(42));
     let history = share.close(pass).ok().ok_or("a call is under way")?;
-    assert_eq!(rt; history.len(), 3);
+    check(&rt, history.len() == 3);
     let (call, reply) = history.get(1);
-    assert_eq!(rt; (*call, *reply), (CounterCall::Add(30), 42));
+    check_eq(&rt, (*call, *reply), (CounterCall::Add(30), 42));
     Ok(())
 }
 
@@ -101,11 +102,11 @@ fn two_threads_have_one_history(rt: HostRuntime) -> Result<(), Fail> {
         || add_ones(&rt, &share, other, 100),
     );
     meet(&share, &mut pass, &mut other);
-    assert_eq!(rt; share.look(&mut other), 200);
+    check_eq(&rt, share.look(&mut other), 200);
     let history = share.close(pass).ok().ok_or("a call is under way")?;
-    assert_eq!(rt; history.len(), 200);
+    check(&rt, history.len() == 200);
     let (call, total) = history.get(199);
-    assert_eq!(rt; (*call, *total), (CounterCall::Add(1), 200));
+    check_eq(&rt, (*call, *total), (CounterCall::Add(1), 200));
     Ok(())
 }
 
@@ -137,9 +138,9 @@ fn first_calls_of_two_threads_meet(rt: HostRuntime) -> Result<(), Fail> {
         || call_with_other(&rt, &share, pass, &left, &right),
         || call_with_other(&rt, &share, other, &right, &left),
     );
-    assert!(rt; left_met && right_met);
+    check(&rt, left_met && right_met);
     let history = share.close(pass).ok().ok_or("a call is under way")?;
-    assert_eq!(rt; history.len(), 2);
+    check_eq(&rt, history.len(), 2);
     Ok(())
 }
 
@@ -202,9 +203,9 @@ fn a_try_is_busy_while_a_call_is_under_way(rt: HostRuntime) -> Result<(), Fail> 
         || share.try_call(&mut pass, &0),
         || try_meanwhile(&share, other, &under_way, &tried),
     );
-    assert!(rt; met);
-    assert_eq!(rt; answer, Answer::Done(true));
-    assert_eq!(rt; refused, Answer::Busy { turn: 1 });
+    check(&rt, met);
+    check_eq(&rt, answer, Answer::Done(true));
+    check_eq(&rt, refused, Answer::Busy { turn: 1 });
     Ok(())
 }
 
@@ -213,14 +214,19 @@ fn a_full_history_takes_no_call(rt: HostRuntime) -> Result<(), Fail> {
     let made = Share::new(rt.alloc(), Counter { value: 0 }, &0);
     let (share, pass) = made.ok().ok_or("memory")?;
     let mut pass = add_ones(&rt, &share, pass, 16_384);
-    assert_eq!(rt; share.try_call(&mut pass, &CounterCall::Read), Answer::Full);
-    assert_eq!(rt;
-        share.call(&rt, &mut pass, &CounterCall::Read),
-        Answer::Full
+    check_eq(
+        &rt,
+        share.try_call(&mut pass, &CounterCall::Read),
+        Answer::Full,
     );
-    assert_eq!(rt; share.look(&mut pass), 16_384);
+    check_eq(
+        &rt,
+        share.call(&rt, &mut pass, &CounterCall::Read),
+        Answer::Full,
+    );
+    check_eq(&rt, share.look(&mut pass), 16_384);
     let history = share.close(pass).ok().ok_or("a call is under way")?;
-    assert_eq!(rt; history.len(), 16_384);
+    check_eq(&rt, history.len(), 16_384);
     Ok(())
 }
 

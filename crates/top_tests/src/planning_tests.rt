@@ -9,6 +9,7 @@ ghost use Rattle.machine.specs.Prepared.{prepared};
 ghost use Rattle.top_tests.specs.LateOpen.{opening, stretch};
 ghost use Rattle.perf_book.specs.Sheets.{IsReady};
 
+use crate::checks::check;
 use crate::late_open_tests::shared_counter;
 use crate::processor_tests::begin;
 use cpu_sched::Sheet;
@@ -166,9 +167,9 @@ fn lines_by_plan<L: Ledger, P: Ledger>(
 #[test]
 fn lines_planned_in_time_test_no_counter(rt: HostRuntime) -> Result<(), Fail> {
     let alloc: Global = rt.alloc();
+    let mut sheet = Sheet::new(alloc)?;
     let script = shared_counter(alloc).ok().ok_or("memory")?;
     let (mut book, rings, _ins) = begin(&rt, alloc, script)?;
-    let mut sheet = Sheet::new(alloc)?;
     let went = lines_by_plan::<Brand, Brand>(
         &mut book,
         &rings,
@@ -176,7 +177,7 @@ fn lines_planned_in_time_test_no_counter(rt: HostRuntime) -> Result<(), Fail> {
         Blank::new(1),
         Blank::new(1),
     );
-    assert!(rt; went);
-    assert!(rt; !book.has_line(Actor::Processor(CpuNo(0))));
+    check(&rt, went);
+    check(&rt, !book.has_line(Actor::Processor(CpuNo(0))));
     Ok(())
 }

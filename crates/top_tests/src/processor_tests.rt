@@ -6,6 +6,7 @@ ghost use Rattle.perf_base.specs.Weight.{weight};
 ghost use Rattle.work_account.specs.Ends.{AreTogether};
 ghost use Rattle.machine.specs.Readers.{AreReaders};
 
+use crate::checks::check;
 use crate::signal::Signal;
 use perf_base::{Actor, CpuLine, CpuNo, NoMemory, Script};
 use perf_book::{Book, Gate, OpenGate, run_all};
@@ -62,9 +63,9 @@ pub fn begin(rt: &impl Abort, alloc: Global, script: Script) -> Result<(Book, Ri
     ensures together { IfOk result (λ r. AreTogether r.1 r.0.machine.outs) }
     ensures readers { IfOk result (λ r. AreReaders (9 * weight r.0.script) r.0.machine.outs r.2) }
 {
-    assert!(rt; script.is_covered());
-    assert!(rt; script.weight() <= 65536);
-    assert!(rt; script.order().len() <= 4194304);
+    check(rt, script.is_covered());
+    check(rt, script.weight() <= 65536);
+    check(rt, script.order().len() <= 4194304);
     match book_of(alloc, script) {
         Ok(begun) => Ok(begun),
         Err(NoMemory) => Err("memory".into()),
@@ -83,7 +84,7 @@ fn processors_work_at_one_time(rt: HostRuntime) -> Result<(), Fail> {
     run_all(&rt, alloc, book, &rings, ins, &gate)
         .ok()
         .ok_or("memory")?;
-    assert!(rt; gate.met.is_there());
+    check(&rt, gate.met.is_there());
     Ok(())
 }
 
@@ -95,6 +96,6 @@ fn open_gate_holds_nobody(rt: HostRuntime) -> Result<(), Fail> {
     let (book, _ins) = run_all(&rt, alloc, book, &rings, ins, &OpenGate)
         .ok()
         .ok_or("memory")?;
-    assert!(rt; !book.has_line(Actor::Processor(CpuNo(0))));
+    check(&rt, !book.has_line(Actor::Processor(CpuNo(0))));
     Ok(())
 }

@@ -1,10 +1,12 @@
 //! What no clause says: that each call answers with ample memory, and which answer comes at a fault.
 
 use crate::calling::{call, sink_of, source_of};
+use crate::checks::{check, check_eq, check_of};
 use perf_base::{RingNo, SReason};
 use perf_io::{MemSink, MemSource, Source};
 use perf_top::Status;
 use std::alloc::Global;
+use std::process::Abort;
 use std::sync::Wait;
 use std::test::Fail;
 use std::thread::Threads;
@@ -97,7 +99,7 @@ type Row = (
     &'static str,
 );
 
-const ROWS: [Row; 19] = [
+static ROWS: [Row; 19] = [
     ("replay", SCRIPT, 9, [CALM, CALM], Status::Done, REPORT, ""),
     ("replay", SCRIPT, 1, [CALM, CALM], Status::Done, REPORT, ""),
     (
@@ -260,7 +262,7 @@ const ROWS: [Row; 19] = [
 ];
 
 /// Calls that read nothing: of words that are not known, of made scripts and of an attribute.
-const UNREAD: [Row; 19] = [
+static UNREAD: [Row; 19] = [
     (
         "replay now",
         SCRIPT,
@@ -363,7 +365,7 @@ const UNREAD: [Row; 19] = [
 ];
 
 /// The same by threads, and the flush that fails.
-const RUN_ROWS: [Row; 10] = [
+static RUN_ROWS: [Row; 10] = [
     (
         "watch 0 1",
         EMPTY,
@@ -473,50 +475,60 @@ fn call_with<R: Threads + Wait + Sync>(
     Ok((status, sink, notes, source.read(&mut [0; 9]).ok()))
 }
 
-/// Whether a call answers, writes and notes what its row says; and how many bytes of the next nine the source still
-/// has.
-fn comes_so<R: Threads + Wait + Sync>(
+/// Checks that a call answers, writes and notes what its row says. Gives how many bytes of the next nine the source
+/// still has.
+fn check_row<R: Abort + Threads + Wait + Sync>(
     rt: &R,
     alloc: Global,
-    row: Row,
-) -> Result<(bool, Option<usize>), Fail> {
-    let (said, text, piece, fails, answer, report, note) = row;
+    row: &Row,
+) -> Result<Option<usize>, Fail> {
+    let (said, text, piece, fails, answer, report, note) = *row;
     let (status, sink, notes, rest) = call_with(rt, alloc, said, text, piece, fails)?;
     let same = status == answer
         && sink.bytes() == report.as_bytes()
         && notes.bytes() == note.as_bytes();
-    Ok((same, rest))
+    check_of(rt, said, same);
+    Ok(rest)
+}
+
+/// Checks each row.
+fn check_rows<R: Abort + Threads + Wait + Sync>(
+    rt: &R,
+    alloc: Global,
+    rows: &[Row],
+) -> Result<(), Fail> {
+    for row in rows {
+        check_row(rt, alloc, row)?;
+    }
+    Ok(())
+}
+
+/// Checks each row, and that the source was not read.
+fn check_unread<R: Abort + Threads + Wait + Sync>(
+    rt: &R,
+    alloc: Global,
+    rows: &[Row],
+) -> Result<(), Fail> {
+    for row in rows {
+        let rest = check_row(rt, alloc, row)?;
+        check_eq(rt, rest, Some(row.1.len().min(9)));
+    }
+    Ok(())
 }
 
 #[test]
 fn each_answer_comes_with_its_bytes_and_its_note(rt: HostRuntime) -> Result<(), Fail> {
-    for row in ROWS {
-        let said = row.0;
-        assert!(rt; comes_so(&rt, rt.alloc(), row)?.0, "{said}");
-    }
-    Ok(())
+    check_rows(&rt, rt.alloc(), &ROWS)
 }
 
 #[test]
 fn faults_come_under_run_too(rt: HostRuntime) -> Result<(), Fail> {
-    for row in RUN_ROWS {
-        let said = row.0;
-        assert!(rt; comes_so(&rt, rt.alloc(), row)?.0, "{said}");
-    }
-    Ok(())
+    check_rows(&rt, rt.alloc(), &RUN_ROWS)
 }
 
 #[test]
 fn nothing_is_read_where_no_script_is_asked_for(rt: HostRuntime) -> Result<(), Fail> {
-    for row in UNREAD {
-        let (said, had) = (row.0, row.1.len().min(9));
-        assert_eq!(rt;
-            comes_so(&rt, rt.alloc(), row)?,
-            (true, Some(had)),
-            "{said}"
-        );
-    }
-    Ok(())
+    check_unread(&rt, rt.alloc(), &UNREAD)
 }
 
 /// Whether each read of the first script but for the last, one byte a read, may be the one that fails.
@@ -539,13 +551,13 @@ fn each_read_may_fail<R: Threads + Wait + Sync>(
 
 #[test]
 fn each_read_of_a_replay_may_fail(rt: HostRuntime) -> Result<(), Fail> {
-    assert!(rt; each_read_may_fail(&rt, rt.alloc(), "replay")?);
+    check(&rt, each_read_may_fail(&rt, rt.alloc(), "replay")?);
     Ok(())
 }
 
 #[test]
 fn each_read_of_a_run_may_fail(rt: HostRuntime) -> Result<(), Fail> {
-    assert!(rt; each_read_may_fail(&rt, rt.alloc(), "run")?);
+    check(&rt, each_read_may_fail(&rt, rt.alloc(), "run")?);
     Ok(())
 }
 
@@ -579,9 +591,9 @@ fn a_text_may_be_too_long(rt: HostRuntime) -> Result<(), Fail> {
         let mut source = MemSource::new(bytes, 1000000, Vec::new(rt.alloc()));
         let mut sink = sink_of(rt.alloc(), 9)?;
         let (status, notes) = call(&rt, rt.alloc(), said, &mut source, &mut sink)?;
-        assert_eq!(rt; status, answer);
-        assert_eq!(rt; sink.bytes(), b"".as_slice());
-        assert_eq!(rt; notes.bytes(), note.as_bytes());
+        check_eq(&rt, status, answer);
+        check_eq(&rt, sink.bytes(), b"".as_slice());
+        check_eq(&rt, notes.bytes(), note.as_bytes());
     }
     Ok(())
 }
@@ -591,15 +603,15 @@ fn made_script_is_printed_and_can_be_replayed(rt: HostRuntime) -> Result<(), Fai
     let mut nothing = source_of(rt.alloc(), "", 9)?;
     let mut made = sink_of(rt.alloc(), 5000)?;
     let (status, _) = call(&rt, rt.alloc(), "make 1 script", &mut nothing, &mut made)?;
-    assert_eq!(rt; status, Status::Done);
-    assert!(rt; made.bytes().starts_with(HEAD));
-    assert!(rt; made.bytes().ends_with(b"\nend\n"));
+    check_eq(&rt, status, Status::Done);
+    check(&rt, made.bytes().starts_with(HEAD));
+    check(&rt, made.bytes().ends_with(b"\nend\n"));
     let text = Vec::from_slice(rt.alloc(), made.bytes())?;
     let mut source = MemSource::new(text, 5000, Vec::new(rt.alloc()));
     let mut report = sink_of(rt.alloc(), 5000)?;
     let (status, notes) = call(&rt, rt.alloc(), "replay", &mut source, &mut report)?;
-    assert_eq!(rt; status, Status::Done);
-    assert!(rt; report.bytes().ends_with(b"\nend\n"));
-    assert_eq!(rt; notes.bytes(), b"".as_slice());
+    check_eq(&rt, status, Status::Done);
+    check(&rt, report.bytes().ends_with(b"\nend\n"));
+    check_eq(&rt, notes.bytes(), b"".as_slice());
     Ok(())
 }

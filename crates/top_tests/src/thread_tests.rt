@@ -1,9 +1,11 @@
 //! What threads alone show: that processors, tools and readers work at one time, and that each look is a new one.
 
+use crate::calling::{call_gated, sink_of, source_of};
+use crate::checks::{check, check_eq};
 use perf_base::{Actor, CpuNo, RingNo, ToolNo};
 use perf_book::Gate;
-use perf_io::{MemSink, MemSource};
-use perf_top::{OpenGate, Status, perf_main};
+use perf_io::MemSink;
+use perf_top::{OpenGate, Status};
 use std::alloc::Global;
 use std::sync::Wait;
 use std::sync::atomic::{AtomicU64, Ordering};
@@ -209,23 +211,20 @@ fn call<R: Threads + Wait + Sync, G: Gate + Sync>(
     text: &str,
     gate: &G,
 ) -> Result<(Status, MemSink), Fail> {
-    let mut words = Vec::new(alloc);
-    for word in said.split_whitespace() {
-        words.push(String::from_str(alloc, word)?)?;
-    }
-    let bytes = Vec::from_slice(alloc, text.as_bytes())?;
-    let mut source = MemSource::new(bytes, 9, Vec::new(alloc));
-    let mut sink = MemSink::new(alloc, 9, Vec::new(alloc), 10000)?;
-    let mut notes = MemSink::new(alloc, 9, Vec::new(alloc), 1000)?;
-    let status = perf_main(rt, alloc, &words, &mut source, &mut sink, &mut notes, gate);
+    let mut source = source_of(alloc, text, 9)?;
+    let mut sink = sink_of(alloc, 9)?;
+    let (status, _) = call_gated(rt, alloc, said, &mut source, &mut sink, gate)?;
     Ok((status, sink))
 }
 
 #[test]
 fn a_script_without_order_is_run(rt: HostRuntime) -> Result<(), Fail> {
     let (status, sink) = run(&rt, rt.alloc(), NO_ORDER, &OpenGate)?;
-    assert_eq!(rt; status, Status::Done);
-    assert!(rt; OF_EACH_ORDER.iter().any(|report| sink.bytes() == *report));
+    check_eq(&rt, status, Status::Done);
+    check(
+        &rt,
+        OF_EACH_ORDER.iter().any(|report| sink.bytes() == *report),
+    );
     Ok(())
 }
 
@@ -235,8 +234,8 @@ fn processors_work_at_one_time(rt: HostRuntime) -> Result<(), Fail> {
         other: Signal::new(),
     };
     let (status, _sink) = run(&rt, rt.alloc(), TWO_PROCESSORS, &gate)?;
-    assert_eq!(rt; status, Status::Done);
-    assert!(rt; gate.other.is_met());
+    check_eq(&rt, status, Status::Done);
+    check(&rt, gate.other.is_met());
     Ok(())
 }
 
@@ -247,9 +246,9 @@ fn reader_takes_what_was_written_meanwhile(rt: HostRuntime) -> Result<(), Fail> 
         last: Signal::new(),
     };
     let (status, sink) = run(&rt, rt.alloc(), BURST, &gate)?;
-    assert_eq!(rt; status, Status::Done);
-    assert!(rt; gate.tool.is_met() && gate.last.is_met());
-    assert!(rt; sink.bytes().ends_with(ALL_TAKEN));
+    check_eq(&rt, status, Status::Done);
+    check(&rt, gate.tool.is_met() && gate.last.is_met());
+    check(&rt, sink.bytes().ends_with(ALL_TAKEN));
     Ok(())
 }
 
@@ -262,13 +261,14 @@ fn each_look_is_a_new_one(rt: HostRuntime) -> Result<(), Fail> {
         third: Signal::new(),
     };
     let (status, sink) = run(&rt, rt.alloc(), FULL_RING, &gate)?;
-    assert_eq!(rt; status, Status::Done);
-    assert!(rt;
-        gate.tool.is_met() && gate.second.is_met() && gate.reader.is_met() && gate.third.is_met()
+    check_eq(&rt, status, Status::Done);
+    check(
+        &rt,
+        gate.tool.is_met() && gate.second.is_met() && gate.reader.is_met() && gate.third.is_met(),
     );
     let text = str::from_utf8(sink.bytes()).ok().ok_or("text")?;
     let between = text.split("p0").nth(1).ok_or("second act")?;
-    assert!(rt; between.ends_with("s0=16 "));
+    check(&rt, between.ends_with("s0=16 "));
     Ok(())
 }
 
@@ -279,12 +279,12 @@ fn a_watcher_sees_what_was_counted(rt: HostRuntime) -> Result<(), Fail> {
         worked: Signal::new(),
     };
     let (status, sink) = call(&rt, rt.alloc(), "watch 0 1", WATCHED, &gate)?;
-    assert_eq!(rt; status, Status::Done);
-    assert!(rt; gate.opened.is_met() && gate.worked.is_met());
+    check_eq(&rt, status, Status::Done);
+    check(&rt, gate.opened.is_met() && gate.worked.is_met());
     let text = str::from_utf8(sink.bytes()).ok().ok_or("text")?;
     let seen = text.split("watch 0 at=").nth(1).ok_or("watch line")?;
-    assert!(rt; seen.ends_with(" 500 100 100\nfinal 0 500 100 100\n"));
+    check(&rt, seen.ends_with(" 500 100 100\nfinal 0 500 100 100\n"));
     let look = seen.split("\n").nth(0).ok_or("look")?;
-    assert!(rt; look.ends_with(" 500 100 100"));
+    check(&rt, look.ends_with(" 500 100 100"));
     Ok(())
 }

@@ -6,6 +6,6 @@ abbrev pub invariant-loop-i : goal.invariant-loop-i
 invariant-loop-i g l = record {
   ring : l.consumer.ring ≡ l.table;
   head : 48 ≤ l.consumer.last_head;
-  count : length l.consumer.taken ≡ 2 * l.i-counter;
+  count : length l.consumer.taken ≡ 2 * l.i;
   whole : IsWhole l.consumer.taken;
 }
