@@ -2,14 +2,14 @@
 
 ghost use Rattle.std.specs.Prelude.{◌≡◌, ◌⊎◌};
 ghost use mathlib.Core.List.{IsPrefix};
-ghost use Rattle.shared_object.specs.Histories.{BelongsTo, longer, part_of};
+ghost use Rattle.shared_object.specs.Histories.{BelongsTo, having_parted, longer, part_of};
 
 use crate::served::Served;
 use crate::share::Share;
 use std::marker::Model;
 
-/// What a thread calls a shared machine with. Contracts see it as the calls that it has seen, the places of its own
-/// among them, and the words that its tries found. It holds no turn.
+/// What a thread calls a shared machine with. Contracts see it as its name, how many passes were parted from it, the
+/// calls that it has seen, the places of its own among them, and the words that its tries found. It holds no turn.
 #[derive(Drop)]
 pub struct Pass {
     pub(crate) pass: shared_object::Pass<Served>,
@@ -27,10 +27,11 @@ impl Model for Pass {
 }
 
 impl Pass {
-    /// A pass for another thread, which has seen the same and made no calls.
+    /// A pass for another thread, which has seen the same and made no calls. It is the only one that is parted here: its
+    /// name tells from which pass, and how many were parted from that before.
     pub fn split(&mut self, share: &Share) -> Pass
         requires { BelongsTo self.old share.now }
-        ensures same { self.new ≡ self.old }
+        ensures parted { self.new ≡ having_parted self.old }
         ensures part { result ≡ part_of self.old }
     {
         Pass {

@@ -12,12 +12,15 @@ use sample_ring::{Rings, make_rings};
 use shared_object::Sequential;
 use std::alloc::Global;
 
-/// A machine without rings, and the table of its rings, which is empty.
+/// A machine without rings, and the table of its rings, which is empty: what stands behind the turn.
 #[derive(Drop)]
-pub(crate) struct Served {
+pub struct Served {
     pub(crate) machine: Machine,
     pub(crate) rings: Rings,
 }
+
+/// All calls that were made, each with its reply, in their order.
+pub type History = shared_object::History<Served>;
 
 /// The machine of a script without rings, before its first call.
 pub(crate) fn serve(alloc: Global, script: &Script) -> Result<Served, NoMemory>

@@ -3,16 +3,16 @@
 ghost use Rattle.std.specs.Prelude.{◌≡◌, ◌≢◌, ◌≤◌, ◌↔◌, [], ◌∷◌, ◌++◌, length, IfOk, IsTrue, MatchResult};
 ghost use mathlib.Core.List.{IsPrefix};
 ghost use Rattle.perf_base.specs.Scripts.{IsCovered};
-ghost use Rattle.shared_object.specs.Answers.{Calls, Tries};
+ghost use Rattle.shared_object.specs.Answers.{Calls, IsClosed, Tries};
 ghost use Rattle.shared_object.specs.Histories.{BelongsTo, most_calls, new_pass};
 ghost use Rattle.perf_share.specs.Calls.{AreLegal, Fits};
 
 use crate::call::Call;
 use crate::fitting::CallLimits;
 use crate::pass::Pass;
-use crate::served::{Served, serve};
+use crate::served::{History, Served, serve};
 use perf_base::{NoMemory, Reply, Script};
-use shared_object::{Answer, History};
+use shared_object::Answer;
 use std::alloc::Global;
 use std::marker::Model;
 use std::sync::Wait;
@@ -92,11 +92,11 @@ impl Share {
         self.share.look(&mut pass.pass)
     }
 
-    /// Ends the sharing, and gives the history. Where a call is under way it gives all back, with the word that its
+    /// Ends the sharing, and gives the history, to which it adds nothing. Where a call is under way it gives all back, with the word that its
     /// try found in the place of 0.
-    pub fn close(self, pass: Pass) -> Result<History<Call, Reply>, (Share, Pass, u64)>
+    pub fn close(self, pass: Pass) -> Result<History, (Share, Pass, u64)>
         requires { BelongsTo pass self }
-        ensures { MatchResult result (λ history. IsPrefix pass.seen history × AreLegal self.key history × (length history ≤ most_calls)) (λ r. (r.0 ≡ self) × (r.1 ≡ record pass { found = pass.found ++ r.2 ∷ [] }) × (r.2 ≢ 0)) }
+        ensures { MatchResult result (IsClosed (AreLegal self.key) pass) (λ r. (r.0 ≡ self) × (r.1 ≡ record pass { found = pass.found ++ r.2 ∷ [] }) × (r.2 ≢ 0)) }
     {
         let Share { share, limits } = self;
         match share.close(pass.pass) {

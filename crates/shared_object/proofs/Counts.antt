@@ -1,12 +1,13 @@
 -- The steps on the count keep the rule.
 use Rattle.std.proofs.Common.{◌≡◌, ℕ, ◌+◌, ◌<◌, ◌≤◌, ◌⊎◌, Bool, true, false, List, Option, Some, [], ◌∷◌, ◌++◌, length, set, slice_index, Contains, refl, sym, ap, ◌∙◌, subst, inl, inr, ⊎_elim, true≢false, length-set, length-append, get_or-set_same, get_or-set_other, arith}
-use Rattle.std.proofs.lemmas.List.{set-get_or, Elements.{Contains-push_cases}}
+use Rattle.std.proofs.lemmas.List.{set-get_or, Elements.{Contains-push, Contains-push_cases, Contains-append_left}}
 use mathlib.Core.{Option.{some}, List.{IsPrefix}}
 use lib.ListN.{get_elem?}
 use Rattle.atomic_table.specs.Table.{State, keeps, Allows}
 use Rattle.shared_object.specs.{declared.view.View.{View}, Histories.{most_calls}, Views.{Slot, Holder, all_seen, told, with_own}}
 use Rattle.shared_object.specs.{Rule.{IsFree, IsHeld, Knows, IsKept}, Steps.{LoadsCount, ComparesCount, StoresCount}}
 use Rattle.shared_object.proofs.Prefixes.{prefix_self, longer_so, one_begins}
+use Rattle.shared_object.proofs.Names.{IsLater, same_pass, below_or_at}
 use Rattle.shared_object.proofs.Keeping.{changed, knows, same_history, turn_rests, turn_stays, longer_history}
 
 module _ {O K C R : Type 0} (after : K → O → List (C × R) → Type 0) (legal : K → List (C × R) → Type 0) (key : K) (slots id : ℕ) (m : Holder O K C R) (live : m.0.key ≡ Some key) where
@@ -29,6 +30,7 @@ module _ {O K C R : Type 0} (after : K → O → List (C × R) → Type 0) (lega
         legal_seen = k.legal_log;
         note = x.note;
         legal_note = x.legal_note;
+        turn_of_pass = x.turn_of_pass;
         own = x.own;
         whole_note = x.whole_note;
         whole_seen = λ _ _. refl;
@@ -37,7 +39,7 @@ module _ {O K C R : Type 0} (after : K → O → List (C × R) → Type 0) (lega
         keeps,
         tt,
         same_history after legal key s k id v at (set s.words 1 count) s.homes w (length-set s.words 1 count ∙ k.words) (ap (λ (l : List ℕ). slice_index l 1) same ∙ k.count)
-            (turn_as_before s k at (set s.words 1 count) w (ap (λ (l : List ℕ). slice_index l 0) same) v.holds refl refl) (inr so) (λ place has. inl has),
+            (turn_as_before s k at (set s.words 1 count) w (ap (λ (l : List ℕ). slice_index l 0) same) v.holds refl refl) (inr so) (λ place has. inl has) (same_pass v w refl refl refl refl),
         record {
           on = refl;
           log = k.log;
@@ -63,6 +65,7 @@ module _ {O K C R : Type 0} (after : K → O → List (C × R) → Type 0) (lega
         legal_seen = longer_so v.seen v.note (legal key) x.legal_seen x.legal_note;
         note = x.note;
         legal_note = x.legal_note;
+        turn_of_pass = x.turn_of_pass;
         own = x.own;
         whole_note = x.whole_note;
         whole_seen = λ holds loaded. absurd (true≢false (sym holds ∙ rests));
@@ -71,7 +74,7 @@ module _ {O K C R : Type 0} (after : K → O → List (C × R) → Type 0) (lega
         keeps,
         tt,
         same_history after legal key s k id v at (set s.words 1 count) s.homes w (length-set s.words 1 count ∙ k.words) (ap (λ (l : List ℕ). slice_index l 1) same ∙ k.count)
-            (turn_rests after legal key s k id v at (set s.words 1 count) w (ap (λ (l : List ℕ). slice_index l 0) same) rests rests) (inr so) (λ place has. inl has),
+            (turn_rests after legal key s k id v at (set s.words 1 count) w (ap (λ (l : List ℕ). slice_index l 0) same) rests rests) (inr so) (λ place has. inl has) (same_pass v w refl refl refl refl),
         record { on = refl; view = refl; one = one_begins v.seen v.note k.log x.seen x.note },
       )
 
@@ -91,12 +94,19 @@ module _ {O K C R : Type 0} (after : K → O → List (C × R) → Type 0) (lega
         legal_seen = fits;
         note = subst (IsPrefix (v.seen ++ more)) joined (prefix_self (v.seen ++ more));
         legal_note = fits;
+        turn_of_pass = x.turn_of_pass;
         own = λ place has.
             ⊎_elim (λ (old : Contains v.own place). let low : place < length k.log = x.own place old in omega (arith, low, length-append k.log more))
             (λ (e : length v.seen ≡ place). omega (arith, e, long)) (Contains-push_cases v.own (length v.seen) place has);
         whole_note = λ _. joined;
         whole_seen = λ _ _. joined;
       } in
+      let later : IsLater v w = record { is_pass = refl; name = refl; parted = omega arith; own = λ place has. Contains-append_left v.own (length v.seen ∷ []) place has } in
+      let all_owned : (place : ℕ) → place < length (k.log ++ more) → (place < length k.log) ⊎ (Contains w.own place × (w.is_pass ≡ true)) =
+      λ place few.
+      ⊎_elim (λ (old : place < length k.log). inl old)
+      (λ (new : place ≡ length k.log). inr (subst (Contains w.own) (ap length all ∙ sym new) (Contains-push v.own (length v.seen)), x.turn_of_pass holds))
+      (below_or_at place (length k.log) (omega (arith, few, length-append k.log more))) in
       let own : (place : ℕ) → Contains w.own place → Contains v.own place ⊎ (length k.log ≤ place) =
       λ place has.
       ⊎_elim (λ (old : Contains v.own place). inl old) (λ (e : length v.seen ≡ place). inr (omega (arith, e, ap length all))) (Contains-push_cases v.own (length v.seen) place has) in (
@@ -104,6 +114,6 @@ module _ {O K C R : Type 0} (after : K → O → List (C × R) → Type 0) (lega
         keeps,
         tt,
         longer_history after legal key s k id v at holds (set s.words 1 count) w more (length-set s.words 1 count ∙ k.words) (get_or-set_other s.words 1 0 count 0 (λ e. omega arith)) holds
-            (get_or-set_same s.words 1 count 0 (omega (arith, k.words)) ∙ one_more ∙ sym long) (omega (arith, long, room)) (subst (legal key) joined fits) so own,
+            (get_or-set_same s.words 1 count 0 (omega (arith, k.words)) ∙ one_more ∙ sym long) (omega (arith, long, room)) (subst (legal key) joined fits) so own later all_owned,
         record { on = refl; added = added; is = is; view = refl },
       )

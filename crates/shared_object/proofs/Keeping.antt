@@ -4,7 +4,7 @@ use mathlib.Core.Option.{Option, some}
 use lib.ListN.{get_elem?}
 use Rattle.atomic_table.{specs.Table.{State}, proofs.Lists.{at_set}}
 use Rattle.shared_object.specs.{declared.view.View.{View}, Histories.{most_calls}, Views.{Slot, spent}, Rule.{holders, IsFree, IsHeld, Knows, IsKept}}
-use Rattle.shared_object.proofs.{Alone.{it_stays, others_stay, none_passes, no_other}, Prefixes.{prefix_more}}
+use Rattle.shared_object.proofs.{Alone.{it_stays, others_stay, none_passes, no_other}, Prefixes.{prefix_more}, Names.{IsLater, named_still}}
 
 -- the table after a step of the seat
 abbrev pub changed : {O K C R : Type 0} → State (Slot O C R) (View K C R) → List ℕ → List (Option (Slot O C R)) → ℕ → View K C R → State (Slot O C R) (View K C R)
@@ -28,6 +28,7 @@ module _ {O K C R : Type 0} (after : K → O → List (C × R) → Type 0) (lega
         legal_seen = x.legal_seen;
         note = prefix_more u.note k.log more x.note;
         legal_note = x.legal_note;
+        turn_of_pass = x.turn_of_pass;
         own = λ place has. let low : place < length k.log = x.own place has in omega (arith, low, length-append k.log more);
         whole_note = λ holds. absurd (true≢false (sym holds ∙ rests));
         whole_seen = λ holds loaded. absurd (true≢false (sym holds ∙ rests));
@@ -60,9 +61,9 @@ module _ {O K C R : Type 0} (after : K → O → List (C × R) → Type 0) (lega
 
     -- a step after which the history is as before
     pub same_history : (words : List ℕ) (homes : List (Option (Slot O C R))) (w : View K C R) → length words ≡ 2 → slice_index words 1 ≡ length k.log
-        → IsFree after key k.log (changed s words homes id w) ⊎ IsHeld (changed s words homes id w) → (w ≡ spent) ⊎ Knows legal key k.log w → AddsOwn w
+        → IsFree after key k.log (changed s words homes id w) ⊎ IsHeld (changed s words homes id w) → (w ≡ spent) ⊎ Knows legal key k.log w → AddsOwn w → IsLater v w
         → IsKept after legal key (changed s words homes id w)
-    same_history words homes w long count turn so own = record {
+    same_history words homes w long count turn so own later = record {
       log = k.log;
       legal_log = k.legal_log;
       room = k.room;
@@ -72,6 +73,7 @@ module _ {O K C R : Type 0} (after : K → O → List (C × R) → Type 0) (lega
       views = λ seat u there.
           ⊎_elim (λ (t : (seat ≡ id) × (w ≡ u)). subst (λ (z : View K C R). (z ≡ spent) ⊎ Knows legal key k.log z) t.1 so)
           (λ (t : (seat ≢ id) × (get_elem? s.views seat ≡ some u)). k.views seat u t.1) (at_set s.views id seat w u there);
+      names = named_still s.views id v w at later (length k.log) (length k.log) (λ place few. inl few) k.names;
       apart = still_apart w own;
     }
 
@@ -101,9 +103,10 @@ module _ {O K C R : Type 0} (after : K → O → List (C × R) → Type 0) (lega
 
       -- a step of the seat with the turn, after which the history is longer
       pub longer_history : (words : List ℕ) (w : View K C R) (more : List (C × R)) → length words ≡ 2 → slice_index words 0 ≡ slice_index s.words 0 → w.holds ≡ true
-          → slice_index words 1 ≡ length (k.log ++ more) → length (k.log ++ more) ≤ most_calls → legal key (k.log ++ more) → Knows legal key (k.log ++ more) w → AddsOwn w
+          → slice_index words 1 ≡ length (k.log ++ more) → length (k.log ++ more) ≤ most_calls → legal key (k.log ++ more) → Knows legal key (k.log ++ more) w → AddsOwn w → IsLater v w
+          → ((place : ℕ) → place < length (k.log ++ more) → (place < length k.log) ⊎ (Contains w.own place × (w.is_pass ≡ true)))
           → IsKept after legal key (changed s words s.homes id w)
-      longer_history words w more long same still count room fits so own = record {
+      longer_history words w more long same still count room fits so own later all = record {
         log = k.log ++ more;
         legal_log = fits;
         room = room;
@@ -113,5 +116,6 @@ module _ {O K C R : Type 0} (after : K → O → List (C × R) → Type 0) (lega
         views = λ seat u there.
             ⊎_elim (λ (t : (seat ≡ id) × (w ≡ u)). inr (subst (λ (z : View K C R). Knows legal key (k.log ++ more) z) t.1 so))
             (λ (t : (seat ≢ id) × (get_elem? s.views seat ≡ some u)). grown more u (others_rest seat u t.0 t.1) (k.views seat u t.1)) (at_set s.views id seat w u there);
+        names = named_still s.views id v w at later (length k.log) (length (k.log ++ more)) all k.names;
         apart = still_apart w own;
       }

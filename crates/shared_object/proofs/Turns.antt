@@ -7,7 +7,7 @@ use lib.ListN.{get_elem?}
 use Rattle.atomic_table.{specs.Table.{State, Act, keeps, takes, gives, Valid, Allows, stepped, carried_after, put_back}, proofs.Lists.{exchanged}}
 use Rattle.shared_object.specs.{declared.view.View.{View}, Views.{Slot, Holder, finding, with_turn, at_rest}}
 use Rattle.shared_object.{specs.{Rule.{Stores, IsFree, IsHeld, Knows, IsKept}, Steps.{TakesTurn, StoresTurn}}, proofs.Alone.{it_comes, it_goes}}
-use Rattle.shared_object.proofs.{Prefixes.{prefix_self}, Keeping.{knows, same_history, turn_rests, held}}
+use Rattle.shared_object.proofs.{Prefixes.{prefix_self}, Names.{same_pass}, Keeping.{knows, same_history, turn_rests, held}}
 
 module _ {O K C R : Type 0} (after : K → O → List (C × R) → Type 0) (legal : K → List (C × R) → Type 0) (key : K) (slots id : ℕ) (m : Holder O K C R) (live : m.0.key ≡ Some key) where
   -- a view that found the turn held knows what it knew
@@ -18,24 +18,26 @@ module _ {O K C R : Type 0} (after : K → O → List (C × R) → Type 0) (lega
     legal_seen = x.legal_seen;
     note = x.note;
     legal_note = x.legal_note;
+    turn_of_pass = x.turn_of_pass;
     own = x.own;
     whole_note = x.whole_note;
     whole_seen = x.whole_seen;
   }
 
-  knows_all : (log : List (C × R)) → legal key log → Knows legal key log m.0 → Knows legal key log (with_turn m.0 log)
-  knows_all log fits x = record {
+  knows_all : m.0.is_pass ≡ true → (log : List (C × R)) → legal key log → Knows legal key log m.0 → Knows legal key log (with_turn m.0 log)
+  knows_all of_pass log fits x = record {
     key_is = x.key_is;
     seen = x.seen;
     legal_seen = x.legal_seen;
     note = prefix_self log;
     legal_note = fits;
+    turn_of_pass = λ _. of_pass;
     own = x.own;
     whole_note = λ _. refl;
     whole_seen = λ _ loaded. absurd (true≢false (sym loaded));
   }
 
-  module _ (rests : m.0.holds ≡ false) (s : State (Slot O C R) (View K C R)) (k : IsKept after legal key s) (at : get_elem? s.views id ≡ some m.0) where
+  module _ (rests : m.0.holds ≡ false) (of_pass : m.0.is_pass ≡ true) (s : State (Slot O C R) (View K C R)) (k : IsKept after legal key s) (at : get_elem? s.views id ≡ some m.0) where
     abbrev found : ℕ
     found = slice_index s.words 0
 
@@ -61,7 +63,7 @@ module _ {O K C R : Type 0} (after : K → O → List (C × R) → Type 0) (lega
           takes 0 f.value,
           ap (λ (h : List (Option (Slot O C R))). get_elem? h 0) f.at_home,
           same_history after legal key s k id v at (set s.words 0 1) (set s.homes 0 none) w (length-set s.words 0 1 ∙ k.words)
-              (get_or-set_other s.words 0 1 1 0 (λ e. omega arith) ∙ k.count) (inr turn) (inr (knows_all k.log k.legal_log x)) (λ place has. inl has),
+              (get_or-set_other s.words 0 1 1 0 (λ e. omega arith) ∙ k.count) (inr turn) (inr (knows_all of_pass k.log k.legal_log x)) (λ place has. inl has) (same_pass v w refl refl refl refl),
           record {
             on = refl;
             held = λ other. absurd (other zero_found);
@@ -88,12 +90,12 @@ module _ {O K C R : Type 0} (after : K → O → List (C × R) → Type 0) (lega
           keeps,
           tt,
           same_history after legal key s k id v at (set s.words 0 found) s.homes w (length-set s.words 0 found ∙ k.words) (ap (λ (l : List ℕ). slice_index l 1) same ∙ k.count)
-              (turn_rests after legal key s k id v at (set s.words 0 found) w (ap (λ (l : List ℕ). slice_index l 0) same) rests rests) (inr (knows_still k.log found x)) (λ place has. inl has),
+              (turn_rests after legal key s k id v at (set s.words 0 found) w (ap (λ (l : List ℕ). slice_index l 0) same) rests rests) (inr (knows_still k.log found x)) (λ place has. inl has) (same_pass v w refl refl refl refl),
           record { on = refl; held = λ _. refl; free = λ zero_found. absurd (other zero_found) },
         )
 
-  pub may_take : m.0.holds ≡ false → Allows (IsKept after legal key) slots id m 0 (λ n. either (Rattle.std.proofs.Common.eqb n 0) 1 n) (TakesTurn after legal 0 m)
-  may_take rests s k _ at _ = exchanged (slice_index s.words 0) 0 1 (Takes rests s k at) (wins rests s k at) (loses rests s k at)
+  pub may_take : m.0.holds ≡ false → m.0.is_pass ≡ true → Allows (IsKept after legal key) slots id m 0 (λ n. either (Rattle.std.proofs.Common.eqb n 0) 1 n) (TakesTurn after legal 0 m)
+  may_take rests of_pass s k _ at _ = exchanged (slice_index s.words 0) 0 1 (Takes rests of_pass s k at) (wins rests of_pass s k at) (loses rests of_pass s k at)
 
   pub may_store_turn : m.0.holds ≡ true → (value : Slot O C R) → m.1 ≡ (0, value) ∷ [] → Stores after key m.0.note value
       → Allows (IsKept after legal key) slots id m 0 (λ _. 0) (λ _. StoresTurn 0 m 0)
@@ -117,6 +119,7 @@ module _ {O K C R : Type 0} (after : K → O → List (C × R) → Type 0) (lega
         legal_seen = x.legal_seen;
         note = x.note;
         legal_note = x.legal_note;
+        turn_of_pass = λ still. absurd (true≢false (sym still));
         own = x.own;
         whole_note = λ still. absurd (true≢false (sym still));
         whole_seen = λ still loaded. absurd (true≢false (sym still));
@@ -124,6 +127,6 @@ module _ {O K C R : Type 0} (after : K → O → List (C × R) → Type 0) (lega
         w,
         gives,
         tt,
-        same_history after legal key s k id v at (set s.words 0 0) (put_back s.homes m.1) w (length-set s.words 0 0 ∙ k.words) (get_or-set_other s.words 0 1 0 0 (λ e. omega arith) ∙ k.count) (inl turn) (inr so) (λ place has. inl has),
+        same_history after legal key s k id v at (set s.words 0 0) (put_back s.homes m.1) w (length-set s.words 0 0 ∙ k.words) (get_or-set_other s.words 0 1 0 0 (λ e. omega arith) ∙ k.count) (inl turn) (inr so) (λ place has. inl has) (same_pass v w refl refl refl refl),
         record { on = refl; view = refl },
       )

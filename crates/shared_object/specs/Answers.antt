@@ -1,7 +1,17 @@
 -- What the calls of a shared object answer, and what the pass has then seen.
-use Rattle.std.specs.Prelude.{◌≡◌, ◌≢◌, ℕ, ◌<◌, All, List, [], ◌∷◌, ◌++◌, length}
+use Rattle.std.specs.Prelude.{◌≡◌, ◌≢◌, ℕ, ◌<◌, ◌≤◌, All, List, [], ◌∷◌, ◌++◌, length}
 use mathlib.Core.List.{IsPrefix}
-use Rattle.shared_object.specs.{Histories.{PassView, most_calls}, declared.answer.Answer.{Answer, TheVariants.{Done, Busy, Full}}}
+use Rattle.shared_object.specs.{Histories.{PassView, Closed, most_calls}, declared.answer.Answer.{Answer, TheVariants.{Done, Busy, Full}}}
+
+-- p is the pass before the call, which closes the object
+module _ {K C R : Type 0} (legal : List (C × R) → Type 0) (p : PassView K C R) where
+  -- What closing gives: the history begins with all that the pass had seen, and the pass has found the turn free, and is
+  -- else as it was: it made no call for it and parted none (this project's own profile).
+  pub record IsClosed (closed : Closed K C R) : Type 0 where
+    pub prefix : IsPrefix p.seen closed.calls
+    pub legal_calls : legal closed.calls
+    pub room : length closed.calls ≤ most_calls
+    pub pass : closed.pass ≡ record p { found = p.found ++ 0 ∷ [] }
 
 -- p is the pass before the call, and q the pass after it
 module _ {K C R : Type 0} (legal : List (C × R) → Type 0) (p : PassView K C R) (call : C) (q : PassView K C R) where

@@ -4,3 +4,4 @@ pub mod Rule
 pub mod Steps
 pub mod Turns
 pub mod Answers
+pub mod Owners

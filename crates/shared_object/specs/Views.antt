@@ -1,5 +1,5 @@
 -- The views of the seats at a shared object's table: how they begin, part and join.
-use Rattle.std.specs.Prelude.{◌≡◌, ℕ, true, false, List, Option, Some, None, [], ◌∷◌, ◌++◌, length}
+use Rattle.std.specs.Prelude.{◌≡◌, ℕ, ◌+◌, true, false, List, Option, Some, None, [], ◌∷◌, ◌++◌, length}
 use Rattle.atomic_table.specs.{Seated.{TableId}, Table.{Me}}
 use Rattle.shared_object.specs.{Histories.{PassView, longer}, declared.view.View.{View}}
 
@@ -14,19 +14,29 @@ Holder O K C R = Me (Slot O C R) (View K C R)
 module _ {K C R : Type 0} where
   -- a view that has seen nothing (this project's own profile)
   abbrev pub blank : Option K → View K C R
-  blank key = record { key = key; holds = false; loaded = false; seen = []; note = []; own = []; found = [] }
+  blank key =
+      record { key = key; is_pass = false; name = []; parted = 0; holds = false; loaded = false; seen = []; note = []; own = []; found = [] }
 
   -- the view of the first pass (this project's own profile)
   abbrev pub first : K → View K C R
-  first key = blank (Some key)
+  first key = record (blank (Some key)) { is_pass = true }
 
   -- the view of a seat that was joined to another (this project's own profile)
   abbrev pub spent : View K C R
   spent = blank None
 
-  -- the new pass's part of a view that is split: it has seen the same (this project's own profile)
+  -- the view, from which one more pass was parted (this project's own profile)
+  abbrev pub parting : View K C R → View K C R
+  parting v = record v { parted = v.parted + 1 }
+
+  -- the view of the pass that is parted from it: it has seen the same, and its name says from which pass it was parted,
+  -- and how many were before it (this project's own profile)
   abbrev pub part : View K C R → View K C R
-  part v = record (blank v.key) { seen = v.seen; note = v.seen }
+  part v = record (blank v.key) { is_pass = true; name = v.name ++ v.parted ∷ []; seen = v.seen; note = v.seen }
+
+  -- a note of what the view has seen, for another to take in: it is no pass's (this project's own profile)
+  abbrev pub note_of : View K C R → View K C R
+  note_of v = record (blank v.key) { seen = v.seen; note = v.seen }
 
   -- the view with a note of what the other has seen (this project's own profile)
   abbrev pub noted : View K C R → View K C R → View K C R
@@ -59,10 +69,11 @@ module _ {K C R : Type 0} where
 
   -- what contracts see of a pass's view (this project's own profile)
   abbrev pub pass_view : TableId → View K C R → PassView K C R
-  pass_view id v = record { table = id; key = v.key; seen = v.seen; own = v.own; found = v.found }
+  pass_view id v = record { table = id; key = v.key; name = v.name; parted = v.parted; seen = v.seen; own = v.own; found = v.found }
 
-  -- what a pass keeps: it was joined to none, and has no turn (this project's own profile)
+  -- what a pass keeps: its seat was joined to none, and has no turn (this project's own profile)
   pub record IsPass (v : View K C R) : Type 0 where
     pub key : K
     pub key_is : v.key ≡ Some key
+    pub of_pass : v.is_pass ≡ true
     pub no_turn : v.holds ≡ false

@@ -6,6 +6,7 @@
 mod answer;
 mod history;
 mod kept;
+mod laws;
 mod pass;
 mod plays;
 mod sequential;
@@ -16,6 +17,7 @@ mod view;
 
 pub use answer::Answer;
 pub use history::History;
+pub use laws::each_call_is_an_own_call;
 pub use pass::{Pass, meet};
 pub use sequential::Sequential;
 pub use share::Share;

@@ -1,7 +1,7 @@
 //! What a thread calls with.
 ghost use Rattle.std.specs.Prelude.{◌≡◌, ◌⊎◌};
 ghost use mathlib.Core.List.{IsPrefix};
-ghost use Rattle.shared_object.specs.Histories.{BelongsTo, part_of, longer};
+ghost use Rattle.shared_object.specs.Histories.{BelongsTo, having_parted, part_of, longer};
 
 use crate::sequential::Sequential;
 use crate::share::Share;
@@ -9,8 +9,8 @@ use crate::steps::{compare_count, keep_note, split};
 use crate::view::ShareSeat;
 use std::marker::Model;
 
-/// What a thread calls a shared object with. Contracts see it as the calls that it has seen, the places of its own
-/// among them, and the words that its tries found. It holds no turn.
+/// What a thread calls a shared object with. Contracts see it as its name, how many passes were parted from it, the
+/// calls that it has seen, the places of its own among them, and the words that its tries found. It holds no turn.
 #[derive(Drop)]
 pub struct Pass<O: Sequential> {
     pub(crate) seat: ShareSeat<O>,
@@ -30,10 +30,11 @@ impl<O: Sequential> Model for Pass<O> {
 }
 
 impl<O: Sequential> Pass<O> {
-    /// A pass for another thread, which has seen the same and made no calls.
+    /// A pass for another thread, which has seen the same and made no calls. It is the only one that is parted here: its
+    /// name tells from which pass, and how many were parted from that before.
     pub fn split(&mut self, share: &Share<O>) -> Pass<O>
         requires { BelongsTo self.old share.now }
-        ensures same { self.new ≡ self.old }
+        ensures parted { self.new ≡ having_parted self.old }
         ensures part { result ≡ part_of self.old }
     {
         let seat = split(&share.table.shared, &mut self.seat);

@@ -1,6 +1,6 @@
 //! The kinds of step on a shared object's table, and what each tells its seat.
 ghost use Rattle.std.specs.Prelude.{Option, None};
-ghost use Rattle.shared_object.specs.Views.{part, noted, spent};
+ghost use Rattle.shared_object.specs.Views.{parting, part, note_of, noted, spent};
 ghost use Rattle.shared_object.specs.Steps.{TakesTurn, LoadsCount, ComparesCount, StoresCount, StoresTurn};
 
 use crate::kept::Kept;
@@ -68,12 +68,21 @@ impl<O, K, C, R> Play<Option<Kept<O, C, R>>, View<K, C, R>> for StoreTurn {
 pub(crate) struct Part;
 
 impl<K, C, R> Split<View<K, C, R>> for Part {
-    ghost left = { λ v. v };
+    ghost left = { parting };
 
     ghost right = { part };
 }
 
-/// A pass keeps a note of what the other has seen.
+/// A note of what a pass has seen is taken. No pass is parted: its seat never has the turn.
+pub(crate) struct TakeNote;
+
+impl<K, C, R> Split<View<K, C, R>> for TakeNote {
+    ghost left = { λ v. v };
+
+    ghost right = { note_of };
+}
+
+/// A pass keeps the note.
 pub(crate) struct KeepNote;
 
 impl<K, C, R> Join<View<K, C, R>> for KeepNote {

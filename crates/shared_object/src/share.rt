@@ -2,7 +2,7 @@
 ghost use Rattle.std.specs.Prelude.{◌≡◌, ◌≢◌, ◌≤◌, [], ◌∷◌, ◌++◌, length, IfOk, MatchResult};
 ghost use mathlib.Core.List.{IsPrefix};
 ghost use Rattle.shared_object.specs.Histories.{BelongsTo, new_pass, most_calls};
-ghost use Rattle.shared_object.specs.Answers.{Tries, Calls};
+ghost use Rattle.shared_object.specs.Answers.{Tries, Calls, IsClosed};
 
 use crate::answer::Answer;
 use crate::history::History;
@@ -103,14 +103,11 @@ impl<O: Sequential> Share<O> {
         load_count(&self.table.shared, &mut pass.seat)
     }
 
-    /// Ends the sharing, and gives the history. Where a call is under way it gives all back, with the word that its
+    /// Ends the sharing, and gives the history, to which it adds nothing. Where a call is under way it gives all back, with the word that its
     /// try found in the place of 0.
-    pub fn close(
-        self,
-        pass: Pass<O>,
-    ) -> Result<History<O::Call, O::Reply>, (Share<O>, Pass<O>, u64)>
+    pub fn close(self, pass: Pass<O>) -> Result<History<O>, (Share<O>, Pass<O>, u64)>
         requires { BelongsTo pass self }
-        ensures { MatchResult result (λ history. IsPrefix pass.seen history × O.legal self.key history × (length history ≤ most_calls)) (λ r. (r.0 ≡ self) × (r.1 ≡ record pass { found = pass.found ++ r.2 ∷ [] }) × (r.2 ≢ 0)) }
+        ensures { MatchResult result (IsClosed (O.legal self.key) pass) (λ r. (r.0 ≡ self) × (r.1 ≡ record pass { found = pass.found ++ r.2 ∷ [] }) × (r.2 ≢ 0)) }
     {
         let Pass { mut seat } = pass;
         let turn = take_turn(&self.table.shared, &mut seat);
@@ -120,6 +117,6 @@ impl<O: Sequential> Share<O> {
         let Some(Kept { object: _, calls }) = self.table.shared.exchange(&mut seat, 0, None) else {
             unreachable!()
         };
-        Ok(History { calls })
+        Ok(History { calls, seat })
     }
 }

@@ -2,12 +2,12 @@
 ghost use Rattle.std.specs.Prelude.{◌≡◌, ◌+◌, ◌<◌, ◌≤◌, true, false, [], ◌∷◌, ◌++◌, length, Some};
 ghost use Rattle.atomic_table.specs.Table.{rest};
 ghost use Rattle.shared_object.specs.Histories.{most_calls};
-ghost use Rattle.shared_object.specs.Views.{part, noted};
+ghost use Rattle.shared_object.specs.Views.{parting, part, note_of, noted};
 ghost use Rattle.shared_object.specs.Rule.{turn_word, count_word, Stores};
 ghost use Rattle.shared_object.specs.Steps.{TakesTurn, LoadsCount, ComparesCount, StoresCount, StoresTurn};
 
 use crate::plays::{
-    CompareCount, Entry, KeepNote, LoadCount, Part, StoreCount, StoreTurn, TakeTurn,
+    CompareCount, Entry, KeepNote, LoadCount, Part, StoreCount, StoreTurn, TakeNote, TakeTurn,
 };
 use crate::sequential::Sequential;
 use crate::view::{ShareSeat, ShareTable};
@@ -21,6 +21,7 @@ pub(crate) fn take_turn<O: Sequential>(table: &ShareTable<O>, seat: &mut ShareSe
     requires table { (seat.old.table_id ≡ table.now.table_id) × (table.now.table_id.words ≡ 2) × (table.now.table_id.slots ≡ 1) }
     requires key { seat.old.me.0.key ≡ Some table.now.key }
     requires rests { (seat.old.me.0.holds ≡ false) × (seat.old.me.1 ≡ []) }
+    requires pass { seat.old.me.0.is_pass ≡ true }
     ensures table { seat.new.table_id ≡ seat.old.table_id }
     ensures step { TakesTurn O.after O.legal turn_word seat.old.me result seat.new.me }
 {
@@ -78,15 +79,27 @@ pub(crate) fn store_turn<O: Sequential>(table: &ShareTable<O>, seat: &mut ShareS
     table.store::<StoreTurn>(seat, TURN, 0);
 }
 
-/// The other seat's view stays, and what it has seen goes to a new seat.
+/// A new pass's seat, which has seen what the other has.
 pub(crate) fn split<O: Sequential>(table: &ShareTable<O>, seat: &mut ShareSeat<O>) -> ShareSeat<O>
+    requires table { (seat.old.table_id ≡ table.now.table_id) × (table.now.table_id.words ≡ 2) }
+    requires key { seat.old.me.0.key ≡ Some table.now.key }
+    requires pass { (seat.old.me.0.is_pass ≡ true) × (seat.old.me.0.holds ≡ false) }
+    ensures table { (seat.new.table_id ≡ seat.old.table_id) × (result.table_id ≡ seat.old.table_id) }
+    ensures seat { seat.new.me ≡ (parting seat.old.me.0, seat.old.me.1) }
+    ensures part { result.me ≡ (part seat.old.me.0, []) }
+{
+    table.split_seat::<Part>(seat)
+}
+
+/// A note of what the seat has seen, at a seat that never has the turn.
+fn take_note<O: Sequential>(table: &ShareTable<O>, seat: &mut ShareSeat<O>) -> ShareSeat<O>
     requires table { (seat.old.table_id ≡ table.now.table_id) × (table.now.table_id.words ≡ 2) }
     requires key { seat.old.me.0.key ≡ Some table.now.key }
     ensures table { (seat.new.table_id ≡ seat.old.table_id) × (result.table_id ≡ seat.old.table_id) }
     ensures seat { seat.new.me ≡ seat.old.me }
-    ensures part { result.me ≡ (part seat.old.me.0, []) }
+    ensures note { result.me ≡ (note_of seat.old.me.0, []) }
 {
-    table.split_seat::<Part>(seat)
+    table.split_seat::<TakeNote>(seat)
 }
 
 /// The seat keeps a note of what the other has seen.
@@ -102,6 +115,6 @@ pub(crate) fn keep_note<O: Sequential>(
     ensures seat { seat.new.me ≡ (noted seat.old.me.0 other.old.me.0, seat.old.me.1) }
     ensures other { other.new.me ≡ other.old.me }
 {
-    let note = split(table, other);
+    let note = take_note(table, other);
     table.join_seat::<KeepNote>(seat, note);
 }

@@ -9,6 +9,12 @@ use std::marker::PhantomData;
 pub struct View<K, C, R> {
     /// The object's key, and none in the view of a seat that was joined to another.
     pub key: Option<K>,
+    /// Whether it is a pass's: a note's is not, nor that of a seat that was joined to another.
+    pub is_pass: bool,
+    /// The pass's name: which part it is of which pass. The first pass's is empty.
+    pub name: LinkedList<u64>,
+    /// How many passes were parted from it.
+    pub parted: u64,
     /// Whether the seat has the turn, and whether it has loaded the count since it took it.
     pub holds: bool,
     pub loaded: bool,

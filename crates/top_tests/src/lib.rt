@@ -25,3 +25,5 @@ mod tests;
 mod thread_tests;
 #[cfg(test)]
 mod watch_tests;
+#[cfg(test)]
+mod watching;

@@ -7,9 +7,9 @@ ghost use Rattle.perf_share.specs.Calls.{Fits};
 
 use crate::checks::{check, check_eq};
 use crate::signal::Signal;
+use crate::watching::{call_often, open, read, work};
 use perf_base::{
-    Attr, AttrFlags, CpuLine, CpuNo, CpuSel, EventNo, Kind, Mode, Name, NoMemory, Reply, RingNo,
-    Script, TaskNo, TaskSel, ToolLine, Words, Work,
+    CpuLine, CpuNo, EventNo, Name, NoMemory, Reply, RingNo, Script, TaskNo, ToolLine, Words,
 };
 use perf_share::{Answer, Call, Pass, Share, meet};
 use std::alloc::Global;
@@ -45,43 +45,6 @@ fn share_of(rt: &impl Abort, alloc: Global, script: &Script) -> Result<(Share, P
     check(rt, script.is_covered());
     let made = Share::new(alloc, script);
     Ok(made.ok().ok_or("memory")?)
-}
-
-// Cycles on processor 0, with both times in each read.
-fn open(slot: u16) -> Call {
-    Call::Tool(ToolLine::Open {
-        slot: EventNo(slot),
-        attr: Attr {
-            kind: Kind::Hard(0),
-            task: TaskSel::All,
-            cpu: CpuSel::One(CpuNo(0)),
-            period: 0,
-            sample: 0,
-            format: 3,
-            flags: AttrFlags(0),
-        },
-        leader: None,
-    })
-}
-
-fn read(slot: u16) -> Call {
-    Call::Tool(ToolLine::Read {
-        event: EventNo(slot),
-        size: None,
-    })
-}
-
-// A stretch of work of a processor, in which cycles occur so often.
-fn work(cpu: u8, length: u64, cycles: u64) -> Call {
-    Call::Cpu(
-        CpuNo(cpu),
-        CpuLine::Work(Work {
-            length,
-            mode: Mode::User,
-            ip: 0,
-            hits: [cycles, 0, 0, 0, 0, 0, 0, 0, 0, 0, 0, 0, 0, 0, 0, 0],
-        }),
-    )
 }
 
 // Tries a call that fits.
@@ -153,18 +116,6 @@ fn which_calls_fit(rt: HostRuntime) -> Result<(), Fail> {
     Ok(())
 }
 
-// Makes a call so many times.
-fn call_often(rt: &impl Wait, share: &Share, mut pass: Pass, call: &Call, times: u64) -> Pass
-    requires together { BelongsTo pass share.now }
-    requires fits { Fits share.now.key call.now }
-    ensures { BelongsTo result share.now }
-{
-    for _ in 0..times {
-        let _ = share.call(rt, &mut pass, call);
-    }
-    pass
-}
-
 #[test]
 fn two_threads_have_one_history(rt: HostRuntime) -> Result<(), Fail> {
     let alloc: Global = rt.alloc();
@@ -223,84 +174,6 @@ fn first_calls_of_two_threads_meet(rt: HostRuntime) -> Result<(), Fail> {
     check(&rt, one_met && two_met);
     let history = share.close(pass).ok().ok_or("a call is under way")?;
     check_eq(&rt, history.len(), 2);
-    Ok(())
-}
-
-// What a watcher found: how often a call was under way, and whether what it read ever fell.
-#[derive(Clone, Copy, PartialEq, Eq, Debug)]
-struct Watched {
-    busy: u64,
-    fell: bool,
-}
-
-// The count that a read gave, if it gave one.
-fn count_of(answer: &Answer<Reply>) -> Option<u64> {
-    match answer {
-        Answer::Done(Reply::Read(words)) => words.as_slice().first().copied(),
-        _ => None,
-    }
-}
-
-// Reads an event so many times, and goes on at once where a call of another thread is under way.
-fn watch(share: &Share, mut pass: Pass, call: &Call, times: u64) -> (Pass, Watched)
-    requires together { BelongsTo pass share.now }
-    requires fits { Fits share.now.key call.now }
-    ensures { BelongsTo result.0 share.now }
-{
-    let mut found = Watched {
-        busy: 0,
-        fell: false,
-    };
-    let mut last = 0;
-    for _ in 0..times {
-        let answer = share.try_call(&mut pass, call);
-        if let Answer::Busy { turn: _ } = answer {
-            found.busy = found.busy.saturating_add(1);
-        }
-        if let Some(count) = count_of(&answer) {
-            found.fell = found.fell || count < last;
-            last = count;
-        }
-    }
-    (pass, found)
-}
-
-// The program of docs/SHARING.md.
-#[test]
-fn a_watcher_reads_what_a_worker_counts(rt: HostRuntime) -> Result<(), Fail> {
-    let alloc: Global = rt.alloc();
-    let script = one_counter(alloc).ok().ok_or("memory")?;
-    let (share, mut pass) = share_of(&rt, alloc, &script)?;
-    let (open, work, read) = (open(0), work(0, 100, 500), read(0));
-    check(&rt, share.fits(&open));
-    check(&rt, share.fits(&work));
-    check(&rt, share.fits(&read));
-    check_eq(
-        &rt,
-        share.try_call(&mut pass, &open),
-        Answer::Done(Reply::Ok),
-    );
-    let worker = pass.split(&share);
-    let ((mut watcher, found), mut worker) = join(
-        &rt,
-        || watch(&share, pass, &read, 200),
-        || call_often(&rt, &share, worker, &work, 100),
-    );
-    check(&rt, !found.fell);
-    meet(&share, &mut watcher, &mut worker);
-    let words = Words::from_slice(&[50_000, 10_000, 10_000]);
-    check_eq(
-        &rt,
-        share.call(&rt, &mut watcher, &read),
-        Answer::Done(Reply::Read(words)),
-    );
-    let history = share.close(watcher).ok().ok_or("a call is under way")?;
-    // The open, the work, and each read that was not refused as busy.
-    check_eq(
-        &rt,
-        Some(history.len() as u64),
-        302_u64.checked_sub(found.busy),
-    );
     Ok(())
 }
 
