@@ -1,22 +1,18 @@
-"""Tests of refused_memory.py and failing_calls.py: of what they judge, of the C files, and of the built program.
-
-Those that call the program take the one that the variable PERF_RUN names, and fail where it is not there; without the
-variable they take the one at its usual place, and are skipped where it is not there.
-"""
+"""Tests of refused_memory.py and failing_calls.py: of what they judge, of the C files, and of the built program."""
 
 import os
 import sys
 import tempfile
 import unittest
 
-sys.path.insert(0, os.path.join(os.path.dirname(os.path.abspath(__file__)), ".."))
+HERE = os.path.dirname(os.path.abspath(__file__))
+sys.path[:0] = [HERE, os.path.join(HERE, "..")]
 
 import failing_calls
 import preloaded
 import refused_memory
+from built import PATH, require_program
 
-NAMED = os.environ.get("PERF_RUN")
-PATH = os.path.abspath(NAMED or os.path.join(preloaded.FOLDER, "..", "..", "crates", "perf_run", "out", "perf_run"))
 REPORT = b"order\nend\n"
 
 
@@ -114,10 +110,7 @@ class OfOtherPrograms(Preloaded):
 class OfTheProgram(Preloaded):
     @classmethod
     def setUpClass(cls):
-        if not os.access(PATH, os.X_OK):
-            if NAMED:
-                raise AssertionError(f"PERF_RUN names {PATH}, and no program is there")
-            raise unittest.SkipTest(f"no program at {PATH}: `rt ci` and `rt run` leave it there, or PERF_RUN names another")
+        require_program()
         super().setUpClass()
 
     def test_each_tenth_request_of_the_smallest_replay_is_refused(self):

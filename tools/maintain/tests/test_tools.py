@@ -11,7 +11,6 @@ sys.path.insert(0, TOOLS)
 
 import definition_lines
 import missing_answers
-import run_then_replay
 import seated_reports
 
 
@@ -40,15 +39,6 @@ class DefinitionLines(unittest.TestCase):
         check = [sys.executable, os.path.abspath(os.path.join(TOOLS, "definition_lines.py")), "--check"]
         run = subprocess.run(check, cwd=top, capture_output=True, text=True)
         self.assertEqual((run.returncode, run.stderr), (0, ""))
-
-
-class Runs(unittest.TestCase):
-    def test_an_order_takes_the_place_of_the_old_one(self):
-        text = b"perf 1\norder p0\norder p0\nend\n"
-        self.assertEqual(run_then_replay.with_order(text, b"order t0"), b"perf 1\norder t0\nend\n")
-
-    def test_counters_alone_are_left_out(self):
-        self.assertEqual(run_then_replay.without_counters(b"t0.1 seats 0=1 2=0\nend\n"), b"t0.1 seats 0 2\nend\n")
 
 
 class Seats(unittest.TestCase):
