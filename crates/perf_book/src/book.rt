@@ -15,7 +15,7 @@ ghost use Rattle.stage_spec.specs.Tables.{family_if_open};
 ghost use Rattle.machine.specs.Counted.{IsCountedBy};
 ghost use Rattle.machine.specs.Leading.{HasLine, act_of, done_by, next_step};
 ghost use Rattle.machine.specs.Readers.{AreFollowing, loads_of};
-ghost use Rattle.machine.specs.Stepping.{HasNoLine, IsUnlawful, NamesRing};
+ghost use Rattle.machine.specs.Stepping.{HasNoLine, IsUnlawful, LeavesReaders, NamesRing};
 ghost use Rattle.perf_book.specs.Book.{AreLooksOf, Booked, HasRoomFor, IsBooked, MayAct, loads_by};
 ghost use Rattle.perf_book.specs.Keeping.{KeepsAnswer, next_line};
 ghost use Rattle.perf_book.specs.Sheets.{MayBring, sheet_after};
@@ -189,9 +189,9 @@ impl Book {
 
     /// Does one act of a given order. A processor or a tool does its next line. A look at a ring, which is one of the
     /// script's, is done where the tail may be seen at its place: then the ring's reader takes the records before that
-    /// place. The act is kept, with the answer to its line. A line that is refused leaves the machine's world as it
-    /// was. Before a look there are fewer looks than acts in the script's own order, and each reader has room for 9
-    /// words for each unit of the script's weight. It takes no memory.
+    /// place. The act is kept, with the answer to its line. A line leaves the readers, and one that is refused leaves
+    /// the machine's world as it was. Before a look there are fewer looks than acts in the script's own order, and each
+    /// reader has room for 9 words for each unit of the script's weight. It takes no memory.
     ///
     /// It fails with `NoLine` exactly where the actor has no line left, and with `BadSeen` exactly where the place is
     /// below the last one seen, above the head or not the end of a record; then nothing changes.
@@ -207,6 +207,7 @@ impl Book {
         ensures script { self.new.script ≡ self.old.script }
         ensures order { OnOk result (self.new.order ≡ self.old.order ++ act ∷ []) }
         ensures answer { OnOk result (KeepsAnswer (next_line self.old.machine act) self.old.machine self.new.machine self.old.answers self.new.answers) }
+        ensures readers { LeavesReaders act ins.old ins.new }
         ensures together { AreTogether rings.now self.new.machine.outs }
         ensures following { AreFollowing (9 * weight self.new.script) self.new.machine.outs ins.new }
         ensures sound { IsBooked self.new }
