@@ -63,7 +63,6 @@ fn empty_lists(
     alloc: Global,
     script: &Script,
 ) -> Result<(Vec<Act>, Vec<Answer>, Vec<RingEnd>), NoMemory>
-    requires short { length script.now.order ≤ 4194304 }
     ensures empty { IfOk result (λ r. (r.0.items ≡ []) × (r.1.items ≡ []) × (r.2.items ≡ [])) }
     ensures room { IfOk result (λ r. HasRoomFor script.now (vec_capacity r.0) (vec_capacity r.1) (vec_capacity r.2)) }
 {
@@ -74,14 +73,13 @@ fn empty_lists(
 }
 
 impl Book {
-    /// A book whose lines are all still to be done, of a script each of whose processors is of a PMU, of a weight of at
-    /// most 65,536 and with at most 4,194,304 acts in its order, and of the ends that send of the script's rings, which
-    /// are new. It takes all memory that the book and its machine will need, and fails only where there is not so much;
-    /// then script and ends are gone. A run by threads needs sheets too, and a watched one a page.
+    /// A book whose lines are all still to be done, of a script each of whose processors is of a PMU and of a weight of
+    /// at most 65,536, and of the ends that send of the script's rings, which are new. It takes all memory that the book
+    /// and its machine will need, and fails only where there is not so much; then script and ends are gone. A run by
+    /// threads needs sheets too, and a watched one a page.
     pub fn new(alloc: Global, script: Script, outs: Outs) -> Result<Book, NoMemory>
         requires covered { IsCovered script }
         requires light { weight script ≤ 65536 }
-        requires short { length script.order ≤ 4194304 }
         requires ends { HaveAccounts outs (map empty_ring script.rings) }
         ensures script { IfOk result (λ b. b.script ≡ script) }
         ensures outs { IfOk result (λ b. b.machine.outs ≡ outs) }

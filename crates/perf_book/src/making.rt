@@ -1,6 +1,6 @@
 //! The room that a book needs.
 
-ghost use Rattle.std.specs.Prelude.{◌≡◌, ◌<◌, ◌≤◌, ◌^◌, length, sum};
+ghost use Rattle.std.specs.Prelude.{◌≡◌, ◌<◌, ◌^◌, sum};
 ghost use Rattle.perf_book.specs.Book.{most_acts};
 
 use perf_base::Script;
@@ -16,7 +16,6 @@ fn total(numbers: &[usize]) -> usize
 /// For how many acts of a script a book makes room: those of the script's own order, a line each and 16 looks for each
 /// line of a processor, and 16 looks at the end.
 pub fn count_acts(script: &Script) -> usize
-    requires { length script.now.order ≤ 4194304 }
     ensures { result ≡ most_acts script.now }
 {
     let cpu_lines = total(&script.lines_of_cpus());

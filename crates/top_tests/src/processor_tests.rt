@@ -1,6 +1,6 @@
 //! What threads alone show: that processors work at one time.
 
-ghost use Rattle.std.specs.Prelude.{◌≡◌, ◌*◌, ◌≤◌, IfOk, [], length};
+ghost use Rattle.std.specs.Prelude.{◌≡◌, ◌*◌, ◌≤◌, IfOk, []};
 ghost use Rattle.perf_base.specs.Scripts.{IsCovered};
 ghost use Rattle.perf_base.specs.Weight.{weight};
 ghost use Rattle.work_account.specs.Ends.{AreTogether};
@@ -46,7 +46,6 @@ fn two_processors(alloc: Global) -> Result<Script, NoMemory> {
 fn book_of(alloc: Global, script: Script) -> Result<(Book, Rings, Ins), NoMemory>
     requires covered { IsCovered script }
     requires light { weight script ≤ 65536 }
-    requires short { length script.order ≤ 4194304 }
     ensures empty { IfOk result (λ r. r.0.order ≡ []) }
     ensures together { IfOk result (λ r. AreTogether r.1 r.0.machine.outs) }
     ensures readers { IfOk result (λ r. AreReaders (9 * weight r.0.script) r.0.machine.outs r.2) }
@@ -65,7 +64,6 @@ pub fn begin(rt: &impl Abort, alloc: Global, script: Script) -> Result<(Book, Ri
 {
     check(rt, script.is_covered());
     check(rt, script.weight() <= 65536);
-    check(rt, script.order().len() <= 4194304);
     match book_of(alloc, script) {
         Ok(begun) => Ok(begun),
         Err(NoMemory) => Err("memory".into()),
