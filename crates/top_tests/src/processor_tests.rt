@@ -19,14 +19,13 @@ use std::test::Fail;
 #[derive(Drop)]
 struct AtOneTime {
     begun: Signal,
-    met: Signal,
 }
 
 impl Gate for AtOneTime {
     fn before(&self, actor: Actor, line: u32) {
         match (actor, line) {
             (Actor::Processor(CpuNo(1)), 0) => self.begun.announce(),
-            (Actor::Processor(CpuNo(0)), 1) if self.begun.wait() => self.met.announce(),
+            (Actor::Processor(CpuNo(0)), 1) => self.begun.hold(),
             _ => {}
         }
     }
@@ -77,12 +76,11 @@ fn processors_work_at_one_time(rt: HostRuntime) -> Result<(), Fail> {
     let (book, rings, ins) = begin(&rt, alloc, script)?;
     let gate = AtOneTime {
         begun: Signal::new(),
-        met: Signal::new(),
     };
     run_all(&rt, alloc, book, &rings, ins, &gate)
         .ok()
         .ok_or("memory")?;
-    check(&rt, gate.met.is_there());
+    check(&rt, gate.begun.is_met(1));
     Ok(())
 }
 

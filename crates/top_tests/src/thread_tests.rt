@@ -2,52 +2,15 @@
 
 use crate::calling::{call_gated, sink_of, source_of};
 use crate::checks::{check, check_eq};
+use crate::signal::Signal;
 use perf_base::{Actor, CpuNo, RingNo, ToolNo};
 use perf_book::Gate;
 use perf_io::MemSink;
 use perf_top::{OpenGate, Status};
 use std::alloc::Global;
 use std::sync::Wait;
-use std::sync::atomic::{AtomicU64, Ordering};
 use std::test::Fail;
 use std::thread::Threads;
-
-/// How often a worker that is held up looks. A limit that must not be reached.
-const MOST: u64 = 100_000_000;
-
-/// What one worker announces and another waits for, and whether one has waited in vain.
-#[derive(Drop)]
-struct Signal {
-    announced: AtomicU64,
-    missed: AtomicU64,
-}
-
-impl Signal {
-    fn new() -> Signal {
-        Signal {
-            announced: AtomicU64::new(0),
-            missed: AtomicU64::new(0),
-        }
-    }
-
-    fn announce(&self) {
-        self.announced.store(1, Ordering::SeqCst);
-    }
-
-    fn wait(&self) {
-        for _ in 0..MOST {
-            if self.announced.load(Ordering::SeqCst) == 1 {
-                return;
-            }
-        }
-        self.missed.store(1, Ordering::SeqCst);
-    }
-
-    /// Whether nobody has waited for it in vain.
-    fn is_met(&self) -> bool {
-        self.missed.load(Ordering::SeqCst) == 0
-    }
-}
 
 /// Holds processor 0's line 1 until processor 1's line 0 is announced.
 #[derive(Drop)]
@@ -59,7 +22,7 @@ impl Gate for OtherBegins {
     fn before(&self, actor: Actor, line: u32) {
         match (actor, line) {
             (Actor::Processor(CpuNo(1)), 0) => self.other.announce(),
-            (Actor::Processor(CpuNo(0)), 1) => self.other.wait(),
+            (Actor::Processor(CpuNo(0)), 1) => self.other.hold(),
             _ => {}
         }
     }
@@ -76,9 +39,9 @@ impl Gate for ReaderLast {
     fn before(&self, actor: Actor, line: u32) {
         match (actor, line) {
             (Actor::Tool(ToolNo(0)), 2) => self.tool.announce(),
-            (Actor::Processor(CpuNo(0)), 0) => self.tool.wait(),
+            (Actor::Processor(CpuNo(0)), 0) => self.tool.hold(),
             (Actor::Processor(CpuNo(0)), 2) => self.last.announce(),
-            (Actor::Reader(RingNo(0)), 0) => self.last.wait(),
+            (Actor::Reader(RingNo(0)), 0) => self.last.hold(),
             _ => {}
         }
     }
@@ -99,15 +62,15 @@ impl Gate for TakeTurns {
     fn before(&self, actor: Actor, line: u32) {
         match (actor, line) {
             (Actor::Tool(ToolNo(0)), 2) => self.tool.announce(),
-            (Actor::Processor(CpuNo(0)), 0) => self.tool.wait(),
-            (Actor::Reader(RingNo(0)), 0) => self.second.wait(),
+            (Actor::Processor(CpuNo(0)), 0) => self.tool.hold(),
+            (Actor::Reader(RingNo(0)), 0) => self.second.hold(),
             (Actor::Processor(CpuNo(0)), 1) => {
                 self.second.announce();
-                self.reader.wait();
+                self.reader.hold();
             }
             (Actor::Reader(RingNo(0)), 1) => {
                 self.reader.announce();
-                self.third.wait();
+                self.third.hold();
             }
             (Actor::Processor(CpuNo(0)), 2) => self.third.announce(),
             _ => {}
@@ -126,13 +89,13 @@ struct WatcherLast {
 impl Gate for WatcherLast {
     fn before(&self, actor: Actor, line: u32) {
         match (actor, line) {
-            (Actor::Processor(CpuNo(0)), 0) => self.opened.wait(),
+            (Actor::Processor(CpuNo(0)), 0) => self.opened.hold(),
             (Actor::Tool(ToolNo(0)), 1) => {
                 self.opened.announce();
-                self.worked.wait();
+                self.worked.hold();
             }
             (Actor::Processor(CpuNo(0)), 1) => self.worked.announce(),
-            (Actor::Watcher, 0) => self.worked.wait(),
+            (Actor::Watcher, 0) => self.worked.hold(),
             _ => {}
         }
     }
@@ -235,7 +198,7 @@ fn processors_work_at_one_time(rt: HostRuntime) -> Result<(), Fail> {
     };
     let (status, _sink) = run(&rt, rt.alloc(), TWO_PROCESSORS, &gate)?;
     check_eq(&rt, status, Status::Done);
-    check(&rt, gate.other.is_met());
+    check(&rt, gate.other.is_met(1));
     Ok(())
 }
 
@@ -247,7 +210,7 @@ fn reader_takes_what_was_written_meanwhile(rt: HostRuntime) -> Result<(), Fail> 
     };
     let (status, sink) = run(&rt, rt.alloc(), BURST, &gate)?;
     check_eq(&rt, status, Status::Done);
-    check(&rt, gate.tool.is_met() && gate.last.is_met());
+    check(&rt, gate.tool.is_met(1) && gate.last.is_met(1));
     check(&rt, sink.bytes().ends_with(ALL_TAKEN));
     Ok(())
 }
@@ -264,7 +227,10 @@ fn each_look_is_a_new_one(rt: HostRuntime) -> Result<(), Fail> {
     check_eq(&rt, status, Status::Done);
     check(
         &rt,
-        gate.tool.is_met() && gate.second.is_met() && gate.reader.is_met() && gate.third.is_met(),
+        gate.tool.is_met(1)
+            && gate.second.is_met(1)
+            && gate.reader.is_met(1)
+            && gate.third.is_met(1),
     );
     let text = str::from_utf8(sink.bytes()).ok().ok_or("text")?;
     let between = text.split("p0").nth(1).ok_or("second act")?;
@@ -280,7 +246,7 @@ fn a_watcher_sees_what_was_counted(rt: HostRuntime) -> Result<(), Fail> {
     };
     let (status, sink) = call(&rt, rt.alloc(), "watch 0 1", WATCHED, &gate)?;
     check_eq(&rt, status, Status::Done);
-    check(&rt, gate.opened.is_met() && gate.worked.is_met());
+    check(&rt, gate.opened.is_met(1) && gate.worked.is_met(2));
     let text = str::from_utf8(sink.bytes()).ok().ok_or("text")?;
     let seen = text.split("watch 0 at=").nth(1).ok_or("watch line")?;
     check(&rt, seen.ends_with(" 500 100 100\nfinal 0 500 100 100\n"));

@@ -30,17 +30,13 @@ struct LooksLast {
 impl Gate for LooksLast {
     fn before(&self, actor: Actor, line: u32) {
         match (actor, line) {
-            (Actor::Processor(CpuNo(0)), 0) => {
-                self.opened.wait();
-            }
+            (Actor::Processor(CpuNo(0)), 0) => self.opened.hold(),
             (Actor::Tool(ToolNo(0)), 1) => {
                 self.opened.announce();
-                self.worked.wait();
+                self.worked.hold();
             }
             (Actor::Processor(CpuNo(0)), 1) => self.worked.announce(),
-            (Actor::Watcher, 0) => {
-                self.worked.wait();
-            }
+            (Actor::Watcher, 0) => self.worked.hold(),
             _ => {}
         }
     }
@@ -133,6 +129,7 @@ fn a_look_behind_a_line_sees_what_it_counted(rt: HostRuntime) -> Result<(), Fail
     let seen = watched(&rt, alloc, begun, ends, 1, &gate)
         .ok()
         .ok_or("memory")?;
+    check(&rt, gate.opened.is_met(1) && gate.worked.is_met(2));
     let numbers = |look: Look| (look.count, look.enabled, look.running);
     check_eq(&rt, numbers(seen.look), (500, 10, 10));
     check(&rt, seen.look.at >= 2 && seen.look.at <= 4);
