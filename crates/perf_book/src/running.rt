@@ -212,7 +212,9 @@ pub struct NotRun {
 
 /// Runs a script to its end by threads, as `run_with` does, from sheets that it takes before the first act: one for
 /// each processor and tool that has lines, and one for the lines that are left after the joins. It fails only where
-/// memory runs out by that; then the book is gone, and rings and readers are as they were.
+/// memory runs out by that; then the book is gone, and the readers are as they were, so that they made no load. The
+/// sheets are taken first; but that no line was done, nothing was written on a ring and no gate was passed by then no
+/// clause says, since the book and the ends that send are gone.
 pub fn run_all<R: Threads + Wait + Sync, G: Gate + Sync>(
     rt: &R,
     alloc: Global,

@@ -179,8 +179,9 @@ pub struct NotWatched {
 }
 
 /// Runs a script to its end by threads and a watcher, as `run_watched_with` does, from sheets that it takes before the
-/// first act. It fails only where memory runs out by that; then the book is gone, and rings, readers and page are as
-/// they were.
+/// first act. It fails only where memory runs out by that; then the book is gone, and the readers and the two ends of
+/// the page are as they were, so that they made no step. Of what else was done by then no clause says anything, as at
+/// `run_all`.
 pub fn run_watched<R: Threads + Wait + Sync, G: Gate + Sync>(
     rt: &R,
     alloc: Global,
