@@ -65,6 +65,7 @@ fn take_over(world: &mut World, cpu: CpuNo, brief: &Brief, plan: &Plan)
     ensures world { world.new ≡ retold cpu world.old world.new }
     ensures judged { IsJudged world.old.hardware world.new cpu }
     ensures others { (k : KeyNo) → has_context (stage_of world.old) cpu (entry_at world.old k).context ≡ false → standing_at world.new k ≡ standing_at world.old k }
+    ensures seats { seats_at world.new cpu ≡ plan.now.seats }
     ensures low { cpu.0 < 8 }
     ensures kept { IsWorld world.new }
 {
@@ -76,7 +77,7 @@ fn take_over(world: &mut World, cpu: CpuNo, brief: &Brief, plan: &Plan)
 }
 
 /// Reschedules a processor by a plan that was made ahead. It needs the processor's brief as it is now, and the plan of
-/// that brief. It leaves what `resched` leaves, and takes no test.
+/// that brief. It leaves what `resched` leaves, with the plan's seats, and takes no test.
 pub fn adopt(world: &mut World, cpu: CpuNo, brief: &Brief, plan: &Plan)
     requires cpu { cpu.0 < length world.old.quiet.running }
     requires brief { brief.now ≡ present_brief world.old cpu }
@@ -85,6 +86,7 @@ pub fn adopt(world: &mut World, cpu: CpuNo, brief: &Brief, plan: &Plan)
     ensures rescheduled { IsRescheduled world.old.hardware world.new cpu }
     ensures others { AreUntouchedBut cpu world.old world.new }
     ensures rest { StaysBut cpu world.old world.new }
+    ensures seats { seats_at world.new cpu ≡ plan.now.seats }
 {
     use_processor(world, cpu);
     take_over(world, cpu, brief, plan);

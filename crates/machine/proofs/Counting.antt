@@ -13,7 +13,7 @@ use Rattle.stage_laws.{specs.Standings.{brief_of, briefs, standings}, proofs.Bri
 use Rattle.world_spec.specs.{Rescheduled.{IsRescheduled}, StageOf.{stage_of}, Value.{World, seats_at}}
 use Rattle.world_spec.proofs.Standing.{briefs-joined, passes-groups}
 use Rattle.cpu_sched.specs.{After.{after_brief}, Briefs.{present_brief}, Sheets.{Held}, Tried.{tried, tries, tries_for}}
-use Rattle.machine.specs.Counted.{AreCounted, AreCountedUnless, IsCounted, IsCountedBy, IsServedBy, Serves, is_idle_line, rescheduled_by}
+use Rattle.machine.specs.Counted.{AreCounted, AreCountedUnless, IsCounted, IsCountedBy, IsServedBy, Serves, is_idle_line, rescheduled_by, seats_of}
 use Rattle.machine.{specs.Settled.{is_in}, proofs.{Keeping.{Touched, filter-below, in-by, one-below}, Settling.{cpus_below}}}
 
 -- as many events are seated as are on
@@ -108,7 +108,7 @@ counted-step w v x l set before now c h =
 
 pub counted-by : (sheet : Option Held) (w v x : World) (cpu : CpuNo) (l : CpuLine) (before now : ℕ) → cpu.0 < length w.quiet.running → cpu_refusal (stage_of w) cpu l ≡ None
     → is_idle_line (stage_of w) cpu l ≡ false → ((other : CpuNo) → cpu_touches cpu l other ≡ (cpu.0 == other.0)) → v.hardware ≡ w.hardware → stage_of v ≡ cpu_changed w.hardware cpu l (stage_of w)
-    → present_brief v cpu ≡ after_brief w cpu l → AreCountedUnless (IsServedBy sheet (present_brief v cpu)) v.hardware (stage_of v) (stage_of x) (cpu ∷ []) before now
+    → present_brief v cpu ≡ after_brief w cpu l → AreCountedUnless (IsServedBy sheet (present_brief v cpu)) (seats_of sheet) v.hardware (stage_of v) (stage_of x) (seats_at x) (cpu ∷ []) before now
     → IsCountedBy sheet (CpuStep cpu l) w x before now
 counted-by sheet w v x cpu l before now low accepted busy own hardware stage foreseen h =
     let hw : Hardware = w.hardware in
@@ -130,7 +130,13 @@ counted-none : (x : Step) (w after : World) (n : ℕ) → rescheduled_by w.hardw
 counted-none x w after n none = grind arith
 
 none-by : (sheet : Option Held) (x : Step) (w after : World) (n : ℕ) → rescheduled_by w.hardware (stage_of w) x ≡ [] → IsCountedBy sheet x w after n n
-none-by sheet x w after n none = grind arith
+none-by sheet x w after n none =
+    subst (λ cs. AreCountedUnless (Serves sheet w x) (seats_of sheet) w.hardware (changed w.hardware (stage_of w) x) (stage_of after) (seats_at after) cs n n) (sym none) (record {
+      free = λ served. refl;
+      seats = λ served planned is k d low. absurd (omega (arith, low));
+      least = λ out. omega arith;
+      most = omega arith;
+    })
 
 pub refused-counted : (w after : World) (l : ToolLine) (r : Reason) (n : ℕ) → tool_refusal w.hardware (stage_of w) l ≡ Some r → IsCounted (ToolStep l) w after n n
 refused-counted w after l r n refused = grind (arith, counted-none, none-among)
@@ -145,7 +151,7 @@ still-counted w after l n still = grind (arith, counted-none, none-among, never-
 
 -- by a sheet, which serves no line of a tool
 pub tool-counted : (sheet : Option Held) (w after : World) (l : ToolLine) (before now : ℕ) → IsCounted (ToolStep l) w after before now → IsCountedBy sheet (ToolStep l) w after before now
-tool-counted sheet w after l before now h = record { free = λ served. absurd served; least = λ out. h.least; most = h.most }
+tool-counted sheet w after l before now h = record { free = λ served. absurd served; seats = λ served. absurd served; least = λ out. h.least; most = h.most }
 
 both-off : (a b : Bool) → b ≡ false → (a && b) ≡ false
 both-off true b off = off
@@ -173,6 +179,6 @@ pub work-free : (sheet : Option Held) (w after : World) (cpu : CpuNo) (work : Wo
 work-free sheet w after cpu work before now h =
     let none : rescheduled_by w.hardware (stage_of w) (CpuStep cpu (line.Work work)) ≡ [] = search (none-on, never-touched) in
     let served : Type 0 = Serves sheet w (CpuStep cpu (line.Work work)) in
-    let counted : AreCountedUnless served w.hardware (changed w.hardware (stage_of w) (CpuStep cpu (line.Work work))) (stage_of after) [] before now =
-    subst (λ cs. AreCountedUnless served w.hardware (changed w.hardware (stage_of w) (CpuStep cpu (line.Work work))) (stage_of after) cs before now) none h in
+    let counted : AreCountedUnless served (seats_of sheet) w.hardware (changed w.hardware (stage_of w) (CpuStep cpu (line.Work work))) (stage_of after) (seats_at after) [] before now =
+    subst (λ cs. AreCountedUnless served (seats_of sheet) w.hardware (changed w.hardware (stage_of w) (CpuStep cpu (line.Work work))) (stage_of after) (seats_at after) cs before now) none h in
     grind (arith, cases_lt)

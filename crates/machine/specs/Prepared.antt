@@ -1,6 +1,6 @@
 -- What a processor's worker plans from before its next line: the brief that the line's own change leads to. This
 -- project's own profile.
-use Rattle.std.specs.Prelude.{◌≡◌, ℕ, ◌<◌, true, false, length, List, map, option_map, Option, slice_get, slice_index_or}
+use Rattle.std.specs.Prelude.{◌≡◌, ℕ, ◌<◌, true, false, length, List, map, option_map, Option, None, slice_get, slice_index_or}
 use Rattle.perf_base.specs.{Scripts.{Scripted, lines_of_cpu}, declared.{lines.CpuLine.{CpuLine}, numbers.{CpuNo.{CpuNo}, Key.{Key}}}}
 use Rattle.stage_spec.specs.History.{CpuStep}
 use Rattle.stage_laws.specs.{Briefs.{GroupBrief}, Narrowing.{changed, touches}, Standings.{briefs}}
@@ -14,7 +14,7 @@ next_brief s m cpu = option_map (after_brief m.world cpu) (slice_get (lines_of_c
 
 -- a sheet that holds it, not planned, or is blank
 abbrev pub prepared : Scripted → Kept → CpuNo → Held
-prepared s m cpu = record { brief = next_brief s m cpu; planned = false }
+prepared s m cpu = record { brief = next_brief s m cpu; planned = false; seats = None }
 
 -- the groups of a brief, their leaders named by ids as on the stage
 abbrev pub by_ids : World → List (List (GroupBrief Key)) → List (List (GroupBrief ℕ))

@@ -9,11 +9,12 @@ ghost use Rattle.stage_spec.specs.Settle.{settle, settle_each};
 ghost use Rattle.stage_spec.specs.Stage.{all_cpus};
 ghost use Rattle.world_spec.specs.Rescheduled.{AreRescheduled, AreUntouchedBut, IsRescheduled};
 ghost use Rattle.world_spec.specs.StageOf.{stage_of};
+ghost use Rattle.world_spec.specs.Value.{seats_at};
 ghost use Rattle.perf_world.specs.Seen.{IsWorld};
 ghost use Rattle.cpu_sched.specs.Briefs.{present_brief};
 ghost use Rattle.cpu_sched.specs.Resched.{StaysBut};
 ghost use Rattle.cpu_sched.specs.Tried.{tried};
-ghost use Rattle.machine.specs.Counted.{AreCounted, AreCountedUnless, IsServedBy};
+ghost use Rattle.machine.specs.Counted.{AreCounted, AreCountedUnless, IsServedBy, seats_of};
 ghost use Rattle.machine.specs.Settled.{OnlyRescheduled, is_in};
 
 use cpu_sched::{Sheet, resched, resched_by};
@@ -49,8 +50,8 @@ pub fn resched_with<L: Ledger>(
     ensures rescheduled { IsRescheduled world.old.hardware world.new cpu }
     ensures others { AreUntouchedBut cpu world.old world.new }
     ensures rest { StaysBut cpu world.old world.new }
-    ensures counted { AreCountedUnless (IsServedBy (option_copied sheet.entry) (present_brief world.old cpu)) world.old.hardware
-        (stage_of world.old) (stage_of world.new) (cpu ∷ []) tests.old tests.new }
+    ensures counted { AreCountedUnless (IsServedBy (option_copied sheet.entry) (present_brief world.old cpu)) (seats_of (option_copied sheet.entry)) world.old.hardware
+        (stage_of world.old) (stage_of world.new) (seats_at world.new) (cpu ∷ []) tests.old tests.new }
 {
     match sheet {
         Some(sheet) => resched_by(world, cpu, sheet, tests),

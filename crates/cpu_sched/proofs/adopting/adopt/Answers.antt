@@ -1,7 +1,8 @@
-use Rattle.std.proofs.Common.{arith, ◌∙◌, ap, sym, subst}
+use Rattle.std.proofs.Common.{arith, ◌∙◌, ap, sym, subst, slice_index_or}
 use Rattle.stage_spec.specs.{Hardware.{Hardware}, Settle.{settle}}
-use Rattle.world_spec.specs.{Kept.{IsKept}, Rescheduled.{IsRescheduled}, StageOf.{stage_of}, Value.{World}}
-use Rattle.world_spec.proofs.Rescheduling.{fail-stage, fail-rescheduled}
+use Rattle.counter_match.specs.Seating.{empty_seating}
+use Rattle.world_spec.specs.{Kept.{IsKept}, Rescheduled.{IsRescheduled, pinned_leaders}, StageOf.{stage_of}, Value.{World, seats_at}}
+use Rattle.world_spec.proofs.{Failing.{failed-rest}, Rescheduling.{fail-stage, fail-rescheduled}}
 use Rattle.cpu_sched.proofs.Staying.{stays-but, others-stay}
 use Rattle.cpu_sched.proofs.adopting.adopt.Goals as goal
 
@@ -38,3 +39,9 @@ returns-clause-rest c =
     let kept : IsKept hw w = subst (λ h. IsKept h w) (ap (λ (x : World). x.hardware) c.take_over.ensures.world) c.take_over.ensures.kept in
     stays-but hw c.args.world.now w c.fail_refused.new.world c.args.cpu
     (record { kept = kept; told = c.take_over.ensures.world; others = c.take_over.ensures.others; failed = c.fail_refused.ensures })
+
+pub returns-clause-seats : goal.returns-clause-seats
+returns-clause-seats c =
+    let w : World = c.take_over.new.world in
+    ap (λ (x : World). seats_at x c.args.cpu) c.fail_refused.ensures
+    ∙ (ap (λ q. slice_index_or q.seats c.args.cpu.0 (empty_seating 0)) (failed-rest (pinned_leaders w c.args.cpu) w).1 ∙ c.take_over.ensures.seats)

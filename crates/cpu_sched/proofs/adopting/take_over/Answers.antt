@@ -52,3 +52,6 @@ returns-clause-judged c = adopted-judged c.args.world.now c.set_seats.new.self c
 
 pub returns-clause-others : goal.returns-clause-others
 returns-clause-others c = adopted-others c.args.world.now c.set_seats.new.self c.args.cpu c.args.plan.now (took c)
+
+pub returns-clause-seats : goal.returns-clause-seats
+returns-clause-seats c = (took c).seats

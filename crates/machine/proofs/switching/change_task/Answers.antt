@@ -1,9 +1,9 @@
 use Rattle.std.{specs.{Prelude.{◌≡◌, [], ◌∷◌}, Option.{option_copied}}, proofs.Common.{ap, refl, rules, subst, sym, ◌∙◌}}
 use Rattle.perf_base.specs.declared.lines.CpuLine.TheVariants as line
 use Rattle.stage_spec.specs.Switching.{switched}
-use Rattle.world_spec.specs.{StageOf.{stage_of}, Value.{World}}
+use Rattle.world_spec.specs.{StageOf.{stage_of}, Value.{World, seats_at}}
 use Rattle.cpu_sched.specs.Briefs.{present_brief}
-use Rattle.machine.{specs.Counted.{AreCountedUnless, IsServedBy}, proofs.{Counting.{counted-by}, Foreseen.{switch-foreseen}}}
+use Rattle.machine.{specs.Counted.{AreCountedUnless, IsServedBy, seats_of}, proofs.{Counting.{counted-by}, Foreseen.{switch-foreseen}}}
 use Rattle.machine.proofs.TaskChange.{Course, End, hardware-then, room-then, switch-done, switch-ready, switch-rescheduled, placed-totals}
 use Rattle.machine.proofs.switching.change_task.Goals as goal
 
@@ -71,6 +71,8 @@ returns g c =
       counted = counted-by (option_copied c.args.sheet) w b d c.args.cpu (line.Switch c.args.to) c.args.tests.now c.resched_with.new.tests c.requires.cpu c.requires.accepted c.requires.changes
           (λ other. refl) hardware (c.move_to-migrates.ensures.stage ∙ ap (λ y. switched c.args.cpu c.args.to (stage_of y)) c.soft.ensures.rest)
           (switch-foreseen w a b c.args.cpu c.args.to c.requires.cpu c.soft.ensures.rest c.move_to-migrates.ensures.world)
-          (subst (λ s. AreCountedUnless (IsServedBy (option_copied c.args.sheet) (present_brief b c.args.cpu)) b.hardware (stage_of b) s (c.args.cpu ∷ []) c.args.tests.now c.resched_with.new.tests)
-          (sym c.migrate_if.ensures.stage) c.resched_with.ensures.counted);
+          (subst (λ s. AreCountedUnless (IsServedBy (option_copied c.args.sheet) (present_brief b c.args.cpu)) (seats_of (option_copied c.args.sheet)) b.hardware (stage_of b) s (seats_at d) (c.args.cpu ∷ []) c.args.tests.now c.resched_with.new.tests)
+          (sym c.migrate_if.ensures.stage)
+          (subst (λ at. AreCountedUnless (IsServedBy (option_copied c.args.sheet) (present_brief b c.args.cpu)) (seats_of (option_copied c.args.sheet)) b.hardware (stage_of b) (stage_of x) at (c.args.cpu ∷ []) c.args.tests.now c.resched_with.new.tests)
+          (sym (ap seats_at c.migrate_if.ensures.rest)) c.resched_with.ensures.counted));
     }

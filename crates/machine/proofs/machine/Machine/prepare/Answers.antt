@@ -1,4 +1,4 @@
-use Rattle.std.{specs.Prelude.{option_map, Option, false}, proofs.Common.{sym, ap, subst, ◌∙◌}}
+use Rattle.std.{specs.Prelude.{option_map, Option, None, false}, proofs.Common.{sym, ap, subst, ◌∙◌}}
 use Rattle.perf_base.specs.declared.lines.CpuLine.{CpuLine}
 use Rattle.perf_base.specs.declared.acts.Actor.TheVariants as actor
 use Rattle.cpu_sched.specs.{After.{after_brief}, Sheets.{Held}}
@@ -19,5 +19,5 @@ returns c =
     let has : HasLine c.args.script.now m (actor.Processor c.args.cpu) =
     subst (λ (k : Kept). HasLine c.args.script.now k (actor.Processor c.args.cpu)) (sym c.self.view_is) (c.has_line.ensures.0 cc) in
     c.fill.ensures
-    ∙ (ap {A = Option CpuLine} {B = Held} (λ o. record { brief = option_map (after_brief m.world c.args.cpu) o; planned = false }) (sym (line-is c.cpu_lines.result.now _ _ _ c.cpu_lines.ensures.lines has))
+    ∙ (ap {A = Option CpuLine} {B = Held} (λ o. record { brief = option_map (after_brief m.world c.args.cpu) o; planned = false; seats = None }) (sym (line-is c.cpu_lines.result.now _ _ _ c.cpu_lines.ensures.lines has))
     ∙ ap (λ (k : Kept). prepared c.args.script.now k c.args.cpu) c.self.view_is)
