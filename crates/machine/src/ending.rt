@@ -34,6 +34,7 @@ impl Machine {
         requires together { AreTogether rings.now self.old.outs }
         requires trailing { AreTrailing self.old.outs ins.old }
         ensures led { (s : Scripted) (acts : List Act) → LeadTo s acts self.old → LeadTo s acts self.new }
+        ensures world { self.new.world ≡ self.old.world }
         ensures taken { (s : Scripted) (acts : List Act) → LeadTo s acts self.old → HasTaken s acts ins.new ring }
         ensures others { (s : Scripted) (acts : List Act) (other : RingNo) → LeadTo s acts self.old → HasTaken s acts ins.old other → HasTaken s acts ins.new other }
         ensures together { AreTogether rings.now self.new.outs }
@@ -42,15 +43,16 @@ impl Machine {
         take_all(rings.table(ring), self.outs.out(ring), ins.reader(ring));
     }
 
-    /// The reader of each ring takes all that is left there, and releases none of it. What was seen of the rings stays.
-    /// It takes no memory. Each reader has released just what stands before the last tail seen of its ring, whatever it
-    /// has taken, and has room for 9 words for each unit of the script's weight.
+    /// The reader of each ring takes all that is left there, and releases none of it. What was seen of the rings stays,
+    /// and so does the world. It takes no memory. Each reader has released just what stands before the last tail seen of
+    /// its ring, whatever it has taken, and has room for 9 words for each unit of the script's weight.
     pub fn take_rest(&mut self, script: &Script, rings: &Rings, ins: &mut Ins)
         requires covered { IsCovered script.now }
         requires script { IsOf script.now self.old }
         requires together { AreTogether rings.now self.old.outs }
         requires behind { AreBehind (9 * weight script.now) self.old.outs ins.old }
         ensures led { (acts : List Act) → LeadTo script.now acts self.old → LeadTo script.now acts self.new }
+        ensures world { self.new.world ≡ self.old.world }
         ensures taken { (acts : List Act) → LeadTo script.now acts self.old → HaveTaken script.now acts ins.new }
         ensures together { AreTogether rings.now self.new.outs }
         // Each reader has released what stands before the last tail seen, and no more.

@@ -11,6 +11,7 @@ pub loop-ring-init : goal.loop-ring-init
 loop-ring-init c = record {
   led = λ acts led. led;
   taken = λ acts led k d low. absurd (omega (arith, low));
+  world = refl;
   together = c.requires.together;
   trailing = behind-trails c.args.script.now c.requires.script.0 c.args.self.now c.args.ins.now c.rings-ring-items.ensures.sound c.requires.covered c.requires.script.1 c.requires.behind;
 }
@@ -37,6 +38,7 @@ loop-ring-preserved c =
           c.take_ring.ensures.others s acts (slice_index_or (take k s.rings) j d).0 (c.loop-ring.invariant.led acts led) (c.loop-ring.invariant.taken acts led j d earlier))
           (subst (λ (rings : List (RingNo × ℕ)). HasTaken s acts c.take_ring.new.ins (slice_index_or rings k no_ring).0) c.rings-ring-items.ensures.rings
           (c.take_ring.ensures.taken s acts (c.loop-ring.invariant.led acts led)));
+      world = c.take_ring.ensures.world ∙ c.loop-ring.invariant.world;
       together = c.take_ring.ensures.together;
       trailing = c.take_ring.ensures.trailing;
     }
