@@ -2,6 +2,7 @@
 use Rattle.std.specs.Prelude.{◌≡◌, ℕ, ◌+◌, ◌*◌, ◌<◌, ◌≤◌, All, List, length, map, Option, Some, None, slice_get}
 use Rattle.perf_base.specs.{declared.{acts.Act.{Act}, numbers.RingNo.{RingNo}}, Scripts.{Scripted}}
 use Rattle.ring_spec.specs.{Account.{Account, head_of}, Records.{words_of}, Rings.{account_in, bytes_of}}
+use Rattle.ring_words.specs.Ends.{head_place}
 use Rattle.sample_ring.specs.{Taking.{IsUpTo}, InEnds.{InEnd}, OutEnds.{OutEnd}, declared.sent.RingNumbers.{RingNumbers}}
 use Rattle.sample_ring.specs.RingLists.{OutList, InList, HasReader, ring_index}
 use Rattle.run_end.specs.Ended.{words_in}
@@ -101,6 +102,13 @@ pub record IsShown (n : RingNumbers) (a : Account) : Type 0 where
   pub tail : n.tail ≡ a.tail
   pub lost : n.lost ≡ length a.lost
   pub pending : n.pending ≡ a.pending
+
+-- These are the numbers of an end that sends.
+pub record IsShownBy (n : RingNumbers) (o : OutEnd) : Type 0 where
+  pub head : n.head ≡ head_place o.producer
+  pub tail : n.tail ≡ o.producer.last_tail
+  pub lost : n.lost ≡ o.lost
+  pub pending : n.pending ≡ o.pending
 
 -- the end of a ring that sends, if it is there, and how often each has loaded its tail
 abbrev pub out_of : OutList → RingNo → Option OutEnd

@@ -1,14 +1,15 @@
 //! What the rings came to, and what is left on them.
 
-ghost use Rattle.std.specs.Prelude.{◌≡◌, ◌*◌, ◌≤◌, List};
+ghost use Rattle.std.specs.Prelude.{◌≡◌, ◌*◌, ◌≤◌, List, Some};
 ghost use Rattle.perf_base.specs.declared.acts.Act.{Act};
 ghost use Rattle.perf_base.specs.Scripts.{IsCovered, Scripted};
 ghost use Rattle.perf_base.specs.Weight.{weight};
 ghost use Rattle.ring_spec.specs.Rings.{account_in, bytes_of};
+ghost use Rattle.sample_ring.specs.OutEnds.{OutEnd};
 ghost use Rattle.sample_ring.specs.RingLists as lists;
 ghost use Rattle.work_account.specs.Ends.{AreTogether};
 ghost use Rattle.machine.specs.Leading.{IsOf, LeadTo};
-ghost use Rattle.machine.specs.Readers.{AreBehind, AreTrailing, HasTaken, HaveTaken, IsShown};
+ghost use Rattle.machine.specs.Readers.{AreBehind, AreTrailing, HasTaken, HaveTaken, IsShown, IsShownBy, out_of};
 
 use crate::machine::Machine;
 use perf_base::{RingNo, Script};
@@ -16,10 +17,11 @@ use run_end::RingEnd;
 use sample_ring::{Ins, Rings, take_all};
 
 impl Machine {
-    /// What a ring of the machine's has come to.
+    /// What a ring of the machine's has come to, as its end that sends has it.
     pub fn ring_end(&self, ring: RingNo) -> RingEnd
         requires { lists.HasRing self.now.outs.numbers ring }
         ensures ring { result.ring ≡ ring }
+        ensures end { (o : OutEnd) → out_of self.now.outs ring ≡ Some o → IsShownBy result.numbers o }
         ensures shown { (s : Scripted) (acts : List Act) → LeadTo s acts self.now → IsShown result.numbers (account_in s acts (ring, bytes_of s ring)) }
     {
         RingEnd {

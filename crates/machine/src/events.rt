@@ -5,6 +5,7 @@ ghost use Rattle.perf_base.specs.declared.acts.Act.{Act};
 ghost use Rattle.perf_base.specs.Scripts.{Scripted};
 ghost use Rattle.stage_spec.specs.Reading as reading;
 ghost use Rattle.stage_spec.specs.Stage as stage;
+ghost use Rattle.world_spec.specs.Kept as kept;
 ghost use Rattle.world_spec.specs.StageOf.{stage_of};
 ghost use Rattle.world_spec.specs.Value.{family_of, is_live};
 ghost use Rattle.perf_world.specs.Seen.{IsWorld};
@@ -56,10 +57,12 @@ impl Machine {
     }
 
     /// What an event has counted, and the lengths of work for which it was enabled and on a counter: its own and those
-    /// of its copies, the copies that have exited among them. None exactly where the slot is not open.
+    /// of its copies, the copies that have exited among them. None exactly where the slot is not open. It goes by the
+    /// machine's world, whatever lines led there.
     pub fn family(&self, event: EventNo) -> Option<Sums>
         ensures there { IfSome result (λ sums. HasEvent self.now event) }
         ensures none { IfNone result (stage.is_open (stage_of self.now.world) event ≡ false) }
+        ensures sums { IfSome result (λ sums. sums ≡ kept.family_sums self.now.world event.0) }
         ensures led { (s : Scripted) (acts : List Act) → LeadTo s acts self.now → result ≡ family_if_open s acts event }
     {
         if !self.is_open(event) {
@@ -73,7 +76,8 @@ impl Machine {
     /// of it gives no word.
     pub fn error(&self, event: EventNo) -> bool
         requires { HasEvent self.now event }
-        ensures { (s : Scripted) (acts : List Act) → LeadTo s acts self.now → result ≡ in_error (stage_in s acts) event }
+        ensures there { result ≡ in_error (stage_of self.now.world) event }
+        ensures led { (s : Scripted) (acts : List Act) → LeadTo s acts self.now → result ≡ in_error (stage_in s acts) event }
     {
         let key = self.original(event);
         let leader = self.world.leader_of(key);
@@ -83,7 +87,8 @@ impl Machine {
     /// What an open event counts.
     pub fn kind(&self, event: EventNo) -> Kind
         requires { HasEvent self.now event }
-        ensures { (s : Scripted) (acts : List Act) → LeadTo s acts self.now → kind_in (stage_in s acts) event ≡ Some result }
+        ensures there { kind_in (stage_of self.now.world) event ≡ Some result }
+        ensures led { (s : Scripted) (acts : List Act) → LeadTo s acts self.now → kind_in (stage_in s acts) event ≡ Some result }
     {
         self.world.attr(self.original(event)).kind
     }

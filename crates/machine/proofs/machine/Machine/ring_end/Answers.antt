@@ -1,8 +1,15 @@
-use Rattle.std.proofs.Common.{sym, subst, ◌∙◌}
+use Rattle.std.proofs.{Common.{◌≡◌, ap, sym, subst, ◌∙◌}, lemmas.Option.{same_Some}}
 use Rattle.ring_spec.{specs.Rings.{account_in, bytes_of}, proofs.Running.{in_account}}
 use Rattle.sample_ring.specs.RingLists.{HasRing}
-use Rattle.machine.{specs.{Shown.{ShowsAccount}, Leading.{Kept, LeadTo}}, proofs.{Shown.{shown}, Seen.{end-account}}}
+use Rattle.machine.{specs.{Shown.{ShowsAccount}, Leading.{Kept, LeadTo}, Readers.{IsShownBy, out_of}}, proofs.{Shown.{shown}, Seen.{end-account}}}
 use Rattle.machine.proofs.machine.Machine.ring_end.Goals as goal
+
+pub returns-clause-end : goal.returns-clause-end
+returns-clause-end c = λ o out.
+    let same : c.lent.result.now ≡ o =
+    same_Some c.lent.result.now o (sym c.lent.ensures ∙ (ap (λ (m : Kept). out_of m.outs c.args.ring) c.self.view_is ∙ out)) in
+    subst (IsShownBy c.numbers.result) same
+    (record { head = c.numbers.ensures.head; tail = c.numbers.ensures.tail; lost = c.numbers.ensures.lost; pending = c.numbers.ensures.pending })
 
 pub returns-clause-shown : goal.returns-clause-shown
 returns-clause-shown c = λ s acts led.
