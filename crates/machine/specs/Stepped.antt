@@ -1,14 +1,17 @@
 -- What a machine's world keeps between lines, and what it is to have done a line. This project's own profile.
-use Rattle.std.specs.Prelude.{◌≡◌, ℕ, ◌<◌, true, List, [], length, map}
+use Rattle.std.specs.Prelude.{◌≡◌, ℕ, ◌<◌, Bool, true, false, List, [], length, map}
 use Rattle.perf_base.specs.declared.{numbers.{CpuNo.{CpuNo}, Key.{Key}}, reply.Reply.{Reply}}
 use Rattle.perf_base.specs.declared.reply.Reply.TheVariants as reply
 use Rattle.perf_base.specs.declared.standing.Context.TheVariants as context
-use Rattle.stage_spec.specs.{History.{Step}, Limits.{Limits, IsMachine}}
+use Rattle.perf_base.specs.declared.lines.ToolLine.{ToolLine}
+use Rattle.perf_base.specs.declared.lines.ToolLine.TheVariants as tool_line
+use Rattle.stage_spec.specs.{History.{Step, CpuStep, ToolStep, SeenStep}, Limits.{Limits, IsMachine}, Stage.{Stage}}
 use Rattle.stage_laws.specs.Sound.{IsSound}
 use Rattle.ring_spec.specs.Running.{Running, IsAnswerBy, record_after}
 use Rattle.world_spec.specs.{Agreement.{AgreesWith}, Rescheduled.{AreRescheduled}, StageOf.{stage_of}, Value.{World, is_live, entry_at}}
 use Rattle.sample_ring.specs.RingLists.{OutList}
 use Rattle.work_account.specs.Ends.{HaveAccounts}
+use Rattle.machine.specs.Counted.{is_idle_line}
 
 -- the limits of a world none of whose lines speaks of a ring
 abbrev pub limits_in : World → Limits
@@ -44,6 +47,22 @@ IsDoneWith x w after outs sent reply = (r : Running) → AgreesWith w r → Have
 abbrev pub StaysIfRefused : {X : Type 0} → (before after : X) → Reply → Type 0
 StaysIfRefused before after (reply.Refused reason) = after ≡ before
 StaysIfRefused before after _ = Unit {0}
+
+-- A line that changes nothing: a switch to what runs there already, and what a tool asks.
+abbrev pub asks : ToolLine → Bool
+asks (tool_line.Read event size) = true
+asks (tool_line.Why event) = true
+asks (tool_line.Seats cpu) = true
+asks _ = false
+
+abbrev pub changes_nothing : Stage → Step → Bool
+changes_nothing s (CpuStep cpu line) = is_idle_line s cpu line
+changes_nothing s (ToolStep line) = asks line
+changes_nothing s (SeenStep ring place) = false
+
+-- Such a line leaves the world as it was, as one value.
+abbrev pub StaysIfIdle : Step → (w after : World) → Type 0
+StaysIfIdle x w after = changes_nothing (stage_of w) x ≡ true → after ≡ w
 
 -- what each end that sends knows of its reader: the last tail that it has seen, and how often it looked
 abbrev pub seen_of : OutList → List (ℕ × ℕ)

@@ -1,13 +1,14 @@
 -- What an act of a replay answers, and for what it is refused. This project's own profile.
-use Rattle.std.specs.Prelude.{◌≡◌, ℕ, ⊤, List}
+use Rattle.std.specs.Prelude.{◌≡◌, ℕ, ⊤, List, Option, None}
 use Rattle.perf_base.specs.{declared.{acts.Act.{Act}, numbers.RingNo.{RingNo}, reply.Reply.{Reply}}, Scripts.{Scripted, HasRing}}
 use Rattle.perf_base.specs.declared.acts.Act.TheVariants as act
 use Rattle.perf_base.specs.declared.acts.Actor.TheVariants as actor
 use Rattle.perf_base.specs.declared.reply.Reply.TheVariants as reply
 use Rattle.ring_spec.specs.{Account.{head_of}, Rings.{account_in, bytes_of, sizes_in}}
+use Rattle.stage_spec.specs.History.{Step}
 use Rattle.stage_spec.specs.Order.{IsLawfulSeen, last_seen}
 use Rattle.sample_ring.specs.RingLists.{InList}
-use Rattle.machine.specs.Leading.{Kept, HasLine, IsReplyTo}
+use Rattle.machine.specs.Leading.{Kept, HasLine, IsReplyTo, next_step}
 
 -- a look names a ring of the script
 abbrev pub NamesRing : Scripted → Act → Type 0
@@ -20,6 +21,12 @@ abbrev pub LeavesReaders : Act → (before after : InList) → Type 0
 LeavesReaders (act.Processor cpu) before after = after ≡ before
 LeavesReaders (act.Tool tool) before after = after ≡ before
 LeavesReaders (act.Seen ring place) before after = ⊤
+
+-- the line that an act does, as a step; a look does none
+abbrev pub step_by : Scripted → Kept → Act → Option Step
+step_by s m (act.Processor cpu) = next_step s m (actor.Processor cpu)
+step_by s m (act.Tool tool) = next_step s m (actor.Tool tool)
+step_by s m (act.Seen ring place) = None
 
 -- the act is of a processor or a tool that has done all its lines
 abbrev pub HasNoLine : Scripted → Kept → Act → Type 0

@@ -7,7 +7,7 @@ ghost use Rattle.stage_spec.specs.History.{CpuStep, ToolStep};
 ghost use Rattle.perf_base.specs.declared.lines.CpuLine.TheVariants as cpu_line;
 ghost use Rattle.perf_base.specs.declared.lines.Work.{Work as Stretch};
 ghost use Rattle.machine.specs.Counted.{IsCounted, IsCountedBy};
-ghost use Rattle.machine.specs.Stepped.{IsReady, IsDone, IsDoneWith, StaysIfRefused, seen_of};
+ghost use Rattle.machine.specs.Stepped.{IsReady, IsDone, IsDoneWith, StaysIfIdle, StaysIfRefused, seen_of};
 ghost use Rattle.work_account.specs.Ends.{AreTogether};
 ghost use Rattle.work_account.specs.Sampling.{HaveRings, HaveSpaceToSend, ends_of};
 ghost use Rattle.machine.specs.Room.{HasRoom, IsLineFor};
@@ -41,6 +41,7 @@ pub fn cpu_line<L: Ledger>(
     ensures ready { IsReady world.new }
     ensures done { IsDoneWith (CpuStep cpu line.now) world.old world.new outs.old outs.new result }
     ensures same { StaysIfRefused world.old world.new result }
+    ensures idle { StaysIfIdle (CpuStep cpu line.now) world.old world.new }
     ensures ends { StaysIfRefused outs.old outs.new result }
     ensures hardware { world.new.hardware ≡ world.old.hardware }
     ensures totals { HaveGrown cpu world.old world.new }
@@ -72,6 +73,7 @@ pub fn tool_line<L: Ledger>(world: &mut World, line: &ToolLine, tests: &mut Step
     ensures ready { IsReady world.new }
     ensures done { IsDone (ToolStep line.now) world.old world.new result }
     ensures same { StaysIfRefused world.old world.new result }
+    ensures idle { StaysIfIdle (ToolStep line.now) world.old world.new }
     ensures hardware { world.new.hardware ≡ world.old.hardware }
     ensures totals { world.new.quiet.totals ≡ world.old.quiet.totals }
     ensures counted { IsCounted (ToolStep line.now) world.old world.new tests.old tests.new }
@@ -113,6 +115,7 @@ pub fn cpu_line_alone<L: Ledger>(
     ensures ready { IsReady world.new }
     ensures done { IsDoneWith (CpuStep cpu line.now) world.old world.new outs.old outs.new result }
     ensures same { StaysIfRefused world.old world.new result }
+    ensures idle { StaysIfIdle (CpuStep cpu line.now) world.old world.new }
     ensures ends { StaysIfRefused outs.old outs.new result }
     ensures hardware { world.new.hardware ≡ world.old.hardware }
     ensures totals { HaveGrown cpu world.old world.new }
@@ -134,6 +137,7 @@ pub fn tool_line_alone<L: Ledger>(world: &mut World, line: &ToolLine, blank: Bla
     ensures ready { IsReady world.new }
     ensures done { IsDone (ToolStep line.now) world.old world.new result }
     ensures same { StaysIfRefused world.old world.new result }
+    ensures idle { StaysIfIdle (ToolStep line.now) world.old world.new }
     ensures hardware { world.new.hardware ≡ world.old.hardware }
     ensures totals { world.new.quiet.totals ≡ world.old.quiet.totals }
 {

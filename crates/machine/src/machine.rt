@@ -8,7 +8,7 @@ ghost use Rattle.perf_base.specs.Weight.{weight};
 ghost use Rattle.stage_spec.specs.History.{Step};
 ghost use Rattle.ring_spec.specs.Running.{empty_ring};
 ghost use Rattle.machine.specs.Counted.{IsCountedBy};
-ghost use Rattle.machine.specs.Stepped.{StaysIfRefused, seen_of};
+ghost use Rattle.machine.specs.Stepped.{StaysIfIdle, StaysIfRefused, seen_of};
 ghost use Rattle.work_account.specs.Ends.{AreTogether, HaveAccounts};
 ghost use Rattle.machine.specs.Leading.{HasLine, IsOf, IsReplyTo, LeadTo, act_of, done_by, next_step};
 
@@ -93,6 +93,7 @@ impl Machine {
     /// Does the actor's next line, with the records that it sends, then every rescheduling that it makes necessary, and
     /// answers it. The script is the one that the machine was made for, of a weight of at most 65,536, and the rings
     /// are those of its ends. No tail is loaded. A line that is refused leaves the world and the ends as they were.
+    /// One that changes nothing, as a switch to what runs already or what a tool asks, leaves the world, seats included.
     ///
     /// A sheet whose brief is planned, and is the processor's after the line's own change, is adopted where the line
     /// reschedules: the processor's seats are then those of the plan. With such a sheet no counter is tested. Else a
@@ -117,6 +118,7 @@ impl Machine {
         ensures reply { (acts : List Act) → LeadTo script.now acts self.old → IsReplyTo script.now acts (act_of actor) result }
         ensures done { (acts : List Act) → LeadTo script.now acts self.old → LeadTo script.now (acts ++ act_of actor ∷ []) self.new }
         ensures same { StaysIfRefused self.old.world self.new.world result }
+        ensures idle { (x : Step) → next_step script.now self.old actor ≡ Some x → StaysIfIdle x self.old.world self.new.world }
         ensures ends { StaysIfRefused self.old.outs self.new.outs result }
         ensures together { AreTogether rings.now self.new.outs }
         ensures seen { seen_of self.new.outs ≡ seen_of self.old.outs }

@@ -5,12 +5,13 @@ ghost use Rattle.perf_base.specs.declared.acts.Act.{Act as ActNo};
 ghost use Rattle.perf_base.specs.declared.numbers.RingNo.{RingNo as Ring};
 ghost use Rattle.perf_base.specs.Scripts.{IsCovered, HasRing};
 ghost use Rattle.perf_base.specs.Weight.{weight};
-ghost use Rattle.machine.specs.Stepped.{StaysIfRefused, seen_of};
+ghost use Rattle.stage_spec.specs.History.{Step};
+ghost use Rattle.machine.specs.Stepped.{StaysIfIdle, StaysIfRefused, seen_of};
 ghost use Rattle.ring_words.specs.Ends.{IsStop, head_place as head_place};
 ghost use Rattle.work_account.specs.Ends.{AreTogether};
-ghost use Rattle.machine.specs.Leading.{HasLine, IsOf, IsReplyTo, LeadTo, act_of};
+ghost use Rattle.machine.specs.Leading.{HasLine, IsOf, IsReplyTo, LeadTo, act_of, next_step};
 ghost use Rattle.machine.specs.Readers.{AreFollowing};
-ghost use Rattle.machine.specs.Stepping.{HasNoLine, IsAnswerTo, IsUnlawful, LeavesReaders, NamesRing};
+ghost use Rattle.machine.specs.Stepping.{HasNoLine, IsAnswerTo, IsUnlawful, LeavesReaders, NamesRing, step_by};
 
 use crate::machine::Machine;
 use perf_base::{Act, Actor, Reply, RingNo, Script, Steps};
@@ -71,6 +72,7 @@ impl Machine {
         ensures reply { (acts : List ActNo) → LeadTo script.now acts self.old → IsReplyTo script.now acts (act_of actor) result }
         ensures done { (acts : List ActNo) → LeadTo script.now acts self.old → LeadTo script.now (acts ++ act_of actor ∷ []) self.new }
         ensures same { StaysIfRefused self.old.world self.new.world result }
+        ensures idle { (x : Step) → next_step script.now self.old actor ≡ Some x → StaysIfIdle x self.old.world self.new.world }
         ensures ends { StaysIfRefused self.old.outs self.new.outs result }
         ensures together { AreTogether rings.now self.new.outs }
         ensures seen { seen_of self.new.outs ≡ seen_of self.old.outs }
@@ -121,8 +123,8 @@ impl Machine {
     /// Does one act of a replay. A processor or a tool does its next line, which is answered. A look at a ring, which
     /// is one of the script's, is answered with Ok where the tail may be seen at its place: then the ring's reader
     /// takes the records before that place, and the place is the last tail seen. Each reader has room for 9 words for
-    /// each unit of the script's weight. A line leaves the readers, and one that is refused leaves the world and the
-    /// ends that send. It takes no memory.
+    /// each unit of the script's weight. A line leaves the readers; one that is refused leaves the world and the ends
+    /// that send, and one that changes nothing the world. It takes no memory.
     ///
     /// It fails with `NoLine` exactly where the actor has no line left, and with `BadSeen` exactly where the place is
     /// below the last one seen, above the head or not the end of a record; then nothing changes.
@@ -146,6 +148,7 @@ impl Machine {
         ensures reply { IfOk result (λ reply. (acts : List ActNo) → LeadTo script.now acts self.old → IsAnswerTo script.now acts act reply) }
         ensures done { OnOk result ((acts : List ActNo) → LeadTo script.now acts self.old → LeadTo script.now (acts ++ act ∷ []) self.new) }
         ensures world { IfOk result (StaysIfRefused self.old.world self.new.world) }
+        ensures idle { (x : Step) → step_by script.now self.old act ≡ Some x → StaysIfIdle x self.old.world self.new.world }
         ensures ends { IfOk result (StaysIfRefused self.old.outs self.new.outs) }
         ensures readers { LeavesReaders act ins.old ins.new }
         ensures together { AreTogether rings.now self.new.outs }

@@ -14,7 +14,7 @@ ghost use Rattle.world_spec.specs.Rescheduled.{IsJudged, IsRescheduled};
 ghost use Rattle.world_spec.specs.StageOf.{stage_of};
 ghost use Rattle.machine.specs.Switched.{migration_shares, two_hits};
 ghost use Rattle.machine.specs.Counted.{IsCountedBy};
-ghost use Rattle.machine.specs.Stepped.{IsReady, IsDone, StaysIfRefused};
+ghost use Rattle.machine.specs.Stepped.{IsReady, IsDone, StaysIfIdle, StaysIfRefused};
 
 use crate::rescheduling::resched_with;
 use cpu_sched::Sheet;
@@ -84,6 +84,7 @@ pub fn switch<L: Ledger>(
     ensures ready { IsReady world.new }
     ensures done { IsDone (CpuStep cpu (line.Switch to)) world.old world.new result }
     ensures same { StaysIfRefused world.old world.new result }
+    ensures idle { StaysIfIdle (CpuStep cpu (line.Switch to)) world.old world.new }
     ensures hardware { world.new.hardware ≡ world.old.hardware }
     ensures totals { world.new.quiet.totals ≡ world.old.quiet.totals }
     ensures counted { IsCountedBy (option_copied sheet.entry) (CpuStep cpu (line.Switch to)) world.old world.new tests.old tests.new }

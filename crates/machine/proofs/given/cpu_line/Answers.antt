@@ -2,7 +2,7 @@ use Rattle.std.{specs.Option.{option_copied}, proofs.Common.{length, refl, sym, 
 use Rattle.perf_base.specs.Scripts.{IsCpuLine}
 use Rattle.perf_base.specs.declared.lines.CpuLine.TheVariants as line
 use Rattle.stage_spec.specs.History.{CpuStep}
-use Rattle.machine.{specs.{Counted.{IsCountedBy}, Stepped.{IsDoneWith}}, proofs.{Counting.{still-cpu_counted}, Refused.{stays-same}}}
+use Rattle.machine.{specs.{Counted.{IsCountedBy}, Stepped.{IsDoneWith, StaysIfIdle}}, proofs.{Counting.{still-cpu_counted}, Refused.{stays-same}}}
 use Rattle.machine.proofs.{Lines.{work-room}, Stepped.{cpu-sends}, Totals.{meter-room, none-grow}}
 use Rattle.machine.proofs.given.cpu_line.Goals as goal
 
@@ -88,3 +88,6 @@ returns-in-Fork-clause-counted g c =
 pub returns-in-Exit-clause-counted : goal.returns-in-Exit-clause-counted
 returns-in-Exit-clause-counted g c =
     subst (λ l. IsCountedBy (option_copied c.args.sheet) (CpuStep c.args.cpu l) c.args.world.now c.exit.new.world c.args.tests.now c.exit.new.tests) (sym c.in-Exit.is) c.exit.ensures.counted
+
+pub returns-in-Switch-clause-idle : goal.returns-in-Switch-clause-idle
+returns-in-Switch-clause-idle g c = subst (λ l. StaysIfIdle (CpuStep c.args.cpu l) c.args.world.now c.switch.new.world) (sym c.in-Switch.is) c.switch.ensures.idle

@@ -1,7 +1,7 @@
 use Rattle.std.{specs.{Prelude.{◌≡◌, ◌<◌, length}, Option.{option_copied}}, proofs.{Common.{arith, sym, subst, ◌∙◌}, lemmas.List.{length-set}}}
 use Rattle.perf_base.specs.{declared.acts.Actor.{Actor}, Scripts.{Scripted}}
 use Rattle.perf_base.specs.declared.acts.Actor.TheVariants as actor
-use Rattle.machine.{specs.Leading.{Kept, HasLine, IsOf, LeadTo}, proofs.NextSteps.{next-cpu_counted, next-tool_counted}}
+use Rattle.machine.{specs.Leading.{Kept, HasLine, IsOf, LeadTo}, proofs.NextSteps.{next-cpu_counted, next-cpu_idle, next-tool_counted, next-tool_idle}}
 use Rattle.machine.proofs.{Lines.{cpu-low, cpu-there, cpu-line-within, line-is, tool-low, tool-line-within}, Roomy.{has-room}}
 use Rattle.machine.proofs.{Spacious.{is-left, work-space}, Stepped.{cpu-reply, cpu-led, tool-reply, tool-led}, RingsThere.{rings-there}}
 use Rattle.machine.proofs.Totals.{cpu-totals}
@@ -124,3 +124,17 @@ returns-in-Tool-clause-counted g c =
     let has : HasLine c.args.script.now m (actor.Tool c.in-Tool.tool) = own-line c.args.script.now m c.args.self.now c.args.actor (actor.Tool c.in-Tool.tool) c.self.view_is c.in-Tool.is c.requires.line in
     next-tool_counted (option_copied c.args.sheet) c.args.script.now m c.args.self.now c.args.actor c.in-Tool.tool _ c.tool_line.new.world c.args.tests.now c.tool_line.new.tests c.self.view_is
     c.in-Tool.is (line-is c.tool_lines.result.now _ _ _ c.tool_lines.ensures.lines has) c.tool_line.ensures.counted
+
+pub returns-in-Processor-clause-idle : goal.returns-in-Processor-clause-idle
+returns-in-Processor-clause-idle g c =
+    let m : Kept = record { cpus = c.self.inside.cpus; tools = c.self.inside.tools; world = c.self.inside.world; outs = c.self.inside.outs } in
+    let has : HasLine c.args.script.now m (actor.Processor c.in-Processor.cpu) = own-line c.args.script.now m c.args.self.now c.args.actor (actor.Processor c.in-Processor.cpu) c.self.view_is c.in-Processor.is c.requires.line in
+    next-cpu_idle c.args.script.now m c.args.self.now c.args.actor c.in-Processor.cpu _ c.cpu_line.new.world c.self.view_is
+    c.in-Processor.is (line-is c.cpu_lines.result.now _ _ _ c.cpu_lines.ensures.lines has) c.cpu_line.ensures.idle
+
+pub returns-in-Tool-clause-idle : goal.returns-in-Tool-clause-idle
+returns-in-Tool-clause-idle g c =
+    let m : Kept = record { cpus = c.self.inside.cpus; tools = c.self.inside.tools; world = c.self.inside.world; outs = c.self.inside.outs } in
+    let has : HasLine c.args.script.now m (actor.Tool c.in-Tool.tool) = own-line c.args.script.now m c.args.self.now c.args.actor (actor.Tool c.in-Tool.tool) c.self.view_is c.in-Tool.is c.requires.line in
+    next-tool_idle c.args.script.now m c.args.self.now c.args.actor c.in-Tool.tool _ c.tool_line.new.world c.self.view_is
+    c.in-Tool.is (line-is c.tool_lines.result.now _ _ _ c.tool_lines.ensures.lines has) c.tool_line.ensures.idle

@@ -1,9 +1,9 @@
-use Rattle.std.{specs.Prelude.{◌≡◌, ◌*◌, ◌∷◌, [], ◌++◌, List}, proofs.Common.{refl, sym, subst}}
+use Rattle.std.{specs.Prelude.{◌≡◌, ◌*◌, ◌∷◌, [], ◌++◌, List}, proofs.Common.{ap, refl, sym, subst, ◌∙◌}}
 use Rattle.perf_base.specs.{declared.{acts.{Act.{Act}, Actor.{Actor}}, reply.Reply.{Reply}}, Scripts.{Scripted}, Weight.{weight}}
 use Rattle.perf_base.specs.declared.acts.Act.TheVariants as act
 use Rattle.perf_base.specs.declared.acts.Actor.TheVariants as actor
 use Rattle.sample_ring.specs.RingLists.{InList}
-use Rattle.machine.specs.{Leading.{Kept, HasLine, IsReplyTo, LeadTo, act_of}, Stepping.{HasNoLine, IsAnswerTo, LeavesReaders}}
+use Rattle.machine.specs.{Leading.{Kept, HasLine, IsReplyTo, LeadTo, act_of, next_step}, Stepping.{HasNoLine, IsAnswerTo, LeavesReaders, step_by}}
 use Rattle.machine.proofs.{Following.{following-still}, machine.Machine.step.Goals.{in-Processor, in-Tool}}
 use Rattle.machine.proofs.machine.Machine.step.Goals as goal
 
@@ -44,6 +44,12 @@ own-leaves (actor.Tool tool) a ins own = subst (λ (x : Act). LeavesReaders x in
 own-leaves (actor.Reader ring) a ins own = absurd own
 own-leaves actor.Watcher a ins own = absurd own
 
+own-next : (s : Scripted) (m : Kept) (who : Actor) (a : Act) → IsOwn who a → next_step s m who ≡ step_by s m a
+own-next s m (actor.Processor cpu) a own = ap (step_by s m) (sym own)
+own-next s m (actor.Tool tool) a own = ap (step_by s m) (sym own)
+own-next s m (actor.Reader ring) a own = absurd own
+own-next s m actor.Watcher a own = absurd own
+
 pub returns-then-not-has_line-clause-no_line : goal.returns-then-not-has_line-clause-no_line
 returns-then-not-has_line-clause-no_line c =
     let own : IsOwn c.match-act.actor c.args.act = elim c.match-act.branch [ in-Processor w ↦ subst (λ (x : Actor). IsOwn x c.args.act) (sym w.actor-is) w.in-Processor.is | in-Tool w ↦ subst (λ (x : Actor). IsOwn x c.args.act) (sym w.actor-is) w.in-Tool.is ] in
@@ -78,3 +84,8 @@ pub returns-clause-following : goal.returns-clause-following
 returns-clause-following c =
     following-still (9 * weight c.args.script.now) c.args.rings.now c.args.self.now.outs c.line_alone.new.self.outs c.args.ins.now c.requires.following c.requires.together
     c.line_alone.ensures.together c.line_alone.ensures.seen
+
+pub returns-clause-idle : goal.returns-clause-idle
+returns-clause-idle c =
+    let own : IsOwn c.match-act.actor c.args.act = elim c.match-act.branch [ in-Processor w ↦ subst (λ (x : Actor). IsOwn x c.args.act) (sym w.actor-is) w.in-Processor.is | in-Tool w ↦ subst (λ (x : Actor). IsOwn x c.args.act) (sym w.actor-is) w.in-Tool.is ] in
+    λ x next. c.line_alone.ensures.idle x (own-next c.args.script.now c.args.self.now c.match-act.actor c.args.act own ∙ next)
