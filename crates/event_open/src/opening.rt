@@ -1,11 +1,12 @@
 //! The opening of an event.
 
-ghost use Rattle.std.specs.Prelude.{◌≡◌, ◌+◌, ◌^◌, ◌<◌, ◌≤◌, ◌↔◌, OnOk, OnErr, IfOk, IfErr, None, Some, true, false, length, bit_or, if◌then◌else◌};
+ghost use Rattle.std.specs.Prelude.{◌≡◌, ◌+◌, ◌^◌, ◌<◌, ◌≤◌, ◌↔◌, OnOk, OnErr, IfOk, IfErr, None, Some, true, false, length, slice_index_or, bit_or, if◌then◌else◌};
 ghost use Rattle.perf_base.specs.Cpus.{HasCpu};
 ghost use Rattle.perf_base.specs.Scripts.{IsAttr};
 ghost use Rattle.perf_base.specs.declared.numbers.CpuNo.{CpuNo as Cpu};
 ghost use Rattle.stage_spec.specs.Opening.{open_refusal, opened};
 ghost use Rattle.perf_base.specs.Contexts as contexts;
+ghost use Rattle.stage_spec.specs.Shares.{no_sums};
 ghost use Rattle.stage_spec.specs.Verdict.{verdicts};
 ghost use Rattle.stage_laws.specs.Narrowing as narrowing;
 ghost use Rattle.world_spec.specs.Rescheduled.{AreUntouchedOutside};
@@ -41,8 +42,8 @@ fn cpus_with(world: &World, context: Context) -> CpuSet
 }
 
 /// Opens an event in a slot, as a group of its own or in the group of a leader. It is an original, stands in the
-/// context that its attribute names, and draws the next id. The answer is the processors that must be rescheduled:
-/// those that have this context. The others stand as they stood.
+/// context that its attribute names, and draws the next id; of its slot no copy was folded and no record was lost. The
+/// answer is the processors that must be rescheduled: those that have this context. The others stand as they stood.
 ///
 /// The error is the first of these that holds, and then nothing changes, and no id is drawn: `Exists` where the slot
 /// was used; the reasons of `check_attr`; `NoDevice` for a hardware kind on a processor of another PMU; `NoTask` for a
@@ -65,6 +66,8 @@ pub fn open(
     ensures refused { IfErr result (λ reason. open_refusal world.old.hardware (stage_of world.old) event attr.now leader ≡ Some reason) }
     ensures same { OnErr result (world.new ≡ world.old) }
     ensures world { OnOk result (IsOpenedAs world.old world.new (opened_as world.old event attr.now leader)) }
+    ensures folded { OnOk result (slice_index_or world.new.folded event.0 no_sums ≡ no_sums) }
+    ensures lost { OnOk result (slice_index_or world.new.lost event.0 0 ≡ 0) }
     ensures stage { OnOk result (stage_of world.new ≡ opened (stage_of world.old) event attr.now leader) }
     ensures processors { IfOk result (λ set. (cpu : Cpu) → cpu.0 < length world.old.quiet.running
         → (HasCpu set cpu ↔ (narrowing.has_context (stage_of world.old) cpu (contexts.context_of attr.now) ≡ true))) }

@@ -1,4 +1,5 @@
 mod Added
+mod Clear
 mod Counted
 mod Gone
 mod Kept

@@ -17,11 +17,11 @@ use Rattle.world_spec.proofs.{Keys.{key-is, is_key-same, is_key-other, times-con
 use Rattle.world_spec.proofs.{Moving.{leads-parts}, Tables.{get-here, get-there}, Ways.{still-turned, outside-context}}
 use Rattle.world_tables.specs.{Columns.{Columns, is_there, way_in, put_way}, Meters.{goes_along as along, no_way}, Places.{Places}}
 use Rattle.perf_world.specs.Seen.{IsWorld}
-use Rattle.perf_world.specs.Settling.{bare, AreLed, HasSettled, AreTurned, IsStored, group_keys, list_keys, task_leaders, task_keys}
+use Rattle.perf_world.specs.Settling.{bare, AreClear, AreLed, HasSettled, AreTurned, IsStored, group_keys, list_keys, task_leaders, task_keys}
 
 -- what is stored goes along an equation
-pub stored-after : (t : Columns) (seen after : World) → seen ≡ after → IsWorld after → AreTurned t after → IsStored t seen
-stored-after t seen after e kept turned = subst (IsStored t) (sym e) (record { kept = kept; turned = turned })
+pub stored-after : (t : Columns) (seen after : World) → seen ≡ after → IsWorld after → AreTurned t after → AreClear seen → IsStored t seen
+stored-after t seen after e kept turned clear = record { kept = subst IsWorld (sym e) kept; turned = subst (AreTurned t) (sym e) turned; clear = clear }
 
 -- where no way was turned
 pub stay-turned : (t new : Columns) (first now after : World) → first ≡ now → AreTurned t first → ((k : Key) → is_live after k ≡ true → way_in new k ≡ way_in t k)
@@ -253,6 +253,7 @@ stored-worked t new w after cpu work h worked room meter ways = record {
   turned = λ k live.
       still-turned w after (way_in new k) k (work-ways w after cpu work k worked)
       (subst (λ (u : Way). IsTurned w u k) (sym (ap (λ (m : FinMap nat_cmp Way). unwrap_or (get m k.0) no_way) ways)) (h.turned k (ap (λ (x : World). is_live x k) (sym worked.rest) ∙ live)));
+  clear = subst AreClear (sym worked.rest) h.clear;
 }
 
 pub none-only : (running : List (Option TaskNo)) (task : TaskNo) (r : Option CpuNo) → IfNone r ((cpu : CpuNo) → slice_index_or running cpu.0 None ≡ Some task → ⊥)

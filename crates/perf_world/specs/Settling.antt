@@ -1,11 +1,11 @@
 -- How the accounts of instances are turned to the way that their world has for them. After event_sched_in and
 -- event_sched_out of kernel/events/core.c; that an account is turned where its instance changes is this project's own
 -- profile.
-use Rattle.std.specs.{Prelude.{◌≡◌, ◌≤◌, true, List, [], ◌++◌, flat_map, Option, Some, None, slice_index_or}, FinMap.{contains_key}}
-use Rattle.perf_base.specs.declared.numbers.{CpuNo.{CpuNo}, Key.{Key}, TaskNo.{TaskNo}}
+use Rattle.std.specs.{Prelude.{◌≡◌, ◌≤◌, true, false, List, [], ◌++◌, flat_map, Option, Some, None, slice_index_or}, FinMap.{contains_key}}
+use Rattle.perf_base.specs.declared.numbers.{CpuNo.{CpuNo}, EventNo.{EventNo}, Key.{Key}, TaskNo.{TaskNo}}
 use Rattle.perf_base.specs.declared.standing.Context.TheVariants as context
-use Rattle.stage_spec.specs.Stage.{place_of}
-use Rattle.world_spec.specs.{Value.{World, Leaders, no_leaders, times}, Ways.{IsTurned}}
+use Rattle.stage_spec.specs.{Opening.{is_used}, Shares.{no_sums}, Stage.{place_of}}
+use Rattle.world_spec.specs.{StageOf.{stage_of}, Value.{World, Leaders, no_leaders, times}, Ways.{IsTurned}}
 use Rattle.world_tables.specs.{Columns.{Columns, is_there, entry_in, way_in}, Places.{Places, no_slots}}
 use Rattle.perf_world.specs.Seen.{seen, IsWorld}
 
@@ -48,7 +48,12 @@ task_keys t contexts (Some task) = list_keys t (slice_index_or contexts (place_o
 abbrev pub AreTurned : Columns → World → Type 0
 AreTurned t w = (k : Key) → contains_key w.entries k.0 ≡ true → IsTurned w (way_in t k) k
 
--- What a world's tables keep: what always holds of the world, and the ways of its accounts.
+-- Of a slot that was not used no copy was folded and no record was lost.
+abbrev pub AreClear : World → Type 0
+AreClear w = (e : EventNo) → is_used (stage_of w) e ≡ false → (slice_index_or w.folded e.0 no_sums ≡ no_sums) × (slice_index_or w.lost e.0 0 ≡ 0)
+
+-- What a world's tables keep: what always holds of the world, the ways of its accounts, and that unused slots are clear.
 pub record IsStored (t : Columns) (w : World) : Type 0 where
   pub kept : IsWorld w
   pub turned : AreTurned t w
+  pub clear : AreClear w

@@ -1,6 +1,6 @@
 //! The world, and what is read of it.
 
-ghost use Rattle.std.specs.Prelude.{◌≡◌, ◌≢◌, ◌↔◌, ℕ, ◌+◌, ◌*◌, ◌^◌, ◌<◌, ◌≤◌, ◌==◌, ◌++◌, All, IsTrue, IsOk, OnOk, OnErr, IfOk, IfErr, IfSome, IfNone, Some, true, false, find, nat_lt, length, option_map, replicate, slice_index_or, if◌then◌else◌};
+ghost use Rattle.std.specs.Prelude.{◌≡◌, ◌≢◌, ◌↔◌, ℕ, ◌+◌, ◌*◌, ◌^◌, ◌<◌, ◌≤◌, ◌==◌, ◌++◌, All, IsTrue, IsOk, OnOk, OnErr, IfOk, IfErr, IfSome, IfNone, Some, None, true, false, find, nat_lt, length, option_map, replicate, slice_index_or, if◌then◌else◌};
 ghost use Rattle.std.specs.List.{list_any};
 ghost use Rattle.perf_base.specs.declared.numbers.CpuNo.{CpuNo as Cpu};
 ghost use Rattle.perf_base.specs.declared.numbers.TaskNo.{TaskNo as Task};
@@ -679,6 +679,7 @@ impl World {
     /// An instance comes by a key that named nothing: an original in its slot, or, where the key of the original there
     /// is given, a copy of it. An original stands in the context that its attribute names. The instance draws the next
     /// id, is in the state of its attribute, has counted nothing and has a whole period before it.
+    /// Of an original's slot no copy was folded and no record was lost.
     /// Without a leader it is a group of its own, last in its list and Out; else it is the last of its leader's group.
     pub fn add(
         &mut self,
@@ -692,6 +693,8 @@ impl World {
         requires origin { IfSome origin (λ k. (family_of self.old event).original ≡ Some k) }
         ensures fresh { is_live self.old result ≡ false }
         ensures world { self.new ≡ add result (newcomer event attr.now leader origin context) self.old }
+        ensures folded { origin ≡ None → slice_index_or self.new.folded event.0 no_sums ≡ no_sums }
+        ensures lost { origin ≡ None → slice_index_or self.new.lost event.0 0 ≡ 0 }
         ensures stage { stage_of self.new ≡ counted_in (newcomer event attr.now leader origin context)
             (instance_comes self.old (newcomer event attr.now leader origin context) leader (stage_of self.old)) }
     {

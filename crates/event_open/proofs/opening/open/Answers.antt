@@ -1,4 +1,4 @@
-use Rattle.std.proofs.Common.{◌≡◌, rules, arith, None, sym, subst, ◌∙◌}
+use Rattle.std.proofs.Common.{◌≡◌, rules, arith, None, refl, sym, subst, ◌∙◌}
 use Rattle.perf_base.specs.Contexts as contexts
 use Rattle.world_spec.{specs.{Adding.{add}, Value.{World}, Staying.{HasCome}}, proofs.Staying.{add-stays}}
 use Rattle.perf_world.specs.Parts.{newcomer, MayAdd}
@@ -31,6 +31,8 @@ returns c =
             (add-stays w.hardware w c.add.result (opened_as w c.args.event c.args.attr.now c.args.leader) c.cpus_with-cpus.ensures.kept
             (may-come w (opened_as w c.args.event c.args.attr.now c.args.leader) c.add.result may c.add.ensures.fresh) may.group);
       };
+      folded = c.add.ensures.folded refl;
+      lost = c.add.ensures.lost refl;
       stage = o.stage;
       processors = search rules;
       within = search rules;

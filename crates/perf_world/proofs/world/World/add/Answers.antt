@@ -1,12 +1,13 @@
-use Rattle.std.proofs.{Common.{◌≡◌, ◌+◌, ◌++◌, [], ◌∷◌, true, false, is_some, ap, sym, subst, ◌∙◌, inl, inr, if◌then◌else◌}, lemmas.Bool.{cases_Bool}}
-use Rattle.stage_spec.specs.{Flags.{is_pinned}, Stage.{place_of}}
+use Rattle.std.proofs.{Common.{◌≡◌, ◌+◌, ◌++◌, [], ◌∷◌, true, false, None, is_some, ap, slice_index_or, sym, subst, ◌∙◌, inl, inr, if◌then◌else◌}, lemmas.Bool.{cases_Bool}}
+use Rattle.stage_spec.specs.{Flags.{is_pinned}, Opening.{is_used}, Shares.{no_sums}, Stage.{place_of}}
 use Rattle.world_spec.specs.{Value.{World, is_live, entry_at}, Ways.{IsTurned}, StageOf.{stage_of}, Adding.{new_instance, in_family, add}}
 use Rattle.world_spec.proofs.{Added.{comes-by}, WaysGone.{add-ways}, AddedKept.{add-kept}, AddedStage.{add-stage}}
-use Rattle.world_tables.specs.{Columns.{Columns, is_there, way_in}, Places.{with_family}}
+use Rattle.world_tables.specs.{Columns.{Columns, is_there, way_in}, Places.{Slots, with_family}}
 use Rattle.perf_world.specs.{Parts.{newcomer, MayAdd, joined_events, joined_contexts}, Seen.{seen, IsWorld}}
 use Rattle.perf_world.proofs.{TurnedGone.{joined-there, joined-ways}, Turning.{stored-after, settled-turned, leader-live, not-only}}
 use Rattle.perf_world.proofs.{Added.{added, added-kept, may-come}, Counted.{room-for-copy, room-for-original}, Kept.{kept-now}}
 use Rattle.perf_world.proofs.Room.{list-room, unlisted, copies-room}
+use Rattle.perf_world.proofs.Clear.{clear-family, clear-used}
 use Rattle.perf_world.proofs.world.World.add.Goals as goal
 
 pub join-key-requires-clause-events : goal.join-key-requires-clause-events
@@ -75,6 +76,8 @@ invariant_of-self c =
       keeps = add-ways now.hardware now c.join-key.result (newcomer c.args.event c.args.attr.now c.args.leader c.args.origin c.args.context) k (kept-now (seen c.self.inside.pmus c.self.inside.events c.self.inside.contexts c.self.inside.families c.self.inside.processors c.self.inside.tasks c.self.inside.used c.self.inside.mapped c.self.inside.next_id) c.args.self.now c.self.view_is c.self.invariant.kept) (may-come now (newcomer c.args.event c.args.attr.now c.args.leader c.args.origin c.args.context) c.join-key.result c.requires.may fresh) c.requires.may.group was;
       same = ap (λ t. way_in t k) c.join-key.ensures.events ∙ joined-ways c.join-key.result c.new_instance-instance.result c.args.context c.args.leader c.self.inside.events k apart;
     }))
+    (clear-used _ c.self.inside.used c.enter_family.new.used c.args.event c.enter_family.new.families c.enter_family.ensures.used
+    (clear-family c.self.inside.used c.self.inside.families c.enter_family.new.families (ap (λ (s : Slots). s.folded) c.enter_family.ensures.families) (ap (λ (s : Slots). s.lost) c.enter_family.ensures.families) c.self.invariant.clear))
 
 pub returns-clause-fresh : goal.returns-clause-fresh
 returns-clause-fresh c = sym (ap (λ w. is_live w c.join-key.result) c.self.view_is) ∙ c.join-key.ensures.fresh
@@ -92,3 +95,16 @@ returns-clause-stage c =
     ∙ (added c.self.inside.pmus c.self.inside.events c.self.inside.contexts c.self.inside.families c.self.inside.processors c.self.inside.tasks c.self.inside.used c.self.inside.mapped c.self.inside.next_id c.join-key.result c.args.event c.args.attr.now c.args.leader c.args.origin c.args.context
     ∙ ap (add c.join-key.result (newcomer c.args.event c.args.attr.now c.args.leader c.args.origin c.args.context)) c.self.view_is)))
     ∙ add-stage c.args.self.now.hardware c.args.self.now c.join-key.result (newcomer c.args.event c.args.attr.now c.args.leader c.args.origin c.args.context) (kept-now (seen c.self.inside.pmus c.self.inside.events c.self.inside.contexts c.self.inside.families c.self.inside.processors c.self.inside.tasks c.self.inside.used c.self.inside.mapped c.self.inside.next_id) c.args.self.now c.self.view_is c.self.invariant.kept) (may-come c.args.self.now (newcomer c.args.event c.args.attr.now c.args.leader c.args.origin c.args.context) c.join-key.result c.requires.may fresh) c.requires.may.group
+
+-- the slot of an original was clear
+clear-then : (c : goal.After-settle) → c.args.origin ≡ None
+    → (slice_index_or c.enter_family.new.families.folded c.args.event.0 no_sums ≡ no_sums) × (slice_index_or c.enter_family.new.families.lost c.args.event.0 0 ≡ 0)
+clear-then c first =
+    clear-family c.self.inside.used c.self.inside.families c.enter_family.new.families (ap (λ (s : Slots). s.folded) c.enter_family.ensures.families) (ap (λ (s : Slots). s.lost) c.enter_family.ensures.families) c.self.invariant.clear c.args.event
+    (ap (λ w. is_used (stage_of w) c.args.event) c.self.view_is ∙ c.requires.may.original.unused (ap is_some first))
+
+pub returns-clause-folded : goal.returns-clause-folded
+returns-clause-folded c = λ first. (clear-then c first).0
+
+pub returns-clause-lost : goal.returns-clause-lost
+returns-clause-lost c = λ first. (clear-then c first).1

@@ -1,7 +1,10 @@
-use Rattle.std.proofs.Common.{◌+◌, ap, ◌∙◌, slice_set, slice_index_or, refl}
+use Rattle.std.proofs.Common.{◌≡◌, ◌+◌, true, ap, ◌∙◌, slice_set, slice_index_or, refl, subst, sym}
 use Rattle.world_spec.proofs.{Keeping.{lost-kept}, Ways.{other-ways}}
 use Rattle.world_spec.specs.Changes as change
 use Rattle.perf_world.{specs.Seen.{seen}, proofs.{Kept.{kept-now}, Turning.{stored-after, stay-turned}}}
+use Rattle.perf_world.proofs.Clear.{clear-lost, other-slot}
+use Rattle.stage_spec.specs.declared.instance.Instance.{Instance}
+use Rattle.world_spec.specs.Value.{World, is_live}
 use Rattle.perf_world.proofs.world.World.add_lost.Goals as goal
 
 pub invariant_of-self : goal.invariant_of-self
@@ -12,3 +15,9 @@ invariant_of-self c =
     (λ k live. refl)
     (λ k live. live)
     (λ k live. other-ways c.args.self.now (change.add_lost c.args.key c.args.self.now) k refl refl refl))
+    (clear-lost c.self.inside.used _ c.add_lost.new.self _ _ c.add_lost.ensures
+    (λ e unused same.
+    let old : World = seen c.self.inside.pmus c.self.inside.events c.self.inside.contexts c.self.inside.families c.self.inside.processors c.self.inside.tasks c.self.inside.used c.self.inside.mapped c.self.inside.next_id in
+    other-slot c.self.inside.pmus old c.args.key e c.self.invariant.kept (subst (λ w. is_live w c.args.key ≡ true) (sym c.self.view_is) c.requires.live) unused
+    (same ∙ ap (λ (i : Instance). i.event.0) c.instance.ensures))
+    c.self.invariant.clear)

@@ -1,10 +1,11 @@
 use Rattle.std.proofs.Common.{◌≡◌, true, ap, sym, subst, ◌∙◌, slice_index_or, List, ◌≤◌}
 use Rattle.world_spec.specs.{Value.{no_family, is_live, instance_at, is_key, times, World, entry_at}, StageOf.{stage_of, after_first}}
 use Rattle.world_spec.{specs.{Adding.{drop_instance, out_of_family}, Ways.{IsTurned}}, proofs.{Dropping.{go-kept, go-stage}, WaysGone.{go-ways}}}
-use Rattle.world_tables.specs.{Columns.{Columns, is_there, entry_in, taken, way_in}, Places.{with_family}}
+use Rattle.world_tables.specs.{Columns.{Columns, is_there, entry_in, taken, way_in}, Places.{Slots, with_family}}
 use Rattle.perf_world.{specs.Seen.{seen, IsWorld}, proofs.Gone.{gone, left-there, members-there, copy-once, both-true, dropped-kept, leader-there}}
 use Rattle.perf_world.proofs.{Kept.{kept-now, listed-once}, Room.{room-behind}, TurnedGone.{gone-there, gone-self, gone-ways, not-led}}
 use Rattle.perf_world.proofs.Turning.{stored-after, settled-turned, leader-live, sibling-apart}
+use Rattle.perf_world.proofs.Clear.{clear-family}
 use Rattle.perf_world.proofs.world.World.drop_instance.Goals as goal
 use Rattle.perf_base.specs.declared.numbers.Key.{Key}
 
@@ -88,6 +89,7 @@ invariant_of-self c =
       keeps = go-ways now.hardware now c.args.key k (kept-now (seen c.self.inside.pmus c.self.inside.events c.self.inside.contexts c.self.inside.families c.self.inside.processors c.self.inside.tasks c.self.inside.used c.self.inside.mapped c.self.inside.next_id) c.args.self.now c.self.view_is c.self.invariant.kept) c.requires.live was apart led;
       same = ap (λ t. way_in t k) (c.remove.ensures ∙ ap (taken c.args.key) c.leave_group.ensures.events) ∙ gone-ways (is_key c.args.key (entry_in c.self.inside.events c.args.key).leader) c.args.key c.self.inside.events k apart;
     }))
+    (clear-family c.self.inside.used c.self.inside.families c.leave_family.new.families (ap (λ (s : Slots). s.folded) c.leave_family.ensures) (ap (λ (s : Slots). s.lost) c.leave_family.ensures) c.self.invariant.clear)
 
 pub returns-clause-world : goal.returns-clause-world
 returns-clause-world c =

@@ -8,6 +8,8 @@ use Rattle.perf_world.{specs.Seen.{seen, IsWorld}, proofs.Gone.{gone, left-there
 use Rattle.perf_world.proofs.{Gone.{leader-there, fold_families, folded-in}, Kept.{kept-now, listed-once}, Room.{room-behind}}
 use Rattle.perf_world.proofs.TurnedGone.{gone-there, gone-self, gone-ways, not-led}
 use Rattle.perf_world.proofs.Turning.{stored-after, settled-turned, leader-live, sibling-apart}
+use Rattle.perf_world.proofs.Clear.{clear-family, clear-folded, other-slot}
+use Rattle.stage_spec.specs.declared.instance.Instance.{Instance}
 use Rattle.perf_world.proofs.world.World.fold.Goals as goal
 use Rattle.perf_base.specs.declared.numbers.Key.{Key}
 
@@ -101,6 +103,10 @@ invariant_of-self c =
       keeps = fold-ways now.hardware now c.args.copy k (kept-now (seen c.self.inside.pmus c.self.inside.events c.self.inside.contexts c.self.inside.families c.self.inside.processors c.self.inside.tasks c.self.inside.used c.self.inside.mapped c.self.inside.next_id) c.args.self.now c.self.view_is c.self.invariant.kept) c.requires.live was apart led;
       same = ap (λ t. way_in t k) (c.remove.ensures ∙ ap (taken c.args.copy) c.leave_group.ensures.events) ∙ gone-ways (is_key c.args.copy (entry_in c.self.inside.events c.args.copy).leader) c.args.copy c.self.inside.events k apart;
     }))
+    (clear-family c.self.inside.used c.fold.new.self c.leave_family.new.families (ap (λ (s : Slots). s.folded) c.leave_family.ensures) (ap (λ (s : Slots). s.lost) c.leave_family.ensures)
+    (clear-folded c.self.inside.used c.self.inside.families c.fold.new.self _ _ c.fold.ensures
+    (λ e unused same. other-slot c.self.inside.pmus old c.args.copy e c.self.invariant.kept there unused (same ∙ ap (λ (i : Instance). i.event.0) c.instance.ensures))
+    c.self.invariant.clear))
 
 pub returns-clause-world : goal.returns-clause-world
 returns-clause-world c =

@@ -96,7 +96,7 @@ invariant_of-self c =
           (ap (λ o. is_context_of o (entry_at now k).context) (ap (λ (w : World). task_on (stage_of w) c.args.cpu) (sym c.self.view_is) ∙ sym c.running-before.ensures) ∙ (ap (λ (w : World). is_context_of c.running-before.result (entry_at w k).context) (sym c.self.view_is) ∙ out))
           (ap (λ (w : World). is_context_of c.args.task (entry_at w k).context) (sym c.self.view_is) ∙ off);
       same = refl;
-    }))
+    })) c.self.invariant.clear
 
 pub returns-clause-world : goal.returns-clause-world
 returns-clause-world c =

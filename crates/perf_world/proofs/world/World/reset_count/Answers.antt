@@ -12,7 +12,7 @@ invariant_of-self c =
     (stay-turned c.self.inside.events c.reset.new.self (seen c.self.inside.pmus c.self.inside.events c.self.inside.contexts c.self.inside.families c.self.inside.processors c.self.inside.tasks c.self.inside.used c.self.inside.mapped c.self.inside.next_id) c.args.self.now (change.reset_count c.args.key c.args.self.now) c.self.view_is c.self.invariant.turned
     (λ k live. ap (λ t. way_in t k) c.reset.ensures)
     (λ k live. live)
-    (λ k live. other-ways c.args.self.now (change.reset_count c.args.key c.args.self.now) k refl refl refl))
+    (λ k live. other-ways c.args.self.now (change.reset_count c.args.key c.args.self.now) k refl refl refl)) c.self.invariant.clear
 
 pub returns-clause-stage : goal.returns-clause-stage
 returns-clause-stage c =

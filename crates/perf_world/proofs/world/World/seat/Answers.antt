@@ -23,4 +23,4 @@ invariant_of-self g c =
     (stay-turned c.self.inside.events c.self.inside.events (seen c.self.inside.pmus c.self.inside.events c.self.inside.contexts c.self.inside.families c.self.inside.processors c.self.inside.tasks c.self.inside.used c.self.inside.mapped c.self.inside.next_id) c.args.self.now (change.with_seats c.args.cpu now c.args.self.now) c.self.view_is c.self.invariant.turned
     (λ k live. refl)
     (λ k live. live)
-    (λ k live. other-ways c.args.self.now (change.with_seats c.args.cpu now c.args.self.now) k refl refl refl))
+    (λ k live. other-ways c.args.self.now (change.with_seats c.args.cpu now c.args.self.now) k refl refl refl)) c.self.invariant.clear

@@ -59,7 +59,7 @@ invariant_of-self c =
       live = was;
       keeps = own-ways now.hardware now c.args.key c.args.own k known was (λ e. apart (e ∙ ap (λ q. q.0) (sym leader)));
       same = ap (λ t. way_in t k) c.set_own.ensures;
-    }))
+    })) c.self.invariant.clear
 
 pub returns-clause-stage : goal.returns-clause-stage
 returns-clause-stage c =

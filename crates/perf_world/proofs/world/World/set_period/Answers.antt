@@ -12,7 +12,7 @@ invariant_of-self c =
     (stay-turned c.self.inside.events c.set_period.new.self (seen c.self.inside.pmus c.self.inside.events c.self.inside.contexts c.self.inside.families c.self.inside.processors c.self.inside.tasks c.self.inside.used c.self.inside.mapped c.self.inside.next_id) c.args.self.now (change.set_period c.args.key c.args.period c.args.self.now) c.self.view_is c.self.invariant.turned
     (λ k live. ap (λ t. way_in t k) c.set_period.ensures)
     (λ k live. sym (keys-written c.args.self.now.entries c.args.key.0 _ c.requires.live k.0) ∙ live)
-    (λ k live. period-ways c.args.self.now c.args.key c.args.period k))
+    (λ k live. period-ways c.args.self.now c.args.key c.args.period k)) c.self.invariant.clear
 
 pub returns-clause-stage : goal.returns-clause-stage
 returns-clause-stage c =

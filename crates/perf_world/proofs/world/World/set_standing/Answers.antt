@@ -45,7 +45,7 @@ invariant_of-self c =
       keeps = standing-ways now c.args.leader c.args.standing k (outside-group now.hardware now c.args.leader k known live
           (ap (λ (w : World). times k (entry_at w c.args.leader).members) (sym is) ∙ none));
       same = ap (λ t. way_in t k) c.set_standing.ensures;
-    }))
+    })) c.self.invariant.clear
 
 pub returns-clause-stage : goal.returns-clause-stage
 returns-clause-stage c =
