@@ -5,7 +5,7 @@ use Rattle.std.specs.{Fmt.{digits, digits_onto, digit_glyph}, List.{join_with_by
 use Rattle.attr_bytes.specs.declared.raw.RawAttr.{RawAttr}
 use Rattle.script_spec.specs.{Forms.{hexadecimal, flag_name, flags_text, word_if}, Printing.{some_of}}
 use Rattle.perf_io.specs.{Outside.{Rose}, Wrote.{WroteFront}}
-use Rattle.perf_top.specs.{Attributes.{words_of_attr, line_of_words}, declared.line.Line.{Line}}
+use Rattle.perf_top.specs.{Attributes.{words_of_attr, line_of_words}, LineRoom.{LineState}}
 
 length_digits : (base k n : ℕ) (written : List ℕ) → length (digits_onto k base false n written) ≤ k + length written
 length_digits base zero n written = omega arith
@@ -93,8 +93,8 @@ rose_to_full held l rose =
     ]
 
 -- a line does not fail at a text that has room in it
-pub never_full : (before after : Line) (text : List ℕ) → before.text ≡ [] → length text < 512
-    → WroteFront (record { held = λ (s : Line). Some s.text; flushed = λ (s : Line). record { calls = s.flushes; bytes = s.flushed }; faults = λ (s : Line). full_count (length s.text); last_fault = Some 1 }) before after text → ⊥
+pub never_full : (before after : LineState) (text : List ℕ) → before.text ≡ [] → length text < 512
+    → WroteFront (record { held = λ (s : LineState). Some s.text; flushed = λ (s : LineState). s.flushed; faults = λ (s : LineState). full_count (length s.text); last_fault = Some 1 }) before after text → ⊥
 never_full before after text empty short h =
     let all : after.text ≡ take h.1.0 text = h.1.2 ∙ ap (λ t. t ++ take h.1.0 text) empty in
     let few : length after.text < 512 = omega (arith, ap length all, length-take h.1.0 text, short) in

@@ -105,3 +105,10 @@ rose-writing source_shows shows a source read sink written (inr h) = h.2.2.0
 pub stays : (n : ℕ) → Rose None n n → ⊥
 stays n (inl more) = omega (arith, more)
 stays n (inr last) = none-some n last
+
+-- what was answered of a source and a sink as they were before
+pub from-start : {S K : Type 0} (source_shows : SourceShows S) (shows : SinkShows K)
+    (a : Asked) (answer : Status) (source start read : S) (sink begun written : K) → start ≡ source → begun ≡ sink
+    → IsAnswer source_shows shows a answer start read begun written → IsAnswer source_shows shows a answer source read sink written
+from-start source_shows shows a answer source start read sink begun written same_source same_sink h =
+    subst (λ s. IsAnswer source_shows shows a answer s read sink written) same_source (subst (λ k. IsAnswer source_shows shows a answer start read k written) same_sink h)

@@ -4,7 +4,7 @@
 //! that the source had left and of those that the sink and the notes hold. It serves the program.
 #![tactic(auto)]
 
-ghost use Rattle.std.specs.Prelude.{◌≡◌, ◌⊎◌, ◌↔◌, ◌≤◌, map, string_bytes};
+ghost use Rattle.std.specs.Prelude.{◌≡◌, ◌⊎◌, ◌↔◌, ◌≤◌, IfErr, IfOk, Ok, Some, map, string_bytes};
 ghost use Rattle.perf_io.specs.Outside.{Rose};
 ghost use Rattle.perf_ask.specs.Asking.{AreKnown, Asks, DoesOrder, ReadsScript};
 ghost use Rattle.perf_top.specs.Outcome.{CanBeDone, IsAnswer, IsDone, IsNoted};
@@ -20,6 +20,7 @@ mod stat;
 mod watching;
 
 pub use job::Job;
+pub use line::Line;
 pub use perf_ask::{Asked, Rounds, Status, Watching, asked_by, put_note, words_ask_one_thing};
 use perf_book::Gate;
 pub use perf_book::OpenGate;
@@ -84,8 +85,8 @@ fn answer_watch<R: Threads + Wait + Sync, S: Source, K: Sink, G: Gate + Sync>(
     }
 }
 
-/// Answers what is asked for.
-fn answer<R: Threads + Wait + Sync, S: Source, K: Sink, G: Gate + Sync>(
+/// Answers where a run by threads is asked for, with a watcher or without.
+fn answer_threads<R: Threads + Wait + Sync, S: Source, K: Sink, G: Gate + Sync>(
     rt: &R,
     alloc: Global,
     asked: Asked,
@@ -93,6 +94,7 @@ fn answer<R: Threads + Wait + Sync, S: Source, K: Sink, G: Gate + Sync>(
     sink: &mut K,
     gate: &G,
 ) -> Status
+    requires threads { ReadsScript asked × (DoesOrder asked → ⊥) }
     ensures counts { (S.shows.faults source.old ≤ S.shows.faults source.new) × (K.shows.faults sink.old ≤ K.shows.faults sink.new) }
     ensures answer { IsAnswer S.shows K.shows asked result source.old source.new sink.old sink.new }
 {
@@ -101,7 +103,7 @@ fn answer<R: Threads + Wait + Sync, S: Source, K: Sink, G: Gate + Sync>(
         Asked::Watch(watching) => {
             answer_watch::<R, S, K, G>(rt, alloc, watching, source, sink, gate)
         }
-        alone => answer_alone(alloc, alone, source, sink),
+        _ => unreachable!(),
     }
 }
 
@@ -119,6 +121,36 @@ fn noted<N: Sink>(notes: &mut N, status: Status) -> Status
     }
 }
 
+/// `perf_main` for all words but those of a run by threads: it starts no thread and waits for nobody, so it returns.
+/// Where the words ask for such a run, by `run` or `watch`, it gives back what they ask for, and nothing was done.
+pub fn main_alone<S: Source, K: Sink, N: Sink>(
+    alloc: Global,
+    words: &[String],
+    source: &mut S,
+    sink: &mut K,
+    notes: &mut N,
+) -> Result<Status, Asked>
+    ensures counts { (S.shows.faults source.old ≤ S.shows.faults source.new) × (K.shows.faults sink.old ≤ K.shows.faults sink.new) × (N.shows.faults notes.old ≤ N.shows.faults notes.new) }
+    ensures usage { result ≡ Ok Status.Usage ↔ (AreKnown (map string_bytes words.now) → ⊥) }
+    ensures unknown { result ≡ Ok Status.Usage → (source.new ≡ source.old) × (sink.new ≡ sink.old) }
+    ensures answer { IfOk result (λ status. (status ≡ Status.Usage → ⊥) → (a : Asked) × Asks (map string_bytes words.now) a
+        × IsAnswer S.shows K.shows a status source.old source.new sink.old sink.new) }
+    ensures complete { IfOk result (λ status. (a : Asked) → Asks (map string_bytes words.now) a → CanBeDone a (S.shows.left source.old)
+        → (Rose S.shows.last_fault (S.shows.faults source.old) (S.shows.faults source.new) → ⊥) → (Rose K.shows.last_fault (K.shows.faults sink.old) (K.shows.faults sink.new) → ⊥) → IsDone a status) }
+    ensures note { IfOk result (λ status. IsNoted N.shows status notes.old notes.new) }
+    // A run by threads is given back, and nothing else is.
+    ensures alone { IfOk result (λ status. (a : Asked) → Asks (map string_bytes words.now) a → ReadsScript a → DoesOrder a) }
+    ensures threads { IfErr result (λ asked. Asks (map string_bytes words.now) asked × ReadsScript asked × (DoesOrder asked → ⊥)) }
+    ensures nothing { IfErr result (λ asked. (source.new ≡ source.old) × (sink.new ≡ sink.old) × (notes.new ≡ notes.old)) }
+{
+    match asked_by(words) {
+        None => Ok(noted(notes, Status::Usage)),
+        Some(Asked::Run) => Err(Asked::Run),
+        Some(Asked::Watch(watching)) => Err(Asked::Watch(watching)),
+        Some(alone) => Ok(noted(notes, answer_alone(alloc, alone, source, sink))),
+    }
+}
+
 /// Does what the words ask for, those behind the program's name. `replay` reads a script from the source to its end,
 /// does its own order, and writes that order and what its lines answered to the sink. `stat` does the same, and writes
 /// a table with a row for each event that is open then, by its slot, as perf stat does. `run` reads a script too, and
@@ -133,7 +165,7 @@ fn noted<N: Sink>(notes: &mut N, status: Status) -> Status
 /// before the first act: where it runs out, nothing was read, or the whole text, and nothing was written.
 ///
 /// Words ask for at most one thing (`words_ask_one_thing`), and on each ring of a report records are conserved
-/// (`perf_book::records_are_conserved`). It goes by `answer_alone` for all but `run` and `watch`.
+/// (`perf_book::records_are_conserved`). It is `main_alone` for all words but those of a run by threads.
 pub fn perf_main<R: Threads + Wait + Sync, S: Source, K: Sink, N: Sink, G: Gate + Sync>(
     rt: &R,
     alloc: Global,
@@ -153,16 +185,17 @@ pub fn perf_main<R: Threads + Wait + Sync, S: Source, K: Sink, N: Sink, G: Gate 
         → (Rose S.shows.last_fault (S.shows.faults source.old) (S.shows.faults source.new) → ⊥) → (Rose K.shows.last_fault (K.shows.faults sink.old) (K.shows.faults sink.new) → ⊥) → IsDone a result }
     ensures note { IsNoted N.shows result notes.old notes.new }
 {
-    match asked_by(words) {
-        None => noted(notes, Status::Usage),
-        Some(asked) => noted(
+    match main_alone(alloc, words, source, sink, notes) {
+        Ok(status) => status,
+        Err(asked) => noted(
             notes,
-            answer::<R, S, K, G>(rt, alloc, asked, source, sink, gate),
+            answer_threads::<R, S, K, G>(rt, alloc, asked, source, sink, gate),
         ),
     }
 }
 
-/// `perf_main` over a source and a sink that never fail: there neither fault is answered.
+/// `perf_main` over a source and a sink that never fail: there neither fault is answered, and what can be done is done,
+/// or memory runs out.
 pub fn calm_main<R: Threads + Wait + Sync, N: Sink, G: Gate + Sync>(
     rt: &R,
     alloc: Global,
@@ -174,6 +207,13 @@ pub fn calm_main<R: Threads + Wait + Sync, N: Sink, G: Gate + Sync>(
 ) -> Status
     ensures read { result ≡ Status.ReadFault → ⊥ }
     ensures write { result ≡ Status.WriteFault → ⊥ }
+    ensures counts { N.shows.faults notes.old ≤ N.shows.faults notes.new }
+    ensures usage { result ≡ Status.Usage ↔ (AreKnown (map string_bytes words.now) → ⊥) }
+    ensures unknown { result ≡ Status.Usage → (source.new ≡ source.old) × (sink.new ≡ sink.old) }
+    ensures answer { (result ≡ Status.Usage → ⊥) → (a : Asked) × Asks (map string_bytes words.now) a
+        × IsAnswer ⟦<CalmSource as Source>⟧.shows ⟦<CalmSink as Sink>⟧.shows a result source.old source.new sink.old sink.new }
+    ensures complete { (a : Asked) → Asks (map string_bytes words.now) a → CanBeDone a (Some source.old) → IsDone a result }
+    ensures note { IsNoted N.shows result notes.old notes.new }
 {
     perf_main::<R, CalmSource, CalmSink, N, G>(rt, alloc, words, source, sink, notes, gate)
 }

@@ -1,16 +1,18 @@
 //! A line in memory.
 
-ghost use Rattle.std.specs.Prelude.{◌≡◌, ◌-◌, ◌≤◌, [], ◌++◌, length};
+ghost use Rattle.std.specs.Prelude.{◌≡◌, ◌↔◌, ◌-◌, ◌≤◌, [], ◌++◌, IsTrue, length};
+ghost use Rattle.perf_io.specs.Outside.{no_flushes};
 
 use buffered_sink::Written;
 use perf_base::ShortList;
 use perf_io::{Failed, Sink, write_all};
+use std::marker::Model;
 
 /// How many bytes a line has room for.
 const ROOM: usize = 512;
 
 /// A line in memory: a sink that takes no memory, and fails only at a write of something where no room is left. That
-/// it is full is its one fault.
+/// it is full is its one fault. It holds each note of an answer.
 #[derive(Drop)]
 pub struct Line {
     text: ShortList<u8, ROOM>,
@@ -19,10 +21,18 @@ pub struct Line {
     flushed: usize,
 }
 
+impl Model for Line {
+    ghost use Rattle.perf_top.specs.LineRoom.{LineState};
+
+    ghost Value = { LineState };
+
+    ghost view = { λ l. record { text = l.text; flushed = record { calls = l.flushes; bytes = l.flushed } } };
+}
+
 impl Line {
     /// The empty line.
     pub fn new() -> Line
-        ensures { result ≡ record { text = []; flushes = 0; flushed = 0 } }
+        ensures { result ≡ record { text = []; flushed = no_flushes } }
     {
         Line {
             text: ShortList::new(),
@@ -36,6 +46,13 @@ impl Line {
         ensures { result.now ≡ self.now.text }
     {
         self.text.as_bytes()
+    }
+
+    /// Whether no room is left.
+    pub fn is_full(&self) -> bool
+        ensures { IsTrue result ↔ (512 ≤ length self.now.text) }
+    {
+        self.text.len() >= ROOM
     }
 }
 
@@ -52,7 +69,7 @@ fn push_all(text: &mut ShortList<u8, ROOM>, bytes: &[u8])
 impl Sink for Line {
     ghost use Rattle.std.specs.Prelude.{Some, length, nat_lt, if◌then◌else◌};
 
-    ghost shows = { record { held = λ s. Some s.text; flushed = λ s. record { calls = s.flushes; bytes = s.flushed }; faults = λ s. if nat_lt (length s.text) 512 then 0 else 1; last_fault = Some 1 } };
+    ghost shows = { record { held = λ s. Some s.text; flushed = λ s. s.flushed; faults = λ s. if nat_lt (length s.text) 512 then 0 else 1; last_fault = Some 1 } };
 
     fn write(&mut self, piece: &[u8]) -> Result<usize, Failed> {
         let count = piece.len().min(ROOM.saturating_sub(self.text.len()));

@@ -23,3 +23,6 @@ returns-clause-write g c = λ e.
     let h = c.perf_main.ensures.answer (λ u. let both : status.WriteFault ≡ status.Usage = sym e ∙ u in cc) in
     stays 0 (rose-writing source_shows sink_shows h.0 c.args.source.now c.perf_main.new.source c.args.sink.now c.perf_main.new.sink
     (subst (λ (x : Status). IsAnswer source_shows sink_shows h.0 x c.args.source.now c.perf_main.new.source c.args.sink.now c.perf_main.new.sink) e h.2))
+
+pub returns-clause-complete : goal.returns-clause-complete
+returns-clause-complete g c = λ a asks can. c.perf_main.ensures.complete a asks can (stays 0) (stays 0)
