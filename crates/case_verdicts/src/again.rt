@@ -11,8 +11,6 @@ use crate::printed::Printed;
 use crate::verdict::{Ending, Verdict, compare, judge};
 use perf_base::NoMemory;
 use std::alloc::{AllocError, Global};
-use std::sync::Wait;
-use std::thread::Threads;
 
 /// What became of the printed text.
 #[derive(Drop)]
@@ -21,22 +19,15 @@ pub enum Again {
     Ran(Answer),
     /// The text stands for no script, or is too long.
     NoScript,
-    /// The printed text is longer than the room for it.
-    NoRoom,
 }
 
 /// Runs a printed text, where there is one.
-pub fn run_printed<R: Threads + Wait + Sync>(
-    rt: &R,
-    alloc: Global,
-    printed: Printed,
-) -> Result<Again, NoMemory>
+pub fn run_printed(alloc: Global, printed: Printed) -> Result<Again, NoMemory>
     ensures { IfOk result (IsRunOf printed) }
 {
     match printed {
-        Printed::Text(text) => Ok(Again::Ran(answer_to(rt, alloc, text)?)),
+        Printed::Text(text) => Ok(Again::Ran(answer_to(alloc, text)?)),
         Printed::NoScript => Ok(Again::NoScript),
-        Printed::NoRoom => Ok(Again::NoRoom),
     }
 }
 
@@ -61,7 +52,6 @@ fn judge_again(
         (Again::Ran(_), false) => differs(alloc, "it has a script"),
         (Again::NoScript, true) => differs(alloc, "it has no script"),
         (Again::NoScript, false) => Ok(Verdict::AsExpected),
-        (Again::NoRoom, _) => differs(alloc, "no room for the printed text"),
     }
 }
 

@@ -1,8 +1,8 @@
 //! How a text or words went.
 
-ghost use Rattle.std.specs.Prelude.{◌≡◌, map, IfOk, string_bytes};
-ghost use Rattle.case_verdicts.specs.Printed.{IsAsExpected};
-ghost use Rattle.case_verdicts.specs.Words.{AreAsExpected};
+ghost use Rattle.std.specs.Prelude.{map, IfOk, string_bytes};
+ghost use Rattle.case_verdicts.specs.Printed.{IsJudged};
+ghost use Rattle.case_verdicts.specs.Words.{AreJudged};
 
 use crate::again::{judge_both, run_printed};
 use crate::answer::{answer_of, answer_to};
@@ -14,23 +14,24 @@ use std::alloc::Global;
 use std::sync::Wait;
 use std::thread::Threads;
 
-/// How a text went, and then how the printed text of its script went.
-pub fn run_text<R: Threads + Wait + Sync>(
-    rt: &R,
+/// How a text went, and then how the printed text of its script went. It starts no thread. It fails where memory runs
+/// out, or the room for what is written.
+pub fn run_text(
     alloc: Global,
     expected: &Expected,
     report: &[u8],
     text: Vec<u8>,
 ) -> Result<Verdict, NoMemory>
-    ensures { IfOk result (λ verdict. verdict ≡ Verdict.AsExpected → IsAsExpected expected.now report.now text.items) }
+    ensures { IfOk result (λ verdict. IsJudged verdict expected.now report.now text.items) }
 {
     let printed = printed_text(alloc, &text)?;
-    let answer = answer_to(rt, alloc, text)?;
-    let again = run_printed(rt, alloc, printed)?;
+    let answer = answer_to(alloc, text)?;
+    let again = run_printed(alloc, printed)?;
     Ok(judge_both(alloc, expected, report, answer.ending(), &again)?)
 }
 
-/// How words went, beside a source that has these bytes.
+/// How words went, beside a source that has these bytes. It fails where memory runs out, or the room for what is
+/// written.
 pub fn run_words<R: Threads + Wait + Sync>(
     rt: &R,
     alloc: Global,
@@ -39,7 +40,7 @@ pub fn run_words<R: Threads + Wait + Sync>(
     words: &[String],
     text: Vec<u8>,
 ) -> Result<Verdict, NoMemory>
-    ensures { IfOk result (λ verdict. verdict ≡ Verdict.AsExpected → AreAsExpected expected.now report.now (map string_bytes words.now) text.items) }
+    ensures { IfOk result (λ verdict. AreJudged verdict expected.now report.now (map string_bytes words.now) text.items) }
 {
     let answer = answer_of(rt, alloc, words, text)?;
     Ok(judge(alloc, expected, report, answer.ending())?)

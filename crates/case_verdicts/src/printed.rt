@@ -21,25 +21,23 @@ pub enum Printed {
     Text(Vec<u8>),
     /// The text stands for no script, or is too long.
     NoScript,
-    /// The printed text is longer than the room for it.
-    NoRoom,
 }
 
-/// A script as it is printed.
-fn print(alloc: Global, script: &Script) -> Result<Printed, NoMemory>
+/// A script as it is printed. It fails where memory runs out, or room.
+fn print(alloc: Global, script: &Script) -> Result<Vec<u8>, NoMemory>
     requires covered { IsCovered script.now }
     requires light { weight script.now ≤ 65536 }
-    ensures { IfOk result (IsPrintOf script.now) }
+    ensures { IfOk result (λ bytes. IsPrintOf script.now bytes.items) }
 {
     printed_text_stands_for(script);
     let mut sink = sink(alloc)?;
     match print_script(script, &mut sink) {
-        Ok(()) => Ok(Printed::Text(sink.bytes().to_vec(alloc)?)),
-        Err(_) => Ok(Printed::NoRoom),
+        Ok(()) => Ok(sink.bytes().to_vec(alloc)?),
+        Err(_) => Err(NoMemory),
     }
 }
 
-/// The script of a text as it is printed.
+/// The script of a text as it is printed. It fails where memory runs out, or room.
 pub fn printed_text(alloc: Global, text: &[u8]) -> Result<Printed, NoMemory>
     ensures { IfOk result (IsPrintedOf text.now) }
 {
@@ -47,7 +45,7 @@ pub fn printed_text(alloc: Global, text: &[u8]) -> Result<Printed, NoMemory>
         return Ok(Printed::NoScript);
     }
     match read_script(alloc, text) {
-        Ok(script) => print(alloc, &script),
+        Ok(script) => Ok(Printed::Text(print(alloc, &script)?)),
         Err(ScriptFault::Bad { .. }) => Ok(Printed::NoScript),
         Err(ScriptFault::NoMemory) => Err(NoMemory),
     }

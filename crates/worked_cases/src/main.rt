@@ -65,7 +65,7 @@ fn run_given<R: Threads + Wait + Sync>(
         }
         _ => {
             let text = read_part(rt, folder, case.name.as_str(), "script")?;
-            Ok(run_text(threads, rt.alloc(), &case.expected, report, text))
+            Ok(run_text(rt.alloc(), &case.expected, report, text))
         }
     }
 }
