@@ -1,3 +1,4 @@
+-- believed
 -- The faults of bytes that are no attribute: their order, and their words.
 use Rattle.std.specs.Prelude.{ℕ, nat_lt, ◌==◌, ◌||◌, ◌&&◌, not, Bool, if◌then◌else◌, List, length, slice_range, Option, Some, None, codes, bit_and}
 use Rattle.std.specs.{List.{list_any}, Option.{option_or}}

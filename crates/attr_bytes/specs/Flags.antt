@@ -1,3 +1,4 @@
+-- believed
 -- The flag bits of struct perf_event_attr (perf_event_open(2)), and where perf_base's AttrFlags has them.
 use Rattle.std.specs.{Prelude.{◌≡◌, ℕ, ◌+◌, ◌*◌, ◌^◌, bit_and}, Int.{bit_at}}
 

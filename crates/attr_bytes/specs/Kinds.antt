@@ -1,3 +1,4 @@
+-- believed
 -- Which kind of event an attribute names.
 use Rattle.std.specs.Prelude.{ℕ, ◌==◌, ◌||◌, ◌&&◌, nat_lt, Option, Some, None, if◌then◌else◌}
 use Rattle.perf_base.specs.declared.attr.Kind.{Kind, TheVariants.{Hard, ContextSwitches, CpuMigrations, TaskClock, Dummy}}

@@ -1,3 +1,4 @@
+-- believed
 -- The fields of struct perf_event_attr, each a little-endian number at its offset (perf_event_open(2)).
 use Rattle.std.specs.Prelude.{◌≡◌, ℕ, ◌+◌, ◌≤◌, List, length, drop, ◌==◌, if◌then◌else◌}
 use Rattle.byteorder.specs.Endian.{little_number}

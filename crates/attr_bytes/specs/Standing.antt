@@ -1,3 +1,4 @@
+-- believed
 -- Which bytes stand for which attribute.
 use Rattle.std.specs.Prelude.{◌≡◌, ℕ, ◌<◌, ◌≤◌, ◌⊎◌, List, length, slice_index}
 use Rattle.attr_bytes.specs.declared.raw.RawAttr.{RawAttr}

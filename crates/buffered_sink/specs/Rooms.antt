@@ -1,3 +1,4 @@
+-- inner
 -- Bytes that wait in a room before a sink. This project's own profile of buffering.
 use Rattle.std.specs.Prelude.{◌≡◌, ℕ, List, ◌++◌, length, take, Option, None, Some}
 

@@ -1,3 +1,4 @@
+-- inner
 -- What each expectation of a worked case allows. This project's own profile.
 use Rattle.std.specs.Prelude.{◌≡◌, ◌≢◌, ◌==◌, ◌⊎◌, ◌||◌, ℕ, Bool, true, false, nat_eq, List, [], ◌++◌, codes, string_bytes}
 use Rattle.std.specs.List.{starts_with, ends_with, before_first, after_first}

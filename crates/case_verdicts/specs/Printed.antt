@@ -1,3 +1,4 @@
+-- inner
 -- What the script of a text is printed as, and how a text and its printed text went. This project's own profile.
 use Rattle.std.specs.Prelude.{◌≡◌, ◌↔◌, ◌<◌, ◌≤◌, ⊤, ℕ, List, length, IsTrue}
 use Rattle.perf_base.specs.Scripts.{Scripted}

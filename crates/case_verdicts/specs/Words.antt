@@ -1,3 +1,4 @@
+-- inner
 -- How the words of a worked case went, with the text that was given to them. This project's own profile.
 use Rattle.std.specs.Prelude.{◌≡◌, ◌↔◌, ℕ, List}
 use Rattle.perf_ask.specs.{Notes.{note_of, number_of}, declared.status.Status.{Status}}

@@ -1,3 +1,4 @@
+-- inner
 -- The theorem of augmenting paths, after Berge and Hall: it says why a search for a free counter is enough. Events
 -- are named by their places in the list. This project's own profile.
 use Rattle.std.specs.Prelude.{◌≡◌, ◌≢◌, ◌↔◌, ℕ, ◌+◌, ◌<◌, false, List, length, slice_index}

@@ -1,3 +1,4 @@
+-- inner
 -- The search for a free counter. Events are named by their places in the list, and by their positions in the queue of
 -- a search. After Berge: an event that is reached could hand its counter to the event that it is reached from, if
 -- another one were found for it.

@@ -1,3 +1,4 @@
+-- inner
 -- Hardware events on the counters of one processor. This project's own profile.
 use Rattle.std.specs.{Prelude.{◌≢◌, ℕ, ◌<◌, ◌≤◌, List, [], map, All}, List.{AllPairs, zip}}
 use Rattle.perf_base.specs.{Masks.{IsMask}, declared.numbers.EventNo.{EventNo}}

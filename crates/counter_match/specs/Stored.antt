@@ -1,3 +1,4 @@
+-- inner
 -- How a seating is stored: arrays, whose first places are in use. This project's own profile.
 use Rattle.std.specs.Prelude.{ℕ, ◌<◌, ◌≤◌, List, take, All}
 use Rattle.perf_base.specs.{declared.numbers.EventNo.{EventNo}, Masks.{IsMask}}

@@ -1,3 +1,4 @@
+-- inner
 -- Standings that are told to a world, one after the other. This project's own profile.
 use Rattle.std.specs.{Prelude.{List, map}, FinMap.{FinMap, insert}, List.{fold}, Ordering.{nat_cmp}}
 use Rattle.perf_base.specs.declared.{numbers.Key.{Key}, standing.Standing.{Standing}}

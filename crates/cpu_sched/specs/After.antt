@@ -1,3 +1,4 @@
+-- inner
 -- The brief of a processor after a line's own change, before it is rescheduled. After perf_event_task_sched_in,
 -- perf_event_exit_task and perf_rotate_context of kernel/events/core.c.
 use Rattle.std.specs.{Prelude.{Bool, not, List, [], ◌∷◌, ◌++◌, Option, None, if◌then◌else◌}, List.{list_any}}

@@ -1,3 +1,4 @@
+-- inner
 -- What a processor's schedule is planned from: its eligible groups, pass by pass. The passes are those of ctx_sched_in
 -- of kernel/events/core.c; the bounds are this project's own profile.
 use Rattle.std.specs.Prelude.{◌≡◌, ℕ, ◌<◌, ◌≤◌, ◌==◌, true, All, List, [], ◌∷◌, length, map, filter, flat_map, count_by}

@@ -1,3 +1,4 @@
+-- inner
 -- How the groups of a processor are judged one after the other, by what those before leave. After ctx_sched_in,
 -- merge_sched_in and group_can_go_on of kernel/events/core.c; the tally is this project's own profile.
 use Rattle.std.specs.Prelude.{◌≡◌, ℕ, ◌+◌, Bool, true, false, not, ◌&&◌, List, [], ◌∷◌, ◌++◌, Option, Some, None, if◌then◌else◌}

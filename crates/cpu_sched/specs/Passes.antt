@@ -1,3 +1,4 @@
+-- inner
 -- The keys whose groups were judged, and that the events on the counters are theirs. This project's own profile.
 use Rattle.std.specs.Prelude.{ℕ, ◌≤◌, ◌==◌, List, map, take, flat_map, count_by}
 use Rattle.perf_base.specs.declared.numbers.{CpuNo.{CpuNo}, EventNo.{EventNo}, Key.{Key}}

@@ -1,3 +1,4 @@
+-- inner
 -- The plan of a brief: each group's standing, and the counters that serve the events of the groups that are on. After
 -- ctx_sched_in and merge_sched_in of kernel/events/core.c; that this is planned ahead is this project's own profile.
 use Rattle.std.specs.{Prelude.{◌≡◌, ℕ, ◌+◌, List, [], ◌∷◌, ◌++◌, length, map, None}, List.{fold, sum_by}}

@@ -1,3 +1,4 @@
+-- inner
 -- What rescheduling a processor leaves as it was. After ctx_resched of kernel/events/core.c.
 use Rattle.std.specs.Prelude.{◌≡◌, ◌≢◌, false}
 use Rattle.perf_base.specs.declared.numbers.{CpuNo.{CpuNo}, Key.{Key}}

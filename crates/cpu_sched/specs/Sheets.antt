@@ -1,3 +1,4 @@
+-- inner
 -- What a sheet holds: maybe a brief, whether that is planned, and then the seats of its plan. This project's own
 -- profile.
 use Rattle.std.specs.Prelude.{◌≡◌, Bool, true, Option, Some, None, if◌then◌else◌}

@@ -1,3 +1,4 @@
+-- inner
 -- For how many events a rescheduling tries counters. After group_sched_in and merge_sched_in of kernel/events/core.c;
 -- that all events of a group are tried together is this project's own profile.
 use Rattle.std.specs.{Prelude.{ℕ, length}, List.{sum_by}}

@@ -1,3 +1,4 @@
+-- inner
 -- What a command does to the instances that it reaches, key by key. After perf_event_for_each and
 -- perf_event_for_each_child of kernel/events/core.c; the tables are this project's own profile.
 use Rattle.std.specs.{Prelude.{ℕ, ◌<◌, ◌≤◌, List, All, flat_map}, List.{fold}}

@@ -1,3 +1,4 @@
+-- inner
 -- What is left of a world when instances went, key by key. After perf_release, perf_event_release_kernel and
 -- perf_group_detach of kernel/events/core.c; the tables are this project's own profile.
 use Rattle.std.specs.Prelude.{◌≡◌, ◌≢◌, ◌≤◌, true, false, List, map, if◌then◌else◌}

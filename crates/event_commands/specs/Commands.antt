@@ -1,3 +1,4 @@
+-- inner
 -- What the commands of a tool leave of a world. After perf_event_enable, perf_event_disable, perf_event_reset,
 -- perf_event_period and perf_release of kernel/events/core.c; the tables are this project's own profile.
 use Rattle.std.specs.{Prelude.{◌≡◌, ◌≢◌, ◌<◌, ◌↔◌, ℕ, true, List, length, Some, if◌then◌else◌}, FinMap.{contains_key}}

@@ -1,3 +1,4 @@
+-- inner
 -- The processors that reach the instances of some keys: each in its own context or in that of the task on it. After the
 -- calls of ctx_resched in kernel/events/core.c.
 use Rattle.std.specs.{Prelude.{◌≡◌, nat_lt, Bool, ◌&&◌, ◌||◌, List, length}, List.{list_any}}

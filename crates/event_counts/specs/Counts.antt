@@ -1,3 +1,4 @@
+-- inner
 -- The count and the remainder of one event instance, after count, sample_period and period_left of
 -- kernel/events/core.c. One that does not sample follows a running total, as event->count follows the counter by
 -- prev_count there: the stamp is what the total had up to which the count is kept. That occurrences are taken one by

@@ -1,3 +1,4 @@
+-- inner
 -- The counters that events ask for: each hardware event with its mask. This project's own profile.
 use Rattle.std.specs.Prelude.{ℕ, ◌≤◌, List, [], ◌∷◌, ◌++◌, All, filter, if◌then◌else◌}
 use Rattle.perf_base.specs.{Masks.{IsMask}, declared.{attr.Kind.{Kind}, numbers.EventNo.{EventNo}}}

@@ -1,3 +1,4 @@
+-- inner
 -- The reasons for which an open is refused, in parts: those of the event alone, those of the leader that is given, and
 -- those of its group. After the system call perf_event_open of kernel/events/core.c; their order is this project's own
 -- profile.

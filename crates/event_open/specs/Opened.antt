@@ -1,3 +1,4 @@
+-- inner
 -- What an open that is not refused does to a world. After the system call perf_event_open, perf_install_in_context and
 -- perf_group_attach of kernel/events/core.c; the tables are this project's own profile.
 use Rattle.std.specs.Prelude.{◌≡◌, false, List, [], Option, Some, None}

@@ -1,3 +1,4 @@
+-- inner
 -- What each family of a world has counted and lost, and the words of a member of a group read. After
 -- __perf_event_read_value and perf_read_group of kernel/events/core.c.
 use Rattle.std.specs.Prelude.{ℕ, List, slice_index_or}

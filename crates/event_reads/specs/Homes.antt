@@ -1,3 +1,4 @@
+-- inner
 -- That every processor stands as rescheduling leaves it: each that the machine has, and each that an open event counts.
 -- After ctx_sched_in and merge_sched_in of kernel/events/core.c.
 use Rattle.std.specs.Prelude.{◌≡◌, true}

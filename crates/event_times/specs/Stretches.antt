@@ -1,3 +1,4 @@
+-- inner
 -- The stretches between the turns of one event instance, by which its times are said without any stamp. This project's
 -- own profile.
 use Rattle.std.specs.Prelude.{◌≡◌, ℕ, ◌+◌, Bool, List, [], ◌∷◌, sum_by, if◌then◌else◌}

@@ -1,3 +1,4 @@
+-- inner
 -- The times of one event instance, after total_time_enabled, total_time_running and perf_event_update_time of
 -- kernel/events/core.c. The stamp is the tstamp of those: the clock up to which the two sums are kept.
 use Rattle.std.specs.Prelude.{ℕ, ◌+◌, ◌-◌, Bool, false, if◌then◌else◌}

@@ -1,3 +1,4 @@
+-- inner
 -- Which instances go when a task exits, and what stays then. After perf_event_exit_task_context and sync_child_event of
 -- kernel/events/core.c.
 use Rattle.std.specs.Prelude.{◌≡◌, ℕ, ◌==◌, Bool, true, false, not, ◌&&◌, List, ◌++◌, filter, Option, Some, None, slice_index_or}

@@ -1,3 +1,4 @@
+-- inner
 -- The copies that a fork makes of the groups of a world. After inherit_group and inherit_event of kernel/events/core.c.
 use Rattle.std.specs.Prelude.{◌≡◌, ℕ, ◌+◌, ◌^◌, ◌<◌, ◌≤◌, Bool, true, false, List, [], length, map, flat_map, slice_index_or, if◌then◌else◌}
 use Rattle.std.specs.List.{sum_by}

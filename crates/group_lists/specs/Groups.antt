@@ -1,3 +1,4 @@
+-- inner
 -- The groups of one context in their order, after pinned_groups and flexible_groups of kernel/events/core.c.
 -- That each kind stands in one list of leaders is this project's own profile.
 use Rattle.std.specs.Prelude.{◌≢◌, ℕ, ◌==◌, not, List, filter, AllPairs}

@@ -1,3 +1,4 @@
+-- inner
 -- The acts that words say, and what is kept of them. This project's own profile.
 use Rattle.std.specs.Prelude.{◌≡◌, ℕ, All, List, [], ◌∷◌, Option, Some, None, MatchOption, ◌==◌, option_map, if◌then◌else◌}
 use Rattle.perf_base.specs.declared.acts.Act.{Act}

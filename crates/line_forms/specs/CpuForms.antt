@@ -1,3 +1,4 @@
+-- inner
 -- What the words of a line under a processor give, behind its first. This project's own profile.
 use Rattle.std.specs.{Prelude.{ℕ, List, [], length, codes, Option, Some, None, option_map, if◌then◌else◌}, Str.{bytes_eq}}
 use Rattle.perf_base.specs.declared.lines.Mode.{Mode}

@@ -1,3 +1,4 @@
+-- inner
 -- What the words of a line that declares something give, behind its first. This project's own profile.
 use Rattle.std.specs.{Prelude.{ℕ, List, [], codes, Option, Some, None, option_map, if◌then◌else◌}, Str.{bytes_eq}}
 use Rattle.script_spec.specs.Forms.{Version, Form, version_text}

@@ -1,3 +1,4 @@
+-- inner
 -- What the definitions of the language call the forms that the reader gives. This project's own profile.
 use Rattle.std.specs.Prelude.{map}
 use Rattle.perf_base.specs.declared.acts.Act.{Act}

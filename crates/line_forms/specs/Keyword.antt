@@ -1,3 +1,4 @@
+-- inner
 -- The first words of lines. This project's own profile.
 use Rattle.std.specs.{Prelude.{ℕ, List, [], ◌∷◌, codes, Option, Some, None, if◌then◌else◌}, Str.{bytes_eq}}
 use Rattle.line_forms.specs.declared.keyword.Keyword.{Keyword}

@@ -1,3 +1,4 @@
+-- inner
 -- Reading numbers, names and other single words: what each step gives. This project's own profile.
 use Rattle.std.specs.Prelude.{ℕ, ◌+◌, ◌-◌, ◌*◌, Bool, true, false, not, ◌==◌, ◌&&◌, ◌||◌, nat_lt, nat_le, List, [], ◌∷◌, length, slice_index, codes, Option, Some, None, if◌then◌else◌}
 use Rattle.std.specs.{List.{list_all}, Str.{bytes_eq}}

@@ -1,3 +1,4 @@
+-- inner
 -- Reading a whole line from the left: what is given, by the first word. This project's own profile.
 use Rattle.std.specs.Prelude.{ℕ, List, Option, None, option_map}
 use Rattle.script_spec.specs.Forms.{Version, Form}

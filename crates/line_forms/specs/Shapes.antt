@@ -1,3 +1,4 @@
+-- inner
 -- What the words behind the first give, in the shapes that several forms share. This project's own profile.
 use Rattle.std.specs.Prelude.{ℕ, Bool, List, [], codes, Option, Some}
 use Rattle.line_forms.specs.{Words.{◌>>=◌, end_of}, Leaves.{decimal_at, word_if}}

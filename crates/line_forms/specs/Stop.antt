@@ -1,3 +1,4 @@
+-- inner
 -- What a reader that takes memory returned, where reading gives something or nothing. This project's own profile.
 use Rattle.std.specs.Prelude.{◌≡◌, Option, Some, None, Result, Ok, Err}
 use Rattle.line_forms.specs.declared.stop.LineStop.{LineStop}

@@ -1,3 +1,4 @@
+-- inner
 -- What the words of a line under a tool give, behind its first. This project's own profile.
 use Rattle.std.specs.Prelude.{ℕ, List, [], codes, Option, Some, None, option_map}
 use Rattle.script_spec.specs.Forms.{Opening, Asked, ToolForm}

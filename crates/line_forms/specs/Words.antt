@@ -1,3 +1,4 @@
+-- inner
 -- Reading the words of a line from the left: what each step gives. This project's own profile.
 use Rattle.std.specs.Prelude.{ℕ, ◌+◌, not, ◌==◌, nat_lt, nat_eq, List, [], ◌∷◌, length, take, drop, Option, Some, None, if◌then◌else◌}
 use Rattle.std.specs.List.{starts_with, prefix_len}

@@ -1,3 +1,4 @@
+-- inner
 -- How the value of a machine is stored: as the tuple of its parts. This project's own profile.
 use Rattle.std.specs.{Prelude.{ℕ, List, refl}, Coded.{Coded, code_by, coded×, coded_ℕ, coded_list}}
 use Rattle.perf_world.specs.Codes.{world_code}

@@ -1,3 +1,4 @@
+-- inner
 -- How many tests of counters a line takes. After ctx_resched of kernel/events/core.c; the bounds are this project's own
 -- profile.
 use Rattle.std.specs.{Prelude.{◌≡◌, ℕ, ◌+◌, ◌*◌, ◌≤◌, Bool, false, not, ◌&&◌, All, List, filter, length, Option, Some, None}, List.{sum_by}}

@@ -1,3 +1,4 @@
+-- inner
 -- Which events a machine has.
 use Rattle.std.specs.Prelude.{◌≡◌, true}
 use Rattle.perf_base.specs.declared.numbers.EventNo.{EventNo}

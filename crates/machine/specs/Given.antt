@@ -1,3 +1,4 @@
+-- inner
 -- Which given lines lead to a machine. They may be any lines that keep a script's limits, whether the script has them
 -- or not. This project's own profile.
 use Rattle.std.specs.Prelude.{◌≡◌, ◌<◌, ◌≤◌, ◌==◌, All, Bool, false, List, [], ◌∷◌, count_by, slice_index_or}

@@ -1,3 +1,4 @@
+-- inner
 -- What a machine keeps, which acts of a script lead to it, and what an act answers after them. This project's own
 -- profile.
 use Rattle.std.specs.Prelude.{◌≡◌, ℕ, ◌*◌, ◌<◌, List, [], ◌∷◌, length, option_map, Option, None, slice_get, slice_index_or}

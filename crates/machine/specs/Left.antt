@@ -1,3 +1,4 @@
+-- inner
 -- What acts of a script leave: a world and the ends of its rings. This project's own profile, after its limits on
 -- scripts.
 use Rattle.std.specs.Prelude.{◌≡◌, ◌≤◌, List, [], ◌∷◌}

@@ -1,3 +1,4 @@
+-- inner
 -- What a processor's worker plans from before its next line: the brief that the line's own change leads to. This
 -- project's own profile.
 use Rattle.std.specs.Prelude.{◌≡◌, ℕ, ◌<◌, true, false, length, List, map, option_map, Option, None, slice_get, slice_index_or}

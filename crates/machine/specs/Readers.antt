@@ -1,3 +1,4 @@
+-- inner
 -- The readers of a replay, each of which has taken what the last look at its ring saw. This project's own profile.
 use Rattle.std.specs.Prelude.{◌≡◌, ℕ, ◌+◌, ◌*◌, ◌<◌, ◌≤◌, All, List, length, map, Option, Some, None, slice_get}
 use Rattle.perf_base.specs.{declared.{acts.Act.{Act}, numbers.RingNo.{RingNo}}, Scripts.{Scripted}}

@@ -1,3 +1,4 @@
+-- inner
 -- Room for one line more, whatever it is, within the limits on lines. This project's own profile.
 use Rattle.std.specs.Prelude.{ℕ, ◌+◌, ◌^◌, ◌<◌, List, length, slice_index_or}
 use Rattle.perf_base.specs.{Scripts.{IsToolLine}, declared.{lines.ToolLine.{ToolLine}, numbers.{CpuNo.{CpuNo}, RingNo.{RingNo}}, reply.Sums.{Sums}}}

@@ -1,3 +1,4 @@
+-- inner
 -- A world after some of its processors were rescheduled. After ctx_resched of kernel/events/core.c.
 use Rattle.std.specs.{Prelude.{◌≡◌, ◌==◌, Bool}, Int.{bit_at}}
 use Rattle.perf_base.specs.declared.numbers.{CpuNo.{CpuNo}, CpuSet.{CpuSet}, Key.{Key}}

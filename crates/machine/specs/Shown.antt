@@ -1,3 +1,4 @@
+-- inner
 -- What an end that sends shows of its account. This project's own profile.
 use Rattle.std.specs.Prelude.{◌≡◌, length}
 use Rattle.perf_base.specs.declared.numbers.RingNo.{RingNo}

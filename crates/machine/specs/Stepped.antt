@@ -1,3 +1,4 @@
+-- inner
 -- What a machine's world keeps between lines, and what it is to have done a line. This project's own profile.
 use Rattle.std.specs.Prelude.{◌≡◌, ℕ, ◌<◌, Bool, true, false, List, [], length, map}
 use Rattle.perf_base.specs.declared.{numbers.{CpuNo.{CpuNo}, Key.{Key}}, reply.Reply.{Reply}}

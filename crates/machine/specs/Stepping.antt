@@ -1,3 +1,4 @@
+-- inner
 -- What an act of a replay answers, and for what it is refused. This project's own profile.
 use Rattle.std.specs.Prelude.{◌≡◌, ℕ, ⊤, List, Option, None}
 use Rattle.perf_base.specs.{declared.{acts.Act.{Act}, numbers.RingNo.{RingNo}, reply.Reply.{Reply}}, Scripts.{Scripted, HasRing}}

@@ -1,3 +1,4 @@
+-- inner
 -- What a switch gives the events of a processor. After perf_event_task_sched_in and perf_sw_event of
 -- kernel/events/core.c.
 use Rattle.std.specs.Prelude.{ℕ, Bool, if◌then◌else◌}

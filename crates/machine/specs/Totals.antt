@@ -1,3 +1,4 @@
+-- inner
 -- How far the totals of processors have come, within the limits on lines of work. This project's own profile.
 use Rattle.std.specs.Prelude.{◌≡◌, ℕ, ◌+◌, ◌≤◌, slice_index}
 use Rattle.perf_base.specs.declared.numbers.CpuNo.{CpuNo}

@@ -1,3 +1,4 @@
+-- inner
 -- What holds of the script of N rounds, whatever their number from 1 to 1000. This project's own profile.
 use Rattle.std.specs.Prelude.{◌≡◌, ℕ, ◌+◌, ◌*◌, ◌≤◌}
 use Rattle.perf_base.specs.{Scripts.{IsScript, IsCovered, line_count}, Weight.{weight}}

@@ -1,3 +1,4 @@
+-- believed
 -- The script of N rounds: on four processors four tasks take turns and work, while one tool counts and samples
 -- them from before the first round to after the last. It is a load to measure by, and this project's own.
 use Rattle.std.specs.{Prelude.{ℕ, ◌+◌, ◌*◌, ◌%◌, List, [], ◌∷◌, ◌++◌, map, flat_map, replicate, Some, None, codes}, List.{range_with_len}}

@@ -1,3 +1,4 @@
+-- inner
 -- What reading a text gives. This project's own profile.
 use Rattle.std.specs.Prelude.{◌≡◌, ℕ, List, Option, Some, IfSome}
 

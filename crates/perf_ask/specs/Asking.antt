@@ -1,3 +1,4 @@
+-- believed
 -- What the words behind the program's name ask for. This project's own profile.
 use Rattle.std.specs.Prelude.{◌≡◌, ◌≤◌, ⊤, ℕ, List, [], ◌∷◌, codes, decimal, flat_map}
 use Rattle.script_spec.specs.Forms.{AreBytes, byte_text}

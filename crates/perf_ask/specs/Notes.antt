@@ -1,3 +1,4 @@
+-- believed
 -- The number and the note of each answer of the top call. This project's own profile.
 use Rattle.std.specs.Prelude.{ℕ, List, [], ◌++◌, codes, decimal}
 use Rattle.perf_base.specs.Reasons.{script_word}

@@ -1,3 +1,4 @@
+-- believed
 -- What a call of the program reads, and why nothing is done of it. This project's own profile.
 use Rattle.std.specs.Prelude.{◌≡◌, ◌⊎◌, ◌<◌, ◌≤◌, ℕ, List, length, IfSome, Option}
 use Rattle.perf_base.specs.{declared.reasons.SReason.{SReason}, Scripts.{Scripted}}

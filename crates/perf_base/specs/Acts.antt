@@ -1,3 +1,4 @@
+-- believed
 -- Whose line an act of an order is. This project's own profile.
 use Rattle.std.specs.Prelude.{Bool, false, ◌==◌}
 use Rattle.perf_base.specs.declared.{numbers.{CpuNo.{CpuNo}, ToolNo.{ToolNo}}, acts.Act.{Act}}

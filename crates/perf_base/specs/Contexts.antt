@@ -1,3 +1,4 @@
+-- believed
 -- Which context an event stands in. After pid and cpu of perf_event_open(2), and find_get_context of
 -- kernel/events/core.c.
 use Rattle.perf_base.specs.declared.{attr.{Attr.{Attr}, TaskSel.{TaskSel}, CpuSel.{CpuSel}}, standing.Context.{Context}}

@@ -1,3 +1,4 @@
+-- believed
 -- Sets of processors, by bits. This project's own profile.
 use Rattle.std.specs.{Prelude.{◌≡◌}, Int.{bit_at}}
 use Rattle.perf_base.specs.declared.numbers.{CpuNo.{CpuNo}, CpuSet.{CpuSet}}

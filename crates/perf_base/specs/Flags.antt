@@ -1,3 +1,4 @@
+-- believed
 -- The flags of an attribute: those bits of perf_event_attr (perf_event_open(2)) that this project's profile knows.
 use Rattle.std.specs.Prelude.{ℕ, List, [], ◌∷◌, codes, Bool, not, ◌==◌, bit_and}
 use Rattle.perf_base.specs.declared.flags.AttrFlags.{AttrFlags}

@@ -1,3 +1,4 @@
+-- believed
 -- The software kinds by the names that perf-list(1) has for them.
 use Rattle.std.specs.{Prelude.{ℕ, List, [], codes, Option, Some, None, if◌then◌else◌}, Str.{bytes_eq}}
 use Rattle.perf_base.specs.declared.attr.Kind.{Kind, TheVariants.{Hard, ContextSwitches, CpuMigrations, TaskClock, Dummy}}

@@ -1,3 +1,4 @@
+-- inner
 -- Lines whose occurrences are within their limit. This project's own profile.
 use Rattle.std.specs.Prelude.{◌≤◌, All}
 use Rattle.perf_base.specs.declared.lines.CpuLine.{CpuLine}

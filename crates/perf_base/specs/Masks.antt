@@ -1,3 +1,4 @@
+-- believed
 -- Masks of counters: bit C stands for counter C. This project's own profile.
 use Rattle.std.specs.Prelude.{ℕ, ◌^◌, ◌<◌}
 

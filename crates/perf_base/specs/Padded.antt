@@ -1,3 +1,4 @@
+-- inner
 -- Short lists that are kept in an array whose unused places have one filling. This project's own profile.
 use Rattle.std.{specs.Prelude.{◌≡◌, ℕ, ◌-◌, ◌≤◌, List, ◌++◌, length, take, drop, replicate}, proofs.Common.{arith, refl}}
 use Rattle.std.proofs.lemmas.List.{length-take-le, take-append-drop}

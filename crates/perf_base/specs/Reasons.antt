@@ -1,3 +1,4 @@
+-- believed
 -- The numbers and printed words of the reasons, after perf_event_open(2)'s errors; where that has none,
 -- this project's own profile.
 use Rattle.std.specs.Prelude.{ℕ, List, codes}

@@ -1,3 +1,4 @@
+-- inner
 -- What a script says, read off the fields that keep it. This project's own profile.
 use Rattle.std.specs.Prelude.{map}
 use Rattle.perf_base.specs.{Scripts.{Scripted, IsScript}, declared.script.Script.TheInside.{Inside}}

@@ -1,3 +1,4 @@
+-- believed
 -- What a script says, and which entries it may have. This project's own profile; the limits are its own.
 use Rattle.std.specs.Prelude.{◌≡◌, ◌≢◌, ℕ, ◌+◌, ◌^◌, ◌<◌, ◌≤◌, ◌⊎◌, List, [], ◌∷◌, ◌++◌, length, drop, bit_and, codes, All, AllPairs, Any, IfSome, MatchOption, None, slice_get, slice_index_or, slice_set, sum_by, replicate}
 use Rattle.perf_base.specs.declared.{numbers.{CpuNo.{CpuNo}, EventNo.{EventNo}, RingNo.{RingNo}, TaskNo.{TaskNo}, ToolNo.{ToolNo}}, attr.Attr.{Attr}}

@@ -1,3 +1,4 @@
+-- believed
 -- What a group's standing says, after the states of kernel/events/core.c: on is PERF_EVENT_STATE_ACTIVE.
 use Rattle.std.specs.Prelude.{Bool, true, false}
 use Rattle.perf_base.specs.declared.standing.Standing.{Standing, TheVariants.{Out, On, Refused}}

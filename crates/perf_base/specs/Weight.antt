@@ -1,3 +1,4 @@
+-- believed
 -- How many samples a script may bring, counted before it runs. This project's own profile.
 use Rattle.std.specs.Prelude.{ℕ, ◌+◌, ◌*◌, ◌/◌, ◌%◌, min, Bool, false, ◌==◌, nat_lt, List, [], ◌∷◌, sum_by, count_by, if◌then◌else◌}
 use Rattle.perf_base.specs.{declared.lines.{CpuLine.{CpuLine}, ToolLine.{ToolLine}}, Scripts.{Scripted}}

@@ -1,3 +1,4 @@
+-- inner
 -- What a book keeps: a script, the acts that were done of it, in their order, with the answers to them, and the machine
 -- that they lead to. This project's own profile.
 use Rattle.std.specs.Prelude.{◌≡◌, ℕ, ◌+◌, ◌*◌, ◌<◌, ◌≤◌, ⊤, List, [], count_by, length, sum_by}

@@ -1,3 +1,4 @@
+-- inner
 -- How the value of a book is stored: as the tuple of its parts. This project's own profile.
 use Rattle.std.specs.{Prelude.{List, refl}, Coded.{Coded, code_by, coded×, coded_list}}
 use Rattle.perf_base.specs.contracts.{acts.Act.{the_row as act_row}, reply.Answer.{the_row as answer_row}, script.Script.{the_row as script_row}}

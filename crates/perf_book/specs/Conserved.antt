@@ -1,3 +1,4 @@
+-- inner
 -- No record is lost unseen. perf_event_open(2) and kernel/events/ring_buffer.c: a record that finds no room is counted,
 -- and a LOST record states the count later.
 use Rattle.std.specs.Prelude.{◌≡◌, ℕ, ◌+◌, List, count_by, length, sum_by}

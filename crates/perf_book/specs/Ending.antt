@@ -1,3 +1,4 @@
+-- inner
 -- What is left of a book that was finished. This project's own profile.
 use Rattle.std.specs.Prelude.{◌≡◌, ◌≤◌, All, List, length, map}
 use Rattle.perf_base.specs.{declared.acts.Act.{Act}, Scripts.{Scripted, IsScript}}

@@ -1,3 +1,4 @@
+-- inner
 -- How the answer to an act is kept. This project's own profile.
 use Rattle.std.specs.Prelude.{◌≡◌, ℕ, List, [], ◌∷◌, ◌++◌, Option, Some, None}
 use Rattle.perf_base.specs.declared.{acts.{Act.{Act}, Actor.{Actor}}, reply.{Answer.{Answer}, Reply.{Reply}}}

@@ -1,3 +1,4 @@
+-- inner
 -- What the threads of a run know of its script. This project's own profile.
 use Rattle.std.specs.Prelude.{◌≡◌, ℕ, ◌-◌, ◌≤◌, List, filter, length, map, take, nat_lt, if◌then◌else◌}
 use Rattle.perf_base.specs.{declared.{acts.Actor.{Actor}, lines.ReaderLine.{ReaderLine}}, Scripts.{Scripted, lines_of_cpu, lines_of_tool}}

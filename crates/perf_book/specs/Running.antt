@@ -1,3 +1,4 @@
+-- inner
 -- What threads make of a book: the order that they leave, and what the readers do. This project's own profile.
 use Rattle.std.specs.Prelude.{◌≡◌, ◌+◌, ◌*◌, ◌≤◌, All, List, length, slice_get, Option, Some, MatchOption}
 use Rattle.perf_base.specs.{declared.{acts.Act.{Act}, lines.ReaderLine.{ReaderLine}, numbers.RingNo.{RingNo}}, Scripts.{Scripted}, Weight.{weight}}

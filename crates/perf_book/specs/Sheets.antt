@@ -1,3 +1,4 @@
+-- inner
 -- What becomes of the sheet that an actor brings to its line. This project's own profile.
 use Rattle.std.specs.Prelude.{◌≡◌, ◌⊎◌, true, ⊤, None}
 use Rattle.perf_base.specs.{Scripts.{Scripted}, declared.acts.Actor.{Actor}}

@@ -1,3 +1,4 @@
+-- inner
 -- A run that a watcher of a page sees: what is published of it, as it goes on. This project's own profile.
 use Rattle.std.specs.Prelude.{◌≡◌, ℕ, ◌+◌, true, List, [], ◌∷◌, ◌++◌, Option, Some, option_map}
 use mathlib.Core.List.{IsPrefix}

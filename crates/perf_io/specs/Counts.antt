@@ -1,3 +1,4 @@
+-- believed
 -- Counts that stay at the last value of their type. This project's own profile of reading and writing.
 use Rattle.std.specs.Prelude.{ℕ, ◌+◌, ◌-◌, ◌^◌, min}
 

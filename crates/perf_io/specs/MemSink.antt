@@ -1,3 +1,4 @@
+-- inner
 -- A place in memory for bytes. This project's own profile of reading and writing.
 use Rattle.std.specs.Prelude.{ℕ, ◌-◌, ◌<◌, ◌≤◌, ◌⊎◌, List, ◌++◌, length, take, min, Contains}
 use Rattle.perf_io.specs.{Counts.{count_after}, Outside.{Flushes}}

@@ -1,3 +1,4 @@
+-- inner
 -- A source of bytes in memory. This project's own profile of reading and writing.
 use Rattle.std.specs.Prelude.{ℕ, List, length, drop, min}
 use Rattle.perf_io.specs.Counts.{count_after}

@@ -1,3 +1,4 @@
+-- believed
 -- What a source has left, what a sink holds, when a count of faults rose, and how a sink was flushed. This project's
 -- own profile of reading and writing.
 use Rattle.std.specs.Prelude.{◌≡◌, ℕ, ◌<◌, ◌⊎◌, List, [], ◌++◌, ⊤, Option, None, Some}

@@ -1,3 +1,4 @@
+-- inner
 -- What a contract sees of the sinks that show no bytes. This project's own profile of reading and writing.
 use Rattle.std.specs.Prelude.{ℕ}
 use Rattle.perf_io.specs.Outside.{Flushes}

@@ -1,3 +1,4 @@
+-- believed
 -- What a call that writes a text to a sink did, by what the sink shows. This project's own profile of writing.
 use Rattle.std.specs.Prelude.{ℕ, ◌≤◌, List, length, take, Result, MatchResult}
 use Rattle.perf_io.specs.{Outside.{Adds, Rose, SinkShows}, declared.outside.Failed.{Failed}}

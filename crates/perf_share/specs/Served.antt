@@ -1,3 +1,4 @@
+-- inner
 -- What stands behind the turn of a shared machine. This project's own profile.
 use Rattle.std.specs.Prelude.{◌≡◌, List, []}
 use Rattle.perf_base.specs.{declared.reply.Reply.{Reply}, Scripts.{Scripted, IsCovered, IsScript}}

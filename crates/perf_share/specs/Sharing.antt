@@ -1,3 +1,4 @@
+-- inner
 -- What a shared machine knows of its script. This project's own profile.
 use Rattle.std.specs.Prelude.{◌≡◌, [], length}
 use Rattle.perf_base.specs.Scripts.{Scripted, IsScript}

@@ -1,3 +1,4 @@
+-- believed
 -- What is written of bytes of a struct perf_event_attr (perf_event_open(2)). The line is this project's own profile.
 use Rattle.std.specs.{Prelude.{◌≡◌, ◌⊎◌, ℕ, List, [], ◌∷◌, ◌++◌, Some, codes, decimal}, List.{join_with_byte}}
 use Rattle.attr_bytes.specs.{declared.{raw.RawAttr.{RawAttr}, fault.AttrFault.{AttrFault}}, Faults.{fault_of, word_of}}

@@ -1,3 +1,4 @@
+-- inner
 -- What a contract sees of a line in memory. This project's own profile.
 use Rattle.std.specs.Prelude.{ℕ, List}
 use Rattle.perf_io.specs.Outside.{Flushes}

@@ -1,3 +1,4 @@
+-- believed
 -- What a call of the program does and leaves. This project's own profile.
 use Rattle.std.specs.Prelude.{◌≡◌, ◌⊎◌, ◌≤◌, ℕ, List, ◌++◌, length, take, IfSome, Option, Some, Result, slice_get}
 use Rattle.perf_base.specs.{declared.{acts.Act.{Act}, numbers.RingNo.{RingNo}, reply.Answer.{Answer}}, Scripts.{Scripted}}

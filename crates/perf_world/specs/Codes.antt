@@ -1,3 +1,4 @@
+-- inner
 -- How the value of a world is stored: as the tuple of its parts. This project's own profile.
 use Rattle.std.specs.{Prelude.{ℕ, List, Option, refl}, Coded.{Coded, code_by, coded×, coded_ℕ, coded_list, coded_option}, FinMap.{FinMap, code}}
 use Rattle.std.specs.Ordering.{nat_cmp}

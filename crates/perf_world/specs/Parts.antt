@@ -1,3 +1,4 @@
+-- inner
 -- What happens to each table of a world where an instance comes or goes. This project's own profile.
 use Rattle.std.specs.Prelude.{◌≡◌, ◌+◌, ◌^◌, ◌<◌, ◌≤◌, Bool, true, false, is_some, List, [], ◌∷◌, ◌++◌, length, Option, Some, None, slice_index_or, slice_set}
 use Rattle.std.specs.List.{fold}

@@ -1,3 +1,4 @@
+-- inner
 -- How the accounts of instances are turned to the way that their world has for them. After event_sched_in and
 -- event_sched_out of kernel/events/core.c; that an account is turned where its instance changes is this project's own
 -- profile.

@@ -1,3 +1,4 @@
+-- inner
 -- The table of the PMUs of a machine, and the machine that it is. This project's own profile.
 use Rattle.std.specs.Prelude.{ℕ, ◌≤◌, List, take}
 use Rattle.stage_spec.specs.Hardware.{Hardware, IsHardware}

@@ -1,3 +1,4 @@
+-- inner
 -- What holds of the script of N rounds, and of its totals. This project's own profile.
 use Rattle.std.specs.Prelude.{◌≡◌, ℕ, ◌+◌, ◌*◌, List, Some, slice_get}
 use Rattle.perf_base.specs.declared.{numbers.RingNo.{RingNo}, reply.Answer.{Answer}}

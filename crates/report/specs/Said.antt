@@ -1,3 +1,4 @@
+-- inner
 -- What is written of an answer. This project's own profile.
 use Rattle.std.specs.{Prelude.{ℕ, List, [], ◌∷◌, ◌++◌, codes, decimal}, Option.{unwrap_or}}
 use Rattle.perf_base.specs.{declared.{acts.Actor.{Actor}, numbers.EventNo.{EventNo}, reply.Reply.{Reply}}, Scripts.{Scripted}}

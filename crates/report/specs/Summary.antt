@@ -1,3 +1,4 @@
+-- believed
 -- What the report of a made script sums up to, and the lines that say it. This project's own profile.
 use Rattle.std.specs.Prelude.{ℕ, List, ◌++◌, codes, decimal, length, slice_index, sum_by}
 use Rattle.perf_base.specs.{declared.{numbers.RingNo.{RingNo}, reply.{Reply.{Reply}, Answer.{Answer}}}, Scripts.{Scripted, line_count}}

@@ -1,3 +1,4 @@
+-- inner
 -- What is written of a ring by its numbers and its words alone. This project's own profile.
 use Rattle.std.specs.Prelude.{◌≡◌, ℕ, zero, suc, ◌+◌, ◌-◌, ◌*◌, ◌/◌, ⊤, nat_le, Bool, List, [], ◌∷◌, ◌++◌, All, codes, decimal, drop, flat_map, length, map, take}
 use Rattle.perf_base.specs.{declared.{acts.Act.{Act}, numbers.RingNo.{RingNo}, reply.Answer.{Answer}}, Scripts.{Scripted}}

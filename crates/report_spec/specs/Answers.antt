@@ -1,3 +1,4 @@
+-- believed
 -- When an order and replies answer a script, which orders a run leaves, and what its readers took. This project's own
 -- profile.
 use Rattle.std.specs.Prelude.{◌≡◌, ℕ, ◌+◌, ◌*◌, ◌<◌, ◌≤◌, ◌==◌, nat_le, true, false, List, [], ◌∷◌, ◌++◌, length, find, All, Option, MatchOption}

@@ -1,3 +1,4 @@
+-- inner
 -- How the list of published looks grows, act by act, and which looks it has. This project's own profile.
 use Rattle.std.specs.Prelude.{◌≡◌, ℕ, ◌<◌, ◌≤◌, ◌⊎◌, ◌↔◌, true, List, [], ◌∷◌, ◌++◌, length, All, AllPairs, Contains}
 use mathlib.Core.List.{IsPrefix}

@@ -1,3 +1,4 @@
+-- believed
 -- The looks at an event that are published on a page while a script is run, and what `watch` writes of them. This
 -- project's own profile, in the place of struct perf_event_mmap_page of perf_event_open(2).
 use Rattle.std.specs.Prelude.{◌≡◌, ℕ, Bool, true, false, List, [], ◌∷◌, ◌++◌, length, Contains, codes, decimal, Some}

@@ -1,3 +1,4 @@
+-- believed
 -- The text of a report. This project's own profile.
 use Rattle.std.specs.Prelude.{ℕ, zero, suc, ◌+◌, ◌/◌, ◌%◌, nat_le, Bool, true, false, List, [], ◌∷◌, ◌++◌, map, length, codes, decimal, Option, Some, None, slice_get}
 use Rattle.std.specs.{Fmt.{digit_glyph}, List.{flat_map}}

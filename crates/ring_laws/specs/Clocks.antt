@@ -1,3 +1,4 @@
+-- inner
 -- How far the clocks of processors go, and the sums of events over an order of a script. This project's own profile,
 -- after its limits on work and on lines.
 use Rattle.std.specs.Prelude.{◌^◌, ◌<◌, ◌≤◌, All, List, count_by}

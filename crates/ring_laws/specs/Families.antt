@@ -1,3 +1,4 @@
+-- inner
 -- On a sound stage each instance's event is open. This project's own profile.
 use Rattle.stage_spec.specs.{Hardware.{Hardware}, Stage.{Stage}}
 use Rattle.stage_laws.specs.Sound.{IsSound}

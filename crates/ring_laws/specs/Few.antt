@@ -1,3 +1,4 @@
+-- inner
 -- How many records lines send at most. This project's own profile.
 use Rattle.std.specs.Prelude.{◌≡◌, ℕ, ◌*◌, ◌<◌, ◌≤◌, ◌⊎◌, Bool, false, All, List, length, count_by, sum_by}
 use Rattle.perf_base.specs.{declared.{numbers.{RingNo.{RingNo}, TaskNo.{TaskNo}}, acts.Act.{Act}}, Scripts.{Scripted, IsScript, IsCovered}}

@@ -1,3 +1,4 @@
+-- inner
 -- How many records an event loses, and where a ring's head stands. This project's own profile.
 use Rattle.std.specs.Prelude.{ℕ, ◌*◌, ◌^◌, ◌<◌, ◌≤◌, ◌≢◌, AllPairs, List, length}
 use Rattle.perf_base.specs.{declared.{numbers.{EventNo.{EventNo}, RingNo.{RingNo}}, acts.Act.{Act}}, Scripts.{Scripted, IsScript, IsCovered}}

@@ -1,3 +1,4 @@
+-- inner
 -- Where a ring's tail was seen last, by its account. This project's own profile.
 use Rattle.std.specs.Prelude.{◌≡◌, ℕ, List}
 use Rattle.perf_base.specs.{declared.{numbers.RingNo.{RingNo}, acts.Act.{Act}}, Scripts.{Scripted}}

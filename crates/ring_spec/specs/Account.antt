@@ -1,3 +1,4 @@
+-- believed
 -- What becomes of the records that are sent to a ring. After __perf_output_begin of kernel/events/ring_buffer.c, which
 -- counts the records that don't fit for their event too (lost_samples). That a tail is looked at once before a line is
 -- this project's own profile.

@@ -1,3 +1,4 @@
+-- inner
 -- When two records of a step agree: a machine forgets what no later line asks for. This project's own profile.
 use Rattle.std.specs.{Prelude.{◌↔◌, ◌≡◌, ℕ, ◌≤◌, ◌⊎◌, ◌==◌, Bool, true, false, List, All, length, map}, List.{list_any}}
 use Rattle.perf_base.specs.declared.{numbers.{CpuNo.{CpuNo}, EventNo.{EventNo}, RingNo.{RingNo}}, reply.Reply.{Reply}}

@@ -1,3 +1,4 @@
+-- believed
 -- The records of a ring, word by word: struct perf_event_header, PERF_RECORD_SAMPLE and PERF_RECORD_LOST of
 -- perf_event_open(2). A word is eight bytes, the lowest first.
 use Rattle.std.specs.Prelude.{◌≡◌, ℕ, ◌+◌, ◌*◌, ◌^◌, ◌≤◌, ◌==◌, bit_and, List, [], ◌∷◌, ◌++◌, length, map, take, sum, flat_map, All, if◌then◌else◌}

@@ -1,3 +1,4 @@
+-- believed
 -- The rings of a script over an order: what was sent to each and seen of it, which orders are lawful, and how many
 -- records of a family were lost. This project's own profile, after lost_samples of struct perf_event.
 use Rattle.std.specs.Prelude.{◌≡◌, ℕ, ◌*◌, ◌≤◌, ◌==◌, Bool, All, List, [], ◌∷◌, ◌++◌, length, map, take, filter, fold, find, sum_by, Option, Some, None, if◌then◌else◌}

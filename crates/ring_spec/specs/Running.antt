@@ -1,3 +1,4 @@
+-- inner
 -- Running state: what a history leaves, kept step by step. This project's own profile.
 use Rattle.std.specs.Prelude.{◌↔◌, ◌≡◌, ℕ, ◌+◌, List, [], ◌∷◌, map, filter, fold, flat_map, count_by}
 use Rattle.perf_base.specs.declared.{numbers.{CpuNo.{CpuNo}, EventNo.{EventNo}, RingNo.{RingNo}}, reply.{Reply.{Reply}, Sums.{Sums}}}

@@ -1,3 +1,4 @@
+-- believed
 -- Which records a step sends, and to which ring. After __perf_event_overflow, perf_output_sample and
 -- perf_event_header__init_id of kernel/events/core.c, and __perf_output_begin of kernel/events/ring_buffer.c, where
 -- records of an event without a ring are dropped and a LOST record has the original's ids too. The order of the records

@@ -1,3 +1,4 @@
+-- inner
 -- Lists of words that are cut into blocks, each of which says its size in its first word.
 use Rattle.std.specs.{Prelude.{◌≡◌, ℕ, ◌*◌, ◌/◌, ◌%◌, ◌^◌, List, [], ◌∷◌, length, All}, List.{concat}}
 

@@ -1,3 +1,4 @@
+-- inner
 -- What a ring that an event is given leaves of a world. After perf_mmap and perf_event_set_output of
 -- kernel/events/core.c; the tables are this project's own profile.
 use Rattle.std.specs.Prelude.{◌≡◌, ◌≢◌, Bool, List, Option, Some}

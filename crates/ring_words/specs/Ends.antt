@@ -1,3 +1,4 @@
+-- inner
 -- What contracts see of a ring and of its two ends. Places, heads and tails are in bytes from the start of the stream,
 -- and never wrap.
 use Rattle.std.specs.Prelude.{◌≡◌, ℕ, ◌+◌, ◌-◌, ◌*◌, ◌/◌, ◌%◌, ◌<◌, ◌≤◌, List, [], ◌++◌, length, take}

@@ -1,3 +1,4 @@
+-- inner
 -- The rule of a ring, which holds between any two steps. Word 0 of the table is the tail, word 1 the head, and the
 -- others are the data words.
 use Rattle.std.specs.Prelude.{◌≡◌, ℕ, ◌+◌, ◌-◌, ◌*◌, ◌/◌, ◌<◌, ◌≤◌, List, [], ◌∷◌, ◌++◌, length, take, filter, slice_index}

@@ -1,3 +1,4 @@
+-- inner
 -- What each kind of step tells its end: the word of the table that it is on, how the view changes, and what the end
 -- learns. The steps are those of kernel/events/ring_buffer.c.
 use Rattle.std.specs.Prelude.{◌≡◌, ◌≢◌, ◌↔◌, ℕ, ◌+◌, ◌*◌, ◌≤◌, [], ◌∷◌, ◌++◌, length}

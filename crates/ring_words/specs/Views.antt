@@ -1,3 +1,4 @@
+-- inner
 -- The views of a ring's seats: how they begin, part, travel and join.
 use Rattle.std.specs.Prelude.{◌≡◌, ℕ, ◌+◌, ◌-◌, ◌*◌, ◌<◌, ◌^◌, true, false, List, [], ◌∷◌, ◌++◌, length}
 use Rattle.atomic_table.specs.{Seated.{TableId}, Table.{Me}}

@@ -1,3 +1,4 @@
+-- inner
 -- What is left of a run. This project's own profile.
 use Rattle.std.specs.Prelude.{◌≡◌, ℕ, ◌*◌, All, List, [], length, map, Option, Some, None, slice_get}
 use Rattle.perf_base.specs.{declared.{acts.Act.{Act}, numbers.RingNo.{RingNo}, reply.Answer.{Answer}}, Scripts.{Scripted}}

@@ -1,3 +1,4 @@
+-- inner
 -- How many acts an order has, and how many rings a script. This project's own profile, after its limits on scripts.
 use Rattle.std.specs.Prelude.{◌≡◌, ◌+◌, ◌≤◌, List, length, count_by, sum_by}
 use Rattle.perf_base.specs.{declared.acts.Act.{Act}, Scripts.{Scripted, IsScript, line_count}}

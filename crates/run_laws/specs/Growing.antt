@@ -1,3 +1,4 @@
+-- inner
 -- How the order that a run leaves grows, by one act and the looks at tails that stand before it. This project's own
 -- profile.
 use Rattle.std.specs.Prelude.{◌≡◌, ℕ, ◌+◌, ◌<◌, ◌≤◌, Bool, true, false, List, [], ◌∷◌, ◌++◌}

@@ -1,3 +1,4 @@
+-- inner
 -- How many records the reader of a ring took, and which rings were never looked at. This project's own profile.
 use Rattle.std.specs.Prelude.{◌≡◌, ℕ, ◌*◌, ◌≤◌, All, List, length, take}
 use Rattle.perf_base.specs.{declared.{numbers.RingNo.{RingNo}, acts.Act.{Act}}, Scripts.{Scripted}}

@@ -1,3 +1,4 @@
+-- inner
 -- The words of fields, each still a whole word, in the order of a sample and of a trailer, after PERF_RECORD_SAMPLE
 -- and sample_id_all of perf_event_open(2).
 use Rattle.std.specs.Prelude.{◌≡◌, ℕ, ◌/◌, ◌%◌, ◌^◌, List, ◌++◌}

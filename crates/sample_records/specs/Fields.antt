@@ -1,3 +1,4 @@
+-- inner
 -- The fields that the words of a record say, and the fault of words that say none. After PERF_RECORD_SAMPLE and struct
 -- sample_id of perf_event_open(2); that the word of the processor has a high half of 0, and is a fault where it has
 -- not, is this project's own profile.

@@ -1,3 +1,4 @@
+-- inner
 -- A header word is the one of its type, misc and size, after struct perf_event_header of perf_event_open(2).
 use Rattle.std.specs.Prelude.{◌≡◌, ℕ, ◌^◌, ◌<◌}
 use Rattle.ring_spec.specs.Whole.{size_field}

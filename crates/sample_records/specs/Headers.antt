@@ -1,3 +1,4 @@
+-- inner
 -- The fields of a record's first word, after struct perf_event_header of perf_event_open(2): u32 type, u16 misc and
 -- u16 size, little-endian. The size field is that of blocks of words.
 use Rattle.std.specs.Prelude.{ℕ, ◌+◌, ◌*◌, ◌/◌, ◌%◌, ◌^◌}

@@ -1,3 +1,4 @@
+-- inner
 -- Which words a record is read from, and which fault they have, the first in this order: no word, the type, the misc,
 -- the size, too few words. After struct perf_event_header, PERF_RECORD_SAMPLE and PERF_RECORD_LOST of
 -- perf_event_open(2); that other types, miscs and sizes are faults is this project's own profile.

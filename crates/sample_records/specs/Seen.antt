@@ -1,3 +1,4 @@
+-- inner
 -- A record of the code as the definitions have it. This project's own profile.
 use Rattle.ring_spec.specs.Records.{Record, Sample, Lost}
 use Rattle.sample_records.specs.declared.record.Record.{Record as StoredRecord}

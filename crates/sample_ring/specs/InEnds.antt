@@ -1,3 +1,4 @@
+-- inner
 -- What contracts see of the end of a ring that takes records. Words are taken into a store, whose room is a number of
 -- words. After perf_event_open(2), the ring buffer's reader; the store and its room are this project's own profile.
 use Rattle.std.specs.{Prelude.{◌≡◌, ℕ, ◌+◌, ◌*◌, ◌<◌, ◌≤◌, ◌⊎◌, List, [], ◌∷◌, ◌++◌, length, All, Option, Some, None}, List.{concat}}

@@ -1,3 +1,4 @@
+-- inner
 -- What the fields of the end that takes records keep (this project's own profile).
 use Rattle.std.specs.Prelude.{◌≡◌, ℕ, ◌-◌, ◌*◌, ◌<◌, ◌≤◌, length}
 use mathlib.Core.List.{IsPrefix}

@@ -1,3 +1,4 @@
+-- inner
 -- What the lists of ends are once an end that they lent comes back. This project's own profile.
 use Rattle.std.specs.{Prelude.{ℕ, slice_set, Option, Some}, Borrow.{Lends, MutBor, Fml}, contracts.option.Option.{the_row as option_row}}
 use Rattle.sample_ring.specs.{OutEnds.{OutEnd}, InEnds.{InEnd}, RingLists.{OutList, InList, with_slot}, contracts.sender.Out.{the_row as out_row}}

@@ -1,3 +1,4 @@
+-- inner
 -- What contracts see of the end of a ring that sends records, and the ring account that it has.
 use Rattle.std.specs.Prelude.{◌≡◌, ℕ, ◌≤◌, List, [], length, map, take, sum, All}
 use Rattle.ring_spec.specs.{Records.{Record, IsRecord, record_size, words_of}, Account.{Account}}

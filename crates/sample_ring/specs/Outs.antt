@@ -1,3 +1,4 @@
+-- inner
 -- What the fields of the end that sends keep. It notes the ends of its records in as many cells as the ring has words,
 -- each in the cell of its place (this project's own profile).
 use Rattle.std.specs.Prelude.{◌≡◌, ℕ, ◌*◌, ◌/◌, ◌%◌, ◌<◌, ◌≤◌, List, [], length, slice_index}

@@ -1,3 +1,4 @@
+-- inner
 -- What contracts see of the rings of a run, of the ends that send and of those that take: each a list by ring, with the
 -- rings' numbers beside it (this project's own profile).
 use Rattle.std.specs.{Prelude.{◌≡◌, ℕ, ◌<◌, ◌==◌, List, length, map, slice_get, slice_set, Option, Some, None}, List.{position_or_len}}

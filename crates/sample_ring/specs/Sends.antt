@@ -1,3 +1,4 @@
+-- inner
 -- What a send does to the end that sends. After __perf_output_begin of kernel/events/ring_buffer.c, where a LOST record
 -- and the record behind it fit together or are not written, too.
 use Rattle.std.specs.Prelude.{ℕ, zero, suc, ◌+◌, nat_le, Bool, true, false, List, [], ◌∷◌, ◌++◌, sum_by}

@@ -1,3 +1,4 @@
+-- inner
 -- How far a reader is, and what the end that sends knows of it, for a caller who has both ends of a ring.
 use Rattle.std.specs.Prelude.{◌≡◌, ℕ, ◌+◌, ◌*◌, ◌<◌, List, length, None}
 use mathlib.Core.List.{IsPrefix}

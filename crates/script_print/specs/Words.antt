@@ -1,3 +1,4 @@
+-- inner
 -- What the words of a line write, and the parts of a printed text. This project's own profile.
 use Rattle.std.specs.{Prelude.{ℕ, List, [], ◌∷◌, ◌++◌, length, map, flat_map, codes, decimal, ◌==◌, if◌then◌else◌}, List.{join_with_byte}}
 use Rattle.perf_base.specs.{declared.acts.Act.{Act}, Scripts.{Scripted}}

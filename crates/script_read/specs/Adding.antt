@@ -1,3 +1,4 @@
+-- inner
 -- What a form adds to the script so far, and to what the state keeps beside it. This project's own profile.
 use Rattle.std.specs.Prelude.{◌≡◌, ℕ, ◌<◌, bit_or, Option, Some, IfSome}
 use Rattle.perf_base.specs.declared.reasons.SReason.{SReason}

@@ -1,3 +1,4 @@
+-- inner
 -- What each reason asks, and which is blamed. This project's own profile.
 use Rattle.std.specs.Prelude.{◌<◌}
 use Rattle.perf_base.specs.declared.reasons.SReason.{SReason}

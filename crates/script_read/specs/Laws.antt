@@ -1,3 +1,4 @@
+-- inner
 -- What holds of every text, whether it is read or not. This project's own profile.
 use Rattle.std.specs.Prelude.{◌≡◌, ℕ, ◌⊎◌, List}
 use Rattle.perf_base.specs.{declared.reasons.SReason.{SReason}, Scripts.{Scripted}}

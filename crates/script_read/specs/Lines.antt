@@ -1,3 +1,4 @@
+-- inner
 -- What the making of a line gives, and for which reasons it is refused. This project's own profile.
 use Rattle.std.specs.Prelude.{◌≡◌, List, Some}
 use Rattle.perf_base.specs.declared.{lines.{CpuLine.{CpuLine}, KindLine.{KindLine}, ToolLine.{ToolLine}}, reasons.SReason.{SReason}}

@@ -1,3 +1,4 @@
+-- inner
 -- What the ranges of numbers and masks ask, of the script so far and what the state keeps beside it. This project's own
 -- profile.
 use Rattle.std.specs.Prelude.{◌≡◌, ℕ, ◌<◌, ◌≤◌, ◌^◌, bit_and, List, length, All, Option, option_map, IfSome}

@@ -1,3 +1,4 @@
+-- inner
 -- Where a form may stand: the sections in their order, PMUs for all processors, and headers. This project's own
 -- profile.
 use Rattle.std.specs.Prelude.{◌<◌, ◌≤◌, IsSome}

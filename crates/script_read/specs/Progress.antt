@@ -1,3 +1,4 @@
+-- inner
 -- How far a text is read, by the forms of its lines so far. This project's own profile.
 use Rattle.std.specs.Prelude.{◌≡◌, ℕ, List, [], ◌∷◌, ◌++◌, Bool, false, ◌==◌}
 use Rattle.perf_base.specs.declared.reasons.SReason.{SReason}

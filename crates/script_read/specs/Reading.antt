@@ -1,3 +1,4 @@
+-- inner
 -- What reading gives, line by line and at the end. This project's own profile.
 use Rattle.std.specs.Prelude.{◌≡◌, ◌≢◌, ℕ, ◌+◌, ◌<◌, ◌≤◌, ◌⊎◌, true, false, List, [], ◌∷◌, ◌++◌, length, take}
 use Rattle.perf_base.specs.Scripts.{Scripted}

@@ -1,3 +1,4 @@
+-- inner
 -- What the state of the reader says of the forms of the lines so far. This project's own profile.
 use Rattle.std.specs.Prelude.{◌≡◌, ℕ, ◌<◌, ◌≤◌, bit_or, List, [], ◌∷◌, length, All, Any, Option, option_map, IfSome}
 use Rattle.perf_base.specs.declared.{numbers.{CpuNo.{CpuNo}, ToolNo.{ToolNo}}, lines.PmuLine.{PmuLine}}

@@ -1,3 +1,4 @@
+-- believed
 -- How acts are written. This project's own profile.
 use Rattle.std.specs.{Prelude.{ℕ, ◌^◌, ◌<◌, List, ◌∷◌, ◌++◌, codes, decimal}, List.{flat_map}}
 use Rattle.perf_base.specs.declared.acts.Act.{Act}

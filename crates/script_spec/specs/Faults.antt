@@ -1,3 +1,4 @@
+-- believed
 -- Why a line is refused: what each reason asks of a line, in a text whose lines before it are of these forms.
 -- This project's own profile.
 use Rattle.std.specs.Prelude.{◌≡◌, ◌≢◌, ℕ, ◌<◌, ◌≤◌, List, [], length, All, AllPairs, Any, IfSome, IsSome, None}

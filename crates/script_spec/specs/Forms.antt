@@ -1,3 +1,4 @@
+-- believed
 -- The forms that a line of a script can have, and how each is spelled. This project's own profile.
 use Rattle.std.specs.Prelude.{◌≡◌, ◌≢◌, ℕ, ◌/◌, ◌%◌, ◌^◌, ◌<◌, ◌≤◌, ◌==◌, Bool, true, false, List, [], ◌∷◌, ◌++◌, length, map, flat_map, filter, All, Option, Some, None, IfSome, slice_index_or, codes, decimal}
 use Rattle.std.specs.{Fmt.{digits, digit_glyph}, List.{join_with_byte}, Int.{bit_at}}

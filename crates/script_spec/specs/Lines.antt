@@ -1,3 +1,4 @@
+-- believed
 -- How a text is cut into lines, and a line into words. This project's own profile.
 use Rattle.std.specs.Prelude.{ℕ, Bool, true, false, ◌==◌, List, [], ◌∷◌}
 

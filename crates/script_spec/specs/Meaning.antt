@@ -1,3 +1,4 @@
+-- believed
 -- The script that the forms of a text say: each part is read off the whole list of forms. This project's own
 -- profile.
 use Rattle.std.specs.Prelude.{ℕ, ◌-◌, ◌^◌, ◌==◌, Bool, false, List, [], ◌∷◌, ◌++◌, length, map, filter_map, flat_map, position, replicate, slice_get, slice_index, Option, Some, None, option_map, unwrap_or, if◌then◌else◌}

@@ -1,3 +1,4 @@
+-- believed
 -- The printed text of a script. This project's own profile: what is 0, kinds that do not occur and processors and
 -- tools without lines are left out, the kinds of a work line stand in their declared order, and the order stands
 -- on one line. A script with one PMU is printed in version one, every other one in version two.

@@ -1,3 +1,4 @@
+-- inner
 -- What one form more adds to the script that the forms before it say. This project's own profile.
 use Rattle.std.specs.Prelude.{◌≡◌, ℕ, ◌<◌, List, [], ◌∷◌, ◌++◌, Option, Some, None, IfSome}
 use Rattle.perf_base.specs.declared.lines.{CpuLine.{CpuLine}, ToolLine.{ToolLine}}

@@ -1,3 +1,4 @@
+-- believed
 -- Which text stands for which script, and which line of another text is refused for which reason. This
 -- project's own profile.
 use Rattle.std.specs.Prelude.{◌≡◌, ◌≢◌, ℕ, ◌+◌, ◌<◌, ◌⊎◌, List, [], ◌∷◌, length, take, All, Any, slice_index_or, codes, if◌then◌else◌}

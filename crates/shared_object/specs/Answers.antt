@@ -1,3 +1,4 @@
+-- inner
 -- What the calls of a shared object answer, and what the pass has then seen.
 use Rattle.std.specs.Prelude.{◌≡◌, ◌≢◌, ℕ, ◌<◌, ◌≤◌, All, List, [], ◌∷◌, ◌++◌, length}
 use mathlib.Core.List.{IsPrefix}

@@ -1,3 +1,4 @@
+-- inner
 -- What contracts see of a shared object and of the passes to it.
 use Rattle.std.specs.Prelude.{◌≡◌, ℕ, ◌+◌, ◌<◌, List, Option, Some, [], ◌∷◌, ◌++◌, length, nat_lt, Contains, if◌then◌else◌}
 use Rattle.atomic_table.specs.Seated.{TableId}

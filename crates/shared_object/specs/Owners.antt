@@ -1,3 +1,4 @@
+-- inner
 -- Whose the calls of a history are.
 use Rattle.std.specs.Prelude.{◌≡◌, ℕ, ◌<◌, true, List, length, Contains}
 use mathlib.Core.Option.{some}

@@ -1,3 +1,4 @@
+-- inner
 -- The rule of a shared object, which holds between any two steps. Word 0 of the table is the turn, and word 1 the count
 -- of calls.
 use Rattle.std.specs.Prelude.{◌≡◌, ◌≢◌, ℕ, ◌<◌, ◌≤◌, ◌⊎◌, true, List, Some, [], ◌∷◌, length, filter, slice_index, Contains, ◌++◌}

@@ -1,3 +1,4 @@
+-- inner
 -- What each kind of step tells its seat: the word of the table that it is on, how the view and the slots held change,
 -- and what the seat learns.
 use Rattle.std.specs.Prelude.{◌≡◌, ◌≢◌, ℕ, ◌≤◌, ◌⊎◌, true, List, Option, Some, ◌∷◌, length}

@@ -1,3 +1,4 @@
+-- inner
 -- What a seat with the turn does with a call.
 use Rattle.std.specs.Prelude.{◌≡◌, ◌<◌, ◌∷◌, ◌++◌, [], length, List}
 use Rattle.shared_object.specs.{Histories.{most_calls}, Views.{all_seen, with_own}, declared.{view.View.{View}, answer.Answer.{Answer}}}

@@ -1,3 +1,4 @@
+-- inner
 -- The views of the seats at a shared object's table: how they begin, part and join.
 use Rattle.std.specs.Prelude.{◌≡◌, ℕ, ◌+◌, true, false, List, Option, Some, None, [], ◌∷◌, ◌++◌, length}
 use Rattle.atomic_table.specs.{Seated.{TableId}, Table.{Me}}

@@ -1,3 +1,4 @@
+-- inner
 -- How much steps add to what an event has counted with its copies, and how many ids they draw: sums stay small. This
 -- project's own profile, after its limits on work and on copies.
 use Rattle.std.specs.{Prelude.{ℕ, ◌+◌, ◌^◌, ◌<◌, ◌≤◌, max, Bool, true, false, All, List, filter, count_by, sum_by}, List.{fold}}

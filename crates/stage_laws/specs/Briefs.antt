@@ -1,3 +1,4 @@
+-- inner
 -- The verdicts of a processor's groups from what they need alone. After ctx_sched_in, merge_sched_in and
 -- group_can_go_on of kernel/events/core.c; whom a refusal names is this project's own profile.
 use Rattle.std.specs.Prelude.{ℕ, Bool, not, List, [], ◌∷◌, ◌++◌, map, filter, find, flat_map, Option, option_map}

@@ -1,3 +1,4 @@
+-- inner
 -- Which processors a line can touch, and that only those have to be settled after it. After the calls of ctx_resched in
 -- kernel/events/core.c; the definitions settle every processor.
 use Rattle.std.specs.{Prelude.{◌≡◌, ◌≢◌, ◌<◌, ◌==◌, Bool, false, All, List, [], ◌∷◌, filter, length, Option, Some, None}, List.{list_any}}

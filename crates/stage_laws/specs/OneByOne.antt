@@ -1,3 +1,4 @@
+-- inner
 -- What a line does to several instances, one instance at a time: changed, taken away and added by their ids. After the
 -- loops over child_list, sibling_list and event_list of kernel/events/core.c.
 use Rattle.std.specs.Prelude.{◌≡◌, ℕ, ◌+◌, ◌≤◌, ◌==◌, Bool, true, false, not, List, [], ◌∷◌, ◌++◌, filter, count_by, map, flat_map, Option, Some, None, if◌then◌else◌}

@@ -1,3 +1,4 @@
+-- inner
 -- The laws of sound stages: the first stage is sound, and every line leaves it so. This project's own profile.
 use Rattle.std.specs.Prelude.{◌≤◌, All, List, not, count_by}
 use Rattle.perf_base.specs.declared.numbers.TaskNo.{TaskNo}

@@ -1,3 +1,4 @@
+-- inner
 -- What holds of every stage that lines lead to. This project's own profile, after what kernel/events/core.c keeps of
 -- its contexts, its groups and the tasks that they follow.
 use Rattle.std.specs.{Prelude.{◌≡◌, ℕ, ◌<◌, ◌≤◌, ◌==◌, Bool, true, false, All, IsTrue, count_by, Some, None}, List.{list_any}}

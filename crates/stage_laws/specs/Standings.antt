@@ -1,3 +1,4 @@
+-- inner
 -- What the standings of a processor's groups depend on, and settling by standings. After merge_sched_in of
 -- kernel/events/core.c; whom a refusal names is this project's own profile.
 use Rattle.std.specs.{Prelude.{◌≡◌, ℕ, ◌<◌, false, List, [], map, filter}, List.{list_any}}

@@ -1,3 +1,4 @@
+-- inner
 -- How the flexible hardware groups of a context take turns at a processor's ticks. After the rotation of flexible
 -- groups by perf_rotate_context and rotate_ctx of kernel/events/core.c; which group moves is this project's own
 -- profile.

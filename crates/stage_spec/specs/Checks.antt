@@ -1,3 +1,4 @@
+-- believed
 -- For what an attribute is refused by itself, whatever is open. The first four conditions are those of
 -- perf_event_open(2): in kernel/events/core.c the system call looks at the period, perf_copy_attr at the bits, and
 -- perf_event_alloc at the place. This project's own profile are the bits that are known, the fifth condition, and the

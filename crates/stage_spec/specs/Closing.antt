@@ -1,3 +1,4 @@
+-- believed
 -- What becomes of groups when events go, after perf_group_detach of kernel/events/core.c, where add_event_to_groups
 -- puts siblings behind the flexible groups too.
 use Rattle.std.specs.Prelude.{Bool, true, false, not, List, [], ◌∷◌, ◌++◌, map, filter, flat_map}

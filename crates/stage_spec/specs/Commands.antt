@@ -1,3 +1,4 @@
+-- believed
 -- What ENABLE, DISABLE, RESET and PERIOD do, after the ioctls of perf_event_open(2), perf_event_enable, disable and
 -- reset and perf_event_period of kernel/events/core.c. That DISABLE clears an error is this project's own profile.
 use Rattle.std.specs.Prelude.{ℕ, ◌^◌, ◌==◌, Bool, true, false, not, ◌||◌, bit_and, List, [], ◌∷◌, map, Option, Some, None, if◌then◌else◌}

@@ -1,3 +1,4 @@
+-- believed
 -- What an event's state comes to within its group, and what a group is by its events. After event_filter_match,
 -- __perf_effective_state and is_software_event of kernel/events/core.c.
 use Rattle.std.specs.{Prelude.{Bool, true, false, not, ◌&&◌, List, filter}, List.{list_all}}

@@ -1,3 +1,4 @@
+-- believed
 -- What an exit does, after perf_event_exit_task of kernel/events/core.c, after which the task's own events can be read
 -- too. That ENABLE and DISABLE still change their states then, and that an exit is no context switch, is this project's
 -- own profile.

@@ -1,3 +1,4 @@
+-- believed
 -- What an event has counted with its copies, those that have exited among them. After __perf_event_read_value and
 -- sync_child_event of kernel/events/core.c.
 use Rattle.std.specs.Prelude.{◌+◌, ◌&&◌, List, [], ◌∷◌, ◌++◌, filter}

@@ -1,3 +1,4 @@
+-- believed
 -- When events can stand on counters together: each on a counter of its own, one that can count it. The constraint
 -- of event scheduling in kernel/events/core.c and arch/x86/events/core.c. A mask is a number whose bit C says that
 -- counter C can count the event; a processor has at most 16 counters, as this project's own profile has it.

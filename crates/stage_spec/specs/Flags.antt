@@ -1,3 +1,4 @@
+-- believed
 -- What an attribute's flags say, after struct perf_event_attr of perf_event_open(2).
 use Rattle.std.specs.Prelude.{Bool}
 use Rattle.perf_base.specs.declared.attr.Attr.{Attr}

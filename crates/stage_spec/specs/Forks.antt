@@ -1,3 +1,4 @@
+-- believed
 -- What a fork does, after perf_event_init_task and inherit_group of kernel/events/core.c. Its refusals are this
 -- project's own profile.
 use Rattle.std.specs.Prelude.{ℕ, ◌+◌, nat_lt, true, false, List, [], ◌∷◌, filter, sum_by, Option, Some, None, if◌then◌else◌}

@@ -1,3 +1,4 @@
+-- believed
 -- The counters of a machine: the PMU of each processor, the counters of each PMU, and of each hardware kind its PMU and
 -- the counters that can count it. After struct pmu of kernel/events/core.c; the numbering is this project's own
 -- profile.

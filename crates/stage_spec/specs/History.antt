@@ -1,3 +1,4 @@
+-- believed
 -- The lines that were done, and the stage that they leave. This project's own profile, after the calls of
 -- perf_event_open(2), the scheduler's calls of kernel/events/core.c, and its tick.
 use Rattle.std.specs.Prelude.{ℕ, List, [], ◌∷◌, ◌++◌, Option, Some, None}

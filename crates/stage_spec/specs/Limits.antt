@@ -1,3 +1,4 @@
+-- inner
 -- Lines whose numbers, kinds and rings keep a script's limits. This project's own profile.
 use Rattle.std.specs.Prelude.{◌≡◌, ℕ, ◌<◌, All, List, length}
 use Rattle.perf_base.specs.declared.numbers.{RingNo.{RingNo}, TaskNo.{TaskNo}}

@@ -1,3 +1,4 @@
+-- believed
 -- What mapping a ring and redirecting an event's output do, after mmap and PERF_EVENT_IOC_SET_OUTPUT of
 -- perf_event_open(2), perf_mmap and perf_event_set_output of kernel/events/core.c. That a ring is mapped at most once
 -- is this project's own profile.

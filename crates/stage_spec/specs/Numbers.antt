@@ -1,3 +1,4 @@
+-- believed
 -- The numbers below a number. This project's own profile.
 use Rattle.std.specs.Prelude.{ℕ, zero, suc, List, [], ◌∷◌, ◌++◌}
 

@@ -1,3 +1,4 @@
+-- believed
 -- Occurrences of an event that samples, one by one. After perf_swevent_set_period and __perf_event_overflow of
 -- kernel/events/core.c, where the remainder starts anew at the present period too; that occurrences are taken one by
 -- one is this project's own profile.

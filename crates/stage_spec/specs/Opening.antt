@@ -1,3 +1,4 @@
+-- believed
 -- What opening an event does, and for what it is refused. After perf_event_open(2) and the system call of that name
 -- in kernel/events/core.c; what is this project's own profile is marked.
 use Rattle.std.specs.Prelude.{ℕ, ◌+◌, ◌==◌, nat_lt, Bool, true, false, not, ◌&&◌, ◌||◌, List, [], ◌∷◌, ◌++◌, map, Option, Some, None, is_some, if◌then◌else◌}

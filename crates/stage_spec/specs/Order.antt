@@ -1,3 +1,4 @@
+-- believed
 -- Which line an act does, and when an order is complete. This project's own profile.
 use Rattle.std.specs.Prelude.{◌≡◌, ℕ, ◌==◌, ◌≤◌, List, ◌∷◌, ◌++◌, length, take, sum, fold, count_by, Option, slice_get, if◌then◌else◌}
 use Rattle.perf_base.specs.declared.{numbers.{CpuNo.{CpuNo}, RingNo.{RingNo}, ToolNo.{ToolNo}}, lines.{CpuLine.{CpuLine}, ToolLine.{ToolLine}}}

@@ -1,3 +1,4 @@
+-- believed
 -- Where an event counts: its task and its processor. After pid and cpu of perf_event_open(2).
 use Rattle.std.specs.Prelude.{◌==◌, Bool, true, false}
 use Rattle.perf_base.specs.declared.{numbers.CpuNo.{CpuNo}, attr.{TaskSel.{TaskSel}, CpuSel.{CpuSel}}}

@@ -1,3 +1,4 @@
+-- believed
 -- The words of a read, after perf_event_open(2), perf_read_one and perf_read_group of kernel/events/core.c: the word
 -- of lost records comes last, and an event in error gives no word. That a sibling under a leader in error gives none
 -- either is this project's own profile.

@@ -1,3 +1,4 @@
+-- inner
 -- What one more step adds to a history: to the stage, to the sums of an instance, to the folded sums of an event. This
 -- project's own profile.
 use Rattle.std.specs.Prelude.{◌≡◌, ℕ, ◌≤◌, Bool, true, false, List, [], ◌∷◌, ◌++◌}

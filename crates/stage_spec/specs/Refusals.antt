@@ -1,3 +1,4 @@
+-- believed
 -- The first reason that holds. Why a line is refused goes by the first of the reasons in their order, which
 -- perf_event_open(2) leaves open and this project's own profile fixes.
 use Rattle.std.specs.Prelude.{Bool, false, List, find, Option, Some, None, option_map}

@@ -1,3 +1,4 @@
+-- believed
 -- What is left of an instance's period over a history. After period_left and perf_event_period of
 -- kernel/events/core.c, which restarts the remainder too.
 use Rattle.std.specs.{Prelude.{◌≡◌, ℕ, ◌==◌, Bool, true, false, ◌&&◌, List, [], ◌∷◌, ◌++◌, find, Option, Some, None}, List.{list_any}}

@@ -1,3 +1,4 @@
+-- believed
 -- The answer to a line. After perf_event_open(2); the order of reasons, and what WHY and SEATS answer, are this
 -- project's own profile.
 use Rattle.std.specs.{Prelude.{◌≡◌, ℕ, List, [], ◌∷◌, ◌++◌, map, filter, Option, Some, None}, List.{zip}}

@@ -1,3 +1,4 @@
+-- believed
 -- What a tick does, after perf_rotate_context of kernel/events/core.c, which rotates each context by itself too. Which
 -- group moves is this project's own profile: the first eligible hardware group of the list, on or not.
 use Rattle.std.specs.{Prelude.{Bool, true, false, not, ◌&&◌, List, [], ◌∷◌, ◌++◌, Option, Some, None}, List.{list_any}}

@@ -1,3 +1,4 @@
+-- believed
 -- The rules that decide on a group before its counters are looked at, after group_can_go_on and merge_sched_in of
 -- kernel/events/core.c, where can_add_hw refuses every later hardware group of a pass once one was refused. The names
 -- that a refusal carries are this project's own profile, and so is that an exclusive group looks at all hardware groups

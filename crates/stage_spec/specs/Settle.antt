@@ -1,3 +1,4 @@
+-- believed
 -- Settling: a pinned group that is refused goes to error, as PERF_EVENT_STATE_ERROR in merge_sched_in of
 -- kernel/events/core.c. That it keeps the cause is this project's own profile.
 use Rattle.std.specs.Prelude.{◌≡◌, ◌<◌, true, false, List, [], ◌∷◌, ◌++◌, length, map, filter, take, drop, Option, Some, None}

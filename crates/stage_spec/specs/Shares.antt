@@ -1,3 +1,4 @@
+-- believed
 -- What one step adds to one instance: occurrences, time enabled and time running. After perf_event_update_time,
 -- perf_swevent_event and ctx_sched_in of kernel/events/core.c. A switch occurs before the events of the task that goes
 -- are taken off, and a migration after those of the task that comes were put on, as in perf_event_task_sched_out and

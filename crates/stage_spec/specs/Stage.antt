@@ -1,3 +1,4 @@
+-- believed
 -- The stage between two lines: the task on each processor, which tasks there are, and the groups of each context with
 -- the own states of their events. It holds no count, no time and no counter. After struct perf_event_context and
 -- struct perf_event of kernel/events/core.c.

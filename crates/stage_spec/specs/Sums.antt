@@ -1,3 +1,4 @@
+-- believed
 -- What an instance has counted over a whole history. After perf_event_count, total_time_enabled and
 -- total_time_running of kernel/events/core.c, and PERF_EVENT_IOC_RESET of perf_event_open(2).
 use Rattle.std.specs.{Prelude.{ℕ, ◌+◌, ◌==◌, Bool, false, ◌&&◌, ◌||◌, List, [], ◌∷◌, if◌then◌else◌}, List.{list_any}}

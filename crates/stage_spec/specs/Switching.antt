@@ -1,3 +1,4 @@
+-- believed
 -- What a switch does, after perf_event_task_sched_out and perf_event_task_sched_in of kernel/events/core.c. Its
 -- refusals are this project's own profile.
 use Rattle.std.specs.Prelude.{◌==◌, Bool, true, false, not, [], ◌∷◌, Option, Some, None}

@@ -1,3 +1,4 @@
+-- believed
 -- What a table says of an event after some acts of a script: whether it is there, what its family has counted, whether
 -- it is in error, and what it counts. After perf_event_open(2) and the rows of perf stat.
 use Rattle.std.specs.Prelude.{Bool, false, List, option_map, Option, Some, None, if◌then◌else◌}

@@ -1,3 +1,4 @@
+-- believed
 -- Which events are to blame where a list of events does not fit. This project's own profile, after Hall's
 -- theorem. An event stands with its mask.
 use Rattle.std.specs.{Prelude.{◌≡◌, ℕ, ◌+◌, true, false, IsTrue, List, [], ◌∷◌, ◌++◌, length, map, count_by, if◌then◌else◌}, List.{list_any}}

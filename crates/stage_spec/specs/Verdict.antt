@@ -1,3 +1,4 @@
+-- believed
 -- Which groups of a processor are on, and why the others are not. After group_can_go_on, ctx_sched_in and
 -- merge_sched_in of kernel/events/core.c; whom a refusal names is this project's own profile.
 use Rattle.std.specs.Prelude.{ℕ, ◌==◌, Bool, true, false, not, ◌&&◌, List, [], ◌∷◌, ◌++◌, map, filter, find, flat_map, Option, Some, None, option_map}

@@ -1,3 +1,4 @@
+-- inner
 -- What holds of the rows after any acts of a script. This project's own profile.
 use Rattle.std.specs.Prelude.{◌≡◌, ◌<◌, true, AllPairs, Contains, List, count_by, length}
 use Rattle.perf_base.specs.{declared.{acts.Act.{Act}, numbers.EventNo.{EventNo}}, Scripts.{IsCovered, IsScript, Scripted}}

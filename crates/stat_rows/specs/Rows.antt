@@ -1,3 +1,4 @@
+-- believed
 -- The rows of the table that perf stat would print, after some acts of a script. This project's own profile, after perf
 -- stat, which has a row for each event that it has opened.
 use Rattle.std.specs.{Prelude.{ℕ, List, [], filter, map, option_map}, Option.{unwrap_or}}

@@ -1,3 +1,4 @@
+-- believed
 -- What the value and the times of an event say of its whole time. perf_event_open(2): the time enabled and the time
 -- running serve to estimate what the count would have been, had the event been on a counter all the time. Whole
 -- numbers, exact, stand for perf's double.

@@ -1,3 +1,4 @@
+-- believed
 -- The text of the table. This project's own profile, after what perf stat prints.
 use Rattle.std.specs.Prelude.{ℕ, ◌-◌, ◌/◌, ◌%◌, Bool, true, false, List, ◌++◌, length, replicate, flat_map, codes, decimal, Option, Some, None}
 use Rattle.stat_table.specs.{declared.row.StatRow.{StatRow}, Estimates.{estimate_of, share_of}}

@@ -1,3 +1,4 @@
+-- inner
 -- How the leaders of a context are turned by a tick, by where their groups stand. After perf_rotate_context of
 -- kernel/events/core.c.
 use Rattle.std.specs.{Prelude.{◌&&◌, Bool, true, false, not, List, find, Option, Some, None}, List.{list_any}}

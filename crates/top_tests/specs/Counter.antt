@@ -1,3 +1,4 @@
+-- inner
 -- A counter, which the tests share: what it is after its calls, and what each of them answers.
 use Rattle.std.specs.Prelude.{◌≡◌, ℕ, ◌+◌, ◌*◌, ◌^◌, ◌≤◌, List, [], ◌∷◌, length}
 

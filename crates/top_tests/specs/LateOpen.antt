@@ -1,3 +1,4 @@
+-- inner
 -- The case of the tests: an event is opened behind the plan of a tick. This project's own profile.
 use Rattle.std.specs.Prelude.{ℕ, List, [], ◌∷◌, replicate, None, codes}
 use Rattle.perf_base.specs.declared.{acts.Act.{Act}, lines.{CpuLine.{CpuLine}, ToolLine.{ToolLine}}, numbers.{CpuNo.{CpuNo}, ToolNo.{ToolNo}}}

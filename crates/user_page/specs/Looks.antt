@@ -1,3 +1,4 @@
+-- believed
 -- What contracts see of a page and of its two ends.
 use Rattle.std.specs.Prelude.{◌≡◌, ℕ, ◌-◌, ◌<◌, ◌≤◌, List, [], ◌∷◌, length, slice_get, IfSome, Option, AllPairs}
 use Rattle.atomic_table.specs.Seated.{TableId}

@@ -1,3 +1,4 @@
+-- inner
 -- The rule of a page, which holds between any two steps. Its word is twice the place that is neither end's, and 1 more
 -- where the watcher has not seen the last look.
 use Rattle.std.specs.Prelude.{◌≡◌, ◌≢◌, ℕ, ◌+◌, ◌*◌, ◌<◌, ◌≤◌, Bool, true, false, List, [], ◌∷◌, length, Some}

@@ -1,3 +1,4 @@
+-- inner
 -- What each kind of step tells its end: how the view and the places held change, and what the end learns. `found` is
 -- the page's word as the step found it.
 use Rattle.std.specs.Prelude.{◌≡◌, ℕ, ◌+◌, ◌/◌, ◌%◌, ◌<◌, true, List, Some}

@@ -1,3 +1,4 @@
+-- inner
 -- The views of a page's seats: how they begin, part, travel and change.
 use Rattle.std.specs.Prelude.{◌≡◌, ℕ, ◌+◌, ◌<◌, true, false, List, [], ◌∷◌, ◌++◌, Some}
 use Rattle.atomic_table.specs.Table.{Me}

@@ -1,3 +1,4 @@
+-- inner
 -- What records that are sent do to the ends of the rings and to the counts of those lost, and the accounts that the
 -- ends have. After __perf_event_overflow and __perf_output_begin of kernel/events, which counts the records lost for
 -- their event too; the tables are this project's own profile.

@@ -1,3 +1,4 @@
+-- inner
 -- What a stretch of work sends, as the code has it: the samples, and the overflows that they are of. This project's own
 -- profile.
 use Rattle.std.specs.Prelude.{◌≡◌, ℕ, zero, suc, ◌+◌, List, length, flat_map, Some, slice_index_or, true}

@@ -1,3 +1,4 @@
+-- inner
 -- Which instances a stretch of work, or one occurrence of a software kind, is given to one by one, and what that does.
 -- After perf_swevent_event and __perf_event_overflow of kernel/events/core.c; the order is this project's own profile.
 use Rattle.std.specs.Prelude.{◌≡◌, ℕ, ◌+◌, ◌^◌, ◌<◌, ◌≤◌, ◌==◌, Bool, true, false, not, ◌&&◌, List, length, map, filter, flat_map, count_by, Option, slice_index_or}

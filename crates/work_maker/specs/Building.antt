@@ -1,3 +1,4 @@
+-- inner
 -- What stands in the script of N rounds while it is built. It serves the contracts of this crate's own functions. This
 -- project's own profile.
 use Rattle.std.specs.Prelude.{ℕ, ◌+◌, List, [], ◌∷◌, ◌++◌, slice_set, replicate, nat_lt, if◌then◌else◌}

@@ -1,3 +1,4 @@
+-- inner
 -- How instances come and go in a world. After perf_install_in_context, perf_group_attach, perf_group_detach and
 -- inherit_event of kernel/events/core.c; the tables are this project's own profile.
 use Rattle.std.specs.Prelude.{◌+◌, Bool, true, false, [], ◌∷◌, ◌++◌, Option, Some, None, slice_index_or, slice_set, if◌then◌else◌}

@@ -1,3 +1,4 @@
+-- inner
 -- When a world agrees with the record of a step: they are of one stage, and the world's accounts, folded sums, lost
 -- counts and clocks are the record's of all that a later line can ask for. This project's own profile.
 use Rattle.std.specs.Prelude.{◌≡◌, ℕ, ◌≤◌, true, List, length, map, slice_index_or}

@@ -1,3 +1,4 @@
+-- inner
 -- What a world answers, and steps that ask and change nothing. This project's own profile.
 use Rattle.std.specs.Prelude.{slice_index_or}
 use Rattle.perf_base.specs.declared.reply.Reply.{Reply}

@@ -1,3 +1,4 @@
+-- inner
 -- What each change does to a world, but for those by which instances come and go. After perf_event_enable,
 -- perf_event_period, perf_mmap, perf_swevent_event and perf_event_task_sched_in of kernel/events/core.c; the tables are
 -- this project's own profile.

@@ -1,3 +1,4 @@
+-- inner
 -- An instance that comes keeps a world and is the stage's own new instance. After perf_install_in_context,
 -- perf_group_attach and inherit_event of kernel/events/core.c; the tables are this project's own profile.
 use Rattle.std.specs.Prelude.{◌≡◌, ℕ, ◌+◌, ◌^◌, ◌<◌, true, false, List, [], ◌∷◌, ◌++◌, length, map, Option, Some, None, if◌then◌else◌}

@@ -1,3 +1,4 @@
+-- inner
 -- A copy that a fork makes of an instance is the definitions' own. After inherit_event and inherit_group of
 -- kernel/events/core.c; the tables are this project's own profile.
 use Rattle.std.specs.Prelude.{◌≡◌, Bool, true, false, List, [], ◌∷◌, ◌++◌, Option, Some, None}

@@ -1,3 +1,4 @@
+-- inner
 -- What the families of a world are on the stage that it stands for. After child_list and perf_event_for_each_child of
 -- kernel/events/core.c; that a processor reaches one instance of a family at most is this project's own profile.
 use Rattle.std.specs.Prelude.{◌≡◌, true, map, filter, is_some, option_map}

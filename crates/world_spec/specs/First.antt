@@ -1,3 +1,4 @@
+-- inner
 -- The world before the first line. After perf_event_init_cpu and perf_event_init_task of kernel/events/core.c; the
 -- tables are this project's own profile.
 use Rattle.std.specs.{Prelude.{◌≡◌, List, [], None, length, map, replicate, slice_index}, FinMap.{empty}}

@@ -1,3 +1,4 @@
+-- inner
 -- A copy that is folded goes, and its event has counted with its copies what it had. After sync_child_event and
 -- perf_event_exit_event of kernel/events/core.c; the tables are this project's own profile.
 use Rattle.std.specs.Prelude.{◌≡◌, ℕ, true}

@@ -1,3 +1,4 @@
+-- inner
 -- An instance that goes leaves a world kept, and is the stage's own instance that goes. After perf_group_detach and
 -- list_del_event of kernel/events/core.c; the tables are this project's own profile.
 use Rattle.std.specs.Prelude.{◌≡◌, true, false}

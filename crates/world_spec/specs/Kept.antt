@@ -1,3 +1,4 @@
+-- inner
 -- What holds of a world at any time, also while the instances of one line come or go one by one. After what
 -- kernel/events/core.c keeps of its groups, contexts and inherited events; the counting is this project's own profile.
 use Rattle.std.specs.Prelude.{◌≡◌, ℕ, ◌^◌, ◌<◌, ◌≤◌, ◌==◌, Bool, true, false, not, ◌&&◌, IsTrue, List, [], ◌∷◌, ◌++◌, length, map, filter, Option, Some, None, slice_index, slice_index_or, if◌then◌else◌}

@@ -1,3 +1,4 @@
+-- inner
 -- Each change keeps a world, and is the stage's own change or leaves the stage. After what kernel/events/core.c keeps
 -- of its contexts and groups; the tables are this project's own profile.
 use Rattle.std.specs.Prelude.{◌≡◌, ℕ, ◌+◌, ◌^◌, ◌<◌, Bool, true, Option, Some, length, slice_index_or, if◌then◌else◌}

@@ -1,3 +1,4 @@
+-- inner
 -- What contexts and processors have on the stage, by the keys of a world. After the lists of struct perf_event_context
 -- of kernel/events/core.c; the order of the passes is that of ctx_sched_in.
 use Rattle.std.specs.Prelude.{◌≡◌, ◌≤◌, true, List, [], ◌∷◌, ◌++◌, map, count_by, flat_map, Option, Some, None}

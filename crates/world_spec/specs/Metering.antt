@@ -1,3 +1,4 @@
+-- inner
 -- What a line of work does to a world: the clock and the totals of its processor go on, and each account goes along
 -- them. After perf_event_update_time of kernel/events/core.c; the totals are this project's own profile.
 use Rattle.std.specs.Prelude.{◌≡◌, ℕ, ◌+◌, ◌^◌, ◌<◌, ◌==◌, Bool, true, false, ◌&&◌, List, [], ◌∷◌, slice_index_or, slice_set, if◌then◌else◌}

@@ -1,3 +1,4 @@
+-- inner
 -- Changes of groups keep a world and are the stage's own. After perf_rotate_context, perf_group_attach and
 -- perf_group_detach of kernel/events/core.c; the tables are this project's own profile.
 use Rattle.std.specs.Prelude.{◌≡◌, ℕ, Bool, true, false}

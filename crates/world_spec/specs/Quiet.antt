@@ -1,3 +1,4 @@
+-- inner
 -- Steps that add nothing to any account. This project's own profile.
 use Rattle.std.specs.Prelude.{◌≡◌, Bool, true, false, Option, Some, None}
 use Rattle.perf_base.specs.declared.{lines.{CpuLine.{CpuLine}, ToolLine.{ToolLine}}, numbers.Key.{Key}, reasons.Reason.{Reason}}

@@ -1,3 +1,4 @@
+-- inner
 -- How a processor stands as rescheduling leaves it: its groups, and the counters that serve its events. After
 -- ctx_sched_in and merge_sched_in of kernel/events/core.c; the tables are this project's own profile.
 use Rattle.std.specs.{Prelude.{◌≡◌, ◌≢◌, ◌<◌, true, List, ◌++◌, length}, List.{fold}}

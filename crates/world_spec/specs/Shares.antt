@@ -1,3 +1,4 @@
+-- inner
 -- What a stretch of work on a processor, and one occurrence of a software kind there, add to the instances of a world.
 -- After perf_event_update_time, perf_swevent_event and ctx_sched_in of kernel/events/core.c; the tables are this
 -- project's own profile.

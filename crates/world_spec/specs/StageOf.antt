@@ -1,3 +1,4 @@
+-- inner
 -- The stage that a world stands for: each key is renamed to its instance. This project's own profile.
 use Rattle.std.specs.Prelude.{List, [], ◌∷◌, map}
 use Rattle.perf_base.specs.declared.numbers.Key.{Key}

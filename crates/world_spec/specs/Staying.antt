@@ -1,3 +1,4 @@
+-- inner
 -- What stays when an instance comes or goes: all other instances with their contexts and accounts, and all that is no
 -- family's. After list_del_event and perf_install_in_context of kernel/events/core.c; the tables are this project's own
 -- profile.

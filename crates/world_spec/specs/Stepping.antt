@@ -1,3 +1,4 @@
+-- inner
 -- What a world is after a step, by what it was before: the stage after the step, and of each instance, slot and
 -- processor what the step adds. This project's own profile.
 use Rattle.std.specs.Prelude.{◌≡◌, ◌+◌, ◌<◌, ◌≤◌, true, List, [], map, flat_map, slice_index_or}

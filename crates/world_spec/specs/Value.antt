@@ -1,3 +1,4 @@
+-- inner
 -- The events, groups, families and accounts of a machine as one value: tables by key, and lists of keys. After struct
 -- perf_event, perf_event_context and perf_cpu_context of kernel/events/core.c; the tables are this project's own
 -- profile.

@@ -1,3 +1,4 @@
+-- inner
 -- Along which processor's clock and totals the account of each instance runs, and which change turns which accounts.
 -- After event_sched_in, event_sched_out and perf_event_update_time of kernel/events/core.c; the ways are this project's
 -- own profile.

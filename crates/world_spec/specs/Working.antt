@@ -1,3 +1,4 @@
+-- inner
 -- Which instances count on a processor, by the keys of a world. After ctx_sched_in and perf_event_update_time of
 -- kernel/events/core.c.
 use Rattle.std.specs.Prelude.{◌≡◌, Bool, true, ◌&&◌, List, map, filter, flat_map}

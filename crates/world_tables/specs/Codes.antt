@@ -1,3 +1,4 @@
+-- inner
 -- How the values of the tables are stored: each as the tuple of its parts. This project's own profile.
 use Rattle.std.specs.{Prelude.{ℕ, Bool, List, refl}, Coded.{Coded, code_by, coded×, coded_ℕ, coded_bool, coded_list}, FinMap.{FinMap, code}}
 use Rattle.std.specs.Ordering.{nat_cmp}

@@ -1,3 +1,4 @@
+-- inner
 -- The tables of events by key: entries, accounts, standings and ways; the clocks and totals of the processors; and what
 -- each change does to them. This project's own profile.
 use Rattle.std.specs.Prelude.{◌≡◌, ◌≢◌, ℕ, ◌+◌, ◌^◌, ◌<◌, ◌≤◌, Bool, true, List, map, replicate, Some, slice_index_or, slice_set}

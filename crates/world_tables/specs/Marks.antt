@@ -1,3 +1,4 @@
+-- inner
 -- Numbers below 256 that are kept in the order in which they came. This project's own profile.
 use Rattle.std.specs.{Prelude.{◌≢◌, ℕ, ◌<◌, ◌≤◌, List, All}, List.{AllPairs}}
 

@@ -1,3 +1,4 @@
+-- inner
 -- The meters of processors, and the accounts that run along them. A meter is a clock with totals, as a processor's
 -- counters are in the kernel; an account keeps what its meter showed at its last turn, as tstamp and prev_count are
 -- kept for perf_event_update_time and x86_perf_event_update of kernel/events. That counts follow totals by kind and

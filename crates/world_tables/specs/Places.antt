@@ -1,3 +1,4 @@
+-- inner
 -- The lists of one context, and the tables by slot. This project's own profile.
 use Rattle.std.specs.Prelude.{ℕ, ◌^◌, ◌<◌, Bool, true, false, List, length, map, replicate, Option, None, slice_index, slice_index_or, slice_set}
 use Rattle.perf_base.specs.declared.{numbers.{Key.{Key}, TaskNo.{TaskNo}}, reply.Sums.{Sums}}

@@ -1,3 +1,4 @@
+-- inner
 -- One event with its account, as the tables show it and as they keep it. After struct perf_event of
 -- kernel/events/core.c; how it is kept is this project's own profile.
 use Rattle.std.specs.Prelude.{ℕ, ◌+◌, Bool, false, List, [], ◌∷◌, slice_index_or}

@@ -1,3 +1,4 @@
+-- inner
 -- How many events of each context sample. An event samples where its period is not 0, as is_sampling_event of
 -- include/linux/perf_event.h has it; that they are counted by context is this project's own profile.
 use Rattle.std.specs.Prelude.{◌≡◌, ℕ, ◌+◌, ◌-◌, ◌<◌, ◌==◌, Bool, false, not, ◌&&◌, List, length, count_by, Option, Some, None, slice_index_or, slice_set, if◌then◌else◌}
