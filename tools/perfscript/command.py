@@ -1,0 +1,58 @@
+"""What the commands of all tools have alike."""
+
+import argparse
+import os
+import sys
+from collections.abc import Callable
+from typing import NoReturn
+
+import perfscript
+from perfscript.faults import Fault
+
+BAD_INPUT, INTERRUPTED = 2, 130
+
+
+class Parser(argparse.ArgumentParser):
+    """Refuses words in one line. `doc` has what the command does, a line `Usage: WORDS`, and details."""
+
+    def __init__(self, command: str, doc: str, epilog: str | None = None) -> None:
+        about, _, rest = doc.partition("\n\nUsage: ")
+        usage, _, details = rest.partition("\n\n")
+        form = argparse.RawDescriptionHelpFormatter
+        text = f"{about}\n\n{details}".strip()
+        super().__init__(prog=command, usage=usage or None, description=text, epilog=epilog, formatter_class=form)
+        self.add_argument("--version", action="version", version=f"%(prog)s {perfscript.VERSION}")
+        self.add_argument("--program", metavar="PATH", help="the built perf_run")
+
+    def error(self, message: str) -> NoReturn:
+        print(f"{self.prog}: {message}; {self.prog} --help has the words", file=sys.stderr)
+        sys.exit(BAD_INPUT)
+
+
+def ended(command: str, main: Callable[[], int]) -> int:
+    """The status of a command. What ends it early is said in one line on standard error."""
+    try:
+        status = main()
+        sys.stdout.flush()
+        return status
+    except Fault as fault:
+        print(f"{command}: {fault}", file=sys.stderr)
+    except BrokenPipeError:
+        # nobody reads: what is left goes nowhere, or Python would complain at its end
+        os.dup2(os.open(os.devnull, os.O_WRONLY), 1)
+    except OSError as fault:
+        print(f"{command}: {fault.filename or 'a call of the system'}: {fault.strerror}", file=sys.stderr)
+    except KeyboardInterrupt:
+        return INTERRUPTED
+    return BAD_INPUT
+
+
+def text_of(path: str) -> str:
+    """The text of a file, a character for each byte; `-` is standard input."""
+    try:
+        if path == "-":
+            return sys.stdin.buffer.read().decode("latin-1")
+        with open(path, "rb") as file:
+            return file.read().decode("latin-1")
+    except OSError as fault:
+        raise Fault(f"{path}: {fault.strerror}") from None
