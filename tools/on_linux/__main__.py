@@ -7,4 +7,4 @@ sys.path.insert(0, os.path.dirname(os.path.dirname(os.path.abspath(__file__))))
 
 from on_linux.main import main  # noqa: E402  the package is found only now
 
-sys.exit(main(sys.argv[1:]))
+sys.exit(main())

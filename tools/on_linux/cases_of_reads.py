@@ -1,7 +1,7 @@
 """Cases: the words of reads for all formats, alone and of a group, and what a buffer has to hold."""
 
-from on_linux.attributes import FORMAT_GROUP
 from on_linux.scripts import opened, script, user
+from perfscript.names import FORMAT_GROUP
 
 ALONE, OF_GROUP, SIZES = "reads alone: all formats", "reads of a group: all formats", "reads: sizes of buffers"
 

@@ -1,12 +1,12 @@
 """Cases: the layout of samples and of trailers, and which records are lost when a ring is full."""
 
-from on_linux import attributes
 from on_linux.kernel import PAGE
 from on_linux.scripts import kernel, opened, script, user
+from perfscript import names
 
 LAYOUTS, TRAILERS, FULL, SAMPLING = "samples: all 256 layouts", "LOST records: all trailers", "full rings", "sampling"
-BITS = [bit for bit, _ in attributes.FIELDS]
-TRAILER_BITS = [bit for bit, _ in attributes.TRAILER_FIELDS]
+BITS = [bit for bit, _ in names.FIELDS]
+TRAILER_BITS = [bit for bit, _ in names.TRAILER_FIELDS]
 
 
 def some_of(bits, number):

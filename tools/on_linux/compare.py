@@ -3,15 +3,9 @@
 from dataclasses import dataclass
 
 from on_linux import differences, rings, rules
-from on_linux.attributes import FORMAT_GROUP
-from on_linux.follow import Follow
+from perfscript.follow import Follow
+from perfscript.names import FORMAT_GROUP, REFUSALS
 
-INVALID = (
-    "EATTRPERIOD ESAMPLEBITS EFORMATBITS ENOPLACE ELEADER ECONTEXT EFLAGS EINHERIT ENOSAMPLE EPERIOD ESELF ECPU EMAPPED"
-    " ENORING"
-).split()
-# the errno that Linux gives for a refusal of the report; ESOFTPERIOD and EGROUP have none
-ERRNOS = {**{word: "EINVAL" for word in INVALID}, "ESRCH": "ESRCH", "EBADF": "EBADF", "ENOSPC": "ENOSPC"}
 RULE_OF_REFUSAL = {
     "EATTRPERIOD": rules.ATTRIBUTES,
     "ESAMPLEBITS": rules.ATTRIBUTES,
@@ -101,7 +95,7 @@ class Comparison:
     def refusal(self, line, refusal, answer):
         """Compares where one of both refuses the line."""
         rule = RULE_OF_REFUSAL.get(refusal) or RULE_OF_LINE.get(line.head, rules.PLACES)
-        is_same = answer.errno is not None and answer.errno == ERRNOS.get(refusal)
+        is_same = answer.errno is not None and answer.errno == REFUSALS.get(refusal)
         row = None if is_same else differences.of_refusal(self, line, refusal, answer)
         said = refusal or " ".join(self.report.answer(line) or ["Ok"])
         self.check(f"{line.name} {line.text}", rule, is_same, said, answer.text, row, self.report.place(line))

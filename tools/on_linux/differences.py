@@ -1,8 +1,9 @@
 """Which row of docs/LINUX.md a difference is, by what happened before. None stands for no known cause."""
 
-from on_linux.attributes import FORMAT_GROUP, PERIOD, Attribute
 from on_linux.doing import pages_of
 from on_linux.kernel import PAGE
+from perfscript.attributes import Attribute
+from perfscript.names import FORMAT_GROUP, PERIOD
 
 # the sample bits that Linux knows (enum perf_event_sample_format)
 KNOWN_SAMPLE_BITS = (1 << 25) - 1

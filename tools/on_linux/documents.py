@@ -3,6 +3,8 @@
 import os
 import re
 
+from perfscript import Fault
+
 DOCS = os.path.join(os.path.dirname(os.path.abspath(__file__)), "..", "..", "docs")
 LINUX = os.path.join(DOCS, "LINUX.md")
 RULES = os.path.join(DOCS, "RULES.md")
@@ -12,7 +14,7 @@ STAND_IN, LAST_RUN = "## Where the stand-in differs", "## The last run"
 COLUMN = -2
 
 
-class DocumentFault(Exception):
+class DocumentFault(Fault):
     """A page of docs can't be read as the tool reads it."""
 
 

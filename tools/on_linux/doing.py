@@ -5,9 +5,10 @@ import os
 import resource
 
 from on_linux import kernel, records
-from on_linux.attributes import FORMAT_GROUP, LOST, SOFTWARE_KINDS, Attribute, bytes_of
-from on_linux.script import Fault
 from on_linux.task import MOST_PAGES, Tasks
+from perfscript import Fault
+from perfscript.attributes import Attribute, bytes_of
+from perfscript.names import FORMAT_GROUP, FORMAT_LOST, SOFTWARE, SOFTWARE_KINDS
 
 # the most words that a read may have here: nr, both times, and three words for each of 64 members
 ROOM = 8 * (3 + 3 * 64)
@@ -108,7 +109,7 @@ class Doing:
     def lost_of(self, event):
         """How many records the kernel says that an open event lost; None where its format does not ask for that."""
         attribute = event.attribute
-        if not attribute.format & LOST or attribute.format & FORMAT_GROUP:
+        if not attribute.format & FORMAT_LOST or attribute.format & FORMAT_GROUP:
             return None
         try:
             return kernel.read_words(self.descriptor(event.slot), ROOM)[-1]
@@ -146,7 +147,7 @@ class Doing:
         process = -1 if attribute.task == "all" else self.tasks.process(int(attribute.task)) or kernel.NO_PROCESS
         cpu = -1 if attribute.cpu == "any" else self.cpus[int(attribute.cpu)]
         leader = -1 if attribute.leader is None else self.descriptor(attribute.leader)
-        descriptor = kernel.event_open(attribute.kernel_bytes(), process, cpu, leader)
+        descriptor = kernel.event_open(kernel.bytes_for(attribute), process, cpu, leader)
         if self.follow.report.refusal(line) is not None:
             # the report refuses it: it is taken away again, so that both go on from one state
             os.close(descriptor)
@@ -259,7 +260,7 @@ def pages_of(line):
 
 # the attribute of an event that counts nothing and is not inherited. It leaves out the kernel and the hypervisor, which
 # may not be permitted
-KEEPER = bytes_of(SOFTWARE_KINDS["dummy"], flags=kernel.USER_ALONE)
+KEEPER = bytes_of(SOFTWARE, SOFTWARE_KINDS["dummy"], flags=kernel.USER_ALONE)
 # refusals that have no counterpart on a running kernel, and why
 OWN_REFUSALS = {
     "EEXIST": "slots and tasks have numbers of this project's own",
@@ -293,7 +294,7 @@ def why_not_comparable(script, report, options):
     attributes = [Attribute(line, script.kinds) for line in opened]
     kinds = {attribute.kind for attribute in attributes if not attribute.is_software}
     cpus = len(os.sched_getaffinity(0))
-    if script.pmus > 1:
+    if len(script.pmus) > 1:
         return "two PMUs"
     if len(kinds) > 1:
         return "several hardware kinds in one script"
@@ -306,7 +307,7 @@ def why_not_comparable(script, report, options):
     if most > MOST_PAGES:
         return f"more occurrences in a line than the tool touches, {MOST_PAGES}"
     hardware = [a for line, a in zip(opened, attributes) if not a.is_software and report.refusal(line) is None]
-    room = min((bin(script.kinds[kind]).count("1") for kind in kinds), default=16)
+    room = min((script.kinds[kind].mask.bit_count() for kind in kinds), default=16)
     if len(hardware) > room or len(hardware) > 1 and any(a.has("exclusive") for a in hardware):
         return "more hardware events than counters: assignment"
     return None

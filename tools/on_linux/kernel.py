@@ -8,7 +8,11 @@ import os
 import platform
 import struct
 
-from on_linux.attributes import PAGE_FAULTS, bytes_of
+from perfscript.attributes import bytes_of
+from perfscript.names import SOFTWARE, SOFTWARE_KINDS
+
+# PERF_COUNT_SW_PAGE_FAULTS
+PAGE_FAULTS = 2
 
 # the number of perf_event_open(2) by the name of the machine; those without a name here have 241
 OPEN_NUMBERS = {"x86_64": 298, "i686": 336, "armv7l": 364, "ppc64": 319, "ppc64le": 319, "s390x": 331}
@@ -54,6 +58,15 @@ def checked(answer):
     if answer is None or answer < 0:
         raise Refused(ctypes.get_errno())
     return answer
+
+
+def bytes_for(attribute):
+    """The bytes of an attribute for the running kernel, where page faults stand for every hardware kind."""
+    config = SOFTWARE_KINDS.get(attribute.kind, PAGE_FAULTS)
+    fields = SOFTWARE, config, attribute.period, attribute.sample, attribute.format, attribute.flags
+    if attribute.bytes is None:
+        return bytes_of(*fields)
+    return bytes_of(*fields, size=struct.unpack("<I", attribute.bytes[4:8])[0])[:48] + attribute.bytes[48:]
 
 
 def event_open(attr, process, cpu, leader):
@@ -133,7 +146,7 @@ class Mapping:
 def probe(flags=USER_ALONE):
     """None where an event of page faults with these flags can be opened on this process; else the errno's name."""
     try:
-        os.close(event_open(bytes_of(PAGE_FAULTS, flags=flags), 0, -1, -1))
+        os.close(event_open(bytes_of(SOFTWARE, PAGE_FAULTS, flags=flags), 0, -1, -1))
     except Refused as refused:
         return refused.name
     return None

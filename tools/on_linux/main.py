@@ -1,11 +1,12 @@
 """Compares reports of perf_run with what the running Linux kernel does, by software events.
 
-Usage: python3 tools/on_linux [--program PATH] SCRIPT..
-           does each script on the running kernel, and compares with the program's report
-       python3 tools/on_linux --report REPORT SCRIPT
-           compares with this report, and calls no program
-       python3 tools/on_linux [--program PATH] [--docs] --all
-           does the tool's own cases and prints a table; --docs also writes it into docs/LINUX.md and docs/RULES.md
+Usage: on_linux [--program PATH] SCRIPT..
+       on_linux --report REPORT SCRIPT
+       on_linux [--program PATH] [--docs] --all
+
+The first form does each script on the running kernel, and compares with the program's report. The second compares with
+this report, and calls no program. The third does the tool's own cases and prints a table; --docs also writes it into
+docs/LINUX.md and docs/RULES.md.
 
 PATH is the built perf_run. Without it the tool calls crates/perf_run/out/perf_run, which `rt run` proves and leaves
 there. Where that is missing, `rt try` builds the program once, which proves nothing.
@@ -17,44 +18,42 @@ Ends with 0 where the kernel does the same or differs as documented, with 1 wher
 2 where the words, a file or the program are at fault, and with 77 where no event can be opened.
 """
 
-import argparse
 import os
-import sys
 import time
 
-from on_linux import documents, kernel, program, table, verdicts
+from on_linux import documents, kernel, table, verdicts
 from on_linux.cases import Case, all_cases
-from on_linux.script import Fault
-from on_linux.task import Helper, TaskFault
+from on_linux.task import Helper
+from perfscript import Fault, Outcome, command, program_at
+from perfscript.progress import Progress
 
 FAULT, NO_OPEN = 2, 77
 
 
-def main(words):
+def main(words=None):
     options = options_of(words)
+    return command.ended("on_linux", lambda: done(options))
+
+
+def done(options):
+    """The status of what the options ask for."""
+    texts = [text_of(path) for path in options.scripts]
+    report = text_of(options.report) if options.report else None
+    program = None if report is not None else program_at(options.program)
     reason = kernel.probe()
     if reason:
         print(f"on_linux: no event can be opened here: {reason}")
         return NO_OPEN
-    try:
-        known = documents.known_rows()
-        return all_of_list(options, known) if options.all else scripts(options, known)
-    except OSError as fault:
-        print(f"on_linux: {fault.filename or 'a call of the system'}: {fault.strerror}", file=sys.stderr)
-    except (Fault, TaskFault, program.ProgramFault, documents.DocumentFault, kernel.Refused) as fault:
-        print(f"on_linux: {fault}", file=sys.stderr)
-    return FAULT
+    known = documents.known_rows()
+    return all_of_list(options, program, known) if options.all else scripts(options, program, texts, report, known)
 
 
 def options_of(words):
-    usage, _, details = __doc__.partition("Usage: ")[2].partition("\n\n")
-    form = argparse.RawDescriptionHelpFormatter
-    parser = argparse.ArgumentParser(prog="on_linux", usage=usage, description=details, formatter_class=form)
-    parser.add_argument("--program")
-    parser.add_argument("--report")
-    parser.add_argument("--all", action="store_true")
-    parser.add_argument("--docs", action="store_true")
-    parser.add_argument("scripts", nargs="*")
+    parser = command.Parser("on_linux", __doc__)
+    parser.add_argument("--report", metavar="REPORT", help="compare with this report")
+    parser.add_argument("--all", action="store_true", help="do the tool's own cases")
+    parser.add_argument("--docs", action="store_true", help="write the table into docs/")
+    parser.add_argument("scripts", nargs="*", metavar="SCRIPT")
     options = parser.parse_args(words)
     if options.all == bool(options.scripts):
         parser.error("give --all, or scripts")
@@ -65,27 +64,26 @@ def options_of(words):
     return options
 
 
-def read(path):
-    try:
-        with open(path, encoding="ascii") as file:
-            return file.read()
-    except UnicodeDecodeError as fault:
-        raise Fault(f"{path}: byte {fault.start} is not ASCII") from fault
+def text_of(path):
+    text = command.text_of(path)
+    if not text.isascii():
+        raise Fault(f"{path}: byte {next(at for at, one in enumerate(text) if ord(one) > 127)} is not ASCII")
+    return text
 
 
 def about():
     return f"Linux {kernel.version()} on {os.uname().machine}, pages of {kernel.PAGE} bytes"
 
 
-def scripts(options, known):
+def scripts(options, program, texts, report, known):
     """Does the scripts that are named, and says for each what came of it."""
-    cases = [Case("script", path, read(path), (), None) for path in options.scripts]
-    if options.report:
-        outcomes = [program.Outcome(0, read(options.report), "")]
+    cases = [Case("script", path, text, (), None) for path, text in zip(options.scripts, texts)]
+    if report is not None:
+        outcomes = [Outcome(0, report, "")]
         print(f"{about()}; the report is {options.report}")
     else:
-        print(f"{about()}; reports by {program.name_of(options.program)}")
-        outcomes = program.outcomes(options.program, [case.text for case in cases])
+        print(f"{about()}; reports by {program.path}")
+        outcomes = program.outcomes([("replay", case.text) for case in cases])
     statuses = [0]
     with Helper() as helper:
         for case, outcome in zip(cases, outcomes):
@@ -108,29 +106,30 @@ def tell(verdict):
     print(f"    {sum(check.is_same for check in verdict.checks)} of {len(verdict.checks)} comparisons are the same")
 
 
-def all_of_list(options, known):
+def all_of_list(options, program, known):
     """Does the tool's own cases."""
-    began = time.monotonic()
-    cases = all_cases()
-    print(f"{about()}; reports by {program.name_of(options.program)}", flush=True)
-    outcomes = program.outcomes(options.program, [case.text for case in cases])
+    began, cases, found = time.monotonic(), all_cases(), []
+    print(f"{about()}; reports by {program.path}", flush=True)
+    outcomes = program.outcomes([("replay", case.text) for case in cases])
     asked = time.monotonic()
-    with Helper() as helper:
-        found = [verdicts.of_case(case, outcome, helper, known) for case, outcome in zip(cases, outcomes)]
+    with Helper() as helper, Progress("cases on the kernel", len(cases)) as progress:
+        for case, outcome in zip(cases, outcomes):
+            found.append(verdicts.of_case(case, outcome, helper, known))
+            progress.step()
     times = f"the reports took {asked - began:.0f} s, the kernel's answers {time.monotonic() - asked:.0f} s"
     comparisons = sum(len(verdict.checks) for verdict in found)
     summary = "\n".join(table.wrapped(f"{table.summary(found)}; {comparisons} comparisons in all."))
     run = f"{table.text(found, known)}\n\n{summary}"
     print(f"{run}\n{times}")
     if options.docs:
-        write_docs(options, found, known, run)
+        write_docs(program, found, known, run)
     return 1 if any(verdict.word == verdicts.UNKNOWN for verdict in found) else 0
 
 
-def write_docs(options, found, known, run):
+def write_docs(program, found, known, run):
     page = documents.read(documents.RULES)
     names = documents.rule_names(page)
-    source = program.kind_of(options.program)
-    head = "\n".join(table.wrapped(f"`python3 tools/on_linux --all` on {about()}, with the reports of {source}:"))
+    text = f"`python3 tools/on_linux --all` on {about()}, with the reports of {program.kind}:"
+    head = "\n".join(table.wrapped(text))
     documents.write(documents.RULES, documents.with_column(page, table.of_rules(found, known, names, kernel.version())))
     documents.write(documents.LINUX, documents.with_last_run(documents.read(documents.LINUX), f"{head}\n\n{run}"))

@@ -1,31 +1,11 @@
-"""Records of rings, decoded alike from the program's report and from the running kernel."""
+"""Records of the running kernel's rings, decoded as those of the program's report."""
 
 import struct
 
-from on_linux.script import Fault
+from perfscript import Fault, Record
 
-LOST, SAMPLE = 2, 9
 MODE = 7
 EXACT_IP = 1 << 14
-
-
-class Record:
-    """A record: its type, its misc, its size in bytes, and the words behind the first."""
-
-    def __init__(self, words, place=None, end=0):
-        first = words[0]
-        self.type, self.misc, self.size = first & 0xFFFFFFFF, first >> 32 & 0xFFFF, first >> 48
-        self.words, self.place, self.end = words[1:], place, end
-        self.is_whole = self.size == 8 * len(words)
-
-
-def of_report(ring):
-    """The records of a ring in a report."""
-    records, end = [], 0
-    for place, _, words in ring.records:
-        end += 8 * len(words)
-        records.append(Record(words, place, end))
-    return records
 
 
 def of_stream(data):
@@ -44,9 +24,9 @@ def of_stream(data):
 
 def fields(record, names):
     """The fields of a record by their names, where their number is right; else None."""
-    if not record.is_whole or len(record.words) != len(names):
+    if not record.is_whole or len(record.body) != len(names):
         return None
-    return dict(zip(names, record.words))
+    return dict(zip(names, record.body))
 
 
 def halves(word):

@@ -1,7 +1,7 @@
 """Compares what stands on the rings: the records in their normal form, heads, tails and lost counts."""
 
 from on_linux import differences, records, rules
-from on_linux.attributes import IDENTIFIER
+from perfscript.names import IDENTIFIER, LOST, SAMPLE
 
 USER, KERNEL = 2, 1
 KERNEL_SPACE = 1 << 63
@@ -20,11 +20,11 @@ class Layouts:
     def of_sample(self, record, id_of):
         if self.is_one:
             return self.attributes[0].field_names()
-        number = id_of(record.words[0]) if record.words else None
+        number = id_of(record.body[0]) if record.body else None
         return self.by_id[number].field_names() if number in self.by_id else None
 
     def of_lost(self, record, id_of):
-        number = id_of(record.words[0]) if record.words else None
+        number = id_of(record.body[0]) if record.body else None
         return ["id", "lost"] + self.by_id[number].trailer_names() if number in self.by_id else None
 
 
@@ -60,19 +60,19 @@ def seen_side(doing):
 
 def normal(record, side, layouts):
     """A record in a form that both sides share; `odd` says what can't be read."""
-    if record.type == records.SAMPLE:
+    if record.type == SAMPLE:
         names, form = layouts.of_sample(record, side.ids), {"type": "SAMPLE", "mode": record.misc & records.MODE}
-    elif record.type == records.LOST:
+    elif record.type == LOST:
         names, form = layouts.of_lost(record, side.ids), {"type": "LOST", "mode": record.misc}
     else:
         return {"type": f"type {record.type}"}
     form["size"] = record.size
     found = records.fields(record, names) if names is not None else None
     if found is None:
-        return {**form, "odd": record.words}
+        return {**form, "odd": record.body}
     for name, word in found.items():
         form[name] = field(name, word, form["mode"], side)
-    if record.type == records.LOST and len(names) > 2:
+    if record.type == LOST and len(names) > 2:
         form["trailer"] = True
     return form
 
@@ -95,7 +95,7 @@ def compare(comparison):
         stream = comparison.doing.rings.get(number)
         if stream is None:
             ends = ring.head, ring.tail, ring.lost, ring.pending
-            comparison.check(f"ring {number}", rules.MAP, not any(ends), ring.text, "not mapped", None, ring.line)
+            comparison.check(f"ring {number}", rules.MAP, not any(ends), ring.text, "not mapped", None, ring.place)
             continue
         writers = comparison.follow.writers.get(number, [])
         layouts = Layouts(writers)
@@ -113,7 +113,7 @@ class OneRing:
     def __init__(self, comparison, ring, stream, layouts, writers):
         self.comparison, self.ring, self.stream, self.writers = comparison, ring, stream, writers
         self.about = f"ring {ring.number}"
-        self.raw_said, self.raw_seen = records.of_report(ring), stream.records()
+        self.raw_said, self.raw_seen = ring.records, stream.records()
         seen = seen_side(comparison.doing)
         self.said = [normal(record, said_side(), layouts) for record in self.raw_said]
         self.seen = [normal(record, seen, layouts) for record in self.raw_seen]
@@ -137,7 +137,7 @@ class OneRing:
                 seen["STREAM_ID"] = pairs.get(seen["STREAM_ID"], seen["STREAM_ID"])
 
     def check(self, what, rule, is_same, said="", seen="", row=None, place=None):
-        self.comparison.check(f"{self.about}{what}", rule, is_same, said, seen, row, place or self.ring.line)
+        self.comparison.check(f"{self.about}{what}", rule, is_same, said, seen, row, place or self.ring.place)
 
     def compare(self):
         if self.said == self.seen:
@@ -199,11 +199,11 @@ class OneRing:
         self.check(", head", rule, self.ring.head == self.stream.head, *heads, row)
         tails = f"tail={self.ring.tail}", f"tail={self.stream.tail}"
         self.check(", tail", rules.FULL, self.ring.tail == self.stream.tail, *tails)
-        said = [word for _, word, _ in self.ring.records]
+        said = ["taken" if record.is_taken else "left" for record in self.raw_said]
         taken = ["taken" if record.end <= self.stream.tail else "left" for record in self.raw_said]
         texts = f"{said.count('taken')} taken", f"{taken.count('taken')} taken"
         self.check(", records taken", rules.FULL, said == taken, *texts)
-        reported = sum(record.words[1] for record in self.raw_seen if record.type == records.LOST)
+        reported = sum(record.body[1] for record in self.raw_seen if record.type == LOST)
         texts = f"lost={self.ring.lost} pending={self.ring.pending}", f"{reported} in LOST records"
         self.check(", lost but pending", rules.FULL, self.ring.lost - self.ring.pending == reported, *texts, row)
         counts = [self.comparison.doing.lost.get(event.slot) if event.is_open else None for event in set(self.writers)]
@@ -220,7 +220,7 @@ class OneRing:
             names = [name for name in form if name not in ("type", "mode", "size", "trailer", "odd")]
             if "TIME" not in names or "odd" in form:
                 continue
-            time, cpu = record.words[names.index("TIME")], form.get("CPU", "one")
+            time, cpu = record.body[names.index("TIME")], form.get("CPU", "one")
             if last.get(cpu, 0) > time or not 0 < time < KERNEL_SPACE:
                 self.check(", times", rules.LAYOUT, False, "times that rise", f"{last.get(cpu, 0)} then {time}")
             last[cpu] = time
@@ -229,7 +229,7 @@ class OneRing:
         """Linux may set PERF_RECORD_MISC_EXACT_IP."""
         for place, record in enumerate(self.raw_seen, 1):
             rest = record.misc & ~records.MODE
-            if record.type == records.SAMPLE and rest:
+            if record.type == SAMPLE and rest:
                 row = "exact-ip" if rest == records.EXACT_IP else None
                 self.check(f", record {place}, misc", rules.LAYOUT, False, "mode alone", f"{record.misc:#x}", row)
 

@@ -8,13 +8,15 @@ import subprocess
 import tempfile
 import time
 
+from perfscript import Fault
+
 SOURCE = os.path.join(os.path.dirname(os.path.abspath(__file__)), "counted_task.c")
 # as many pages as the helper has in its area
 MOST_PAGES = 32768
 PATIENCE = 20.0
 
 
-class TaskFault(Exception):
+class TaskFault(Fault):
     """The helper can't be built, or does not answer."""
 
 
@@ -32,7 +34,7 @@ class Helper:
             raise TaskFault(f"cc can't be run: {fault.strerror}") from fault
         if done.returncode:
             shutil.rmtree(self.folder, ignore_errors=True)
-            raise TaskFault(f"cc refuses counted_task.c:\n{done.stderr}")
+            raise TaskFault(f"cc refuses counted_task.c: {' '.join(done.stderr.split())}")
         return self
 
     def __exit__(self, *_):

@@ -2,9 +2,9 @@
 
 from on_linux.compare import Comparison
 from on_linux.doing import Doing, why_not_comparable
-from on_linux.follow import Follow
 from on_linux.kernel import version
-from on_linux.script import Report, Script
+from perfscript import Report, Script
+from perfscript.follow import Follow
 
 SAME, DOCUMENTED, NOT_COMPARABLE, NOT_PERMITTED, UNKNOWN = (
     "same",
@@ -34,7 +34,7 @@ def of_case(case, outcome, helper, known):
     """The verdict of a case whose report is there. What hangs on who runs when is tried until it was seen."""
     if outcome.status != 0:
         return Verdict(case, UNKNOWN, notes=[f"the program ends with {outcome.status}: {outcome.note}"])
-    script, report = Script(case.text), Report(outcome.report)
+    script, report = Script(case.text), Report(outcome.out)
     report.check(script)
     reason = why_not_comparable(script, report, case.options)
     if reason:

@@ -1,20 +1,22 @@
 """Scripts, reports and the program, for every tool.
 
-    names     what perf_event_open(2) and the reports call things: kinds, flags, sample and format bits, refusals
-    limits    the ranges of docs/SCRIPT.md, and what a script holds at most
-    script    lines_of(text) takes a text apart, and nothing else does: a list of `Line`
-              Script(text)   reads it: cpus, pmus, kinds, tasks, rings, readers, lines by actor, order, acts()
-              Draft          writes one: act("t0", "read 0") adds a line that is done next, and gives its key
-                             ("t0", 3); look(ring, place) adds a look at a tail; text() is the script so far
-    report    Report(text)   order; replies[("t0", 3)] with its head and words; rings[0] with its records
-              Record         words, the header first, 64 bits each; type, misc, size in bytes; is_taken; end in bytes
-              rows_of(table) the rows of `stat` by slot: value, enabled, running, estimate
-    program   program_at(path_or_None) gives the program: the one of --program, the built one, or `rt try`
-              call("replay", text) and outcomes([("stat", text), ..]) give `Outcome`s: status, out, note
-              report(text) and table(text) are of a script that has to be done
-    progress  elapsed seconds, or n of N, on a terminal
-    command   --help, --version, --program, and one line with status 2 for what is wrong with the input
-    faults    Fault: that line
+    names       what perf_event_open(2) and the reports call things: kinds, flags, sample and format bits, refusals
+    limits      the ranges of docs/SCRIPT.md, and what a script holds at most
+    script      lines_of(text) takes a text apart, and nothing else does: a list of `Line`
+                Script(text) reads it: cpus, pmus, kinds, tasks, rings, readers, lines by actor, order, acts()
+                Draft writes one: act("t0", "read 0") adds a line that is done next, and gives its key ("t0", 3);
+                look(ring, place) adds a look at a tail; text() is the script so far
+    attributes  Attribute(line, kinds) is what an `open` asks for, by words or by bytes; bytes_of(..) makes bytes
+    follow      Follow(script, report).run(): which events are open, their ids and rings, copies over forks and exits
+    report      Report(text): order; replies[("t0", 3)] with its head and words; rings[0] with its records
+                Record: words, the header first, 64 bits each; type, misc, size in bytes; is_taken; end in bytes
+                rows_of(table): the rows of `stat` by slot: value, enabled, running, estimate
+    program     program_at(path_or_None) gives the program: the one of --program, the built one, or `rt try`
+                call("replay", text) and outcomes([("stat", text), ..]) give `Outcome`s: status, out, note
+                report(text) and table(text) are of a script that has to be done
+    progress    elapsed seconds, or n of N, on a terminal
+    command     --help, --version, --program, and one line with status 2 for what is wrong with the input
+    faults      Fault: that line
 
 A key is an actor and the number of the line among that actor's lines, from 0. An actor is `p0` .. `p7` or `t0` .. `t3`.
 Times are in the script's units of work, rings' places and sizes in bytes.

@@ -34,8 +34,8 @@ class Outcome(NamedTuple):
 class Program:
     """The program. A call is words, as `replay` or `watch 0 5`, and the text on its standard input."""
 
-    # how a user finds the program that answered, and what there is to say about it
-    path, note = "", ""
+    # where the program lies, what sort of program it is, and what there is to say about its answers
+    path, kind, note = "", "", ""
 
     def outcomes(self, calls: Sequence[tuple[str, str]]) -> list[Outcome]:
         """How each call ends."""
@@ -71,8 +71,8 @@ class Program:
 class Built(Program):
     """A program that is there. Each call is a process of its own."""
 
-    def __init__(self, path: str) -> None:
-        self.path = path
+    def __init__(self, path: str, kind: str = "a program that was given") -> None:
+        self.path, self.kind = path, kind
 
     def outcomes(self, calls: Sequence[tuple[str, str]]) -> list[Outcome]:
         with Progress("perf_run", len(calls)) as progress, ThreadPoolExecutor(os.cpu_count()) as pool:
@@ -98,8 +98,8 @@ class Built(Program):
 class Tried(Program):
     """The program as `rt try` compiles it. One try does all calls that are made together."""
 
+    path, kind = "rt try", "a program that `rt try` built without proof"
     note = "note: the program ran through rt try, which proves nothing"
-    path = "rt try"
 
     def __init__(self, rt: str) -> None:
         self.rt = rt
@@ -161,7 +161,7 @@ def program_at(path: str | None = None) -> Program:
             raise Fault(f"--program: {path} is not a file; give the path of the built perf_run")
         return Built(os.path.abspath(path))
     if os.access(USUAL, os.X_OK):
-        return Built(USUAL)
+        return Built(USUAL, "the proved program")
     rt = shutil.which("rt")
     if rt is None or not os.path.isdir(CRATE):
         where = os.path.relpath(USUAL, REPOSITORY)

@@ -5,7 +5,7 @@ import struct
 from on_linux.compare import Comparison
 from on_linux.doing import Answer
 from on_linux.records import of_stream
-from on_linux.script import Report, Script
+from perfscript import Report, Script
 
 FIRST_ID, FIRST_PROCESS, FIRST_TIME = 100, 5000, 7000
 SIZE, FIT, LOST = 72, 56, 2
@@ -66,7 +66,7 @@ class Stream:
 
     def __init__(self, ring):
         self.mapping, self.head, self.tail = Mapping(), ring.head, ring.tail
-        self.data = b"".join(encoded(words, place) for place, (_, _, words) in enumerate(ring.records))
+        self.data = b"".join(encoded(record.words, place) for place, record in enumerate(ring.records))
 
     def records(self):
         return of_stream(self.data)

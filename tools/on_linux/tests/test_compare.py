@@ -4,8 +4,8 @@ import unittest
 
 from on_linux import differences, documents, rings, rules
 from on_linux.doing import Answer
-from on_linux.script import Script
 from on_linux.tests import recorded
+from perfscript import Script
 
 
 class Altered(unittest.TestCase):

@@ -105,7 +105,7 @@ class Running(unittest.TestCase):
 
     def test_texts_that_are_no_script_or_report(self):
         status, _, err = called(SCRIPT.replace("order t0", "order x0"), REPORT)
-        self.assertEqual((status, err), (2, "on_linux: script: no act: x0\n"))
+        self.assertEqual((status, err), (2, "on_linux: script: not an act: x0\n"))
         status, _, err = called(SCRIPT, REPORT.replace("head=0", "head=no"))
         self.assertEqual(
             (status, err), (2, "on_linux: report line 5: not understood: ring 0 head=no tail=0 lost=0 pending=0\n")

@@ -1,14 +1,14 @@
-"""Tests of decoding records, of what the program prints, and of the tables."""
+"""Tests of decoding records and of the tables."""
 
-import os
 import struct
 import unittest
 import unittest.mock
 
-from on_linux import documents, program, records, rules, table, verdicts
+from on_linux import documents, kernel, records, rules, table, verdicts
 from on_linux.cases import Case, all_cases
 from on_linux.compare import Check
-from on_linux.script import Fault, Report, Script
+from perfscript import Fault, Script
+from perfscript.attributes import Attribute
 
 
 def header(kind, misc, size):
@@ -20,7 +20,7 @@ class Streams(unittest.TestCase):
         data = header(9, 2, 16) + struct.pack("=Q", 5) + header(2, 0, 24) + struct.pack("=QQ", 7, 3)
         found = records.of_stream(data)
         self.assertEqual(
-            [(one.type, one.misc, one.size, one.words, one.end) for one in found],
+            [(one.type, one.misc, one.size, one.body, one.end) for one in found],
             [(9, 2, 16, [5], 16), (2, 0, 24, [7, 3], 40)],
         )
         self.assertEqual(records.fields(found[1], ["id", "lost"]), {"id": 7, "lost": 3})
@@ -31,36 +31,18 @@ class Streams(unittest.TestCase):
             with self.assertRaises(Fault):
                 records.of_stream(data)
 
-    def test_records_of_a_report(self):
-        report = Report(
-            "order\nring 0 head=40 tail=16 lost=0 pending=0\ntaken 0010000200000009 0000000000000005\nleft"
-            " 0018000000000002 0000000000000007 0000000000000003\nend\n"
-        )
-        found = records.of_report(report.rings[0])
-        self.assertEqual(
-            [(one.type, one.misc, one.size, one.words, one.end, one.place) for one in found],
-            [(9, 2, 16, [5], 16, 3), (2, 0, 24, [7, 3], 40, 4)],
-        )
-
     def test_halves(self):
         self.assertEqual(records.halves(struct.unpack("=Q", struct.pack("=II", 3, 4))[0]), (3, 4))
 
 
-class Programs(unittest.TestCase):
-    def test_outcomes_of_rt_try(self):
-        out = "== a\norder t0\nt0.0 open ESRCH\nend\n== b\n"
-        errors = (
-            "case=a run=ended status=0 runners=1 races=unchecked proved=no\n"
-            "perf_run: line 3: FORM\n"
-            "case=b run=ended status=1 runners=1 races=unchecked proved=no\ncases=2 ended=2\n"
-        )
-        found = program.outcomes_of_cases(out, errors)
-        self.assertEqual(found["a"].report, "order t0\nt0.0 open ESRCH\nend\n")
-        self.assertEqual((found["a"].status, found["b"].status, found["b"].note), (0, 1, "perf_run: line 3: FORM"))
-
-    def test_no_program(self):
-        with self.assertRaises(program.ProgramFault):
-            program.called(os.path.join(os.sep, "no", "such", "program"), "")
+class Bytes(unittest.TestCase):
+    def test_page_faults_stand_for_a_hardware_kind(self):
+        head = "perf 1\nmachine cpus=1 counters=1\nkind a mask=1\ntool 0\n"
+        wanted = kernel.bytes_of(1, kernel.PAGE_FAULTS, 3, 0x203, 0x1F, 1 << 1)
+        given = kernel.bytes_of(4, 0, 3, 0x203, 0x1F, 1 << 1, size=64)
+        for words in ("kind=a task=0 cpu=0 period=3 sample=203 format=1f flags=inherit", f"attr={given.hex()} task=0 cpu=0"):
+            line = Script(f"{head}open 0 {words}\nend\n").lines["t0"][0]
+            self.assertEqual(wanted, kernel.bytes_for(Attribute(line, ["a"])))
 
 
 class Lists(unittest.TestCase):

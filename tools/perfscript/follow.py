@@ -4,20 +4,27 @@ Ids are drawn from one counter that begins at 1: at each open that succeeds, and
 the pinned groups first and then the flexible ones, each leader before its siblings.
 """
 
-from on_linux.attributes import Attribute
-from on_linux.script import Fault
+from typing import Optional
+
+from perfscript.attributes import Attribute
+from perfscript.faults import Fault
+from perfscript.report import Report
+from perfscript.script import Line, Script
 
 
 class Event:
     """An event that was opened, or a copy of one."""
 
-    def __init__(self, number, slot, attribute, task, original=None):
+    def __init__(
+        self, number: int, slot: int, attribute: Attribute, task: int | None, original: Optional["Event"] = None
+    ) -> None:
         self.id, self.slot, self.attribute, self.task, self.original = number, slot, attribute, task, original
         self.state_is_ready = not attribute.has("disabled")
         self.period = attribute.period
         # what was done to an original
-        self.is_open, self.ring, self.is_mapped, self.is_redirected = True, None, False, False
-        self.commands = []
+        self.is_open, self.is_mapped, self.is_redirected = True, False, False
+        self.ring: int | None = None
+        self.commands: list[str] = []
         # its group is other than that of its copies; its leader was off when it was closed
         self.changed_since_fork, self.is_freed_while_off = False, False
         # a member of its group was closed while mapped; that was its leader, which was off
@@ -27,19 +34,20 @@ class Event:
 class Context:
     """The groups of a task or of a processor, each a list of events with the leader first."""
 
-    def __init__(self):
-        self.pinned, self.flexible = [], []
+    def __init__(self) -> None:
+        self.pinned: list[list[Event]] = []
+        self.flexible: list[list[Event]] = []
 
-    def groups(self):
+    def groups(self) -> list[list[Event]]:
         return self.pinned + self.flexible
 
-    def add_group(self, group):
+    def add_group(self, group: list[Event]) -> None:
         (self.pinned if group[0].attribute.has("pinned") else self.flexible).append(group)
 
-    def group_of(self, event):
+    def group_of(self, event: Event) -> list[Event]:
         return next(group for group in self.groups() if event in group)
 
-    def remove(self, event):
+    def remove(self, event: Event) -> None:
         """Takes an event away. The siblings of a leader become flexible groups of their own."""
         for groups in (self.pinned, self.flexible):
             for place, group in enumerate(groups):
@@ -56,44 +64,58 @@ class Context:
 class Follow:
     """The state of a script's run, line by line."""
 
-    def __init__(self, script, report):
+    def __init__(self, script: Script, report: Report) -> None:
         self.script, self.report = script, report
-        self.next_id, self.slots, self.contexts = 1, {}, {}
-        self.copies, self.originals, self.all_copies = [], [], []
-        # the id of the event that a line opened
-        self.opened = {}
-        self.tasks, self.exited = set(script.tasks), set()
-        self.running = {}
+        self.next_id = 1
+        self.slots: dict[int, Event] = {}
+        self.contexts: dict[tuple[str, int | str], Context] = {}
+        self.copies: list[Event] = []
+        self.originals: list[Event] = []
+        self.all_copies: list[Event] = []
+        # the id of the event that a line opened, by the line's name
+        self.opened: dict[str, int] = {}
+        self.tasks, self.exited = set(script.tasks), set[int]()
+        self.running: dict[str, int] = {}
         # the originals that a copy's sums were added to, and for each ring the events that have written to it
-        self.folded, self.writers = set(), {}
+        self.folded: set[Event] = set()
+        self.writers: dict[int, list[Event]] = {}
 
-    def context(self, name):
+    def run(self) -> "Follow":
+        """Does the whole order."""
+        for act in self.script.acts():
+            if isinstance(act, Line):
+                self.step(act)
+        return self
+
+    def context(self, name: tuple[str, int | str]) -> Context:
         return self.contexts.setdefault(name, Context())
 
-    def context_of(self, event):
-        return self.context(("task", event.task) if event.task is not None else ("cpu", event.attribute.cpu))
+    def context_of(self, event: Event) -> Context:
+        if event.task is None:
+            return self.context(("cpu", event.attribute.cpu))
+        return self.context(("task", event.task))
 
-    def event(self, slot):
+    def event(self, slot: int) -> Event | None:
         """The open event of a slot; None where none is open."""
         return self.slots.get(slot)
 
-    def group(self, slot):
+    def group(self, slot: int) -> list[Event]:
         event = self.slots[slot]
         return self.context_of(event).group_of(event)
 
-    def live_copies(self, event):
+    def live_copies(self, event: Event) -> list[Event]:
         return [copy for copy in self.copies if copy.original is event]
 
-    def step(self, line):
+    def step(self, line: Line) -> None:
         """Does a line, unless the report says that it is refused."""
         if self.report.refusal(line) is not None or line.head not in STEPS:
             return
         try:
             STEPS[line.head](self, line)
-        except (KeyError, StopIteration) as fault:
-            raise Fault(f"the report has no refusal of {line.name} {line.text}, which can't be done there") from fault
+        except (KeyError, ValueError, IndexError, StopIteration):
+            raise Fault(f"the report has no refusal of {line.name} {line.text}, which can't be done there") from None
 
-    def open(self, line):
+    def open(self, line: Line) -> None:
         attribute = Attribute(line, self.script.kinds)
         task = None if attribute.task == "all" else int(attribute.task)
         event = Event(self.next_id, line.slot(), attribute, task)
@@ -108,12 +130,12 @@ class Follow:
             self.context_of(event).group_of(leader).append(event)
             self.mark_changed(leader)
 
-    def mark_changed(self, leader):
+    def mark_changed(self, leader: Event) -> None:
         """The group of this leader is other than its copies' groups, if it has any."""
         if self.live_copies(leader):
             leader.changed_since_fork = True
 
-    def close(self, line):
+    def close(self, line: Line) -> None:
         event = self.slots.pop(line.slot())
         group = self.context_of(event).group_of(event)
         if group[0] is not event:
@@ -128,7 +150,7 @@ class Follow:
         self.copies = [copy for copy in self.copies if copy.original is not event]
         event.is_open = False
 
-    def command(self, line):
+    def command(self, line: Line) -> None:
         event = self.slots[line.slot()]
         reached = self.group(event.slot) if line.is_group else [event]
         for member in list(reached):
@@ -137,28 +159,30 @@ class Follow:
                 for one in [member, *self.live_copies(member)]:
                     one.state_is_ready = line.head == "enable"
 
-    def period(self, line):
+    def period(self, line: Line) -> None:
         event = self.slots[line.slot()]
         event.period = int(line.words[1])
         event.commands.append("period")
 
-    def map(self, line):
-        event = self.slots[line.slot()]
-        event.ring, event.is_mapped = int(line.words[1]), True
-        self.writers.setdefault(event.ring, []).append(event)
+    def map(self, line: Line) -> None:
+        event, ring = self.slots[line.slot()], int(line.words[1])
+        event.ring, event.is_mapped = ring, True
+        self.writers.setdefault(ring, []).append(event)
 
-    def output(self, line):
-        event = self.slots[line.slot()]
-        event.ring, event.is_redirected = self.slots[int(line.words[1])].ring, True
-        self.writers.setdefault(event.ring, []).append(event)
+    def output(self, line: Line) -> None:
+        event, ring = self.slots[line.slot()], self.slots[int(line.words[1])].ring
+        event.ring, event.is_redirected = ring, True
+        if ring is None:
+            raise KeyError(line.words[1])
+        self.writers.setdefault(ring, []).append(event)
 
-    def switch(self, line):
+    def switch(self, line: Line) -> None:
         if line.words[0] == "idle":
             self.running.pop(line.actor, None)
         else:
             self.running[line.actor] = int(line.words[0])
 
-    def fork(self, line):
+    def fork(self, line: Line) -> None:
         child, parent = int(line.words[0]), self.running[line.actor]
         self.tasks.add(child)
         target = self.context(("task", child))
@@ -166,7 +190,7 @@ class Follow:
             if group[0].attribute.has("inherit"):
                 target.add_group([self.copy_of(event, child) for event in group])
 
-    def copy_of(self, event, child):
+    def copy_of(self, event: Event, child: int) -> Event:
         original = event.original or event
         copy = Event(self.next_id, event.slot, original.attribute, child, original)
         copy.state_is_ready, copy.period = event.state_is_ready, original.period
@@ -175,11 +199,11 @@ class Follow:
         self.all_copies.append(copy)
         return copy
 
-    def exit(self, line):
+    def exit(self, line: Line) -> None:
         task = self.running.pop(line.actor)
         self.exited.add(task)
         for copy in [copy for copy in self.copies if copy.task == task]:
-            self.folded.add(copy.original)
+            self.folded.add(copy.original or copy)
             self.context_of(copy).remove(copy)
             self.copies.remove(copy)
 
