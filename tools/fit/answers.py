@@ -3,6 +3,8 @@
 from dataclasses import dataclass
 
 from fit.faults import ProgramFault
+from perfscript import Report, rows_of
+from perfscript.names import CAUSES
 
 REFUSALS = ("EASSIGN", "EPMU", "EDEVICE")
 
@@ -20,8 +22,7 @@ class Cause:
         words = words[1:] if words[:1] == ["error"] else words
         if words[:1] in (["on"], ["off"], ["away"]):
             return None
-        is_known = words[:1] in (["hall"], ["earlier"], ["exclusive"], ["exclusive-self"])
-        if not is_known or len(words) < 2 or not all(word.isdecimal() for word in words[1:]):
+        if len(words) < 2 or words[0] not in CAUSES or not all(word.isdecimal() for word in words[1:]):
             raise ProgramFault(f"the program gave a cause that is not known: {' '.join(words)!r}")
         return cls(words[0], tuple(map(int, words[1:])))
 
@@ -38,22 +39,22 @@ class Answers:
     """The answers to a script's questions, and the times of its slots."""
 
     def __init__(self):
-        self.words, self.times = {}, {}
+        self.replies, self.times = {}, {}
 
     def add(self, word, text):
         """Adds what the program printed for a word."""
         if word == "stat":
-            self.times = times_of(text)
+            self.times = {slot: Times(row.enabled, row.running) for slot, row in rows_of(text).items()}
         else:
-            self.words = words_of(text)
+            self.replies = Report(text).replies
 
-    def why(self, question):
-        """The words behind `why`."""
-        return self.words.get(question.name, ["why"])[1:]
+    def words(self, question):
+        """The words of an answer; none where it is a plain Ok."""
+        return self.replies[question.key].words if question.key in self.replies else []
 
     def seats(self, question):
         """The counter of each slot that is on."""
-        words = self.words.get(question.name, ["seats"])[1:]
+        words = self.words(question)
         try:
             return {int(slot): int(counter) for slot, counter in (word.split("=") for word in words)}
         except ValueError:
@@ -61,29 +62,9 @@ class Answers:
 
     def refusal(self, question):
         """Why an open was refused: the cause, or none where it was done."""
-        words = self.words.get(question.name, ["open"])[1:]
+        words = self.words(question)
         if words and words[0] not in REFUSALS:
             raise ProgramFault(f"the program refused {question.line!r} with {' '.join(words)}")
         if not words:
             return None
         return Cause({"EASSIGN": "hall"}.get(words[0], "pmu"), tuple(map(int, words[1:])))
-
-
-def words_of(report):
-    """The words of each line of a report, by the name of the line that is answered."""
-    lines = report.splitlines()
-    if not lines or not lines[0].startswith("order") or lines[-1] != "end":
-        raise ProgramFault(f"the program printed no report: {report[:200]!r}")
-    return {line.split(" ")[0]: line.split(" ")[1:] for line in lines[1:-1]}
-
-
-def times_of(table):
-    """The times of each slot in a table of counts."""
-    lines = table.splitlines()
-    if not lines or not lines[0].startswith("stat ") or lines[-1] != "end":
-        raise ProgramFault(f"the program printed no table: {table[:200]!r}")
-    try:
-        rows = [line.split() for line in lines[1:-1]]
-        return {int(row[0]): Times(int(row[3]), int(row[4])) for row in rows}
-    except (IndexError, ValueError):
-        raise ProgramFault(f"the program printed a table that can't be read: {table[:200]!r}") from None

@@ -1,7 +1,5 @@
 """The command line: reads the words, asks the program, prints, and says by the exit status whether all is counted."""
 
-import argparse
-import os
 import sys
 
 from fit import machines as kinds_of_core
@@ -11,20 +9,19 @@ from fit.events import SOFTWARE, read_lists
 from fit.faults import BadInput, ProgramFault
 from fit.findings import judged_twice
 from fit.plan import plan_of
-from fit.program import program_at
 from fit.script import scripts_of
+from perfscript import command, program_at
 
-FITS, FAILS, BAD_INPUT, NO_ANSWER, INTERRUPTED = 0, 1, 2, 3, 130
+FITS, FAILS, NO_ANSWER = 0, 1, 3
 ABOUT = "Says whether the events of a `perf stat -e` list fit on the counters of a machine, what each gets, and why."
 STATUS = """\
 exit status: 0 all groups are counted, all the time or in turns; 1 a group is refused at open or never on;
-2 the input is refused; 3 the program gave no answer"""
+2 the input is refused or the program can't be used; 3 the program's answers contradict each other"""
 
 
 def parser():
     """The options."""
-    form = argparse.RawDescriptionHelpFormatter
-    made = argparse.ArgumentParser(prog="fit.py", description=ABOUT, epilog=STATUS, formatter_class=form)
+    made = command.Parser("fit.py", ABOUT, epilog=STATUS)
     add = made.add_argument
     add("-m", metavar="MACHINE", action="append", default=[], dest="machines",
         help="the machine, or NAME=PROCESSORS for each kind of core; a path that ends in .toml is a file of your own")
@@ -40,7 +37,6 @@ def parser():
     add("--script", metavar="FILE", help="write the script that was asked, with its order")
     add("--json", action="store_true", help="print JSON")
     add("--list", action="store_true", help="say which machines there are, or what the given ones know")
-    add("--program", metavar="PATH", help="the program perf_run")
     return made
 
 
@@ -108,26 +104,19 @@ def answer(options):
     return FAILS if any(finding.fails for finding in findings) else FITS
 
 
-def main(words):
-    """Does what the words say. Answers the exit status."""
-    options = parser().parse_args(words)
+def done(options):
+    """Does what the options say. Answers the exit status."""
     try:
-        status = FITS
-        if options.list:
-            print("\n".join(listing(options)))
-        else:
-            status = answer(options)
-        sys.stdout.flush()
-        return status
-    except BadInput as fault:
-        print(f"fit.py: {fault}", file=sys.stderr)
-        return BAD_INPUT
+        if not options.list:
+            return answer(options)
+        print("\n".join(listing(options)))
+        return FITS
     except ProgramFault as fault:
         print(f"fit.py: {fault}", file=sys.stderr)
         return NO_ANSWER
-    except KeyboardInterrupt:
-        return INTERRUPTED
-    except BrokenPipeError:
-        # nobody reads: what is left goes nowhere, or Python would complain at its end
-        os.dup2(os.open(os.devnull, os.O_WRONLY), sys.stdout.fileno())
-        return NO_ANSWER
+
+
+def main(words=None):
+    """Does what the words say. Answers the exit status."""
+    options = parser().parse_args(words)
+    return command.ended("fit.py", lambda: done(options))

@@ -1,12 +1,14 @@
-"""What ends the tool early: input that it refuses, and a program that does not answer as it should."""
+"""What ends the tool early: input that it refuses, and answers of the program that can't be right."""
+
+from perfscript import Fault
 
 
-class BadInput(Exception):
-    """What the user gave is refused: exit status 2."""
+class BadInput(Fault):
+    """What the user gave is refused: exit status 2, as where the program can't be used."""
 
 
 class ProgramFault(Exception):
-    """The program is not there, failed, or answered what it should not: exit status 3."""
+    """The program answered what it should not: exit status 3."""
 
 
 def at_place(reason, option, text, character):

@@ -6,6 +6,7 @@ from fit.answers import Answers, Cause, Times
 from fit.faults import ProgramFault
 from fit.script import scripts_of
 from fit.sentences import reason_of
+from perfscript import Fault
 
 
 @dataclass
@@ -60,8 +61,10 @@ def answers_of(program, made):
     printed = program.outputs([(word, script.text()) for word, script in calls])
     found = {}
     for (word, script), text in zip(calls, printed):
-        answers = found.setdefault(id(script), Answers())
-        answers.add(word, text)
+        try:
+            found.setdefault(id(script), Answers()).add(word, text)
+        except Fault as fault:
+            raise Fault(f"{program.path} {word} printed what can't be read: {fault}") from None
     return found
 
 
@@ -114,7 +117,7 @@ def add_rounds(finding, script, context, one, answers):
     if not waiting:
         return
     finding.waits = True
-    finding.in_error = finding.in_error or answers.why(waiting[0].why[one.leader])[:1] == ["error"]
+    finding.in_error = finding.in_error or answers.words(waiting[0].why[one.leader])[:1] == ["error"]
     is_on = answers.times.get(one.leader, Times(0, 0)).running > 0
     standing = [one_round for one_round in waiting if one_round.first == one.leader]
     chosen = waiting[0] if is_on or not standing else standing[0]
@@ -125,4 +128,4 @@ def add_rounds(finding, script, context, one, answers):
 
 def cause_in(one_round, leader, answers):
     """Why the group of this leader was off in a round; none where it was on or was not asked."""
-    return Cause.of(answers.why(one_round.why[leader])) if leader in one_round.why else None
+    return Cause.of(answers.words(one_round.why[leader])) if leader in one_round.why else None

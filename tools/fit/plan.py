@@ -5,8 +5,7 @@ from dataclasses import dataclass
 from fit.events import modes_left_out
 from fit.faults import BadInput
 from fit.machines import in_words
-
-MOST_MEMBERS, MOST_KINDS, MOST_SLOTS = 8, 16, 256
+from perfscript.limits import MOST_KINDS, MOST_MEMBERS, MOST_SLOTS
 
 
 @dataclass(frozen=True)

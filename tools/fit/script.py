@@ -8,19 +8,20 @@ processors. In a context with N flexible hardware groups of a kind of core a rot
 from dataclasses import dataclass, field
 from math import lcm
 
-from fit.plan import MOST_SLOTS, Event, Group, kinds_of
+from fit.plan import Event, Group, kinds_of
+from perfscript import Draft
+from perfscript.limits import MOST_LINES, MOST_SLOTS, MOST_TASKS
 
 LENGTH = 1000
-MOST_TASKS, MOST_LINES = 64, 16384
 TOOL = "t0"
 
 
 @dataclass
 class Question:
-    """A line, and its name in the report: its actor and its number."""
+    """A line, and its key in the report: its actor and its number."""
 
     line: str
-    name: str
+    key: tuple
 
 
 @dataclass
@@ -70,8 +71,7 @@ class Script:
     slots: dict = field(default_factory=dict)
     contexts: list = field(default_factory=list)
     watchdogs: dict = field(default_factory=dict)
-    lines: dict = field(default_factory=dict)
-    order: list = field(default_factory=list)
+    draft: Draft = field(default_factory=Draft)
 
     def __post_init__(self):
         self.kinds = {kind: f"k{number}" for number, kind in enumerate(kinds_of(self.plan))}
@@ -79,10 +79,7 @@ class Script:
 
     def act(self, actor, line):
         """Adds a line, which is done now. Answers it as a question."""
-        lines = self.lines.setdefault(actor, [])
-        lines.append(line)
-        self.order.append(actor)
-        return Question(line, f"{actor}.{len(lines) - 1}")
+        return Question(line, self.draft.act(actor, line))
 
     def open(self, event, slot, place, leader):
         """Opens an event in a slot, at a place: `task=0 cpu=any`."""
@@ -108,12 +105,8 @@ class Script:
 
     def text(self):
         """The script, as the program reads it."""
-        lines = self.head()
-        for actor in sorted(self.lines):
-            lines += [f"{'processor' if actor[0] == 'p' else 'tool'} {actor[1:]}", *self.lines[actor]]
-        acts = self.order
-        lines += ["order " + " ".join(acts[first : first + 30]) for first in range(0, len(acts), 30)]
-        return "\n".join([*lines, "end"]) + "\n"
+        self.draft.head = self.head()
+        return self.draft.text()
 
     def name_of(self, slot):
         """What perf calls the event of a slot."""
@@ -148,7 +141,7 @@ def scripts_of(plan, candidates, times=1, asks=True):
 def has_room(script, groups, size):
     """Whether a further task with these groups fits into a script."""
     rounds = script.times * len(groups) * len(script.plan.machines)
-    lines = size + rounds * (3 + len(groups)) + 4 * len(script.plan.machines) + sum(map(len, script.lines.values()))
+    lines = size + rounds * (3 + len(groups)) + 4 * len(script.plan.machines) + script.draft.count
     return len(script.contexts) < MOST_TASKS and len(script.slots) + size <= MOST_SLOTS and lines <= MOST_LINES
 
 

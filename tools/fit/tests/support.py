@@ -1,28 +1,12 @@
-"""The program under the tests, and calls of the tool as a user makes them."""
-
-import io
-import os
-import unittest
-from contextlib import redirect_stderr, redirect_stdout
+"""Calls of the tool as a user makes them."""
 
 from fit.command import main
-from fit.program import USUAL, Built
-
-NAMED = os.environ.get("PERF_RUN")
-PATH = os.path.abspath(NAMED or USUAL)
-HOW = "`rt ci` and `rt run` leave it there, or PERF_RUN names another"
+from perfscript.tests import support
+from perfscript.tests.support import PATH, call_of
 
 
-class ProgramTest(unittest.TestCase):
+class ProgramTest(support.ProgramTest):
     """A test that asks the program."""
-
-    @classmethod
-    def setUpClass(cls):
-        if not os.access(PATH, os.X_OK):
-            if NAMED:
-                raise AssertionError(f"PERF_RUN names {PATH}, and no program is there")
-            raise unittest.SkipTest(f"no program at {PATH}: {HOW}")
-        cls.program = Built(PATH)
 
     def fit(self, *words):
         """The exit status and what is printed."""
@@ -31,10 +15,4 @@ class ProgramTest(unittest.TestCase):
 
 def call(*words):
     """The exit status, standard output and standard error of a call of the tool."""
-    out, err = io.StringIO(), io.StringIO()
-    with redirect_stdout(out), redirect_stderr(err):
-        try:
-            status = main(list(words))
-        except SystemExit as ended:
-            status = ended.code
-    return status, out.getvalue(), err.getvalue()
+    return call_of(main, words)

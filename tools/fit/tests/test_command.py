@@ -6,8 +6,8 @@ import subprocess
 import sys
 import tempfile
 
-from fit.program import REPOSITORY
 from fit.tests.support import PATH, ProgramTest
+from perfscript.program import REPOSITORY
 
 REFUSED = "{cycles,instructions},{l1d_pend_miss.pending,cycle_activity.cycles_l1d_pending},branches:k"
 

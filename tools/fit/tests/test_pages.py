@@ -2,9 +2,9 @@
 
 import os
 
-from fit.program import REPOSITORY
 from fit.tests.pages import examples
 from fit.tests.support import ProgramTest
+from perfscript.program import REPOSITORY
 
 PAGES = {"README.md": 1, "docs/FIT.md": 14}
 
