@@ -25,31 +25,18 @@ import os
 import re
 import sys
 
+sys.path.insert(0, os.path.join(os.path.dirname(os.path.abspath(__file__)), ".."))
+
+from perfscript import Look, Report, Script  # noqa: E402  the package is found only now
+from perfscript.attributes import Attribute  # noqa: E402
+from perfscript.limits import MOST_CPUS, MOST_TOOLS  # noqa: E402
+from perfscript.names import FLAGS, SOFTWARE_KINDS  # noqa: E402
+
 CRATES = os.path.join(os.path.dirname(os.path.abspath(__file__)), "..", "..", "crates")
 DATA = os.path.join(CRATES, "worked_cases", "data")
 PROOFS = os.path.join(CRATES, "worked_theorems", "proofs")
 
-CPUS = 8
-TOOLS = 4
-KINDS = 16
 LINES_PER_FILE = 390
-
-SOFTWARE = {
-    "context-switches": "kind.ContextSwitches",
-    "cpu-migrations": "kind.CpuMigrations",
-    "task-clock": "kind.TaskClock",
-    "dummy": "kind.Dummy",
-}
-
-FLAGS = {
-    "disabled": 1,
-    "inherit": 2,
-    "pinned": 4,
-    "exclusive": 8,
-    "exclude_user": 16,
-    "exclude_kernel": 32,
-    "sample_id_all": 64,
-}
 
 REASONS = {
     "EATTRPERIOD": "BadPeriod",
@@ -86,18 +73,11 @@ RULES = {"exclusive": "Exclusive", "exclusive-self": "ExclusiveSelf", "earlier":
 class Case:
     """One script with its report, both as terms. Each term is a piece of antt text."""
 
-    def __init__(self, name):
-        self.name = name
-        self.cpus = 0
-        self.pmus = []
-        self.kinds = []  # (name, term)
-        self.tasks = []
-        self.rings = []
-        self.cpu_lines = [[] for _ in range(CPUS)]
-        self.tool_lines = [[] for _ in range(TOOLS)]
-        self.readers = []
-        self.order = []  # ("p", 0), ("t", 1), ("s", 0, 16)
-        self.replies = {}  # (actor, line number): (term, proof)
+    def __init__(self, name, text):
+        self.name, self.script = name, Script(text)
+        self.kinds = list(self.script.kinds)
+        self.lines = {actor: [LINES[line.head](self, line) for line in own] for actor, own in self.script.lines.items()}
+        self.replies = {}  # the key of a line: (term, proof)
         self.report = []  # the lines of the report
         self.note = None  # of an unlawful look: the act's number, the ring, its last place, its head, the place given
 
@@ -111,6 +91,7 @@ def list_of(terms):
 
 
 def bracketed(terms):
+    terms = list(terms)
     return f"({list_of(terms)})" if terms else "[]"
 
 
@@ -118,145 +99,73 @@ def slots(words):
     return f"(slots ({list_of(words)}))"
 
 
-def after(word, name):
-    """What stands behind `name=` in a word."""
-    if not word.startswith(name + "="):
-        raise ValueError(f"{word}: {name}= is wanted")
-    return word[len(name) + 1 :]
-
-
-def hexadecimal(text):
-    return str(int(text, 16))
-
-
 # The script.
 
 
-def read_script(case, text):
-    place = None
-    for line in text.splitlines():
-        words = line.split(" ")
-        head = words[0]
-        if head == "processor":
-            place = case.cpu_lines[int(words[1])]
-        elif head == "tool":
-            place = case.tool_lines[int(words[1])]
-        elif head in DECLARATIONS:
-            DECLARATIONS[head](case, words)
-        elif head in CPU_LINES:
-            place.append((head, CPU_LINES[head](case, words)))
-        elif head in TOOL_LINES:
-            place.append((head, TOOL_LINES[head](case, words)))
-        elif head not in ("perf", "end"):
-            raise ValueError(f"{case.name}: {line}")
+def switch(case, line):
+    return "cpu_line.Switch None" if line.words[0] == "idle" else f"cpu_line.Switch ({some('task ' + line.words[0])})"
 
 
-def machine(case, words):
-    case.cpus = int(after(words[1], "cpus"))
-    if len(words) > 2:
-        case.pmus.append(f"pmu {int(after(words[2], 'counters'))} {2 ** case.cpus - 1}")
-
-
-def pmu(case, words):
-    case.pmus.append(f"pmu {int(after(words[2], 'counters'))} {hexadecimal(after(words[3], 'cpus'))}")
-
-
-def kind(case, words):
-    number = after(words[2], "pmu") if len(words) > 3 else "0"
-    case.kinds.append((words[1], f'kind_line (codes "{words[1]}") {number} {hexadecimal(after(words[-1], "mask"))}'))
-
-
-def task(case, words):
-    case.tasks.append(f"task {words[1]}")
-
-
-def ring(case, words):
-    case.rings.append(f"(ring {words[1]}, {after(words[2], 'bytes')})")
-
-
-def reader(case, words):
-    case.readers.append(f"reader {words[1]} {after(words[2], 'tries')} {after(words[3], 'batch')}")
-
-
-def order(case, words):
-    for word in words[1:]:
-        number, _, place = word[1:].partition("=")
-        case.order.append((word[0], int(number), *([place] if place else [])))
-
-
-DECLARATIONS = {"machine": machine, "pmu": pmu, "kind": kind, "task": task, "ring": ring, "reader": reader, "order": order}
-
-
-def switch(case, words):
-    return "cpu_line.Switch None" if words[1] == "idle" else f"cpu_line.Switch ({some('task ' + words[1])})"
-
-
-def work(case, words):
-    names = [name for name, _ in case.kinds]
-    address = "0"
-    hits = [0] * len(names)
-    for word in words[3:]:
-        name, _, value = word.partition("=")
-        if name == "ip":
-            address = hexadecimal(value)
-        else:
-            hits[names.index(name)] = int(value)
-    return f"cpu_line.Work (work {words[1]} mode.{words[2].capitalize()} {address} {bracketed(map(str, hits)) if hits else '[]'})"
-
-
-CPU_LINES = {
-    "switch": switch,
-    "work": work,
-    "tick": lambda case, words: "cpu_line.Tick",
-    "fork": lambda case, words: f"cpu_line.Fork (task {words[1]})",
-    "exit": lambda case, words: "cpu_line.Exit",
-}
+def work(case, line):
+    given = line.given()
+    address = int(given.get("ip", "0"), 16)
+    hits = bracketed(str(int(given.get(name, "0"))) for name in case.kinds)
+    return f"cpu_line.Work (work {line.words[0]} mode.{line.words[1].capitalize()} {address} {hits})"
 
 
 def kind_term(case, name):
-    if name in SOFTWARE:
-        return SOFTWARE[name]
-    return f"(kind.Hard {[it for it, _ in case.kinds].index(name)})"
+    if name in SOFTWARE_KINDS:
+        return "kind." + name.title().replace("-", "")
+    return f"(kind.Hard {case.kinds.index(name)})"
 
 
-def open_line(case, words):
-    given = dict(word.split("=", 1) for word in words[2:])
-    flags = sum(FLAGS[it] for it in given["flags"].split(",")) if "flags" in given else 0
+def open_line(case, line):
+    asked = Attribute(line, case.kinds)
     attr = " ".join([
         "attr",
-        kind_term(case, given["kind"]),
-        "tasks.All" if given["task"] == "all" else f"(tasks.One (task {given['task']}))",
-        "cpus.Any" if given["cpu"] == "any" else f"(cpus.One (cpu {given['cpu']}))",
-        given.get("period", "0"),
-        hexadecimal(given.get("sample", "0")),
-        hexadecimal(given.get("format", "0")),
-        str(flags),
+        kind_term(case, asked.kind),
+        "tasks.All" if asked.task == "all" else f"(tasks.One (task {asked.task}))",
+        "cpus.Any" if asked.cpu == "any" else f"(cpus.One (cpu {asked.cpu}))",
+        str(asked.period),
+        str(asked.sample),
+        str(asked.format),
+        str(sum(1 << place for place, flag in enumerate(FLAGS) if asked.has(flag))),
     ])
-    leader = f"({some('slot ' + given['leader'])})" if "leader" in given else "None"
-    return f"tool_line.Open (slot {words[1]}) ({attr}) {leader}"
+    leader = "None" if asked.leader is None else f"({some(f'slot {asked.leader}')})"
+    return f"tool_line.Open (slot {line.words[0]}) ({attr}) {leader}"
 
 
 def command(name):
-    return lambda case, words: f"tool_line.{name} (slot {words[1]}) {'true' if words[2:] == ['group'] else 'false'}"
+    return lambda case, line: f"tool_line.{name} (slot {line.words[0]}) {'true' if line.is_group else 'false'}"
 
 
-def read_line(case, words):
-    size = f"({'Some ' + after(words[2], 'size')})" if words[2:] else "None"
-    return f"tool_line.Read (slot {words[1]}) {size}"
+def read_line(case, line):
+    size = f"(Some {line.given()['size']})" if line.given() else "None"
+    return f"tool_line.Read (slot {line.words[0]}) {size}"
 
 
-TOOL_LINES = {
+def slot_line(name, form=" {}"):
+    """A line of a tool that names a slot and maybe one thing more."""
+    return lambda case, line: f"tool_line.{name} (slot {line.words[0]})" + "".join(map(form.format, line.words[1:]))
+
+
+LINES = {
+    "switch": switch,
+    "work": work,
+    "tick": lambda case, line: "cpu_line.Tick",
+    "fork": lambda case, line: f"cpu_line.Fork (task {line.words[0]})",
+    "exit": lambda case, line: "cpu_line.Exit",
     "open": open_line,
     "enable": command("Enable"),
     "disable": command("Disable"),
     "reset": command("Reset"),
-    "period": lambda case, words: f"tool_line.Period (slot {words[1]}) {words[2]}",
+    "period": slot_line("Period"),
     "read": read_line,
-    "map": lambda case, words: f"tool_line.Map (slot {words[1]}) (ring {words[2]})",
-    "output": lambda case, words: f"tool_line.Output (slot {words[1]}) (slot {words[2]})",
-    "close": lambda case, words: f"tool_line.Close (slot {words[1]})",
-    "why": lambda case, words: f"tool_line.Why (slot {words[1]})",
-    "seats": lambda case, words: f"tool_line.Seats (cpu {words[1]})",
+    "map": slot_line("Map", " (ring {})"),
+    "output": slot_line("Output", " (slot {})"),
+    "close": slot_line("Close"),
+    "why": slot_line("Why"),
+    "seats": lambda case, line: f"tool_line.Seats (cpu {line.words[0]})",
 }
 
 
@@ -265,11 +174,9 @@ TOOL_LINES = {
 
 def read_report(case, text):
     case.report = text.splitlines()
-    for line in case.report:
-        words = line.split(" ")
-        actor, dot, number = words[0].partition(".")
-        if dot:
-            case.replies[(actor, int(number))] = reply(words[1], words[2:])
+    report = Report(text)
+    report.check(case.script)
+    case.replies = {key: reply(one.head, one.words) for key, one in report.replies.items()}
 
 
 def reply(head, words):
@@ -312,27 +219,15 @@ def read_note(case, text):
 
 
 def act_term(act):
-    if act[0] == "s":
-        return f"seen {act[1]} {act[2]}"
-    return f"by_cpu {act[1]}" if act[0] == "p" else f"by_tool {act[1]}"
+    if isinstance(act, Look):
+        return f"seen {act.ring} {act.place}"
+    return f"by_{'cpu' if act.actor[0] == 'p' else 'tool'} {act.actor[1:]}"
 
 
 def replies_in_order(case):
     """The reply and the proof of each act that does a line, a plain Ok where the report shows none; None for a look at a tail."""
-    done = {}
-    answered = []
-    for act in case.order:
-        if act[0] == "s":
-            answered.append(None)
-            continue
-        actor = f"{act[0]}{act[1]}"
-        number = done.get(actor, 0)
-        done[actor] = number + 1
-        answered.append(case.replies.get((actor, number), ("reply.Ok", "refl")))
-    missing = [key for key in case.replies if key[1] >= done.get(key[0], 0)]
-    if missing:
-        raise ValueError(f"{case.name}: replies to no act: {missing}")
-    return answered
+    plain = ("reply.Ok", "refl")
+    return [None if isinstance(act, Look) else case.replies.get(act.key, plain) for act in case.script.acts()]
 
 
 def pieces(terms):
@@ -351,7 +246,7 @@ def lines_field(name, padding, lists):
             line += "[] ∷ "
             continue
         out.append(line + "(")
-        out += [f"      {term} ∷" for _, term in lines]
+        out += [f"      {term} ∷" for term in lines]
         line = "      []) ∷ "
     return [*out, line + ("[]);" if lists else "[];")]
 
@@ -369,18 +264,23 @@ def wrapped(terms, first, margin, end, width=150):
 
 
 def script_term(case, name):
+    script = case.script
+    kinds = [f'kind_line (codes "{word}") {kind.pmu} {kind.mask}' for word, kind in script.kinds.items()]
+    readers = [f"reader {ring} {one.tries} {one.batch}" for ring, one in script.readers.items()]
+    by_cpu = [case.lines.get(f"p{number}", []) for number in range(MOST_CPUS)]
+    by_tool = [case.lines.get(f"t{number}", []) for number in range(MOST_TOOLS)]
     return [
         f"{name} : Scripted",
         f"{name} = record {{",
-        f"  cpus = {case.cpus};",
-        f"  pmus = {list_of(case.pmus)};",
-        *wrapped([term for _, term in case.kinds], "  kinds = ", "      ", ";"),
-        f"  tasks = {list_of(case.tasks)};",
-        f"  rings = {list_of(case.rings)};",
-        *lines_field("cpu_lines", "eight", case.cpu_lines),
-        *lines_field("tool_lines", "four", case.tool_lines),
-        f"  readers = {list_of(case.readers)};",
-        *wrapped([act_term(act) for act in case.order], "  order = ", "      ", ";"),
+        f"  cpus = {script.cpus};",
+        f"  pmus = {list_of([f'pmu {pmu.counters} {pmu.cpus}' for pmu in script.pmus.values()])};",
+        *wrapped(kinds, "  kinds = ", "      ", ";"),
+        f"  tasks = {list_of([f'task {task}' for task in script.tasks])};",
+        f"  rings = {list_of([f'(ring {ring}, {size})' for ring, size in script.rings.items()])};",
+        *lines_field("cpu_lines", "eight", by_cpu),
+        *lines_field("tool_lines", "four", by_tool),
+        f"  readers = {list_of(readers)};",
+        *wrapped(map(act_term, script.acts()), "  order = ", "      ", ";"),
         "}",
         "",
     ]
@@ -521,9 +421,8 @@ def read(path):
 def read_case(file, name):
     """The case NAME of the data, whose theorem stands in files of the name FILE."""
     last = os.path.basename(name)
-    case = Case(f"{file.lower()}_{last}" if last.isdigit() else last)
     path = os.path.join(DATA, name)
-    read_script(case, read(path + ".script"))
+    case = Case(f"{file.lower()}_{last}" if last.isdigit() else last, read(path + ".script"))
     seated = path + ".other-seats"
     if os.path.exists(seated):
         read_report(case, read(seated))
