@@ -13,6 +13,10 @@ import os
 import re
 import sys
 
+sys.path.insert(0, os.path.join(os.path.dirname(os.path.abspath(__file__)), ".."))
+
+from perfscript import command  # noqa: E402  the package is found only now
+
 PAGE = "docs/DEFINITIONS.md"
 NAME = r"[A-Za-z_][A-Za-z_0-9]*"
 IMPORT = re.compile(rf"ghost use Rattle\.({NAME})\.specs\.([A-Za-z_0-9.]+?)(?:\.\{{([^}}]*)\}}| as ({NAME}));")
@@ -118,4 +122,4 @@ def main():
 
 
 if __name__ == "__main__":
-    sys.exit(main())
+    sys.exit(command.called(__doc__, main, 0, 0))

@@ -12,6 +12,10 @@ import os
 import re
 import sys
 
+sys.path.insert(0, os.path.join(os.path.dirname(os.path.abspath(__file__)), ".."))
+
+from perfscript import Fault, command  # noqa: E402  the package is found only now
+
 PAGES = ("docs/DEFINITIONS.md", "docs/RULES.md")
 CASES = "crates/worked_cases/data"
 PLACE = re.compile(r"`([^`]+)`, `(crates/[^`:]+):(\d+)`")
@@ -51,8 +55,10 @@ def with_lines(page):
     return PLACE.sub(placed, page), missing
 
 
-def main(is_check):
-    faults = 0
+def main(*words):
+    if words not in ((), ("--check",)):
+        raise Fault(f"{words[0]}: not known; definition_lines.py --help has the words")
+    is_check, faults = bool(words), 0
     for path in PAGES:
         with open(path) as file:
             page = file.read()
@@ -68,4 +74,4 @@ def main(is_check):
 
 
 if __name__ == "__main__":
-    sys.exit(main("--check" in sys.argv))
+    sys.exit(command.called(__doc__, main))

@@ -27,20 +27,20 @@ own. Ends with 1 where a run ended otherwise.
 """
 
 import collections
-import os
-import subprocess
 import sys
 import tempfile
 
 import preloaded
-import run_then_replay
+from perfscript import command, program_at
+from perfscript.progress import Progress
+from run_then_replay import with_order
 
 READ_FAULT = (2, b"perf_run: read fault\n")
 WRITE_FAULT = (3, b"perf_run: write fault\n")
 USAGE = (5, b"perf_run: usage: run, replay, make N, make N script\n")
 SMALLEST = "counts-and-reads/one-event-read.script"
 LARGER = "counts-and-reads/six-inherited-events-on-four-counters.script"
-ORDERS = [b"order t0 t0 p0", b"order t0 p0 t0", b"order p0 t0 t0"]
+ORDERS = ["order t0 t0 p0", "order t0 p0 t0", "order p0 t0 t0"]
 TAB = ("texts-refused/tab-in-line.script", (1, b"perf_run: line 1: ASCII\n"))
 LOOK = ("rings-and-records/look-inside-a-record.script", (1, b"perf_run: act 3: ring 0 last 0 head 48 given 8\n"))
 REFUSED = {"replay": [TAB, LOOK], "stat": [TAB, LOOK], "run": [TAB]}
@@ -57,10 +57,7 @@ Noted = collections.namedtuple("Noted", "settings text answer")
 
 def plain(program, words, text):
     """What the program writes without any fault."""
-    done = subprocess.run([program, *words], input=text, capture_output=True, timeout=preloaded.SECONDS)
-    if done.returncode != 0 or done.stderr:
-        raise ValueError(f"{words}: status {done.returncode}, note {done.stderr!r}")
-    return done.stdout
+    return program_at(program).outputs([(" ".join(words), text.decode())])[0].encode()
 
 
 def one_tool(reads):
@@ -76,7 +73,7 @@ def replayed(program, text):
 
 def run_by_threads(program, text, orders):
     """A script that is run, with the report of each of its orders."""
-    return [Case(["run"], text, [plain(program, ["replay"], run_then_replay.with_order(text, order)) for order in orders])]
+    return [Case(["run"], text, [plain(program, ["replay"], with_order(text.decode(), order).encode()) for order in orders])]
 
 
 def without_text(program, rounds):
@@ -92,7 +89,7 @@ def cases(program, piece):
         return replayed(program, text) + run_by_threads(program, text, ORDERS) + without_text(program, "1")
     text = preloaded.stored(LARGER) if piece == 7 else plain(program, ["make", "100", "script"], b"")
     tool = one_tool(100 if piece == 7 else 2000)
-    order = tool.split(b"\n")[-3]
+    order = tool.decode().split("\n")[-3]
     rounds = "3" if piece == 7 else "100"
     return replayed(program, text) + run_by_threads(program, tool, [order]) + without_text(program, rounds)
 
@@ -186,20 +183,19 @@ def rows(trial):
     return [trial.row(case) for case in cases(trial.program, trial.piece)] + [trial.unknown_words()]
 
 
-def main(program):
-    with tempfile.TemporaryDirectory() as folder:
-        try:
-            library = preloaded.compiled("failing_calls", folder)
-        except FileNotFoundError as error:
-            sys.exit(str(error))
+def main(path):
+    program, found = program_at(path).path, []
+    with tempfile.TemporaryDirectory() as folder, Progress("pieces", len(PIECES)) as progress:
+        library = preloaded.compiled("failing_calls", folder)
         trials = [Trial(program, library, piece) for piece in PIECES]
-        preloaded.print_table(HEADS, [row for trial in trials for row in rows(trial)])
+        for trial in trials:
+            found += rows(trial)
+            progress.step()
+    preloaded.print_table(HEADS, found)
     faults = [fault for trial in trials for fault in trial.faults]
     print("\n".join(faults + [f"{sum(trial.runs for trial in trials)} runs, {len(faults)} failures"]))
     return 1 if faults else 0
 
 
 if __name__ == "__main__":
-    if len(sys.argv) != 2:
-        sys.exit(__doc__)
-    sys.exit(main(os.path.abspath(sys.argv[1])))
+    sys.exit(command.called(__doc__, main, 1, 1))

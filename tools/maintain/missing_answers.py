@@ -22,6 +22,10 @@ import subprocess
 import sys
 import tempfile
 
+sys.path.insert(0, os.path.join(os.path.dirname(os.path.abspath(__file__)), ".."))
+
+from perfscript import Fault, command  # noqa: E402  the package is found only now
+
 # A check that runs twice takes longer than this for the second time, in seconds.
 SECOND_RUN = 0.6
 BLOCK = re.compile(
@@ -167,16 +171,14 @@ def settle(found):
         print(f"{path}: {name} = {TACTICS[tactic][0]}")
 
 
-def main(words):
-    """Returns the status: 2 where the call is none."""
-    if not words or not os.path.isdir(f"crates/{words[0]}/must-fail"):
-        print(__doc__, file=sys.stderr)
-        return 2
-    os.chdir(f"crates/{words[0]}")
+def main(crate, *names):
+    if not os.path.isdir(f"crates/{crate}/must-fail"):
+        raise Fault(f"crates/{crate}/must-fail: no such folder; run it from the top of the repository, with a crate's name")
+    os.chdir(f"crates/{crate}")
     edits = sorted(glob.glob("must-fail/*.edit"))
-    settle(lacking([it for it in edits if not words[1:] or os.path.basename(it)[:-5] in words[1:]]))
+    settle(lacking([it for it in edits if not names or os.path.basename(it)[:-5] in names]))
     return 0
 
 
 if __name__ == "__main__":
-    sys.exit(main(sys.argv[1:]))
+    sys.exit(command.called(__doc__, main, 1))

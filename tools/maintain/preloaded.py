@@ -4,7 +4,12 @@ import collections
 import os
 import shutil
 import subprocess
+import sys
 import tempfile
+
+sys.path.insert(0, os.path.join(os.path.dirname(os.path.abspath(__file__)), ".."))
+
+from perfscript import Fault  # noqa: E402  the package is found only now
 
 FOLDER = os.path.dirname(os.path.abspath(__file__))
 DATA = os.path.join(FOLDER, "..", "..", "crates", "worked_cases", "data")
@@ -22,10 +27,13 @@ def compiler():
 def compiled(name, folder):
     """Compiles NAME.c of this folder, and gives the path of the library, in the folder given."""
     if compiler() is None:
-        raise FileNotFoundError("no C compiler: there is no command cc")
+        raise Fault("no C compiler: there is no command cc")
     library = os.path.join(folder, name + ".so")
     source = os.path.join(FOLDER, name + ".c")
-    subprocess.run([compiler(), "-shared", "-fPIC", "-O1", "-Wall", "-Wextra", "-o", library, source], check=True)
+    call = [compiler(), "-shared", "-fPIC", "-O1", "-Wall", "-Wextra", "-o", library, source]
+    done = subprocess.run(call, capture_output=True, text=True)
+    if done.returncode:
+        raise Fault(f"cc refuses {name}.c: {' '.join(done.stderr.split())}")
     return library
 
 

@@ -8,13 +8,14 @@ Usage: read_benchmark.py PROGRAM
   PROGRAM  the built program, crates/perf_run/out/perf_run; `rt run` in crates/perf_run leaves it there
 """
 
-import os
-import subprocess
 import sys
-import tempfile
-import time
 
-BYTES = 4194304
+import measuring
+from perfscript import command
+from perfscript.limits import MOST_BYTES
+from perfscript.progress import Progress
+
+BYTES = MOST_BYTES
 HEAD = "perf 1\nmachine cpus=1 counters=10\nprocessor 0\ntick\n"
 ACT = " p0"
 END = "end\n"
@@ -39,36 +40,19 @@ def text_of(acts_per_line):
     return text
 
 
-def measured_run(program, text, note):
-    """The seconds and the peak memory, in KiB, of a run that has to end with this note."""
-    with tempfile.TemporaryFile() as source, tempfile.TemporaryFile() as report, tempfile.TemporaryFile() as notes:
-        source.write(text.encode())
-        source.seek(0)
-        begin = time.monotonic()
-        run = subprocess.Popen([program, "replay"], stdin=source, stdout=report, stderr=notes)
-        _, status, usage = os.wait4(run.pid, 0)
-        seconds = time.monotonic() - begin
-        run.returncode = os.waitstatus_to_exitcode(status)
-        report.seek(0)
-        notes.seek(0)
-        said = notes.read().decode()
-        if run.returncode != 1 or report.read() or said != note:
-            raise ValueError(f"status {run.returncode}, note {said!r}")
-    return seconds, usage.ru_maxrss
-
-
 def main(program):
-    for acts_per_line in (1, 1000, (BYTES - len(HEAD) - len(END) - len("order\n")) // len(ACT)):
-        text = text_of(acts_per_line)
-        lines = text.count("\n")
-        note = f"perf_run: line {lines}: ORDER\n"
-        runs = [measured_run(program, text, note) for _ in range(RUNS)]
-        best = min(seconds for seconds, _ in runs)
-        peak = max(kibibytes for _, kibibytes in runs) / 1024
-        print(f"{len(text)} bytes, {lines} lines, {text.count(ACT)} acts: {best:.2f} s, the best of {RUNS}; peak memory {peak:.1f} MiB")
+    lengths = (1, 1000, (BYTES - len(HEAD) - len(END) - len("order\n")) // len(ACT))
+    with Progress("runs", RUNS * len(lengths)) as progress:
+        for acts_per_line in lengths:
+            text, runs = text_of(acts_per_line), []
+            lines = text.count("\n")
+            for _ in range(RUNS):
+                runs.append(measuring.cost(program, ["replay"], text, 1, f"perf_run: line {lines}: ORDER"))
+                progress.step()
+            seconds, peak = min(run.seconds for run in runs), max(run.peak for run in runs) / 2**20
+            best = f"{seconds:.2f} s, the best of {RUNS}; peak memory {peak:.1f} MiB"
+            print(f"{len(text)} bytes, {lines} lines, {text.count(ACT)} acts: {best}")
 
 
 if __name__ == "__main__":
-    if len(sys.argv) != 2:
-        sys.exit(__doc__)
-    main(sys.argv[1])
+    sys.exit(command.called(__doc__, main, 1, 1))

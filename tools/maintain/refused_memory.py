@@ -28,12 +28,13 @@ in the first way and how many in the second. Ends with 1 where a run ended other
 """
 
 import itertools
-import os
 import sys
 import tempfile
 
 import preloaded
-import run_then_replay
+from perfscript import command, program_at
+from perfscript.progress import Progress
+from run_then_replay import with_order, without_counters
 
 NO_MEMORY = (4, b"", b"perf_run: no memory\n")
 CASES = {
@@ -51,9 +52,10 @@ def is_report(program, word, text, report, out):
     """Whether this is a whole report of the text, which the replay of its own order gives too."""
     if word == "replay":
         return out == report
-    status, again, note = run_then_replay.call(program, "replay", run_then_replay.with_order(text, out.split(b"\n")[0]))
-    same = run_then_replay.without_counters(again) == run_then_replay.without_counters(out)
-    return (status, note) == (0, b"") and same
+    written = out.decode("latin-1")
+    again = program_at(program).call("replay", with_order(text.decode(), written.split("\n")[0]))
+    same = without_counters(again.out) == without_counters(written)
+    return (again.status, again.note) == (0, "") and same
 
 
 def ending(ended, is_whole):
@@ -103,13 +105,14 @@ def row_of(program, library, name, word, kind, step=1):
     return [name, f"`{word}`", kind, *found], [f"{name}, {word}, {kind}, {fault}" for fault in faults]
 
 
-def main(program):
-    with tempfile.TemporaryDirectory() as folder:
-        try:
-            library = preloaded.compiled("refused_memory", folder)
-        except FileNotFoundError as error:
-            sys.exit(str(error))
-        found = [row_of(program, library, name, word, kind) for name, word in ALL for kind in KINDS]
+def main(path):
+    program, found = program_at(path).path, []
+    with tempfile.TemporaryDirectory() as folder, Progress("rows", len(ALL) * len(KINDS)) as progress:
+        library = preloaded.compiled("refused_memory", folder)
+        for name, word in ALL:
+            for kind in KINDS:
+                found.append(row_of(program, library, name, word, kind))
+                progress.step()
     preloaded.print_table(HEADS, [row for row, _ in found])
     faults = [fault for _, some in found for fault in some]
     print("\n".join(faults + [f"{len(faults)} failures"]))
@@ -117,6 +120,4 @@ def main(program):
 
 
 if __name__ == "__main__":
-    if len(sys.argv) != 2:
-        sys.exit(__doc__)
-    sys.exit(main(os.path.abspath(sys.argv[1])))
+    sys.exit(command.called(__doc__, main, 1, 1))

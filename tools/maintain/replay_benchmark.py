@@ -10,28 +10,20 @@ Usage: replay_benchmark.py PROGRAM
 
 import os
 import statistics
-import subprocess
 import sys
-import tempfile
-import time
+
+import measuring
+from perfscript import Draft, Script, command, program_at
+from perfscript.progress import Progress
 
 RUNS = 5
 LINES = 16000
 WORK_LINES = 16000
 
 
-def in_lines(acts):
-    """Order lines of some acts, 500 a line."""
-    return "".join("order " + " ".join(acts[i : i + 500]) + "\n" for i in range(0, len(acts), 500))
-
-
 def script_of(head, cpus, tool, order):
     """A script with these lines of each processor and of tool 0, in this order."""
-    text = head
-    for cpu, lines in sorted(cpus.items()):
-        text += f"processor {cpu}\n" + "".join(line + "\n" for line in lines)
-    text += "tool 0\n" + "".join(line + "\n" for line in tool)
-    return text, order
+    return Draft(head.splitlines(), {**{f"p{cpu}": lines for cpu, lines in cpus.items()}, "t0": tool}, [], order)
 
 
 def small():
@@ -98,70 +90,46 @@ def counting(events):
 
 
 def stored(name):
-    """A worked case, and its order."""
-    path = os.path.join(os.path.dirname(os.path.abspath(__file__)), "..", "..", "crates", "worked_cases", "data", name + ".script")
-    with open(path) as file:
-        return parted(file.read())
-
-
-def parted(text):
-    """A script without its order and its last line, and the order."""
-    lines = text.splitlines()
-    order = [act for line in lines if line.startswith("order") for act in line.split()[1:]]
-    return "".join(line + "\n" for line in lines[:-1] if not line.startswith("order")), order
+    """A worked case."""
+    folder = os.path.join(os.path.dirname(os.path.abspath(__file__)), "..", "..", "crates", "worked_cases", "data")
+    return Draft.of(Script(command.text_of(os.path.join(folder, name + ".script"))))
 
 
 def made(program):
-    """The script of 1,000 rounds, and its order."""
-    return parted(subprocess.run([program, "make", "1000", "script"], stdout=subprocess.PIPE, check=True, text=True).stdout)
-
-
-def measured(program, words, text, status):
-    """The seconds of a run and its peak memory in bytes."""
-    with tempfile.TemporaryFile() as given:
-        given.write(text.encode())
-        given.seek(0)
-        begin = time.monotonic()
-        run = subprocess.Popen([program, *words], stdin=given, stdout=subprocess.DEVNULL, stderr=subprocess.DEVNULL)
-        _, code, usage = os.wait4(run.pid, 0)
-        seconds = time.monotonic() - begin
-    if os.waitstatus_to_exitcode(code) != status:
-        raise ValueError(f"status {os.waitstatus_to_exitcode(code)} in place of {status}")
-    return seconds, usage.ru_maxrss * 1024
+    """The script of 1,000 rounds."""
+    return Draft.of(Script(program_at(program).outputs([("make 1000 script", "")])[0]))
 
 
 def processor_time(program, text):
     """The median processor time of replays, in seconds."""
-    times = []
-    for _ in range(RUNS):
-        with tempfile.TemporaryFile() as given:
-            given.write(text.encode())
-            given.seek(0)
-            run = subprocess.Popen([program, "replay"], stdin=given, stdout=subprocess.DEVNULL, stderr=subprocess.DEVNULL)
-            _, code, usage = os.wait4(run.pid, 0)
-        if os.waitstatus_to_exitcode(code) != 0:
-            raise ValueError(f"status {os.waitstatus_to_exitcode(code)}")
-        times.append(usage.ru_utime + usage.ru_stime)
-    return statistics.median(times)
+    return statistics.median(measuring.cost(program, ["replay"], text).processor for _ in range(RUNS))
 
 
-def beside_counting(program):
+def beside_counting(program, progress):
     """Work lines beside more and more counting events, with the time of a start taken off."""
     start = processor_time(program, "perf 1\nmachine cpus=1 counters=1\nend\n")
     first = None
     for events in (1, 16, 64, 200):
-        spent = processor_time(program, whole_text(*counting(events))) - start
+        spent = processor_time(program, counting(events).text()) - start
+        progress.step()
         first = spent if first is None else first
-        print(f"{WORK_LINES} work lines beside {events} counting events: {1000 * spent:.1f} ms of processor time, {spent / first:.2f} times that beside 1; median of {RUNS}")
+        times = f"{1000 * spent:.1f} ms of processor time, {spent / first:.2f} times that beside 1; median of {RUNS}"
+        print(f"{WORK_LINES} work lines beside {events} counting events: {times}")
 
 
-def best(program, words, text, status):
-    runs = [measured(program, words, text, status) for _ in range(RUNS)]
-    return min(seconds for seconds, _ in runs), max(peak for _, peak in runs)
+def best(program, words, text="", status=0, note=""):
+    """The fewest seconds and the greatest peak of memory in MiB."""
+    runs = [measuring.cost(program, words, text, status, note) for _ in range(RUNS)]
+    return min(run.seconds for run in runs), max(run.peak for run in runs) / 2**20
 
 
-def whole_text(text, order):
-    return text + in_lines(order) + "end\n"
+def beside_reading(program, name, draft):
+    """A whole replay beside reading the same text, whose order is then one act short."""
+    whole, peak = best(program, ["replay"], draft.text())
+    short = Draft(draft.head, draft.lines, draft.readers, draft.order[:-1]).text()
+    read, _ = best(program, ["replay"], short, 1, f"perf_run: line {len(short.splitlines())}: ORDER")
+    times = f"reading {1000 * read:.1f} ms, replay {1000 * whole:.1f} ms, {whole / read:.1f} times"
+    print(f"{name}: {len(draft.order)} acts; {times}; {peak:.1f} MiB; the best of {RUNS}")
 
 
 def main(program):
@@ -174,18 +142,19 @@ def main(program):
         ("16,000 records", sampling()),
         ("the script of 1,000 rounds", made(program)),
     )
-    for name, (text, order) in table:
-        read, _ = best(program, ["replay"], whole_text(text, order[:-1]), 1)
-        whole, peak = best(program, ["replay"], whole_text(text, order), 0)
-        print(f"{name}: {len(order)} acts; reading {1000 * read:.1f} ms, replay {1000 * whole:.1f} ms, {whole / read:.1f} times; {peak / 2**20:.1f} MiB; the best of {RUNS}")
-    run, peak = best(program, ["run"], whole_text(*made(program)), 0)
-    print(f"the script of 1,000 rounds, run by threads: {1000 * run:.1f} ms; {peak / 2**20:.1f} MiB; the best of {RUNS}")
-    summary, peak = best(program, ["make", "1000"], "", 0)
-    print(f"make 1000: {1000 * summary:.1f} ms; {peak / 2**20:.1f} MiB; the best of {RUNS}")
-    beside_counting(program)
+    with Progress("measurements", len(table) + 6) as progress:
+        for name, draft in table:
+            beside_reading(program, name, draft)
+            progress.step()
+        for name, words, text in (
+            ("the script of 1,000 rounds, run by threads", ["run"], table[-1][1].text()),
+            ("make 1000", ["make", "1000"], ""),
+        ):
+            seconds, peak = best(program, words, text)
+            print(f"{name}: {1000 * seconds:.1f} ms; {peak:.1f} MiB; the best of {RUNS}")
+            progress.step()
+        beside_counting(program, progress)
 
 
 if __name__ == "__main__":
-    if len(sys.argv) != 2:
-        sys.exit(__doc__)
-    main(sys.argv[1])
+    sys.exit(command.called(__doc__, main, 1, 1))

@@ -8,57 +8,54 @@ is put in place of the script's own, and that text is given to `replay`. Both re
 but for the counters that `seats` names, where each choice that serves the same events is right. A text that `run` refuses has to be
 refused by `replay` with the same note, unless `replay` refuses it for its order. Ends with 1 where one differs.
 """
+
+import os
 import re
-import subprocess
 import sys
 
+sys.path.insert(0, os.path.join(os.path.dirname(os.path.abspath(__file__)), ".."))
 
-def call(program, word, text):
-    done = subprocess.run([program, word], input=text, capture_output=True, timeout=300)
-    return done.returncode, done.stdout, done.stderr
+from perfscript import command, lines_of, program_at  # noqa: E402  the package is found only now
+from perfscript.progress import Progress  # noqa: E402
 
 
 def with_order(text, order):
     """The script with this order line in place of its own order lines."""
-    lines = [line for line in text.split(b"\n") if line.split(b" ")[0] != b"order"]
-    place = max(i for i, line in enumerate(lines) if line == b"end")
-    return b"\n".join(lines[:place] + ([order] if order != b"order" else []) + lines[place:])
+    lines = [line.text for line in lines_of(text) if line.head != "order"]
+    place = max(number for number, line in enumerate(lines) if line == "end")
+    return "\n".join(lines[:place] + ([order] if order != "order" else []) + lines[place:]) + "\n"
 
 
 def without_counters(report):
     """The report with the counters left out that its `seats` lines name."""
-    return re.sub(rb"(?m)^(\S+ seats)(.*)$", lambda m: m[1] + re.sub(rb"=\d+", b"", m[2]), report)
+    return re.sub(r"(?m)^(\S+ seats)(.*)$", lambda seats: seats[1] + re.sub(r"=\d+", "", seats[2]), report)
 
 
 def differs(program, text):
     """Says how a run and its replay differ, or None."""
-    status, report, note = call(program, "run", text)
-    if status != 0:
-        again = call(program, "replay", text)
-        same = (status, report, note) == again or again[2].endswith(b": ORDER\n")
-        return None if same else f"run ended with {status} {note!r}, replay with {again[0]} {again[2]!r}"
-    order = report.split(b"\n")[0]
-    again = call(program, "replay", with_order(text, order))
-    if again[0] != 0:
-        return f"replay of the run's order ended with {again[0]} {again[2]!r}"
-    if without_counters(report) != without_counters(again[1]):
-        return "the reports differ"
-    return None
+    run = program.call("run", text)
+    if run.status != 0:
+        again = program.call("replay", text)
+        same = run == again or again.note.endswith(": ORDER")
+        return None if same else f"run ended with {run.status} {run.note!r}, replay with {again.status} {again.note!r}"
+    again = program.call("replay", with_order(text, run.out.split("\n")[0]))
+    if again.status != 0:
+        return f"replay of the run's order ended with {again.status} {again.note!r}"
+    return None if without_counters(run.out) == without_counters(again.out) else "the reports differ"
 
 
-def main(program, paths):
-    failures = 0
-    for path in paths:
-        with open(path, "rb") as file:
-            how = differs(program, file.read())
-        if how:
-            failures += 1
-            print(f"{path}: {how}")
-    print(f"{len(paths)} scripts, {failures} failures")
+def main(path, *scripts):
+    program, texts, failures = program_at(path), [command.text_of(script) for script in scripts], 0
+    with Progress("scripts", len(scripts)) as progress:
+        for script, text in zip(scripts, texts):
+            how = differs(program, text)
+            if how:
+                failures += 1
+                print(f"{script}: {how}")
+            progress.step()
+    print(f"{len(scripts)} scripts, {failures} failures")
     return 1 if failures else 0
 
 
 if __name__ == "__main__":
-    if len(sys.argv) < 3:
-        sys.exit(__doc__)
-    sys.exit(main(sys.argv[1], sys.argv[2:]))
+    sys.exit(command.called(__doc__, main, 2))

@@ -27,7 +27,7 @@ import sys
 
 sys.path.insert(0, os.path.join(os.path.dirname(os.path.abspath(__file__)), ".."))
 
-from perfscript import Look, Report, Script  # noqa: E402  the package is found only now
+from perfscript import Fault, Look, Report, Script, command  # noqa: E402  the package is found only now
 from perfscript.attributes import Attribute  # noqa: E402
 from perfscript.limits import MOST_CPUS, MOST_TOOLS  # noqa: E402
 from perfscript.names import FLAGS, SOFTWARE_KINDS  # noqa: E402
@@ -135,7 +135,7 @@ def open_line(case, line):
     return f"tool_line.Open (slot {line.words[0]}) ({attr}) {leader}"
 
 
-def command(name):
+def slot_command(name):
     return lambda case, line: f"tool_line.{name} (slot {line.words[0]}) {'true' if line.is_group else 'false'}"
 
 
@@ -156,9 +156,9 @@ LINES = {
     "fork": lambda case, line: f"cpu_line.Fork (task {line.words[0]})",
     "exit": lambda case, line: "cpu_line.Exit",
     "open": open_line,
-    "enable": command("Enable"),
-    "disable": command("Disable"),
-    "reset": command("Reset"),
+    "enable": slot_command("Enable"),
+    "disable": slot_command("Disable"),
+    "reset": slot_command("Reset"),
     "period": slot_line("Period"),
     "read": read_line,
     "map": slot_line("Map", " (ring {})"),
@@ -191,7 +191,7 @@ def reply(head, words):
     if head == "seats":
         pairs = [f"(slot {event}, {counter})" for event, counter in (word.split("=") for word in words)]
         return (f"reply.Seats {bracketed(pairs)}", "(refl, refl)")
-    raise ValueError(f"{head} {words}")
+    raise Fault(f"{head} {words}")
 
 
 def why(words):
@@ -438,7 +438,7 @@ def note_of(name):
     for line in read(os.path.join(DATA, "cases")).splitlines():
         if line.startswith(f"refused {name} "):
             return line.split(" ", 2)[2] + "\n"
-    raise ValueError(f"{name}: no note")
+    raise Fault(f"{name}: no note")
 
 
 def listed():
@@ -474,13 +474,11 @@ def write_folder(out, files, terms_of, modules):
         file.write("".join(f"{'pub ' if name in BY_HAND else ''}mod {name}\n" for name in names))
 
 
-def main(arguments):
-    if arguments:
-        sys.exit(__doc__)
+def main():
     files = listed()
     write_folder(os.path.join(PROOFS, "answers"), files["answers"], answers_terms, IMPORTS + ANSWERS_IMPORTS)
     write_folder(os.path.join(PROOFS, "reports"), files["reports"], whole_terms, IMPORTS + WHOLE_IMPORTS)
 
 
 if __name__ == "__main__":
-    main(sys.argv[1:])
+    sys.exit(command.called(__doc__, main, 0, 0))

@@ -12,43 +12,29 @@ Usage: seated_reports.py PROGRAM FROM TO
 
 import os
 import shutil
-import subprocess
 import sys
 
-
-def without_counters(report):
-    """The report with the events alone in lines of `seats`."""
-    lines = []
-    for line in report.split("\n"):
-        words = line.split(" ")
-        if words[1:2] == ["seats"]:
-            words[2:] = [word.split("=")[0] for word in words[2:]]
-        lines.append(" ".join(words))
-    return "\n".join(lines)
+from run_then_replay import without_counters
+from perfscript import Fault, command, program_at
 
 
-def main(program, source, target):
+def main(path, source, target):
+    program, others = program_at(path), 0
     os.makedirs(target, exist_ok=True)
-    others = 0
     for name in sorted(os.listdir(source)):
         path = os.path.join(source, name)
         if not name.endswith(".report"):
             shutil.copy(path, target)
             continue
-        with open(path) as file:
-            wanted = file.read()
-        with open(path[: -len("report")] + "script", "rb") as script:
-            run = subprocess.run([program, "replay"], stdin=script, capture_output=True)
-        told = run.stdout.decode()
-        if run.returncode != 0 or without_counters(told) != without_counters(wanted):
-            sys.exit(f"{path}: status {run.returncode}, and another report")
-        others += told != wanted
+        wanted = command.text_of(path)
+        found = program.call("replay", command.text_of(path[: -len("report")] + "script"))
+        if found.status != 0 or without_counters(found.out) != without_counters(wanted):
+            raise Fault(f"{path}: status {found.status}, and another report")
+        others += found.out != wanted
         with open(os.path.join(target, name), "w") as file:
-            file.write(told)
+            file.write(found.out)
     print(f"{source}: {others} reports with other counters")
 
 
 if __name__ == "__main__":
-    if len(sys.argv) != 4:
-        sys.exit(__doc__)
-    main(*sys.argv[1:])
+    sys.exit(command.called(__doc__, main, 3, 3))

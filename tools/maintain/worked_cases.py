@@ -21,6 +21,10 @@ import re
 import shutil
 import sys
 
+sys.path.insert(0, os.path.join(os.path.dirname(os.path.abspath(__file__)), ".."))
+
+from perfscript import Fault, command  # noqa: E402  the package is found only now
+
 CRATE = os.path.join(os.path.dirname(os.path.abspath(__file__)), "..", "..", "crates", "worked_cases")
 DATA = os.path.join(CRATE, "data")
 LIST = os.path.join(DATA, "cases")
@@ -80,7 +84,7 @@ def copy(source, name):
 def note_of(text):
     """The one line of a note."""
     if not re.fullmatch(r"[^\n]+\n", text):
-        raise ValueError(f"no note of one line: {text!r}")
+        raise Fault(f"no note of one line: {text!r}")
     return text[:-1]
 
 
@@ -96,7 +100,7 @@ def name_of_text(text, name):
 def case_of_table(folder, name, status):
     """The case of the word `stat`. Its table stands beside the script, which another case may have too."""
     if status != "0" or read(os.path.join(folder, "stderr")):
-        raise ValueError(f"{folder}: status {status}")
+        raise Fault(f"{folder}: status {status}")
     name = name_of_text(read(os.path.join(folder, "stdin")), name)
     copy(os.path.join(folder, "stdin"), name + ".script")
     copy(os.path.join(folder, "stdout"), name + ".table")
@@ -110,7 +114,7 @@ def case_of_words(folder, name, status):
         copy(os.path.join(folder, "stdout"), name + ".report")
         return ["words", name, ""]
     if status != "5" or read(os.path.join(folder, "stdout")) or note_of(read(os.path.join(folder, "stderr"))) != USAGE:
-        raise ValueError(f"{folder}: status {status}")
+        raise Fault(f"{folder}: status {status}")
     return ["usage", name, ""]
 
 
@@ -127,7 +131,7 @@ def case_of_call(group, folder):
         copy(os.path.join(folder, "stdout"), name + ".report")
         return ["done", name, ""]
     if status != "1" or read(os.path.join(folder, "stdout")):
-        raise ValueError(f"{folder}: status {status}")
+        raise Fault(f"{folder}: status {status}")
     return ["refused", name, note_of(read(os.path.join(folder, "stderr")))]
 
 
@@ -185,7 +189,7 @@ def copies(all_cases):
     return found
 
 
-def main(words):
+def main(*words):
     os.makedirs(DATA, exist_ok=True)
     all_cases = cases()
     if words[:1] == ["call"] and len(words) > 2:
@@ -193,13 +197,14 @@ def main(words):
     elif words[:1] == ["folder"] and len(words) == 3:
         all_cases = replaced(all_cases, cases_of_folder(words[1], words[2]), words[1])
     elif words:
-        sys.exit(__doc__)
+        raise Fault(f"{' '.join(words)}: not known; worked_cases.py --help has the words")
     write_list(all_cases)
     write_stdout(all_cases)
     faults = [f"no case: {name}" for name in strays(all_cases)] + copies(all_cases)
     if faults:
-        sys.exit("\n".join(faults))
+        print("\n".join(faults), file=sys.stderr)
+    return 1 if faults else 0
 
 
 if __name__ == "__main__":
-    main(sys.argv[1:])
+    sys.exit(command.called(__doc__, main))

@@ -42,9 +42,22 @@ def ended(command: str, main: Callable[[], int]) -> int:
         os.dup2(os.open(os.devnull, os.O_WRONLY), 1)
     except OSError as fault:
         print(f"{command}: {fault.filename or 'a call of the system'}: {fault.strerror}", file=sys.stderr)
+    except UnicodeError as fault:
+        print(f"{command}: a file is not a text: {fault}", file=sys.stderr)
     except KeyboardInterrupt:
         return INTERRUPTED
     return BAD_INPUT
+
+
+def called(doc: str, main: Callable[..., int | None], least: int = 0, most: int | None = None) -> int:
+    """The status of a tool that has words alone on its command line, `least` to `most` of them, which `main` takes."""
+    name, words = os.path.basename(sys.argv[0]), sys.argv[1:]
+    if words[:1] == ["--help"]:
+        return ended(name, lambda: print(doc) or 0)
+    if len(words) < least or most is not None and len(words) > most:
+        print(f"{name}: {len(words)} words do not do; {name} --help has the usage", file=sys.stderr)
+        return BAD_INPUT
+    return ended(name, lambda: main(*words) or 0)
 
 
 def text_of(path: str) -> str:

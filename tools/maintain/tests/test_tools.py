@@ -10,8 +10,13 @@ TOOLS = os.path.join(os.path.dirname(os.path.abspath(__file__)), "..")
 sys.path.insert(0, TOOLS)
 
 import definition_lines
+import measuring
 import missing_answers
-import seated_reports
+import replay_benchmark
+import run_then_replay
+import script_terms
+from perfscript import Fault, Script
+from perfscript.limits import MOST_LINES
 
 
 class DefinitionLines(unittest.TestCase):
@@ -41,9 +46,53 @@ class DefinitionLines(unittest.TestCase):
         self.assertEqual((run.returncode, run.stderr), (0, ""))
 
 
-class Seats(unittest.TestCase):
-    def test_other_lines_stay(self):
-        self.assertEqual(seated_reports.without_counters("t0.0 read 5\nt0.1 seats 3=1\n"), "t0.0 read 5\nt0.1 seats 3\n")
+class Runs(unittest.TestCase):
+    def test_an_order_takes_the_place_of_the_old_one(self):
+        text = "perf 1\norder p0\norder p0\nend\n"
+        self.assertEqual(run_then_replay.with_order(text, "order t0"), "perf 1\norder t0\nend\n")
+
+    def test_counters_alone_are_left_out(self):
+        self.assertEqual(run_then_replay.without_counters("t0.1 seats 0=1 2=0\nend\n"), "t0.1 seats 0 2\nend\n")
+        self.assertEqual(run_then_replay.without_counters("t0.0 read 5=1\nt0.1 seats 3=1\n"), "t0.0 read 5=1\nt0.1 seats 3\n")
+
+
+class Terms(unittest.TestCase):
+    def test_the_theorems_that_stand_are_those_that_are_written(self):
+        modules = script_terms.IMPORTS + script_terms.ANSWERS_IMPORTS, script_terms.IMPORTS + script_terms.WHOLE_IMPORTS
+        files = script_terms.listed()
+        for folder, terms, imports in (
+            ("answers", script_terms.answers_terms, modules[0]), ("reports", script_terms.whole_terms, modules[1])
+        ):
+            there = os.path.join(script_terms.PROOFS, folder)
+            with tempfile.TemporaryDirectory() as out:
+                for file, cases in files[folder].items():
+                    script_terms.write_files(out, file, cases, terms, imports)
+                wanted = {file for file in os.listdir(there) if script_terms.is_written(os.path.join(there, file))}
+                self.assertEqual(wanted, set(os.listdir(out)))
+                self.assertGreater(len(wanted), 1)
+                for file in wanted:
+                    self.assertEqual(script_terms_text(there, file), script_terms_text(out, file), file)
+
+
+def script_terms_text(folder, file):
+    with open(os.path.join(folder, file), encoding="utf-8") as text:
+        return text.read()
+
+
+class Benchmarks(unittest.TestCase):
+    def test_what_is_measured_is_scripts_whose_orders_are_whole(self):
+        drafts = [replay_benchmark.small(), replay_benchmark.large(), replay_benchmark.copies(2)]
+        drafts += [replay_benchmark.sampling(), replay_benchmark.counting(5)]
+        for draft in [*drafts, replay_benchmark.stored("tasks-and-copies/copies-full")]:
+            script = Script(draft.text())
+            done = sum(act[0] != "s" for act in script.order)
+            self.assertEqual(len(script.all_lines()), done)
+            self.assertLessEqual(done, MOST_LINES)
+
+    def test_a_run_that_ends_otherwise_is_a_fault(self):
+        with self.assertRaisesRegex(Fault, "/bin/false replay ended with status 1, no note; wanted: status 0, no note"):
+            measuring.cost("/bin/false", ["replay"])
+        self.assertGreater(measuring.cost("/bin/false", [], status=1).peak, 0)
 
 
 class Answers(unittest.TestCase):

@@ -1,0 +1,39 @@
+"""What a run of the program costs."""
+
+import os
+import subprocess
+import sys
+import tempfile
+import time
+from typing import NamedTuple
+
+sys.path.insert(0, os.path.join(os.path.dirname(os.path.abspath(__file__)), ".."))
+
+from perfscript import Fault  # noqa: E402  the package is found only now
+
+
+class Cost(NamedTuple):
+    """The seconds that a run took, its processor time in seconds, its page faults, and its peak memory in bytes."""
+
+    seconds: float
+    processor: float
+    faults: int
+    peak: int
+
+
+def cost(program, words, text="", status=0, note=""):
+    """What a run costs, which has to end with this status and this note."""
+    with tempfile.TemporaryFile() as given, tempfile.TemporaryFile() as noted:
+        given.write(text.encode())
+        given.seek(0)
+        begin = time.monotonic()
+        run = subprocess.Popen([program, *words], stdin=given, stdout=subprocess.DEVNULL, stderr=noted)
+        _, code, usage = os.wait4(run.pid, 0)
+        seconds = time.monotonic() - begin
+        run.returncode = os.waitstatus_to_exitcode(code)
+        noted.seek(0)
+        said = noted.read().decode(errors="replace").strip()
+    if (run.returncode, said) != (status, note):
+        wanted = f"status {status}, {note or 'no note'}"
+        raise Fault(f"{program} {' '.join(words)} ended with status {run.returncode}, {said or 'no note'}; wanted: {wanted}")
+    return Cost(seconds, usage.ru_utime + usage.ru_stime, usage.ru_minflt + usage.ru_majflt, usage.ru_maxrss * 1024)
