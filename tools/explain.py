@@ -1,0 +1,373 @@
+#!/usr/bin/env python3
+"""Says why the program refuses a script, which word is at fault, and what to write.
+
+Usage: explain.py [--program PATH] [SCRIPT]
+
+SCRIPT is the file; without it, or with `-`, the text is read from standard input. The program is asked to replay it.
+Where it refuses the text, its note is printed as it is, and below it the line with a mark below the word, the reason
+and what to do, and the form that the line could have had. The verdict is the program's alone: where this tool can't see
+why, it says so. Ends with 0 where the script is done, with 1 where it is refused, and with 2 where the file or the
+program is at fault.
+"""
+
+import re
+import sys
+
+from perfscript import Draft, Fault, Line, Look, Script, command, lines_of, program_at
+from perfscript import forms
+from perfscript.attributes import Attribute
+from perfscript.forms import HEADS, SECTIONS, Wrong, forms_of, misspelled, near, parted, section_of
+from perfscript.limits import MOST_KINDS, MOST_LINES, MOST_WEIGHT
+from perfscript.names import SOFTWARE_KINDS
+
+NOTE = re.compile(r"perf_run: line (\d+): ([A-Z]+)")
+LOOK = re.compile(r"perf_run: act (\d+): ring (\d+) last (\d+) head (\d+) given (\d+)")
+UNKNOWN = "this tool can't see why; docs/SCRIPT.md says what the reason {} is"
+SHOWN = 100
+BYTES = {9: "a tab", 13: "a carriage return", 0: "a byte 0"}
+ATTR_FAULTS = {
+    "ESHORT": ("there are fewer bytes than its size says, or fewer than 8", "give as many bytes as bytes 4 to 7 say"),
+    "E2BIG": ("its size is 1 to 63 or above 4096, or a byte behind the 64th is not 0", "write 40000000, which is 64, as bytes 4 to 7"),
+    "ECLASS": ("its type, bytes 0 to 3, is not 0, 1 or 4", "write type 0 or 4 for a declared kind, 1 for a software kind"),
+    "EFLAGBITS": ("a flag bit is set that no event here has", "set only flags that docs/REPORT.md names below EFLAGBITS"),
+    "EFIELD": ("bp_type or config1 is not 0", "write 0 for both, bytes 52 to 63"),
+}
+
+
+class Case:
+    """A refused text: its lines, the faulty one, what stands before it, and the version."""
+
+    def __init__(self, program, text, place):
+        self.program, self.text = program, text
+        self.lines = lines_of(text)
+        self.before, self.line = self.lines[: place - 1], self.lines[place - 1] if place <= len(self.lines) and place else None
+        self.version = self.lines[0].words[0] if self.lines and self.lines[0].text in ("perf 1", "perf 2") else "1"
+        self.words = self.line.text.split(" ") if self.line else []
+        self.form = self.best_form()
+
+    def best_form(self):
+        """The form whose words the line has the furthest; None where its first word is of no line."""
+        found = forms_of(self.words[0], self.version) if self.words else []
+        return max(found, key=lambda form: len(parted(self.words, form)[0]), default=None)
+
+    @property
+    def parts(self):
+        return parted(self.words, self.form)[0] if self.form else []
+
+    def script(self):
+        """What stands before the faulty line, without its order."""
+        return Script("".join(line.text + "\n" for line in self.before if line.head != "order"))
+
+    def numbers(self, head):
+        return [int(line.words[0]) for line in self.before if line.head == head]
+
+
+def of_end(case):
+    rows = case.text.split("\n")
+    if case.line is not None and any(line.head == "end" for line in case.before):
+        ended = next(line.place for line in case.before if line.head == "end")
+        return Wrong(1, f"the line stands behind `end`, which is line {ended}", f"take it away, or move `end` behind it")
+    if rows[-1] != "" and case.line is not None and case.line.place == len(case.lines):
+        return Wrong(len(case.words), "the line is not ended by a line feed", "end the text with one")
+    return Wrong(0, "the text ends without `end`", "write a line `end` behind its last line")
+
+
+def of_ascii(case):
+    for place, word in enumerate(case.words, 1):
+        for at, letter in enumerate(word, 1):
+            if not 32 <= ord(letter) <= 126:
+                named = BYTES.get(ord(letter), f"the byte {ord(letter):#04x}")
+                mending = "end lines with line feeds alone" if ord(letter) == 13 else "write letters, digits and signs of ASCII, and spaces"
+                return Wrong(place, f"byte {at} of the word is {named}, which no script has", mending)
+    return None
+
+
+def of_form(case):
+    head = case.words[0] if case.words else ""
+    if "" in case.words:
+        place = case.words.index("") + 1
+        where = "the line is empty" if case.words == [""] else "a space too many stands in the line"
+        return Wrong(place, where, "write one space between two words, and no other")
+    if not case.form:
+        if head in HEADS:
+            other = "2" if case.version == "1" else "1"
+            return Wrong(1, f"`{head}` is a line of `perf {other}`, and line 1 is `perf {case.version}`", "take it away, or change line 1")
+        return Wrong(1, f"`{head[:40]}` is the first word of no line", near(head, HEADS))
+    if head == "perf" and case.line.place > 1:
+        return Wrong(1, f"`perf` is line {case.line.place}, and stands in line 1 alone", "take it away")
+    found, wrong = parted(case.words, case.form)
+    for place, part, value in found:
+        fault = misspelled(part, value)
+        if fault:
+            return Wrong(place, f"`{case.words[place - 1][:60]}`: {fault[0]}", fault[1])
+    return wrong
+
+
+def of_place(case):
+    head, section, before = case.words[0], section_of(case.words[0]), case.before
+    if len(before) < 2:
+        wanted = forms_of(SECTIONS[len(before)], case.version)[0].text
+        return Wrong(1, f"`{head}` is line {len(before) + 1}, which has to be `{wanted}`", f"write `{wanted}` there")
+    later = next((line for line in before if section_of(line.head) > section), None)
+    if later:
+        order = ", ".join(SECTIONS)
+        return Wrong(1, f"`{head}` stands behind `{later.text[:40]}`, line {later.place}", f"move it before that line; the order is {order}")
+    if section < 2:
+        return Wrong(1, f"`{head}` stands there a second time; it is line {section + 1} alone", "take it away")
+    script = case.script()
+    free = [cpu for cpu in range(script.cpus) if not script.counters_of(cpu)]
+    if free and head != "pmu":
+        return Wrong(1, f"processor {free[0]} is in the mask of no `pmu` line", f"write a `pmu` line with it before `{head}`")
+    header = SECTIONS[section]
+    return Wrong(1, f"`{head}` stands under no `{header}` line", f"write `{header} N` before it")
+
+
+def of_range(case):
+    script = case.script()
+    for place, part, value in case.parts:
+        low, high = part.value.low, part.value.high
+        if part.name == "ACTS":
+            found = act_out_of_range(place, value)
+            if found:
+                return found
+            continue
+        if part.key == "ip" and not forms.HEXADECIMAL.fullmatch(value):
+            return Wrong(place, f"`{case.words[place - 1]}` has more than 16 digits", "write an address of at most 16")
+        if part.value.spelled is not forms.NUMBER or value in part.value.words:
+            continue
+        if part.name in ("CPU", "ANY|CPU"):
+            high = script.cpus - 1
+        if not low <= int(value) <= high:
+            what = part.key or {"AMOUNT": "a length", "HITS": "how often a kind occurred"}.get(part.name)
+            what = what or f"`{case.words[0]} {part.shown}`"
+            return Wrong(place, f"`{case.words[place - 1]}` is out of range", f"{what} is {low} to {high}")
+    return RANGES[case.line.head](case, script) if case.line.head in RANGES else None
+
+
+def act_out_of_range(place, act):
+    """What is out of range in an act."""
+    number, _, at = act[1:].partition("=")
+    what, most = {"p": ("a processor", 7), "t": ("a tool", 3), "s": ("a ring", 15)}[act[0]]
+    if int(number) > most:
+        return Wrong(place, f"`{act}` names {what} out of range", f"{what} is 0 to {most}")
+    if at and int(at) > forms.WIDE:
+        return Wrong(place, f"`{act}` has a place above 64 bits", "write the place in bytes, from the start of the stream")
+    return None
+
+
+def pmu_out_of_range(case, script):
+    number, mask = int(case.words[1]), int(case.line.given()["cpus"], 16)
+    if number != len(script.pmus):
+        return Wrong(2, f"`{number}` is not the next number", f"PMUs are numbered from 0: write {len(script.pmus)}")
+    if not mask or mask >> script.cpus:
+        return Wrong(4, f"`cpus={mask:x}` is not a mask of processors 0 to {script.cpus - 1}", f"write 1 to {(1 << script.cpus) - 1:x}")
+    other = next((number for number, pmu in script.pmus.items() if pmu.cpus & mask), None)
+    return Wrong(4, f"`cpus={mask:x}` has a processor of PMU {other}", "name each processor in one `pmu` line") if other is not None else None
+
+
+def kind_out_of_range(case, script):
+    given = case.line.given()
+    pmu, mask = int(given.get("pmu", "0")), int(given["mask"], 16)
+    if pmu not in script.pmus:
+        return Wrong(3, f"`pmu={pmu}` is not declared", near(str(pmu), map(str, script.pmus)))
+    most = (1 << script.pmus[pmu].counters) - 1
+    if not 1 <= mask <= most:
+        return Wrong(len(case.words), f"`mask={mask:x}` is not a mask of counters 0 to {script.pmus[pmu].counters - 1}", f"write 1 to {most:x}")
+    return None
+
+
+def not_rising(case, script):
+    number, before = int(case.words[1]), case.numbers(case.line.head)
+    if before and number <= before[-1]:
+        return Wrong(2, f"`{number}` stands behind {before[-1]}", f"numbers of `{case.line.head}` lines rise: write {before[-1] + 1} or more, or move the line")
+    size = int(case.line.given().get("bytes", "64"))
+    return Wrong(3, f"`bytes={size}` is not a power of two", f"write {1 << size.bit_length() - 1} or {1 << size.bit_length()}") if size & size - 1 else None
+
+
+RANGES = {"pmu": pmu_out_of_range, "kind": kind_out_of_range}
+RANGES |= dict.fromkeys(("task", "ring", "processor", "tool", "reader"), not_rising)
+
+
+def of_attr(case):
+    place = next(number for number, word in enumerate(case.words, 1) if word.startswith("attr="))
+    said = case.program.outputs([("attr " + case.words[place - 1][5:], "")])[0].split()
+    reason, mending = ATTR_FAULTS.get(said[1], (None, None)) if len(said) > 1 else (None, None)
+    return Wrong(place, f"the bytes are no attribute, {said[1]}: {reason}", mending) if reason else None
+
+
+def of_name(case):
+    script, head = case.script(), case.line.head
+    if head == "kind":
+        name = case.words[1]
+        if name in script.kinds:
+            place = next(line.place for line in case.before if line.head == "kind" and line.words[0] == name)
+            return Wrong(2, f"`{name}` is declared before, in line {place}", "give it another name")
+        return Wrong(2, f"`{name}` is reserved: no declared kind may be called so", "give it another name")
+    if head in ("map", "reader"):
+        place = 3 if head == "map" else 2
+        known = near(case.words[place - 1], map(str, script.rings))
+        return Wrong(place, f"ring {case.words[place - 1]} is not declared", f"declare it by a `ring` line, or name another; {known}")
+    return {"open": open_of_no_kind, "work": work_of_no_kind, "order": act_of_nobody}[head](case, script)
+
+
+def open_of_no_kind(case, script):
+    given = case.line.given()
+    if "kind" in given:
+        known = near(given["kind"], [*script.kinds, *SOFTWARE_KINDS])
+        return Wrong(3, f"`{given['kind']}` is not a declared kind and not a software kind", f"declare it by a `kind` line, or name another; {known}")
+    try:
+        Attribute(case.line, script.kinds)
+        return None
+    except (KeyError, IndexError):
+        return Wrong(3, f"type and config of the bytes name no kind of {len(script.kinds)} declared ones", "config, bytes 8 to 15, is a declared kind's number from 0; with type 1 it is 1, 3, 4 or 9")
+
+
+def work_of_no_kind(case, script):
+    seen = set()
+    for place, part, _ in case.parts:
+        key = case.words[place - 1].split("=")[0]
+        if part.name != "HITS":
+            continue
+        if key == "ip":
+            return Wrong(place, "`ip` stands behind a kind or twice, so it is taken for a kind, whose name it can't be", "write it once, before the kinds")
+        if key not in script.kinds:
+            return Wrong(place, f"`{key}` is not a declared kind", f"declare it by a `kind` line, or name another; {near(key, script.kinds)}")
+        if key in seen:
+            return Wrong(place, f"`{key}` stands twice in the line", "write each kind once, with all its occurrences")
+        seen.add(key)
+    return None
+
+
+def act_of_nobody(case, script):
+    for place, _, act in case.parts:
+        ring = act[1:].partition("=")[0]
+        if act[0] == "s" and int(ring) not in script.rings:
+            return Wrong(place, f"`{act}` names ring {ring}, which is not declared", f"declare it, or name another; {near(ring, map(str, script.rings))}")
+        if act[0] != "s" and not script.lines.get(act):
+            known = near(act, [actor for actor, lines in script.lines.items() if lines])
+            return Wrong(place, f"`{act}` names {actor_of(act)}, which has no lines", f"give it lines, or name another; {known}")
+    return None
+
+
+def actor_of(act):
+    return f"{'processor' if act[0] == 'p' else 'tool'} {act[1:]}"
+
+
+def counted(count, one, more=None):
+    return f"{count} {one if count == 1 else more or one + 's'}"
+
+
+def of_limit(case):
+    if case.line.head == "kind":
+        return Wrong(1, f"it is kind number {MOST_KINDS + 1}", f"declare at most {MOST_KINDS} kinds")
+    return Wrong(1, f"it is line number {MOST_LINES + 1} under processors and tools", f"write at most {MOST_LINES} such lines")
+
+
+def of_weight(case):
+    script = case.script()
+    opens = [Attribute(line, script.kinds).period for line in script.all_lines() if line.head == "open"]
+    periods = [*opens, *(int(line.words[1]) for line in script.all_lines() if line.head == "period")]
+    sampling, least = sum(period > 0 for period in opens), min((period for period in periods if period), default=0)
+    hits = [int(value) for line in script.all_lines() if line.head == "work"
+            for key, value in line.given().items() if key != "ip"]
+    weight = sampling * sum(-(-count // least) for count in hits) if least else 0
+    if weight <= MOST_WEIGHT:
+        return None
+    reason = f"it weighs {weight}: {counted(sampling, 'sampling open')} and {counted(sum(hits), 'occurrence')}, by {least}, the least period that a line gives"
+    return Wrong(1, reason, f"the most is {MOST_WEIGHT}: raise the least period, or give fewer occurrences")
+
+
+def of_order(case):
+    script, acts = case.script(), [act for line in case.before if line.head == "order" for act in line.words]
+    wrong = []
+    for actor, lines in script.lines.items():
+        count = acts.count(actor)
+        if count != len(lines):
+            where = f"lines {lines[0].place} to {lines[-1].place} of the text" if len(lines) > 1 else f"line {lines[0].place} of the text"
+            more = f"{len(lines) - count} more" if count < len(lines) else f"{count - len(lines)} fewer"
+            has, acts_there = counted(len(lines), "line"), counted(count, f"act `{actor}`", f"acts `{actor}`")
+            wrong.append(f"{actor_of(actor)} has {has} ({where}) and the order {acts_there}: write {more}")
+    return Wrong(1, "the order is not whole", "; ".join(wrong)) if wrong else None
+
+
+REASONS = {
+    "END": of_end, "ASCII": of_ascii, "FORM": of_form, "PLACE": of_place, "RANGE": of_range, "ATTR": of_attr,
+    "NAME": of_name, "LIMIT": of_limit, "WEIGHT": of_weight, "ORDER": of_order,
+}
+
+
+def marked(line, place):
+    """A line with a mark below a word, of which no more than some 100 characters are shown."""
+    words = line.text.split(" ")
+    at, width = sum(len(word) + 1 for word in words[: place - 1]), max(len(words[place - 1]), 1) if place <= len(words) else 1
+    first = max(0, at - SHOWN // 2)
+    shown = "".join(letter if 32 <= ord(letter) <= 126 else "?" for letter in line.text[first : first + SHOWN])
+    return [f"    {shown}", f"    {' ' * (at - first)}{'^' * min(width, SHOWN // 2)}"]
+
+
+def of_line(case, reason):
+    """What there is to say of a refused line."""
+    wrong = REASONS[reason](case) if reason in REASONS else None
+    if wrong is None:
+        place = case.line.place if case.line else len(case.lines)
+        return [f"line {place}: {UNKNOWN.format(reason)}", *(marked(case.line, 1) if case.line else [])]
+    if case.line is None or wrong.place == 0:
+        return [f"behind line {len(case.lines)}: {wrong.reason}; {wrong.mending}"]
+    said = [f"line {case.line.place}, word {wrong.place}: {wrong.reason}; {wrong.mending}", *marked(case.line, wrong.place)]
+    return said + ([f"the form is: {case.form.text}"] if case.form and reason in ("FORM", "RANGE", "NAME") else [])
+
+
+def of_look(program, script, number, ring, last, given):
+    """What there is to say of a look that can't have been made: the places that the ring's records have there."""
+    draft, acts, done = Draft.of(script), list(script.acts())[:number], {}
+    for act in acts:
+        if isinstance(act, Line):
+            done[act.actor] = act.number + 1
+    draft.lines = {actor: lines[: done[actor]] for actor, lines in draft.lines.items() if actor in done}
+    draft.order = draft.order[:number]
+    ends = [record.end for record in program.report(draft.text()).rings[ring].records]
+    lawful = [place for place in [0, *ends] if place >= last]
+    texts = [str(place) for place in lawful]
+    shown = ", ".join(texts if len(texts) <= 9 else [*texts[:4], "..", *texts[-4:]])
+    why = "stands before the last look at that ring" if given < last else "is not where a record ends that was written by then"
+    place, line = 0, None
+    for line in (line for line in lines_of(script.text) if line.head == "order"):
+        if place + len(line.words) > number:
+            break
+        place += len(line.words)
+    word = number - place + 2
+    return [f"line {line.place}, word {word}: act {number}, `s{ring}={given}`, {why}; write a place of {shown}", *marked(line, word)]
+
+
+def explained(program, name, text):
+    """The lines that say what becomes of a text, and the status."""
+    outcome = program.call("replay", text)
+    if outcome.status == 0:
+        return [f"{name}: the program does this script"], 0
+    line, look = NOTE.fullmatch(outcome.note), LOOK.fullmatch(outcome.note)
+    if line:
+        return [outcome.note, *of_line(Case(program, text, int(line[1])), line[2])], 1
+    if look:
+        number, ring, last, _, given = map(int, look.groups())
+        return [outcome.note, *of_look(program, Script(text), number, ring, last, given)], 1
+    if outcome.status == 1:
+        return [outcome.note, f"{name}: it has {len(text)} bytes; take away what is not needed"], 1
+    raise Fault(f"{program.path} ended with status {outcome.status}: {outcome.note or 'no note'}")
+
+
+def main(words=None):
+    parser = command.Parser("explain.py", __doc__)
+    parser.add_argument("script", metavar="SCRIPT", nargs="?", default="-")
+    options = parser.parse_args(words)
+
+    def explain():
+        text = command.text_of(options.script)
+        said, status = explained(program_at(options.program), options.script, text)
+        print("\n".join(said))
+        return status
+
+    return command.ended("explain.py", explain)
+
+
+if __name__ == "__main__":
+    sys.exit(main())
