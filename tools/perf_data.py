@@ -115,11 +115,12 @@ def warning(events):
 
 def write(options):
     """Writes the file."""
-    script = Script(command.text_of(options.script))
+    text = command.text_of(options.script)
     if options.report is None:
-        report = program_at(options.program).report(script.text)
+        report = program_at(options.program).report(text)
     else:
         report = Report(command.text_of(options.report))
+    script = Script(text)
     report.check(script)
     follow = Follow(script, report).run()
     events = [event for event in follow.originals if event.attribute.period and event.ring is not None]

@@ -277,8 +277,9 @@ def main(words=None):
     options = parser.parse_args(words)
 
     def draw():
-        script = Script(command.text_of(options.script))
-        print(picture_of(program_at(options.program or options.built), script), end="")
+        text, program = command.text_of(options.script), program_at(options.program or options.built)
+        program.report(text)
+        print(picture_of(program, Script(text)), end="")
         return 0
 
     return command.ended("timeline.py", draw)

@@ -192,9 +192,9 @@ def copies(all_cases):
 def main(*words):
     os.makedirs(DATA, exist_ok=True)
     all_cases = cases()
-    if words[:1] == ["call"] and len(words) > 2:
+    if words[:1] == ("call",) and len(words) > 2:
         all_cases = replaced(all_cases, [case_of_call(words[1], folder) for folder in words[2:]], None)
-    elif words[:1] == ["folder"] and len(words) == 3:
+    elif words[:1] == ("folder",) and len(words) == 3:
         all_cases = replaced(all_cases, cases_of_folder(words[1], words[2]), words[1])
     elif words:
         raise Fault(f"{' '.join(words)}: not known; worked_cases.py --help has the words")

@@ -49,7 +49,8 @@ class Program:
         found = self.outcomes(calls)
         for (words, _), outcome in zip(calls, found):
             if outcome.status:
-                raise Fault(f"{self.path} {words} ended with status {outcome.status}: {outcome.note or 'no note'}")
+                hint = "; tools/explain.py says why" if outcome.note.startswith(("perf_run: line", "perf_run: act")) else ""
+                raise Fault(f"{self.path} {words} ended with status {outcome.status}: {outcome.note or 'no note'}{hint}")
         return [outcome.out for outcome in found]
 
     def report(self, text: str) -> Report:

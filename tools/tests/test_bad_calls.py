@@ -1,0 +1,118 @@
+"""Bad calls of every tool: each ends with status 2 and one line that says what is wrong, and none with a traceback."""
+
+import os
+import shutil
+import subprocess
+import sys
+import tempfile
+import unittest
+
+from perfscript.program import REPOSITORY
+from perfscript.tests.support import DATA, PATH, ProgramTest, program_file
+
+EXAMPLES = os.path.join(DATA, "examples")
+SCRIPT, OTHER, REPORT = (os.path.join(EXAMPLES, name) for name in ("full-ring.script", "two-pmus.script", "full-ring.report"))
+REFUSED = os.path.join(DATA, "texts-refused", "two-spaces.script")
+FIT = ["fit.py", "--counters", "1", "-e", "cycles"]
+ON_LINUX = ["on_linux"]
+# words of a call: {false} is a program that fails, {mute} one that writes nothing, {loud} one that writes no report,
+# {binary} a file of bytes, {folder} an empty folder, and {program} the program
+CALLS = (
+    (["timeline.py"], "the following arguments are required: SCRIPT"),
+    (["timeline.py", "{program}", "/nonexistent"], "/nonexistent: No such file or directory"),
+    (["timeline.py", "{program}", "{folder}"], "Is a directory"),
+    (["timeline.py", "/nonexistent", SCRIPT], "--program: /nonexistent is not a file; give the path of the built perf_run"),
+    (["timeline.py", "{folder}", SCRIPT], "is not a file; give the path of the built perf_run"),
+    (["timeline.py", "{binary}", SCRIPT], "does not start: "),
+    (["timeline.py", "{false}", SCRIPT], "replay ended with status 1: no note"),
+    (["timeline.py", "{mute}", SCRIPT], "replay printed what can't be read: not a report, which begins with a line `order`"),
+    (["timeline.py", "{loud}", SCRIPT], "replay printed what can't be read: not a report"),
+    (["timeline.py", "{program}", REFUSED], "perf_run: line 1: FORM; tools/explain.py says why"),
+    (["timeline.py", "{program}", "{binary}"], "ASCII; tools/explain.py says why"),
+    (["perf_data.py", SCRIPT], "the following arguments are required: FILE"),
+    (["perf_data.py", "/nonexistent", REPORT, "{out}"], "/nonexistent: No such file or directory"),
+    (["perf_data.py", SCRIPT, "/nonexistent", "{out}"], "/nonexistent: No such file or directory"),
+    (["perf_data.py", OTHER, REPORT, "{out}"], "the report's order is not the script's"),
+    (["perf_data.py", SCRIPT, SCRIPT, "{out}"], "not a report, which begins with a line `order`"),
+    (["perf_data.py", REPORT, REPORT, "{out}"], "script line 2: not understood: t0."),
+    (["perf_data.py", "{binary}", REPORT, "{out}"], "script line 1: not understood"),
+    (["perf_data.py", SCRIPT, REPORT, "/nonexistent/out"], "/nonexistent/out: No such file or directory"),
+    (["perf_data.py", "--program", "{false}", SCRIPT, "{out}"], "replay ended with status 1: no note"),
+    (["perf_data.py", "--program", "{program}", REFUSED, "{out}"], "perf_run: line 1: FORM; tools/explain.py says why"),
+    (["explain.py", "/nonexistent"], "/nonexistent: No such file or directory"),
+    (["explain.py", "--program", "/nonexistent", SCRIPT], "--program: /nonexistent is not a file"),
+    (["explain.py", "--program", "{sick}", SCRIPT], "ended with status 4: perf_run: no memory"),
+    (["explain.py", "--odd"], "unrecognized arguments: --odd; explain.py --help has the words"),
+    ([*FIT, "--program", "/nonexistent"], "--program: /nonexistent is not a file"),
+    ([*FIT, "--program", "{false}"], "stat ended with status 1: no note"),
+    ([*FIT, "--program", "{loud}"], "stat printed what can't be read: not a table"),
+    ([*FIT, "--program", "{program}", "--svg", "/nonexistent/out"], "--svg: /nonexistent/out can't be written"),
+    (["fit.py", "-m", "/nonexistent.toml", "-e", "cycles"], "/nonexistent.toml can't be read: No such file or directory"),
+    (["fit.py", "-m", "{binary}.toml", "-e", "cycles"], "binary.toml is no TOML file"),
+    (["fit.py", "--odd"], "unrecognized arguments: --odd; fit.py --help has the words"),
+    (ON_LINUX, "give --all, or scripts; on_linux --help has the words"),
+    ([*ON_LINUX, "/nonexistent"], "/nonexistent: No such file or directory"),
+    ([*ON_LINUX, "{binary}"], "is not ASCII"),
+    ([*ON_LINUX, "--program", "/nonexistent", SCRIPT], "--program: /nonexistent is not a file"),
+    ([*ON_LINUX, "--report", "/nonexistent", SCRIPT], "/nonexistent: No such file or directory"),
+    (["maintain/run_then_replay.py", "{program}"], "1 words do not do; run_then_replay.py --help has the usage"),
+    (["maintain/run_then_replay.py", "{program}", "/nonexistent"], "/nonexistent: No such file or directory"),
+    (["maintain/run_then_replay.py", "/nonexistent", SCRIPT], "--program: /nonexistent is not a file"),
+    (["maintain/seated_reports.py", "{program}", "/nonexistent", "{folder}"], "/nonexistent: No such file or directory"),
+    (["maintain/seated_reports.py", "{false}", EXAMPLES, "{folder}"], "status 1, and another report"),
+    (["maintain/worked_cases.py", "odd"], "odd: not known; worked_cases.py --help has the words"),
+    (["maintain/worked_cases.py", "call", "group", "/nonexistent"], "No such file or directory"),
+    (["maintain/script_terms.py", "odd"], "1 words do not do"),
+    (["maintain/definition_lines.py", "odd"], "odd: not known; definition_lines.py --help has the words"),
+    (["maintain/missing_answers.py", "odd"], "crates/odd/must-fail: no such folder"),
+    (["maintain/cited_definitions.py", "odd"], "1 words do not do"),
+    (["maintain/read_benchmark.py", "/nonexistent"], "/nonexistent: No such file or directory"),
+    (["maintain/read_benchmark.py", "{false}"], "replay ended with status 1, no note; wanted: status 1, perf_run: line"),
+    (["maintain/replay_benchmark.py", "{false}"], "make 1000 script ended with status 1: no note"),
+    (["maintain/start_benchmark.py", "{false}"], "replay ended with status 1, no note; wanted: status 0, no note"),
+    (["maintain/refused_memory.py", "/nonexistent"], "--program: /nonexistent is not a file"),
+    (["maintain/failing_calls.py", "/nonexistent"], "--program: /nonexistent is not a file"),
+)
+
+
+class BadCalls(ProgramTest):
+    @classmethod
+    def setUpClass(cls):
+        super().setUpClass()
+        cls.folder = tempfile.mkdtemp()
+        cls.addClassCleanup(shutil.rmtree, cls.folder)
+        made = {"false": "exit 1", "mute": "exit 0", "loud": "echo hello", "sick": "echo perf_run: no memory >&2; exit 4"}
+        cls.names = {name: program_file(cls.folder, name, f"#!/bin/sh\ncat >/dev/null\n{text}\n") for name, text in made.items()}
+        cls.names |= {"program": PATH, "out": os.path.join(cls.folder, "out"), "binary": os.path.join(cls.folder, "binary")}
+        cls.names["folder"] = os.path.join(cls.folder, "empty")
+        os.mkdir(cls.names["folder"])
+        for name in ("binary", "binary.toml"):
+            with open(os.path.join(cls.folder, name), "wb") as file:
+                file.write(bytes(range(256)))
+        os.chmod(cls.names["binary"], 0o755)
+
+    def test_each_ends_with_2_and_a_line(self):
+        for words, said in CALLS:
+            with self.subTest(words=words):
+                given = [word.format(**self.names) for word in words]
+                call = [sys.executable, os.path.join(REPOSITORY, "tools", given[0]), *given[1:]]
+                done = subprocess.run(call, cwd=REPOSITORY, capture_output=True, text=True, stdin=subprocess.DEVNULL)
+                self.assertIn(said, done.stderr)
+                self.assertEqual((2, "", 1), (done.returncode, done.stdout, done.stderr.count("\n")), done.stderr)
+                self.assertFalse(os.path.exists(self.names["out"]))
+
+    def test_each_tool_has_bad_calls(self):
+        """Each file of tools/ that is a command."""
+        tools = os.path.join(REPOSITORY, "tools")
+        found = {"on_linux"}
+        for folder in ("", "maintain"):
+            for name in os.listdir(os.path.join(tools, folder)):
+                path = os.path.join(tools, folder, name)
+                if name.endswith(".py"):
+                    with open(path) as file:
+                        found |= {os.path.join(folder, name)} if file.read().startswith("#!") else set()
+        self.assertEqual(found, {words[0] for words, _ in CALLS})
+
+
+if __name__ == "__main__":
+    unittest.main()
