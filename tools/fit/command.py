@@ -112,7 +112,7 @@ def done(options):
         print("\n".join(listing(options)))
         return FITS
     except ProgramFault as fault:
-        print(f"fit.py: {fault}", file=sys.stderr)
+        print(f"{command.name_of('fit.py')}: {fault}", file=sys.stderr)
         return NO_ANSWER
 
 

@@ -5,9 +5,10 @@ import re
 
 from perfscript import Fault
 
-DOCS = os.path.join(os.path.dirname(os.path.abspath(__file__)), "..", "..", "docs")
-LINUX = os.path.join(DOCS, "LINUX.md")
-RULES = os.path.join(DOCS, "RULES.md")
+FOLDER = os.path.dirname(os.path.abspath(__file__))
+# a link to the page in docs/; where the tools are installed it is a copy
+LINUX = os.path.join(FOLDER, "LINUX.md")
+RULES = os.path.join(FOLDER, "..", "..", "docs", "RULES.md")
 ROW = re.compile(r"^\| `([a-z-]+)` \|(.*)\|$")
 STAND_IN, LAST_RUN = "## Where the stand-in differs", "## The last run"
 # the place of the column Linux in the table of docs/RULES.md, from the end: the column of cases stands last

@@ -12,6 +12,12 @@ from perfscript.faults import Fault
 BAD_INPUT, INTERRUPTED = 2, 130
 
 
+def name_of(command: str) -> str:
+    """What a command is called: as a file of a clone, or as it is installed."""
+    called_as = os.path.basename(sys.argv[0])
+    return called_as if called_as.startswith("jugheather-") else command
+
+
 class Parser(argparse.ArgumentParser):
     """Refuses words in one line. `doc` has what the command does, a line `Usage: WORDS`, and details."""
 
@@ -20,7 +26,8 @@ class Parser(argparse.ArgumentParser):
         usage, _, details = rest.partition("\n\n")
         form = argparse.RawDescriptionHelpFormatter
         text = f"{about}\n\n{details}".strip()
-        super().__init__(prog=command, usage=usage or None, description=text, epilog=epilog, formatter_class=form)
+        name = name_of(command)
+        super().__init__(prog=name, usage=usage.replace(command, name) or None, description=text, epilog=epilog, formatter_class=form)
         self.add_argument("--version", action="version", version=f"%(prog)s {perfscript.VERSION}")
         self.add_argument("--program", metavar="PATH", help="the built perf_run")
 
@@ -31,6 +38,7 @@ class Parser(argparse.ArgumentParser):
 
 def ended(command: str, main: Callable[[], int]) -> int:
     """The status of a command. What ends it early is said in one line on standard error."""
+    command = name_of(command)
     try:
         status = main()
         sys.stdout.flush()

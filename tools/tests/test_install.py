@@ -1,0 +1,88 @@
+"""The tools are installed as Python tools are, and each command answers."""
+
+import glob
+import os
+import shutil
+import subprocess
+import sys
+import tempfile
+import unittest
+
+import perfscript
+from perfscript.tests.support import PATH, TOOLS, ProgramTest, stored
+
+COMMANDS = ("explain", "fit", "on-linux", "perf-data", "timeline")
+ASKED = "import sys, setuptools, wheel, pip; sys.exit(sys.version_info < (3, 11))"
+
+
+def installer():
+    """A Python that can install: this one, or another on the path that has pip, setuptools and wheel."""
+    others = [os.path.join(folder, "python3") for folder in os.environ["PATH"].split(os.pathsep)]
+    for python in [sys.executable, *others]:
+        if os.access(python, os.X_OK) and subprocess.run([python, "-c", ASKED], capture_output=True).returncode == 0:
+            return python
+    return None
+
+
+class Installed(ProgramTest):
+    @classmethod
+    def setUpClass(cls):
+        super().setUpClass()
+        cls.python = installer()
+        if cls.python is None:
+            raise unittest.SkipTest("no Python here has pip, setuptools and wheel; Debian has python3-pip and python3-wheel")
+        folder = tempfile.mkdtemp()
+        cls.addClassCleanup(shutil.rmtree, folder)
+        # pip builds in the folder that it is given
+        source, cls.target = os.path.join(folder, "tools"), os.path.join(folder, "target")
+        shutil.copytree(TOOLS, source, ignore=shutil.ignore_patterns("__pycache__", "build", "*.egg-info"))
+        call = [cls.python, "-m", "pip", "install", "--no-build-isolation", "--no-index", "--target", cls.target, source]
+        done = subprocess.run(call, capture_output=True, text=True, cwd=folder)
+        if done.returncode:
+            raise AssertionError(done.stdout + done.stderr)
+        cls.folder = folder
+
+    def called(self, name, *words):
+        path = os.path.join(self.target, "bin", f"jugheather-{name}")
+        how = {"capture_output": True, "text": True, "cwd": self.folder, "stdin": subprocess.DEVNULL}
+        return subprocess.run([self.python, path, *words], env={**os.environ, "PYTHONPATH": self.target}, **how)
+
+    def test_each_command_has_its_options(self):
+        there = sorted(os.path.basename(path) for path in glob.glob(os.path.join(self.target, "bin", "*")))
+        self.assertEqual([f"jugheather-{name}" for name in COMMANDS], there)
+        for name in COMMANDS:
+            done = self.called(name, "--help")
+            self.assertEqual((0, ""), (done.returncode, done.stderr), name)
+            self.assertIn(f"usage: jugheather-{name}", done.stdout)
+            for option in ("--help", "--version", "--program PATH"):
+                self.assertIn(option, done.stdout, name)
+            self.assertEqual(f"jugheather-{name} {perfscript.VERSION}\n", self.called(name, "--version").stdout)
+
+    def test_each_command_does_its_work(self):
+        script = os.path.join(self.folder, "a.script")
+        with open(script, "w") as file:
+            file.write(stored("examples/full-ring.script"))
+        for name, words, said in (
+            ("explain", [script], "the program does this script"),
+            ("fit", ["-m", "k10", "-e", "cycles"], "All events are on all the time."),
+            ("fit", ["--list"], "sandybridge"),
+            ("perf-data", [script, os.path.join(self.folder, "out.data")], ""),
+            ("timeline", [script], "<svg xmlns="),
+        ):
+            done = self.called(name, "--program", PATH, *words)
+            self.assertEqual((0, ""), (done.returncode, done.stderr), name)
+            self.assertIn(said, done.stdout)
+        self.assertGreater(os.path.getsize(os.path.join(self.folder, "out.data")), 500)
+        done = self.called("on-linux", "--program", PATH, script)
+        self.assertIn(done.returncode, (0, 77), done.stderr)
+        self.assertIn("a.script: not comparable" if done.returncode == 0 else "no event can be opened here", done.stdout)
+
+    def test_without_a_program_it_says_what_to_give(self):
+        done = self.called("timeline", os.path.join(TOOLS, "..", "examples", "full-ring.script"))
+        self.assertEqual((2, "", 1), (done.returncode, done.stdout, done.stderr.count("\n")))
+        self.assertTrue(done.stderr.startswith("jugheather-timeline: no program: "), done.stderr)
+        self.assertTrue(done.stderr.endswith("give a built perf_run by --program\n"), done.stderr)
+
+
+if __name__ == "__main__":
+    unittest.main()
