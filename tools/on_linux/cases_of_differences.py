@@ -6,7 +6,7 @@ from on_linux.scripts import opened, script, user
 # rows that stand in the place of others on older kernels
 OR_ELSE = {"ids-at-one-occurrence": ("record-order",)}
 # rows that have several cases
-SEVERAL = ("clones", "closed-but-mapped")
+SEVERAL = ("clones", "closed-but-mapped", "lost-in-a-stretch")
 SHOWN, NONE, PARTLY = "differences of docs/LINUX.md", "no counterpart", "a counterpart in part"
 
 
@@ -56,6 +56,16 @@ def of_records():
     # samples at the occurrences 2 and 4 of event 0, and 3 of event 1
     apart = [opened(0, period=2, sample=0x10001), opened(1, period=3, sample=0x10001), "map 0 0", "output 1 0"]
     yield "record-order", script(apart, {0: ["switch 0", user(5)]}, "t0*4 p0*2", rings={0: PAGE}), ()
+    # both events have the period 2, and event 1 is opened after the first occurrence: in one stretch, which fills the
+    # ring, their samples come in turn
+    fit = (PAGE - 1) // 24
+    in_turn = [opened(0, period=2, sample=0x10001, format=0x14), "map 0 0"]
+    in_turn += [opened(1, period=2, sample=0x10001, format=0x14), "output 1 0"]
+    lines = {0: ["switch 0", user(1), user(2 * fit + 60)]}
+    yield "lost-in-a-stretch", script([*in_turn, "read 0", "read 1"], lines, "t0*2 p0*2 t0*2 p0", rings={0: PAGE}), ()
+    lines[0].append(user(5))
+    acts = f"t0*2 p0*2 t0*2 p0 s0={24 * 20} p0"
+    yield "lost-in-a-stretch", script([*in_turn, "read 0", "read 1"], lines, acts, rings={0: PAGE}), ()
     # the copies of events 0 (one processor) and 1 (any): 2 has the ring of 1
     # (they send at the occurrences 2 and 3)
     copies = [

@@ -80,7 +80,10 @@ def of_number_of_words(event, said, seen):
 
 
 def of_lost_word(comparison, member, event, said, seen):
-    """In a group read the last copy's own count, which is 0, is written over the original's."""
+    """In a group read the last copy's own count, which is 0, is written over the original's. Where several events fill a
+    ring in one stretch, others of their records are lost."""
+    if loses_as_many(comparison, member.ring):
+        return "lost-in-a-stretch"
     is_overwritten = (
         event.attribute.format & FORMAT_GROUP and comparison.follow.live_copies(member) and seen == 0 < said
     )
@@ -157,6 +160,27 @@ def is_other_order(_comparison, _ring, said, seen):
         and apart == by_event(seen)
         and all(record["type"] == "SAMPLE" for record in said)
     )
+
+
+def loses_as_many(comparison, ring):
+    """Whether a ring of several sampling events has lost records, on both sides as many as far as the kernel tells."""
+    writers = {event for event in comparison.follow.writers.get(ring, []) if event.attribute.period}
+    lost = comparison.report.rings[ring].lost if ring in comparison.report.rings else 0
+    counts = [comparison.doing.lost.get(event.slot) if event.is_open else None for event in writers]
+    return len(writers) > 1 and lost > 0 and (None in counts or sum(counts) == lost)
+
+
+def loses_others(comparison, ring, said, seen):
+    """Where several events overflow in the stretch that fills the ring, other events' records are lost: as many records of
+    the same type, size, mode and lost count stand there in their places."""
+
+    def plain(records):
+        return [[record.get(name) for name in ("type", "size", "mode", "lost")] for record in records]
+
+    ids = {event.id for event in comparison.follow.writers.get(ring, [])}
+    named = {record.get("IDENTIFIER", record.get("ID", record.get("id"))) for record in seen}
+    is_whole = not any("odd" in record for record in seen)
+    return loses_as_many(comparison, ring) and is_whole and named <= ids and plain(said) == plain(seen)
 
 
 def has_ids_of_first(comparison, ring, said, seen):
@@ -274,6 +298,7 @@ def is_exchanged(comparison, _ring, said, seen):
 
 RING_ROWS = (
     ("record-order", is_other_order),
+    ("lost-in-a-stretch", loses_others),
     ("ids-at-one-occurrence", has_ids_of_first),
     ("software-sample-period", is_sampled_each_time),
     ("period-while-running", is_sent_at_once),

@@ -38,7 +38,7 @@ IN_ERROR = "an event in error reads as no word"
 # the rules that a count rests on: the later one stands, the closer it is to what was asked of the event
 CLOSEST = (PLACES, INHERIT, FAMILY, EXIT, FOLD, MEMBER_OFF, ENABLE, EXCLUDE, RESET)
 # the rule that a documented difference of records is about, where the records alone do not say it
-OF_ROWS = {"closed-but-mapped": CLOSE, "rings-below-a-page": MAP, "record-order": SENDING}
+OF_ROWS = {"closed-but-mapped": CLOSE, "rings-below-a-page": MAP, "record-order": SENDING, "lost-in-a-stretch": FULL}
 
 # the rule that a difference is about which no case can show
 OF_SOURCE_ROWS = {

@@ -8,6 +8,13 @@ from on_linux.tests import recorded
 from perfscript import Script
 
 
+class Fake:
+    """What has just the given fields."""
+
+    def __init__(self, **fields):
+        self.__dict__.update(fields)
+
+
 class Altered(unittest.TestCase):
     def check(self, old, new, about, rule, line):
         text = recorded.report()
@@ -146,6 +153,26 @@ class Rows(unittest.TestCase):
         self.assertEqual(state.sent, 2)
         state.occur(1)
         self.assertEqual(state.sent, 3)
+
+    def test_other_records_are_lost_only_where_sums_and_places_agree(self):
+        def explains(said, seen, writers=2, lost=3, counts=(1, 2)):
+            events = [Fake(id=n + 1, slot=n, is_open=True, attribute=Fake(period=2)) for n in range(writers)]
+            doing = Fake(lost=dict(enumerate(counts)))
+            comparison = Fake(follow=Fake(writers={0: events}), report=Fake(rings={0: Fake(lost=lost)}), doing=doing)
+            return differences.loses_others(comparison, 0, said, seen)
+
+        def sample(event, mode=2):
+            return {"type": "SAMPLE", "mode": mode, "size": 24, "IDENTIFIER": event}
+
+        one, two = sample(1), sample(2)
+        self.assertTrue(explains([one, one, one], [one, two, one]))
+        self.assertFalse(explains([one, one], [one, two], writers=1))
+        self.assertFalse(explains([one, one], [one, two], lost=0))
+        self.assertFalse(explains([one, one], [one, two], counts=(1, 1)))
+        self.assertFalse(explains([one, one], [one, two, one]))
+        self.assertFalse(explains([one, one], [one, sample(2, 1)]))
+        self.assertFalse(explains([one, one], [one, sample(7)]))
+        self.assertFalse(explains([one, one], [one, {**two, "odd": [1]}]))
 
     def test_rows_of_rings_are_in_the_document(self):
         known = documents.known_rows()
