@@ -27,9 +27,12 @@ SHOWN = 100
 BYTES = {9: "a tab", 13: "a carriage return", 0: "a byte 0"}
 ATTR_FAULTS = {
     "ESHORT": ("there are fewer bytes than its size says, or fewer than 8", "give as many bytes as bytes 4 to 7 say"),
-    "E2BIG": ("its size is 1 to 63 or above 4096, or a byte behind the 64th is not 0", "write 40000000, which is 64, as bytes 4 to 7"),
-    "ECLASS": ("its type, bytes 0 to 3, is not 0, 1 or 4", "write type 0 or 4 for a declared kind, 1 for a software kind"),
-    "EFLAGBITS": ("a flag bit is set that no event here has", "set only flags that docs/REPORT.md names below EFLAGBITS"),
+    "E2BIG": (
+        "its size is 1 to 63 or above 4096, or a byte behind the 64th is not 0",
+        "write 40000000, which is 64, as bytes 4 to 7",
+    ),
+    "ECLASS": ("its type, bytes 0 to 3, is not 0, 1 or 4", "write 0 or 4 for a declared kind, 1 for a software kind"),
+    "EFLAGBITS": ("a flag bit is set that no event here has", "set only those that docs/REPORT.md names below EFLAGBITS"),
     "EFIELD": ("bp_type or config1 is not 0", "write 0 for both, bytes 52 to 63"),
 }
 
@@ -40,8 +43,9 @@ class Case:
     def __init__(self, program, text, place):
         self.program, self.text = program, text
         self.lines = lines_of(text)
-        self.before, self.line = self.lines[: place - 1], self.lines[place - 1] if place <= len(self.lines) and place else None
-        self.version = self.lines[0].words[0] if self.lines and self.lines[0].text in ("perf 1", "perf 2") else "1"
+        self.before = self.lines[: max(place - 1, 0)]
+        self.line = self.lines[place - 1] if 0 < place <= len(self.lines) else None
+        self.version = "2" if self.lines and self.lines[0].text == "perf 2" else "1"
         self.words = self.line.text.split(" ") if self.line else []
         self.form = self.best_form()
 
@@ -63,11 +67,10 @@ class Case:
 
 
 def of_end(case):
-    rows = case.text.split("\n")
     if case.line is not None and any(line.head == "end" for line in case.before):
         ended = next(line.place for line in case.before if line.head == "end")
-        return Wrong(1, f"the line stands behind `end`, which is line {ended}", f"take it away, or move `end` behind it")
-    if rows[-1] != "" and case.line is not None and case.line.place == len(case.lines):
+        return Wrong(1, f"the line stands behind `end`, which is line {ended}", "take it away, or move `end` behind it")
+    if not case.text.endswith("\n") and case.line is not None and case.line.place == len(case.lines):
         return Wrong(len(case.words), "the line is not ended by a line feed", "end the text with one")
     return Wrong(0, "the text ends without `end`", "write a line `end` behind its last line")
 
@@ -76,8 +79,8 @@ def of_ascii(case):
     for place, word in enumerate(case.words, 1):
         for at, letter in enumerate(word, 1):
             if not 32 <= ord(letter) <= 126:
-                named = BYTES.get(ord(letter), f"the byte {ord(letter):#04x}")
-                mending = "end lines with line feeds alone" if ord(letter) == 13 else "write letters, digits and signs of ASCII, and spaces"
+                named, mending = BYTES.get(ord(letter), f"the byte {ord(letter):#04x}"), "write ASCII and spaces"
+                mending = "end lines with line feeds alone" if ord(letter) == 13 else mending
                 return Wrong(place, f"byte {at} of the word is {named}, which no script has", mending)
     return None
 
@@ -90,8 +93,8 @@ def of_form(case):
         return Wrong(place, where, "write one space between two words, and no other")
     if not case.form:
         if head in HEADS:
-            other = "2" if case.version == "1" else "1"
-            return Wrong(1, f"`{head}` is a line of `perf {other}`, and line 1 is `perf {case.version}`", "take it away, or change line 1")
+            reason = f"`{head}` is not a line of `perf {case.version}`, which is line 1"
+            return Wrong(1, reason, "take it away, or change line 1")
         return Wrong(1, f"`{head[:40]}` is the first word of no line", near(head, HEADS))
     if head == "perf" and case.line.place > 1:
         return Wrong(1, f"`perf` is line {case.line.place}, and stands in line 1 alone", "take it away")
@@ -110,16 +113,18 @@ def of_place(case):
         return Wrong(1, f"`{head}` is line {len(before) + 1}, which has to be `{wanted}`", f"write `{wanted}` there")
     later = next((line for line in before if section_of(line.head) > section), None)
     if later:
-        order = ", ".join(SECTIONS)
-        return Wrong(1, f"`{head}` stands behind `{later.text[:40]}`, line {later.place}", f"move it before that line; the order is {order}")
+        reason = f"`{head}` stands behind `{later.text[:40]}`, line {later.place}"
+        return Wrong(1, reason, f"move it before that line; the order is {', '.join(SECTIONS)}")
     if section < 2:
         return Wrong(1, f"`{head}` stands there a second time; it is line {section + 1} alone", "take it away")
     script = case.script()
     free = [cpu for cpu in range(script.cpus) if not script.counters_of(cpu)]
     if free and head != "pmu":
-        return Wrong(1, f"processor {free[0]} is in the mask of no `pmu` line", f"write a `pmu` line with it before `{head}`")
-    header = SECTIONS[section]
-    return Wrong(1, f"`{head}` stands under no `{header}` line", f"write `{header} N` before it")
+        reason = f"processor {free[0]} is in the mask of no `pmu` line"
+        return Wrong(1, reason, f"write a `pmu` line with it before `{head}`")
+    if head in SECTIONS:
+        return None
+    return Wrong(1, f"`{head}` stands under no `{SECTIONS[section]}` line", f"write `{SECTIONS[section]} N` before it")
 
 
 def of_range(case):
@@ -151,7 +156,7 @@ def act_out_of_range(place, act):
     if int(number) > most:
         return Wrong(place, f"`{act}` names {what} out of range", f"{what} is 0 to {most}")
     if at and int(at) > forms.WIDE:
-        return Wrong(place, f"`{act}` has a place above 64 bits", "write the place in bytes, from the start of the stream")
+        return Wrong(place, f"`{act}` has a place above 64 bits", "write it in bytes, from the start of the stream")
     return None
 
 
@@ -160,9 +165,15 @@ def pmu_out_of_range(case, script):
     if number != len(script.pmus):
         return Wrong(2, f"`{number}` is not the next number", f"PMUs are numbered from 0: write {len(script.pmus)}")
     if not mask or mask >> script.cpus:
-        return Wrong(4, f"`cpus={mask:x}` is not a mask of processors 0 to {script.cpus - 1}", f"write 1 to {(1 << script.cpus) - 1:x}")
-    other = next((number for number, pmu in script.pmus.items() if pmu.cpus & mask), None)
-    return Wrong(4, f"`cpus={mask:x}` has a processor of PMU {other}", "name each processor in one `pmu` line") if other is not None else None
+        return not_a_mask(4, f"cpus={mask:x}", "processors", script.cpus)
+    for other, pmu in script.pmus.items():
+        if pmu.cpus & mask:
+            return Wrong(4, f"`cpus={mask:x}` has a processor of PMU {other}", "name each processor in one `pmu` line")
+    return None
+
+
+def not_a_mask(place, word, what, count):
+    return Wrong(place, f"`{word}` is not a mask of {what} 0 to {count - 1}", f"write 1 to {(1 << count) - 1:x}")
 
 
 def kind_out_of_range(case, script):
@@ -170,18 +181,18 @@ def kind_out_of_range(case, script):
     pmu, mask = int(given.get("pmu", "0")), int(given["mask"], 16)
     if pmu not in script.pmus:
         return Wrong(3, f"`pmu={pmu}` is not declared", near(str(pmu), map(str, script.pmus)))
-    most = (1 << script.pmus[pmu].counters) - 1
-    if not 1 <= mask <= most:
-        return Wrong(len(case.words), f"`mask={mask:x}` is not a mask of counters 0 to {script.pmus[pmu].counters - 1}", f"write 1 to {most:x}")
-    return None
+    counters = script.pmus[pmu].counters
+    return not_a_mask(len(case.words), f"mask={mask:x}", "counters", counters) if not mask or mask >> counters else None
 
 
 def not_rising(case, script):
     number, before = int(case.words[1]), case.numbers(case.line.head)
     if before and number <= before[-1]:
-        return Wrong(2, f"`{number}` stands behind {before[-1]}", f"numbers of `{case.line.head}` lines rise: write {before[-1] + 1} or more, or move the line")
+        mending = f"numbers of `{case.line.head}` lines rise: write {before[-1] + 1} or more, or move the line"
+        return Wrong(2, f"`{number}` stands behind {before[-1]}", mending)
     size = int(case.line.given().get("bytes", "64"))
-    return Wrong(3, f"`bytes={size}` is not a power of two", f"write {1 << size.bit_length() - 1} or {1 << size.bit_length()}") if size & size - 1 else None
+    near_sizes = f"write {1 << size.bit_length() - 1} or {1 << size.bit_length()}"
+    return Wrong(3, f"`bytes={size}` is not a power of two", near_sizes) if size & size - 1 else None
 
 
 RANGES = {"pmu": pmu_out_of_range, "kind": kind_out_of_range}
@@ -205,21 +216,26 @@ def of_name(case):
         return Wrong(2, f"`{name}` is reserved: no declared kind may be called so", "give it another name")
     if head in ("map", "reader"):
         place = 3 if head == "map" else 2
-        known = near(case.words[place - 1], map(str, script.rings))
-        return Wrong(place, f"ring {case.words[place - 1]} is not declared", f"declare it by a `ring` line, or name another; {known}")
+        return undeclared(place, f"ring {case.words[place - 1]}", "ring", case.words[place - 1], map(str, script.rings))
     return {"open": open_of_no_kind, "work": work_of_no_kind, "order": act_of_nobody}[head](case, script)
 
 
+def undeclared(place, what, head, word, known):
+    mending = f"declare it by a `{head}` line, or name another; {near(word, known)}"
+    return Wrong(place, f"{what} is not declared", mending)
+
+
 def open_of_no_kind(case, script):
-    given = case.line.given()
-    if "kind" in given:
-        known = near(given["kind"], [*script.kinds, *SOFTWARE_KINDS])
-        return Wrong(3, f"`{given['kind']}` is not a declared kind and not a software kind", f"declare it by a `kind` line, or name another; {known}")
+    name = case.line.given().get("kind")
+    if name:
+        return undeclared(3, f"the kind `{name}`", "kind", name, [*script.kinds, *SOFTWARE_KINDS])
     try:
         Attribute(case.line, script.kinds)
         return None
     except (KeyError, IndexError):
-        return Wrong(3, f"type and config of the bytes name no kind of {len(script.kinds)} declared ones", "config, bytes 8 to 15, is a declared kind's number from 0; with type 1 it is 1, 3, 4 or 9")
+        reason = f"type and config of the bytes name no kind of {len(script.kinds)} declared ones"
+        known = "config, bytes 8 to 15, is a declared kind's number from 0; with type 1 it is 1, 3, 4 or 9"
+        return Wrong(3, reason, known)
 
 
 def work_of_no_kind(case, script):
@@ -229,9 +245,10 @@ def work_of_no_kind(case, script):
         if part.name != "HITS":
             continue
         if key == "ip":
-            return Wrong(place, "`ip` stands behind a kind or twice, so it is taken for a kind, whose name it can't be", "write it once, before the kinds")
+            reason = "`ip` stands behind a kind or twice, and no kind is called so"
+            return Wrong(place, reason, "write it once, before the kinds")
         if key not in script.kinds:
-            return Wrong(place, f"`{key}` is not a declared kind", f"declare it by a `kind` line, or name another; {near(key, script.kinds)}")
+            return undeclared(place, f"the kind `{key}`", "kind", key, script.kinds)
         if key in seen:
             return Wrong(place, f"`{key}` stands twice in the line", "write each kind once, with all its occurrences")
         seen.add(key)
@@ -242,10 +259,11 @@ def act_of_nobody(case, script):
     for place, _, act in case.parts:
         ring = act[1:].partition("=")[0]
         if act[0] == "s" and int(ring) not in script.rings:
-            return Wrong(place, f"`{act}` names ring {ring}, which is not declared", f"declare it, or name another; {near(ring, map(str, script.rings))}")
+            return undeclared(place, f"ring {ring} of `{act}`", "ring", ring, map(str, script.rings))
         if act[0] != "s" and not script.lines.get(act):
             known = near(act, [actor for actor, lines in script.lines.items() if lines])
-            return Wrong(place, f"`{act}` names {actor_of(act)}, which has no lines", f"give it lines, or name another; {known}")
+            reason = f"`{act}` names {actor_of(act)}, which has no lines"
+            return Wrong(place, reason, f"give it lines, or name another; {known}")
     return None
 
 
@@ -260,7 +278,8 @@ def counted(count, one, more=None):
 def of_limit(case):
     if case.line.head == "kind":
         return Wrong(1, f"it is kind number {MOST_KINDS + 1}", f"declare at most {MOST_KINDS} kinds")
-    return Wrong(1, f"it is line number {MOST_LINES + 1} under processors and tools", f"write at most {MOST_LINES} such lines")
+    reason = f"it is line number {MOST_LINES + 1} under processors and tools"
+    return Wrong(1, reason, f"write at most {MOST_LINES} such lines")
 
 
 def of_weight(case):
@@ -273,8 +292,9 @@ def of_weight(case):
     weight = sampling * sum(-(-count // least) for count in hits) if least else 0
     if weight <= MOST_WEIGHT:
         return None
-    reason = f"it weighs {weight}: {counted(sampling, 'sampling open')} and {counted(sum(hits), 'occurrence')}, by {least}, the least period that a line gives"
-    return Wrong(1, reason, f"the most is {MOST_WEIGHT}: raise the least period, or give fewer occurrences")
+    by = f"{counted(sampling, 'sampling open')} and {counted(sum(hits), 'occurrence')}, by {least}"
+    mending = f"the most is {MOST_WEIGHT}: raise the least period, or give fewer occurrences"
+    return Wrong(1, f"it weighs {weight}: {by}, the least period that a line gives", mending)
 
 
 def of_order(case):
@@ -283,10 +303,10 @@ def of_order(case):
     for actor, lines in script.lines.items():
         count = acts.count(actor)
         if count != len(lines):
-            where = f"lines {lines[0].place} to {lines[-1].place} of the text" if len(lines) > 1 else f"line {lines[0].place} of the text"
+            where = f"{lines[0].place} to {lines[-1].place}" if len(lines) > 1 else f"{lines[0].place}"
             more = f"{len(lines) - count} more" if count < len(lines) else f"{count - len(lines)} fewer"
-            has, acts_there = counted(len(lines), "line"), counted(count, f"act `{actor}`", f"acts `{actor}`")
-            wrong.append(f"{actor_of(actor)} has {has} ({where}) and the order {acts_there}: write {more}")
+            has, has_acts = counted(len(lines), "line"), counted(count, f"act `{actor}`", f"acts `{actor}`")
+            wrong.append(f"{actor_of(actor)} has {has}, {where} of the text, and the order {has_acts}: write {more}")
     return Wrong(1, "the order is not whole", "; ".join(wrong)) if wrong else None
 
 
@@ -299,7 +319,7 @@ REASONS = {
 def marked(line, place):
     """A line with a mark below a word, of which no more than some 100 characters are shown."""
     words = line.text.split(" ")
-    at, width = sum(len(word) + 1 for word in words[: place - 1]), max(len(words[place - 1]), 1) if place <= len(words) else 1
+    at, width = sum(len(word) + 1 for word in words[: place - 1]), len((words + [""])[place - 1]) or 1
     first = max(0, at - SHOWN // 2)
     shown = "".join(letter if 32 <= ord(letter) <= 126 else "?" for letter in line.text[first : first + SHOWN])
     return [f"    {shown}", f"    {' ' * (at - first)}{'^' * min(width, SHOWN // 2)}"]
@@ -313,8 +333,8 @@ def of_line(case, reason):
         return [f"line {place}: {UNKNOWN.format(reason)}", *(marked(case.line, 1) if case.line else [])]
     if case.line is None or wrong.place == 0:
         return [f"behind line {len(case.lines)}: {wrong.reason}; {wrong.mending}"]
-    said = [f"line {case.line.place}, word {wrong.place}: {wrong.reason}; {wrong.mending}", *marked(case.line, wrong.place)]
-    return said + ([f"the form is: {case.form.text}"] if case.form and reason in ("FORM", "RANGE", "NAME") else [])
+    said = f"line {case.line.place}, word {wrong.place}: {wrong.reason}; {wrong.mending}"
+    return [said, *marked(case.line, wrong.place)] + ([f"the form is: {case.form.text}"] if case.form and reason in ("FORM", "RANGE", "NAME") else [])
 
 
 def of_look(program, script, number, ring, last, given):
@@ -329,14 +349,15 @@ def of_look(program, script, number, ring, last, given):
     lawful = [place for place in [0, *ends] if place >= last]
     texts = [str(place) for place in lawful]
     shown = ", ".join(texts if len(texts) <= 9 else [*texts[:4], "..", *texts[-4:]])
-    why = "stands before the last look at that ring" if given < last else "is not where a record ends that was written by then"
+    why = "stands before the last look" if given < last else "is not where a record ends that was written by then"
     place, line = 0, None
     for line in (line for line in lines_of(script.text) if line.head == "order"):
         if place + len(line.words) > number:
             break
         place += len(line.words)
     word = number - place + 2
-    return [f"line {line.place}, word {word}: act {number}, `s{ring}={given}`, {why}; write a place of {shown}", *marked(line, word)]
+    said = f"line {line.place}, word {word}: act {number}, `s{ring}={given}`, {why}; write a place of {shown}"
+    return [said, *marked(line, word)]
 
 
 def explained(program, name, text):

@@ -1,8 +1,8 @@
 #!/usr/bin/env python3
 """Draws who was on which counter of which processor when, as an SVG.
 
-Usage: timeline.py [--program] PROGRAM SCRIPT
-       timeline.py SCRIPT
+Usage: timeline.py [--program PROGRAM] SCRIPT
+       timeline.py PROGRAM SCRIPT
 
 PROGRAM is the built program, crates/perf_run/out/perf_run; `rt run` in crates/perf_run leaves it there, and where it is
 not given it is sought there. SCRIPT is a script that the program does, and that leaves one of the four tools without
@@ -119,7 +119,8 @@ def in_words(cause):
         return "in error: " + in_words(" ".join(named)) if named else "in error"
     if word == "hall":
         events = sorted(named, key=int)
-        return f"too few counters for events {listed(events)}" if len(events) > 1 else f"no counter for event {events[0]}"
+        many = f"too few counters for events {listed(events)}"
+        return many if len(events) > 1 else f"no counter for event {events[0]}"
     return {
         "earlier": "behind event {}, which was refused",
         "exclusive": "event {} is exclusive",
@@ -233,7 +234,8 @@ class Picture:
         left = self.labels.left
         marks = [left + WIDTH * i // 4 for i in range(5)]
         lines = [f'<line x1="{x}" x2="{x}" y1="{TOP - 8}" y2="{self.y}" stroke="#ddd"/>' for x in marks]
-        numbers = [f'<text x="{x}" y="38" text-anchor="middle">{self.end * i // 4:,}</text>' for i, x in enumerate(marks)]
+        place = 'y="38" text-anchor="middle"'
+        numbers = [f'<text x="{x}" {place}>{self.end * i // 4:,}</text>' for i, x in enumerate(marks)]
         of_sums = f'<text x="{left + WIDTH + 10}" y="18">time on, of the whole</text>'
         return [*lines, *numbers, f'<text x="{left}" y="18">{UNIT}</text>', of_sums]
 

@@ -34,6 +34,6 @@ def cost(program, words, text="", status=0, note=""):
         noted.seek(0)
         said = noted.read().decode(errors="replace").strip()
     if (run.returncode, said) != (status, note):
-        wanted = f"status {status}, {note or 'no note'}"
-        raise Fault(f"{program} {' '.join(words)} ended with status {run.returncode}, {said or 'no note'}; wanted: {wanted}")
+        ended, wanted = (f"status {one}, {text or 'no note'}" for one, text in ((run.returncode, said), (status, note)))
+        raise Fault(f"{program} {' '.join(words)} ended with {ended}; wanted: {wanted}")
     return Cost(seconds, usage.ru_utime + usage.ru_stime, usage.ru_minflt + usage.ru_majflt, usage.ru_maxrss * 1024)

@@ -173,7 +173,7 @@ def settle(found):
 
 def main(crate, *names):
     if not os.path.isdir(f"crates/{crate}/must-fail"):
-        raise Fault(f"crates/{crate}/must-fail: no such folder; run it from the top of the repository, with a crate's name")
+        raise Fault(f"crates/{crate}/must-fail: no such folder; run it at the top, with a crate's name")
     os.chdir(f"crates/{crate}")
     edits = sorted(glob.glob("must-fail/*.edit"))
     settle(lacking([it for it in edits if not names or os.path.basename(it)[:-5] in names]))

@@ -80,8 +80,8 @@ def of_number_of_words(event, said, seen):
 
 
 def of_lost_word(comparison, member, event, said, seen):
-    """In a group read the last copy's own count, which is 0, is written over the original's. Where several events fill a
-    ring in one stretch, others of their records are lost."""
+    """In a group read the last copy's own count, which is 0, is written over the original's. Where several events fill
+    a ring in one stretch, others of their records are lost."""
     if loses_as_many(comparison, member.ring):
         return "lost-in-a-stretch"
     is_overwritten = (
@@ -171,8 +171,8 @@ def loses_as_many(comparison, ring):
 
 
 def loses_others(comparison, ring, said, seen):
-    """Where several events overflow in the stretch that fills the ring, other events' records are lost: as many records of
-    the same type, size, mode and lost count stand there in their places."""
+    """Where several events overflow in the stretch that fills the ring, other events' records are lost: as many records
+    of the same type, size, mode and lost count stand there in their places."""
 
     def plain(records):
         return [[record.get(name) for name in ("type", "size", "mode", "lost")] for record in records]

@@ -24,10 +24,10 @@ class Parser(argparse.ArgumentParser):
     def __init__(self, command: str, doc: str, epilog: str | None = None) -> None:
         about, _, rest = doc.partition("\n\nUsage: ")
         usage, _, details = rest.partition("\n\n")
-        form = argparse.RawDescriptionHelpFormatter
         text = f"{about}\n\n{details}".strip()
         name = name_of(command)
-        super().__init__(prog=name, usage=usage.replace(command, name) or None, description=text, epilog=epilog, formatter_class=form)
+        form = argparse.RawDescriptionHelpFormatter
+        super().__init__(name, usage.replace(command, name) or None, text, epilog, formatter_class=form)
         self.add_argument("--version", action="version", version=f"%(prog)s {perfscript.VERSION}")
         self.add_argument("--program", metavar="PATH", help="the built perf_run")
 

@@ -72,7 +72,10 @@ FORMS = (
     ("12", "fork TASK"),
     ("12", "exit"),
     ("12", "tool TOOL"),
-    ("12", "open SLOT kind=NAME task=ALL|TASK cpu=ANY|CPU [leader=SLOT] [period=N] [sample=BITS] [format=BITS] [flags=FLAGS]"),
+    (
+        "12",
+        "open SLOT kind=NAME task=ALL|TASK cpu=ANY|CPU [leader=SLOT] [period=N] [sample=BITS] [format=BITS] [flags=FLAGS]",
+    ),
     ("12", "open SLOT attr=BYTES task=ALL|TASK cpu=ANY|CPU [leader=SLOT]"),
     ("12", "enable SLOT [GROUP]"),
     ("12", "disable SLOT [GROUP]"),
@@ -168,7 +171,8 @@ def parted(words: list[str], form: Form) -> tuple[list[tuple[int, Part, str]], W
             at = len(words)
             continue
         word = words[at] if at < len(words) else None
-        if word is not None and (word.startswith(part.key + "=") if part.key else not part.is_optional or word == "group"):
+        is_there = word is not None and (not part.is_optional or word == "group")
+        if word is not None and (word.startswith(part.key + "=") if part.key else is_there):
             found.append((at + 1, part, word[len(part.key) + 1 :] if part.key else word))
             at += 1
         elif not part.is_optional:
@@ -230,5 +234,6 @@ def _wrong_flags(value: str) -> tuple[str, str] | None:
         if flag not in FLAGS:
             return f"`{flag}` is not a flag", near(flag, FLAGS)
     if given != [flag for flag in FLAGS if flag in given]:
-        return "its flags stand twice or in another order", f"write flags={','.join(flag for flag in FLAGS if flag in given)}"
+        right = ",".join(flag for flag in FLAGS if flag in given)
+        return "its flags stand twice or in another order", f"write flags={right}"
     return None

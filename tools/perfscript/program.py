@@ -49,8 +49,9 @@ class Program:
         found = self.outcomes(calls)
         for (words, _), outcome in zip(calls, found):
             if outcome.status:
-                hint = "; tools/explain.py says why" if outcome.note.startswith(("perf_run: line", "perf_run: act")) else ""
-                raise Fault(f"{self.path} {words} ended with status {outcome.status}: {outcome.note or 'no note'}{hint}")
+                is_refused = outcome.note.startswith(("perf_run: line", "perf_run: act"))
+                said = (outcome.note or "no note") + "; tools/explain.py says why" * is_refused
+                raise Fault(f"{self.path} {words} ended with status {outcome.status}: {said}")
         return [outcome.out for outcome in found]
 
     def report(self, text: str) -> Report:

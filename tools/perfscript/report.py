@@ -11,7 +11,7 @@ WORD = re.compile(r"[0-9a-f]{16}", re.ASCII)
 
 
 class Reply(NamedTuple):
-    """What a line answered beside Ok: its place in the report, from 1, the line's first word, and the answer's words."""
+    """What a line answered beside Ok: its place in the report, from 1, the line's first word, and the words."""
 
     place: int
     head: str
@@ -43,7 +43,8 @@ class Ring:
 
     def __init__(self, number: int, given: dict[str, str], place: int) -> None:
         self.number, self.place = number, place
-        self.head, self.tail, self.lost, self.pending = (int(given[name]) for name in ("head", "tail", "lost", "pending"))
+        self.head, self.tail = int(given["head"]), int(given["tail"])
+        self.lost, self.pending = int(given["lost"]), int(given["pending"])
         self.records: list[Record] = []
 
     @property
