@@ -50,9 +50,10 @@ class Case:
         self.form = self.best_form()
 
     def best_form(self):
-        """The form whose words the line has the furthest; None where its first word is of no line."""
+        """The form that the line could have had; None where its first word is of no line."""
         found = forms_of(self.words[0], self.version) if self.words else []
-        return max(found, key=lambda form: len(parted(self.words, form)[0]), default=None)
+        is_of_bytes = any(word.startswith("attr=") for word in self.words)
+        return (found[-1] if is_of_bytes else found[0]) if found else None
 
     @property
     def parts(self):
@@ -89,8 +90,9 @@ def of_form(case):
     head = case.words[0] if case.words else ""
     if "" in case.words:
         place = case.words.index("") + 1
-        where = "the line is empty" if case.words == [""] else "a space too many stands in the line"
-        return Wrong(place, where, "write one space between two words, and no other")
+        if case.words == [""]:
+            return Wrong(place, "the line is empty", "take it away")
+        return Wrong(place, "a space too many stands in the line", "write one space between two words, and no other")
     if not case.form:
         if head in HEADS:
             reason = f"`{head}` is not a line of `perf {case.version}`, which is line 1"

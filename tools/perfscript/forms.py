@@ -171,7 +171,8 @@ def parted(words: list[str], form: Form) -> tuple[list[tuple[int, Part, str]], W
             at = len(words)
             continue
         word = words[at] if at < len(words) else None
-        is_there = word is not None and (not part.is_optional or word == "group")
+        is_key = word is not None and any(word.startswith(one.key + "=") for one in form.parts if one.key)
+        is_there = word is not None and not is_key and (not part.is_optional or word == "group")
         if word is not None and (word.startswith(part.key + "=") if part.key else is_there):
             found.append((at + 1, part, word[len(part.key) + 1 :] if part.key else word))
             at += 1
