@@ -234,7 +234,7 @@ def open_of_no_kind(case, script):
     try:
         Attribute(case.line, script.kinds)
         return None
-    except (KeyError, IndexError):
+    except Fault:
         reason = f"type and config of the bytes name no kind of {len(script.kinds)} declared ones"
         known = "config, bytes 8 to 15, is a declared kind's number from 0; with type 1 it is 1, 3, 4 or 9"
         return Wrong(3, reason, known)

@@ -121,7 +121,7 @@ class Doing:
         if reason:
             return Answer(skipped=reason)
         try:
-            return Answer(words=DOERS[line.head](self, line))
+            return Answer(words=getattr(self, line.head)(line))
         except kernel.Refused as refused:
             return Answer(errno=refused.name)
         except KeyError as fault:
@@ -155,8 +155,10 @@ class Doing:
         kernel.put_at(descriptor, self.descriptor(line.words[0]))
         self.ids[kernel.id_of(self.descriptor(line.words[0]))] = self.follow.next_id
 
-    def command(self, line):
+    def enable(self, line):
         kernel.command(self.descriptor(line.words[0]), COMMANDS[line.head], kernel.GROUP if line.is_group else 0)
+
+    disable = reset = enable
 
     def period(self, line):
         event = self.follow.event(line.slot())
@@ -270,21 +272,6 @@ OWN_REFUSALS = {
     "EIDLE": "which task is on is this project's own",
     "EBUSY": "which task is on, and that a ring is mapped once, is this project's own",
     "EAGAIN": "a limit of this project's own",
-}
-DOERS = {
-    "open": Doing.open,
-    "enable": Doing.command,
-    "disable": Doing.command,
-    "reset": Doing.command,
-    "period": Doing.period,
-    "read": Doing.read,
-    "map": Doing.map,
-    "output": Doing.output,
-    "close": Doing.close,
-    "switch": Doing.switch,
-    "work": Doing.work,
-    "fork": Doing.fork,
-    "exit": Doing.exit,
 }
 
 

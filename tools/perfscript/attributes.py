@@ -1,9 +1,10 @@
 """What an `open` line asks for, by words or by the bytes of a struct perf_event_attr."""
 
 import struct
-from collections.abc import Iterable
+from collections.abc import Collection
 
 from perfscript import names
+from perfscript.faults import Fault
 from perfscript.script import Line
 
 # the fields of a struct perf_event_attr of 64 bytes: type, size, config, sample_period, sample_type, read_format, flags
@@ -20,7 +21,7 @@ class Attribute:
     """An `open` line that the program takes. `flags` is the word of a struct perf_event_attr, `task` and `cpu` are the
     line's words, and `kinds` the declared kinds in their order."""
 
-    def __init__(self, line: Line, kinds: Iterable[str]) -> None:
+    def __init__(self, line: Line, kinds: Collection[str]) -> None:
         given = line.given()
         self.task, self.cpu = given["task"], given["cpu"]
         self.leader = int(given["leader"]) if "leader" in given else None
@@ -33,7 +34,10 @@ class Attribute:
         else:
             fields = struct.unpack("<" + FIELDS, self.bytes[:48].ljust(48, b"\0"))
             kind_class, _, config, self.period, self.sample, self.format, self.flags = fields
-            self.kind = names.SOFTWARE_NAMES[config] if kind_class == names.SOFTWARE else list(kinds)[config]
+            known = names.SOFTWARE_NAMES if kind_class == names.SOFTWARE else dict(enumerate(kinds))
+            self.kind = known.get(config, "")
+        if self.kind not in names.SOFTWARE_KINDS and self.kind not in kinds:
+            raise Fault(f"script line {line.place}: its kind is not declared: {line.text[:80]}")
 
     def has(self, flag: str) -> bool:
         return bool(self.flags >> names.FLAGS[flag] & 1)

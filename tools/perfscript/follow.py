@@ -11,6 +11,9 @@ from perfscript.faults import Fault
 from perfscript.report import Report
 from perfscript.script import Line, Script
 
+# the lines that change which events are open, where they count and where they write
+STEPS = ("open", "close", "enable", "disable", "reset", "period", "map", "output", "switch", "fork", "exit")
+
 
 class Event:
     """An event that was opened, or a copy of one."""
@@ -111,7 +114,7 @@ class Follow:
         if self.report.refusal(line) is not None or line.head not in STEPS:
             return
         try:
-            STEPS[line.head](self, line)
+            getattr(self, line.head)(line)
         except (KeyError, ValueError, IndexError, StopIteration):
             raise Fault(f"the report has no refusal of {line.name} {line.text}, which can't be done there") from None
 
@@ -150,7 +153,7 @@ class Follow:
         self.copies = [copy for copy in self.copies if copy.original is not event]
         event.is_open = False
 
-    def command(self, line: Line) -> None:
+    def enable(self, line: Line) -> None:
         event = self.slots[line.slot()]
         reached = self.group(event.slot) if line.is_group else [event]
         for member in list(reached):
@@ -158,6 +161,8 @@ class Follow:
             if line.head != "reset":
                 for one in [member, *self.live_copies(member)]:
                     one.state_is_ready = line.head == "enable"
+
+    disable = reset = enable
 
     def period(self, line: Line) -> None:
         event = self.slots[line.slot()]
@@ -206,18 +211,3 @@ class Follow:
             self.folded.add(copy.original or copy)
             self.context_of(copy).remove(copy)
             self.copies.remove(copy)
-
-
-STEPS = {
-    "open": Follow.open,
-    "close": Follow.close,
-    "enable": Follow.command,
-    "disable": Follow.command,
-    "reset": Follow.command,
-    "period": Follow.period,
-    "map": Follow.map,
-    "output": Follow.output,
-    "switch": Follow.switch,
-    "fork": Follow.fork,
-    "exit": Follow.exit,
-}

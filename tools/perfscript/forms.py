@@ -3,12 +3,14 @@
 import difflib
 import re
 from collections.abc import Iterable
+from functools import cache
 from typing import NamedTuple
 
 from perfscript import limits
 from perfscript.names import FLAGS
-from perfscript.script import DECLARATIONS, HEADERS
 
+HEADERS = ("processor", "tool")
+DECLARATIONS = ("perf", "machine", "pmu", "kind", "task", "ring", "reader", "order", "end")
 # the sections of a script in their order; lines of processors and tools stand in the sections of their headers
 SECTIONS = ("perf", "machine", "pmu", "kind", "task", "ring", "processor", "tool", "reader", "order", "end")
 WIDE = (1 << 64) - 1
@@ -129,6 +131,7 @@ class Wrong(NamedTuple):
     mending: str
 
 
+@cache
 def forms_of(head: str, version: str) -> list[Form]:
     """The forms that a first word has in a version."""
     found = []
@@ -140,6 +143,15 @@ def forms_of(head: str, version: str) -> list[Form]:
             shown = [f"[{part.shown}]" if part.is_optional else part.shown for part in parts]
             found.append(Form(head, parts, " ".join([head, *shown])))
     return found
+
+
+def is_formed(words: list[str], version: str) -> bool:
+    """Whether a line has a form of a version, and each word is spelled right."""
+    for form in forms_of(words[0], version):
+        found, wrong = parted(words, form)
+        if wrong is None and not any(misspelled(part, value) for _, part, value in found):
+            return True
+    return False
 
 
 def section_of(head: str) -> int:

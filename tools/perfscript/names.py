@@ -7,13 +7,7 @@ SOFTWARE_NAMES = {number: name for name, number in SOFTWARE_KINDS.items()}
 
 # the flags in a script's order, each with its bit in the flags word of a struct perf_event_attr
 FLAGS = {
-    "disabled": 0,
-    "inherit": 1,
-    "pinned": 2,
-    "exclusive": 3,
-    "exclude_user": 4,
-    "exclude_kernel": 5,
-    "sample_id_all": 18,
+    "disabled": 0, "inherit": 1, "pinned": 2, "exclusive": 3, "exclude_user": 4, "exclude_kernel": 5, "sample_id_all": 18
 }
 
 # PERF_FORMAT_..
@@ -22,22 +16,11 @@ ENABLED, RUNNING, FORMAT_ID, FORMAT_GROUP, FORMAT_LOST = 0x1, 0x2, 0x4, 0x8, 0x1
 # PERF_SAMPLE_.., in the order in which the fields stand in a sample, and in the trailer of another record
 IP, TID, TIME, ID, CPU, PERIOD, STREAM_ID, IDENTIFIER = 0x1, 0x2, 0x4, 0x40, 0x80, 0x100, 0x200, 0x10000
 FIELDS = (
-    (IDENTIFIER, "IDENTIFIER"),
-    (IP, "IP"),
-    (TID, "TID"),
-    (TIME, "TIME"),
-    (ID, "ID"),
-    (STREAM_ID, "STREAM_ID"),
-    (CPU, "CPU"),
-    (PERIOD, "PERIOD"),
+    (IDENTIFIER, "IDENTIFIER"), (IP, "IP"), (TID, "TID"), (TIME, "TIME"), (ID, "ID"), (STREAM_ID, "STREAM_ID"),
+    (CPU, "CPU"), (PERIOD, "PERIOD"),
 )
 TRAILER_FIELDS = (
-    (TID, "TID"),
-    (TIME, "TIME"),
-    (ID, "ID"),
-    (STREAM_ID, "STREAM_ID"),
-    (CPU, "CPU"),
-    (IDENTIFIER, "IDENTIFIER"),
+    (TID, "TID"), (TIME, "TIME"), (ID, "ID"), (STREAM_ID, "STREAM_ID"), (CPU, "CPU"), (IDENTIFIER, "IDENTIFIER")
 )
 
 # PERF_RECORD_LOST, PERF_RECORD_SAMPLE

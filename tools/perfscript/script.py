@@ -6,10 +6,9 @@ from dataclasses import dataclass, field
 from typing import NamedTuple, TypeAlias
 
 from perfscript.faults import Fault
+from perfscript.forms import DECLARATIONS, HEADERS, is_formed
 from perfscript.limits import MOST_CPUS
 
-HEADERS = ("processor", "tool")
-DECLARATIONS = ("perf", "machine", "pmu", "kind", "task", "ring", "reader", "order", "end")
 ACT = re.compile(r"([pt])(\d)|s(\d{1,20})=(\d{1,20})", re.ASCII)
 ACTS_A_LINE = 200
 
@@ -120,6 +119,7 @@ class Script:
         self.lines: dict[str, list[Line]] = {}
         self.order: list[str] = []
         self.head: list[Line] = []
+        self.version = "2" if text.startswith("perf 2\n") else "1"
         for line in lines_of(text):
             try:
                 self._read(line)
@@ -132,13 +132,14 @@ class Script:
             if not ACT.fullmatch(line.actor):
                 raise ValueError(line.actor)
             self.lines[line.actor] = []
+        elif line.head != "order" and not is_formed([line.head, *line.words], self.version):
+            raise ValueError(line.head)
         elif line.actor:
-            line.given()
             self.lines[line.actor].append(line)
-        elif line.head in READERS:
-            READERS[line.head](self, line)
         elif line.head not in DECLARATIONS:
             raise ValueError(line.head)
+        elif line.head not in ("perf", "end"):
+            getattr(self, f"_{line.head}")(line)
         if not line.actor and line.head not in ("reader", "order", "end"):
             self.head.append(line)
 
@@ -206,17 +207,6 @@ class Script:
     def counters_of(self, cpu: int) -> int:
         """How many counters a processor has."""
         return next((pmu.counters for pmu in self.pmus.values() if pmu.cpus >> cpu & 1), 0)
-
-
-READERS = {
-    "machine": Script._machine,
-    "pmu": Script._pmu,
-    "kind": Script._kind,
-    "task": Script._task,
-    "ring": Script._ring,
-    "reader": Script._reader,
-    "order": Script._order,
-}
 
 
 @dataclass

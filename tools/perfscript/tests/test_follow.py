@@ -53,8 +53,13 @@ class Attributes(unittest.TestCase):
         other = Attribute(Script(text).lines["t0"][0], script.kinds)
         fields = [(one.kind, one.period, one.sample, one.format, one.flags) for one in (words, other)]
         self.assertEqual(fields[0], fields[1])
-        short = TEXT.replace("kind=faults task=0 cpu=0 period=3", "attr=0100000000000000" + "09 task=0 cpu=0")
-        self.assertEqual(("dummy", 0), (lambda one: (one.kind, one.period))(Attribute(Script(short).lines["t0"][0], [])))
+        for given, kinds, kind in (("010000000000000009", [], "dummy"), ("040000000000000001", ["a", "b"], "b")):
+            line = Script(f"perf 1\ntool 0\nopen 0 attr={given} task=0 cpu=0\nend\n").lines["t0"][0]
+            self.assertEqual((kind, 0), (Attribute(line, kinds).kind, Attribute(line, kinds).period))
+        for given in ("kind=x", "attr=010000000000000002", "attr=040000000000000001"):
+            line = Script(f"perf 1\ntool 0\nopen 0 {given} task=0 cpu=0\nend\n").lines["t0"][0]
+            with self.assertRaisesRegex(Fault, "script line 3: its kind is not declared: open 0 "):
+                Attribute(line, ["a"])
 
     def test_words_of_formats(self):
         line = Script(TEXT).lines["t0"][0]
