@@ -1,0 +1,127 @@
+"""The tools that read definitions and proofs, on a small repository and on this one."""
+
+import contextlib
+import io
+import os
+import tempfile
+import unittest
+from collections.abc import Iterator
+
+from maintain import house_counts, repeated_lemmas, trusted
+from maintain.specs import all_definitions
+
+REPOSITORY = os.path.normpath(os.path.join(os.path.dirname(os.path.abspath(__file__)), "..", "..", ".."))
+
+BASE = """-- What a pair is.
+use Rattle.std.specs.Prelude.{ℕ}
+
+-- two numbers
+pub record Pair : Type 0 where
+  pub left : ℕ
+  pub right : ℕ
+
+module _ (unit : ℕ) where
+  -- their sum, in units
+  pub scaled : Pair → ℕ
+  scaled p = p.left * unit + p.right * unit
+
+-- nobody names this
+abbrev pub alone : ℕ → ℕ
+alone n = n
+"""
+
+TOP = """-- What is so.
+use Rattle.low.specs.{Pairs.{Pair, scaled}, Pairs as pairs}
+
+abbrev pub IsSo : Pair → Type 0
+IsSo p = scaled 2 p ≡ pairs.alone 4
+"""
+
+LEMMAS = """module _ (A : Type 0) (f : A → A) where
+  -- once
+  pub one : (x y : A) → x ≡ y → f x ≡ f y
+  one x y e = ap f e
+
+pub other : (B : Type 0) (g : B → B) (u v : B) → u ≡ v → g u ≡ g v
+other B g u v e = ap g e
+
+third : (n : ℕ) → n ≡ n
+third n = refl
+"""
+
+
+@contextlib.contextmanager
+def small_repository() -> Iterator[None]:
+    """A repository of three files of definitions and proofs, as the current folder."""
+    files = {
+        "crates/low/specs/Pairs.antt": BASE,
+        "crates/low/proofs/Lemmas.antt": LEMMAS,
+        "crates/top/specs/Sos.antt": TOP,
+    }
+    here = os.getcwd()
+    with tempfile.TemporaryDirectory() as folder:
+        for path, text in files.items():
+            os.makedirs(os.path.join(folder, os.path.dirname(path)), exist_ok=True)
+            with open(os.path.join(folder, path), "w", encoding="utf-8") as file:
+                file.write(text)
+        os.chdir(folder)
+        try:
+            yield
+        finally:
+            os.chdir(here)
+
+
+class SmallRepository(unittest.TestCase):
+    def test_definitions_name_others(self) -> None:
+        with small_repository():
+            found = all_definitions()
+        names = {it.name: [other[2] for other in it.cites] for it in found.values()}
+        self.assertEqual(names, {"Pair": [], "scaled": ["Pair"], "alone": [], "IsSo": ["Pair", "scaled", "alone"]})
+        places = {it.name: (it.first, it.last, it.lines) for it in found.values()}
+        self.assertEqual(places["Pair"], (5, 7, 3))
+        self.assertEqual(places["scaled"], (11, 12, 2))
+
+    def test_each_is_read_after_those_that_it_names(self) -> None:
+        with small_repository():
+            order = trusted.reached(all_definitions(), [("top", "Sos", "IsSo")])
+        self.assertEqual([it.name for it in order], ["Pair", "scaled", "alone", "IsSo"])
+
+    def test_statements_are_compared_up_to_names(self) -> None:
+        with small_repository():
+            found = repeated_lemmas.repeated()
+        self.assertEqual([[name for _, _, name in places] for places in found], [["one", "other"]])
+
+    def test_a_head_is_written_once(self) -> None:
+        headed = trusted.headed(BASE, True)
+        self.assertEqual(headed, "-- believed\n" + BASE)
+        self.assertEqual(trusted.headed(headed, False), "-- inner\n" + BASE)
+
+
+class ThisRepository(unittest.TestCase):
+    def setUp(self) -> None:
+        self.here = os.getcwd()
+        os.chdir(REPOSITORY)
+
+    def tearDown(self) -> None:
+        os.chdir(self.here)
+
+    def test_what_must_be_believed_is_up_to_date(self) -> None:
+        said = io.StringIO()
+        with contextlib.redirect_stderr(said):
+            status = trusted.main("--check")
+        self.assertEqual((status, said.getvalue()), (0, ""))
+
+    def test_the_headline_rests_on_what_it_speaks_of(self) -> None:
+        names = {it.name for it in trusted.believed()}
+        for name in ("StandsFor", "report", "IsLawfulOrder", "tight_set", "settle_all", "sent_at", "rows_of"):
+            self.assertIn(name, names)
+
+    def test_counts_are_printed(self) -> None:
+        said = io.StringIO()
+        with contextlib.redirect_stdout(said):
+            house_counts.main()
+        self.assertRegex(said.getvalue(), r"(?m)^ *[1-9]\d* lines of specs$")
+
+
+if __name__ == "__main__":
+    unittest.main()

@@ -1,0 +1,139 @@
+#!/usr/bin/env python3
+"""Says which definitions must be believed by a reader of the headline, the contract of `perf_main`.
+
+It walks from the clauses of that call to each definition that they name, and on to those that these name. It prints them in
+an order in which they can be read, each behind those that it names, with the lines that each has.
+
+Usage: trusted.py [--table | --write | --check]    from the top of the repository
+
+--table prints the table of docs/DEFINITIONS.md, a row a file. --write puts it there, between its two marks, and writes the
+first line of each file of definitions: `-- believed` where the headline rests on one of its definitions, else `-- inner`.
+--check ends with 1 where the page or a file has another, and names it.
+"""
+
+import os
+import re
+import sys
+
+sys.path.insert(0, os.path.join(os.path.dirname(os.path.abspath(__file__)), ".."))
+
+from maintain.specs import Definition, Key, all_definitions, cited, imports_of  # noqa: E402  the package is found only now
+from perfscript import Fault, command  # noqa: E402
+
+PAGE = "docs/DEFINITIONS.md"
+BELIEVED, INNER = "-- believed\n", "-- inner\n"
+MARKS = ("<!-- trusted.py writes from here -->", "<!-- to here -->")
+SOURCE, CALL = "crates/perf_top/src/lib.rt", "perf_main"
+
+
+def clauses_of(path: str, call: str) -> tuple[str, str]:
+    """A source file, and the text of the clauses of one of its calls."""
+    text = read(path)
+    found = re.search(rf"(?ms)^pub fn {call}\b.*?\) -> \w+\n(.*?)^\{{", text)
+    if not found:
+        raise Fault(f"{path}: no call {call}; name the call in trusted.py anew")
+    return text, found[1]
+
+
+def reached(definitions: dict[Key, Definition], first: list[Key]) -> list[Definition]:
+    """The definitions that these lead to, each behind those that it names."""
+    done: dict[Key, None] = {}
+
+    def visit(start: Key) -> None:
+        waiting = [(start, iter(definitions[start].cites))]
+        under = {start}
+        while waiting:
+            key, rest = waiting[-1]
+            following = next((it for it in rest if it not in done and it not in under), None)
+            if following is None:
+                waiting.pop()
+                done[key] = None
+            else:
+                under.add(following)
+                waiting.append((following, iter(definitions[following].cites)))
+
+    for key in first:
+        if key in definitions and key not in done:
+            visit(key)
+    return [definitions[key] for key in done]
+
+
+def believed() -> list[Definition]:
+    """What the headline rests on, in an order in which it can be read."""
+    text, clauses = clauses_of(SOURCE, CALL)
+    return reached(all_definitions(), cited(clauses, *imports_of(text)))
+
+
+def table(found: list[Definition]) -> str:
+    """A row for each file, in the order in which it is first needed: how many definitions, and how many lines."""
+    files: dict[str, list[Definition]] = {}
+    for it in found:
+        files.setdefault(it.path, []).append(it)
+    rows = [
+        f"| `{path}` | {len(some)} | {sum(it.lines for it in some)} |" for path, some in files.items()
+    ]
+    whole = f"{len(found)} definitions, {sum(it.lines for it in found)} lines, in {len(files)} files."
+    return "\n".join([whole, "", "| File | Definitions | Lines |", "|---|---|---|", *rows])
+
+
+def headed(text: str, is_believed: bool) -> str:
+    """A file of definitions with the first line that says whether the headline rests on it."""
+    rest = text.removeprefix(BELIEVED).removeprefix(INNER)
+    return (BELIEVED if is_believed else INNER) + rest
+
+
+def spec_files() -> list[str]:
+    """The files of definitions of all crates, without those that only list others."""
+    found = []
+    for crate in sorted(os.listdir("crates")):
+        for folder, _, names in os.walk(f"crates/{crate}/specs"):
+            found += [os.path.join(folder, name) for name in names if name.endswith(".antt") and name != "Lib.antt"]
+    return sorted(found)
+
+
+def with_table(page: str, written: str) -> str:
+    """The page with the table between its marks."""
+    before, first, rest = page.partition(MARKS[0])
+    _, last, after = rest.partition(MARKS[1])
+    if not first or not last:
+        raise Fault(f"{PAGE}: the two marks of trusted.py are not there; put them where the table belongs")
+    return f"{before}{first}\n{written}\n{last}{after}"
+
+
+def main(*words: str) -> int:
+    if words not in ((), ("--table",), ("--write",), ("--check",)):
+        raise Fault(f"{' '.join(words)}: not known; trusted.py --help has the words")
+    found = believed()
+    if not words:
+        for it in found:
+            print(f"{it.path}:{it.first}: {it.name} ({it.lines})")
+    if words in ((), ("--table",)):
+        print(table(found))
+        return 0
+    paths = {it.path for it in found}
+    wanted = {path: headed(read(path), path in paths) for path in spec_files()}
+    if words == ("--write",):
+        for path, text in wanted.items():
+            write(path, text)
+        # the lines have moved by the heads
+        write(PAGE, with_table(read(PAGE), table(believed())))
+        return 0
+    wanted[PAGE] = with_table(read(PAGE), table(found))
+    stale = [path for path, text in wanted.items() if read(path) != text]
+    for path in stale:
+        print(f"{path}: stale; trusted.py --write brings it up to date", file=sys.stderr)
+    return 1 if stale else 0
+
+
+def read(path: str) -> str:
+    with open(path, encoding="utf-8") as file:
+        return file.read()
+
+
+def write(path: str, text: str) -> None:
+    with open(path, "w", encoding="utf-8") as file:
+        file.write(text)
+
+
+if __name__ == "__main__":
+    sys.exit(command.called(__doc__, main))
