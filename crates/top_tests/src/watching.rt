@@ -1,6 +1,6 @@
 //! One thread works, and another watches what the work counts: the file that docs/SHARING.md prints.
 
-ghost use Rattle.std.specs.Prelude.{◌≡◌, [], IfOk};
+ghost use Rattle.std.specs.Prelude.{◌≡◌, [], IfOk, IfSome};
 ghost use Rattle.perf_base.specs.Scripts.{IsCovered};
 ghost use Rattle.shared_object.specs.Histories.{BelongsTo};
 ghost use Rattle.perf_share.specs.Calls.{Fits};
@@ -20,20 +20,30 @@ use std::thread::join;
 // One processor with one counter, which counts cycles.
 const MACHINE: [u8; 56] = *b"perf 1\nmachine cpus=1 counters=1\nkind cycles mask=1\nend\n";
 
-// The script of a text, which declares the machine. It has no rings, as sharing asks.
-fn script_without_rings(alloc: Global, text: &[u8]) -> Result<Script, Fail>
-    ensures { IfOk result (λ script. IsCovered script × (script.rings ≡ [])) }
+// The script of a text, which declares the machine, if it has no rings.
+fn script_without_rings(alloc: Global, text: &[u8]) -> Option<Script>
+    ensures { IfSome result (λ script. IsCovered script × (script.rings ≡ [])) }
 {
     if text.len() > 4_194_304 {
-        Err("too long a text")?;
+        return None;
     }
-    let script = read_script(alloc, text)
-        .ok()
-        .ok_or("a faulty text, or no memory")?;
-    if !script.rings().is_empty() {
-        Err("a script with rings")?;
+    let Ok(script) = read_script(alloc, text) else {
+        return None;
+    };
+    if script.rings().is_empty() {
+        Some(script)
+    } else {
+        None
     }
-    Ok(script)
+}
+
+// The shared machine of a script, and its first pass.
+fn share_of(alloc: Global, script: &Script) -> Result<(Share, Pass), Fail>
+    requires { IsCovered script.now × (script.now.rings ≡ []) }
+    ensures { IfOk result (λ r. BelongsTo r.1 r.0) }
+{
+    let made = Share::new(alloc, script);
+    Ok(made.ok().ok_or("memory")?)
 }
 
 // Cycles on processor 0, with both times in each read.
@@ -133,8 +143,8 @@ fn watch(share: &Share, mut pass: Pass, call: &Call, times: u64) -> (Pass, Watch
 #[test]
 fn a_watcher_reads_what_a_worker_counts(rt: HostRuntime) -> Result<(), Fail> {
     let alloc: Global = rt.alloc();
-    let script = script_without_rings(alloc, &MACHINE)?;
-    let (share, mut pass) = Share::new(alloc, &script).ok().ok_or("memory")?;
+    let script = script_without_rings(alloc, &MACHINE).ok_or("no script, or no memory")?;
+    let (share, mut pass) = share_of(alloc, &script)?;
     // A call has to fit the script: test it once.
     let (open, work, read) = (open(0), work(0, 100, 500), read(0));
     check(&rt, share.fits(&open));

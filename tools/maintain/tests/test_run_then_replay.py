@@ -8,10 +8,11 @@ import tempfile
 import unittest
 
 HERE = os.path.dirname(os.path.abspath(__file__))
-sys.path[:0] = [HERE, os.path.join(HERE, "..")]
+sys.path[:0] = [HERE, os.path.join(HERE, ".."), os.path.join(HERE, "..", "..")]
 
 import run_then_replay
 from built import PATH, TOP, require_program
+from perfscript import Program, program_at
 
 CASES = os.path.join(TOP, "crates", "worked_cases", "data")
 # 400 lines of work that write on a small ring, and a reader that tries for as long: hundreds of looks stand in the order
@@ -26,11 +27,12 @@ ANOTHER = "#!/bin/sh\ncat > /dev/null\necho order p0\necho p0.0 $1\necho end\n"
 
 class WhatIsCompared(unittest.TestCase):
     def test_an_order_takes_the_place_of_the_old_one(self) -> None:
-        text = b"perf 1\norder p0\norder p0\nend\n"
-        self.assertEqual(run_then_replay.with_order(text, b"order t0"), b"perf 1\norder t0\nend\n")
+        text = "perf 1\norder p0\norder p0\nend\n"
+        self.assertEqual(run_then_replay.with_order(text, "order t0"), "perf 1\norder t0\nend\n")
 
     def test_counters_alone_are_left_out(self) -> None:
-        self.assertEqual(run_then_replay.without_counters(b"t0.1 seats 0=1 2=0\nend\n"), b"t0.1 seats 0 2\nend\n")
+        self.assertEqual(run_then_replay.without_counters("t0.1 seats 0=1 2=0\nend\n"), "t0.1 seats 0 2\nend\n")
+        self.assertEqual(run_then_replay.without_counters("t0.0 read 5=1\nt0.1 seats 3=1\n"), "t0.0 read 5=1\nt0.1 seats 3\n")
 
     def test_another_report_differs(self) -> None:
         with tempfile.TemporaryDirectory() as folder:
@@ -38,24 +40,27 @@ class WhatIsCompared(unittest.TestCase):
             with open(path, "w") as file:
                 file.write(ANOTHER)
             os.chmod(path, 0o700)
-            self.assertEqual(run_then_replay.differs(path, b"perf 1\nend\n"), "the reports differ")
+            self.assertEqual(run_then_replay.differs(program_at(path), "perf 1\nend\n"), "the reports differ")
 
 
 class OfTheProgram(unittest.TestCase):
+    program: Program
+
     @classmethod
     def setUpClass(cls) -> None:
         require_program()
+        cls.program = program_at(PATH)
 
-    def check_run(self, text: bytes) -> None:
+    def check_run(self, text: str) -> None:
         """The run is done, and the replay of its order writes the same."""
-        self.assertEqual(run_then_replay.call(PATH, "run", text)[0], 0)
-        self.assertIsNone(run_then_replay.differs(PATH, text))
+        self.assertEqual(self.program.call("run", text).status, 0)
+        self.assertIsNone(run_then_replay.differs(self.program, text))
 
     def check_cases(self, pattern: str, least: int) -> None:
         paths = glob.glob(os.path.join(CASES, pattern))
         self.assertGreaterEqual(len(paths), least)
         for path in paths:
-            with self.subTest(path), open(path, "rb") as file:
+            with self.subTest(path), open(path, encoding="utf-8") as file:
                 self.check_run(file.read())
 
     def test_the_examples(self) -> None:
@@ -65,11 +70,11 @@ class OfTheProgram(unittest.TestCase):
         self.check_cases("groups-on-counters/*.script", 20)
 
     def test_a_ring_whose_reader_takes_meanwhile(self) -> None:
-        self.check_run(BUSY.encode())
+        self.check_run(BUSY)
 
     def test_a_made_script(self) -> None:
         made = subprocess.run([PATH, "make", "20", "script"], capture_output=True, check=True)
-        self.check_run(made.stdout)
+        self.check_run(made.stdout.decode())
 
 
 if __name__ == "__main__":

@@ -13,7 +13,6 @@ import definition_lines
 import measuring
 import missing_answers
 import replay_benchmark
-import run_then_replay
 import script_terms
 from perfscript import Fault, Script
 from perfscript.limits import MOST_LINES
@@ -44,16 +43,6 @@ class DefinitionLines(unittest.TestCase):
         check = [sys.executable, os.path.abspath(os.path.join(TOOLS, "definition_lines.py")), "--check"]
         run = subprocess.run(check, cwd=top, capture_output=True, text=True)
         self.assertEqual((run.returncode, run.stderr), (0, ""))
-
-
-class Runs(unittest.TestCase):
-    def test_an_order_takes_the_place_of_the_old_one(self):
-        text = "perf 1\norder p0\norder p0\nend\n"
-        self.assertEqual(run_then_replay.with_order(text, "order t0"), "perf 1\norder t0\nend\n")
-
-    def test_counters_alone_are_left_out(self):
-        self.assertEqual(run_then_replay.without_counters("t0.1 seats 0=1 2=0\nend\n"), "t0.1 seats 0 2\nend\n")
-        self.assertEqual(run_then_replay.without_counters("t0.0 read 5=1\nt0.1 seats 3=1\n"), "t0.0 read 5=1\nt0.1 seats 3\n")
 
 
 class Terms(unittest.TestCase):
