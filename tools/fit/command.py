@@ -4,10 +4,14 @@ import sys
 
 from fit import machines as kinds_of_core
 from fit import runs, table
+from fit.answering import answer_to
+from fit.default_events import default_lists, detail_lists
 from fit.drawing import picture_of
-from fit.events import SOFTWARE, read_lists
+from fit.events import read_lists
 from fit.faults import BadInput, ProgramFault
-from fit.findings import judged_twice
+from fit.hints import hints_of
+from fit.listing import listing
+from fit.meanings import Meanings
 from fit.plan import plan_of
 from fit.script import scripts_of
 from perfscript import command, program_at
@@ -16,7 +20,8 @@ FITS, FAILS, NO_ANSWER = 0, 1, 3
 ABOUT = "Says whether the events of a `perf stat -e` list fit on the counters of a machine, what each gets, and why."
 STATUS = """\
 exit status: 0 all groups are counted, all the time or in turns; 1 a group is refused at open or never on;
-2 the input is refused or the program can't be used; 3 the program's answers contradict each other"""
+2 the input is refused or the program can't be used; 3 a group is beyond the program, or its answers contradict
+each other"""
 
 
 def parser():
@@ -24,11 +29,15 @@ def parser():
     made = command.Parser("fit.py", ABOUT, epilog=STATUS)
     add = made.add_argument
     add("-m", metavar="MACHINE", action="append", default=[], dest="machines",
-        help="the machine, or NAME=PROCESSORS for each kind of core; a path that ends in .toml is a file of your own")
+        help="the machine or its model, auto for this computer, or NAME=PROCESSORS for each kind of core; a path that "
+        "ends in .toml is a file of your own")
+    add("--ht", choices=("on", "off"), default="on", help="whether two threads share a core (default: on)")
     add("--counters", metavar="N", type=int, help="a machine of N counters, in place of -m")
     add("--mask", metavar="EVENT=HEX", action="append", default=[], help="the counters that may count an event")
     add("-e", metavar="LIST", action="append", default=[], dest="lists",
-        help="events as perf stat takes them, with the modifiers u, k, D and e")
+        help="events as perf stat takes them; without it perf's default list")
+    add("-d", action="count", default=0, dest="details", help="adds cache events, as perf stat does; up to three times")
+    add("--sampling", action="store_true", help="open the events as perf record does: p asks for precise samples")
     add("-a", action="store_true", dest="everywhere", help="count on each processor, not a task")
     add("-C", metavar="PROCESSORS", dest="processors", help="count on these processors, as 0-2,5")
     add("--watchdog", action="store_true", help="a pinned cycles event comes first, as Linux's NMI watchdog has it")
@@ -48,27 +57,12 @@ def machines_of(options):
         raise BadInput("-a and -C: give one of them")
     wanted = kinds_of_core.processors_of(options.processors, "-C") if options.processors is not None else ()
     if options.machines:
-        found = kinds_of_core.read_machines(options.machines, options.mask, wanted)
+        found = kinds_of_core.read_machines(options.machines, options.mask, wanted, options.ht == "off")
     else:
         found = [kinds_of_core.plain_with(options.counters, options.mask, wanted)]
     if options.everywhere:
         wanted = tuple(sorted(processor for machine in found for processor in machine.processors))
     return found, wanted
-
-
-def listing(options):
-    """What `--list` prints."""
-    if not options.machines and options.counters is None:
-        return [f"{name:<12} {kinds_of_core.load(name).source}" for name in kinds_of_core.names()]
-    lines = []
-    for machine in machines_of(options)[0]:
-        lines += [f"{machine.name}: {machine.counters_of((1 << machine.counters) - 1)}", f"    masks: {machine.source}"]
-        lines += [f"    number of counters: {machine.numbers}"] if machine.numbers else []
-        lines += [f"    {machine.note}"] if machine.note else []
-        width = max(map(len, machine.masks))
-        lines += [f"  {event:<{width}}  {machine.counters_of(mask)}" for event, mask in machine.masks.items()]
-        lines += [f"  {event} is refused: {reason}" for event, reason in machine.refused.items()]
-    return [*lines, f"software events: {', '.join(SOFTWARE)}"]
 
 
 def write(path, text, option):
@@ -83,25 +77,36 @@ def write(path, text, option):
 def answer(options):
     """Asks the program, prints, and answers the exit status."""
     machines, processors = machines_of(options)
-    if not options.lists:
-        raise BadInput("-e: give a list of events")
-    plan = plan_of(read_lists(options.lists), machines, processors, options.watchdog)
+    lists = options.lists or default_lists(machines)
+    with Meanings(options.sampling) as meanings:
+        typed = read_lists([*lists, *detail_lists(options.details)])
+        plan = plan_of(typed, machines, processors, options.watchdog, meanings)
     program = program_at(options.program)
-    [(findings, script)] = judged_twice(program, plan, [plan.groups])
-    if options.script is not None:
-        write(options.script, script.text(), "--script")
-    if options.svg is not None:
-        [(unasked, _)] = scripts_of(plan, [plan.groups], asks=False)
-        write(options.svg, picture_of(program, unasked), "--svg")
-    spread = runs.runs_of(program, plan) if options.repeat else None
+    found = answer_to(program, plan)
+    draw(options, program, found.plan, found.script)
+    spread = runs.runs_of(program, found.plan) if options.repeat else None
+    hints = hints_of(found, options.ht == "off")
     if options.json:
-        print(table.json_of(findings, plan, program, spread and runs.as_json(spread)))
+        print(table.json_of(found, program, hints, spread and runs.as_json(spread)))
     else:
-        lines = table.text_of(findings)
+        lines = table.text_of(found.findings, hints)
         lines += ["", *runs.text_of(spread)] if spread else []
         lines += [program.note] if program.note else []
         print("\n".join(lines))
-    return FAILS if any(finding.fails for finding in findings) else FITS
+    if any(finding.group.is_beyond for finding in found.findings):
+        return NO_ANSWER
+    return FAILS if any(finding.fails for finding in found.findings) else FITS
+
+
+def draw(options, program, plan, script):
+    """Writes the files that `--script` and `--svg` name."""
+    if script is None and (options.script is not None or options.svg is not None):
+        raise BadInput("--script, --svg: Linux refuses each open, so nothing is asked")
+    if options.script is not None:
+        write(options.script, script.text(), "--script")
+    if options.svg is not None:
+        [(unasked, _)] = scripts_of(plan, [plan.asked], asks=False)
+        write(options.svg, picture_of(program, unasked), "--svg")
 
 
 def done(options):
@@ -109,7 +114,8 @@ def done(options):
     try:
         if not options.list:
             return answer(options)
-        print("\n".join(listing(options)))
+        found = machines_of(options)[0] if options.machines or options.counters is not None else None
+        print("\n".join(listing(found)))
         return FITS
     except ProgramFault as fault:
         print(f"{command.name_of('fit.py')}: {fault}", file=sys.stderr)

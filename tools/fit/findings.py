@@ -11,20 +11,22 @@ from perfscript import Fault
 
 @dataclass
 class Finding:
-    """A group in all its contexts: its times, by processor the counters that its members had at the start, by place the
-    reasons for which opens of members were refused, and why it waits or is never on."""
+    """A group in all its contexts: its times, by processor the counters that its events had at the start, by place the
+    reasons for which opens were refused, and why it waits or is never on. `refused_members` are those that the program
+    refused."""
 
     group: object
     times: Times = Times(0, 0)
     seats: dict = field(default_factory=dict)
     refused: dict = field(default_factory=dict)
+    refused_members: list = field(default_factory=list)
     in_error: bool = False
     reason: object = None
     waits: bool = False
 
     @property
     def is_never_on(self):
-        return self.times.running == 0
+        return self.group.is_asked and self.times.running == 0
 
     @property
     def fails(self):
@@ -85,7 +87,7 @@ def findings_of(script, contexts, answers):
     found = {}
     for context in contexts:
         for one in context.opened:
-            finding = found.setdefault(one.group.number, Finding(one.group))
+            finding = found.setdefault(one.group.number, started(one.group))
             add_opens(finding, script, one, answers)
             add_rounds(finding, script, context, one, answers)
     for finding in found.values():
@@ -94,24 +96,35 @@ def findings_of(script, contexts, answers):
     return [found[number] for number in sorted(found)]
 
 
+def started(group):
+    """A finding that has the opens that are refused whatever else is on."""
+    refused = {place: event.refused for place, event in enumerate(group.events) if event.refused}
+    return Finding(group, refused=refused)
+
+
 def add_opens(finding, script, one, answers):
     """Adds the times of the leader, and the members whose open was refused."""
     times = answers.times.get(one.leader, Times(0, 0))
     finding.times = Times(finding.times.enabled + times.enabled, finding.times.running + times.running)
-    for place, question in enumerate(one.opens):
+    for member, question in zip(one.group.members, one.opens):
         cause = answers.refusal(question)
         if cause:
-            finding.refused.setdefault(place, reason_of(cause, script, {}))
+            finding.refused.setdefault(member.place, reason_of(cause, script, {}))
+            finding.refused_members.append(member)
 
 
 def add_rounds(finding, script, context, one, answers):
     """Adds on which counters the group was at the start, and why it waits or is never on."""
     rounds = context.rounds
+    context.on |= {tuple(sorted(answers.seats(one_round.seats))) for one_round in rounds}
     kinds = (None, *script.plan.machines) if one.group.machine is None else (one.group.machine,)
     here = [one_round for one_round in rounds if script.plan.machine_of(one_round.processor) in kinds]
     for one_round in here[:1]:
         seats = answers.seats(one_round.seats)
-        places = {place: seats[slot] for place, slot in enumerate(one.slots) if slot in seats}
+        places = {}
+        for member, slot in zip(one.group.members, one.slots):
+            if slot in seats:
+                places.setdefault(member.place, []).append(seats[slot])
         finding.seats[one_round.processor] = places
     waiting = [one_round for one_round in here if cause_in(one_round, one.leader, answers)]
     if not waiting:

@@ -1,46 +1,97 @@
 """The counters of a machine: how many there are, and which of them may count which event."""
 
+from __future__ import annotations
+
+import fnmatch
 import os
 import tomllib
+from collections.abc import Sequence
 from dataclasses import dataclass, field, replace
+from functools import cache
+from typing import Any
 
-from fit.events import SAME_AS, SOFTWARE
+from fit.codes import (
+    IN_TX_CHECKPOINTED, RAW, Counters, Register, Row, bits_of, placed, registers_of, rows_of,
+)
+from fit.events import SOFTWARE, TOOL_EVENTS, canonical
 from fit.faults import BadInput
 
 FOLDER = os.path.join(os.path.dirname(os.path.abspath(__file__)), "machines")
+ARM_NAMES = os.path.join(FOLDER, "names", "arm.toml")
 MOST_COUNTERS, MOST_PROCESSORS, MOST_PMUS = 16, 8, 4
 # the hardware events that perf names alike on all machines
 GENERAL_NAMES = ("cycles", "instructions", "branches", "branch-misses", "cache-references", "cache-misses")
-# `source` says where the masks are from, `numbers` where the numbers of counters are
+# `source` says where the rows are from, `numbers` where the numbers of counters are
 TEXTS = ("pmu", "watchdog", "source", "numbers", "note")
-KEYS = dict.fromkeys(TEXTS, str) | {"general": int, "fixed": int, "any": list}
-TABLES = ("masks", "refused")
+BLOCKS = ("rows", "precise_rows", "most_precise_rows", "extra", "common")
+NUMBERS = ("general", "general_alone", "fixed", "precise")
+KEYS: dict[str, type] = (
+    dict.fromkeys((*TEXTS, *BLOCKS), str) | dict.fromkeys(NUMBERS, int)
+    | {"any": list, "precise_cycles": list, "precise_any": bool, "ibs": bool}
+)
+TABLES = ("masks", "kernel", "models", "terms", "hardware", "cache", "names")
+CYCLES = 0x3C
 
 
-@dataclass(frozen=True)
+@dataclass(frozen=True, eq=False)
 class Machine:
-    """One kind of core. A mask has the general counters as its lowest bits, and the fixed ones behind them."""
+    """One kind of core. A mask has the general counters as its lowest bits, and the fixed ones behind them. Each is
+    itself alone: two that are alike are two kinds of core."""
 
     name: str
     pmu: str
     general: int
     fixed: int
-    masks: dict
-    refused: dict = field(default_factory=dict)
+    masks: dict[str, int] = field(default_factory=dict)
     watchdog: str = ""
     source: str = ""
     numbers: str = ""
     note: str = ""
-    processors: tuple = (0,)
+    processors: tuple[int, ...] = (0,)
+    # what the files of this folder say; a file of one's own may
+    rows: tuple[Row, ...] = ()
+    precise_rows: tuple[Row, ...] = ()
+    most_precise_rows: tuple[Row, ...] = ()
+    extra: tuple[Register, ...] = ()
+    precise: int | None = None
+    precise_cycles: tuple[int, ...] = ()
+    precise_any: bool = False
+    ibs: bool = False
+    general_alone: int | None = None
+    models: dict[str, str] = field(default_factory=dict)
+    identity: str = ""
+    terms: dict[str, tuple[str, tuple[int, ...]]] = field(default_factory=dict)
+    hardware: dict[str, int] = field(default_factory=dict)
+    cache: dict[str, tuple[int, int]] = field(default_factory=dict)
+    names: dict[str, str] = field(default_factory=dict)
+    kernel: dict[str, str] = field(default_factory=dict)
 
     @property
-    def counters(self):
+    def counters(self) -> int:
         return self.general + self.fixed
 
-    def counter_name(self, number):
+    @property
+    def has_codes(self) -> bool:
+        """Whether the file says which counters count an event by its code."""
+        return bool(self.terms)
+
+    @property
+    def kept(self) -> int:
+        """The bits of a config that reach the counter's own register."""
+        every = 0
+        for name, (where, bits) in self.terms.items():
+            if where == "config" and name != "pc":
+                every |= placed(~0, bits)
+        return every
+
+    @property
+    def all_general(self) -> int:
+        return (1 << self.general) - 1
+
+    def counter_name(self, number: int) -> str:
         return f"counter {number}" if number < self.general else f"fixed counter {number - self.general}"
 
-    def counters_of(self, mask):
+    def counters_of(self, mask: int) -> str:
         """The names of a mask's counters in a phrase: `counters 0-3 and fixed counter 1`."""
         parts = []
         for word, first, count in (("counter", 0, self.general), ("fixed counter", self.general, self.fixed)):
@@ -49,37 +100,110 @@ class Machine:
                 parts.append(f"{word}{'s' * (len(numbers) > 1)} {ranges(numbers)}")
         return " and ".join(parts)
 
+    def counters_for(self, config: int, precise: int = 0) -> Counters:
+        """The counters that may count a config; `precise` is how precise its samples have to be, 0 to 3."""
+        config &= self.kept
+        if precise and self.precise_cycles and config & RAW == CYCLES:
+            config = self.precise_cycles[precise == 3] | config & ~RAW
+        found = first_of(self.most_precise_rows, config) if precise == 3 else None
+        if found is not None:
+            return found
+        found = first_of(self.precise_rows, config) if precise else None
+        if found is None and precise and not self.precise_any:
+            return Counters(0)
+        if found is None:
+            found = first_of(self.rows, config)
+        if found is None:
+            found = Counters(self.all_general)
+        if "in_tx_cp" in self.terms and config & IN_TX_CHECKPOINTED:
+            found = replace(found, mask=found.mask & 1 << 2)
+        for row in self.most_precise_rows if precise == 3 else ():
+            if row.kind == "within":
+                found = replace(found, mask=found.mask & row.counters.mask)
+        return found
 
-def ranges(numbers):
+    def register_of(self, config: int) -> Register | None:
+        """The register that an event's config1 goes to, none where it has none."""
+        return next((register for register in self.extra if register.row.holds(config & self.kept)), None)
+
+    def model_of(self, identity: str) -> str:
+        """The name of the model that perf identifies like this, empty where it is none of these."""
+        for pattern, model in self.models.items():
+            if fnmatch.fnmatchcase(identity, pattern) or fnmatch.fnmatchcase(identity, pattern + "-*"):
+                return model
+        return ""
+
+
+def first_of(rows: Sequence[Row], config: int) -> Counters | None:
+    return next((row.counters for row in rows if row.kind != "within" and row.holds(config)), None)
+
+
+def ranges(numbers: Sequence[int]) -> str:
     """Numbers that rise, as `0, 2-4 and 7`."""
-    runs = []
+    runs: list[list[int]] = []
     for number in numbers:
         if runs and runs[-1][1] == number - 1:
             runs[-1][1] = number
         else:
             runs.append([number, number])
-    words = []
+    words: list[str] = []
     for first, last in runs:
         words += [f"{first}-{last}"] if last > first + 1 else [str(number) for number in range(first, last + 1)]
     return in_words(words)
 
 
-def in_words(words):
+def in_words(words: Sequence[str]) -> str:
     """`a`, `a and b`, `a, b and c`."""
     return " and ".join([", ".join(words[:-1]), words[-1]] if len(words) > 1 else words)
 
 
-def names():
+def names() -> list[str]:
     """The machines that have a file here."""
     return sorted(name[: -len(".toml")] for name in os.listdir(FOLDER) if name.endswith(".toml"))
 
 
-def load(word):
-    """The machine of this name, or of this file."""
-    is_path = word.endswith(".toml") or "/" in word
-    path = word if is_path else os.path.join(FOLDER, word + ".toml")
-    if not is_path and word not in names():
-        raise BadInput(f"-m: no machine is called {word!r}; there are {in_words(names())}, and files that end in .toml")
+def plain_word(text: str) -> str:
+    """A name without what people write differently."""
+    return "".join(letter for letter in text.lower() if letter.isalnum())
+
+
+@cache
+def of_model(word: str) -> tuple[str, str] | None:
+    """The machine and the identity of a model's name, as `cascadelake`, none where no file has it."""
+    for name in names():
+        for pattern, model in load(name).models.items():
+            if plain_word(model) == plain_word(word):
+                return name, identity_of(pattern)
+    return None
+
+
+def identity_of(pattern: str) -> str:
+    """An identity that a pattern of models takes, as perf's PERF_CPUID wants it."""
+    word, at = "", 0
+    while at < len(pattern):
+        end = pattern.find("]", at) if pattern[at] == "[" else at
+        letter = pattern[at + 1] if pattern[at] == "[" else pattern[at]
+        word += {"*": "1", "!": "3"}.get(letter, letter)
+        at = end + 1
+    return word + "-1" * (word.count("-") == 2 and not word.startswith("0x"))
+
+
+def load(word: str) -> Machine:
+    """The machine of this name or model, or of this file."""
+    if word.endswith(".toml") or "/" in word:
+        return load_file(word)
+    if word in names():
+        return load_file(os.path.join(FOLDER, word + ".toml"))
+    found = of_model(word)
+    if not found:
+        known = f"there are {in_words(names())}"
+        raise BadInput(f"-m: no machine and no model is called {word!r}; {known}; --list says their models")
+    return replace(load_file(os.path.join(FOLDER, found[0] + ".toml")), identity=found[1])
+
+
+@cache
+def load_file(path: str) -> Machine:
+    """The machine that a file says."""
     try:
         with open(path, "rb") as file:
             table = tomllib.load(file)
@@ -90,27 +214,91 @@ def load(word):
     return of_table(os.path.basename(path).removesuffix(".toml"), table, path)
 
 
-def of_table(name, table, path):
+def without_threads(machine: Machine) -> Machine:
+    """The machine with hyperthreading off: some have more general counters then."""
+    if machine.general_alone is None:
+        return machine
+    if not machine.source.startswith("Linux "):
+        raise BadInput(f"--ht: {machine.name} has general_alone, and only the files of tools/fit/machines/ may")
+    path = os.path.join(FOLDER, machine.name + ".toml")
+    with open(path, "rb") as file:
+        table = tomllib.load(file)
+    alone = of_table(machine.name, table | {"general": machine.general_alone}, path)
+    return replace(alone, processors=machine.processors, identity=machine.identity, general_alone=None)
+
+
+def of_table(name: str, table: dict[str, Any], path: str) -> Machine:
     """The machine that a file's table says."""
     check_keys(table, path)
     general, fixed = table["general"], table.get("fixed", 0)
     if not 1 <= general or fixed < 0 or general + fixed > MOST_COUNTERS:
         wanted = f"1 to {MOST_COUNTERS} counters together, at least 1 general"
         raise BadInput(f"{path}: general and fixed have to be {wanted}")
-    every = (1 << general) - 1
-    masks = {event: every for event in table.get("any", [])}
+    masks = {event: (1 << general) - 1 for event in table.get("any", [])}
     for event, text in table.get("masks", {}).items():
         masks[event] = mask_of(text, general + fixed, f"{path}: the mask of {event}")
     for event in masks:
         check_name(event, path)
-    watchdog = table.get("watchdog", "")
-    if watchdog and watchdog not in masks:
-        raise BadInput(f"{path}: the watchdog's event {watchdog!r} is not among the machine's events")
-    about = {key: table.get(key, "") for key in ("source", "numbers", "note")}
-    return Machine(name, table.get("pmu", name), general, fixed, masks, table.get("refused", {}), watchdog, **about)
+    machine = Machine(
+        name, table.get("pmu", name), general, fixed, masks, table.get("watchdog", ""),
+        **{key: table.get(key, "") for key in ("source", "numbers", "note")},
+        **coded_part(table, general, fixed, path),
+    )
+    if machine.watchdog and machine.watchdog not in {*masks, *machine.hardware}:
+        raise BadInput(f"{path}: the watchdog's event {machine.watchdog!r} is not among the machine's events")
+    return machine
 
 
-def check_keys(table, path):
+def coded_part(table: dict[str, Any], general: int, fixed: int, path: str) -> dict[str, Any]:
+    """What a table says of codes: rows, registers, terms, and the configs of names."""
+    found: dict[str, Any] = {}
+    for key in ("rows", "precise_rows", "most_precise_rows"):
+        found[key] = rows_of(table.get(key, ""), general, fixed, f"{path}: {key}")
+    found["extra"] = registers_of(table.get("extra", ""), f"{path}: extra")
+    found["precise_cycles"] = tuple(int(code, 16) for code in table.get("precise_cycles", []))
+    for key, default in (("precise", None), ("precise_any", False), ("ibs", False), ("general_alone", None)):
+        found[key] = table.get(key, default)
+    terms = {name: bits_of(text, f"{path}: terms") for name, text in table.get("terms", {}).items()}
+    models = table.get("models", {})
+    found |= {"terms": terms, "models": models, "kernel": table.get("kernel", {})}
+    found["identity"] = identity_of(next(iter(models))) if models else ""
+    found["hardware"] = {name: config_of(text, path)[0] for name, text in table.get("hardware", {}).items()}
+    found["cache"] = {name: config_of(text, path) for name, text in table.get("cache", {}).items()}
+    found["names"] = table.get("names", {}) | common_names(table.get("common", ""))
+    return found
+
+
+@cache
+def arm_names() -> dict[int, list[str]]:
+    """The names that Arm's architecture gives to codes."""
+    with open(ARM_NAMES, "rb") as file:
+        codes = tomllib.load(file)["codes"]
+    found: dict[int, list[str]] = {}
+    for name, code in codes.items():
+        found.setdefault(int(code, 16), []).append(name)
+    return found
+
+
+def common_names(text: str) -> dict[str, str]:
+    """The terms of the names that a core has of Arm's architecture, by the codes that it says."""
+    found = {}
+    for part in text.split():
+        first, mark, last = part.partition("-")
+        for code in range(int(first, 16), int(last if mark else first, 16) + 1):
+            found |= {name: f"event={code:#x}" for name in arm_names().get(code, [])}
+    return found
+
+
+def config_of(text: str, path: str) -> tuple[int, int]:
+    """The config and the config1 of one or two hexadecimal words."""
+    try:
+        config, *more = (int(word, 16) for word in text.split())
+        return config, sum(more[:1])
+    except ValueError:
+        raise BadInput(f"{path}: {text!r} has to be a config and maybe a config1, both hexadecimal") from None
+
+
+def check_keys(table: dict[str, Any], path: str) -> None:
     """Refuses a key that is not known, one of another type, and a missing one."""
     for key, value in table.items():
         wanted = dict if key in TABLES else KEYS.get(key)
@@ -120,13 +308,15 @@ def check_keys(table, path):
             raise BadInput(f"{path}: {key} has to be {wanted.__name__}, not {type(value).__name__}")
     if "general" not in table:
         raise BadInput(f"{path}: the key 'general', the number of general counters, is missing")
-    every = [*table.get("any", []), *table.get("masks", {}).values(), *table.get("refused", {}).values()]
+    every = [*table.get("any", []), *table.get("precise_cycles", [])]
+    for key in TABLES:
+        every += table.get(key, {}).values()
     for value in every:
         if not isinstance(value, str):
             raise BadInput(f"{path}: {value!r} has to be a string, in quotes")
 
 
-def mask_of(text, counters, what):
+def mask_of(text: str, counters: int, what: str) -> int:
     """The mask that hexadecimal digits give."""
     try:
         mask = int(text, 16)
@@ -138,16 +328,16 @@ def mask_of(text, counters, what):
     return mask
 
 
-def check_name(event, where):
+def check_name(event: str, where: str) -> None:
     """Refuses a name that no hardware event can have."""
-    if event in SOFTWARE:
-        raise BadInput(f"{where}: {event!r} is a software event, which needs no counter")
+    if event in SOFTWARE or event in TOOL_EVENTS:
+        raise BadInput(f"{where}: {event!r} needs no counter, so it has no mask; leave the option out")
     if not event or not event.isprintable() or any(character in event for character in ",{}/: '"):
         why = "it is empty, or has a comma, a brace, a slash, a colon, a quote or a space"
         raise BadInput(f"{where}: {event!r} can't be an event's name: {why}")
 
 
-def plain(counters):
+def plain(counters: int) -> Machine:
     """A machine of this many counters. Each of them counts the events that perf names alike on all machines."""
     if not 1 <= counters <= MOST_COUNTERS:
         raise BadInput(f"--counters: {counters} has to be 1 to {MOST_COUNTERS}")
@@ -157,28 +347,28 @@ def plain(counters):
     return Machine(word, "cpu", counters, 0, masks, watchdog="cycles", source="the option --counters")
 
 
-def plain_with(counters, masks, wanted):
+def plain_with(counters: int, masks: Sequence[str], wanted: Sequence[int]) -> Machine:
     """The plain machine with these masks, and processors up to the last that `-C` names."""
     machine = with_masks(plain(counters), masks)
     return replace(machine, processors=tuple(range(max(wanted, default=0) + 1)))
 
 
-def with_masks(machine, options):
+def with_masks(machine: Machine, options: Sequence[str]) -> Machine:
     """The machine with the masks that `--mask EVENT=HEX` options give."""
     masks = dict(machine.masks)
     for option in options:
         event, mark, text = option.partition("=")
         if not mark:
             raise BadInput(f"--mask: {option!r} has to be EVENT=HEX")
-        event = SAME_AS.get(event, event)
+        event = canonical(event)
         check_name(event, "--mask")
         masks[event] = mask_of(text, machine.counters, f"--mask {option} on {machine.name}")
     return replace(machine, masks=masks)
 
 
-def processors_of(text, option):
+def processors_of(text: str, option: str) -> tuple[int, ...]:
     """The processors of a list as perf writes it: `0-2,5`."""
-    found = set()
+    found: set[int] = set()
     for part in text.split(","):
         first, mark, last = part.partition("-")
         last = last if mark else first
@@ -190,14 +380,16 @@ def processors_of(text, option):
     return tuple(sorted(found))
 
 
-def read_machines(words, masks, wanted):
-    """The machines of `-m NAME` or `-m NAME=PROCESSORS` options. `wanted` are the processors that `-C` names."""
+def read_machines(words: Sequence[str], masks: Sequence[str], wanted: Sequence[int], alone: bool = False) -> list[Machine]:
+    """The machines of `-m NAME` or `-m NAME=PROCESSORS` options. `wanted` are the processors that `-C` names; `alone`
+    says that hyperthreading is off."""
     if len(words) > MOST_PMUS:
         raise BadInput(f"-m: {len(words)} kinds of core; the program has at most {MOST_PMUS}")
     machines = []
     for word in words:
         name, mark, text = word.partition("=")
-        machine = with_masks(load(name), masks)
+        machine = load(this_computer() if name == "auto" else name)
+        machine = with_masks(without_threads(machine) if alone else machine, masks)
         if mark:
             machine = replace(machine, processors=processors_of(text, f"-m {word}"))
         elif len(words) > 1:
@@ -209,7 +401,7 @@ def read_machines(words, masks, wanted):
     return machines
 
 
-def check_processors(machines):
+def check_processors(machines: Sequence[Machine]) -> None:
     """Each processor from 0 to the last has to be of one machine, and each machine's PMU has a name of its own."""
     every = [processor for machine in machines for processor in machine.processors]
     for processor in range(max(every) + 1):
@@ -220,3 +412,26 @@ def check_processors(machines):
     for pmu in pmus:
         if pmus.count(pmu) > 1:
             raise BadInput(f"-m: two machines call their PMU {pmu!r}, so no event could say which it means")
+
+
+def this_computer(path: str = "/proc/cpuinfo") -> str:
+    """The machine whose file has the processor that this file describes."""
+    try:
+        with open(path, encoding="utf-8") as file:
+            text = file.read()
+    except OSError as fault:
+        raise BadInput(f"-m auto: {path} can't be read: {fault.strerror}") from None
+    lines = [line.partition(":") for line in text.split("\n\n")[0].splitlines()]
+    values = {key.strip(): value.strip() for key, _, value in lines}
+    try:
+        if "CPU implementer" in values:
+            identity = f"{values['CPU implementer']}-{values['CPU part']}"
+        else:
+            numbers = [int(values[key]) for key in ("cpu family", "model", "stepping")]
+            identity = f"{values['vendor_id']}-{numbers[0]}-{numbers[1]:X}-{numbers[2]:X}"
+    except (KeyError, ValueError):
+        raise BadInput(f"-m auto: {path} does not say which processor this is; name a machine") from None
+    for name in names():
+        if load(name).model_of(identity):
+            return name
+    raise BadInput(f"-m auto: no file has the processor {identity}; --list says which have one")

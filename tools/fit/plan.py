@@ -1,25 +1,67 @@
 """Puts a list of events on machines: which groups are opened, on which kind of core, and in which contexts."""
 
-from dataclasses import dataclass
+from __future__ import annotations
 
-from fit.events import modes_left_out
+from collections.abc import Iterable, Mapping, Sequence
+from dataclasses import dataclass, field, replace
+
+from fit.events import Typed, TypedGroup, modes_left_out
 from fit.faults import BadInput
-from fit.machines import in_words
+from fit.machines import Machine, in_words
+from fit.meanings import NOTHING, Meanings, Need
 from perfscript.limits import MOST_KINDS, MOST_MEMBERS, MOST_SLOTS
+
+# the software events that the program knows; for others, which need no counter either, it opens a dummy
+PROGRAM_KINDS = ("context-switches", "cpu-migrations", "task-clock", "dummy")
+# other PMUs whose events may stand in a group with those of a core
+IN_ANY_GROUP = ("msr", "kprobe", "uprobe", "breakpoint", "tracepoint", "software")
+
+
+@dataclass(frozen=True)
+class Reason:
+    """A cause with perf's names: a word for it, the events or the group that it names, and a sentence."""
+
+    word: str
+    names: tuple[str, ...]
+    sentence: str
 
 
 @dataclass(frozen=True)
 class Event:
-    """An event of a group. `kind` is what it counts, `machine` the kind of core that counts it, none for software."""
+    """An event of a group. `machine` is the kind of core that counts it, none where no core's counter does; `kind` is
+    what it counts there for the program. `refused` says why its open is refused whatever else is on."""
 
     name: str
     kind: str
-    machine: object
-    flags: tuple
+    machine: Machine | None
+    flags: tuple[str, ...]
+    need: Need = NOTHING
+    refused: Reason | None = None
+    typed: Typed | None = None
 
     @property
-    def mask(self):
-        return self.machine.masks[self.kind] if self.machine else 0
+    def mask(self) -> int:
+        return self.need.counters.mask if self.machine else 0
+
+    @property
+    def is_pair(self) -> bool:
+        """Whether it takes two counters that are neighbours."""
+        return self.machine is not None and "pair" in self.need.counters.marks
+
+
+@dataclass(frozen=True)
+class Member:
+    """What the program opens: an event of a group by its place, or the second counter of a pair. The watchdog's has no
+    event."""
+
+    place: int
+    name: str
+    kind: str
+    machine: Machine | None
+    mask: int
+    flags: tuple[str, ...]
+    event: Event | None = None
+    is_second: bool = False
 
 
 @dataclass(frozen=True)
@@ -28,98 +70,197 @@ class Group:
 
     number: int
     text: str
-    events: tuple
+    events: tuple[Event, ...]
     is_pinned: bool
     is_exclusive: bool
+    is_weak: bool = False
+    note: str = ""
 
     @property
-    def machine(self):
+    def machine(self) -> Machine | None:
         """The kind of core whose counters it needs: that of its first hardware event. A software group needs none."""
         return next((event.machine for event in self.events if event.machine), None)
 
     @property
-    def is_hardware(self):
+    def is_hardware(self) -> bool:
         return self.machine is not None
 
     @property
-    def turns(self):
+    def turns(self) -> bool:
         """Whether it can be one of the groups that take turns."""
-        return self.is_hardware and not self.is_pinned
+        return any(member.mask for member in self.members) and not self.is_pinned
+
+    @property
+    def members(self) -> tuple[Member, ...]:
+        """What the program opens, in order: all events but those that are refused whatever else is on."""
+        found = []
+        for place, event in enumerate(self.events):
+            if event.refused:
+                continue
+            is_core = bool(event.mask)
+            kind = "" if is_core else event.kind if event.kind in PROGRAM_KINDS else "dummy"
+            machine = event.machine if is_core else None
+            found.append(Member(place, event.name, kind, machine, event.mask, event.flags, event))
+            if event.is_pair:
+                name = f"the second counter of {event.name}"
+                flags = tuple(flag for flag in event.flags if flag.startswith("exclude"))
+                found.append(Member(place, name, "", machine, event.mask << 1, flags, event, True))
+        return tuple(found)
+
+    @property
+    def is_stopped(self) -> bool:
+        """Whether its leader's open is refused, where perf stat ends with an error if it has more members."""
+        return self.events[0].refused is not None and len(self.events) > 1
+
+    @property
+    def is_beyond(self) -> bool:
+        """Whether it has more members than the program takes."""
+        return len(self.members) > MOST_MEMBERS
+
+    @property
+    def is_asked(self) -> bool:
+        return not self.is_stopped and not self.is_beyond and bool(self.members)
 
 
 @dataclass(frozen=True)
 class Plan:
     """The machines, the groups, and where they are opened: on a task, or on each of some processors."""
 
-    machines: tuple
-    groups: tuple
-    processors: tuple
+    machines: tuple[Machine, ...]
+    groups: tuple[Group, ...]
+    processors: tuple[int, ...]
     has_watchdog: bool
+    notes: tuple[str, ...] = ()
 
     @property
-    def is_task(self):
+    def is_task(self) -> bool:
         return not self.processors
 
     @property
-    def watched(self):
+    def asked(self) -> tuple[Group, ...]:
+        """The groups that the program is asked about."""
+        return tuple(group for group in self.groups if group.is_asked)
+
+    @property
+    def watched(self) -> list[int]:
         """The processors that have the watchdog's event."""
         everywhere = [processor for machine in self.machines for processor in machine.processors]
         return sorted(everywhere) if self.has_watchdog else []
 
-    def groups_on(self, processor):
+    def groups_on(self, processor: int) -> list[Group]:
         """The groups that are opened on a processor: those of its kind of core, and software groups."""
         machine = self.machine_of(processor)
-        return [group for group in self.groups if group.machine in (machine, None)]
+        return [group for group in self.asked if group.machine in (machine, None)]
 
-    def machine_of(self, processor):
+    def machine_of(self, processor: int) -> Machine:
         return next(machine for machine in self.machines if processor in machine.processors)
 
 
-def plan_of(typed_groups, machines, processors, has_watchdog):
+@dataclass
+class Planning:
+    """The groups of a list as they are put on machines."""
+
+    machines: Sequence[Machine]
+    present: Sequence[Machine]
+    meanings: Meanings
+    notes: list[str] = field(default_factory=list)
+
+    def groups(self, typed_groups: Iterable[TypedGroup]) -> tuple[Group, ...]:
+        found: list[Group] = []
+        for typed in typed_groups:
+            for part in self.parts(typed):
+                for machine in self.machines_of(part):
+                    found.append(self.group_of(len(found) + 1, part, machine))
+        return tuple(found)
+
+    def parts(self, typed: TypedGroup) -> list[TypedGroup]:
+        """The group, or its events one by one where perf takes it apart since another PMU than the core's is in it."""
+        others = {event.pmu for event in typed.events if event.is_other and not event.pmu.startswith(IN_ANY_GROUP)}
+        if not others or (len(others) == 1 and all(event.is_other for event in typed.events)):
+            return [typed]
+        texts = in_words([event.text for event in typed.events])
+        self.notes.append(f"perf takes the group of {texts} apart: their PMUs have other processors")
+        return [TypedGroup((event,), typed.modifiers, False) for event in typed.events]
+
+    def machines_of(self, typed: TypedGroup) -> Sequence[Machine | None]:
+        """The machines on which a group is opened: the one that it names, or each that knows all of its events."""
+        counted = [event for event in typed.events if not event.needs_no_counter]
+        named = [event for event in counted if event.form == "slashed"]
+        for event in named:
+            machine = machine_called(event, self.machines)
+            if machine not in self.present:
+                raise event.refuse(f"no processor that -C names is a {machine.name}")
+        if named:
+            return [machine_called(named[0], self.machines)]
+        if not counted:
+            return [None]
+        found, faults = [], []
+        for machine in self.present:
+            try:
+                for event in counted:
+                    self.meanings.need(event, machine)
+                found.append(machine)
+            except BadInput as fault:
+                faults.append(fault)
+        if not found:
+            raise faults[0]
+        return found
+
+    def group_of(self, number: int, typed: TypedGroup, machine: Machine | None) -> Group:
+        """The group that is opened on this machine."""
+        events = with_rules([self.event_of(event, typed, machine) for event in typed.events])
+        letters = typed.events[0].modifiers + typed.modifiers
+        text = events[0].name
+        if typed.has_braces:
+            text = "{" + ",".join(event.name for event in events) + "}" + ":" * bool(typed.modifiers) + typed.modifiers
+        is_weak = typed.has_braces and "W" in typed.modifiers
+        return Group(number, text, tuple(events), "D" in letters, "e" in letters, is_weak)
+
+    def event_of(self, event: Typed, typed: TypedGroup, machine: Machine | None) -> Event:
+        """The event as it is opened. With several kinds of core one without a PMU is called by it, as perf does."""
+        is_leader = event is typed.events[0]
+        letters = event.modifiers + (typed.modifiers if is_leader else "")
+        flags = [word for word, letter in (("pinned", "D"), ("exclusive", "e")) if is_leader and letter in letters]
+        leaves_user, leaves_kernel = modes_left_out(event.modifiers, typed.modifiers)
+        flags += ["exclude_user"] * leaves_user + ["exclude_kernel"] * leaves_kernel
+        refused = None if is_leader else refused_sibling(event)
+        if event.needs_no_counter:
+            return Event(event.text, event.kind, None, tuple(flags), NOTHING, refused, event)
+        own = machine_called(event, self.machines) if event.form == "slashed" else machine
+        assert own
+        need = self.meanings.need(event, own, typed.modifiers)
+        if need.refused:
+            refused = Reason("linux", (), need.refused)
+        name = event.text
+        if len(self.machines) > 1 and event.form != "slashed":
+            name = f"{own.pmu}/{event.name}/{event.modifiers}"
+        return Event(name, event.kind, own if need.is_core else None, tuple(flags), need, refused, event)
+
+
+def plan_of(
+    typed_groups: Sequence[TypedGroup], machines: Sequence[Machine], processors: Sequence[int], has_watchdog: bool,
+    meanings: Meanings | None = None,
+) -> Plan:
     """The plan of a list, once each event is known and the limits of the program are kept."""
     check_processors(processors, machines)
     present = [machine for machine in machines if not processors or set(processors) & set(machine.processors)]
-    groups = []
-    for typed in typed_groups:
-        for machine in machines_of(typed, machines, present):
-            groups.append(group_of(len(groups) + 1, typed, machine, machines))
-    watchdogs = [machine for machine in machines if has_watchdog]
-    for machine in watchdogs:
+    planning = Planning(machines, present, meanings or Meanings())
+    groups = planning.groups(typed_groups)
+    for machine in machines if has_watchdog else ():
         if not machine.watchdog:
             raise BadInput(f"--watchdog: Linux opens no watchdog's event on {machine.name}")
-    plan = Plan(tuple(machines), tuple(groups), tuple(processors), has_watchdog)
+    plan = Plan(tuple(machines), groups, tuple(processors), has_watchdog, tuple(planning.notes))
     check_limits(plan)
     return plan
 
 
-def check_processors(processors, machines):
+def check_processors(processors: Sequence[int], machines: Sequence[Machine]) -> None:
     for processor in processors:
         if not any(processor in machine.processors for machine in machines):
             raise BadInput(f"-C: processor {processor} is of no machine that -m gives")
 
 
-def machines_of(typed, machines, present):
-    """The machines on which a group is opened: the one that it names, or each that knows all of its events."""
-    named = [event for event in typed.events if event.pmu]
-    hardware = [event for event in typed.events if not event.is_software]
-    for event in named:
-        machine = machine_called(event, machines)
-        if machine not in present:
-            raise event.refuse(f"no processor that -C names is a {machine.name}")
-    if named:
-        return [machine_called(named[0], machines)]
-    if not hardware:
-        return [None]
-    for event in hardware:
-        if not any(event.kind in machine.masks for machine in present):
-            raise unknown(event, present)
-    found = [machine for machine in present if all(event.kind in machine.masks for event in hardware)]
-    if not found:
-        raise hardware[0].refuse("no kind of core knows all events of this group")
-    return found
-
-
-def machine_called(event, machines):
+def machine_called(event: Typed, machines: Sequence[Machine]) -> Machine:
     """The machine whose PMU, or which itself, has the name before the slash."""
     for machine in machines:
         if event.pmu in (machine.pmu, machine.name):
@@ -128,71 +269,102 @@ def machine_called(event, machines):
     raise event.source.refuse(f"no PMU is called {event.pmu!r}; there is {known}", event.start - len(event.pmu) - 1)
 
 
-def unknown(event, machines):
-    """The refusal of an event that no machine knows."""
-    for machine in machines:
-        if event.kind in machine.refused:
-            return event.refuse(f"{event.name!r} can't be counted here: {machine.refused[event.kind]}")
-    called = in_words([machine.name for machine in machines])
-    hint = f"--list says what it knows, and --mask {event.name}=HEX gives an event its counters"
-    return event.refuse(f"{event.name!r} is no event that {called} knows; {hint}")
+def refused_sibling(event: Typed) -> Reason | None:
+    """Linux opens no sibling that is pinned or exclusive by its own modifiers."""
+    for letter, word in (("D", "pinned"), ("e", "exclusive")):
+        if letter in event.modifiers:
+            where = f"put {letter} at the leader or behind the brace"
+            return Reason("linux", (), f"{event.text} is no leader, so it can't be {word}; {where}")
+    return None
 
 
-def group_of(number, typed, machine, machines):
-    """The group that is opened on this machine."""
-    events = tuple(event_of(event, typed, machine, machines) for event in typed.events)
-    letters = typed.events[0].modifiers + typed.modifiers
-    text = events[0].name
-    if typed.has_braces:
-        text = "{" + ",".join(event.name for event in events) + "}" + ":" * bool(typed.modifiers) + typed.modifiers
-    return Group(number, text, events, "D" in letters, "e" in letters)
+def with_rules(events: list[Event]) -> list[Event]:
+    """The events with what Linux refuses for the sake of the group: what is read out of the slots' register needs slots
+    as its leader, and stands once."""
+    seen: set[int] = set()
+    found = []
+    for event in events:
+        metric = event.need.counters.metric if event.machine else None
+        if metric is not None and not event.refused:
+            reason = ""
+            if not events[0].need.is_slots or event is events[0]:
+                reason = f"{event.name} is a part of slots, so its group has to begin with slots"
+            elif metric in seen:
+                reason = f"{event.name} stands in its group twice, and slots has one value for it"
+            seen.add(metric)
+            event = replace(event, refused=Reason("linux", (), reason)) if reason else event
+        found.append(event)
+    return found
 
 
-def event_of(event, typed, machine, machines):
-    """The event as it is opened. With several kinds of core one without a PMU is called by it, as perf does."""
-    flags = [word for word, letter in (("pinned", "D"), ("exclusive", "e")) if is_leader_with(event, typed, letter)]
-    leaves_user, leaves_kernel = modes_left_out(event.modifiers, typed.modifiers)
-    flags += ["exclude_user"] * leaves_user + ["exclude_kernel"] * leaves_kernel
-    if event.is_software:
-        return Event(event.text, event.kind, None, tuple(flags))
-    own = machine_called(event, machines) if event.pmu else machine
-    if event.kind not in own.masks:
-        raise unknown(event, [own])
-    name = event.text
-    if len(machines) > 1 and not event.pmu:
-        name = f"{own.pmu}/{event.name}/{event.modifiers}"
-    return Event(name, event.kind, own, tuple(flags))
-
-
-def is_leader_with(event, typed, letter):
-    return event is typed.events[0] and letter in event.modifiers + typed.modifiers
-
-
-def check_limits(plan):
-    """Refuses what the program has no room for."""
+def without(plan: Plan, refused: Mapping[tuple[int, int], Reason]) -> Plan:
+    """The plan in which these events, by the numbers of their groups and their places, are refused."""
+    groups = []
     for group in plan.groups:
-        if len(group.events) > MOST_MEMBERS:
-            members = f"{len(group.events)} members; the program takes {MOST_MEMBERS}"
-            raise BadInput(f"limit: the group {group.text} has {members}")
+        events = list(group.events)
+        for place in range(len(events)):
+            if (group.number, place) in refused:
+                events[place] = replace(events[place], refused=refused[group.number, place])
+        groups.append(replace(group, events=tuple(events)))
+    return replace(plan, groups=tuple(groups))
+
+
+def split(plan: Plan, reasons: Mapping[int, Reason]) -> Plan:
+    """The plan in which these weak groups are taken apart, and their events stand behind all others, as perf has it."""
+    kept = [group for group in plan.groups if group.number not in reasons]
+    notes = list(plan.notes)
+    for group in plan.groups:
+        if group.number not in reasons:
+            continue
+        notes.append(f"perf takes the weak group {group.text} apart: {reasons[group.number].sentence}")
+        together = tuple(event for event in group.events if stays_with_slots(event, group))
+        parts = [together] if together else []
+        parts += [(event,) for event in group.events if event not in together]
+        for events in parts:
+            text = events[0].name if len(events) == 1 else "{" + ",".join(event.name for event in events) + "}"
+            kept.append(Group(0, text, tuple(with_rules(list(events))), group.is_pinned, group.is_exclusive))
+    numbered = tuple(replace(group, number=number) for number, group in enumerate(kept, 1))
+    return replace(plan, groups=numbered, notes=tuple(notes))
+
+
+def stays_with_slots(event: Event, group: Group) -> bool:
+    """Whether perf leaves the event in the group of slots: slots itself and what is a part of it."""
+    if not group.events[0].need.is_slots or event.machine is None:
+        return False
+    return event is group.events[0] or event.need.counters.metric is not None
+
+
+def check_limits(plan: Plan) -> None:
+    """Refuses what the program has no room for."""
     kinds = len(kinds_of(plan))
     if kinds > MOST_KINDS:
         watchdog = ", with the watchdog's," * plan.has_watchdog
-        raise BadInput(f"limit: there are {kinds} kinds of hardware event{watchdog}; the program takes {MOST_KINDS}")
+        what = f"{kinds} kinds of hardware event{watchdog} that differ in their counters"
+        raise BadInput(f"limit: there are {what}; the program takes {MOST_KINDS}")
     slots = slots_of(plan)
     if slots > MOST_SLOTS:
         watchdog = ", the watchdog's among them" * plan.has_watchdog
         raise BadInput(f"limit: {slots} events would be opened{watchdog}; the program takes {MOST_SLOTS}")
 
 
-def slots_of(plan):
+def slots_of(plan: Plan) -> int:
     """How many events are opened."""
-    places = [plan.groups] if plan.is_task else [plan.groups_on(processor) for processor in plan.processors]
-    return len(plan.watched) + sum(len(group.events) for groups in places for group in groups)
+    places: Sequence[Sequence[Group]] = [plan.asked]
+    if not plan.is_task:
+        places = [plan.groups_on(processor) for processor in plan.processors]
+    return len(plan.watched) + sum(len(group.members) for groups in places for group in groups)
 
 
-def kinds_of(plan):
-    """The kinds of hardware event that the script declares: each a machine's PMU and what is counted there."""
-    kinds = [(machine, machine.watchdog) for machine in plan.machines if plan.has_watchdog]
-    for group in plan.groups:
-        kinds += [(event.machine, event.kind) for event in group.events if event.machine]
-    return list(dict.fromkeys((machine.pmu, kind) for machine, kind in kinds))
+def watchdog_mask(machine: Machine) -> int:
+    """The counters of the watchdog's event."""
+    if machine.watchdog in machine.masks:
+        return machine.masks[machine.watchdog]
+    return machine.counters_for(machine.hardware[machine.watchdog]).mask
+
+
+def kinds_of(plan: Plan) -> list[tuple[str, int]]:
+    """The kinds of hardware event that the script declares: a PMU and a mask each. Events of equal masks are one."""
+    kinds = [(machine.pmu, watchdog_mask(machine)) for machine in plan.machines if plan.has_watchdog]
+    for group in plan.asked:
+        kinds += [(member.machine.pmu, member.mask) for member in group.members if member.machine]
+    return list(dict.fromkeys(kinds))

@@ -2,7 +2,7 @@
 
 from dataclasses import dataclass
 
-from fit.findings import judged
+from fit.findings import judged, started
 
 MOST_FOR_ALL = 8
 
@@ -20,10 +20,11 @@ class Runs:
 
 def runs_of(program, plan):
     """First fit by order. At most eight groups are tried in all subsets, and then in all partitions."""
-    alone = judged(program, plan, [[group] for group in plan.groups])
-    left_out = tuple((found[0].group, why_not(found[0])) for found in alone if not found[0].is_whole)
-    groups = [found[0].group for found in alone if found[0].is_whole]
-    tries = len(plan.groups)
+    not_asked = [started(group) for group in plan.groups if not group.is_asked]
+    alone = judged(program, plan, [[group] for group in plan.asked]) + [[finding] for finding in not_asked]
+    left_out = tuple((found[0].group, why_not(found[0])) for found in alone if not is_whole(found[0]))
+    groups = [found[0].group for found in alone if is_whole(found[0])]
+    tries = len(plan.asked)
     if not groups or len(groups) > MOST_FOR_ALL:
         runs, more = first_fit_by_asking(program, plan, groups)
         return Runs(runs, (), left_out, not groups, tries + more)
@@ -37,8 +38,14 @@ def runs_of(program, plan):
     return Runs(as_groups(groups, runs), as_groups(groups, fewer), left_out, True, tries + len(masks))
 
 
+def is_whole(finding):
+    return finding.group.is_asked and finding.is_whole
+
+
 def why_not(finding):
     """Why a group can't be on even alone."""
+    if finding.group.is_beyond:
+        return "it is beyond this program"
     reasons = finding.refused.values() or [finding.reason]
     return "; ".join(reason.sentence for reason in reasons)
 

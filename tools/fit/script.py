@@ -8,7 +8,7 @@ processors. In a context with N flexible hardware groups of a kind of core a rot
 from dataclasses import dataclass, field
 from math import lcm
 
-from fit.plan import Event, Group, kinds_of
+from fit.plan import Group, Member, kinds_of, watchdog_mask
 from perfscript import Draft
 from perfscript.limits import MOST_LINES, MOST_SLOTS, MOST_TASKS
 
@@ -36,7 +36,7 @@ class Round:
 
 @dataclass
 class Opened:
-    """A group in a context: the slots of its members, and the questions that are their opens."""
+    """A group in a context: the slots of what is opened of it, and the questions that are the opens."""
 
     group: Group
     slots: list
@@ -49,13 +49,17 @@ class Opened:
 
 @dataclass
 class Context:
-    """Where groups are opened: a task, or a processor. Its stays are the processors on which it is, one by one."""
+    """Where groups are opened: a task, or a processor. Its stays are the processors on which it is, one by one.
+
+    `on` are the slots that were on together in some round, as the answers say.
+    """
 
     task: object
     processor: object
     opened: list
     stays: list
     rounds: list = field(default_factory=list)
+    on: set = field(default_factory=set)
 
 
 @dataclass
@@ -81,14 +85,14 @@ class Script:
         """Adds a line, which is done now. Answers it as a question."""
         return Question(line, self.draft.act(actor, line))
 
-    def open(self, event, slot, place, leader):
-        """Opens an event in a slot, at a place: `task=0 cpu=any`."""
-        kind = self.kinds[event.machine.pmu, event.kind] if event.machine else event.kind
+    def open(self, member, slot, place, leader):
+        """Opens a member in a slot, at a place: `task=0 cpu=any`."""
+        kind = self.kinds[member.machine.pmu, member.mask] if member.machine else member.kind
         words = [f"open {slot} kind={kind} {place}"]
         words += [f"leader={leader}"] if leader != slot else []
         words += ["format=3"]
-        words += ["flags=" + ",".join(event.flags)] if event.flags else []
-        self.slots[slot] = event
+        words += ["flags=" + ",".join(member.flags)] if member.flags else []
+        self.slots[slot] = member
         return self.act(TOOL, " ".join(words))
 
     def head(self):
@@ -97,10 +101,9 @@ class Script:
         for number, machine in enumerate(self.plan.machines):
             cpus = sum(1 << processor for processor in machine.processors)
             lines.append(f"pmu {number} counters={machine.counters} cpus={cpus:x}")
-        pmus = {machine.pmu: (number, machine) for number, machine in enumerate(self.plan.machines)}
-        for (pmu, kind), word in self.kinds.items():
-            number, machine = pmus[pmu]
-            lines.append(f"kind {word} pmu={number} mask={machine.masks[kind]:x}")
+        pmus = {machine.pmu: number for number, machine in enumerate(self.plan.machines)}
+        for (pmu, mask), word in self.kinds.items():
+            lines.append(f"kind {word} pmu={pmus[pmu]} mask={mask:x}")
         return lines + [f"task {context.task}" for context in self.contexts if context.task is not None]
 
     def text(self):
@@ -126,7 +129,7 @@ def scripts_of(plan, candidates, times=1, asks=True):
     """
     found, script = [], None
     for groups in candidates:
-        size = sum(len(group.events) for group in groups)
+        size = sum(len(group.members) for group in groups)
         if script is None or not plan.is_task or not has_room(script, groups, size):
             script = Script(plan, times, asks)
             open_watchdogs(script)
@@ -150,9 +153,9 @@ def open_watchdogs(script):
     for processor in script.plan.watched:
         machine = script.plan.machine_of(processor)
         slot = len(script.slots)
-        event = Event(machine.watchdog, machine.watchdog, machine, ("pinned",))
+        member = Member(0, machine.watchdog, "", machine, watchdog_mask(machine), ("pinned",))
         script.watchdogs[slot] = processor
-        script.open(event, slot, f"task=all cpu={processor}", slot)
+        script.open(member, slot, f"task=all cpu={processor}", slot)
 
 
 def contexts_of(script, groups):
@@ -172,10 +175,10 @@ def context_of(script, groups, task, processor, stays):
     """A context whose groups have the next slots."""
     slot, opened = len(script.slots), []
     for group in groups:
-        opened.append(Opened(group, list(range(slot, slot + len(group.events)))))
-        slot += len(group.events)
+        opened.append(Opened(group, list(range(slot, slot + len(group.members)))))
+        slot += len(group.members)
     for one in opened:
-        script.slots.update(zip(one.slots, one.group.events))
+        script.slots.update(zip(one.slots, one.group.members))
     return Context(task, processor, opened, stays)
 
 
@@ -212,8 +215,8 @@ def leave(script, context, processor):
 def open_group(script, context, one):
     """Opens the members of a group, the leader first."""
     place = f"task={context.task} cpu=any" if context.task is not None else f"task=all cpu={context.processor}"
-    for slot, event in zip(one.slots, one.group.events):
-        one.opens.append(script.open(event, slot, place, one.leader))
+    for slot, member in zip(one.slots, one.group.members):
+        one.opens.append(script.open(member, slot, place, one.leader))
 
 
 def turning(script, context, processor):

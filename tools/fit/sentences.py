@@ -1,18 +1,8 @@
 """Puts the program's causes into sentences with perf's names."""
 
-from dataclasses import dataclass
-
 from fit.faults import ProgramFault
 from fit.machines import in_words
-
-
-@dataclass(frozen=True)
-class Reason:
-    """A cause with perf's names: the program's word for it, the events or the group that it names, and a sentence."""
-
-    word: str
-    names: tuple
-    sentence: str
+from fit.plan import Reason
 
 
 def reason_of(cause, script, causes):

@@ -1,6 +1,7 @@
 """What must come of a list, by exhaustive search and apart from the program and the tool.
 
-A group is a list of masks, 0 for a software event. Which groups are on follows the rules of docs/RULES.md.
+A group is a list of masks, 0 for a software event. An event that takes two counters, neighbours, has the mask of the
+first of them and PAIR added. Which groups are on follows the rules of docs/RULES.md.
 """
 
 from dataclasses import dataclass
@@ -21,17 +22,21 @@ class Wanted:
         return [mask for mask in self.masks if mask]
 
 
+PAIR = 1 << 20
+
+
 def has_assignment(masks):
-    """Whether the events can have a counter each: every choice of counters is tried."""
-    return tried(tuple(sorted(masks, key=int.bit_count)), 0)
+    """Whether the events can have their counters: every choice of counters is tried."""
+    return tried(tuple(sorted(masks, key=lambda mask: (mask & PAIR == 0, mask.bit_count(), mask))), 0)
 
 
 @cache
 def tried(masks, taken):
     if not masks:
         return True
-    free = masks[0] & ~taken
-    return any(tried(masks[1:], taken | 1 << bit) for bit in range(16) if free >> bit & 1)
+    width = 3 if masks[0] & PAIR else 1
+    choices = [width << bit for bit in range(16) if masks[0] >> bit & 1]
+    return any(tried(masks[1:], taken | bits) for bits in choices if not taken & bits)
 
 
 def opened(masks):

@@ -22,9 +22,10 @@ class Printed(ProgramTest):
                 "{l1d_pend_miss.pending,cycle_activity.cycles_l1d_pending} can never be counted together:",
                 "    l1d_pend_miss.pending and cycle_activity.cycles_l1d_pending both need counter 2.",
                 "    So the open of cycle_activity.cycles_l1d_pending is refused.",
+                "    perf prints <not counted> for the other too, though it holds a counter and runs.",
                 "All else is on all the time.",
             ],
-            lines[:4],
+            lines[:5],
         )
         self.assertIn("   <not supported>      cycle_activity.cycles_l1d_pending", lines)
         self.assertNotIn("%", out)
@@ -58,12 +59,12 @@ class Printed(ProgramTest):
         self.assertIn(cause, out)
 
     def test_a_group_of_two_kinds_of_core_is_refused(self):
-        both = "{armv8_cortex_a53/cycles/,armv8_cortex_a72/cycles/}"
+        both = "{armv8_cortex_a53/cpu_cycles/,armv8_cortex_a72/cpu_cycles/}"
         for more in ((), ("-a",)):
             status, out, _ = self.fit("-m", "cortex-a53=0-1", "-m", "cortex-a72=2", *more, "-e", both)
             self.assertEqual(1, status)
             self.assertIn("its events are of different kinds of core", out)
-            self.assertIn("   <not supported>      armv8_cortex_a72/cycles/", out)
+            self.assertIn("   <not supported>      armv8_cortex_a72/cpu_cycles/", out)
 
     def test_the_rest_of_a_group_can_be_never_on(self):
         text = "{branches,branches,branches},cycles:D"
@@ -107,25 +108,25 @@ class Files(ProgramTest):
     def test_script_is_replayed(self):
         with tempfile.TemporaryDirectory() as folder:
             path = os.path.join(folder, "asked.script")
-            self.fit("-m", "core2", "-e", "{mul,branches},div", "--script", path)
+            self.fit("-m", "core2", "-e", "{r12,branches},r13", "--script", path)
             with open(path, "rb") as script:
                 done = subprocess.run([PATH, "stat"], stdin=script, capture_output=True)
             with open(path) as file:
                 text = file.read()
         self.assertEqual(0, done.returncode, done.stderr)
         self.assertEqual(["50.00%"] * 3, [line.split()[-1] for line in done.stdout.decode().splitlines()[1:-1]])
-        self.assertIn("\nkind k0 pmu=0 mask=2\nkind k1 pmu=0 mask=3\nkind k2 pmu=0 mask=2\ntask 0\n", text)
+        self.assertIn("\nkind k0 pmu=0 mask=2\nkind k1 pmu=0 mask=3\ntask 0\n", text)
 
     def test_picture_has_the_names_of_perf(self):
         with tempfile.TemporaryDirectory() as folder:
             path = os.path.join(folder, "drawn.svg")
-            self.fit("-m", "core2", "-e", "{mul,instructions},div:D,ref-cycles", "--svg", path)
+            self.fit("-m", "core2", "-e", "{r12,instructions},r13:D,ref-cycles", "--svg", path)
             with open(path) as file:
                 text = file.read()
         self.assertIn(">processor 0, fixed counter 2</text>", text)
-        self.assertIn(">mul</text>", text)
-        self.assertIn("<title>div:D, 0 to 1,000</title>", text)
-        self.assertIn("mul and div:D both need counter 1", text)
+        self.assertIn(">r12</text>", text)
+        self.assertIn("<title>r13:D, 0 to 1,000</title>", text)
+        self.assertIn("r12 and r13:D both need counter 1", text)
         self.assertNotIn("k0", text)
 
     def test_timeline_draws_as_before(self):

@@ -1,19 +1,31 @@
 """Random lists, held to exhaustive search: what is refused at open, what is never on, and each share.
 
-There are 200 without exclusive groups on each machine, and others with exclusive groups and on two kinds of core.
+There are some without exclusive groups on each machine, and others with exclusive groups and on two kinds of core. The
+variable FIT_LISTS says how many there are for each machine.
 """
 
+import os
 import random
 
 from fit import machines
+from fit.answering import half_pairs
 from fit.events import read_lists
 from fit.findings import judged_twice
-from fit.plan import MOST_KINDS, Plan, plan_of
-from fit.tests.search import Wanted, has_assignment, opened, pinned_on, shares
+from fit.meanings import Meanings
+from fit.plan import Plan, plan_of, watchdog_mask, without
+from fit.tests.search import PAIR, Wanted, has_assignment, opened, pinned_on, shares
 from fit.tests.support import ProgramTest
 
-LISTS, BATCH = 200, 50
-SOFTWARE = ("task-clock", "cs", "migrations", "dummy")
+LISTS, BATCH, OTHERS = int(os.environ.get("FIT_LISTS", "8")), 50, 50
+SOFTWARE = ("task-clock", "cs", "migrations", "dummy", "page-faults")
+
+
+def pool_of(machine):
+    """Events of a machine: general names, codes of its rows, and codes at random."""
+    codes = [row.first | (0 if row.first >> 8 else random.choice((0, 0x100, 0x1100))) for row in machine.rows]
+    codes += [random.randrange(0x10000) for _ in range(6)]
+    counted = [code for code in codes if machine.counters_for(code).mask]
+    return [*machine.hardware, *machine.masks, *(f"r{code:x}" for code in counted)]
 
 
 def random_event(pool):
@@ -42,26 +54,36 @@ def random_list(pool):
 
 
 def batches(machine):
-    """Lists of texts, each for one watchdog's setting and with few enough kinds for one script."""
-    for number in range(LISTS // BATCH):
-        has_watchdog = bool(machine.watchdog) and number % 2 == 1
-        names = sorted(set(machine.masks) - {machine.watchdog} if has_watchdog else machine.masks)
-        pool = random.sample(names, min(len(names), MOST_KINDS - has_watchdog))
-        yield has_watchdog, [random_list(pool + [machine.watchdog] * has_watchdog) for _ in range(BATCH)]
+    """Lists of texts, each for one watchdog's setting."""
+    for first in range(0, LISTS, min(BATCH, (LISTS + 1) // 2)):
+        count = min(BATCH, (LISTS + 1) // 2, LISTS - first)
+        has_watchdog = bool(machine.watchdog) and first > 0 and first // count % 2 == 1
+        yield has_watchdog, [random_list(pool_of(machine)) for _ in range(count)]
 
 
 def judged_lists(program, machines, texts, has_watchdog):
     """The findings of each list. The lists share scripts."""
-    plans = [plan_of(read_lists([text]), machines, (), has_watchdog) for text in texts]
-    groups = tuple(group for plan in plans for group in plan.groups)
-    whole = Plan(tuple(machines), groups, (), has_watchdog)
-    return [findings for findings, _ in judged_twice(program, whole, [plan.groups for plan in plans])]
+    with Meanings() as meanings:
+        plans = [plan_of(read_lists([text]), machines, (), has_watchdog, meanings) for text in texts]
+    while True:
+        groups = tuple(group for plan in plans for group in plan.groups)
+        whole = Plan(tuple(machines), groups, (), has_watchdog)
+        found = [findings for findings, _ in judged_twice(program, whole, [plan.asked for plan in plans])]
+        refused = [half_pairs(findings) for findings in found]
+        if not any(refused):
+            return found
+        plans = [without(plan, halves) for plan, halves in zip(plans, refused)]
+
+
+def asks_of(group):
+    """What the events of a group ask for, as the search takes it."""
+    return [event.mask | PAIR * event.is_pair for event in group.events]
 
 
 def wanted_of(group):
     """The group as the search takes it, with the members that can be opened."""
-    masks = [event.mask for event in group.events]
-    return Wanted([masks[place] for place in opened(masks)], group.is_pinned, group.is_exclusive)
+    asks = asks_of(group)
+    return Wanted([asks[place] for place in opened(asks)], group.is_pinned, group.is_exclusive)
 
 
 class Others(ProgramTest):
@@ -71,7 +93,7 @@ class Others(ProgramTest):
         pool = sorted(machine.masks)
         for has_watchdog in (False, True):
             always = [machine.masks["cycles"]] * has_watchdog
-            texts = [",".join(random_group(pool, 0.2, 0.2) for _ in range(random.randint(2, 6))) for _ in range(BATCH)]
+            texts = [",".join(random_group(pool, 0.2, 0.2) for _ in range(random.randint(2, 6))) for _ in range(OTHERS)]
             for text, findings in zip(texts, judged_lists(self.program, [machine], texts, has_watchdog)):
                 with self.subTest(watchdog=has_watchdog, list=text):
                     wanted = shares([wanted_of(finding.group) for finding in findings], always)
@@ -84,9 +106,9 @@ class Others(ProgramTest):
     def test_two_kinds_of_core(self):
         random.seed(12)
         both = machines.read_machines(["cortex-a53=0-1", "cortex-a72=2"], [], ())
-        pool = [f"{machine.pmu}/{event}/" for machine in both for event in ("cycles", "branches")]
-        pool += ["cycles", "branches"]
-        texts = [",".join(self.group_of(pool) for _ in range(random.randint(2, 9))) for _ in range(BATCH)]
+        pool = [f"{machine.pmu}/{event}/" for machine in both for event in ("cpu_cycles", "br_mis_pred")]
+        pool += ["cycles", "branch-misses"]
+        texts = [",".join(self.group_of(pool) for _ in range(random.randint(2, 9))) for _ in range(OTHERS)]
         in_turns = 0
         for text, findings in zip(texts, judged_lists(self.program, both, texts, False)):
             with self.subTest(list=text):
@@ -115,24 +137,24 @@ class RandomLists(ProgramTest):
             self.check_machine(machines.load(name))
         self.assertEqual(LISTS * len(machines.names()), self.seen["lists"])
         for what, count in self.seen.items():
-            self.assertGreater(count, 100, what)
+            self.assertGreater(count, 20, what)
         print(", ".join(f"{count} {what}" for what, count in self.seen.items()))
 
     def check_machine(self, machine):
         for has_watchdog, texts in batches(machine):
             found = judged_lists(self.program, [machine], texts, has_watchdog)
-            always = [machine.masks[machine.watchdog]] if has_watchdog else []
+            always = [watchdog_mask(machine)] if has_watchdog else []
             for text, findings in zip(texts, found):
                 with self.subTest(machine=machine.name, watchdog=has_watchdog, list=text):
                     self.check_list(findings, always)
-                    self.check_reasons(findings, machine)
+                    self.check_reasons(findings, machine, always)
                     self.seen["lists"] += 1
 
     def check_list(self, findings, always):
         """Holds a list's findings to what the search says of its masks."""
         groups = []
         for finding in findings:
-            masks = [event.mask for event in finding.group.events]
+            masks = asks_of(finding.group)
             hardware = [mask for mask in masks if mask]
             self.assertEqual(not has_assignment(hardware), bool(finding.refused))
             places = opened(masks)
@@ -167,14 +189,18 @@ class RandomLists(ProgramTest):
         self.assertEqual(1, len({(finding.times.enabled, finding.times.running) for finding in found}))
         self.seen["alike"] += any(finding.waits for finding in found)
 
-    def check_reasons(self, findings, machine):
+    def check_reasons(self, findings, machine, always):
         """The events of a tight set have one counter fewer together than there are events."""
+        masks = {"the watchdog's cycles": sum(always)}
+        for finding in findings:
+            for member in finding.group.members:
+                masks[member.name] = member.mask
         for finding in findings:
             for reason in [*finding.refused.values(), finding.reason]:
                 if reason and reason.word == "hall":
                     mask = 0
                     for name in reason.names:
-                        mask |= machine.masks[name.removeprefix("the watchdog's ").partition(":")[0]]
+                        mask |= masks[name]
                     count = len(reason.names)
                     self.assertEqual(count - 1, mask.bit_count(), reason.sentence)
                     both = count == 2 and "both need" in reason.sentence

@@ -63,7 +63,7 @@ class Repeat(ProgramTest):
         self.assertIsNone(found["fewer"])
 
     def test_two_kinds_of_core(self):
-        words = ["-m", "cortex-a53=0", "-m", "cortex-a72=1", "-e", "{cycles,branches},cs"]
+        words = ["-m", "cortex-a53=0", "-m", "cortex-a72=1", "-e", "{cycles,branch-misses},cs"]
         for more in ((), ("-a",)):
             _, found = self.runs(*words, *more)
             self.assertEqual([3], [len(run) for run in found["runs"]], more)

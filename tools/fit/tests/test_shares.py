@@ -3,7 +3,7 @@
 from fit.command import machines_of, parser
 from fit.events import read_lists
 from fit.findings import judged_twice
-from fit.plan import plan_of
+from fit.plan import plan_of, watchdog_mask
 from fit.table import percent
 from fit.tests.search import Wanted, opened, shares
 from fit.tests.support import ProgramTest
@@ -48,10 +48,10 @@ LISTS = [
         [ALL] * 7,
     ),
     ("-m sandybridge --watchdog", "cycles,branches,branch-misses,cache-references,cache-misses", ["80.00"] * 5),
-    ("-m haswell", "{inst_retired.prec_dist,l1d_pend_miss.pending},inst_retired.prec_dist", ["50.00", "50.00"]),
-    ("-m core2", "fp_assist,mul,div", ["33.33", "33.33", "33.33"]),
-    ("-m core2", "fp_comp_ops_exe,mul,branches", ["66.67", "66.67", "66.67"]),
-    ("-m nehalem", "l1d,l1d_prefetch,l1d_all_ref,branches", ["75.00", "75.00", "50.00", "75.00"]),
+    ("-m haswell", "{r01c0,r0148},r01c0", ["50.00", "50.00"]),
+    ("-m core2", "r11,r12,r0113", ["33.33", "33.33", "33.33"]),
+    ("-m core2", "r10,r12,branches", ["66.67", "66.67", "66.67"]),
+    ("-m nehalem", "r0151,r014e,r0143,branches", ["75.00", "75.00", "50.00", "75.00"]),
     ("-m bulldozer --mask x=9 --mask y=38", "cycles,cycles,cycles,x,y,y", [ALL] * 6),
     ("-m zen --watchdog", "{cycles,cycles,cycles,cycles,cycles,cycles},cycles", [NEVER, "50.00"]),
     ("-m cortex-a53", "cycles,cycles,instructions,branches,branch-misses,cache-references,cache-misses", [ALL] * 7),
@@ -85,7 +85,7 @@ def searched(plan, machine):
     for group in plan.groups:
         masks = [event.mask for event in group.events]
         groups.append(Wanted([masks[place] for place in opened(masks)], group.is_pinned, group.is_exclusive))
-    always = [machine.masks[machine.watchdog]] if plan.has_watchdog else []
+    always = [watchdog_mask(machine)] if plan.has_watchdog else []
     found = []
     for share in shares(groups, always):
         part = f"{100.0 * share.numerator / share.denominator:.2f}"

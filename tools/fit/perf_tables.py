@@ -1,0 +1,150 @@
+"""Asks the perf that is here what a name of its tables stands for on a machine.
+
+perf sees a stand-in of `/sys` with that machine's PMU, and PERF_CPUID says which processor it is. It prints the attribute
+of each event that it opens, also where the open fails.
+"""
+
+from __future__ import annotations
+
+import os
+import re
+import shutil
+import subprocess
+import tempfile
+from functools import cache
+from typing import NamedTuple
+
+from fit.events import HARDWARE, SAME_AS
+from fit.machines import Machine
+
+SECONDS = 60
+SYSFS_NAMES = {"cycles": "cpu-cycles", "branches": "branch-instructions"}
+
+
+class Attribute(NamedTuple):
+    """What perf asks the kernel for."""
+
+    type: int
+    config: int
+    config1: int
+    precise: int
+
+
+@cache
+def perf_path() -> str | None:
+    """Where perf is, none where it is not there or does not start."""
+    path = shutil.which("perf")
+    return path if path and version_of(path) else None
+
+
+@cache
+def version_of(path: str) -> str:
+    """The version that this perf says, empty where it says none."""
+    try:
+        done = subprocess.run([path, "--version"], capture_output=True, text=True, timeout=SECONDS)
+    except (OSError, subprocess.TimeoutExpired):
+        return ""
+    return done.stdout.strip().removeprefix("perf version ") if done.returncode == 0 else ""
+
+
+def has_tables(machine: Machine) -> bool:
+    """Whether perf may have tables of the machine: of x86 on x86, of Arm on Arm."""
+    is_arm = machine.identity.startswith("0x")
+    return bool(machine.identity) and is_arm == (os.uname().machine in ("aarch64", "arm64"))
+
+
+def sysfs_files(machine: Machine) -> dict[str, str]:
+    """The files of the machine's PMU below /sys/bus/event_source/devices."""
+    files = {"type": "4"}
+    for name, (where, bits) in machine.terms.items():
+        files[f"format/{name}"] = f"{where}:{spans(bits)}"
+    terms = {name: bits for name, (where, bits) in machine.terms.items() if where == "config"}
+    for name, config in machine.hardware.items():
+        words = []
+        for term, bits in terms.items():
+            value = sum(1 << at for at, place in enumerate(bits) if config >> place & 1)
+            if value or term in ("event", "umask"):
+                words.append(f"{term}={value:#04x}")
+        files[f"events/{SYSFS_NAMES.get(name, name)}"] = ",".join(words)
+    for name, text in machine.names.items():
+        if "." not in name:
+            files[f"events/{name}"] = text
+    if machine.pmu.startswith("cpu_"):
+        files["cpus"] = "0"
+    return files
+
+
+def spans(bits: tuple[int, ...]) -> str:
+    """Bits as a format has them: `0-7,32-35`."""
+    parts: list[list[int]] = []
+    for bit in bits:
+        if parts and parts[-1][1] == bit - 1:
+            parts[-1][1] = bit
+        else:
+            parts.append([bit, bit])
+    return ",".join(str(first) if first == last else f"{first}-{last}" for first, last in parts)
+
+
+class Tables:
+    """perf's tables of one machine. The stand-in is there as long as this is used with `with`."""
+
+    def __init__(self, machine: Machine) -> None:
+        self.machine = machine
+        self.folder = tempfile.TemporaryDirectory(prefix="fit-sys-")
+        self.found: dict[str, list[Attribute] | None] = {}
+
+    def __enter__(self) -> Tables:
+        self.write(self.machine.pmu, sysfs_files(self.machine))
+        if self.machine.pmu.startswith("cpu_"):
+            other = "cpu_atom" if self.machine.pmu == "cpu_core" else "cpu_core"
+            self.write(other, {"type": "10", "cpus": "1", "format/event": "config:0-7"})
+        return self
+
+    def __exit__(self, *_: object) -> None:
+        self.folder.cleanup()
+
+    def write(self, pmu: str, files: dict[str, str]) -> None:
+        root = os.path.join(self.folder.name, "bus", "event_source", "devices", pmu)
+        for name, text in files.items():
+            path = os.path.join(root, name)
+            os.makedirs(os.path.dirname(path), exist_ok=True)
+            with open(path, "w", encoding="utf-8") as file:
+                file.write(text + "\n")
+
+    def attributes(self, text: str) -> list[Attribute] | None:
+        """What each event of this text asks for, none where perf refuses the text."""
+        if text not in self.found:
+            self.found[text] = self.ask(text)
+        return self.found[text]
+
+    def ask(self, text: str) -> list[Attribute] | None:
+        path = perf_path()
+        if path is None:
+            return None
+        env = os.environ | {"SYSFS_PATH": self.folder.name, "PERF_CPUID": self.machine.identity, "LC_ALL": "C"}
+        words = [path, "stat", "-vv", "-e", text, "--", "true"]
+        try:
+            done = subprocess.run(words, capture_output=True, text=True, errors="replace", env=env, timeout=SECONDS)
+        except (OSError, subprocess.TimeoutExpired):
+            return None
+        return attributes_of(done.stderr)
+
+
+def attributes_of(printed: str) -> list[Attribute] | None:
+    """The attributes in what `perf stat -vv` printed, none where it opened nothing."""
+    found = []
+    for block in re.split(r"(?m)^perf_event_attr:\n", printed)[1:]:
+        values = dict.fromkeys(("type", "config", "config1", "precise_ip"), 0)
+        for line in block.splitlines():
+            if not line.startswith("  "):
+                break
+            words = line.replace("{ bp_addr, config1 }", "config1").split()
+            if words[0] in values:
+                values[words[0]] = int(words[-1], 0)
+        found.append(Attribute(values["type"], values["config"], values["config1"], values["precise_ip"]))
+    return found or None
+
+
+def general_names() -> set[str]:
+    """The names of hardware events that perf knows on all machines."""
+    return {*HARDWARE, *SAME_AS}
