@@ -2,6 +2,7 @@
 
 from __future__ import annotations
 
+from collections.abc import Sequence
 from dataclasses import dataclass
 
 from fit.faults import BadInput
@@ -62,6 +63,11 @@ class Row:
         if self.kind == "wide-halves" and not (umask & 0xF and umask & 0xF0):
             return False
         return self.first <= config & compared <= self.last
+
+
+def first_matching(rows: Sequence[Row], config: int) -> Counters | None:
+    """The counters of the first row that is about a config, none where no row is."""
+    return next((row.counters for row in rows if row.kind != "within" and row.holds(config)), None)
 
 
 @dataclass(frozen=True)

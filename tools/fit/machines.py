@@ -11,7 +11,7 @@ from functools import cache
 from typing import Any
 
 from fit.codes import (
-    IN_TX_CHECKPOINTED, RAW, Counters, Register, Row, bits_of, placed, registers_of, rows_of,
+    IN_TX_CHECKPOINTED, RAW, Counters, Register, Row, bits_of, first_matching, placed, registers_of, rows_of,
 )
 from fit.events import SOFTWARE, TOOL_EVENTS, canonical
 from fit.faults import BadInput
@@ -105,14 +105,14 @@ class Machine:
         config &= self.kept
         if precise and self.precise_cycles and config & RAW == CYCLES:
             config = self.precise_cycles[precise == 3] | config & ~RAW
-        found = first_of(self.most_precise_rows, config) if precise == 3 else None
+        found = first_matching(self.most_precise_rows, config) if precise == 3 else None
         if found is not None:
             return found
-        found = first_of(self.precise_rows, config) if precise else None
+        found = first_matching(self.precise_rows, config) if precise else None
         if found is None and precise and not self.precise_any:
             return Counters(0)
         if found is None:
-            found = first_of(self.rows, config)
+            found = first_matching(self.rows, config)
         if found is None:
             found = Counters(self.all_general)
         if "in_tx_cp" in self.terms and config & IN_TX_CHECKPOINTED:
@@ -132,10 +132,6 @@ class Machine:
             if fnmatch.fnmatchcase(identity, pattern) or fnmatch.fnmatchcase(identity, pattern + "-*"):
                 return model
         return ""
-
-
-def first_of(rows: Sequence[Row], config: int) -> Counters | None:
-    return next((row.counters for row in rows if row.kind != "within" and row.holds(config)), None)
 
 
 def ranges(numbers: Sequence[int]) -> str:

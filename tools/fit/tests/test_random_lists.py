@@ -16,7 +16,7 @@ from fit.plan import Plan, plan_of, watchdog_mask, without
 from fit.tests.search import PAIR, Wanted, has_assignment, opened, pinned_on, shares
 from fit.tests.support import ProgramTest
 
-LISTS, BATCH, OTHERS = int(os.environ.get("FIT_LISTS", "8")), 50, 50
+LISTS, BATCH, OTHERS = int(os.environ.get("FIT_LISTS", "4")), 50, 50
 SOFTWARE = ("task-clock", "cs", "migrations", "dummy", "page-faults")
 
 
