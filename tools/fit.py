@@ -3,7 +3,7 @@
 
     tools/fit.py -m sandybridge -e 'cycles,{l1d_pend_miss.pending,cycle_activity.cycles_l1d_pending},branches:k'
 
-docs/FIT.md answers six questions with it. `tools/fit.py --help` lists its options.
+docs/FIT.md answers the questions that users ask with it. `tools/fit.py --help` lists its options.
 """
 
 import sys

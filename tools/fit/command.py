@@ -36,6 +36,8 @@ def parser():
     add("--mask", metavar="EVENT=HEX", action="append", default=[], help="the counters that may count an event")
     add("-e", metavar="LIST", action="append", default=[], dest="lists",
         help="events as perf stat takes them; without it perf's default list")
+    add("-M", metavar="METRICS", action="append", default=[], dest="metrics",
+        help="metrics and groups of metrics, whose events the perf that is here says")
     add("-d", action="count", default=0, dest="details", help="adds cache events, as perf stat does; up to three times")
     add("--sampling", action="store_true", help="open the events as perf record does: p asks for precise samples")
     add("-a", action="store_true", dest="everywhere", help="count on each processor, not a task")
@@ -77,9 +79,9 @@ def write(path, text, option):
 def answer(options):
     """Asks the program, prints, and answers the exit status."""
     machines, processors = machines_of(options)
-    lists = options.lists or default_lists(machines)
     with Meanings(options.sampling) as meanings:
-        typed = read_lists([*lists, *detail_lists(options.details)])
+        lists = [*options.lists, *meanings.metric_lists(options.metrics, machines)]
+        typed = read_lists([*(lists or default_lists(machines)), *detail_lists(options.details)])
         plan = plan_of(typed, machines, processors, options.watchdog, meanings)
     program = program_at(options.program)
     found = answer_to(program, plan)

@@ -11,6 +11,6 @@ class ProgramFault(Exception):
     """The program answered what it should not: exit status 3."""
 
 
-def at_place(reason, option, text, character):
+def at_place(reason: str, option: str, text: str, character: int) -> BadInput:
     """A refusal that shows where in the text of an option the word stands, counted from 1."""
     return BadInput(f"{option}, character {character}: {reason}\n    {text}\n    {' ' * (character - 1)}^")

@@ -44,8 +44,8 @@ def registers(plan: Plan) -> list[str]:
         for term, values, most in wanted_values(counted(plan)):
             if values > most:
                 found.append(
-                    f"the list needs {values} values of {most} in the register that {term} writes: where that many would "
-                    "be on, Linux takes turns, and the shares above do not have that"
+                    f"the list needs {values} values of {most} in the register that {term} writes: where that many "
+                    "would be on, Linux takes turns, and the shares above do not have that"
                 )
     return found
 
@@ -81,19 +81,21 @@ def north_bridge(plan: Plan) -> list[str]:
     events = [event.name for event in counted(plan) if "node" in event.need.counters.marks]
     if not events:
         return []
-    names = in_words(list(dict.fromkeys(events)))
-    return [f"{names} {'count' if len(set(events)) > 1 else 'counts'} on the north bridge, whose counters all cores share"]
+    names = list(dict.fromkeys(events))
+    verb = "count" if len(names) > 1 else "counts"
+    return [f"{in_words(names)} {verb} on the north bridge, whose counters all cores share"]
 
 
 def force_abort(answer: Answer) -> list[str]:
-    """Skylake's counter 3 is left out where TSX force abort is turned off: whether what was on would do without it."""
+    """Skylake's counter 3 is left out where TSX force abort is turned off: whether what was on could do without."""
     for members in on_together(answer):
         machine = next((member.machine for member in members if member.machine), None)
         if machine is None or "allow_tsx_force_abort" not in machine.note:
             continue
         wishes = [replace(wish, mask=wish.mask & ~(1 << TFA_COUNTER)) for wish in wishes_of(members)]
         if not linux_finds(wishes, machine):
-            return ["where allow_tsx_force_abort is 0, Linux leaves counter 3 out, and the shares above do not have that"]
+            left_out = "where allow_tsx_force_abort is 0, Linux leaves counter 3 out"
+            return [f"{left_out}, and the shares above do not have that"]
     return []
 
 
@@ -131,7 +133,8 @@ def missed_in_group(group: Group, machine: Machine, refused: set[int]) -> list[s
     for count in range(2, len(members) + 1):
         if not linux_finds(wishes_of(members[:count]), machine):
             name = members[count - 1].name
-            return [f"in {group.text} Linux's search misses the assignment that is there, and refuses the open of {name}"]
+            missed_there = f"in {group.text} Linux's search misses the assignment that is there"
+            return [f"{missed_there}, and refuses the open of {name}"]
     return []
 
 

@@ -1,7 +1,7 @@
 """The search by which Linux on x86 gives events counters, done again to see whether it finds what is there.
 
-It takes the events by how few counters each has, the fewest first, and gives each the first counter that is free, a fixed
-one before a general one. It goes back only to an event that is marked so, at most two of them.
+It takes the events by how few counters each has, the fewest first, and gives each the first counter that is free, a
+fixed one before a general one. It goes back only to an event that is marked so, at most two of them.
 """
 
 from __future__ import annotations

@@ -58,6 +58,7 @@ class Machine:
     precise_any: bool = False
     ibs: bool = False
     general_alone: int | None = None
+    is_alone: bool = False
     models: dict[str, str] = field(default_factory=dict)
     identity: str = ""
     terms: dict[str, tuple[str, tuple[int, ...]]] = field(default_factory=dict)
@@ -213,14 +214,14 @@ def load_file(path: str) -> Machine:
 def without_threads(machine: Machine) -> Machine:
     """The machine with hyperthreading off: some have more general counters then."""
     if machine.general_alone is None:
-        return machine
+        return replace(machine, is_alone=True)
     if not machine.source.startswith("Linux "):
         raise BadInput(f"--ht: {machine.name} has general_alone, and only the files of tools/fit/machines/ may")
     path = os.path.join(FOLDER, machine.name + ".toml")
     with open(path, "rb") as file:
         table = tomllib.load(file)
     alone = of_table(machine.name, table | {"general": machine.general_alone}, path)
-    return replace(alone, processors=machine.processors, identity=machine.identity, general_alone=None)
+    return replace(alone, processors=machine.processors, identity=machine.identity, general_alone=None, is_alone=True)
 
 
 def of_table(name: str, table: dict[str, Any], path: str) -> Machine:
@@ -277,7 +278,7 @@ def arm_names() -> dict[int, list[str]]:
 
 def common_names(text: str) -> dict[str, str]:
     """The terms of the names that a core has of Arm's architecture, by the codes that it says."""
-    found = {}
+    found: dict[str, str] = {}
     for part in text.split():
         first, mark, last = part.partition("-")
         for code in range(int(first, 16), int(last if mark else first, 16) + 1):
@@ -376,7 +377,9 @@ def processors_of(text: str, option: str) -> tuple[int, ...]:
     return tuple(sorted(found))
 
 
-def read_machines(words: Sequence[str], masks: Sequence[str], wanted: Sequence[int], alone: bool = False) -> list[Machine]:
+def read_machines(
+    words: Sequence[str], masks: Sequence[str], wanted: Sequence[int], alone: bool = False
+) -> list[Machine]:
     """The machines of `-m NAME` or `-m NAME=PROCESSORS` options. `wanted` are the processors that `-C` names; `alone`
     says that hyperthreading is off."""
     if len(words) > MOST_PMUS:

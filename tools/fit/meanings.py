@@ -3,6 +3,7 @@
 from __future__ import annotations
 
 import re
+from collections.abc import Sequence
 from contextlib import ExitStack
 from dataclasses import dataclass
 
@@ -113,7 +114,8 @@ class Meanings:
             return int(event.name[1:], 16), 0, ""
         if event.form == "numeric":
             return self.config_of_number(event, machine)
-        found = self.config_of_terms(event, machine)
+        text = f"{event.name},{event.terms}".rstrip(",") if event.form == "aliased" else None
+        found = self.config_of_terms(event, machine, text)
         return (*found, "") if found else self.looked_up(event, machine)
 
     def config_of_name(self, event: Typed, machine: Machine) -> tuple[int, int, str]:
@@ -184,6 +186,8 @@ class Meanings:
             raise self.unknown(event, machine)
         self.asked.add(machine.name)
         text = f"{event.pmu}/{event.terms}/" if event.form == "slashed" else event.name
+        if event.form == "aliased":
+            text = f"{machine.pmu}/{event.name},{event.terms}".rstrip(",") + "/"
         if machine.pmu.startswith("cpu_") and event.form == "name":
             text = f"{machine.pmu}/{event.name}/"
         text = machine.pmu + text[len(event.pmu) :] if event.pmu == machine.name else text
@@ -194,6 +198,14 @@ class Meanings:
             return machine.hardware.get(HARDWARE[found[0].config & 0xFF], 0), 0, ""
         return found[0].config, found[0].config1, ""
 
+    def metric_lists(self, names: Sequence[str], machines: Sequence[Machine]) -> list[str]:
+        """The lists of events that perf makes of metrics."""
+        if not names:
+            return []
+        if len(machines) > 1 or not perf_tables.has_tables(machines[0]) or not perf_tables.perf_path():
+            raise BadInput("-M: metrics need one machine, and a perf on the PATH that has tables of it")
+        return [text for name in names for text in self.tables_of(machines[0]).metric_groups(name)]
+
     def tables_of(self, machine: Machine) -> perf_tables.Tables:
         if machine.name not in self.tables:
             self.tables[machine.name] = self.stack.enter_context(perf_tables.Tables(machine))
@@ -202,6 +214,8 @@ class Meanings:
     def unknown(self, event: Typed, machine: Machine) -> BadInput:
         """The refusal of a name that is not known, with what to type."""
         name = event.name or event.terms
+        if event.form == "aliased":
+            return event.refuse(f"no PMU is called {name!r}; there is {machine.pmu}, and no event has this name either")
         if not machine.has_codes:
             hint = f"--list says what it knows, and --mask {name}=HEX gives an event its counters"
             return event.refuse(f"{name!r} is no event that {machine.name} knows; {hint}")
@@ -241,7 +255,8 @@ def fitting(value: int, bits: tuple[int, ...], event: Typed, at: int) -> int:
 
 
 def unknown_term(name: str, machine: Machine) -> str:
-    return f"the term {name!r} is not known on {machine.name}; {in_words([*machine.terms, *CONFIGS, *PASSED_TERMS])} are"
+    known = in_words([*machine.terms, *CONFIGS, *PASSED_TERMS])
+    return f"the term {name!r} is not known on {machine.name}; {known} are"
 
 
 def code_of(config: int) -> str:

@@ -1,7 +1,7 @@
 """Asks the perf that is here what a name of its tables stands for on a machine.
 
-perf sees a stand-in of `/sys` with that machine's PMU, and PERF_CPUID says which processor it is. It prints the attribute
-of each event that it opens, also where the open fails.
+perf sees a stand-in of `/sys` with that machine's PMU, and PERF_CPUID says which processor it is. It prints the
+attribute of each event that it opens, also where the open fails.
 """
 
 from __future__ import annotations
@@ -15,6 +15,7 @@ from functools import cache
 from typing import NamedTuple
 
 from fit.events import HARDWARE, SAME_AS
+from fit.faults import BadInput
 from fit.machines import Machine
 
 SECONDS = 60
@@ -94,6 +95,7 @@ class Tables:
         self.found: dict[str, list[Attribute] | None] = {}
 
     def __enter__(self) -> Tables:
+        self.write_topology()
         self.write(self.machine.pmu, sysfs_files(self.machine))
         if self.machine.pmu.startswith("cpu_"):
             other = "cpu_atom" if self.machine.pmu == "cpu_core" else "cpu_core"
@@ -103,8 +105,26 @@ class Tables:
     def __exit__(self, *_: object) -> None:
         self.folder.cleanup()
 
+    def write_topology(self) -> None:
+        """Two processors, which are the threads of one core, or two cores."""
+        threads = "0" if self.machine.is_alone else "0-1"
+        files = dict.fromkeys(("possible", "present", "online"), "0-1")
+        files["smt/active"] = str(int(not self.machine.is_alone))
+        for cpu in ("0", "1"):
+            own = cpu if self.machine.is_alone else threads
+            for name in ("core_cpus_list", "thread_siblings_list"):
+                files[f"cpu{cpu}/topology/{name}"] = own
+            for name in ("die_cpus_list", "package_cpus_list", "core_siblings_list"):
+                files[f"cpu{cpu}/topology/{name}"] = "0-1"
+            files |= {f"cpu{cpu}/topology/physical_package_id": "0", f"cpu{cpu}/topology/die_id": "0"}
+            files[f"cpu{cpu}/topology/core_id"] = cpu if self.machine.is_alone else "0"
+        self.write_below(("devices", "system", "cpu"), files)
+
     def write(self, pmu: str, files: dict[str, str]) -> None:
-        root = os.path.join(self.folder.name, "bus", "event_source", "devices", pmu)
+        self.write_below(("bus", "event_source", "devices", pmu), files)
+
+    def write_below(self, folders: tuple[str, ...], files: dict[str, str]) -> None:
+        root = os.path.join(self.folder.name, *folders)
         for name, text in files.items():
             path = os.path.join(root, name)
             os.makedirs(os.path.dirname(path), exist_ok=True)
@@ -118,16 +138,34 @@ class Tables:
         return self.found[text]
 
     def ask(self, text: str) -> list[Attribute] | None:
+        return attributes_of(self.said(["stat", "-vv", "-e", text, "--", "true"])[1])
+
+    def metric_groups(self, names: str) -> list[str]:
+        """The lists of events that perf makes of metrics, as it would read them behind -e."""
+        _, said = self.said(["stat", "-vv", "-M", names, "--", "true"])
+        missing = re.search(r"(?m)^Cannot find metric or group `(.*)'$", said)
+        found = re.findall(r"(?m)^Parsing metric events '(.*)'$", said)
+        if missing or not found:
+            what = repr(missing[1]) if missing else f"in {names!r}"
+            where = f"{self.machine.name} ({self.machine.identity})"
+            raise BadInput(f"-M: perf {version_of(perf_path() or '')} knows no metric and no group {what} on {where}")
+        return found
+
+    def metric_names(self) -> list[str]:
+        """The names of all metrics that perf has for the machine."""
+        out, _ = self.said(["list", "--raw-dump", "metric"])
+        return sorted(set(out.split()))
+
+    def said(self, words: list[str]) -> tuple[str, str]:
+        """What perf prints for these words, on both of its outputs; nothing where it is not there."""
         path = perf_path()
-        if path is None:
-            return None
         env = os.environ | {"SYSFS_PATH": self.folder.name, "PERF_CPUID": self.machine.identity, "LC_ALL": "C"}
-        words = [path, "stat", "-vv", "-e", text, "--", "true"]
         try:
-            done = subprocess.run(words, capture_output=True, text=True, errors="replace", env=env, timeout=SECONDS)
+            how = {"capture_output": True, "text": True, "errors": "replace", "env": env, "timeout": SECONDS}
+            done = subprocess.run([path or "perf", *words], **how)  # type: ignore[call-overload]
         except (OSError, subprocess.TimeoutExpired):
-            return None
-        return attributes_of(done.stderr)
+            return "", ""
+        return done.stdout, done.stderr
 
 
 def attributes_of(printed: str) -> list[Attribute] | None:

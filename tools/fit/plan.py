@@ -2,6 +2,7 @@
 
 from __future__ import annotations
 
+import re
 from collections.abc import Iterable, Mapping, Sequence
 from dataclasses import dataclass, field, replace
 
@@ -10,9 +11,8 @@ from fit.faults import BadInput
 from fit.machines import Machine, in_words
 from fit.meanings import NOTHING, Meanings, Need
 from perfscript.limits import MOST_KINDS, MOST_MEMBERS, MOST_SLOTS
+from perfscript.names import SOFTWARE_NAMES
 
-# the software events that the program knows; for others, which need no counter either, it opens a dummy
-PROGRAM_KINDS = ("context-switches", "cpu-migrations", "task-clock", "dummy")
 # other PMUs whose events may stand in a group with those of a core
 IN_ANY_GROUP = ("msr", "kprobe", "uprobe", "breakpoint", "tracepoint", "software")
 
@@ -98,7 +98,8 @@ class Group:
             if event.refused:
                 continue
             is_core = bool(event.mask)
-            kind = "" if is_core else event.kind if event.kind in PROGRAM_KINDS else "dummy"
+            # for a software event that the program does not know, which needs no counter either, it opens a dummy
+            kind = "" if is_core else event.kind if event.kind in SOFTWARE_NAMES.values() else "dummy"
             machine = event.machine if is_core else None
             found.append(Member(place, event.name, kind, machine, event.mask, event.flags, event))
             if event.is_pair:
@@ -168,10 +169,19 @@ class Planning:
     def groups(self, typed_groups: Iterable[TypedGroup]) -> tuple[Group, ...]:
         found: list[Group] = []
         for typed in typed_groups:
+            typed = replace(typed, events=tuple(map(self.named, typed.events)))
             for part in self.parts(typed):
                 for machine in self.machines_of(part):
                     found.append(self.group_of(len(found) + 1, part, machine))
         return tuple(found)
+
+    def named(self, event: Typed) -> Typed:
+        """The event; where what stands before its slash is no PMU, it is an event's name, and terms follow."""
+        called = [word for machine in self.machines for word in (machine.pmu, machine.name)]
+        if event.form != "slashed" or event.is_other or event.pmu in called:
+            return event
+        start = event.start - len(event.pmu) - 1
+        return replace(event, form="aliased", pmu="", name=event.pmu, start=start)
 
     def parts(self, typed: TypedGroup) -> list[TypedGroup]:
         """The group, or its events one by one where perf takes it apart since another PMU than the core's is in it."""
@@ -208,6 +218,7 @@ class Planning:
 
     def group_of(self, number: int, typed: TypedGroup, machine: Machine | None) -> Group:
         """The group that is opened on this machine."""
+        typed = led_by_slots(typed, machine)
         events = with_rules([self.event_of(event, typed, machine) for event in typed.events])
         letters = typed.events[0].modifiers + typed.modifiers
         text = events[0].name
@@ -225,16 +236,36 @@ class Planning:
         flags += ["exclude_user"] * leaves_user + ["exclude_kernel"] * leaves_kernel
         refused = None if is_leader else refused_sibling(event)
         if event.needs_no_counter:
-            return Event(event.text, event.kind, None, tuple(flags), NOTHING, refused, event)
+            return Event(shown(event.text), event.kind, None, tuple(flags), NOTHING, refused, event)
         own = machine_called(event, self.machines) if event.form == "slashed" else machine
         assert own
         need = self.meanings.need(event, own, typed.modifiers)
         if need.refused:
             refused = Reason("linux", (), need.refused)
-        name = event.text
+        name = shown(event.text)
         if len(self.machines) > 1 and event.form != "slashed":
             name = f"{own.pmu}/{event.name}/{event.modifiers}"
         return Event(name, event.kind, own if need.is_core else None, tuple(flags), need, refused, event)
+
+
+def shown(text: str) -> str:
+    """An event as perf calls it: without the mark of the metric that it is of."""
+    text = re.sub(r",?metric-id=[^,/]*", "", text)
+    return text.removesuffix("//").replace("/,", "/")
+
+
+def led_by_slots(typed: TypedGroup, machine: Machine | None) -> TypedGroup:
+    """The group as perf orders it: slots first, where parts of it follow."""
+    if machine is None or "slots" not in machine.names:
+        return typed
+    slots, has_parts = None, False
+    for event in typed.events:
+        text = shown(event.text).lower()
+        slots = event if "slots" in text else slots
+        has_parts = has_parts or "topdown" in text
+        if slots and has_parts:
+            return replace(typed, events=(slots, *(other for other in typed.events if other is not slots)))
+    return typed
 
 
 def plan_of(
@@ -316,7 +347,8 @@ def split(plan: Plan, reasons: Mapping[int, Reason]) -> Plan:
     for group in plan.groups:
         if group.number not in reasons:
             continue
-        notes.append(f"perf takes the weak group {group.text} apart: {reasons[group.number].sentence}")
+        names = in_words([event.name for event in group.events])
+        notes.append(f"perf takes the weak group of {names} apart: {reasons[group.number].sentence}")
         together = tuple(event for event in group.events if stays_with_slots(event, group))
         parts = [together] if together else []
         parts += [(event,) for event in group.events if event not in together]
@@ -328,10 +360,11 @@ def split(plan: Plan, reasons: Mapping[int, Reason]) -> Plan:
 
 
 def stays_with_slots(event: Event, group: Group) -> bool:
-    """Whether perf leaves the event in the group of slots: slots itself and what is a part of it."""
-    if not group.events[0].need.is_slots or event.machine is None:
+    """Whether perf leaves the event in the group of slots: what has slots or topdown in its name."""
+    machine = group.machine
+    if machine is None or "slots" not in machine.names:
         return False
-    return event is group.events[0] or event.need.counters.metric is not None
+    return any(word in event.name.lower() for word in ("slots", "topdown"))
 
 
 def check_limits(plan: Plan) -> None:

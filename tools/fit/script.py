@@ -5,11 +5,14 @@ processors. In a context with N flexible hardware groups of a kind of core a rot
 `tick`: each tick puts the first of them last. On each kind of core a task works for the same time.
 """
 
+from __future__ import annotations
+
+from collections.abc import Sequence
 from dataclasses import dataclass, field
 from math import lcm
 
-from fit.plan import Group, Member, kinds_of, watchdog_mask
-from perfscript import Draft
+from fit.plan import Group, Member, Plan, kinds_of, watchdog_mask
+from perfscript import Draft, Key
 from perfscript.limits import MOST_LINES, MOST_SLOTS, MOST_TASKS
 
 LENGTH = 1000
@@ -21,7 +24,7 @@ class Question:
     """A line, and its key in the report: its actor and its number."""
 
     line: str
-    key: tuple
+    key: Key
 
 
 @dataclass
@@ -29,9 +32,9 @@ class Round:
     """A stretch of work: who is on there is asked by `seats`, why each leader is on or off by `why`."""
 
     processor: int
-    first: int
-    seats: Question = None
-    why: dict = field(default_factory=dict)
+    first: int | None
+    seats: Question
+    why: dict[int, Question] = field(default_factory=dict)
 
 
 @dataclass
@@ -39,11 +42,11 @@ class Opened:
     """A group in a context: the slots of what is opened of it, and the questions that are the opens."""
 
     group: Group
-    slots: list
-    opens: list = field(default_factory=list)
+    slots: list[int]
+    opens: list[Question] = field(default_factory=list)
 
     @property
-    def leader(self):
+    def leader(self) -> int:
         return self.slots[0]
 
 
@@ -54,12 +57,12 @@ class Context:
     `on` are the slots that were on together in some round, as the answers say.
     """
 
-    task: object
-    processor: object
-    opened: list
-    stays: list
-    rounds: list = field(default_factory=list)
-    on: set = field(default_factory=set)
+    task: int | None
+    processor: int | None
+    opened: list[Opened]
+    stays: list[int]
+    rounds: list[Round] = field(default_factory=list)
+    on: set[tuple[int, ...]] = field(default_factory=set)
 
 
 @dataclass
@@ -69,23 +72,23 @@ class Script:
     `times` is how many rotations it goes through, and `asks` whether it asks in their rounds.
     """
 
-    plan: object
+    plan: Plan
     times: int = 1
     asks: bool = True
-    slots: dict = field(default_factory=dict)
-    contexts: list = field(default_factory=list)
-    watchdogs: dict = field(default_factory=dict)
+    slots: dict[int, Member] = field(default_factory=dict)
+    contexts: list[Context] = field(default_factory=list)
+    watchdogs: dict[int, int] = field(default_factory=dict)
     draft: Draft = field(default_factory=Draft)
 
-    def __post_init__(self):
+    def __post_init__(self) -> None:
         self.kinds = {kind: f"k{number}" for number, kind in enumerate(kinds_of(self.plan))}
         self.cpus = max(processor for machine in self.plan.machines for processor in machine.processors) + 1
 
-    def act(self, actor, line):
+    def act(self, actor: str, line: str) -> Question:
         """Adds a line, which is done now. Answers it as a question."""
         return Question(line, self.draft.act(actor, line))
 
-    def open(self, member, slot, place, leader):
+    def open(self, member: Member, slot: int, place: str, leader: int) -> Question:
         """Opens a member in a slot, at a place: `task=0 cpu=any`."""
         kind = self.kinds[member.machine.pmu, member.mask] if member.machine else member.kind
         words = [f"open {slot} kind={kind} {place}"]
@@ -95,7 +98,7 @@ class Script:
         self.slots[slot] = member
         return self.act(TOOL, " ".join(words))
 
-    def head(self):
+    def head(self) -> list[str]:
         """The machine, its PMUs, the kinds and the tasks."""
         lines = ["perf 2", f"machine cpus={self.cpus}"]
         for number, machine in enumerate(self.plan.machines):
@@ -106,23 +109,25 @@ class Script:
             lines.append(f"kind {word} pmu={pmus[pmu]} mask={mask:x}")
         return lines + [f"task {context.task}" for context in self.contexts if context.task is not None]
 
-    def text(self):
+    def text(self) -> str:
         """The script, as the program reads it."""
         self.draft.head = self.head()
         return self.draft.text()
 
-    def name_of(self, slot):
+    def name_of(self, slot: int) -> str:
         """What perf calls the event of a slot."""
         return "the watchdog's cycles" if slot in self.watchdogs else self.slots[slot].name
 
-    def text_of_group(self, leader):
+    def text_of_group(self, leader: int) -> str:
         """What the group of this leader's slot is called."""
         if leader in self.watchdogs:
             return self.name_of(leader)
         return next(one.group.text for context in self.contexts for one in context.opened if one.leader == leader)
 
 
-def scripts_of(plan, candidates, times=1, asks=True):
+def scripts_of(
+    plan: Plan, candidates: Sequence[Sequence[Group]], times: int = 1, asks: bool = True
+) -> list[tuple[Script, list[Context]]]:
     """The script of each of some lists of groups, and the contexts that the list has there for itself.
 
     Lists share a script while it has room. On processors each has a script, since a processor is one context.
@@ -141,14 +146,14 @@ def scripts_of(plan, candidates, times=1, asks=True):
     return found
 
 
-def has_room(script, groups, size):
+def has_room(script: Script, groups: Sequence[Group], size: int) -> bool:
     """Whether a further task with these groups fits into a script."""
     rounds = script.times * len(groups) * len(script.plan.machines)
     lines = size + rounds * (3 + len(groups)) + 4 * len(script.plan.machines) + script.draft.count
     return len(script.contexts) < MOST_TASKS and len(script.slots) + size <= MOST_SLOTS and lines <= MOST_LINES
 
 
-def open_watchdogs(script):
+def open_watchdogs(script: Script) -> None:
     """On each processor a pinned event of its own comes first, as Linux's watchdog has it."""
     for processor in script.plan.watched:
         machine = script.plan.machine_of(processor)
@@ -158,7 +163,7 @@ def open_watchdogs(script):
         script.open(member, slot, f"task=all cpu={processor}", slot)
 
 
-def contexts_of(script, groups):
+def contexts_of(script: Script, groups: Sequence[Group]) -> list[Context]:
     """The contexts of a list of groups: one task, or each processor of the plan."""
     plan = script.plan
     if plan.is_task:
@@ -171,7 +176,9 @@ def contexts_of(script, groups):
     return found
 
 
-def context_of(script, groups, task, processor, stays):
+def context_of(
+    script: Script, groups: Sequence[Group], task: int | None, processor: int | None, stays: list[int]
+) -> Context:
     """A context whose groups have the next slots."""
     slot, opened = len(script.slots), []
     for group in groups:
@@ -182,7 +189,7 @@ def context_of(script, groups, task, processor, stays):
     return Context(task, processor, opened, stays)
 
 
-def run_context(script, context):
+def run_context(script: Script, context: Context) -> None:
     """Opens the groups of each stay while the context is there, and then works through a rotation, or several."""
     for number, processor in enumerate(context.stays):
         come(script, context, processor)
@@ -202,35 +209,35 @@ def run_context(script, context):
         leave(script, context, processor)
 
 
-def come(script, context, processor):
+def come(script: Script, context: Context, processor: int) -> None:
     if context.task is not None:
         script.act(f"p{processor}", f"switch {context.task}")
 
 
-def leave(script, context, processor):
+def leave(script: Script, context: Context, processor: int) -> None:
     if context.task is not None:
         script.act(f"p{processor}", "switch idle")
 
 
-def open_group(script, context, one):
+def open_group(script: Script, context: Context, one: Opened) -> None:
     """Opens the members of a group, the leader first."""
     place = f"task={context.task} cpu=any" if context.task is not None else f"task=all cpu={context.processor}"
     for slot, member in zip(one.slots, one.group.members):
         one.opens.append(script.open(member, slot, place, one.leader))
 
 
-def turning(script, context, processor):
+def turning(script: Script, context: Context, processor: int) -> list[Opened]:
     """The groups of a context that can take turns on a processor, in order."""
     machine = script.plan.machine_of(processor)
     return [one for one in context.opened if one.group.turns and one.group.machine == machine]
 
 
-def rounds_on(script, context, processor):
+def rounds_on(script: Script, context: Context, processor: int) -> int:
     """How many rounds are a rotation there."""
     return max(1, len(turning(script, context, processor)))
 
 
-def run_round(script, context, processor, number, length):
+def run_round(script: Script, context: Context, processor: int, number: int, length: int) -> None:
     """Asks, works and ticks.
 
     What is on at the start are the first flexible groups, at most one for each counter. So each group waits for the
@@ -239,12 +246,11 @@ def run_round(script, context, processor, number, length):
     """
     turns = turning(script, context, processor)
     first = turns[number % len(turns)].leader if turns else None
-    one_round = Round(processor, first)
     if script.asks:
-        one_round.seats = script.act(TOOL, f"seats {processor}")
+        one_round = Round(processor, first, script.act(TOOL, f"seats {processor}"))
         leaders = [one.leader for one in context.opened]
         if number > script.plan.machine_of(processor).counters:
-            leaders = [first]
+            leaders = [] if first is None else [first]
         for leader in leaders:
             one_round.why[leader] = script.act(TOOL, f"why {leader}")
         context.rounds.append(one_round)

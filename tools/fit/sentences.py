@@ -1,11 +1,17 @@
 """Puts the program's causes into sentences with perf's names."""
 
+from __future__ import annotations
+
+from collections.abc import Mapping
+
+from fit.answers import Cause
 from fit.faults import ProgramFault
 from fit.machines import in_words
 from fit.plan import Reason
+from fit.script import Script
 
 
-def reason_of(cause, script, causes):
+def reason_of(cause: Cause, script: Script, causes: Mapping[int, Cause | None]) -> Reason:
     """The reason of a cause. `causes`: those of all leaders in the same round, for a group that waits for another."""
     if cause.word == "hall":
         slots = sorted(cause.slots)
@@ -18,15 +24,18 @@ def reason_of(cause, script, causes):
         return Reason("exclusive", (other,), f"{other} is exclusive and on")
     if cause.word == "exclusive-self":
         return Reason("exclusive-self", (other,), f"it is exclusive, and {other} is on")
-    if not causes.get(cause.slots[0]):
+    cause_of_other = causes.get(cause.slots[0])
+    if not cause_of_other:
         raise ProgramFault(f"the program says that a group waits for {other}, and not why that waits")
-    rest = reason_of(causes[cause.slots[0]], script, causes)
+    rest = reason_of(cause_of_other, script, causes)
     return Reason("earlier", (other,), f"waits for {other}: {rest.sentence}")
 
 
-def hall(slots, script):
+def hall(slots: list[int], script: Script) -> str:
     """The sentence of a tight set, in the list's order: these events have fewer counters together than they are."""
     names, machine = [script.name_of(slot) for slot in slots], script.slots[slots[0]].machine
+    if machine is None:
+        raise ProgramFault(f"the program names {names[0]}, which needs no counter, in a cause")
     mask = 0
     for slot in slots:
         mask |= script.slots[slot].mask
@@ -36,7 +45,7 @@ def hall(slots, script):
     return f"{counted(names)} need {len(slots)} counters and have {count}: {counters}"
 
 
-def counted(names):
+def counted(names: list[str]) -> str:
     """The names in a phrase, each once, with how often it stands there."""
     words = []
     for name in dict.fromkeys(names):

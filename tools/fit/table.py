@@ -11,7 +11,8 @@ from fit.answering import Answer
 from fit.answers import Times
 from fit.findings import Finding
 from fit.machines import Machine
-from fit.plan import MOST_MEMBERS, Reason
+from fit.plan import Reason
+from perfscript.limits import MOST_MEMBERS
 
 COUNTED, NOT_COUNTED, NOT_SUPPORTED = "", "<not counted>", "<not supported>"
 HEAD = ("", "event", "share", "at the start", "waits")
@@ -46,19 +47,20 @@ def lines_of_failure(finding: Finding) -> list[str]:
     """Which group can't be counted, and why."""
     lines, group = [], finding.group
     if group.is_beyond:
-        count = len(group.members)
-        return [f"{group.text} is beyond this program:", f"    it has {count} members, and the program takes {MOST_MEMBERS}."]
+        beyond = f"it has {len(group.members)} members, and the program takes {MOST_MEMBERS}"
+        return [f"{group.text} is beyond this program:", f"    {beyond}."]
     if finding.refused:
         together = " together" if len(group.events) > 1 else ""
         lines.append(f"{group.text} can never be counted{together}:")
         for place, reason in finding.refused.items():
-            lines += [f"    {reason.sentence}.", f"    So the open of {group.events[place].name} is refused."]
+            lines += wrapped("    ", f"{reason.sentence}.")
+            lines.append(f"    So the open of {group.events[place].name} is refused.")
         lines += what_perf_does(finding)
     if finding.is_never_on:
         rest = "What is left of it" if finding.refused else group.text
         word = "is in error and never on" if finding.in_error else "is opened and never on"
         assert finding.reason
-        lines += [f"{rest} {word}:", f"    {finding.reason.sentence}."]
+        lines += [f"{rest} {word}:", *wrapped("    ", f"{finding.reason.sentence}.")]
     return lines
 
 
@@ -70,7 +72,7 @@ def what_perf_does(finding: Finding) -> list[str]:
     if not rest or finding.is_never_on:
         return []
     who, does = ("the others", "they run") if rest > 1 else ("the other", "it runs")
-    if finding.group.is_hardware:
+    if any(event.mask for place, event in enumerate(finding.group.events) if place not in finding.refused):
         does = "they hold counters and run" if rest > 1 else "it holds a counter and runs"
     return [f"    perf prints {NOT_COUNTED} for {who} too, though {does}."]
 
@@ -85,7 +87,8 @@ def summary(findings: Sequence[Finding]) -> str:
         every = "Both" if len(findings) == 2 else f"All {len(findings)}"
         count = every if len(waiting) == len(findings) else f"{len(waiting)} of the {len(findings)}"
         return f"{count} groups {'are' if len(waiting) > 1 else 'is'} on part of the time."
-    who = "All else is" if len(rest) < len(findings) or any(finding.refused for finding in findings) else "All events are"
+    is_part = len(rest) < len(findings) or any(finding.refused for finding in findings)
+    who = "All else is" if is_part else "All events are"
     moves = any(percent(finding.times) for finding in rest)
     return f"{who} on {'whenever the task is on their kind of core' if moves else 'all the time'}."
 
@@ -99,7 +102,7 @@ def seat_of(finding: Finding, place: int) -> str:
         return "no counter needed" if not finding.group.is_hardware else "none needed"
     if event.need.counters.metric is not None:
         return "in slots"
-    seats = next(iter(finding.seats.values()), {})
+    seats: dict[int, list[int]] = next(iter(finding.seats.values()), {})
     return " and ".join(map(event.machine.counter_name, sorted(seats[place]))) if place in seats else "off"
 
 

@@ -1,16 +1,14 @@
 #!/usr/bin/env python3
 """Compares the files of tools/fit/machines/ with a kernel's source.
 
-    tools/maintain/check_machines.py KERNEL_TREE
+Usage: check_machines.py KERNEL_TREE    the folder of a kernel's source, as Debian's linux-source-6.1 has it
 
 Each line says what was compared of a machine and how much of it is as in the kernel; what differs is printed below it,
-and the status is 1. Debian's linux-source-6.1 is such a tree. The family 15h of AMD, whose table is a function, is
-compared where `cc` compiles that function.
+and the status is 1. The family 15h of AMD, whose table is a function, is compared where `cc` compiles that function.
 """
 
 from __future__ import annotations
 
-import argparse
 import os
 import re
 import subprocess
@@ -26,8 +24,10 @@ from fit import machines  # noqa: E402
 from fit.codes import Counters, Row, first_matching  # noqa: E402
 from fit.events import cache_event  # noqa: E402
 from fit.machines import Machine  # noqa: E402
+from fit.perf_tables import spans  # noqa: E402
 from maintain import kernel_tables as kernel  # noqa: E402
 from maintain.kernel_tables import Missing, Tree  # noqa: E402
+from perfscript import Fault, command  # noqa: E402
 
 # models of the kernel's switch that no file has, by name
 LEFT_OUT = ("INTEL_FAM6_CORE_YONAH",)
@@ -40,7 +40,8 @@ HARDWARE = {
     "stalled-cycles-backend": "STALLED_CYCLES_BACKEND",
 }
 CACHES = {
-    "L1D": "L1-dcache", "L1I": "L1-icache", "LL": "LLC", "DTLB": "dTLB", "ITLB": "iTLB", "BPU": "branch", "NODE": "node",
+    "L1D": "L1-dcache", "L1I": "L1-icache", "LL": "LLC", "DTLB": "dTLB", "ITLB": "iTLB", "BPU": "branch",
+    "NODE": "node",
 }
 MOST_SHOWN = 8
 FAMILY_15H = """
@@ -137,8 +138,8 @@ class Check:
                 self.equal(f"the name {name}", attributes.get(name), text)
         formats = sysfs_formats(self.tree)
         for term, (where, bits) in self.machine.terms.items():
-            if f"{where}:{span(bits)}" not in formats.get(term, set()):
-                self.equal(f"the term {term}", formats.get(term), f"{where}:{span(bits)}")
+            if f"{where}:{spans(bits)}" not in formats.get(term, set()):
+                self.equal(f"the term {term}", formats.get(term), f"{where}:{spans(bits)}")
         self.done.append(f"{len(own)} names, {len(self.machine.terms)} terms")
 
     def line(self) -> str:
@@ -163,8 +164,8 @@ def configs(rows: Iterable[kernel.Row]) -> Iterator[int]:
 
 
 def counters_of(row: kernel.Row | None, machine: Machine, key: str) -> tuple[int, int | None, bool] | None:
-    """A row's counters: the mask, the part of slots, and whether it excludes. A fixed counter of an event that has a code
-    of its own can be any general one too, where the kernel widens the row."""
+    """A row's counters: the mask, the part of slots, and whether it excludes. An event with a fixed counter may be on
+    any general one too, where its code is not a made-up one: there the kernel widens the row."""
     if row is None:
         return None
     general, fixed = row.mask & (1 << machine.general) - 1, row.mask >> kernel.FIRST_FIXED & 0xFFFF
@@ -186,17 +187,12 @@ def cache_name(key: str) -> str:
     return cache_event(f"{CACHES[cache]}-{word}") or f"{CACHES[cache]}-{word}"
 
 
-def span(bits: tuple[int, ...]) -> str:
-    from fit.perf_tables import spans
-
-    return spans(bits)
-
-
 def sysfs_attributes(tree: Tree) -> dict[str, set[str]]:
     """The names that the kernel gives events, each with its texts."""
     found: dict[str, set[str]] = {}
     text = tree.text(kernel.INTEL)
-    for name, texts in re.findall(r"EVENT_ATTR_STR(?:_HT|_HYBRID)?\(\s*([\w.-]+),\s*\w+,\s*((?:\"[^\"]*\",?\s*)+)", text):
+    pattern = r"EVENT_ATTR_STR(?:_HT|_HYBRID)?\(\s*([\w.-]+),\s*\w+,\s*((?:\"[^\"]*\",?\s*)+)"
+    for name, texts in re.findall(pattern, text):
         for one in re.findall(r'"([^"]*)"', texts):
             found.setdefault(name, set()).update(one.split(";"))
     for name, texts in re.findall(r"event_attr_td_(\w+)\.event_str(?:_no)?(?:_?ht)?\s*=\s*(\"[^\"]*\")", text):
@@ -242,7 +238,7 @@ def check_intel(tree: Tree, machine: Machine, cases: list[kernel.Case]) -> Check
 
 def extra_table(case: kernel.Case) -> str:
     """The table of registers of a case; where servers have another, the file has that of the others."""
-    names = re.findall(r"extra_regs\s*=\s*(intel_\w+)", case.text)
+    names: list[str] = re.findall(r"extra_regs\s*=\s*(intel_\w+)", case.text)
     return names[-1] if names else ""
 
 
@@ -288,7 +284,8 @@ def same_as_json(check: Check) -> str:
         code = event.get("EventCode", "")
         if "Unit" in event or not re.fullmatch(r"\d(,\d)*", numbers) or not re.fullmatch(r"0x[0-9A-Fa-f]+", code):
             continue
-        config = int(code, 16) & 0xFF | int(event.get("UMask", "0"), 16) << 8 | int(event.get("CounterMask", "0"), 0) << 24
+        config = int(code, 16) & 0xFF | int(event.get("UMask", "0"), 16) << 8
+        config |= int(event.get("CounterMask", "0"), 0) << 24
         config |= int(event.get("Invert", "0")) << 23 | int(event.get("EdgeDetect", "0")) << 18
         wanted = sum(1 << int(number) for number in numbers.split(","))
         count += 1
@@ -299,8 +296,8 @@ def same_as_json(check: Check) -> str:
 # folders whose Counter numbers general counters alone
 JSON_OF = {
     "sandybridge": "sandybridge", "ivybridge": "ivybridge", "haswell": "haswell", "broadwell": "broadwell",
-    "skylake": "skylake", "icelake": "icelake", "goldmont": "goldmont", "silvermont": "silvermont", "bonnell": "bonnell",
-    "westmere": "westmereep-dp", "knightslanding": "knightslanding",
+    "skylake": "skylake", "icelake": "icelake", "goldmont": "goldmont", "silvermont": "silvermont",
+    "bonnell": "bonnell", "westmere": "westmereep-dp", "knightslanding": "knightslanding",
 }
 
 
@@ -329,7 +326,8 @@ def check_family_15h(check: Check) -> None:
     defines = "\n".join(re.findall(r"(?m)^#define AMD_EVENT_\w+\s+.*$", text))
     constraints = "\n".join(re.findall(r"static struct event_constraint amd_f15_\w+\s*=\s*[^;]+;", text))
     name = "amd_get_event_constraints_f15h"
-    function = "static struct event_constraint *" + name + "(struct cpu_hw_events *cpuc, int idx, struct perf_event *event)"
+    parameters = "struct cpu_hw_events *cpuc, int idx, struct perf_event *event"
+    function = f"static struct event_constraint *{name}({parameters})"
     function += "{" + check.tree.body(kernel.AMD, rf"{name}\([^)]*\)\s*\{{") + "}"
     program = FAMILY_15H.format(defines=defines, constraints=constraints, function=function)
     lines = output_of(program)
@@ -386,7 +384,7 @@ def check_arm(tree: Tree, machine: Machine, codes: dict[str, int]) -> Check:
 
 def arm_codes(tree: Tree) -> dict[str, int]:
     """The names of Arm's architecture in perf's tables."""
-    found = {}
+    found: dict[str, int] = {}
     for event in tree.json_events("arm64"):
         if "EventName" in event and "EventCode" in event:
             found.setdefault(event["EventName"].lower(), int(event["EventCode"], 16))
@@ -415,18 +413,14 @@ def missing_models(tree: Tree) -> list[str]:
     return [label for label in labels if f"{tree.number(label):02X}" not in own]
 
 
-def main(words: list[str]) -> int:
+def main(folder: str) -> int:
     """Prints a line for each machine. Answers the exit status."""
-    made = argparse.ArgumentParser(prog="check_machines.py", description=__doc__.split("\n")[0])
-    made.add_argument("tree", metavar="KERNEL_TREE", help="the folder of a kernel's source, as linux-source-6.1")
-    tree = Tree(made.parse_args(words).tree)
+    tree = Tree(folder)
     try:
-        print(f"Linux {tree.version()}")
-        found = list(checks(tree))
-        labels = missing_models(tree)
+        found, labels = list(checks(tree)), missing_models(tree)
     except Missing as fault:
-        print(f"check_machines.py: the tree does not have {fault}", file=sys.stderr)
-        return 2
+        raise Fault(f"{folder}: the tree does not have {fault}") from None
+    print(f"Linux {tree.version()}")
     for check in found:
         print(check.line())
         for one in check.faults[:MOST_SHOWN]:
@@ -441,4 +435,4 @@ def main(words: list[str]) -> int:
 
 
 if __name__ == "__main__":
-    sys.exit(main(sys.argv[1:]))
+    sys.exit(command.called(__doc__, main, 1, 1))

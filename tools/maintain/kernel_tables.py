@@ -30,7 +30,7 @@ class Row:
     last: int
     compared: int
     mask: int
-    flags: frozenset
+    flags: frozenset[str]
 
 
 @dataclass(frozen=True)
@@ -52,7 +52,8 @@ def without_comments(text: str) -> str:
 
 def arguments(text: str, at: int) -> tuple[list[str], int]:
     """The arguments of the call whose bracket opens at this index, and the index behind its end."""
-    depth, parts, start = 0, [], at + 1
+    parts: list[str] = []
+    depth, start = 0, at + 1
     for index in range(at, len(text)):
         if text[index] in "({":
             depth += 1
@@ -117,7 +118,7 @@ class Tree:
                 given, end = arguments(text, found.end() - 1)
                 names, body = self.macros[found[1]]
                 for name, value in zip(names or [], given):
-                    body = re.sub(rf"(?<![\w.]){re.escape(name)}\b", lambda _, value=value: value, body)
+                    body = re.sub(rf"(?<![\w.]){re.escape(name)}\b", value.replace("\\", r"\\"), body)
                 text = text[: found.start()] + body + text[end:]
             if text == before:
                 break
@@ -225,11 +226,11 @@ class Case:
 
     def table(self, field: str) -> str:
         """The last table that is given to a field, an empty word where none is."""
-        found = re.findall(rf"(?:x86_pmu\.|pmu->){field}\s*=\s*(\w+)", self.text)
+        found: list[str] = re.findall(rf"(?:x86_pmu\.|pmu->){field}\s*=\s*(\w+)", self.text)
         return found[-1] if found else ""
 
     def copied(self, field: str) -> str:
-        found = re.findall(rf"memcpy\((?:pmu->)?{field},\s*(\w+)", self.text)
+        found: list[str] = re.findall(rf"memcpy\((?:pmu->)?{field},\s*(\w+)", self.text)
         return found[-1] if found else ""
 
 

@@ -72,6 +72,10 @@ CALLS = (
     (["maintain/start_benchmark.py", "{false}"], "replay ended with status 1, no note; wanted: status 0, no note"),
     (["maintain/refused_memory.py", "/nonexistent"], "--program: /nonexistent is not a file"),
     (["maintain/failing_calls.py", "/nonexistent"], "--program: /nonexistent is not a file"),
+    (["maintain/check_machines.py"], "0 words do not do; check_machines.py --help has the usage"),
+    (["maintain/check_machines.py", "/nonexistent"], "/nonexistent: the tree does not have /nonexistent/arch/x86"),
+    (["fit.py", "-m", "vax", "-e", "cycles"], "-m: no machine and no model is called 'vax'"),
+    (["fit.py", "-m", "skylake", "-M", "no_such_metric"], "-M: "),
 )
 
 

@@ -6,7 +6,7 @@ import subprocess
 import sys
 import tempfile
 
-from fit.tests.support import PATH, ProgramTest
+from fit.tests.support import PATH, ProgramTest, has_perf
 from perfscript.program import REPOSITORY
 
 REFUSED = "{cycles,instructions},{l1d_pend_miss.pending,cycle_activity.cycles_l1d_pending},branches:k"
@@ -98,10 +98,72 @@ class Json(ProgramTest):
     def test_refused_member(self):
         status, answer = self.read("-m", "sandybridge", "-e", REFUSED)
         self.assertEqual((1, True), (status, answer["fails"]))
+        self.assertEqual("not counted", answer["groups"][1]["events"][0]["state"])
         member = answer["groups"][1]["events"][1]
         names = ["l1d_pend_miss.pending", "cycle_activity.cycles_l1d_pending"]
         self.assertEqual("not supported", member["state"])
         self.assertEqual(("hall", names), (member["refused"]["word"], member["refused"]["names"]))
+
+
+class Typed(ProgramTest):
+    """What users type for a core, and what needs none of its counters, is answered."""
+
+    LISTS = """cpu-clock faults page-faults bus-cycles L1-dcache-loads LLC-loads dTLB-load-misses r01c2 cpu/r3c/
+    cpu/event=0x3c,umask=0x0/ cycles:P cycles:h cycles:G {cycles,instructions}:S {cycles,instructions}:W mem-loads
+    mem-stores topdown-total-slots L1-icache-misses 4:0x3c uncore_imc_0/cas_count_read/ power/energy-pkg/ msr/tsc/
+    sched:sched_switch mem:0x1000:rw duration_time cycles-t cpu/mem-loads,ldlat=30/""".split()
+    # names of perf's tables
+    NAMES = ("inst_retired.any", "mem_load_retired.l1_miss:u", "cpu/inst_retired.any,cmask=1/")
+
+    def test_each_is_answered(self):
+        for text in (*self.LISTS, *(self.NAMES if has_perf() else ())):
+            with self.subTest(text=text):
+                status, out, err = self.fit("-m", "skylake", "-e", text)
+                self.assertEqual((0, ""), (status, err))
+                self.assertTrue(out.startswith("All events are on all the time.\n"), out)
+
+    def test_what_linux_refuses_is_answered_too(self):
+        for machine, text, words in [
+            ("skylake", "cycles:p", "an event with p takes samples, and perf stat takes none"),
+            ("zen3", "ref-cycles", "Linux has no event for ref-cycles on zen3"),
+            ("bulldozer", "re0", "bulldozer has no counter for the code re0"),
+            ("skylake", "{cycles,branches:D}", "branches:D is no leader, so it can't be pinned"),
+            ("icelake", "topdown-retiring", "topdown-retiring is a part of slots"),
+            ("icelake", "{slots,topdown-retiring,topdown-retiring}", "stands in its group twice"),
+        ]:
+            with self.subTest(machine=machine, text=text):
+                status, out, _ = self.fit("-m", machine, "-e", text)
+                self.assertEqual(1, status)
+                self.assertIn(words, out)
+                self.assertIn("<not supported>", out)
+
+    def test_the_default_list_and_its_details(self):
+        for machine, words, count in (
+            ("skylake", (), 8), ("zen", (), 10), ("icelake", (), 13), ("skylake", ("-ddd",), 20),
+        ):
+            _, out, _ = self.fit("-m", machine, *words, "--json")
+            self.assertEqual(count, sum(len(group["events"]) for group in json.loads(out)["groups"]))
+
+    def test_a_group_of_nine_is_beyond_the_program(self):
+        nine = "{" + ",".join(["cycles"] * 9) + "}"
+        status, out, _ = self.fit("--counters", "9", "-e", f"{nine},branches")
+        self.assertEqual(3, status)
+        self.assertIn(f"{nine} is beyond this program:\n    it has 9 members, and the program takes 8.\n", out)
+        self.assertIn("\nAll else is on all the time.\n", out)
+
+    def test_a_weak_group_stands_behind_all_others(self):
+        status, out, _ = self.fit("-m", "k10", "--json", "-e", "{" + ",".join(["cycles"] * 5) + "}:W,branches")
+        answer = json.loads(out)
+        self.assertEqual((0, ["branches", *["cycles"] * 5]), (status, [group["text"] for group in answer["groups"]]))
+        self.assertIn("perf takes the weak group of cycles", answer["hints"][0])
+
+    def test_sampling(self):
+        _, out, _ = self.fit("-m", "skylake", "--sampling", "-e", "cycles:ppp,r01c0")
+        self.assertIn("cycles:ppp and r01c0 both need counter 1", out)
+        status, out, _ = self.fit("-m", "zen3", "--sampling", "-e", "cycles:pp,instructions:p")
+        self.assertEqual(1, status)
+        self.assertIn("no event is precise on zen3", out)
+        self.assertIn("cycles:pp                         no counter needed", out)
 
 
 class Files(ProgramTest):

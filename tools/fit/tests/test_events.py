@@ -50,7 +50,8 @@ class Reading(unittest.TestCase):
 
     def test_cache_names(self):
         for text, wanted in {
-            "L1-dcache": "L1-dcache-loads", "l1d-misses": "L1-dcache-load-misses", "LLC-store-misses": "LLC-store-misses",
+            "L1-dcache": "L1-dcache-loads", "l1d-misses": "L1-dcache-load-misses",
+            "LLC-store-misses": "LLC-store-misses",
             "dTLB-write-miss": "dTLB-store-misses", "L1-dcache-prefetch": "L1-dcache-prefetches",
             "branch-load-misses": "branch-load-misses", "node-prefetch-misses": "node-prefetch-misses",
             "L1-icache-stores": None, "iTLB-prefetch": None, "LLC-loads-misses-misses": None, "branch-misses": None,
@@ -66,7 +67,8 @@ class Reading(unittest.TestCase):
     def test_modes(self):
         wanted = {
             ("", ""): (False, False), ("u", ""): (False, True), ("k", ""): (True, False), ("uk", ""): (False, False),
-            ("", "u"): (False, True), ("u", "k"): (False, False), ("k", "k"): (True, False), ("uk", "u"): (False, False),
+            ("", "u"): (False, True), ("u", "k"): (False, False), ("k", "k"): (True, False),
+            ("uk", "u"): (False, False),
             ("D", "u"): (False, True), ("h", ""): (True, True), ("h", "u"): (False, True), ("uh", ""): (False, True),
         }
         for modifiers, left_out in wanted.items():

@@ -14,10 +14,9 @@ from fit.events import HARDWARE, read_lists
 from fit.faults import BadInput
 from fit.meanings import Meanings
 from fit.plan import machine_called
-from fit.tests.support import ProgramTest
+from fit.tests.support import ProgramTest, has_perf
 
 WHERE = "perf 6.1 is not there, which these tests ask"
-X86 = os.uname().machine == "x86_64"
 # on all machines of x86
 COMMON = """
 cycles cpu-cycles instructions branches branch-misses cache-references cache-misses bus-cycles ref-cycles cycles:u
@@ -35,19 +34,21 @@ cycles_not cpu/no_such_event/ {cycles,cs} {cycles,cs}:u {cycles,cs}:W {cycles,{c
 mine{cycles,cs} {cycles,branches:D} {cycles:e,branches} cycles,instructions cpu/percore,event=0x3c/
 """.split()
 OWN = {
-    "skylake": """inst_retired.any INST_RETIRED.ANY:u mem_load_retired.l1_miss mem_load_retired.l1_miss:pp mem-loads mem-stores
-cpu/mem-loads,ldlat=30/P cpu/mem-loads/ topdown-total-slots topdown-recovery-bubbles topdown-retiring slots cycles-t tx-abort
+    "skylake": """inst_retired.any INST_RETIRED.ANY:u mem_load_retired.l1_miss mem_load_retired.l1_miss:pp mem-loads
+mem-stores cpu/mem-loads,ldlat=30/P cpu/mem-loads/ topdown-total-slots topdown-recovery-bubbles topdown-retiring slots
+cycles-t tx-abort
 offcore_response.demand_data_rd.l3_hit.any_snoop frontend_retired.dsb_miss cpu/inst_retired.any,cmask=1/
 cpu/event=0x3c,any=1/ cpu/event=0xc0,umask=0x01,in_tx/ cpu/event=0xcd,umask=1,ldlat=0x10000/ l1d_pend_miss.pending
 cpu/event=0xc6,umask=1,frontend=0x15/ inst_retired.a* fp_arith_inst_retired.scalar_double""".split(),
-    "icelake": """slots topdown-retiring topdown-be-bound topdown-heavy-ops {slots,topdown-retiring} mem_load_retired.l1_miss
-inst_retired.prec_dist cpu/event=0x3c,any=1/ mem-loads tx-capacity-read cpu/event=0,umask=4/ topdown.slots""".split(),
-    "haswell": """mem_load_uops_retired.l1_miss l1d_pend_miss.pending cycle_activity.cycles_l1d_pending mem-stores el-abort
-uops_executed_port.port_0 cpu/event=0xd1,umask=8/pp idq.empty""".split(),
+    "icelake": """slots topdown-retiring topdown-be-bound topdown-heavy-ops {slots,topdown-retiring}
+mem_load_retired.l1_miss inst_retired.prec_dist cpu/event=0x3c,any=1/ mem-loads tx-capacity-read cpu/event=0,umask=4/
+topdown.slots""".split(),
+    "haswell": """mem_load_uops_retired.l1_miss l1d_pend_miss.pending cycle_activity.cycles_l1d_pending mem-stores
+el-abort uops_executed_port.port_0 cpu/event=0xd1,umask=8/pp idq.empty""".split(),
     "zen3": """fp_ret_sse_avx_ops.all retired_sse_avx_flops ex_ret_instr cpu/event=0x1c0/ cpu/event=0x1000/ r100000087
 ls_dispatch.ld_dispatch cpu/event=3,umask=0xff/ topdown-retiring mem-loads cpu/event=0x3c,any=1/ cycles:p""".split(),
-    "sapphirerapids": """slots topdown-heavy-ops topdown-mem-bound mem-loads-aux mem_load_retired.l1_miss ocr.demand_data_rd.dram
-{slots,topdown-fetch-lat}""".split(),
+    "sapphirerapids": """slots topdown-heavy-ops topdown-mem-bound mem-loads-aux mem_load_retired.l1_miss
+ocr.demand_data_rd.dram {slots,topdown-fetch-lat}""".split(),
     "nehalem": """mem-loads l1d_pend_miss.pending_cycles offcore_response.any_data.any_cache_dram stalled-cycles-backend
 mem_load_retired.l1d_hit cpu/mem-loads,ldlat=7/ topdown-retiring""".split(),
 }
@@ -97,7 +98,7 @@ def of_attribute(machine, one):
     return ("none", one.precise)
 
 
-@unittest.skipUnless(perf_tables.perf_path() and X86, WHERE)
+@unittest.skipUnless(has_perf(), WHERE)
 class SameAsPerf(unittest.TestCase):
     def check(self, name, texts):
         machine = machines.load(name)
@@ -116,7 +117,6 @@ class SameAsPerf(unittest.TestCase):
         return taken
 
     def test_texts(self):
-        self.assertTrue(perf_tables.version_of(perf_tables.perf_path()).startswith("6.1."), WHERE)
         for name, own in OWN.items():
             texts = own + COMMON * (name in ("skylake", "zen3"))
             self.assertGreater(self.check(name, texts), len(texts) // 2)
@@ -133,7 +133,7 @@ class WhatPerfPrints(ProgramTest):
         rows = [line.split(",") for line in done.stderr.splitlines() if ",," in line or ",msec," in line]
         return [(row[0] if row[0].startswith("<") else "", row[2]) for row in rows]
 
-    @unittest.skipUnless(perf_tables.perf_path(), WHERE)
+    @unittest.skipUnless(has_perf(), WHERE)
     def test_group_with_a_refused_open(self):
         wanted = self.printed("-x,")
         self.assertEqual(["<not counted>", "<not counted>", "<not supported>", ""], [mark for mark, _ in wanted])

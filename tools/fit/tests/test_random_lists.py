@@ -1,7 +1,7 @@
 """Random lists, held to exhaustive search: what is refused at open, what is never on, and each share.
 
 There are some without exclusive groups on each machine, and others with exclusive groups and on two kinds of core. The
-variable FIT_LISTS says how many there are for each machine.
+variable FIT_LISTS says how many there are for each machine, and FIT_MACHINES on which.
 """
 
 import os
@@ -16,6 +16,7 @@ from fit.plan import Plan, plan_of, watchdog_mask, without
 from fit.tests.search import PAIR, Wanted, has_assignment, opened, pinned_on, shares
 from fit.tests.support import ProgramTest
 
+MACHINES = os.environ.get("FIT_MACHINES", "").split() or machines.names()
 LISTS, BATCH, OTHERS = int(os.environ.get("FIT_LISTS", "4")), 50, 50
 SOFTWARE = ("task-clock", "cs", "migrations", "dummy", "page-faults")
 
@@ -133,9 +134,9 @@ class RandomLists(ProgramTest):
 
     def test_on_each_machine(self):
         random.seed(20261129)
-        for name in machines.names():
+        for name in MACHINES:
             self.check_machine(machines.load(name))
-        self.assertEqual(LISTS * len(machines.names()), self.seen["lists"])
+        self.assertEqual(LISTS * len(MACHINES), self.seen["lists"])
         for what, count in self.seen.items():
             self.assertGreater(count, 20, what)
         print(", ".join(f"{count} {what}" for what, count in self.seen.items()))
