@@ -1,0 +1,84 @@
+"""Runs of the double for tests, the client in C, and what this machine allows."""
+
+import os
+import shutil
+import subprocess
+import sys
+import tempfile
+import unittest
+from functools import cache
+
+from double.build import NotHere, compiled
+from perfscript.program import REPOSITORY
+from perfscript.tests.support import PATH, ProgramTest
+
+TOOLS = os.path.join(REPOSITORY, "tools")
+DOUBLE = os.path.join(TOOLS, "double.py")
+CLIENT = os.path.join(TOOLS, "double", "tests", "client.c")
+SECONDS = 300
+# the compiled clients; removed when the tests end
+FOLDER = tempfile.TemporaryDirectory(prefix="double-client.")
+PLAIN = "perf 1\nmachine cpus=1 counters=2\nkind cycles mask=3\nkind instructions mask=3\nend\n"
+
+
+class Ended:
+    """How a run of the double ended."""
+
+    def __init__(self, done):
+        self.status, self.out, self.err = done.returncode, done.stdout.decode(), done.stderr.decode()
+
+    def rows(self):
+        """The lines of the client: its operations' numbers, and value, errno and words of each."""
+        return [tuple(line.split(" ", 1)) for line in self.out.splitlines()]
+
+
+@cache
+def why_not(way="notify"):
+    """Why no calls can be caught here; None where they can."""
+    with tempfile.TemporaryDirectory() as folder:
+        done = run_in(folder, PLAIN, ["true"], *(["--preload"] if way == "preload" else []))
+    return done.err.strip() if done.status == 77 else None
+
+
+def run_in(folder, scenario, command, *options):
+    path = os.path.join(folder, "x.scenario")
+    with open(path, "w", encoding="ascii") as file:
+        file.write(scenario)
+    call = [sys.executable, DOUBLE, "--program", PATH, *options, path, "--", *command]
+    return Ended(subprocess.run(call, capture_output=True, timeout=SECONDS, cwd=folder, stdin=subprocess.DEVNULL))
+
+
+class DoubleTest(ProgramTest):
+    """A test that runs commands in the double, in a folder of its own."""
+
+    def setUp(self):
+        super().setUp()
+        if why_not():
+            raise unittest.SkipTest(why_not())
+        self.folder = tempfile.mkdtemp(prefix="double-test.")
+        self.addCleanup(shutil.rmtree, self.folder, ignore_errors=True)
+
+    def double(self, scenario, command, *options):
+        return run_in(self.folder, scenario, command, *options)
+
+    def operations(self, text):
+        """The file of operations for the client."""
+        path = os.path.join(self.folder, "operations")
+        with open(path, "w", encoding="ascii") as file:
+            file.write(text)
+        return path
+
+    def client(self, scenario, text, *options, words=()):
+        """A run of the client in the double."""
+        return self.double(scenario, [client(*words), self.operations(text)], *options)
+
+
+@cache
+def client(*words):
+    """The path of the compiled client."""
+    folder = os.path.join(FOLDER.name, "_".join(words).replace("-", "") or "plain")
+    os.makedirs(folder, exist_ok=True)
+    try:
+        return compiled(CLIENT, folder, "-pthread", *words)
+    except NotHere as why:
+        raise unittest.SkipTest(str(why)) from None
