@@ -24,7 +24,7 @@ from double.waits import Wait
 
 Handler = Callable[["Broker", Call], None]
 LOOK_AGAIN_MS = 0.5
-SETTLING = 0.001
+SETTLING, PATIENCE_AT_EXIT = 0.001, 0.5
 # what is done at each call, by its number; the modules that do it add to this
 HANDLERS: dict[int, Handler] = {}
 
@@ -43,8 +43,8 @@ class Broker:
         self.parked: dict[int, tuple[Call, Wait | None, Sleep | None]] = {}
         self.interrupted: dict[int, int] = {}
         self.done_until = 0
+        self.by_library = False
         self.handlers: dict[int, Handler] = dict(HANDLERS)
-        self.dying: dict[int, Callable[[], bool]] = {}
         self.settled_at = 0.0
         # whether a call has come that was not taken yet
         self.has_call: Callable[[], bool] = lambda: False
@@ -93,6 +93,8 @@ class Broker:
 
     def was_interrupted(self, call: Call) -> bool:
         """Whether this is a waiting call that a signal ended, and that the kernel makes once more behind its handler."""
+        if self.by_library:
+            return False
         waiting = self.parked.pop(call.tid, None)
         if waiting:
             self.unpark(waiting)
@@ -101,6 +103,13 @@ class Broker:
             del self.interrupted[call.tid]
             return not isinstance(waiting, tuple) or waiting[0].args == call.args
         return False
+
+    def cancel(self, tid: int) -> None:
+        """A signal ended the wait of a thread that the loaded library speaks for."""
+        waiting = self.parked.pop(tid, None)
+        if waiting:
+            self.unpark(waiting)
+            self.end_with(waiting[0], errno.EINTR)
 
     def unpark(self, waiting: tuple[Call, Wait | None, Sleep | None]) -> None:
         _, wait, sleep = waiting
@@ -173,22 +182,12 @@ class Broker:
             self.tree.remove(process)
             self.leave_files(process.files)
 
-    def let_die(self, tid: int, is_process: bool) -> None:
-        """Time does not pass before a thread that exits is gone, and who waits for it has seen that."""
-        process = self.tree.of(tid)
-        if is_process or process.threads == {tid}:
-            end = os.dup(process.end)
-            self.dying[tid] = lambda: has_ended(end)
-        else:
-            self.dying[tid] = lambda: not os.path.exists(f"/proc/{process.pid}/task/{tid}")
-
-    def are_settled(self) -> bool:
-        gone = [tid for tid, is_gone in self.dying.items() if is_gone()]
-        for tid in gone:
-            del self.dying[tid]
-        if gone:
-            self.settled_at = time.monotonic() + SETTLING
-        return not self.dying and time.monotonic() >= self.settled_at
+    def wait_until_gone(self, is_gone: Callable[[], bool]) -> None:
+        """What exits is gone before anybody is told of it, and who waits for it has seen that before time passes."""
+        end = time.monotonic() + PATIENCE_AT_EXIT
+        while not is_gone() and time.monotonic() < end:
+            time.sleep(0.0001)
+        self.settled_at = time.monotonic() + SETTLING
 
     def end_process(self, process: Process) -> None:
         for tid in sorted(process.threads, key=lambda tid: (tid == process.pid, tid)):
@@ -284,7 +283,7 @@ class Broker:
             return self.idle_in_real_time()
         if not self.clock.sleeps:
             return 50 if self.parked else None
-        if not self.are_settled() or not self.quiet.are_asleep(self.threads()) or self.has_call():
+        if time.monotonic() < self.settled_at or not self.quiet.are_asleep(self.threads()) or self.has_call():
             if not self.quiet.has_lasted:
                 return LOOK_AGAIN_MS
             self.say("some thread has run for 10 seconds while others sleep: time passes, but not repeatably")
@@ -320,14 +319,6 @@ class Broker:
                 reap(process.pid)
         if self.session and not self.session.is_full:
             self.session.bring_up_to_date()
-
-
-def has_ended(end: int) -> bool:
-    """Whether the process of a descriptor has ended; then the descriptor is closed."""
-    if not select.select([end], [], [], 0)[0]:
-        return False
-    os.close(end)
-    return True
 
 
 def reap(pid: int) -> None:

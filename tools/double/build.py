@@ -1,4 +1,4 @@
-"""The C files of this folder, compiled once for each run of the double into a folder of its own."""
+"""The C files of this folder, compiled at their first use into a folder that is removed at the end."""
 
 from __future__ import annotations
 
@@ -6,6 +6,8 @@ import os
 import platform
 import shutil
 import subprocess
+import tempfile
+from functools import cache
 
 FOLDER = os.path.dirname(os.path.abspath(__file__))
 
@@ -23,6 +25,18 @@ def compiler() -> str:
     if found is None:
         raise NotHere("the double compiles its C files at each start, and there is no C compiler cc; install one")
     return found
+
+
+@cache
+def built(name: str, *words: str) -> str:
+    """The path of what a C file of the double is compiled to, once for each process that runs the double."""
+    return compiled(name, own_folder().name, *words)
+
+
+@cache
+def own_folder() -> tempfile.TemporaryDirectory[str]:
+    """A folder that is removed when this process ends."""
+    return tempfile.TemporaryDirectory(prefix="double.")
 
 
 def compiled(name: str, folder: str, *words: str) -> str:

@@ -191,6 +191,19 @@ static int install(int with_notification)
 	return got < 0 ? -errno : got;
 }
 
+/* The library goes into the command, and not into this program. */
+static void load_library(void)
+{
+	const char *library = getenv("DOUBLE_LIBRARY"), *others = getenv("LD_PRELOAD");
+	char text[4096];
+
+	if (!library)
+		return;
+	snprintf(text, sizeof(text), "%s%s%s", library, others ? " " : "", others ? others : "");
+	setenv("LD_PRELOAD", text, 1);
+	unsetenv("DOUBLE_LIBRARY");
+}
+
 int main(int count, char **words)
 {
 	int tell, go, listener;
@@ -209,6 +222,7 @@ int main(int count, char **words)
 		return 70;
 	if (read(go, &byte, 1) != 1)
 		return 70;
+	load_library();
 	execvp(words[6], words + 6);
 	fprintf(stderr, "double: %s: %s\n", words[6], strerror(errno));
 	return errno == ENOENT ? 127 : 126;

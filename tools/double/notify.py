@@ -6,6 +6,7 @@ import ctypes
 import errno
 import fcntl
 import os
+import select
 import struct
 
 from double.calls import Call, ClientGone
@@ -77,9 +78,21 @@ class Listener:
 
     def __init__(self, descriptor: int) -> None:
         self.descriptor = descriptor
+        self.cancelled: list[int] = []
+        self.poller = select.poll()
+        self.poller.register(descriptor, select.POLLIN)
 
-    def fileno(self) -> int:
-        return self.descriptor
+    def register(self, descriptor: int) -> None:
+        """Another descriptor at which a wait ends."""
+        self.poller.register(descriptor, select.POLLIN)
+
+    def has_call(self) -> bool:
+        return any(number == self.descriptor and bits & select.POLLIN for number, bits in self.poller.poll(0))
+
+    def next(self, timeout: float | None) -> Call | None:
+        """The next call, waited for so many ms; None where there is none."""
+        ready = [number for number, bits in self.poller.poll(timeout) if bits & select.POLLIN]
+        return self.receive() if self.descriptor in ready else None
 
     def receive(self) -> NotifiedCall | None:
         """The next call, or None where its client has gone."""

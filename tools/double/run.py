@@ -13,36 +13,70 @@ import tempfile
 import traceback
 from collections.abc import Sequence
 from types import TracebackType
+from typing import Protocol
 
 from double import handlers, numbers as n
 from double.broker import Broker
-from double.build import NotHere, compiled
+from double.build import FOLDER, NotHere, built
+from double.calls import Call
 from double.notify import Listener, descriptor_of
+from double.sockets import Sockets
 from double.tree import Files
 
-NO_PERMISSION = (errno.EACCES, errno.EPERM, errno.EINVAL, errno.ENOSYS, errno.EBUSY)
 assert handlers.ALL
+
+# the descriptors of the command's output and errors; None for this process's own
+Outputs = tuple[int | None, int | None]
+
+
+class Catcher(Protocol):
+    """What brings calls, one after the other."""
+
+    cancelled: list[int]
+
+    def register(self, descriptor: int) -> None: ...
+
+    def has_call(self) -> bool: ...
+
+    def next(self, timeout: float | None) -> Call | None: ...
+
+    def close(self) -> None: ...
 
 
 class Started:
-    """A command that waits for its first word, with the listener of its calls."""
+    """A command that waits for its first word, with what brings its calls."""
 
-    def __init__(self, words: Sequence[str], folder: str, environment: dict[str, str] | None) -> None:
-        launch = compiled("launch.c", folder)
+    def __init__(
+        self, words: Sequence[str], folder: str, environment: dict[str, str] | None, by_library: bool, to: Outputs
+    ) -> None:
+        launch = built("launch.c")
+        variables = dict(os.environ if environment is None else environment)
+        sockets = self.library(folder, variables) if by_library else None
         told, tell = os.pipe()
         wait, self.go = os.pipe()
-        call = [launch, "notify", str(n.LOW), str(n.HIGH), str(tell), str(wait), *words]
-        self.process = subprocess.Popen(call, pass_fds=(tell, wait), env=environment)
+        way = "preload" if by_library else "notify"
+        call = [launch, way, str(n.LOW), str(n.HIGH), str(tell), str(wait), *words]
+        self.process = subprocess.Popen(call, pass_fds=(tell, wait), env=variables, stdout=to[0], stderr=to[1])
         os.close(tell)
         os.close(wait)
         try:
             said = os.read(told, 4)
-            self.listener = Listener(self.take(struct.unpack("<i", said)[0] if len(said) == 4 else -errno.EPERM))
+            number = struct.unpack("<i", said)[0] if len(said) == 4 else -errno.EPERM
+            self.note = "" if number >= 0 else "the filter is not allowed here: a client's own system calls reach the kernel"
+            self.catcher: Catcher = sockets or Listener(self.take(number))
         except BaseException:
             self.stop()
             raise
         finally:
             os.close(told)
+
+    @staticmethod
+    def library(folder: str, variables: dict[str, str]) -> Sockets:
+        """The library, compiled and named to the launcher, and its socket."""
+        made = built("preload.c", os.path.join(FOLDER, "wrapped.c"), "-shared", "-fPIC", "-ldl")
+        variables["DOUBLE_LIBRARY"] = made
+        variables["DOUBLE_SOCKET"] = os.path.join(folder, "socket")
+        return Sockets(variables["DOUBLE_SOCKET"])
 
     def take(self, number: int) -> int:
         if number < 0:
@@ -68,24 +102,26 @@ class Run:
     """A `with` around one command; `status` is its own afterwards."""
 
     def __init__(
-        self, broker: Broker, words: Sequence[str], environment: dict[str, str] | None = None, by_library: bool = False
+        self, broker: Broker, words: Sequence[str], environment: dict[str, str] | None = None, by_library: bool = False,
+        to: Outputs = (None, None),
     ) -> None:
-        self.broker, self.words, self.environment = broker, words, environment
+        self.broker, self.words, self.environment, self.by_library = broker, words, environment, by_library
+        self.to = to
         self.status = 0
         self.failure = ""
+        self.is_closed = False
 
     def __enter__(self) -> "Run":
         self.folder = tempfile.mkdtemp(prefix="double.")
         try:
-            self.started = Started(self.words, self.folder, self.environment)
+            self.started = Started(self.words, self.folder, self.environment, self.by_library, self.to)
         except BaseException:
             shutil.rmtree(self.folder, ignore_errors=True)
             raise
         return self
 
     def __exit__(self, kind: type[BaseException] | None, fault: BaseException | None, at: TracebackType | None) -> None:
-        if self.started.listener.descriptor >= 0:
-            self.started.listener.close()
+        self.close()
         if self.started.process.poll() is None and kind:
             self.started.process.kill()
         self.started.process.wait()
@@ -103,31 +139,36 @@ class Run:
             self.failure = f"the broker ended: {fault or type(fault).__name__} (in {where(fault)})"
         finally:
             signal.signal(signal.SIGINT, before)
-        self.started.listener.close()
-        self.started.listener.descriptor = -1
+        self.close()
         status = self.started.process.wait()
         self.status = status if status >= 0 else 128 - status
 
+    def close(self) -> None:
+        """No call is answered any more: clients that wait get ENOSYS."""
+        if not self.is_closed:
+            self.is_closed = True
+            self.started.catcher.close()
+
     def loop(self) -> None:
         root = os.pidfd_open(self.started.process.pid)
-        listener = self.started.listener
-        poller = select.poll()
-        poller.register(root, select.POLLIN)
-        poller.register(listener, select.POLLIN)
+        catcher, broker = self.started.catcher, self.broker
+        catcher.register(root)
+        broker.has_call, broker.by_library = catcher.has_call, self.by_library
+        if self.started.note:
+            broker.say(self.started.note)
         timeout: float | None = 0
-        self.broker.has_call = lambda: any(number == listener.descriptor for number, _ in poller.poll(0))
         try:
             while True:
-                ready = {number for number, bits in poller.poll(timeout) if bits & select.POLLIN}
-                if listener.descriptor in ready:
-                    call = listener.receive()
-                    if call:
-                        self.broker.handle(call)
+                call = catcher.next(timeout)
+                while catcher.cancelled:
+                    broker.cancel(catcher.cancelled.pop())
+                if call:
+                    broker.handle(call)
                     timeout = 0
-                elif root in ready:
+                elif select.select([root], [], [], 0)[0]:
                     return
                 else:
-                    timeout = self.broker.idle()
+                    timeout = broker.idle()
         finally:
             os.close(root)
 

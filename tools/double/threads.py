@@ -3,6 +3,7 @@
 from __future__ import annotations
 
 import os
+import select
 import stat
 import struct
 
@@ -110,17 +111,25 @@ def lead(broker: Broker, process: Process, tid: int) -> None:
 
 
 def exit_thread(broker: Broker, call: Call) -> None:
-    broker.process(call)
-    broker.let_die(call.tid, False)
+    process = broker.process(call)
+    if process.threads == {call.tid}:
+        exit_process(broker, call)
+        return
     broker.end_thread(call.tid)
     call.proceed()
+    own = f"/proc/{process.pid}/task/{call.tid}"
+    broker.wait_until_gone(lambda: not os.path.exists(own) or call.tid == process.pid)
 
 
 def exit_process(broker: Broker, call: Call) -> None:
     process = broker.process(call)
-    broker.let_die(process.pid, True)
-    broker.end_process(process)
-    call.proceed()
+    end = os.dup(process.end)
+    try:
+        broker.end_process(process)
+        call.proceed()
+        broker.wait_until_gone(lambda: bool(select.select([end], [], [], 0)[0]))
+    finally:
+        os.close(end)
 
 
 def hello(broker: Broker, call: Call) -> None:

@@ -1,0 +1,106 @@
+"""Brokers that answer wrongly are caught by the certificate."""
+
+import os
+from unittest import mock
+
+from double import Double, Uncertified, journal, session
+from double.tests.support import PATH, DoubleTest, client
+from double.tests.test_client import CYCLES
+
+OPERATIONS = """\
+o 0 0 0 0 0 3 0 0 -1 -1 0 128 0
+s 1000
+i 0 0x2401 0
+s 1000
+r 0 24
+r 0 8
+d 0
+p 0 7
+c 0
+"""
+SAMPLES = "o 0 0 0 10 7 0 0 0 -1 -1 0 128 0\nm 0 1 3 1\ns 3000\nM 0\nc 0\n"
+
+
+class WrongBrokers(DoubleTest):
+    """Each is wrong in one thing, and gives the client an answer that looks right."""
+
+    def run_client(self, operations=OPERATIONS):
+        path = os.path.join(self.folder, "x.scenario")
+        with open(path, "w", encoding="ascii") as file:
+            file.write(CYCLES)
+        with Double(path, PATH) as double:
+            return double.run([client(), self.operations(operations)])
+
+    def assert_caught(self, *words, operations=OPERATIONS):
+        with self.assertRaises(Uncertified) as caught:
+            self.run_client(operations)
+        for word in words:
+            self.assertIn(word, str(caught.exception))
+
+    def test_a_right_one_passes(self):
+        result = self.run_client()
+        self.assertEqual(result.out.splitlines()[4:], ["4 24 0 10 1000 1000", "5 -1 28", "6 0 0", "7 -1 22", "8 0 0"])
+        row = result.truth()[0]
+        self.assertEqual((row.name, row.occurred, row.counted, row.scaled), ("cycles", 10, 10, 10))
+        self.assertIn("read 0 size=24", result.journals()[0])
+
+    def test_one_word_of_a_read(self):
+        right = session.Session.read
+
+        def wrong(own, event, room):
+            return [word + (place == 1) for place, word in enumerate(right(own, event, room))]
+
+        with mock.patch.object(session.Session, "read", wrong):
+            self.assert_caught("t0.2 read")
+
+    def test_a_line_that_the_journal_lacks(self):
+        right = journal.Journal.call
+
+        def wrong(own, line):
+            got = right(own, line)
+            if line.startswith("disable"):
+                own.draft.lines["t0"].pop()
+                own.draft.order.pop()
+            return got
+
+        with mock.patch.object(journal.Journal, "call", wrong):
+            self.assert_caught("an answer to ioctl of slot 0")
+
+    def test_a_processor_line_that_the_journal_lacks(self):
+        right = journal.Journal.read
+
+        def wrong(own, line):
+            got = right(own, line)
+            if own.draft.lines.get("p0", [])[-1:] == ["work 1000 user cycles=10 instructions=20 branches=5"]:
+                place = len(own.draft.order) - 1 - own.draft.order[::-1].index("p0")
+                own.draft.lines["p0"].pop()
+                del own.draft.order[place]
+            return got
+
+        operations = OPERATIONS.replace("i 0 0x2401 0\n", "")
+        with mock.patch.object(journal.Journal, "read", wrong):
+            self.assert_caught("read", operations=operations)
+
+    def test_an_errno(self):
+        right = session.errno_of
+        with mock.patch.object(session, "errno_of", lambda reason, head: right(reason, head) + 1):
+            self.assert_caught("(-29, b'')", "(-28, b'')")
+
+    def test_an_id(self):
+        right = session.Session.id_of
+        with mock.patch.object(session.Session, "id_of", lambda own, event: right(own, event) + 1):
+            self.assert_caught("id of slot 0")
+
+    def test_a_word_of_a_record(self):
+        from double.rings import MappedRing
+
+        right = MappedRing.with_threads
+
+        def wrong(own, record):
+            words = right(own, record)
+            words[-1] += 1
+            return words
+
+        self.assertIn(" 9:2:32", self.run_client(SAMPLES).out)
+        with mock.patch.object(MappedRing, "with_threads", wrong):
+            self.assert_caught("ring 0", operations=SAMPLES)
