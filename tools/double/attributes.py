@@ -85,7 +85,8 @@ class Translator:
             self.note("the period of a dummy event is dropped: it counts nothing")
             period = 0
         to_type, to_config = (of_type if of_type in OWN_TYPES else RAW), number
-        sent = struct.pack("<IIQQQQQI", to_type, size, to_config, period, sample, read_format, kept, wakeup) + given[52:]
+        front = struct.pack("<IIQQQQQI", to_type, size, to_config, period, sample, read_format, kept, wakeup)
+        sent = front + given[52:]
         self.check(sent)
         return Attribute(given, sent, name, period, sample, read_format, flags, wakeup)
 
@@ -125,7 +126,8 @@ class Translator:
     @staticmethod
     def in_words(fault: str, sent: bytes) -> str:
         if fault != "EFLAGBITS":
-            return {"EFIELD": "bp_type or config1", "ECLASS": "a type that is not counted"}.get(fault, "a size or bytes")
+            names = {"EFIELD": "bp_type or config1", "ECLASS": "a type that is not counted"}
+            return names.get(fault, "a size or bytes")
         flags = struct.unpack("<Q", sent[40:48])[0]
         known = {0, 1, 2, 3, 4, 5, 6, 18, 20}
         wrong = [FLAG_NAMES.get(bit, f"bit {bit}") for bit in range(64) if flags >> bit & 1 and bit not in known]

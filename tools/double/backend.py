@@ -51,6 +51,7 @@ def call(program: Program, words: str, text: str) -> Outcome:
 
 
 def spawned(path: str, words: str, text: str) -> Outcome:
+    """The outcome of one process, with files in memory in the place of pipes."""
     files = [os.memfd_create(name) for name in ("in", "out", "note")]
     try:
         data = text.encode("latin-1")
@@ -58,7 +59,7 @@ def spawned(path: str, words: str, text: str) -> Outcome:
             raise Fault(f"{path}: no room for a script of {len(data)} bytes")
         os.lseek(files[0], 0, os.SEEK_SET)
         places = [(os.POSIX_SPAWN_DUP2, file, number) for number, file in enumerate(files)]
-        process = os.posix_spawn(path, [path, *words.split()], {}, file_actions=places)
+        process = os.posix_spawn(path, [path, *words.split()], dict[str, str](), file_actions=places)
         status = os.waitstatus_to_exitcode(os.waitpid(process, 0)[1])
         out, note = (os.pread(file, os.fstat(file).st_size, 0).decode("latin-1") for file in files[1:])
     except OSError as fault:

@@ -19,12 +19,12 @@ from double.calls import BadAddress, Call, ClientGone
 from double.clock import Clock, Quiet, Sleep
 from double.scenario import Block, Scenario
 from double.session import Event, Refusal, Sent, Session
-from double.tree import Files, Process, Tree, exists
+from double.tree import Files, Process, Tree
 from double.waits import Wait
 
 Handler = Callable[["Broker", Call], None]
 LOOK_AGAIN_MS = 0.5
-SETTLING, PATIENCE_AT_EXIT = 0.001, 0.5
+SETTLING, PATIENCE_AT_EXIT = 0.001, 2.0
 # what is done at each call, by its number; the modules that do it add to this
 HANDLERS: dict[int, Handler] = {}
 
@@ -92,7 +92,7 @@ class Broker:
             pass
 
     def was_interrupted(self, call: Call) -> bool:
-        """Whether this is a waiting call that a signal ended, and that the kernel makes once more behind its handler."""
+        """Whether this is a waiting call that a signal ended: the kernel makes it once more behind the handler."""
         if self.by_library:
             return False
         waiting = self.parked.pop(call.tid, None)
@@ -168,7 +168,7 @@ class Broker:
     def look_for_ends(self) -> None:
         """Takes note of processes that were ended from outside, whose exit no call told."""
         for process in list(self.tree.processes.values()):
-            if select.select([process.end], [], [], 0)[0]:
+            if is_over(process):
                 self.end_process(process)
 
     def end_thread(self, tid: int) -> None:
@@ -302,23 +302,32 @@ class Broker:
 
     # the end
 
-    def end(self, root: int) -> None:
-        """Ends what the command left behind."""
-        left = [process for process in self.tree.processes.values() if exists(process.pid)]
-        if left:
-            self.say(f"ended {len(left)} processes that the command left behind")
+    def kill_all(self) -> int:
+        """Kills every process that is left, and says how many there were."""
+        left = [process for process in self.tree.processes.values() if not is_over(process)]
         for process in left:
             try:
                 signal.pidfd_send_signal(process.end, signal.SIGKILL)
             except OSError:
                 pass
+        return len(left)
+
+    def end(self, root: int) -> None:
+        """Ends what the command left behind."""
+        count = self.kill_all()
+        if count:
+            self.say(f"ended {count} processes that the command left behind")
         for process in list(self.tree.processes.values()):
             select.select([process.end], [], [], 5)
             self.end_process(process)
-            if process.pid != root:
-                reap(process.pid)
+        for pid in self.tree.ended - {root}:
+            reap(pid)
         if self.session and not self.session.is_full:
             self.session.bring_up_to_date()
+
+
+def is_over(process: Process) -> bool:
+    return bool(select.select([process.end], [], [], 0)[0])
 
 
 def reap(pid: int) -> None:

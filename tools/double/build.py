@@ -41,7 +41,7 @@ def own_folder() -> tempfile.TemporaryDirectory[str]:
 
 def compiled(name: str, folder: str, *words: str) -> str:
     """Compiles a C file, and gives the path of what is made in the folder given."""
-    made = os.path.join(folder, os.path.splitext(name)[0])
+    made = os.path.join(folder, os.path.splitext(os.path.basename(name))[0])
     source = name if os.path.isabs(name) else os.path.join(FOLDER, name)
     call = [compiler(), "-O1", "-Wall", "-Wextra", "-o", made, source, *words]
     done = subprocess.run(call, capture_output=True, text=True, check=False)

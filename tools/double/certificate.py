@@ -38,32 +38,35 @@ class Differs:
     wanted: str
 
     def __str__(self) -> str:
-        return f"session {self.session}: {self.what}: the client was given {self.given}, and the report has {self.wanted}"
+        said = f"the client was given {self.given}, and the report has {self.wanted}"
+        return f"session {self.session}: {self.what}: {said}"
 
 
 @dataclass(frozen=True)
 class Certified:
-    """How many answers of how many sessions were compared, and what differs."""
+    """How many answers of how many sessions were compared, their reports, and what differs."""
 
     sessions: int
     answers: int
+    reports: dict[int, Report]
     differs: Differs | None = None
 
 
 def certify(sessions: list[Session], program: Program) -> Certified:
     """Replays each session's journal once, and compares every answer."""
-    count = 0
+    count, reports = 0, dict[int, Report]()
     for session in sessions:
         text = session.journal.text()
         outcome = program.call("replay", text)
         if outcome.status:
             what = Differs(session.number, "the journal", "answers", f"no report: {outcome.note}")
-            return Certified(len(sessions), count, what)
-        differs, compared = Comparison(session, text, Report(outcome.out), program).first()
+            return Certified(len(sessions), count, reports, what)
+        reports[session.number] = Report(outcome.out)
+        differs, compared = Comparison(session, text, reports[session.number], program).first()
         count += compared
         if differs:
-            return Certified(len(sessions), count, differs)
-    return Certified(len(sessions), count)
+            return Certified(len(sessions), count, reports, differs)
+    return Certified(len(sessions), count, reports)
 
 
 class Comparison:
@@ -90,6 +93,7 @@ class Comparison:
         return Differs(self.session.number, what, str(given), str(wanted))
 
     def compare(self, sent: Sent) -> Differs | None:
+        """What of one answer is not what the report has."""
         if sent.what == "id":
             return self.compare_id(sent)
         if sent.key is None:
@@ -189,8 +193,9 @@ def wanted_answer(line: Line, words: list[str]) -> tuple[int, bytes]:
 
 
 def probed_id(script: Script, slot: int, program: Program) -> int:
-    """The id that the event of a slot drew."""
+    """The id that the event of a slot drew, at the last of its opens: those before were refused."""
     probe = 0 if slot else 1
+    opens = sum(line.head == "open" and line.slot() == slot for line in script.lines["t0"])
     head, lines, order = [line.text for line in script.head], dict[str, list[str]](), list[str]()
     for act in script.acts():
         if not isinstance(act, Line):
@@ -200,7 +205,8 @@ def probed_id(script: Script, slot: int, program: Program) -> int:
             probe = max(slot, probe) + 1
         lines.setdefault(act.actor, []).append(act.text)
         order.append(act.actor)
-        if act.head == "open" and act.slot() == slot:
+        opens -= act.head == "open" and act.slot() == slot
+        if not opens:
             where = " ".join(word for word in act.words if word.split("=")[0] in ("task", "cpu"))
             lines[act.actor] += [f"open {probe} kind=dummy {where} format=4", f"read {probe}"]
             order += [act.actor, act.actor]

@@ -6,14 +6,15 @@ import os
 import sys
 from collections.abc import Sequence
 
-from perfscript import Fault, Program, program_at
+from perfscript import Draft, Fault, Program, Script, program_at
 from perfscript.command import Parser, ended, text_of
 from perfscript.program import Built
 
 from double import differences, truth
 from double.broker import Broker
 from double.build import NotHere
-from double.certificate import certify
+from double.certificate import Certified, certify
+from double.journal import TOOL
 from double.run import Run
 from double.scenario import Scenario, read_scenario
 from double.session import Session
@@ -70,7 +71,7 @@ def built(path: str | None) -> Program:
     """The program: a session asks it too often for `rt try`."""
     program = program_at(path or os.environ.get("PERF_RUN"))
     if not isinstance(program, Built):
-        raise Fault("the double asks a built perf_run; give it by --program, or build it by `rt run` in crates/perf_run")
+        raise Fault("the double asks a built perf_run: give one by --program, or build it by `rt run` in crates/perf_run")
     return program
 
 
@@ -101,36 +102,41 @@ def run_in(scenario: Scenario, program: Program, options: object, command: list[
         return NOT_HERE
     if given["journal"]:
         keep(broker.sessions, given["journal"])
-    status = run.status
-    for failure in failures(broker, program, run.failure):
-        print(f"double.py: {failure}", file=sys.stderr)
-        status = UNCERTIFIED
-    tell(broker.sessions, program, given["truth"], given["why"])
-    return status
-
-
-def failures(broker: Broker, program: Program, failure: str) -> list[str]:
-    """Why the numbers that the command printed are not certified."""
     certified = certify(broker.sessions, program)
-    found = [failure] if failure else []
+    found = [run.failure] if run.failure else []
     if certified.differs:
         found.append(f"NOT CERTIFIED: {certified.differs}")
-    return found
+    for failure in found:
+        print(f"double.py: {failure}", file=sys.stderr)
+    tell(broker.sessions, certified, program, given["truth"], given["why"])
+    return UNCERTIFIED if found else run.status
 
 
 def keep(sessions: list[Session], path: str) -> None:
     for session in sessions:
         name = path if session.number == 0 else f"{path}.{session.number}"
         with open(name, "w", encoding="ascii", newline="") as file:
-            file.write(session.journal.text())
+            file.write(open_at_end(session.journal.text()))
 
 
-def tell(sessions: list[Session], program: Program, with_truth: bool, with_why: bool) -> None:
+def open_at_end(text: str) -> str:
+    """A journal without the closes that end it, so that `stat` has the rows of its events."""
+    draft = Draft.of(Script(text))
+    tool = draft.lines.get(TOOL, [])
+    while draft.order and draft.order[-1] == TOOL and tool[-1].startswith("close "):
+        draft.order.pop()
+        tool.pop()
+    return draft.text()
+
+
+def tell(sessions: list[Session], certified: Certified, program: Program, with_truth: bool, with_why: bool) -> None:
     """What is printed behind the command's own output, on standard error."""
     touched: dict[str, None] = {}
     for session in sessions:
-        text = session.journal.text()
-        touched.update(dict.fromkeys(differences.rows_touched(text, program.report(text))))
+        report = certified.reports.get(session.number)
+        if report is None:
+            continue
+        touched.update(dict.fromkeys(differences.rows_touched(session.journal.text(), report)))
         lines = truth.truth_lines(session, program) if with_truth else []
         lines += truth.why_lines(session, program) if with_why else []
         for line in lines:

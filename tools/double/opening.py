@@ -98,7 +98,8 @@ def hand_over(broker: Broker, call: Call, event: Event, process: Process, number
         call.give_descriptor(event.file, number, close_on_exec)
     except (OSError, ValueError):
         broker.close_event(process.files.take(number))
-        raise Refusal(errno.EMFILE, f"descriptor {number} is above the client's hard limit of {hard}", None, True) from None
+        why = f"descriptor {number} is above the client's hard limit of {hard}"
+        raise Refusal(errno.EMFILE, why, None, True) from None
     finally:
         if low:
             with suppress(OSError, ValueError):
@@ -206,6 +207,7 @@ def give_id(call: Call, event: Event) -> None:
 
 
 def set_output(broker: Broker, call: Call, event: Event, target: int) -> None:
+    """PERF_EVENT_IOC_SET_OUTPUT: the event writes to the ring of another descriptor's event."""
     if target == -1:
         raise Refusal(errno.EINVAL, "PERF_EVENT_IOC_SET_OUTPUT of -1: an event keeps its ring here")
     other = broker.event(call, target)
@@ -226,7 +228,7 @@ def set_output(broker: Broker, call: Call, event: Event, target: int) -> None:
 
 
 def map_event(broker: Broker, call: Call) -> None:
-    """mmap(address, length, protection, flags, fd, offset): the kernel maps the event's file, whose page is filled in."""
+    """mmap(address, length, protection, flags, fd, offset): the kernel maps the event's file, with its page filled in."""
     event = broker.event(call, signed(call.args[4]))
     _, length, protection, flags, _, offset = call.args
     if event is None or flags & MAP_ANONYMOUS:

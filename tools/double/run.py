@@ -2,6 +2,7 @@
 
 from __future__ import annotations
 
+import ctypes
 import errno
 import os
 import select
@@ -10,8 +11,11 @@ import signal
 import struct
 import subprocess
 import tempfile
+import threading
+import time
 import traceback
 from collections.abc import Sequence
+from contextlib import suppress
 from types import TracebackType
 from typing import Protocol
 
@@ -25,6 +29,9 @@ from double.tree import Files
 
 assert handlers.ALL
 
+PR_SET_CHILD_SUBREAPER = 36
+# how long a command may go on after the broker's failure, and after an interrupt, in seconds
+PATIENCE, PATIENCE_AT_INTERRUPT = 10.0, 2.0
 # the descriptors of the command's output and errors; None for this process's own
 Outputs = tuple[int | None, int | None]
 
@@ -62,7 +69,7 @@ class Started:
         try:
             said = os.read(told, 4)
             number = struct.unpack("<i", said)[0] if len(said) == 4 else -errno.EPERM
-            self.note = "" if number >= 0 else "the filter is not allowed here: a client's own system calls reach the kernel"
+            self.note = "" if number >= 0 else "no filter is allowed here: a client's own system calls reach the kernel"
             self.catcher: Catcher = sockets or Listener(self.take(number))
         except BaseException:
             self.stop()
@@ -112,6 +119,7 @@ class Run:
         self.is_closed = False
 
     def __enter__(self) -> "Run":
+        adopt_orphans()
         self.folder = tempfile.mkdtemp(prefix="double.")
         try:
             self.started = Started(self.words, self.folder, self.environment, self.by_library, self.to)
@@ -129,19 +137,29 @@ class Run:
 
     def serve(self) -> None:
         """Serves all calls until the command ends. What goes wrong here is told, and clients then get ENOSYS."""
-        before = signal.signal(signal.SIGINT, signal.SIG_IGN)
+        with Interrupts() as interrupts:
+            try:
+                self.broker.tree.add(self.started.process.pid, Files())
+                self.started.begin()
+                self.loop(interrupts)
+                self.broker.end(self.started.process.pid)
+            except Exception as fault:
+                self.failure = f"the broker ended: {fault or type(fault).__name__} (in {where(fault)})"
+            self.close()
+            self.status = self.last_status()
+            if interrupts.number:
+                self.status = 128 + interrupts.number
+
+    def last_status(self) -> int:
+        """The command's status. After a failure it has a while to end by itself."""
         try:
-            self.broker.tree.add(self.started.process.pid, Files())
-            self.started.begin()
-            self.loop()
-            self.broker.end(self.started.process.pid)
-        except Exception as fault:
-            self.failure = f"the broker ended: {fault or type(fault).__name__} (in {where(fault)})"
-        finally:
-            signal.signal(signal.SIGINT, before)
-        self.close()
-        status = self.started.process.wait()
-        self.status = status if status >= 0 else 128 - status
+            status = self.started.process.wait(PATIENCE if self.failure else None)
+        except subprocess.TimeoutExpired:
+            self.started.process.kill()
+            status = self.started.process.wait()
+        if self.failure:
+            self.broker.kill_all()
+        return status if status >= 0 else 128 - status
 
     def close(self) -> None:
         """No call is answered any more: clients that wait get ENOSYS."""
@@ -149,10 +167,11 @@ class Run:
             self.is_closed = True
             self.started.catcher.close()
 
-    def loop(self) -> None:
+    def loop(self, interrupts: "Interrupts") -> None:
         root = os.pidfd_open(self.started.process.pid)
         catcher, broker = self.started.catcher, self.broker
         catcher.register(root)
+        catcher.register(interrupts.told)
         broker.has_call, broker.by_library = catcher.has_call, self.by_library
         if self.started.note:
             broker.say(self.started.note)
@@ -165,12 +184,55 @@ class Run:
                 if call:
                     broker.handle(call)
                     timeout = 0
-                elif select.select([root], [], [], 0)[0]:
+                elif select.select([root], [], [], 0)[0] or interrupts.is_over():
                     return
                 else:
-                    timeout = broker.idle()
+                    timeout = interrupts.limited(broker.idle())
         finally:
             os.close(root)
+
+
+class Interrupts:
+    """SIGINT and SIGTERM: the command, which a terminal tells too, has two seconds to end; then all is ended."""
+
+    def __init__(self) -> None:
+        self.number = self.pending = 0
+        self.since = 0.0
+        self.before: dict[int, object] = {}
+
+    def __enter__(self) -> "Interrupts":
+        self.told, self.tell = os.pipe2(os.O_NONBLOCK | os.O_CLOEXEC)
+        if threading.current_thread() is threading.main_thread():
+            self.before = {number: signal.signal(number, self.take) for number in (signal.SIGINT, signal.SIGTERM)}
+        return self
+
+    def __exit__(self, kind: type[BaseException] | None, fault: BaseException | None, at: TracebackType | None) -> None:
+        for number, handler in self.before.items():
+            signal.signal(number, handler)  # type: ignore[arg-type]
+        os.close(self.told)
+        os.close(self.tell)
+
+    def take(self, number: int, _: object) -> None:
+        os.write(self.tell, b".")
+        self.since = time.monotonic()
+        self.pending = number
+
+    def is_over(self) -> bool:
+        """Whether a signal came, and the command has not ended since."""
+        with suppress(BlockingIOError):
+            os.read(self.told, 64)
+        if self.since and time.monotonic() - self.since > PATIENCE_AT_INTERRUPT:
+            self.number = self.pending
+        return bool(self.number)
+
+    def limited(self, timeout: float | None) -> float | None:
+        """A wait in ms that ends in time."""
+        return timeout if not self.since else min(100.0, 100.0 if timeout is None else timeout)
+
+
+def adopt_orphans() -> None:
+    """Processes whose parents end become children of this process, and not of init, so that none is lost."""
+    ctypes.CDLL(None).prctl(PR_SET_CHILD_SUBREAPER, 1, 0, 0, 0)
 
 
 def where(fault: BaseException) -> str:

@@ -7,8 +7,8 @@ import os
 from collections.abc import Callable
 from dataclasses import dataclass, field
 
-from perfscript import Fault, Report
-from perfscript.limits import MOST_RINGS, MOST_SLOTS, MOST_TASKS
+from perfscript import Draft, Fault, Line, Report, Script
+from perfscript.limits import MOST_LINES, MOST_RINGS, MOST_SLOTS, MOST_TASKS
 from perfscript.script import Key
 
 from double.attributes import Attribute
@@ -126,7 +126,10 @@ class Session:
         try:
             key, words = self.journal.call(line)
         except TooMuch as reason:
-            raise Refusal(errno.ENOSPC, f"`{line[:60]}` would pass a limit of a script ({reason})", None, True) from None
+            if self.waiting:
+                self.fill_up(str(reason))
+            why = f"`{line[:60]}` would pass a limit of a script ({reason})"
+            raise Refusal(errno.ENOSPC, why, is_limit=True) from None
         self.settle()
         if words and words[0].startswith("E"):
             raise Refusal(errno_of(words[0], line.split()[0]), words[0], key)
@@ -151,6 +154,8 @@ class Session:
 
     def processor(self, actor: str, text: str, place: int = 0) -> None:
         """Adds a line of a processor, before which each ring's tail is looked at."""
+        if not self.is_full and self.journal.draft.count >= MOST_LINES:
+            self.fill_up("LIMIT")
         if self.is_full:
             return
         for ring in self.rings():
@@ -343,20 +348,21 @@ class Session:
 
 def id_by_probe(text: str, slot: int, back_end: BackEnd) -> int:
     """The id of the event that a journal opened in a slot: the journal up to that open, and a probe behind it."""
-    from perfscript import Draft, Line, Script
-
     script = Script(text)
     draft = Draft([line.text for line in script.head])
+    # refused opens of the same slot may stand before the one that was done
+    opened = [line for line in script.lines[TOOL] if line.head == "open" and line.slot() == slot][-1]
     for act in script.acts():
-        if not isinstance(act, Line):
+        if isinstance(act, Line):
+            draft.act(act.actor, act.text)
+        else:
             draft.look(act.ring, act.place)
-            continue
-        draft.act(act.actor, act.text)
-        if act.head == "open" and act.slot() == slot:
-            place = " ".join(word for word in act.words if word.startswith(("task=", "cpu=")))
-            probe = 255 if slot != 255 else 254
-            draft.act(TOOL, f"open {probe} kind=dummy {place} format=4")
-            key = draft.act(TOOL, f"read {probe}")
+        if act is opened:
+            break
+    place = " ".join(word for word in opened.words if word.startswith(("task=", "cpu=")))
+    probe = MOST_SLOTS - 1 if slot != MOST_SLOTS - 1 else slot - 1
+    draft.act(TOOL, f"open {probe} kind=dummy {place} format=4")
+    key = draft.act(TOOL, f"read {probe}")
     words = words_of(back_end.report(draft.text()), key)
     if not words or len(words) != 2:
         raise Fault(f"the id of slot {slot} can't be asked for: {words}")

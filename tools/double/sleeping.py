@@ -21,16 +21,22 @@ def sleep(broker: Broker, call: Call) -> None:
 
 
 def sleep_by_clock(broker: Broker, call: Call) -> None:
-    """clock_nanosleep(clock, flags, length, rest). What is left until a moment counts in whole ms, rounded up."""
+    """clock_nanosleep(clock, flags, length, rest). What is left until a moment is rounded up: some of it has passed."""
     clock, flags = signed(call.args[0]), signed(call.args[1])
     length = timespec(call, call.args[2])
     if flags & n.TIMER_ABSTIME and length is not None:
         try:
-            length = max(0, -(-(length - time.clock_gettime_ns(clock)) // MS) * MS)
+            length = rounded_up(length - time.clock_gettime_ns(clock))
         except OSError:
             call.proceed()
             return
     pause(broker, call, length)
+
+
+def rounded_up(left: int) -> int:
+    """What is left of a sleep in ns: in whole 10 ms, and below 10 ms in whole ms."""
+    unit = 10 * MS if left > 10 * MS else MS
+    return max(0, -(-left // unit) * unit)
 
 
 def pause(broker: Broker, call: Call, length: int | None) -> None:

@@ -49,7 +49,9 @@ class Double:
             result = double.run(["perf", "stat", "-x,", "-e", "cycles", "sleep", "1"])
     """
 
-    def __init__(self, scenario: str, program: str | None = None, by_library: bool = False, is_real: bool = False) -> None:
+    def __init__(
+        self, scenario: str, program: str | None = None, by_library: bool = False, is_real: bool = False
+    ) -> None:
         self.program = program_at(program or os.environ.get("PERF_RUN"))
         self.scenario = read_scenario(scenario, text_of(scenario), self.program)
         self.by_library, self.is_real = by_library, is_real
@@ -66,13 +68,13 @@ class Double:
         with tempfile.TemporaryFile() as out, tempfile.TemporaryFile() as err:
             with Run(broker, words, environment, self.by_library, (out.fileno(), err.fileno())) as run:
                 run.serve()
-            texts = [text_in(file.fileno()) for file in (out, err)]
+            said, noted = (text_in(file.fileno()) for file in (out, err))
         if run.failure:
             raise Uncertified(run.failure)
         differs = certify(broker.sessions, self.program).differs
         if differs:
             raise Uncertified(str(differs))
-        return Result(run.status, *texts, broker.sessions, self.program)
+        return Result(run.status, said, noted, broker.sessions, self.program)
 
 
 def text_in(descriptor: int) -> str:

@@ -84,6 +84,7 @@ def execute(broker: Broker, call: Call) -> None:
 
 
 def at_exec(broker: Broker, process: Process, tid: int) -> None:
+    """What an exec does: other threads end, descriptors are closed, and events are enabled."""
     for other in sorted(process.threads - {tid}):
         broker.end_thread(other)
     if process.files.users > 1:

@@ -8,7 +8,8 @@ from dataclasses import dataclass, field
 
 from double.session import Event
 
-PATIENCE = 0.5
+# how many seconds a fork may take
+PATIENCE = 5.0
 
 
 @dataclass(eq=False)
@@ -57,6 +58,8 @@ class Tree:
     def __init__(self) -> None:
         self.processes: dict[int, Process] = {}
         self.threads: dict[int, Process] = {}
+        # the processes that have ended; those whose parents ended before them are this process's to reap
+        self.ended: set[int] = set()
 
     def add(self, pid: int, files: Files) -> Process:
         process = Process(pid, files, os.pidfd_open(pid))
@@ -104,6 +107,7 @@ class Tree:
 
     def remove(self, process: Process) -> None:
         os.close(process.end)
+        self.ended.add(process.pid)
         self.processes.pop(process.pid, None)
         for tid in process.threads:
             self.threads.pop(tid, None)

@@ -15,7 +15,7 @@ from perfscript.script import Key
 
 from double.session import Session
 
-ALL_COUNTERS = f"{(1 << MOST_COUNTERS) - 1:x}"
+WIDEST = {"counters": str(MOST_COUNTERS), "mask": f"{(1 << MOST_COUNTERS) - 1:x}"}
 
 
 @dataclass(frozen=True)
@@ -33,9 +33,17 @@ class Opened:
     def is_hardware(self) -> bool:
         return self.name not in SOFTWARE_NAMES.values()
 
+    def is_of(self, actor: str, running: str) -> bool:
+        """Whether the work of a processor is its own, where this task is on it: of tasks that inherit, any is."""
+        task, cpu = (word.partition("=")[2] for word in self.place.split())
+        if cpu not in ("any", actor[1:]):
+            return False
+        return task in ("all", running) or bool(self.flags >> FLAGS["inherit"] & 1) and running != "idle"
+
     def line(self, name: str, without: str = "") -> str:
         """The open of this event in a journal of counts alone."""
-        words = [word for word, bit in FLAGS.items() if self.flags >> bit & 1 and word not in (without, "sample_id_all")]
+        left_out = (without, "sample_id_all")
+        words = [word for word, bit in FLAGS.items() if self.flags >> bit & 1 and word not in left_out]
         leader = f" leader={self.leader}" if self.leader != self.slot else ""
         flags = f" flags={','.join(words)}" if words else ""
         return f"open {self.slot} kind={name} {self.place}{leader} format=3{flags}"
@@ -134,7 +142,7 @@ def widened(line: Line) -> str:
     words = []
     for word in line.text.split():
         name = word.split("=")[0]
-        words.append(f"{name}={MOST_COUNTERS if name == 'counters' else ALL_COUNTERS}" if name in ("counters", "mask") else word)
+        words.append(f"{name}={WIDEST[name]}" if name in WIDEST else word)
     return " ".join(words)
 
 
@@ -188,27 +196,34 @@ def why_lines(session: Session, program: Program) -> list[str]:
     if slots and not room:
         return [*lines, "the journal leaves no room for the questions"]
     for first in range(0, len(slots), max(room, 1)):
-        for slot, waits in asked_why(script, report, slots[first : first + room], program).items():
+        for slot, waits in asked_why(counts, slots[first : first + room], program).items():
             told = ", ".join(f"{cause} {length}" for cause, length in waits.items())
             lines.append(f"{slot:3} {counts.events[slot].name:31} {told or 'no work was done'}")
     return lines
 
 
-def asked_why(script: Script, report: Report, slots: list[int], program: Program) -> dict[int, dict[str, int]]:
-    draft = Draft([line.text for line in script.head])
+def asked_why(counts: Counts, slots: list[int], program: Program) -> dict[int, dict[str, int]]:
+    """By slot, for how many units of work of its processor each answer held."""
+    draft = Draft([line.text for line in counts.script.head])
     open_now: set[int] = set()
+    running: dict[str, str] = {}
     asked: list[tuple[Key, int, int]] = []
-    for act in script.acts():
+    for act in counts.script.acts():
         if not isinstance(act, Line):
             draft.look(act.ring, act.place)
             continue
+        refused = counts.report.refusal(act) is not None
         if act.head == "work":
-            asked += [(draft.act("t1", f"why {slot}"), slot, int(act.words[0])) for slot in slots if slot in open_now]
-        draft.act(act.actor, act.text)
-        if act.head == "open" and report.refusal(act) is None:
+            for slot in slots:
+                if slot in open_now and counts.events[slot].is_of(act.actor, running.get(act.actor, "idle")):
+                    asked.append((draft.act("t1", f"why {slot}"), slot, int(act.words[0])))
+        elif act.head in ("switch", "exit") and not refused:
+            running[act.actor] = act.words[0] if act.words else "idle"
+        elif act.head == "open" and not refused:
             open_now.add(act.slot())
         elif act.head == "close":
             open_now.discard(act.slot())
+        draft.act(act.actor, act.text)
     answers = program.report(draft.text())
     found: dict[int, dict[str, int]] = {slot: {} for slot in slots}
     for key, slot, length in asked:

@@ -9,7 +9,6 @@ the status is then 1.
 
 import argparse
 import os
-import subprocess
 import sys
 import tempfile
 import time
@@ -19,9 +18,10 @@ from contextlib import redirect_stderr
 TOOLS = os.path.normpath(os.path.join(os.path.dirname(os.path.abspath(__file__)), ".."))
 sys.path.insert(0, TOOLS)
 
-from double import Double, Uncertified  # noqa: E402
 from double.build import NotHere, compiled  # noqa: E402
+from double.testing import Double, Uncertified  # noqa: E402
 from double.tests.random_clients import SCENARIO, Program  # noqa: E402
+from perfscript import Fault  # noqa: E402
 from perfscript.program import USUAL  # noqa: E402
 
 CLIENT = os.path.join(TOOLS, "double", "tests", "client.c")
@@ -48,8 +48,10 @@ def compare(seed: int, program: str, client: str) -> tuple[int, int, str]:
         caught, loaded = (answers(way, text, program, client) for way in (False, True))
     except Uncertified as fault:
         return seed, 0, f"not certified: {fault}"
-    except subprocess.SubprocessError as fault:
+    except Fault as fault:
         return seed, 0, str(fault)
+    if caught[0] or not caught[1]:
+        return seed, 0, f"the client ended with status {caught[0]}"
     return seed, caught[1].count("\n"), "" if caught == loaded else "the two ways of catching give other answers"
 
 

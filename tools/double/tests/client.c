@@ -83,19 +83,20 @@ static int descriptor(long long variable)
 
 static void open_one(int place, const long long *n)
 {
-	struct perf_event_attr attr;
+	/* longer than any attribute */
+	char room[512] __attribute__((aligned(8))) = { 0 };
+	struct perf_event_attr *attr = (void *)room;
 	uint64_t flags = n[6];
 
-	memset(&attr, 0, sizeof(attr));
-	attr.type = n[1];
-	attr.config = n[2];
-	attr.sample_period = n[3];
-	attr.sample_type = n[4];
-	attr.read_format = n[5];
-	memcpy((char *)&attr + 40, &flags, 8);
-	attr.size = n[11];
-	attr.wakeup_events = n[12];
-	fds[n[0]] = syscall(SYS_perf_event_open, &attr, n[7] == 1 ? getppid() : (pid_t)n[7], (int)n[8], descriptor(n[9]), n[10]);
+	attr->type = n[1];
+	attr->config = n[2];
+	attr->sample_period = n[3];
+	attr->sample_type = n[4];
+	attr->read_format = n[5];
+	memcpy(room + 40, &flags, 8);
+	attr->size = n[11];
+	attr->wakeup_events = n[12];
+	fds[n[0]] = syscall(SYS_perf_event_open, attr, n[7] == 1 ? getppid() : (pid_t)n[7], (int)n[8], descriptor(n[9]), n[10]);
 	say_descriptor(place, fds[n[0]], errno);
 }
 

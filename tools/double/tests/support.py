@@ -15,7 +15,7 @@ from perfscript.tests.support import PATH, ProgramTest
 TOOLS = os.path.join(REPOSITORY, "tools")
 DOUBLE = os.path.join(TOOLS, "double.py")
 CLIENT = os.path.join(TOOLS, "double", "tests", "client.c")
-SECONDS = 300
+SECONDS = 200
 # the compiled clients; removed when the tests end
 FOLDER = tempfile.TemporaryDirectory(prefix="double-client.")
 PLAIN = "perf 1\nmachine cpus=1 counters=2\nkind cycles mask=3\nkind instructions mask=3\nend\n"
@@ -45,7 +45,9 @@ def run_in(folder, scenario, command, *options):
     with open(path, "w", encoding="ascii") as file:
         file.write(scenario)
     call = [sys.executable, DOUBLE, "--program", PATH, *options, path, "--", *command]
-    return Ended(subprocess.run(call, capture_output=True, timeout=SECONDS, cwd=folder, stdin=subprocess.DEVNULL))
+    own = dict(os.environ, TMPDIR=folder)
+    nothing = subprocess.DEVNULL
+    return Ended(subprocess.run(call, capture_output=True, timeout=SECONDS, cwd=folder, stdin=nothing, env=own))
 
 
 class DoubleTest(ProgramTest):

@@ -182,6 +182,13 @@ class Counting(DoubleTest):
         said = self.said("o 0 0 0 1000 0 3 0 0 -1 -1 0 128 0\ns 1000\ni 0 0x2403 0\nr 0 24\np 0 500\np 0 0\n")
         self.assertEqual(said[3:], ["3 24 0 0 1000 1000", "4 0 0", "5 -1 22"])
 
+    def test_an_id_behind_refused_opens(self):
+        said = self.said(
+            "o 0 1 9 0 0 7 1 0 -1 -1 0 128 0\no 1 1 9 0 0 64 1 0 -1 -1 0 128 0\no 1 1 9 0 0 7 1 99999999 -1 -1 0 128 0\n"
+            "o 1 1 9 0 0 7 1 0 -1 -1 0 128 0\nd 1\nr 1 64\n"
+        )
+        self.assertEqual(said[4:], ["4 0 0", "5 32 0 0 0 0 2"])
+
     def test_an_event_that_can_not_be_counted(self):
         said = self.said(
             "o 0 0 1 0 0 0 0 0 -1 -1 0 128 0\no 1 0 4 0 0 0 0 0 -1 0 0 128 0\no 1 0 7 0 0 0 0 0 -1 -1 0 128 0\n"
