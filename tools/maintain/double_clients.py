@@ -7,7 +7,6 @@ The clients come from tools/double/tests/random_clients.py. A client whose answe
 the status is then 1.
 """
 
-import argparse
 import os
 import sys
 import tempfile
@@ -22,6 +21,7 @@ from double.build import NotHere, compiled  # noqa: E402
 from double.testing import Double, Uncertified  # noqa: E402
 from double.tests.random_clients import SCENARIO, Program  # noqa: E402
 from perfscript import Fault  # noqa: E402
+from perfscript.command import Parser, ended  # noqa: E402
 from perfscript.program import USUAL  # noqa: E402
 
 CLIENT = os.path.join(TOOLS, "double", "tests", "client.c")
@@ -56,12 +56,14 @@ def compare(seed: int, program: str, client: str) -> tuple[int, int, str]:
 
 
 def main() -> int:
-    parser = argparse.ArgumentParser(description=(__doc__ or "").split("\n")[0])
-    parser.add_argument("--program", default=os.environ.get("PERF_RUN", USUAL), help="the built perf_run")
+    parser = Parser("double_clients.py", __doc__ or "")
+    parser.set_defaults(program=os.environ.get("PERF_RUN", USUAL))
     parser.add_argument("--seeds", default="1-500", metavar="FIRST-LAST")
     parser.add_argument("--jobs", type=int, default=os.cpu_count() or 1, metavar="N")
     options = parser.parse_args()
     first, _, last = options.seeds.partition("-")
+    if not first.isdigit() or not (last or first).isdigit():
+        raise Fault(f"--seeds: {options.seeds} is not FIRST-LAST, two numbers")
     seeds = range(int(first), int(last or first) + 1)
     began, wrong, count = time.monotonic(), 0, 0
     with tempfile.TemporaryDirectory(prefix="double-clients.") as folder:
@@ -82,4 +84,4 @@ def main() -> int:
 
 
 if __name__ == "__main__":
-    sys.exit(main())
+    sys.exit(ended("double_clients.py", main))

@@ -74,6 +74,13 @@ CALLS = (
     (["maintain/failing_calls.py", "/nonexistent"], "--program: /nonexistent is not a file"),
     (["maintain/check_machines.py"], "0 words do not do; check_machines.py --help has the usage"),
     (["maintain/check_machines.py", "/nonexistent"], "/nonexistent: the tree does not have /nonexistent/arch/x86"),
+    (["maintain/trusted.py", "odd"], "odd: not known; trusted.py --help has the words"),
+    (["maintain/house_counts.py", "odd"], "1 words do not do; house_counts.py --help has the usage"),
+    (["maintain/repeated_lemmas.py", "odd"], "odd: a number was wanted; repeated_lemmas.py --help has the usage"),
+    (["maintain/double_clients.py", "odd"], "unrecognized arguments: odd; double_clients.py --help has the words"),
+    (["maintain/double_clients.py", "--seeds", "odd"], "--seeds: odd is not FIRST-LAST, two numbers"),
+    (["double.py"], "give a scenario, and the command behind --; double.py --help has the words"),
+    (["double.py", "--program", "{program}", "/nonexistent", "--", "true"], "/nonexistent"),
     (["fit.py", "-m", "vax", "-e", "cycles"], "-m: no machine and no model is called 'vax'"),
     (["fit.py", "-m", "skylake", "-M", "no_such_metric"], "-M: "),
 )

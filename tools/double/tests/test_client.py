@@ -232,7 +232,7 @@ class Counting(DoubleTest):
         done = self.client(CYCLES, "\n".join(lines) + "\n")
         said = [line.split(" ", 1)[1] for line in done.out.splitlines()]
         self.assertEqual(said, ["0 0"] + 256 * ["0 0 fd"] + ["-1 24", "8 0 0"])
-        self.assertIn("256 events, which is the most", done.err)
+        self.assertIn("the descriptors 700 to 955 are all in use", done.err)
 
     def test_a_session_that_is_full_refuses_at_the_call(self):
         scenario = CYCLES.replace("@sleep 1000", "@sleep 1")
