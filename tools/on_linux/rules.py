@@ -52,8 +52,11 @@ OF_SOURCE_ROWS = {
     "rotation": TURNS,
     "moved-software-group": WHOLLY_SOFTWARE,
     "commands-after-exit": ENABLE,
+    "error-after-exit": IN_ERROR,
     "exit-switch": EXIT,
     "exact-ip": LAYOUT,
+    "throttling": SAMPLES,
+    "least-periods": SAMPLES,
 }
 
 ALL = [value for name, value in list(globals().items()) if isinstance(value, str) and name.isupper()]
