@@ -33,15 +33,13 @@ def counts(found):
     return [sum(verdict.word == word for verdict in found) for word in WORDS]
 
 
-def documented(found, known):
-    """The cases that differ as docs/LINUX.md says, with the row and the versions that it names."""
+def documented(found):
+    """The cases that differ as docs/LINUX.md says, with the row."""
     own = [verdict for verdict in found if verdict.word == verdicts.DOCUMENTED]
-    lines = [row("Case that differs as documented", "Row", "Known from"), row("---", "---", "---")]
+    lines = [row("Case that differs as documented", "Row"), row("---", "---")]
     for verdict in own:
         about = f": {'; '.join(verdict.notes)}" if verdict.notes else ""
-        names = quoted(verdict.rows)
-        versions = "; ".join(known[name].known_from for name in verdict.rows)
-        lines.append(row(verdict.case.name + about, names, versions))
+        lines.append(row(verdict.case.name + about, quoted(verdict.rows)))
     return lines if own else []
 
 
@@ -68,7 +66,7 @@ def listed(found, word, head):
 
 def text(found, known):
     """All tables."""
-    parts = [groups(found), documented(found, known), of_sources(found, known)]
+    parts = [groups(found), documented(found), of_sources(found, known)]
     parts.append(listed(found, verdicts.SAME, "Case that is the same as far as it is comparable"))
     parts.append(listed(found, verdicts.NOT_COMPARABLE, "Case that is not comparable"))
     parts.append(listed(found, verdicts.NOT_PERMITTED, "Case that is not permitted"))

@@ -90,7 +90,7 @@ class Tables(unittest.TestCase):
         for line in (
             "| g | 2 | 1 | 1 | 0 | 0 | 0 |",
             "| all | 3 | 1 | 1 | 0 | 0 | 1 |",
-            "| two | `here` | source of 6.1; seen on 6.18.44 |",
+            "| two | `here` |",
             "| h: three | what \\| why |",
             "Rows that are known from sources alone: `there`.",
         ):
