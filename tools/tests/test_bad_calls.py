@@ -6,6 +6,7 @@ import subprocess
 import sys
 import tempfile
 import unittest
+from concurrent.futures import ThreadPoolExecutor
 
 from perfscript.program import REPOSITORY
 from perfscript.tests.support import DATA, PATH, ProgramTest, program_file
@@ -102,15 +103,21 @@ class BadCalls(ProgramTest):
                 file.write(bytes(range(256)))
         os.chmod(cls.names["binary"], 0o755)
 
+    def called(self, words):
+        """How a call ends, and whether there was an output file then."""
+        given = [word.format(**self.names) for word in words]
+        call = [sys.executable, os.path.join(REPOSITORY, "tools", given[0]), *given[1:]]
+        done = subprocess.run(call, cwd=REPOSITORY, capture_output=True, text=True, stdin=subprocess.DEVNULL)
+        return done, os.path.exists(self.names["out"])
+
     def test_each_ends_with_2_and_a_line(self):
-        for words, said in CALLS:
+        with ThreadPoolExecutor(os.cpu_count()) as pool:
+            ended = list(pool.map(self.called, [words for words, _ in CALLS]))
+        for (words, said), (done, is_out) in zip(CALLS, ended):
             with self.subTest(words=words):
-                given = [word.format(**self.names) for word in words]
-                call = [sys.executable, os.path.join(REPOSITORY, "tools", given[0]), *given[1:]]
-                done = subprocess.run(call, cwd=REPOSITORY, capture_output=True, text=True, stdin=subprocess.DEVNULL)
                 self.assertIn(said, done.stderr)
                 self.assertEqual((2, "", 1), (done.returncode, done.stdout, done.stderr.count("\n")), done.stderr)
-                self.assertFalse(os.path.exists(self.names["out"]))
+                self.assertFalse(is_out)
 
     def test_each_tool_has_bad_calls(self):
         """Each file of tools/ that is a command."""

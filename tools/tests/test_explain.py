@@ -4,6 +4,7 @@ import io
 import os
 import tempfile
 import unittest
+from concurrent.futures import ThreadPoolExecutor
 from unittest import mock
 
 import explain
@@ -312,8 +313,9 @@ class Explained(ProgramTest):
         """Of 382 texts that are refused, the note is word for word, and there is a reason for each."""
         refused = [line.split(" ", 2)[1:] for line in stored("cases").splitlines() if line.startswith("refused ")]
         self.assertGreater(len(refused), 300)
-        for name, note in refused:
-            said, status = self.explained(stored(name + ".script"))
+        with ThreadPoolExecutor(os.cpu_count()) as pool:
+            explained = list(pool.map(self.explained, [stored(name + ".script") for name, _ in refused]))
+        for (name, note), (said, status) in zip(refused, explained):
             self.assertEqual((note, 1), (said[0], status), name)
             self.assertNotIn("can't see why", said[1], name)
 
