@@ -266,14 +266,20 @@ class Explained(ProgramTest):
     def explained(self, text):
         return explain.explained(self.program, "x", text)
 
+    def all_explained(self, texts):
+        """What there is to say of each text, and its status; the texts are explained side by side."""
+        with ThreadPoolExecutor(os.cpu_count()) as pool:
+            return list(pool.map(self.explained, texts))
+
     def test_each_refused_text(self):
-        for base, old, new, reason, sentence in REFUSED:
+        texts = [base.replace(old, new, 1) for base, old, new, _, _ in REFUSED]
+        outcomes = self.program.outcomes([("replay", text) for text in texts])
+        for row, (said, status), outcome in zip(REFUSED, self.all_explained(texts), outcomes):
+            base, old, new, reason, sentence = row
             with self.subTest(old=old, new=new):
                 self.assertIn(old, base)
-                text = base.replace(old, new, 1)
-                said, status = self.explained(text)
                 self.assertEqual(1, status)
-                self.assertEqual(self.program.call("replay", text).note, said[0])
+                self.assertEqual(outcome.note, said[0])
                 self.assertTrue(said[0].endswith(": " + reason) or said[0] == reason, said[0])
                 self.assertEqual(sentence, said[1])
 
@@ -313,9 +319,8 @@ class Explained(ProgramTest):
         """Of 382 texts that are refused, the note is word for word, and there is a reason for each."""
         refused = [line.split(" ", 2)[1:] for line in stored("cases").splitlines() if line.startswith("refused ")]
         self.assertGreater(len(refused), 300)
-        with ThreadPoolExecutor(os.cpu_count()) as pool:
-            explained = list(pool.map(self.explained, [stored(name + ".script") for name, _ in refused]))
-        for (name, note), (said, status) in zip(refused, explained):
+        texts = [stored(name + ".script") for name, _ in refused]
+        for (name, note), (said, status) in zip(refused, self.all_explained(texts)):
             self.assertEqual((note, 1), (said[0], status), name)
             self.assertNotIn("can't see why", said[1], name)
 
