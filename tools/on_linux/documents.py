@@ -6,8 +6,9 @@ import re
 from perfscript import Fault
 
 FOLDER = os.path.dirname(os.path.abspath(__file__))
-# a link to the page in docs/; where the tools are installed it is a copy
-LINUX = os.path.join(FOLDER, "LINUX.md")
+# the page in docs/; where the tools are installed, setup.py has put a copy beside them
+PAGE = os.path.join(FOLDER, "..", "..", "docs", "LINUX.md")
+LINUX = PAGE if os.path.exists(PAGE) else os.path.join(FOLDER, "LINUX.md")
 RULES = os.path.join(FOLDER, "..", "..", "docs", "RULES.md")
 ROW = re.compile(r"^\| `([a-z-]+)` \|(.*)\|$")
 STAND_IN, LAST_RUN = "## Where the stand-in differs", "## The last run"

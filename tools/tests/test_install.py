@@ -36,6 +36,8 @@ class Installed(ProgramTest):
         # pip builds in the folder that it is given
         source, cls.target = os.path.join(folder, "tools"), os.path.join(folder, "target")
         shutil.copytree(TOOLS, source, ignore=shutil.ignore_patterns("__pycache__", "build", "*.egg-info"))
+        # setup.py takes a page of docs/ along
+        shutil.copytree(os.path.join(TOOLS, "..", "docs"), os.path.join(folder, "docs"))
         call = [cls.python, "-m", "pip", "install", "--no-build-isolation", "--no-index", "--target", cls.target, source]
         done = subprocess.run(call, capture_output=True, text=True, cwd=folder)
         if done.returncode:
