@@ -1,12 +1,11 @@
 #!/usr/bin/env python3
-"""Says which files of definitions public clauses cite that docs/DEFINITIONS.md does not name.
+"""Prints each file of definitions that public clauses cite, with the first sentence of what it says at its head.
 
-A public clause is a `requires` or `ensures` of a call that the crate's lib.rt hands out, as itself or by its type or trait, or
-the invariant of such a type. It cites the files from which the names in it are imported. The page names a file by its path, by
-its folder, or by its last part behind another file of that folder. The files of types that are declared in Rust are not asked
-for, nor those of the toolchain's libraries.
+A public clause is a `requires` or `ensures` of a call that the crate's lib.rt hands out, as itself or by its type or
+trait, or the invariant of such a type. It cites the files from which the names in it are imported. The files of types
+that are declared in Rust are not asked for, nor those of the toolchain's libraries.
 
-Usage: cited_definitions.py    from the top of the repository. Ends with 1 where a file is not named.
+Usage: cited_definitions.py    from the top of the repository. Ends with 1 where a file says nothing at its head.
 """
 
 import os
@@ -17,13 +16,11 @@ sys.path.insert(0, os.path.join(os.path.dirname(os.path.abspath(__file__)), ".."
 
 from perfscript import command  # noqa: E402  the package is found only now
 
-PAGE = "docs/DEFINITIONS.md"
 NAME = r"[A-Za-z_][A-Za-z_0-9]*"
 IMPORT = re.compile(rf"ghost use Rattle\.({NAME})\.specs\.([A-Za-z_0-9.]+?)(?:\.\{{([^}}]*)\}}| as ({NAME}));")
 CLAUSE = re.compile(r"\s+(?:requires|ensures|ghost invariant =)\s")
 BLOCK = re.compile(rf"(?:pub )?(?:unsafe )?(?:impl|trait)(?:<.*?>)? (?:{NAME}(?:<.*?>)? for )?&?(?:mut )?({NAME})")
 CALL = re.compile(rf"(\s*)(pub )?(?:const )?fn ({NAME})")
-PATH = re.compile(r"`(crates/[^`:]+?)(?::\d+)?`|`([A-Z][A-Za-z]*\.antt)`")
 
 
 def read(path):
@@ -99,26 +96,38 @@ def cited(crate, names):
     return found
 
 
-def named():
-    """The files and folders that the page names."""
-    found, folder = set(), None
-    for line in read(PAGE).splitlines():
-        for path, last in PATH.findall(line):
-            if path:
-                folder = os.path.dirname(path)
-            found.add(path or f"{folder}/{last}")
-    return found
+def head(text):
+    """The first sentence of the comment at a file's head, after the line that trusted.py writes; empty where none is."""
+    lines = text.splitlines()
+    if lines and lines[0] in ("-- believed", "-- inner"):
+        lines = lines[1:]
+    said = []
+    for line in lines:
+        if not line.startswith("-- "):
+            break
+        said.append(line.removeprefix("-- "))
+    return re.split(r"(?<=\.) (?=[A-Z])", " ".join(said))[0]
+
+
+def all_cited():
+    """The files of definitions that public clauses of any crate cite."""
+    found = set()
+    for crate in os.listdir("crates"):
+        names = handed_out(crate)
+        if names is not None:
+            found |= set(cited(crate, names))
+    return sorted(found)
 
 
 def main():
-    page, missing = named(), {}
-    for crate in sorted(os.listdir("crates")):
-        names = handed_out(crate)
-        if names is not None:
-            missing.update({file: clause for file, clause in cited(crate, names).items() if file not in page and os.path.dirname(file) + "/" not in page})
-    for file, clause in sorted(missing.items()):
-        print(f"{file}, cited by {clause}")
-    return 1 if missing else 0
+    silent = []
+    for path in all_cited():
+        said = head(read(path))
+        print(f"{path}: {said}")
+        silent += [] if said else [path]
+    for path in silent:
+        print(f"{path}: says nothing at its head; write there what it defines, and after what", file=sys.stderr)
+    return 1 if silent else 0
 
 
 if __name__ == "__main__":

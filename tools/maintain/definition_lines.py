@@ -1,5 +1,5 @@
 #!/usr/bin/env python3
-"""Writes into docs/DEFINITIONS.md and docs/RULES.md the line at which each definition and each call stands.
+"""Writes into docs/maintain/DEFINITIONS.md and docs/RULES.md the line at which each definition and each call stands.
 
 The pages name a definition or a call as `NAME`, `crates/FILE:LINE`. This looks the last part of NAME up in FILE and writes
 its line. It is run by hand after definitions moved, from the top of the repository, and says which names it did not find.
@@ -16,7 +16,7 @@ sys.path.insert(0, os.path.join(os.path.dirname(os.path.abspath(__file__)), ".."
 
 from perfscript import Fault, command  # noqa: E402  the package is found only now
 
-PAGES = ("docs/DEFINITIONS.md", "docs/RULES.md")
+PAGES = ("docs/maintain/DEFINITIONS.md", "docs/RULES.md")
 CASES = "crates/worked_cases/data"
 PLACE = re.compile(r"`([^`]+)`, `(crates/[^`:]+):(\d+)`")
 CASE = re.compile(r"\| `([a-z-]+/[a-z0-9-]+)` (?=\|)")

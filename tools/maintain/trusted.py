@@ -1,14 +1,15 @@
 #!/usr/bin/env python3
 """Says which definitions must be believed by a reader of the headline, the contract of `perf_main`.
 
-It walks from the clauses of that call to each definition that they name, and on to those that these name. It prints them in
-an order in which they can be read, each behind those that it names, with the lines that each has.
+It walks from the clauses of that call to each definition that they name, and on to those that these name. It prints
+them in an order in which they can be read, each behind those that it names, with the lines that each has.
 
 Usage: trusted.py [--table | --write | --check]    from the top of the repository
 
---table prints the table of docs/DEFINITIONS.md, a row a file. --write puts it there, between its two marks, and writes the
-first line of each file of definitions: `-- believed` where the headline rests on one of its definitions, else `-- inner`.
---check ends with 1 where the page or a file has another, and names it.
+--table prints the table of docs/maintain/DEFINITIONS.md, a row a file, those to read first in bold. --write puts it
+there, between its two marks, and how many definitions there are into docs/maintain/PROOF.md likewise; and it writes the
+first line of each file of definitions: `-- believed` where the headline rests on one of its definitions, else
+`-- inner`. --check ends with 1 where a page or a file has another, and names it.
 """
 
 import os
@@ -20,10 +21,21 @@ sys.path.insert(0, os.path.join(os.path.dirname(os.path.abspath(__file__)), ".."
 from maintain.specs import Definition, Key, all_definitions, cited, imports_of  # noqa: E402  the package is found only now
 from perfscript import Fault, command  # noqa: E402
 
-PAGE = "docs/DEFINITIONS.md"
+PAGE, COUNT_PAGE = "docs/maintain/DEFINITIONS.md", "docs/maintain/PROOF.md"
 BELIEVED, INNER = "-- believed\n", "-- inner\n"
 MARKS = ("<!-- trusted.py writes from here -->", "<!-- to here -->")
 SOURCE, CALL = "crates/perf_top/src/lib.rt", "perf_main"
+# the files to read first: what the call promises, what is on, what is counted and answered, and which orders there are
+FIRST = {
+    "perf_top": ("Outcome",),
+    "script_spec": ("Texts",),
+    "stage_spec": (
+        *("Order", "Stage", "History", "Effective", "Verdict", "Rules", "Fits", "Settle"),
+        *("Shares", "Families", "Sums", "Reading", "Replies"),
+    ),
+    "report_spec": ("Answers",),
+}
+FIRST_PATHS = {f"crates/{crate}/specs/{name}.antt" for crate, names in FIRST.items() for name in names}
 
 
 def clauses_of(path: str, call: str) -> tuple[str, str]:
@@ -64,16 +76,33 @@ def believed() -> list[Definition]:
     return reached(all_definitions(), cited(clauses, *imports_of(text)))
 
 
-def table(found: list[Definition]) -> str:
-    """A row for each file, in the order in which it is first needed: how many definitions, and how many lines."""
+def by_file(found: list[Definition]) -> dict[str, list[Definition]]:
+    """The definitions of each file, in the order in which the files are first needed."""
     files: dict[str, list[Definition]] = {}
     for it in found:
         files.setdefault(it.path, []).append(it)
-    rows = [
-        f"| `{path}` | {len(some)} | {sum(it.lines for it in some)} |" for path, some in files.items()
-    ]
-    whole = f"{len(found)} definitions, {sum(it.lines for it in found)} lines, in {len(files)} files."
-    return "\n".join([whole, "", "| File | Definitions | Lines |", "|---|---|---|", *rows])
+    return files
+
+
+def counted(found: list[Definition]) -> str:
+    """How many definitions there are, with how many lines, in how many files."""
+    lines = sum(it.lines for it in found)
+    return f"{len(found)} definitions, {lines} lines, in {len(by_file(found))} files"
+
+
+def summary(found: list[Definition]) -> str:
+    """What there is to believe, and what of it to read first."""
+    first = [it for it in found if it.path in FIRST_PATHS]
+    return f"{counted(found)}. In bold, to read first: {counted(first)}."
+
+
+def table(found: list[Definition]) -> str:
+    """A row for each file, in the order in which it is first needed: how many definitions, and how many lines."""
+    rows = []
+    for path, some in by_file(found).items():
+        name = f"**`{path}`**" if path in FIRST_PATHS else f"`{path}`"
+        rows.append(f"| {name} | {len(some)} | {sum(it.lines for it in some)} |")
+    return "\n".join([summary(found), "", "| File | Definitions | Lines |", "|---|---|---|", *rows])
 
 
 def headed(text: str, is_believed: bool) -> str:
@@ -91,13 +120,18 @@ def spec_files() -> list[str]:
     return sorted(found)
 
 
-def with_table(page: str, written: str) -> str:
-    """The page with the table between its marks."""
-    before, first, rest = page.partition(MARKS[0])
+def between_marks(path: str, written: str) -> str:
+    """A page with a text between its marks."""
+    before, first, rest = read(path).partition(MARKS[0])
     _, last, after = rest.partition(MARKS[1])
     if not first or not last:
-        raise Fault(f"{PAGE}: the two marks of trusted.py are not there; put them where the table belongs")
+        raise Fault(f"{path}: the two marks of trusted.py are not there; put them where its text belongs")
     return f"{before}{first}\n{written}\n{last}{after}"
+
+
+def pages(found: list[Definition]) -> dict[str, str]:
+    """Both pages, with what they say of these definitions."""
+    return {PAGE: between_marks(PAGE, table(found)), COUNT_PAGE: between_marks(COUNT_PAGE, summary(found))}
 
 
 def main(*words: str) -> int:
@@ -116,9 +150,10 @@ def main(*words: str) -> int:
         for path, text in wanted.items():
             write(path, text)
         # the lines have moved by the heads
-        write(PAGE, with_table(read(PAGE), table(believed())))
+        for path, text in pages(believed()).items():
+            write(path, text)
         return 0
-    wanted[PAGE] = with_table(read(PAGE), table(found))
+    wanted |= pages(found)
     stale = [path for path, text in wanted.items() if read(path) != text]
     for path in stale:
         print(f"{path}: stale; trusted.py --write brings it up to date", file=sys.stderr)

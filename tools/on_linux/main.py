@@ -122,7 +122,7 @@ def all_of_list(options, program, known):
     run = f"{table.text(found, known)}\n\n{summary}"
     print(f"{run}\n{times}")
     if options.docs:
-        write_docs(program, found, known, run)
+        write_docs(program, found, known, f"{table.page(found, known)}\n\n{summary}")
     return 1 if any(verdict.word == verdicts.UNKNOWN for verdict in found) else 0
 
 

@@ -46,11 +46,16 @@ def documented(found):
 def of_sources(found, known):
     """The rows of docs/LINUX.md that no case has shown: those of sources alone, and those that were seen before."""
     shown = {name for verdict in found for name in verdict.rows}
-    lines = []
-    for head, is_seen in (("known from sources alone", False), ("seen before and not shown by this run", True)):
-        names = [name for name in known if name not in shown and ("seen" in known[name].known_from) == is_seen]
-        lines += wrapped(f"Rows that are {head}: {quoted(names)}.") if names else []
-    return lines
+    names = [name for name in known if name not in shown and "seen" not in known[name].known_from]
+    lines = wrapped(f"Rows that are known from sources alone: {quoted(names)}.") if names else []
+    return lines + not_shown(found, known)
+
+
+def not_shown(found, known):
+    """The rows of docs/LINUX.md that were seen before, and that no case of this run has shown."""
+    shown = {name for verdict in found for name in verdict.rows}
+    names = [name for name in known if name not in shown and "seen" in known[name].known_from]
+    return wrapped(f"Rows that were seen before and that this run does not show: {quoted(names)}.") if names else []
 
 
 def listed(found, word, head):
@@ -71,6 +76,16 @@ def text(found, known):
     parts.append(listed(found, verdicts.NOT_COMPARABLE, "Case that is not comparable"))
     parts.append(listed(found, verdicts.NOT_PERMITTED, "Case that is not permitted"))
     parts.append(listed(found, verdicts.UNKNOWN, "Case that differs, cause not known"))
+    return "\n\n".join("\n".join(part) for part in parts if part)
+
+
+def page(found, known):
+    """What docs/LINUX.md has of a run: how many cases of each group are not the same, and rows not shown again."""
+    lines = [row("Group of cases", "Cases", "Not the same"), row(*["---"] * 3)]
+    for name in [*dict.fromkeys(verdict.case.group for verdict in found), "all"]:
+        own = [verdict for verdict in found if name in (verdict.case.group, "all")]
+        lines.append(row(name, len(own), sum(verdict.word != verdicts.SAME for verdict in own)))
+    parts = [lines, not_shown(found, known)]
     return "\n\n".join("\n".join(part) for part in parts if part)
 
 

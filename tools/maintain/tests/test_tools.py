@@ -9,6 +9,7 @@ import unittest
 TOOLS = os.path.join(os.path.dirname(os.path.abspath(__file__)), "..")
 sys.path.insert(0, TOOLS)
 
+import cited_definitions
 import definition_lines
 import measuring
 import missing_answers
@@ -16,6 +17,22 @@ import replay_benchmark
 import script_terms
 from perfscript import Fault, Script
 from perfscript.limits import MOST_LINES
+
+
+class CitedDefinitions(unittest.TestCase):
+    def test_a_head_is_the_first_sentence_of_a_file(self):
+        text = "-- inner\n-- What a page is, after mmap(2) of\n-- perf_event_open(2). The rest is own.\nuse Rattle\n"
+        self.assertEqual(cited_definitions.head(text), "What a page is, after mmap(2) of perf_event_open(2).")
+
+    def test_a_file_may_say_nothing(self):
+        self.assertEqual(cited_definitions.head("-- believed\nuse Rattle\n"), "")
+
+    def test_each_cited_file_says_what_it_defines(self):
+        top = os.path.abspath(os.path.join(TOOLS, "..", ".."))
+        tool = [sys.executable, os.path.abspath(os.path.join(TOOLS, "cited_definitions.py"))]
+        run = subprocess.run(tool, cwd=top, capture_output=True, text=True)
+        self.assertEqual((run.returncode, run.stderr), (0, ""))
+        self.assertIn("crates/perf_top/specs/Outcome.antt: What a call of the program does and leaves.\n", run.stdout)
 
 
 class DefinitionLines(unittest.TestCase):

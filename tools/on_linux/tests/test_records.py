@@ -103,6 +103,13 @@ class Tables(unittest.TestCase):
             ),
         )
 
+    def test_page(self):
+        head = "| Group of cases | Cases | Not the same |\n| --- | --- | --- |\n"
+        rows = "| g | 2 | 1 |\n| h | 1 | 1 |\n| all | 3 | 2 |"
+        self.assertEqual(table.page(self.found, self.known), head + rows)
+        seen = "Rows that were seen before and that this run does not show: `here`."
+        self.assertEqual(table.page([], self.known), f"{head}| all | 0 | 0 |\n\n{seen}")
+
     def test_column_of_rules(self):
         cells = table.of_rules(self.found, self.known, ["rule", "other", "third"], "6.18.44")
         self.assertEqual(
