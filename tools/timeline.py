@@ -15,12 +15,15 @@ below. At the end of a row stands its sum. The program is asked: a tool of its o
 with lines `seats` and `why` before each work line. Nothing is scheduled here.
 """
 
+from __future__ import annotations
+
 import sys
 import textwrap
+from collections.abc import Sequence
 from html import escape
 from typing import NamedTuple
 
-from perfscript import Draft, Fault, Line, Script, command, program_at
+from perfscript import Draft, Fault, Key, Line, Program, Report, Script, command, program_at
 from perfscript.limits import MOST_LINES, MOST_TOOLS
 from perfscript.names import CAUSES
 
@@ -47,17 +50,17 @@ class Stretch(NamedTuple):
     cpu: int
     start: int
     stop: int
-    seats: dict
-    refused: dict
+    seats: dict[int, int]
+    refused: dict[int, str]
 
     @property
-    def when(self):
+    def when(self) -> str:
         return f"{self.start:,} to {self.stop:,}"
 
 
-def with_questions(script):
+def with_questions(script: Script) -> tuple[Draft, dict[int, list[Key]]]:
     """A draft in which a further tool asks before each stretch of work, and the questions before each of these acts."""
-    draft, opened, asked = Draft.of(script), set(), {}
+    draft, opened, asked = Draft.of(script), set[int](), dict[int, list[Key]]()
     free = [f"t{number}" for number in reversed(range(MOST_TOOLS)) if f"t{number}" not in script.lines]
     if not free:
         raise Fault("all four tools have lines; a picture needs one that has none")
@@ -74,9 +77,10 @@ def with_questions(script):
     return draft, asked
 
 
-def stretches(script, draft, asked, report):
+def stretches(script: Script, draft: Draft, asked: dict[int, list[Key]], report: Report) -> list[Stretch]:
     """The stretches of work, as the report of the draft answers."""
-    clock, tasks, places, found = {}, {}, {}, []
+    clock, tasks, found = dict[str, int](), dict[str, str](), list[Stretch]()
+    places: dict[int, dict[str, str]] = {}
     for number, line in enumerate(script.acts()):
         if not isinstance(line, Line):
             continue
@@ -88,7 +92,7 @@ def stretches(script, draft, asked, report):
         if line.head == "work":
             start = clock.get(line.actor, 0)
             clock[line.actor] = start + int(line.words[0])
-            seats, refused = {}, {}
+            seats, refused = dict[int, int](), dict[int, str]()
             for actor, place in asked[number]:
                 words = report.replies[actor, place].words if (actor, place) in report.replies else []
                 head, target = draft.lines[actor][place].split(" ")
@@ -100,19 +104,19 @@ def stretches(script, draft, asked, report):
     return found
 
 
-def is_here(place, line, tasks):
+def is_here(place: dict[str, str], line: Line, tasks: dict[str, str]) -> bool:
     """Whether an event counts on the processor of a line: what its processor does, or the task that is there."""
     if place.get("task") == "all":
         return "p" + place["cpu"] == line.actor
     return place.get("task") == tasks.get(line.actor)
 
 
-def listed(words):
+def listed(words: list[str]) -> str:
     """Names in a sentence: `0`, `0 and 1`, or `0, 1 and 2`."""
     return words[0] if len(words) == 1 else ", ".join(words[:-1]) + " and " + words[-1]
 
 
-def in_words(cause):
+def in_words(cause: str) -> str:
     """A cause, as `why` answers it, in words."""
     word, *named = cause.split(" ")
     if word == "error":
@@ -133,30 +137,30 @@ class Labels:
 
     left = LEFT
 
-    def __init__(self, script):
-        self.kinds = {}
+    def __init__(self, script: Script) -> None:
+        self.kinds: dict[int, str] = {}
         for line in script.all_lines():
             if line.head == "open":
                 self.kinds.setdefault(line.slot(), line.given().get("kind", "attr"))
         self.left = max([LEFT, *(12 + LETTER * len(self.title(event)) for event in self.kinds)])
 
-    def event(self, event):
+    def event(self, event: int) -> str:
         return f"{event} {self.kinds.get(event, '')}"
 
-    def title(self, event):
+    def title(self, event: int) -> str:
         return f"event {self.event(event)}"
 
-    def counter(self, cpu, counter):
+    def counter(self, cpu: int, counter: int) -> str:
         return f"processor {cpu}, counter {counter}"
 
-    def cause(self, cause):
+    def cause(self, cause: str) -> str:
         return in_words(cause)
 
-    def brief(self, cause):
+    def brief(self, cause: str) -> str:
         """A cause in two words."""
         return BRIEF[cause.split(" ")[0]]
 
-    def share(self, part, whole):
+    def share(self, part: int, whole: int) -> str:
         """A share as `stat` prints it, cut behind two digits."""
         hundredths = 10000 * part // whole if whole else 0
         return f"{hundredths // 100}.{hundredths % 100:02}%"
@@ -165,16 +169,18 @@ class Labels:
 class Picture:
     """Rows of bars, and the causes that have no room in them."""
 
-    def __init__(self, labels, found):
+    def __init__(self, labels: Labels, found: list[Stretch]) -> None:
         self.labels, self.found = labels, found
         end = max([one.stop for one in found], default=1) or 1
-        self.end, self.scale, self.y, self.parts, self.causes = end, WIDTH / end, TOP, [], {}
+        self.end, self.scale, self.y = end, WIDTH / end, TOP
+        self.parts: list[str] = []
+        self.causes: dict[tuple[str, str], list[Stretch]] = {}
         self.width = labels.left + WIDTH + 20 + LETTER * len(self.sums(end, end))
 
-    def has_room(self, one, text):
+    def has_room(self, one: Stretch, text: str) -> bool:
         return (one.stop - one.start) * self.scale > LETTER * len(text) + 6
 
-    def bar(self, one, color, texts, title, ink="#fff"):
+    def bar(self, one: Stretch, color: str, texts: list[str], title: str, ink: str = "#fff") -> str:
         """The bar of a stretch, with the first of some texts that has room there."""
         x, width = self.labels.left + one.start * self.scale, (one.stop - one.start) * self.scale
         shown = next((text for text in texts if self.has_room(one, text)), "")
@@ -183,16 +189,16 @@ class Picture:
         drawn = f'<title>{escape(title)}</title><rect x="{x:.1f}" y="{self.y + 2}" {size} fill="{color}"/>'
         return f"<g>{drawn}{label}</g>"
 
-    def sums(self, part, whole):
+    def sums(self, part: int, whole: int) -> str:
         return f"{part:,} of {whole:,}: {self.labels.share(part, whole)}"
 
-    def row(self, name, bars, part, whole):
+    def row(self, name: str, bars: list[str], part: int, whole: int) -> None:
         """A row: its name, its bars, and at its end its sum."""
         total = f'<text x="{self.labels.left + WIDTH + 10}" y="{self.y + 15}">{self.sums(part, whole)}</text>'
         self.parts += [f'<text x="6" y="{self.y + 15}">{escape(name)}</text>', *bars, total]
         self.y += ROW
 
-    def counter(self, here, cpu, counter):
+    def counter(self, here: list[Stretch], cpu: int, counter: int) -> None:
         """A counter's row: a bar for each stretch in which an event was on it."""
         bars, labels = [], self.labels
         held = [one for one in here if counter in one.seats]
@@ -202,7 +208,7 @@ class Picture:
             bars.append(self.bar(one, color, [labels.event(event)], title))
         self.row(labels.counter(cpu, counter), bars, length_of(held), length_of(here))
 
-    def event(self, here, event):
+    def event(self, here: list[Stretch], event: int) -> None:
         """An event's row: its colour where it was on, grey with the cause where it was refused."""
         bars, title = [], self.labels.title(event)
         on = [one for one in here if event in one.seats.values()]
@@ -219,7 +225,7 @@ class Picture:
             bars.append(self.bar(one, GREY, texts, f"{title}: {cause}, {one.when}", INK))
         self.row(title, bars, length_of(on), length_of(on) + length_of(refused))
 
-    def list_of_causes(self):
+    def list_of_causes(self) -> None:
         """The causes that have no room in their bars, each with the stretches in which it held."""
         for number, ((title, cause), where) in enumerate(self.causes.items(), 1):
             named = [f"processor {one.cpu}, {one.when}" for one in where[:MOST_NAMED]]
@@ -229,7 +235,7 @@ class Picture:
                 self.parts.append(f'<text x="6" y="{self.y + 15}" xml:space="preserve">{escape(line)}</text>')
                 self.y += ROW - 4
 
-    def axis(self):
+    def axis(self) -> list[str]:
         """The lines and numbers of the axis, with its unit."""
         left = self.labels.left
         marks = [left + WIDTH * i // 4 for i in range(5)]
@@ -239,7 +245,7 @@ class Picture:
         of_sums = f'<text x="{left + WIDTH + 10}" y="18">time on, of the whole</text>'
         return [*lines, *numbers, f'<text x="{left}" y="18">{UNIT}</text>', of_sums]
 
-    def text(self, counters):
+    def text(self, counters: dict[int, int]) -> str:
         """The picture. `counters`: how many each processor has."""
         for cpu, count in counters.items():
             here = [one for one in self.found if one.cpu == cpu]
@@ -259,12 +265,12 @@ class Picture:
         return "\n".join([f'<svg xmlns="http://www.w3.org/2000/svg" {size}>', *parts, "</svg>"]) + "\n"
 
 
-def length_of(found):
+def length_of(found: list[Stretch]) -> int:
     """The time of some stretches together."""
     return sum(one.stop - one.start for one in found)
 
 
-def picture_of(program, script, labels=None):
+def picture_of(program: Program, script: Script, labels: Labels | None = None) -> str:
     """The picture of a script, as the program answers the questions that are added to it."""
     draft, asked = with_questions(script)
     found = stretches(script, draft, asked, program.report(draft.text()))
@@ -272,13 +278,13 @@ def picture_of(program, script, labels=None):
     return Picture(labels or Labels(script), found).text(counters)
 
 
-def main(words=None):
-    parser = command.Parser("timeline.py", __doc__)
+def main(words: Sequence[str] | None = None) -> int:
+    parser = command.Parser("timeline.py", __doc__ or "")
     parser.add_argument("built", metavar="PROGRAM", nargs="?")
     parser.add_argument("script", metavar="SCRIPT")
     options = parser.parse_args(words)
 
-    def draw():
+    def draw() -> int:
         text, program = command.text_of(options.script), program_at(options.program or options.built)
         program.report(text)
         print(picture_of(program, Script(text)), end="")

@@ -35,6 +35,7 @@ class Broker:
     def __init__(self, scenario: Scenario, program: Program, is_real: bool = False, is_verbose: bool = False) -> None:
         self.scenario, self.program, self.is_verbose = scenario, program, is_verbose
         self.make_back_end: Callable[[], BackEnd] = lambda: Replay(program)
+        self.make_session: Callable[[Scenario, BackEnd, Callable[[str], None], int], Session] = Session
         self.translator = Translator(scenario, program, self.note)
         self.clock, self.quiet, self.tree = Clock(is_real), Quiet(), Tree()
         self.session: Session | None = None
@@ -134,7 +135,7 @@ class Broker:
 
     def open_session(self) -> Session:
         if self.session is None:
-            self.session = Session(self.scenario, self.make_back_end(), self.say, len(self.sessions))
+            self.session = self.make_session(self.scenario, self.make_back_end(), self.say, len(self.sessions))
             self.sessions.append(self.session)
             self.session.since = self.clock.now
             self.do("@start", None)

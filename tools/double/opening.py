@@ -44,7 +44,7 @@ def open_event(broker: Broker, call: Call) -> None:
         broker.record(sent)
         broker.note(f"perf_event_open of {attribute.name} is refused: {refusal.why}")
         raise
-    sent.key, sent.result = session.last_key(), number
+    sent.key, sent.slot, sent.result = event.key, event.slot, number
     broker.record(sent)
     process.files.put(number, event, bool(flags & n.FD_CLOEXEC))
     hand_over(broker, call, event, process, number, bool(flags & n.FD_CLOEXEC))

@@ -31,7 +31,7 @@ class Refusal(Exception):
 
 @dataclass(eq=False)
 class Event:
-    """An open event: its slot, what was asked for, and the file that its descriptors lead to."""
+    """An open event: its slot, what was asked for, the file that its descriptors lead to, and the line of its open."""
 
     session: Session
     slot: int
@@ -44,6 +44,7 @@ class Event:
     ring: MappedRing | None = None
     exec_tid: int | None = None
     counted: set[int] = field(default_factory=set)
+    key: Key | None = None
 
     @property
     def hangs_up(self) -> bool:
@@ -222,10 +223,11 @@ class Session:
         slot, group = self.next_slot, leader.slot if isinstance(leader, Event) else leader
         words = [f"open {slot} attr={attribute.sent.hex()}", f"task={'all' if task is None else task}",
                  f"cpu={'any' if cpu < 0 else cpu}", *([] if group is None else [f"leader={group}"])]
-        self.call(" ".join(words))
+        key, _ = self.call(" ".join(words))
         self.next_slot += 1
         file = os.memfd_create("double-event")
-        event = Event(self, slot, attribute, task, group, file, counted=set() if task is None else {task})
+        counted = set() if task is None else {task}
+        event = Event(self, slot, attribute, task, group, file, counted=counted, key=key)
         self.events[slot] = self.all_events[slot] = event
         if attribute.is_enabled_on_exec and tid is not None:
             event.exec_tid = tid

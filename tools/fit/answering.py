@@ -3,10 +3,11 @@
 from __future__ import annotations
 
 from dataclasses import dataclass
-from typing import Any
 
 from fit.findings import Finding, judged_twice, started
 from fit.plan import Plan, Reason, split, without
+from fit.script import Script
+from perfscript import Program
 
 
 @dataclass(frozen=True)
@@ -15,10 +16,10 @@ class Answer:
 
     plan: Plan
     findings: list[Finding]
-    script: Any
+    script: Script | None
 
 
-def answer_to(program: Any, plan: Plan) -> Answer:
+def answer_to(program: Program, plan: Plan) -> Answer:
     """Asks until no weak group is left that has to be taken apart, and no pair of which one counter alone was found."""
     while True:
         found, script = asked(program, plan)
@@ -32,7 +33,7 @@ def answer_to(program: Any, plan: Plan) -> Answer:
         plan = split(plan, weak)
 
 
-def asked(program: Any, plan: Plan) -> tuple[list[Finding], Any]:
+def asked(program: Program, plan: Plan) -> tuple[list[Finding], Script | None]:
     if not plan.asked:
         return [], None
     [(found, script)] = judged_twice(program, plan, [plan.asked])

@@ -1,30 +1,39 @@
 """The command line: reads the words, asks the program, prints, and says by the exit status whether all is counted."""
 
+from __future__ import annotations
+
+import argparse
 import sys
+from collections.abc import Sequence
 
 from fit import machines as kinds_of_core
 from fit import runs, table
 from fit.answering import answer_to
 from fit.default_events import default_lists, detail_lists
-from fit.drawing import picture_of
 from fit.events import read_lists
 from fit.faults import BadInput, ProgramFault
 from fit.hints import hints_of
 from fit.listing import listing
+from fit.machines import Machine
 from fit.meanings import Meanings
+from fit.outputs import draw
 from fit.plan import plan_of
-from fit.script import scripts_of
 from perfscript import command, program_at
 
 FITS, FAILS, NO_ANSWER = 0, 1, 3
-ABOUT = "Says whether the events of a `perf stat -e` list fit on the counters of a machine, what each gets, and why."
+ABOUT = """Says whether the events of `perf stat` fit on the counters of a machine, what each gets, and why.
+
+Usage: fit.py -m MACHINE -e LIST [options]
+       fit.py -m MACHINE [options] -- perf stat OPTIONS [COMMAND]
+
+The second form runs the perf that is here as if it were on that machine."""
 STATUS = """\
 exit status: 0 all groups are counted, all the time or in turns; 1 a group is refused at open or never on;
 2 the input is refused or the program can't be used; 3 a group is beyond the program, or its answers contradict
-each other"""
+each other. With `-- perf stat ..` perf's own; 2 and 3 as above, and 77 where perf can't be run in the double"""
 
 
-def parser():
+def parser() -> command.Parser:
     """The options."""
     made = command.Parser("fit.py", ABOUT, epilog=STATUS)
     add = made.add_argument
@@ -51,7 +60,7 @@ def parser():
     return made
 
 
-def machines_of(options):
+def machines_of(options: argparse.Namespace) -> tuple[list[Machine], tuple[int, ...]]:
     """The machines that the options give, and the processors that `-C` or `-a` names."""
     if bool(options.machines) == (options.counters is not None):
         raise BadInput("give a machine by -m, or its counters by --counters; --list says which machines there are")
@@ -67,19 +76,10 @@ def machines_of(options):
     return found, wanted
 
 
-def write(path, text, option):
-    """Writes a file that an option names."""
-    try:
-        with open(path, "w", encoding="utf-8", errors="backslashreplace") as file:
-            file.write(text)
-    except OSError as fault:
-        raise BadInput(f"{option}: {path} can't be written: {fault.strerror}") from None
-
-
-def answer(options):
+def answer(options: argparse.Namespace) -> int:
     """Asks the program, prints, and answers the exit status."""
     machines, processors = machines_of(options)
-    with Meanings(options.sampling) as meanings:
+    with Meanings(options.sampling, options.watchdog) as meanings:
         lists = [*options.lists, *meanings.metric_lists(options.metrics, machines)]
         typed = read_lists([*(lists or default_lists(machines)), *detail_lists(options.details)])
         plan = plan_of(typed, machines, processors, options.watchdog, meanings)
@@ -100,20 +100,14 @@ def answer(options):
     return FAILS if any(finding.fails for finding in found.findings) else FITS
 
 
-def draw(options, program, plan, script):
-    """Writes the files that `--script` and `--svg` name."""
-    if script is None and (options.script is not None or options.svg is not None):
-        raise BadInput("--script, --svg: Linux refuses each open, so nothing is asked")
-    if options.script is not None:
-        write(options.script, script.text(), "--script")
-    if options.svg is not None:
-        [(unasked, _)] = scripts_of(plan, [plan.asked], asks=False)
-        write(options.svg, picture_of(program, unasked), "--svg")
-
-
-def done(options):
-    """Does what the options say. Answers the exit status."""
+def done(options: argparse.Namespace, behind: Sequence[str] | None) -> int:
+    """Does what the options say, with perf's words behind them, if there are any. Answers the exit status."""
     try:
+        if behind is not None:
+            # the double, which this form alone needs
+            from fit import with_perf
+
+            return with_perf.answer(options, behind)
         if not options.list:
             return answer(options)
         found = machines_of(options)[0] if options.machines or options.counters is not None else None
@@ -124,7 +118,9 @@ def done(options):
         return NO_ANSWER
 
 
-def main(words=None):
+def main(words: Sequence[str] | None = None) -> int:
     """Does what the words say. Answers the exit status."""
-    options = parser().parse_args(words)
-    return command.ended("fit.py", lambda: done(options))
+    own = list(sys.argv[1:] if words is None else words)
+    behind = own[own.index("--") + 1 :] if "--" in own else None
+    options = parser().parse_args(own if behind is None else own[: own.index("--")])
+    return command.ended("fit.py", lambda: done(options, behind))

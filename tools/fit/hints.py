@@ -102,9 +102,10 @@ def force_abort(answer: Answer) -> list[str]:
 def on_together(answer: Answer) -> list[list[Member]]:
     """What was on together on a kind of core, each set once."""
     found = []
-    for context in answer.script.contexts if answer.script else ():
+    script = answer.script
+    for context in script.contexts if script else ():
         for slots in sorted(context.on):
-            members = [answer.script.slots[slot] for slot in slots]
+            members = [script.slots[slot] for slot in slots] if script else []
             for machine in dict.fromkeys(member.machine for member in members if member.machine):
                 found.append([member for member in members if member.machine is machine])
     return found

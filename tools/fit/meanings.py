@@ -45,8 +45,8 @@ NOTHING = Need(is_core=False)
 class Meanings:
     """Answers what events need. Names that a file does not have are looked up in perf's tables, where perf is."""
 
-    def __init__(self, sampling: bool = False) -> None:
-        self.sampling = sampling
+    def __init__(self, sampling: bool = False, has_watchdog: bool = False) -> None:
+        self.sampling, self.has_watchdog = sampling, has_watchdog
         self.stack = ExitStack()
         self.tables: dict[str, perf_tables.Tables] = {}
         self.asked: set[str] = set()
@@ -68,14 +68,14 @@ class Meanings:
         config, config1, refused = self.config(event, machine)
         if refused:
             return Need(refused=refused)
-        return self.need_of_config(config, config1, event, machine, modifiers)
-
-    def need_of_config(self, config: int, config1: int, event: Typed, machine: Machine, modifiers: str) -> Need:
-        """What a config needs."""
         letters = event.modifiers + modifiers
         precise = letters.count("p")
         if self.sampling and "P" in letters:
             precise = machine.precise or 0
+        return self.need_of_config(config, config1, precise, machine)
+
+    def need_of_config(self, config: int, config1: int, precise: int, machine: Machine) -> Need:
+        """What a config needs whose samples have to be this precise, 0 to 3."""
         if precise and machine.precise is not None:
             reason = self.refused_precise(precise, config, machine)
             if reason is None:
@@ -138,20 +138,7 @@ class Meanings:
 
     def config_of_number(self, event: Typed, machine: Machine) -> tuple[int, int, str]:
         """The config of TYPE:CONFIG for the types of a core: hardware, cache and raw."""
-        kind, config = int(event.pmu, 0), int(event.name.split(":")[1], 0)
-        name: str | None = None
-        if kind == RAW_TYPE:
-            return config, 0, ""
-        if kind == HARDWARE_TYPE and config < len(HARDWARE):
-            name = HARDWARE[config]
-            if name in machine.hardware:
-                return machine.hardware[name], 0, ""
-        cache, operation, result = config & 0xFF, config >> 8 & 0xFF, config >> 16
-        if kind == CACHE_TYPE and cache < len(NUMBERED_CACHES) and operation < 3 and result < 2:
-            name = numbered_cache(NUMBERED_CACHES[cache], operation, result)
-            if name in machine.cache:
-                return (*machine.cache[name], "")
-        return 0, 0, f"Linux has no event {event.name} on {machine.name}"
+        return config_of_type(int(event.pmu, 0), int(event.name.split(":")[1], 0), 0, machine, event.name)
 
     def config_of_terms(self, event: Typed, machine: Machine, text: str | None = None) -> tuple[int, int] | None:
         """The config that terms give, none where one of them is a name that only perf may know."""
@@ -208,7 +195,7 @@ class Meanings:
 
     def tables_of(self, machine: Machine) -> perf_tables.Tables:
         if machine.name not in self.tables:
-            self.tables[machine.name] = self.stack.enter_context(perf_tables.Tables(machine))
+            self.tables[machine.name] = self.stack.enter_context(perf_tables.Tables(machine, self.has_watchdog))
         return self.tables[machine.name]
 
     def unknown(self, event: Typed, machine: Machine) -> BadInput:
@@ -228,6 +215,20 @@ class Meanings:
             return event.refuse(f"{name!r} is no name in the file of {machine.name}, and {why}; {code}")
         version = perf_tables.version_of(path)
         return event.refuse(f"perf {version} knows no event {name!r} on {machine.name} ({machine.identity}); {code}")
+
+
+def config_of_type(kind: int, config: int, config1: int, machine: Machine, text: str) -> tuple[int, int, str]:
+    """The config and the config1 of an attribute of a core's type, and why Linux refuses it: `text` is its name."""
+    if kind == RAW_TYPE:
+        return config, config1, ""
+    if kind == HARDWARE_TYPE and config < len(HARDWARE) and HARDWARE[config] in machine.hardware:
+        return machine.hardware[HARDWARE[config]], 0, ""
+    cache, operation, result = config & 0xFF, config >> 8 & 0xFF, config >> 16
+    if kind == CACHE_TYPE and cache < len(NUMBERED_CACHES) and operation < 3 and result < 2:
+        name = numbered_cache(NUMBERED_CACHES[cache], operation, result)
+        if name in machine.cache:
+            return (*machine.cache[name], "")
+    return 0, 0, f"Linux has no event {text} on {machine.name}"
 
 
 def terms_of_name(name: str, machine: Machine) -> str:

@@ -10,16 +10,15 @@ import os
 import re
 import shutil
 import subprocess
-import tempfile
 from functools import cache
 from typing import NamedTuple
 
 from fit.events import HARDWARE, SAME_AS
 from fit.faults import BadInput
 from fit.machines import Machine
+from fit.stand_in import StandIn
 
 SECONDS = 60
-SYSFS_NAMES = {"cycles": "cpu-cycles", "branches": "branch-instructions"}
 
 
 class Attribute(NamedTuple):
@@ -54,82 +53,19 @@ def has_tables(machine: Machine) -> bool:
     return bool(machine.identity) and is_arm == (os.uname().machine in ("aarch64", "arm64"))
 
 
-def sysfs_files(machine: Machine) -> dict[str, str]:
-    """The files of the machine's PMU below /sys/bus/event_source/devices."""
-    files = {"type": "4"}
-    for name, (where, bits) in machine.terms.items():
-        files[f"format/{name}"] = f"{where}:{spans(bits)}"
-    terms = {name: bits for name, (where, bits) in machine.terms.items() if where == "config"}
-    for name, config in machine.hardware.items():
-        words = []
-        for term, bits in terms.items():
-            value = sum(1 << at for at, place in enumerate(bits) if config >> place & 1)
-            if value or term in ("event", "umask"):
-                words.append(f"{term}={value:#04x}")
-        files[f"events/{SYSFS_NAMES.get(name, name)}"] = ",".join(words)
-    for name, text in machine.names.items():
-        if "." not in name:
-            files[f"events/{name}"] = text
-    if machine.pmu.startswith("cpu_"):
-        files["cpus"] = "0"
-    return files
-
-
-def spans(bits: tuple[int, ...]) -> str:
-    """Bits as a format has them: `0-7,32-35`."""
-    parts: list[list[int]] = []
-    for bit in bits:
-        if parts and parts[-1][1] == bit - 1:
-            parts[-1][1] = bit
-        else:
-            parts.append([bit, bit])
-    return ",".join(str(first) if first == last else f"{first}-{last}" for first, last in parts)
-
-
-class Tables:
+class Tables(StandIn):
     """perf's tables of one machine. The stand-in is there as long as this is used with `with`."""
 
-    def __init__(self, machine: Machine) -> None:
-        self.machine = machine
-        self.folder = tempfile.TemporaryDirectory(prefix="fit-sys-")
+    def __init__(self, machine: Machine, has_watchdog: bool = False) -> None:
+        super().__init__(machine, has_watchdog)
         self.found: dict[str, list[Attribute] | None] = {}
 
     def __enter__(self) -> Tables:
-        self.write_topology()
-        self.write(self.machine.pmu, sysfs_files(self.machine))
-        if self.machine.pmu.startswith("cpu_"):
-            other = "cpu_atom" if self.machine.pmu == "cpu_core" else "cpu_core"
-            self.write(other, {"type": "10", "cpus": "1", "format/event": "config:0-7"})
+        self.make()
         return self
 
     def __exit__(self, *_: object) -> None:
-        self.folder.cleanup()
-
-    def write_topology(self) -> None:
-        """Two processors, which are the threads of one core, or two cores."""
-        threads = "0" if self.machine.is_alone else "0-1"
-        files = dict.fromkeys(("possible", "present", "online"), "0-1")
-        files["smt/active"] = str(int(not self.machine.is_alone))
-        for cpu in ("0", "1"):
-            own = cpu if self.machine.is_alone else threads
-            for name in ("core_cpus_list", "thread_siblings_list"):
-                files[f"cpu{cpu}/topology/{name}"] = own
-            for name in ("die_cpus_list", "package_cpus_list", "core_siblings_list"):
-                files[f"cpu{cpu}/topology/{name}"] = "0-1"
-            files |= {f"cpu{cpu}/topology/physical_package_id": "0", f"cpu{cpu}/topology/die_id": "0"}
-            files[f"cpu{cpu}/topology/core_id"] = cpu if self.machine.is_alone else "0"
-        self.write_below(("devices", "system", "cpu"), files)
-
-    def write(self, pmu: str, files: dict[str, str]) -> None:
-        self.write_below(("bus", "event_source", "devices", pmu), files)
-
-    def write_below(self, folders: tuple[str, ...], files: dict[str, str]) -> None:
-        root = os.path.join(self.folder.name, *folders)
-        for name, text in files.items():
-            path = os.path.join(root, name)
-            os.makedirs(os.path.dirname(path), exist_ok=True)
-            with open(path, "w", encoding="utf-8") as file:
-                file.write(text + "\n")
+        self.close()
 
     def attributes(self, text: str) -> list[Attribute] | None:
         """What each event of this text asks for, none where perf refuses the text."""
@@ -159,9 +95,9 @@ class Tables:
     def said(self, words: list[str]) -> tuple[str, str]:
         """What perf prints for these words, on both of its outputs; nothing where it is not there."""
         path = perf_path()
-        env = os.environ | {"SYSFS_PATH": self.folder.name, "PERF_CPUID": self.machine.identity, "LC_ALL": "C"}
         try:
-            how = {"capture_output": True, "text": True, "errors": "replace", "env": env, "timeout": SECONDS}
+            how = {"capture_output": True, "text": True, "errors": "replace", "timeout": SECONDS}
+            how["env"] = self.environment
             done = subprocess.run([path or "perf", *words], **how)  # type: ignore[call-overload]
         except (OSError, subprocess.TimeoutExpired):
             return "", ""

@@ -29,7 +29,8 @@ class Reason:
 @dataclass(frozen=True)
 class Event:
     """An event of a group. `machine` is the kind of core that counts it, none where no core's counter does; `kind` is
-    what it counts there for the program. `refused` says why its open is refused whatever else is on."""
+    what it counts there for the program. `refused` says why its open is refused whatever else is on. `number` is its
+    place among all events of perf, where perf itself opened it."""
 
     name: str
     kind: str
@@ -37,7 +38,7 @@ class Event:
     flags: tuple[str, ...]
     need: Need = NOTHING
     refused: Reason | None = None
-    typed: Typed | None = None
+    number: int = -1
 
     @property
     def mask(self) -> int:
@@ -66,7 +67,8 @@ class Member:
 
 @dataclass(frozen=True)
 class Group:
-    """A leader and its siblings. It is numbered by its place in the list, from 1."""
+    """A leader and its siblings. It is numbered by its place in the list, from 1. `beyond` says why the program can't
+    be asked, where its number of members is not why."""
 
     number: int
     text: str
@@ -74,7 +76,7 @@ class Group:
     is_pinned: bool
     is_exclusive: bool
     is_weak: bool = False
-    note: str = ""
+    beyond: str = ""
 
     @property
     def machine(self) -> Machine | None:
@@ -115,8 +117,8 @@ class Group:
 
     @property
     def is_beyond(self) -> bool:
-        """Whether it has more members than the program takes."""
-        return len(self.members) > MOST_MEMBERS
+        """Whether the program can't be asked, as where it has too many members."""
+        return bool(self.beyond) or len(self.members) > MOST_MEMBERS
 
     @property
     def is_asked(self) -> bool:
@@ -236,7 +238,7 @@ class Planning:
         flags += ["exclude_user"] * leaves_user + ["exclude_kernel"] * leaves_kernel
         refused = None if is_leader else refused_sibling(event)
         if event.needs_no_counter:
-            return Event(shown(event.text), event.kind, None, tuple(flags), NOTHING, refused, event)
+            return Event(shown(event.text), event.kind, None, tuple(flags), NOTHING, refused)
         own = machine_called(event, self.machines) if event.form == "slashed" else machine
         assert own
         need = self.meanings.need(event, own, typed.modifiers)
@@ -245,7 +247,7 @@ class Planning:
         name = shown(event.text)
         if len(self.machines) > 1 and event.form != "slashed":
             name = f"{own.pmu}/{event.name}/{event.modifiers}"
-        return Event(name, event.kind, own if need.is_core else None, tuple(flags), need, refused, event)
+        return Event(name, event.kind, own if need.is_core else None, tuple(flags), need, refused)
 
 
 def shown(text: str) -> str:
@@ -310,22 +312,25 @@ def refused_sibling(event: Typed) -> Reason | None:
 
 
 def with_rules(events: list[Event]) -> list[Event]:
-    """The events with what Linux refuses for the sake of the group: what is read out of the slots' register needs slots
-    as its leader, and stands once."""
-    seen: set[int] = set()
-    found = []
+    """The events with what Linux refuses for the sake of the group."""
+    found: list[Event] = []
     for event in events:
-        metric = event.need.counters.metric if event.machine else None
-        if metric is not None and not event.refused:
-            reason = ""
-            if not events[0].need.is_slots or event is events[0]:
-                reason = f"{event.name} is a part of slots, so its group has to begin with slots"
-            elif metric in seen:
-                reason = f"{event.name} stands in its group twice, and slots has one value for it"
-            seen.add(metric)
+        if event.machine and event.need.counters.metric is not None and not event.refused:
+            leader = events[0].need if event is not events[0] else None
+            reason = refused_part(event.name, event.need, leader, [other.need for other in found])
             event = replace(event, refused=Reason("linux", (), reason)) if reason else event
         found.append(event)
     return found
+
+
+def refused_part(name: str, need: Need, leader: Need | None, others: Sequence[Need]) -> str:
+    """Why Linux refuses an event that is read out of the slots' register, empty where it does not: slots has to be its
+    leader, and none of the others in the group may be the same part."""
+    if leader is None or not leader.is_slots:
+        return f"{name} is a part of slots, so its group has to begin with slots"
+    if any(other.counters.metric == need.counters.metric for other in others):
+        return f"{name} stands in its group twice, and slots has one value for it"
+    return ""
 
 
 def without(plan: Plan, refused: Mapping[tuple[int, int], Reason]) -> Plan:

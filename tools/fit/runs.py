@@ -1,24 +1,32 @@
 """Spreads the groups of a list over several runs, in each of which every group is on all the time."""
 
-from dataclasses import dataclass
+from __future__ import annotations
 
-from fit.findings import judged, started
+from collections.abc import Mapping, Sequence
+from dataclasses import dataclass
+from typing import Any, TypeAlias
+
+from fit.findings import Finding, judged, started
+from fit.plan import Group, Plan
+from perfscript import Program
 
 MOST_FOR_ALL = 8
+# runs, each of some groups
+Spread: TypeAlias = tuple[tuple[Group, ...], ...]
 
 
 @dataclass(frozen=True)
 class Runs:
     """The runs that first fit found, a shorter list where there is one, and the groups left out, with their causes."""
 
-    runs: tuple
-    fewer: tuple
-    left_out: tuple
+    runs: Spread
+    fewer: Spread
+    left_out: tuple[tuple[Group, str], ...]
     tried_all: bool
     tries: int
 
 
-def runs_of(program, plan):
+def runs_of(program: Program, plan: Plan) -> Runs:
     """First fit by order. At most eight groups are tried in all subsets, and then in all partitions."""
     not_asked = [started(group) for group in plan.groups if not group.is_asked]
     alone = judged(program, plan, [[group] for group in plan.asked]) + [[finding] for finding in not_asked]
@@ -26,8 +34,8 @@ def runs_of(program, plan):
     groups = [found[0].group for found in alone if is_whole(found[0])]
     tries = len(plan.asked)
     if not groups or len(groups) > MOST_FOR_ALL:
-        runs, more = first_fit_by_asking(program, plan, groups)
-        return Runs(runs, (), left_out, not groups, tries + more)
+        spread, more = first_fit_by_asking(program, plan, groups)
+        return Runs(spread, (), left_out, not groups, tries + more)
     masks = [mask for mask in range(1, 1 << len(groups)) if mask & (mask - 1)]
     subsets = [members(groups, mask) for mask in masks]
     verdicts = [all(finding.is_whole for finding in found) for found in judged(program, plan, subsets)]
@@ -38,29 +46,30 @@ def runs_of(program, plan):
     return Runs(as_groups(groups, runs), as_groups(groups, fewer), left_out, True, tries + len(masks))
 
 
-def is_whole(finding):
+def is_whole(finding: Finding) -> bool:
     return finding.group.is_asked and finding.is_whole
 
 
-def why_not(finding):
+def why_not(finding: Finding) -> str:
     """Why a group can't be on even alone."""
     if finding.group.is_beyond:
         return "it is beyond this program"
     reasons = finding.refused.values() or [finding.reason]
-    return "; ".join(reason.sentence for reason in reasons)
+    return "; ".join(reason.sentence for reason in reasons if reason)
 
 
-def as_groups(groups, runs):
+def as_groups(groups: Sequence[Group], runs: Sequence[int]) -> Spread:
     return tuple(tuple(members(groups, mask)) for mask in runs)
 
 
-def members(groups, mask):
+def members(groups: Sequence[Group], mask: int) -> list[Group]:
     return [group for at, group in enumerate(groups) if mask >> at & 1]
 
 
-def first_fit_by_asking(program, plan, groups):
+def first_fit_by_asking(program: Program, plan: Plan, groups: Sequence[Group]) -> tuple[Spread, int]:
     """Puts each group into the first run that the program keeps on all the time with it."""
-    runs, tries = [], 0
+    runs: list[list[Group]] = []
+    tries = 0
     for group in groups:
         tried = judged(program, plan, [[*run, group] for run in runs])
         tries += len(runs)
@@ -69,9 +78,9 @@ def first_fit_by_asking(program, plan, groups):
     return tuple(map(tuple, runs)), tries
 
 
-def first_fit(count, fits):
+def first_fit(count: int, fits: Mapping[int, bool]) -> list[int]:
     """The runs, as sets of groups, when each group goes into the first run that it fits into."""
-    runs = []
+    runs: list[int] = []
     for at in range(count):
         place = next((number for number, run in enumerate(runs) if fits[run | 1 << at]), None)
         if place is None:
@@ -81,22 +90,23 @@ def first_fit(count, fits):
     return runs
 
 
-def fewest_runs(count, fits):
+def fewest_runs(count: int, fits: Mapping[int, bool]) -> list[int]:
     """The shortest list of runs among all partitions of the groups."""
-    best = {0: []}
+    best: dict[int, list[int]] = {0: []}
     for whole in range(1, 1 << count):
         lowest = whole & -whole
-        part, found = whole, None
+        part = whole
+        found: list[int] = []
         while part:
             if part & lowest and fits[part]:
                 rest = best[whole ^ part]
-                found = [part, *rest] if found is None or len(rest) + 1 < len(found) else found
+                found = [part, *rest] if not found or len(rest) + 1 < len(found) else found
             part = (part - 1) & whole
         best[whole] = found
     return best[(1 << count) - 1]
 
 
-def text_of(runs):
+def text_of(runs: Runs) -> list[str]:
     """The runs in words."""
     lines = [f"Left out, since it can't be on even alone: {group.text}: {cause}" for group, cause in runs.left_out]
     if not runs.runs:
@@ -111,12 +121,12 @@ def text_of(runs):
     return [*lines, f"{suffice}{fewer if count > 1 else ''}."]
 
 
-def list_of(runs):
+def list_of(runs: Spread) -> list[str]:
     """A line for each run, as perf takes it."""
     return [f"run {number}: -e '{','.join(group.text for group in run)}'" for number, run in enumerate(runs, 1)]
 
 
-def as_json(runs):
+def as_json(runs: Runs) -> dict[str, Any]:
     """The runs for programs."""
     return {
         "runs": [[group.text for group in run] for run in runs.runs],

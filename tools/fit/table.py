@@ -47,8 +47,8 @@ def lines_of_failure(finding: Finding) -> list[str]:
     """Which group can't be counted, and why."""
     lines, group = [], finding.group
     if group.is_beyond:
-        beyond = f"it has {len(group.members)} members, and the program takes {MOST_MEMBERS}"
-        return [f"{group.text} is beyond this program:", f"    {beyond}."]
+        beyond = group.beyond or f"it has {len(group.members)} members, and the program takes {MOST_MEMBERS}"
+        return [f"{group.text} is beyond this program:", *wrapped("    ", f"{beyond}.")]
     if finding.refused:
         together = " together" if len(group.events) > 1 else ""
         lines.append(f"{group.text} can never be counted{together}:")

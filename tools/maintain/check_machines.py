@@ -24,7 +24,7 @@ from fit import machines  # noqa: E402
 from fit.codes import Counters, Row, first_matching  # noqa: E402
 from fit.events import cache_event  # noqa: E402
 from fit.machines import Machine  # noqa: E402
-from fit.perf_tables import spans  # noqa: E402
+from fit.stand_in import spans  # noqa: E402
 from maintain import kernel_tables as kernel  # noqa: E402
 from maintain.kernel_tables import Missing, Tree  # noqa: E402
 from perfscript import Fault, command  # noqa: E402

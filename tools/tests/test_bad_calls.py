@@ -15,6 +15,7 @@ EXAMPLES = os.path.join(DATA, "examples")
 SCRIPT, OTHER, REPORT = (os.path.join(EXAMPLES, name) for name in ("full-ring.script", "two-pmus.script", "full-ring.report"))
 REFUSED = os.path.join(DATA, "texts-refused", "two-spaces.script")
 FIT = ["fit.py", "--counters", "1", "-e", "cycles"]
+WITH_PERF = ["fit.py", "-m", "skylake", "--"]
 ON_LINUX = ["on_linux"]
 # words of a call: {false} is a program that fails, {mute} one that writes nothing, {loud} one that writes no report,
 # {binary} a file of bytes, {folder} an empty folder, and {program} the program
@@ -84,7 +85,23 @@ CALLS = (
     (["double.py", "--program", "{program}", "/nonexistent", "--", "true"], "/nonexistent"),
     (["fit.py", "-m", "vax", "-e", "cycles"], "-m: no machine and no model is called 'vax'"),
     (["fit.py", "-m", "skylake", "-M", "no_such_metric"], "-M: "),
+    (WITH_PERF, "behind -- has to stand perf stat OPTIONS [COMMAND]"),
+    ([*WITH_PERF, "sleep", "1"], "behind -- has to stand perf stat OPTIONS [COMMAND], not 'sleep'"),
+    ([*WITH_PERF, "perf", "record", "true"], "not perf with record; --sampling with -e is about perf record"),
+    ([*WITH_PERF, "perf-of-none", "stat"], "perf-of-none: No such file or directory; Debian has perf as linux-perf"),
+    (["fit.py", "--", "perf", "stat"], "-m: give one machine before `-- perf stat ..`"),
+    (["fit.py", "-m", "skylake", "-e", "cycles", "--", "perf", "stat"], "-e: with `-- perf stat ..` events and processors"),
+    (["fit.py", "-m", "cortex-a53", "--", "perf", "stat"], "the perf that is here is no perf of cortex-a53"),
+    (["fit.py", "-m", "alderlake-core", "--", "perf", "stat"], "alderlake-core as one of two kinds of core"),
+    (["maintain/perf_lines.py", "--jobs", "odd"], "argument --jobs: invalid int value: 'odd'"),
 )
+# of these perf itself is asked first
+if shutil.which("perf"):
+    CALLS += (
+        ([*WITH_PERF, "perf", "stat", "report"], "perf stat report is about a file; leave report out"),
+        ([*WITH_PERF, "perf", "stat", "-C", "0-99"], "-C: '0-99' has to rise and to stay within processors 0 to 7"),
+        (["fit.py", "-m", "skylake", "--program", "{folder}", "--", "perf", "stat"], "is not a file; give the path"),
+    )
 
 
 class BadCalls(ProgramTest):

@@ -4,7 +4,7 @@ import re
 import shlex
 
 
-def examples(text):
+def examples(text: str) -> list[tuple[list[str], str]]:
     """The words of each command `tools/fit.py`, which a backslash continues, and the output below it."""
     found = []
     for block in re.findall(r"(?m)(?:^(?:    .*)?\n)+", text):

@@ -4,6 +4,7 @@ A group is a list of masks, 0 for a software event. An event that takes two coun
 first of them and PAIR added. Which groups are on follows the rules of docs/RULES.md.
 """
 
+from collections.abc import Iterable, Sequence
 from dataclasses import dataclass
 from fractions import Fraction
 from functools import cache
@@ -13,25 +14,25 @@ from functools import cache
 class Wanted:
     """A group: the masks of its members, and whether it is pinned and exclusive."""
 
-    masks: list
+    masks: list[int]
     is_pinned: bool = False
     is_exclusive: bool = False
 
     @property
-    def hardware(self):
+    def hardware(self) -> list[int]:
         return [mask for mask in self.masks if mask]
 
 
 PAIR = 1 << 20
 
 
-def has_assignment(masks):
+def has_assignment(masks: Iterable[int]) -> bool:
     """Whether the events can have their counters: every choice of counters is tried."""
     return tried(tuple(sorted(masks, key=lambda mask: (mask & PAIR == 0, mask.bit_count(), mask))), 0)
 
 
 @cache
-def tried(masks, taken):
+def tried(masks: tuple[int, ...], taken: int) -> bool:
     if not masks:
         return True
     width = 3 if masks[0] & PAIR else 1
@@ -39,16 +40,16 @@ def tried(masks, taken):
     return any(tried(masks[1:], taken | bits) for bits in choices if not taken & bits)
 
 
-def opened(masks):
+def opened(masks: Sequence[int]) -> list[int]:
     """The places of the members that can join, one after the other."""
-    places = []
+    places: list[int] = []
     for place, mask in enumerate(masks):
         if has_assignment([masks[other] for other in places if masks[other]] + [mask] * bool(mask)):
             places.append(place)
     return places
 
 
-def pinned_on(groups, always):
+def pinned_on(groups: Sequence[Wanted], always: Sequence[int]) -> list[int]:
     """Which pinned groups are on when each comes in turn, behind events that are always on."""
     found, on = list(always), []
     exclusive = False
@@ -63,7 +64,7 @@ def pinned_on(groups, always):
     return on
 
 
-def flexible_on(groups, order, on, exclusive):
+def flexible_on(groups: Sequence[Wanted], order: Sequence[int], on: Sequence[int], exclusive: bool) -> list[int]:
     """Which flexible groups are on, in this order, beside the masks of the pinned ones."""
     found, masks, is_refused = [], list(on), False
     for place in order:
@@ -81,7 +82,7 @@ def flexible_on(groups, order, on, exclusive):
     return found
 
 
-def shares(groups, always=()):
+def shares(groups: Sequence[Wanted], always: Sequence[int] = ()) -> list[Fraction]:
     """The share of each group over a rotation. Groups hold the masks of members that were opened."""
     pinned = pinned_on(groups, always)
     masks = list(always) + [mask for place in pinned for mask in groups[place].hardware]

@@ -5,15 +5,17 @@ import os
 import subprocess
 import sys
 import tempfile
+from typing import Any
 
-from fit.tests.support import PATH, ProgramTest, has_perf
+from fit.tests.support import ProgramTest, has_perf
 from perfscript.program import REPOSITORY
+from perfscript.tests.support import PATH
 
 REFUSED = "{cycles,instructions},{l1d_pend_miss.pending,cycle_activity.cycles_l1d_pending},branches:k"
 
 
 class Printed(ProgramTest):
-    def test_a_member_is_refused_at_open(self):
+    def test_a_member_is_refused_at_open(self) -> None:
         status, out, err = self.fit("-m", "sandybridge", "-e", REFUSED)
         lines = out.split("\n")
         self.assertEqual((1, ""), (status, err))
@@ -30,7 +32,7 @@ class Printed(ProgramTest):
         self.assertIn("   <not supported>      cycle_activity.cycles_l1d_pending", lines)
         self.assertNotIn("%", out)
 
-    def test_never_on_is_named_first_with_its_cause(self):
+    def test_never_on_is_named_first_with_its_cause(self) -> None:
         status, out, _ = self.fit("-m", "k10", "--watchdog", "-e", "branches,{cycles,cycles,cycles,cycles}")
         self.assertEqual(1, status)
         self.assertTrue(out.startswith(
@@ -39,18 +41,18 @@ class Printed(ProgramTest):
         ), out)
         self.assertIn("     <not counted>      cycles                      (0.00%)  off", out)
 
-    def test_a_pinned_group_in_error_has_no_percentage(self):
+    def test_a_pinned_group_in_error_has_no_percentage(self) -> None:
         status, out, _ = self.fit("--counters", "1", "-e", "cycles:D,branches:D")
         self.assertEqual(1, status)
         self.assertIn("branches:D is in error and never on:\n    cycles:D and branches:D both need counter 0.\n", out)
         self.assertNotIn("%", out)
 
-    def test_an_exclusive_group_names_what_keeps_it_off(self):
+    def test_an_exclusive_group_names_what_keeps_it_off(self) -> None:
         status, out, _ = self.fit("--counters", "4", "--watchdog", "-e", "cycles:e")
         self.assertEqual(1, status)
         self.assertIn("    it is exclusive, and the watchdog's cycles is on.\n", out)
 
-    def test_what_waits_for_another_has_its_cause(self):
+    def test_what_waits_for_another_has_its_cause(self) -> None:
         status, out, _ = self.fit("--counters", "2", "-e", "cycles,cycles,{branches,branches}")
         self.assertEqual(0, status)
         self.assertIn("                        cycles                     (33.33%)  counter 0     [1]\n", out)
@@ -58,7 +60,7 @@ class Printed(ProgramTest):
         cause = "[1] waits for {branches,branches}: cycles and branches (2 times) need 3 counters and have 2:"
         self.assertIn(cause, out)
 
-    def test_a_group_of_two_kinds_of_core_is_refused(self):
+    def test_a_group_of_two_kinds_of_core_is_refused(self) -> None:
         both = "{armv8_cortex_a53/cpu_cycles/,armv8_cortex_a72/cpu_cycles/}"
         for more in ((), ("-a",)):
             status, out, _ = self.fit("-m", "cortex-a53=0-1", "-m", "cortex-a72=2", *more, "-e", both)
@@ -66,25 +68,25 @@ class Printed(ProgramTest):
             self.assertIn("its events are of different kinds of core", out)
             self.assertIn("   <not supported>      armv8_cortex_a72/cpu_cycles/", out)
 
-    def test_the_rest_of_a_group_can_be_never_on(self):
+    def test_the_rest_of_a_group_can_be_never_on(self) -> None:
         text = "{branches,branches,branches},cycles:D"
         status, out, _ = self.fit("--counters", "2", "-e", text)
         self.assertEqual(1, status)
         self.assertIn("So the open of branches is refused.\nWhat is left of it is opened and never on:\n", out)
 
-    def test_processors_have_contexts_of_their_own(self):
+    def test_processors_have_contexts_of_their_own(self) -> None:
         _, one, _ = self.fit("--counters", "2", "-e", "cycles,cycles,branches")
         status, out, _ = self.fit("--counters", "2", "-C", "0,2-3", "-e", "cycles,cycles,branches")
         self.assertEqual((0, one), (status, out))
 
 
 class Json(ProgramTest):
-    def read(self, *words):
+    def read(self, *words: str) -> tuple[int, Any]:
         status, out, err = self.fit("--json", *words)
         self.assertEqual("", err)
         return status, json.loads(out)
 
-    def test_groups(self):
+    def test_groups(self) -> None:
         status, answer = self.read("--counters", "2", "-C", "1", "-e", "{cycles,branches},cycles:k,dummy")
         self.assertEqual((0, False, {"processors": [1]}), (status, answer["fails"], answer["context"]))
         first, second, third = answer["groups"]
@@ -95,7 +97,7 @@ class Json(ProgramTest):
         self.assertEqual(["cycles", "branches", "cycles:k"], second["reason"]["names"])
         self.assertEqual(("100.00", None, False), (third["percent"], third["reason"], third["waits"]))
 
-    def test_refused_member(self):
+    def test_refused_member(self) -> None:
         status, answer = self.read("-m", "sandybridge", "-e", REFUSED)
         self.assertEqual((1, True), (status, answer["fails"]))
         self.assertEqual("not counted", answer["groups"][1]["events"][0]["state"])
@@ -115,14 +117,14 @@ class Typed(ProgramTest):
     # names of perf's tables
     NAMES = ("inst_retired.any", "mem_load_retired.l1_miss:u", "cpu/inst_retired.any,cmask=1/")
 
-    def test_each_is_answered(self):
+    def test_each_is_answered(self) -> None:
         for text in (*self.LISTS, *(self.NAMES if has_perf() else ())):
             with self.subTest(text=text):
                 status, out, err = self.fit("-m", "skylake", "-e", text)
                 self.assertEqual((0, ""), (status, err))
                 self.assertTrue(out.startswith("All events are on all the time.\n"), out)
 
-    def test_what_linux_refuses_is_answered_too(self):
+    def test_what_linux_refuses_is_answered_too(self) -> None:
         for machine, text, words in [
             ("skylake", "cycles:p", "an event with p takes samples, and perf stat takes none"),
             ("zen3", "ref-cycles", "Linux has no event for ref-cycles on zen3"),
@@ -137,27 +139,27 @@ class Typed(ProgramTest):
                 self.assertIn(words, out)
                 self.assertIn("<not supported>", out)
 
-    def test_the_default_list_and_its_details(self):
+    def test_the_default_list_and_its_details(self) -> None:
         for machine, words, count in (
             ("skylake", (), 8), ("zen", (), 10), ("icelake", (), 13), ("skylake", ("-ddd",), 20),
         ):
             _, out, _ = self.fit("-m", machine, *words, "--json")
             self.assertEqual(count, sum(len(group["events"]) for group in json.loads(out)["groups"]))
 
-    def test_a_group_of_nine_is_beyond_the_program(self):
+    def test_a_group_of_nine_is_beyond_the_program(self) -> None:
         nine = "{" + ",".join(["cycles"] * 9) + "}"
         status, out, _ = self.fit("--counters", "9", "-e", f"{nine},branches")
         self.assertEqual(3, status)
         self.assertIn(f"{nine} is beyond this program:\n    it has 9 members, and the program takes 8.\n", out)
         self.assertIn("\nAll else is on all the time.\n", out)
 
-    def test_a_weak_group_stands_behind_all_others(self):
+    def test_a_weak_group_stands_behind_all_others(self) -> None:
         status, out, _ = self.fit("-m", "k10", "--json", "-e", "{" + ",".join(["cycles"] * 5) + "}:W,branches")
         answer = json.loads(out)
         self.assertEqual((0, ["branches", *["cycles"] * 5]), (status, [group["text"] for group in answer["groups"]]))
         self.assertIn("perf takes the weak group of cycles", answer["hints"][0])
 
-    def test_sampling(self):
+    def test_sampling(self) -> None:
         _, out, _ = self.fit("-m", "skylake", "--sampling", "-e", "cycles:ppp,r01c0")
         self.assertIn("cycles:ppp and r01c0 both need counter 1", out)
         status, out, _ = self.fit("-m", "zen3", "--sampling", "-e", "cycles:pp,instructions:p")
@@ -167,7 +169,7 @@ class Typed(ProgramTest):
 
 
 class Files(ProgramTest):
-    def test_script_is_replayed(self):
+    def test_script_is_replayed(self) -> None:
         with tempfile.TemporaryDirectory() as folder:
             path = os.path.join(folder, "asked.script")
             self.fit("-m", "core2", "-e", "{r12,branches},r13", "--script", path)
@@ -179,7 +181,7 @@ class Files(ProgramTest):
         self.assertEqual(["50.00%"] * 3, [line.split()[-1] for line in done.stdout.decode().splitlines()[1:-1]])
         self.assertIn("\nkind k0 pmu=0 mask=2\nkind k1 pmu=0 mask=3\ntask 0\n", text)
 
-    def test_picture_has_the_names_of_perf(self):
+    def test_picture_has_the_names_of_perf(self) -> None:
         with tempfile.TemporaryDirectory() as folder:
             path = os.path.join(folder, "drawn.svg")
             self.fit("-m", "core2", "-e", "{r12,instructions},r13:D,ref-cycles", "--svg", path)
@@ -191,13 +193,13 @@ class Files(ProgramTest):
         self.assertIn("r12 and r13:D both need counter 1", text)
         self.assertNotIn("k0", text)
 
-    def test_timeline_draws_as_before(self):
+    def test_timeline_draws_as_before(self) -> None:
         words = [os.path.join("tools", "timeline.py"), PATH, os.path.join("examples", "multiplexing.script")]
         done = subprocess.run([sys.executable, *words], cwd=REPOSITORY, capture_output=True)
         with open(os.path.join(REPOSITORY, "docs", "multiplexing.svg"), "rb") as file:
             self.assertEqual((file.read(), b""), (done.stdout, done.stderr))
 
-    def test_a_picture_of_too_many_lines_is_refused(self):
+    def test_a_picture_of_too_many_lines_is_refused(self) -> None:
         with tempfile.TemporaryDirectory() as folder:
             path = os.path.join(folder, "drawn.svg")
             status, out, err = self.fit("--counters", "1", "-e", ",".join(["cycles"] * 140), "--svg", path)
@@ -206,12 +208,12 @@ class Files(ProgramTest):
 
 
 class Limits(ProgramTest):
-    def test_the_longest_list_is_answered(self):
+    def test_the_longest_list_is_answered(self) -> None:
         status, out, err = self.fit("--counters", "2", "-e", ",".join(["cycles"] * 256))
         self.assertEqual((0, ""), (status, err))
         self.assertEqual(256, out.count("(0.78%)"))
 
-    def test_eight_processors_and_a_watchdog_each(self):
+    def test_eight_processors_and_a_watchdog_each(self) -> None:
         words = ["--counters", "16", "--watchdog", "-C", "0-7", "-e", ",".join(["cycles"] * 31)]
         status, out, err = self.fit(*words)
         self.assertEqual((0, ""), (status, err))

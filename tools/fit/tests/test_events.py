@@ -9,29 +9,29 @@ from fit.faults import BadInput
 from fit.tests.support import call
 
 
-def shape(*texts):
+def shape(*texts: str) -> list[tuple[list[tuple[str, str]], str]]:
     """The names of each group with their own modifiers, and the modifiers behind its brace."""
     return [([(event.name, event.modifiers) for event in group.events], group.modifiers) for group in read_lists(texts)]
 
 
 class Reading(unittest.TestCase):
-    def test_commas_and_braces(self):
+    def test_commas_and_braces(self) -> None:
         wanted = [([("cycles", "")], ""), ([("instructions", ""), ("branches", "k")], "u"), ([("cs", "")], "")]
         self.assertEqual(wanted, shape("cycles,{instructions,branches:k}:u,cs"))
 
-    def test_several_options_follow_each_other(self):
+    def test_several_options_follow_each_other(self) -> None:
         self.assertEqual(shape("cycles,branches"), shape("cycles", "branches"))
 
-    def test_spaces_are_skipped(self):
+    def test_spaces_are_skipped(self) -> None:
         self.assertEqual(shape("{cycles,branches},cs"), shape(" { cycles , branches } , cs "))
 
-    def test_pmu(self):
+    def test_pmu(self) -> None:
         [group] = read_lists([" cpu/event=0x3c,umask=0x00/uD , cs"])[:1]
         [event] = group.events
         self.assertEqual(("slashed", "cpu", "uD"), (event.form, event.pmu, event.modifiers))
         self.assertEqual("event=0x3c,umask=0x00", event.terms)
 
-    def test_forms(self):
+    def test_forms(self) -> None:
         for text, form, name, modifiers in [
             ("r01c2:pp", "raw", "r01c2", "pp"),
             ("4:0x3c:u", "numeric", "4:0x3c:u", "u"),
@@ -45,10 +45,10 @@ class Reading(unittest.TestCase):
             [event] = group.events
             self.assertEqual((form, name, modifiers), (event.form, event.name, event.modifiers), text)
 
-    def test_named_group(self):
+    def test_named_group(self) -> None:
         self.assertEqual(shape("{cycles,cs}:W"), shape("mine {cycles,cs}:W"))
 
-    def test_cache_names(self):
+    def test_cache_names(self) -> None:
         for text, wanted in {
             "L1-dcache": "L1-dcache-loads", "l1d-misses": "L1-dcache-load-misses",
             "LLC-store-misses": "LLC-store-misses",
@@ -59,12 +59,12 @@ class Reading(unittest.TestCase):
         }.items():
             self.assertEqual(wanted, cache_event(text), text)
 
-    def test_names_of_perf_for_the_same_event(self):
+    def test_names_of_perf_for_the_same_event(self) -> None:
         groups = read_lists(["cpu-cycles,branch-instructions,cs,migrations"])
         kinds = [group.events[0].kind for group in groups]
         self.assertEqual(["cycles", "branches", "context-switches", "cpu-migrations"], kinds)
 
-    def test_modes(self):
+    def test_modes(self) -> None:
         wanted = {
             ("", ""): (False, False), ("u", ""): (False, True), ("k", ""): (True, False), ("uk", ""): (False, False),
             ("", "u"): (False, True), ("u", "k"): (False, False), ("k", "k"): (True, False),
@@ -76,7 +76,7 @@ class Reading(unittest.TestCase):
 
 
 class Refused(unittest.TestCase):
-    def check(self, text, character, words):
+    def check(self, text: str, character: int, words: str) -> None:
         with self.assertRaises(BadInput) as caught:
             read_lists(["cs", text])
         first, shown, mark = str(caught.exception).split("\n")
@@ -84,7 +84,7 @@ class Refused(unittest.TestCase):
         self.assertIn(words, first)
         self.assertEqual((f"    {text}", character + 4), (shown, mark.index("^") + 1))
 
-    def test_places(self):
+    def test_places(self) -> None:
         for text, character, words in [
             ("", 1, "an event is missing"),
             ("cycles,", 8, "an event is missing"),
@@ -105,14 +105,14 @@ class Refused(unittest.TestCase):
             with self.subTest(text=text):
                 self.check(text, character, words)
 
-    def test_unknown_event(self):
+    def test_unknown_event(self) -> None:
         with mock.patch.object(perf_tables, "perf_path", lambda: None):
             status, out, err = call("-m", "zen", "-e", "cycles,{cs,foo:u}")
         self.assertEqual((2, ""), (status, out))
         self.assertTrue(err.startswith("fit.py: -e, character 12: 'foo' is no name in the file of zen, and "), err)
         self.assertIn("type its code, as rUUEE or cpu/event=0xEE,umask=0xUU/", err)
 
-    def test_terms(self):
+    def test_terms(self) -> None:
         for text, character, words in [
             ("cpu/event=0x3c,foo=1/", 16, "the term 'foo' is not known on skylake"),
             ("cpu/event=0x1ff/", 5, "the value is too big: the term has 8 bits"),
@@ -123,7 +123,7 @@ class Refused(unittest.TestCase):
             self.assertEqual((2, ""), (status, out), text)
             self.assertIn(f"-e, character {character}: {words}", err)
 
-    def test_unknown_pmu(self):
+    def test_unknown_pmu(self) -> None:
         status, _, err = call("-m", "zen", "-e", "cs,arm/cycles/")
         self.assertEqual(2, status)
         self.assertIn("character 4: no PMU is called 'arm'; there is cpu", err)

@@ -13,7 +13,7 @@ from fit.answering import answer_to
 from fit.events import read_lists
 from fit.faults import BadInput
 from fit.meanings import Meanings
-from fit.plan import plan_of
+from fit.plan import Group, Plan, plan_of
 from fit.tests.search import PAIR, has_assignment
 from fit.tests.support import ProgramTest, has_perf
 
@@ -23,11 +23,11 @@ COUNT = os.environ.get("FIT_METRICS", "10")
 
 @unittest.skipUnless(has_perf(), "perf 6.1 is not there, which says the events of metrics")
 class WeakGroups(ProgramTest):
-    def setUp(self):
+    def setUp(self) -> None:
         what = ("metrics", "need another PMU", "groups", "taken apart", "refused a part", "beyond")
         self.seen = dict.fromkeys(what, 0)
 
-    def test_metrics(self):
+    def test_metrics(self) -> None:
         random.seed(73)
         for name in MACHINES:
             machine = machines.load(name)
@@ -41,7 +41,7 @@ class WeakGroups(ProgramTest):
         print(", ".join(f"{count} {what}" for what, count in self.seen.items()))
         self.assertGreater(self.seen["groups"], 10)
 
-    def check(self, machine, meanings, metric):
+    def check(self, machine: machines.Machine, meanings: Meanings, metric: str) -> None:
         """A metric's weak groups, one by one."""
         self.seen["metrics"] += 1
         try:
@@ -55,7 +55,7 @@ class WeakGroups(ProgramTest):
             if len(group.events) > 1:
                 self.check_group(machine, plan, group)
 
-    def check_group(self, machine, plan, group):
+    def check_group(self, machine: machines.Machine, plan: Plan, group: Group) -> None:
         """One weak group by itself."""
         self.seen["groups"] += 1
         answer = answer_to(self.program, type(plan)(plan.machines, (group,), (), False))

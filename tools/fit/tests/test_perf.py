@@ -8,14 +8,17 @@ import subprocess
 import tempfile
 import unittest
 from concurrent.futures import ThreadPoolExecutor
+from typing import TypeAlias
 
 from fit import machines, perf_tables
-from fit.events import HARDWARE, read_lists
+from fit.events import HARDWARE, Typed, read_lists
 from fit.faults import BadInput
 from fit.meanings import Meanings
 from fit.plan import machine_called
 from fit.tests.support import ProgramTest, has_perf
 
+# config and config1, or a word, and how precise the event is
+Read: TypeAlias = tuple[str | tuple[int, int], int]
 WHERE = "perf 6.1 is not there, which these tests ask"
 # on all machines of x86
 COMMON = """
@@ -54,7 +57,7 @@ mem_load_retired.l1d_hit cpu/mem-loads,ldlat=7/ topdown-retiring""".split(),
 }
 
 
-def read_here(machine, text):
+def read_here(machine: machines.Machine, text: str) -> list[Read] | None:
     """The type, config, config1 and precision of each event as the tool reads them, none where it refuses the text."""
     found = []
     try:
@@ -67,7 +70,7 @@ def read_here(machine, text):
     return found
 
 
-def attribute_here(meanings, event, machine):
+def attribute_here(meanings: Meanings, event: Typed, machine: machines.Machine) -> Read:
     """What perf should ask for; a type alone where no counter of a core is asked for."""
     if event.needs_no_counter:
         return ("none", event.precise)
@@ -77,13 +80,13 @@ def attribute_here(meanings, event, machine):
     return ("refused" if refused else (config, config1), event.precise)
 
 
-def read_by_perf(machine, tables, text):
+def read_by_perf(machine: machines.Machine, tables: perf_tables.Tables, text: str) -> list[Read] | None:
     """The same as perf reads them: a hardware or cache event by what the machine's file says of it."""
     attributes = tables.attributes(text)
     return None if attributes is None else [of_attribute(machine, one) for one in attributes]
 
 
-def of_attribute(machine, one):
+def of_attribute(machine: machines.Machine, one: perf_tables.Attribute) -> Read:
     if one.type == 4:
         return ((one.config, one.config1), one.precise)
     if one.type == 0:
@@ -100,7 +103,7 @@ def of_attribute(machine, one):
 
 @unittest.skipUnless(has_perf(), WHERE)
 class SameAsPerf(unittest.TestCase):
-    def check(self, name, texts):
+    def check(self, name: str, texts: list[str]) -> int:
         machine = machines.load(name)
         taken = 0
         with perf_tables.Tables(machine) as tables:
@@ -116,7 +119,7 @@ class SameAsPerf(unittest.TestCase):
                     taken += wanted is not None
         return taken
 
-    def test_texts(self):
+    def test_texts(self) -> None:
         for name, own in OWN.items():
             texts = own + COMMON * (name in ("skylake", "zen3"))
             self.assertGreater(self.check(name, texts), len(texts) // 2)
@@ -127,14 +130,14 @@ class WhatPerfPrints(ProgramTest):
 
     LIST = "{task-clock,context-switches,cycles:D},page-faults"
 
-    def printed(self, *words):
+    def printed(self, *words: str) -> list[tuple[str, str]]:
         """What perf prints for each event: its mark and its name."""
         done = subprocess.run(["perf", "stat", *words, "-e", self.LIST, "true"], capture_output=True, text=True)
         rows = [line.split(",") for line in done.stderr.splitlines() if ",," in line or ",msec," in line]
         return [(row[0] if row[0].startswith("<") else "", row[2]) for row in rows]
 
     @unittest.skipUnless(has_perf(), WHERE)
-    def test_group_with_a_refused_open(self):
+    def test_group_with_a_refused_open(self) -> None:
         wanted = self.printed("-x,")
         self.assertEqual(["<not counted>", "<not counted>", "<not supported>", ""], [mark for mark, _ in wanted])
         status, out, _ = self.fit("-m", "skylake", "-e", self.LIST)

@@ -3,27 +3,27 @@
 import os
 import tempfile
 import unittest
+from collections.abc import Sequence
 from unittest import mock
 
 from fit.answers import Answers, Cause
 from fit.faults import ProgramFault
 from fit.script import Question
-from fit.tests.support import PATH, ProgramTest, call
+from fit.tests.support import ProgramTest, call
 from perfscript import program
-from perfscript.tests.support import program_file
-from perfscript.tests.test_program import RT
+from perfscript.tests.support import PATH, RT, program_file
 
 
 class Failing(unittest.TestCase):
     """A program that can't be used ends the tool with status 2 and the reason."""
 
-    def check(self, text, words):
+    def check(self, text: str, words: str) -> None:
         with tempfile.TemporaryDirectory() as folder:
             status, out, err = call("--program", program_file(folder, "fake", text), "--counters", "1", "-e", "cycles")
         self.assertEqual((2, "", 1), (status, out, err.count("\n")))
         self.assertIn(words, err)
 
-    def test_failures(self):
+    def test_failures(self) -> None:
         for text, words in [
             ("#!/bin/sh\necho 'perf_run: no memory' >&2; exit 4\n", "ended with status 4: perf_run: no memory"),
             ("#!/bin/sh\ncat >/dev/null; echo hello\n", "stat printed what can't be read: not a table"),
@@ -32,7 +32,7 @@ class Failing(unittest.TestCase):
             with self.subTest(text=text):
                 self.check(text, words)
 
-    def test_answers(self):
+    def test_answers(self) -> None:
         answers = Answers()
         answers.add("replay", "order t0\nt0.0 open EBUSY\nt0.1 why odd\nend\n")
         with self.assertRaisesRegex(ProgramFault, "refused 'open 0 kind=k0' with EBUSY"):
@@ -44,9 +44,9 @@ class Failing(unittest.TestCase):
 class Doubled(ProgramTest):
     """Where two rotations do not give the shares of one, the tool says so."""
 
-    def test_other_shares(self):
+    def test_other_shares(self) -> None:
         class Biased(program.Built):
-            def outputs(self, calls):
+            def outputs(self, calls: Sequence[tuple[str, str]]) -> list[str]:
                 first, table, second = super().outputs(calls)
                 return [first, table, second.replace("       2000 ", "       1000 ", 1)]
 
@@ -59,7 +59,7 @@ class Doubled(ProgramTest):
 class Tried(ProgramTest):
     """All calls go through one `rt try`; here a stand-in for rt runs the program on each case."""
 
-    def test_same_answers(self):
+    def test_same_answers(self) -> None:
         words = ("--counters", "2", "-e", "cycles,{branches,branches}")
         _, wanted, _ = self.fit(*words)
         with tempfile.TemporaryDirectory() as folder:

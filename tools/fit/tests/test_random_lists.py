@@ -6,22 +6,25 @@ variable FIT_LISTS says how many there are for each machine, and FIT_MACHINES on
 
 import os
 import random
+from collections.abc import Iterator, Sequence
 
 from fit import machines
 from fit.answering import half_pairs
 from fit.events import read_lists
-from fit.findings import judged_twice
+from fit.findings import Finding, judged_twice
+from fit.machines import Machine
 from fit.meanings import Meanings
-from fit.plan import Plan, plan_of, watchdog_mask, without
+from fit.plan import Group, Plan, plan_of, watchdog_mask, without
 from fit.tests.search import PAIR, Wanted, has_assignment, opened, pinned_on, shares
 from fit.tests.support import ProgramTest
+from perfscript import Program
 
 MACHINES = os.environ.get("FIT_MACHINES", "").split() or machines.names()
 LISTS, BATCH, OTHERS = int(os.environ.get("FIT_LISTS", "4")), 50, 50
 SOFTWARE = ("task-clock", "cs", "migrations", "dummy", "page-faults")
 
 
-def pool_of(machine):
+def pool_of(machine: Machine) -> list[str]:
     """Events of a machine: general names, codes of its rows, and codes at random."""
     codes = [row.first | (0 if row.first >> 8 else random.choice((0, 0x100, 0x1100))) for row in machine.rows]
     codes += [random.randrange(0x10000) for _ in range(6)]
@@ -29,12 +32,12 @@ def pool_of(machine):
     return [*machine.hardware, *machine.masks, *(f"r{code:x}" for code in counted)]
 
 
-def random_event(pool):
-    name = random.choice(SOFTWARE) if random.random() < 0.05 else random.choice(pool)
+def random_event(pool: Sequence[str]) -> str:
+    name: str = random.choice(SOFTWARE) if random.random() < 0.05 else random.choice(pool)
     return name + random.choice(("", "", "", ":u", ":k"))
 
 
-def random_group(pool, pinned, exclusive=0):
+def random_group(pool: Sequence[str], pinned: float, exclusive: float = 0) -> str:
     """A group as text: one event, or some in braces."""
     size = random.choice((1, 1, 1, 2, 2, 3, 4, 5))
     modifier = "D" * (random.random() < pinned) + "e" * (random.random() < exclusive)
@@ -45,7 +48,7 @@ def random_group(pool, pinned, exclusive=0):
     return "{" + events + "}" + ":" * bool(modifier) + modifier
 
 
-def random_list(pool):
+def random_list(pool: Sequence[str]) -> str:
     """A list as text. In some all groups need the same masks."""
     if random.random() < 0.2:
         group = random_group(pool, 0)
@@ -54,7 +57,7 @@ def random_list(pool):
     return ",".join(random_group(pool, pinned) for _ in range(random.randint(1, 7)))
 
 
-def batches(machine):
+def batches(machine: Machine) -> Iterator[tuple[bool, list[str]]]:
     """Lists of texts, each for one watchdog's setting."""
     for first in range(0, LISTS, min(BATCH, (LISTS + 1) // 2)):
         count = min(BATCH, (LISTS + 1) // 2, LISTS - first)
@@ -62,7 +65,9 @@ def batches(machine):
         yield has_watchdog, [random_list(pool_of(machine)) for _ in range(count)]
 
 
-def judged_lists(program, machines, texts, has_watchdog):
+def judged_lists(
+    program: Program, machines: list[Machine], texts: list[str], has_watchdog: bool
+) -> list[list[Finding]]:
     """The findings of each list. The lists share scripts."""
     with Meanings() as meanings:
         plans = [plan_of(read_lists([text]), machines, (), has_watchdog, meanings) for text in texts]
@@ -76,19 +81,19 @@ def judged_lists(program, machines, texts, has_watchdog):
         plans = [without(plan, halves) for plan, halves in zip(plans, refused)]
 
 
-def asks_of(group):
+def asks_of(group: Group) -> list[int]:
     """What the events of a group ask for, as the search takes it."""
     return [event.mask | PAIR * event.is_pair for event in group.events]
 
 
-def wanted_of(group):
+def wanted_of(group: Group) -> Wanted:
     """The group as the search takes it, with the members that can be opened."""
     asks = asks_of(group)
     return Wanted([asks[place] for place in opened(asks)], group.is_pinned, group.is_exclusive)
 
 
 class Others(ProgramTest):
-    def test_exclusive_groups(self):
+    def test_exclusive_groups(self) -> None:
         random.seed(11)
         machine, seen = machines.plain(4), set()
         pool = sorted(machine.masks)
@@ -104,7 +109,7 @@ class Others(ProgramTest):
         words = ("hall", "exclusive", "exclusive-self")
         self.assertLessEqual({(word, never) for word in words for never in (False, True)} | {("", False)}, seen)
 
-    def test_two_kinds_of_core(self):
+    def test_two_kinds_of_core(self) -> None:
         random.seed(12)
         both = machines.read_machines(["cortex-a53=0-1", "cortex-a72=2"], [], ())
         pool = [f"{machine.pmu}/{event}/" for machine in both for event in ("cpu_cycles", "br_mis_pred")]
@@ -121,7 +126,7 @@ class Others(ProgramTest):
                         in_turns += 0 < share < 1
         self.assertGreater(in_turns, 50)
 
-    def group_of(self, pool):
+    def group_of(self, pool: list[str]) -> str:
         """A group on one kind of core, or on each."""
         name = random.choice(pool)
         size = random.choice((1, 2, 3, 6))
@@ -129,10 +134,10 @@ class Others(ProgramTest):
 
 
 class RandomLists(ProgramTest):
-    def setUp(self):
+    def setUp(self) -> None:
         self.seen = dict.fromkeys(("lists", "groups", "refused", "never on", "in turns", "alike"), 0)
 
-    def test_on_each_machine(self):
+    def test_on_each_machine(self) -> None:
         random.seed(20261129)
         for name in MACHINES:
             self.check_machine(machines.load(name))
@@ -141,7 +146,7 @@ class RandomLists(ProgramTest):
             self.assertGreater(count, 20, what)
         print(", ".join(f"{count} {what}" for what, count in self.seen.items()))
 
-    def check_machine(self, machine):
+    def check_machine(self, machine: Machine) -> None:
         for has_watchdog, texts in batches(machine):
             found = judged_lists(self.program, [machine], texts, has_watchdog)
             always = [watchdog_mask(machine)] if has_watchdog else []
@@ -151,7 +156,7 @@ class RandomLists(ProgramTest):
                     self.check_reasons(findings, machine, always)
                     self.seen["lists"] += 1
 
-    def check_list(self, findings, always):
+    def check_list(self, findings: list[Finding], always: list[int]) -> None:
         """Holds a list's findings to what the search says of its masks."""
         groups = []
         for finding in findings:
@@ -171,7 +176,7 @@ class RandomLists(ProgramTest):
         self.check_alike(findings, groups)
         self.seen["groups"] += len(groups)
 
-    def check_never_on(self, findings, groups, always):
+    def check_never_on(self, findings: list[Finding], groups: list[Wanted], always: list[int]) -> None:
         """A group is never on exactly where it has no assignment together with the pinned groups that are on."""
         on = pinned_on(groups, always)
         for place, (finding, group) in enumerate(zip(findings, groups)):
@@ -181,7 +186,7 @@ class RandomLists(ProgramTest):
             self.assertEqual(finding.is_never_on and group.is_pinned, finding.in_error)
             self.seen["never on"] += finding.is_never_on
 
-    def check_alike(self, findings, groups):
+    def check_alike(self, findings: list[Finding], groups: list[Wanted]) -> None:
         """Where all hardware groups are flexible and need the same masks, all have the same share."""
         needs = [sorted(group.hardware) for group in groups if group.hardware]
         if len(needs) < 2 or any(group.is_pinned for group in groups) or any(need != needs[0] for need in needs):
@@ -190,7 +195,7 @@ class RandomLists(ProgramTest):
         self.assertEqual(1, len({(finding.times.enabled, finding.times.running) for finding in found}))
         self.seen["alike"] += any(finding.waits for finding in found)
 
-    def check_reasons(self, findings, machine, always):
+    def check_reasons(self, findings: list[Finding], machine: Machine, always: list[int]) -> None:
         """The events of a tight set have one counter fewer together than there are events."""
         masks = {"the watchdog's cycles": sum(always)}
         for finding in findings:

@@ -2,8 +2,9 @@
 
 from fit.command import machines_of, parser
 from fit.events import read_lists
-from fit.findings import judged_twice
-from fit.plan import plan_of, watchdog_mask
+from fit.findings import Finding, judged_twice
+from fit.machines import Machine
+from fit.plan import Plan, plan_of, watchdog_mask
 from fit.table import percent
 from fit.tests.search import Wanted, opened, shares
 from fit.tests.support import ProgramTest
@@ -59,7 +60,7 @@ LISTS = [
 ]
 
 
-def printed(finding):
+def printed(finding: Finding) -> str:
     """What perf stat prints for a group, in the words of the table above."""
     if finding.is_never_on:
         return NEVER
@@ -67,7 +68,7 @@ def printed(finding):
 
 
 class Shares(ProgramTest):
-    def test_table(self):
+    def test_table(self) -> None:
         self.assertEqual(40, len(LISTS))
         for options, text, wanted in LISTS:
             with self.subTest(options=options, list=text):
@@ -79,7 +80,7 @@ class Shares(ProgramTest):
                     self.assertEqual(wanted, searched(plan, machines[0]))
 
 
-def searched(plan, machine):
+def searched(plan: Plan, machine: Machine) -> list[str]:
     """The same by the search: what perf prints for each share."""
     groups = []
     for group in plan.groups:
@@ -89,5 +90,5 @@ def searched(plan, machine):
     found = []
     for share in shares(groups, always):
         part = f"{100.0 * share.numerator / share.denominator:.2f}"
-        found.append({0: NEVER, 1: ALL}.get(share, part))
+        found.append(NEVER if share == 0 else ALL if share == 1 else part)
     return found

@@ -10,7 +10,7 @@ from unittest import mock
 from perfscript import Fault, command, program
 from perfscript.program import Built, Tried, outcomes_of_try, program_at
 from perfscript.progress import Progress
-from perfscript.tests.support import PATH, ProgramTest, call_of, program_file
+from perfscript.tests.support import PATH, RT, ProgramTest, call_of, program_file
 
 PRINTED = "== c0\nstat 0\nend\n== c1\n"
 SAID = """\
@@ -18,15 +18,6 @@ case=c0 run=ended status=0 runners=1 races=unchecked proved=no
 perf_run: line 1: FORM
 case=c1 run=ended status=1 runners=1 races=unchecked proved=no
 cases=2 ended=2 fault=0 differs=0 no-answer=0 proved=no
-"""
-# stands for rt: runs the program on each case
-RT = """#!/bin/sh
-cd "$3"
-for args in *.args; do
-    echo "== ${args%.args}"
-    "$PROGRAM" $(cat "$args") < "${args%.args}"
-    echo "case=${args%.args} run=ended status=$? runners=1 races=unchecked proved=no" >&2
-done
 """
 
 

@@ -1,0 +1,114 @@
+#!/usr/bin/env python3
+"""Runs lines of `perf stat` on machines by tools/fit.py, and holds what comes of them to a table and to a search.
+
+Usage: perf_lines.py [--program PATH] [--write] [--metrics] [--jobs N] [MACHINE..]
+
+Without words each line of tools/fit/tests/perf_lines.toml is run; with machines, the lines of these. --write writes
+what came of them into the table. --metrics runs every metric that perf has for the machines instead, by default for
+Skylake, Ice Lake and Zen 3, and counts their weak groups: each has to be taken apart exactly where exhaustive search
+over the counters finds no assignment. The status is 1 where something differs. It needs perf 6.1.
+"""
+
+from __future__ import annotations
+
+import collections
+import os
+import sys
+import tomllib
+from collections.abc import Iterable
+from concurrent.futures import ProcessPoolExecutor
+
+TOOLS = os.path.normpath(os.path.join(os.path.dirname(os.path.abspath(__file__)), ".."))
+sys.path.insert(0, TOOLS)
+
+from fit import machines  # noqa: E402
+from fit.meanings import Meanings  # noqa: E402
+from fit.tests.perf_lines import PATH, Case, cases, come, faults, has_counters, outcome  # noqa: E402
+from fit.tests.support import has_perf  # noqa: E402
+from perfscript import Fault, program_at  # noqa: E402
+from perfscript.command import Parser, ended  # noqa: E402
+
+OF_METRICS = ("skylake", "icelake", "zen3")
+
+
+def tried(given: tuple[str | None, Case]) -> tuple[Case, str, list[str], dict[str, int]]:
+    """What came of a line, what is wrong with it, and how many weak groups there are of each kind."""
+    path, case = given
+    try:
+        came = come(program_at(path), case)
+    except Exception as fault:
+        return case, "", [f"{type(fault).__name__}: {fault}"], {}
+    counts: collections.Counter[str] = collections.Counter(metrics=1)
+    counts["perf opened nothing"] += came.done.answer is None
+    for leader in came.done.opens.wishes:
+        if leader.leader is None and len(leader.group) > 1 and came.done.answer:
+            is_apart = any(came.done.opens.last[one].is_again for one in leader.group if one in came.done.opens.last)
+            counts["groups"] += 1
+            counts["beyond"] += bool(leader.beyond)
+            counts["taken apart"] += is_apart
+            counts["without an assignment"] += not leader.beyond and not has_counters(leader.group)
+    return case, outcome(came.done), faults(came), counts
+
+
+def metric_cases(names: Iterable[str]) -> list[Case]:
+    """A line for each metric that perf has for these machines."""
+    found = []
+    for name in names:
+        with Meanings() as meanings:
+            metrics = meanings.tables_of(machines.load(name)).metric_names()
+        found += [Case(name, f"-M {metric}", "") for metric in metrics]
+    return found
+
+
+def write(found: dict[tuple[str, str], str]) -> None:
+    """Writes the table: each line of it with what came of it now."""
+    with open(PATH, "rb") as file:
+        table = tomllib.load(file)
+    lines = ["# What comes of lines of `perf stat` on machines; perf_lines.py beside this says in which words."]
+    for machine, outcomes in table.items():
+        lines += ["", f"[{machine}]"]
+        lines += [f'"{words}" = "{found.get((machine, words), text)}"' for words, text in outcomes.items()]
+    with open(PATH, "w", encoding="utf-8") as file:
+        file.write("\n".join(lines) + "\n")
+
+
+def main() -> int:
+    parser = Parser("perf_lines.py", __doc__ or "")
+    parser.add_argument("machines", metavar="MACHINE", nargs="*")
+    parser.add_argument("--write", action="store_true")
+    parser.add_argument("--metrics", action="store_true")
+    parser.add_argument("--jobs", type=int, default=os.cpu_count())
+    options = parser.parse_args()
+    return ended("perf_lines.py", lambda: run(options.program, options))
+
+
+def run(program: str | None, options: object) -> int:
+    given = vars(options)
+    if not has_perf():
+        raise Fault("perf 6.1 is not there; Debian has it as linux-perf")
+    for name in given["machines"]:
+        machines.load(name)
+    chosen = metric_cases(given["machines"] or OF_METRICS) if given["metrics"] else cases()
+    chosen = [case for case in chosen if case.machine in given["machines"] or not given["machines"]]
+    found, differ = dict[tuple[str, str], str](), 0
+    totals: dict[str, collections.Counter[str]] = {}
+    path = program or os.environ.get("PERF_RUN")
+    with ProcessPoolExecutor(given["jobs"]) as pool:
+        for case, text, wrong, counts in pool.map(tried, [(path, one) for one in chosen]):
+            found[case.machine, case.words] = text
+            totals.setdefault(case.machine, collections.Counter()).update(counts)
+            if not given["metrics"] and not given["write"] and text != case.outcome:
+                wrong = [*wrong, f"came `{text}`, and the table has `{case.outcome}`"]
+            differ += bool(wrong)
+            for line in wrong:
+                print(f"{case.machine}: perf stat {case.words}: {line}", flush=True)
+    if given["write"]:
+        write(found)
+    for name, total in totals.items():
+        print(f"{name}: " + ", ".join(f"{count} {what}" for what, count in total.items()))
+    print(f"{len(chosen)} lines, {differ} differ")
+    return int(differ > 0)
+
+
+if __name__ == "__main__":
+    sys.exit(main())
