@@ -1,4 +1,4 @@
-"""What answers a session's questions. Another back end has the same two calls as `Replay`."""
+"""What answers a session's questions: replays of its script, or perf_live, line by line."""
 
 from __future__ import annotations
 
@@ -6,10 +6,15 @@ import os
 import re
 from typing import Protocol
 
-from perfscript import Fault, Outcome, Program, Report
+from perfscript import Draft, Fault, Live, Outcome, Program, Reply, Report
+from perfscript.limits import MOST_BYTES
+from perfscript.live import USUAL, live_at
 from perfscript.program import Built
 
 REFUSED = re.compile(r"perf_run: line (\d+): ([A-Z]+)$")
+NOTHING = "order\nend\n"
+# a script whose lines have more bytes than this may be too long as a whole
+MOST_LIVE = MOST_BYTES // 2
 
 
 class TooMuch(Exception):
@@ -19,8 +24,17 @@ class TooMuch(Exception):
 class BackEnd(Protocol):
     """Answers about a script that grows by lines at the end of its order."""
 
-    def report(self, text: str) -> Report:
-        """The report of a script's own order. TooMuch where the program refuses the text."""
+    # whether several reads in one question are cheaper than one after the other
+    is_asked_ahead: bool
+
+    def report(self, draft: Draft) -> Report:
+        """The report of a script's own order. TooMuch where the program refuses the script."""
+
+    def report_apart(self, draft: Draft) -> Report:
+        """The report of another script."""
+
+    def go_back(self, acts: int) -> None:
+        """What the script had behind so many acts was taken away."""
 
     def close(self) -> None:
         """The session is over."""
@@ -29,11 +43,13 @@ class BackEnd(Protocol):
 class Replay:
     """Replays the whole script for each question."""
 
+    is_asked_ahead = True
+
     def __init__(self, program: Program) -> None:
         self.program = program
 
-    def report(self, text: str) -> Report:
-        outcome = call(self.program, "replay", text)
+    def report(self, draft: Draft) -> Report:
+        outcome = call(self.program, "replay", draft.text())
         if outcome.status == 0:
             return Report(outcome.out)
         if outcome.status == 1:
@@ -41,8 +57,103 @@ class Replay:
             raise TooMuch(refused[2] if refused else outcome.note)
         raise Fault(f"{self.program.path} replay ended with status {outcome.status}: {outcome.note or 'no note'}")
 
+    def report_apart(self, draft: Draft) -> Report:
+        return self.report(draft)
+
+    def go_back(self, acts: int) -> None:
+        pass
+
     def close(self) -> None:
         pass
+
+
+class LineByLine:
+    """Asks perf_live for the lines that are new. A script that may weigh something, one with rings and a very long one
+    are replayed, since perf_live has no rings and no such limits; so is all that the session asks from there on."""
+
+    is_asked_ahead = False
+
+    def __init__(self, path: str, program: Program) -> None:
+        self.path, self.replay = path, Replay(program)
+        self.live: Live | None = None
+        self.head: list[str] = []
+        self.done: dict[str, int] = {}
+        self.acts = self.size = 0
+        self.found = Report(NOTHING)
+
+    def report(self, draft: Draft) -> Report:
+        if not self.is_asked_ahead and not self.is_live(draft):
+            self.close()
+            self.is_asked_ahead = True
+        if self.is_asked_ahead:
+            return self.replay.report(draft)
+        if self.live is None or self.head != draft.head:
+            self.restart(draft.head)
+        for actor in draft.order[self.acts :]:
+            self.ask(actor, draft.lines[actor][self.done.get(actor, 0)])
+        return self.found
+
+    def is_live(self, draft: Draft) -> bool:
+        """Whether perf_live answers a script as a replay does. What was asked before is not looked at again."""
+        if any(row.startswith("ring ") for row in draft.head) or self.size > MOST_LIVE:
+            return False
+        done = dict(self.done)
+        for actor in draft.order[self.acts :]:
+            number = done.get(actor, 0)
+            done[actor] = number + 1
+            if is_sampling(draft.lines[actor][number]):
+                return False
+        return True
+
+    def restart(self, head: list[str]) -> None:
+        """Begins again, with no line done."""
+        self.close()
+        self.live = Live("\n".join([*head, "end"]) + "\n", self.path, is_checked=False)
+        self.live.__enter__()
+        self.head = list(head)
+
+    def ask(self, actor: str, line: str) -> None:
+        """Does the next line, and keeps its answer."""
+        assert self.live
+        answer = self.live.line(actor, line)
+        if not answer.is_taken:
+            raise TooMuch(answer.reason or "LIMIT")
+        number = self.done.get(actor, 0)
+        if answer.words:
+            self.found.replies[actor, number] = Reply(0, line.split(" ")[0], list(answer.words))
+        self.done[actor] = number + 1
+        self.acts += 1
+        self.size += len(line) + len(" p0\n")
+
+    def report_apart(self, draft: Draft) -> Report:
+        return self.replay.report(draft)
+
+    def go_back(self, acts: int) -> None:
+        if acts < self.acts:
+            self.close()
+
+    def close(self) -> None:
+        if self.live:
+            self.live.close()
+        self.live, self.done, self.acts, self.size, self.found = None, {}, 0, 0, Report(NOTHING)
+
+
+def is_sampling(line: str) -> bool:
+    """Whether a line is an open, by bytes, that gives a period."""
+    word = next((word for word in line.split(" ") if word.startswith("attr=")), "") if line[:5] == "open " else ""
+    return any(bytes.fromhex(word[5:])[16:24])
+
+
+def live_path() -> str | None:
+    """Where perf_live lies: what PERF_LIVE names, or its usual place; None where it is not there."""
+    return live_at() if os.environ.get("PERF_LIVE") or os.access(USUAL, os.X_OK) else None
+
+
+def back_end(program: Program, live: str | None) -> BackEnd:
+    """A session's back end: perf_live where a path is given."""
+    if live:
+        return LineByLine(live, program)
+    return Replay(program)
 
 
 def call(program: Program, words: str, text: str) -> Outcome:

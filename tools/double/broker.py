@@ -9,12 +9,13 @@ import signal
 import sys
 import time
 from collections.abc import Callable, Iterable
+from functools import partial
 
 from perfscript import Program
 
 from double import numbers as n
 from double.attributes import Translator
-from double.backend import BackEnd, Replay
+from double.backend import BackEnd, back_end
 from double.calls import BadAddress, Call, ClientGone
 from double.clock import Clock, Quiet, Sleep
 from double.scenario import Block, Scenario
@@ -32,9 +33,16 @@ HANDLERS: dict[int, Handler] = {}
 class Broker:
     """What is known of the command's threads, the session that is open, and those that are over."""
 
-    def __init__(self, scenario: Scenario, program: Program, is_real: bool = False, is_verbose: bool = False) -> None:
+    def __init__(
+        self,
+        scenario: Scenario,
+        program: Program,
+        is_real: bool = False,
+        is_verbose: bool = False,
+        live: str | None = None,
+    ) -> None:
         self.scenario, self.program, self.is_verbose = scenario, program, is_verbose
-        self.make_back_end: Callable[[], BackEnd] = lambda: Replay(program)
+        self.make_back_end: Callable[[], BackEnd] = partial(back_end, program, live)
         self.make_session: Callable[[Scenario, BackEnd, Callable[[str], None], int], Session] = Session
         self.translator = Translator(scenario, program, self.note)
         self.clock, self.quiet, self.tree = Clock(is_real), Quiet(), Tree()

@@ -7,10 +7,11 @@ import sys
 from collections.abc import Sequence
 
 from perfscript import Draft, Fault, Program, Script, program_at
-from perfscript.command import Parser, ended, text_of
+from perfscript.command import Parser, ended, name_of, text_of
 from perfscript.program import Built
 
 from double import differences, truth
+from double.backend import live_path
 from double.broker import Broker
 from double.build import NotHere
 from double.certificate import Certified, certify
@@ -47,10 +48,10 @@ def parser() -> Parser:
     return made
 
 
-def main(words: Sequence[str]) -> int:
+def main(words: Sequence[str] | None = None) -> int:
     """Reads the words, runs the command, and holds its answers against the journal."""
     form = parser()
-    own, command = split(list(words))
+    own, command = split(list(sys.argv[1:] if words is None else words))
     options = form.parse_args(own)
     if options.mark is not None:
         return ended("double.py", lambda: reach(options.mark))
@@ -93,12 +94,12 @@ def reach(name: str) -> int:
 def run_in(scenario: Scenario, program: Program, options: object, command: list[str]) -> int:
     """The status of the command, or that of the double where it comes first."""
     given = vars(options)
-    broker = Broker(scenario, program, given["time"] == "real", given["verbose"])
+    broker = Broker(scenario, program, given["time"] == "real", given["verbose"], live_path())
     try:
         with Run(broker, command, by_library=given["preload"]) as run:
             run.serve()
     except NotHere as why:
-        print(f"double.py: {why}", file=sys.stderr)
+        print(f"{name_of('double.py')}: {why}", file=sys.stderr)
         return NOT_HERE
     if given["journal"]:
         keep(broker.sessions, given["journal"])
@@ -107,7 +108,7 @@ def run_in(scenario: Scenario, program: Program, options: object, command: list[
     if certified.differs:
         found.append(f"NOT CERTIFIED: {certified.differs}")
     for failure in found:
-        print(f"double.py: {failure}", file=sys.stderr)
+        print(f"{name_of('double.py')}: {failure}", file=sys.stderr)
     tell(broker.sessions, certified, program, given["truth"], given["why"])
     return UNCERTIFIED if found else run.status
 

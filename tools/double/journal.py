@@ -46,12 +46,18 @@ class Journal:
             del lines[mark.lines.get(actor, 0) :]
         del self.draft.order[mark.order :]
         self.tasks, self.rings = mark.tasks, mark.rings
+        self.back_end.go_back(mark.order)
 
     def text(self) -> str:
+        """The script so far."""
+        return self.whole().text()
+
+    def whole(self) -> Draft:
+        """The script so far, with the tasks and rings in its head."""
         tasks = [f"task {number}" for number in sorted(self.tasks)]
         rings = [f"ring {number} bytes={size}" for number, size in sorted(self.rings.items())]
         self.draft.head = self.head + tasks + rings
-        return self.draft.text()
+        return self.draft
 
     def processor(self, actor: str, line: str) -> Key:
         """Adds a line of a processor."""
@@ -72,7 +78,7 @@ class Journal:
         """The report of the lines so far. Where they are too much, those since the last question are taken away."""
         if self.report is None or self.checked.order != len(self.draft.order):
             try:
-                self.report = self.back_end.report(self.text())
+                self.report = self.back_end.report(self.whole())
             except TooMuch:
                 self.go_back(self.checked)
                 raise
@@ -89,6 +95,10 @@ class Journal:
 
     def read(self, line: str) -> tuple[Key, list[str] | None]:
         """A read that was asked for since something happened is not asked again, since reads change nothing."""
+        if not self.back_end.is_asked_ahead:
+            self.forget()
+            key = self.draft.act(TOOL, line)
+            return key, words_of(self.ask(), key)
         if line not in self.reads:
             self.ask_ahead([line, *(other for other in self.last_reads if other != line)])
         elif self.draft.count >= MOST_LINES:
@@ -100,7 +110,7 @@ class Journal:
         mark = self.mark()
         keys = [self.draft.act(TOOL, line) for line in lines[:MOST_READS_AHEAD]]
         try:
-            self.report = self.back_end.report(self.text())
+            self.report = self.back_end.report(self.whole())
         except TooMuch:
             self.go_back(mark if len(lines) > 1 else self.checked)
             if len(lines) == 1:

@@ -365,7 +365,7 @@ def id_by_probe(text: str, slot: int, back_end: BackEnd) -> int:
     probe = MOST_SLOTS - 1 if slot != MOST_SLOTS - 1 else slot - 1
     draft.act(TOOL, f"open {probe} kind=dummy {place} format=4")
     key = draft.act(TOOL, f"read {probe}")
-    words = words_of(back_end.report(draft.text()), key)
+    words = words_of(back_end.report_apart(draft), key)
     if not words or len(words) != 2:
         raise Fault(f"the id of slot {slot} can't be asked for: {words}")
     return int(words[1]) - 1

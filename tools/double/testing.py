@@ -12,6 +12,7 @@ from perfscript import Program, program_at
 from perfscript.command import text_of
 
 from double import truth
+from double.backend import live_path
 from double.broker import Broker
 from double.certificate import certify
 from double.run import Run
@@ -47,14 +48,22 @@ class Double:
 
         with Double("x.scenario") as double:
             result = double.run(["perf", "stat", "-x,", "-e", "cycles", "sleep", "1"])
+
+    `program` is the built perf_run, and `live` the built perf_live, "" for none: each answer is then a replay's.
     """
 
     def __init__(
-        self, scenario: str, program: str | None = None, by_library: bool = False, is_real: bool = False
+        self,
+        scenario: str,
+        program: str | None = None,
+        by_library: bool = False,
+        is_real: bool = False,
+        live: str | None = None,
     ) -> None:
         self.program = program_at(program or os.environ.get("PERF_RUN"))
         self.scenario = read_scenario(scenario, text_of(scenario), self.program)
         self.by_library, self.is_real = by_library, is_real
+        self.live = live_path() if live is None else live
 
     def __enter__(self) -> "Double":
         return self
@@ -64,7 +73,7 @@ class Double:
 
     def run(self, words: Sequence[str], environment: dict[str, str] | None = None) -> Result:
         """Runs a command. Uncertified where an answer that it was given is not the report's."""
-        broker = Broker(self.scenario, self.program, self.is_real)
+        broker = Broker(self.scenario, self.program, self.is_real, live=self.live)
         with tempfile.TemporaryFile() as out, tempfile.TemporaryFile() as err:
             with Run(broker, words, environment, self.by_library, (out.fileno(), err.fileno())) as run:
                 run.serve()

@@ -14,6 +14,8 @@
     program     program_at(path_or_None) gives the program: the one of --program, the built one, or `rt try`
                 call("replay", text) and outcomes([("stat", text), ..]) give `Outcome`s: status, out, note
                 report(text) and table(text) are of a script that has to be done
+    live        Live(head) asks perf_live line by line: tool(0, "read 0") and cpu(0, "tick") give `Answer`s, which have a
+                verdict, words, reason, numbers, seats; at its end all answers are compared with one replay
     progress    elapsed seconds, or n of N, on a terminal
     command     --help, --version, --program, and one line with status 2 for what is wrong with the input
     faults      Fault: that line
@@ -23,6 +25,7 @@ Times are in the script's units of work, rings' places and sizes in bytes.
 """
 
 from perfscript.faults import Fault
+from perfscript.live import Answer, Live
 from perfscript.program import Outcome, Program, program_at
 from perfscript.report import Record, Reply, Report, Ring, Row, rows_of
 from perfscript.script import Act, Draft, Key, Kind, Line, Look, Pmu, Reader, Script, lines_of
@@ -30,6 +33,6 @@ from perfscript.script import Act, Draft, Key, Kind, Line, Look, Pmu, Reader, Sc
 VERSION = "1.0.0"
 
 __all__ = [
-    "Act", "Draft", "Fault", "Key", "Kind", "Line", "Look", "Outcome", "Pmu", "Program", "Reader", "Record", "Reply",
-    "Report", "Ring", "Row", "Script", "VERSION", "lines_of", "program_at", "rows_of",
+    "Act", "Answer", "Draft", "Fault", "Key", "Kind", "Line", "Live", "Look", "Outcome", "Pmu", "Program", "Reader",
+    "Record", "Reply", "Report", "Ring", "Row", "Script", "VERSION", "lines_of", "program_at", "rows_of",
 ]

@@ -19,9 +19,10 @@ def name_of(command: str) -> str:
 
 
 class Parser(argparse.ArgumentParser):
-    """Refuses words in one line. `doc` has what the command does, a line `Usage: WORDS`, and details."""
+    """Refuses words in one line. `doc` has what the command does, a line `Usage: WORDS`, and details; `program` is the
+    name of the program that the command asks."""
 
-    def __init__(self, command: str, doc: str, epilog: str | None = None) -> None:
+    def __init__(self, command: str, doc: str, epilog: str | None = None, program: str = "perf_run") -> None:
         about, _, rest = doc.partition("\n\nUsage: ")
         usage, _, details = rest.partition("\n\n")
         text = f"{about}\n\n{details}".strip()
@@ -29,7 +30,7 @@ class Parser(argparse.ArgumentParser):
         form = argparse.RawDescriptionHelpFormatter
         super().__init__(name, usage.replace(command, name) or None, text, epilog, formatter_class=form)
         self.add_argument("--version", action="version", version=f"%(prog)s {perfscript.VERSION}")
-        self.add_argument("--program", metavar="PATH", help="the built perf_run")
+        self.add_argument("--program", metavar="PATH", help=f"the built {program}")
 
     def error(self, message: str) -> NoReturn:
         print(f"{self.prog}: {message}; {self.prog} --help has the words", file=sys.stderr)

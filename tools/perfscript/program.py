@@ -156,11 +156,12 @@ def _write(path: str, text: str) -> None:
         file.write(text)
 
 
-def program_at(path: str | None = None) -> Program:
-    """The program of `--program PATH`, else the built one at its usual place, else `rt try`."""
+def program_at(path: str | None = None, option: str = "--program") -> Program:
+    """The program of `--program PATH`, else the built one at its usual place, else `rt try`. `option` is the word that
+    a fault names."""
     if path is not None:
         if not os.path.isfile(path):
-            raise Fault(f"--program: {path} is not a file; give the path of the built perf_run")
+            raise Fault(f"{option}: {path} is not a file; give the path of the built perf_run")
         return Built(os.path.abspath(path))
     if os.access(USUAL, os.X_OK):
         return Built(USUAL, "the proved program")

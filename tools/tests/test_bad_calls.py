@@ -17,6 +17,7 @@ REFUSED = os.path.join(DATA, "texts-refused", "two-spaces.script")
 FIT = ["fit.py", "--counters", "1", "-e", "cycles"]
 WITH_PERF = ["fit.py", "-m", "skylake", "--"]
 ON_LINUX = ["on_linux"]
+LIVE = ["maintain/live_benchmark.py", "--replay", "{program}"]
 # words of a call: {false} is a program that fails, {mute} one that writes nothing, {loud} one that writes no report,
 # {binary} a file of bytes, {folder} an empty folder, and {program} the program
 CALLS = (
@@ -81,6 +82,18 @@ CALLS = (
     (["maintain/repeated_lemmas.py", "odd"], "odd: a number was wanted; repeated_lemmas.py --help has the usage"),
     (["maintain/double_clients.py", "odd"], "unrecognized arguments: odd; double_clients.py --help has the words"),
     (["maintain/double_clients.py", "--seeds", "odd"], "--seeds: odd is not FIRST-LAST, two numbers"),
+    (["maintain/double_benchmark.py", "odd"], "unrecognized arguments: odd; double_benchmark.py --help has the words"),
+    (["maintain/double_benchmark.py", "--live", "/nonexistent"], "--live: /nonexistent is not a file; give"),
+    (["maintain/double_benchmark.py", "--program", "/nonexistent"], "--program: /nonexistent is not a file"),
+    (["maintain/live_sessions.py", "odd"], "unrecognized arguments: odd; live_sessions.py --help has the words"),
+    (["maintain/live_sessions.py", "--seeds", "odd"], "--seeds: odd is not FIRST-LAST, two numbers"),
+    (["maintain/live_sessions.py", "--jobs", "0"], "--jobs: 0 is too few; give 1 or more"),
+    (["maintain/live_sessions.py", "--program", "/nonexistent"], "--program: /nonexistent is not a file; give"),
+    (["maintain/live_sessions.py", "--program", "{false}", "--replay", "/nonexistent"], "--replay: /nonexistent is not"),
+    (["maintain/live_benchmark.py", "odd"], "unrecognized arguments: odd; live_benchmark.py --help has the words"),
+    (["maintain/live_benchmark.py", "--program", "{folder}"], "is not a file; give the path of the built perf_live"),
+    ([*LIVE, "--program", "/bin/true"], "/bin/true does not answer the client in C: the program: "),
+    ([*LIVE, "--program", "{binary}"], "binary: Exec format error"),
     (["double.py"], "give a scenario, and the command behind --; double.py --help has the words"),
     (["double.py", "--program", "{program}", "/nonexistent", "--", "true"], "/nonexistent"),
     (["fit.py", "-m", "vax", "-e", "cycles"], "-m: no machine and no model is called 'vax'"),

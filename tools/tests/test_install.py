@@ -11,7 +11,7 @@ import unittest
 import perfscript
 from perfscript.tests.support import PATH, TOOLS, ProgramTest, stored
 
-COMMANDS = ("explain", "fit", "on-linux", "perf-data", "timeline")
+COMMANDS = ("double", "explain", "fit", "on-linux", "perf-data", "timeline")
 ASKED = "import sys, setuptools, wheel, pip; sys.exit(sys.version_info < (3, 11))"
 
 
@@ -78,6 +78,16 @@ class Installed(ProgramTest):
         done = self.called("on-linux", "--program", PATH, script)
         self.assertIn(done.returncode, (0, 77), done.stderr)
         self.assertIn("a.script: not comparable" if done.returncode == 0 else "no event can be opened here", done.stdout)
+
+    def test_the_double_runs_a_command(self):
+        scenario = os.path.join(self.target, "double", "four-groups.scenario")
+        done = self.called("double", "--program", PATH, scenario, "--", "echo", "hello")
+        if done.returncode == 77:
+            self.skipTest(done.stderr.strip())
+        self.assertEqual((0, "hello\n", ""), (done.returncode, done.stdout, done.stderr))
+        done = self.called("double", "--program", PATH, scenario)
+        said = "jugheather-double: give a scenario, and the command behind --; jugheather-double --help has the words\n"
+        self.assertEqual((2, "", said), (done.returncode, done.stdout, done.stderr))
 
     def test_without_a_program_it_says_what_to_give(self):
         done = self.called("timeline", os.path.join(TOOLS, "..", "examples", "full-ring.script"))

@@ -3,9 +3,10 @@
 import os
 from unittest import mock
 
-from double import Double, Uncertified, journal, session
+from double import Double, Uncertified, backend, journal, session
 from double.tests.support import PATH, DoubleTest, client
 from double.tests.test_client import CYCLES
+from perfscript.tests.support import LIVE_HOW
 
 OPERATIONS = """\
 o 0 0 0 0 0 3 0 0 -1 -1 0 128 0
@@ -22,18 +23,19 @@ SAMPLES = "o 0 0 0 10 7 0 0 0 -1 -1 0 128 0\nm 0 1 3 1\ns 3000\nM 0\nc 0\n"
 
 
 class WrongBrokers(DoubleTest):
-    """Each is wrong in one thing, and gives the client an answer that looks right."""
+    """Each is wrong in one thing, and gives the client an answer that looks right. Those that take a line out of the
+    journal have replays as their back end: perf_live would be asked for the next lines without it."""
 
-    def run_client(self, operations=OPERATIONS):
+    def run_client(self, operations=OPERATIONS, live=None):
         path = os.path.join(self.folder, "x.scenario")
         with open(path, "w", encoding="ascii") as file:
             file.write(CYCLES)
-        with Double(path, PATH) as double:
+        with Double(path, PATH, live=live) as double:
             return double.run([client(), self.operations(operations)])
 
-    def assert_caught(self, *words, operations=OPERATIONS):
+    def assert_caught(self, *words, operations=OPERATIONS, live=None):
         with self.assertRaises(Uncertified) as caught:
-            self.run_client(operations)
+            self.run_client(operations, live)
         for word in words:
             self.assertIn(word, str(caught.exception))
 
@@ -43,6 +45,20 @@ class WrongBrokers(DoubleTest):
         row = result.truth()[0]
         self.assertEqual((row.name, row.occurred, row.counted, row.scaled), ("cycles", 10, 10, 10))
         self.assertIn("read 0 size=24", result.journals()[0])
+
+    def test_a_wrong_answer_of_perf_live(self):
+        right = backend.LineByLine.ask
+
+        def wrong(own, actor, line):
+            right(own, actor, line)
+            if line == "read 0 size=24":
+                words = own.found.replies[actor, own.done[actor] - 1].words
+                words[0] = str(int(words[0]) + 1)
+
+        if not backend.live_path():
+            self.skipTest(f"no perf_live: {LIVE_HOW}")
+        with mock.patch.object(backend.LineByLine, "ask", wrong):
+            self.assert_caught("t0.2 read")
 
     def test_one_word_of_a_read(self):
         right = session.Session.read
@@ -64,7 +80,7 @@ class WrongBrokers(DoubleTest):
             return got
 
         with mock.patch.object(journal.Journal, "call", wrong):
-            self.assert_caught("an answer to ioctl of slot 0")
+            self.assert_caught("an answer to ioctl of slot 0", live="")
 
     def test_a_processor_line_that_the_journal_lacks(self):
         right = journal.Journal.read
@@ -79,7 +95,7 @@ class WrongBrokers(DoubleTest):
 
         operations = OPERATIONS.replace("i 0 0x2401 0\n", "")
         with mock.patch.object(journal.Journal, "read", wrong):
-            self.assert_caught("read", operations=operations)
+            self.assert_caught("read", operations=operations, live="")
 
     def test_an_errno(self):
         right = session.errno_of

@@ -13,6 +13,7 @@ from perfscript.program import REPOSITORY, USUAL, Built
 NAMED = os.environ.get("PERF_RUN")
 PATH = os.path.abspath(NAMED or USUAL)
 HOW = "`rt ci` and `rt run` leave it there, or PERF_RUN names another"
+LIVE_HOW = HOW.replace("PERF_RUN", "PERF_LIVE")
 TOOLS = os.path.join(REPOSITORY, "tools")
 DATA = os.path.join(REPOSITORY, "crates", "worked_cases", "data")
 # stands for rt: runs the program on each case
