@@ -7,9 +7,12 @@ pub mod May
 pub mod Reached
 pub mod Sampled
 pub mod Sends
+pub mod Sent
 pub mod Sequences
 pub mod Shared
 pub mod Sized
 pub mod Skipped
 mod Space
 pub mod Steps
+pub mod Walked
+pub mod Walks

@@ -12,8 +12,8 @@ use Rattle.world_spec.specs.{Shares.{HaveRoom, soft_hits, one_hit}, Ways.{is_rea
 use Rattle.world_spec.proofs.{Accounts.{IsSum, counts_are_sums}, Along.{keys-live, reached-keys}, Keys.{times-cons, once-false}}
 use Rattle.world_spec.proofs.{Metering.{counted-most, none-unready, family-key}, Moving.{leads-parts}, Reaching.{one-reached}}
 use Rattle.work_account.specs.declared.{happening.Happening.{Happening}, overflowing.Hit.{Hit}}
-use Rattle.work_account.{specs.Visits.{occurs, samples, is_hit_by, takes, hit_at, hits_among, is_of, MayHit, MayHitAll}, proofs.Among.{hits-few}}
-use Rattle.work_account.proofs.{Growing.{soft-small}, Reached.{is_in, one-each, reached-few, stands-first, chosen-some, chosen-passes}}
+use Rattle.work_account.specs.Visits.{occurs, samples, is_hit_by, takes, hit_at, hits_among, is_of, MayHit, MayHitAll}
+use Rattle.work_account.proofs.{Growing.{soft-small}, Reached.{is_in, one-each, stands-first, chosen-some, chosen-passes}}
 use Rattle.work_account.specs.declared.happening.Happening.TheVariants as happening
 
 -- none of those that take it goes along totals
@@ -83,7 +83,6 @@ module _ (x : Happening) (w : World) (cpu : CpuNo) (h : IsKept w.hardware w) whe
           count-filter (is_in w slot) (takes x w) (keys_by_pass w cpu),
           counted-hits x w slot (filter (takes x w) (keys_by_pass w cpu)),
         );
-    few = omega (arith, hits-few x w (keys_by_pass w cpu), reached-few w cpu h);
     linked = h.linked;
   }
     where

@@ -1,20 +1,17 @@
--- The keys that a processor reaches: no two are of one family, so they are few.
-use Rattle.std.specs.Prelude.{◌≡◌, ℕ, zero, suc, ◌+◌, ◌<◌, ◌≤◌, ◌==◌, Bool, true, false, not, ◌&&◌, cond, List, [], ◌∷◌, ◌++◌, length, map, filter, flat_map, count_by, Option, Some, None, IfSome, slice_index_or, if◌then◌else◌}
-use Rattle.std.proofs.{Common.{arith, refl, sym, ap, ◌∙◌, inl, inr, append_assoc}, lemmas.List.{get_or_past, length-append}}
-use Rattle.std.proofs.lemmas.Bool.{cases_eq, cases_lt, cases_Bool, false≢true, Decides.{nat_tests}}
+-- The keys that a processor reaches: no two are of one family.
+use Rattle.std.specs.Prelude.{◌≡◌, ℕ, ◌<◌, ◌≤◌, ◌==◌, Bool, true, false, ◌&&◌, cond, List, [], ◌∷◌, length, map, filter, flat_map, count_by, Option, Some, None, IfSome, slice_index_or, if◌then◌else◌}
+use Rattle.std.proofs.{Common.{arith, refl, sym, ap, ◌∙◌, inl, inr}, lemmas.List.{get_or_past}}
+use Rattle.std.proofs.lemmas.Bool.{cases_lt, cases_Bool, false≢true, Decides.{nat_tests}}
 use Rattle.perf_base.specs.declared.{numbers.{CpuNo.{CpuNo}, EventNo.{EventNo}, Key.{Key}, TaskNo.{TaskNo}}, standing.Context.{Context}}
-use Rattle.perf_base.specs.declared.standing.Context.TheVariants as context
 use Rattle.stage_spec.specs.{declared.instance.{TaskStatus.{TaskStatus}, Instance.{Instance}}, Hardware.{Hardware}}
 use Rattle.stage_spec.specs.{Stage.{members, is_of_family, task_on, place_of, unknown_task, is_live as is_live_task}, Verdict.{reached}}
-use Rattle.stage_laws.proofs.Counts.{count-cons, count-filter}
-use Rattle.world_spec.specs.{Value.{World, Leaders, entry_at, instance_at, leaders_of, is_key, times}, StageOf.{group_at, stage_of}}
-use Rattle.world_spec.specs.{Kept.{post_at, leads, once_if, IsKept}, Listings.{pass_leaders, task_leaders}, Working.{keys_by_pass, leaders_by_pass}}
-use Rattle.world_spec.proofs.{Along.{keys-live}, Counting.{times-filter}, Families.{members-are}}
-use Rattle.world_spec.proofs.Keys.{is_key-same, times-cons, once-true, once-false}
+use Rattle.stage_laws.proofs.Counts.{count-cons}
+use Rattle.world_spec.specs.{Value.{World, entry_at, instance_at, leaders_of, is_key, times}, StageOf.{group_at, stage_of}}
+use Rattle.world_spec.specs.{Kept.{post_at, leads, once_if, IsKept}, Listings.{pass_leaders}, Working.{keys_by_pass, leaders_by_pass}}
+use Rattle.world_spec.proofs.{Counting.{times-filter}, Families.{members-are}}
+use Rattle.world_spec.proofs.Keys.{is_key-same, times-cons, once-true}
 use Rattle.world_spec.proofs.Listings.{passes-are, flat-mapped, reached-leading, one-on_processor}
 use Rattle.world_tables.specs.Places.{picked}
-use Rattle.work_account.specs.{declared.{happening.Happening.{Happening}, overflowing.Hit.{Hit}}, Visits.{hits_among, own_keys, task_keys}}
-use Rattle.work_account.proofs.Among.{flat-four, hits-four}
 
 -- whether an instance is of the family of a slot
 abbrev pub is_in : World → ℕ → Key → Bool
@@ -49,34 +46,6 @@ chosen-passes p keys q some = elim (cases_Bool (p q)) [
   | inr e ↦ absurd (omega (arith, some, times-filter q p keys, ap (λ b. cond b (times q keys) 0) e))
 ]
 
--- A processor reaches at most one key of each of 256 slots.
-split-length : (p : Key → Bool) (keys : List Key) → length keys ≡ count_by p keys + length (filter (λ k. not (p k)) keys)
-split-length p [] = refl
-split-length p (k ∷ keys) = grind (arith, nat_tests, count-cons, once-true, once-false, split-length p keys)
-
-not-in : (w : World) (n : ℕ) (q : Key) → not (is_in w n q) ≡ true → (instance_at w q).event.0 ≡ n → ⊥
-not-in w n q out same = let its : is_in w n q ≡ true = grind (arith, nat_tests, same) in false≢true (sym (ap not its) ∙ out)
-
-below-few : (w : World) (n : ℕ) (keys : List Key) → ((slot : ℕ) → count_by (is_in w slot) keys ≤ 1) → ((q : Key) → 1 ≤ times q keys → (instance_at w q).event.0 < n)
-    → length keys ≤ n
-below-few w zero [] each low = omega arith
-below-few w zero (k ∷ keys) each low = absurd (omega (arith, low k (stands-first k keys)))
-below-few w (suc n) keys each low =
-    let p : Key → Bool = λ k. not (is_in w n k) in
-    let rest : length (filter p keys) ≤ n = below-few w n (filter p keys)
-    (λ slot. omega (arith, each slot, count-filter (is_in w slot) p keys))
-    (λ q some. below (instance_at w q).event.0 (low q (chosen-some p keys q some)) (not-in w n q (chosen-passes p keys q some))) in
-    omega (arith, rest, each n, split-length (is_in w n) keys)
-  where
-    below : (e : ℕ) → e < suc n → (e ≡ n → ⊥) → e < n
-    below e l off = elim (cases_eq e n) [
-      | inl same ↦ absurd (off same)
-      | inr other ↦ omega (arith, l, other)
-    ]
-
-pub reached-few : (w : World) (cpu : CpuNo) → IsKept w.hardware w → length (keys_by_pass w cpu) ≤ 256
-reached-few w cpu h = below-few w 256 (keys_by_pass w cpu) (one-each w.hardware w cpu h) (λ q some. h.numbered.slots q (keys-live w.hardware w cpu h q some))
-
 -- who stands in a list of a context leads, and a task that runs has a number below 64
 leads-where : (lead other third : Bool) → 1 ≤ once_if (lead && other && third) → lead ≡ true
 leads-where true other third h = refl
@@ -94,37 +63,3 @@ live-below tasks n live = grind (arith, nat_tests, cases_lt, false≢true, get_o
 pub task-below : (hw : Hardware) (w : World) (cpu : CpuNo) (o : Option TaskNo) → IsKept hw w → o ≡ task_on (stage_of w) cpu → IfSome o (λ t. t.0 < 64)
 task-below hw w cpu None h on = tt
 task-below hw w cpu (Some task) h on = omega (arith, live-below w.quiet.tasks task.0 (h.running.live cpu task (sym on)), h.shape.tasks)
-
--- the four lists of a processor
-module _ (w : World) (cpu : CpuNo) (task : Option TaskNo) (on : task ≡ task_on (stage_of w) cpu) where
-  four : keys_by_pass w cpu ≡ own_keys w cpu true ++ (task_keys w task true ++ (own_keys w cpu false ++ (task_keys w task false ++ [])))
-  four =
-      let own : Leaders = leaders_of w (context.Processor cpu) in
-      let its : Leaders = task_leaders w (task_on (stage_of w) cpu) in
-      flat-four w own.pinned its.pinned own.flexible its.flexible
-      ∙ ap (λ t. own_keys w cpu true ++ (task_keys w t true ++ (own_keys w cpu false ++ (task_keys w t false ++ [])))) (sym on)
-
-  pub four-lengths : IsKept w.hardware w
-      → length (own_keys w cpu true) + (length (task_keys w task true) + (length (own_keys w cpu false) + length (task_keys w task false))) ≤ 256
-  four-lengths h =
-      omega (
-        arith,
-        reached-few w cpu h,
-        ap (λ (keys : List Key). length keys) four,
-        length-append (own_keys w cpu true) (task_keys w task true ++ (own_keys w cpu false ++ (task_keys w task false ++ []))),
-        length-append (task_keys w task true) (own_keys w cpu false ++ (task_keys w task false ++ [])),
-        length-append (own_keys w cpu false) (task_keys w task false ++ []),
-        length-append (task_keys w task false) [],
-      )
-
-  pub four-found : (x : Happening) (a b c d : List Hit) → a ≡ [] ++ hits_among x w (own_keys w cpu true) → b ≡ a ++ hits_among x w (task_keys w task true)
-      → c ≡ b ++ hits_among x w (own_keys w cpu false) → d ≡ c ++ hits_among x w (task_keys w task false) → d ≡ hits_among x w (keys_by_pass w cpu)
-  four-found x a b c d first second third last =
-      let h1 : List Hit = hits_among x w (own_keys w cpu true) in
-      let h2 : List Hit = hits_among x w (task_keys w task true) in
-      let h3 : List Hit = hits_among x w (own_keys w cpu false) in
-      let h4 : List Hit = hits_among x w (task_keys w task false) in
-      last
-      ∙ (ap (λ (l : List Hit). l ++ h4) (third ∙ ap (λ (l : List Hit). l ++ h3) (second ∙ ap (λ (l : List Hit). l ++ h2) first))
-      ∙ (append_assoc (h1 ++ h2) h3 h4 ∙ (append_assoc h1 h2 (h3 ++ h4)
-      ∙ sym (ap (hits_among x w) four ∙ hits-four x w (own_keys w cpu true) (task_keys w task true) (own_keys w cpu false) (task_keys w task false)))))

@@ -1,7 +1,7 @@
 -- The records of the overflows that a stretch of work gives are those of the definitions, and what is left once they
 -- were sent.
-use Rattle.std.specs.Prelude.{◌≡◌, ℕ, zero, suc, ◌+◌, ◌==◌, not, ◌&&◌, ◌<◌, ◌≤◌, Bool, true, false, cond, All, List, [], ◌∷◌, ◌++◌, length, map, filter, flat_map, slice_index_or, Option, Some, None}
-use Rattle.std.proofs.{Common.{arith, refl, sym, ap, subst, ◌∙◌}, lemmas.{Bool.{false≢true}, List.{get_or-set_same, Elements.{All-nil, All-cons}}}}
+use Rattle.std.specs.Prelude.{◌≡◌, ℕ, zero, suc, ◌+◌, ◌==◌, not, ◌&&◌, ◌<◌, ◌≤◌, Bool, true, false, cond, List, [], ◌∷◌, ◌++◌, length, map, filter, flat_map, slice_index_or, Option, Some, None}
+use Rattle.std.proofs.{Common.{arith, refl, sym, ap, subst, ◌∙◌}, lemmas.{Bool.{false≢true}, List.{get_or-set_same}}}
 use Rattle.perf_base.specs.declared.{lines.Work.{Work}, numbers.{CpuNo.{CpuNo}, EventNo.{EventNo}, Key.{Key}, RingNo.{RingNo}}}
 use Rattle.perf_base.specs.declared.lines.CpuLine.TheVariants as cpu_line
 use Rattle.stage_spec.specs.{declared.instance.Instance.{Instance}, History.{CpuStep}, Occurrences.{left_after_one, overflows}, Shares.{work_hits}}
@@ -15,7 +15,7 @@ use Rattle.work_account.specs.declared.{overflowing.Overflow.{Overflow}, samples
 use Rattle.work_account.specs.Ends.{Ends, AreTogether, HaveAccounts, HaveSpace, send_all}
 use Rattle.work_account.specs.Sampling.{AreLeft, HasInstance, HaveRings, HaveSpaceToSend, ends_of, sent_by, sents_of, sents_all}
 use Rattle.work_account.{specs.Visits.{samples, takes, hit_at, hits_among, overflow_of}, proofs.Accounts.{AreSized, accounts-after, lost-after}}
-use Rattle.work_account.proofs.{Left.{IsMetered}, Sequences.{together-after}, Shared.{is-zero}, Sized.{all-sized}}
+use Rattle.work_account.proofs.{Sequences.{together-after}, Shared.{is-zero}, Sized.{all-sized}}
 use Rattle.work_account.specs.declared.happening.Happening.TheVariants as happening
 
 -- without a period there is no overflow, and no overflow sends nothing
@@ -83,15 +83,6 @@ module _ (w : World) (cpu : CpuNo) (work : Work) (clock : ℕ) (left : ℕ → �
           rest ∙ ap (λ (l : List (RingNo × SentSample)). l ++ flat_map of_instance (map (instance_at w) (filter (is_on w) keys))) (sym (none-sends (instance_at w k) is))
       one false false is same rest = rest
 
--- the instances of the overflows live
-live-over : (w : World) (cpu : CpuNo) (work : Work) (clock : ℕ) (left : ℕ → ℕ) (keys : List Key) → ((k : Key) → 1 ≤ times k keys → is_live w k ≡ true)
-    → All (λ o. is_live w o.key ≡ true) (map (over w cpu work clock left) keys)
-live-over w cpu work clock left [] lives = All-nil (λ (o : Overflow). is_live w o.key ≡ true)
-live-over w cpu work clock left (k ∷ keys) lives =
-    All-cons (λ (o : Overflow). is_live w o.key ≡ true) (over w cpu work clock left k) (map (over w cpu work clock left) keys)
-    (lives k (omega (arith, times-cons k k keys, once-true (is_key k k) (is_key-same k k refl))))
-    (live-over w cpu work clock left keys (λ j some. lives j (omega (arith, some, times-cons j k keys))))
-
 chosen : (p : Key → Bool) (keys : List Key) (q : Key) → 1 ≤ times q (filter p keys) → 1 ≤ times q keys
 chosen p keys q some = one (p q) (omega (arith, some, times-filter q p keys))
   where
@@ -99,17 +90,15 @@ chosen p keys q some = one (p q) (omega (arith, some, times-filter q p keys))
     one true h = h
     one false h = absurd (omega (arith, h))
 
--- A world that was worked on, and whose instances were then hit; the overflows that were found; and the clock that was
--- read then.
-pub record Timed (w worked timed : World) (cpu : CpuNo) (work : Work) (found : List Overflow) (clock : ℕ) : Type 0 where
+-- A world that was worked on; the overflows that its instances then have; and the clock that was read then.
+pub record Timed (w worked : World) (cpu : CpuNo) (work : Work) (found : List Overflow) (clock : ℕ) : Type 0 where
   pub kept : IsKept w.hardware w
   pub cpu_there : cpu.0 < length w.quiet.running
   pub work_done : IsWorked w worked cpu work
-  pub world : IsMetered w timed cpu work
   pub overflows : found ≡ map (overflow_of worked) (hits_among (happening.Work work) w (keys_by_pass w cpu))
-  pub read : clock ≡ slice_index_or timed.quiet.clocks cpu.0 0
+  pub read : clock ≡ slice_index_or worked.quiet.clocks cpu.0 0
 
-module _ (w worked timed : World) (cpu : CpuNo) (work : Work) (found : List Overflow) (clock : ℕ) (t : Timed w worked timed cpu work found clock) where
+module _ (w worked : World) (cpu : CpuNo) (work : Work) (found : List Overflow) (clock : ℕ) (t : Timed w worked cpu work found clock) where
   lives : (k : Key) → 1 ≤ times k (keys_by_pass w cpu) → is_live w k ≡ true
   lives = keys-live w.hardware w cpu t.kept
 
@@ -138,41 +127,36 @@ module _ (w worked timed : World) (cpu : CpuNo) (work : Work) (found : List Over
   clock-is : clock ≡ slice_index_or w.quiet.clocks cpu.0 0 + work.length
   clock-is =
       t.read
-      ∙ (ap (λ (v : World). slice_index_or v.quiet.clocks cpu.0 0) t.world
+      ∙ (ap (λ (v : World). slice_index_or v.quiet.clocks cpu.0 0) t.work_done.rest
       ∙ get_or-set_same w.quiet.clocks cpu.0 (slice_index_or w.quiet.clocks cpu.0 0 + work.length) 0 (omega (arith, t.cpu_there, t.kept.tables.clocks)))
 
   pub sents-are : IsJudged w.hardware w cpu → (left : ℕ → ℕ) → AreLeft w left
-      → sents_all timed (record { cpu = cpu; work = work; clock = clock }) found ≡ sent_by w left cpu work
+      → sents_all worked (record { cpu = cpu; work = work; clock = clock }) found ≡ sent_by w left cpu work
   sents-are judged left are =
       let n : ℕ = slice_index_or w.quiet.clocks cpu.0 0 + work.length in
-      ap (λ (v : World). sents_all v (record { cpu = cpu; work = work; clock = clock }) found) t.world
+      ap (λ (v : World). sents_all v (record { cpu = cpu; work = work; clock = clock }) found) t.work_done.rest
       ∙ (ap (λ (c : ℕ). sents_all w (record { cpu = cpu; work = work; clock = c }) found) clock-is
       ∙ (ap (sents_all w (record { cpu = cpu; work = work; clock = n })) (found-are n left)
       ∙ (all-sends w cpu work n left are (keys_by_pass w cpu) lives
       ∙ ap (flat_map (of_instance w cpu work n left)) (sym (on-keys w.hardware w cpu t.kept judged)))))
 
-  pub ends-same : (outs : OutList) → ends_of outs timed ≡ ends_of outs w
-  ends-same outs = ap (ends_of outs) t.world
+  pub ends-same : (outs : OutList) → ends_of outs worked ≡ ends_of outs w
+  ends-same outs = ap (ends_of outs) t.work_done.rest
 
-  pub live-found : All (λ o. is_live timed o.key ≡ true) found
-  live-found =
-      subst (λ (v : World). All (λ o. is_live v o.key ≡ true) found) (sym t.world)
-      (subst (λ (l : List Overflow). All (λ o. is_live w o.key ≡ true) l) (sym (found-are 0 (λ id. 0))) (live-over w cpu work 0 (λ id. 0) taken taken-live))
-
-  pub rings-there : (numbers : List RingNo) → HaveRings w numbers → HaveRings timed numbers
-  rings-there numbers h = subst (λ (v : World). HaveRings v numbers) (sym t.world) h
+  pub rings-there : (numbers : List RingNo) → HaveRings w numbers → HaveRings worked numbers
+  rings-there numbers h = subst (λ (v : World). HaveRings v numbers) (sym t.work_done.rest) h
 
   pub space-there : (outs : OutList) → IsJudged w.hardware w cpu → HaveSpaceToSend w (ends_of outs w) cpu work
-      → HaveSpace (HasInstance timed) (length (sents_all timed (record { cpu = cpu; work = work; clock = clock }) found)) (ends_of outs timed)
+      → HaveSpace (HasInstance worked) (length (sents_all worked (record { cpu = cpu; work = work; clock = clock }) found)) (ends_of outs worked)
   space-there outs judged h =
-      subst (λ (v : World). HaveSpace (HasInstance v) (length (sents_all timed (record { cpu = cpu; work = work; clock = clock }) found)) (ends_of outs v)) (sym t.world)
+      subst (λ (v : World). HaveSpace (HasInstance v) (length (sents_all worked (record { cpu = cpu; work = work; clock = clock }) found)) (ends_of outs v)) (sym t.work_done.rest)
       (subst (λ (l : List (RingNo × SentSample)). HaveSpace (HasInstance w) (length l) (ends_of outs w)) (sym (sents-are judged h.left h.are_left)) h.space)
 
   pub ends-are : (before outs : OutList) (new : World) → IsJudged w.hardware w cpu → (left : ℕ → ℕ) → AreLeft w left
-      → ends_of outs new ≡ send_all (ends_of before timed) (sents_all timed (record { cpu = cpu; work = work; clock = clock }) found)
+      → ends_of outs new ≡ send_all (ends_of before worked) (sents_all worked (record { cpu = cpu; work = work; clock = clock }) found)
       → ends_of outs new ≡ send_all (ends_of before w) (sent_by w left cpu work)
   ends-are before outs new judged left are is =
-      is ∙ (ap (λ (x : Ends). send_all x (sents_all timed (record { cpu = cpu; work = work; clock = clock }) found)) (ends-same before)
+      is ∙ (ap (λ (x : Ends). send_all x (sents_all worked (record { cpu = cpu; work = work; clock = clock }) found)) (ends-same before)
       ∙ ap (send_all (ends_of before w)) (sents-are judged left are))
 
 pub together-are : (rings : RingList) (w new : World) (cpu : CpuNo) (work : Work) (left : ℕ → ℕ) (before outs : OutList)

@@ -1,6 +1,6 @@
 -- Records that are sent one after the other, and the space for those to come.
-use Rattle.std.specs.Prelude.{◌≡◌, ℕ, zero, suc, ◌+◌, ◌<◌, ◌≤◌, List, [], ◌∷◌, ◌++◌, length, drop, replicate, slice_get, slice_index_or, Option, Some, None}
-use Rattle.std.proofs.{Common.{arith, refl, sym, ap, subst, ◌∙◌}, Math.Seq.{drop-cons}, lemmas.List.{drop_all, length-append, length-replicate}}
+use Rattle.std.specs.Prelude.{◌≡◌, ℕ, zero, suc, ◌+◌, ◌<◌, List, [], ◌∷◌, ◌++◌, length, drop, replicate, slice_get, slice_index_or, Option, Some, None}
+use Rattle.std.proofs.{Common.{arith, refl, sym, ap, subst, ◌∙◌}, Math.Seq.{drop-cons}, lemmas.List.{length-append, length-replicate}}
 use Rattle.std.proofs.lemmas.{List.Sums.{fold-append}, Option.{slice_get_within, get_or_from_slice_get}}
 use Rattle.perf_base.specs.declared.{lines.Work.{Work}, numbers.{CpuNo.{CpuNo}, RingNo.{RingNo}}}
 use Rattle.stage_spec.specs.{declared.instance.Instance.{Instance}, Stage.{Stage}}
@@ -94,6 +94,3 @@ module _ (w : World) (line : Stretch) (found : List Overflow) (i : ℕ) (o : Ove
   rest-sends x after is =
       ap (λ y. send_all y (sents_all w line (drop (i + 1) found))) is
       ∙ (sym (send_all-append x (sents_of w line o) (sents_all w line (drop (i + 1) found))) ∙ ap (send_all x) (sym front-split))
-
-pub none-to-send : (w : World) (line : Stretch) (found : List Overflow) (i : ℕ) (x : Ends) → length found ≤ i → x ≡ send_all x (sents_all w line (drop i found))
-none-to-send w line found i x past = sym (send_all-none x) ∙ ap (λ l. send_all x (sents_all w line l)) (sym (drop_all i found past))

@@ -1,7 +1,7 @@
 -- Instances that are hit, one after the other.
-use Rattle.std.specs.Prelude.{◌≡◌, ℕ, zero, suc, ◌+◌, ◌<◌, ◌≤◌, true, false, List, [], ◌∷◌, ◌++◌, length, map, take, drop, count_by, slice_index_or}
+use Rattle.std.specs.Prelude.{◌≡◌, ℕ, suc, ◌+◌, ◌<◌, ◌≤◌, true, false, List, [], ◌∷◌, ◌++◌, length, map, take, drop, count_by, slice_index_or}
 use Rattle.std.{specs.{FinMap.{contains_key}, Option.{unwrap_or}}, proofs.Common.{arith, refl, sym, ap, subst, ◌∙◌, inl, inr}}
-use Rattle.std.proofs.lemmas.{Bool.{cases_eq, cases_Bool, Decides.{nat_tests}}, List.{map-append, take-append-drop, Sums.{fold-append}}}
+use Rattle.std.proofs.lemmas.{Bool.{cases_eq, cases_Bool, Decides.{nat_tests}}, List.{take-append-drop, Sums.{fold-append}}}
 use Rattle.std.proofs.Math.Seq.{drop-cons, take-suc}
 use Rattle.perf_base.specs.declared.{numbers.Key.{Key}, reply.Sums.{Sums}}
 use Rattle.stage_spec.specs.{Families.{plus}, Occurrences.{left_after, overflows}, Shares.{no_sums}}
@@ -9,7 +9,7 @@ use Rattle.stage_laws.proofs.Counts.{count-cons, count-append}
 use Rattle.world_spec.specs.Value.{World, Account, no_account, no_family, instance_at, account_at, is_key, times}
 use Rattle.world_spec.{specs.{Kept.{post_at, keys_of, plus_keys, family_sums, AreLinked}, Changes.{with_account}}, proofs.Accounts.{family-other}}
 use Rattle.world_spec.proofs.{Keys.{key-is, is_key-same, is_key-other, times-cons, once-true, once-false}, Tables.{get-here, get-there, keys-written}}
-use Rattle.work_account.specs.declared.{happening.Happening.{Happening}, overflowing.{Hit.{Hit}, Overflow.{Overflow}}}
+use Rattle.work_account.specs.declared.{happening.Happening.{Happening}, overflowing.{Hit.{Hit}}}
 use Rattle.work_account.specs.Visits.{occurs, hit_at, is_of, hit_one, hit_all, overflow_of, MayHit, MayHitAll}
 
 -- an account after a write
@@ -93,13 +93,6 @@ hit-next hits i d w now new low so_far more =
     ∙ (ap (λ v. hit_one v (slice_index_or hits i d)) so_far
     ∙ sym (ap (λ l. hit_all l w) (take-next hits i d low) ∙ one-more (take i hits) (slice_index_or hits i d) w))
 
-pub over-next : (hits : List Hit) (i : ℕ) (d : Hit) (w : World) (was new : List Overflow) → i < length hits → was ≡ map (overflow_of w) (take i hits)
-    → new ≡ was ++ overflow_of w (slice_index_or hits i d) ∷ [] → new ≡ map (overflow_of w) (take (i + 1) hits)
-over-next hits i d w was new low so_far more =
-    more
-    ∙ (ap (λ (l : List Overflow). l ++ overflow_of w (slice_index_or hits i d) ∷ []) so_far
-    ∙ sym (ap (map (overflow_of w)) (take-next hits i d low) ∙ map-append (overflow_of w) (take i hits) (slice_index_or hits i d ∷ [])))
-
 -- the next one is of no family of those before it
 module _ (w : World) (hits : List Hit) (may : MayHitAll w hits) (i : ℕ) (d : Hit) (low : i < length hits) where
   abbrev next : Hit
@@ -175,12 +168,6 @@ module _ (x : Happening) (w : World) where
       let here : contains_key v.accounts q.0 ≡ true = there q (omega (arith, times-cons q q keys, once-true (is_key q q) (is_key-same q q refl))) in
       let one : (j : Key) → contains_key (hit_one v (hit_at x w q)).accounts j.0 ≡ contains_key v.accounts j.0 = λ j. keys-written v.accounts q.0 _ here j.0 in
       hit-keys keys (hit_one v (hit_at x w q)) (λ j some. one j ∙ there j (omega (arith, some, times-cons j q keys))) k ∙ one k
-
--- no more are taken of a list than are asked for
-pub length-taken : (hits : List Hit) (i : ℕ) → length (take i hits) ≤ i
-length-taken hits zero = omega arith
-length-taken [] (suc i) = omega arith
-length-taken (h ∷ hits) (suc i) = omega (arith, length-taken hits i)
 
 pub but-all : (hits : List Hit) (w new : World) → new ≡ hit_all hits w → new ≡ record w { accounts = new.accounts }
 but-all hits w new is = is ∙ (all-rest hits w ∙ ap {A = World} {B = World} (λ v. record w { accounts = v.accounts }) (sym is))

@@ -1,3 +1,4 @@
 pub mod Ends
 pub mod Sampling
 pub mod Visits
+pub mod Walks

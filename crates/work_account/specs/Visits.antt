@@ -1,17 +1,15 @@
 -- inner
 -- Which instances a stretch of work, or one occurrence of a software kind, is given to one by one, and what that does.
 -- After perf_swevent_event and __perf_event_overflow of kernel/events/core.c; the order is this project's own profile.
-use Rattle.std.specs.Prelude.{◌≡◌, ℕ, ◌+◌, ◌^◌, ◌<◌, ◌≤◌, ◌==◌, Bool, true, false, not, ◌&&◌, List, length, map, filter, flat_map, count_by, Option, slice_index_or}
+use Rattle.std.specs.Prelude.{◌≡◌, ℕ, ◌+◌, ◌^◌, ◌<◌, ◌≤◌, ◌==◌, Bool, true, false, not, ◌&&◌, List, length, map, filter, flat_map, count_by, slice_index_or}
 use Rattle.std.specs.List.{fold}
-use Rattle.perf_base.specs.declared.numbers.{CpuNo.{CpuNo}, Key.{Key}, TaskNo.{TaskNo}}
-use Rattle.perf_base.specs.declared.standing.Context.TheVariants as context
+use Rattle.perf_base.specs.declared.numbers.{CpuNo.{CpuNo}, Key.{Key}}
 use Rattle.stage_spec.specs.{declared.instance.Instance.{Instance}, Occurrences.{overflows}, Shares.{work_hits}, Verdict.{on_instances}}
-use Rattle.world_spec.specs.{Value.{World, is_live, entry_at, instance_at, account_at, leaders_of}, StageOf.{stage_of}}
-use Rattle.world_spec.specs.{Kept.{post_at, family_sums, AreLinked}, Listings.{task_leaders}, Metering.{goes_along}, Shares.{soft_hits}}
-use Rattle.world_spec.specs.{Ways.{is_on_at}, Working.{is_on}}
+use Rattle.world_spec.specs.{Value.{World, is_live, entry_at, instance_at, account_at}, StageOf.{stage_of}}
+use Rattle.world_spec.specs.{Kept.{post_at, family_sums, AreLinked}, Metering.{goes_along}, Shares.{soft_hits}}
+use Rattle.world_spec.specs.{Ways.{is_on_at}, Working.{is_on, keys_by_pass}}
 use Rattle.world_spec.specs.Changes as change
-use Rattle.world_tables.specs.Places.{picked}
-use Rattle.work_account.specs.declared.{happening.Happening.{Happening}, overflowing.{Hit.{Hit}, Overflow.{Overflow}}}
+use Rattle.work_account.specs.declared.{happening.Happening.{Happening}, overflowing.{Hit.{Hit}, Overflow.{Overflow}}, samples.Stretch.{Stretch}}
 use Rattle.work_account.specs.declared.happening.Happening.TheVariants as happening
 
 -- what an instance that is on counts of it
@@ -45,13 +43,6 @@ members_at w k = (entry_at w k).members
 abbrev pub all_members : World → List Key → List Key
 all_members w leaders = flat_map (members_at w) leaders
 
--- the members of the pinned or of the flexible groups of a processor's own context, and of a task
-abbrev pub own_keys : World → CpuNo → (pinned : Bool) → List Key
-own_keys w cpu pinned = all_members w (picked pinned (leaders_of w (context.Processor cpu)))
-
-abbrev pub task_keys : World → Option TaskNo → (pinned : Bool) → List Key
-task_keys w task pinned = all_members w (picked pinned (task_leaders w task))
-
 -- whether a hit is of the family of a slot
 abbrev pub is_of : World → ℕ → Hit → Bool
 is_of w slot h = (instance_at w h.key).event.0 == slot
@@ -66,6 +57,13 @@ hit_all hits w = fold hit_one w hits
 abbrev pub overflow_of : World → Hit → Overflow
 overflow_of w h = record { key = h.key; count = overflows h.occurrences (instance_at w h.key).attr.period (account_at w h.key).left }
 
+-- what the instances on a processor that sample are hit by in a stretch of work, and their overflows
+abbrev pub hits_by : World → Stretch → List Hit
+hits_by w line = hits_among (happening.Work line.work) w (keys_by_pass w line.cpu)
+
+abbrev pub overflows_of : World → Stretch → List Overflow
+overflows_of w line = map (overflow_of w) (hits_by w line)
+
 -- Instances may be hit: each is live, does not count along totals where it is on, and is the only one of its family;
 -- the family has room.
 pub record MayHit (w : World) (h : Hit) : Type 0 where
@@ -76,7 +74,6 @@ pub record MayHit (w : World) (h : Hit) : Type 0 where
 pub record MayHitAll (w : World) (hits : List Hit) : Type 0 where
   pub each : (place : ℕ) (none : Hit) → place < length hits → MayHit w (slice_index_or hits place none)
   pub one_each : (slot : ℕ) → count_by (is_of w slot) hits ≤ 1
-  pub few : length hits ≤ 256
   pub linked : AreLinked (post_at w) w.contexts w.families
 
 -- how many instances with a period are on there

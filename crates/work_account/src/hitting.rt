@@ -1,38 +1,14 @@
 //! How instances are hit, one by one.
 
-ghost use Rattle.std.specs.Prelude.{◌≡◌, ◌+◌, ◌<◌, ◌++◌, [], ◌∷◌, map, length};
+ghost use Rattle.std.specs.Prelude.{◌≡◌, ◌<◌, length};
 ghost use Rattle.world_spec.specs.Working.{keys_by_pass};
-ghost use Rattle.work_account.specs.Visits.{hits_among, hit_all, overflow_of, MayHitAll};
+ghost use Rattle.work_account.specs.Visits.{hits_among, hit_all, MayHitAll};
 
-use crate::finding::find_on;
 use crate::happening::Happening;
-use crate::overflowing::{Hits, Overflow, Overflows};
-use perf_base::{CpuNo, Key, Steps};
+use crate::walking::Walk;
+use perf_base::{CpuNo, Steps};
 use perf_world::World;
 use std::sync::ledger::{Blank, Ledger};
-
-/// One more overflow is noted.
-fn note(overflows: &mut Overflows, key: Key, count: u64)
-    requires { length overflows.old < 256 }
-    ensures { overflows.new ≡ overflows.old ++ record { key = key; count = count } ∷ [] }
-{
-    overflows.push(Overflow { key, count });
-}
-
-/// Some instances are hit, one after the other. It answers how often the period of each was over. Each takes one step.
-pub fn hit_each<L: Ledger>(world: &mut World, hits: &Hits, steps: &mut Steps<L>) -> Overflows
-    requires { MayHitAll world.old hits.now }
-    ensures world { world.new ≡ hit_all hits.now world.old }
-    ensures overflows { result ≡ map (overflow_of world.old) hits.now }
-    ensures steps { steps.new ≡ steps.old + length hits.now }
-{
-    let mut overflows = Overflows::new();
-    for hit in hits.as_slice() {
-        let count = world.hit(hit.key, hit.occurrences, steps);
-        note(&mut overflows, hit.key, count);
-    }
-    overflows
-}
 
 /// Those on a processor that take what happens are hit, for a caller that counts no steps.
 pub fn hit_found<L: Ledger>(world: &mut World, what: &Happening, cpu: CpuNo, blank: Blank)
@@ -44,6 +20,8 @@ pub fn hit_found<L: Ledger>(world: &mut World, what: &Happening, cpu: CpuNo, bla
     ensures { world.new ≡ hit_all (hits_among what.now world.old (keys_by_pass world.old cpu)) world.old }
 {
     let mut steps = Steps::<L>::new(blank);
-    let hits = find_on(world, what, cpu);
-    hit_each(world, &hits, &mut steps);
+    let mut walk = Walk::new();
+    while let Some(hit) = walk.next(world, what, cpu) {
+        world.hit(hit.key, hit.occurrences, &mut steps);
+    }
 }

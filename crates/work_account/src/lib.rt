@@ -3,13 +3,13 @@
 #![tactic(auto)]
 
 mod account;
-mod finding;
 mod happening;
 mod hitting;
 mod overflowing;
 mod samples;
 mod sampling;
 mod sending;
+mod walking;
 
 pub use account::soft;
 pub use sampling::work;

@@ -17,11 +17,8 @@ ghost use Rattle.work_account.specs.Sampling.{AreLeft, HaveRings, HaveSpaceToSen
 ghost use Rattle.work_account.specs.Visits.{sampling_on};
 ghost use Rattle.world_spec.specs.Shares.{HaveRoom, HaveShares, work_shares};
 
-use crate::finding::find_on;
-use crate::happening::Happening;
-use crate::hitting::hit_each;
 use crate::samples::Stretch;
-use crate::sending::send_overflows;
+use crate::sending::hit_and_send;
 use perf_base::{CpuNo, Steps, Work};
 use perf_world::World;
 use sample_ring::{Outs, Rings};
@@ -69,12 +66,11 @@ pub fn work<L: Ledger>(
         ≡ more_lost (λ f. slice_index_or world.old.lost f.0 0) (flat_map (losses_on (CpuStep cpu (cpu_line.Work work.now)) (sent_by world.old left cpu work.now)) accounts) e }
 {
     world.add_work(cpu, work, steps);
-    let hits = find_on(world, &Happening::Work(*work), cpu);
-    let overflows = hit_each(world, &hits, steps);
+    world.use_invariant();
     let stretch = Stretch {
         cpu,
         work: *work,
         clock: world.clock(cpu),
     };
-    send_overflows(world, &stretch, &overflows, rings, outs);
+    hit_and_send(world, &stretch, rings, outs, steps);
 }

@@ -11,12 +11,17 @@ ghost use Rattle.world_spec.specs.StageOf.{stage_of};
 ghost use Rattle.work_account.specs.Ends as ends;
 ghost use Rattle.work_account.specs.Ends.{AreTogether, HaveSpace};
 ghost use Rattle.work_account.specs.Sampling.{asks, ends_of, send_times, sents_of, sents_all, HasInstance, HaveRings};
+ghost use Rattle.work_account.specs.Visits as visits;
+ghost use Rattle.work_account.specs.Visits.{hits_by, overflow_of, overflows_of, MayHit, MayHitAll};
 
-use crate::overflowing::{Overflow, Overflows};
+use crate::happening::Happening;
+use crate::overflowing::{Hit, Overflow};
 use crate::samples::{Sample, Stretch, sample_of};
-use perf_base::Key;
+use crate::walking::Walk;
+use perf_base::{Key, Steps};
 use perf_world::World;
 use sample_ring::{Outs, Rings, Sent};
+use std::sync::ledger::Ledger;
 
 /// Sends a sample to its ring, which is there.
 fn send(sample: &Sample, rings: &Rings, outs: &mut Outs) -> Sent
@@ -123,22 +128,52 @@ fn send_overflow(
     }
 }
 
-/// Sends the samples of all overflows, those of one instance before those of the next.
-pub fn send_overflows(
+/// An instance is hit by work, and the samples of its overflows are sent. It takes one step.
+fn hit_one<L: Ledger>(
     world: &mut World,
     stretch: &Stretch,
-    found: &Overflows,
+    hit: Hit,
     rings: &Rings,
     outs: &mut Outs,
+    steps: &mut Steps<L>,
 )
-    requires live { All (λ o. is_live world.old o.key ≡ true) found.now }
+    requires may { MayHit world.old hit }
     requires together { AreTogether rings.now outs.old }
     requires rings { HaveRings world.old outs.old.numbers }
-    requires space { HaveSpace (HasInstance world.old) (length (sents_all world.old stretch.now found.now)) (ends_of outs.old world.old) }
-    ensures ends { ends_of outs.new world.new ≡ ends.send_all (ends_of outs.old world.old) (sents_all world.old stretch.now found.now) }
-    ensures rest { world.new ≡ record world.old { lost = world.new.lost } }
+    requires space { HaveSpace (HasInstance world.old) (length (sents_of world.old stretch.now (overflow_of world.old hit))) (ends_of outs.old world.old) }
+    ensures world { world.new ≡ record (visits.hit_one world.old hit) { lost = world.new.lost } }
+    ensures ends { ends_of outs.new world.new ≡ ends.send_all (ends_of outs.old world.old) (sents_of world.old stretch.now (overflow_of world.old hit)) }
+    ensures steps { steps.new ≡ steps.old + 1 }
 {
-    for place in 0..found.len() {
-        send_overflow(world, stretch, found.get(place), rings, outs);
+    let count = world.hit(hit.key, hit.occurrences, steps);
+    let overflow = Overflow {
+        key: hit.key,
+        count,
+    };
+    send_overflow(world, stretch, overflow, rings, outs);
+}
+
+/// The instances on a processor that sample are hit by work, one after the other, and the samples of each one's
+/// overflows are sent before the next one is hit. Each takes one step.
+pub fn hit_and_send<L: Ledger>(
+    world: &mut World,
+    stretch: &Stretch,
+    rings: &Rings,
+    outs: &mut Outs,
+    steps: &mut Steps<L>,
+)
+    requires cpu { stretch.now.cpu.0 < length world.old.quiet.running }
+    requires may { MayHitAll world.old (hits_by world.old stretch.now) }
+    requires together { AreTogether rings.now outs.old }
+    requires rings { HaveRings world.old outs.old.numbers }
+    requires space { HaveSpace (HasInstance world.old) (length (sents_all world.old stretch.now (overflows_of world.old stretch.now))) (ends_of outs.old world.old) }
+    ensures world { world.new ≡ record (visits.hit_all (hits_by world.old stretch.now) world.old) { lost = world.new.lost } }
+    ensures ends { ends_of outs.new world.new ≡ ends.send_all (ends_of outs.old world.old) (sents_all world.old stretch.now (overflows_of world.old stretch.now)) }
+    ensures steps { steps.new ≡ steps.old + length (hits_by world.old stretch.now) }
+{
+    let what = Happening::Work(stretch.work);
+    let mut walk = Walk::new();
+    while let Some(hit) = walk.next(world, &what, stretch.cpu) {
+        hit_one(world, stretch, hit, rings, outs, steps);
     }
 }

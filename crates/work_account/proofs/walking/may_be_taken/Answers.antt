@@ -1,7 +1,7 @@
 use Rattle.std.proofs.Common.{rules}
 use Rattle.std.proofs.{Common.{sym, ◌∙◌}, lemmas.Bool.{false≢true}}
 use Rattle.work_account.proofs.Skipped.{none-works}
-use Rattle.work_account.proofs.finding.may_be_taken.Goals as goal
+use Rattle.work_account.proofs.walking.may_be_taken.Goals as goal
 
 pub returns-in-Work : goal.returns-in-Work
 returns-in-Work c =
