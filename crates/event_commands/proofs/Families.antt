@@ -1,18 +1,19 @@
 -- The copies of an original go one after the other, and then the original: what is left of the family, and that
 -- processors that do not reach it stand as they stood.
-use Rattle.std.specs.Prelude.{◌≡◌, ℕ, ◌+◌, ◌<◌, ◌≤◌, ◌==◌, Bool, true, false, ◌&&◌, suc, List, [], ◌∷◌, ◌++◌, count_by, length, map, take, drop, Some, None, slice_index_or}
+use Rattle.std.specs.Prelude.{◌≡◌, ℕ, ◌+◌, ◌<◌, ◌≤◌, ◌==◌, Bool, true, false, ◌&&◌, suc, List, [], ◌∷◌, ◌++◌, count_by, length, map, take, drop, Some, None, is_some, slice_index_or}
 use Rattle.std.{specs.List.{list_any}, proofs.{Common.{arith, refl, sym, ap, subst, ◌∙◌, inl, inr, take_all}, Math.ListN.{drop_of_length-le}}}
 use Rattle.std.proofs.{Math.Seq.{take-suc, drop-cons}, lemmas.Bool.{cases_eq, cases_Bool, false≢true, Decides.{nat_tests}}}
 use Rattle.std.proofs.lemmas.List.{map-append, get_or-set_same}
 use Rattle.perf_base.specs.declared.numbers.{CpuNo.{CpuNo}, EventNo.{EventNo}, Key.{Key}}
-use Rattle.stage_spec.specs.{Closing.{closed}, Hardware.{Hardware}, Stage.{is_of_family}}
+use Rattle.perf_base.specs.declared.lines.ToolLine.TheVariants as line
+use Rattle.stage_spec.specs.{Closing.{closed}, Hardware.{Hardware}, History.{ToolStep}, Stage.{is_of_family}}
 use Rattle.stage_laws.specs.{Narrowing.{has_context, reaches}, OneByOne.{drop_one}, Sound.{IsSound}, Standings.{briefs}}
 use Rattle.stage_laws.proofs.{Counts.{count-append}, EachSettled.{briefs-of_passes}, OneByOne.{map-none}, OneByOneDrops.{closed_one_by_one}}
 use Rattle.stage_laws.proofs.{Others.{passes-same}, Untouched.{close-reaches}}
 use Rattle.world_spec.specs.{Value.{World, no_family, is_live, entry_at, instance_at, seats_at, family_of, is_key, times}, StageOf.{stage_of}}
 use Rattle.world_spec.specs.{Kept.{in_option, is_copy_in, is_original_in, once_if, post_at, IsKept}, Changes.{all_but}}
-use Rattle.world_spec.{specs.{Adding.{drop_instance, out_of_family}, Goings.{MayGo}, Rescheduled.{IsUntouched}}, proofs.Coming.{number_true, three}}
-use Rattle.world_spec.proofs.{Copies.{times-at}, Counting.{any-there}, Families.{family-ids}}
+use Rattle.world_spec.{specs.{Adding.{drop_instance, out_of_family}, Goings.{MayGo}, Rescheduled.{IsUntouched}, Stepping.{HasItsShare}}, proofs.Coming.{number_true, three}}
+use Rattle.world_spec.proofs.{Copies.{times-at}, Counting.{any-there}, Families.{family-ids}, Lines.{KeepsSlots}, Quiet.{quiet-keeps}}
 use Rattle.world_spec.proofs.{Keys.{all_but-cons, all_but-none, is_key-same, once-true, times-cons}, Listings.{is-numbered}, Moving.{leads-parts}}
 use Rattle.world_spec.proofs.Standing.{left-untouched}
 use Rattle.event_commands.specs.{Changing.{family_keys, keys_named}, Closing.{HaveGone, IsClosed}, Reaching.{reaches_key}}
@@ -123,7 +124,7 @@ original-may_go hw w e k h is none =
     let here = original-in hw w e k h is in
     grind (arith, nat_tests, once-true)
 
-not-copy : (hw : Hardware) (w : World) (e : EventNo) (k : Key) → IsKept hw w → (family_of w e).original ≡ Some k → (instance_at w k).copy ≡ false
+pub not-copy : (hw : Hardware) (w : World) (e : EventNo) (k : Key) → IsKept hw w → (family_of w e).original ≡ Some k → (instance_at w k).copy ≡ false
 not-copy hw w e k h is =
     let one : times k (in_option (family_of w e).original) ≡ 1 = ap (λ o. times k (in_option o)) is ∙ omega (arith, times-cons k k [], once-true (is_key k k) (is_key-same k k refl)) in
     let test : is_original_in (post_at w) e.0 k ≡ true = once-both (is_original_in (post_at w) e.0 k) (omega (arith, one, h.linked.originals k e.0)) in
@@ -221,3 +222,35 @@ closed-others hw w new e cpu h g stage low off =
           let stays : times q done ≡ 0 = grind (arith, nat_tests, false≢true) in
           (stood.0, ap (has_context (stage_of w) cpu) (sym (g.contexts q stays)) ∙ there, ap (λ i. i.id) (g.instances q stays), stood.1);
     })
+
+-- what its line leaves
+not-gone : (e : EventNo) (done : List Key) (w new : World) (k : Key) → HaveGone e done w new → is_live new k ≡ true → times k done ≡ 0
+not-gone e done w new k g live = elim (cases_eq (times k done) 0) [
+  | inl none ↦ none
+  | inr more ↦ absurd (false≢true (sym (g.dead k (omega (arith, more))) ∙ live))
+]
+
+closed-opened : (w new : World) (e slot : EventNo) → IsClosed e w new → is_some (family_of new slot).original ≡ true → is_some (family_of w slot).original ≡ true
+closed-opened w new e slot c some = grind (arith, nat_tests, false≢true)
+
+pub closed-slots : (w new : World) (e : EventNo) → HaveGone e ((family_of w e).copies ++ in_option (family_of w e).original) w new → IsClosed e w new
+    → KeepsSlots w new
+closed-slots w new e g c =
+    record {
+      hardware = ap (λ (x : World). x.hardware) g.world;
+      contexts = λ k live. g.contexts k (not-gone e ((family_of w e).copies ++ in_option (family_of w e).original) w new k g live);
+      opened = λ slot some. closed-opened w new e slot c some;
+      used = ap (λ (x : World). x.quiet.used) g.world;
+      folded = ap (λ (x : World). x.folded) g.world;
+      lost = ap (λ (x : World). x.lost) g.world;
+      running = ap (λ (x : World). length x.quiet.running) g.world;
+      clocks = ap (λ (x : World). x.quiet.clocks) g.world;
+      totals = ap (λ (x : World). x.quiet.totals) g.world;
+      next_id = ap (λ (x : World). x.quiet.next_id) g.world;
+    }
+
+pub closed-share : (w new : World) (e : EventNo) (k : Key) → IsKept w.hardware w → HaveGone e ((family_of w e).copies ++ in_option (family_of w e).original) w new → is_live new k ≡ true
+    → HasItsShare w.hardware w new (ToolStep (line.Close e)) k
+closed-share w new e k h g live =
+    let none : times k ((family_of w e).copies ++ in_option (family_of w e).original) ≡ 0 = not-gone e ((family_of w e).copies ++ in_option (family_of w e).original) w new k g live in
+    quiet-keeps w.hardware w new (ToolStep (line.Close e)) k h refl (record { live = sym (g.live k none) ∙ live; id = ap (λ i. i.id) (g.instances k none); account = g.accounts k none })

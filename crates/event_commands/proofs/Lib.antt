@@ -1,4 +1,5 @@
 pub mod Families
+pub mod Found
 pub mod Going
 pub mod InTurn
 pub mod Named
@@ -6,5 +7,6 @@ pub mod Periods
 pub mod Processors
 pub mod Reached
 pub mod Resetting
+pub mod Restarting
 pub mod States
 pub mod Targets

@@ -1,12 +1,17 @@
 -- Counts that are cleared one after the other, and that processors stand as they stood.
-use Rattle.std.specs.{Prelude.{◌≡◌, List, [], ◌∷◌, if◌then◌else◌}, FinMap.{FinMap, contains_key}, Option.{unwrap_or}, Ordering.{nat_cmp}}
-use Rattle.std.proofs.{Common.{arith, refl, sym, ap, subst, ◌∙◌, inl, inr}, lemmas.Bool.{cases_eq, cases_Bool, false≢true}}
+use Rattle.std.specs.{Prelude.{◌≡◌, ◌==◌, Bool, true, false, not, ◌&&◌, List, [], ◌∷◌, None, if◌then◌else◌}, FinMap.{FinMap, contains_key}, List.{list_any}, Option.{unwrap_or}, Ordering.{nat_cmp}}
+use Rattle.std.proofs.{Common.{arith, refl, sym, ap, subst, ◌∙◌, inl, inr}, lemmas.Bool.{cases_eq, cases_Bool, false≢true, Decides.{nat_tests}}}
 use Rattle.perf_base.specs.declared.numbers.{CpuNo.{CpuNo}, EventNo.{EventNo}, Key.{Key}}
-use Rattle.stage_spec.specs.{Commands.{is_reached}, Hardware.{Hardware}}
-use Rattle.world_spec.specs.{Value.{World, Account, no_account, instance_at, account_at, times}, StageOf.{stage_of}, Kept.{IsKept}}
-use Rattle.world_spec.{specs.{Changes.{reset_count}, Rescheduled.{IsRescheduled, IsUntouched}}, proofs.Tables.{get-here, get-there, keys-written}}
+use Rattle.perf_base.specs.declared.lines.ToolLine.TheVariants as line
+use Rattle.perf_base.specs.declared.reasons.Reason.TheVariants as reason
+use Rattle.stage_spec.specs.{declared.instance.Instance.{Instance}, Commands.{closed_refusal, is_reached, targets}, Hardware.{Hardware}}
+use Rattle.stage_spec.specs.{History.{ToolStep}, Recurrence.{after_reset}, Refusals.{first_of}, Shares.{share}, Stage.{all_instances, is_open}}
+use Rattle.stage_spec.{specs.Sums.{resets}, proofs.Recurrence.{plus-none}}
+use Rattle.world_spec.specs.{Value.{World, Account, no_account, is_live, instance_at, account_at, times}, StageOf.{stage_of}, Kept.{IsKept}}
+use Rattle.world_spec.specs.{Changes.{reset_count}, Rescheduled.{IsRescheduled, IsUntouched}, Stepping.{HasItsShare}}
+use Rattle.world_spec.proofs.{Lines.{KeepsSlots}, Quiet.{none-after}, Stepping.{instance-found}, Tables.{get-here, get-there, keys-written}}
 use Rattle.event_commands.specs.{Changing.{changed, keys_named}, Commands.{from_zero, IsReset}}
-use Rattle.event_commands.proofs.{InTurn.{Updates, updates-in, updates-out, keys-stay}, Named.{named-reached, reached-named}}
+use Rattle.event_commands.proofs.{Found.{found-passes}, InTurn.{Updates, updates-in, updates-out, keys-stay}, Named.{named-reached, reached-named}}
 use Rattle.event_commands.specs.declared.changing.Command.TheVariants as command
 
 -- accounts alone change
@@ -53,3 +58,44 @@ accounts-unseen hw w accounts cpu h = grind arith
 pub reset-others : (hw : Hardware) (w new : World) (events : List EventNo) (cpu : CpuNo) → IsReset events w new → IsUntouched hw w new cpu
 reset-others hw w new events cpu is =
     subst (λ v. IsUntouched hw w v cpu) (sym is.world) (record { briefs = refl; verdicts = refl; seats = refl; rescheduled = accounts-unseen hw w new.accounts cpu })
+
+-- what the line of the reset leaves, and the share of each instance
+pub reset-slots : (w new : World) (events : List EventNo) → IsReset events w new → KeepsSlots w new
+reset-slots w new events h = subst (KeepsSlots w) (sym h.world) (record {
+  hardware = refl;
+  contexts = λ k live. refl;
+  opened = λ e some. some;
+  used = refl;
+  folded = refl;
+  lost = refl;
+  running = refl;
+  clocks = refl;
+  totals = refl;
+  next_id = refl;
+})
+
+is-open : (b : Bool) → first_of ((reason.NoEvent, not b) ∷ []) ≡ None → b ≡ true
+is-open true h = refl
+is-open false h = absurd (cc)
+
+reset-sums : (b : Bool) (a : Account) → (if b then from_zero a else a).sums ≡ after_reset b a.sums
+reset-sums true a = refl
+reset-sums false a = refl
+
+reset-left : (b : Bool) (a : Account) → (if b then from_zero a else a).left ≡ a.left
+reset-left true a = refl
+reset-left false a = refl
+
+reset-reaches : (w : World) (e : EventNo) (group : Bool) (k : Key) → IsKept w.hardware w → closed_refusal (stage_of w) e ≡ None → is_live w k ≡ true
+    → resets (stage_of w) (ToolStep (line.Reset e group)) (instance_at w k).id ≡ is_reached (targets (stage_of w) e group) (instance_at w k)
+reset-reaches w e group k h accepted live =
+    let reached : Instance → Bool = is_reached (targets (stage_of w) e group) in
+    ap (λ b. b && list_any (λ i. i.id == (instance_at w k).id && reached i) (all_instances (stage_of w))) (is-open (is_open (stage_of w) e) accepted)
+    ∙ found-passes w.hardware w k reached h live
+
+pub reset-share : (w new : World) (e : EventNo) (group : Bool) (k : Key) → IsKept w.hardware w → closed_refusal (stage_of w) e ≡ None → IsReset (targets (stage_of w) e group) w new
+    → is_live new k ≡ true → HasItsShare w.hardware w new (ToolStep (line.Reset e group)) k
+unfolding share
+reset-share w new e group k h accepted counts there =
+    let live : is_live w k ≡ true = ap (λ (y : World). is_live y k) (sym counts.world) ∙ there in
+    grind (arith, nat_tests, reset-sums, reset-reaches, plus-none, reset-left, instance-found, none-after)

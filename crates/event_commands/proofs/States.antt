@@ -1,18 +1,18 @@
 -- Own states that are set one after the other: what is left, that the stage has the command, and that processors that
 -- are not reached stand as they stood.
-use Rattle.std.specs.Prelude.{◌≡◌, ◌<◌, ◌≤◌, ◌==◌, Bool, true, false, All, List, [], ◌∷◌, if◌then◌else◌}
-use Rattle.std.proofs.{Common.{arith, refl, sym, ap, subst, ◌∙◌, inl, inr}, lemmas.Bool.{cases_eq, Decides.{nat_tests}}}
+use Rattle.std.specs.Prelude.{◌≡◌, ◌<◌, ◌≤◌, ◌==◌, Bool, true, false, All, List, [], ◌∷◌, None, Some, Result, Ok, Err, IsErr, IfErr, if◌then◌else◌}
+use Rattle.std.proofs.{Common.{arith, refl, sym, ap, subst, ◌∙◌, inl, inr}, lemmas.Bool.{cases_eq, false≢true, Decides.{nat_tests}}}
 use Rattle.std.proofs.lemmas.List.Folds.{list_any_none}
-use Rattle.perf_base.specs.declared.{numbers.{CpuNo.{CpuNo}, EventNo.{EventNo}, Key.{Key}}, standing.Own.{Own}}
+use Rattle.perf_base.specs.declared.{numbers.{CpuNo.{CpuNo}, CpuSet.{CpuSet}, EventNo.{EventNo}, Key.{Key}}, reasons.Reason.{Reason}, standing.Own.{Own}}
 use Rattle.perf_base.specs.declared.standing.Own.TheVariants as own
-use Rattle.stage_spec.specs.{Commands.{command_each, is_reached}, Hardware.{Hardware}}
+use Rattle.stage_spec.specs.{declared.instance.Instance.{Instance}, Commands.{closed_refusal, command_each, disabled, enabled, is_reached, targets}, Hardware.{Hardware}, History.{ToolStep}}
 use Rattle.stage_laws.proofs.{EachSettled.{briefs-of_passes}, Others.{passes-same}, Untouched.{command-reaches}}
 use Rattle.stage_laws.specs.{Narrowing.{has_context, reaches}, Standings.{briefs}}
 use Rattle.world_spec.specs.{Value.{World, Entry, no_instance, is_live, entry_at, instance_at, standing_at, seats_at, times}, StageOf.{stage_of}}
-use Rattle.world_spec.{specs.{Kept.{leads, post_at, IsKept}, Rescheduled.{IsUntouched}}, proofs.Renaming.{dead-entry, renamed-all}}
-use Rattle.world_spec.proofs.{Standing.{left-untouched}, Tables.{post_of, entry-here, entry-there, live-written}}
-use Rattle.event_commands.specs.{declared.changing.Switch.{Switch}, Changing.{change, changed, keys_named, state_of, switched}}
-use Rattle.event_commands.{specs.Commands.{commanded, HaveStates}, proofs.InTurn.{Updates, updates-in, updates-out, keys-stay}}
+use Rattle.world_spec.{specs.{Kept.{leads, post_at, IsKept}, Lines.{HasChanged, IsAnswered}, Rescheduled.{AreUntouchedOutside, IsUntouched}}, proofs.Renaming.{dead-entry, renamed-all}}
+use Rattle.world_spec.proofs.{Lines.{KeepsAll, all-shares, all-slots, slots-changed}, Standing.{left-untouched}, Tables.{post_of, entry-here, entry-there, live-written}}
+use Rattle.event_commands.specs.{declared.changing.Switch.{Switch}, Changing.{change, changed, keys_named, line_of, state_of, switched}}
+use Rattle.event_commands.{specs.Commands.{commanded, AreReached, HaveStates}, proofs.InTurn.{Updates, updates-in, updates-out, keys-stay}}
 use Rattle.event_commands.proofs.Named.{named-reached, reached-named}
 use Rattle.event_commands.specs.declared.changing.Command.TheVariants as command
 use Rattle.event_commands.specs.declared.changing.Switch.TheVariants as switch
@@ -105,3 +105,28 @@ states-others f hw w new events cpu h low off =
         ap (λ (x : World). standing_at x q) h.world,
       );
     })
+
+-- all else is left, so the command's line has made its change, or is refused
+commanded-id : (f : Own → Own) (events : List EventNo) (i : Instance) → (commanded f events i).id ≡ i.id
+commanded-id f events i = elim (is_reached events i) as (λ b. (if b then record i { own = f i.own } else i).id ≡ i.id) [ true ↦ refl | false ↦ refl ]
+
+states-keep : (f : Own → Own) (w new : World) (events : List EventNo) → HaveStates f events w new → KeepsAll w new
+states-keep f w new events h = grind (arith, commanded-id)
+
+pub has-switched : (s : Switch) (w new : World) (e : EventNo) (group : Bool) (set : CpuSet) → IsKept w.hardware w → IsKept new.hardware new → closed_refusal (stage_of w) e ≡ None
+    → HaveStates (switched s) (targets (stage_of w) e group) w new → AreReached (targets (stage_of w) e group) w set → AreUntouchedOutside set w new
+    → HasChanged (ToolStep (line_of s e group)) w new set
+has-switched switch.On w new e group set h h_then accepted states reached others =
+    let keeps : KeepsAll w new = states-keep enabled w new (targets (stage_of w) e group) states in
+    slots-changed w new (line_of switch.On e group) set h h_then (all-slots w new keeps) (λ k. all-shares w new (ToolStep (line_of switch.On e group)) k h refl keeps) accepted
+    (states-stage enabled w new (targets (stage_of w) e group) states) reached.reaching reached.within others
+has-switched switch.Off w new e group set h h_then accepted states reached others =
+    let keeps : KeepsAll w new = states-keep disabled w new (targets (stage_of w) e group) states in
+    slots-changed w new (line_of switch.Off e group) set h h_then (all-slots w new keeps) (λ k. all-shares w new (ToolStep (line_of switch.Off e group)) k h refl keeps) accepted
+    (states-stage disabled w new (targets (stage_of w) e group) states) reached.reaching reached.within others
+
+pub no-switch : (s : Switch) (w : World) (e : EventNo) (group : Bool) (answer : Result CpuSet Reason) → IsErr answer → IfErr answer (λ r. closed_refusal (stage_of w) e ≡ Some r)
+    → IsAnswered (ToolStep (line_of s e group)) w w answer
+no-switch s w e group (Ok set) failed refused = absurd (false≢true failed)
+no-switch switch.On w e group (Err r) failed refused = record { refused = refused; same = refl }
+no-switch switch.Off w e group (Err r) failed refused = record { refused = refused; same = refl }

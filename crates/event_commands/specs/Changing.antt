@@ -1,8 +1,9 @@
 -- inner
 -- What a command does to the instances that it reaches, key by key. After perf_event_for_each and
 -- perf_event_for_each_child of kernel/events/core.c; the tables are this project's own profile.
-use Rattle.std.specs.{Prelude.{ℕ, ◌<◌, ◌≤◌, List, All, flat_map}, List.{fold}}
-use Rattle.perf_base.specs.declared.{numbers.{EventNo.{EventNo}, Key.{Key}}, standing.Own.{Own}}
+use Rattle.std.specs.{Prelude.{ℕ, ◌<◌, ◌≤◌, Bool, List, All, flat_map}, List.{fold}}
+use Rattle.perf_base.specs.declared.{lines.ToolLine.{ToolLine}, numbers.{EventNo.{EventNo}, Key.{Key}}, standing.Own.{Own}}
+use Rattle.perf_base.specs.declared.lines.ToolLine.TheVariants as tool_line
 use Rattle.perf_base.specs.declared.standing.Own.TheVariants as own
 use Rattle.stage_spec.specs.Commands.{disabled, enabled}
 use Rattle.world_spec.specs.{Changes.{set_own, reset_count}, Kept.{keys_of}, Value.{World, family_of}}
@@ -23,6 +24,11 @@ switched switch.Off = disabled
 abbrev pub state_of : Switch → Own
 state_of switch.On = own.Ready
 state_of switch.Off = own.Off
+
+-- the line of a tool that asks for it
+abbrev pub line_of : Switch → EventNo → Bool → ToolLine
+line_of switch.On event group = tool_line.Enable event group
+line_of switch.Off event group = tool_line.Disable event group
 
 -- one instance is switched, or counts from 0 on again; and so some, one after the other
 abbrev pub change : Command → World → Key → World

@@ -1,16 +1,17 @@
 //! The commands of a tool on an open event.
 
-ghost use Rattle.std.specs.Prelude.{◌≡◌, ◌≢◌, ◌^◌, ◌==◌, ◌||◌, bit_and, not, [], ◌∷◌, OnOk, OnErr, IfOk, IfErr, None, Some, true};
-ghost use Rattle.stage_spec.specs.Closing.{closed};
-ghost use Rattle.stage_spec.specs.Commands.{closed_refusal, command_each, disabled, enabled, period_refusal, with_period, targets as targeted};
+ghost use Rattle.std.specs.Prelude.{◌≡◌, ◌≢◌, ◌^◌, ◌==◌, ◌||◌, bit_and, not, OnOk, IfOk, IfErr, None, Some, true};
+ghost use Rattle.perf_base.specs.declared.lines.ToolLine.TheVariants as line;
+ghost use Rattle.stage_spec.specs.Commands.{disabled, enabled, period_refusal, targets as targeted};
+ghost use Rattle.stage_spec.specs.History.{ToolStep};
 ghost use Rattle.stage_laws.specs.Sound.{IsSound};
-ghost use Rattle.world_spec.specs.Rescheduled.{AreUntouched, AreUntouchedOutside};
+ghost use Rattle.world_spec.specs.Lines.{IsAnswered};
 ghost use Rattle.world_spec.specs.StageOf.{stage_of};
 ghost use Rattle.world_spec.specs.Value.{is_live, instance_at, family_of};
 ghost use Rattle.perf_world.specs.Seen.{IsWorld};
-ghost use Rattle.event_commands.specs.Changing.{switched};
+ghost use Rattle.event_commands.specs.Changing.{line_of, switched};
 ghost use Rattle.event_commands.specs.Closing.{IsClosed};
-ghost use Rattle.event_commands.specs.Commands.{AreReached, HaveStates, IsReset, HasPeriod};
+ghost use Rattle.event_commands.specs.Commands.{HaveStates, IsReset, HasPeriod};
 
 use crate::changing::{Command, Switch, change_families};
 use crate::closing::drop_family;
@@ -23,17 +24,13 @@ const HIGHEST_BIT: u64 = 1 << 63;
 
 /// Switches the families that a command reaches. The answer is the processors that reach one of them.
 fn switch(world: &mut World, event: EventNo, group: bool, to: Switch) -> Result<CpuSet, Reason>
-    ensures refused { IfErr result (λ reason. closed_refusal (stage_of world.old) event ≡ Some reason) }
-    ensures accepted { OnOk result (closed_refusal (stage_of world.old) event ≡ None) }
-    ensures same { OnErr result (world.new ≡ world.old) }
-    ensures stage { OnOk result (stage_of world.new ≡ command_each (switched to) (targeted (stage_of world.old) event group) (stage_of world.old)) }
+    ensures answer { IsAnswered (ToolStep (line_of to event group)) world.old world.new result }
     ensures states { OnOk result (HaveStates (switched to) (targeted (stage_of world.old) event group) world.old world.new) }
-    ensures processors { IfOk result (AreReached (targeted (stage_of world.old) event group) world.old) }
-    ensures others { IfOk result (λ set. AreUntouchedOutside set world.old world.new) }
 {
     let slots = targets(world, event, group)?;
     let cpus = cpus_reaching(world, slots.as_slice());
     change_families(world, Command::Switch(to), slots.as_slice());
+    world.use_invariant();
     Ok(cpus)
 }
 
@@ -42,13 +39,8 @@ fn switch(world: &mut World, event: EventNo, group: bool, to: Switch) -> Result<
 /// these events or a copy of it. The others stand as they stood. It fails with `NoEvent` where the event is not open,
 /// and then nothing changes.
 pub fn enable(world: &mut World, event: EventNo, group: bool) -> Result<CpuSet, Reason>
-    ensures refused { IfErr result (λ reason. closed_refusal (stage_of world.old) event ≡ Some reason) }
-    ensures accepted { OnOk result (closed_refusal (stage_of world.old) event ≡ None) }
-    ensures same { OnErr result (world.new ≡ world.old) }
-    ensures stage { OnOk result (stage_of world.new ≡ command_each enabled (targeted (stage_of world.old) event group) (stage_of world.old)) }
+    ensures answer { IsAnswered (ToolStep (line.Enable event group)) world.old world.new result }
     ensures states { OnOk result (HaveStates enabled (targeted (stage_of world.old) event group) world.old world.new) }
-    ensures processors { IfOk result (AreReached (targeted (stage_of world.old) event group) world.old) }
-    ensures others { IfOk result (λ set. AreUntouchedOutside set world.old world.new) }
 {
     switch(world, event, group, Switch::On)
 }
@@ -58,30 +50,23 @@ pub fn enable(world: &mut World, event: EventNo, group: bool) -> Result<CpuSet, 
 /// these events or a copy of it. The others stand as they stood. It fails with `NoEvent` where the event is not open,
 /// and then nothing changes.
 pub fn disable(world: &mut World, event: EventNo, group: bool) -> Result<CpuSet, Reason>
-    ensures refused { IfErr result (λ reason. closed_refusal (stage_of world.old) event ≡ Some reason) }
-    ensures accepted { OnOk result (closed_refusal (stage_of world.old) event ≡ None) }
-    ensures same { OnErr result (world.new ≡ world.old) }
-    ensures stage { OnOk result (stage_of world.new ≡ command_each disabled (targeted (stage_of world.old) event group) (stage_of world.old)) }
+    ensures answer { IsAnswered (ToolStep (line.Disable event group)) world.old world.new result }
     ensures states { OnOk result (HaveStates disabled (targeted (stage_of world.old) event group) world.old world.new) }
-    ensures processors { IfOk result (AreReached (targeted (stage_of world.old) event group) world.old) }
-    ensures others { IfOk result (λ set. AreUntouchedOutside set world.old world.new) }
 {
     switch(world, event, group, Switch::Off)
 }
 
 /// Clears the count of an event, or of each member of its group, and those of its copies, after the ioctl RESET. Times
-/// stay, and so do processors. It fails with `NoEvent` where the event is not open, and then nothing changes.
-pub fn reset(world: &mut World, event: EventNo, group: bool) -> Result<(), Reason>
-    ensures refused { IfErr result (λ reason. closed_refusal (stage_of world.old) event ≡ Some reason) }
-    ensures accepted { OnOk result (closed_refusal (stage_of world.old) event ≡ None) }
-    ensures same { OnErr result (world.new ≡ world.old) }
-    ensures stage { OnOk result (stage_of world.new ≡ stage_of world.old) }
+/// stay, and so do processors: the answer has none. It fails with `NoEvent` where the event is not open, and then
+/// nothing changes.
+pub fn reset(world: &mut World, event: EventNo, group: bool) -> Result<CpuSet, Reason>
+    ensures answer { IsAnswered (ToolStep (line.Reset event group)) world.old world.new result }
     ensures counts { OnOk result (IsReset (targeted (stage_of world.old) event group) world.old world.new) }
-    ensures others { OnOk result (AreUntouched world.old world.new) }
 {
     let slots = targets(world, event, group)?;
     change_families(world, Command::Reset, slots.as_slice());
-    Ok(())
+    world.use_invariant();
+    Ok(CpuSet::new())
 }
 
 /// Whether a number is no period: it is 0, or has its highest bit set.
@@ -115,21 +100,18 @@ fn check_period(world: &World, event: EventNo, period: u64) -> Result<Key, Reaso
 }
 
 /// Gives an event another period, in occurrences, with a whole one left then, after the ioctl PERIOD. Its live copies
-/// keep theirs. It fails with `NoEvent` where the event is not open, with `NotSampling` where it has no
-/// period, and with `ZeroPeriod` where the new one is 0 or has its highest bit set; the first that holds counts, and
-/// then nothing changes.
-pub fn period(world: &mut World, event: EventNo, period: u64) -> Result<(), Reason>
-    ensures refused { IfErr result (λ reason. period_refusal (stage_of world.old) event period ≡ Some reason) }
-    ensures accepted { OnOk result (period_refusal (stage_of world.old) event period ≡ None) }
-    ensures same { OnErr result (world.new ≡ world.old) }
-    ensures stage { OnOk result (stage_of world.new ≡ with_period event period (stage_of world.old)) }
+/// keep theirs, and processors stay: the answer has none. It fails with `NoEvent` where the event is not open, with
+/// `NotSampling` where it has no period, and with `ZeroPeriod` where the new one is 0 or has its highest bit set; the
+/// first that holds counts, and then nothing changes.
+pub fn period(world: &mut World, event: EventNo, period: u64) -> Result<CpuSet, Reason>
+    ensures answer { IsAnswered (ToolStep (line.Period event period)) world.old world.new result }
     ensures period { OnOk result (HasPeriod event period world.old world.new) }
-    ensures others { OnOk result (AreUntouched world.old world.new) }
 {
     world.pmus().use_invariant();
     let original = check_period(world, event, period)?;
     world.set_period(original, period);
-    Ok(())
+    world.use_invariant();
+    Ok(CpuSet::new())
 }
 
 /// Closes an event: its copies go, and then the event. Where it led a group each sibling is a group of its own then,
@@ -138,16 +120,12 @@ pub fn period(world: &mut World, event: EventNo, period: u64) -> Result<(), Reas
 /// event is not open, and then nothing changes.
 pub fn close(world: &mut World, event: EventNo) -> Result<CpuSet, Reason>
     requires { IsSound world.old.hardware (stage_of world.old) }
-    ensures refused { IfErr result (λ reason. closed_refusal (stage_of world.old) event ≡ Some reason) }
-    ensures accepted { OnOk result (closed_refusal (stage_of world.old) event ≡ None) }
-    ensures same { OnErr result (world.new ≡ world.old) }
-    ensures stage { OnOk result (stage_of world.new ≡ closed event (stage_of world.old)) }
+    ensures answer { IsAnswered (ToolStep (line.Close event)) world.old world.new result }
     ensures closed { OnOk result (IsClosed event world.old world.new) }
-    ensures processors { IfOk result (AreReached (event ∷ []) world.old) }
-    ensures others { IfOk result (λ set. AreUntouchedOutside set world.old world.new) }
 {
     let slots = targets(world, event, false)?;
     let cpus = cpus_reaching(world, slots.as_slice());
     drop_family(world, event);
+    world.use_invariant();
     Ok(cpus)
 }

@@ -1,6 +1,6 @@
 //! What a tool does to an open event of a world, as the ioctls of perf_event_open(2) and close do: ENABLE, DISABLE,
-//! RESET, PERIOD and CLOSE. Contracts see the refusal and the stage of the definitions, what is left of all else, and
-//! the processors that must be rescheduled. It serves the machine.
+//! RESET, PERIOD and CLOSE. Contracts see one relation of each line's answer: its refusal, or the stage and the shares
+//! that it has made and the processors that must be rescheduled; and what is left of all else. It serves the machine.
 #![tactic(auto)]
 
 mod changing;

@@ -1,15 +1,15 @@
 //! The opening of an event.
 
-ghost use Rattle.std.specs.Prelude.{◌≡◌, ◌+◌, ◌^◌, ◌<◌, ◌≤◌, ◌↔◌, OnOk, OnErr, IfOk, IfErr, None, Some, true, false, length, slice_index_or, bit_or, if◌then◌else◌};
+ghost use Rattle.std.specs.Prelude.{◌≡◌, ◌+◌, ◌^◌, ◌<◌, ◌≤◌, ◌↔◌, OnOk, IfOk, true, false, length, slice_index_or, bit_or, if◌then◌else◌};
 ghost use Rattle.perf_base.specs.Cpus.{HasCpu};
 ghost use Rattle.perf_base.specs.Scripts.{IsAttr};
 ghost use Rattle.perf_base.specs.declared.numbers.CpuNo.{CpuNo as Cpu};
-ghost use Rattle.stage_spec.specs.Opening.{open_refusal, opened};
-ghost use Rattle.perf_base.specs.Contexts as contexts;
+ghost use Rattle.perf_base.specs.declared.lines.ToolLine.TheVariants as line;
+ghost use Rattle.stage_spec.specs.History.{ToolStep};
 ghost use Rattle.stage_spec.specs.Shares.{no_sums};
 ghost use Rattle.stage_spec.specs.Verdict.{verdicts};
 ghost use Rattle.stage_laws.specs.Narrowing as narrowing;
-ghost use Rattle.world_spec.specs.Rescheduled.{AreUntouchedOutside};
+ghost use Rattle.world_spec.specs.Lines.{IsAnswered};
 ghost use Rattle.world_spec.specs.StageOf.{stage_of};
 ghost use Rattle.perf_world.specs.Seen.{IsWorld};
 ghost use Rattle.event_open.specs.Opened.{IsOpenedAs, opened_as};
@@ -62,23 +62,18 @@ pub fn open(
     requires slot { event.0 < 256 }
     requires attr { IsAttr (length world.old.quiet.running) (length world.old.hardware.kind_pmus) attr.now }
     requires room { world.old.quiet.next_id + 1 < 2 ^ 63 }
-    ensures accepted { OnOk result (open_refusal world.old.hardware (stage_of world.old) event attr.now leader ≡ None) }
-    ensures refused { IfErr result (λ reason. open_refusal world.old.hardware (stage_of world.old) event attr.now leader ≡ Some reason) }
-    ensures same { OnErr result (world.new ≡ world.old) }
+    ensures answer { IsAnswered (ToolStep (line.Open event attr.now leader)) world.old world.new result }
     ensures world { OnOk result (IsOpenedAs world.old world.new (opened_as world.old event attr.now leader)) }
     ensures folded { OnOk result (slice_index_or world.new.folded event.0 no_sums ≡ no_sums) }
     ensures lost { OnOk result (slice_index_or world.new.lost event.0 0 ≡ 0) }
-    ensures stage { OnOk result (stage_of world.new ≡ opened (stage_of world.old) event attr.now leader) }
-    ensures processors { IfOk result (λ set. (cpu : Cpu) → cpu.0 < length world.old.quiet.running
-        → (HasCpu set cpu ↔ (narrowing.has_context (stage_of world.old) cpu (contexts.context_of attr.now) ≡ true))) }
-    ensures within { IfOk result (λ set. (cpu : Cpu) → HasCpu set cpu → cpu.0 < length world.old.quiet.running) }
-    ensures others { IfOk result (λ set. AreUntouchedOutside set world.old world.new) }
     ensures verdicts { IfOk result (λ set. (cpu : Cpu) → cpu.0 < length world.old.quiet.running → (HasCpu set cpu → ⊥)
         → verdicts world.old.hardware (stage_of world.new) cpu ≡ verdicts world.old.hardware (stage_of world.old) cpu) }
 {
+    world.pmus().use_invariant();
     let first = check_open(world, event, attr, leader)?;
     let context = attr.context();
     let cpus = cpus_with(world, context);
     world.add(event, attr, first, None, context);
+    world.use_invariant();
     Ok(cpus)
 }

@@ -14,7 +14,7 @@ use Rattle.world_spec.specs.{Rescheduled.{IsRescheduled}, StageOf.{stage_of}, Va
 use Rattle.world_spec.proofs.Standing.{briefs-joined, passes-groups}
 use Rattle.cpu_sched.specs.{After.{after_brief}, Briefs.{present_brief}, Sheets.{Held}, Tried.{tried, tries, tries_for}}
 use Rattle.machine.specs.Counted.{AreCounted, AreCountedUnless, IsCounted, IsCountedBy, IsServedBy, Serves, is_idle_line, rescheduled_by, seats_of}
-use Rattle.machine.{specs.Settled.{is_in}, proofs.{Keeping.{Touched, filter-below, in-by, one-below}, Settling.{cpus_below}}}
+use Rattle.machine.{specs.Settled.{is_in}, proofs.{Keeping.{filter-below, one-below}, Settling.{cpus_below}}}
 
 -- as many events are seated as are on
 pub seats-count : (hw : Hardware) (w : World) (cpu : CpuNo) → IsRescheduled hw w cpu → length (seats_at w cpu).events ≡ length (seated hw (stage_of w) cpu)
@@ -94,17 +94,6 @@ counted-all hw set n size s x first now whole done least most =
       );
       most = most;
     })
-
--- a line of a tool takes the tests of the processors that it touches
-pub counted-step : (w v x : World) (l : ToolLine) (set : CpuSet) (before now : ℕ) → Touched w v l set
-    → AreCounted v.hardware (stage_of v) (stage_of x) (filter (is_in set) (all_cpus (stage_of v))) before now → IsCounted (ToolStep l) w x before now
-counted-step w v x l set before now c h =
-    let hw : Hardware = w.hardware in
-    let s : Stage = stage_of w in
-    let touched : (cpu : CpuNo) → cpu.0 < length w.quiet.running → is_in set cpu ≡ touches hw s (ToolStep l) cpu = grind (arith, in-by) in
-    let made : stage_of v ≡ changed hw s (ToolStep l) = c.stage ∙ sym (ap (λ o. unless_left o (tool_changed l) s) c.accepted) in
-    let cpus : filter (is_in set) (all_cpus (stage_of v)) ≡ rescheduled_by hw s (ToolStep l) = grind (arith, cpus_below, filter-below) in
-    grind (arith, hw, s, cpus, made)
 
 pub counted-by : (sheet : Option Held) (w v x : World) (cpu : CpuNo) (l : CpuLine) (before now : ℕ) → cpu.0 < length w.quiet.running → cpu_refusal (stage_of w) cpu l ≡ None
     → is_idle_line (stage_of w) cpu l ≡ false → ((other : CpuNo) → cpu_touches cpu l other ≡ (cpu.0 == other.0)) → v.hardware ≡ w.hardware → stage_of v ≡ cpu_changed w.hardware cpu l (stage_of w)

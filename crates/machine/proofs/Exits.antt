@@ -12,11 +12,11 @@ use Rattle.stage_laws.{specs.{Narrowing.{IsNarrow, changed, unless_left, unless_
 use Rattle.stage_laws.proofs.Sound.{step_sound}
 use Rattle.world_spec.specs.{Kept.{plus_keys, IsKept}, Listings.{keys_in}, Rescheduled.{AreRescheduled, AreUntouchedBut, IsRescheduled}}
 use Rattle.world_spec.specs.{StageOf.{stage_of}, Value.{World, is_live, entry_at, instance_at, account_at, family_of, times}, Quiet.{KeepsAccount}}
-use Rattle.world_spec.{specs.Stepping.{HasStepped, HasFolded}, proofs.{Moving.{leads-parts}, Quiet.{quiet-keeps}, Stepping.{stepped}}}
+use Rattle.world_spec.{specs.Stepping.{HasStepped, HasFolded}, proofs.{Lines.{slots-same}, Moving.{leads-parts}, Quiet.{quiet-keeps}, Stepping.{stepped}}}
 use Rattle.cpu_sched.specs.Resched.{StaysBut}
 use Rattle.exit_fold.{specs.Leaving.{leaves, leaving_copies, leaving_sums, HasExited}, proofs.Copies.{leaving-times, no-one, same-sums}}
 use Rattle.exit_fold.proofs.{Exited.{task-low}, Leaving.{of_event, leaving-mapped, same-keys}}
-use Rattle.machine.{specs.Stepped.{limits_in, IsReady}, proofs.{Keeping.{none-lost, one-below, slots-same}, Refused.{accepted-cpu}}}
+use Rattle.machine.{specs.Stepped.{limits_in, IsReady}, proofs.{Keeping.{none-lost, one-below}, Refused.{accepted-cpu}}}
 use Rattle.machine.proofs.{Settling.{one-settled}, TaskChange.{filter-alike}}
 use Rattle.machine.specs.Stepped as stepped_line
 

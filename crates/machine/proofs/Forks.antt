@@ -10,9 +10,9 @@ use Rattle.stage_spec.{specs.{Settle.{settle_each}, Shares.{no_sums}, Stage.{Sta
 use Rattle.stage_laws.{specs.{Narrowing.{IsNarrow, changed, unless_left, unless_no, touches}, Sound.{IsSound}}, proofs.Narrow.{narrows}}
 use Rattle.stage_laws.proofs.Sound.{step_sound}
 use Rattle.world_spec.specs.{Kept.{IsKept}, Rescheduled.{AreRescheduled, AreUntouched}, StageOf.{stage_of}, Value.{World, is_live, instance_at}}
-use Rattle.world_spec.{specs.Stepping.{HasStepped}, proofs.{Quiet.{quiet-keeps}, Stepping.{stepped}}}
+use Rattle.world_spec.{specs.Stepping.{HasStepped}, proofs.{Lines.{slots-same}, Quiet.{quiet-keeps}, Stepping.{stepped}}}
 use Rattle.fork_inherit.specs.Copies.{HasForked}
-use Rattle.machine.{specs.Stepped.{limits_in, IsReady}, proofs.{Keeping.{none-lost, slots-same}, Refused.{accepted-cpu}, TaskChange.{filter-alike}}}
+use Rattle.machine.{specs.Stepped.{limits_in, IsReady}, proofs.{Keeping.{none-lost}, Refused.{accepted-cpu}, TaskChange.{filter-alike}}}
 use Rattle.machine.specs.Stepped as stepped_line
 
 -- What is told of a fork: the worlds before and after it.

@@ -2,9 +2,6 @@ pub mod Answers
 pub mod Asking
 pub mod Beginning
 pub mod Behind
-pub mod Clearing
-pub mod Closes
-pub mod CommandLines
 pub mod Counting
 pub mod Declared
 pub mod Exits
@@ -22,14 +19,11 @@ pub mod New
 pub mod NextSteps
 pub mod NoRings
 pub mod Opened
-pub mod Opening
 pub mod Pairs
 pub mod Places
 pub mod PreparedBriefs
 pub mod Refused
 pub mod Rest
-pub mod Restarting
-pub mod RingLines
 pub mod RingsThere
 pub mod Roomy
 pub mod Seen
@@ -42,6 +36,7 @@ pub mod Spacious
 pub mod Stepped
 pub mod TaskChange
 pub mod Ticking
+pub mod ToolLines
 pub mod Totals
 pub mod Unlawful
 pub mod Unswitched

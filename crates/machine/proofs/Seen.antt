@@ -13,9 +13,9 @@ use Rattle.ring_laws.proofs.Tails.{seen_tail}
 use Rattle.ring_words.specs.Ends.{IsStop}
 use Rattle.sample_ring.specs.{Taking.{with_tail as with_last_tail}, Lending.{with_out}, OutEnds.{OutEnd, HasAccount}, RingLists.{HasRing, ring_index}}
 use Rattle.sample_ring.proofs.Cuts.{stops_are_ends}
-use Rattle.world_spec.{specs.{Agreement.{AgreesWith}, Kept.{IsKept}, Value.{World}, Stepping.{HasStepped}}, proofs.Stepping.{stepped}}
+use Rattle.world_spec.{specs.{Agreement.{AgreesWith}, Kept.{IsKept}, Value.{World}, Stepping.{HasStepped}}, proofs.{Lines.{KeepsAll}, Stepping.{stepped}}}
 use Rattle.work_account.specs.Ends.{IsAccountOf, AreAccounts}
-use Rattle.machine.proofs.{Keeping.{KeepsAll, kept-stepped}, History.{record-push}, Places.{account-there, seen-among, with_tail}}
+use Rattle.machine.proofs.{Keeping.{kept-stepped}, History.{record-push}, Places.{account-there, seen-among, with_tail}}
 use Rattle.machine.specs.Leading.{Kept, LeadTo, record_in}
 
 -- a look loses no record

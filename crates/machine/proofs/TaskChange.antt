@@ -15,10 +15,10 @@ use Rattle.stage_laws.proofs.{Narrow.{narrows}, Sound.{step_sound}}
 use Rattle.world_spec.specs.{Changes.{place}, Kept.{IsKept, family_sums}, Rescheduled.{AreRescheduled, AreUntouchedBut, IsRescheduled}}
 use Rattle.world_spec.specs.{StageOf.{stage_of}, Value.{World, Account, is_live, entry_at, instance_at, account_at}}
 use Rattle.world_spec.specs.{Shares.{HaveShares, HaveRoom, with_share, soft_shares, soft_hits, one_hit}, Stepping.{HasStepped, HasItsShare}}
-use Rattle.world_spec.proofs.{Quiet.{none-after}, Stepping.{stepped, instance-found}}
+use Rattle.world_spec.proofs.{Lines.{slots-current}, Quiet.{none-after}, Stepping.{stepped, instance-found}}
 use Rattle.cpu_sched.specs.Resched.{StaysBut}
 use Rattle.machine.{specs.{Stepped.{limits_in, IsReady}, Switched.{migration_shares, two_hits}}, proofs.Refused.{accepted-cpu}}
-use Rattle.machine.proofs.{Keeping.{none-lost, one-below, slots-current}, Settling.{one-settled}}
+use Rattle.machine.proofs.{Keeping.{none-lost, one-below}, Settling.{one-settled}}
 use Rattle.machine.specs.Stepped as stepped_line
 
 -- no migration leaves the accounts

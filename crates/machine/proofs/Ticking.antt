@@ -8,10 +8,10 @@ use Rattle.perf_base.specs.declared.standing.Context.TheVariants as context
 use Rattle.stage_spec.specs.{Hardware.{Hardware}, History.{CpuStep, stage_step}, Rotation.{rotated}, Settle.{settle, settle_each}, Stage.{task_on}}
 use Rattle.stage_laws.{specs.Narrowing.{IsNarrow}, proofs.Narrow.{narrows}}
 use Rattle.world_spec.specs.{Kept.{IsKept}, Rescheduled.{AreUntouchedBut, IsRescheduled}, StageOf.{stage_of}}
-use Rattle.world_spec.{specs.Value.{World}, proofs.Stepping.{stepped}}
+use Rattle.world_spec.{specs.Value.{World}, proofs.{Lines.{KeepsAll}, Stepping.{stepped}}}
 use Rattle.cpu_sched.specs.Resched.{StaysBut}
 use Rattle.task_moves.specs.Turning.{turn_in, turn_of_task, turned_world}
-use Rattle.machine.{specs.Stepped.{limits_in, IsReady}, proofs.Keeping.{none-lost, KeepsAll, kept-stepped, kept-ready, one-below}}
+use Rattle.machine.{specs.Stepped.{limits_in, IsReady}, proofs.Keeping.{none-lost, kept-stepped, kept-ready, one-below}}
 use Rattle.machine.proofs.Settling.{one-settled}
 use Rattle.machine.specs.Stepped as stepped_line
 

@@ -1,21 +1,29 @@
 //! One given line.
 
-ghost use Rattle.std.specs.Prelude.{◌≡◌, ◌<◌, length};
+ghost use Rattle.std.specs.Prelude.{◌≡◌, ◌<◌, IfOk, length};
 ghost use Rattle.std.specs.Option.{option_copied};
+ghost use Rattle.perf_base.specs.Cpus.{HasCpu};
 ghost use Rattle.perf_base.specs.Scripts.{IsCpuLine};
 ghost use Rattle.stage_spec.specs.History.{CpuStep, ToolStep};
 ghost use Rattle.perf_base.specs.declared.lines.CpuLine.TheVariants as cpu_line;
+ghost use Rattle.perf_base.specs.declared.lines.ToolLine.{ToolLine as Line};
 ghost use Rattle.perf_base.specs.declared.lines.Work.{Work as Stretch};
-ghost use Rattle.machine.specs.Counted.{IsCounted, IsCountedBy};
+ghost use Rattle.perf_base.specs.declared.numbers.CpuNo.{CpuNo as Cpu};
+ghost use Rattle.world_spec.specs.Lines.{IsAnswered};
+ghost use Rattle.world_spec.specs.Rescheduled.{IsRescheduled};
+ghost use Rattle.world_spec.specs.Value.{World as Before};
+ghost use Rattle.machine.specs.Answered.{IsToolAnswer, IsToolDone, MayChange};
+ghost use Rattle.machine.specs.Counted.{IsCountedBy};
 ghost use Rattle.machine.specs.Stepped.{IsReady, IsDone, IsDoneWith, StaysIfIdle, StaysIfRefused, seen_of};
 ghost use Rattle.work_account.specs.Ends.{AreTogether};
 ghost use Rattle.work_account.specs.Sampling.{HaveRings, HaveSpaceToSend, ends_of};
 ghost use Rattle.machine.specs.Room.{HasRoom, IsLineFor};
 ghost use Rattle.machine.specs.Totals.{HaveGrown};
 
-use crate::{commands, processors, rings as ring_lines, switching, tools};
+use crate::rescheduling::resched_each;
+use crate::{processors, switching, tools};
 use cpu_sched::Sheet;
-use perf_base::{CpuLine, CpuNo, Reply, Steps, ToolLine};
+use perf_base::{CpuLine, CpuNo, CpuSet, Reason, Reply, Steps, ToolLine};
 use perf_world::World;
 use sample_ring::{Outs, Rings};
 use std::marker::Brand;
@@ -65,31 +73,73 @@ pub fn cpu_line<L: Ledger>(
     }
 }
 
+/// The answer to a line of a tool before any processor is rescheduled: the reply to one that asks, or what the change
+/// of another one answers.
+enum Answer {
+    Told(Reply),
+    Made(Result<CpuSet, Reason>),
+}
+
+/// Does a given line of a tool, but for the rescheduling that it makes necessary.
+fn begin(world: &mut World, line: &ToolLine) -> Answer
+    requires ready { IsReady world.old }
+    requires line { IsLineFor world.old line.now }
+    requires room { HasRoom world.old }
+    ensures { IsToolAnswer line.now world.old world.new result }
+{
+    match line {
+        ToolLine::Open { slot, attr, leader } => {
+            Answer::Made(event_open::open(world, *slot, attr, *leader))
+        }
+        ToolLine::Enable { event, group } => {
+            Answer::Made(event_commands::enable(world, *event, *group))
+        }
+        ToolLine::Disable { event, group } => {
+            Answer::Made(event_commands::disable(world, *event, *group))
+        }
+        ToolLine::Reset { event, group } => {
+            Answer::Made(event_commands::reset(world, *event, *group))
+        }
+        ToolLine::Period { event, period } => {
+            Answer::Made(event_commands::period(world, *event, *period))
+        }
+        ToolLine::Read { event, size } => Answer::Told(tools::read(world, *event, *size)),
+        ToolLine::Map { event, ring } => Answer::Made(ring_table::map(world, *event, *ring)),
+        ToolLine::Output { event, target } => {
+            Answer::Made(ring_table::output(world, *event, *target))
+        }
+        ToolLine::Close { event } => Answer::Made(event_commands::close(world, *event)),
+        ToolLine::Why { event } => Answer::Told(tools::why(world, *event)),
+        ToolLine::Seats { cpu } => Answer::Told(tools::seats(world, *cpu)),
+    }
+}
+
+/// Reschedules the processors that a line touches, unless it is refused, and replies to it.
+fn settle<L: Ledger>(world: &mut World, made: Result<CpuSet, Reason>, tests: &mut Steps<L>) -> Reply
+    requires { IfOk made (λ set. (cpu : Cpu) → cpu.0 < length world.old.quiet.running → (HasCpu set cpu → ⊥) → IsRescheduled world.old.hardware world.old cpu) }
+    ensures { (l : Line) (w : Before) → MayChange l w → IsAnswered (ToolStep l) w world.old made → IsToolDone l w world.new result tests.old tests.new }
+{
+    world.use_invariant();
+    match made {
+        Err(reason) => Reply::Refused(reason),
+        Ok(set) => {
+            resched_each(world, set, tests);
+            Reply::Ok
+        }
+    }
+}
+
 /// Does a given line of a tool, and every rescheduling that it makes necessary.
 pub fn tool_line<L: Ledger>(world: &mut World, line: &ToolLine, tests: &mut Steps<L>) -> Reply
     requires ready { IsReady world.old }
     requires line { IsLineFor world.old line.now }
     requires room { HasRoom world.old }
-    ensures ready { IsReady world.new }
-    ensures done { IsDone (ToolStep line.now) world.old world.new result }
-    ensures same { StaysIfRefused world.old world.new result }
-    ensures idle { StaysIfIdle (ToolStep line.now) world.old world.new }
-    ensures hardware { world.new.hardware ≡ world.old.hardware }
-    ensures totals { world.new.quiet.totals ≡ world.old.quiet.totals }
-    ensures counted { IsCounted (ToolStep line.now) world.old world.new tests.old tests.new }
+    ensures { IsToolDone line.now world.old world.new result tests.old tests.new }
 {
-    match line {
-        ToolLine::Open { slot, attr, leader } => tools::open(world, *slot, attr, *leader, tests),
-        ToolLine::Enable { event, group } => commands::enable(world, *event, *group, tests),
-        ToolLine::Disable { event, group } => commands::disable(world, *event, *group, tests),
-        ToolLine::Reset { event, group } => commands::reset(world, *event, *group),
-        ToolLine::Period { event, period } => commands::period(world, *event, *period),
-        ToolLine::Read { event, size } => tools::read(world, *event, *size),
-        ToolLine::Map { event, ring } => ring_lines::map(world, *event, *ring),
-        ToolLine::Output { event, target } => ring_lines::output(world, *event, *target),
-        ToolLine::Close { event } => commands::close(world, *event, tests),
-        ToolLine::Why { event } => tools::why(world, *event),
-        ToolLine::Seats { cpu } => tools::seats(world, *cpu),
+    world.use_invariant();
+    match begin(world, line) {
+        Answer::Told(reply) => reply,
+        Answer::Made(made) => settle(world, made, tests),
     }
 }
 

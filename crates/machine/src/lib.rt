@@ -3,7 +3,6 @@
 //! script that lead there are the history that it stands for. It serves whoever goes through an order.
 #![tactic(auto)]
 
-mod commands;
 mod counters;
 mod ending;
 mod events;
@@ -15,7 +14,6 @@ mod machine;
 mod preparing;
 mod processors;
 mod rescheduling;
-mod rings;
 mod stepping;
 mod switching;
 mod tools;

@@ -1,46 +1,13 @@
-//! Lines of tools.
+//! Lines of tools that ask.
 
-ghost use Rattle.std.specs.Prelude.{◌≡◌, ◌+◌, ◌^◌, ◌<◌, ◌≤◌, IfSome, length};
-ghost use Rattle.perf_base.specs.Scripts.{IsAttr, IsSlot};
+ghost use Rattle.std.specs.Prelude.{◌<◌, length};
+ghost use Rattle.perf_base.specs.Scripts.{IsSlot};
 ghost use Rattle.perf_base.specs.declared.lines.ToolLine.TheVariants as line;
 ghost use Rattle.stage_spec.specs.History.{ToolStep};
-ghost use Rattle.machine.specs.Counted.{IsCounted};
-ghost use Rattle.machine.specs.Stepped.{IsReady, IsDone, StaysIfRefused};
+ghost use Rattle.machine.specs.Stepped.{IsReady, IsDone};
 
-use crate::rescheduling::resched_each;
-use perf_base::{Attr, CpuNo, EventNo, Reply, Steps};
+use perf_base::{CpuNo, EventNo, Reply};
 use perf_world::World;
-use std::sync::ledger::Ledger;
-
-/// Opens an event in a slot, and reschedules the processors that have its context.
-pub fn open<L: Ledger>(
-    world: &mut World,
-    slot: EventNo,
-    attr: &Attr,
-    leader: Option<EventNo>,
-    tests: &mut Steps<L>,
-) -> Reply
-    requires ready { IsReady world.old }
-    requires slot { IsSlot slot }
-    requires attr { IsAttr (length world.old.quiet.running) (length world.old.hardware.kind_pmus) attr.now }
-    requires leader { IfSome leader IsSlot }
-    requires room { world.old.quiet.next_id + 1 < 2 ^ 63 }
-    ensures ready { IsReady world.new }
-    ensures done { IsDone (ToolStep (line.Open slot attr.now leader)) world.old world.new result }
-    ensures same { StaysIfRefused world.old world.new result }
-    ensures hardware { world.new.hardware ≡ world.old.hardware }
-    ensures totals { world.new.quiet.totals ≡ world.old.quiet.totals }
-    ensures counted { IsCounted (ToolStep (line.Open slot attr.now leader)) world.old world.new tests.old tests.new }
-{
-    world.use_invariant();
-    match event_open::open(world, slot, attr, leader) {
-        Err(reason) => Reply::Refused(reason),
-        Ok(set) => {
-            resched_each(world, set, tests);
-            Reply::Ok
-        }
-    }
-}
 
 /// Reads what an event has counted, into a buffer of `size` bytes or of as many as need be.
 pub fn read(world: &World, event: EventNo, size: Option<u64>) -> Reply

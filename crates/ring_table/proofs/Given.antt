@@ -1,13 +1,13 @@
 -- What a ring that an original is given makes of a world and its stage, and that processors stand as they stood.
-use Rattle.std.specs.{Prelude.{◌≡◌, ◌==◌, ◌<◌, ◌≤◌, Bool, true, false, List, [], ◌∷◌, ◌++◌, length, Some, None, if◌then◌else◌}, List.{list_any}}
+use Rattle.std.specs.{Prelude.{◌≡◌, ◌==◌, ◌<◌, ◌≤◌, Bool, true, false, List, [], ◌∷◌, ◌++◌, length, Option, Some, None, if◌then◌else◌}, List.{list_any}}
 use Rattle.std.proofs.Common.{arith, refl, sym, ap, ◌∙◌}
-use Rattle.perf_base.specs.declared.numbers.{CpuNo.{CpuNo}, EventNo.{EventNo}, Key.{Key}, RingNo.{RingNo}}
-use Rattle.stage_spec.specs.{Hardware.{Hardware}, Mapping.{mapped_to, map_refusal, output_to, ring_of, set_ring}}
-use Rattle.stage_laws.{specs.{Narrowing.{has_context}, OneByOne.{change_one}, Standings.{briefs}}, proofs.OneByOne.{ring-one}}
+use Rattle.perf_base.specs.declared.{lines.ToolLine.{ToolLine}, numbers.{CpuNo.{CpuNo}, CpuSet.{CpuSet}, EventNo.{EventNo}, Key.{Key}, RingNo.{RingNo}}}
+use Rattle.stage_spec.specs.{Hardware.{Hardware}, History.{ToolStep, tool_changed, tool_refusal}, Mapping.{mapped_to, map_refusal, output_to, ring_of, set_ring}}
+use Rattle.stage_laws.{specs.{Narrowing.{has_context, tool_touches}, OneByOne.{change_one}, Standings.{briefs}}, proofs.OneByOne.{ring-one}}
 use Rattle.stage_laws.proofs.Untouched.{map-briefs, output-briefs}
-use Rattle.world_spec.specs.{Value.{World, is_live, instance_at, standing_at, seats_at, family_of}, StageOf.{stage_of}}
-use Rattle.world_spec.{specs.{Kept.{leads, post_at}, Changes.{remember}, Laws.{remembered}, Rescheduled.{IsUntouched}}, proofs.Listings.{is-numbered}}
-use Rattle.world_spec.proofs.{Standing.{left-untouched}, Tables.{entry-here, entry-there, live-written, posts-same}}
+use Rattle.world_spec.specs.{Lines.{HasChanged}, Quiet.{is_quiet_call}, Value.{World, Entry, is_live, entry_at, instance_at, standing_at, seats_at, family_of}, StageOf.{stage_of}}
+use Rattle.world_spec.{specs.{Kept.{leads, post_at}, Changes.{remember}, Laws.{remembered}, Rescheduled.{AreUntouched, IsUntouched}}, proofs.Listings.{is-numbered}}
+use Rattle.world_spec.proofs.{Keys.{key-is}, Lines.{KeepsAll, all-shares, all-slots, still-changed}, Standing.{left-untouched}, Tables.{entry-here, entry-there, live-written, posts-same}}
 use Rattle.world_spec.specs.Changes as change
 use Rattle.perf_world.specs.Seen.{IsWorld}
 use Rattle.ring_table.{specs.Rings.{HasRing}, proofs.Refusing.{not-busy, original-named}}
@@ -72,6 +72,24 @@ pub output-stays : (w new : World) (e f : EventNo) (ring : RingNo) (k : Key) (cp
     → stage_of new ≡ output_to e f (stage_of w) → cpu.0 < 8 → IsUntouched w.hardware w new cpu
 output-stays w new e f ring k cpu live changed stage low =
     stays w new ring false k cpu live changed low (ap (λ s. briefs w.hardware s cpu) stage ∙ output-briefs w.hardware e f (stage_of w) cpu)
+
+-- what a ring leaves of an entry, and its line of all
+record StaysEntry (before after : Entry) : Type 0 where
+  id : after.instance.id ≡ before.instance.id
+  context : after.context ≡ before.context
+
+entry-stays : (w new : World) (e : EventNo) (ring : Option RingNo) (owner : Bool) (mapped : List RingNo) (k : Key) → HasRing e ring owner mapped w new → StaysEntry (entry_at w k) (entry_at new k)
+entry-stays w new e ring owner mapped k g = grind (arith, key-is)
+
+ring-keeps : (w new : World) (e : EventNo) (ring : Option RingNo) (owner : Bool) (mapped : List RingNo) → HasRing e ring owner mapped w new → KeepsAll w new
+ring-keeps w new e ring owner mapped g = grind (arith, entry-stays)
+
+pub ring-changed : (w new : World) (l : ToolLine) (set : CpuSet) (e : EventNo) (ring : Option RingNo) (owner : Bool) (mapped : List RingNo) → IsWorld w → IsWorld new → HasRing e ring owner mapped w new
+    → is_quiet_call l ≡ true → tool_refusal w.hardware (stage_of w) l ≡ None → stage_of new ≡ tool_changed l (stage_of w) → ((cpu : CpuNo) → tool_touches (stage_of w) l cpu ≡ false) → set.0 ≡ 0
+    → AreUntouched w new → HasChanged (ToolStep l) w new set
+ring-changed w new l set e ring owner mapped h h_then given quiet =
+    let keeps : KeepsAll w new = ring-keeps w new e ring owner mapped given in
+    still-changed w new l set h h_then (all-slots w new keeps) (λ k. all-shares w new (ToolStep l) k h quiet keeps)
 
 -- a machine has eight processors at most
 pub few-cpus : (pmus : Hardware) (w : World) (cpu : CpuNo) → IsWorld w → pmus ≡ w.hardware → length pmus.cpu_pmus ≤ 8 → cpu.0 < length w.quiet.running → cpu.0 < 8

@@ -25,6 +25,7 @@ pub mod GoneSibling
 pub mod GoneStage
 pub mod Keeping
 pub mod Keys
+pub mod Lines
 pub mod Listings
 pub mod Metering
 pub mod Moving

@@ -10,6 +10,7 @@ pub mod Foldings
 pub mod Goings
 pub mod Kept
 pub mod Laws
+pub mod Lines
 pub mod Listings
 pub mod Metering
 pub mod Moves

@@ -4,7 +4,7 @@
 use Rattle.std.specs.Prelude.{◌≡◌, ◌+◌, ◌<◌, ◌≤◌, true, List, [], map, flat_map, slice_index_or}
 use Rattle.perf_base.specs.declared.numbers.{CpuNo.{CpuNo}, EventNo.{EventNo}, Key.{Key}}
 use Rattle.stage_spec.specs.{Families.{plus, leaving}, Hardware.{Hardware}, History.{Step, stage_step}, Recurrence.{after_reset}}
-use Rattle.stage_spec.specs.{Remainders.{left_by}, Shares.{share, no_sums}, Sums.{resets}}
+use Rattle.stage_spec.specs.{Remainders.{left_by}, Shares.{share, no_sums}, Stage.{Stage}, Sums.{resets}}
 use Rattle.ring_spec.specs.{Agreement.{IsCurrentSlot}, Running.{Running, losses_on, more_lost, record_after}, Sending.{sent_by_step, length_by}}
 use Rattle.world_spec.specs.{Agreement.{AgreesWith}, Kept.{IsKept, plus_keys}, StageOf.{stage_of}}
 use Rattle.world_spec.specs.Value.{World, is_live, instance_at, account_at, times}
@@ -29,8 +29,9 @@ pub record HasFolded (w after : World) (x : Step) (e : EventNo) (gone : List Key
   pub live : (k : Key) → 1 ≤ times k gone → is_live w k ≡ true
   pub sums : slice_index_or after.folded e.0 no_sums ≡ plus (slice_index_or w.folded e.0 no_sums) (plus_keys (λ k. (account_at w k).sums) gone)
 
-pub record HasStepped (hw : Hardware) (w after : World) (x : Step) : Type 0 where
-  pub stage : stage_of after ≡ stage_step hw (stage_of w) x
+-- What a step makes of a world whose stage is this one then.
+pub record HasBecome (hw : Hardware) (stage_then : Stage) (w after : World) (x : Step) : Type 0 where
+  pub stage : stage_of after ≡ stage_then
   pub drawn : w.quiet.next_id ≤ after.quiet.next_id
   pub old : (k : Key) → is_live after k ≡ true → (instance_at after k).id < w.quiet.next_id → HasItsShare hw w after x k
   pub new : (k : Key) → is_live after k ≡ true → w.quiet.next_id ≤ (instance_at after k).id → IsBorn after k
@@ -38,6 +39,10 @@ pub record HasStepped (hw : Hardware) (w after : World) (x : Step) : Type 0 wher
   pub folded : (e : EventNo) → IsCurrentSlot (stage_of after) e → (gone : List Key) × HasFolded w after x e gone
   pub lost : (e : EventNo) → slice_index_or after.lost e.0 0 ≡ slice_index_or w.lost e.0 0
   pub clock : (cpu : CpuNo) → slice_index_or after.quiet.clocks cpu.0 0 ≡ slice_index_or w.quiet.clocks cpu.0 0 + length_by cpu x
+
+-- The whole step: every processor is settled.
+abbrev pub HasStepped : Hardware → (w after : World) → Step → Type 0
+HasStepped hw w after x = HasBecome hw (stage_step hw (stage_of w) x) w after x
 
 -- the events whose records the rings lose by a step
 abbrev pub losses_by : Hardware → Running → Step → List EventNo
