@@ -1,0 +1,4 @@
+pub mod Ahead
+pub mod Bytes
+pub mod LineEnds
+pub mod Heads
