@@ -17,5 +17,7 @@ mod state;
 
 pub use fault::ScriptFault;
 pub use laws::each_text_has_one_answer;
+pub use lines::{cpu_line, tool_line};
+pub use numbers::{cpu, tool};
 pub use order::order_complete;
 pub use reading::read_script;

@@ -1,0 +1,5 @@
+pub mod Actors
+pub mod Bare
+pub mod Lines
+pub mod Passed
+pub mod Whole

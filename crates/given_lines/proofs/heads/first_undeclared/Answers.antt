@@ -1,0 +1,19 @@
+use Rattle.line_forms.specs.Forms.{version_of}
+use Rattle.given_lines.proofs.Passed.{none_passed, one_more_passed, first_at, all_passed}
+use Rattle.given_lines.proofs.heads.first_undeclared.Goals as goal
+
+pub loop-line-init : goal.loop-line-init
+loop-line-init c = none_passed (version_of c.args.version) c.args.text.now
+
+pub loop-line-preserved : goal.loop-line-preserved
+loop-line-preserved c =
+    one_more_passed (version_of c.args.version) c.args.text.now c.loop-line.passed c.loop-line.rest.now c.in-Some.line.now c.in-Some.more.now c.loop-line.invariant c.in-Some.ensures
+    (λ u. let t = c.in_ok-is_undeclared.ensures.ok.1 u in absurd cc)
+
+pub returns-then-branch-clause-ok : goal.returns-then-branch-clause-ok
+returns-then-branch-clause-ok c =
+    first_at (version_of c.args.version) c.args.text.now c.loop-line.passed c.loop-line.rest.now c.in-Some.line.now c.in-Some.more.now c.loop-line.invariant c.in-Some.ensures
+    c.requires.version (c.in_ok-is_undeclared.ensures.ok.0 c.if-branch.true)
+
+pub returns-clause-ok : goal.returns-clause-ok
+returns-clause-ok c = all_passed (version_of c.args.version) c.args.text.now c.loop-line.passed c.loop-line.rest.now c.requires.version c.loop-line.invariant c.in_default.ensures
