@@ -12,6 +12,6 @@ mod share;
 
 pub use call::Call;
 pub use pass::{Pass, meet};
-pub use served::{History, Served};
+pub use served::{History, Served, serve};
 pub use share::Share;
 pub use shared_object::Answer;

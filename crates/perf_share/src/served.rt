@@ -22,8 +22,9 @@ pub struct Served {
 /// All calls that were made, each with its reply, in their order.
 pub type History = shared_object::History<Served>;
 
-/// The machine of a script without rings, before its first call.
-pub(crate) fn serve(alloc: Global, script: &Script) -> Result<Served, NoMemory>
+/// The machine of a script without rings, each of whose processors is of a PMU, before its first call. It takes all
+/// memory that its calls need. A caller of one thread makes them by `apply`, at most 16,384.
+pub fn serve(alloc: Global, script: &Script) -> Result<Served, NoMemory>
     requires covered { IsCovered script.now }
     requires rings { script.now.rings ≡ [] }
     ensures { IfOk result (λ served. IsAfter script.now served []) }

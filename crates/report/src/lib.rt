@@ -15,5 +15,6 @@ mod writing;
 
 pub use laws::{made_has_no_look, made_is_complete, made_totals};
 pub use reports::write_report;
+pub use said::put_reply;
 pub use summary::{Summary, Totals, summary_of};
 pub use writing::write_summary;
