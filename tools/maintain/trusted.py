@@ -1,14 +1,15 @@
 #!/usr/bin/env python3
-"""Says which definitions must be believed by a reader of the headline, the contract of `perf_main`.
+"""Says which definitions must be believed by a reader of the headline, the contract of `perf_main`, and which more by
+a reader of the contract of `live_main`.
 
-It walks from the clauses of that call to each definition that they name, and on to those that these name. It prints
+It walks from the clauses of each call to each definition that they name, and on to those that these name. It prints
 them in an order in which they can be read, each behind those that it names, with the lines that each has.
 
 Usage: trusted.py [--table | --write | --check]    from the top of the repository
 
 --table prints the table of docs/maintain/DEFINITIONS.md, a row a file, those to read first in bold. --write puts it
 there, between its two marks, and how many definitions there are into docs/maintain/PROOF.md likewise; and it writes the
-first line of each file of definitions: `-- believed` where the headline rests on one of its definitions, else
+first line of each file of definitions: `-- believed` where one of the two rests on one of its definitions, else
 `-- inner`. --check ends with 1 where a page or a file has another, and names it.
 """
 
@@ -25,6 +26,7 @@ PAGE, COUNT_PAGE = "docs/maintain/DEFINITIONS.md", "docs/maintain/PROOF.md"
 BELIEVED, INNER = "-- believed\n", "-- inner\n"
 MARKS = ("<!-- trusted.py writes from here -->", "<!-- to here -->")
 SOURCE, CALL = "crates/perf_top/src/lib.rt", "perf_main"
+SESSION_SOURCE, SESSION_CALL = "crates/live_session/src/talking.rt", "live_main"
 # the files to read first: what the call promises, what is on, what is counted and answered, and which orders there are
 FIRST = {
     "perf_top": ("Outcome",),
@@ -70,10 +72,21 @@ def reached(definitions: dict[Key, Definition], first: list[Key]) -> list[Defini
     return [definitions[key] for key in done]
 
 
+def rests_on(source: str, call: str) -> list[Definition]:
+    """What the contract of a call rests on, in an order in which it can be read."""
+    text, clauses = clauses_of(source, call)
+    return reached(all_definitions(), cited(clauses, *imports_of(text)))
+
+
 def believed() -> list[Definition]:
     """What the headline rests on, in an order in which it can be read."""
-    text, clauses = clauses_of(SOURCE, CALL)
-    return reached(all_definitions(), cited(clauses, *imports_of(text)))
+    return rests_on(SOURCE, CALL)
+
+
+def believed_of_sessions(found: list[Definition]) -> list[Definition]:
+    """What a session's contract rests on beside these."""
+    known = {(it.path, it.name) for it in found}
+    return [it for it in rests_on(SESSION_SOURCE, SESSION_CALL) if (it.path, it.name) not in known]
 
 
 def by_file(found: list[Definition]) -> dict[str, list[Definition]]:
@@ -102,7 +115,12 @@ def table(found: list[Definition]) -> str:
     for path, some in by_file(found).items():
         name = f"**`{path}`**" if path in FIRST_PATHS else f"`{path}`"
         rows.append(f"| {name} | {len(some)} | {sum(it.lines for it in some)} |")
-    return "\n".join([summary(found), "", "| File | Definitions | Lines |", "|---|---|---|", *rows])
+    return "\n".join(["| File | Definitions | Lines |", "|---|---|---|", *rows])
+
+
+def tables(found: list[Definition], more: list[Definition]) -> str:
+    """The table of the headline, and that of what a session's contract rests on beside it."""
+    return "\n".join([summary(found), "", table(found), "", f"`{SESSION_CALL}` rests on {counted(more)} more.", "", table(more)])
 
 
 def headed(text: str, is_believed: bool) -> str:
@@ -129,31 +147,33 @@ def between_marks(path: str, written: str) -> str:
     return f"{before}{first}\n{written}\n{last}{after}"
 
 
-def pages(found: list[Definition]) -> dict[str, str]:
+def pages(found: list[Definition], more: list[Definition]) -> dict[str, str]:
     """Both pages, with what they say of these definitions."""
-    return {PAGE: between_marks(PAGE, table(found)), COUNT_PAGE: between_marks(COUNT_PAGE, summary(found))}
+    return {PAGE: between_marks(PAGE, tables(found, more)), COUNT_PAGE: between_marks(COUNT_PAGE, summary(found))}
 
 
 def main(*words: str) -> int:
     if words not in ((), ("--table",), ("--write",), ("--check",)):
         raise Fault(f"{' '.join(words)}: not known; trusted.py --help has the words")
     found = believed()
+    more = believed_of_sessions(found)
     if not words:
-        for it in found:
+        for it in [*found, *more]:
             print(f"{it.path}:{it.first}: {it.name} ({it.lines})")
     if words in ((), ("--table",)):
-        print(table(found))
+        print(tables(found, more))
         return 0
-    paths = {it.path for it in found}
+    paths = {it.path for it in [*found, *more]}
     wanted = {path: headed(read(path), path in paths) for path in spec_files()}
     if words == ("--write",):
         for path, text in wanted.items():
             write(path, text)
         # the lines have moved by the heads
-        for path, text in pages(believed()).items():
+        found = believed()
+        for path, text in pages(found, believed_of_sessions(found)).items():
             write(path, text)
         return 0
-    wanted |= pages(found)
+    wanted |= pages(found, more)
     stale = [path for path, text in wanted.items() if read(path) != text]
     for path in stale:
         print(f"{path}: stale; trusted.py --write brings it up to date", file=sys.stderr)

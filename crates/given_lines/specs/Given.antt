@@ -1,4 +1,4 @@
--- inner
+-- believed
 -- Which line of a processor or tool a text says that names it first, after a head that declares the machine and its
 -- kinds, and for which reason another text is refused. This project's own profile.
 use Rattle.std.specs.Prelude.{◌≡◌, ℕ, ◌<◌, List, ◌∷◌, length, All, Some}

@@ -1,4 +1,4 @@
--- inner
+-- believed
 -- Which text is a head: a script that declares its machine, its kinds and its tasks, and has no ring, no line under a
 -- processor or tool, no reader and no order. This project's own profile.
 use Rattle.std.specs.Prelude.{◌≡◌, ℕ, ◌+◌, ◌<◌, ◌≤◌, ◌⊎◌, List, [], length, All, replicate, slice_index_or}

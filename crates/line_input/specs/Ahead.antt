@@ -1,4 +1,4 @@
--- inner
+-- believed
 -- Bytes that wait, and the source behind them. This project's own profile of reading line by line.
 use Rattle.std.specs.Prelude.{ℕ, List, ◌++◌, Option, option_map}
 use Rattle.perf_io.specs.Outside.{SourceShows}

@@ -1,4 +1,4 @@
--- inner
+-- believed
 -- The head of a text: all up to the first line that is `end`. This project's own profile of reading line by line.
 use Rattle.std.specs.Prelude.{◌≡◌, ℕ, ◌<◌, ◌≤◌, ◌⊎◌, List, [], ◌∷◌, ◌++◌, length, take, codes, Option}
 use Rattle.perf_io.specs.Outside.{Takes, IsAtEnd}

@@ -1,4 +1,4 @@
--- inner
+-- believed
 -- What a call that takes a line took, by how the line ended. This project's own profile of reading line by line. The LF
 -- is the byte 10, and a line has at most 65,536 bytes before it.
 use Rattle.std.specs.Prelude.{ℕ, ◌-◌, ◌^◌, ◌<◌, ◌≤◌, ◌⊎◌, List, [], ◌∷◌, ◌++◌, length, Option, Contains}

@@ -1,4 +1,4 @@
--- inner
+-- believed
 -- What a session does as a whole, and what is left of it: what came, what was written, and how it ended. This
 -- project's own profile.
 use Rattle.std.specs.Prelude.{◌≡◌, ℕ, ◌-◌, ◌<◌, ◌≤◌, ◌^◌, ◌⊎◌, List, [], ◌∷◌, ◌++◌, IfSome, length, take, Result}

@@ -1,4 +1,4 @@
--- inner
+-- believed
 -- A session between two of its turns, and what one turn does. This project's own profile.
 use Rattle.std.specs.Prelude.{◌≡◌, ℕ, ◌<◌, ◌≤◌, ◌⊎◌, List, [], ◌∷◌, ◌++◌, IfSome, length, take, Option, Some, None}
 use Rattle.perf_base.specs.{declared.reply.Reply.{Reply}, Scripts.{Scripted}}

@@ -1,4 +1,4 @@
--- inner
+-- believed
 -- What a session writes: the answer to each line, and the number and the note with which it ends. This project's own
 -- profile.
 use Rattle.std.specs.Prelude.{ℕ, List, [], ◌∷◌, ◌++◌, codes, decimal, unwrap_or}

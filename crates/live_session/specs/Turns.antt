@@ -1,4 +1,4 @@
--- inner
+-- believed
 -- What each line of a session is answered, after the calls that were made before it. This project's own profile; the
 -- replies are those of the definitions that a report's answers go by.
 use Rattle.std.specs.Prelude.{◌≡◌, ℕ, ◌<◌, ◌≤◌, ◌⊎◌, List, [], ◌∷◌, ◌++◌, flat_map, length, map}

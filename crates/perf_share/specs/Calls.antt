@@ -1,4 +1,4 @@
--- inner
+-- believed
 -- The calls of a shared machine: which may be made, and which histories of them are legal. This project's own profile,
 -- after its limits on lines.
 use Rattle.std.specs.Prelude.{List, [], map}

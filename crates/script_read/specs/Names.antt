@@ -1,4 +1,4 @@
--- inner
+-- believed
 -- What is asked of names, of the script so far. This project's own profile.
 use Rattle.std.specs.Prelude.{◌≡◌, ◌≢◌, ℕ, ◌<◌, ◌≤◌, List, length, All, AllPairs, Any, IsSome, None}
 use Rattle.perf_base.specs.{declared.lines.KindLine.{KindLine}, Scripts.{Scripted, IsFreeName, HasRing, IsAct, line_count}, Weight.{weight}}
