@@ -22,8 +22,8 @@ pub enum LineEnd {
 }
 
 impl Input {
-    /// Takes the next line from the source, with its LF. The room has the bytes before the LF where the answer is `Ended`,
-    /// and nothing is said of it otherwise. Where a read fails, what was taken of the line before stays taken.
+    /// Takes the next line from the source, with its LF. The room has the bytes before the LF where the answer is
+    /// `Ended`, and nothing is said of it otherwise. Where a read fails, what was taken of the line before stays taken.
     pub fn next_line<S: Source>(
         &mut self,
         source: &mut S,

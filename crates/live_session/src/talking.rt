@@ -60,8 +60,8 @@ fn noted<N: Sink>(notes: &mut N, status: Status) -> Status
 }
 
 /// A session from a source to a sink. The source gives a head first, a script of declarations alone up to its `end`
-/// line, and then lines: an actor, `t0` to `t3` for a tool or `p0` to `p7` for a processor, and a line of a script. Each
-/// line is answered, and its answer flushed, before the next one is looked at: `ok` and the words of its reply, or
+/// line, and then lines: an actor, `t0` to `t3` for a tool or `p0` to `p7` for a processor, and a line of a script.
+/// Each line is answered, and its answer flushed, before the next one is looked at: `ok` and the words of its reply, or
 /// `refused` and the reason; `bad` and the reason for which it is no line that can be given, which changes nothing; or
 /// `full`, after 16,384 calls. There are no words. Each answer but Done is written to the notes as one line.
 ///
