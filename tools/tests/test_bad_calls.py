@@ -67,6 +67,7 @@ CALLS = (
     (["maintain/worked_cases.py", "call", "group", "/nonexistent"], "No such file or directory"),
     (["maintain/script_terms.py", "odd"], "1 words do not do"),
     (["maintain/definition_lines.py", "odd"], "odd: not known; definition_lines.py --help has the words"),
+    (["maintain/layers.py", "odd"], "odd: not known; layers.py --help has the words"),
     (["maintain/missing_answers.py", "odd"], "crates/odd/must-fail: no such folder"),
     (["maintain/cited_definitions.py", "odd"], "1 words do not do"),
     (["maintain/read_benchmark.py", "/nonexistent"], "/nonexistent: No such file or directory"),

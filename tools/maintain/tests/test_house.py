@@ -7,8 +7,9 @@ import tempfile
 import unittest
 from collections.abc import Iterator
 
-from maintain import house_counts, repeated_lemmas, trusted
+from maintain import house_counts, layers, repeated_lemmas, trusted
 from maintain.specs import all_definitions
+from perfscript import Fault
 
 REPOSITORY = os.path.normpath(os.path.join(os.path.dirname(os.path.abspath(__file__)), "..", "..", ".."))
 
@@ -121,6 +122,35 @@ class ThisRepository(unittest.TestCase):
         with contextlib.redirect_stdout(said):
             house_counts.main()
         self.assertRegex(said.getvalue(), r"(?m)^ *[1-9]\d* lines of specs$")
+
+
+class Layers(unittest.TestCase):
+    LIST = "# Types\nlow: bitflags\n\n# Top: what is called\ntop tests_may=Threads: low\n"
+
+    def test_the_highest_group_comes_first(self) -> None:
+        with small_repository():
+            for name, head in (("low", "Numbers."), ("top", "What is called: a call of many words, as long as this. More.")):
+                os.makedirs(f"crates/{name}/src", exist_ok=True)
+                with open(f"crates/{name}/src/lib.rt", "w") as file:
+                    file.write(f"//! {head}\n\n/// A call.\n")
+            groups = layers.groups_of(self.LIST)
+            text = layers.described(groups)
+        top = "Top: what is called\n  top: What is called: a call of many words, as long as this\n\n"
+        self.assertEqual(top + "Types\n  low: Numbers", text)
+        self.assertEqual("- **Top: what is called.** `top`\n- **Types.** `low`", layers.layers(groups))
+
+    def test_a_crate_stands_on_no_later_group(self) -> None:
+        groups = layers.groups_of(self.LIST.replace("low: bitflags", "low: top"))
+        with self.assertRaisesRegex(Fault, "low stands on top, of a later group"):
+            layers.check_order(groups)
+
+    def test_the_page_has_the_layers_of_this_repository(self) -> None:
+        before = os.getcwd()
+        os.chdir(REPOSITORY)
+        try:
+            self.assertEqual(0, layers.main("--check"))
+        finally:
+            os.chdir(before)
 
 
 if __name__ == "__main__":
