@@ -91,6 +91,8 @@ CALLS = (
     (["maintain/live_sessions.py", "--jobs", "0"], "--jobs: 0 is too few; give 1 or more"),
     (["maintain/live_sessions.py", "--program", "/nonexistent"], "--program: /nonexistent is not a file; give"),
     (["maintain/live_sessions.py", "--program", "{false}", "--replay", "/nonexistent"], "--replay: /nonexistent is not"),
+    (["maintain/kernel_commands.py", "odd"], "unrecognized arguments: odd; kernel_commands.py --help has the words"),
+    (["maintain/kernel_commands.py", "--program", "{folder}"], "is not a file; give the path of the built perf_live"),
     (["maintain/live_benchmark.py", "odd"], "unrecognized arguments: odd; live_benchmark.py --help has the words"),
     (["maintain/live_benchmark.py", "--program", "{folder}"], "is not a file; give the path of the built perf_live"),
     ([*LIVE, "--program", "/bin/true"], "/bin/true does not answer the client in C: the program: "),
