@@ -158,7 +158,7 @@ def scenario_of(machine: Machine) -> Scenario:
     kinds = kinds_of(machine)
     cpus = max(machine.processors) + 1
     head = ["perf 1", f"machine cpus={cpus} counters={machine.counters}"]
-    head += [f"kind k{number} mask={mask:x}" for mask, number in kinds.items()]
+    head += [f"kind k{number} mask={machine.asked_mask(mask):x}" for mask, number in kinds.items()]
     found = {(RAW_TYPE, number): (number, f"k{number}") for number in kinds.values()}
     return Scenario(machine.name, head, [], found, WITHOUT_EFFECT, [], cpus)
 

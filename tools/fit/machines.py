@@ -89,8 +89,14 @@ class Machine:
     def all_general(self) -> int:
         return (1 << self.general) - 1
 
+    def asked_mask(self, mask: int) -> int:
+        """A mask as the program is asked, with the fixed counters as its lowest bits: the program takes the lowest
+        counter that is free, and Linux a fixed one (__perf_sched_find_counter)."""
+        return mask >> self.general | (mask & self.all_general) << self.fixed
+
     def counter_name(self, number: int) -> str:
-        return f"counter {number}" if number < self.general else f"fixed counter {number - self.general}"
+        """What the counter of a number of the program's is called."""
+        return f"fixed counter {number}" if number < self.fixed else f"counter {number - self.fixed}"
 
     def counters_of(self, mask: int) -> str:
         """The names of a mask's counters in a phrase: `counters 0-3 and fixed counter 1`."""

@@ -104,9 +104,10 @@ class Script:
         for number, machine in enumerate(self.plan.machines):
             cpus = sum(1 << processor for processor in machine.processors)
             lines.append(f"pmu {number} counters={machine.counters} cpus={cpus:x}")
-        pmus = {machine.pmu: number for number, machine in enumerate(self.plan.machines)}
+        pmus = {machine.pmu: (number, machine) for number, machine in enumerate(self.plan.machines)}
         for (pmu, mask), word in self.kinds.items():
-            lines.append(f"kind {word} pmu={pmus[pmu]} mask={mask:x}")
+            number, machine = pmus[pmu]
+            lines.append(f"kind {word} pmu={number} mask={machine.asked_mask(mask):x}")
         return lines + [f"task {context.task}" for context in self.contexts if context.task is not None]
 
     def text(self) -> str:

@@ -179,7 +179,7 @@ class Files(ProgramTest):
                 text = file.read()
         self.assertEqual(0, done.returncode, done.stderr)
         self.assertEqual(["50.00%"] * 3, [line.split()[-1] for line in done.stdout.decode().splitlines()[1:-1]])
-        self.assertIn("\nkind k0 pmu=0 mask=2\nkind k1 pmu=0 mask=3\ntask 0\n", text)
+        self.assertIn("\nkind k0 pmu=0 mask=10\nkind k1 pmu=0 mask=18\ntask 0\n", text)
 
     def test_picture_has_the_names_of_perf(self) -> None:
         with tempfile.TemporaryDirectory() as folder:

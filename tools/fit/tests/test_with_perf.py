@@ -82,7 +82,7 @@ class Called(PerfTest):
         status, out = self.called(*words)
         self.assertEqual(3, status)
         self.assertRegex(out, r"(?s)Performance counter stats for 'sh -c exit 3'.*0 +cycles.*seconds time elapsed.*"
-                              r"All events are on all the time\..*cycles +counter 0\n +r01c2 +counter 1\n")
+                              r"All events are on all the time\..*cycles +fixed counter 1\n +r01c2 +counter 0\n")
 
     def test_json_and_runs(self) -> None:
         events = "cycles,branches,branch-misses,cache-misses,cache-references,r01c2,r02c3,r04c4"
