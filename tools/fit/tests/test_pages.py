@@ -1,4 +1,4 @@
-"""The examples in README.md and docs/FIT.md are what the tool prints."""
+"""The examples in README.md, in docs/FIT.md and in examples.md beside this file are what the tool prints."""
 
 import os
 import re
@@ -11,7 +11,7 @@ from fit.tests.test_with_perf import why_not_here
 from perfscript.program import REPOSITORY
 from perfscript.tests.support import PATH, TOOLS
 
-PAGES = {"README.md": 1, "docs/FIT.md": 23}
+PAGES = {"README.md": 1, "docs/FIT.md": 6, "tools/fit/tests/examples.md": 17}
 TIMES = re.compile(r"(?m)^ +[\d.]+ seconds (?:time elapsed|user|sys)\n")
 
 

@@ -1,4 +1,5 @@
-"""Each link of README.md and of the pages below docs/ leads to a heading that is there, and each table has a head."""
+"""Each link of README.md and of the pages below docs/ leads to a heading that is there, each table has a head, and words
+of the glossary are linked where a page has them first."""
 
 import os
 import re
@@ -10,6 +11,9 @@ LINK = re.compile(r"\]\(([^)\s]+)\)")
 HEADING = re.compile(r"(?m)^#{1,6} (.*)$")
 HEAD = re.compile(r"\|[ |-]+\|")
 FENCED = re.compile(r"(?ms)^```.*?^```$")
+CODE_OR_HEADING = re.compile(r"(?m)`[^`\n]+`|^#.*$")
+# the words of the glossary that have no other meaning
+LINKED = ("folded", "tight set", "brief", "sheet", "standing")
 
 
 def pages() -> list[str]:
@@ -81,6 +85,15 @@ class Links(unittest.TestCase):
     def test_the_list_of_documents_names_each_page(self) -> None:
         listed = {link.partition("#")[0] for link in LINK.findall(text_of("README.md"))}
         self.assertEqual(set(), set(pages()) - {"README.md"} - listed)
+
+    def test_words_of_the_glossary_are_linked_where_first_met(self) -> None:
+        missing = []
+        for page in pages():
+            text = CODE_OR_HEADING.sub("", text_of(page)) if page != "docs/GLOSSARY.md" else ""
+            for word in LINKED:
+                first = re.search(rf"(?i)\b{word}s?\b", text)
+                missing += [f"{page}: {word}"] if first and text[first.start() - 1] != "[" else []
+        self.assertEqual([], missing)
 
     def test_a_link_that_leads_nowhere_is_found(self) -> None:
         known = {"docs/A.md": "# What it is\n## `Two` words\n## `Two` words\n"}
