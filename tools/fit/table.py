@@ -88,9 +88,9 @@ def summary(findings: Sequence[Finding]) -> str:
         count = every if len(waiting) == len(findings) else f"{len(waiting)} of the {len(findings)}"
         return f"{count} groups {'are' if len(waiting) > 1 else 'is'} on part of the time."
     is_part = len(rest) < len(findings) or any(finding.refused for finding in findings)
-    who = "All else is" if is_part else "All events are"
+    who = "Everything else counts" if is_part else "All events are on"
     moves = any(percent(finding.times) for finding in rest)
-    return f"{who} on {'whenever the task is on their kind of core' if moves else 'all the time'}."
+    return f"{who} {'whenever the task is on their kind of core' if moves else 'all the time'}."
 
 
 def seat_of(finding: Finding, place: int) -> str:

@@ -47,6 +47,7 @@ OF_SOURCE_ROWS = {
     "software-groups": WHOLLY_SOFTWARE,
     "late-rescheduling": GROUPS,
     "ready-members-at-open": OPENS,
+    "group-of-two-pmus": OPENS,
     "disable-in-error": ENABLE,
     "sibling-of-error": IN_ERROR,
     "rotation": TURNS,

@@ -25,7 +25,7 @@ class Printed(ProgramTest):
                 "    l1d_pend_miss.pending and cycle_activity.cycles_l1d_pending both need counter 2.",
                 "    So the open of cycle_activity.cycles_l1d_pending is refused.",
                 "    perf prints <not counted> for the other too, though it holds a counter and runs.",
-                "All else is on all the time.",
+                "Everything else counts all the time.",
             ],
             lines[:5],
         )
@@ -151,7 +151,7 @@ class Typed(ProgramTest):
         status, out, _ = self.fit("--counters", "9", "-e", f"{nine},branches")
         self.assertEqual(3, status)
         self.assertIn(f"{nine} is beyond this program:\n    it has 9 members, and the program takes 8.\n", out)
-        self.assertIn("\nAll else is on all the time.\n", out)
+        self.assertIn("\nEverything else counts all the time.\n", out)
 
     def test_a_weak_group_stands_behind_all_others(self) -> None:
         status, out, _ = self.fit("-m", "k10", "--json", "-e", "{" + ",".join(["cycles"] * 5) + "}:W,branches")
