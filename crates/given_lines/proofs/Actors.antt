@@ -47,3 +47,9 @@ for_actor line word behind a e h = record {
 -- what stands behind the actor is the line's form
 pub with_form : (v : Version) (line behind : List ℕ) (a : Act) (f : Form) → IsForActor line a behind → IsOfForm v (words_of behind) f → IsOfActor v line a f
 with_form v line behind a f h is = record { worker = h.worker; spelling = h.spelling; words = words_of behind; parts = h.parts; form = is }
+
+-- where that has no form, the line is of none
+pub formless : (v : Version) (line behind : List ℕ) (a : Act) → IsForActor line a behind → ((f : Form) → IsOfForm v (words_of behind) f → ⊥) → (b : Act) (f : Form) → IsOfActor v line b f → ⊥
+formless v line behind a h none b f is =
+    let p = heads (act_text a) (act_text b) (words_of behind) is.words (sym h.parts ∙ is.parts) in
+    none f (subst (λ ws. IsOfForm v ws f) (sym p.1) is.form)

@@ -1,6 +1,6 @@
 -- A line by what is asked of its form; and that it stands for one line, or is refused for one reason, and never both.
-use Rattle.std.proofs.Common.{◌≡◌, ℕ, ◌<◌, ◌≤◌, ◌⊎◌, All, List, Result, Ok, Err, inl, inr, refl, sym, ap, subst, ◌∙◌, arith}
-use Rattle.std.{proofs.lemmas.{Bool.{cases_order}, Option.{same_Some}}, specs.Prelude.{IfOk, IfErr, MatchResult}}
+use Rattle.std.proofs.Common.{◌≡◌, ℕ, ◌<◌, ◌≤◌, All, List, Result, Ok, Err, inl, inr, refl, sym, ap, subst, ◌∙◌, arith}
+use Rattle.std.{proofs.lemmas.{Bool.{cases_order}, Option.{same_Some}}, specs.Prelude.{IfOk, IfErr}}
 use Rattle.perf_base.specs.declared.{acts.Act.{Act}, reasons.SReason.{SReason}}
 use Rattle.perf_base.specs.Scripts.{Scripted}
 use Rattle.perf_base.specs.declared.acts.Act.TheVariants as act
@@ -8,10 +8,9 @@ use Rattle.perf_base.specs.declared.reasons.SReason.TheVariants as reason
 use Rattle.script_spec.specs.{Forms.{Version, Form}, Faults.{IsPrintable, rank}}
 use Rattle.script_spec.specs.Forms as form
 use Rattle.script_read.proofs.OneAnswer.{ranked, ranked_back}
-use Rattle.given_lines.specs.declared.given.{Given.{Given}, GivenFault.{GivenFault}}
+use Rattle.given_lines.specs.declared.given.Given.{Given}
 use Rattle.given_lines.specs.declared.given.Given.TheVariants as given
-use Rattle.given_lines.specs.declared.given.GivenFault.TheVariants as fault
-use Rattle.given_lines.specs.Given.{IsOfActor, IsOwnLine, IsInRangeFor, IsNamedFor, Each, Keeps, IsBadLine, BlamesLine, Says, IsGivenLine}
+use Rattle.given_lines.specs.Given.{IsOfActor, IsOwnLine, IsInRangeFor, IsNamedFor, Each, Keeps, IsBadLine, Says, IsGivenLine}
 use Rattle.given_lines.{specs.Giving.{AsksActor, SaysOfActor, RefusesActor}, proofs.Actors.{one_actor}}
 
 module _ (s : Scripted) (v : Version) (line : List ℕ) (a : Act) (f : Form) (plain : All IsPrintable line) (is : IsOfActor v line a f) where
@@ -39,6 +38,14 @@ module _ (s : Scripted) (v : Version) (line : List ℕ) (a : Act) (f : Form) (pl
 
   pub bad_line : (r : SReason) → RefusesActor s a f r → IsBadLine s v line r
   bad_line r h = record { earlier = λ q l. keeps q (h.earlier q l); broken = breaks r h.broken }
+
+  pub line_says : (r : Result Given SReason) → IfOk r (SaysOfActor s a f) → IfOk r (IsGivenLine s v line)
+  line_says (Ok g) h = given_line g h
+  line_says (Err r) h = tt
+
+  pub line_refuses : (r : Result Given SReason) → IfErr r (RefusesActor s a f) → IfErr r (IsBadLine s v line)
+  line_refuses (Ok g) h = tt
+  line_refuses (Err r) h = bad_line r h
 
 -- ---- a line of no form
 
@@ -79,12 +86,10 @@ given_one s v line g h x y =
     let e = one_actor v line x.actor y.actor x.form y.form x.is y.is in
     says_one s y.actor y.form g h (subst (λ a. Says s a y.form g) e.0 (subst (λ f. Says s x.actor f g) e.1 x.says)) y.says
 
-pub only_line : (s : Scripted) (v : Version) (line : List ℕ) (r : Result Given GivenFault) → IfOk r (IsGivenLine s v line) → IfErr r (BlamesLine s v line) → (g : Given) → IsGivenLine s v line g → MatchResult r (λ h. h ≡ g) (λ e. e ≡ fault.NoMemory)
-only_line s v line (Ok h) ok bad g x = given_one s v line h g ok x
-only_line s v line (Err (fault.Bad q)) ok bad g x = absurd (given_or_bad s v line g q x bad)
-only_line s v line (Err fault.NoMemory) ok bad g x = refl
+pub only_line : (s : Scripted) (v : Version) (line : List ℕ) (r : Result Given SReason) → IfOk r (IsGivenLine s v line) → IfErr r (IsBadLine s v line) → (g : Given) → IsGivenLine s v line g → r ≡ Ok g
+only_line s v line (Ok h) ok bad g x = ap Ok (given_one s v line h g ok x)
+only_line s v line (Err q) ok bad g x = absurd (given_or_bad s v line g q x bad)
 
-pub only_reason : (s : Scripted) (v : Version) (line : List ℕ) (r : Result Given GivenFault) → IfOk r (IsGivenLine s v line) → IfErr r (BlamesLine s v line) → (q : SReason) → IsBadLine s v line q → MatchResult r (λ h. ⊥) (λ e. (e ≡ fault.Bad q) ⊎ (e ≡ fault.NoMemory))
-only_reason s v line (Ok h) ok bad q x = given_or_bad s v line h q ok x
-only_reason s v line (Err (fault.Bad p)) ok bad q x = inl (ap fault.Bad (bad_one s v line p q bad x))
-only_reason s v line (Err fault.NoMemory) ok bad q x = inr refl
+pub only_reason : (s : Scripted) (v : Version) (line : List ℕ) (r : Result Given SReason) → IfOk r (IsGivenLine s v line) → IfErr r (IsBadLine s v line) → (q : SReason) → IsBadLine s v line q → r ≡ Err q
+only_reason s v line (Ok h) ok bad q x = absurd (given_or_bad s v line h q ok x)
+only_reason s v line (Err p) ok bad q x = ap Err (bad_one s v line p q bad x)

@@ -10,9 +10,8 @@ use Rattle.script_spec.specs.{Acts.{act_text}, Lines.{words_of}, Forms.{Version,
 use Rattle.script_spec.specs.{Faults.{IsPrintable, IsCpuFormInRange, IsToolFormInRange, HasAttr, rank}, Meaning.{cpu_line_of, tool_line_of}}
 use Rattle.script_spec.specs.Forms as form
 use Rattle.script_read.specs.Names.{IsCpuFormNamedOf, IsToolFormNamedOf}
-use Rattle.given_lines.specs.declared.given.{Given.{Given}, GivenFault.{GivenFault}}
+use Rattle.given_lines.specs.declared.given.Given.{Given}
 use Rattle.given_lines.specs.declared.given.Given.TheVariants as given
-use Rattle.given_lines.specs.declared.given.GivenFault.TheVariants as fault
 
 -- a processor or a tool: these do lines. A tail that was seen is nobody's line.
 abbrev pub IsWorker : Act → Type 0
@@ -67,11 +66,6 @@ Keeps s version line other = Unit {0}
 pub record IsBadLine (s : Scripted) (version : Version) (line : List ℕ) (r : SReason) : Type 0 where
   pub earlier : (q : SReason) → rank q < rank r → Keeps s version line q
   pub broken : Keeps s version line r → ⊥
-
--- a fault is the reason for which the line is refused, or want of memory
-abbrev pub BlamesLine : Scripted → Version → List ℕ → GivenFault → Type 0
-BlamesLine s version line (fault.Bad r) = IsBadLine s version line r
-BlamesLine s version line fault.NoMemory = Unit {0}
 
 -- ---- the line that is given
 

@@ -3,13 +3,9 @@
 use Rattle.std.specs.Prelude.{◌≡◌, ℕ, List, ◌∷◌}
 use Rattle.perf_base.specs.declared.{acts.Act.{Act}, reasons.SReason.{SReason}}
 use Rattle.perf_base.specs.Scripts.{Scripted}
-use Rattle.perf_base.specs.declared.reasons.SReason.TheVariants as reason
 use Rattle.script_spec.specs.{Acts.{act_text}, Lines.{words_of}, Forms.{Version, Form, IsActSpelling}, Faults.{HasAttr}}
-use Rattle.line_forms.specs.declared.stop.LineStop.{LineStop}
-use Rattle.line_forms.specs.declared.stop.LineStop.TheVariants as stop
 use Rattle.script_read.specs.Fault.{AsksThese, IsFirstBroken}
-use Rattle.given_lines.specs.declared.given.{Given.{Given}, GivenFault.{GivenFault}}
-use Rattle.given_lines.specs.declared.given.GivenFault.TheVariants as fault
+use Rattle.given_lines.specs.declared.given.Given.{Given}
 use Rattle.given_lines.specs.Given.{IsWorker, IsOfActor, IsOwnLine, IsInRangeFor, IsNamedFor, Says}
 
 -- a word is that of a processor or tool
@@ -40,8 +36,3 @@ pub record SaysOfActor (s : Scripted) (a : Act) (f : Form) (g : Given) : Type 0 
 -- the first of it that the form does not keep
 abbrev pub RefusesActor : Scripted → Act → Form → SReason → Type 0
 RefusesActor s a f = IsFirstBroken (AsksActor s a f)
-
--- the fault of a line whose words after the actor give no form
-abbrev pub fault_by : LineStop → GivenFault
-fault_by stop.Memory = fault.NoMemory
-fault_by stop.NoForm = fault.Bad reason.Form

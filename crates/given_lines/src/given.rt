@@ -1,6 +1,6 @@
 //! Reading a line that names its processor or tool.
 
-ghost use Rattle.std.specs.Prelude.{◌≡◌, ◌⊎◌, ◌↔◌, IsTrue, IfOk, IfErr, IfSome, All, MatchOption, MatchResult};
+ghost use Rattle.std.specs.Prelude.{◌≡◌, ◌↔◌, IsTrue, IfOk, IfErr, All, MatchOption, Ok, Err};
 ghost use Rattle.perf_base.specs.declared.acts.Act as script;
 ghost use Rattle.perf_base.specs.declared.acts.Act.TheVariants as act;
 ghost use Rattle.perf_base.specs.declared.reasons.SReason.{SReason};
@@ -8,48 +8,18 @@ ghost use Rattle.script_spec.specs.Forms as text;
 ghost use Rattle.script_spec.specs.Forms.{IsSpelling, IsCpuSpelling, IsToolSpelling};
 ghost use Rattle.script_spec.specs.Faults.{IsPrintable};
 ghost use Rattle.line_forms.specs.Forms.{version_of, form_of, cpu_form_of, tool_form_of, act_of};
-ghost use Rattle.given_lines.specs.declared.given.GivenFault.TheVariants.{Bad, NoMemory};
-ghost use Rattle.given_lines.specs.Given.{IsWorker, IsGivenLine, IsBadLine, BlamesLine, IsLineFor};
-ghost use Rattle.given_lines.specs.Giving.{IsWorkerWord, IsForActor, IsOfNone, SaysOfActor, RefusesActor, fault_by};
+ghost use Rattle.given_lines.specs.Given.{IsWorker, IsGivenLine, IsBadLine, IsLineFor};
+ghost use Rattle.given_lines.specs.Giving.{IsWorkerWord, IsForActor, IsOfNone, SaysOfActor, RefusesActor};
 
-use line_forms::{
-    CpuForm, Form, LineStop, SpelledAct, ToolForm, Version, cut, read_form, spelled_act,
-};
+use line_forms::{CpuForm, Form, SpelledAct, ToolForm, Version, cut, read_form, spelled_act};
 use perf_base::{CpuLine, CpuNo, SReason, Script, ToolLine, ToolNo};
 use script_read::{cpu, cpu_line, tool, tool_line};
-use std::alloc::Global;
 
 /// A line, and the tool or processor that does it.
 #[derive(Clone, Copy, PartialEq, Eq, Debug)]
 pub enum Given {
     Tool(ToolNo, ToolLine),
     Cpu(CpuNo, CpuLine),
-}
-
-/// Why a line is not read: memory ran out, or the line is refused for a reason.
-#[derive(Clone, Copy, PartialEq, Eq, Debug)]
-pub enum GivenFault {
-    NoMemory,
-    Bad(SReason),
-}
-
-impl From<SReason> for GivenFault {
-    ghost from_gives = { λ r e. e ≡ Bad r };
-
-    fn from(reason: SReason) -> GivenFault {
-        GivenFault::Bad(reason)
-    }
-}
-
-impl From<LineStop> for GivenFault {
-    ghost from_gives = { λ stop e. e ≡ fault_by stop };
-
-    fn from(stop: LineStop) -> GivenFault {
-        match stop {
-            LineStop::Memory => GivenFault::NoMemory,
-            LineStop::NoForm => GivenFault::Bad(SReason::Form),
-        }
-    }
 }
 
 /// Whether all bytes are printable ones of ASCII.
@@ -87,7 +57,7 @@ fn actor(line: &[u8]) -> Option<(SpelledAct, &[u8])>
 }
 
 /// The line of a tool that a form says, or the first reason for which it is refused.
-fn on_tool(script: &Script, number: u128, form: &ToolForm) -> Result<Given, SReason>
+fn on_tool(script: &Script, number: u128, form: &ToolForm<'_>) -> Result<Given, SReason>
     requires { IsToolSpelling (tool_form_of form.now) }
     ensures ok { IfOk result (SaysOfActor script.now (act.Tool (record { 0 = number })) (text.OnTool (tool_form_of form.now))) }
     ensures within { IfOk result (IsLineFor script.now) }
@@ -100,7 +70,7 @@ fn on_tool(script: &Script, number: u128, form: &ToolForm) -> Result<Given, SRea
 }
 
 /// The line of a processor that a form says, or the first reason for which it is refused.
-fn on_processor(script: &Script, number: u128, form: &CpuForm) -> Result<Given, SReason>
+fn on_processor(script: &Script, number: u128, form: &CpuForm<'_>) -> Result<Given, SReason>
     requires { IsCpuSpelling (cpu_form_of form.now) }
     ensures ok { IfOk result (SaysOfActor script.now (act.Processor (record { 0 = number })) (text.OnProcessor (cpu_form_of form.now))) }
     ensures within { IfOk result (IsLineFor script.now) }
@@ -126,42 +96,37 @@ fn line_of(script: &Script, actor: SpelledAct, form: &Form<'_>) -> Result<Given,
 }
 
 /// The line, or the first reason for which it is refused.
-fn read(alloc: Global, version: Version, script: &Script, line: &[u8]) -> Result<Given, GivenFault>
+fn read(version: Version, script: &Script, line: &[u8]) -> Result<Given, SReason>
     ensures ok { IfOk result (IsGivenLine script.now (version_of version) line.now) }
     ensures within { IfOk result (IsLineFor script.now) }
-    ensures bad { IfErr result (BlamesLine script.now (version_of version) line.now) }
+    ensures bad { IfErr result (IsBadLine script.now (version_of version) line.now) }
 {
     if !is_printable(line) {
-        return Err(GivenFault::Bad(SReason::Ascii));
+        return Err(SReason::Ascii);
     }
     let Some((actor, behind)) = actor(line) else {
-        return Err(GivenFault::Bad(SReason::Form));
+        return Err(SReason::Form);
     };
-    let form = read_form(alloc, version, behind)?;
-    Ok(line_of(script, actor, &form)?)
+    let Some(form) = read_form(version, behind) else {
+        return Err(SReason::Form);
+    };
+    line_of(script, actor, &form)
 }
 
 /// Reads a line such as `t0 read 0` or `p1 work 100 user cycles=5`: its processor or tool, a space, and a line as a
 /// script has it there. The script is that of a head, and the version that of its text. Err has the first reason for
-/// which the line is refused, unless memory runs out. Memory is taken for the kinds of a work line and the bytes of an
-/// attribute, in proportion to the line.
-pub fn read_given(
-    alloc: Global,
-    version: Version,
-    script: &Script,
-    line: &[u8],
-) -> Result<Given, GivenFault>
+/// which the line is refused. It takes no memory.
+pub fn read_given(version: Version, script: &Script, line: &[u8]) -> Result<Given, SReason>
     // The line stands for what is read.
     ensures ok { IfOk result (λ g. IsGivenLine script.now (version_of version) line.now g) }
     // A machine of the script can do it.
     ensures within { IfOk result (λ g. IsLineFor script.now g) }
     // The reason is the first for which the line is refused.
-    ensures bad { IfErr result (λ e. BlamesLine script.now (version_of version) line.now e) }
+    ensures bad { IfErr result (λ r. IsBadLine script.now (version_of version) line.now r) }
     // What the line stands for is read.
-    ensures every { (g : Given) → IsGivenLine script.now (version_of version) line.now g → MatchResult result (λ h. h ≡ g) (λ e. e ≡ NoMemory) }
+    ensures every { (g : Given) → IsGivenLine script.now (version_of version) line.now g → result ≡ Ok g }
     // A line that is refused is not read, and its reason is answered.
-    ensures refused { (r : SReason) → IsBadLine script.now (version_of version) line.now r
-        → MatchResult result (λ _. ⊥) (λ e. (e ≡ Bad r) ⊎ (e ≡ NoMemory)) }
+    ensures refused { (r : SReason) → IsBadLine script.now (version_of version) line.now r → result ≡ Err r }
 {
-    read(alloc, version, script, line)
+    read(version, script, line)
 }

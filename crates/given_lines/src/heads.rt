@@ -1,7 +1,6 @@
 //! Reading a head: a script of declarations alone.
 
-ghost use Rattle.std.specs.Prelude.{◌≡◌, ◌≤◌, ◌⊎◌, ◌↔◌, ℕ, IsTrue, IfOk, IfErr, MatchOption, MatchResult, length, codes};
-ghost use Rattle.std.specs.Str.{bytes_eq};
+ghost use Rattle.std.specs.Prelude.{◌≡◌, ◌≤◌, ◌⊎◌, ◌↔◌, ℕ, IsTrue, IfOk, IfErr, MatchOption, MatchResult, length};
 ghost use Rattle.perf_base.specs.Scripts.{Scripted, IsCovered};
 ghost use Rattle.perf_base.specs.declared.reasons.SReason.{SReason};
 ghost use Rattle.perf_base.specs.declared.reasons.SReason.TheVariants.{Place};
@@ -10,13 +9,12 @@ ghost use Rattle.script_spec.specs.Texts as text_version;
 ghost use Rattle.line_forms.specs.Forms as seen;
 ghost use Rattle.line_forms.specs.Forms.{form_of};
 ghost use Rattle.script_read.specs.declared.fault.ScriptFault.TheVariants.{Bad, NoMemory};
-ghost use Rattle.script_read.specs.Reading.{IsNextLine, HasNoLine};
 ghost use Rattle.given_lines.specs.Heads.{IsDeclaration, IsUndeclared, AreDeclared, IsFirstUndeclared, IsHead, IsHeadRefused, BlamesHead, IsBare};
 ghost use Rattle.given_lines.specs.Passing.{fault_with};
 
-use line_forms::{Form, LineStop, Version, cut, read_form};
+use line_forms::{Form, Version, read_form};
 use perf_base::{SReason, Script};
-use script_read::{ScriptFault, read_script};
+use script_read::{ScriptFault, cut_line, read_script, version_of};
 use std::alloc::Global;
 
 /// A script of declarations alone, and the version of its text, which is that of the lines after it.
@@ -24,36 +22,6 @@ use std::alloc::Global;
 pub struct Head {
     pub script: Script,
     pub version: Version,
-}
-
-/// The next line, without its LF, and what stands behind it. None where no LF is left.
-fn next_line(text: &[u8]) -> Option<(&[u8], &[u8])>
-    ensures { MatchOption result (HasNoLine text.now) (λ x. IsNextLine text.now x.0.now x.1.now) }
-{
-    let (line, back) = cut(text, b'\n');
-    Some((line, back?))
-}
-
-fn is_second(line: &[u8]) -> bool
-    ensures { result ≡ bytes_eq line.now (codes "perf 2") }
-{
-    line == b"perf 2".as_slice()
-}
-
-/// The version of a text, by its first line.
-fn version_of(text: &[u8]) -> Version
-    ensures { seen.version_of result ≡ text_version.version_of (lines_of text.now) }
-{
-    match next_line(text) {
-        None => Version::One,
-        Some((line, _)) => {
-            if is_second(line) {
-                Version::Two
-            } else {
-                Version::One
-            }
-        }
-    }
 }
 
 /// Whether the form may stand in a head.
@@ -80,38 +48,31 @@ fn is_declaration(form: &Form<'_>) -> bool
 }
 
 /// Whether a line has a form that may not stand in a head.
-fn is_undeclared(alloc: Global, version: Version, line: &[u8]) -> Result<bool, ScriptFault>
-    ensures ok { IfOk result (λ b. IsTrue b ↔ IsUndeclared (seen.version_of version) line.now) }
-    ensures memory { IfErr result (λ e. e ≡ NoMemory) }
+fn is_undeclared(version: Version, line: &[u8]) -> bool
+    ensures { IsTrue result ↔ IsUndeclared (seen.version_of version) line.now }
 {
-    match read_form(alloc, version, line) {
-        Ok(form) => Ok(!is_declaration(&form)),
-        Err(LineStop::NoForm) => Ok(false),
-        Err(LineStop::Memory) => Err(ScriptFault::NoMemory),
+    match read_form(version, line) {
+        Some(form) => !is_declaration(&form),
+        None => false,
     }
 }
 
 /// The first line whose form may not stand in a head, counted from 1, if there is one.
-fn first_undeclared(
-    alloc: Global,
-    version: Version,
-    text: &[u8],
-) -> Result<Option<u32>, ScriptFault>
+fn first_undeclared(version: Version, text: &[u8]) -> Option<u32>
     requires version { seen.version_of version ≡ text_version.version_of (lines_of text.now) }
     requires short { length text.now ≤ 4194304 }
-    ensures ok { IfOk result (λ n. MatchOption n (AreDeclared (text_version.version_of (lines_of text.now)) (lines_of text.now)) (IsFirstUndeclared text.now)) }
-    ensures memory { IfErr result (λ e. e ≡ NoMemory) }
+    ensures { MatchOption result (AreDeclared (text_version.version_of (lines_of text.now)) (lines_of text.now)) (IsFirstUndeclared text.now) }
 {
     let mut passed: u32 = 0;
     let mut rest = text;
-    while let Some((line, more)) = next_line(rest) {
-        if is_undeclared(alloc, version, line)? {
-            return Ok(Some(passed + 1));
+    while let Some((line, more)) = cut_line(rest) {
+        if is_undeclared(version, line) {
+            return Some(passed + 1);
         }
         passed += 1;
         rest = more;
     }
-    Ok(None)
+    None
 }
 
 /// The fault of a text whose first line that may not stand in a head is this one: PLACE, unless an earlier line is at
@@ -149,7 +110,7 @@ fn script_of(alloc: Global, version: Version, text: &[u8]) -> Result<Script, Scr
     ensures covered { IfOk result IsCovered }
     ensures bad { IfErr result (BlamesHead text.now) }
 {
-    match first_undeclared(alloc, version, text)? {
+    match first_undeclared(version, text) {
         None => read_script(alloc, text),
         Some(first) => Err(fault_of(read_script(alloc, text), first)),
     }

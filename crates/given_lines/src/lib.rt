@@ -8,5 +8,5 @@
 mod given;
 mod heads;
 
-pub use given::{Given, GivenFault, read_given};
+pub use given::{Given, read_given};
 pub use heads::{Head, read_head};

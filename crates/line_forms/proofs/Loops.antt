@@ -1,10 +1,8 @@
 -- Reading one word after the other, as a loop does.
-use Rattle.std.proofs.Common.{◌≡◌, ℕ, ◌+◌, ◌*◌, ◌-◌, ◌<◌, ◌≤◌, true, false, Bor, List, [], ◌∷◌, ◌++◌, map, length, get_or, take, drop, Option, Some, None, refl, sym, ap, ◌∙◌, append_assoc, arith, length-take, length-drop}
-use Rattle.std.{proofs.{Math.{Seq.{take-length}}, lemmas.List.{append-nil, drop_more}}, specs.Str.{bytes_eq}}
-use Rattle.line_forms.specs.{declared.{keyword.Keyword.{Keyword}, stop.LineStop.{LineStop}}, Keyword.{looked_up}, Words.{◌>>=◌, next_of}}
-use Rattle.line_forms.specs.{Lists.{each_word, pair_of, pairs_in}, Acts.{act_in, acts_in}, Stop.{Stops}}
-use Rattle.line_forms.specs.declared.stop.LineStop.TheVariants as stop
-use Rattle.perf_base.specs.declared.acts.Act.{Act}
+use Rattle.std.proofs.Common.{◌≡◌, ℕ, ◌+◌, ◌*◌, ◌-◌, ◌<◌, ◌≤◌, ◌↔◌, Bool, IsTrue, MatchOption, All, true, false, is_some, Bor, List, [], ◌∷◌, ◌++◌, map, length, get_or, take, drop, Option, Some, None, refl, sym, ap, ◌∙◌, append_assoc, arith, length-take, length-drop}
+use Rattle.std.{proofs.{Math.{Seq.{take-length}}, lemmas.{List.{append-nil, drop_more, Elements.{All-push, All-pop}}, Option.{same_Some}}}, specs.{Prelude.{unwrap_or}, Str.{bytes_eq}}}
+use Rattle.line_forms.specs.{declared.keyword.Keyword.{Keyword}, Keyword.{looked_up}, Words.{◌>>=◌, next_of}, Lists.{each_word, all_in, pair_of, pairs_in}}
+use Rattle.line_forms.proofs.Singles.{bind_some}
 
 -- what was read before, and what is still read
 abbrev pub with_front : {A : Type 0} → List A → Option (List A) → Option (List A)
@@ -29,13 +27,12 @@ each_step f front w ws xs x whole n h so_far =
     let one : with_front front (each_word f (w ∷ ws)) ≡ with_front (front ++ x ∷ []) (each_word f ws) = rw h (regroup front x (each_word f ws)) in
     sym one ∙ (ap (λ (ys : List (List ℕ)). with_front front (each_word f ys)) (sym (next_cons w ws xs n)) ∙ so_far)
 
-pub each_fail : {A : Type 0} (e : LineStop) (f : List ℕ → Option A) (front : List A) (w : List ℕ) (ws xs : List (List ℕ)) (whole : Option (List A))
-    → Some (w, ws) ≡ next_of xs → f w ≡ None → with_front front (each_word f xs) ≡ whole → Stops e whole
+pub each_fail : {A : Type 0} (f : List ℕ → Option A) (front : List A) (w : List ℕ) (ws xs : List (List ℕ)) (whole : Option (List A))
+    → Some (w, ws) ≡ next_of xs → f w ≡ None → with_front front (each_word f xs) ≡ whole → None ≡ whole
 unfolding each_word
-each_fail stop.Memory f front w ws xs whole n h so_far = tt
-each_fail stop.NoForm f front w ws xs whole n h so_far =
+each_fail f front w ws xs whole n h so_far =
     let one : with_front front (each_word f (w ∷ ws)) ≡ None = rw h refl in
-    sym so_far ∙ (ap (λ (ys : List (List ℕ)). with_front front (each_word f ys)) (next_cons w ws xs n) ∙ one)
+    sym one ∙ (ap (λ (ys : List (List ℕ)). with_front front (each_word f ys)) (sym (next_cons w ws xs n)) ∙ so_far)
 
 pub each_end : {A : Type 0} (f : List ℕ → Option A) (front : List A) (xs : List (List ℕ)) (whole : Option (List A))
     → None ≡ next_of xs → with_front front (each_word f xs) ≡ whole → whole ≡ Some front
@@ -44,17 +41,48 @@ each_end f front xs whole n so_far =
     let one : with_front front (each_word f []) ≡ Some front = ap Some (append-nil front) in
     sym so_far ∙ (ap (λ (ys : List (List ℕ)). with_front front (each_word f ys)) (next_nil xs n) ∙ one)
 
--- where each word says an act, the acts from the left are all
-pub all_acts : (words : List (List ℕ)) (acts : List Act) → each_word act_in words ≡ Some acts → acts_in words ≡ acts
+-- where each word gives something, they give all
+pub all_given : {A : Type 0} (f : List ℕ → Option A) (words : List (List ℕ)) (xs : List A) → each_word f words ≡ Some xs → all_in f words ≡ xs
+all_given f words xs e = ap (λ o. unwrap_or o []) e
+
+pub whole_given : {A : Type 0} (f : List ℕ → Option A) (words : List (List ℕ)) (xs : List A) → each_word f words ≡ Some xs → each_word f words ≡ Some (all_in f words)
+whole_given f words xs e = e ∙ ap Some (sym (all_given f words xs e))
+
+pub none_given : {A : Type 0} (f : List ℕ → Option A) (words : List (List ℕ)) → None ≡ next_of words → all_in f words ≡ []
 unfolding each_word
-all_acts [] acts e = cc
-all_acts (word ∷ words) acts e = by_first (act_in word) (each_word act_in words) refl (λ rest m. all_acts words rest m) e
-  where
-    by_first : (first : Option Act) (more : Option (List Act)) → each_word act_in words ≡ more → ((rest : List Act) → each_word act_in words ≡ Some rest → acts_in words ≡ rest)
-        → (first >>= λ a. more >>= λ rest. Some (a ∷ rest)) ≡ Some acts → elim first as (λ _. List Act) [ Some a ↦ a ∷ acts_in words | None ↦ [] ] ≡ acts
-    by_first None more m again e = absurd cc
-    by_first (Some a) None m again e = absurd cc
-    by_first (Some a) (Some rest) m again e = rw (again rest m) cc
+none_given f words n = ap (all_in f) (next_nil words n)
+
+-- then the first word gives the first, and those behind it all others
+pub record IsFirst {A : Type 0} (f : List ℕ → Option A) (w : List ℕ) (ws words : List (List ℕ)) : Type 0 where
+  pub first : A
+  pub gives : f w ≡ Some first
+  pub others : each_word f ws ≡ Some (all_in f ws)
+  pub all : all_in f words ≡ first ∷ all_in f ws
+
+first_in : {A : Type 0} (f : List ℕ → Option A) (w : List ℕ) (ws : List (List ℕ)) (whole : List A) → each_word f (w ∷ ws) ≡ Some whole
+    → (x : A) × (f w ≡ Some x) × (each_word f ws ≡ Some (all_in f ws)) × (whole ≡ x ∷ all_in f ws)
+unfolding each_word
+first_in f w ws whole e =
+    let x = bind_some (f w) (λ x. each_word f ws >>= λ xs. Some (x ∷ xs)) whole e in
+    let xs = bind_some (each_word f ws) (λ xs. Some (x.0 ∷ xs)) whole x.2 in
+    (x.0, x.1, whole_given f ws xs.0 xs.1, sym (same_Some (x.0 ∷ xs.0) whole xs.2) ∙ ap (λ ys. x.0 ∷ ys) (sym (all_given f ws xs.0 xs.1)))
+
+pub first_given : {A : Type 0} (f : List ℕ → Option A) (w : List ℕ) (ws words : List (List ℕ)) → Some (w, ws) ≡ next_of words → each_word f words ≡ Some (all_in f words) → IsFirst f w ws words
+first_given f w ws words n e =
+    let g = first_in f w ws (all_in f words) (ap (each_word f) (sym (next_cons w ws words n)) ∙ e) in
+    record { first = g.0; gives = g.1; others = g.2; all = g.3 }
+
+-- ---- whether all of a list are so, with one more behind it
+
+pub some_where : {X : Type 0} (o : Option X) (P : Type 0) (Q : X → Type 0) (b : Bool) → b ≡ is_some o → MatchOption o (P → ⊥) (λ x. P × Q x) → IsTrue b ↔ P
+some_where (Some x) P Q b e h = (λ _. h.0, λ _. e)
+some_where None P Q b e h = (λ t. absurd cc, λ p. absurd (h p))
+
+pub still_all : {A : Type 0} (P : A → Type 0) (front : List A) (x : A) (b c : Bool) → IsTrue b ↔ All P front → b ≡ true → IsTrue c ↔ P x → IsTrue c ↔ All P (front ++ x ∷ [])
+still_all P front x b c h t own = (λ s. All-push P front x (h.0 t) (own.0 s), λ all. own.1 (All-pop P (front ++ x ∷ []) front (Some x) refl all).1)
+
+pub not_all : {A : Type 0} (P : A → Type 0) (front : List A) (x : A) (b : Bool) → IsTrue b ↔ All P front → b ≡ false → IsTrue b ↔ All P (front ++ x ∷ [])
+not_all P front x b h f = (λ t. absurd cc, λ all. h.1 (All-pop P (front ++ x ∷ []) front (Some x) refl all).0)
 
 -- pairs of digits
 pub pairs_step : (bytes rest whole : List ℕ) → 2 ≤ length rest → bytes ++ pairs_in rest ≡ whole

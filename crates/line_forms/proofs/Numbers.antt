@@ -13,6 +13,13 @@ power_le i l = let le : i ≤ 19 = omega arith in pow-le-pow_right {n = 16} (ome
 pub digit_fits : (value radix digit i : ℕ) → value + 2 ≤ 2 * 16 ^ i → radix ≤ 16 → digit ≤ 16 → i < 20 → value * radix + digit < 2 ^ 128
 digit_fits value radix digit i h r d l = grind (arith, mul-le-mul_left, power_le)
 
+short_power_le : (i : ℕ) → i < 15 → 16 ^ i ≤ 16 ^ 14
+short_power_le i l = let le : i ≤ 14 = omega arith in pow-le-pow_right {n = 16} (omega arith) le
+
+-- 64 bits hold at most 15
+pub short_digit_fits : (value radix digit i : ℕ) → value + 2 ≤ 2 * 16 ^ i → radix ≤ 16 → digit ≤ 16 → i < 15 → value * radix + digit < 2 ^ 64
+short_digit_fits value radix digit i h r d l = grind (arith, mul-le-mul_left, short_power_le)
+
 -- the flags of a table from a place on, where that place's flag was looked for
 pub flags_step : (rows : List (List ℕ × ℕ)) (i : ℕ) (row : List ℕ × ℕ) (words : List (List ℕ)) → i < length rows → get_or rows i ([], 0) ≡ row
     → flags_in (drop i rows) words

@@ -41,7 +41,7 @@ each-again f P spelled one (x ∷ xs) h = rw (one x (All-head P x xs h), each-ag
 
 -- ---- a cut
 
-cut-takes : (c : ℕ) (text back : List ℕ) → (cut c text).1 ≡ Some back → text ≡ (cut c text).0 ++ (c ∷ back)
+pub cut-takes : (c : ℕ) (text back : List ℕ) → (cut c text).1 ≡ Some back → text ≡ (cut c text).0 ++ (c ∷ back)
 cut-takes c [] back e = absurd (none-some back (sym (ap (λ (x : List ℕ × Option (List ℕ)). x.1) (cut_nothing c)) ∙ e))
 cut-takes c (b ∷ bs) back e = elim (cases_Bool (eqb b c)) [
   | inl t ↦
@@ -55,7 +55,7 @@ cut-takes c (b ∷ bs) back e = elim (cases_Bool (eqb b c)) [
       rw h (ap (λ (t : List ℕ). b ∷ t) ih)
 ]
 
-cut-again : (c : ℕ) (front back : List ℕ) → All (λ b. eqb b c ≡ false) front → cut c (front ++ (c ∷ back)) ≡ (front, Some back)
+pub cut-again : (c : ℕ) (front back : List ℕ) → All (λ b. eqb b c ≡ false) front → cut c (front ++ (c ∷ back)) ≡ (front, Some back)
 cut-again c [] back h = cut_here c c back (eq-eqb c c refl)
 cut-again c (b ∷ bs) back h =
     let ih : cut c (bs ++ (c ∷ back)) ≡ (bs, Some back) = cut-again c bs back (All-tail (λ b. eqb b c ≡ false) b bs h) in

@@ -1,9 +1,9 @@
 -- inner
--- The acts that words say, and what is kept of them. This project's own profile.
-use Rattle.std.specs.Prelude.{◌≡◌, ℕ, All, List, [], ◌∷◌, Option, Some, None, MatchOption, ◌==◌, option_map, if◌then◌else◌}
+-- The acts that words say. This project's own profile.
+use Rattle.std.specs.Prelude.{ℕ, List, [], ◌∷◌, Option, Some, None, ◌==◌, option_map, if◌then◌else◌}
 use Rattle.perf_base.specs.declared.acts.Act.{Act}
 use Rattle.perf_base.specs.declared.acts.Act.TheVariants as act
-use Rattle.script_spec.specs.{Forms.{Form}, Acts.{IsActInRange}}
+use Rattle.script_spec.specs.Forms.{Form}
 use Rattle.script_spec.specs.Forms as form
 use Rattle.line_forms.specs.{Words.{◌>>=◌, cut}, Leaves.{number}, Lists.{each_word}}
 
@@ -29,12 +29,3 @@ act_in (letter ∷ text) =
 
 abbrev pub order_at : List (List ℕ) → Option Form
 order_at words = option_map form.Order (each_word act_in words)
-
--- up to the first word that says none
-abbrev pub acts_in : List (List ℕ) → List Act
-acts_in [] = []
-acts_in (word ∷ words) = elim (act_in word) [ Some a ↦ a ∷ acts_in words | None ↦ [] ]
-
--- acts are kept exactly where the numbers of all are in range
-abbrev pub AreKept : List Act → Option (List Act) → Type 0
-AreKept acts kept = MatchOption kept (All IsActInRange acts → ⊥) (λ list. All IsActInRange acts × (list ≡ acts))

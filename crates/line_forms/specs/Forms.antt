@@ -1,6 +1,5 @@
 -- inner
 -- What the definitions of the language call the forms that the reader gives. This project's own profile.
-use Rattle.std.specs.Prelude.{map}
 use Rattle.perf_base.specs.declared.acts.Act.{Act}
 use Rattle.perf_base.specs.declared.acts.Act.TheVariants as act
 use Rattle.script_spec.specs.Forms as form
@@ -17,10 +16,10 @@ version_of version.One = form.One
 version_of version.Two = form.Two
 
 abbrev pub hit_of : Hit → form.Hit
-hit_of h = record { name = h.name; times = h.times }
+hit_of h = record { name = h.name.now; times = h.times }
 
 abbrev pub working_of : Working → form.Working
-working_of w = record { length = w.length; mode = w.mode; ip = w.ip; hits = map hit_of w.hits.items }
+working_of w = record { length = w.length; mode = w.mode; ip = w.ip; hits = w.hits }
 
 abbrev pub cpu_form_of : CpuForm → form.CpuForm
 cpu_form_of (cpu_form.Switch task) = form.Switch task
@@ -37,7 +36,7 @@ asked_of a = record { period = a.period; sample = a.sample; format = a.format; f
 
 abbrev pub tool_form_of : ToolForm → form.ToolForm
 tool_form_of (tool_form.OpenKind place name asked) = form.OpenKind (opening_of place) name (asked_of asked)
-tool_form_of (tool_form.OpenAttr place bytes) = form.OpenAttr (opening_of place) bytes.items
+tool_form_of (tool_form.OpenAttr place bytes) = form.OpenAttr (opening_of place) bytes
 tool_form_of (tool_form.Enable slot group) = form.Enable slot group
 tool_form_of (tool_form.Disable slot group) = form.Disable slot group
 tool_form_of (tool_form.Reset slot group) = form.Reset slot group

@@ -11,13 +11,13 @@ looked_up (entry ∷ table) word = if bytes_eq word entry.0 then Some entry.1 el
 
 abbrev pub keywords : List (List ℕ × Keyword)
 keywords =
-    (codes "perf", keyword.Perf) ∷ (codes "machine", keyword.Machine) ∷ (codes "pmu", keyword.Pmu) ∷ (codes "kind", keyword.Kind)
-    ∷ (codes "task", keyword.Task) ∷ (codes "ring", keyword.Ring) ∷ (codes "processor", keyword.Processor) ∷ (codes "switch", keyword.Switch)
-    ∷ (codes "work", keyword.Work) ∷ (codes "tick", keyword.Tick) ∷ (codes "fork", keyword.Fork) ∷ (codes "exit", keyword.Exit)
-    ∷ (codes "tool", keyword.Tool) ∷ (codes "open", keyword.Open) ∷ (codes "enable", keyword.Enable) ∷ (codes "disable", keyword.Disable)
-    ∷ (codes "reset", keyword.Reset) ∷ (codes "period", keyword.Period) ∷ (codes "read", keyword.Read) ∷ (codes "map", keyword.Map)
-    ∷ (codes "output", keyword.Output) ∷ (codes "close", keyword.Close) ∷ (codes "why", keyword.Why) ∷ (codes "seats", keyword.Seats)
-    ∷ (codes "reader", keyword.Reader) ∷ (codes "order", keyword.Order) ∷ (codes "end", keyword.End) ∷ []
+    (codes "work", keyword.Work) ∷ (codes "read", keyword.Read) ∷ (codes "switch", keyword.Switch) ∷ (codes "tick", keyword.Tick)
+    ∷ (codes "open", keyword.Open) ∷ (codes "enable", keyword.Enable) ∷ (codes "disable", keyword.Disable) ∷ (codes "reset", keyword.Reset)
+    ∷ (codes "fork", keyword.Fork) ∷ (codes "exit", keyword.Exit) ∷ (codes "close", keyword.Close) ∷ (codes "order", keyword.Order)
+    ∷ (codes "period", keyword.Period) ∷ (codes "tool", keyword.Tool) ∷ (codes "processor", keyword.Processor) ∷ (codes "task", keyword.Task)
+    ∷ (codes "kind", keyword.Kind) ∷ (codes "ring", keyword.Ring) ∷ (codes "map", keyword.Map) ∷ (codes "output", keyword.Output)
+    ∷ (codes "why", keyword.Why) ∷ (codes "seats", keyword.Seats) ∷ (codes "reader", keyword.Reader) ∷ (codes "pmu", keyword.Pmu)
+    ∷ (codes "machine", keyword.Machine) ∷ (codes "perf", keyword.Perf) ∷ (codes "end", keyword.End) ∷ []
 
 abbrev pub keyword_of : List ℕ → Option Keyword
 keyword_of word = looked_up keywords word

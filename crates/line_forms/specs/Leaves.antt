@@ -17,6 +17,18 @@ abbrev pub value_after : ℕ → ℕ → List ℕ → ℕ
 value_after radix n [] = n
 value_after radix n (c ∷ cs) = value_after radix (n * radix + digit_of c) cs
 
+-- no more bytes than most, without a zero too many in front
+abbrev pub has_length : ℕ → List ℕ → Bool
+has_length most text = nat_lt 0 (length text) && (nat_le (length text) most && (not (slice_index text 0 == 48) || length text == 1))
+
+-- each byte is a digit of a radix
+abbrev pub are_digits : ℕ → List ℕ → Bool
+are_digits radix text = list_all (λ b. nat_lt (digit_of b) radix) text
+
+-- the value, where each byte is a digit
+abbrev pub digits_value : ℕ → List ℕ → Option ℕ
+digits_value radix text = if are_digits radix text then Some (value_after radix 0 text) else None
+
 -- digits of a radix, no more of them than most, without a zero too many in front
 abbrev pub is_number : ℕ → ℕ → List ℕ → Bool
 is_number radix most text =

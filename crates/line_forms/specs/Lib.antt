@@ -7,6 +7,5 @@ pub mod Leaves
 pub mod Lists
 pub mod Reading
 pub mod Shapes
-pub mod Stop
 pub mod ToolForms
 pub mod Words

@@ -1,6 +1,6 @@
 -- inner
 -- What words that hold lists give: occurrences, and bytes. This project's own profile.
-use Rattle.std.specs.Prelude.{ℕ, ◌+◌, ◌*◌, ◌%◌, Bool, ◌==◌, ◌&&◌, nat_lt, nat_le, List, [], ◌∷◌, length, Option, Some, None, if◌then◌else◌}
+use Rattle.std.specs.Prelude.{ℕ, ◌+◌, ◌*◌, ◌%◌, Bool, ◌==◌, ◌&&◌, nat_lt, nat_le, List, [], ◌∷◌, length, Option, Some, None, unwrap_or, if◌then◌else◌}
 use Rattle.std.specs.List.{list_all}
 use Rattle.script_spec.specs.Forms.{Hit}
 use Rattle.line_forms.specs.{Words.{◌>>=◌, cut}, Leaves.{digit_of, number, name}}
@@ -9,6 +9,10 @@ use Rattle.line_forms.specs.{Words.{◌>>=◌, cut}, Leaves.{digit_of, number, n
 unfoldable pub each_word : {A : Type 0} → (List ℕ → Option A) → List (List ℕ) → Option (List A)
 each_word f [] = Some []
 each_word f (word ∷ words) = f word >>= λ x. each_word f words >>= λ xs. Some (x ∷ xs)
+
+-- what the words give, where each gives something
+abbrev pub all_in : {A : Type 0} → (List ℕ → Option A) → List (List ℕ) → List A
+all_in f words = unwrap_or (each_word f words) []
 
 unfoldable pub hit_in : List ℕ → Option Hit
 hit_in word = do

@@ -1,6 +1,6 @@
 //! The acts of an order line.
 
-ghost use Rattle.std.specs.Prelude.{◌≡◌, ◌<◌, ◌^◌, ◌++◌, List, [], ◌∷◌, All, IfErr, IfSome, OnOk, MatchOption};
+ghost use Rattle.std.specs.Prelude.{◌≡◌, ◌<◌, ◌^◌, ◌∷◌, [], ◌↔◌, IsTrue, All, IfSome, MatchOption, Some};
 ghost use Rattle.std.specs.Option.{option_map};
 ghost use Rattle.perf_base.specs.declared.acts.Act as script;
 ghost use Rattle.script_spec.specs.Acts.{act_text, IsActInRange};
@@ -8,16 +8,11 @@ ghost use Rattle.script_spec.specs.Forms.{IsActSpelling};
 ghost use Rattle.line_forms.specs.Words.{left};
 ghost use Rattle.line_forms.specs.Lists.{each_word};
 ghost use Rattle.line_forms.specs.Acts as says;
-ghost use Rattle.line_forms.specs.Stop.{Gives};
-ghost use Rattle.line_forms.specs.declared.stop.LineStop.TheVariants.{Memory};
-ghost use Rattle.line_forms.specs.Acts.{AreKept};
 ghost use Rattle.line_forms.specs.Forms.{act_of};
 
 use crate::leaves::decimal;
-use crate::stop::LineStop;
 use crate::words::{Words, cut};
 use perf_base::{Act, CpuNo, RingNo, ToolNo};
-use std::alloc::Global;
 use std::marker::Model;
 
 /// The number, where it is below a limit.
@@ -110,66 +105,86 @@ pub fn spelled_act(word: &[u8]) -> Option<SpelledAct>
     spelled(word)
 }
 
-/// The acts that an order line spells. Where the numbers of all are in range, they are kept as a script has them.
+/// The acts that an order line spells. They stay in the line, each word of which spells one.
 #[derive(Drop)]
 pub struct Acts<'a> {
     words: Words<'a>,
-    kept: Option<Vec<Act>>,
+    in_range: bool,
 }
 
 impl<'a> Model for Acts<'a> {
-    ghost use Rattle.std.specs.Prelude.{List};
-    ghost use Rattle.std.specs.Option.{option_map};
+    ghost use Rattle.std.specs.Prelude.{◌≡◌, ◌↔◌, IsTrue, List, Some, All};
     ghost use Rattle.perf_base.specs.declared.acts.Act.{Act};
+    ghost use Rattle.script_spec.specs.Acts.{IsActInRange};
     ghost use Rattle.line_forms.specs.Words.{left};
-    ghost use Rattle.line_forms.specs.Acts.{acts_in, AreKept};
+    ghost use Rattle.line_forms.specs.Lists.{each_word, all_in};
+    ghost use Rattle.line_forms.specs.Acts.{act_in};
 
     ghost Value = { List Act };
 
-    ghost view = { λ a. acts_in (left a.words) };
+    ghost view = { λ a. all_in act_in (left a.words) };
 
-    ghost invariant = { λ a. AreKept (acts_in (left a.words)) (option_map (λ v. v.items) a.kept) };
+    ghost invariant = { λ a. (each_word act_in (left a.words) ≡ Some (all_in act_in (left a.words)))
+        × (IsTrue a.in_range ↔ All IsActInRange (all_in act_in (left a.words))) };
 }
 
 impl<'a> Acts<'a> {
-    /// The acts, where the numbers of all are in range.
-    pub fn in_range(&self) -> Option<&[Act]>
-        ensures { MatchOption result (All IsActInRange self.now → ⊥) (λ acts. All IsActInRange self.now × (acts.now ≡ self.now)) }
+    /// Whether the numbers of all acts are in range.
+    pub fn are_in_range(&self) -> bool
+        ensures { IsTrue result ↔ All IsActInRange self.now }
     {
-        match &self.kept {
-            Some(acts) => Some(acts),
-            None => None,
+        self.in_range
+    }
+
+    /// The acts once more, from the first on.
+    pub fn again(&self) -> Acts<'a>
+        ensures { result ≡ self.now }
+    {
+        Acts {
+            words: self.words,
+            in_range: self.in_range,
         }
+    }
+
+    /// The first act and those behind it, where the numbers of all are in range. None where there is none.
+    pub fn next(self) -> Option<(Act, Acts<'a>)>
+        requires { All IsActInRange self }
+        ensures { MatchOption result (self.entry ≡ []) (λ x. (self.entry ≡ x.0 ∷ x.1) × IsActInRange x.0 × All IsActInRange x.1) }
+    {
+        let Some((word, words)) = self.words.next() else {
+            return None;
+        };
+        let Some(act) = in_range(word) else {
+            return None;
+        };
+        Some((
+            act,
+            Acts {
+                words,
+                in_range: self.in_range,
+            },
+        ))
     }
 }
 
-/// Keeps one act more, as long as the numbers of all are in range.
-fn keep(kept: &mut Option<Vec<Act>>, spelled: SpelledAct) -> Result<(), LineStop>
-    ensures kept { OnOk result ((acts : List script.Act) → AreKept acts (option_map (λ v. v.items) kept.old)
-        → AreKept (acts ++ act_of spelled ∷ []) (option_map (λ v. v.items) kept.new)) }
-    ensures memory { IfErr result (λ e. e ≡ Memory) }
+/// The act that a word spells, where its numbers are in range.
+fn in_range(word: &[u8]) -> Option<Act>
+    ensures { MatchOption result ((act : script.Act) → says.act_in word.now ≡ Some act → IsActInRange act → ⊥)
+        (λ act. (says.act_in word.now ≡ Some act) × IsActInRange act) }
 {
-    match spelled.in_range() {
-        None => *kept = None,
-        Some(act) => {
-            if let Some(acts) = kept {
-                acts.push(act)?;
-            }
-        }
-    }
-    Ok(())
+    spelled(word)?.in_range()
 }
 
 /// The acts that the words spell.
-pub fn order_acts(alloc: Global, words: Words<'_>) -> Result<Acts<'_>, LineStop>
-    ensures { Gives (λ acts. acts) result (each_word says.act_in (left words.entry)) }
+pub fn order_acts(words: Words<'_>) -> Option<Acts<'_>>
+    ensures { result ≡ each_word says.act_in (left words.entry) }
 {
-    let mut kept = Some(Vec::new(alloc));
+    let mut in_range = true;
     let mut rest = words;
     while let Some((word, more)) = rest.next() {
-        let act = spelled_act(word).ok_or(LineStop::NoForm)?;
-        keep(&mut kept, act)?;
+        let act = spelled(word)?;
+        in_range = in_range && act.in_range().is_some();
         rest = more;
     }
-    Ok(Acts { words, kept })
+    Some(Acts { words, in_range })
 }

@@ -4,20 +4,17 @@ ghost use Rattle.std.specs.Prelude.{◌≡◌};
 ghost use Rattle.std.specs.Option.{option_map};
 ghost use Rattle.line_forms.specs.Words.{left};
 ghost use Rattle.line_forms.specs.CpuForms as says;
-ghost use Rattle.line_forms.specs.Stop.{Gives};
 ghost use Rattle.line_forms.specs.Forms.{cpu_form_of};
 
 use crate::forms::{CpuForm, Working};
 use crate::leaves::{decimal_at, decimal_or, hexadecimal_if, same};
-use crate::lists::hits;
+use crate::lists::spelled_hits;
 use crate::shapes::{at_end, one_number};
-use crate::stop::LineStop;
 use crate::words::Words;
 use perf_base::Mode;
-use std::alloc::Global;
 
 #[tactic(auto, unfolding(crate::specs::CpuForms::switch_at))]
-pub fn switch(words: Words<'_>) -> Option<CpuForm>
+pub fn switch(words: Words<'_>) -> Option<CpuForm<'_>>
     ensures { option_map cpu_form_of result ≡ says.switch_at (left words.entry) }
 {
     let (task, words) = decimal_or(words, b"", b"idle")?;
@@ -51,12 +48,14 @@ fn stretch(words: Words<'_>) -> Option<((u128, Mode, Option<u128>), Words<'_>)>
 }
 
 #[tactic(auto, unfolding(crate::specs::CpuForms::work_at))]
-pub fn work(alloc: Global, words: Words<'_>) -> Result<CpuForm, LineStop>
-    ensures { Gives cpu_form_of result (says.work_at (left words.entry)) }
+pub fn work(words: Words<'_>) -> Option<CpuForm<'_>>
+    ensures { option_map cpu_form_of result ≡ says.work_at (left words.entry) }
 {
-    let ((length, mode, ip), words) = stretch(words).ok_or(LineStop::NoForm)?;
-    let hits = hits(alloc, words)?;
-    Ok(CpuForm::Work(Working {
+    let ((length, mode, ip), words) = stretch(words)?;
+    let Some(hits) = spelled_hits(words) else {
+        return None;
+    };
+    Some(CpuForm::Work(Working {
         length,
         mode,
         ip,
@@ -64,19 +63,19 @@ pub fn work(alloc: Global, words: Words<'_>) -> Result<CpuForm, LineStop>
     }))
 }
 
-pub fn tick(words: Words<'_>) -> Option<CpuForm>
+pub fn tick(words: Words<'_>) -> Option<CpuForm<'_>>
     ensures { option_map cpu_form_of result ≡ says.tick_at (left words.entry) }
 {
     at_end(words, CpuForm::Tick)
 }
 
-pub fn fork(words: Words<'_>) -> Option<CpuForm>
+pub fn fork(words: Words<'_>) -> Option<CpuForm<'_>>
     ensures { option_map cpu_form_of result ≡ says.fork_at (left words.entry) }
 {
     Some(CpuForm::Fork(one_number(words)?))
 }
 
-pub fn exit(words: Words<'_>) -> Option<CpuForm>
+pub fn exit(words: Words<'_>) -> Option<CpuForm<'_>>
     ensures { option_map cpu_form_of result ≡ says.exit_at (left words.entry) }
 {
     at_end(words, CpuForm::Exit)

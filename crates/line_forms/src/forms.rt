@@ -1,6 +1,7 @@
 //! The forms of a line, with their numbers as they are spelled.
 
 use crate::acts::Acts;
+use crate::lists::{AttrBytes, Hits};
 use perf_base::{Mode, Name};
 
 /// The version of a text: one PMU on all processors, or PMUs of their own.
@@ -10,27 +11,27 @@ pub enum Version {
     Two,
 }
 
-/// A kind and how often it occurs, as a work line says it.
+/// A kind and how often it occurs, as a work line says it. Its name is a part of the line.
 #[derive(Clone, Copy)]
-pub struct Hit {
-    pub name: Name,
+pub struct Hit<'a> {
+    pub name: &'a [u8],
     pub times: u128,
 }
 
 /// A stretch of work. A missing ip is none.
 #[derive(Drop)]
-pub struct Working {
+pub struct Working<'a> {
     pub length: u128,
     pub mode: Mode,
     pub ip: Option<u128>,
-    pub hits: Vec<Hit>,
+    pub hits: Hits<'a>,
 }
 
 /// The forms under a processor. A switch to no task leaves it idle.
 #[derive(Drop)]
-pub enum CpuForm {
+pub enum CpuForm<'a> {
     Switch(Option<u128>),
-    Work(Working),
+    Work(Working<'a>),
     Tick,
     Fork(u128),
     Exit,
@@ -56,7 +57,7 @@ pub struct Asked {
 
 /// The forms under a tool. An event is opened by a kind's name or by the bytes of a perf_event_attr.
 #[derive(Drop)]
-pub enum ToolForm {
+pub enum ToolForm<'a> {
     OpenKind {
         place: Opening,
         name: Name,
@@ -64,7 +65,7 @@ pub enum ToolForm {
     },
     OpenAttr {
         place: Opening,
-        bytes: Vec<u8>,
+        bytes: AttrBytes<'a>,
     },
     Enable {
         slot: u128,
@@ -105,7 +106,7 @@ pub enum ToolForm {
     },
 }
 
-/// The forms of a line.
+/// The forms of a line. What is a list stays in the line, and is read from there one by one.
 #[derive(Drop)]
 pub enum Form<'a> {
     Perf(Version),
@@ -140,11 +141,11 @@ pub enum Form<'a> {
     Processor {
         number: u128,
     },
-    OnProcessor(CpuForm),
+    OnProcessor(CpuForm<'a>),
     Tool {
         number: u128,
     },
-    OnTool(ToolForm),
+    OnTool(ToolForm<'a>),
     Reader {
         ring: u128,
         tries: u128,

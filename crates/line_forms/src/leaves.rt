@@ -21,6 +21,9 @@ pub const HEXADECIMAL: u8 = 16;
 
 const MOST_HEXADECIMAL: usize = 16;
 
+/// So many digits have a value that 64 bits hold.
+const MOST_SHORT: usize = 15;
+
 /// The most bytes of a name.
 const MOST_OF_NAME: usize = 31;
 
@@ -63,28 +66,58 @@ fn value(text: &[u8], radix: u8) -> u128
     value
 }
 
-/// Whether a text is a number of a radix that has no more digits than `most`.
-fn is_number(text: &[u8], radix: u8, most: usize) -> bool
-    ensures { result ≡ says.is_number radix most text.now }
+/// The value of so few digits of a radix that 64 bits hold it. None where a byte is no digit.
+fn short_value(text: &[u8], radix: u8) -> Option<u64>
+    requires radix { radix ≤ 16 }
+    requires few { length text.now ≤ 15 }
+    ensures { result ≡ says.digits_value radix text.now }
 {
-    !text.is_empty()
-        && text.len() <= most
-        && (text[0] != b'0' || text.len() == 1)
-        && are_digits(text, radix)
+    let mut value: u64 = 0;
+    for byte in text {
+        let digit = digit(*byte);
+        if digit >= radix {
+            return None;
+        }
+        value = value * u64::from(radix) + u64::from(digit);
+    }
+    Some(value)
 }
 
-/// A number of a radix that has no more digits than `most`, without a zero too many in front.
+/// The value of at most 20 digits of a radix. None where a byte is no digit.
+fn long_value(text: &[u8], radix: u8) -> Option<u128>
+    requires radix { radix ≤ 16 }
+    requires few { length text.now ≤ 20 }
+    ensures { result ≡ says.digits_value radix text.now }
+{
+    if are_digits(text, radix) {
+        Some(value(text, radix))
+    } else {
+        None
+    }
+}
+
+/// Whether a text is as long as a number may be, without a zero too many in front.
+fn has_length(text: &[u8], most: usize) -> bool
+    ensures { result ≡ says.has_length most text.now }
+{
+    !text.is_empty() && text.len() <= most && (text[0] != b'0' || text.len() == 1)
+}
+
+/// A number of a radix that has no more digits than `most`, without a zero too many in front. Most numbers are short:
+/// each of their bytes is looked at once.
 #[tactic(auto, unfolding(crate::specs::Leaves::number))]
 fn number(text: &[u8], radix: u8, most: usize) -> Option<u128>
     requires radix { radix ≤ 16 }
     requires most { most ≤ 20 }
     ensures { result ≡ says.number radix most text.now }
 {
-    if is_number(text, radix, most) {
-        Some(value(text, radix))
-    } else {
-        None
+    if !has_length(text, most) {
+        return None;
     }
+    if text.len() > MOST_SHORT {
+        return long_value(text, radix);
+    }
+    Some(u128::from(short_value(text, radix)?))
 }
 
 /// A decimal number.
@@ -123,9 +156,17 @@ fn is_name(text: &[u8]) -> bool
     }
 }
 
-/// A name: 1 to 31 small letters, digits and dashes, the first a letter.
+/// The text, where it is a name: 1 to 31 small letters, digits and dashes, the first a letter.
 #[tactic(auto, unfolding(crate::specs::Leaves::name))]
-pub fn name(text: &[u8]) -> Option<Name>
+pub fn name_text(text: &[u8]) -> Option<&[u8]>
+    ensures { option_map (λ t. t.now) result ≡ says.name text.now }
+{
+    if is_name(text) { Some(text) } else { None }
+}
+
+/// A name of its own, where the text is one.
+#[tactic(auto, unfolding(crate::specs::Leaves::name))]
+fn name(text: &[u8]) -> Option<Name>
     ensures { result ≡ says.name text.now }
 {
     if is_name(text) {

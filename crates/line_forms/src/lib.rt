@@ -13,13 +13,11 @@ mod leaves;
 mod lists;
 mod reading;
 mod shapes;
-mod stop;
 mod tool_forms;
 mod words;
 
 pub use acts::{Acts, SpelledAct, spelled_act};
 pub use forms::{Asked, CpuForm, Form, Hit, Opening, ToolForm, Version, Working};
-pub use lists::{MOST_BYTES, read_bytes};
+pub use lists::{AttrBytes, Hits, MOST_BYTES, read_bytes};
 pub use reading::read_form;
-pub use stop::LineStop;
 pub use words::cut;

@@ -1,44 +1,81 @@
 //! Words that hold lists: occurrences, and bytes.
 
-ghost use Rattle.std.specs.Prelude.{◌≡◌, ℕ, ◌≤◌, ◌+◌, List, map, flat_map, take, length, IfSome, Some, None, Result, Ok};
+ghost use Rattle.std.specs.Prelude.{◌≡◌, ℕ, ◌≤◌, ◌+◌, List, [], ◌∷◌, flat_map, take, length, IfSome, MatchOption, Some, None};
 ghost use Rattle.std.specs.Option.{option_map};
 ghost use Rattle.script_spec.specs.Forms.{AreBytes, byte_text};
 ghost use Rattle.line_forms.specs.Words.{left};
 ghost use Rattle.line_forms.specs.Lists as says;
 ghost use Rattle.line_forms.specs.Lists.{each_word, hit_in};
-ghost use Rattle.line_forms.specs.Stop.{Gives};
 ghost use Rattle.line_forms.specs.Forms.{hit_of};
 
 use crate::forms::Hit;
-use crate::leaves::{HEXADECIMAL, are_digits, decimal, digit, name};
-use crate::stop::LineStop;
+use crate::leaves::{HEXADECIMAL, are_digits, decimal, digit, name_text};
 use crate::words::{Words, cut};
-use std::alloc::Global;
+use std::marker::Model;
 
 /// How often a kind occurs: its name and a number, an equals sign between them.
 #[tactic(auto, unfolding(crate::specs::Lists::hit_in))]
-fn hit(word: &[u8]) -> Option<Hit>
+fn hit(word: &[u8]) -> Option<Hit<'_>>
     ensures { option_map hit_of result ≡ hit_in word.now }
 {
     let (front, back) = cut(word, b'=');
     let back = back?;
-    let name = name(front)?;
+    let name = name_text(front)?;
     let times = decimal(back)?;
     Some(Hit { name, times })
 }
 
+/// The occurrences that a work line spells. They stay in the line, each word of which spells one.
+#[derive(Drop)]
+pub struct Hits<'a> {
+    words: Words<'a>,
+}
+
+impl<'a> Model for Hits<'a> {
+    ghost use Rattle.std.specs.Prelude.{◌≡◌, List, Some};
+    ghost use Rattle.script_spec.specs.Forms.{Hit};
+    ghost use Rattle.line_forms.specs.Words.{left};
+    ghost use Rattle.line_forms.specs.Lists.{each_word, hit_in, all_in};
+
+    ghost Value = { List Hit };
+
+    ghost view = { λ h. all_in hit_in (left h.words) };
+
+    ghost invariant = { λ h. each_word hit_in (left h.words) ≡ Some (all_in hit_in (left h.words)) };
+}
+
+impl<'a> Hits<'a> {
+    /// The occurrences once more, from the first on.
+    pub fn again(&self) -> Hits<'a>
+        ensures { result ≡ self.now }
+    {
+        Hits { words: self.words }
+    }
+
+    /// The first occurrence and those behind it. None where there is none.
+    pub fn next(self) -> Option<(Hit<'a>, Hits<'a>)>
+        ensures { MatchOption result (self.entry ≡ []) (λ x. self.entry ≡ hit_of x.0 ∷ x.1) }
+    {
+        let Some((word, words)) = self.words.next() else {
+            return None;
+        };
+        let Some(hit) = hit(word) else {
+            return None;
+        };
+        Some((hit, Hits { words }))
+    }
+}
+
 /// The occurrences that the words spell.
-pub fn hits(alloc: Global, words: Words<'_>) -> Result<Vec<Hit>, LineStop>
-    ensures { Gives (λ v. map hit_of v.items) result (each_word hit_in (left words.entry)) }
+pub fn spelled_hits(words: Words<'_>) -> Option<Hits<'_>>
+    ensures { result ≡ each_word hit_in (left words.entry) }
 {
-    let mut hits = Vec::new(alloc);
     let mut rest = words;
     while let Some((word, more)) = rest.next() {
-        let hit = hit(word).ok_or(LineStop::NoForm)?;
-        hits.push(hit)?;
+        hit(word)?;
         rest = more;
     }
-    Ok(hits)
+    Some(Hits { words })
 }
 
 fn is_bytes(text: &[u8]) -> bool
@@ -104,11 +141,41 @@ pub fn read_bytes(text: &[u8], room: &mut [u8; MOST_BYTES]) -> Option<usize>
     put_bytes(text, room)
 }
 
+/// The bytes of an attribute, which stay in the line as their digits.
+#[derive(Drop)]
+pub struct AttrBytes<'a> {
+    text: &'a [u8],
+}
+
+impl<'a> Model for AttrBytes<'a> {
+    ghost use Rattle.std.specs.Prelude.{◌≡◌, ℕ, List, true};
+    ghost use Rattle.line_forms.specs.Lists.{is_bytes, pairs_in};
+
+    ghost Value = { List ℕ };
+
+    ghost view = { λ a. pairs_in a.text.now };
+
+    ghost invariant = { λ a. is_bytes a.text.now ≡ true };
+}
+
+impl<'a> AttrBytes<'a> {
+    /// Puts the bytes into the front of the room, and answers how many.
+    pub fn put_into(&self, room: &mut [u8; MOST_BYTES]) -> usize
+        ensures within { result ≤ 4096 }
+        ensures bytes { take result room.new ≡ self.now }
+    {
+        put_pairs(self.text, room)
+    }
+}
+
 /// The bytes that a text says, two hexadecimal digits each.
-pub fn bytes(alloc: Global, text: &[u8]) -> Result<Vec<u8>, LineStop>
-    ensures { Gives (λ v. v.items) result (says.bytes_in text.now) }
+#[tactic(auto, unfolding(crate::specs::Lists::bytes_in))]
+pub fn bytes(text: &[u8]) -> Option<AttrBytes<'_>>
+    ensures { result ≡ says.bytes_in text.now }
 {
-    let mut room = [0; MOST_BYTES];
-    let count = put_bytes(text, &mut room).ok_or(LineStop::NoForm)?;
-    Vec::from_slice(alloc, &room[..count]).map_err(|_| LineStop::Memory)
+    if is_bytes(text) {
+        Some(AttrBytes { text })
+    } else {
+        None
+    }
 }

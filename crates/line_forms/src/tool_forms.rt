@@ -4,16 +4,13 @@ ghost use Rattle.std.specs.Prelude.{◌≡◌};
 ghost use Rattle.std.specs.Option.{option_map};
 ghost use Rattle.line_forms.specs.Words.{left};
 ghost use Rattle.line_forms.specs.ToolForms as says;
-ghost use Rattle.line_forms.specs.Stop.{Gives};
 ghost use Rattle.line_forms.specs.Forms.{tool_form_of, opening_of, asked_of};
 
 use crate::forms::{Asked, Opening, ToolForm};
 use crate::leaves::{decimal_at, decimal_if, decimal_or, flags_if, hexadecimal_if, name_at};
 use crate::lists::bytes;
 use crate::shapes::{one_number, slot_and_group, two_numbers};
-use crate::stop::LineStop;
 use crate::words::{Words, skip};
-use std::alloc::Global;
 
 /// Where an event is opened, behind the word of its kind.
 #[tactic(auto, unfolding(crate::specs::ToolForms::place_at))]
@@ -52,7 +49,7 @@ fn asked(words: Words<'_>) -> Option<Asked>
 
 /// An open by a kind's name.
 #[tactic(auto, unfolding(crate::specs::ToolForms::open_kind_at))]
-fn open_kind(words: Words<'_>) -> Option<ToolForm>
+fn open_kind(words: Words<'_>) -> Option<ToolForm<'_>>
     ensures { option_map tool_form_of result ≡ says.open_kind_at (left words.entry) }
 {
     let (slot, words) = decimal_at(words, b"")?;
@@ -79,46 +76,48 @@ fn attr_place(words: Words<'_>) -> Option<(Opening, &[u8])>
 
 /// An open by bytes.
 #[tactic(auto, unfolding(crate::specs::ToolForms::open_attr_at))]
-fn open_attr(alloc: Global, words: Words<'_>) -> Result<ToolForm, LineStop>
-    ensures { Gives tool_form_of result (says.open_attr_at (left words.entry)) }
+fn open_attr(words: Words<'_>) -> Option<ToolForm<'_>>
+    ensures { option_map tool_form_of result ≡ says.open_attr_at (left words.entry) }
 {
-    let (place, text) = attr_place(words).ok_or(LineStop::NoForm)?;
-    let bytes = bytes(alloc, text)?;
-    Ok(ToolForm::OpenAttr { place, bytes })
+    let (place, text) = attr_place(words)?;
+    let Some(bytes) = bytes(text) else {
+        return None;
+    };
+    Some(ToolForm::OpenAttr { place, bytes })
 }
 
 /// An open by a kind's name, or else by bytes.
-pub fn open(alloc: Global, words: Words<'_>) -> Result<ToolForm, LineStop>
-    ensures { Gives tool_form_of result (says.open_at (left words.entry)) }
+pub fn open(words: Words<'_>) -> Option<ToolForm<'_>>
+    ensures { option_map tool_form_of result ≡ says.open_at (left words.entry) }
 {
     match open_kind(words) {
-        Some(form) => Ok(form),
-        None => open_attr(alloc, words),
+        Some(form) => Some(form),
+        None => open_attr(words),
     }
 }
 
-pub fn enable(words: Words<'_>) -> Option<ToolForm>
+pub fn enable(words: Words<'_>) -> Option<ToolForm<'_>>
     ensures { option_map tool_form_of result ≡ says.enable_at (left words.entry) }
 {
     let (slot, group) = slot_and_group(words)?;
     Some(ToolForm::Enable { slot, group })
 }
 
-pub fn disable(words: Words<'_>) -> Option<ToolForm>
+pub fn disable(words: Words<'_>) -> Option<ToolForm<'_>>
     ensures { option_map tool_form_of result ≡ says.disable_at (left words.entry) }
 {
     let (slot, group) = slot_and_group(words)?;
     Some(ToolForm::Disable { slot, group })
 }
 
-pub fn reset(words: Words<'_>) -> Option<ToolForm>
+pub fn reset(words: Words<'_>) -> Option<ToolForm<'_>>
     ensures { option_map tool_form_of result ≡ says.reset_at (left words.entry) }
 {
     let (slot, group) = slot_and_group(words)?;
     Some(ToolForm::Reset { slot, group })
 }
 
-pub fn period(words: Words<'_>) -> Option<ToolForm>
+pub fn period(words: Words<'_>) -> Option<ToolForm<'_>>
     ensures { option_map tool_form_of result ≡ says.period_at (left words.entry) }
 {
     let (slot, period) = two_numbers(words)?;
@@ -126,7 +125,7 @@ pub fn period(words: Words<'_>) -> Option<ToolForm>
 }
 
 #[tactic(auto, unfolding(crate::specs::ToolForms::read_at))]
-pub fn read(words: Words<'_>) -> Option<ToolForm>
+pub fn read(words: Words<'_>) -> Option<ToolForm<'_>>
     ensures { option_map tool_form_of result ≡ says.read_at (left words.entry) }
 {
     let (slot, words) = decimal_at(words, b"")?;
@@ -135,35 +134,35 @@ pub fn read(words: Words<'_>) -> Option<ToolForm>
     Some(ToolForm::Read { slot, size })
 }
 
-pub fn map(words: Words<'_>) -> Option<ToolForm>
+pub fn map(words: Words<'_>) -> Option<ToolForm<'_>>
     ensures { option_map tool_form_of result ≡ says.map_at (left words.entry) }
 {
     let (slot, ring) = two_numbers(words)?;
     Some(ToolForm::Map { slot, ring })
 }
 
-pub fn output(words: Words<'_>) -> Option<ToolForm>
+pub fn output(words: Words<'_>) -> Option<ToolForm<'_>>
     ensures { option_map tool_form_of result ≡ says.output_at (left words.entry) }
 {
     let (slot, target) = two_numbers(words)?;
     Some(ToolForm::Output { slot, target })
 }
 
-pub fn close(words: Words<'_>) -> Option<ToolForm>
+pub fn close(words: Words<'_>) -> Option<ToolForm<'_>>
     ensures { option_map tool_form_of result ≡ says.close_at (left words.entry) }
 {
     let slot = one_number(words)?;
     Some(ToolForm::Close { slot })
 }
 
-pub fn why(words: Words<'_>) -> Option<ToolForm>
+pub fn why(words: Words<'_>) -> Option<ToolForm<'_>>
     ensures { option_map tool_form_of result ≡ says.why_at (left words.entry) }
 {
     let slot = one_number(words)?;
     Some(ToolForm::Why { slot })
 }
 
-pub fn seats(words: Words<'_>) -> Option<ToolForm>
+pub fn seats(words: Words<'_>) -> Option<ToolForm<'_>>
     ensures { option_map tool_form_of result ≡ says.seats_at (left words.entry) }
 {
     let cpu = one_number(words)?;

@@ -44,5 +44,4 @@ module _ {S K : Type 0} {source_shows : SourceShows S} where
     Rose-before source_shows.last_fault (source_shows.faults before) (source_shows.faults mid) (source_shows.faults after) count h.6,
   )
   talked shows status.WriteFault before mid after old new sink written o count h = (h.0, h.1, new.input, h.3, taken before mid after old new _ h.2 [] o h.4, h.5, h.6, h.7)
-  talked shows status.NoMemory before mid after old new sink written o count h = (h.0, new.input, h.2, h.3, taken before mid after old new h.0 h.1 _ o h.4, h.5)
   talked shows s before mid after old new sink written o count h = absurd h

@@ -145,14 +145,6 @@ module _ {S K : Type 0} {source_shows : SourceShows S} {shows : SinkShows K} whe
     told-same sink told written turns stop.1 h.told,
     Rose-before source_shows.last_fault (source_shows.faults before) (source_shows.faults between) (source_shows.faults after) h.source_count stop.0.0,
   )
-  stopped status.NoMemory old mid new before between after sink told written turns made h stop = (
-    turns,
-    made,
-    stop.0.0,
-    stop.0.1,
-    taken-more old mid new before between after turns made (stop.0.0 ++ 10 ∷ []) h.come stop.0.2,
-    told-same sink told written turns stop.1 h.told,
-  )
   stopped status.WriteFault old mid new before between after sink told written turns made h stop = (
     turns,
     stop.0,

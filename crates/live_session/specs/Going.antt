@@ -35,6 +35,4 @@ HasGone source_shows shows status.ReadFault old new before after sink written =
 HasGone source_shows shows status.WriteFault old new before after sink written =
     (turns : List Turn) × (last : Turn) × (made : List (Given × Reply)) × (n : ℕ) × HaveCome source_shows old new before after (turns ++ last ∷ []) made [] × (n ≤ length (said_text last.said))
     × Adds (shows.held sink) (shows.held written) (answer_text turns ++ take n (said_text last.said)) × Rose shows.last_fault (shows.faults sink) (shows.faults written)
-HasGone source_shows shows status.NoMemory old new before after sink written =
-    (turns : List Turn) × (made : List (Given × Reply)) × (line : List ℕ) × HasNoLF line × HaveCome source_shows old new before after turns made (line ++ 10 ∷ []) × HasWritten shows sink written turns
 HasGone source_shows shows other old new before after sink written = ⊥

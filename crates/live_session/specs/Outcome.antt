@@ -37,8 +37,8 @@ pub record HasWritten {K : Type 0} (shows : SinkShows K) (sink written : K) (tur
 abbrev pub HasEnded : {S : Type 0} → SourceShows S → S → List ℕ → List Turn → Type 0
 HasEnded shows after waiting turns = IsAtEnd (ahead shows waiting after) ⊎ (2 ^ 64 - 1 ≤ length turns)
 
--- The session of a head ended after these turns: with the source; at a fault of the source, within a line; at a fault
--- of the sink, within an answer; or where memory ran out for the names or bytes of a line.
+-- The session of a head ended after these turns: with the source; at a fault of the source, within a line; or at a
+-- fault of the sink, within an answer. It takes no memory.
 abbrev pub HasTalked : {S K : Type 0} → SourceShows S → SinkShows K → Status → S → S → K → K → Type 0
 HasTalked source_shows shows status.Done before after sink written =
     (turns : List Turn) × (waiting : List ℕ) × HasTaken source_shows before after waiting turns [] × HasWritten shows sink written turns × HasEnded source_shows after waiting turns
@@ -48,8 +48,6 @@ HasTalked source_shows shows status.ReadFault before after sink written =
 HasTalked source_shows shows status.WriteFault before after sink written =
     (turns : List Turn) × (last : Turn) × (waiting : List ℕ) × (n : ℕ) × HasTaken source_shows before after waiting (turns ++ last ∷ []) [] × (n ≤ length (said_text last.said))
     × Adds (shows.held sink) (shows.held written) (answer_text turns ++ take n (said_text last.said)) × Rose shows.last_fault (shows.faults sink) (shows.faults written)
-HasTalked source_shows shows status.NoMemory before after sink written =
-    (turns : List Turn) × (waiting : List ℕ) × (line : List ℕ) × HasNoLF line × HasTaken source_shows before after waiting turns (line ++ 10 ∷ []) × HasWritten shows sink written turns
 HasTalked source_shows shows other before after sink written = ⊥
 
 -- How a session ended: there was none, and nothing was written; or it was one of a head.

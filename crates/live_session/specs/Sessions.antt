@@ -77,13 +77,12 @@ pub record HasNothing {S : Type 0} (shows : SourceShows S) (old new : Session) (
   pub taken : Takes (ahead_of shows old before) (ahead_of shows new after) []
   pub ended : IsAtEnd (ahead_of shows new after)
 
--- A line was taken that was not answered: in part, before the source failed, or whole, before memory ran out.
+-- Some bytes of a line were taken that was not answered, before the source failed.
 abbrev pub AreTaken : {S : Type 0} → SourceShows S → Session → Session → S → S → List ℕ → Type 0
 AreTaken shows old new before after bytes = Takes (ahead_of shows old before) (ahead_of shows new after) bytes
 
 abbrev pub IsUnheard : {S : Type 0} → SourceShows S → Session → Session → S → S → Status → Type 0
 IsUnheard shows old new before after status.ReadFault = Rose shows.last_fault (shows.faults before) (shows.faults after) × ((bytes : List ℕ) × HasNoLF bytes × AreTaken shows old new before after bytes)
-IsUnheard shows old new before after status.NoMemory = (line : List ℕ) × HasNoLF line × AreTaken shows old new before after (line ++ 10 ∷ [])
 IsUnheard shows old new before after other = ⊥
 
 -- what was found for a line, or that there was none

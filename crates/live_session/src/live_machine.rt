@@ -11,7 +11,7 @@ ghost use Rattle.live_session.specs.Sessions.{IsLiveAfter, IsMade, IsOfSame, IsO
 
 use crate::said::Said;
 use crate::status::Status;
-use given_lines::{Given, GivenFault, Head, read_given, read_head};
+use given_lines::{Given, Head, read_given, read_head};
 use line_forms::Version;
 use perf_base::{NoMemory, Script};
 use perf_share::{Call, Served, serve};
@@ -92,16 +92,15 @@ impl LiveMachine {
     }
 
     /// Answers a line of at most 65,536 bytes. A line that is none that can be given changes nothing.
-    pub(crate) fn answer(&mut self, alloc: Global, line: &[u8]) -> Result<Said, NoMemory>
+    pub(crate) fn answer(&mut self, line: &[u8]) -> Said
         requires live { (made : List (Line × Replied)) × IsLiveAfter self.old made }
-        ensures answered { (made : List (Line × Replied)) → IsLiveAfter self.old made → IfOk result (λ said.
-            (now : List (Line × Replied)) × IsAnswered self.old.script (version_of self.old.version) made line.now said now × IsLiveAfter self.new now) }
+        ensures answered { (made : List (Line × Replied)) → IsLiveAfter self.old made
+            → (now : List (Line × Replied)) × IsAnswered self.old.script (version_of self.old.version) made line.now result now × IsLiveAfter self.new now }
         ensures same { IsOfSame self.old self.new }
     {
-        match read_given(alloc, self.version, &self.script, line) {
-            Err(GivenFault::NoMemory) => Err(NoMemory),
-            Err(GivenFault::Bad(reason)) => Ok(Said::Bad(reason)),
-            Ok(given) => Ok(self.make(&given)),
+        match read_given(self.version, &self.script, line) {
+            Err(reason) => Said::Bad(reason),
+            Ok(given) => self.make(&given),
         }
     }
 }

@@ -13,7 +13,7 @@ use crate::said::Said;
 use crate::status::Status;
 use buffered_sink::write_buffered;
 use line_input::{HeadStop, Input, LineEnd, LineRoom};
-use perf_base::{NoMemory, SReason};
+use perf_base::SReason;
 use perf_io::{Failed, Sink, Source};
 use std::alloc::Global;
 
@@ -44,8 +44,7 @@ fn tell<K: Sink>(sink: &mut K, said: &Said) -> Result<(), Failed>
 }
 
 impl Session {
-    /// Reads a head from a source, up to its `end` line, and takes all memory of its session, but for what the names or
-    /// bytes of a single line take while it is read.
+    /// Reads a head from a source, up to its `end` line, and takes all memory of its session. No turn takes any.
     pub fn open<S: Source>(alloc: Global, source: &mut S) -> Result<Session, Status>
         ensures count { S.shows.faults source.old ≤ S.shows.faults source.new }
         ensures ok { IfOk result (HasOpened S.shows source.old source.new) }
@@ -86,7 +85,7 @@ impl Session {
     }
 
     /// Takes one line and finds what it is answered; None where there is no line any more.
-    fn hear<S: Source>(&mut self, alloc: Global, source: &mut S) -> Result<Option<Said>, Status>
+    fn hear<S: Source>(&mut self, source: &mut S) -> Result<Option<Said>, Status>
         requires live { (made : List (Line × Replied)) × IsLiveAfter self.old.machine made }
         ensures count { S.shows.faults source.old ≤ S.shows.faults source.new }
         ensures ok { (made : List (Line × Replied)) → IsLiveAfter self.old.machine made → IfOk result (IsHeard S.shows self.old self.new source.old source.new made) }
@@ -97,17 +96,13 @@ impl Session {
             Ok(LineEnd::Nothing) => Ok(None),
             Ok(LineEnd::Cut) => Ok(Some(Said::Bad(SReason::End))),
             Ok(LineEnd::Long) => Ok(Some(Said::Bad(SReason::Form))),
-            Ok(LineEnd::Ended) => match self.machine.answer(alloc, self.line.as_bytes()) {
-                Err(NoMemory) => Err(Status::NoMemory),
-                Ok(said) => Ok(Some(said)),
-            },
+            Ok(LineEnd::Ended) => Ok(Some(self.machine.answer(self.line.as_bytes()))),
         }
     }
 
     /// Takes one line, answers it, and flushes, before any other line is looked at.
     pub fn turn<S: Source, K: Sink>(
         &mut self,
-        alloc: Global,
         source: &mut S,
         sink: &mut K,
     ) -> Result<Turned, Status>
@@ -118,7 +113,7 @@ impl Session {
         ensures err { (made : List (Line × Replied)) → IsLiveAfter self.old.machine made
             → IfErr result (HasStopped S.shows K.shows self.old self.new source.old source.new sink.old sink.new made) }
     {
-        let Some(said) = self.hear(alloc, source)? else {
+        let Some(said) = self.hear(source)? else {
             return Ok(Turned::Ended);
         };
         match tell(sink, &said) {

@@ -14,13 +14,13 @@ use std::alloc::Global;
 
 impl Session {
     /// Answers line after line, to the source's end.
-    fn talk<S: Source, K: Sink>(&mut self, alloc: Global, source: &mut S, sink: &mut K) -> Status
+    fn talk<S: Source, K: Sink>(&mut self, source: &mut S, sink: &mut K) -> Status
         requires first { IsLiveAfter self.old.machine [] }
         ensures counts { (S.shows.faults source.old ≤ S.shows.faults source.new) × (K.shows.faults sink.old ≤ K.shows.faults sink.new) }
         ensures gone { HasGone S.shows K.shows result self.old self.new source.old source.new sink.old sink.new }
     {
         for _ in 0..u64::MAX {
-            match self.turn(alloc, source, sink) {
+            match self.turn(source, sink) {
                 Ok(Turned::Answered) => {}
                 Ok(Turned::Ended) => return Status::Done,
                 Err(status) => return status,
@@ -40,7 +40,7 @@ fn answer<S: Source, K: Sink>(alloc: Global, source: &mut S, sink: &mut K) -> St
         Err(status) => status,
         Ok(session) => {
             let mut session = session;
-            session.talk(alloc, source, sink)
+            session.talk(source, sink)
         }
     }
 }
@@ -65,8 +65,7 @@ fn noted<N: Sink>(notes: &mut N, status: Status) -> Status
 /// `refused` and the reason; `bad` and the reason for which it is no line that can be given, which changes nothing; or
 /// `full`, after 16,384 calls. There are no words. Each answer but Done is written to the notes as one line.
 ///
-/// All memory is taken before the first line, but for what the names of a work line or the bytes of an attribute take
-/// while that line is read.
+/// All memory is taken before the first line.
 pub fn live_main<S: Source, K: Sink, N: Sink>(
     alloc: Global,
     words: &[String],

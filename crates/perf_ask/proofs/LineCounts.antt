@@ -1,7 +1,7 @@
--- A text has as many lines as it has LFs.
-use Rattle.std.{specs.Prelude.{◌≡◌, ℕ, ◌+◌, ◌-◌, ◌<◌, ◌==◌, Bool, true, false, cond, List, [], ◌∷◌, length, count_by}, proofs.Common.{arith, refl}}
+-- A text has one piece more than bytes between them.
+use Rattle.std.{specs.Prelude.{◌≡◌, ℕ, ◌+◌, ◌<◌, ◌==◌, Bool, true, false, cond, List, [], ◌∷◌, length, count_by}, proofs.Common.{arith, refl}}
 use Rattle.std.proofs.lemmas.List.Sums.{sum_by-cons}
-use Rattle.script_spec.specs.Lines.{pieces, put_before, all_but_last, lines_of}
+use Rattle.script_spec.specs.Lines.{pieces, put_before}
 
 length-put : (ends : Bool) (b : ℕ) (ps : List (List ℕ)) → 0 < length ps → length (put_before ends b ps) ≡ length ps + cond ends 1 0
 length-put true b ps some = omega arith
@@ -14,11 +14,3 @@ length-pieces c [] = refl
 length-pieces c (b ∷ bytes) =
     let rest : length (pieces c bytes) ≡ count_by (λ b. b == c) bytes + 1 = length-pieces c bytes in
     omega (arith, rest, length-put (b == c) b (pieces c bytes) (omega (arith, rest)), sum_by-cons (λ b. cond (b == c) 1 0) b bytes)
-
-length-front : (ps : List (List ℕ)) → length (all_but_last ps) ≡ length ps - 1
-length-front [] = refl
-length-front (p ∷ []) = refl
-length-front (p ∷ q ∷ ps) = omega (arith, length-front (q ∷ ps))
-
-pub length-lines_of : (text : List ℕ) → length (lines_of text) ≡ count_by (λ b. b == 10) text
-length-lines_of text = omega (arith, length-front (pieces 10 text), length-pieces 10 text)

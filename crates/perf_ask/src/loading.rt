@@ -1,6 +1,6 @@
 //! From the source's bytes to the script.
 
-ghost use Rattle.std.specs.Prelude.{◌≡◌, ◌⊎◌, ◌≤◌, ◌==◌, ℕ, List, length, count_by, IfErr, IfOk};
+ghost use Rattle.std.specs.Prelude.{◌≡◌, ◌⊎◌, ◌≤◌, ℕ, List, length, IfErr, IfOk};
 ghost use Rattle.perf_base.specs.Scripts.{IsCovered};
 ghost use Rattle.perf_base.specs.Weight.{weight};
 ghost use Rattle.script_spec.specs.Lines.{lines_of};
@@ -13,23 +13,8 @@ use crate::status::Status;
 use crate::text::{self, TextStop};
 use perf_base::{SReason, Script};
 use perf_io::Source;
-use script_read::{ScriptFault, read_script};
+use script_read::{ScriptFault, read_counted};
 use std::alloc::Global;
-
-/// How many LFs a text has.
-fn lf_count(text: &[u8]) -> usize
-    ensures { result ≡ count_by (λ byte. byte == 10) text.now }
-{
-    text.iter().filter(|byte| **byte == b'\n').count()
-}
-
-/// The number of the last line of a text whose lines are all ended by an LF.
-fn last_line(text: &[u8]) -> u32
-    requires { length text.now ≤ 4194304 }
-    ensures { result ≡ length (lines_of text.now) }
-{
-    lf_count(text) as u32
-}
 
 /// A script that was read, and the number of its last line.
 #[derive(Drop)]
@@ -48,12 +33,12 @@ fn script_of(alloc: Global, text: &[u8]) -> Result<Loaded, Status>
     ensures refused { IfErr result (λ status. (status ≡ Status.NoMemory)
         ⊎ ((line : ℕ) × (reason : SReason) × (status ≡ Status.BadScript line reason) × IsRefused text.now line reason)) }
 {
-    match read_script(alloc, text) {
+    match read_counted(alloc, text) {
         Err(ScriptFault::NoMemory) => Err(Status::NoMemory),
         Err(ScriptFault::Bad { line, reason }) => Err(Status::BadScript { line, reason }),
-        Ok(script) => Ok(Loaded {
-            script,
-            last_line: last_line(text),
+        Ok(counted) => Ok(Loaded {
+            script: counted.script,
+            last_line: counted.lines,
         }),
     }
 }

@@ -1,14 +1,14 @@
 -- The first two lines, and a line as its form.
-use Rattle.std.proofs.Common.{◌≡◌, ℕ, ◌-◌, ◌^◌, ◌<◌, ◌≤◌, false, All, List, [], ◌∷◌, get_or, Option, None, refl, sym, ap, subst, ◌∙◌, arith}
-use Rattle.std.proofs.lemmas.{Bool.{eqb-false}, Nat.Bits.{bit_at_or, bit_at-zero, same_from_bits}, List.Elements.{All-cons}}
+use Rattle.std.proofs.Common.{◌≡◌, ℕ, ◌-◌, ◌^◌, ◌<◌, ◌≤◌, true, false, All, List, [], ◌∷◌, get_or, Option, None, refl, sym, ap, subst, ◌∙◌, arith}
+use Rattle.std.proofs.lemmas.{Nat.Bits.{bit_at_or, bit_at-zero, same_from_bits}, List.Elements.{All-cons}}
 use Rattle.std.{proofs.Math.Nat.{pow-le-pow_right}, specs.Prelude.{bit_or}}
 use Rattle.perf_base.specs.{declared.reasons.SReason.{SReason}, Scripts.{empty_script, with_pmu}}
 use Rattle.perf_base.specs.declared.reasons.SReason.TheVariants as reason
 use Rattle.script_spec.specs.{Lines.{words_of}, Forms.{Version, Form, IsOfForm}, Meaning.{script_of}}
 use Rattle.script_spec.specs.Faults.{section, IsPlaced, IsNoEnd, IsPrintable, Keeps, IsFaulty, IsSound, rank, IsInRange}
 use Rattle.script_spec.specs.Forms as form
-use Rattle.script_read.specs.declared.{state.State.{State}, progress.Progress.{Progress}}
-use Rattle.script_read.specs.{State.{cpu_number, tool_number, Follows}, Adding.{IsSoundState}}
+use Rattle.script_read.specs.declared.{state.{Section.{Section}, State.{State}}, progress.Progress.{Progress}}
+use Rattle.script_read.specs.{State.{cpu_number, tool_number, is_end, rank_of, Follows}, Adding.{IsSoundState}}
 use Rattle.script_read.{specs.Progress.{Behind, AsksOf, IsFirstOf, IsTaken, ended_of}, proofs.Following.{script_cpus}}
 use Rattle.script_read.specs.declared.state.Section.TheVariants as part
 use Rattle.script_read.specs.declared.progress.Progress.TheVariants as progress
@@ -113,10 +113,27 @@ low_section other l = tt
 low_all : (forms : List Form) (n : ℕ) → n < 10 → All (λ g. section g ≤ n) forms → All IsNoEnd forms
 low_all forms n l h = λ k d w. low_section (get_or forms k d) (omega (arith, l, h k d w))
 
+no_end_rank : (p : Section) → is_end p ≡ false → rank_of p < 10
+no_end_rank part.Perf e = omega arith
+no_end_rank part.Machine e = omega arith
+no_end_rank part.Pmus e = omega arith
+no_end_rank part.Kinds e = omega arith
+no_end_rank part.Tasks e = omega arith
+no_end_rank part.Rings e = omega arith
+no_end_rank part.Processors e = omega arith
+no_end_rank part.Tools e = omega arith
+no_end_rank part.Readers e = omega arith
+no_end_rank part.Order e = omega arith
+no_end_rank part.End e = absurd cc
+
+pub end_rank : (p : Section) → is_end p ≡ true → rank_of p ≡ 10
+end_rank part.End e = refl
+end_rank other e = absurd cc
+
 pub ended_false : (forms : List Form) (p : Progress) → Behind forms p → ended_of p ≡ false → All IsNoEnd forms
 ended_false forms progress.Nothing b e = rw b (λ k d l. absurd (omega (arith, l)))
 ended_false forms progress.Version b e = rw b.1 (All-cons IsNoEnd (form.Perf b.0) [] tt (λ k d l. absurd (omega (arith, l))))
-ended_false forms (progress.Machine s) h e = grind (arith, eqb-false, low_all)
+ended_false forms (progress.Machine s) h e = low_all forms (rank_of s.section) (no_end_rank s.section e) h.highest
 
 -- ---- a line as its form
 

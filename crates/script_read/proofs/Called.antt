@@ -58,54 +58,8 @@ declared_some (x ∷ kinds) name i e =
 pub declared_none : (kinds : List KindLine) (name : List ℕ) → number_of kinds name ≡ None → All (λ k. k.name ≢ name) kinds
 declared_none kinds name e = grind (arith, get_or, true, bytes_eq-Decides, cases_lt, length, none-some, lt-ltb, false, fails_before_first)
 
-pub declared_iff : (kinds : List KindLine) (name : List ℕ) (r : Option ℕ) (b : Bool) → r ≡ number_of kinds name → b ≡ is_some r → IsTrue b ↔ Any (λ k. k.name ≡ name) kinds
-declared_iff kinds name (Some i) b e is = (λ t. declared_some kinds name i (sym e), λ any. is)
-declared_iff kinds name None b e is = (λ t. absurd cc, λ any. let none = declared_none kinds name (sym e) in absurd (none any.0 any.1 any.2 (ap (λ (k : KindLine). k.name) any.3 ∙ any.4)))
-
 pub new_iff : (kinds : List KindLine) (name : List ℕ) (r : Option ℕ) (b : Bool) → r ≡ number_of kinds name → is_some r ≡ not b → IsTrue b ↔ All (λ k. k.name ≢ name) kinds
 new_iff kinds name (Some i) true e is = absurd cc
 new_iff kinds name (Some i) false e is = (λ t. absurd cc, λ all. let any = declared_some kinds name i (sym e) in absurd (all any.0 any.1 any.2 (ap (λ (k : KindLine). k.name) any.3 ∙ any.4)))
 new_iff kinds name None true e is = (λ t. declared_none kinds name (sym e), λ all. refl)
 new_iff kinds name None false e is = absurd cc
-
--- ---- names that are apart
-
-pub not_apart : {X : Type 0} (f : X → List ℕ) (xs : List X) (i : ℕ) (d : X) → i < length xs → Any (λ x. f x ≡ f (get_or xs i d)) (take i xs) → AllPairs (λ x y. f x ≢ f y) xs → ⊥
-not_apart f xs i d l any apart =
-    let k : any.0 < i = omega (arith, any.2, length-take i xs) in
-    let at : get_or xs any.0 any.1 ≡ any.1 = sym (get_or-take i xs any.0 any.1 k) ∙ any.3 in
-    let same : f (get_or xs any.0 d) ≡ f (get_or xs i d) = ap f (get_or_default xs any.0 d any.1 (omega arith) ∙ at) ∙ any.4 in
-    apart any.0 i d k l same
-
-pub apart_more : {X : Type 0} (f : X → List ℕ) (xs : List X) (i : ℕ) (d : X) → i < length xs → AllPairs (λ x y. f x ≢ f y) (take i xs) → (Any (λ x. f x ≡ f (get_or xs i d)) (take i xs) → ⊥)
-    → AllPairs (λ x y. f x ≢ f y) (take (i + 1) xs)
-apart_more f xs i d l apart none =
-    rw (take_more xs i d l) (all_pairs_push (λ x y. f x ≢ f y) (take i xs) (get_or xs i d) apart (λ k e w same. none (any_at (λ x. f x ≡ f (get_or xs i d)) (take i xs) k e w same)))
-
-pub apart_all : {X : Type 0} (f : X → List ℕ) (xs : List X) (i : ℕ) → length xs ≤ i → AllPairs (λ x y. f x ≢ f y) (take i xs) → AllPairs (λ x y. f x ≢ f y) xs
-apart_all f xs i l h = rw (take_all i xs l) at h
-
-pub apart_map : {X Y : Type 0} (f : X → List ℕ) (g : Y → X) (ys : List Y) → AllPairs (λ x y. f (g x) ≢ f (g y)) ys ↔ AllPairs (λ x y. f x ≢ f y) (map g ys)
-apart_map f g [] = (λ h i j d l m. absurd (omega (arith, m)), λ h i j d l m. absurd (omega (arith, m)))
-apart_map f g (z ∷ ys) = (
-  λ h i j d l m.
-      let w : j < length (z ∷ ys) = omega (arith, m, length-map (z ∷ ys) g) in
-      rw (read_map g (z ∷ ys) i z d (omega arith), read_map g (z ∷ ys) j z d w) (h i j z l w),
-  λ h i j d l m.
-      let w : j < length (map g (z ∷ ys)) = omega (arith, m, length-map (z ∷ ys) g) in
-      let p = h i j (g d) l w in
-      rw (read_map g (z ∷ ys) i d (g d) (omega arith), read_map g (z ∷ ys) j d (g d) m) at p,
-)
-  where
-    read_map : {X Y : Type 0} (g : Y → X) (ys : List Y) (i : ℕ) (d : Y) (e : X) → i < length ys → get_or (map g ys) i e ≡ g (get_or ys i d)
-    read_map g [] i d e l = absurd (omega (arith, l))
-    read_map g (y ∷ ys) zero d e l = refl
-    read_map g (y ∷ ys) (suc i) d e l = read_map g ys i d e (omega (arith, l))
-
--- ---- a loop that tests each element
-
-pub all_not : {X : Type 0} (P : X → Type 0) (xs : List X) (i : ℕ) (d : X) → i < length xs → (P (get_or xs i d) → ⊥) → IsTrue false ↔ All P xs
-all_not P xs i d l h = (λ t. absurd cc, λ all. absurd (h (all i d l)))
-
-pub all_done : {X : Type 0} (P : X → Type 0) (xs : List X) (i : ℕ) → length xs ≤ i → All P (take i xs) → IsTrue true ↔ All P xs
-all_done P xs i l h = let all : All P xs = (rw (take_all i xs l) at h) in (λ t. all, λ a. refl)

@@ -59,10 +59,10 @@ stands_covered text s stands = let e = ended text s stands in subst IsCovered (s
 stands_light : (text : List ℕ) (s : Scripted) → StandsFor text s → weight s ≤ 65536
 stands_light text s stands = let e = ended text s stands in subst (λ t. weight t ≤ 65536) (sym e.script) e.light
 
-pub read_covered : (text : List ℕ) (r : Result Scripted ScriptFault) → IfOk r (StandsFor text) → IfOk r IsCovered
-read_covered text (Ok s) ok = stands_covered text s ok
-read_covered text (Err e) ok = tt
+pub read_covered : {X : Type 0} (script : X → Scripted) (Has : X → Type 0) (text : List ℕ) (r : Result X ScriptFault) → IfOk r (λ x. StandsFor text (script x) × Has x) → IfOk r (λ x. IsCovered (script x))
+read_covered script Has text (Ok x) ok = stands_covered text (script x) ok.0
+read_covered script Has text (Err e) ok = tt
 
-pub read_light : (text : List ℕ) (r : Result Scripted ScriptFault) → IfOk r (StandsFor text) → IfOk r (λ s. weight s ≤ 65536)
-read_light text (Ok s) ok = stands_light text s ok
-read_light text (Err e) ok = tt
+pub read_light : {X : Type 0} (script : X → Scripted) (Has : X → Type 0) (text : List ℕ) (r : Result X ScriptFault) → IfOk r (λ x. StandsFor text (script x) × Has x) → IfOk r (λ x. weight (script x) ≤ 65536)
+read_light script Has text (Ok x) ok = stands_light text (script x) ok.0
+read_light script Has text (Err e) ok = tt

@@ -108,12 +108,13 @@ refused_one text l m r q a b = elim a.1 [
 ]
 
 -- so what was read is the only answer
-pub only_script : (text : List ℕ) (r : Result Scripted ScriptFault) → IfOk r (StandsFor text) → IfErr r (IsBlamed text) → (s : Scripted) → StandsFor text s → MatchResult r (λ t. t ≡ s) (λ e. e ≡ fault.NoMemory)
-only_script text (Ok t) ok bad s h = stands_one text t s ok h
-only_script text (Err (fault.Bad line q)) ok bad s h = absurd (stands_or_refused text s line q h bad)
-only_script text (Err fault.NoMemory) ok bad s h = refl
+module _ {X : Type 0} (script : X → Scripted) (Has : X → Type 0) (text : List ℕ) where
+  pub only_script : (r : Result X ScriptFault) → IfOk r (λ x. StandsFor text (script x) × Has x) → IfErr r (IsBlamed text) → (s : Scripted) → StandsFor text s → MatchResult r (λ x. script x ≡ s) (λ e. e ≡ fault.NoMemory)
+  only_script (Ok x) ok bad s h = stands_one text (script x) s ok.0 h
+  only_script (Err (fault.Bad line q)) ok bad s h = absurd (stands_or_refused text s line q h bad)
+  only_script (Err fault.NoMemory) ok bad s h = refl
 
-pub only_refusal : (text : List ℕ) (r : Result Scripted ScriptFault) → IfOk r (StandsFor text) → IfErr r (IsBlamed text) → (line : ℕ) (q : SReason) → IsRefused text line q → MatchResult r (λ t. ⊥) (λ e. (e ≡ fault.Bad line q) ⊎ (e ≡ fault.NoMemory))
-only_refusal text (Ok t) ok bad line q h = stands_or_refused text t line q ok h
-only_refusal text (Err (fault.Bad m p)) ok bad line q h = let one = refused_one text m line p q bad h in inl (ap (λ k. fault.Bad k p) one.0 ∙ ap (fault.Bad line) one.1)
-only_refusal text (Err fault.NoMemory) ok bad line q h = inr refl
+  pub only_refusal : (r : Result X ScriptFault) → IfOk r (λ x. StandsFor text (script x) × Has x) → IfErr r (IsBlamed text) → (line : ℕ) (q : SReason) → IsRefused text line q → MatchResult r (λ x. ⊥) (λ e. (e ≡ fault.Bad line q) ⊎ (e ≡ fault.NoMemory))
+  only_refusal (Ok x) ok bad line q h = stands_or_refused text (script x) line q ok.0 h
+  only_refusal (Err (fault.Bad m p)) ok bad line q h = let one = refused_one text m line p q bad h in inl (ap (λ k. fault.Bad k p) one.0 ∙ ap (fault.Bad line) one.1)
+  only_refusal (Err fault.NoMemory) ok bad line q h = inr refl

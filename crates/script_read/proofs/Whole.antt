@@ -1,7 +1,7 @@
 -- Line after line, and the whole text.
-use Rattle.std.proofs.Common.{◌≡◌, ℕ, ◌+◌, true, List, [], ◌∷◌, ◌++◌, length, length-append, get_or, take, inl, inr, refl, sym, ap, subst, ◌∙◌, arith, append_assoc}
-use Rattle.std.proofs.lemmas.{Bool.{cases_lt, eqb-true}, List.{append-nil, length_push, take-append-le, take_at, get_or_append_left}}
-use Rattle.std.specs.Prelude.{Any}
+use Rattle.std.proofs.Common.{◌≡◌, ℕ, ◌+◌, true, List, [], ◌∷◌, ◌++◌, length, length-append, get_or, take, Result, Ok, Err, inl, inr, refl, sym, ap, subst, ◌∙◌, arith, append_assoc}
+use Rattle.std.proofs.lemmas.{Bool.{cases_lt}, List.{append-nil, length_push, take-append-le, take_at, get_or_append_left}}
+use Rattle.std.specs.Prelude.{Any, IfOk}
 use Rattle.perf_base.specs.{declared.reasons.SReason.{SReason}, Scripts.{Scripted}}
 use Rattle.script_spec.specs.{Lines.{lines_of, rest_of}, Forms.{Version, Form}, Meaning.{script_of}, Faults.{section, IsSound, IsFaulty}}
 use Rattle.script_spec.specs.Texts.{version_of, AreSound, StandsFor, IsRefused}
@@ -9,6 +9,7 @@ use Rattle.script_spec.specs.Forms as form
 use Rattle.script_read.specs.{declared.{progress.Progress.{Progress}, fault.{ScriptFault.{ScriptFault}, LineFault.{LineFault}}}, Fault.{Blames}}
 use Rattle.script_read.specs.Progress.{Behind, ended_of, IsTakenLine}
 use Rattle.script_read.specs.Reading.{IsNextLine, HasNoLine, IsReading, Says, IsFinished, IsBlamed, blamed_of}
+use Rattle.script_read.proofs.Beginning.{end_rank}
 use Rattle.script_read.specs.declared.progress.Progress.TheVariants as progress
 use Rattle.script_read.specs.declared.fault.ScriptFault.TheVariants as fault
 use Rattle.script_read.specs.declared.fault.LineFault.TheVariants as line_fault
@@ -89,16 +90,22 @@ has_end forms progress.Nothing b e = absurd cc
 has_end forms progress.Version b e = absurd cc
 has_end forms (progress.Machine s) h e =
     let a = h.reached in
-    (a.0, a.1, a.2, a.3, end_form a.1 (a.4 ∙ eqb-true _ _ e))
+    (a.0, a.1, a.2, a.3, end_form a.1 (a.4 ∙ end_rank s.section e))
 
 says_script : (forms : List Form) (p : Progress) (s : Scripted) → Behind forms p → Says p s → s ≡ script_of forms
 says_script forms progress.Nothing s b h = absurd h
 says_script forms progress.Version s b h = absurd h
 says_script forms (progress.Machine t) s b h = h ∙ b.script
 
-pub stands : (text : List ℕ) (p : Progress) (n : ℕ) (left : List ℕ) (s : Scripted) → IsReading text p n left → HasNoLine left → IsFinished left p s → StandsFor text s
+stands : (text : List ℕ) (p : Progress) (n : ℕ) (left : List ℕ) (s : Scripted) → IsReading text p n left → HasNoLine left → IsFinished left p s → StandsFor text s
 stands text p n left s r x f =
     (r.forms, record { sound = sound_all text p n left r x; ended = (all_read text p n left r x).1 ∙ f.nothing; has_end = has_end r.forms p r.behind f.ended }, says_script r.forms p s r.behind f.says)
+
+pub finished : {X : Type 0} (script : X → Scripted) (lines : X → ℕ) (text : List ℕ) (p : Progress) (n : ℕ) (left : List ℕ) (r : Result X ScriptFault) → IsReading text p n left → HasNoLine left
+    → IfOk r (λ x. IsFinished left p (script x) × (lines x ≡ n)) → IfOk r (λ x. StandsFor text (script x) × (lines x ≡ length (lines_of text)))
+finished script lines text p n left (Ok x) reading none h =
+    (stands text p n left (script x) reading none h.0, h.1 ∙ (sym (front_length text p n left reading) ∙ ap length (all_read text p n left reading none).0))
+finished script lines text p n left (Err e) reading none h = tt
 
 blamed : (text : List ℕ) (e : ScriptFault) (n : ℕ) (r : SReason) → e ≡ fault.Bad n r → IsRefused text n r → IsBlamed text e
 blamed text e n r is h = subst (IsBlamed text) (sym is) h

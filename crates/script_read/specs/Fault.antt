@@ -4,8 +4,6 @@ use Rattle.std.specs.Prelude.{◌<◌}
 use Rattle.perf_base.specs.declared.reasons.SReason.{SReason}
 use Rattle.perf_base.specs.declared.reasons.SReason.TheVariants as reason
 use Rattle.script_spec.specs.Faults.{rank}
-use Rattle.line_forms.specs.declared.stop.LineStop.{LineStop}
-use Rattle.line_forms.specs.declared.stop.LineStop.TheVariants as stop
 use Rattle.script_read.specs.declared.fault.LineFault.{LineFault}
 use Rattle.script_read.specs.declared.fault.LineFault.TheVariants as fault
 
@@ -31,8 +29,3 @@ pub record IsFirstBroken (asks : SReason → Type 0) (r : SReason) : Type 0 wher
 abbrev pub Blames : LineFault → (SReason → Type 0) → Type 0
 Blames (fault.Bad r) P = P r
 Blames fault.NoMemory P = Unit {0}
-
--- a line of no form is refused for its form
-abbrev pub fault_of_stop : LineStop → LineFault
-fault_of_stop stop.Memory = fault.NoMemory
-fault_of_stop stop.NoForm = fault.Bad reason.Form

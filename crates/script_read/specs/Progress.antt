@@ -1,10 +1,10 @@
 -- inner
 -- How far a text is read, by the forms of its lines so far. This project's own profile.
-use Rattle.std.specs.Prelude.{◌≡◌, ℕ, List, [], ◌∷◌, ◌++◌, Bool, false, ◌==◌}
+use Rattle.std.specs.Prelude.{◌≡◌, ℕ, List, [], ◌∷◌, ◌++◌, Bool, false}
 use Rattle.perf_base.specs.declared.reasons.SReason.{SReason}
 use Rattle.script_spec.specs.{Forms.{Version, Form}, Faults.{IsPlaced, IsInRange, HasAttr, IsNamed, IsWithinLimits, IsWithinWeight, IsSound}}
 use Rattle.script_spec.specs.Forms as form
-use Rattle.script_read.specs.{declared.progress.Progress.{Progress}, Fault.{AsksThese, IsFirstBroken}, State.{rank_of, Follows}}
+use Rattle.script_read.specs.{declared.progress.Progress.{Progress}, Fault.{AsksThese, IsFirstBroken}, State.{is_end, Follows}}
 use Rattle.script_read.specs.declared.progress.Progress.TheVariants as progress
 
 -- the lines so far are of these forms
@@ -29,7 +29,7 @@ pub record IsTaken (before : List Form) (f : Form) (p : Progress) : Type 0 where
 abbrev pub ended_of : Progress → Bool
 ended_of progress.Nothing = false
 ended_of progress.Version = false
-ended_of (progress.Machine s) = rank_of s.section == 10
+ended_of (progress.Machine s) = is_end s.section
 
 -- a line is sound behind those before it, and taken
 pub record IsTakenLine (version : Version) (before : List Form) (line : List ℕ) (p : Progress) : Type 0 where

@@ -1,6 +1,6 @@
 -- inner
 -- What reading gives, line by line and at the end. This project's own profile.
-use Rattle.std.specs.Prelude.{◌≡◌, ◌≢◌, ℕ, ◌+◌, ◌<◌, ◌≤◌, ◌⊎◌, true, false, List, [], ◌∷◌, ◌++◌, length, take}
+use Rattle.std.specs.Prelude.{◌≡◌, ◌≢◌, ℕ, ◌+◌, ◌<◌, ◌≤◌, ◌⊎◌, ◌&&◌, nat_le, Bool, true, false, List, [], ◌∷◌, ◌++◌, length, take}
 use Rattle.perf_base.specs.Scripts.{Scripted}
 use Rattle.perf_base.specs.declared.reasons.SReason.TheVariants as reason
 use Rattle.script_spec.specs.{Lines.{lines_of, rest_of}, Forms.{Form}, Texts.{version_of, AreSound, IsRefused}}
@@ -19,6 +19,10 @@ pub record IsNextLine (text line more : List ℕ) : Type 0 where
 pub record HasNoLine (text : List ℕ) : Type 0 where
   pub lines : lines_of text ≡ []
   pub rest : rest_of text ≡ text
+
+-- a printable byte of ASCII
+abbrev pub is_plain : ℕ → Bool
+is_plain b = nat_le 32 b && nat_le b 126
 
 -- n lines were read, and this is left
 pub record IsReading (text : List ℕ) (p : Progress) (n : ℕ) (left : List ℕ) : Type 0 where

@@ -1,6 +1,6 @@
 -- inner
 -- What the state of the reader says of the forms of the lines so far. This project's own profile.
-use Rattle.std.specs.Prelude.{◌≡◌, ℕ, ◌<◌, ◌≤◌, bit_or, List, [], ◌∷◌, length, All, Any, Option, option_map, IfSome}
+use Rattle.std.specs.Prelude.{◌≡◌, ℕ, Bool, true, false, ◌<◌, ◌≤◌, bit_or, List, [], ◌∷◌, length, All, Any, Option, option_map, IfSome}
 use Rattle.perf_base.specs.declared.{numbers.{CpuNo.{CpuNo}, ToolNo.{ToolNo}}, lines.PmuLine.{PmuLine}}
 use Rattle.script_spec.specs.{Forms.{Form}, Meaning.{cpus_in, pmus_in, processors_in, tools_in, last_of, script_of}, Faults.{section}}
 use Rattle.script_spec.specs.Forms as form
@@ -20,6 +20,10 @@ rank_of part.Tools = 7
 rank_of part.Readers = 8
 rank_of part.Order = 9
 rank_of part.End = 10
+
+abbrev pub is_end : Section → Bool
+is_end part.End = true
+is_end other = false
 
 -- the section of a form
 abbrev pub part_of : Form → Section

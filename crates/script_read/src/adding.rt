@@ -19,7 +19,7 @@ use crate::names::{declared_ring, is_act, is_new_name};
 use crate::numbers::{counters, cpu, cpu_mask, mask, next_reader, next_ring, next_task, tool};
 use crate::state::{State, section_of};
 use line_forms::{Acts, CpuForm, Form, ToolForm};
-use perf_base::{Act, CpuSet, Name, ReaderLine, SReason, Script};
+use perf_base::{CpuSet, Name, ReaderLine, SReason, Script};
 
 /// How many kinds a script may have, and how many lines under its processors and tools.
 const MOST_KINDS: usize = 16;
@@ -44,16 +44,18 @@ fn check_room(script: &Script) -> Result<(), SReason>
 }
 
 /// Adds the acts of an order, which are all in range, unless the script has not what one is of.
-fn add_acts(script: &mut Script, acts: &[Act]) -> Result<(), LineFault>
-    requires range { All IsActInRange acts.now }
-    ensures ok { OnOk result (All (IsAct script.old) acts.now × (script.new ≡ record script.old { order = script.old.order ++ acts.now })) }
-    ensures bad { IfErr result (λ e. Blames e (λ r. (r ≡ reason.Name) × (All (IsAct script.old) acts.now → ⊥))) }
+fn add_acts(script: &mut Script, acts: Acts<'_>) -> Result<(), LineFault>
+    requires range { All IsActInRange acts }
+    ensures ok { OnOk result (All (IsAct script.old) acts.entry × (script.new ≡ record script.old { order = script.old.order ++ acts.entry })) }
+    ensures bad { IfErr result (λ e. Blames e (λ r. (r ≡ reason.Name) × (All (IsAct script.old) acts.entry → ⊥))) }
 {
-    for act in acts {
-        if !is_act(script, act) {
+    let mut rest = acts;
+    while let Some((act, more)) = rest.next() {
+        if !is_act(script, &act) {
             return Err(LineFault::Bad(SReason::Name));
         }
-        script.add_act(*act)?;
+        script.add_act(act)?;
+        rest = more;
     }
     Ok(())
 }
@@ -135,7 +137,7 @@ impl State {
         Ok(())
     }
 
-    fn on_processor(&mut self, form: &CpuForm) -> Result<(), LineFault>
+    fn on_processor(&mut self, form: &CpuForm<'_>) -> Result<(), LineFault>
         requires sound { IsSoundState self.old }
         requires script { IsScript self.old.script }
         requires spelling { IsCpuSpelling (cpu_form_of form.now) }
@@ -149,7 +151,7 @@ impl State {
         Ok(())
     }
 
-    fn on_tool(&mut self, form: &ToolForm) -> Result<(), LineFault>
+    fn on_tool(&mut self, form: &ToolForm<'_>) -> Result<(), LineFault>
         requires sound { IsSoundState self.old }
         requires script { IsScript self.old.script }
         requires spelling { IsToolSpelling (tool_form_of form.now) }
@@ -179,8 +181,10 @@ impl State {
         ensures ok { OnOk result (IsTakenBy self.old self.new (text.Order acts.now)) }
         ensures bad { IfErr result (λ e. Blames e (Refuses self.old (text.Order acts.now))) }
     {
-        let acts = acts.in_range().ok_or(SReason::Range)?;
-        add_acts(&mut self.script, acts)
+        if !acts.are_in_range() {
+            return Err(LineFault::Bad(SReason::Range));
+        }
+        add_acts(&mut self.script, acts.again())
     }
 
     fn end(&self) -> Result<(), LineFault>

@@ -2,9 +2,7 @@
 
 ghost use Rattle.std.specs.Prelude.{◌≡◌};
 ghost use Rattle.script_read.specs.declared.fault.LineFault.TheVariants as fault;
-ghost use Rattle.script_read.specs.Fault.{fault_of_stop};
 
-use line_forms::LineStop;
 use perf_base::{NoMemory, SReason};
 
 /// Why a text gives no script: a line is at fault, for a reason, or memory ran out. Lines are numbered from 1;
@@ -35,16 +33,5 @@ impl From<NoMemory> for LineFault {
 
     fn from(_error: NoMemory) -> LineFault {
         LineFault::NoMemory
-    }
-}
-
-impl From<LineStop> for LineFault {
-    ghost from_gives = { λ stop e. e ≡ fault_of_stop stop };
-
-    fn from(stop: LineStop) -> LineFault {
-        match stop {
-            LineStop::Memory => LineFault::NoMemory,
-            LineStop::NoForm => LineFault::Bad(SReason::Form),
-        }
     }
 }

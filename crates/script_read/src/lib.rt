@@ -20,4 +20,4 @@ pub use laws::each_text_has_one_answer;
 pub use lines::{cpu_line, tool_line};
 pub use numbers::{cpu, tool};
 pub use order::order_complete;
-pub use reading::read_script;
+pub use reading::{Counted, cut_line, read_counted, read_script, version_of};

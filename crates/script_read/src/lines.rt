@@ -1,6 +1,6 @@
 //! The lines of processors and tools: a form's numbers first, then the bytes of an attribute, then names.
 
-ghost use Rattle.std.specs.Prelude.{◌≡◌, IfOk, IfErr, All, map};
+ghost use Rattle.std.specs.Prelude.{◌≡◌, ◌++◌, ◌∷◌, [], List, IfOk, IfErr, All, MatchBool};
 ghost use Rattle.perf_base.specs.declared.lines.ToolLine.TheVariants as tool_line;
 ghost use Rattle.perf_base.specs.declared.reasons.SReason.TheVariants.{Range};
 ghost use Rattle.perf_base.specs.Scripts.{IsScript};
@@ -8,66 +8,88 @@ ghost use Rattle.script_spec.specs.Forms as text;
 ghost use Rattle.script_spec.specs.Forms.{IsWorking, IsAsked, IsCpuSpelling, IsToolSpelling};
 ghost use Rattle.script_spec.specs.Faults.{IsAmount, IsSlotNumber};
 ghost use Rattle.script_spec.specs.Meaning as says;
-ghost use Rattle.line_forms.specs.Forms.{hit_of, working_of, cpu_form_of, opening_of, asked_of, tool_form_of};
-ghost use Rattle.script_read.specs.Lines.{MakesCpuLine, RefusesCpuForm, MakesToolLine, RefusesToolForm};
+ghost use Rattle.line_forms.specs.Forms.{working_of, cpu_form_of, opening_of, asked_of, tool_form_of};
+ghost use Rattle.script_read.specs.Names.{AreKindsIn};
+ghost use Rattle.script_read.specs.Lines.{AreCounted, IsNamedOnce, RefusesHits, MakesCpuLine, RefusesCpuForm, MakesToolLine, RefusesToolForm};
 
-use crate::names::{are_kinds, declared_ring, kind_named, kind_of_raw, raw_of, same_name};
+use crate::names::{declared_ring, kind_named, kind_of_raw, number_of, raw_of};
 use crate::numbers::{
-    Place, amount, are_amounts, cpu, opening_place, period, size, slot, switched, task, times,
-    wide, word,
+    Place, amount, cpu, opening_place, period, size, slot, switched, task, wide, word,
 };
-use line_forms::{Asked, CpuForm, Hit, Opening, ToolForm, Working};
+use line_forms::{Asked, AttrBytes, CpuForm, Hits, Opening, ToolForm, Working};
 use perf_base::{Attr, AttrFlags, CpuLine, EventNo, Name, SReason, Script, ToolLine, Work};
 
-/// How often the kind of a name occurs.
-fn times_of(hits: &[Hit], name: Name) -> u64
-    requires { All (λ h. IsAmount h.times) (map hit_of hits.now) }
-    ensures { result ≡ says.times_of (map hit_of hits.now) name }
+/// Adds how often a kind occurs, and that it was named. False where the name is not that of a declared kind, or was
+/// named before.
+fn count(
+    script: &Script,
+    times: &mut [u64; 16],
+    named: &mut [bool; 16],
+    name: &[u8],
+    amount: u64,
+) -> bool
+    requires { IsScript script.now }
+    ensures { (hits : List text.Hit) → AreCounted script.now.kinds hits times.old named.old
+        → MatchBool result
+        (AreCounted script.now.kinds (hits ++ record { name = name.now; times = amount } ∷ []) times.new named.new)
+        (IsNamedOnce script.now.kinds hits name.now → ⊥) }
 {
-    for hit in hits {
-        if same_name(hit.name, name) {
-            return times(hit);
-        }
+    let Some(kind) = number_of(script, name) else {
+        return false;
+    };
+    if named[kind] {
+        return false;
     }
-    0
+    times[kind] = amount;
+    named[kind] = true;
+    true
 }
 
-/// How often each kind occurs, by its number.
-fn occurrences(script: &Script, hits: &[Hit]) -> [u64; 16]
-    requires script { IsScript script.now }
-    requires few { All (λ h. IsAmount h.times) (map hit_of hits.now) }
-    ensures { result ≡ says.occurrences script.now.kinds (map hit_of hits.now) }
+/// How often each kind occurs, by its number, or the first reason for which the occurrences of a work line are refused:
+/// a number is too large, or else a name is unknown or stands there twice.
+fn occurrences(script: &Script, hits: Hits<'_>) -> Result<[u64; 16], SReason>
+    requires { IsScript script.now }
+    ensures ok { IfOk result (λ o. All (λ h. IsAmount h.times) hits.entry × AreKindsIn script.now.kinds hits.entry × (o ≡ says.occurrences script.now.kinds hits.entry)) }
+    ensures bad { IfErr result (RefusesHits script.now.kinds hits.entry) }
 {
-    let mut occurrences = [0; 16];
-    for kind in 0..script.kinds() {
-        occurrences[kind] = times_of(hits, script.name(kind));
+    let mut times = [0; 16];
+    let mut named = [false; 16];
+    let mut are_kinds = true;
+    let mut rest = hits;
+    while let Some((hit, more)) = rest.next() {
+        let Some(amount) = amount(hit.times) else {
+            return Err(SReason::Range);
+        };
+        are_kinds = are_kinds && count(script, &mut times, &mut named, hit.name, amount);
+        rest = more;
     }
-    occurrences
+    if are_kinds {
+        Ok(times)
+    } else {
+        Err(SReason::Name)
+    }
 }
 
-fn work(script: &Script, working: &Working) -> Result<CpuLine, SReason>
+fn work(script: &Script, working: &Working<'_>) -> Result<CpuLine, SReason>
     requires script { IsScript script.now }
     requires spelling { IsWorking (working_of working.now) }
     ensures ok { IfOk result (MakesCpuLine script.now.kinds (text.Work (working_of working.now))) }
     ensures bad { IfErr result (RefusesCpuForm script.now.kinds (text.Work (working_of working.now))) }
 {
     let length = amount(working.length).ok_or(SReason::Range)?;
-    if !are_amounts(&working.hits) {
-        return Err(SReason::Range);
+    match occurrences(script, working.hits.again()) {
+        Err(reason) => Err(reason),
+        Ok(hits) => Ok(CpuLine::Work(Work {
+            length,
+            mode: working.mode,
+            ip: word(working.ip),
+            hits,
+        })),
     }
-    if !are_kinds(script, &working.hits) {
-        return Err(SReason::Name);
-    }
-    Ok(CpuLine::Work(Work {
-        length,
-        mode: working.mode,
-        ip: word(working.ip),
-        hits: occurrences(script, &working.hits),
-    }))
 }
 
 /// The line of a processor that a form says, or the first reason for which its numbers or names are refused.
-pub fn cpu_line(script: &Script, form: &CpuForm) -> Result<CpuLine, SReason>
+pub fn cpu_line(script: &Script, form: &CpuForm<'_>) -> Result<CpuLine, SReason>
     requires script { IsScript script.now }
     requires spelling { IsCpuSpelling (cpu_form_of form.now) }
     ensures ok { IfOk result (MakesCpuLine script.now.kinds (cpu_form_of form.now)) }
@@ -123,7 +145,7 @@ fn opened(place: Place, attr: Attr) -> ToolLine
 }
 
 /// An open by the bytes of an attribute.
-fn open_attr(script: &Script, opening: &Opening, bytes: &[u8]) -> Result<ToolLine, SReason>
+fn open_attr(script: &Script, opening: &Opening, bytes: &AttrBytes<'_>) -> Result<ToolLine, SReason>
     requires script { IsScript script.now }
     ensures ok { IfOk result (MakesToolLine script.now (text.OpenAttr (opening_of opening.now) bytes.now)) }
     ensures bad { IfErr result (RefusesToolForm script.now (text.OpenAttr (opening_of opening.now) bytes.now)) }
@@ -163,7 +185,7 @@ fn event(n: u128) -> Result<EventNo, SReason>
 }
 
 /// The line of a tool that a form says, or the first reason for which its numbers, bytes or names are refused.
-pub fn tool_line(script: &Script, form: &ToolForm) -> Result<ToolLine, SReason>
+pub fn tool_line(script: &Script, form: &ToolForm<'_>) -> Result<ToolLine, SReason>
     requires script { IsScript script.now }
     requires spelling { IsToolSpelling (tool_form_of form.now) }
     ensures ok { IfOk result (MakesToolLine script.now (tool_form_of form.now)) }

@@ -1,6 +1,6 @@
 //! Kinds and rings by their names.
 
-ghost use Rattle.std.specs.Prelude.{◌≡◌, ◌≢◌, ◌↔◌, IsTrue, IfSome, MatchOption, All, AllPairs, Any, map, length, None};
+ghost use Rattle.std.specs.Prelude.{◌≡◌, ◌≢◌, ◌↔◌, IsTrue, IfSome, MatchOption, All, Any, length, None};
 ghost use Rattle.std.specs.Str.{bytes_eq};
 ghost use Rattle.perf_base.specs.Scripts.{IsScript, IsFreeName, HasRing, IsAct};
 ghost use Rattle.attr_bytes.specs.Standing.{StandsFor};
@@ -8,25 +8,16 @@ ghost use Rattle.attr_bytes.specs.Kinds.{kind_numbered};
 ghost use Rattle.attr_bytes.specs.Faults.{fault_of};
 ghost use Rattle.script_spec.specs.Acts.{IsActInRange};
 ghost use Rattle.script_spec.specs.Meaning as says;
-ghost use Rattle.line_forms.specs.Forms.{hit_of};
-ghost use Rattle.script_read.specs.Names.{IsNewIn, AreKindsIn};
+ghost use Rattle.script_read.specs.Names.{IsNewIn};
 
 use attr_bytes::{RawAttr, kind_of, read_attr};
-use line_forms::Hit;
+use line_forms::{AttrBytes, MOST_BYTES};
 use perf_base::{Act, Kind, Name, RingNo, Script};
 
 fn is_called(name: Name, text: &[u8]) -> bool
     ensures { result ≡ bytes_eq name text.now }
 {
     name.as_bytes() == text
-}
-
-/// Whether two names are the same.
-pub fn same_name(left: Name, right: Name) -> bool
-    ensures bytes { result ≡ bytes_eq left right }
-    ensures same { IsTrue result ↔ (left ≡ right) }
-{
-    is_called(left, right.as_bytes())
 }
 
 /// Whether a kind may be called so.
@@ -37,11 +28,11 @@ pub fn is_free_name(name: Name) -> bool
 }
 
 /// The number of a declared kind.
-pub fn number_of(script: &Script, name: Name) -> Option<usize>
-    ensures { result ≡ says.number_of script.now.kinds name }
+pub fn number_of(script: &Script, name: &[u8]) -> Option<usize>
+    ensures { result ≡ says.number_of script.now.kinds name.now }
 {
     for kind in 0..script.kinds() {
-        if same_name(script.name(kind), name) {
+        if is_called(script.name(kind), name) {
             return Some(kind);
         }
     }
@@ -53,17 +44,19 @@ pub fn kind_named(script: &Script, name: Name) -> Option<Kind>
     requires { IsScript script.now }
     ensures { result ≡ says.kind_named script.now.kinds name }
 {
-    match number_of(script, name) {
+    match number_of(script, name.as_bytes()) {
         Some(kind) => Some(Kind::Hard(kind as u8)),
         None => Kind::software(name.as_bytes()),
     }
 }
 
 /// The attribute that bytes stand for.
-pub fn raw_of(bytes: &[u8]) -> Option<RawAttr>
+pub fn raw_of(bytes: &AttrBytes<'_>) -> Option<RawAttr>
     ensures { MatchOption result (fault_of bytes.now ≡ None → ⊥) (λ raw. StandsFor bytes.now raw × (fault_of bytes.now ≡ None)) }
 {
-    read_attr(bytes).ok()
+    let mut room = [0; MOST_BYTES];
+    let count = bytes.put_into(&mut room);
+    read_attr(&room[..count]).ok()
 }
 
 /// The kind that an attribute names.
@@ -74,16 +67,10 @@ pub fn kind_of_raw(script: &Script, raw: &RawAttr) -> Option<Kind>
     kind_of(raw, script.kinds() as u8)
 }
 
-fn is_declared(script: &Script, name: Name) -> bool
-    ensures { IsTrue result ↔ Any (λ k. k.name ≡ name) script.now.kinds }
-{
-    number_of(script, name).is_some()
-}
-
 fn is_new(script: &Script, name: Name) -> bool
     ensures { IsTrue result ↔ All (λ k. k.name ≢ name) script.now.kinds }
 {
-    number_of(script, name).is_none()
+    number_of(script, name.as_bytes()).is_none()
 }
 
 /// Whether a kind may be called so, and none is yet.
@@ -109,44 +96,6 @@ pub fn declared_ring(rings: &[(RingNo, u32)], number: u64) -> Option<RingNo>
         }
     }
     None
-}
-
-/// Whether a name stands there.
-fn stands_there(hits: &[Hit], name: Name) -> bool
-    ensures { IsTrue result ↔ Any (λ h. h.name ≡ name) hits.now }
-{
-    hits.iter().any(|hit| same_name(hit.name, name))
-}
-
-/// Whether each kind is declared.
-fn are_declared(script: &Script, hits: &[Hit]) -> bool
-    ensures { IsTrue result ↔ All (λ h. Any (λ k. k.name ≡ h.name) script.now.kinds) hits.now }
-{
-    for hit in hits {
-        if !is_declared(script, hit.name) {
-            return false;
-        }
-    }
-    true
-}
-
-/// Whether no kind stands there twice. Among declared kinds one that does is found at the 17th at the latest.
-fn are_apart(hits: &[Hit]) -> bool
-    ensures { IsTrue result ↔ AllPairs (λ g h. g.name ≢ h.name) hits.now }
-{
-    for i in 0..hits.len() {
-        if stands_there(&hits[..i], hits[i].name) {
-            return false;
-        }
-    }
-    true
-}
-
-/// Whether each kind is declared, and stands there once.
-pub fn are_kinds(script: &Script, hits: &[Hit]) -> bool
-    ensures { IsTrue result ↔ AreKindsIn script.now.kinds (map hit_of hits.now) }
-{
-    are_declared(script, hits) && are_apart(hits)
 }
 
 /// Whether the script has what an act is of: lines of its processor or tool, or its ring.

@@ -1,15 +1,15 @@
 //! Numbers and masks that are in their ranges, in the widths that scripts have for them. Each is None where the
 //! range does not hold it. Nothing else here narrows a number as it was spelled.
 
-ghost use Rattle.std.specs.Prelude.{◌≡◌, ◌<◌, ◌≤◌, ◌↔◌, IsTrue, IfSome, MatchOption, All, map, option_map, slice_get};
+ghost use Rattle.std.specs.Prelude.{◌≡◌, ◌<◌, ◌≤◌, ◌↔◌, IsTrue, IfSome, MatchOption, All, option_map, slice_get};
 ghost use Rattle.perf_base.specs.Masks.{IsMask};
 ghost use Rattle.perf_base.specs.Scripts.{IsScript, IsMaskOf, IsRingSize};
 ghost use Rattle.script_spec.specs.Faults.{IsBetween, IsWide, IsTaskNumber, IsSlotNumber, IsAmount, IsOpeningInRange};
 ghost use Rattle.script_spec.specs.Meaning as says;
-ghost use Rattle.line_forms.specs.Forms.{hit_of, opening_of};
+ghost use Rattle.line_forms.specs.Forms.{opening_of};
 ghost use Rattle.script_read.specs.Numbers.{opening_place, IsNextTask, IsNextRing, IsNextReader, IsFreeMask};
 
-use line_forms::{Hit, Opening};
+use line_forms::Opening;
 use perf_base::{CpuNo, CpuSel, EventNo, ReaderLine, RingNo, Script, TaskNo, TaskSel, ToolNo};
 
 /// The greatest length of a work line, and how often a kind occurs there at most.
@@ -181,28 +181,6 @@ pub fn opening_place(cpus: u8, opening: &Opening) -> Option<Place>
         cpu: cpu_sel(cpus, opening.cpu)?,
         leader: leader(opening.leader)?,
     })
-}
-
-/// Whether no number is above a kind's most.
-fn are_small(hits: &[Hit]) -> bool
-    ensures { IsTrue result ↔ All (λ h. IsAmount h.times) hits.now }
-{
-    hits.iter().all(|hit| hit.times <= MOST)
-}
-
-/// Whether each kind of a work line occurs so often as a kind can.
-pub fn are_amounts(hits: &[Hit]) -> bool
-    ensures { IsTrue result ↔ All (λ h. IsAmount h.times) (map hit_of hits.now) }
-{
-    are_small(hits)
-}
-
-/// How often the kind of a work line occurs there, whose kinds occur so often as kinds can.
-pub fn times(hit: &Hit) -> u64
-    requires { IsAmount hit.now.times }
-    ensures { result ≡ hit.now.times }
-{
-    hit.times as u64
 }
 
 /// How many counters a declared PMU has.

@@ -1,6 +1,6 @@
 //! One line behind the lines so far.
 
-ghost use Rattle.std.specs.Prelude.{◌≡◌, ◌-◌, ◌^◌, ◌≤◌, ◌↔◌, IsTrue, IfOk, IfErr, All, List, [], ◌∷◌};
+ghost use Rattle.std.specs.Prelude.{◌≡◌, ◌-◌, ◌^◌, ◌≤◌, ◌↔◌, IsTrue, IfOk, IfErr, OnOk, All, List, [], ◌∷◌};
 ghost use Rattle.script_spec.specs.Forms as text;
 ghost use Rattle.script_spec.specs.Faults.{IsPrintable, IsBetween, IsFaulty};
 ghost use Rattle.line_forms.specs.Forms.{form_of, version_of};
@@ -21,13 +21,6 @@ pub enum Progress {
     Nothing,
     Version,
     Machine(State),
-}
-
-/// Whether all bytes are printable ones of ASCII.
-fn is_printable(line: &[u8]) -> bool
-    ensures { IsTrue result ↔ All IsPrintable line.now }
-{
-    line.iter().all(|byte| 32 <= *byte && *byte <= 126)
 }
 
 /// All processors of a machine.
@@ -112,29 +105,36 @@ fn second_form(alloc: Global, form: &Form<'_>) -> Result<Progress, LineFault>
 }
 
 /// A later form of a text.
-fn later_form(state: State, form: &Form<'_>) -> Result<Progress, LineFault>
-    requires behind { (forms : List text.Form) × Follows forms state }
+fn later_form(state: &mut State, form: &Form<'_>) -> Result<(), LineFault>
+    requires behind { (forms : List text.Form) × Follows forms state.old }
     requires spelling { text.IsSpelling (form_of form.now) }
-    ensures ok { IfOk result (λ p. (forms : List text.Form) → Follows forms state → IsTaken forms (form_of form.now) p) }
-    ensures bad { IfErr result (λ e. (forms : List text.Form) → Follows forms state → Blames e (λ r. IsFirstOf forms (form_of form.now) r)) }
+    ensures ok { OnOk result ((forms : List text.Form) → Follows forms state.old → IsTaken forms (form_of form.now) (Progress.Machine state.new)) }
+    ensures bad { IfErr result (λ e. (forms : List text.Form) → Follows forms state.old → Blames e (λ r. IsFirstOf forms (form_of form.now) r)) }
 {
-    let mut state = state;
     state.use_invariant();
-    state.take(form)?;
-    Ok(Progress::Machine(state))
+    state.take(form)
 }
 
 /// One form more.
-fn take_form(alloc: Global, progress: Progress, form: &Form<'_>) -> Result<Progress, LineFault>
-    requires behind { (forms : List text.Form) × Behind forms progress }
+fn take_form(alloc: Global, progress: &mut Progress, form: &Form<'_>) -> Result<(), LineFault>
+    requires behind { (forms : List text.Form) × Behind forms progress.old }
     requires spelling { text.IsSpelling (form_of form.now) }
-    ensures ok { IfOk result (λ p. (forms : List text.Form) → Behind forms progress → IsTaken forms (form_of form.now) p) }
-    ensures bad { IfErr result (λ e. (forms : List text.Form) → Behind forms progress → Blames e (λ r. IsFirstOf forms (form_of form.now) r)) }
+    ensures ok { OnOk result ((forms : List text.Form) → Behind forms progress.old → IsTaken forms (form_of form.now) progress.new) }
+    ensures bad { IfErr result (λ e. (forms : List text.Form) → Behind forms progress.old → Blames e (λ r. IsFirstOf forms (form_of form.now) r)) }
 {
     match progress {
-        Progress::Nothing => first_form(form),
-        Progress::Version => second_form(alloc, form),
         Progress::Machine(state) => later_form(state, form),
+        Progress::Version => match second_form(alloc, form) {
+            Err(fault) => Err(fault),
+            Ok(machine) => {
+                *progress = machine;
+                Ok(())
+            }
+        },
+        Progress::Nothing => {
+            *progress = first_form(form)?;
+            Ok(())
+        }
     }
 }
 
@@ -143,28 +143,32 @@ pub fn has_ended(progress: &Progress) -> bool
     ensures { result ≡ ended_of progress.now }
 {
     match progress {
-        Progress::Machine(state) => state.section.rank() == 10,
+        Progress::Machine(state) => matches!(state.section, Section::End),
         _ => false,
     }
 }
 
-/// One line more.
+/// One line more, of printable bytes or not.
 pub fn take_line(
     alloc: Global,
     version: Version,
-    progress: Progress,
+    progress: &mut Progress,
     line: &[u8],
-) -> Result<Progress, LineFault>
-    requires { (forms : List text.Form) × Behind forms progress }
-    ensures ok { IfOk result (λ p. (forms : List text.Form) → Behind forms progress → IsTakenLine (version_of version) forms line.now p) }
-    ensures bad { IfErr result (λ e. (forms : List text.Form) → Behind forms progress → Blames e (λ r. IsFaulty (version_of version) forms line.now r)) }
+    is_printable: bool,
+) -> Result<(), LineFault>
+    requires behind { (forms : List text.Form) × Behind forms progress.old }
+    requires printable { IsTrue is_printable ↔ All IsPrintable line.now }
+    ensures ok { OnOk result ((forms : List text.Form) → Behind forms progress.old → IsTakenLine (version_of version) forms line.now progress.new) }
+    ensures bad { IfErr result (λ e. (forms : List text.Form) → Behind forms progress.old → Blames e (λ r. IsFaulty (version_of version) forms line.now r)) }
 {
-    if has_ended(&progress) {
+    if has_ended(progress) {
         return Err(LineFault::Bad(SReason::End));
     }
-    if !is_printable(line) {
+    if !is_printable {
         return Err(LineFault::Bad(SReason::Ascii));
     }
-    let form = read_form(alloc, version, line)?;
+    let Some(form) = read_form(version, line) else {
+        return Err(LineFault::Bad(SReason::Form));
+    };
     take_form(alloc, progress, &form)
 }

@@ -8,12 +8,12 @@ loop-line-init c = none_passed (version_of c.args.version) c.args.text.now
 pub loop-line-preserved : goal.loop-line-preserved
 loop-line-preserved c =
     one_more_passed (version_of c.args.version) c.args.text.now c.loop-line.passed c.loop-line.rest.now c.in-Some.line.now c.in-Some.more.now c.loop-line.invariant c.in-Some.ensures
-    (λ u. let t = c.in_ok-is_undeclared.ensures.ok.1 u in absurd cc)
+    (λ u. let t = c.is_undeclared.ensures.1 u in absurd cc)
 
-pub returns-then-branch-clause-ok : goal.returns-then-branch-clause-ok
-returns-then-branch-clause-ok c =
+pub returns-then-is_undeclared : goal.returns-then-is_undeclared
+returns-then-is_undeclared c =
     first_at (version_of c.args.version) c.args.text.now c.loop-line.passed c.loop-line.rest.now c.in-Some.line.now c.in-Some.more.now c.loop-line.invariant c.in-Some.ensures
-    c.requires.version (c.in_ok-is_undeclared.ensures.ok.0 c.if-branch.true)
+    c.requires.version (c.is_undeclared.ensures.0 c.if-is_undeclared.true)
 
-pub returns-clause-ok : goal.returns-clause-ok
-returns-clause-ok c = all_passed (version_of c.args.version) c.args.text.now c.loop-line.passed c.loop-line.rest.now c.requires.version c.loop-line.invariant c.in_default.ensures
+pub returns : goal.returns
+returns c = all_passed (version_of c.args.version) c.args.text.now c.loop-line.passed c.loop-line.rest.now c.requires.version c.loop-line.invariant c.in_default.ensures

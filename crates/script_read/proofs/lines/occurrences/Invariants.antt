@@ -1,7 +1,9 @@
-use Rattle.std.{proofs.Common.{◌≡◌, ◌-◌, ◌++◌, take, map}, specs.Prelude.{replicate}}
-use Rattle.script_spec.specs.Meaning.{times_of}
-use Rattle.line_forms.specs.Forms.{hit_of}
+use Rattle.std.proofs.Common.{length}
+use Rattle.script_read.proofs.Counting.{IsCounting}
 use Rattle.script_read.proofs.lines.occurrences.Given as goal
 
-abbrev pub invariant-loop-kind : goal.invariant-loop-kind
-invariant-loop-kind l = l.occurrences ≡ map (λ k. times_of (map hit_of l.hits) k.name) (take l.kind l.script.kinds) ++ replicate (16 - l.kind) 0
+abbrev pub invariant-loop-hit : goal.invariant-loop-hit
+invariant-loop-hit l = IsCounting l.script.kinds l.fn.hits l.are_kinds l.times l.named l.rest
+
+abbrev pub decreases-loop-hit : goal.decreases-loop-hit
+decreases-loop-hit l = length l.rest

@@ -1,14 +1,11 @@
-use Rattle.std.proofs.Common.{subst}
-use Rattle.given_lines.specs.Given.{BlamesLine}
 use Rattle.line_forms.specs.Forms.{version_of}
 use Rattle.live_session.proofs.Making.{answered, bad-line}
 use Rattle.live_session.proofs.live_machine.LiveMachine.answer.Goals as goal
 
-pub returns-in-Err-Bad-clause-answered : goal.returns-in-Err-Bad-clause-answered
-returns-in-Err-Bad-clause-answered c = λ made h. (
+pub returns-in-Err-clause-answered : goal.returns-in-Err-clause-answered
+returns-in-Err-clause-answered c = λ made h. (
   made,
-  bad-line c.args.self.now.script (version_of c.args.self.now.version) made c.args.line.now c.in-Err-Bad.reason
-      (subst (BlamesLine c.args.self.now.script (version_of c.args.self.now.version) c.args.line.now) c.in-Err-Bad.field-0-is c.in-Err-Bad.ensures.bad),
+  bad-line c.args.self.now.script (version_of c.args.self.now.version) made c.args.line.now c.in-Err.reason c.in-Err.ensures.bad,
   h,
 )
 

@@ -15,10 +15,10 @@ returns-in-Ok-Long-clause-ok g c = λ made h.
     long-line {shows = g.S.Source.shows} c.args.self.now (record { machine = c.args.self.now.machine; input = c.next_line.new.self; line = c.next_line.new.line }) c.args.source.now c.next_line.new.source made c.next_line.new.line
     (subst (HasLine (ahead g.S.Source.shows c.args.self.now.input c.args.source.now) (ahead g.S.Source.shows c.next_line.new.self c.next_line.new.source) c.next_line.new.line) c.in-Ok-Long.field-0-is c.in-Ok-Long.ensures.ok) h refl
 
-pub returns-in-Ok-clause-ok : goal.returns-in-Ok-clause-ok
-returns-in-Ok-clause-ok g c = λ made h.
-    let a = c.in-Ok.ensures.answered made h in
+pub returns-in-Ok-Ended-clause-ok : goal.returns-in-Ok-Ended-clause-ok
+returns-in-Ok-Ended-clause-ok g c = λ made h.
+    let a = c.answer.ensures.answered made h in
     whole-line {shows = g.S.Source.shows} c.args.self.now (record { machine = c.answer.new.self; input = c.next_line.new.self; line = c.next_line.new.line }) c.args.source.now c.next_line.new.source made a.0 c.next_line.new.line
-    c.in-Ok.said
+    c.answer.result
     (subst (HasLine (ahead g.S.Source.shows c.args.self.now.input c.args.source.now) (ahead g.S.Source.shows c.next_line.new.self c.next_line.new.source) c.next_line.new.line) c.in-Ok-Ended.field-0-is c.in-Ok-Ended.ensures.ok)
-    (subst (λ line. IsAnswered c.args.self.now.machine.script (version_of c.args.self.now.machine.version) made line c.in-Ok.said a.0) c.as_bytes.ensures a.1) a.2 c.answer.ensures.same
+    (subst (λ line. IsAnswered c.args.self.now.machine.script (version_of c.args.self.now.machine.version) made line c.answer.result a.0) c.as_bytes.ensures a.1) a.2 c.answer.ensures.same

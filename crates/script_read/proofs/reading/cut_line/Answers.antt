@@ -1,5 +1,5 @@
 use Rattle.script_read.proofs.Cutting.{no_line, next_line_is}
-use Rattle.given_lines.proofs.heads.next_line.Goals as goal
+use Rattle.script_read.proofs.reading.cut_line.Goals as goal
 
 pub returns-in_err-back : goal.returns-in_err-back
 returns-in_err-back c = rw c.from_residual.ensures (no_line c.args.text.now c.cut.result.0.now (rw c.in_err-back.was at c.cut.ensures))
