@@ -1,5 +1,6 @@
 -- inner
--- How what is asked ends beside a source that has a text, by the answer and what was written. This project's own profile.
+-- How what is asked ends beside a source that has a text, by the answer and what was written. This project's own
+-- profile.
 use Rattle.std.specs.Prelude.{◌≡◌, ◌⊎◌, ◌<◌, ◌≤◌, ⊤, ℕ, List, [], length, Option, Some}
 use Rattle.perf_base.specs.{declared.{numbers.RingNo.{RingNo}, reasons.SReason.{SReason}}, Scripts.{Scripted}}
 use Rattle.script_spec.specs.Texts.{IsRefused, StandsFor}

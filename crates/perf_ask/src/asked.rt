@@ -105,9 +105,9 @@ pub enum Asked {
     Watch(Watching),
     /// A script is read and its own order done; a table of what its events have counted is written.
     Stat,
-    /// The script of so many rounds is made and its own order done; what its report sums up to is written.
+    /// The script of a number of rounds is made and its own order done; what its report sums up to is written.
     Make(Rounds),
-    /// The script of so many rounds is made and written.
+    /// The script of a number of rounds is made and written.
     MadeScript(Rounds),
     /// The line of these bytes of an attribute is written.
     Attr(ShortList<u8, MOST_BYTES>),

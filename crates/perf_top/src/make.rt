@@ -1,4 +1,4 @@
-//! The script of so many rounds, and its summary or its text.
+//! The script of a number of rounds, and its summary or its text.
 
 ghost use Rattle.std.specs.Prelude.{◌≡◌, ◌≤◌, IfOk};
 ghost use Rattle.make_spec.specs.Rounds.{script_of_rounds};
@@ -36,7 +36,7 @@ fn ready_of(alloc: Global, rounds: u32, script: Script) -> Result<Ready, NoMemor
 }
 
 impl Made {
-    /// Makes the script of so many rounds, and takes all memory that its own order needs.
+    /// Makes the script of a number of rounds, and takes all memory that its own order needs.
     pub fn new(alloc: Global, rounds: Rounds) -> Result<Made, NoMemory>
         ensures { IfOk result (λ made. made.rounds ≡ rounds) }
     {
@@ -105,7 +105,7 @@ pub struct ScriptText {
 }
 
 impl ScriptText {
-    /// Makes the script of so many rounds.
+    /// Makes the script of a number of rounds.
     pub fn new(alloc: Global, rounds: Rounds) -> Result<ScriptText, NoMemory>
         ensures { IfOk result (λ text. text.rounds ≡ rounds) }
     {

@@ -133,7 +133,7 @@ fn read(alloc: Global, bytes: &[u8]) -> Result<Counted, ScriptFault>
 /// As `read_script`, with the number of lines of the text, the last of which is its `end` line.
 pub fn read_counted(alloc: Global, bytes: &[u8]) -> Result<Counted, ScriptFault>
     requires { length bytes.now ≤ 4194304 }
-    // What is read, the text stands for, and it has so many lines.
+    // What is read, the text stands for, and it has that many lines.
     ensures ok { IfOk result (λ c. StandsFor bytes.now c.script × (c.lines ≡ length (lines_of bytes.now))) }
     // It can be printed, and its printed text stands for it: each processor is of a PMU, and it is not too heavy.
     ensures covered { IfOk result (λ c. IsCovered c.script) }

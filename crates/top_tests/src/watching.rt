@@ -83,7 +83,7 @@ pub(crate) fn work(cpu: u8, length: u64, cycles: u64) -> Call {
     )
 }
 
-// Makes a call so many times.
+// Makes a call a number of times.
 pub(crate) fn call_often(
     rt: &impl Wait,
     share: &Share,
@@ -116,7 +116,7 @@ fn count_of(answer: &Answer<Reply>) -> Option<u64> {
     }
 }
 
-// Reads an event so many times, and goes on at once where a call of another thread is under way.
+// Reads an event a number of times, and goes on at once where a call of another thread is under way.
 fn watch(share: &Share, mut pass: Pass, call: &Call, times: u64) -> (Pass, Watched)
     requires together { BelongsTo pass share.now }
     requires fits { Fits share.now.key call.now }
