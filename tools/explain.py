@@ -10,13 +10,16 @@ why, it says so. Ends with 0 where the script is done, with 1 where it is refuse
 program is at fault.
 """
 
+from __future__ import annotations
+
 import re
 import sys
+from collections.abc import Iterable, Sequence
 
-from perfscript import Draft, Fault, Line, Look, Script, command, lines_of, program_at
+from perfscript import Draft, Fault, Line, Program, Script, command, lines_of, program_at
 from perfscript import forms
 from perfscript.attributes import Attribute
-from perfscript.forms import HEADS, SECTIONS, Wrong, forms_of, misspelled, near, parted, section_of
+from perfscript.forms import HEADS, SECTIONS, Form, Part, Wrong, forms_of, misspelled, near, parted, section_of
 from perfscript.limits import MOST_KINDS, MOST_LINES, MOST_WEIGHT
 from perfscript.names import SOFTWARE_KINDS
 
@@ -32,51 +35,50 @@ ATTR_FAULTS = {
         "write 40000000, which is 64, as bytes 4 to 7",
     ),
     "ECLASS": ("its type, bytes 0 to 3, is not 0, 1 or 4", "write 0 or 4 for a declared kind, 1 for a software kind"),
-    "EFLAGBITS": ("a flag bit is set that no event here has", "set only those that docs/REPORT.md names below EFLAGBITS"),
+    "EFLAGBITS": (
+        "a flag bit is set that no event here has", "set only those that docs/REPORT.md names below EFLAGBITS",
+    ),
     "EFIELD": ("bp_type or config1 is not 0", "write 0 for both, bytes 52 to 63"),
 }
 
 
 class Case:
-    """A refused text: its lines, the faulty one, what stands before it, and the version."""
+    """A refused text: its lines, the faulty one, what stands before it, and the version. Where the fault is behind the
+    last line, the faulty one is an empty line with the place 0."""
 
-    def __init__(self, program, text, place):
+    def __init__(self, program: Program, text: str, place: int) -> None:
         self.program, self.text = program, text
         self.lines = lines_of(text)
         self.before = self.lines[: max(place - 1, 0)]
-        self.line = self.lines[place - 1] if 0 < place <= len(self.lines) else None
-        self.version = "2" if self.lines and self.lines[0].text == "perf 2" else "1"
-        self.words = self.line.text.split(" ") if self.line else []
-        self.form = self.best_form()
-
-    def best_form(self):
-        """The form that the line could have had; None where its first word is of no line."""
-        found = forms_of(self.words[0], self.version) if self.words else []
+        self.line = self.lines[place - 1] if 0 < place <= len(self.lines) else Line(0, "", ())
+        self.version = "2" if text.startswith("perf 2\n") else "1"
+        self.words = self.line.text.split(" ")
+        # the form that the line could have had; None where its first word is of no line
+        forms = forms_of(self.words[0], self.version)
         is_of_bytes = any(word.startswith("attr=") for word in self.words)
-        return (found[-1] if is_of_bytes else found[0]) if found else None
+        self.form: Form | None = (forms[-1] if is_of_bytes else forms[0]) if forms else None
 
     @property
-    def parts(self):
+    def parts(self) -> list[tuple[int, Part, str]]:
         return parted(self.words, self.form)[0] if self.form else []
 
-    def script(self):
+    def script(self) -> Script:
         """What stands before the faulty line, without its order."""
         return Script("".join(line.text + "\n" for line in self.before if line.head != "order"))
 
-    def numbers(self, head):
-        return [int(line.words[0]) for line in self.before if line.head == head]
 
 
-def of_end(case):
-    if case.line is not None and any(line.head == "end" for line in case.before):
-        ended = next(line.place for line in case.before if line.head == "end")
-        return Wrong(1, f"the line stands behind `end`, which is line {ended}", "take it away, or move `end` behind it")
-    if not case.text.endswith("\n") and case.line is not None and case.line.place == len(case.lines):
+def of_end(case: Case) -> Wrong | None:
+    ended = [line.place for line in case.before if line.head == "end"]
+    if case.line.place and ended:
+        reason = f"the line stands behind `end`, which is line {ended[0]}"
+        return Wrong(1, reason, "take it away, or move `end` behind it")
+    if not case.text.endswith("\n") and 0 < case.line.place == len(case.lines):
         return Wrong(len(case.words), "the line is not ended by a line feed", "end the text with one")
     return Wrong(0, "the text ends without `end`", "write a line `end` behind its last line")
 
 
-def of_ascii(case):
+def of_ascii(case: Case) -> Wrong | None:
     for place, word in enumerate(case.words, 1):
         for at, letter in enumerate(word, 1):
             if not 32 <= ord(letter) <= 126:
@@ -86,13 +88,13 @@ def of_ascii(case):
     return None
 
 
-def of_form(case):
-    head = case.words[0] if case.words else ""
+def of_form(case: Case) -> Wrong | None:
+    head = case.words[0]
+    if case.words == [""]:
+        return Wrong(1, "the line is empty", "take it away")
     if "" in case.words:
-        place = case.words.index("") + 1
-        if case.words == [""]:
-            return Wrong(place, "the line is empty", "take it away")
-        return Wrong(place, "a space too many stands in the line", "write one space between two words, and no other")
+        mending = "write one space between two words, and no other"
+        return Wrong(case.words.index("") + 1, "a space too many stands in the line", mending)
     if not case.form:
         if head in HEADS:
             reason = f"`{head}` is not a line of `perf {case.version}`, which is line 1"
@@ -108,7 +110,7 @@ def of_form(case):
     return wrong
 
 
-def of_place(case):
+def of_place(case: Case) -> Wrong | None:
     head, section, before = case.words[0], section_of(case.words[0]), case.before
     if len(before) < 2:
         wanted = forms_of(SECTIONS[len(before)], case.version)[0].text
@@ -129,7 +131,7 @@ def of_place(case):
     return Wrong(1, f"`{head}` stands under no `{SECTIONS[section]}` line", f"write `{SECTIONS[section]} N` before it")
 
 
-def of_range(case):
+def of_range(case: Case) -> Wrong | None:
     script = case.script()
     for place, part, value in case.parts:
         low, high = part.value.low, part.value.high
@@ -151,7 +153,7 @@ def of_range(case):
     return RANGES[case.line.head](case, script) if case.line.head in RANGES else None
 
 
-def act_out_of_range(place, act):
+def act_out_of_range(place: int, act: str) -> Wrong | None:
     """What is out of range in an act."""
     number, _, at = act[1:].partition("=")
     what, most = {"p": ("a processor", 7), "t": ("a tool", 3), "s": ("a ring", 15)}[act[0]]
@@ -162,7 +164,7 @@ def act_out_of_range(place, act):
     return None
 
 
-def pmu_out_of_range(case, script):
+def pmu_out_of_range(case: Case, script: Script) -> Wrong | None:
     number, mask = int(case.words[1]), int(case.line.given()["cpus"], 16)
     if number != len(script.pmus):
         return Wrong(2, f"`{number}` is not the next number", f"PMUs are numbered from 0: write {len(script.pmus)}")
@@ -174,11 +176,11 @@ def pmu_out_of_range(case, script):
     return None
 
 
-def not_a_mask(place, word, what, count):
+def not_a_mask(place: int, word: str, what: str, count: int) -> Wrong:
     return Wrong(place, f"`{word}` is not a mask of {what} 0 to {count - 1}", f"write 1 to {(1 << count) - 1:x}")
 
 
-def kind_out_of_range(case, script):
+def kind_out_of_range(case: Case, script: Script) -> Wrong | None:
     given = case.line.given()
     pmu, mask = int(given.get("pmu", "0")), int(given["mask"], 16)
     if pmu not in script.pmus:
@@ -187,11 +189,12 @@ def kind_out_of_range(case, script):
     return not_a_mask(len(case.words), f"mask={mask:x}", "counters", counters) if not mask or mask >> counters else None
 
 
-def not_rising(case, script):
-    number, before = int(case.words[1]), case.numbers(case.line.head)
-    if before and number <= before[-1]:
-        mending = f"numbers of `{case.line.head}` lines rise: write {before[-1] + 1} or more, or move the line"
-        return Wrong(2, f"`{number}` stands behind {before[-1]}", mending)
+def not_rising(case: Case, script: Script) -> Wrong | None:
+    head, number = case.line.head, int(case.words[1])
+    last = max((int(line.words[0]) for line in case.before if line.head == head), default=-1)
+    if number <= last:
+        mending = f"numbers of `{head}` lines rise: write {last + 1} or more, or move the line"
+        return Wrong(2, f"`{number}` stands behind {last}", mending)
     size = int(case.line.given().get("bytes", "64"))
     near_sizes = f"write {1 << size.bit_length() - 1} or {1 << size.bit_length()}"
     return Wrong(3, f"`bytes={size}` is not a power of two", near_sizes) if size & size - 1 else None
@@ -201,14 +204,16 @@ RANGES = {"pmu": pmu_out_of_range, "kind": kind_out_of_range}
 RANGES |= dict.fromkeys(("task", "ring", "processor", "tool", "reader"), not_rising)
 
 
-def of_attr(case):
+def of_attr(case: Case) -> Wrong | None:
     place = next(number for number, word in enumerate(case.words, 1) if word.startswith("attr="))
-    said = case.program.outputs([("attr " + case.words[place - 1][5:], "")])[0].split()
-    reason, mending = ATTR_FAULTS.get(said[1], (None, None)) if len(said) > 1 else (None, None)
-    return Wrong(place, f"the bytes are no attribute, {said[1]}: {reason}", mending) if reason else None
+    _, *said = case.program.outputs([("attr " + case.words[place - 1][5:], "")])[0].split()
+    if not said or said[0] not in ATTR_FAULTS:
+        return None
+    reason, mending = ATTR_FAULTS[said[0]]
+    return Wrong(place, f"the bytes are no attribute, {said[0]}: {reason}", mending)
 
 
-def of_name(case):
+def of_name(case: Case) -> Wrong | None:
     script, head = case.script(), case.line.head
     if head == "kind":
         name = case.words[1]
@@ -222,12 +227,12 @@ def of_name(case):
     return {"open": open_of_no_kind, "work": work_of_no_kind, "order": act_of_nobody}[head](case, script)
 
 
-def undeclared(place, what, head, word, known):
+def undeclared(place: int, what: str, head: str, word: str, known: Iterable[str]) -> Wrong:
     mending = f"declare it by a `{head}` line, or name another; {near(word, known)}"
     return Wrong(place, f"{what} is not declared", mending)
 
 
-def open_of_no_kind(case, script):
+def open_of_no_kind(case: Case, script: Script) -> Wrong | None:
     name = case.line.given().get("kind")
     if name:
         return undeclared(3, f"the kind `{name}`", "kind", name, [*script.kinds, *SOFTWARE_KINDS])
@@ -240,7 +245,7 @@ def open_of_no_kind(case, script):
         return Wrong(3, reason, known)
 
 
-def work_of_no_kind(case, script):
+def work_of_no_kind(case: Case, script: Script) -> Wrong | None:
     seen = set()
     for place, part, _ in case.parts:
         key = case.words[place - 1].split("=")[0]
@@ -257,7 +262,7 @@ def work_of_no_kind(case, script):
     return None
 
 
-def act_of_nobody(case, script):
+def act_of_nobody(case: Case, script: Script) -> Wrong | None:
     for place, _, act in case.parts:
         ring = act[1:].partition("=")[0]
         if act[0] == "s" and int(ring) not in script.rings:
@@ -269,22 +274,22 @@ def act_of_nobody(case, script):
     return None
 
 
-def actor_of(act):
+def actor_of(act: str) -> str:
     return f"{'processor' if act[0] == 'p' else 'tool'} {act[1:]}"
 
 
-def counted(count, one, more=None):
+def counted(count: int, one: str, more: str = "") -> str:
     return f"{count} {one if count == 1 else more or one + 's'}"
 
 
-def of_limit(case):
+def of_limit(case: Case) -> Wrong | None:
     if case.line.head == "kind":
         return Wrong(1, f"it is kind number {MOST_KINDS + 1}", f"declare at most {MOST_KINDS} kinds")
     reason = f"it is line number {MOST_LINES + 1} under processors and tools"
     return Wrong(1, reason, f"write at most {MOST_LINES} such lines")
 
 
-def of_weight(case):
+def of_weight(case: Case) -> Wrong | None:
     script = case.script()
     opens = [Attribute(line, script.kinds).period for line in script.all_lines() if line.head == "open"]
     periods = [*opens, *(int(line.words[1]) for line in script.all_lines() if line.head == "period")]
@@ -299,7 +304,7 @@ def of_weight(case):
     return Wrong(1, f"it weighs {weight}: {by}, the least period that a line gives", mending)
 
 
-def of_order(case):
+def of_order(case: Case) -> Wrong | None:
     script, acts = case.script(), [act for line in case.before if line.head == "order" for act in line.words]
     wrong = []
     for actor, lines in script.lines.items():
@@ -318,7 +323,7 @@ REASONS = {
 }
 
 
-def marked(line, place):
+def marked(line: Line, place: int) -> list[str]:
     """A line with a mark below a word, of which no more than some 100 characters are shown."""
     words = line.text.split(" ")
     at, width = sum(len(word) + 1 for word in words[: place - 1]), len((words + [""])[place - 1]) or 1
@@ -327,42 +332,35 @@ def marked(line, place):
     return [f"    {shown}", f"    {' ' * (at - first)}{'^' * min(width, SHOWN // 2)}"]
 
 
-def of_line(case, reason):
+def of_line(case: Case, reason: str) -> list[str]:
     """What there is to say of a refused line."""
     wrong = REASONS[reason](case) if reason in REASONS else None
     if wrong is None:
-        place = case.line.place if case.line else len(case.lines)
-        return [f"line {place}: {UNKNOWN.format(reason)}", *(marked(case.line, 1) if case.line else [])]
-    if case.line is None or wrong.place == 0:
+        said = f"line {case.line.place or len(case.lines)}: {UNKNOWN.format(reason)}"
+        return [said, *(marked(case.line, 1) if case.line.place else [])]
+    if not case.line.place or wrong.place == 0:
         return [f"behind line {len(case.lines)}: {wrong.reason}; {wrong.mending}"]
     said = f"line {case.line.place}, word {wrong.place}: {wrong.reason}; {wrong.mending}"
-    return [said, *marked(case.line, wrong.place)] + ([f"the form is: {case.form.text}"] if case.form and reason in ("FORM", "RANGE", "NAME") else [])
+    form = [f"the form is: {case.form.text}"] if case.form and reason in ("FORM", "RANGE", "NAME") else []
+    return [said, *marked(case.line, wrong.place), *form]
 
 
-def of_look(program, script, number, ring, last, given):
+def of_look(program: Program, script: Script, number: int, ring: int, last: int, given: int) -> list[str]:
     """What there is to say of a look that can't have been made: the places that the ring's records have there."""
-    draft, acts, done = Draft.of(script), list(script.acts())[:number], {}
-    for act in acts:
-        if isinstance(act, Line):
-            done[act.actor] = act.number + 1
-    draft.lines = {actor: lines[: done[actor]] for actor, lines in draft.lines.items() if actor in done}
-    draft.order = draft.order[:number]
-    ends = [record.end for record in program.report(draft.text()).rings[ring].records]
-    lawful = [place for place in [0, *ends] if place >= last]
-    texts = [str(place) for place in lawful]
+    draft, order = Draft.of(script), script.order[:number]
+    lines = {actor: own[: order.count(actor)] for actor, own in draft.lines.items() if actor in order}
+    done = Draft(draft.head, lines, draft.readers, order)
+    ends = [record.end for record in program.report(done.text()).rings[ring].records]
+    texts = [str(place) for place in [0, *ends] if place >= last]
     shown = ", ".join(texts if len(texts) <= 9 else [*texts[:4], "..", *texts[-4:]])
     why = "stands before the last look" if given < last else "is not where a record ends that was written by then"
-    place, line = 0, None
-    for line in (line for line in lines_of(script.text) if line.head == "order"):
-        if place + len(line.words) > number:
-            break
-        place += len(line.words)
-    word = number - place + 2
+    orders = [line for line in lines_of(script.text) if line.head == "order"]
+    line, word = [(line, word) for line in orders for word in range(2, len(line.words) + 2)][number]
     said = f"line {line.place}, word {word}: act {number}, `s{ring}={given}`, {why}; write a place of {shown}"
     return [said, *marked(line, word)]
 
 
-def explained(program, name, text):
+def explained(program: Program, name: str, text: str) -> tuple[list[str], int]:
     """The lines that say what becomes of a text, and the status."""
     outcome = program.call("replay", text)
     if outcome.status == 0:
@@ -378,12 +376,12 @@ def explained(program, name, text):
     raise Fault(f"{program.path} ended with status {outcome.status}: {outcome.note or 'no note'}")
 
 
-def main(words=None):
+def main(words: Sequence[str] | None = None) -> int:
     parser = command.Parser("explain.py", __doc__)
     parser.add_argument("script", metavar="SCRIPT", nargs="?", default="-")
     options = parser.parse_args(words)
 
-    def explain():
+    def explain() -> int:
         text = command.text_of(options.script)
         said, status = explained(program_at(options.program), options.script, text)
         print("\n".join(said))

@@ -20,10 +20,12 @@ warning.
 
 import struct
 import sys
+from argparse import Namespace
+from collections.abc import Iterable, Mapping, Sequence
 
-from perfscript import Fault, Report, Script, command, program_at
-from perfscript.attributes import bytes_of
-from perfscript.follow import Follow
+from perfscript import Fault, Report, Ring, Script, command, program_at
+from perfscript.attributes import Attribute, bytes_of
+from perfscript.follow import Event, Follow
 from perfscript.names import ID, IDENTIFIER, SOFTWARE, SOFTWARE_KINDS, TRAILER_FIELDS
 
 ATTR_SIZE = 128
@@ -37,7 +39,7 @@ HARDWARE_KINDS = (
 COMM = 3
 
 
-def kind_number(name, kinds):
+def kind_number(name: str, kinds: Sequence[str]) -> tuple[int, int]:
     """Type and config of a kind: perf's own where perf has one of that name, and else its number as a raw event."""
     if name in SOFTWARE_KINDS:
         return SOFTWARE, SOFTWARE_KINDS[name]
@@ -46,14 +48,14 @@ def kind_number(name, kinds):
     return RAW, kinds.index(name)
 
 
-def attr(event, kinds):
+def attr(event: Event, kinds: Sequence[str]) -> bytes:
     """The bytes of an event's perf_event_attr."""
     asked = event.attribute
-    numbers = asked.period, asked.sample, asked.format, asked.flags
-    return bytes_of(*kind_number(asked.kind, kinds), *numbers, size=ATTR_SIZE)
+    numbers = asked.period, asked.sample, asked.format, asked.flags, ATTR_SIZE
+    return bytes_of(*kind_number(asked.kind, kinds), *numbers)
 
 
-def comm(task, trailer):
+def comm(task: int, trailer: int) -> bytes:
     """The COMM record of a task, whose process and thread are its number and one; with a trailer of zeros, as perf's
     own have."""
     name = f"task-{task}".encode().ljust(16, b"\0")
@@ -61,7 +63,7 @@ def comm(task, trailer):
     return struct.pack("<IHHII", COMM, 0, size, task + 1, task + 1) + name + bytes(8 * trailer)
 
 
-def data_of(tasks, events, rings):
+def data_of(tasks: Iterable[int], events: Sequence[Event], rings: Mapping[int, Ring]) -> bytes:
     """The COMM records of the tasks, and the records of all rings."""
     trailer = len(events[0].attribute.trailer_names())
     comms = b"".join(comm(task, trailer) for task in sorted(tasks))
@@ -69,14 +71,14 @@ def data_of(tasks, events, rings):
     return comms + struct.pack(f"<{len(words)}Q", *words)
 
 
-def text(words):
+def text(words: str) -> bytes:
     """A string of a header: its length with what fills it up, and its bytes."""
     padded = words.encode() + b"\0" * (64 - len(words) % 64)
     return struct.pack("<I", len(padded)) + padded
 
 
-def file_of(events, kinds, data):
-    """The file: header, ids, attributes each with the place of its id, data, the table of the one feature, the names."""
+def file_of(events: Sequence[Event], kinds: Sequence[str], data: bytes) -> bytes:
+    """The file: header, ids, attributes with the places of their ids, data, the table of the one feature, the names."""
     made = [attr(event, kinds) for event in events]
     attrs_at = HEADER_SIZE + 8 * len(events)
     attrs_size = len(events) * (ATTR_SIZE + 16)
@@ -87,13 +89,12 @@ def file_of(events, kinds, data):
     for one, event in zip(made, events):
         names += one + struct.pack("<I", 1) + text(event.attribute.kind) + struct.pack("<Q", event.id)
     table = struct.pack("<QQ", data_at + len(data) + 16, len(names))
-    header = b"PERFILE2" + struct.pack("<QQ", HEADER_SIZE, ATTR_SIZE + 16)
-    header += struct.pack("<QQQQQQ", attrs_at, attrs_size, data_at, len(data), 0, 0)
-    header += struct.pack("<QQQQ", 1 << EVENT_DESC, 0, 0, 0)
+    sections = attrs_at, attrs_size, data_at, len(data), 0, 0
+    header = struct.pack("<8s12Q", b"PERFILE2", HEADER_SIZE, ATTR_SIZE + 16, *sections, 1 << EVENT_DESC, 0, 0, 0)
     return header + ids + attrs + data + table + names
 
 
-def places_of_id(attribute):
+def places_of_id(attribute: Attribute) -> tuple[int, int] | None:
     """Where the event's id stands in its samples, from their front, and in trailers, from their back; None where it
     does not."""
     if not attribute.sample & (ID | IDENTIFIER):
@@ -103,7 +104,7 @@ def places_of_id(attribute):
     return attribute.field_names().index(name), len(trailer) - trailer.index(name)
 
 
-def warning(events):
+def warning(events: Sequence[Event]) -> str | None:
     """What perf does not read, if anything."""
     places = {places_of_id(event.attribute) for event in events}
     if len(events) > 1 and (len(places) > 1 or None in places):
@@ -113,13 +114,11 @@ def warning(events):
     return None
 
 
-def write(options):
+def write(options: Namespace) -> int:
     """Writes the file."""
     text = command.text_of(options.script)
-    if options.report is None:
-        report = program_at(options.program).report(text)
-    else:
-        report = Report(command.text_of(options.report))
+    given = options.report
+    report = Report(command.text_of(given)) if given is not None else program_at(options.program).report(text)
     script = Script(text)
     report.check(script)
     follow = Follow(script, report).run()
@@ -133,7 +132,7 @@ def write(options):
     return 0
 
 
-def main(words=None):
+def main(words: Sequence[str] | None = None) -> int:
     parser = command.Parser("perf_data.py", __doc__)
     parser.add_argument("script", metavar="SCRIPT")
     parser.add_argument("report", metavar="REPORT", nargs="?")

@@ -219,7 +219,9 @@ class Picture:
             cause = self.labels.cause(one.refused[event])
             texts = [cause]
             if not self.has_room(one, cause):
-                self.causes.setdefault((title, cause), []).append(one)
+                # events of one name may wait for the same in one stretch, which the list names once
+                where = self.causes.setdefault((title, cause), [])
+                where += [one] if one not in where else []
                 mark = f"[{list(self.causes).index((title, cause)) + 1}]"
                 texts = [f"{self.labels.brief(one.refused[event])} {mark}", mark]
             bars.append(self.bar(one, GREY, texts, f"{title}: {cause}, {one.when}", INK))
@@ -279,7 +281,7 @@ def picture_of(program: Program, script: Script, labels: Labels | None = None) -
 
 
 def main(words: Sequence[str] | None = None) -> int:
-    parser = command.Parser("timeline.py", __doc__ or "")
+    parser = command.Parser("timeline.py", __doc__)
     parser.add_argument("built", metavar="PROGRAM", nargs="?")
     parser.add_argument("script", metavar="SCRIPT")
     options = parser.parse_args(words)

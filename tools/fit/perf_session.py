@@ -22,7 +22,7 @@ from fit.machines import Machine
 from fit.meanings import Meanings
 from fit.plan import Reason, refused_part
 from fit.stand_in import others_of
-from perfscript import Program, Report
+from perfscript import Draft, Program, Report
 from perfscript.limits import MOST_LINES, MOST_MEMBERS
 from perfscript.names import ENABLED, FORMAT_GROUP, FORMAT_ID, FORMAT_LOST, RUNNING
 
@@ -246,8 +246,15 @@ class CoreSession(NotedSession):
 class Agreeing:
     """A back end that agrees to all."""
 
-    def report(self, text: str) -> Report:
+    is_asked_ahead = False
+
+    def report(self, draft: Draft) -> Report:
         return Report("order\nend\n")
+
+    report_apart = report
+
+    def go_back(self, acts: int) -> None:
+        pass
 
     def close(self) -> None:
         pass

@@ -25,8 +25,8 @@ from fit.codes import Counters, Row, first_matching  # noqa: E402
 from fit.events import cache_event  # noqa: E402
 from fit.machines import Machine  # noqa: E402
 from fit.stand_in import spans  # noqa: E402
-from maintain import kernel_tables as kernel  # noqa: E402
-from maintain.kernel_tables import Missing, Tree  # noqa: E402
+import kernel_tables as kernel  # noqa: E402
+from kernel_tables import Missing, Tree  # noqa: E402
 from perfscript import Fault, command  # noqa: E402
 
 # models of the kernel's switch that no file has, by name

@@ -11,10 +11,12 @@ Usage: cited_definitions.py    from the top of the repository. Ends with 1 where
 import os
 import re
 import sys
+from collections.abc import Collection, Iterator
+from itertools import takewhile
+from pathlib import Path
 
-sys.path.insert(0, os.path.join(os.path.dirname(os.path.abspath(__file__)), ".."))
-
-from perfscript import command  # noqa: E402  the package is found only now
+import packages  # noqa: F401
+from perfscript import command
 
 NAME = r"[A-Za-z_][A-Za-z_0-9]*"
 IMPORT = re.compile(rf"ghost use Rattle\.({NAME})\.specs\.([A-Za-z_0-9.]+?)(?:\.\{{([^}}]*)\}}| as ({NAME}));")
@@ -23,37 +25,31 @@ BLOCK = re.compile(rf"(?:pub )?(?:unsafe )?(?:impl|trait)(?:<.*?>)? (?:{NAME}(?:
 CALL = re.compile(rf"(\s*)(pub )?(?:const )?fn ({NAME})")
 
 
-def read(path):
-    with open(path, encoding="utf-8") as file:
-        return file.read()
-
-
-def handed_out(crate):
+def handed_out(crate: str) -> set[str] | None:
     """The names that a crate's lib.rt hands out: None for a program, which hands out nothing."""
-    path = f"crates/{crate}/src/lib.rt"
-    if not os.path.exists(path):
+    path = Path(f"crates/{crate}/src/lib.rt")
+    if not path.exists():
         return None
-    text = read(path)
+    text = path.read_text("utf-8")
     lists = re.findall(rf"pub use [a-z_0-9:]+::(?:\{{([^}}]*)\}}|({NAME}))", text)
     names = {name.strip().split(" as ")[0] for some, one in lists for name in (some or one).split(",") if name.strip()}
     return names | set(re.findall(rf"pub (?:struct|enum|trait|const fn|fn) ({NAME})", text))
 
 
-def files_by_name(text):
+def files_by_name(text: str) -> dict[str, str]:
     """The file of definitions of each name that a source file imports, an alias's too."""
-    found = {}
+    found: dict[str, str] = {}
     for crate, module, names, alias in IMPORT.findall(text):
         if crate == "std" or module.startswith("declared"):
             continue
         file = f"crates/{crate}/specs/{module.replace('.', '/')}.antt"
         if alias:
             found[alias] = file
-        for name in filter(None, (name.strip() for name in names.split(","))):
-            found[name.split(" as ")[-1].strip("◌")] = file
+        found |= {name.split(" as ")[-1].strip("◌ "): file for name in names.split(",") if name.strip()}
     return found
 
 
-def blocks(text, names):
+def blocks(text: str, names: Collection[str]) -> Iterator[tuple[str, bool]]:
     """The lines of a source file, each with whether it is of something that the crate hands out."""
     block, is_public = None, False
     for line in text.splitlines():
@@ -67,7 +63,7 @@ def blocks(text, names):
         yield line, is_public
 
 
-def public_clauses(text, names):
+def public_clauses(text: str, names: Collection[str]) -> Iterator[str]:
     """The clauses of a source file that a caller of the crate sees. A clause ends where its brackets do."""
     clause = ""
     for line, is_public in blocks(text, names):
@@ -78,51 +74,35 @@ def public_clauses(text, names):
                 clause = ""
 
 
-def sources(crate):
-    for folder, _, files in os.walk(f"crates/{crate}/src"):
-        yield from (os.path.join(folder, file) for file in sorted(files) if file.endswith(".rt"))
-
-
-def cited(crate, names):
-    """The files of definitions that a crate's public clauses cite, each with a clause."""
-    found = {}
-    for path in sources(crate):
-        text = read(path)
+def cited(crate: str, names: Collection[str]) -> set[str]:
+    """The files of definitions that a crate's public clauses cite."""
+    found = set()
+    for path in Path(f"crates/{crate}/src").rglob("*.rt"):
+        text = path.read_text("utf-8")
         files = files_by_name(text)
         for clause in public_clauses(text, names):
-            for word in re.findall(NAME, clause):
-                if word in files:
-                    found.setdefault(files[word], f"{path}: {clause.strip()}")
+            found |= {files[word] for word in re.findall(NAME, clause) if word in files}
     return found
 
 
-def head(text):
-    """The first sentence of the comment at a file's head, after the line that trusted.py writes; empty where none is."""
-    lines = text.splitlines()
-    if lines and lines[0] in ("-- believed", "-- inner"):
-        lines = lines[1:]
-    said = []
-    for line in lines:
-        if not line.startswith("-- "):
-            break
-        said.append(line.removeprefix("-- "))
-    return re.split(r"(?<=\.) (?=[A-Z])", " ".join(said))[0]
+def head(text: str) -> str:
+    """The first sentence of the comment at a file's head, after the line that trusted.py writes; empty where there is
+    none."""
+    lines = takewhile(lambda line: line.startswith("-- "), text.splitlines())
+    said = " ".join(line.removeprefix("-- ") for line in lines if line not in ("-- believed", "-- inner"))
+    return re.split(r"(?<=\.) (?=[A-Z])", said)[0]
 
 
-def all_cited():
+def all_cited() -> list[str]:
     """The files of definitions that public clauses of any crate cite."""
-    found = set()
-    for crate in os.listdir("crates"):
-        names = handed_out(crate)
-        if names is not None:
-            found |= set(cited(crate, names))
-    return sorted(found)
+    handed = {crate: handed_out(crate) for crate in os.listdir("crates")}
+    return sorted({file for crate, names in handed.items() if names is not None for file in cited(crate, names)})
 
 
-def main():
+def main() -> int:
     silent = []
     for path in all_cited():
-        said = head(read(path))
+        said = head(Path(path).read_text("utf-8"))
         print(f"{path}: {said}")
         silent += [] if said else [path]
     for path in silent:

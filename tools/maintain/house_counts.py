@@ -12,11 +12,10 @@ import re
 import sys
 from collections.abc import Iterator
 
-sys.path.insert(0, os.path.join(os.path.dirname(os.path.abspath(__file__)), ".."))
-
-from maintain.repeated_lemmas import MADE, repeated  # noqa: E402  the package is found only now
-from maintain.trusted import believed  # noqa: E402
-from perfscript import command  # noqa: E402
+import packages  # noqa: F401
+from perfscript import command
+from repeated_lemmas import MADE, repeated
+from trusted import believed
 
 CLAUSE = re.compile(r"(?m)^\s+(?:requires|ensures)\s")
 FUNCTION = re.compile(r"(?ms)^(\s*)(?:pub(?:\(crate\))? )?(?:const )?fn (\w+)\b(.*?)^\1\{\n(.*?)^\1\}")

@@ -16,6 +16,7 @@ import tempfile
 
 import live_benchmark
 import measuring
+import packages  # noqa: F401
 from double.build import NotHere, compiled
 from perfscript import Draft, Fault, program_at
 from perfscript.command import Parser, ended

@@ -16,9 +16,8 @@ import sys
 import textwrap
 from dataclasses import dataclass, field
 
-sys.path.insert(0, os.path.join(os.path.dirname(os.path.abspath(__file__)), ".."))
-
-from perfscript import Fault, command  # noqa: E402  the package is found only now
+import packages  # noqa: F401
+from perfscript import Fault, command
 
 LIST, PAGE = "crates.txt", "docs/maintain/ARCHITECTURE.md"
 MARKS = ("<!-- layers.py writes from here -->", "<!-- to here -->")

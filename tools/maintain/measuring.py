@@ -2,14 +2,13 @@
 
 import os
 import subprocess
-import sys
 import tempfile
 import time
+from collections.abc import Sequence
 from typing import NamedTuple
 
-sys.path.insert(0, os.path.join(os.path.dirname(os.path.abspath(__file__)), ".."))
-
-from perfscript import Fault  # noqa: E402  the package is found only now
+import packages  # noqa: F401
+from perfscript import Fault
 
 
 class Cost(NamedTuple):
@@ -21,7 +20,7 @@ class Cost(NamedTuple):
     peak: int
 
 
-def cost(program, words, text="", status=0, note=""):
+def cost(program: str, words: Sequence[str], text: str = "", status: int = 0, note: str = "") -> Cost:
     """What a run costs, which has to end with this status and this note."""
     with tempfile.TemporaryFile() as given, tempfile.TemporaryFile() as noted:
         given.write(text.encode())
@@ -37,3 +36,10 @@ def cost(program, words, text="", status=0, note=""):
         ended, wanted = (f"status {one}, {text or 'no note'}" for one, text in ((run.returncode, said), (status, note)))
         raise Fault(f"{program} {' '.join(words)} ended with {ended}; wanted: {wanted}")
     return Cost(seconds, usage.ru_utime + usage.ru_stime, usage.ru_minflt + usage.ru_majflt, usage.ru_maxrss * 1024)
+
+
+def best(count: int, program: str, words: Sequence[str], text: str = "", status: int = 0,
+         note: str = "") -> tuple[float, float]:
+    """The fewest seconds of some runs, and the greatest peak of memory in MiB."""
+    runs = [cost(program, words, text, status, note) for _ in range(count)]
+    return min(run.seconds for run in runs), max(run.peak for run in runs) / 2**20

@@ -14,30 +14,43 @@ Run it at the top of the repository, once `rt check` passes in the crate, and ch
 prints a line for each edit and each goal. Behind it: `rt fmt` and `rt check` in the crate.
 """
 
-import collections
 import glob
 import os
 import re
 import subprocess
 import sys
 import tempfile
+from collections.abc import Sequence
+from pathlib import Path
+from typing import NamedTuple, TypeAlias
 
-sys.path.insert(0, os.path.join(os.path.dirname(os.path.abspath(__file__)), ".."))
-
-from perfscript import Fault, command  # noqa: E402  the package is found only now
+import packages  # noqa: F401
+from perfscript import Fault, command
 
 # A check that runs twice takes longer than this for the second time, in seconds.
 SECOND_RUN = 0.6
 BLOCK = re.compile(
-    r"^help: (?:write|add these lines to) \./(proofs/\S+/Answers\.antt)(?: with these lines|,).*\n((?:    .*\n|\s*\n)+)", re.M
+    r"^help: (?:write|add these lines to) \./(proofs/\S+/Answers\.antt)(?: with these lines|,).*\n"
+    r"((?:    .*\n|\s*\n)+)",
+    re.M,
 )
 GOAL = re.compile(r"^    pub (\S+) : (goal\.\S+.*)\n    \1 (.*?)\s*= \?$", re.M)
 USE = re.compile(r"^    (use Rattle\.\S+\.Goals as goal)$", re.M)
 REFUSED = re.compile(r"^(?:note: )?(?:\./)?(proofs/\S+/Answers\.antt):\d+:\d+: error: `([^`]+)`", re.M)
 
-# A goal: its name, its type, what its answer is given, and the line that imports its module.
-Goal = collections.namedtuple("Goal", "name type given use")
 
+
+class Goal(NamedTuple):
+    """A goal: its name, its type, what its answer is given, and the line that imports its module."""
+
+    name: str
+    type: str
+    given: str
+    use: str
+
+
+# the goals of files of answers
+Goals: TypeAlias = dict[str, list[Goal]]
 # What the check tries by itself, in its order, with the names that it takes and their import.
 TACTICS = [
     ("search rules", ["rules"], "use Rattle.std.proofs.Common.{rules}"),
@@ -49,24 +62,24 @@ TACTICS = [
 ]
 
 
-def offered(said):
+def offered(said: str) -> list[tuple[str, list[Goal]]]:
     """The goals that a check offers to answer: pairs of a file and a list of goals, in the order printed."""
     found = []
     for path, body in BLOCK.findall(said):
         use = USE.search(body)
         if use:
-            found.append((path, [Goal(*goal, use[1]) for goal in GOAL.findall(body)]))
+            found.append((path, [Goal(name, kind, given, use[1]) for name, kind, given in GOAL.findall(body)]))
     return found
 
 
-def refused(said):
+def refused(said: str) -> set[tuple[str, str]]:
     """The answers that a check refuses: pairs of a file and a name."""
     return set(REFUSED.findall(said))
 
 
-def with_answers(text, goals):
+def with_answers(text: str | None, goals: Sequence[tuple[Goal, int]]) -> str:
     """An answers file, or None where there is none, with goals added: pairs of a goal and its place in TACTICS."""
-    lines = [] if text is None else text.rstrip("\n").split("\n")
+    lines = (text or "").strip("\n").split("\n")
     uses = [line for line in lines if line.startswith("use ")]
     for goal, tactic in goals:
         words, use = TACTICS[tactic][1:]
@@ -74,24 +87,17 @@ def with_answers(text, goals):
             uses.insert(0, use)
         if goal.use not in uses:
             uses.append(goal.use)
-    rest = [line for line in lines if not line.startswith("use ")]
-    while rest and not rest[0]:
-        rest.pop(0)
-    for goal, tactic in goals:
-        answer = f"{goal.name} {goal.given} = {TACTICS[tactic][0]}"
-        rest += [""] * bool(rest) + [f"pub {goal.name} : {goal.type}", answer]
-    return "\n".join([*uses, "", *rest]) + "\n"
+    rest = "\n".join(line for line in lines if not line.startswith("use ")).strip("\n")
+    answers = [f"pub {goal.name} : {goal.type}\n{goal.name} {goal.given} = {TACTICS[place][0]}" for goal, place in goals]
+    return "\n\n".join(["\n".join(uses), *filter(None, [rest]), *answers]) + "\n"
 
 
-def read(path):
+def read(path: str) -> str | None:
     """A file's text, or None."""
-    if not os.path.exists(path):
-        return None
-    with open(path, encoding="utf-8") as file:
-        return file.read()
+    return Path(path).read_text("utf-8") if os.path.exists(path) else None
 
 
-def write(path, text):
+def write(path: str, text: str | None) -> None:
     """Writes a file, or removes it and the folders that are left empty."""
     if text is None:
         os.remove(path)
@@ -99,15 +105,14 @@ def write(path, text):
             os.removedirs(os.path.dirname(path))
         return
     os.makedirs(os.path.dirname(path), exist_ok=True)
-    with open(path, "w", encoding="utf-8") as file:
-        file.write(text)
+    Path(path).write_text(text, "utf-8")
 
 
-def edited(edit):
+def edited(edit: str) -> tuple[str, str, str] | None:
     """The file that an edit changes, its text, and its text with the edit; None where the edit can't be applied."""
-    parts = re.findall(r"^(file|old|new): ?(.*)$", read(edit), re.M)
-    path, text = parts[0][1], read(parts[0][1])
-    changed = text
+    parts = re.findall(r"^(file|old|new): ?(.*)$", read(edit) or "", re.M)
+    path = parts[0][1]
+    changed = text = read(path) or ""
     for (_, old), (_, new) in zip(parts[1::2], parts[2::2]):
         if text.count(old) != 1:
             return None
@@ -115,7 +120,7 @@ def edited(edit):
     return path, text, changed
 
 
-def check():
+def check() -> tuple[str, float]:
     """What a check of the crate says, and how long its second run took."""
     with tempfile.NamedTemporaryFile("r", suffix=".stages") as times:
         words = ["rt", "check", "--stage-times", times.name]
@@ -124,9 +129,9 @@ def check():
     return ran.stdout, float(took[1]) if took else 0.0
 
 
-def lacking(edits):
+def lacking(edits: Sequence[str]) -> Goals:
     """The goals that edits lack, one for each edit at most, by their files."""
-    found = collections.defaultdict(list)
+    found: Goals = {}
     for edit in edits:
         change = edited(edit)
         if not change:
@@ -139,24 +144,24 @@ def lacking(edits):
         finally:
             write(path, text)
         for answers, goals in offered(said) if took > SECOND_RUN else []:
-            if goals and not {goal.name for goal in goals} & {goal.name for goal in found[answers]}:
-                found[answers].append(goals[0])
+            own = found.setdefault(answers, [])
+            if not {goal.name for goal in goals} & {goal.name for goal in own}:
+                own += goals[:1]
         print(f"{os.path.basename(edit)}: second run {took:.1f} s", flush=True)
     return found
 
 
-def settle(found):
+def settle(found: Goals) -> None:
     """Adds what a check of the right body admits, and says what that was."""
     before = {path: read(path) for path in found}
     left = {(path, goal.name): (goal, 0) for path, goals in found.items() for goal in goals}
-    while left:
+    while True:
         for path, text in before.items():
             goals = [it for (of, _), it in left.items() if of == path]
-            if goals:
-                write(path, with_answers(text, goals))
-            elif read(path) != text:
-                write(path, text)
-        bad = [it for it in refused(check()[0]) if it in left]
+            wanted = with_answers(text, goals) if goals else text
+            if read(path) != wanted:
+                write(path, wanted)
+        bad = [it for it in refused(check()[0]) if it in left] if left else []
         if not bad:
             break
         for it in bad:
@@ -165,19 +170,16 @@ def settle(found):
                 left[it] = goal, tactic + 1
             else:
                 print(f"{it[0]}: {it[1]} not added")
-                if not any(of == it[0] for of, _ in left) and read(it[0]) != before[it[0]]:
-                    write(it[0], before[it[0]])
     for (path, name), (_, tactic) in left.items():
         print(f"{path}: {name} = {TACTICS[tactic][0]}")
 
 
-def main(crate, *names):
+def main(crate: str, *names: str) -> None:
     if not os.path.isdir(f"crates/{crate}/must-fail"):
         raise Fault(f"crates/{crate}/must-fail: no such folder; run it at the top, with a crate's name")
     os.chdir(f"crates/{crate}")
     edits = sorted(glob.glob("must-fail/*.edit"))
     settle(lacking([it for it in edits if not names or os.path.basename(it)[:-5] in names]))
-    return 0
 
 
 if __name__ == "__main__":

@@ -1,70 +1,78 @@
 """Calls of the program with a C file of this folder loaded into it, before the C library (LD_PRELOAD)."""
 
-import collections
 import os
 import shutil
 import subprocess
-import sys
 import tempfile
+from collections.abc import Mapping, Sequence
+from pathlib import Path
+from typing import IO, NamedTuple
 
-sys.path.insert(0, os.path.join(os.path.dirname(os.path.abspath(__file__)), ".."))
-
-from perfscript import Fault  # noqa: E402  the package is found only now
+from packages import DATA
+from perfscript import Fault
 
 FOLDER = os.path.dirname(os.path.abspath(__file__))
-DATA = os.path.join(FOLDER, "..", "..", "crates", "worked_cases", "data")
 SECONDS = 120
 
-# How a call ended, and what the loaded file wrote to the descriptor that it is told: nothing where it let all pass.
-Ended = collections.namedtuple("Ended", "status out note told")
+
+class Ended(NamedTuple):
+    """How a call ended, and what the loaded file wrote to the descriptor that it is told: nothing where it let all
+    pass. A call that does not end is ended, and has no status."""
+
+    status: int | None
+    out: bytes
+    note: bytes
+    told: bytes
 
 
-def compiler():
+def compiler() -> str | None:
     """The path of the C compiler, or None."""
     return shutil.which("cc")
 
 
-def compiled(name, folder):
+def compiled(name: str, folder: str) -> str:
     """Compiles NAME.c of this folder, and gives the path of the library, in the folder given."""
-    if compiler() is None:
+    cc = compiler()
+    if cc is None:
         raise Fault("no C compiler: there is no command cc")
     library = os.path.join(folder, name + ".so")
-    source = os.path.join(FOLDER, name + ".c")
-    call = [compiler(), "-shared", "-fPIC", "-O1", "-Wall", "-Wextra", "-o", library, source]
+    call = [cc, "-shared", "-fPIC", "-O1", "-Wall", "-Wextra", "-o", library, os.path.join(FOLDER, name + ".c")]
     done = subprocess.run(call, capture_output=True, text=True)
     if done.returncode:
         raise Fault(f"cc refuses {name}.c: {' '.join(done.stderr.split())}")
     return library
 
 
-def end_of(words, **how):
-    """The status, the output and the note of a command. One that does not end is ended, and has no status."""
-    try:
-        done = subprocess.run(words, timeout=SECONDS, **how)
-    except subprocess.TimeoutExpired:
-        return None, b"", b""
-    return done.returncode, done.stdout, done.stderr
-
-
-def call(program, words, text, library, settings):
+def call(program: str, words: Sequence[str], text: bytes, library: str, settings: Mapping[str, object]) -> Ended:
     """Calls the program with a text as its input. The settings are the variables PRELOADED_NAME for the loaded file."""
     with tempfile.TemporaryFile() as source, tempfile.TemporaryFile() as told:
         source.write(text)
         source.seek(0)
-        named = {"PRELOADED_" + name: str(value) for name, value in settings.items()}
-        variables = dict(os.environ, LD_PRELOAD=library, PRELOADED_TELL=str(told.fileno()), **named)
-        ending = end_of([program, *words], stdin=source, capture_output=True, env=variables, pass_fds=[told.fileno()])
-        told.seek(0)
-        return Ended(*ending, told.read())
+        named = {f"PRELOADED_{name}": str(value) for name, value in [*settings.items(), ("TELL", told.fileno())]}
+        return ended([program, *words], source, told, {**os.environ, "LD_PRELOAD": library, **named})
 
 
-def stored(name):
+def ended(words: Sequence[str], source: IO[bytes], told: IO[bytes], variables: Mapping[str, str]) -> Ended:
+    """How a command ends whose input is the source, and which has the descriptor of `told`."""
+    try:
+        done = subprocess.run(
+            words, stdin=source, capture_output=True, env=variables, pass_fds=[told.fileno()], timeout=SECONDS
+        )
+        status, out, note = done.returncode, done.stdout, done.stderr
+    except subprocess.TimeoutExpired:
+        status, out, note = None, b"", b""
+    told.seek(0)
+    return Ended(status, out, note, told.read())
+
+
+def stored(name: str) -> bytes:
     """The bytes of a file of the worked cases."""
-    with open(os.path.join(DATA, name), "rb") as file:
-        return file.read()
+    return Path(DATA, name).read_bytes()
 
 
-def print_table(heads, rows):
-    """Prints a table as the documents have it."""
+def printed(heads: Sequence[str], rows: Sequence[Sequence[object]], faults: Sequence[str], summary: str = "") -> int:
+    """Prints a table as the documents have it, below it the faults and how many there are; gives the status."""
     for row in [heads, ["---"] * len(heads), *rows]:
-        print("| " + " | ".join(str(cell) for cell in row) + " |", flush=True)
+        print("| " + " | ".join(map(str, row)) + " |")
+    print("\n".join([*faults, f"{summary}{len(faults)} failures"]))
+    return 1 if faults else 0

@@ -15,41 +15,32 @@ from perfscript import command
 from perfscript.limits import MOST_BYTES
 from perfscript.progress import Progress
 
-BYTES = MOST_BYTES
-HEAD = "perf 1\nmachine cpus=1 counters=10\nprocessor 0\ntick\n"
-ACT = " p0"
-END = "end\n"
+HEAD, ORDER, ACT, END = "perf 1\nmachine cpus=1 counters=10\nprocessor 0\ntick\n", "order{}\n", " p0", "end\n"
+# the acts of one order line that fills the text
+MOST_ACTS = (MOST_BYTES - len(HEAD) - len(END) - len("order\n")) // len(ACT)
 RUNS = 3
 
 
-def order_line(acts):
-    return "order" + ACT * acts + "\n"
-
-
-def text_of(acts_per_line):
-    """A script of exactly BYTES bytes whose order lines, but for the last, have so many acts."""
-    size = BYTES - len(HEAD) - len(END)
-    full = order_line(acts_per_line)
-    text = full * (size // len(full))
-    left = size - len(text)
-    if left:
-        text += order_line((left - len("order\n")) // len(ACT))
-    text = HEAD + text + END
-    if len(text) != BYTES:
+def text_of(acts_per_line: int) -> str:
+    """A script of MOST_BYTES bytes whose order lines, but for the last, have so many acts."""
+    size = MOST_BYTES - len(HEAD) - len(END)
+    full = ORDER.format(ACT * acts_per_line)
+    count, left = divmod(size, len(full))
+    last = ORDER.format(ACT * ((left - len("order\n")) // len(ACT))) if left else ""
+    text = HEAD + full * count + last + END
+    if len(text) != MOST_BYTES:
         raise ValueError(f"{len(text)} bytes")
     return text
 
 
-def main(program):
-    lengths = (1, 1000, (BYTES - len(HEAD) - len(END) - len("order\n")) // len(ACT))
-    with Progress("runs", RUNS * len(lengths)) as progress:
+def main(program: str) -> None:
+    lengths = (1, 1000, MOST_ACTS)
+    with Progress("texts", len(lengths)) as progress:
         for acts_per_line in lengths:
-            text, runs = text_of(acts_per_line), []
+            text = text_of(acts_per_line)
             lines = text.count("\n")
-            for _ in range(RUNS):
-                runs.append(measuring.cost(program, ["replay"], text, 1, f"perf_run: line {lines}: ORDER"))
-                progress.step()
-            seconds, peak = min(run.seconds for run in runs), max(run.peak for run in runs) / 2**20
+            seconds, peak = measuring.best(RUNS, program, ["replay"], text, 1, f"perf_run: line {lines}: ORDER")
+            progress.step()
             best = f"{seconds:.2f} s, the best of {RUNS}; peak memory {peak:.1f} MiB"
             print(f"{len(text)} bytes, {lines} lines, {text.count(ACT)} acts: {best}")
 

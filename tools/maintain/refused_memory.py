@@ -30,10 +30,13 @@ in the first way and how many in the second. Ends with 1 where a run ended other
 import itertools
 import sys
 import tempfile
+from collections.abc import Callable
+from typing import TypeAlias
 
 import preloaded
 from perfscript import command, program_at
 from perfscript.progress import Progress
+from preloaded import Ended
 from run_then_replay import with_order, without_counters
 
 NO_MEMORY = (4, b"", b"perf_run: no memory\n")
@@ -46,9 +49,12 @@ ALL = [(name, "replay") for name in CASES] + [(list(CASES)[-1], "run")]
 KINDS = ["program", "library", "threads"]
 RUNS = {"replay": 1, "run": 3}
 HEADS = ["Case", "Word", "Requests", "Numbers", "No memory", "Done"]
+# a call in which the request of a number is refused, and whether its output is the whole report
+Call: TypeAlias = Callable[[int], Ended]
+IsWhole: TypeAlias = Callable[[bytes], bool]
 
 
-def is_report(program, word, text, report, out):
+def is_report(program: str, word: str, text: bytes, report: bytes, out: bytes) -> bool:
     """Whether this is a whole report of the text, which the replay of its own order gives too."""
     if word == "replay":
         return out == report
@@ -58,65 +64,53 @@ def is_report(program, word, text, report, out):
     return (again.status, again.note) == (0, "") and same
 
 
-def ending(ended, is_whole):
+def ending(ended: Ended, is_whole: IsWhole) -> str | None:
     """`no memory` or `done`, or None where a call ended in no way that it may."""
-    if (ended.status, ended.out, ended.note) == NO_MEMORY:
+    if ended[:3] == NO_MEMORY:
         return "no memory"
     if (ended.status, ended.note) == (0, b"") and is_whole(ended.out):
         return "done"
     return None
 
 
-def refused_runs(call, runs, step=1):
-    """Yields each number with the ends of its runs, up to the first number that no run reached."""
+def counts(call: Call, runs: int, is_whole: IsWhole, step: int = 1) -> tuple[list[int], list[str]]:
+    """How many numbers there are, up to the first that no run reached, how many refused runs ended with no memory and
+    with done, and the faults. Memory runs out only where it was refused."""
+    ends: dict[int, list[Ended]] = {}
     for number in itertools.count(0, step):
-        ends = [call(number) for _ in range(runs)]
-        yield number, ends
-        if not any(ended.told for ended in ends):
-            return
+        ends[number] = [call(number) for _ in range(runs)]
+        if not any(ended.told for ended in ends[number]):
+            break
+    hows = [(number, ended, ending(ended, is_whole)) for number, own in ends.items() for ended in own]
+    faults = [f"request {number}: status {ended.status}, note {ended.note!r}, output {ended.out[:80]!r}"
+              for number, ended, how in hows if how is None or how == "no memory" and not ended.told]
+    refused = [how for _, ended, how in hows if ended.told]
+    return [number, refused.count("no memory"), refused.count("done")], faults
 
 
-def fault_of(ended, how):
-    """What is wrong with a call that ended so, or None. Memory runs out only where it was refused."""
-    if how is None or (how == "no memory" and not ended.told):
-        return f"status {ended.status}, note {ended.note!r}, output {ended.out[:80]!r}"
-    return None
-
-
-def counts(call, runs, is_whole, step=1):
-    """How many numbers there are, how many refused runs ended with no memory and with done, and the faults."""
-    found, faults, numbers = {"no memory": 0, "done": 0}, [], 0
-    for numbers, ends in refused_runs(call, runs, step):
-        for ended in ends:
-            how = ending(ended, is_whole)
-            fault = fault_of(ended, how)
-            if fault:
-                faults.append(f"request {numbers}: {fault}")
-            elif ended.told:
-                found[how] += 1
-    return [numbers, found["no memory"], found["done"]], faults
-
-
-def row_of(program, library, name, word, kind, step=1):
+def row_of(program: str, library: str, name: str, word: str, kind: str,
+           step: int = 1) -> tuple[list[object], list[str]]:
     """A row of the table, and the faults."""
     text, report = (preloaded.stored(CASES[name] + end) for end in (".script", ".report"))
-    call = lambda number: preloaded.call(program, [word], text, library, {"KIND": kind, "NUMBER": number})
+
+    def call(number: int) -> Ended:
+        return preloaded.call(program, [word], text, library, {"KIND": kind, "NUMBER": number})
+
     found, faults = counts(call, RUNS[word], lambda out: is_report(program, word, text, report, out), step)
     return [name, f"`{word}`", kind, *found], [f"{name}, {word}, {kind}, {fault}" for fault in faults]
 
 
-def main(path):
-    program, found = program_at(path).path, []
+def main(path: str) -> int:
+    program, rows, faults = program_at(path).path, list[list[object]](), list[str]()
     with tempfile.TemporaryDirectory() as folder, Progress("rows", len(ALL) * len(KINDS)) as progress:
         library = preloaded.compiled("refused_memory", folder)
         for name, word in ALL:
             for kind in KINDS:
-                found.append(row_of(program, library, name, word, kind))
+                row, own = row_of(program, library, name, word, kind)
+                rows.append(row)
+                faults += own
                 progress.step()
-    preloaded.print_table(HEADS, [row for row, _ in found])
-    faults = [fault for _, some in found for fault in some]
-    print("\n".join(faults + [f"{len(faults)} failures"]))
-    return 1 if faults else 0
+    return preloaded.printed(HEADS, rows, faults)
 
 
 if __name__ == "__main__":

@@ -13,10 +13,9 @@ import re
 import sys
 from collections.abc import Iterator
 
-sys.path.insert(0, os.path.join(os.path.dirname(os.path.abspath(__file__)), ".."))
-
-from maintain.specs import NAME  # noqa: E402  the package is found only now
-from perfscript import Fault, command  # noqa: E402
+import packages  # noqa: F401
+from perfscript import Fault, command
+from specs import NAME
 
 LEMMA = re.compile(rf"^(\s*)(?:pub )?({NAME}) : (.*)$")
 MODULE = re.compile(r"^(\s*)module _ (.*?)\s*where$")

@@ -3,35 +3,34 @@
 
     tools/maintain/run_then_replay.py PROGRAM SCRIPT..
 
-PROGRAM is the built perf_run. Each script is given to `run`; then the order that the report's first line names
-is put in place of the script's own, and that text is given to `replay`. Both reports have to be the same, byte for byte,
-but for the counters that `seats` names, where each choice that serves the same events is right. A text that `run` refuses has to be
-refused by `replay` with the same note, unless `replay` refuses it for its order. Ends with 1 where one differs.
+PROGRAM is the built perf_run. Each script is given to `run`; then the order that the report's first line names is put
+in place of the script's own, and that text is given to `replay`. Both reports have to be the same, byte for byte, but
+for the counters that `seats` names, where each choice that serves the same events is right. A text that `run`
+refuses has to be refused by `replay` with the same note, unless `replay` refuses it for its order. Ends with 1 where
+one differs.
 """
 
-import os
 import re
 import sys
 
-sys.path.insert(0, os.path.join(os.path.dirname(os.path.abspath(__file__)), ".."))
+import packages  # noqa: F401
+from perfscript import Program, command, lines_of, program_at
+from perfscript.progress import Progress
 
-from perfscript import command, lines_of, program_at  # noqa: E402  the package is found only now
-from perfscript.progress import Progress  # noqa: E402
 
-
-def with_order(text, order):
+def with_order(text: str, order: str) -> str:
     """The script with this order line in place of its own order lines."""
     lines = [line.text for line in lines_of(text) if line.head != "order"]
     place = max(number for number, line in enumerate(lines) if line == "end")
     return "\n".join(lines[:place] + ([order] if order != "order" else []) + lines[place:]) + "\n"
 
 
-def without_counters(report):
+def without_counters(report: str) -> str:
     """The report with the counters left out that its `seats` lines name."""
     return re.sub(r"(?m)^(\S+ seats)(.*)$", lambda seats: seats[1] + re.sub(r"=\d+", "", seats[2]), report)
 
 
-def differs(program, text):
+def differs(program: Program, text: str) -> str | None:
     """Says how a run and its replay differ, or None."""
     run = program.call("run", text)
     if run.status != 0:
@@ -44,7 +43,7 @@ def differs(program, text):
     return None if without_counters(run.out) == without_counters(again.out) else "the reports differ"
 
 
-def main(path, *scripts):
+def main(path: str, *scripts: str) -> int:
     program, texts, failures = program_at(path), [command.text_of(script) for script in scripts], 0
     with Progress("scripts", len(scripts)) as progress:
         for script, text in zip(scripts, texts):

@@ -7,10 +7,10 @@ Usage: start_benchmark.py PROGRAM [PROGRAM ..]
   PROGRAM  a built program, as crates/perf_run/out/perf_run; `rt run` in crates/perf_run leaves it there
 """
 
-import statistics
 import sys
+from statistics import median
 
-import measuring
+from measuring import Cost, cost
 from perfscript import command
 from perfscript.progress import Progress
 
@@ -18,20 +18,15 @@ RUNS = 101
 SMALLEST = "perf 1\nmachine cpus=1 counters=1\nend\n"
 
 
-def costs(programs):
-    """The costs of the runs of each program."""
-    found = [[] for _ in programs]
+def main(*programs: str) -> None:
+    found: list[list[Cost]] = [[] for _ in programs]
     with Progress("rounds", RUNS) as progress:
         for _ in range(RUNS):
             for program, own in zip(programs, found):
-                own.append(measuring.cost(program, ["replay"], SMALLEST))
+                own.append(cost(program, ["replay"], SMALLEST))
             progress.step()
-    return found
-
-
-def main(*programs):
-    for program, own in zip(programs, costs(programs)):
-        faults, spent = (statistics.median(values) for values in ([c.faults for c in own], [c.processor for c in own]))
+    for program, own in zip(programs, found):
+        faults, spent = median(one.faults for one in own), median(one.processor for one in own)
         print(f"{program}: {faults:.0f} page faults, {1000 * spent:.2f} ms of processor time; the median of {RUNS}")
 
 

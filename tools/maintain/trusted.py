@@ -17,10 +17,9 @@ import os
 import re
 import sys
 
-sys.path.insert(0, os.path.join(os.path.dirname(os.path.abspath(__file__)), ".."))
-
-from maintain.specs import Definition, Key, all_definitions, cited, imports_of  # noqa: E402  the package is found only now
-from perfscript import Fault, command  # noqa: E402
+import packages  # noqa: F401
+from perfscript import Fault, command
+from specs import Definition, Key, all_definitions, cited, imports_of
 
 PAGE, COUNT_PAGE = "docs/maintain/DEFINITIONS.md", "docs/maintain/PROOF.md"
 BELIEVED, INNER = "-- believed\n", "-- inner\n"

@@ -20,15 +20,15 @@ import os
 import re
 import shutil
 import sys
+from collections.abc import Sequence
+from pathlib import Path
+from typing import NamedTuple
 
-sys.path.insert(0, os.path.join(os.path.dirname(os.path.abspath(__file__)), ".."))
+from packages import DATA
+from perfscript import Fault, command
 
-from perfscript import Fault, command  # noqa: E402  the package is found only now
-
-CRATE = os.path.join(os.path.dirname(os.path.abspath(__file__)), "..", "..", "crates", "worked_cases")
-DATA = os.path.join(CRATE, "data")
-LIST = os.path.join(DATA, "cases")
-THEOREMS = os.path.join(DATA, "theorems")
+STDOUT = os.path.join(os.path.dirname(DATA), "stdout")
+LIST, THEOREMS = os.path.join(DATA, "cases"), os.path.join(DATA, "theorems")
 
 HEAD = """\
 # The worked cases, one a line: KIND NAME, and for some a note. The text of a case is NAME.script beside this list. A
@@ -44,152 +44,147 @@ STATUS = {"done": "0", "refused": "1", "words": "0", "usage": "5", "table": "0"}
 USAGE = "perf_run: usage: run, replay, make N, make N script"
 
 
-def read(path):
-    with open(path, newline="") as file:
-        return file.read()
+class Case(NamedTuple):
+    """A case of the list: its kind, its name, and for some kinds a note."""
+
+    kind: str
+    name: str
+    note: str = ""
+
+    @property
+    def has_script(self) -> bool:
+        """Whether the text stands for a script, which is then printed, and the printed text run too."""
+        return self.kind == "done" or self.note.endswith(": ORDER") or self.note.startswith("perf_run: act ")
+
+    @property
+    def given(self) -> str:
+        """The file that the program is given."""
+        return self.name + (".words" if self.kind in ("words", "usage") else ".script")
+
+    @property
+    def files(self) -> list[str]:
+        """The files of the case: what is given, and what must come of it where the list does not say it."""
+        wanted = {"done": ".report", "words": ".report", "table": ".table"}
+        return [self.given, *([self.name + wanted[self.kind]] if self.kind in wanted else [])]
 
 
-def cases():
-    """The kind, the name and the note of each case of the list, in order."""
-    if not os.path.exists(LIST):
-        return []
-    lines = [line for line in read(LIST).splitlines() if line and not line.startswith("#")]
-    return [(line.split(" ", 2) + [""])[:3] for line in lines]
+def read(*path: str) -> str:
+    return command.text_of(os.path.join(*path))
 
 
-def write_list(all_cases):
-    lines = [" ".join(word for word in case if word) for case in all_cases]
-    with open(LIST, "w") as file:
-        file.write(HEAD + "\n".join(lines) + "\n")
+def rows(path: str) -> list[str]:
+    """The lines of a list that are no comments."""
+    lines = read(path).splitlines() if os.path.exists(path) else []
+    return [line for line in lines if line and not line.startswith("#")]
 
 
-def has_script(kind, note):
-    """Whether the text stands for a script, which is then printed, and the printed text run too."""
-    return kind == "done" or note.endswith(": ORDER") or note.startswith("perf_run: act ")
+def cases() -> list[Case]:
+    """The cases of the list, in order."""
+    return [Case(*line.split(" ", 2)) for line in rows(LIST)]
 
 
-def write_stdout(all_cases):
-    lines = [f"{name}: {STATUS[kind]}, as expected" + ", printed too" * has_script(kind, note) for kind, name, note in all_cases]
-    with open(os.path.join(CRATE, "stdout"), "w") as file:
-        file.write("\n".join(lines + [f"{len(all_cases)} cases, 0 failures"]) + "\n")
+def theorems() -> list[list[str]]:
+    """The files of the theorems with the names of their cases, in order."""
+    return [line.split(" ") for line in rows(THEOREMS)]
 
 
-def copy(source, name):
+def write(all_cases: Sequence[Case]) -> None:
+    """Writes the list, and what the program must print for it."""
+    Path(LIST).write_text(HEAD + "".join(" ".join(filter(None, case)) + "\n" for case in all_cases))
+    lines = [f"{case.name}: {STATUS[case.kind]}, as expected{', printed too' * case.has_script}" for case in all_cases]
+    Path(STDOUT).write_text("\n".join([*lines, f"{len(all_cases)} cases, 0 failures"]) + "\n")
+
+
+def copy(source: str, name: str) -> None:
     target = os.path.join(DATA, name)
     os.makedirs(os.path.dirname(target), exist_ok=True)
     shutil.copyfile(source, target)
     os.chmod(target, 0o644)
 
 
-def note_of(text):
+def note_of(text: str) -> str:
     """The one line of a note."""
     if not re.fullmatch(r"[^\n]+\n", text):
         raise Fault(f"no note of one line: {text!r}")
     return text[:-1]
 
 
-def name_of_text(text, name):
+def name_of_text(text: str, name: str) -> str:
     """The name of a script that has this text, if there is one; else the name given, for which it is kept."""
-    for _, other, _ in cases():
-        path = os.path.join(DATA, other + ".script")
-        if os.path.exists(path) and read(path) == text:
-            return other
-    return name
+    paths = {case.name: os.path.join(DATA, case.name + ".script") for case in cases()}
+    return next((other for other, path in paths.items() if os.path.exists(path) and read(path) == text), name)
 
 
-def case_of_table(folder, name, status):
-    """The case of the word `stat`. Its table stands beside the script, which another case may have too."""
-    if status != "0" or read(os.path.join(folder, "stderr")):
-        raise Fault(f"{folder}: status {status}")
-    name = name_of_text(read(os.path.join(folder, "stdin")), name)
-    copy(os.path.join(folder, "stdin"), name + ".script")
-    copy(os.path.join(folder, "stdout"), name + ".table")
-    return ["table", name, ""]
-
-
-def case_of_words(folder, name, status):
-    """The case of words other than `replay` and `stat`."""
-    copy(os.path.join(folder, "args"), name + ".words")
-    if status == "0" and not read(os.path.join(folder, "stderr")):
-        copy(os.path.join(folder, "stdout"), name + ".report")
-        return ["words", name, ""]
-    if status != "5" or read(os.path.join(folder, "stdout")) or note_of(read(os.path.join(folder, "stderr"))) != USAGE:
-        raise Fault(f"{folder}: status {status}")
-    return ["usage", name, ""]
-
-
-def case_of_call(group, folder):
+def case_of_call(group: str, folder: str) -> Case:
+    """The case of a call. The table of `stat` stands beside the script, which another case may have too."""
     name = f"{group}/{os.path.basename(os.path.normpath(folder))}"
-    status = read(os.path.join(folder, "status")).strip()
-    words = read(os.path.join(folder, "args")).split()
+    text, out, note, args = (os.path.join(folder, file) for file in ("stdin", "stdout", "stderr", "args"))
+    status, words = read(folder, "status").strip(), read(args).split()
     if words == ["stat"]:
-        return case_of_table(folder, name, status)
-    if words != ["replay"]:
-        return case_of_words(folder, name, status)
-    copy(os.path.join(folder, "stdin"), name + ".script")
-    if status == "0":
-        copy(os.path.join(folder, "stdout"), name + ".report")
-        return ["done", name, ""]
-    if status != "1" or read(os.path.join(folder, "stdout")):
+        name = name_of_text(read(text), name)
+        kind, copied = "table", {name + ".script": text, name + ".table": out}
+    elif words == ["replay"]:
+        kind, copied = ("done" if status == "0" else "refused"), {name + ".script": text}
+        copied |= {name + ".report": out} if status == "0" else {}
+    elif status == "0":
+        kind, copied = "words", {name + ".words": args, name + ".report": out}
+    else:
+        kind, copied = "usage", {name + ".words": args}
+    # what has to be empty: where all is done the note, of which a report has none, and else the output
+    surplus = read(note) if status == "0" else read(out)
+    if status != STATUS[kind] or surplus or kind == "usage" and note_of(read(note)) != USAGE:
         raise Fault(f"{folder}: status {status}")
-    return ["refused", name, note_of(read(os.path.join(folder, "stderr")))]
+    for target, source in copied.items():
+        copy(source, target)
+    return Case(kind, name, note_of(read(note)) if kind == "refused" else "")
 
 
-def case_of_script(group, stem):
+def case_of_script(group: str, stem: str) -> Case:
     """The case of the script STEM.script."""
     name = f"{group}/{os.path.basename(stem)}"
     copy(stem + ".script", name + ".script")
     if os.path.exists(stem + ".note"):
-        return ["refused", name, note_of(read(stem + ".note"))]
+        return Case("refused", name, note_of(read(stem + ".note")))
     copy(stem + ".report", name + ".report")
-    return ["done", name, ""]
+    return Case("done", name)
 
 
-def cases_of_folder(group, folder):
+def cases_of_folder(group: str, folder: str) -> list[Case]:
     shutil.rmtree(os.path.join(DATA, group), ignore_errors=True)
     stems = sorted(name[: -len(".script")] for name in os.listdir(folder) if name.endswith(".script"))
     return [case_of_script(group, os.path.join(folder, stem)) for stem in stems]
 
 
-def replaced(old, new, group):
-    """The old cases, and the new ones in the place of those that they replace: those of the same names or in the group. A table is a case of its own."""
-    names = {(kind == "table", name) for kind, name, _ in new}
-    gone = [(kind == "table", name) in names or name.split("/")[0] == group for kind, name, _ in old]
+def replaced(old: list[Case], new: list[Case], group: str | None) -> list[Case]:
+    """The old cases, and the new ones in the place of those that they replace: those of the same names or in the group.
+    A table is a case of its own."""
+    names = {(case.kind == "table", case.name) for case in new}
+    gone = [(case.kind == "table", case.name) in names or case.name.split("/")[0] == group for case in old]
     place = gone.index(True) if True in gone else len(old)
     return old[:place] + new + [case for case, is_gone in zip(old[place:], gone[place:]) if not is_gone]
 
 
-def files_of(kind, name):
-    """The files of a case: what is given, and what must come of it where the list does not say it."""
-    given = ".words" if kind in ("words", "usage") else ".script"
-    wanted = {"done": [".report"], "words": [".report"], "table": [".table"]}
-    return [name + given] + [name + ending for ending in wanted.get(kind, [])]
-
-
-def strays(all_cases):
+def strays(all_cases: Sequence[Case]) -> list[str]:
     """The files of the data that are of no case, and the theorems that are no case."""
-    named = {"cases", "theorems"} | {file for kind, name, _ in all_cases for file in files_of(kind, name)}
+    names = {case.name for case in all_cases}
+    named = {"cases", "theorems"} | {file for case in all_cases for file in case.files}
     there = {os.path.relpath(os.path.join(folder, file), DATA) for folder, _, files in os.walk(DATA) for file in files}
-    names = {name for _, name, _ in all_cases}
     other = {file for file in there if file.endswith(".other-seats") and file.rpartition(".")[0] in names}
-    theorems = [line.split(" ")[1] for line in read(THEOREMS).splitlines() if not line.startswith("#")]
-    return sorted(there - named - other) + [name for name in theorems if name not in names]
+    return sorted(there - named - other) + [name for _, name in theorems() if name not in names]
 
 
-def copies(all_cases):
+def copies(all_cases: Sequence[Case]) -> list[str]:
     """The cases that give the program what an earlier one gives it, each with that one."""
-    first = {}
+    first: dict[tuple[str, bool, str], str] = {}
     found = []
-    for kind, name, _ in all_cases:
-        given = files_of(kind, name)[0]
-        with open(os.path.join(DATA, given), "rb") as file:
-            key = (given.rpartition(".")[2], kind == "table", file.read())
-        if first.setdefault(key, name) != name:
-            found.append(f"{name} is a copy of {first[key]}")
+    for case in all_cases:
+        key = (case.given.rpartition(".")[2], case.kind == "table", read(DATA, case.given))
+        if first.setdefault(key, case.name) != case.name:
+            found.append(f"{case.name} is a copy of {first[key]}")
     return found
 
 
-def main(*words):
+def main(*words: str) -> int:
     os.makedirs(DATA, exist_ok=True)
     all_cases = cases()
     if words[:1] == ("call",) and len(words) > 2:
@@ -198,8 +193,7 @@ def main(*words):
         all_cases = replaced(all_cases, cases_of_folder(words[1], words[2]), words[1])
     elif words:
         raise Fault(f"{' '.join(words)}: not known; worked_cases.py --help has the words")
-    write_list(all_cases)
-    write_stdout(all_cases)
+    write(all_cases)
     faults = [f"no case: {name}" for name in strays(all_cases)] + copies(all_cases)
     if faults:
         print("\n".join(faults), file=sys.stderr)

@@ -1,9 +1,12 @@
 """Compares the answers of a report with those of the running kernel, line by line."""
 
+from collections.abc import Hashable, Mapping, Sequence
 from dataclasses import dataclass
 
 from on_linux import differences, rings, rules
-from perfscript.follow import Follow
+from on_linux.doing import Answer, Doing
+from perfscript import Line, Report, Script
+from perfscript.follow import Event, Follow
 from perfscript.names import FORMAT_GROUP, REFUSALS
 
 RULE_OF_REFUSAL = {
@@ -27,6 +30,8 @@ RULE_OF_LINE = {
 }
 SWITCHES = {"context-switches", "cpu-migrations"}
 NOT_PERMITTED = ("EACCES", "EPERM")
+# the words of a read by what each is and of which member
+Words = Mapping[tuple[str, int], int]
 
 
 @dataclass
@@ -38,11 +43,11 @@ class Check:
     is_same: bool
     said: object = ""
     seen: object = ""
-    row: str = None
-    place: int = None
+    row: str | None = None
+    place: int | None = None
 
     @property
-    def text(self):
+    def text(self) -> str:
         where = f", line {self.place} of the report" if self.place else ""
         cause = f"as documented: {self.row}" if self.row else "of no known cause"
         answers = f"the report has `{self.said}`, Linux `{self.seen}`"
@@ -52,17 +57,21 @@ class Check:
 class Comparison:
     """All checks of one script."""
 
-    def __init__(self, script, report, doing):
+    def __init__(self, script: Script, report: Report, doing: Doing) -> None:
         self.script, self.report, self.doing = script, report, doing
         self.follow = Follow(script, report)
-        self.checks, self.skipped, self.not_permitted = [], [], []
-        self.times, self.is_unsure = {}, set()
+        self.checks: list[Check] = []
+        self.skipped: list[str] = []
+        self.not_permitted: list[str] = []
+        # both sides' last values of what rises, by the event and its word, and of which it is not sure that they rise
+        self.times: dict[Hashable, tuple[int, int]] = {}
+        self.is_unsure: set[Hashable] = set()
         # for each copy's id that the kernel gave, as ("copy", id), the id that the report has at its first place
-        self.copy_ids = {}
+        self.copy_ids: dict[tuple[str, int], int] = {}
 
-    def run(self):
+    def run(self) -> "Comparison":
         for act in self.script.acts():
-            if not isinstance(act, tuple):
+            if isinstance(act, Line):
                 self.line(act)
         rings.compare(self)
         self.order_of_copies()
@@ -70,10 +79,11 @@ class Comparison:
             self.ids()
         return self
 
-    def check(self, about, rule, is_same, said="", seen="", row=None, place=None):
+    def check(self, about: str, rule: str, is_same: bool, said: object = "", seen: object = "", row: str | None = None,
+              place: int | None = None) -> None:
         self.checks.append(Check(about, rule, is_same, said, seen, row, place))
 
-    def line(self, line):
+    def line(self, line: Line) -> None:
         """Compares the answers to one line, and goes past it."""
         answer = self.doing.answers[line.name]
         refusal = self.report.refusal(line)
@@ -84,7 +94,7 @@ class Comparison:
         elif refusal or answer.errno:
             self.refusal(line, refusal, answer)
         elif line.head == "read":
-            self.read(line, answer.words)
+            self.read(line, answer.words or [])
         elif line.head in RULE_OF_LINE:
             said = " ".join(self.report.answer(line) or ["Ok"])
             rule, place = RULE_OF_LINE[line.head], self.report.place(line)
@@ -92,18 +102,18 @@ class Comparison:
         self.note_times(line)
         self.follow.step(line)
 
-    def refusal(self, line, refusal, answer):
+    def refusal(self, line: Line, refusal: str | None, answer: Answer) -> None:
         """Compares where one of both refuses the line."""
-        rule = RULE_OF_REFUSAL.get(refusal) or RULE_OF_LINE.get(line.head, rules.PLACES)
-        is_same = answer.errno is not None and answer.errno == REFUSALS.get(refusal)
+        rule = RULE_OF_REFUSAL.get(refusal or "", RULE_OF_LINE.get(line.head, rules.PLACES))
+        is_same = answer.errno is not None and answer.errno == REFUSALS.get(refusal or "")
         row = None if is_same else differences.of_refusal(self, line, refusal, answer)
         said = refusal or " ".join(self.report.answer(line) or ["Ok"])
         self.check(f"{line.name} {line.text}", rule, is_same, said, answer.text, row, self.report.place(line))
 
     # the words of a read
 
-    def read(self, line, words):
-        event = self.follow.event(line.slot())
+    def read(self, line: Line, words: list[int]) -> None:
+        event = self.follow.slots[line.slot()]
         said = [int(word) for word in self.report.answer(line) or []]
         members = self.follow.group(line.slot()) if event.attribute.format & FORMAT_GROUP else [event]
         names = event.attribute.word_names(len(members))
@@ -120,20 +130,21 @@ class Comparison:
             self.word(what, name, members[member], event, said[number], words[number], place)
         self.both_times(about, event, members[0], dict(zip(names, said)), dict(zip(names, words)), place)
 
-    def skip_values(self, about, members):
+    def skip_values(self, about: str, members: Sequence[Event]) -> None:
         """Says which values of a read have no counterpart."""
         if members[0].task is None:
             self.skipped.append(f"{about}: values of `task=all` are those of all that runs")
         for kind in sorted({member.attribute.kind for member in members} & SWITCHES):
             self.skipped.append(f"{about}: a kernel's switches are its own, so values of {kind} are not compared")
 
-    def word(self, what, name, member, event, said, seen, place):
+    def word(self, what: str, name: str, member: Event, event: Event, said: int, seen: int, place: int | None) -> None:
         """Compares one word of a read; times are compared by how they rise."""
         if name == "nr":
             self.check(what, rules.FORMAT, said == seen, said, seen, None, place)
         elif name == "id":
             known = self.doing.ids.get(seen)
-            self.check(what, rules.FORMAT, known == said, said, f"{seen}, which is {known_text(known)}", None, place)
+            of = f"the event with id {known} in the report" if known else "of no event that the report has open"
+            self.check(what, rules.FORMAT, known == said, said, f"{seen}, which is {of}", None, place)
         elif member.task is None:
             pass
         elif name == "lost":
@@ -145,7 +156,7 @@ class Comparison:
             first = self.follow.group(event.slot)[0] if event.attribute.format & FORMAT_GROUP else event
             self.rise(what, (first, name), first, rules.TIMES, said, seen, place)
 
-    def value(self, what, member, said, seen, place):
+    def value(self, what: str, member: Event, said: int, seen: int, place: int | None) -> None:
         kind, row = member.attribute.kind, None
         if kind == "task-clock":
             self.rise(what, (member, "value"), member, rules.SOFTWARE, said, seen, place)
@@ -159,7 +170,7 @@ class Comparison:
             for rule in found:
                 self.check(what, rule, said == seen, said, seen, row, place)
 
-    def rules_of_value(self, member):
+    def rules_of_value(self, member: Event) -> list[str]:
         """The rules that a count rests on, by what was asked of the event."""
         attribute = member.attribute
         found = [rules.PLACES]
@@ -174,7 +185,7 @@ class Comparison:
         found += [rules.MEMBER_OFF] if leader is not member and not leader.state_is_ready else []
         return found
 
-    def rise(self, what, key, event, rule, said, seen, place):
+    def rise(self, what: str, key: Hashable, event: Event, rule: str, said: int, seen: int, place: int | None) -> None:
         """Both rise since the last read, or neither does.
 
         A line that lets a task run and counts no work for it makes that unsure.
@@ -187,10 +198,10 @@ class Comparison:
         else:
             is_same = is_same and (seen > seen_before) == (said > said_before)
         self.is_unsure.discard(key)
-        row = None if is_same else differences.of_time(self, event, said > said_before, seen > seen_before)
+        row = None if is_same else differences.of_time(event, said > said_before, seen > seen_before)
         self.check(what, rule, is_same, f"{said_before} then {said}", f"{seen_before} then {seen}", row, place)
 
-    def both_times(self, about, event, leader, said, seen, place):
+    def both_times(self, about: str, event: Event, leader: Event, said: Words, seen: Words, place: int | None) -> None:
         """Enabled is at least running; and both are equal on both sides, or on none."""
         if ("enabled", 0) not in seen or ("running", 0) not in seen:
             return
@@ -198,11 +209,11 @@ class Comparison:
         is_same = all(enabled >= running for enabled, running in pairs)
         if event.task is not None and (leader, "running", "ever") not in self.is_unsure:
             is_same = is_same and (pairs[0][0] == pairs[0][1]) == (pairs[1][0] == pairs[1][1])
-        text = [" and ".join(map(str, pair)) for pair in pairs]
-        row = None if is_same else differences.of_time(self, leader, False, True)
-        self.check(f"{about}, enabled and running", rules.TIMES, is_same, *text, row, place)
+        text, other = (" and ".join(map(str, pair)) for pair in pairs)
+        row = None if is_same else differences.of_time(leader, False, True)
+        self.check(f"{about}, enabled and running", rules.TIMES, is_same, text, other, row, place)
 
-    def note_times(self, line):
+    def note_times(self, line: Line) -> None:
         """A fork, an exit and work of no length let tasks run for which the report counts no time."""
         is_short = line.head == "work" and line.words[0] == "0"
         is_held = line.head == "period" and "held" in self.doing.options
@@ -212,35 +223,24 @@ class Comparison:
             for name in ("enabled", "running", "value"):
                 self.is_unsure |= {(event, name), (event, name, "ever")}
 
-    def order_of_copies(self):
+    def order_of_copies(self) -> None:
         """Copies of one fork have rising ids in the order in which they are made."""
-        made, ids = {}, {said: seen[1] for seen, said in self.copy_ids.items()}
-        for copy in self.follow.all_copies:
-            if copy.id in ids:
-                made.setdefault(copy.task, []).append(copy)
-        for task, copies in made.items():
+        ids = {said: seen[1] for seen, said in self.copy_ids.items()}
+        made = [copy for copy in self.follow.all_copies if copy.id in ids]
+        for task in dict.fromkeys(copy.task for copy in made):
+            copies = [copy for copy in made if copy.task == task]
             if len(copies) < 2:
                 continue
             seen = sorted(copies, key=lambda copy: ids[copy.id])
             row = None if seen == copies else differences.of_copies(copies)
-            texts = [" ".join(str(copy.slot) for copy in some) for some in (copies, seen)]
-            self.check(f"order of the copies for task {task}", rules.OVERFLOW, seen == copies, *texts, row)
+            text, other = (" ".join(str(copy.slot) for copy in some) for some in (copies, seen))
+            self.check(f"order of the copies for task {task}", rules.OVERFLOW, seen == copies, text, other, row)
 
-    def ids(self):
+    def ids(self) -> None:
         """Ids of events that were opened one after the other: the report draws none for a refused open."""
         pairs = list(self.doing.ids.items())
         for (seen_before, said_before), (seen, said) in zip(pairs, pairs[1:]):
             is_same = seen - seen_before == said - said_before
             row = None if is_same else differences.of_ids(self, said_before, said, seen - seen_before)
-            self.check(
-                f"ids of events {said_before} and {said}",
-                rules.OPENS,
-                is_same,
-                f"apart by {said - said_before}",
-                f"apart by {seen - seen_before}",
-                row,
-            )
-
-
-def known_text(known):
-    return f"the event with id {known} in the report" if known else "of no event that the report has open"
+            text, other = (f"apart by {gap}" for gap in (said - said_before, seen - seen_before))
+            self.check(f"ids of events {said_before} and {said}", rules.OPENS, is_same, text, other, row)

@@ -2,6 +2,9 @@
 
 import os
 import re
+from collections.abc import Mapping
+from pathlib import Path
+from typing import NamedTuple, TypeAlias
 
 from perfscript import Fault
 
@@ -10,67 +13,62 @@ FOLDER = os.path.dirname(os.path.abspath(__file__))
 PAGE = os.path.join(FOLDER, "..", "..", "docs", "LINUX.md")
 LINUX = PAGE if os.path.exists(PAGE) else os.path.join(FOLDER, "LINUX.md")
 RULES = os.path.join(FOLDER, "..", "..", "docs", "RULES.md")
-ROW = re.compile(r"^\| `([a-z-]+)` \|(.*)\|$")
+ROW = re.compile(r"^\| `([a-z-]+)` \|(.*)\|$", re.M)
 STAND_IN, LAST_RUN = "## Where the stand-in differs", "## The last run"
 # the place of the column Linux in the table of docs/RULES.md, from the end: the column of cases stands last
 COLUMN = -2
 
 
-class DocumentFault(Fault):
-    """A page of docs can't be read as the tool reads it."""
-
-
-class Row:
+class Row(NamedTuple):
     """A known difference; `known_from` is the cell that names the versions."""
 
-    def __init__(self, name, cells, is_of_stand_in):
-        self.name, self.known_from, self.is_of_stand_in = name, cells[-1], is_of_stand_in
-        self.versions = {".".join(version.split(".")[:2]) for version in re.findall(r"\d+\.\d+(?:\.\d+)?", cells[-1])}
+    name: str
+    known_from: str
+    is_of_stand_in: bool
+
+    @property
+    def versions(self) -> set[str]:
+        """The versions without their last number."""
+        return set(re.findall(r"(\d+\.\d+)(?:\.\d+)?", self.known_from))
 
 
-def rows(text):
+Rows: TypeAlias = Mapping[str, Row]
+
+
+def rows(text: str) -> dict[str, Row]:
     """The rows of the tables of differences, by their names."""
-    found, is_of_stand_in = {}, False
-    for line in text.split(LAST_RUN)[0].splitlines():
-        is_of_stand_in = is_of_stand_in or line.startswith(STAND_IN)
-        matched = ROW.match(line)
-        if matched:
-            cells = [cell.strip() for cell in matched.group(2).split("|")]
-            found[matched.group(1)] = Row(matched.group(1), cells, is_of_stand_in)
+    front, _, behind = text.split(LAST_RUN)[0].partition("\n" + STAND_IN)
+    found: dict[str, Row] = {}
+    for part in (front, behind):
+        found |= {name: Row(name, cells.split("|")[-1].strip(), part is behind) for name, cells in ROW.findall(part)}
     return found
 
 
-def read(path):
+def read(path: str) -> str:
     try:
-        with open(path, encoding="utf-8") as file:
-            return file.read()
+        return Path(path).read_text("utf-8")
     except OSError as fault:
-        raise DocumentFault(f"{os.path.normpath(path)}: {fault.strerror}") from fault
+        raise Fault(f"{os.path.normpath(path)}: {fault.strerror}") from fault
 
 
-def write(path, text):
-    with open(path, "w", encoding="utf-8") as file:
-        file.write(text)
+def known_rows() -> Rows:
+    return rows(read(LINUX))
 
 
-def known_rows(path=LINUX):
-    return rows(read(path))
-
-
-def rule_names(text):
+def rule_names(text: str) -> list[str]:
     """The first column of the table of docs/RULES.md."""
     parts = text.split("\n| Rule |", 1)
     if len(parts) != 2:
-        raise DocumentFault("docs/RULES.md: no table with a column Rule")
+        raise Fault("docs/RULES.md: no table with a column Rule")
     return [line.split("|")[1].strip() for line in parts[1].splitlines()[2:] if line.startswith("| ")]
 
 
-def with_column(text, cells):
+def with_column(text: str, cells: Mapping[str, str]) -> str:
     """The text of docs/RULES.md with what the run says of each rule in the column Linux."""
     front, table = text.split("\n| Rule |", 1)
     lines = table.split("\n")
     if lines[0].split("|")[COLUMN - 1].strip() != "Linux":
-        raise DocumentFault("docs/RULES.md: the column before the last is not Linux")
+        raise Fault("docs/RULES.md: the column before the last is not Linux")
     for place, line in enumerate(lines[2:], 2):
         parts = line.split("|")
         if line.startswith("| ") and parts[1].strip() in cells:
@@ -79,8 +77,8 @@ def with_column(text, cells):
     return front + "\n| Rule |" + "\n".join(lines)
 
 
-def with_last_run(text, run):
+def with_last_run(text: str, run: str) -> str:
     """The text of docs/LINUX.md with this as what the last run showed."""
     if LAST_RUN not in text:
-        raise DocumentFault(f"docs/LINUX.md: no heading {LAST_RUN!r}")
+        raise Fault(f"docs/LINUX.md: no heading {LAST_RUN!r}")
     return text.split(LAST_RUN)[0] + LAST_RUN + "\n\n" + run + "\n"

@@ -3,11 +3,16 @@
 import errno
 import os
 import resource
+from collections.abc import Collection, Sequence
+from contextlib import suppress
+from dataclasses import dataclass
+from itertools import takewhile
 
 from on_linux import kernel, records
-from on_linux.task import MOST_PAGES, Tasks
-from perfscript import Fault
+from on_linux.task import MOST_PAGES, Helper, Task, Tasks
+from perfscript import Act, Fault, Line, Look, Record, Report, Script
 from perfscript.attributes import Attribute, bytes_of
+from perfscript.follow import Event, Follow
 from perfscript.names import FORMAT_GROUP, FORMAT_LOST, SOFTWARE, SOFTWARE_KINDS
 
 # the most words that a read may have here: nr, both times, and three words for each of 64 members
@@ -15,52 +20,59 @@ ROOM = 8 * (3 + 3 * 64)
 COMMANDS = {"enable": kernel.ENABLE, "disable": kernel.DISABLE, "reset": kernel.RESET}
 
 
+@dataclass
 class Answer:
     """What the kernel answered to a line: Ok, words, an errno, or nothing since the line was not done."""
 
-    def __init__(self, words=None, errno=None, skipped=None):
-        self.words, self.errno, self.skipped = words, errno, skipped
+    words: list[int] | None = None
+    errno: str | None = None
+    skipped: str | None = None
 
     @property
-    def text(self):
-        if self.skipped:
-            return "not done"
-        if self.errno:
-            return self.errno
-        return " ".join(map(str, self.words)) if self.words is not None else "Ok"
+    def text(self) -> str:
+        words = " ".join(map(str, self.words)) if self.words is not None else "Ok"
+        return "not done" if self.skipped else self.errno or words
 
 
 class Stream:
     """A ring of the script that an event has mapped, and all that was written on it."""
 
-    def __init__(self, mapping):
+    def __init__(self, mapping: kernel.Mapping) -> None:
         self.mapping, self.data = mapping, b""
         self.head = self.tail = 0
 
-    def look(self):
+    def look(self) -> None:
         """Keeps what was written since the last look."""
-        head = self.mapping.head()
+        head = self.mapping.word(kernel.HEAD_AT).value
         self.data += self.mapping.bytes(len(self.data), head)
-        self.head, self.tail = head, self.mapping.tail()
+        self.head, self.tail = head, self.mapping.word(kernel.TAIL_AT).value
 
-    def records(self):
+    def records(self) -> list[Record]:
         return records.of_stream(self.data)
 
 
 class Doing:
-    """One script on the running kernel. `answers` has an answer for each line, and `rings` the stream of each ring."""
+    """One script on the running kernel. `answers` has an answer for each line by its name, and `rings` the stream of
+    each ring."""
 
-    def __init__(self, script, follow, helper, options=frozenset()):
+    def __init__(self, script: Script, follow: Follow, helper: Helper, options: Collection[str] = ()) -> None:
         self.script, self.follow, self.options = script, follow, options
-        self.answers, self.rings, self.ids = {}, {}, {}
-        self.running, self.keepers, self.mappings = {}, [], []
+        self.answers: dict[str, Answer] = {}
+        self.rings: dict[int, Stream] = {}
+        # the ids of the report by the kernel's
+        self.ids: dict[int, int] = {}
+        self.running: dict[str, int] = {}
+        self.keepers: list[int] = []
+        self.mappings: list[kernel.Mapping] = []
         self.cpus = sorted(os.sched_getaffinity(0))
         self.tasks = Tasks(helper, script.task_numbers())
-        self.lost, self.looks = {}, []
+        # how many records each open event lost, as the kernel tells
+        self.lost: dict[int, int | None] = {}
+        self.looks: list[Look] = []
         # the numbers of tasks by their processes, also of those that have exited
-        self.processes = {}
+        self.processes: dict[int, int] = {}
 
-    def __enter__(self):
+    def __enter__(self) -> "Doing":
         most = resource.getrlimit(resource.RLIMIT_NOFILE)
         wanted = kernel.FIRST_DESCRIPTOR + 320
         if most[0] < wanted <= most[1]:
@@ -74,30 +86,31 @@ class Doing:
             raise
         return self
 
-    def __exit__(self, *_):
+    def __exit__(self, *_: object) -> None:
         for mapping in self.mappings:
             mapping.unmap()
         for slot in range(256):
-            if kernel.is_open(self.descriptor(slot)):
+            with suppress(OSError):
                 os.close(self.descriptor(slot))
         for keeper in self.keepers:
             os.close(keeper)
         self.tasks.end()
 
-    def note_task(self, number):
+    def note_task(self, number: int) -> None:
         """Keeps a task's context from being exchanged with a clone's, by an event that is not inherited."""
-        self.processes[self.tasks.process(number)] = number
+        process = self.tasks.tasks[number].process
+        self.processes[process] = number
         if "clones" not in self.options:
-            self.keepers.append(kernel.event_open(KEEPER, self.tasks.process(number), -1, -1))
+            self.keepers.append(kernel.event_open(KEEPER, process, -1, -1))
 
-    def descriptor(self, slot):
+    def descriptor(self, slot: str | int) -> int:
         return kernel.FIRST_DESCRIPTOR + int(slot)
 
-    def run(self):
+    def run(self) -> None:
         acts = list(self.script.acts())
         for place, act in enumerate(acts):
-            if isinstance(act, tuple):
-                self.see(*act)
+            if isinstance(act, Look):
+                self.see(act)
                 continue
             self.looks = looks_behind(acts, place) if "early-looks" in self.options else []
             self.answers[act.name] = self.answer(act)
@@ -106,7 +119,7 @@ class Doing:
             stream.look()
         self.lost = {slot: self.lost_of(event) for slot, event in self.follow.slots.items()}
 
-    def lost_of(self, event):
+    def lost_of(self, event: Event) -> int | None:
         """How many records the kernel says that an open event lost; None where its format does not ask for that."""
         attribute = event.attribute
         if not attribute.format & FORMAT_LOST or attribute.format & FORMAT_GROUP:
@@ -116,7 +129,7 @@ class Doing:
         except kernel.Refused:
             return None
 
-    def answer(self, line):
+    def answer(self, line: Line) -> Answer:
         reason = self.why_not_done(line)
         if reason:
             return Answer(skipped=reason)
@@ -127,12 +140,12 @@ class Doing:
         except KeyError as fault:
             raise Fault(f"the report has no refusal of {line.name} {line.text}, whose task is not there") from fault
 
-    def why_not_done(self, line):
+    def why_not_done(self, line: Line) -> str | None:
         """Why a line has nothing that answers it on the running kernel; None where it has."""
         refusal = self.follow.report.refusal(line)
         if line.head in ("why", "seats", "tick"):
             return f"`{line.head}` asks for what no call of Linux answers"
-        if refusal in OWN_REFUSALS:
+        if refusal and refusal in OWN_REFUSALS:
             return f"{refusal}: {OWN_REFUSALS[refusal]}"
         if line.actor[0] == "p" and refusal:
             return f"{refusal}: a kernel refuses no switch, fork or exit of a script"
@@ -142,7 +155,7 @@ class Doing:
 
     # the lines of tools
 
-    def open(self, line):
+    def open(self, line: Line) -> None:
         attribute = Attribute(line, self.script.kinds)
         process = -1 if attribute.task == "all" else self.tasks.process(int(attribute.task)) or kernel.NO_PROCESS
         cpu = -1 if attribute.cpu == "any" else self.cpus[int(attribute.cpu)]
@@ -152,45 +165,47 @@ class Doing:
             # the report refuses it: it is taken away again, so that both go on from one state
             os.close(descriptor)
             return
-        kernel.put_at(descriptor, self.descriptor(line.words[0]))
-        self.ids[kernel.id_of(self.descriptor(line.words[0]))] = self.follow.next_id
+        os.dup2(descriptor, self.descriptor(line.slot()), inheritable=False)
+        os.close(descriptor)
+        self.ids[kernel.with_word(self.descriptor(line.slot()), kernel.ID)] = self.follow.next_id
 
-    def enable(self, line):
-        kernel.command(self.descriptor(line.words[0]), COMMANDS[line.head], kernel.GROUP if line.is_group else 0)
+    def enable(self, line: Line) -> None:
+        kernel.command(self.descriptor(line.slot()), COMMANDS[line.head], kernel.GROUP if line.is_group else 0)
 
     disable = reset = enable
 
-    def period(self, line):
-        event = self.follow.event(line.slot())
-        if "held" in self.options and event and event.task in self.tasks.tasks:
-            self.tasks.tasks[event.task].prefer(1)
-            self.tasks.tasks[event.task].hold()
-        kernel.set_period(self.descriptor(line.words[0]), int(line.words[1]))
+    def period(self, line: Line) -> None:
+        event = self.follow.slots.get(line.slot())
+        task = self.tasks.tasks.get(event.task) if event and event.task is not None else None
+        if "held" in self.options and task:
+            task.prefer(1)
+            task.hold()
+        kernel.with_word(self.descriptor(line.slot()), kernel.PERIOD, int(line.words[1]))
 
-    def read(self, line):
-        given = line.given()
-        return kernel.read_words(self.descriptor(line.words[0]), min(int(given.get("size", ROOM)), ROOM))
+    def read(self, line: Line) -> list[int]:
+        size = int(line.given().get("size", ROOM))
+        return kernel.read_words(self.descriptor(line.slot()), min(size, ROOM))
 
-    def map(self, line):
+    def map(self, line: Line) -> None:
         ring = int(line.words[1])
-        mapping = kernel.Mapping(self.descriptor(line.words[0]), self.script.rings[ring])
+        mapping = kernel.Mapping(self.descriptor(line.slot()), self.script.rings[ring])
         if self.follow.report.refusal(line) is not None:
             mapping.unmap()
             return
         self.mappings.append(mapping)
         self.rings[ring] = Stream(mapping)
 
-    def output(self, line):
-        kernel.command(self.descriptor(line.words[0]), kernel.SET_OUTPUT, self.descriptor(line.words[1]))
+    def output(self, line: Line) -> None:
+        kernel.command(self.descriptor(line.slot()), kernel.SET_OUTPUT, self.descriptor(line.words[1]))
         if self.follow.report.refusal(line) is not None:
-            kernel.command(self.descriptor(line.words[0]), kernel.SET_OUTPUT, -1)
+            kernel.command(self.descriptor(line.slot()), kernel.SET_OUTPUT, -1)
 
-    def close(self, line):
-        kernel.close(self.descriptor(line.words[0]))
+    def close(self, line: Line) -> None:
+        kernel.close(self.descriptor(line.slot()))
 
     # the lines of processors
 
-    def switch(self, line):
+    def switch(self, line: Line) -> None:
         if line.words[0] == "idle":
             self.running.pop(line.actor, None)
             return
@@ -200,7 +215,7 @@ class Doing:
         self.running[line.actor] = number
         self.tasks.tasks[number].put_on(self.cpus[int(line.actor[1:])])
 
-    def work(self, line):
+    def work(self, line: Line) -> None:
         task = self.tasks.tasks[self.running[line.actor]]
         if "clones" in self.options:
             self.exchange(line, task)
@@ -209,10 +224,10 @@ class Doing:
         if early:
             task.touch(is_user, early)
             for look in self.looks:
-                self.see(*look)
+                self.see(look)
         task.touch(is_user, pages - early)
 
-    def exchange(self, line, task):
+    def exchange(self, line: Line, task: Task) -> None:
         """Before every other line the other tasks stay on the processor; before the rest they sleep.
 
         From a task that stays the kernel switches to this one directly, and exchanges the contexts. So this task does
@@ -228,36 +243,31 @@ class Doing:
             else:
                 other.touch(True, 0)
 
-    def fork(self, line):
+    def fork(self, line: Line) -> None:
         number = int(line.words[0])
         if self.tasks.process(number) is not None:
             raise kernel.Refused(errno.EEXIST)
         self.tasks.fork(self.running[line.actor], number)
         self.note_task(number)
 
-    def exit(self, line):
+    def exit(self, line: Line) -> None:
         self.tasks.exit(self.running.pop(line.actor))
 
-    def see(self, ring, place):
-        stream = self.rings.get(ring)
+    def see(self, look: Look) -> None:
+        stream = self.rings.get(look.ring)
         if stream:
             stream.look()
-            stream.mapping.set_tail(place)
+            stream.mapping.word(kernel.TAIL_AT).value = look.place
 
 
-def looks_behind(acts, place):
+def looks_behind(acts: Sequence[Act], place: int) -> list[Look]:
     """The looks at tails that stand right behind an act."""
-    found = []
-    for act in acts[place + 1 :]:
-        if not isinstance(act, tuple):
-            break
-        found.append(act)
-    return found
+    return [act for act in takewhile(lambda act: isinstance(act, Look), acts[place + 1 :]) if isinstance(act, Look)]
 
 
-def pages_of(line):
+def pages_of(line: Line) -> int:
     """How many pages a line of work touches: the occurrences of the one kind that it names."""
-    return sum(int(word.split("=")[1]) for word in line.words[2:] if not word.startswith("ip="))
+    return sum(int(count) for key, count in line.given().items() if key != "ip")
 
 
 # the attribute of an event that counts nothing and is not inherited. It leaves out the kernel and the hypervisor, which
@@ -275,7 +285,7 @@ OWN_REFUSALS = {
 }
 
 
-def why_not_comparable(script, report, options):
+def why_not_comparable(script: Script, report: Report, options: Collection[str]) -> str | None:
     """Why a script as a whole has no counterpart on the running kernel; None where it has."""
     opened = [line for line in script.all_lines() if line.head == "open"]
     attributes = [Attribute(line, script.kinds) for line in opened]

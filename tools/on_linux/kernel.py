@@ -2,13 +2,12 @@
 
 import ctypes
 import errno
-import fcntl
 import mmap
 import os
 import platform
 import struct
 
-from perfscript.attributes import bytes_of
+from perfscript.attributes import Attribute, bytes_of
 from perfscript.names import SOFTWARE, SOFTWARE_KINDS
 
 # PERF_COUNT_SW_PAGE_FAULTS
@@ -41,26 +40,25 @@ MAP_FAILED = ctypes.c_void_p(-1).value
 
 
 class Refused(Exception):
-    """The kernel refused a call, with this errno."""
+    """The kernel refused a call, with the errno of this name."""
 
-    def __init__(self, number):
-        super().__init__(errno.errorcode.get(number, str(number)))
-        self.number = number
+    def __init__(self, number: int) -> None:
         self.name = errno.errorcode.get(number, str(number))
+        super().__init__(self.name)
 
 
-def version():
+def version() -> str:
     """The version of the running kernel, without what its builder put behind it: 6.18.44."""
     return platform.release().split("-")[0].split("+")[0]
 
 
-def checked(answer):
-    if answer is None or answer < 0:
+def checked(answer: int) -> int:
+    if answer < 0:
         raise Refused(ctypes.get_errno())
     return answer
 
 
-def bytes_for(attribute):
+def bytes_for(attribute: Attribute) -> bytes:
     """The bytes of an attribute for the running kernel, where page faults stand for every hardware kind."""
     config = SOFTWARE_KINDS.get(attribute.kind, PAGE_FAULTS)
     fields = SOFTWARE, config, attribute.period, attribute.sample, attribute.format, attribute.flags
@@ -69,7 +67,7 @@ def bytes_for(attribute):
     return bytes_of(*fields, size=struct.unpack("<I", attribute.bytes[4:8])[0])[:48] + attribute.bytes[48:]
 
 
-def event_open(attr, process, cpu, leader):
+def event_open(attr: bytes, process: int, cpu: int, leader: int) -> int:
     """Opens an event by the bytes of its attribute; gives its descriptor."""
     number = OPEN_NUMBERS.get(platform.machine(), 241)
     room = ctypes.create_string_buffer(attr, len(attr))
@@ -77,32 +75,22 @@ def event_open(attr, process, cpu, leader):
     return checked(LIBC.syscall(words[0], room, *words[1:]))
 
 
-def put_at(descriptor, place):
-    """Gives a descriptor the number `place`."""
-    os.dup2(descriptor, place, inheritable=False)
-    os.close(descriptor)
-
-
-def close(descriptor):
+def close(descriptor: int) -> None:
     checked(LIBC.close(descriptor))
 
 
-def command(descriptor, request, argument=0):
+def command(descriptor: int, request: int, argument: int = 0) -> None:
     checked(LIBC.ioctl(descriptor, request, argument))
 
 
-def set_period(descriptor, period):
-    value = ctypes.c_uint64(period)
-    checked(LIBC.ioctl(descriptor, PERIOD, ctypes.addressof(value)))
-
-
-def id_of(descriptor):
-    value = ctypes.c_uint64()
-    checked(LIBC.ioctl(descriptor, ID, ctypes.addressof(value)))
+def with_word(descriptor: int, request: int, word: int = 0) -> int:
+    """Calls ioctl(2) with a word of 64 bits in memory, PERIOD or ID; gives the word as it is left there."""
+    value = ctypes.c_uint64(word)
+    command(descriptor, request, ctypes.addressof(value))
     return value.value
 
 
-def read_words(descriptor, size):
+def read_words(descriptor: int, size: int) -> list[int]:
     """The words that read(2) gives into a buffer of this size."""
     room = ctypes.create_string_buffer(max(size, 1))
     got = checked(LIBC.read(descriptor, room, size))
@@ -112,49 +100,32 @@ def read_words(descriptor, size):
 class Mapping:
     """A ring that is mapped: its user page and its data."""
 
-    def __init__(self, descriptor, size):
+    def __init__(self, descriptor: int, size: int) -> None:
         self.length = PAGE + size
         address = LIBC.mmap(None, self.length, mmap.PROT_READ | mmap.PROT_WRITE, mmap.MAP_SHARED, descriptor, 0)
         if address == MAP_FAILED:
             raise Refused(ctypes.get_errno())
-        self.address = address
-        self.size = self.word(DATA_SIZE_AT)
-        self.data_at = self.word(DATA_OFFSET_AT)
+        self.address: int = address
+        self.size, self.data_at = self.word(DATA_SIZE_AT).value, self.word(DATA_OFFSET_AT).value
 
-    def word(self, place):
-        return ctypes.c_uint64.from_address(self.address + place).value
+    def word(self, place: int) -> ctypes.c_uint64:
+        """A word of the user page, as HEAD_AT and TAIL_AT, which can be written too."""
+        return ctypes.c_uint64.from_address(self.address + place)
 
-    def head(self):
-        return self.word(HEAD_AT)
-
-    def tail(self):
-        return self.word(TAIL_AT)
-
-    def set_tail(self, tail):
-        ctypes.c_uint64.from_address(self.address + TAIL_AT).value = tail
-
-    def bytes(self, start, end):
+    def bytes(self, start: int, end: int) -> bytes:
         """The bytes of the stream from `start` to `end`, which lie in the ring."""
         data = ctypes.string_at(self.address + self.data_at, self.size)
         first = start % self.size
         return (data + data)[first : first + end - start]
 
-    def unmap(self):
+    def unmap(self) -> None:
         LIBC.munmap(self.address, self.length)
 
 
-def probe(flags=USER_ALONE):
+def probe(flags: int = USER_ALONE) -> str | None:
     """None where an event of page faults with these flags can be opened on this process; else the errno's name."""
     try:
         os.close(event_open(bytes_of(SOFTWARE, PAGE_FAULTS, flags=flags), 0, -1, -1))
     except Refused as refused:
         return refused.name
     return None
-
-
-def is_open(descriptor):
-    try:
-        fcntl.fcntl(descriptor, fcntl.F_GETFD)
-    except OSError:
-        return False
-    return True

@@ -1,5 +1,7 @@
 """The rules that a comparison is about, as docs/RULES.md names them in the first column of its table."""
 
+from collections.abc import Collection
+
 PLACES = (
     "an event counts one task on any processor, a task while it is on one processor, or everything on one processor"
 )
@@ -62,9 +64,9 @@ OF_SOURCE_ROWS = {
 
 ALL = [value for name, value in list(globals().items()) if isinstance(value, str) and name.isupper()]
 
-# Rules of the page that are part of another one, under which a comparison stands: that one, and the rows of docs/LINUX.md
-# that are about the part.
-PARTS = {
+# Rules of the page that are part of another one, under which a comparison stands: that one, and the rows of
+# docs/LINUX.md that are about the part.
+PARTS: dict[str, tuple[str, Collection[str]]] = {
     "`disabled`: an event is off until it is enabled": (ENABLE, ()),
     "`group_fd`: the leader leads a group, of the same task and processor": (
         OPENS,

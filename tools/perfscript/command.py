@@ -4,6 +4,7 @@ import argparse
 import os
 import sys
 from collections.abc import Callable
+from pathlib import Path
 from typing import NoReturn
 
 import perfscript
@@ -22,8 +23,8 @@ class Parser(argparse.ArgumentParser):
     """Refuses words in one line. `doc` has what the command does, a line `Usage: WORDS`, and details; `program` is the
     name of the program that the command asks."""
 
-    def __init__(self, command: str, doc: str, epilog: str | None = None, program: str = "perf_run") -> None:
-        about, _, rest = doc.partition("\n\nUsage: ")
+    def __init__(self, command: str, doc: str | None, epilog: str | None = None, program: str = "perf_run") -> None:
+        about, _, rest = (doc or "").partition("\n\nUsage: ")
         usage, _, details = rest.partition("\n\n")
         text = f"{about}\n\n{details}".strip()
         name = name_of(command)
@@ -58,7 +59,7 @@ def ended(command: str, main: Callable[[], int]) -> int:
     return BAD_INPUT
 
 
-def called(doc: str, main: Callable[..., int | None], least: int = 0, most: int | None = None) -> int:
+def called(doc: str | None, main: Callable[..., int | None], least: int = 0, most: int | None = None) -> int:
     """The status of a tool that has words alone on its command line, `least` to `most` of them, which `main` takes."""
     name, words = os.path.basename(sys.argv[0]), sys.argv[1:]
     if words[:1] == ["--help"]:
@@ -74,7 +75,6 @@ def text_of(path: str) -> str:
     try:
         if path == "-":
             return sys.stdin.buffer.read().decode("latin-1")
-        with open(path, "rb") as file:
-            return file.read().decode("latin-1")
+        return Path(path).read_bytes().decode("latin-1")
     except OSError as fault:
         raise Fault(f"{path}: {fault.strerror}") from None

@@ -70,6 +70,7 @@ class Follow:
     def __init__(self, script: Script, report: Report) -> None:
         self.script, self.report = script, report
         self.next_id = 1
+        # the open events by their slots
         self.slots: dict[int, Event] = {}
         self.contexts: dict[tuple[str, int | str], Context] = {}
         self.copies: list[Event] = []
@@ -97,10 +98,6 @@ class Follow:
         if event.task is None:
             return self.context(("cpu", event.attribute.cpu))
         return self.context(("task", event.task))
-
-    def event(self, slot: int) -> Event | None:
-        """The open event of a slot; None where none is open."""
-        return self.slots.get(slot)
 
     def group(self, slot: int) -> list[Event]:
         event = self.slots[slot]

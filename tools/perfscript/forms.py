@@ -208,8 +208,6 @@ def _surplus(words: list[str], at: int, form: Form) -> Wrong:
         if any(one.startswith(key + "=") for one in words[1:at]):
             return Wrong(at + 1, f"`{key}=` stands twice", f"take `{word}` or the other away")
         return Wrong(at + 1, f"`{word}` stands behind `{words[at - 1]}`", f"move it; {order}")
-    if word == "":
-        return Wrong(at + 1, "a space too many stands in the line", "write one space between words and none at the end")
     hint = f"; {near(key, keys)}" if keys else ""
     return Wrong(at + 1, f"`{word}` is one word more than the line has", f"take it away{hint}")
 

@@ -6,7 +6,6 @@ MOST_RINGS, LEAST_RING, MOST_RING = 16, 64, 65536
 MOST_TRIES, MOST_BATCH = 65536, 1024
 # the length of a stretch of work in units of time, and the occurrences of a kind
 MOST_WORK = 1_000_000_000
-MOST_NAME = 31
 MOST_ATTR = 4096
 # of a whole script: its lines under processors and tools, its text in bytes, its weight
 MOST_LINES, MOST_BYTES, MOST_WEIGHT = 16384, 4_194_304, 65536

@@ -7,6 +7,7 @@ import subprocess
 import tempfile
 from collections.abc import Callable, Sequence
 from concurrent.futures import ThreadPoolExecutor
+from pathlib import Path
 from typing import NamedTuple, TypeVar
 
 from perfscript.faults import Fault
@@ -109,8 +110,8 @@ class Tried(Program):
     def outcomes(self, calls: Sequence[tuple[str, str]]) -> list[Outcome]:
         with tempfile.TemporaryDirectory(prefix="perfscript.") as folder:
             for number, (words, text) in enumerate(calls):
-                _write(os.path.join(folder, f"c{number}"), text)
-                _write(os.path.join(folder, f"c{number}.args"), "".join(word + "\n" for word in words.split()))
+                Path(folder, f"c{number}").write_bytes(text.encode("latin-1"))
+                Path(folder, f"c{number}.args").write_text("".join(word + "\n" for word in words.split()))
             out, said = self._try(folder)
         return outcomes_of_try(out, said, len(calls))
 
@@ -149,11 +150,6 @@ def outcomes_of_try(out: str, said: str, count: int) -> list[Outcome]:
     if len(ended) < count:
         raise Fault(f"rt try: {' '.join(said.split())[-600:] or 'it said nothing'}")
     return [ended[f"c{number}"] for number in range(count)]
-
-
-def _write(path: str, text: str) -> None:
-    with open(path, "w", encoding="latin-1", newline="") as file:
-        file.write(text)
 
 
 def program_at(path: str | None = None, option: str = "--program") -> Program:

@@ -138,39 +138,33 @@ class Script:
             self.lines[line.actor].append(line)
         elif line.head not in DECLARATIONS:
             raise ValueError(line.head)
-        elif line.head not in ("perf", "end"):
-            getattr(self, f"_{line.head}")(line)
+        else:
+            self._declare(line)
         if not line.actor and line.head not in ("reader", "order", "end"):
             self.head.append(line)
 
-    def _machine(self, line: Line) -> None:
-        given = line.given()
-        self.cpus = int(given["cpus"])
-        if not 1 <= self.cpus <= MOST_CPUS:
-            raise ValueError(self.cpus)
-        if "counters" in given:
-            self.pmus[0] = Pmu(int(given["counters"]), (1 << self.cpus) - 1)
-
-    def _pmu(self, line: Line) -> None:
-        given = line.given()
-        self.pmus[int(line.words[0])] = Pmu(int(given["counters"]), int(given["cpus"], 16))
-
-    def _kind(self, line: Line) -> None:
-        given = line.given()
-        self.kinds[line.words[0]] = Kind(int(given.get("pmu", "0")), int(given["mask"], 16))
-
-    def _task(self, line: Line) -> None:
-        self.tasks.append(int(line.words[0]))
-
-    def _ring(self, line: Line) -> None:
-        self.rings[int(line.words[0])] = int(line.given()["bytes"])
-
-    def _reader(self, line: Line) -> None:
-        given = line.given()
-        self.readers[int(line.words[0])] = Reader(int(given["tries"]), int(given["batch"]))
-
-    def _order(self, line: Line) -> None:
-        self.order += line.words
+    def _declare(self, line: Line) -> None:
+        """Takes a line that stands under no processor and no tool."""
+        if line.head == "order":
+            self.order += line.words
+            return
+        given, number = line.given(), int(line.words[0]) if line.head in ("pmu", "task", "ring", "reader") else 0
+        if line.head == "machine":
+            self.cpus = int(given["cpus"])
+            if not 1 <= self.cpus <= MOST_CPUS:
+                raise ValueError(self.cpus)
+            if "counters" in given:
+                self.pmus[0] = Pmu(int(given["counters"]), (1 << self.cpus) - 1)
+        elif line.head == "pmu":
+            self.pmus[number] = Pmu(int(given["counters"]), int(given["cpus"], 16))
+        elif line.head == "kind":
+            self.kinds[line.words[0]] = Kind(int(given.get("pmu", "0")), int(given["mask"], 16))
+        elif line.head == "task":
+            self.tasks.append(number)
+        elif line.head == "ring":
+            self.rings[number] = int(given["bytes"])
+        elif line.head == "reader":
+            self.readers[number] = Reader(int(given["tries"]), int(given["batch"]))
 
     def _check_order(self) -> None:
         done: dict[str, int] = {}

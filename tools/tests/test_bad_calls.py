@@ -1,11 +1,15 @@
 """Bad calls of every tool: each ends with status 2 and one line that says what is wrong, and none with a traceback."""
 
+import importlib
 import os
+import runpy
 import shutil
 import subprocess
 import sys
 import tempfile
+import traceback
 import unittest
+import warnings
 from concurrent.futures import ThreadPoolExecutor
 
 from perfscript.program import REPOSITORY
@@ -120,10 +124,65 @@ if shutil.which("perf"):
     )
 
 
+# what most tools import: a copy of this process has it
+IMPORTED = ("double.command", "explain", "fit.command", "on_linux.main", "perf_data", "timeline")
+# how many copies run side by side
+COPIES = 2 * (os.cpu_count() or 1)
+
+
+def status_of(path, words):
+    """The status of a tool that this process runs as Python runs a command; a traceback goes to standard error."""
+    os.chdir(REPOSITORY)
+    sys.stdin, sys.stdout, sys.stderr = open(0), open(1, "w"), open(2, "w")
+    sys.argv = [path, *words]
+    sys.path.insert(0, path if os.path.isdir(path) else os.path.dirname(path))
+    status = 0
+    try:
+        runpy.run_path(path, run_name="__main__")
+    except SystemExit as ended:
+        status = ended.code or 0
+    except BaseException:
+        traceback.print_exc()
+        status = 1
+    sys.stdout.flush()
+    sys.stderr.flush()
+    return status
+
+
+class Copy:
+    """A call in a copy of this process, which is there sooner than a process that begins anew."""
+
+    def __init__(self, path, words):
+        self.files = [tempfile.TemporaryFile("w+") for _ in range(2)]
+        self.process = os.fork()
+        if self.process == 0:
+            status = 1
+            # a Python that begins anew says nothing of files that are left open, the tests' own does
+            warnings.simplefilter("ignore")
+            try:
+                for number, file in enumerate([open(os.devnull), *self.files]):
+                    os.dup2(file.fileno(), number)
+                status = status_of(path, words)
+            finally:
+                os._exit(status)
+
+    def ended(self):
+        """How the call ends."""
+        _, status = os.waitpid(self.process, 0)
+        said = []
+        for file in self.files:
+            with file:
+                file.seek(0)
+                said.append(file.read())
+        return subprocess.CompletedProcess([], os.waitstatus_to_exitcode(status), *said)
+
+
 class BadCalls(ProgramTest):
     @classmethod
     def setUpClass(cls):
         super().setUpClass()
+        for name in IMPORTED:
+            importlib.import_module(name)
         cls.folder = tempfile.mkdtemp()
         cls.addClassCleanup(shutil.rmtree, cls.folder)
         made = {"false": "exit 1", "mute": "exit 0", "loud": "echo hello", "sick": "echo perf_run: no memory >&2; exit 4"}
@@ -136,21 +195,36 @@ class BadCalls(ProgramTest):
                 file.write(bytes(range(256)))
         os.chmod(cls.names["binary"], 0o755)
 
-    def called(self, words):
-        """How a call ends, and whether there was an output file then."""
-        given = [word.format(**self.names) for word in words]
-        call = [sys.executable, os.path.join(REPOSITORY, "tools", given[0]), *given[1:]]
-        done = subprocess.run(call, cwd=REPOSITORY, capture_output=True, text=True, stdin=subprocess.DEVNULL)
-        return done, os.path.exists(self.names["out"])
+    def given(self, words):
+        """The path of a tool, and its words."""
+        tool, *rest = [word.format(**self.names) for word in words]
+        return os.path.join(REPOSITORY, "tools", tool), rest
 
-    def test_each_ends_with_2_and_a_line(self):
-        with ThreadPoolExecutor(os.cpu_count()) as pool:
-            ended = list(pool.map(self.called, [words for words, _ in CALLS]))
-        for (words, said), (done, is_out) in zip(CALLS, ended):
+    def called(self, words):
+        """How a call ends that is a process of its own."""
+        path, rest = self.given(words)
+        call = [sys.executable, path, *rest]
+        return subprocess.run(call, cwd=REPOSITORY, capture_output=True, text=True, stdin=subprocess.DEVNULL)
+
+    def check(self, calls, ended):
+        """Each call ended with 2, one line that says this, and no output."""
+        for (words, said), done in zip(calls, ended, strict=True):
             with self.subTest(words=words):
                 self.assertIn(said, done.stderr)
                 self.assertEqual((2, "", 1), (done.returncode, done.stdout, done.stderr.count("\n")), done.stderr)
-                self.assertFalse(is_out)
+        self.assertFalse(os.path.exists(self.names["out"]))
+
+    def test_the_first_of_each_tool_ends_with_2_and_a_line(self):
+        """As a user calls it, by a Python that begins anew."""
+        first = list({words[0]: (words, said) for words, said in reversed(CALLS)}.values())
+        with ThreadPoolExecutor(os.cpu_count()) as pool:
+            self.check(first, pool.map(self.called, [words for words, _ in first]))
+
+    def test_each_ends_with_2_and_a_line(self):
+        for start in range(0, len(CALLS), COPIES):
+            calls = CALLS[start : start + COPIES]
+            copies = [Copy(*self.given(words)) for words, _ in calls]
+            self.check(calls, [copy.ended() for copy in copies])
 
     def test_each_tool_has_bad_calls(self):
         """Each file of tools/ that is a command."""

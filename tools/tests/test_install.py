@@ -7,10 +7,12 @@ import subprocess
 import sys
 import tempfile
 import unittest
+from concurrent.futures import ThreadPoolExecutor
 
 import perfscript
 from perfscript.tests.support import PATH, TOOLS, ProgramTest, stored
 
+NOT_COPIED = ("__pycache__", ".mypy_cache", "build", "*.egg-info")
 COMMANDS = ("double", "explain", "fit", "on-linux", "perf-data", "timeline")
 ASKED = "import sys, setuptools, wheel, pip; sys.exit(sys.version_info < (3, 11))"
 
@@ -35,7 +37,7 @@ class Installed(ProgramTest):
         cls.addClassCleanup(shutil.rmtree, folder)
         # pip builds in the folder that it is given
         source, cls.target = os.path.join(folder, "tools"), os.path.join(folder, "target")
-        shutil.copytree(TOOLS, source, ignore=shutil.ignore_patterns("__pycache__", "build", "*.egg-info"))
+        shutil.copytree(TOOLS, source, ignore=shutil.ignore_patterns(*NOT_COPIED))
         # setup.py takes a page of docs/ along
         shutil.copytree(os.path.join(TOOLS, "..", "docs"), os.path.join(folder, "docs"))
         call = [cls.python, "-m", "pip", "install", "--no-build-isolation", "--no-index", "--target", cls.target, source]
@@ -52,13 +54,15 @@ class Installed(ProgramTest):
     def test_each_command_has_its_options(self):
         there = sorted(os.path.basename(path) for path in glob.glob(os.path.join(self.target, "bin", "*")))
         self.assertEqual([f"jugheather-{name}" for name in COMMANDS], there)
-        for name in COMMANDS:
-            done = self.called(name, "--help")
+        with ThreadPoolExecutor(os.cpu_count()) as pool:
+            helps = pool.map(lambda name: self.called(name, "--help"), COMMANDS)
+            versions = pool.map(lambda name: self.called(name, "--version").stdout, COMMANDS)
+        for name, done, version in zip(COMMANDS, helps, versions, strict=True):
             self.assertEqual((0, ""), (done.returncode, done.stderr), name)
             self.assertIn(f"usage: jugheather-{name}", done.stdout)
             for option in ("--help", "--version", "--program PATH"):
                 self.assertIn(option, done.stdout, name)
-            self.assertEqual(f"jugheather-{name} {perfscript.VERSION}\n", self.called(name, "--version").stdout)
+            self.assertEqual(f"jugheather-{name} {perfscript.VERSION}\n", version)
 
     def test_each_command_does_its_work(self):
         script = os.path.join(self.folder, "a.script")

@@ -81,6 +81,17 @@ class Pictures(ProgramTest):
         self.assertTrue(any(text.startswith(f"[1] event 0 cycles: {cause} (processor 0, 10 to 20;") and
                             text.endswith("and 47 more)") for text in listed), listed)
 
+    def test_the_list_names_a_stretch_once_for_events_of_one_name(self):
+        class Alike(timeline.Labels):
+            def title(self, event):
+                return "cycles"
+
+        script = self.two_processors(10, 100)
+        texts, _ = drawn(timeline.picture_of(self.program, script, Alike(script)))
+        listed = next(text for text in texts if text.startswith("[1] cycles: too few"))
+        # each of the 100 stretches has events off, and two of them where the group is
+        self.assertIn("(processor 0, 10 to 20; processor 0, 30 to 40; processor 0, 50 to 60 and 97 more)", listed)
+
     def test_a_stretch_that_is_wide_enough_has_its_cause(self):
         texts, _ = drawn(self.picture(self.two_processors(1000, 2)))
         self.assertIn("too few counters for events 0, 1 and 2", texts)

@@ -3,13 +3,19 @@
 import contextlib
 import io
 import os
+import sys
 import tempfile
 import unittest
 from collections.abc import Iterator
 
-from maintain import house_counts, layers, repeated_lemmas, trusted
-from maintain.specs import all_definitions
+sys.path.append(os.path.join(os.path.dirname(os.path.abspath(__file__)), ".."))
+
+import house_counts
+import layers
+import repeated_lemmas
+import trusted
 from perfscript import Fault
+from specs import all_definitions
 
 REPOSITORY = os.path.normpath(os.path.join(os.path.dirname(os.path.abspath(__file__)), "..", "..", ".."))
 

@@ -10,8 +10,12 @@ import sys
 import tempfile
 import unittest
 
-from maintain import check_machines, kernel_tables
 from perfscript.program import REPOSITORY
+
+sys.path.append(os.path.join(REPOSITORY, "tools", "maintain"))
+
+import check_machines
+import kernel_tables
 
 HEADER = """
 #define EVENTSEL_EVENT 0x000000FFULL  /* the event */

@@ -8,7 +8,7 @@ import tempfile
 import unittest
 
 HERE = os.path.dirname(os.path.abspath(__file__))
-sys.path[:0] = [HERE, os.path.join(HERE, ".."), os.path.join(HERE, "..", "..")]
+sys.path += [HERE, os.path.join(HERE, ".."), os.path.join(HERE, "..", "..")]
 
 import run_then_replay
 from built import PATH, TOP, require_program

@@ -7,7 +7,7 @@ import tempfile
 import unittest
 
 TOOLS = os.path.join(os.path.dirname(os.path.abspath(__file__)), "..")
-sys.path.insert(0, TOOLS)
+sys.path.append(TOOLS)
 
 import cited_definitions
 import definition_lines
@@ -64,15 +64,13 @@ class DefinitionLines(unittest.TestCase):
 
 class Terms(unittest.TestCase):
     def test_the_theorems_that_stand_are_those_that_are_written(self):
-        modules = script_terms.IMPORTS + script_terms.ANSWERS_IMPORTS, script_terms.IMPORTS + script_terms.WHOLE_IMPORTS
-        files = script_terms.listed()
-        for folder, terms, imports in (
-            ("answers", script_terms.answers_terms, modules[0]), ("reports", script_terms.whole_terms, modules[1])
-        ):
+        listed = script_terms.listed()
+        self.assertEqual({"answers", "reports"}, set(listed))
+        for folder, files in listed.items():
             there = os.path.join(script_terms.PROOFS, folder)
             with tempfile.TemporaryDirectory() as out:
-                for file, cases in files[folder].items():
-                    script_terms.write_files(out, file, cases, terms, imports)
+                for file, cases in files.items():
+                    script_terms.write_files(out, folder, file, cases)
                 wanted = {file for file in os.listdir(there) if script_terms.is_written(os.path.join(there, file))}
                 self.assertEqual(wanted, set(os.listdir(out)))
                 self.assertGreater(len(wanted), 1)

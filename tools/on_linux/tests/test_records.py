@@ -122,7 +122,7 @@ class Tables(unittest.TestCase):
         self.assertEqual(
             documents.with_column(page, cells), page.replace("| x |  |", "| x | seen on 6.18.44; differs: `here` |")
         )
-        with self.assertRaises(documents.DocumentFault):
+        with self.assertRaises(Fault):
             documents.with_column(page.replace("Linux", "Other"), cells)
 
     def test_a_part_of_a_rule_has_its_own_rows_alone(self):

@@ -87,7 +87,7 @@ class Following(unittest.TestCase):
     def test_exit_folds_and_close_frees(self):
         follow = self.follow(11)
         self.assertEqual((follow.copies, sorted(event.slot for event in follow.folded)), ([], [0, 1]))
-        self.assertEqual((follow.event(0), [event.slot for event in follow.group(1)]), (None, [1]))
+        self.assertEqual((follow.slots.get(0), [event.slot for event in follow.group(1)]), (None, [1]))
         self.assertEqual([event.slot for event in follow.writers[0]], [0])
 
     def test_a_line_that_can_not_be_done_is_a_fault(self):

@@ -1,12 +1,9 @@
 """Scripts are read and written, and reports and tables are read."""
 
-import os
-import shutil
-import subprocess
 import unittest
 
 from perfscript import Draft, Fault, Kind, Line, Look, Pmu, Reader, Report, Script, lines_of, rows_of
-from perfscript.tests.support import TOOLS, ProgramTest, stored
+from perfscript.tests.support import ProgramTest, stored
 
 TEXT = """perf 1
 machine cpus=2 counters=16
@@ -150,15 +147,6 @@ class Reports(unittest.TestCase):
         for text in ("", "order\nend\n", "stat 1\n 0 a\nend\n"):
             with self.assertRaises(Fault):
                 rows_of(text)
-
-
-class Types(unittest.TestCase):
-    def test_the_types_of_the_package_are_right(self):
-        if shutil.which("mypy") is None:
-            raise unittest.SkipTest("mypy is not there; Debian has it")
-        call = ["mypy", "--strict", "--cache-dir", os.devnull, "perfscript", "--exclude", "tests"]
-        done = subprocess.run(call, cwd=TOOLS, capture_output=True, text=True)
-        self.assertEqual(0, done.returncode, done.stdout)
 
 
 if __name__ == "__main__":
