@@ -7,7 +7,7 @@ import re
 from typing import Protocol
 
 from perfscript import Draft, Fault, Live, Outcome, Program, Reply, Report
-from perfscript.limits import MOST_BYTES
+from perfscript.limits import MOST_BYTES, MOST_LINES
 from perfscript.live import USUAL, live_at
 from perfscript.program import Built
 
@@ -15,6 +15,8 @@ REFUSED = re.compile(r"perf_run: line (\d+): ([A-Z]+)$")
 NOTHING = "order\nend\n"
 # a script whose lines have more bytes than this may be too long as a whole
 MOST_LIVE = MOST_BYTES // 2
+# the bytes of the longest read and of its act
+LONGEST_READ = len("read 255 size=18446744073709551615\n t0")
 
 
 class TooMuch(Exception):
@@ -26,6 +28,10 @@ class BackEnd(Protocol):
 
     # whether several reads in one question are cheaper than one after the other
     is_asked_ahead: bool
+
+    @property
+    def has_room_for_reads(self) -> bool:
+        """Whether the script that was asked last has room for as many reads as a script has lines."""
 
     def report(self, draft: Draft) -> Report:
         """The report of a script's own order. TooMuch where the program refuses the script."""
@@ -47,18 +53,28 @@ class Replay:
 
     def __init__(self, program: Program) -> None:
         self.program = program
+        self.size = 0
+
+    @property
+    def has_room_for_reads(self) -> bool:
+        return self.size + MOST_LINES * LONGEST_READ <= MOST_BYTES
 
     def report(self, draft: Draft) -> Report:
-        outcome = call(self.program, "replay", draft.text())
+        text = draft.text()
+        self.size = len(text)
+        return self.report_of(text)
+
+    def report_apart(self, draft: Draft) -> Report:
+        return self.report_of(draft.text())
+
+    def report_of(self, text: str) -> Report:
+        outcome = call(self.program, "replay", text)
         if outcome.status == 0:
             return Report(outcome.out)
         if outcome.status == 1:
             refused = REFUSED.match(outcome.note)
             raise TooMuch(refused[2] if refused else outcome.note)
         raise Fault(f"{self.program.path} replay ended with status {outcome.status}: {outcome.note or 'no note'}")
-
-    def report_apart(self, draft: Draft) -> Report:
-        return self.report(draft)
 
     def go_back(self, acts: int) -> None:
         pass
@@ -81,6 +97,10 @@ class LineByLine:
         self.acts = self.size = 0
         self.found = Report(NOTHING)
 
+    @property
+    def has_room_for_reads(self) -> bool:
+        return self.replay.has_room_for_reads
+
     def report(self, draft: Draft) -> Report:
         if not self.is_asked_ahead and not self.is_live(draft):
             self.close()
@@ -95,15 +115,17 @@ class LineByLine:
 
     def is_live(self, draft: Draft) -> bool:
         """Whether perf_live answers a script as a replay does. What was asked before is not looked at again."""
-        if any(row.startswith("ring ") for row in draft.head) or self.size > MOST_LIVE:
+        if any(row.startswith("ring ") for row in draft.head):
             return False
-        done = dict(self.done)
+        done, size = dict(self.done), self.size
         for actor in draft.order[self.acts :]:
             number = done.get(actor, 0)
+            line = draft.lines[actor][number]
             done[actor] = number + 1
-            if is_sampling(draft.lines[actor][number]):
+            size += size_of(line)
+            if is_sampling(line):
                 return False
-        return True
+        return size <= MOST_LIVE
 
     def restart(self, head: list[str]) -> None:
         """Begins again, with no line done."""
@@ -123,7 +145,7 @@ class LineByLine:
             self.found.replies[actor, number] = Reply(0, line.split(" ")[0], list(answer.words))
         self.done[actor] = number + 1
         self.acts += 1
-        self.size += len(line) + len(" p0\n")
+        self.size += size_of(line)
 
     def report_apart(self, draft: Draft) -> Report:
         return self.replay.report(draft)
@@ -136,6 +158,11 @@ class LineByLine:
         if self.live:
             self.live.close()
         self.live, self.done, self.acts, self.size, self.found = None, {}, 0, 0, Report(NOTHING)
+
+
+def size_of(line: str) -> int:
+    """The bytes of a line and of its act in a script."""
+    return len(line) + len("\n p0")
 
 
 def is_sampling(line: str) -> bool:

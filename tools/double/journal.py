@@ -99,11 +99,14 @@ class Journal:
             self.forget()
             key = self.draft.act(TOOL, line)
             return key, words_of(self.ask(), key)
-        if line not in self.reads:
+        if line not in self.reads or not self.back_end.has_room_for_reads:
             self.ask_ahead([line, *(other for other in self.last_reads if other != line)])
         elif self.draft.count >= MOST_LINES:
             raise TooMuch("LIMIT")
-        return self.draft.act(TOOL, line), self.reads[line]
+        key = self.draft.act(TOOL, line)
+        # its answer is known, so it stays where later lines are too much
+        self.checked = self.mark()
+        return key, self.reads[line]
 
     def ask_ahead(self, lines: list[str]) -> None:
         """Asks reads in one question, and takes their lines away again."""

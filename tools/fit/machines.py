@@ -7,7 +7,7 @@ import os
 import tomllib
 from collections.abc import Sequence
 from dataclasses import dataclass, field, replace
-from functools import cache
+from functools import cache, cached_property
 from typing import Any
 
 from fit.codes import (
@@ -76,7 +76,7 @@ class Machine:
         """Whether the file says which counters count an event by its code."""
         return bool(self.terms)
 
-    @property
+    @cached_property
     def kept(self) -> int:
         """The bits of a config that reach the counter's own register."""
         every = 0

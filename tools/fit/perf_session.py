@@ -247,6 +247,7 @@ class Agreeing:
     """A back end that agrees to all."""
 
     is_asked_ahead = False
+    has_room_for_reads = True
 
     def report(self, draft: Draft) -> Report:
         return Report("order\nend\n")

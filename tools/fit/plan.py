@@ -5,6 +5,7 @@ from __future__ import annotations
 import re
 from collections.abc import Iterable, Mapping, Sequence
 from dataclasses import dataclass, field, replace
+from functools import cached_property
 
 from fit.events import Typed, TypedGroup, modes_left_out
 from fit.faults import BadInput
@@ -78,7 +79,7 @@ class Group:
     is_weak: bool = False
     beyond: str = ""
 
-    @property
+    @cached_property
     def machine(self) -> Machine | None:
         """The kind of core whose counters it needs: that of its first hardware event. A software group needs none."""
         return next((event.machine for event in self.events if event.machine), None)
@@ -92,7 +93,7 @@ class Group:
         """Whether it can be one of the groups that take turns."""
         return any(member.mask for member in self.members) and not self.is_pinned
 
-    @property
+    @cached_property
     def members(self) -> tuple[Member, ...]:
         """What the program opens, in order: all events but those that are refused whatever else is on."""
         found = []

@@ -21,7 +21,7 @@ from double.build import NotHere, compiled  # noqa: E402
 from double.testing import Double, Uncertified  # noqa: E402
 from double.tests.random_clients import SCENARIO, Program  # noqa: E402
 from perfscript import Fault  # noqa: E402
-from perfscript.command import Parser, ended  # noqa: E402
+from perfscript.command import Parser, ended, from_one  # noqa: E402
 from perfscript.program import USUAL  # noqa: E402
 
 CLIENT = os.path.join(TOOLS, "double", "tests", "client.c")
@@ -59,7 +59,7 @@ def main() -> int:
     parser = Parser("double_clients.py", __doc__ or "")
     parser.set_defaults(program=os.environ.get("PERF_RUN", USUAL))
     parser.add_argument("--seeds", default="1-500", metavar="FIRST-LAST")
-    parser.add_argument("--jobs", type=int, default=os.cpu_count() or 1, metavar="N")
+    parser.add_argument("--jobs", type=from_one, default=os.cpu_count() or 1, metavar="N")
     options = parser.parse_args()
     first, _, last = options.seeds.partition("-")
     if not first.isdigit() or not (last or first).isdigit():

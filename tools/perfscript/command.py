@@ -38,6 +38,13 @@ class Parser(argparse.ArgumentParser):
         sys.exit(BAD_INPUT)
 
 
+def from_one(text: str) -> int:
+    """A number of 1 or more that a word gives."""
+    if not text.isdecimal() or not int(text):
+        raise argparse.ArgumentTypeError(f"{text!r} is not a number from 1")
+    return int(text)
+
+
 def ended(command: str, main: Callable[[], int]) -> int:
     """The status of a command. What ends it early is said in one line on standard error."""
     command = name_of(command)

@@ -87,6 +87,7 @@ CALLS = (
     (["maintain/repeated_lemmas.py", "odd"], "odd: a number was wanted; repeated_lemmas.py --help has the usage"),
     (["maintain/double_clients.py", "odd"], "unrecognized arguments: odd; double_clients.py --help has the words"),
     (["maintain/double_clients.py", "--seeds", "odd"], "--seeds: odd is not FIRST-LAST, two numbers"),
+    (["maintain/double_clients.py", "--jobs", "0"], "argument --jobs: '0' is not a number from 1"),
     (["maintain/double_benchmark.py", "odd"], "unrecognized arguments: odd; double_benchmark.py --help has the words"),
     (["maintain/double_benchmark.py", "--live", "/nonexistent"], "--live: /nonexistent is not a file; give"),
     (["maintain/double_benchmark.py", "--program", "/nonexistent"], "--program: /nonexistent is not a file"),
@@ -113,7 +114,11 @@ CALLS = (
     (["fit.py", "-m", "skylake", "-e", "cycles", "--", "perf", "stat"], "-e: with `-- perf stat ..` events and processors"),
     (["fit.py", "-m", "cortex-a53", "--", "perf", "stat"], "the perf that is here is no perf of cortex-a53"),
     (["fit.py", "-m", "alderlake-core", "--", "perf", "stat"], "alderlake-core as one of two kinds of core"),
-    (["maintain/perf_lines.py", "--jobs", "odd"], "argument --jobs: invalid int value: 'odd'"),
+    (["maintain/perf_lines.py", "--jobs", "odd"], "argument --jobs: 'odd' is not a number from 1"),
+    (["maintain/fit_lists.py", "--jobs", "0"], "argument --jobs: '0' is not a number from 1"),
+    (["maintain/fit_lists.py", "--lists", "-1"], "argument --lists: '-1' is not a number from 1"),
+    (["maintain/fit_lists.py", "odd"], "-m: no machine and no model is called 'odd'"),
+    (["maintain/fit_lists.py", "--program", "/nonexistent"], "--program: /nonexistent is not a file"),
 )
 # of these perf itself is asked first
 if shutil.which("perf"):

@@ -14,7 +14,8 @@
  *     m V PAGES PROT FLAGS          mmap       M V        the records in the ring: their types and sizes; the tail moves
  *     c V             close         u V W      dup of V into W         U V N      dup2 to descriptor N
  *     F V W           fcntl F_DUPFD into W     C N N      close_range of descriptors
- *     q V MS          poll          Q V US     select        e V       epoll_ctl     a V        sendmsg passes V on
+ *     q V MS          poll          y V MS     ppoll         Q V US    select        Y V US     pselect
+ *     e V             epoll_ctl     a V        sendmsg passes V on
  *     A SIZE          perf_event_open of an attribute at an address that is not there, or of this size
  *     s NS            nanosleep     k NAME     a mark        L N       the soft limit of descriptors
  *     f N             fork: the child does the next N operations and exits, and the parent waits for it
@@ -155,25 +156,30 @@ static void walk_ring(int place, const long long *n)
 	say(place, 0, 0, text);
 }
 
-static void poll_one(int place, const long long *n)
+static void poll_one(int place, const long long *n, char what)
 {
 	struct pollfd one = { fds[n[0]], POLLIN, 0 };
-	int got = poll(&one, 1, n[1]), error = errno;
+	struct timespec time = { n[1] / 1000, n[1] % 1000 * 1000000 };
+	int got = what == 'q' ? poll(&one, 1, n[1]) : ppoll(&one, 1, &time, NULL), error = errno;
 	char text[32];
 
 	snprintf(text, sizeof(text), " %d", got > 0 ? one.revents : 0);
 	say(place, got, error, text);
 }
 
-static void select_one(int place, const long long *n)
+static void select_one(int place, const long long *n, char what)
 {
 	struct timeval time = { 0, n[1] };
+	struct timespec length = { 0, n[1] * 1000 };
 	fd_set set;
 	int got;
 
 	FD_ZERO(&set);
 	FD_SET(fds[n[0]], &set);
-	got = select(fds[n[0]] + 1, &set, NULL, NULL, &time);
+	if (what == 'Q')
+		got = syscall(SYS_select, fds[n[0]] + 1, &set, NULL, NULL, &time);
+	else
+		got = pselect(fds[n[0]] + 1, &set, NULL, NULL, &length, NULL);
 	say(place, got, errno, "");
 }
 
@@ -317,8 +323,8 @@ static void do_one(int place, const char *name, const long long *n)
 	case 'v': read_two(place, n); return;
 	case 'm': map_one(place, n); return;
 	case 'M': walk_ring(place, n); return;
-	case 'q': poll_one(place, n); return;
-	case 'Q': select_one(place, n); return;
+	case 'q': case 'y': poll_one(place, n, lines[place][0]); return;
+	case 'Q': case 'Y': select_one(place, n, lines[place][0]); return;
 	case 'e': watch_one(place, n); return;
 	case 'a': pass_on(place, n); return;
 	case 'L': limit(place, n); return;

@@ -1,9 +1,12 @@
 """perf_live as a session's back end: it answers as a replay of the same script, and gives way to one."""
 
 import unittest
+from unittest import mock
 
+from double import backend
 from double.backend import LineByLine, Replay, TooMuch, live_path
-from perfscript import Draft
+from double.journal import Journal
+from perfscript import Draft, Reply, Report
 from perfscript.attributes import bytes_of
 from perfscript.limits import MOST_LINES
 from perfscript.tests.support import LIVE_HOW, ProgramTest
@@ -73,6 +76,16 @@ class BackEnds(ProgramTest):
                 self.assertTrue(self.live.is_asked_ahead)
                 self.assertIsNone(self.live.live)
 
+    def test_many_lines_that_are_long_are_replayed_at_once(self):
+        self.draft.act(*LINES[0])
+        with mock.patch.object(backend, "MOST_LIVE", 300):
+            self.assert_same()
+            self.assertFalse(self.live.is_asked_ahead)
+            for _ in range(10):
+                self.draft.act("p0", LINES[1][1])
+            self.assert_same()
+        self.assertTrue(self.live.is_asked_ahead)
+
     def test_what_is_too_much(self):
         for _ in range(MOST_LINES):
             self.draft.act("p0", "tick")
@@ -83,6 +96,52 @@ class BackEnds(ProgramTest):
                 self.live.report(self.draft)
             self.draft.order.pop()
             self.draft.lines["p0"].pop()
+
+
+class Full:
+    """A back end that takes so many lines, and answers each read with 7."""
+
+    is_asked_ahead, has_room_for_reads = True, True
+
+    def __init__(self, most):
+        self.most, self.questions = most, 0
+
+    def report(self, draft):
+        self.questions += 1
+        if draft.count > self.most:
+            raise TooMuch("WEIGHT")
+        report = Report(backend.NOTHING)
+        report.replies = {("t0", number): Reply(0, "read", ["7"]) for number in range(len(draft.lines.get("t0", [])))}
+        return report
+
+    def go_back(self, acts):
+        pass
+
+
+class Journals(unittest.TestCase):
+    """A journal keeps each line whose answer a client was given."""
+
+    def setUp(self):
+        self.full = Full(3)
+        self.journal = Journal(list(HEAD), [], self.full)
+
+    def test_a_read_stays_where_later_lines_are_too_much(self):
+        key, words = self.journal.call("read 0 size=8")
+        self.journal.call("read 0 size=8")
+        for _ in range(2):
+            self.journal.processor("p0", "tick")
+        with self.assertRaises(TooMuch):
+            self.journal.call("read 0 size=8")
+        self.assertEqual((key, words), (("t0", 0), ["7"]))
+        self.assertEqual(self.journal.draft.lines, {"t0": 2 * ["read 0 size=8"], "p0": []})
+
+    def test_a_read_is_asked_again_where_the_text_may_be_full(self):
+        for has_room, questions in ((True, 1), (False, 3)):
+            self.setUp()
+            self.full.has_room_for_reads = has_room
+            for _ in range(3):
+                self.journal.call("read 0 size=8")
+            self.assertEqual(self.full.questions, questions)
 
 
 if __name__ == "__main__":

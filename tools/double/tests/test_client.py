@@ -50,7 +50,9 @@ O 0 0 | -1 22
 O 0 1777 | -1 9
 O 0 -1 | -1 22 | any
 q 0 0 | 1 0 16
+y 0 0 | 1 0 16
 Q 0 0 | 1 0
+Y 0 0 | 1 0
 e 0 | -1 1 | 0 0
 a 0 | -1 22 | 1 0
 u 0 1 | 0 0 fd
@@ -181,6 +183,27 @@ class Counting(DoubleTest):
     def test_reset_and_period(self):
         said = self.said("o 0 0 0 1000 0 3 0 0 -1 -1 0 128 0\ns 1000\ni 0 0x2403 0\nr 0 24\np 0 500\np 0 0\n")
         self.assertEqual(said[3:], ["3 24 0 0 1000 1000", "4 0 0", "5 -1 22"])
+
+    def test_a_poll_ends_with_the_sample_that_wakes(self):
+        """A sample each 1000 ns, and a wake-up for each two of them; a poll that does not wait lets no time pass."""
+        said = self.said(
+            "o 0 0 0 10 1 3 0 0 -1 -1 0 128 2\nm 0 1 3 1\nq 0 0\nq 0 5\nr 0 24\nq 0 0\ny 0 5\nr 0 24\nM 0\ns 1000\n"
+            "Y 0 0\nY 0 9\nr 0 24\n"
+        )
+        self.assertEqual(said[2:5], ["2 0 0 0", "3 1 0 1", "4 24 0 20 2000 2000"])
+        self.assertEqual(said[5:8], ["5 0 0 0", "6 1 0 1", "7 24 0 40 4000 4000"])
+        self.assertEqual(said[8:], ["8 0 0" + 4 * " 9:2:16", "9 0 0", "10 0 0", "11 1 0", "12 24 0 60 6000 6000"])
+
+    def test_what_is_dropped_is_named_once(self):
+        """mmap, comm, enable_on_exec, watermark and a dummy's period, of two events."""
+        lines = "".join(f"o {slot} 1 9 7 0 0 0x5301 0 -1 -1 0 128 0\n" for slot in (0, 1))
+        lines += "o 2 0 0 0 0 0 0x401 0 -1 -1 0 128 0\n"
+        done = self.client(CYCLES, lines, "--verbose")
+        self.assertEqual([line.split()[1] for line in done.out.splitlines()], ["0", "0", "-1"])
+        for word in ("the bit mmap is dropped", "the bit comm is dropped", "the bit enable_on_exec is the broker's",
+                     "the bit watermark is the broker's", "the period of a dummy event is dropped", "the flags freq"):
+            self.assertEqual(done.err.count(word), 1, done.err)
+        self.assertNotIn("dropped", self.client(CYCLES, lines).err)
 
     def test_an_id_behind_refused_opens(self):
         said = self.said(
