@@ -74,15 +74,11 @@ first_given f w ws words n e =
 
 -- ---- whether all of a list are so, with one more behind it
 
-pub some_where : {X : Type 0} (o : Option X) (P : Type 0) (Q : X → Type 0) (b : Bool) → b ≡ is_some o → MatchOption o (P → ⊥) (λ x. P × Q x) → IsTrue b ↔ P
-some_where (Some x) P Q b e h = (λ _. h.0, λ _. e)
-some_where None P Q b e h = (λ t. absurd cc, λ p. absurd (h p))
+pub still_all : {A : Type 0} (P : A → Type 0) (front : List A) (x : A) (b : Bool) → IsTrue b ↔ All P front → P x → IsTrue b ↔ All P (front ++ x ∷ [])
+still_all P front x b h own = (λ t. All-push P front x (h.0 t) own, λ all. h.1 (All-pop P (front ++ x ∷ []) front (Some x) refl all).0)
 
-pub still_all : {A : Type 0} (P : A → Type 0) (front : List A) (x : A) (b c : Bool) → IsTrue b ↔ All P front → b ≡ true → IsTrue c ↔ P x → IsTrue c ↔ All P (front ++ x ∷ [])
-still_all P front x b c h t own = (λ s. All-push P front x (h.0 t) (own.0 s), λ all. own.1 (All-pop P (front ++ x ∷ []) front (Some x) refl all).1)
-
-pub not_all : {A : Type 0} (P : A → Type 0) (front : List A) (x : A) (b : Bool) → IsTrue b ↔ All P front → b ≡ false → IsTrue b ↔ All P (front ++ x ∷ [])
-not_all P front x b h f = (λ t. absurd cc, λ all. h.1 (All-pop P (front ++ x ∷ []) front (Some x) refl all).0)
+pub not_all : {A : Type 0} (P : A → Type 0) (front : List A) (x : A) → (P x → ⊥) → IsTrue false ↔ All P (front ++ x ∷ [])
+not_all P front x own = (λ t. absurd cc, λ all. absurd (own (All-pop P (front ++ x ∷ []) front (Some x) refl all).1))
 
 -- pairs of digits
 pub pairs_step : (bytes rest whole : List ℕ) → 2 ≤ length rest → bytes ++ pairs_in rest ≡ whole

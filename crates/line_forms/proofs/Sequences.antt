@@ -172,6 +172,20 @@ act-again (act.Processor cpu) h = rw (number_again 10 20 cpu.0 (omega arith) (om
 act-again (act.Tool tool) h = rw (number_again 10 20 tool.0 (omega arith) (omega arith) (omega arith) (omega arith) h) refl
 act-again (act.Seen ring place) h = rw (append_assoc (decimal ring.0) (61 ∷ []) (decimal place), seen-again ring.0 place h.0 h.1) refl
 
+-- two bytes that are an act
+abbrev pub IsShort : ℕ → ℕ → Option ℕ → Type 0
+IsShort limit byte o = IfSome o (λ n. (n < limit) × (number 10 20 (byte ∷ []) ≡ Some n))
+
+pub processor_short : (letter byte n : ℕ) (o : Option ℕ) → letter ≡ 112 → IsShort 8 byte o → o ≡ Some n
+    → (act_in (letter ∷ byte ∷ []) ≡ Some (act.Processor (record { 0 = n }))) × (n < 8)
+unfolding act_in
+processor_short letter byte n o e h is = let d = subst (IsShort 8 byte) is h in (rw (e, d.1) refl, d.0)
+
+pub tool_short : (letter byte n : ℕ) (o : Option ℕ) → letter ≡ 116 → IsShort 4 byte o → o ≡ Some n
+    → (act_in (letter ∷ byte ∷ []) ≡ Some (act.Tool (record { 0 = n }))) × (n < 4)
+unfolding act_in
+tool_short letter byte n o e h is = let d = subst (IsShort 4 byte) is h in (rw (e, d.1) refl, d.0)
+
 -- what is seen as what a word says is what the word is the text of
 pub spelled_sound : {X : Type 0} (view : X → Act) (word : List ℕ) (r : Option X) → option_map view r ≡ act_in word → IfSome r (λ s. form.IsActSpelling (view s) × (word ≡ act_text (view s)))
 spelled_sound view word (Some x) e = act-takes word (view x) (sym e)

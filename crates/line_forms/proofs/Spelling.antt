@@ -1,5 +1,5 @@
 -- Numbers: what is read is what is spelled so, and what is spelled so is read.
-use Rattle.std.proofs.Common.{◌≡◌, ◌≢◌, ℕ, suc, ◌+◌, ◌-◌, ◌*◌, ◌/◌, ◌%◌, ◌^◌, ◌<◌, ◌≤◌, Bool, true, false, not, ◌||◌, cond, eqb, leb, ltb, List, [], ◌∷◌, ◌++◌, map, length, get_or, Some, None, inl, inr, refl, sym, ap, subst, ◌∙◌, arith}
+use Rattle.std.proofs.Common.{◌≡◌, ◌≢◌, ℕ, suc, ◌+◌, ◌-◌, ◌*◌, ◌/◌, ◌%◌, ◌^◌, ◌<◌, ◌≤◌, Bool, true, false, not, ◌||◌, cond, eqb, leb, ltb, List, [], ◌∷◌, ◌++◌, map, length, get_or, Some, None, if◌then◌else◌, inl, inr, refl, sym, ap, subst, ◌∙◌, arith}
 use Rattle.std.proofs.lemmas.Int.Digits.{all_below_base_digits_of, number_digits_of, length-digits_of-le, first_digits_of, number_lt}
 use Rattle.std.proofs.lemmas.Nat.{div-mul-add, mod-mul-add}
 use Rattle.std.proofs.lemmas.Bool.{cases_lt, eqb-true, ltb-true, leb-true, lt-ltb, le-ltb, le-leb, lt-leb, eq-eqb, ne_eqb, and_parts, and_from}
@@ -15,6 +15,19 @@ low_digit d l = grind (arith, leb, true, le-leb)
 
 high_digit : (d : ℕ) → 10 ≤ d → d < 16 → digit_of (87 + d) ≡ d
 high_digit d l h = grind (arith, leb, false, lt-leb, true, le-leb)
+
+or_true : (b : Bool) → (b || true) ≡ true
+or_true true = refl
+or_true false = refl
+
+-- one digit is a number
+pub digit_read : (c n : ℕ) → n ≡ digit_of c → n < 10 → number 10 20 (c ∷ []) ≡ Some n
+unfolding number
+digit_read c n e l =
+    let below : ltb (digit_of c) 10 ≡ true = lt-ltb _ _ (omega (arith, l, e)) in
+    let one : is_number 10 20 (c ∷ []) ≡ true = rw (below, or_true (not (eqb c 48))) refl in
+    let value : value_after 10 0 (c ∷ []) ≡ n = omega (arith, e) in
+    ap (λ (b : Bool). if b then Some (value_after 10 0 (c ∷ [])) else None) one ∙ ap Some value
 
 -- a digit that is written is read
 pub digit_of-glyph : (d : ℕ) → d < 16 → digit_of (digit_glyph false d) ≡ d

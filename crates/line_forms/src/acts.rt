@@ -1,16 +1,17 @@
 //! The acts of an order line.
 
-ghost use Rattle.std.specs.Prelude.{◌≡◌, ◌<◌, ◌^◌, ◌∷◌, [], ◌↔◌, IsTrue, All, IfSome, MatchOption, Some};
+ghost use Rattle.std.specs.Prelude.{◌≡◌, ◌<◌, ◌≤◌, ◌^◌, ◌∷◌, [], ◌↔◌, IsTrue, All, IfSome, MatchOption, Some};
 ghost use Rattle.std.specs.Option.{option_map};
 ghost use Rattle.perf_base.specs.declared.acts.Act as script;
 ghost use Rattle.script_spec.specs.Acts.{act_text, IsActInRange};
 ghost use Rattle.script_spec.specs.Forms.{IsActSpelling};
 ghost use Rattle.line_forms.specs.Words.{left};
+ghost use Rattle.line_forms.specs.Leaves.{number};
 ghost use Rattle.line_forms.specs.Lists.{each_word};
 ghost use Rattle.line_forms.specs.Acts as says;
 ghost use Rattle.line_forms.specs.Forms.{act_of};
 
-use crate::leaves::decimal;
+use crate::leaves::{decimal, digit};
 use crate::words::{Words, cut};
 use perf_base::{Act, CpuNo, RingNo, ToolNo};
 use std::marker::Model;
@@ -167,24 +168,65 @@ impl<'a> Acts<'a> {
     }
 }
 
+/// The value of a digit, where it is below a limit.
+fn digit_below(limit: u8, byte: u8) -> Option<u8>
+    requires { limit ≤ 10 }
+    ensures { IfSome result (λ n. (n < limit) × (number 10 20 (byte ∷ []) ≡ Some n)) }
+{
+    let value = digit(byte);
+    if value < limit { Some(value) } else { None }
+}
+
+/// The act of an actor in range, by its letter and its digit. None where they are not those of one.
+fn actor(letter: u8, digit: u8) -> Option<Act>
+    ensures { IfSome result (λ act. (says.act_in (letter ∷ digit ∷ []) ≡ Some act) × IsActInRange act) }
+{
+    match letter {
+        b'p' => Some(Act::Processor(CpuNo(digit_below(8, digit)?))),
+        b't' => Some(Act::Tool(ToolNo(digit_below(4, digit)?))),
+        _ => None,
+    }
+}
+
+/// The act that two bytes spell, where it is an actor's in range: most words of an order are of two bytes.
+fn short_act(word: &[u8]) -> Option<Act>
+    ensures { IfSome result (λ act. (says.act_in word.now ≡ Some act) × IsActInRange act) }
+{
+    match word {
+        [letter, digit] => actor(*letter, *digit),
+        _ => None,
+    }
+}
+
 /// The act that a word spells, where its numbers are in range.
 fn in_range(word: &[u8]) -> Option<Act>
     ensures { MatchOption result ((act : script.Act) → says.act_in word.now ≡ Some act → IsActInRange act → ⊥)
         (λ act. (says.act_in word.now ≡ Some act) × IsActInRange act) }
 {
-    spelled(word)?.in_range()
+    match short_act(word) {
+        Some(act) => Some(act),
+        None => spelled(word)?.in_range(),
+    }
 }
 
 /// The acts that the words spell.
 pub fn order_acts(words: Words<'_>) -> Option<Acts<'_>>
     ensures { result ≡ each_word says.act_in (left words.entry) }
 {
-    let mut in_range = true;
+    let mut are_in_range = true;
     let mut rest = words;
     while let Some((word, more)) = rest.next() {
-        let act = spelled(word)?;
-        in_range = in_range && act.in_range().is_some();
+        match in_range(word) {
+            Some(_) => {}
+            None => {
+                spelled(word)?;
+                are_in_range = false;
+            }
+        }
         rest = more;
     }
-    Some(Acts { words, in_range })
+    Some(Acts {
+        words,
+        in_range: are_in_range,
+    })
 }

@@ -6,7 +6,7 @@ use Rattle.line_forms.proofs.acts.order_acts.Given as goal
 
 -- the acts before the words that are left
 abbrev pub invariant-loop-word : goal.invariant-loop-word
-invariant-loop-word l = (front : List Act) × (with_front front (each_word act_in (left l.rest)) ≡ each_word act_in (left l.words)) × (IsTrue l.in_range ↔ All IsActInRange front)
+invariant-loop-word l = (front : List Act) × (with_front front (each_word act_in (left l.rest)) ≡ each_word act_in (left l.words)) × (IsTrue l.are_in_range ↔ All IsActInRange front)
 
 abbrev pub decreases-loop-word : goal.decreases-loop-word
 decreases-loop-word l = length (left l.rest)
