@@ -14,7 +14,9 @@ from __future__ import annotations
 
 import re
 import sys
+import tomllib
 from collections.abc import Iterable, Sequence
+from pathlib import Path
 
 from perfscript import Draft, Fault, Line, Program, Script, command, lines_of, program_at
 from perfscript import forms
@@ -28,18 +30,7 @@ LOOK = re.compile(r"perf_run: act (\d+): ring (\d+) last (\d+) head (\d+) given 
 UNKNOWN = "this tool can't see why; docs/SCRIPT.md says what the reason {} is"
 SHOWN = 100
 BYTES = {9: "a tab", 13: "a carriage return", 0: "a byte 0"}
-ATTR_FAULTS = {
-    "ESHORT": ("there are fewer bytes than its size says, or fewer than 8", "give as many bytes as bytes 4 to 7 say"),
-    "E2BIG": (
-        "its size is 1 to 63 or above 4096, or a byte behind the 64th is not 0",
-        "write 40000000, which is 64, as bytes 4 to 7",
-    ),
-    "ECLASS": ("its type, bytes 0 to 3, is not 0, 1 or 4", "write 0 or 4 for a declared kind, 1 for a software kind"),
-    "EFLAGBITS": (
-        "a flag bit is set that no event here has", "set only those that docs/REPORT.md names below EFLAGBITS",
-    ),
-    "EFIELD": ("bp_type or config1 is not 0", "write 0 for both, bytes 52 to 63"),
-}
+ATTR_FAULTS = tomllib.loads(Path(forms.__file__).with_name("attribute_faults.toml").read_text("ascii"))
 
 
 class Case:
@@ -65,7 +56,6 @@ class Case:
     def script(self) -> Script:
         """What stands before the faulty line, without its order."""
         return Script("".join(line.text + "\n" for line in self.before if line.head != "order"))
-
 
 
 def of_end(case: Case) -> Wrong | None:
@@ -209,8 +199,8 @@ def of_attr(case: Case) -> Wrong | None:
     _, *said = case.program.outputs([("attr " + case.words[place - 1][5:], "")])[0].split()
     if not said or said[0] not in ATTR_FAULTS:
         return None
-    reason, mending = ATTR_FAULTS[said[0]]
-    return Wrong(place, f"the bytes are no attribute, {said[0]}: {reason}", mending)
+    fault = ATTR_FAULTS[said[0]]
+    return Wrong(place, f"the bytes are no attribute, {said[0]}: {fault['reason']}", fault["mending"])
 
 
 def of_name(case: Case) -> Wrong | None:

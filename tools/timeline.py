@@ -111,11 +111,6 @@ def is_here(place: dict[str, str], line: Line, tasks: dict[str, str]) -> bool:
     return place.get("task") == tasks.get(line.actor)
 
 
-def listed(words: list[str]) -> str:
-    """Names in a sentence: `0`, `0 and 1`, or `0, 1 and 2`."""
-    return words[0] if len(words) == 1 else ", ".join(words[:-1]) + " and " + words[-1]
-
-
 def in_words(cause: str) -> str:
     """A cause, as `why` answers it, in words."""
     word, *named = cause.split(" ")
@@ -123,7 +118,7 @@ def in_words(cause: str) -> str:
         return "in error: " + in_words(" ".join(named)) if named else "in error"
     if word == "hall":
         events = sorted(named, key=int)
-        many = f"too few counters for events {listed(events)}"
+        many = f"too few counters for events {command.listed(events)}"
         return many if len(events) > 1 else f"no counter for event {events[0]}"
     return {
         "earlier": "behind event {}, which was refused",
@@ -134,8 +129,6 @@ def in_words(cause: str) -> str:
 
 class Labels:
     """What a picture calls its events, counters and causes. Rows begin behind `left`."""
-
-    left = LEFT
 
     def __init__(self, script: Script) -> None:
         self.kinds: dict[int, str] = {}

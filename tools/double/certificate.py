@@ -77,6 +77,7 @@ class Comparison:
         self.script = Script(text)
         report.check(self.script)
         self.lines = {line.key: line for line in self.script.all_lines()}
+        self.left_out = left_out(self.script, report, session.unseen) if session.unseen else {}
         self.answered: set[tuple[str, int]] = set()
 
     def first(self) -> tuple[Differs | None, int]:
@@ -100,16 +101,21 @@ class Comparison:
             return None if sent.result < 0 else self.differs(sent.what, "an answer", "no line for it")
         line = self.lines.get(sent.key)
         name = f"{sent.key[0]}.{sent.key[1]} {line.head if line else sent.what}"
-        if line is None or not asks_for(line, sent):
+        unseen = self.left_out.get(sent.key, NOTHING_LEFT_OUT)
+        if line is None or not asks_for(line, sent, unseen.size) or sent.what == "open" and self.is_unseen(sent):
             return self.differs(name, f"an answer to {sent.what} of slot {sent.slot} {sent.given}", line and line.text)
         if sent.key in self.answered:
             return self.differs(name, "a second answer", "one line")
         self.answered.add(sent.key)
         words = self.report.answer(line) or []
-        wanted = wanted_answer(line, words)
+        wanted = wanted_answer(line, unseen.seen(words))
         given = "" if sent.what == "close" else (sent.result, sent.out) if sent.what != "open" else min(sent.result, 0)
         wanted_given = "" if sent.what == "close" else wanted if sent.what != "open" else wanted[0]
         return None if given == wanted_given else self.differs(name, given, wanted_given)
+
+    def is_unseen(self, sent: Sent) -> bool:
+        """Whether reads leave out an event that a client opened."""
+        return sent.result >= 0 and sent.slot in self.session.unseen
 
     def compare_id(self, sent: Sent) -> Differs | None:
         """An id is what a probe behind the open, less 1, draws in a replay of the journal up to there."""
@@ -142,15 +148,67 @@ class Comparison:
         return struct.pack(f"<{len(made)}Q", *made)
 
 
-def asks_for(line: Line, sent: Sent) -> bool:
-    """Whether a line of the journal is what a call asked for."""
+@dataclass(frozen=True)
+class LeftOut:
+    """What a read of a group leaves out: the places of members, and how many words stand before and for each member."""
+
+    places: tuple[int, ...] = ()
+    front: int = 0
+    each: int = 0
+
+    @property
+    def size(self) -> int:
+        """How many bytes the client has no room for."""
+        return 8 * self.each * len(self.places)
+
+    def seen(self, words: list[str]) -> list[str]:
+        """The words of an answer as the client sees them."""
+        if not self.places or words[0].startswith("E"):
+            return words
+        kept = words[1 : self.front]
+        for place in range((len(words) - self.front) // self.each):
+            if place not in self.places:
+                kept += words[self.front + self.each * place :][: self.each]
+        return [str(int(words[0]) - len(self.places)), *kept]
+
+
+NOTHING_LEFT_OUT = LeftOut()
+
+
+def left_out(script: Script, report: Report, unseen: set[int]) -> dict[tuple[str, int], LeftOut]:
+    """What each read of a group leaves out, by its key: the members of these slots that are open then."""
+    groups: dict[int, list[int]] = {}
+    formats: dict[int, int] = {}
+    found = {}
+    for line in script.acts():
+        if not isinstance(line, Line) or line.head not in ("open", "close", "read"):
+            continue
+        slot = line.slot()
+        group = next((members for members in groups.values() if slot in members), list[int]())
+        if line.head == "open" and not report.refusal(line):
+            words = line.given()
+            formats[slot] = struct.unpack_from("<Q", bytes.fromhex(words["attr"]), 32)[0]
+            groups.setdefault(int(words.get("leader", slot)), []).append(slot)
+        elif line.head == "close":
+            # the siblings of a leader that is closed are alone
+            groups |= {member: [member] for member in groups.pop(slot, []) if member != slot}
+            group[:] = [member for member in group if member != slot]
+        elif line.head == "read" and formats.get(slot, 0) & 8:
+            bits = formats[slot]
+            places = tuple(place for place, member in enumerate(group) if member in unseen)
+            found[line.key] = LeftOut(places, 1 + (bits & 1) + (bits >> 1 & 1), 1 + (bits >> 2 & 1) + (bits >> 4 & 1))
+    return found
+
+
+def asks_for(line: Line, sent: Sent, more: int = 0) -> bool:
+    """Whether a line of the journal is what a call asked for. `more` is how many bytes a read has no room for."""
     head, words, given = line.head, line.words, sent.given
     if sent.what == "open":
         return head == "open" and line.slot() == sent.slot and opens(line, sent)
     if line.slot() != sent.slot:
         return False
     if sent.what == "read":
-        return head == "read" and words[1:] == (f"size={given[0]}",)
+        return head == "read" and words[1:] == (f"size={given[0] + more}",)
     if sent.what == "close":
         return head == "close"
     if sent.what == "mmap":

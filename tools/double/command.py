@@ -2,13 +2,11 @@
 
 from __future__ import annotations
 
-import os
 import sys
 from collections.abc import Sequence
 
-from perfscript import Draft, Fault, Program, Script, program_at
+from perfscript import Draft, Fault, Program, Script, built_at
 from perfscript.command import Parser, ended, name_of, text_of
-from perfscript.program import Built
 
 from double import differences, truth
 from double.backend import live_path
@@ -61,19 +59,11 @@ def main(words: Sequence[str] | None = None) -> int:
         form.error(f"`{options.command[0]}` stands before --; the command comes behind it")
 
     def run() -> int:
-        program = built(options.program)
+        program = built_at(options.program)
         scenario = read_scenario(options.scenario, text_of(options.scenario), program)
         return run_in(scenario, program, options, command)
 
     return ended("double.py", run)
-
-
-def built(path: str | None) -> Program:
-    """The program: a session asks it too often for `rt try`."""
-    program = program_at(path or os.environ.get("PERF_RUN"))
-    if not isinstance(program, Built):
-        raise Fault("the double asks a built perf_run: give one by --program, or build it by `rt run` in crates/perf_run")
-    return program
 
 
 def split(words: list[str]) -> tuple[list[str], list[str]]:

@@ -92,6 +92,8 @@ class Session:
         self.told: set[str] = set()
         # lines of the tool that no call of a client asked for, as a report names them
         self.own_lines: set[str] = set()
+        # slots of group members that no client opened, which its reads leave out
+        self.unseen: set[int] = set()
         self.fresh = list(self.scenario.tasks)
         self.is_full = False
         self.since = 0

@@ -8,7 +8,7 @@ from collections.abc import Sequence
 from dataclasses import dataclass
 from types import TracebackType
 
-from perfscript import Program, program_at
+from perfscript import Program, built_at
 from perfscript.command import text_of
 
 from double import truth
@@ -60,7 +60,7 @@ class Double:
         is_real: bool = False,
         live: str | None = None,
     ) -> None:
-        self.program = program_at(program or os.environ.get("PERF_RUN"))
+        self.program = built_at(program)
         self.scenario = read_scenario(scenario, text_of(scenario), self.program)
         self.by_library, self.is_real = by_library, is_real
         self.live = live_path() if live is None else live

@@ -12,7 +12,7 @@ from fit.codes import Counters
 from fit.events import HARDWARE
 from fit.machines import Machine
 from fit.meanings import CACHE_TYPE, HARDWARE_TYPE, NOTHING, RAW_TYPE, Meanings, Need, config_of_type
-from fit.plan import watchdog_mask
+from fit.plan import not_of_a_task, watchdog_mask
 from fit.stand_in import OF_ALL
 from perfscript.names import FLAGS, SOFTWARE, SOFTWARE_NAMES
 
@@ -128,13 +128,12 @@ class CoreTranslator(Translator):
         return self.meanings.need_of_config(config, config1, asked.precise, self.machine)
 
 
-def not_of_a_task(attribute: CoreAttribute, others: dict[int, str]) -> CoreAttribute:
+def for_a_task(attribute: CoreAttribute, others: dict[int, str]) -> CoreAttribute:
     """An attribute that is for a task, where its PMU, one of these by its type, counts for all tasks of a processor."""
     pmu = others.get(attribute.asked.type, "")
     if not pmu.startswith(OF_ALL):
         return attribute
-    why = f"Linux counts events of {pmu} for whole processors, and not for a task; perf stat -a asks for them so"
-    return replace(attribute, need=Need(is_core=False, refused=why))
+    return replace(attribute, need=Need(is_core=False, refused=not_of_a_task(pmu)))
 
 
 def error_of(need: Need) -> int:

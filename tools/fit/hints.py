@@ -7,8 +7,9 @@ from dataclasses import replace
 
 from fit.answering import Answer
 from fit.linux_search import Wish, linux_finds
-from fit.machines import Machine, in_words
+from fit.machines import Machine
 from fit.plan import Event, Group, Member, Plan
+from perfscript.command import listed
 
 TFA_COUNTER = 3
 
@@ -67,7 +68,7 @@ def exclusive_counters(plan: Plan) -> list[str]:
     events = [event for event in counted(plan) if "excl" in event.need.counters.marks]
     if not events:
         return []
-    names = in_words(list(dict.fromkeys(event.name for event in events)))
+    names = listed(list(dict.fromkeys(event.name for event in events)))
     machine = events[0].machine
     assert machine
     half = machine.general // 2
@@ -83,7 +84,7 @@ def north_bridge(plan: Plan) -> list[str]:
         return []
     names = list(dict.fromkeys(events))
     verb = "count" if len(names) > 1 else "counts"
-    return [f"{in_words(names)} {verb} on the north bridge, whose counters all cores share"]
+    return [f"{listed(names)} {verb} on the north bridge, whose counters all cores share"]
 
 
 def force_abort(answer: Answer) -> list[str]:
@@ -155,5 +156,5 @@ def missed_together(members: list[Member]) -> list[str]:
     machine = members[0].machine
     if machine is None or not is_searched(machine) or linux_finds(wishes_of(members), machine):
         return []
-    names = in_words([member.name for member in members if not member.is_second])
+    names = listed([member.name for member in members if not member.is_second])
     return [f"{names} are on together here, and Linux's search misses that assignment"]

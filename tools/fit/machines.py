@@ -15,9 +15,11 @@ from fit.codes import (
 )
 from fit.events import SOFTWARE, TOOL_EVENTS, canonical
 from fit.faults import BadInput
+from perfscript.command import listed
 
 FOLDER = os.path.join(os.path.dirname(os.path.abspath(__file__)), "machines")
 ARM_NAMES = os.path.join(FOLDER, "names", "arm.toml")
+CPUINFO = "/proc/cpuinfo"
 MOST_COUNTERS, MOST_PROCESSORS, MOST_PMUS = 16, 8, 4
 # the hardware events that perf names alike on all machines
 GENERAL_NAMES = ("cycles", "instructions", "branches", "branch-misses", "cache-references", "cache-misses")
@@ -152,12 +154,7 @@ def ranges(numbers: Sequence[int]) -> str:
     words: list[str] = []
     for first, last in runs:
         words += [f"{first}-{last}"] if last > first + 1 else [str(number) for number in range(first, last + 1)]
-    return in_words(words)
-
-
-def in_words(words: Sequence[str]) -> str:
-    """`a`, `a and b`, `a, b and c`."""
-    return " and ".join([", ".join(words[:-1]), words[-1]] if len(words) > 1 else words)
+    return listed(words)
 
 
 def names() -> list[str]:
@@ -199,7 +196,7 @@ def load(word: str) -> Machine:
         return load_file(os.path.join(FOLDER, word + ".toml"))
     found = of_model(word)
     if not found:
-        known = f"there are {in_words(names())}"
+        known = f"there are {listed(names())}"
         raise BadInput(f"-m: no machine and no model is called {word!r}; {known}; --list says their models")
     return replace(load_file(os.path.join(FOLDER, found[0] + ".toml")), identity=found[1])
 
@@ -306,7 +303,7 @@ def check_keys(table: dict[str, Any], path: str) -> None:
     for key, value in table.items():
         wanted = dict if key in TABLES else KEYS.get(key)
         if wanted is None:
-            raise BadInput(f"{path}: the key {key!r} is not known; {in_words([*KEYS, *TABLES])} are")
+            raise BadInput(f"{path}: the key {key!r} is not known; {listed([*KEYS, *TABLES])} are")
         if type(value) is not wanted:
             raise BadInput(f"{path}: {key} has to be {wanted.__name__}, not {type(value).__name__}")
     if "general" not in table:
@@ -393,7 +390,7 @@ def read_machines(
     machines = []
     for word in words:
         name, mark, text = word.partition("=")
-        machine = load(this_computer() if name == "auto" else name)
+        machine = load(name) if name != "auto" else this_computer()
         machine = with_masks(without_threads(machine) if alone else machine, masks)
         if mark:
             machine = replace(machine, processors=processors_of(text, f"-m {word}"))
@@ -419,24 +416,44 @@ def check_processors(machines: Sequence[Machine]) -> None:
             raise BadInput(f"-m: two machines call their PMU {pmu!r}, so no event could say which it means")
 
 
-def this_computer(path: str = "/proc/cpuinfo") -> str:
-    """The machine whose file has the processor that this file describes."""
+def this_computer(path: str | None = None) -> Machine:
+    """The machine whose file has the processors that /proc/cpuinfo describes, with this computer's own identity: perf
+    has other tables for other models of a machine."""
+    found: dict[str, str] = {}
+    for identity in identities_in(path or CPUINFO):
+        here = [name for name in names() if load(name).model_of(identity)]
+        if not here:
+            what = "type -m NAME as --list has it, or -m FILE.toml for a file of your own"
+            raise BadInput(f"-m auto: no file has the processor {identity}; {what}")
+        found |= dict.fromkeys(here, identity)
+    if len(found) > 1:
+        what = " ".join(f"-m {name}=PROCESSORS" for name in found)
+        raise BadInput(f"-m auto: this computer has {len(found)} kinds of core; type {what}, as in =0-3")
+    [(name, identity)] = found.items()
+    return replace(load(name), identity=identity)
+
+
+def identities_in(path: str) -> list[str]:
+    """How perf identifies the processors that a file as /proc/cpuinfo describes, each kind once."""
     try:
         with open(path, encoding="utf-8") as file:
-            text = file.read()
+            blocks = file.read().split("\n\n")
     except OSError as fault:
         raise BadInput(f"-m auto: {path} can't be read: {fault.strerror}") from None
-    lines = [line.partition(":") for line in text.split("\n\n")[0].splitlines()]
+    found = [identity for block in blocks if (identity := identity_in(block))]
+    if not found:
+        raise BadInput(f"-m auto: {path} does not say which processor this is; type -m NAME as --list has it")
+    return list(dict.fromkeys(found))
+
+
+def identity_in(block: str) -> str:
+    """The identity of the processor that the lines of a block describe, empty where they do not."""
+    lines = [line.partition(":") for line in block.splitlines()]
     values = {key.strip(): value.strip() for key, _, value in lines}
     try:
         if "CPU implementer" in values:
-            identity = f"{values['CPU implementer']}-{values['CPU part']}"
-        else:
-            numbers = [int(values[key]) for key in ("cpu family", "model", "stepping")]
-            identity = f"{values['vendor_id']}-{numbers[0]}-{numbers[1]:X}-{numbers[2]:X}"
+            return f"{values['CPU implementer']}-{values['CPU part']}"
+        numbers = [int(values[key]) for key in ("cpu family", "model", "stepping")]
+        return f"{values['vendor_id']}-{numbers[0]}-{numbers[1]:X}-{numbers[2]:X}"
     except (KeyError, ValueError):
-        raise BadInput(f"-m auto: {path} does not say which processor this is; name a machine") from None
-    for name in names():
-        if load(name).model_of(identity):
-            return name
-    raise BadInput(f"-m auto: no file has the processor {identity}; --list says which have one")
+        return ""

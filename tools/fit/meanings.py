@@ -8,17 +8,19 @@ from contextlib import ExitStack
 from dataclasses import dataclass
 
 from fit import perf_tables
-from fit.codes import Counters, placed
+from fit.codes import FLAGS, Counters, placed
 from fit.events import COMMON_TERMS, HARDWARE, NUMBER, Typed, cache_event
 from fit.faults import BadInput
-from fit.machines import Machine, in_words
+from fit.machines import Machine
+from perfscript.command import listed
 
 # perf's terms that say nothing of counters
 PASSED_TERMS = (*COMMON_TERMS, "no-inherit", "inherit")
 CONFIGS = ("config", "config1", "config2")
 HARDWARE_TYPE, CACHE_TYPE, RAW_TYPE = 0, 3, 4
 NUMBERED_CACHES = ("L1-dcache", "L1-icache", "LLC", "dTLB", "iTLB", "branch", "node")
-SLOTS = 0x0400
+SLOTS, PARTS_OF_SLOTS = 0x0400, range(0x8000, 0x8701, 0x100)
+WITHOUT_FILTER = "leave out all terms but event and umask"
 
 
 @dataclass(frozen=True)
@@ -76,6 +78,8 @@ class Meanings:
 
     def need_of_config(self, config: int, config1: int, precise: int, machine: Machine) -> Need:
         """What a config needs whose samples have to be this precise, 0 to 3."""
+        if "slots" in machine.names and is_of_slots(config) and (config1 or config & FLAGS):
+            return Need(refused=f"slots and its parts take no filter; {WITHOUT_FILTER}", config=config)
         if precise and machine.precise is not None:
             reason = self.refused_precise(precise, config, machine)
             if reason is None:
@@ -231,6 +235,11 @@ def config_of_type(kind: int, config: int, config1: int, machine: Machine, text:
     return 0, 0, f"Linux has no event {text} on {machine.name}"
 
 
+def is_of_slots(config: int) -> bool:
+    """Whether a config is slots or a part of them, whatever its flags."""
+    return config & 0xFFFF in (SLOTS, *PARTS_OF_SLOTS)
+
+
 def terms_of_name(name: str, machine: Machine) -> str:
     """The terms that the file gives a name, whatever its letters' case."""
     return next((text for known, text in machine.names.items() if known.lower() == name.lower()), "")
@@ -256,7 +265,7 @@ def fitting(value: int, bits: tuple[int, ...], event: Typed, at: int) -> int:
 
 
 def unknown_term(name: str, machine: Machine) -> str:
-    known = in_words([*machine.terms, *CONFIGS, *PASSED_TERMS])
+    known = listed([*machine.terms, *CONFIGS, *PASSED_TERMS])
     return f"the term {name!r} is not known on {machine.name}; {known} are"
 
 

@@ -8,7 +8,7 @@ from dataclasses import dataclass, field
 
 from fit.machines import Machine
 from fit.perf_session import Attempt, NotedSession, Place
-from fit.plan import Event, Group, Plan, Reason, with_rules
+from fit.plan import LEADERS, Event, Group, Plan, refused_event, with_rules
 from perfscript.limits import MOST_MEMBERS
 from perfscript.names import SOFTWARE, SOFTWARE_NAMES
 
@@ -31,12 +31,10 @@ class Wish:
     @property
     def beyond(self) -> str:
         """Why its group can't be opened here as perf opens it, empty where it can."""
-        if len(self.group) > MOST_MEMBERS:
-            return f"it has {len(self.group)} members, and the program takes {MOST_MEMBERS}"
-        pairs = [wish.name for wish in self.group if "pair" in wish.attempt.attribute.need.counters.marks]
-        if pairs and len(self.group) > 1:
-            return f"{pairs[0]} takes two counters, and perf reads one value of it; ask for the group by -e"
-        return ""
+        pairs = sum("pair" in wish.attempt.attribute.need.counters.marks for wish in self.group)
+        count = len(self.group) + pairs
+        among = f", {pairs} second counter{'s' * (pairs > 1)} among them" * bool(pairs)
+        return f"it has {count} members{among}, and the program takes {MOST_MEMBERS}" * (count > MOST_MEMBERS)
 
 
 def wishes_of(session: NotedSession | None, printed: str) -> list[Wish]:
@@ -183,6 +181,8 @@ def plan_of(opens: Opens, machine: Machine, has_watchdog: bool) -> Plan:
 def event_of(wish: Wish, attempt: Attempt, machine: Machine) -> Event:
     """The event as it was opened at last."""
     asked, need = attempt.attribute.asked, attempt.attribute.need
-    refused = Reason("linux", (), need.refused) if need.refused else None
+    alone = tuple(word for word in asked.words if wish.leader and word in LEADERS)
+    flags = tuple(word for word in asked.words if word not in alone)
     kind = SOFTWARE_NAMES.get(asked.config, "") if asked.type == SOFTWARE else ""
-    return Event(wish.name, kind, machine if need.is_core else None, asked.words, need, refused, wish.number)
+    refused = refused_event(wish.name, need, alone)
+    return Event(wish.name, kind, machine if need.is_core else None, flags, need, refused, wish.number, alone)

@@ -7,6 +7,7 @@ every task and every processor with events works through one rotation, so each s
 from __future__ import annotations
 
 import errno
+import os
 from collections.abc import Callable
 from dataclasses import dataclass, field
 
@@ -16,7 +17,7 @@ from double.clock import Sleep
 from double.journal import TOOL
 from double.session import Event, Refusal, Session
 from fit.core_events import (
-    CoreAttribute, CoreTranslator, error_of, kinds_of, not_of_a_task, scenario_of, watchdog_line,
+    CoreAttribute, CoreTranslator, error_of, for_a_task, kinds_of, scenario_of, watchdog_line,
 )
 from fit.machines import Machine
 from fit.meanings import Meanings
@@ -63,7 +64,7 @@ class NotedSession(Session):
     by_slot: dict[int, Attempt] = field(default_factory=dict)
     # the events behind which a group goes on whose leader has as many members as the program takes, by its slot
     next_leaders: dict[int, list[Event]] = field(default_factory=dict)
-    # by a leader's slot that of a sibling that perf does not know of, as of the second counter of a pair
+    # by an event's slot that of a sibling that perf does not know of, as of the second counter of a pair
     seconds: dict[int, int] = field(default_factory=dict)
     has_closed: bool = False
     rotations: int = 0
@@ -74,7 +75,7 @@ class NotedSession(Session):
         group = self.by_slot.get(leader.slot) if isinstance(leader, Event) else None
         place = -1 if tid is None else tid, cpu
         if tid is not None:
-            attribute = not_of_a_task(attribute, others_of(self.machine))
+            attribute = for_a_task(attribute, others_of(self.machine))
         self.attempts.append(Attempt(attribute, attribute.given, place, group, self.has_closed))
         return self.attempts[-1]
 
@@ -95,7 +96,8 @@ class NotedSession(Session):
         if not isinstance(leader, Event):
             return leader
         own = self.by_slot[leader.slot]
-        count = 1 + sum(one.leader is own for one in self.by_slot.values()) + (leader.slot in self.seconds)
+        members = [slot for slot, one in self.by_slot.items() if one is own or one.leader is own]
+        count = len(members) + sum(slot in self.seconds for slot in members)
         if count < MOST_MEMBERS:
             return leader
         further = self.next_leaders.setdefault(leader.slot, [])
@@ -180,11 +182,45 @@ class CoreSession(NotedSession):
             attempt.attribute = attempt.attribute.as_dummy()
         event, own = self.done(attempt, leader), attempt.attribute
         if attempt.is_counted and "pair" in own.need.counters.marks:
-            self.open_second(attempt, own.second(kinds_of(self.machine)[own.need.counters.mask << 1]))
+            self.open_pair(event, attempt, own.second(kinds_of(self.machine)[own.need.counters.mask << 1]))
         elif is_beyond and attempt.leader is None:
             # so perf finds a member too many when it reads the group, and counts none
             self.open_second(attempt, own.second(None))
         return event
+
+    def open_pair(self, event: Event, attempt: Attempt, sent: bytes) -> None:
+        """Opens the second counter of an event, which perf's reads leave out. Where it has none Linux refuses the event
+        as a whole."""
+        try:
+            self.open_second(attempt, sent)
+        except Refusal as refusal:
+            self.take_back(event)
+            attempt.refused, attempt.slot, attempt.is_open = Reason("program", (), refusal.why), None, False
+            raise Refusal(refusal.error, refusal.why) from None
+        self.unseen.add(self.seconds[event.slot])
+
+    def take_back(self, event: Event) -> None:
+        """Closes an event that perf does not get: the lines of its open and its close are the session's own."""
+        assert event.key
+        self.own_call(f"close {event.slot}")
+        self.own_lines.add(f"{TOOL}.{event.key[1]}")
+        del self.events[event.slot], self.all_events[event.slot], self.by_slot[event.slot]
+        os.close(event.file)
+
+    def read(self, event: Event, room: int) -> list[int]:
+        """The words of a read, without those of the second counters of pairs."""
+        form, own = event.attribute.format, self.by_slot[event.slot]
+        own = own.leader or own
+        slots = [slot for slot, one in self.by_slot.items() if one.is_open and (one is own or one.leader is own)]
+        members = sorted([*slots, *(self.seconds[slot] for slot in slots if slot in self.seconds)])
+        left_out = [place for place, slot in enumerate(members) if slot in self.unseen]
+        if not form & FORMAT_GROUP or not left_out:
+            return super().read(event, room)
+        front = 1 + bool(form & ENABLED) + bool(form & RUNNING)
+        each = 1 + bool(form & FORMAT_ID) + bool(form & FORMAT_LOST)
+        words = super().read(event, room + 8 * each * len(left_out))
+        kept = [word for at, word in enumerate(words[front:]) if at // each not in left_out]
+        return [words[0] - len(left_out), *words[1:front], *kept]
 
     def refuse_by_code(self, attempt: Attempt) -> None:
         """Refuses what Linux refuses whatever else is open: by the event's code, or as a part of slots."""
@@ -201,10 +237,10 @@ class CoreSession(NotedSession):
 
     def open_second(self, attempt: Attempt, sent: bytes) -> None:
         """Opens a sibling that perf does not know of."""
-        assert attempt.slot is not None
-        self.seconds[attempt.slot] = self.next_slot
-        words = f"{self.words_of(attempt.place)} leader={attempt.slot}"
-        self.own_open(f"open {self.next_slot} attr={sent.hex()} {words}")
+        leader, slot = (attempt.leader or attempt).slot, self.next_slot
+        assert leader is not None and attempt.slot is not None
+        self.own_open(f"open {slot} attr={sent.hex()} {self.words_of(attempt.place)} leader={leader}")
+        self.seconds[attempt.slot] = slot
 
     def exec(self, tid: int) -> None:
         super().exec(tid)

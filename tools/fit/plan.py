@@ -9,11 +9,15 @@ from functools import cached_property
 
 from fit.events import Typed, TypedGroup, modes_left_out
 from fit.faults import BadInput
-from fit.machines import Machine, in_words
+from fit.machines import Machine
 from fit.meanings import NOTHING, Meanings, Need
+from fit.stand_in import OF_ALL
+from perfscript.command import listed
 from perfscript.limits import MOST_KINDS, MOST_MEMBERS, MOST_SLOTS
 from perfscript.names import SOFTWARE_NAMES
 
+# flags that only a leader may have, and their modifiers
+LEADERS = {"pinned": "D", "exclusive": "e"}
 # other PMUs whose events may stand in a group with those of a core
 IN_ANY_GROUP = ("msr", "kprobe", "uprobe", "breakpoint", "tracepoint", "software")
 
@@ -31,7 +35,8 @@ class Reason:
 class Event:
     """An event of a group. `machine` is the kind of core that counts it, none where no core's counter does; `kind` is
     what it counts there for the program. `refused` says why its open is refused whatever else is on. `number` is its
-    place among all events of perf, where perf itself opened it."""
+    place among all events of perf, where perf itself opened it. `alone` are the flags of a sibling that it may have
+    where it is opened by itself."""
 
     name: str
     kind: str
@@ -40,6 +45,7 @@ class Event:
     need: Need = NOTHING
     refused: Reason | None = None
     number: int = -1
+    alone: tuple[str, ...] = ()
 
     @property
     def mask(self) -> int:
@@ -167,6 +173,7 @@ class Planning:
     machines: Sequence[Machine]
     present: Sequence[Machine]
     meanings: Meanings
+    is_task: bool = True
     notes: list[str] = field(default_factory=list)
 
     def groups(self, typed_groups: Iterable[TypedGroup]) -> tuple[Group, ...]:
@@ -191,7 +198,7 @@ class Planning:
         others = {event.pmu for event in typed.events if event.is_other and not event.pmu.startswith(IN_ANY_GROUP)}
         if not others or (len(others) == 1 and all(event.is_other for event in typed.events)):
             return [typed]
-        texts = in_words([event.text for event in typed.events])
+        texts = listed([event.text for event in typed.events])
         self.notes.append(f"perf takes the group of {texts} apart: their PMUs have other processors")
         return [TypedGroup((event,), typed.modifiers, False) for event in typed.events]
 
@@ -234,21 +241,23 @@ class Planning:
         """The event as it is opened. With several kinds of core one without a PMU is called by it, as perf does."""
         is_leader = event is typed.events[0]
         letters = event.modifiers + (typed.modifiers if is_leader else "")
-        flags = [word for word, letter in (("pinned", "D"), ("exclusive", "e")) if is_leader and letter in letters]
+        flags = [word for word, letter in LEADERS.items() if is_leader and letter in letters]
         leaves_user, leaves_kernel = modes_left_out(event.modifiers, typed.modifiers)
         flags += ["exclude_user"] * leaves_user + ["exclude_kernel"] * leaves_kernel
-        refused = None if is_leader else refused_sibling(event)
+        alone = tuple(word for word, letter in LEADERS.items() if not is_leader and letter in event.modifiers)
         if event.needs_no_counter:
-            return Event(shown(event.text), event.kind, None, tuple(flags), NOTHING, refused)
+            is_refused = is_of_all(event) and self.is_task
+            need = Need(is_core=False, refused=not_of_a_task(event.pmu)) if is_refused else NOTHING
+            refused = refused_event(event.text, need, alone)
+            return Event(shown(event.text), event.kind, None, tuple(flags), need, refused, alone=alone)
         own = machine_called(event, self.machines) if event.form == "slashed" else machine
         assert own
         need = self.meanings.need(event, own, typed.modifiers)
-        if need.refused:
-            refused = Reason("linux", (), need.refused)
         name = shown(event.text)
         if len(self.machines) > 1 and event.form != "slashed":
             name = f"{own.pmu}/{event.name}/{event.modifiers}"
-        return Event(name, event.kind, own if need.is_core else None, tuple(flags), need, refused)
+        refused = refused_event(event.text, need, alone)
+        return Event(name, event.kind, own if need.is_core else None, tuple(flags), need, refused, alone=alone)
 
 
 def shown(text: str) -> str:
@@ -278,7 +287,8 @@ def plan_of(
     """The plan of a list, once each event is known and the limits of the program are kept."""
     check_processors(processors, machines)
     present = [machine for machine in machines if not processors or set(processors) & set(machine.processors)]
-    planning = Planning(machines, present, meanings or Meanings())
+    is_task = not processors and not are_of_all(typed_groups)
+    planning = Planning(machines, present, meanings or Meanings(), is_task)
     groups = planning.groups(typed_groups)
     for machine in machines if has_watchdog else ():
         if not machine.watchdog:
@@ -299,16 +309,32 @@ def machine_called(event: Typed, machines: Sequence[Machine]) -> Machine:
     for machine in machines:
         if event.pmu in (machine.pmu, machine.name):
             return machine
-    known = in_words([machine.pmu for machine in machines])
+    known = listed([machine.pmu for machine in machines])
     raise event.source.refuse(f"no PMU is called {event.pmu!r}; there is {known}", event.start - len(event.pmu) - 1)
 
 
-def refused_sibling(event: Typed) -> Reason | None:
-    """Linux opens no sibling that is pinned or exclusive by its own modifiers."""
-    for letter, word in (("D", "pinned"), ("e", "exclusive")):
-        if letter in event.modifiers:
-            where = f"put {letter} at the leader or behind the brace"
-            return Reason("linux", (), f"{event.text} is no leader, so it can't be {word}; {where}")
+def are_of_all(groups: Iterable[TypedGroup]) -> bool:
+    """Whether each event of a list is of a PMU that counts for whole processors: then perf asks for these by itself
+    (`setup_system_wide`, tools/perf/builtin-stat.c)."""
+    return all(is_of_all(event) or event.text == "duration_time" for group in groups for event in group.events)
+
+
+def is_of_all(event: Typed) -> bool:
+    return event.is_other and event.pmu.startswith(OF_ALL)
+
+
+def not_of_a_task(pmu: str) -> str:
+    """Why Linux refuses an event of a PMU that counts for all tasks of a processor, where it is for one task."""
+    return f"Linux counts events of {pmu} for whole processors, and not for a task; perf stat -a asks for them so"
+
+
+def refused_event(text: str, need: Need, alone: Sequence[str]) -> Reason | None:
+    """Why Linux refuses an event by its code, or a sibling that is pinned or exclusive by its own modifiers."""
+    if need.refused:
+        return Reason("linux", (), need.refused)
+    for word in alone:
+        where = f"put {LEADERS[word]} at the leader or behind the brace"
+        return Reason("linux", (), f"{text} is no leader, so it can't be {word}; {where}")
     return None
 
 
@@ -353,16 +379,24 @@ def split(plan: Plan, reasons: Mapping[int, Reason]) -> Plan:
     for group in plan.groups:
         if group.number not in reasons:
             continue
-        names = in_words([event.name for event in group.events])
+        names = listed([event.name for event in group.events])
         notes.append(f"perf takes the weak group of {names} apart: {reasons[group.number].sentence}")
-        together = tuple(event for event in group.events if stays_with_slots(event, group))
+        members = [opened_again(event) for event in group.events]
+        together = tuple(event for event in members if stays_with_slots(event, group))
         parts = [together] if together else []
-        parts += [(event,) for event in group.events if event not in together]
+        parts += [(event,) for event in members if event not in together]
         for events in parts:
             text = events[0].name if len(events) == 1 else "{" + ",".join(event.name for event in events) + "}"
-            kept.append(Group(0, text, tuple(with_rules(list(events))), group.is_pinned, group.is_exclusive))
+            flags = events[0].flags
+            kept.append(Group(0, text, tuple(with_rules(list(events))), "pinned" in flags, "exclusive" in flags))
     numbered = tuple(replace(group, number=number) for number, group in enumerate(kept, 1))
     return replace(plan, groups=numbered, notes=tuple(notes))
+
+
+def opened_again(event: Event) -> Event:
+    """The event as perf opens it by itself: what was refused for the sake of its group is not refused there."""
+    refused = refused_event(event.name, event.need, ())
+    return replace(event, refused=refused, flags=(*event.alone, *event.flags), alone=())
 
 
 def stays_with_slots(event: Event, group: Group) -> bool:

@@ -6,9 +6,9 @@ from collections.abc import Mapping
 
 from fit.answers import Cause
 from fit.faults import ProgramFault
-from fit.machines import in_words
 from fit.plan import Reason
 from fit.script import Script
+from perfscript.command import listed
 
 
 def reason_of(cause: Cause, script: Script, causes: Mapping[int, Cause | None]) -> Reason:
@@ -51,4 +51,4 @@ def counted(names: list[str]) -> str:
     for name in dict.fromkeys(names):
         count = names.count(name)
         words.append(name if count == 1 else f"{name} ({count} times)")
-    return in_words(words)
+    return listed(words)

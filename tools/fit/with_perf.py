@@ -35,8 +35,7 @@ from fit.perf_opens import Opens, plan_of, wishes_of
 from fit.perf_session import NotedSession, PerfBroker, Watch
 from fit.perf_words import PerfStat, read_words
 from fit.stand_in import StandIn
-from perfscript import Program, command, program_at
-from perfscript.program import Built
+from perfscript import Program, built_at, command
 
 ONLINE = os.path.join(os.path.dirname(os.path.abspath(__file__)), "online.c")
 # options of the tool that perf's own words take the place of
@@ -67,13 +66,6 @@ def machine_of(word: str, is_alone: bool, processors: Sequence[str] = ()) -> Mac
     return machine
 
 
-def asked_program(path: str | None) -> Program:
-    program = program_at(path or os.environ.get("PERF_RUN"))
-    if not isinstance(program, Built):
-        raise BadInput("perf asks a built perf_run: give one by --program, or build it by `rt run` in crates/perf_run")
-    return program
-
-
 def answer(options: argparse.Namespace, words: Sequence[str]) -> int:
     """Runs perf, prints, and answers perf's exit status, or the double's."""
     check_options(options)
@@ -81,7 +73,7 @@ def answer(options: argparse.Namespace, words: Sequence[str]) -> int:
     machine_of(word, is_alone)
     call = read_words(words)
     machine = machine_of(word, is_alone, call.values("cpu"))
-    program = asked_program(options.program)
+    program = built_at(options.program)
     try:
         done = done_by(program, machine, options.watchdog, call)
     except NotHere as why:
@@ -120,7 +112,8 @@ def done_by(
         broker = PerfBroker(program, meanings, machine, has_watchdog, new_watch)
         status = served(broker, call.words(), stand_in, to)
     sessions = broker.noted_sessions()
-    if not sessions or not sessions[0].attempts:
+    # without wishes perf gave up at its first open, as at a group of uncore events for a task, and has said so
+    if not wishes or not sessions or not sessions[0].attempts:
         return Done(status, Opens(wishes), None)
     opens = watched[0]
     if opens.is_other:

@@ -17,9 +17,9 @@ from pathlib import Path
 
 import packages  # noqa: F401
 from perfscript import command
+from specs import imports_of
 
 NAME = r"[A-Za-z_][A-Za-z_0-9]*"
-IMPORT = re.compile(rf"ghost use Rattle\.({NAME})\.specs\.([A-Za-z_0-9.]+?)(?:\.\{{([^}}]*)\}}| as ({NAME}));")
 CLAUSE = re.compile(r"\s+(?:requires|ensures|ghost invariant =)\s")
 BLOCK = re.compile(rf"(?:pub )?(?:unsafe )?(?:impl|trait)(?:<.*?>)? (?:{NAME}(?:<.*?>)? for )?&?(?:mut )?({NAME})")
 CALL = re.compile(rf"(\s*)(pub )?(?:const )?fn ({NAME})")
@@ -38,15 +38,9 @@ def handed_out(crate: str) -> set[str] | None:
 
 def files_by_name(text: str) -> dict[str, str]:
     """The file of definitions of each name that a source file imports, an alias's too."""
-    found: dict[str, str] = {}
-    for crate, module, names, alias in IMPORT.findall(text):
-        if crate == "std" or module.startswith("declared"):
-            continue
-        file = f"crates/{crate}/specs/{module.replace('.', '/')}.antt"
-        if alias:
-            found[alias] = file
-        found |= {name.split(" as ")[-1].strip("◌ "): file for name in names.split(",") if name.strip()}
-    return found
+    names, files = imports_of(text)
+    found = {name: key[:2] for name, key in names.items() if key[0] != "std"} | files
+    return {name.strip("◌"): f"crates/{crate}/specs/{file}.antt" for name, (crate, file) in found.items()}
 
 
 def blocks(text: str, names: Collection[str]) -> Iterator[tuple[str, bool]]:

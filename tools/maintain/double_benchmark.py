@@ -22,10 +22,9 @@ from double.build import NotHere, compiled  # noqa: E402
 from double.certificate import certify  # noqa: E402
 from double.run import Run  # noqa: E402
 from double.scenario import read_scenario  # noqa: E402
-from perfscript import Fault, Program, program_at  # noqa: E402
+from perfscript import Fault, Program, built_at  # noqa: E402
 from perfscript.command import Parser, ended  # noqa: E402
 from perfscript.live import live_at  # noqa: E402
-from perfscript.program import USUAL  # noqa: E402
 
 CLIENT = os.path.join(TOOLS, "double", "tests", "client.c")
 SCENARIO = """\
@@ -90,14 +89,14 @@ def measure(program: Program, lives: list[str], client: str) -> None:
 
 def main() -> int:
     parser = Parser("double_benchmark.py", __doc__ or "")
-    parser.set_defaults(program=os.environ.get("PERF_RUN", USUAL))
     parser.add_argument("--live", metavar="PATH", help="the built perf_live")
     options = parser.parse_args()
     live = live_at(options.live, "--live") if options.live else live_path()
+    program = built_at(options.program)
     with tempfile.TemporaryDirectory(prefix="double-benchmark.") as folder:
         try:
             client = compiled(CLIENT, folder, "-pthread")
-            measure(program_at(options.program), [live, ""] if live else [""], client)
+            measure(program, [live, ""] if live else [""], client)
         except NotHere as why:
             print(why, file=sys.stderr)
             return NOT_HERE

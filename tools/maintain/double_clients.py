@@ -20,9 +20,8 @@ sys.path.insert(0, TOOLS)
 from double.build import NotHere, compiled  # noqa: E402
 from double.testing import Double, Uncertified  # noqa: E402
 from double.tests.random_clients import SCENARIO, Program  # noqa: E402
-from perfscript import Fault  # noqa: E402
+from perfscript import Fault, built_at  # noqa: E402
 from perfscript.command import Parser, ended, from_one  # noqa: E402
-from perfscript.program import USUAL  # noqa: E402
 
 CLIENT = os.path.join(TOOLS, "double", "tests", "client.c")
 DIFFERS, NOT_HERE = 1, 77
@@ -57,14 +56,13 @@ def compare(seed: int, program: str, client: str) -> tuple[int, int, str]:
 
 def main() -> int:
     parser = Parser("double_clients.py", __doc__ or "")
-    parser.set_defaults(program=os.environ.get("PERF_RUN", USUAL))
     parser.add_argument("--seeds", default="1-500", metavar="FIRST-LAST")
     parser.add_argument("--jobs", type=from_one, default=os.cpu_count() or 1, metavar="N")
     options = parser.parse_args()
     first, _, last = options.seeds.partition("-")
     if not first.isdigit() or not (last or first).isdigit():
         raise Fault(f"--seeds: {options.seeds} is not FIRST-LAST, two numbers")
-    seeds = range(int(first), int(last or first) + 1)
+    seeds, program = range(int(first), int(last or first) + 1), built_at(options.program).path
     began, wrong, count = time.monotonic(), 0, 0
     with tempfile.TemporaryDirectory(prefix="double-clients.") as folder:
         try:
@@ -74,7 +72,7 @@ def main() -> int:
             return NOT_HERE
         size = len(seeds)
         with ProcessPoolExecutor(options.jobs) as pool:
-            for seed, given, fault in pool.map(compare, seeds, size * [options.program], size * [client]):
+            for seed, given, fault in pool.map(compare, seeds, size * [program], size * [client]):
                 count += given
                 wrong += bool(fault)
                 if fault:

@@ -35,7 +35,7 @@ from typing import NamedTuple, TypeAlias
 
 import preloaded
 from perfscript import command, program_at
-from perfscript.progress import Progress
+from perfscript.progress import each
 from preloaded import Ended
 from run_then_replay import with_order
 
@@ -147,8 +147,8 @@ class Trial:
 
     def count(self, words: Sequence[str], text: bytes, settings: Mapping[str, int], stream: int,
               is_right: Callable[[Ended, bool], bool]) -> int:
-        """How many calls of a stream there are: call 0, 1 and so on fails in a run of its own, up to a run in which none
-        did. Each has to end right."""
+        """How many calls of a stream there are: call 0, 1 and so on fails in a run of its own, up to a run in which
+        none did. Each has to end right."""
         for number in itertools.count():
             fails = {"PIECE": self.piece, **settings, f"FAIL_{stream}": number}
             ended = preloaded.call(self.program, words, text, self.library, fails)
@@ -184,12 +184,11 @@ class Trial:
 
 def main(path: str) -> int:
     program, found = program_at(path).path, list[list[object]]()
-    with tempfile.TemporaryDirectory() as folder, Progress("pieces", len(PIECES)) as progress:
+    with tempfile.TemporaryDirectory() as folder:
         library = preloaded.compiled("failing_calls", folder)
         trials = [Trial(program, library, piece) for piece in PIECES]
-        for trial in trials:
+        for trial in each("pieces", trials, len(PIECES)):
             found += trial.rows()
-            progress.step()
     faults = [fault for trial in trials for fault in trial.faults]
     return preloaded.printed(HEADS, found, faults, f"{sum(trial.runs for trial in trials)} runs, ")
 

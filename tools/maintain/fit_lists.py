@@ -39,13 +39,12 @@ def run(options: argparse.Namespace) -> int:
     chosen = options.machines or machines.names()
     for name in chosen:
         machines.load(name)
-    path = options.program or os.environ.get("PERF_RUN")
-    program_at(path)
+    program_at(options.program)
     parts = [(name, range(first, min(first + PART, options.lists)))
              for name in chosen for first in range(0, options.lists, PART)]
     began, total, differ = time.monotonic(), Seen(), set[tuple[str, str]]()
     with ProcessPoolExecutor(options.jobs) as pool:
-        for future in [pool.submit(tried, path, name, options.seed, numbers) for name, numbers in parts]:
+        for future in [pool.submit(tried, options.program, name, options.seed, numbers) for name, numbers in parts]:
             name, seen, faults = future.result()
             total.update(seen)
             differ |= {(name, words) for words, _ in faults}

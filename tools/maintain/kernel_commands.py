@@ -18,7 +18,7 @@ import live_benchmark
 import measuring
 import packages  # noqa: F401
 from double.build import NotHere, compiled
-from perfscript import Draft, Fault, program_at
+from perfscript import Draft, Fault, built_at
 from perfscript.command import Parser, ended
 from perfscript.live import live_at
 
@@ -59,7 +59,7 @@ def main() -> int:
     parser = Parser("kernel_commands.py", __doc__ or "", program="perf_live")
     parser.add_argument("--replay", metavar="PATH", help="the built perf_run")
     options = parser.parse_args()
-    live, replay = live_at(options.program), program_at(options.replay or os.environ.get("PERF_RUN"), "--replay").path
+    live, replay = live_at(options.program), built_at(options.replay, "--replay").path
     with tempfile.TemporaryDirectory(prefix="kernel-commands.") as folder:
         try:
             client = compiled(CLIENT, folder)

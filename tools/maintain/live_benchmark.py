@@ -17,7 +17,7 @@ import time
 import measuring
 import replay_benchmark
 from double.build import NotHere, compiled
-from perfscript import Draft, Fault, Live, program_at
+from perfscript import Draft, Fault, Live, built_at
 from perfscript.command import Parser, ended
 from perfscript.live import live_at
 
@@ -82,7 +82,7 @@ def main() -> int:
     parser = Parser("live_benchmark.py", __doc__ or "", program="perf_live")
     parser.add_argument("--replay", metavar="PATH", help="the built perf_run")
     options = parser.parse_args()
-    live, replay = live_at(options.program), program_at(options.replay or os.environ.get("PERF_RUN"), "--replay").path
+    live, replay = live_at(options.program), built_at(options.replay, "--replay").path
     table = (
         ("1 processor, 3 events", replay_benchmark.small()),
         ("8 processors, 200 events", replay_benchmark.large()),

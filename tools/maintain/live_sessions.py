@@ -18,10 +18,9 @@ from functools import partial
 TOOLS = os.path.normpath(os.path.join(os.path.dirname(os.path.abspath(__file__)), ".."))
 sys.path.insert(0, TOOLS)
 
-from perfscript import Fault, program_at  # noqa: E402  the package is found only now
+from perfscript import Fault, built_at  # noqa: E402  the package is found only now
 from perfscript.command import Parser, ended  # noqa: E402
 from perfscript.live import live_at  # noqa: E402
-from perfscript.program import Built  # noqa: E402
 from perfscript.progress import Progress  # noqa: E402
 from perfscript.tests.random_sessions import Compared, compare  # noqa: E402
 
@@ -40,9 +39,7 @@ def main() -> int:
     if options.jobs < 1:
         raise Fault(f"--jobs: {options.jobs} is too few; give 1 or more")
     live = live_at(options.program)
-    replay = program_at(options.replay or os.environ.get("PERF_RUN"), "--replay")
-    if not isinstance(replay, Built):
-        raise Fault("each session asks a built perf_run: give one by --replay or PERF_RUN")
+    replay = built_at(options.replay, "--replay")
     return do_all(range(int(first), int(last or first) + 1), partial(compare, live=live, program=replay), options.jobs)
 
 

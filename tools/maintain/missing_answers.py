@@ -39,7 +39,6 @@ USE = re.compile(r"^    (use Rattle\.\S+\.Goals as goal)$", re.M)
 REFUSED = re.compile(r"^(?:note: )?(?:\./)?(proofs/\S+/Answers\.antt):\d+:\d+: error: `([^`]+)`", re.M)
 
 
-
 class Goal(NamedTuple):
     """A goal: its name, its type, what its answer is given, and the line that imports its module."""
 
@@ -51,14 +50,10 @@ class Goal(NamedTuple):
 
 # the goals of files of answers
 Goals: TypeAlias = dict[str, list[Goal]]
-# What the check tries by itself, in its order, with the names that it takes and their import.
+# What the check tries by itself, in its order, with the import of the names that it takes behind the first word.
 TACTICS = [
-    ("search rules", ["rules"], "use Rattle.std.proofs.Common.{rules}"),
-    (
-        "grind (arith, common_steps)",
-        ["arith", "common_steps"],
-        "use Rattle.std.proofs.{Common.{arith}, lemmas.Grind.{common_steps}}",
-    ),
+    ("search rules", "use Rattle.std.proofs.Common.{rules}"),
+    ("grind (arith, common_steps)", "use Rattle.std.proofs.{Common.{arith}, lemmas.Grind.{common_steps}}"),
 ]
 
 
@@ -82,13 +77,13 @@ def with_answers(text: str | None, goals: Sequence[tuple[Goal, int]]) -> str:
     lines = (text or "").strip("\n").split("\n")
     uses = [line for line in lines if line.startswith("use ")]
     for goal, tactic in goals:
-        words, use = TACTICS[tactic][1:]
-        if not all(re.search(rf"\b{word}\b", "\n".join(uses)) for word in words):
+        answer, use = TACTICS[tactic]
+        if not all(re.search(rf"\b{name}\b", "\n".join(uses)) for name in re.findall(r"\w+", answer)[1:]):
             uses.insert(0, use)
         if goal.use not in uses:
             uses.append(goal.use)
     rest = "\n".join(line for line in lines if not line.startswith("use ")).strip("\n")
-    answers = [f"pub {goal.name} : {goal.type}\n{goal.name} {goal.given} = {TACTICS[place][0]}" for goal, place in goals]
+    answers = [f"pub {it.name} : {it.type}\n{it.name} {it.given} = {TACTICS[place][0]}" for it, place in goals]
     return "\n\n".join(["\n".join(uses), *filter(None, [rest]), *answers]) + "\n"
 
 

@@ -32,10 +32,11 @@ from fit import machines  # noqa: E402
 from fit.meanings import Meanings  # noqa: E402
 from fit.tests.perf_lines import PATH, Case, cases, come, faults, has_counters, outcome  # noqa: E402
 from fit.tests.support import has_perf  # noqa: E402
-from perfscript import Fault, program_at  # noqa: E402
+from perfscript import Fault, built_at  # noqa: E402
 from perfscript.command import Parser, ended, from_one  # noqa: E402
 
 OF_METRICS = ("skylake", "icelake", "zen3")
+METRIC = "-M "
 # in seconds beside perf's own
 MOST_TIME = 3.0
 
@@ -44,7 +45,10 @@ def tried(given: tuple[str | None, Case]) -> tuple[Case, str, list[str], dict[st
     """What came of a line, what is wrong with it, and how many weak groups there are of each kind."""
     path, case = given
     try:
-        came = come(program_at(path), case)
+        came = come(built_at(path), case)
+        if came.done.answer is None and case.words.startswith(METRIC):
+            # its events are of whole processors, and perf says that -a asks for them
+            came = come(built_at(path), case._replace(words=f"-a {case.words}"))
     except Exception as fault:
         return case, "", [f"{type(fault).__name__}: {fault}"], {}
     counts: collections.Counter[str] = collections.Counter(metrics=1)
@@ -98,7 +102,7 @@ def metric_cases(names: Iterable[str]) -> list[Case]:
     for name in names:
         with Meanings() as meanings:
             metrics = meanings.tables_of(machines.load(name)).metric_names()
-        found += [Case(name, f"-M {metric}", "") for metric in metrics]
+        found += [Case(name, METRIC + metric, "") for metric in metrics]
     return found
 
 
@@ -133,13 +137,13 @@ def run(program: str | None, options: object) -> int:
         machines.load(name)
     chosen = metric_cases(given["machines"] or OF_METRICS) if given["metrics"] else cases()
     chosen = [case for case in chosen if case.machine in given["machines"] or not given["machines"]]
-    path = program or os.environ.get("PERF_RUN")
+    built_at(program)
     if given["time"]:
-        return int(timed(path, chosen) > 0)
+        return int(timed(program, chosen) > 0)
     found, differ = dict[tuple[str, str], str](), 0
     totals: dict[str, collections.Counter[str]] = {}
     with ProcessPoolExecutor(given["jobs"]) as pool:
-        for case, text, wrong, counts in pool.map(tried, [(path, one) for one in chosen]):
+        for case, text, wrong, counts in pool.map(tried, [(program, one) for one in chosen]):
             found[case.machine, case.words] = text
             totals.setdefault(case.machine, collections.Counter()).update(counts)
             if not given["metrics"] and not given["write"] and text != case.outcome:

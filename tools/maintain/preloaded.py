@@ -6,7 +6,7 @@ import subprocess
 import tempfile
 from collections.abc import Mapping, Sequence
 from pathlib import Path
-from typing import IO, NamedTuple
+from typing import NamedTuple
 
 from packages import DATA
 from perfscript import Fault
@@ -49,20 +49,15 @@ def call(program: str, words: Sequence[str], text: bytes, library: str, settings
         source.write(text)
         source.seek(0)
         named = {f"PRELOADED_{name}": str(value) for name, value in [*settings.items(), ("TELL", told.fileno())]}
-        return ended([program, *words], source, told, {**os.environ, "LD_PRELOAD": library, **named})
-
-
-def ended(words: Sequence[str], source: IO[bytes], told: IO[bytes], variables: Mapping[str, str]) -> Ended:
-    """How a command ends whose input is the source, and which has the descriptor of `told`."""
-    try:
-        done = subprocess.run(
-            words, stdin=source, capture_output=True, env=variables, pass_fds=[told.fileno()], timeout=SECONDS
-        )
-        status, out, note = done.returncode, done.stdout, done.stderr
-    except subprocess.TimeoutExpired:
-        status, out, note = None, b"", b""
-    told.seek(0)
-    return Ended(status, out, note, told.read())
+        variables = {**os.environ, "LD_PRELOAD": library, **named}
+        try:
+            done = subprocess.run([program, *words], stdin=source, capture_output=True, env=variables,
+                                  pass_fds=[told.fileno()], timeout=SECONDS)
+            status, out, note = done.returncode, done.stdout, done.stderr
+        except subprocess.TimeoutExpired:
+            status, out, note = None, b"", b""
+        told.seek(0)
+        return Ended(status, out, note, told.read())
 
 
 def stored(name: str) -> bytes:

@@ -13,7 +13,7 @@ import sys
 import measuring
 from perfscript import command
 from perfscript.limits import MOST_BYTES
-from perfscript.progress import Progress
+from perfscript.progress import each
 
 HEAD, ORDER, ACT, END = "perf 1\nmachine cpus=1 counters=10\nprocessor 0\ntick\n", "order{}\n", " p0", "end\n"
 # the acts of one order line that fills the text
@@ -35,14 +35,12 @@ def text_of(acts_per_line: int) -> str:
 
 def main(program: str) -> None:
     lengths = (1, 1000, MOST_ACTS)
-    with Progress("texts", len(lengths)) as progress:
-        for acts_per_line in lengths:
-            text = text_of(acts_per_line)
-            lines = text.count("\n")
-            seconds, peak = measuring.best(RUNS, program, ["replay"], text, 1, f"perf_run: line {lines}: ORDER")
-            progress.step()
-            best = f"{seconds:.2f} s, the best of {RUNS}; peak memory {peak:.1f} MiB"
-            print(f"{len(text)} bytes, {lines} lines, {text.count(ACT)} acts: {best}")
+    for acts_per_line in each("texts", lengths, len(lengths)):
+        text = text_of(acts_per_line)
+        lines = text.count("\n")
+        seconds, peak = measuring.best(RUNS, program, ["replay"], text, 1, f"perf_run: line {lines}: ORDER")
+        best = f"{seconds:.2f} s, the best of {RUNS}; peak memory {peak:.1f} MiB"
+        print(f"{len(text)} bytes, {lines} lines, {text.count(ACT)} acts: {best}")
 
 
 if __name__ == "__main__":

@@ -35,7 +35,7 @@ from typing import TypeAlias
 
 import preloaded
 from perfscript import command, program_at
-from perfscript.progress import Progress
+from perfscript.progress import each
 from preloaded import Ended
 from run_then_replay import with_order, without_counters
 
@@ -102,14 +102,12 @@ def row_of(program: str, library: str, name: str, word: str, kind: str,
 
 def main(path: str) -> int:
     program, rows, faults = program_at(path).path, list[list[object]](), list[str]()
-    with tempfile.TemporaryDirectory() as folder, Progress("rows", len(ALL) * len(KINDS)) as progress:
+    with tempfile.TemporaryDirectory() as folder:
         library = preloaded.compiled("refused_memory", folder)
-        for name, word in ALL:
-            for kind in KINDS:
-                row, own = row_of(program, library, name, word, kind)
-                rows.append(row)
-                faults += own
-                progress.step()
+        for (name, word), kind in each("rows", itertools.product(ALL, KINDS), len(ALL) * len(KINDS)):
+            row, own = row_of(program, library, name, word, kind)
+            rows.append(row)
+            faults += own
     return preloaded.printed(HEADS, rows, faults)
 
 

@@ -15,7 +15,7 @@ import sys
 
 import packages  # noqa: F401
 from perfscript import Program, command, lines_of, program_at
-from perfscript.progress import Progress
+from perfscript.progress import each
 
 
 def with_order(text: str, order: str) -> str:
@@ -45,13 +45,11 @@ def differs(program: Program, text: str) -> str | None:
 
 def main(path: str, *scripts: str) -> int:
     program, texts, failures = program_at(path), [command.text_of(script) for script in scripts], 0
-    with Progress("scripts", len(scripts)) as progress:
-        for script, text in zip(scripts, texts):
-            how = differs(program, text)
-            if how:
-                failures += 1
-                print(f"{script}: {how}")
-            progress.step()
+    for script, text in each("scripts", zip(scripts, texts), len(scripts)):
+        how = differs(program, text)
+        if how:
+            failures += 1
+            print(f"{script}: {how}")
     print(f"{len(scripts)} scripts, {failures} failures")
     return 1 if failures else 0
 

@@ -24,12 +24,14 @@ Usage: script_terms.py
 import os
 import re
 import sys
+import tomllib
 from collections.abc import Callable, Iterable, Mapping, Sequence
-from typing import NamedTuple, TypeAlias
+from pathlib import Path
+from typing import NamedTuple
 
 import worked_cases
 from packages import CRATES, DATA
-from perfscript import Act, Fault, Key, Line, Look, Report, Script, command
+from perfscript import Act, Fault, Line, Look, Report, Script, command
 from perfscript.attributes import Attribute
 from perfscript.limits import MOST_CPUS, MOST_TOOLS
 from perfscript.names import FLAGS, SOFTWARE_KINDS
@@ -37,14 +39,9 @@ from perfscript.names import FLAGS, SOFTWARE_KINDS
 PROOFS = os.path.join(CRATES, "worked_theorems", "proofs")
 WRITTEN = "written by tools/maintain/script_terms.py"
 LINES_PER_FILE = 390
-REASONS = {
-    "EATTRPERIOD": "BadPeriod", "ESAMPLEBITS": "BadSampleBits", "EFORMATBITS": "BadFormatBits", "ENOPLACE": "NoPlace",
-    "ESOFTPERIOD": "SoftPeriod", "EEXIST": "Exists", "ESRCH": "NoTask", "EBADF": "NoEvent", "ELEADER": "NotLeader",
-    "ECONTEXT": "OtherContext", "EFLAGS": "SiblingFlags", "EINHERIT": "Inherit", "EGROUP": "GroupFull",
-    "EASSIGN": "NoAssignment", "EBUSY": "Busy", "EIDLE": "Idle", "EAGAIN": "CopiesFull", "ENOSAMPLE": "NotSampling",
-    "EPERIOD": "ZeroPeriod", "ENOSPC": "NoSpace", "ESELF": "SameEvent", "ECPU": "OtherCpu", "EMAPPED": "HasRing",
-    "ENORING": "NoRing", "EPMU": "OtherPmu", "EDEVICE": "NoDevice",
-}
+# what files of theorems may import, and what terms call refusals and lines
+TABLES = tomllib.loads(Path(__file__).with_suffix(".toml").read_text("utf-8"))
+REASONS: Mapping[str, str] = TABLES["reasons"]
 RULES = {"exclusive": "Exclusive", "exclusive-self": "ExclusiveSelf", "earlier": "Earlier"}
 NOTE = re.compile(r"perf_run: act (\d+): ring (\d+) last (\d+) head (\d+) given (\d+)")
 
@@ -112,30 +109,18 @@ def read_line(line: Line, _kinds: Sequence[str]) -> str:
     return f"tool_line.Read (slot {line.words[0]}) {size}"
 
 
-# the term of each line, with its words in their places, or what makes it of the line and the names of the kinds
-LINES: Mapping[str, str | Callable[[Line, Sequence[str]], str]] = {
-    "switch": switch,
-    "work": work,
-    "tick": "cpu_line.Tick",
-    "fork": "cpu_line.Fork (task {0})",
-    "exit": "cpu_line.Exit",
-    "open": open_line,
-    "enable": "tool_line.Enable (slot {0}) {is_group}",
-    "disable": "tool_line.Disable (slot {0}) {is_group}",
-    "reset": "tool_line.Reset (slot {0}) {is_group}",
-    "period": "tool_line.Period (slot {0}) {1}",
-    "read": read_line,
-    "map": "tool_line.Map (slot {0}) (ring {1})",
-    "output": "tool_line.Output (slot {0}) (slot {1})",
-    "close": "tool_line.Close (slot {0})",
-    "why": "tool_line.Why (slot {0})",
-    "seats": "tool_line.Seats (cpu {0})",
+# the lines whose terms are more than their words in the places of a pattern
+MADE: Mapping[str, Callable[[Line, Sequence[str]], str]] = {
+    "switch": switch, "work": work, "open": open_line, "read": read_line,
 }
 
 
 def line_term(line: Line, kinds: Sequence[str]) -> str:
-    form = LINES[line.head]
-    return form.format(*line.words, is_group=str(line.is_group).lower()) if isinstance(form, str) else form(line, kinds)
+    """The term of a line, in a script of these kinds."""
+    if line.head in MADE:
+        return MADE[line.head](line, kinds)
+    pattern: str = TABLES["lines"][line.head]
+    return pattern.format(*line.words, is_group=str(line.is_group).lower())
 
 
 # The report: of each reply its term, and the proof that it is the answer.
@@ -261,68 +246,34 @@ def nested(proofs: Sequence[str], last: str) -> str:
 
 # The files.
 
-DECLARED = "Rattle.perf_base.specs.declared."
-# what the theorems take: a module with its short name, or with the names that are taken of it
-Modules: TypeAlias = Sequence[tuple[str, str | list[str]]]
-IMPORTS: Modules = [
-    ("Rattle.std.specs.Prelude", "ℕ Bool true false List [] ◌∷◌ ◌++◌ Option Some None codes".split()),
-    ("Rattle.std.proofs.Common", ["refl"]),
-    (DECLARED + "attr.Kind.TheVariants", "kind"),
-    (DECLARED + "attr.TaskSel.TheVariants", "tasks"),
-    (DECLARED + "attr.CpuSel.TheVariants", "cpus"),
-    (DECLARED + "lines.Mode.TheVariants", "mode"),
-    (DECLARED + "lines.CpuLine.TheVariants", "cpu_line"),
-    (DECLARED + "lines.ToolLine.TheVariants", "tool_line"),
-    (DECLARED + "standing.Rule.TheVariants", "rule"),
-    (DECLARED + "standing.Cause.TheVariants", "cause"),
-    (DECLARED + "standing.Why.TheVariants", "why"),
-    (DECLARED + "reasons.Reason.TheVariants", "reason"),
-    (DECLARED + "reply.Reply", ["Reply"]),
-    (DECLARED + "reply.Reply.TheVariants", "reply"),
-    ("Rattle.perf_base.specs.Scripts", ["Scripted"]),
-    (
-        "Rattle.worked_theorems.proofs.answers.Words",
-        "cpu task slot slots ring by_cpu by_tool seen pmu kind_line attr work reader eight four".split(),
-    ),
-]
-# and of answers alone, and of whole reports
-OF_FOLDERS: Mapping[str, Modules] = {
-    "answers": [("Rattle.worked_theorems.proofs.answers.Answering", ["Answers", "Computed", "computed"])],
-    "reports": [
-        ("Rattle.worked_theorems.proofs.Whole", ["IsWorked"]),
-        ("Rattle.worked_theorems.proofs.Unlawful", ["IsUnlawfulLook"]),
-        ("Rattle.worked_theorems.proofs.reports.Answering", ["Computed", "computed"]),
-        ("Rattle.worked_theorems.proofs.reports.Looking", ["Walked", "looked"]),
-    ],
-}
+FOLDERS = ("answers", "reports")
+USE = re.compile(r"use (\S+?)(?:\.\{(.*)\}| as (\S+))")
 
 
-def imports(lines: Sequence[str], modules: Modules) -> list[str]:
+def imports(lines: Sequence[str], uses: Iterable[str]) -> list[str]:
+    """Of these imports what some lines name."""
     words = set(re.sub(r'"[^"]*"|[(),;{}]', " ", " ".join(lines)).split())
     heads = {word.split(".")[0] for word in words if "." in word}
     out = []
-    for module, names in modules:
-        if isinstance(names, str):
-            out += [f"use {module} as {names}"] if names in heads else []
-            continue
-        used = [name for name in names if name.strip("◌") in words]
-        out += [f"use {module}.{{{', '.join(used)}}}"] if used else []
+    for module, names, alias in USE.findall("\n".join(uses)):
+        used = [name for name in names.split(", ") if name.strip("◌") in words]
+        if used or alias in heads:
+            out.append(f"use {module} as {alias}" if alias else f"use {module}.{{{', '.join(used)}}}")
     return out
 
 
 def write_files(out: str, folder: str, title: str, cases: Iterable[Case]) -> None:
     """Writes cases into files that are not too long."""
-    modules = [*IMPORTS, *OF_FOLDERS[folder]]
+    uses = [line for part in ("all", folder) for line in TABLES[part].splitlines()]
     parts: list[list[str]] = [[]]
     for case in cases:
         terms = ["", *terms_of(case, folder == "reports")]
-        if parts[-1] and len(parts[-1]) + len(terms) + len(modules) + 2 > LINES_PER_FILE:
+        if parts[-1] and len(parts[-1]) + len(terms) + len(uses) + 2 > LINES_PER_FILE:
             parts.append([])
         parts[-1] += terms
     for number, body in enumerate(parts, 1):
-        head = [f"-- Worked cases, {WRITTEN} from texts and their reports.", *imports(body, modules)]
-        with open(os.path.join(out, f"{title}{number}.antt"), "w", encoding="utf-8") as file:
-            file.write("\n".join([*head, *body]) + "\n")
+        head = [f"-- Worked cases, {WRITTEN} from texts and their reports.", *imports(body, uses)]
+        Path(out, f"{title}{number}.antt").write_text("\n".join([*head, *body]) + "\n", "utf-8")
 
 
 def read_case(file: str, name: str) -> Case:
@@ -342,7 +293,7 @@ def read_case(file: str, name: str) -> Case:
 
 def listed() -> dict[str, dict[str, list[Case]]]:
     """The cases of each file of theorems, as the list has them, by their folders."""
-    files: dict[str, dict[str, list[Case]]] = {folder: {} for folder in OF_FOLDERS}
+    files: dict[str, dict[str, list[Case]]] = {folder: {} for folder in FOLDERS}
     for place, name in worked_cases.theorems():
         folder, file = place.split("/")
         files[folder].setdefault(file, []).append(read_case(file, name))
@@ -354,8 +305,7 @@ BY_HAND = ("Answering", "Looking", "Seats", "Words")
 
 
 def is_written(path: str) -> bool:
-    with open(path, encoding="utf-8") as file:
-        return WRITTEN in file.readline()
+    return WRITTEN in Path(path).read_text("utf-8").partition("\n")[0]
 
 
 def main() -> None:
@@ -367,8 +317,8 @@ def main() -> None:
         for file, cases in files.items():
             write_files(out, folder, file, cases)
         names = sorted(file[: -len(".antt")] for file in os.listdir(out) if file.endswith(".antt"))
-        with open(f"{out}.antt", "w", encoding="utf-8") as modules:
-            modules.write("".join(f"{'pub ' if name in BY_HAND else ''}mod {name}\n" for name in names))
+        modules = "".join(f"{'pub ' if name in BY_HAND else ''}mod {name}\n" for name in names)
+        Path(f"{out}.antt").write_text(modules, "utf-8")
 
 
 if __name__ == "__main__":

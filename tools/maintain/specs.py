@@ -4,6 +4,7 @@ import os
 import re
 from collections.abc import Iterator
 from dataclasses import dataclass, field
+from pathlib import Path
 
 NAME = r"[A-Za-z_][A-Za-z_0-9'-]*"
 IMPORT = re.compile(r"^\s*(?:pub )?(?:unfoldable )?(?:ghost )?(?:pub )?use (Rattle\..*?);?$")
@@ -89,13 +90,11 @@ def imports_of(text: str) -> tuple[dict[str, Key], dict[str, tuple[str, str]]]:
 def declared_in(crate: str, file: str) -> dict[str, Definition]:
     """The definitions of a file, by name. Fields and constructors are their record's or their type's."""
     path = f"crates/{crate}/specs/{file}.antt"
-    with open(path, encoding="utf-8") as source:
-        lines = source.read().splitlines()
     found: dict[str, Definition] = {}
     shared: list[tuple[int, str]] = []
     now: Definition | None = None
     block = -1
-    for number, line in enumerate(lines, 1):
+    for number, line in enumerate(Path(path).read_text("utf-8").splitlines(), 1):
         if not line.strip() or line.strip().startswith("--"):
             continue
         indent = len(line) - len(line.lstrip())
@@ -111,7 +110,8 @@ def declared_in(crate: str, file: str) -> dict[str, Definition]:
             assert now is not None
             now.last, now.text = number, f"{now.text}\n{line}"
         elif opened and opened[3] not in ("use", "module", "unfolding") and not (now and now.name == opened[3]):
-            now = Definition((crate, file, opened[3]), path, number, number, line, "\n".join(text for _, text in shared))
+            parameters = "\n".join(text for _, text in shared)
+            now = Definition((crate, file, opened[3]), path, number, number, line, parameters)
             found[opened[3]] = now
             block = indent if opened[2] else -1
         elif now is not None:
@@ -123,15 +123,13 @@ def all_definitions() -> dict[Key, Definition]:
     """Every definition of the repository, each with those that it names. It is run at the top of the repository."""
     found: dict[Key, Definition] = {}
     for crate in sorted(os.listdir("crates")):
-        top = f"crates/{crate}/specs"
-        for folder, _, files in os.walk(top):
-            for name in sorted(files):
-                if name.endswith(".antt") and name != "Lib.antt":
-                    file = os.path.relpath(os.path.join(folder, name), top).removesuffix(".antt")
-                    found.update({it.key: it for it in declared_in(crate, file).values()})
+        top = Path("crates", crate, "specs")
+        for path in sorted(top.rglob("*.antt")):
+            if path.name != "Lib.antt":
+                file = str(path.relative_to(top).with_suffix(""))
+                found |= {it.key: it for it in declared_in(crate, file).values()}
     for key, it in found.items():
-        with open(it.path, encoding="utf-8") as source:
-            names, whole_files = imports_of(source.read())
+        names, whole_files = imports_of(Path(it.path).read_text("utf-8"))
         own = {other[2]: other for other in found if other[:2] == key[:2]}
         text = f"{it.shared}\n{it.text}"
         it.cites = [other for other in cited(text, {**names, **own}, whole_files) if other in found and other != key]

@@ -12,7 +12,7 @@ from statistics import median
 
 from measuring import Cost, cost
 from perfscript import command
-from perfscript.progress import Progress
+from perfscript.progress import each
 
 RUNS = 101
 SMALLEST = "perf 1\nmachine cpus=1 counters=1\nend\n"
@@ -20,11 +20,9 @@ SMALLEST = "perf 1\nmachine cpus=1 counters=1\nend\n"
 
 def main(*programs: str) -> None:
     found: list[list[Cost]] = [[] for _ in programs]
-    with Progress("rounds", RUNS) as progress:
-        for _ in range(RUNS):
-            for program, own in zip(programs, found):
-                own.append(cost(program, ["replay"], SMALLEST))
-            progress.step()
+    for _ in each("rounds", range(RUNS), RUNS):
+        for program, own in zip(programs, found):
+            own.append(cost(program, ["replay"], SMALLEST))
     for program, own in zip(programs, found):
         faults, spent = median(one.faults for one in own), median(one.processor for one in own)
         print(f"{program}: {faults:.0f} page faults, {1000 * spent:.2f} ms of processor time; the median of {RUNS}")

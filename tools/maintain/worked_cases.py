@@ -30,16 +30,6 @@ from perfscript import Fault, command
 STDOUT = os.path.join(os.path.dirname(DATA), "stdout")
 LIST, THEOREMS = os.path.join(DATA, "cases"), os.path.join(DATA, "theorems")
 
-HEAD = """\
-# The worked cases, one a line: KIND NAME, and for some a note. The text of a case is NAME.script beside this list. A
-# case of words has no text: NAME.words has the words, one a line.
-# done NAME          all is done: status 0, standard output is NAME.report, no note
-# refused NAME NOTE  status 1, nothing on standard output, this note
-# words NAME         all is done: status 0, standard output is NAME.report, no note
-# usage NAME         the words are not known: status 5, nothing on standard output, the note of usage
-# table NAME         the order of NAME.script is done under stat: status 0, standard output is NAME.table, no note
-"""
-
 STATUS = {"done": "0", "refused": "1", "words": "0", "usage": "5", "table": "0"}
 USAGE = "perf_run: usage: run, replay, make N, make N script"
 
@@ -74,8 +64,7 @@ def read(*path: str) -> str:
 
 def rows(path: str) -> list[str]:
     """The lines of a list that are no comments."""
-    lines = read(path).splitlines() if os.path.exists(path) else []
-    return [line for line in lines if line and not line.startswith("#")]
+    return [line for line in read(path).splitlines() if line and not line.startswith("#")]
 
 
 def cases() -> list[Case]:
@@ -89,8 +78,9 @@ def theorems() -> list[list[str]]:
 
 
 def write(all_cases: Sequence[Case]) -> None:
-    """Writes the list, and what the program must print for it."""
-    Path(LIST).write_text(HEAD + "".join(" ".join(filter(None, case)) + "\n" for case in all_cases))
+    """Writes the list below its head, and what the program must print for it."""
+    head = [line for line in read(LIST).splitlines() if line.startswith("#")]
+    Path(LIST).write_text("\n".join([*head, *(" ".join(filter(None, case)) for case in all_cases)]) + "\n")
     lines = [f"{case.name}: {STATUS[case.kind]}, as expected{', printed too' * case.has_script}" for case in all_cases]
     Path(STDOUT).write_text("\n".join([*lines, f"{len(all_cases)} cases, 0 failures"]) + "\n")
 
@@ -185,7 +175,6 @@ def copies(all_cases: Sequence[Case]) -> list[str]:
 
 
 def main(*words: str) -> int:
-    os.makedirs(DATA, exist_ok=True)
     all_cases = cases()
     if words[:1] == ("call",) and len(words) > 2:
         all_cases = replaced(all_cases, [case_of_call(words[1], folder) for folder in words[2:]], None)

@@ -9,12 +9,8 @@ from perfscript import Line, Report, Script
 from perfscript.follow import Event, Follow
 from perfscript.names import FORMAT_GROUP, REFUSALS
 
-RULE_OF_REFUSAL = {
-    "EATTRPERIOD": rules.ATTRIBUTES,
-    "ESAMPLEBITS": rules.ATTRIBUTES,
-    "EFORMATBITS": rules.ATTRIBUTES,
-    "ENOSPC": rules.NO_SPACE,
-}
+RULE_OF_REFUSAL = {"ENOSPC": rules.NO_SPACE}
+RULE_OF_REFUSAL |= dict.fromkeys(("EATTRPERIOD", "ESAMPLEBITS", "EFORMATBITS"), rules.ATTRIBUTES)
 RULE_OF_LINE = {
     "open": rules.OPENS,
     "map": rules.MAP,

@@ -1,6 +1,5 @@
 """Reads what docs/LINUX.md says of each known difference, and writes into docs what the last run showed."""
 
-import os
 import re
 from collections.abc import Mapping
 from pathlib import Path
@@ -8,11 +7,10 @@ from typing import NamedTuple, TypeAlias
 
 from perfscript import Fault
 
-FOLDER = os.path.dirname(os.path.abspath(__file__))
+FOLDER = Path(__file__).resolve().parent
+RULES, PAGE = (FOLDER.parents[1] / "docs" / name for name in ("RULES.md", "LINUX.md"))
 # the page in docs/; where the tools are installed, setup.py has put a copy beside them
-PAGE = os.path.join(FOLDER, "..", "..", "docs", "LINUX.md")
-LINUX = PAGE if os.path.exists(PAGE) else os.path.join(FOLDER, "LINUX.md")
-RULES = os.path.join(FOLDER, "..", "..", "docs", "RULES.md")
+LINUX = PAGE if PAGE.exists() else FOLDER / "LINUX.md"
 ROW = re.compile(r"^\| `([a-z-]+)` \|(.*)\|$", re.M)
 STAND_IN, LAST_RUN = "## Where the stand-in differs", "## The last run"
 # the place of the column Linux in the table of docs/RULES.md, from the end: the column of cases stands last
@@ -44,15 +42,8 @@ def rows(text: str) -> dict[str, Row]:
     return found
 
 
-def read(path: str) -> str:
-    try:
-        return Path(path).read_text("utf-8")
-    except OSError as fault:
-        raise Fault(f"{os.path.normpath(path)}: {fault.strerror}") from fault
-
-
 def known_rows() -> Rows:
-    return rows(read(LINUX))
+    return rows(LINUX.read_text("utf-8"))
 
 
 def rule_names(text: str) -> list[str]:

@@ -3,14 +3,16 @@
 import errno
 import os
 import resource
+import tomllib
 from collections.abc import Collection, Sequence
-from contextlib import suppress
+from contextlib import ExitStack, suppress
 from dataclasses import dataclass
 from itertools import takewhile
+from pathlib import Path
 
-from on_linux import kernel, records
-from on_linux.task import MOST_PAGES, Helper, Task, Tasks
-from perfscript import Act, Fault, Line, Look, Record, Report, Script
+from on_linux import kernel
+from on_linux.task import MOST_PAGES, Task, Tasks
+from perfscript import Act, Fault, Line, Look, Report, Script
 from perfscript.attributes import Attribute, bytes_of
 from perfscript.follow import Event, Follow
 from perfscript.names import FORMAT_GROUP, FORMAT_LOST, SOFTWARE, SOFTWARE_KINDS
@@ -47,23 +49,20 @@ class Stream:
         self.data += self.mapping.bytes(len(self.data), head)
         self.head, self.tail = head, self.mapping.word(kernel.TAIL_AT).value
 
-    def records(self) -> list[Record]:
-        return records.of_stream(self.data)
-
 
 class Doing:
     """One script on the running kernel. `answers` has an answer for each line by its name, and `rings` the stream of
     each ring."""
 
-    def __init__(self, script: Script, follow: Follow, helper: Helper, options: Collection[str] = ()) -> None:
+    def __init__(self, script: Script, follow: Follow, helper: str, options: Collection[str] = ()) -> None:
         self.script, self.follow, self.options = script, follow, options
         self.answers: dict[str, Answer] = {}
         self.rings: dict[int, Stream] = {}
         # the ids of the report by the kernel's
         self.ids: dict[int, int] = {}
         self.running: dict[str, int] = {}
-        self.keepers: list[int] = []
-        self.mappings: list[kernel.Mapping] = []
+        # what is undone at the end, the last first
+        self.at_end = ExitStack()
         self.cpus = sorted(os.sched_getaffinity(0))
         self.tasks = Tasks(helper, script.task_numbers())
         # how many records each open event lost, as the kernel tells
@@ -77,31 +76,29 @@ class Doing:
         wanted = kernel.FIRST_DESCRIPTOR + 320
         if most[0] < wanted <= most[1]:
             resource.setrlimit(resource.RLIMIT_NOFILE, (wanted, most[1]))
-        try:
+        with self.at_end:
+            self.at_end.callback(self.tasks.end)
+            self.at_end.callback(self.close_all)
             for number in self.script.tasks:
                 self.tasks.start(number, self.cpus[0])
                 self.note_task(number)
-        except BaseException:
-            self.__exit__()
-            raise
+            self.at_end = self.at_end.pop_all()
         return self
 
     def __exit__(self, *_: object) -> None:
-        for mapping in self.mappings:
-            mapping.unmap()
+        self.at_end.close()
+
+    def close_all(self) -> None:
         for slot in range(256):
             with suppress(OSError):
                 os.close(self.descriptor(slot))
-        for keeper in self.keepers:
-            os.close(keeper)
-        self.tasks.end()
 
     def note_task(self, number: int) -> None:
         """Keeps a task's context from being exchanged with a clone's, by an event that is not inherited."""
         process = self.tasks.tasks[number].process
         self.processes[process] = number
         if "clones" not in self.options:
-            self.keepers.append(kernel.event_open(KEEPER, process, -1, -1))
+            self.at_end.callback(os.close, kernel.event_open(KEEPER, process, -1, -1))
 
     def descriptor(self, slot: str | int) -> int:
         return kernel.FIRST_DESCRIPTOR + int(slot)
@@ -192,7 +189,7 @@ class Doing:
         if self.follow.report.refusal(line) is not None:
             mapping.unmap()
             return
-        self.mappings.append(mapping)
+        self.at_end.callback(mapping.unmap)
         self.rings[ring] = Stream(mapping)
 
     def output(self, line: Line) -> None:
@@ -274,15 +271,7 @@ def pages_of(line: Line) -> int:
 # may not be permitted
 KEEPER = bytes_of(SOFTWARE, SOFTWARE_KINDS["dummy"], flags=kernel.USER_ALONE)
 # refusals that have no counterpart on a running kernel, and why
-OWN_REFUSALS = {
-    "EEXIST": "slots and tasks have numbers of this project's own",
-    "EASSIGN": "page faults need no counters",
-    "EPMU": "page faults are of one PMU",
-    "EDEVICE": "page faults are of one PMU",
-    "EIDLE": "which task is on is this project's own",
-    "EBUSY": "which task is on, and that a ring is mapped once, is this project's own",
-    "EAGAIN": "a limit of this project's own",
-}
+OWN_REFUSALS: dict[str, str] = tomllib.loads(Path(__file__).with_name("refusals.toml").read_text("ascii"))
 
 
 def why_not_comparable(script: Script, report: Report, options: Collection[str]) -> str | None:

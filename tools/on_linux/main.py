@@ -22,16 +22,15 @@ import os
 import time
 from argparse import Namespace
 from collections.abc import Sequence
-from pathlib import Path
 
 from on_linux import documents, kernel, table, verdicts
 from on_linux.cases import all_cases
 from on_linux.documents import Rows
 from on_linux.scripts import Case
-from on_linux.task import Helper
+from on_linux.task import compiled
 from on_linux.verdicts import Verdict
 from perfscript import Fault, Outcome, Program, command, program_at
-from perfscript.progress import Progress
+from perfscript.progress import each
 
 FAULT, NO_OPEN = 2, 77
 
@@ -98,7 +97,7 @@ def scripts(program: Program, cases: Sequence[Case], known: Rows) -> int:
     by = "the report is" if isinstance(program, Recorded) else "reports by"
     print(f"{about()}; {by} {program.path}")
     statuses = [0]
-    with Helper() as helper:
+    with compiled() as helper:
         for case, outcome in zip(cases, program.outcomes([("replay", case.text) for case in cases])):
             if outcome.status:
                 print(f"{case.name}: the program ends with {outcome.status}: {outcome.note or 'no note'}")
@@ -125,10 +124,9 @@ def all_of_list(is_for_docs: bool, program: Program, known: Rows) -> int:
     print(f"{about()}; reports by {program.path}", flush=True)
     outcomes = program.outcomes([("replay", case.text) for case in cases])
     asked = time.monotonic()
-    with Helper() as helper, Progress("cases on the kernel", len(cases)) as progress:
-        for case, outcome in zip(cases, outcomes):
+    with compiled() as helper:
+        for case, outcome in each("cases on the kernel", zip(cases, outcomes), len(cases)):
             found.append(verdicts.of_case(case, outcome, helper, known))
-            progress.step()
     times = f"the reports took {asked - began:.0f} s, the kernel's answers {time.monotonic() - asked:.0f} s"
     comparisons = sum(len(verdict.checks) for verdict in found)
     summary = "\n".join(table.wrapped(f"{table.summary(found)}; {comparisons} comparisons in all."))
@@ -139,11 +137,11 @@ def all_of_list(is_for_docs: bool, program: Program, known: Rows) -> int:
 
 
 def write_docs(program: Program, found: Sequence[Verdict], known: Rows, run: str) -> None:
-    page = documents.read(documents.RULES)
+    page = documents.RULES.read_text("utf-8")
     names = documents.rule_names(page)
     text = f"`python3 tools/on_linux --all` on {about()}, with the reports of {program.kind}:"
     head = "\n".join(table.wrapped(text))
     rules = documents.with_column(page, table.of_rules(found, known, names, kernel.version()))
-    Path(documents.RULES).write_text(rules, "utf-8")
-    linux = documents.with_last_run(documents.read(documents.LINUX), f"{head}\n\n{run}")
-    Path(documents.LINUX).write_text(linux, "utf-8")
+    documents.RULES.write_text(rules, "utf-8")
+    linux = documents.with_last_run(documents.LINUX.read_text("utf-8"), f"{head}\n\n{run}")
+    documents.LINUX.write_text(linux, "utf-8")

@@ -123,13 +123,13 @@ class OneRing:
         self, comparison: Comparison, ring: Ring, stream: Stream, layouts: Layouts, writers: Sequence[Event]
     ) -> None:
         self.comparison, self.ring, self.stream, self.writers = comparison, ring, stream, writers
-        self.raw_said, self.raw_seen = ring.records, stream.records()
+        self.raw_said, self.raw_seen = ring.records, records.of_stream(stream.data)
         seen = seen_side(comparison.doing)
-        self.said = [normal(record, said_side(), layouts) for record in self.raw_said]
+        said = [normal(record, said_side(), layouts) for record in self.raw_said]
         self.seen = [normal(record, seen, layouts) for record in self.raw_seen]
         # each sample of a copy has its original's id beside it, from which the row of a difference may be read
         originals = {copy.id: copy.original.id for copy in comparison.follow.all_copies if copy.original}
-        self.originals = [originals.get(form.get("STREAM_ID", 0)) for form in self.said]
+        self.said = [differences.Said(form, originals.get(form.get("STREAM_ID", 0))) for form in said]
         self.pair_copies()
 
     def pair_copies(self) -> None:
@@ -153,8 +153,7 @@ class OneRing:
         if self.said == self.seen:
             self.all_same()
         else:
-            said = [differences.Said(form, original) for form, original in zip(self.said, self.originals)]
-            row = differences.of_ring(self.comparison, self.ring.number, said, self.seen)
+            row = differences.of_ring(self.comparison, self.ring.number, self.said, self.seen)
             self.first_difference(row)
         self.ends(row)
         self.times()

@@ -2,13 +2,12 @@
 
 import os
 import select
-import shutil
 import signal
 import subprocess
 import tempfile
 import time
-from collections.abc import Iterable
-from contextlib import suppress
+from collections.abc import Iterable, Iterator
+from contextlib import contextmanager, suppress
 
 from perfscript import Fault
 
@@ -18,25 +17,19 @@ MOST_PAGES = 32768
 PATIENCE = 20.0
 
 
-class Helper:
-    """The compiled helper, which is removed at the end of a `with`."""
-
-    def __enter__(self) -> "Helper":
-        self.folder = tempfile.mkdtemp(prefix="on_linux.")
-        self.path = os.path.join(self.folder, "counted_task")
-        call = ["cc", "-O1", "-Wall", "-Wl,-z,now", "-o", self.path, SOURCE]
+@contextmanager
+def compiled() -> Iterator[str]:
+    """The path of the compiled helper, which is removed at the end of a `with`."""
+    with tempfile.TemporaryDirectory(prefix="on_linux.") as folder:
+        path = os.path.join(folder, "counted_task")
         try:
+            call = ["cc", "-O1", "-Wall", "-Wl,-z,now", "-o", path, SOURCE]
             subprocess.run(call, capture_output=True, text=True, check=True)
         except OSError as fault:
-            self.__exit__()
             raise Fault(f"cc can't be run: {fault.strerror}") from fault
         except subprocess.CalledProcessError as fault:
-            self.__exit__()
             raise Fault(f"cc refuses counted_task.c: {' '.join(fault.stderr.split())}") from fault
-        return self
-
-    def __exit__(self, *_: object) -> None:
-        shutil.rmtree(self.folder, ignore_errors=True)
+        yield path
 
 
 class Pipes:
@@ -131,15 +124,15 @@ def is_asleep(process: int) -> bool:
 
 
 class Tasks:
-    """The tasks of one script: started for `task` lines, and forked by tasks."""
+    """The tasks of one script: started for `task` lines by the helper at a path, and forked by tasks."""
 
-    def __init__(self, helper: Helper, numbers: Iterable[int]) -> None:
+    def __init__(self, helper: str, numbers: Iterable[int]) -> None:
         self.helper, self.pipes = helper, Pipes(numbers)
         self.tasks: dict[int, Task] = {}
         self.gone: dict[int, int] = {}
 
     def start(self, number: int, cpu: int) -> None:
-        call = [self.helper.path, *map(str, self.pipes.of_helper(number))]
+        call = [self.helper, *map(str, self.pipes.of_helper(number))]
         ends = [end for one in self.pipes.commands for end in self.pipes.of_helper(one)]
         child = subprocess.Popen(call, pass_fds=ends, stdin=subprocess.DEVNULL)
         self.tasks[number] = task = Task(number, self.pipes, child.pid, child)

@@ -7,7 +7,6 @@ from on_linux.documents import Rows
 from on_linux.doing import Doing, why_not_comparable
 from on_linux.kernel import version
 from on_linux.scripts import Case
-from on_linux.task import Helper
 from perfscript import Outcome, Report, Script
 from perfscript.follow import Follow
 
@@ -28,7 +27,7 @@ class Verdict:
     checks: list[Check] = field(default_factory=list)
 
 
-def of_case(case: Case, outcome: Outcome, helper: Helper, known: Rows) -> Verdict:
+def of_case(case: Case, outcome: Outcome, helper: str, known: Rows) -> Verdict:
     """The verdict of a case whose report is there. What hangs on who runs when is tried until it was seen."""
     if outcome.status != 0:
         return Verdict(case, UNKNOWN, notes=[f"the program ends with {outcome.status}: {outcome.note}"])
@@ -39,14 +38,14 @@ def of_case(case: Case, outcome: Outcome, helper: Helper, known: Rows) -> Verdic
         return Verdict(case, NOT_COMPARABLE, notes=[reason])
     for attempt in range(1, TRIES + 1):
         verdict = once(case, script, report, helper, known)
-        if not case.options & BY_CHANCE or verdict.word != SAME:
+        if BY_CHANCE.isdisjoint(case.options) or verdict.word != SAME:
             break
-    if case.options & BY_CHANCE:
+    if not BY_CHANCE.isdisjoint(case.options):
         verdict.notes.append(f"seen in try {attempt} of {TRIES}" if verdict.rows else f"not seen in {TRIES} tries")
     return judged(verdict, known)
 
 
-def once(case: Case, script: Script, report: Report, helper: Helper, known: Rows) -> Verdict:
+def once(case: Case, script: Script, report: Report, helper: str, known: Rows) -> Verdict:
     with Doing(script, Follow(script, report), helper, case.options) as doing:
         doing.run()
         comparison = Comparison(script, report, doing).run()
@@ -70,7 +69,7 @@ def judged(verdict: Verdict, known: Rows) -> Verdict:
     shows, rows = verdict.case.shows, set(verdict.rows)
     if shows is None or verdict.word not in (SAME, DOCUMENTED):
         return verdict
-    for row in [] if rows & shows else sorted(shows):
+    for row in sorted(shows) if rows.isdisjoint(shows) else []:
         if row not in known:
             verdict.notes.append(f"docs/LINUX.md has no row {row}")
         elif ".".join(version().split(".")[:2]) in known[row].versions:
@@ -79,7 +78,7 @@ def judged(verdict: Verdict, known: Rows) -> Verdict:
             verdict.notes.append(f"does not show {row}, which docs/LINUX.md knows from other versions")
             continue
         verdict.word = UNKNOWN
-    if rows - shows:
-        verdict.notes += [f"shows {row}, for which it is not made" for row in sorted(rows - shows)]
+    if rows.difference(shows):
+        verdict.notes += [f"shows {row}, for which it is not made" for row in sorted(rows.difference(shows))]
         verdict.word = UNKNOWN
     return verdict

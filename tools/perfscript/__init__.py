@@ -11,7 +11,8 @@
     report      Report(text): order; replies[("t0", 3)] with its head and words; rings[0] with its records
                 Record: words, the header first, 64 bits each; type, misc, size in bytes; is_taken; end in bytes
                 rows_of(table): the rows of `stat` by slot: value, enabled, running, estimate
-    program     program_at(path_or_None) gives the program: the one of --program, the built one, or `rt try`
+    program     program_at(path_or_None) gives the program: the one of --program, that of PERF_RUN, the built one, or
+                `rt try`; built_at(path_or_None) gives it where `rt try` would be too slow
                 call("replay", text) and outcomes([("stat", text), ..]) give `Outcome`s: status, out, note
                 report(text) and table(text) are of a script that has to be done
     live        Live(head) asks perf_live line by line: tool(0, "read 0") and cpu(0, "tick") give `Answer`s, which have a
@@ -26,7 +27,7 @@ Times are in the script's units of work, rings' places and sizes in bytes.
 
 from perfscript.faults import Fault
 from perfscript.live import Answer, Live
-from perfscript.program import Outcome, Program, program_at
+from perfscript.program import Outcome, Program, built_at, program_at
 from perfscript.report import Record, Reply, Report, Ring, Row, rows_of
 from perfscript.script import Act, Draft, Key, Kind, Line, Look, Pmu, Reader, Script, lines_of
 
@@ -34,5 +35,5 @@ VERSION = "1.0.0"
 
 __all__ = [
     "Act", "Answer", "Draft", "Fault", "Key", "Kind", "Line", "Live", "Look", "Outcome", "Pmu", "Program", "Reader",
-    "Record", "Reply", "Report", "Ring", "Row", "Script", "VERSION", "lines_of", "program_at", "rows_of",
+    "Record", "Reply", "Report", "Ring", "Row", "Script", "VERSION", "built_at", "lines_of", "program_at", "rows_of",
 ]

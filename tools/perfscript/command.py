@@ -3,7 +3,7 @@
 import argparse
 import os
 import sys
-from collections.abc import Callable
+from collections.abc import Callable, Sequence
 from pathlib import Path
 from typing import NoReturn
 
@@ -31,7 +31,8 @@ class Parser(argparse.ArgumentParser):
         form = argparse.RawDescriptionHelpFormatter
         super().__init__(name, usage.replace(command, name) or None, text, epilog, formatter_class=form)
         self.add_argument("--version", action="version", version=f"%(prog)s {perfscript.VERSION}")
-        self.add_argument("--program", metavar="PATH", help=f"the built {program}")
+        built = f"the built {program}; without it that of the variable {program.upper()}, if there is one"
+        self.add_argument("--program", metavar="PATH", help=built)
 
     def error(self, message: str) -> NoReturn:
         print(f"{self.prog}: {message}; {self.prog} --help has the words", file=sys.stderr)
@@ -43,6 +44,11 @@ def from_one(text: str) -> int:
     if not text.isdecimal() or not int(text):
         raise argparse.ArgumentTypeError(f"{text!r} is not a number from 1")
     return int(text)
+
+
+def listed(words: Sequence[str]) -> str:
+    """Words in a sentence: `a`, `a and b`, `a, b and c`."""
+    return " and ".join([", ".join(words[:-1]), words[-1]] if len(words) > 1 else words)
 
 
 def ended(command: str, main: Callable[[], int]) -> int:

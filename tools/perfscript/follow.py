@@ -52,16 +52,12 @@ class Context:
 
     def remove(self, event: Event) -> None:
         """Takes an event away. The siblings of a leader become flexible groups of their own."""
-        for groups in (self.pinned, self.flexible):
-            for place, group in enumerate(groups):
-                if event not in group:
-                    continue
-                if group[0] is event:
-                    del groups[place]
-                    self.flexible += [[sibling] for sibling in group[1:]]
-                else:
-                    group.remove(event)
-                return
+        group = self.group_of(event)
+        if group[0] is not event:
+            group.remove(event)
+            return
+        (self.pinned if group in self.pinned else self.flexible).remove(group)
+        self.flexible += [[sibling] for sibling in group[1:]]
 
 
 class Follow:

@@ -4,6 +4,7 @@ import difflib
 import re
 from collections.abc import Iterable
 from functools import cache
+from pathlib import Path
 from typing import NamedTuple
 
 from perfscript import limits
@@ -57,42 +58,9 @@ VALUES = {
     "HITS": Value(NUMBER, 0, limits.MOST_WORK),
     "ACTS": Value(ACT),
 }
-# each form with the versions of `perf` that have it
-FORMS = (
-    ("12", "perf VERSION"),
-    ("1", "machine cpus=CPUS counters=COUNTERS"),
-    ("2", "machine cpus=CPUS"),
-    ("2", "pmu PMU counters=COUNTERS cpus=MASK"),
-    ("1", "kind NAME mask=MASK"),
-    ("2", "kind NAME pmu=PMU mask=MASK"),
-    ("12", "task TASK"),
-    ("12", "ring RING bytes=SIZE"),
-    ("12", "processor CPU"),
-    ("12", "switch IDLE|TASK"),
-    ("12", "work AMOUNT MODE [ip=ADDRESS] [HITS]"),
-    ("12", "tick"),
-    ("12", "fork TASK"),
-    ("12", "exit"),
-    ("12", "tool TOOL"),
-    (
-        "12",
-        "open SLOT kind=NAME task=ALL|TASK cpu=ANY|CPU [leader=SLOT] [period=N] [sample=BITS] [format=BITS] [flags=FLAGS]",
-    ),
-    ("12", "open SLOT attr=BYTES task=ALL|TASK cpu=ANY|CPU [leader=SLOT]"),
-    ("12", "enable SLOT [GROUP]"),
-    ("12", "disable SLOT [GROUP]"),
-    ("12", "reset SLOT [GROUP]"),
-    ("12", "period SLOT N"),
-    ("12", "read SLOT [size=N]"),
-    ("12", "map SLOT N"),
-    ("12", "output SLOT SLOT"),
-    ("12", "close SLOT"),
-    ("12", "why SLOT"),
-    ("12", "seats CPU"),
-    ("12", "reader N tries=TRIES batch=BATCH"),
-    ("12", "order [ACTS]"),
-    ("12", "end"),
-)
+# each form behind the versions of `perf` that have it
+LINES = Path(__file__).with_suffix(".txt").read_text("ascii").splitlines()
+FORMS = [line.split(maxsplit=1) for line in LINES if not line.startswith("#")]
 CPU_HEADS = ("switch", "work", "tick", "fork", "exit")
 HEADS = tuple(dict.fromkeys(text.split(" ")[0] for _, text in FORMS))
 

@@ -195,7 +195,7 @@ class Live:
         is_checked: bool = True,
     ) -> None:
         self.path, self.head, self.seconds = live_at(program), checked_head(head), seconds
-        self.replay = (replay or program_at(os.environ.get("PERF_RUN"), "PERF_RUN")) if is_checked else None
+        self.replay = (replay or program_at()) if is_checked else None
         self.journal = Draft(self.head.split("\n")[:-2])
         self.answers: dict[Key, Answer] = {}
         self.channel: Channel | None = None

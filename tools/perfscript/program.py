@@ -11,7 +11,7 @@ from pathlib import Path
 from typing import NamedTuple, TypeVar
 
 from perfscript.faults import Fault
-from perfscript.progress import Progress
+from perfscript.progress import Progress, each
 from perfscript.report import Report, Row, rows_of
 
 REPOSITORY = os.path.normpath(os.path.join(os.path.dirname(os.path.abspath(__file__)), "..", ".."))
@@ -78,12 +78,8 @@ class Built(Program):
         self.path, self.kind = path, kind
 
     def outcomes(self, calls: Sequence[tuple[str, str]]) -> list[Outcome]:
-        with Progress("perf_run", len(calls)) as progress, ThreadPoolExecutor(os.cpu_count()) as pool:
-            found = []
-            for outcome in pool.map(self._outcome, calls):
-                found.append(outcome)
-                progress.step()
-        return found
+        with ThreadPoolExecutor(os.cpu_count()) as pool:
+            return list(each("perf_run", pool.map(self._outcome, calls), len(calls)))
 
     def _outcome(self, call: tuple[str, str]) -> Outcome:
         words, text = call
@@ -153,16 +149,28 @@ def outcomes_of_try(out: str, said: str, count: int) -> list[Outcome]:
 
 
 def program_at(path: str | None = None, option: str = "--program") -> Program:
-    """The program of `--program PATH`, else the built one at its usual place, else `rt try`. `option` is the word that
-    a fault names."""
-    if path is not None:
-        if not os.path.isfile(path):
-            raise Fault(f"{option}: {path} is not a file; give the path of the built perf_run")
-        return Built(os.path.abspath(path))
+    """The program of `--program PATH`, else that of the variable PERF_RUN, else the built one at its usual place, else
+    `rt try`. `option` is the word that a fault names where the path is none."""
+    named = os.environ.get("PERF_RUN") or None if path is None else path
+    if named is not None:
+        if not os.path.isfile(named):
+            by = "PERF_RUN" if path is None else option
+            raise Fault(f"{by}: {named} is not a file; give the path of the built perf_run")
+        return Built(os.path.abspath(named))
     if os.access(USUAL, os.X_OK):
         return Built(USUAL, "the proved program")
     rt = shutil.which("rt")
     if rt is None or not os.path.isdir(CRATE):
         where = os.path.relpath(USUAL, REPOSITORY)
-        raise Fault(f"no program: {where} is not there, and no rt could try it; give a built perf_run by --program")
+        raise Fault(f"no program: {where} is not there, and no rt could try it; give a built perf_run by {option} "
+                    "or PERF_RUN")
     return Tried(rt)
+
+
+def built_at(path: str | None = None, option: str = "--program") -> Built:
+    """The same where the program is asked too often for `rt try`, which is refused."""
+    program = program_at(path, option)
+    if not isinstance(program, Built):
+        what = f"give a built perf_run by {option} or PERF_RUN, or build it by `rt run` in crates/perf_run"
+        raise Fault(f"rt try is too slow for so many questions; {what}")
+    return program

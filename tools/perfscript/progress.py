@@ -2,7 +2,10 @@
 
 import sys
 import time
-from types import TracebackType
+from collections.abc import Iterable, Iterator
+from typing import TypeVar
+
+Item = TypeVar("Item")
 
 
 class Progress:
@@ -16,7 +19,7 @@ class Progress:
     def __enter__(self) -> "Progress":
         return self
 
-    def __exit__(self, kind: type[BaseException] | None, fault: BaseException | None, at: TracebackType | None) -> None:
+    def __exit__(self, *_: object) -> None:
         if self.width:
             sys.stderr.write("\r" + " " * self.width + "\r")
             sys.stderr.flush()
@@ -33,3 +36,11 @@ class Progress:
         sys.stderr.write("\r" + text.ljust(self.width))
         sys.stderr.flush()
         self.width = len(text)
+
+
+def each(what: str, items: Iterable[Item], total: int) -> Iterator[Item]:
+    """The items, one after the other; says meanwhile how many of them are done."""
+    with Progress(what, total) as progress:
+        for item in items:
+            yield item
+            progress.step()

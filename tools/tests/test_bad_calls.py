@@ -11,7 +11,9 @@ import traceback
 import unittest
 import warnings
 from concurrent.futures import ThreadPoolExecutor
+from unittest import mock
 
+from fit.tests.support import has_perf
 from perfscript.program import REPOSITORY
 from perfscript.tests.support import DATA, PATH, ProgramTest, program_file
 
@@ -22,6 +24,7 @@ FIT = ["fit.py", "--counters", "1", "-e", "cycles"]
 WITH_PERF = ["fit.py", "-m", "skylake", "--"]
 ON_LINUX = ["on_linux"]
 LIVE = ["maintain/live_benchmark.py", "--replay", "{program}"]
+SCENARIO = os.path.join(REPOSITORY, "tools", "double", "four-groups.scenario")
 # words of a call: {false} is a program that fails, {mute} one that writes nothing, {loud} one that writes no report,
 # {binary} a file of bytes, {folder} an empty folder, and {program} the program
 CALLS = (
@@ -88,6 +91,7 @@ CALLS = (
     (["maintain/double_clients.py", "odd"], "unrecognized arguments: odd; double_clients.py --help has the words"),
     (["maintain/double_clients.py", "--seeds", "odd"], "--seeds: odd is not FIRST-LAST, two numbers"),
     (["maintain/double_clients.py", "--jobs", "0"], "argument --jobs: '0' is not a number from 1"),
+    (["maintain/double_clients.py", "--program", "/nonexistent"], "--program: /nonexistent is not a file"),
     (["maintain/double_benchmark.py", "odd"], "unrecognized arguments: odd; double_benchmark.py --help has the words"),
     (["maintain/double_benchmark.py", "--live", "/nonexistent"], "--live: /nonexistent is not a file; give"),
     (["maintain/double_benchmark.py", "--program", "/nonexistent"], "--program: /nonexistent is not a file"),
@@ -127,6 +131,15 @@ if shutil.which("perf"):
         ([*WITH_PERF, "perf", "stat", "-C", "0-99"], "-C: '0-99' has to rise and to stay within processors 0 to 7"),
         (["fit.py", "-m", "skylake", "--program", "{folder}", "--", "perf", "stat"], "is not a file; give the path"),
     )
+# of each tool that finds the program by itself: where PERF_RUN names none, a line says so
+FIND_IT = [
+    ["timeline.py", SCRIPT], ["perf_data.py", SCRIPT, "{out}"], ["explain.py", SCRIPT], FIT, [*ON_LINUX, SCRIPT],
+    ["double.py", SCENARIO, "--", "true"], ["maintain/fit_lists.py"], ["maintain/double_clients.py"],
+    ["maintain/double_benchmark.py"], ["maintain/live_sessions.py", "--program", "{program}"],
+    ["maintain/kernel_commands.py", "--program", "{program}"], ["maintain/live_benchmark.py", "--program", "{program}"],
+]
+if has_perf():
+    FIND_IT += [[*WITH_PERF, "perf", "stat"], ["maintain/perf_lines.py"]]
 
 
 # what most tools import: a copy of this process has it
@@ -225,11 +238,19 @@ class BadCalls(ProgramTest):
         with ThreadPoolExecutor(os.cpu_count()) as pool:
             self.check(first, pool.map(self.called, [words for words, _ in first]))
 
-    def test_each_ends_with_2_and_a_line(self):
-        for start in range(0, len(CALLS), COPIES):
-            calls = CALLS[start : start + COPIES]
+    def check_copies(self, every):
+        """The same of calls that copies of this process do."""
+        for start in range(0, len(every), COPIES):
+            calls = every[start : start + COPIES]
             copies = [Copy(*self.given(words)) for words, _ in calls]
             self.check(calls, [copy.ended() for copy in copies])
+
+    def test_each_ends_with_2_and_a_line(self):
+        self.check_copies(CALLS)
+
+    def test_each_takes_the_program_of_the_variable(self):
+        with mock.patch.dict(os.environ, PERF_RUN="/nonexistent"):
+            self.check_copies([(words, "PERF_RUN: /nonexistent is not a file; give the path") for words in FIND_IT])
 
     def test_each_tool_has_bad_calls(self):
         """Each file of tools/ that is a command."""

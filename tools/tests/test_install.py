@@ -8,6 +8,7 @@ import sys
 import tempfile
 import unittest
 from concurrent.futures import ThreadPoolExecutor
+from unittest import mock
 
 import perfscript
 from perfscript.tests.support import PATH, TOOLS, ProgramTest, stored
@@ -79,6 +80,8 @@ class Installed(ProgramTest):
             self.assertEqual((0, ""), (done.returncode, done.stderr), name)
             self.assertIn(said, done.stdout)
         self.assertGreater(os.path.getsize(os.path.join(self.folder, "out.data")), 500)
+        for file in glob.glob(os.path.join(TOOLS, "on_linux", "cases", "*.toml")):
+            self.assertTrue(os.path.exists(os.path.join(self.target, "on_linux", "cases", os.path.basename(file))), file)
         done = self.called("on-linux", "--program", PATH, script)
         self.assertIn(done.returncode, (0, 77), done.stderr)
         self.assertIn("a.script: not comparable" if done.returncode == 0 else "no event can be opened here", done.stdout)
@@ -94,10 +97,11 @@ class Installed(ProgramTest):
         self.assertEqual((2, "", said), (done.returncode, done.stdout, done.stderr))
 
     def test_without_a_program_it_says_what_to_give(self):
-        done = self.called("timeline", os.path.join(TOOLS, "..", "examples", "full-ring.script"))
+        with mock.patch.dict(os.environ, PERF_RUN=""):
+            done = self.called("timeline", os.path.join(TOOLS, "..", "examples", "full-ring.script"))
         self.assertEqual((2, "", 1), (done.returncode, done.stdout, done.stderr.count("\n")))
         self.assertTrue(done.stderr.startswith("jugheather-timeline: no program: "), done.stderr)
-        self.assertTrue(done.stderr.endswith("give a built perf_run by --program\n"), done.stderr)
+        self.assertTrue(done.stderr.endswith("give a built perf_run by --program or PERF_RUN\n"), done.stderr)
 
 
 if __name__ == "__main__":

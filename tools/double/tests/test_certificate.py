@@ -1,11 +1,15 @@
 """Brokers that answer wrongly are caught by the certificate."""
 
 import os
+import struct
+import unittest
 from unittest import mock
 
 from double import Double, Uncertified, backend, journal, session
+from double.certificate import LeftOut, left_out
 from double.tests.support import PATH, DoubleTest, client
 from double.tests.test_client import CYCLES
+from perfscript import Report, Script
 from perfscript.tests.support import LIVE_HOW
 
 OPERATIONS = """\
@@ -20,6 +24,27 @@ p 0 7
 c 0
 """
 SAMPLES = "o 0 0 0 10 7 0 0 0 -1 -1 0 128 0\nm 0 1 3 1\ns 3000\nM 0\nc 0\n"
+
+
+class LeftOutMembers(unittest.TestCase):
+    """Reads of a group leave out the members that the broker opened for itself, while they are open."""
+
+    def test_places(self):
+        attribute = struct.pack("<IIQQQQQIIQ", 4, 64, 0, 0, 0, 0xF, 0, 0, 0, 0).hex()
+        lines = [f"open {slot} attr={attribute} task=all cpu=0{' leader=0' * (slot > 0)}" for slot in range(3)]
+        lines.append(lines[2].replace("open 2", "open 3"))
+        lines += ["read 0 size=72", "close 1", "read 0 size=72", "close 0", "read 2"]
+        head = "perf 1\nmachine cpus=1 counters=2\nkind k0 mask=3\ntool 0\n"
+        order = "order" + " t0" * len(lines)
+        script = Script(head + "\n".join([*lines, order, "end\n"]))
+        report = Report(f"{order}\nt0.3 open EASSIGN 0 1 2\nend\n")
+        found = left_out(script, report, {1, 3})
+        places = {key: one.places for key, one in found.items()}
+        self.assertEqual({("t0", 4): (1,), ("t0", 6): (), ("t0", 8): ()}, places)
+        group = found["t0", 4]
+        self.assertEqual((LeftOut((1,), 3, 2), 16), (group, group.size))
+        words = "3 10 11 7 1 8 2 9 3".split()
+        self.assertEqual(("2 10 11 7 1 9 3".split(), words), (group.seen(words), found["t0", 6].seen(words)))
 
 
 class WrongBrokers(DoubleTest):
@@ -45,6 +70,16 @@ class WrongBrokers(DoubleTest):
         row = result.truth()[0]
         self.assertEqual((row.name, row.occurred, row.counted, row.scaled), ("cycles", 10, 10, 10))
         self.assertIn("read 0 size=24", result.journals()[0])
+
+    def test_an_event_of_the_client_is_left_out(self):
+        right = session.Session.__post_init__
+
+        def wrong(own):
+            right(own)
+            own.unseen = {0}
+
+        with mock.patch.object(session.Session, "__post_init__", wrong):
+            self.assert_caught("t0.0 open", "an answer to open of slot 0")
 
     def test_a_wrong_answer_of_perf_live(self):
         right = backend.LineByLine.ask

@@ -137,6 +137,7 @@ def has_counters(group: list[Wish]) -> bool:
     needs = [wish.attempt.attribute.need for wish in group]
     parts = [need.counters.metric for need in needs if need.counters.metric is not None]
     is_open = not parts or (needs[0].is_slots and len(set(parts)) == len(parts))
+    is_open &= not any({"pinned", "exclusive"} & {*wish.attempt.attribute.asked.words} for wish in group[1:])
     asks = [need.counters.mask | PAIR * ("pair" in need.counters.marks) for need in needs if need.is_core]
     return is_open and not any(need.refused for need in needs) and has_assignment([ask for ask in asks if ask])
 

@@ -112,15 +112,18 @@ class Typed(ProgramTest):
 
     LISTS = """cpu-clock faults page-faults bus-cycles L1-dcache-loads LLC-loads dTLB-load-misses r01c2 cpu/r3c/
     cpu/event=0x3c,umask=0x0/ cycles:P cycles:h cycles:G {cycles,instructions}:S {cycles,instructions}:W mem-loads
-    mem-stores topdown-total-slots L1-icache-misses 4:0x3c uncore_imc_0/cas_count_read/ power/energy-pkg/ msr/tsc/
-    sched:sched_switch mem:0x1000:rw duration_time cycles-t cpu/mem-loads,ldlat=30/""".split()
+    mem-stores topdown-total-slots L1-icache-misses 4:0x3c msr/tsc/ sched:sched_switch mem:0x1000:rw duration_time
+    cycles-t cpu/mem-loads,ldlat=30/""".split()
+    # of PMUs that count for all tasks of a processor
+    EVERYWHERE = ("uncore_imc_0/cas_count_read/", "power/energy-pkg/")
     # names of perf's tables
     NAMES = ("inst_retired.any", "mem_load_retired.l1_miss:u", "cpu/inst_retired.any,cmask=1/")
 
     def test_each_is_answered(self) -> None:
-        for text in (*self.LISTS, *(self.NAMES if has_perf() else ())):
-            with self.subTest(text=text):
-                status, out, err = self.fit("-m", "skylake", "-e", text)
+        calls = [("-e", text) for text in (*self.LISTS, *self.EVERYWHERE, *(self.NAMES if has_perf() else ()))]
+        for words in (*calls, *(("-a", "-e", text) for text in self.EVERYWHERE)):
+            with self.subTest(words=words):
+                status, out, err = self.fit("-m", "skylake", *words)
                 self.assertEqual((0, ""), (status, err))
                 self.assertTrue(out.startswith("All events are on all the time.\n"), out)
 
@@ -131,6 +134,8 @@ class Typed(ProgramTest):
             ("bulldozer", "re0", "bulldozer has no counter for the code re0"),
             ("skylake", "{cycles,branches:D}", "branches:D is no leader, so it can't be pinned"),
             ("icelake", "topdown-retiring", "topdown-retiring is a part of slots"),
+            ("icelake", "cpu/slots,cmask=1/", "slots and its parts take no filter; leave out all terms but event"),
+            ("sapphirerapids", "{slots,cpu/event=0,umask=0x87,edge/}", "slots and its parts take no filter"),
             ("icelake", "{slots,topdown-retiring,topdown-retiring}", "stands in its group twice"),
         ]:
             with self.subTest(machine=machine, text=text):
@@ -158,6 +163,26 @@ class Typed(ProgramTest):
         answer = json.loads(out)
         self.assertEqual((0, ["branches", *["cycles"] * 5]), (status, [group["text"] for group in answer["groups"]]))
         self.assertIn("perf takes the weak group of cycles", answer["hints"][0])
+
+    def test_a_weak_group_with_a_pinned_sibling_is_taken_apart(self) -> None:
+        """Linux refuses such a sibling, and by itself it is pinned; a leader's own D is not the others'."""
+        others = {f"r1{number}": (False, "75.00") for number in range(1, 5)}
+        for text, shares in (
+            ("{cycles,branches:D}:W", {"cycles": (False, "100.00"), "branches:D": (True, "100.00")}),
+            ("{r10:D,r11,r12,r13,r14}:W", {"r10:D": (True, "100.00")} | others),
+        ):
+            status, out, _ = self.fit("-m", "k10", "--json", "-e", text)
+            groups = json.loads(out)["groups"]
+            self.assertEqual((0, shares), (status, {one["text"]: (one["pinned"], one["percent"]) for one in groups}))
+
+    def test_a_weak_group_whose_pair_is_refused_is_taken_apart(self) -> None:
+        """By itself the pair has its counters, and takes turns."""
+        five = "cycles,instructions,branches,branch-misses,cache-misses"
+        status, out, _ = self.fit("-m", "zen", "--json", "-e", "{" + five + ",r03}:W,r03")
+        groups = json.loads(out)["groups"]
+        shares = ["57.14"] * 4 + ["71.43"] * 3
+        self.assertEqual((0, shares), (status, [group["percent"] for group in groups]))
+        self.assertEqual({"counted"}, {event["state"] for group in groups for event in group["events"]})
 
     def test_sampling(self) -> None:
         _, out, _ = self.fit("-m", "skylake", "--sampling", "-e", "cycles:ppp,r01c0")

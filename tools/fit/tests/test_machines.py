@@ -3,6 +3,7 @@
 import os
 import tempfile
 import unittest
+from unittest import mock
 
 from fit import machines
 from fit.faults import BadInput
@@ -128,18 +129,26 @@ class Files(unittest.TestCase):
         arm = "processor\t: 0\nCPU implementer\t: 0x41\nCPU part\t: 0xd0c\n"
         with tempfile.TemporaryDirectory() as folder:
             path = os.path.join(folder, "cpuinfo")
-            for text, name in [
-                (intel.format(0x55, 7), "skylake"), (intel.format(0x8F, 8), "sapphirerapids"),
-                (intel.format(42, 7), "sandybridge"),
-                (amd.format(23, 0x31), "zen"), (amd.format(25, 0x21), "zen3"), (amd.format(25, 0x61), "zen4"),
-                (amd.format(21, 2), "bulldozer"), (arm, "neoverse-n1"),
+            for text, name, identity in [
+                (intel.format(0x55, 7), "skylake", "GenuineIntel-6-55-7"),
+                (intel.format(0x8F, 8), "sapphirerapids", "GenuineIntel-6-8F-8"),
+                (intel.format(42, 7), "sandybridge", "GenuineIntel-6-2A-7"),
+                (amd.format(23, 0x31), "zen", "AuthenticAMD-23-31-1"),
+                (amd.format(25, 0x21), "zen3", "AuthenticAMD-25-21-1"),
+                (amd.format(25, 0x61), "zen4", "AuthenticAMD-25-61-1"),
+                (amd.format(21, 2), "bulldozer", "AuthenticAMD-21-2-1"), (arm, "neoverse-n1", "0x41-0xd0c"),
             ]:
                 with open(path, "w") as file:
                     file.write(text)
-                self.assertEqual(name, machines.this_computer(path))
+                found = machines.this_computer(path)
+                self.assertEqual((name, identity), (found.name, found.identity))
+            little, big = (arm.replace("0xd0c", part) for part in ("0xd03", "0xd08"))
             for text, words in [
-                (intel.format(0xFE, 0), "no file has the processor GenuineIntel-6-FE-0"),
-                ("hello\n", "does not say which processor"),
+                (intel.format(0xFE, 0), "no file has the processor GenuineIntel-6-FE-0; type -m NAME as --list has it"),
+                (amd.format(26, 2), "no file has the processor AuthenticAMD-26-2-1; type"),
+                (intel.format(0x97, 2), "2 kinds of core; type -m alderlake-atom=PROCESSORS -m alderlake-core=PROC"),
+                (little + "\n" + big, "2 kinds of core; type -m cortex-a53=PROCESSORS -m cortex-a72=PROCESSORS"),
+                ("hello\n", "does not say which processor this is; type -m NAME"),
             ]:
                 with open(path, "w") as file:
                     file.write(text)
@@ -147,6 +156,25 @@ class Files(unittest.TestCase):
                     machines.this_computer(path)
         with self.assertRaisesRegex(BadInput, "can't be read: No such file"):
             machines.this_computer("/nonexistent/cpuinfo")
+
+    def test_auto_is_this_computer_with_its_own_identity(self) -> None:
+        """perf has other tables for Cascade Lake than for Skylake, and their counters are alike."""
+        with tempfile.TemporaryDirectory() as folder:
+            path = os.path.join(folder, "cpuinfo")
+            with open(path, "w") as file:
+                file.write("vendor_id\t: GenuineIntel\ncpu family\t: 6\nmodel\t: 85\nstepping\t: 7\n")
+            with mock.patch.object(machines, "CPUINFO", path):
+                for is_alone, general in ((False, 4), (True, 8)):
+                    [machine] = machines.read_machines(["auto"], [], [], is_alone)
+                    found = (machine.name, machine.identity, machine.general)
+                    self.assertEqual(("skylake", "GenuineIntel-6-55-7", general), found)
+            with open(path, "w") as file:
+                file.write("vendor_id\t: GenuineIntel\ncpu family\t: 6\nmodel\t: 173\nstepping\t: 1\n")
+            for words in (["-e", "cycles"], ["--list"], ["--", "perf", "stat"]):
+                with mock.patch.object(machines, "CPUINFO", path):
+                    status, out, err = call("-m", "auto", *words)
+                self.assertEqual((2, "", 1), (status, out, err.count("\n")))
+                self.assertIn("fit.py: -m auto: no file has the processor GenuineIntel-6-AD-1; type -m NAME", err)
 
     def test_counters_in_words(self) -> None:
         machine = machines.load("sandybridge")

@@ -65,7 +65,7 @@ class Tried(ProgramTest):
         with tempfile.TemporaryDirectory() as folder:
             program_file(folder, "rt", RT)
             path = folder + os.pathsep + os.environ["PATH"]
-            at_rt = mock.patch.dict(os.environ, PATH=path, PROGRAM=PATH)
+            at_rt = mock.patch.dict(os.environ, PATH=path, PROGRAM=PATH, PERF_RUN="")
             with mock.patch.object(program, "USUAL", "/nonexistent"), at_rt:
                 status, out, err = call(*words)
         self.assertEqual((0, ""), (status, err))

@@ -22,6 +22,11 @@ EVERY = os.environ.get("PERF_LINES", "10")
 METRICS = {"skylake": ("tma_backend_bound", "tma_retiring"), "icelake": ("IPC",), "zen3": ("ic_fetch_miss_ratio",)}
 
 
+def has_event(line: str) -> bool:
+    """Whether a line of perf's output is about an event."""
+    return any(name in line for name in ("task-clock", "context-switches", "cycles", "dummy"))
+
+
 def why_not_here() -> str:
     """Why these tests can't run, empty where they can."""
     return "perf 6.1 is not there, which these tests run" if not has_perf() else why_not() or ""
@@ -103,6 +108,42 @@ class Called(PerfTest):
             self.assertEqual(9, len(re.findall(r"(?m)^<not counted>;;r1\d;0;100.00", out)), out)
             self.assertIn("0;;cycles;", out)
             self.assertNotIn("refused", out)
+
+    def test_refused_member_as_perf_prints_it(self) -> None:
+        """In each form of output perf prints for a group with a refused member what it prints here without the tool."""
+        events = "{task-clock,context-switches,cycles:D},dummy"
+        for form in ([], ["-x,"], ["-x;"], ["-j"]):
+            perf = ["perf", "stat", *form, "-e", events, "true"]
+            alone = subprocess.run(perf, capture_output=True, text=True, env=os.environ | {"LC_ALL": "C"})
+            status, out = self.called("-m", "skylake", "--", *perf)
+            wanted, found = ([re.sub(r"[\d.]+", "N", line) for line in text.splitlines() if has_event(line)]
+                             for text in (alone.stderr, out.split("{task-clock,context-switches,cycles:D} can")[0]))
+            self.assertEqual((alone.returncode, wanted), (status, found), form)
+            marks = re.findall("<not counted>|<not supported>", "".join(found))
+            self.assertEqual(["<not counted>", "<not counted>", "<not supported>"], marks, form)
+
+    def test_refused_member_as_json(self) -> None:
+        names = "cycles,instructions,branches,branch-misses,cache-references,cache-misses,r01c0"
+        status, out = self.called("-m", "skylake", "--", "perf", "stat", "-j", "-e", "{" + names + "},ref-cycles")
+        rows = [json.loads(line) for line in out.splitlines() if line.startswith('{"')]
+        wanted = [*["<not counted>"] * 6, "<not supported>", "0.000000"]
+        self.assertEqual((0, wanted), (status, [row["counter-value"] for row in rows]), out)
+        self.assertEqual([*names.split(","), "ref-cycles"], [row["event"] for row in rows])
+
+    def test_events_that_take_two_counters(self) -> None:
+        """perf has a count of each member where the pairs fit, and of none where one of them is refused as a whole."""
+        pair, five = "cpu/event=0x03,umask=0xff/", ["cycles", "instructions", "branches", "cache-misses", "r40"]
+        for machine, members, is_refused in (
+            ("zen", [pair, "cycles", "instructions"], False), ("zen3", [pair, pair, pair], False),
+            ("zen", [pair, pair, pair, "cycles"], True), ("zen4", [*five, pair], True),
+        ):
+            text = "{" + ",".join(members) + "}"
+            status, out = self.called("-m", machine, "--", "perf", "stat", "-x;", "-e", text)
+            found = [line.split(";")[0] for line in out.splitlines() if line.count(";") > 3]
+            wanted = ["0"] * len(members)
+            if is_refused:
+                wanted = ["<not counted>"] * (len(members) - 1) + ["<not supported>"]
+            self.assertEqual((0, wanted), (status, found), out)
 
     def test_process_that_runs(self) -> None:
         words = ["-m", "nehalem", "--", "perf", "stat", "-p", str(os.getpid()), "-e", "cycles,r0140,r0141,r024e"]

@@ -14,13 +14,15 @@ PAGES = [
     *(os.path.join(REPOSITORY, "docs", name) for name in ("DECISIONS.md", "RULES.md", "SHARING.md")),
 ]
 SOURCES = ("*/src/**/*.rt", "*/specs/**/*.antt", "*/proofs/**/*.antt")
+# the tools, and the tables that stand beside those that read them
+TOOLS = ("**/*.py", "maintain/*.toml", "on_linux/*.toml", "perfscript/*.toml", "perfscript/*.txt")
 WORD = re.compile(r"\w+")
 
 
 def words_of_the_repository() -> set[str]:
     """The words of the crates' files and of the tools, and the names of the crates, of their files and edits."""
     found: set[str] = set()
-    for pattern in (*(f"crates/{source}" for source in SOURCES), "tools/**/*.py"):
+    for pattern in (*(f"crates/{source}" for source in SOURCES), *(f"tools/{source}" for source in TOOLS)):
         for path in glob.glob(os.path.join(REPOSITORY, pattern), recursive=True):
             found |= set(WORD.findall(text_of(path)))
             found.add(os.path.basename(path))

@@ -33,6 +33,8 @@ class CitedDefinitions(unittest.TestCase):
         run = subprocess.run(tool, cwd=top, capture_output=True, text=True)
         self.assertEqual((run.returncode, run.stderr), (0, ""))
         self.assertIn("crates/perf_top/specs/Outcome.antt: What a call of the program does and leaves.\n", run.stdout)
+        # which is imported by a list in a list
+        self.assertIn("crates/line_input/specs/Bytes.antt: What a call that takes a byte took.\n", run.stdout)
 
 
 class DefinitionLines(unittest.TestCase):

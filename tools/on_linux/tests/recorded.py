@@ -4,7 +4,6 @@ import struct
 
 from on_linux.compare import Comparison
 from on_linux.doing import Answer
-from on_linux.records import of_stream
 from perfscript import Report, Script
 
 FIRST_ID, FIRST_PROCESS, FIRST_TIME = 100, 5000, 7000
@@ -67,9 +66,6 @@ class Stream:
     def __init__(self, ring):
         self.mapping, self.head, self.tail = Mapping(), ring.head, ring.tail
         self.data = b"".join(encoded(record.words, place) for place, record in enumerate(ring.records))
-
-    def records(self):
-        return of_stream(self.data)
 
 
 def encoded(words, place):

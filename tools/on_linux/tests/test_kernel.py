@@ -119,7 +119,7 @@ class Running(unittest.TestCase):
 @unittest.skipIf(REASON, REASON)
 class Helpers(unittest.TestCase):
     def test_touches_forks_and_exits(self):
-        with task.Helper() as helper:
+        with task.compiled() as helper:
             tasks = task.Tasks(helper, [0, 1])
             tasks.start(0, min(os.sched_getaffinity(0)))
             tasks.tasks[0].touch(True, 3)
@@ -131,10 +131,11 @@ class Helpers(unittest.TestCase):
             tasks.exit(1)
             self.assertEqual(tasks.process(1), processes[1])
             tasks.end()
-        self.assertFalse(os.path.exists(helper.folder))
+            self.assertTrue(os.path.exists(helper))
+        self.assertFalse(os.path.exists(os.path.dirname(helper)))
 
     def test_a_task_that_has_gone_is_ended_too(self):
-        with task.Helper() as helper:
+        with task.compiled() as helper:
             tasks = task.Tasks(helper, [0, 1])
             tasks.start(0, min(os.sched_getaffinity(0)))
             tasks.fork(0, 1)

@@ -1,10 +1,12 @@
 """Tests of decoding records and of the tables."""
 
 import struct
+import tempfile
 import unittest
 import unittest.mock
+from pathlib import Path
 
-from on_linux import documents, kernel, records, rules, table, verdicts
+from on_linux import cases, documents, kernel, records, rules, table, verdicts
 from on_linux.cases import Case, all_cases
 from on_linux.compare import Check
 from perfscript import Fault, Script
@@ -58,6 +60,28 @@ class Lists(unittest.TestCase):
             script = Script(case.text)
             left = {actor: len(lines) - script.order.count(actor) for actor, lines in script.lines.items()}
             self.assertEqual(set(left.values()) - {0}, set(), case.name)
+
+    def test_each_file_of_cases_is_read(self):
+        written = {path.stem: len(list(cases.of_file(path.stem))) for path in cases.FOLDER.glob("*.toml")}
+        self.assertGreaterEqual(min(written.values()), 2)
+        found = {(case.group, case.name) for case in all_cases()}
+        for file in written:
+            self.assertEqual(set(), {(case.group, case.name) for case in cases.of_file(file)} - found, file)
+
+    def test_a_case_of_a_file(self):
+        head = 'group = "g"\nrings = 1\nopens = "open 0 kind=faults task=0 cpu=any"\n'
+        own = '[cases.a]\np0 = "switch 0; work 10 user faults=2*full32-2"\nt0 = "map 0 0\\nread 0"\norder = "t0*2 p0*2"\n'
+        with tempfile.TemporaryDirectory() as folder, unittest.mock.patch.object(cases, "FOLDER", Path(folder)):
+            Path(folder, "file.toml").write_text(head + own)
+            [case] = cases.of_file("file")
+            self.assertEqual(("g", "a", (), ()), (case.group, case.name, case.options, case.shows))
+            script, hits = Script(case.text), 2 * ((kernel.PAGE - 1) // 32) - 2
+            self.assertEqual(["switch 0", f"work 10 user faults={hits}"], [line.text for line in script.lines["p0"]])
+            self.assertEqual({0: kernel.PAGE}, script.rings)
+            self.assertEqual("t0 t0 p0 p0 t0".split(), script.order)
+            Path(folder, "file.toml").write_text(head + own.replace("order", "ordre"))
+            with self.assertRaisesRegex(Fault, "file.toml: a: a case has no ordre$"):
+                list(cases.of_file("file"))
 
     def test_rows_of_cases_are_in_the_document(self):
         known = documents.known_rows()
@@ -135,8 +159,9 @@ class Tables(unittest.TestCase):
 
     def test_column_has_rows_of_sources(self):
         known = documents.rows("| `rotation` | does | not | why | source of 6.1 |\n")
-        cells = table.of_rules([], known, [rules.TURNS], "6.18.44")
-        self.assertEqual(cells, {rules.TURNS: "not comparable; differs by its source: `rotation`"})
+        turns = rules.OF_SOURCE_ROWS["rotation"]
+        cells = table.of_rules([], known, [turns], "6.18.44")
+        self.assertEqual(cells, {turns: "not comparable; differs by its source: `rotation`"})
 
     def test_wrapped(self):
         text = "x" * 115 + " `rt try` " + "y" * 10

@@ -8,8 +8,8 @@ import unittest
 from unittest import mock
 
 from perfscript import Fault, command, program
-from perfscript.program import Built, Tried, outcomes_of_try, program_at
-from perfscript.progress import Progress
+from perfscript.program import Built, Tried, built_at, outcomes_of_try, program_at
+from perfscript.progress import Progress, each
 from perfscript.tests.support import PATH, RT, ProgramTest, call_of, program_file
 
 PRINTED = "== c0\nstat 0\nend\n== c1\n"
@@ -48,21 +48,32 @@ class Tries(ProgramTest):
 
 
 class Found(unittest.TestCase):
-    def test_the_option_then_the_usual_place_then_rt(self):
+    def test_the_option_then_the_variable_then_the_usual_place_then_rt(self):
         with tempfile.TemporaryDirectory() as folder:
-            path = program_file(folder, "perf_run", "")
-            self.assertEqual(path, program_at(path).path)
-            with mock.patch.object(program, "USUAL", path):
-                self.assertIsInstance(program_at(), Built)
+            path, other = program_file(folder, "perf_run", ""), program_file(folder, "other", "")
+            with mock.patch.dict(os.environ, PERF_RUN=other), mock.patch.object(program, "USUAL", path):
+                self.assertEqual((path, other), (program_at(path).path, program_at().path))
+                self.assertEqual((path, other), (built_at(path).path, built_at().path))
+            with mock.patch.dict(os.environ, PERF_RUN=""), mock.patch.object(program, "USUAL", path):
+                self.assertEqual((path, Built), (program_at().path, type(program_at())))
             rt = program_file(folder, "rt", "")
-            with mock.patch.object(program, "USUAL", "/nonexistent"), mock.patch.dict(os.environ, PATH=folder):
+            at_rt = mock.patch.dict(os.environ, PATH=folder, PERF_RUN="")
+            with mock.patch.object(program, "USUAL", "/nonexistent"), at_rt:
                 self.assertEqual((rt, Tried), (program_at().rt, type(program_at())))
+                with self.assertRaisesRegex(Fault, "^rt try is too slow .* give a built perf_run by --replay or PERF_RUN"):
+                    built_at(None, "--replay")
 
     def test_no_program(self):
         with self.assertRaisesRegex(Fault, "--program: /nonexistent/perf_run is not a file; give"):
             program_at("/nonexistent/perf_run")
-        with mock.patch.object(program, "USUAL", "/nonexistent"), mock.patch.dict(os.environ, PATH="/nonexistent"):
-            with self.assertRaisesRegex(Fault, "no program: .* give a built perf_run by --program"):
+        with self.assertRaisesRegex(Fault, "--replay:  is not a file; give"):
+            program_at("", "--replay")
+        with mock.patch.dict(os.environ, PERF_RUN="/nonexistent/perf_run"):
+            with self.assertRaisesRegex(Fault, "PERF_RUN: /nonexistent/perf_run is not a file; give"):
+                program_at(None, "--replay")
+        nowhere = mock.patch.dict(os.environ, PATH="/nonexistent", PERF_RUN="")
+        with mock.patch.object(program, "USUAL", "/nonexistent"), nowhere:
+            with self.assertRaisesRegex(Fault, "no program: .* give a built perf_run by --program or PERF_RUN"):
                 program_at()
 
 
@@ -106,19 +117,38 @@ class Commands(unittest.TestCase):
 
 
 class LongWork(unittest.TestCase):
-    def said(self, stream):
+    def step_by_step(self):
+        with Progress("cases", 3) as progress:
+            for _ in range(3):
+                progress.step()
+
+    def each_item(self):
+        self.assertEqual(["a", "b", "c"], list(each("cases", "abc", 3)))
+
+    def said(self, stream, work):
         clock = iter([0.0, 0.5, 1.5, 4.0])
         with mock.patch("sys.stderr", stream), mock.patch.object(time, "monotonic", lambda: next(clock)):
-            with Progress("cases", 3) as progress:
-                for _ in range(3):
-                    progress.step()
+            work()
         return stream.getvalue()
 
     def test_a_terminal_sees_how_far_it_is(self):
-        self.assertEqual("\rcases: 2 of 3, 2 s\rcases: 3 of 3, 4 s\r" + " " * 18 + "\r", self.said(Terminal()))
+        wanted = "\rcases: 2 of 3, 2 s\rcases: 3 of 3, 4 s\r" + " " * 18 + "\r"
+        for work in (self.step_by_step, self.each_item):
+            self.assertEqual(wanted, self.said(Terminal(), work))
+
+    def test_a_fault_within_an_item_clears_the_terminal(self):
+        def work():
+            for item in each("cases", "abc", 3):
+                if item == "c":
+                    raise Fault(item)
+
+        with self.assertRaises(Fault):
+            self.said(terminal := Terminal(), work)
+        self.assertEqual("\rcases: 2 of 3, 2 s\r" + " " * 18 + "\r", terminal.getvalue())
 
     def test_nothing_where_there_is_no_terminal(self):
-        self.assertEqual("", self.said(io.StringIO()))
+        for work in (self.step_by_step, self.each_item):
+            self.assertEqual("", self.said(io.StringIO(), work))
 
 
 if __name__ == "__main__":
