@@ -3,8 +3,8 @@ use Rattle.std.proofs.Common.{◌≡◌, ℕ, List, [], ◌∷◌, get_or, drop,
 use Rattle.std.proofs.lemmas.Option.{same_Some, none-some}
 use Rattle.perf_base.specs.declared.acts.Act.{Act}
 use Rattle.script_spec.specs.{Acts.{act_text}, Lines.{words_of, pieces}, Forms.{Version, Form, IsActSpelling, IsOfForm}}
-use Rattle.line_forms.specs.{Words.{cut}, Acts.{act_in}, Reading.{form_at}}
-use Rattle.line_forms.proofs.{Cuts.{pieces_cut, pieces_behind}, Laws.{one_form, form-again}, Sequences.{act-again}}
+use Rattle.line_forms.specs.{Words.{cut, pieces_behind}, Acts.{act_in}, Reading.{form_at}}
+use Rattle.line_forms.proofs.{Cuts.{pieces_cut}, Laws.{one_form, form-again}, Sequences.{act-again}}
 use Rattle.given_lines.specs.{Given.{IsOfActor}, Giving.{IsWorkerWord, IsForActor, IsOfNone}}
 
 heads : (x y : List ℕ) (xs ys : List (List ℕ)) → x ∷ xs ≡ y ∷ ys → (x ≡ y) × (xs ≡ ys)

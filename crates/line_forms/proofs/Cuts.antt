@@ -1,14 +1,9 @@
 -- A text that is cut at a byte, and its pieces.
 use Rattle.std.proofs.Common.{◌≡◌, ℕ, suc, Bool, true, false, not, eqb, ltb, List, [], ◌∷◌, length, Option, Some, None, refl, sym, ap, ◌∙◌, Bor, arith, add-one}
 use Rattle.std.{proofs.{Math.Numerals.{one-add}, lemmas.Bool.{lt-ltb, ltb-true, ltb-false, le-ltb}}}
-use Rattle.std.specs.Option.{option_map}
+use Rattle.std.specs.{List.{starts_with}, Option.{option_map}}
 use Rattle.script_spec.specs.Lines.{pieces}
-use Rattle.line_forms.specs.{declared.words.Words.{Words}, Words.{cut, left, next_of, end_of}}
-
--- the pieces of what stands behind a cut
-abbrev pub pieces_behind : ℕ → Option (List ℕ) → List (List ℕ)
-pieces_behind c None = []
-pieces_behind c (Some rest) = pieces c rest
+use Rattle.line_forms.specs.{declared.words.Words.{Words}, Words.{◌>>=◌, cut, left, pieces_behind, next_of, end_of, strip, behind}, Leaves.{number, number_at, number_if}}
 
 abbrev differs : ℕ → ℕ → Bool
 differs c b = not (eqb b c)
@@ -48,3 +43,31 @@ next_is w text word rest e c =
 
 pub end_is : (w : Words) (text : Bor (List ℕ)) → w.rest ≡ Some text → None ≡ end_of (left w)
 end_is w text e = ap end_of (sym (left_is w text e ∙ pieces_cut w.by text.now))
+
+-- a word begins with no literal with which the text does not begin
+front_begins : (c : ℕ) (literal text : List ℕ) → starts_with eqb text literal ≡ false → starts_with eqb (cut c text).0 literal ≡ false
+front_begins c [] text f = absurd cc
+front_begins c (l ∷ ls) [] f = rw (cut_nothing c) f
+front_begins c (l ∷ ls) (b ∷ bs) f = grind (arith, cut_here, cut_later, front_begins c ls bs)
+
+strip_none : (literal text : List ℕ) → starts_with eqb text literal ≡ false → strip literal text ≡ None
+unfolding strip
+strip_none literal text f = rw f refl
+
+pub begins_with_none : (w : Words) (literal : List ℕ) (text : Bor (List ℕ)) → w.rest ≡ Some text → starts_with eqb text.now literal ≡ false
+    → behind literal (left w) ≡ None
+begins_with_none w literal text e f =
+    let all : left w ≡ (cut w.by text.now).0 ∷ pieces_behind w.by (cut w.by text.now).1 = left_is w text e ∙ pieces_cut w.by text.now in
+    rw all (strip_none literal (cut w.by text.now).0 (front_begins w.by literal text.now f))
+
+-- a number and the words behind it, or else the words
+abbrev number_or : List (List ℕ) → Option (ℕ × List (List ℕ)) → Option ℕ × List (List ℕ)
+number_or words (Some x) = (Some x.0, x.1)
+number_or words None = (None, words)
+
+-- then it is no number behind the literal
+pub no_number : (key : List ℕ) (radix most : ℕ) (words : List (List ℕ)) → behind key words ≡ None → (None, words) ≡ number_if key radix most words
+unfolding number_if number_at
+no_number key radix most [] none = refl
+no_number key radix most (word ∷ words) none =
+    ap (λ (o : Option (List ℕ)). number_or (word ∷ words) (o >>= λ text. number radix most text >>= λ n. Some (n, words))) (sym none)

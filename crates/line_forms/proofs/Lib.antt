@@ -1,4 +1,5 @@
 pub mod Cuts
+pub mod Fronts
 pub mod Given
 pub mod Grammar
 pub mod Laws

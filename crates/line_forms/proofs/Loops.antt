@@ -1,5 +1,5 @@
 -- Reading one word after the other, as a loop does.
-use Rattle.std.proofs.Common.{◌≡◌, ℕ, ◌+◌, ◌*◌, ◌-◌, ◌<◌, ◌≤◌, ◌↔◌, Bool, IsTrue, MatchOption, All, true, false, is_some, Bor, List, [], ◌∷◌, ◌++◌, map, length, get_or, take, drop, Option, Some, None, refl, sym, ap, ◌∙◌, append_assoc, arith, length-take, length-drop}
+use Rattle.std.proofs.Common.{◌≡◌, ℕ, ◌+◌, ◌*◌, ◌-◌, ◌<◌, ◌≤◌, ◌↔◌, Bool, IsTrue, All, true, false, Bor, List, [], ◌∷◌, ◌++◌, map, length, get_or, take, drop, Option, Some, None, refl, sym, ap, ◌∙◌, append_assoc, arith, length-take, length-drop}
 use Rattle.std.{proofs.{Math.{Seq.{take-length}}, lemmas.{List.{append-nil, drop_more, Elements.{All-push, All-pop}}, Option.{same_Some}}}, specs.{Prelude.{unwrap_or}, Str.{bytes_eq}}}
 use Rattle.line_forms.specs.{declared.keyword.Keyword.{Keyword}, Keyword.{looked_up}, Words.{◌>>=◌, next_of}, Lists.{each_word, all_in, pair_of, pairs_in}}
 use Rattle.line_forms.proofs.Singles.{bind_some}
@@ -74,11 +74,12 @@ first_given f w ws words n e =
 
 -- ---- whether all of a list are so, with one more behind it
 
-pub still_all : {A : Type 0} (P : A → Type 0) (front : List A) (x : A) (b : Bool) → IsTrue b ↔ All P front → P x → IsTrue b ↔ All P (front ++ x ∷ [])
-still_all P front x b h own = (λ t. All-push P front x (h.0 t) own, λ all. h.1 (All-pop P (front ++ x ∷ []) front (Some x) refl all).0)
+pub last_decides : {A : Type 0} (P : A → Type 0) (front : List A) (x : A) (all last : Bool) → IsTrue all → IsTrue all ↔ All P front → IsTrue last ↔ P x → IsTrue last ↔ All P (front ++ x ∷ [])
+last_decides P front x all last t h own = (λ l. All-push P front x (h.0 t) (own.0 l), λ each. own.1 (All-pop P (front ++ x ∷ []) front (Some x) refl each).1)
 
-pub not_all : {A : Type 0} (P : A → Type 0) (front : List A) (x : A) → (P x → ⊥) → IsTrue false ↔ All P (front ++ x ∷ [])
-not_all P front x own = (λ t. absurd cc, λ all. absurd (own (All-pop P (front ++ x ∷ []) front (Some x) refl all).1))
+pub not_all : {A : Type 0} (P : A → Type 0) (front : List A) (x : A) (all : Bool) → all ≡ false → IsTrue all ↔ All P front → IsTrue all ↔ All P (front ++ x ∷ [])
+not_all P front x true f h = absurd cc
+not_all P front x false f h = (λ t. absurd cc, λ each. h.1 (All-pop P (front ++ x ∷ []) front (Some x) refl each).0)
 
 -- pairs of digits
 pub pairs_step : (bytes rest whole : List ℕ) → 2 ≤ length rest → bytes ++ pairs_in rest ≡ whole

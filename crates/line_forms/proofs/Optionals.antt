@@ -4,9 +4,9 @@ use Rattle.std.proofs.lemmas.{Option.{same_Some}, Bool.{cases_Bool, cases_lt, an
 use Rattle.std.specs.{Prelude.{codes, IfSome}, List.{join_with_byte}, Str.{bytes_eq}, Fmt.{digits}}
 use Rattle.script_spec.specs.Lines.{pieces, put_before}
 use Rattle.script_spec.specs.Forms as form
-use Rattle.line_forms.specs.Words.{◌>>=◌, strip, next_of, end_of}
+use Rattle.line_forms.specs.Words.{◌>>=◌, pieces_behind, strip, next_of, end_of}
 use Rattle.line_forms.specs.Leaves.{number_at, number_if, word_if, bit, flags, flags_in, flags_at, flags_if}
-use Rattle.line_forms.proofs.Cuts.{pieces_cut, pieces_behind}
+use Rattle.line_forms.proofs.Cuts.{pieces_cut}
 use Rattle.line_forms.proofs.Singles.{bind_some, next_takes, end_takes, strip_takes, strip_again, bytes_eq-true, number_at-takes, number_at-again}
 
 -- ---- numbers

@@ -1,9 +1,9 @@
 -- inner
 -- What words that hold lists give: occurrences, and bytes. This project's own profile.
-use Rattle.std.specs.Prelude.{ℕ, ◌+◌, ◌*◌, ◌%◌, Bool, ◌==◌, ◌&&◌, nat_lt, nat_le, List, [], ◌∷◌, length, Option, Some, None, unwrap_or, if◌then◌else◌}
+use Rattle.std.specs.Prelude.{ℕ, ◌+◌, ◌*◌, ◌%◌, Bool, ◌==◌, ◌&&◌, true, nat_lt, nat_le, ◌≡◌, List, [], ◌∷◌, ◌++◌, length, Option, Some, None, unwrap_or, if◌then◌else◌}
 use Rattle.std.specs.List.{list_all}
 use Rattle.script_spec.specs.Forms.{Hit}
-use Rattle.line_forms.specs.{Words.{◌>>=◌, cut}, Leaves.{digit_of, number, name}}
+use Rattle.line_forms.specs.{Words.{◌>>=◌, cut, next_of}, Leaves.{digit_of, number, is_name_byte, name}}
 
 -- what each word gives, where each gives something
 unfoldable pub each_word : {A : Type 0} → (List ℕ → Option A) → List (List ℕ) → Option (List A)
@@ -20,6 +20,21 @@ hit_in word = do
   n ← name (cut 61 word).0
   times ← number 10 20 text
   Some (record { name = n; times = times })
+
+-- the first occurrence and the words behind it, where the first word says one
+abbrev pub next_hit : List (List ℕ) → Option (Hit × List (List ℕ))
+next_hit words = next_of words >>= λ word. hit_in word.0 >>= λ hit. Some (hit, word.1)
+
+-- a text that begins with a name and an equals sign, and what stands behind them
+pub record IsNamed (text front behind : List ℕ) : Type 0 where
+  pub parts : text ≡ front ++ 61 ∷ behind
+  pub bytes : list_all is_name_byte front ≡ true
+  pub named : name front ≡ Some front
+
+-- the occurrence that the first word of a text says, and what stands behind that word
+pub record IsFront (text : List ℕ) (hit : Hit) (rest : Option (List ℕ)) : Type 0 where
+  pub says : hit_in (cut 32 text).0 ≡ Some hit
+  pub leaves : rest ≡ (cut 32 text).1
 
 -- bytes, each as two hexadecimal digits
 abbrev pub is_bytes : List ℕ → Bool

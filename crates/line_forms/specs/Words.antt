@@ -24,6 +24,11 @@ strip literal bytes = if starts_with nat_eq bytes literal then Some (drop (lengt
 abbrev pub left : Words → List (List ℕ)
 left w = elim w.rest [ None ↦ [] | Some text ↦ pieces w.by text.now ]
 
+-- the pieces of what stands behind a cut
+abbrev pub pieces_behind : ℕ → Option (List ℕ) → List (List ℕ)
+pieces_behind c None = []
+pieces_behind c (Some rest) = pieces c rest
+
 abbrev pub next_of : List (List ℕ) → Option (List ℕ × List (List ℕ))
 next_of [] = None
 next_of (word ∷ words) = Some (word, words)
@@ -31,3 +36,7 @@ next_of (word ∷ words) = Some (word, words)
 abbrev pub end_of : List (List ℕ) → Option (Unit {0})
 end_of [] = Some tt
 end_of (word ∷ words) = None
+
+-- the bytes behind a literal in the first word
+abbrev pub behind : List ℕ → List (List ℕ) → Option (List ℕ)
+behind literal words = next_of words >>= λ word. strip literal word.0

@@ -1,6 +1,6 @@
 //! The acts of an order line.
 
-ghost use Rattle.std.specs.Prelude.{◌≡◌, ◌<◌, ◌≤◌, ◌^◌, ◌∷◌, [], ◌↔◌, IsTrue, All, IfSome, MatchOption, Some};
+ghost use Rattle.std.specs.Prelude.{◌≡◌, ◌<◌, ◌≤◌, ◌^◌, ◌∷◌, [], ◌↔◌, IsTrue, All, IfSome, MatchOption, Some, None};
 ghost use Rattle.std.specs.Option.{option_map};
 ghost use Rattle.perf_base.specs.declared.acts.Act as script;
 ghost use Rattle.script_spec.specs.Acts.{act_text, IsActInRange};
@@ -198,6 +198,14 @@ fn short_act(word: &[u8]) -> Option<Act>
     }
 }
 
+/// The act that a word of any length spells, where its numbers are in range.
+fn long_act(word: &[u8]) -> Option<Act>
+    ensures { MatchOption result ((act : script.Act) → says.act_in word.now ≡ Some act → IsActInRange act → ⊥)
+        (λ act. (says.act_in word.now ≡ Some act) × IsActInRange act) }
+{
+    spelled(word)?.in_range()
+}
+
 /// The act that a word spells, where its numbers are in range.
 fn in_range(word: &[u8]) -> Option<Act>
     ensures { MatchOption result ((act : script.Act) → says.act_in word.now ≡ Some act → IsActInRange act → ⊥)
@@ -205,8 +213,27 @@ fn in_range(word: &[u8]) -> Option<Act>
 {
     match short_act(word) {
         Some(act) => Some(act),
-        None => spelled(word)?.in_range(),
+        None => long_act(word),
     }
+}
+
+/// Whether two bytes spell an actor in range.
+fn is_short(word: &[u8]) -> bool
+    ensures { IsTrue result → (act : script.Act) × (says.act_in word.now ≡ Some act) × IsActInRange act }
+{
+    short_act(word).is_some()
+}
+
+/// Whether the numbers of the act that a word spells are in range. None where it spells none.
+fn reaches(word: &[u8]) -> Option<bool>
+    ensures { MatchOption result (says.act_in word.now ≡ None)
+        (λ r. (act : script.Act) × (says.act_in word.now ≡ Some act) × (IsTrue r ↔ IsActInRange act)) }
+{
+    if is_short(word) || long_act(word).is_some() {
+        return Some(true);
+    }
+    spelled(word)?;
+    Some(false)
 }
 
 /// The acts that the words spell.
@@ -216,13 +243,8 @@ pub fn order_acts(words: Words<'_>) -> Option<Acts<'_>>
     let mut are_in_range = true;
     let mut rest = words;
     while let Some((word, more)) = rest.next() {
-        match in_range(word) {
-            Some(_) => {}
-            None => {
-                spelled(word)?;
-                are_in_range = false;
-            }
-        }
+        let is_in_range = reaches(word)?;
+        are_in_range = are_in_range && is_in_range;
         rest = more;
     }
     Some(Acts {

@@ -25,7 +25,7 @@ const MOST_HEXADECIMAL: usize = 16;
 const MOST_SHORT: usize = 15;
 
 /// The most bytes of a name.
-const MOST_OF_NAME: usize = 31;
+pub const MOST_OF_NAME: usize = 31;
 
 /// Whether two texts are the same.
 pub fn same(left: &[u8], right: &[u8]) -> bool
@@ -127,13 +127,15 @@ pub fn decimal(text: &[u8]) -> Option<u128>
     number(text, DECIMAL, MOST_DECIMAL)
 }
 
-fn is_letter(byte: u8) -> bool
+/// Whether a byte is a lower-case letter.
+pub fn is_letter(byte: u8) -> bool
     ensures { result ≡ says.is_letter byte }
 {
     matches!(byte, b'a'..=b'z')
 }
 
-fn is_name_byte(byte: u8) -> bool
+/// Whether a byte may stand in a name.
+pub fn is_name_byte(byte: u8) -> bool
     ensures { result ≡ says.is_name_byte byte }
 {
     is_letter(byte) || matches!(byte, b'0'..=b'9' | b'-')
@@ -244,6 +246,9 @@ fn number_if<'a>(words: Words<'a>, key: &[u8], radix: u8, most: usize) -> (Optio
     requires most { most ≤ 20 }
     ensures { (result.0, left result.1) ≡ says.number_if key.now radix most (left words.entry) }
 {
+    if !words.may_begin(key) {
+        return (None, words);
+    }
     match number_at(words, key, radix, most) {
         Some((number, rest)) => (Some(number), rest),
         None => (None, words),

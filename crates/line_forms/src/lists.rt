@@ -1,15 +1,19 @@
 //! Words that hold lists: occurrences, and bytes.
 
-ghost use Rattle.std.specs.Prelude.{◌≡◌, ℕ, ◌≤◌, ◌+◌, List, [], ◌∷◌, flat_map, take, length, IfSome, MatchOption, Some, None};
+ghost use Rattle.std.specs.Prelude.{◌≡◌, ℕ, ◌≤◌, ◌+◌, List, [], ◌∷◌, flat_map, take, length, true, IfSome, MatchOption, Some, None};
+ghost use Rattle.std.specs.List.{list_all, prefix_len};
 ghost use Rattle.std.specs.Option.{option_map};
 ghost use Rattle.script_spec.specs.Forms.{AreBytes, byte_text};
 ghost use Rattle.line_forms.specs.Words.{left};
 ghost use Rattle.line_forms.specs.Lists as says;
-ghost use Rattle.line_forms.specs.Lists.{each_word, hit_in};
+ghost use Rattle.line_forms.specs.Leaves.{is_name_byte, is_name};
+ghost use Rattle.line_forms.specs.Lists.{each_word, hit_in, next_hit, IsNamed, IsFront};
 ghost use Rattle.line_forms.specs.Forms.{hit_of};
 
 use crate::forms::Hit;
-use crate::leaves::{HEXADECIMAL, are_digits, decimal, digit, name_text};
+use crate::leaves::{
+    HEXADECIMAL, MOST_OF_NAME, are_digits, decimal, digit, is_letter, is_name_byte, name_text,
+};
 use crate::words::{Words, cut};
 use std::marker::Model;
 
@@ -23,6 +27,82 @@ fn hit(word: &[u8]) -> Option<Hit<'_>>
     let name = name_text(front)?;
     let times = decimal(back)?;
     Some(Hit { name, times })
+}
+
+/// Whether bytes of names are a name.
+fn are_name(text: &[u8]) -> bool
+    requires { list_all is_name_byte text.now ≡ true }
+    ensures { result ≡ is_name text.now }
+{
+    match text {
+        [] => false,
+        [first, rest @ ..] => is_letter(*first) && rest.len() < MOST_OF_NAME,
+    }
+}
+
+/// How many bytes of names a text begins with.
+fn name_length(text: &[u8]) -> usize
+    ensures count { result ≡ prefix_len is_name_byte text.now }
+    ensures within { result ≤ length text.now }
+{
+    text.iter().take_while(|byte| is_name_byte(**byte)).count()
+}
+
+/// The name that a text begins with, and what stands behind its equals sign.
+fn front_name(text: &[u8]) -> Option<(&[u8], &[u8])>
+    ensures { IfSome result (λ x. IsNamed text.now x.0.now x.1.now) }
+{
+    let length = name_length(text);
+    if length < text.len() && text[length] == b'=' && are_name(&text[..length]) {
+        Some((&text[..length], &text[length + 1..]))
+    } else {
+        None
+    }
+}
+
+/// The occurrence that a text begins with, and what stands behind its word, where a blank does. Each byte of its name
+/// is looked at once. None where it begins with none.
+fn front_hit(text: &[u8]) -> Option<(Hit<'_>, Option<&[u8]>)>
+    ensures { IfSome result (λ x. IsFront text.now (hit_of x.0) (option_map (λ rest. rest.now) x.1)) }
+{
+    let Some((name, behind)) = front_name(text) else {
+        return None;
+    };
+    let (word, rest) = cut(behind, b' ');
+    let times = decimal(word)?;
+    Some((Hit { name, times }, rest))
+}
+
+/// The first occurrence, where blanks part the words.
+fn quick_hit(words: Words<'_>) -> Option<(Hit<'_>, Words<'_>)>
+    ensures { IfSome result (λ x. Some (hit_of x.0, left x.1) ≡ next_hit (left words.entry)) }
+{
+    let text = words.parted_by(b' ')?;
+    let Some((hit, rest)) = front_hit(text) else {
+        return None;
+    };
+    Some((hit, Words::behind(rest, b' ')))
+}
+
+/// The first occurrence, by the first word.
+fn plain_hit(words: Words<'_>) -> Option<(Hit<'_>, Words<'_>)>
+    ensures { option_map (λ x. (hit_of x.0, left x.1)) result ≡ next_hit (left words.entry) }
+{
+    let (word, words) = words.next()?;
+    let Some(hit) = hit(word) else {
+        return None;
+    };
+    Some((hit, words))
+}
+
+/// The first occurrence and the words behind it. None where no word is left, or the first says none.
+fn first_hit(words: Words<'_>) -> Option<(Hit<'_>, Words<'_>)>
+    ensures { option_map (λ x. (hit_of x.0, left x.1)) result ≡ next_hit (left words.entry) }
+{
+    match quick_hit(words) {
+        Some(found) => Some(found),
+        None => plain_hit(words),
+    }
 }
 
 /// The occurrences that a work line spells. They stay in the line, each word of which spells one.
@@ -56,10 +136,7 @@ impl<'a> Hits<'a> {
     pub fn next(self) -> Option<(Hit<'a>, Hits<'a>)>
         ensures { MatchOption result (self.entry ≡ []) (λ x. self.entry ≡ hit_of x.0 ∷ x.1) }
     {
-        let Some((word, words)) = self.words.next() else {
-            return None;
-        };
-        let Some(hit) = hit(word) else {
+        let Some((hit, words)) = first_hit(self.words) else {
             return None;
         };
         Some((hit, Hits { words }))
@@ -71,10 +148,10 @@ pub fn spelled_hits(words: Words<'_>) -> Option<Hits<'_>>
     ensures { result ≡ each_word hit_in (left words.entry) }
 {
     let mut rest = words;
-    while let Some((word, more)) = rest.next() {
-        hit(word)?;
+    while let Some((_, more)) = first_hit(rest) {
         rest = more;
     }
+    rest.end()?;
     Some(Hits { words })
 }
 

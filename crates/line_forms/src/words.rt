@@ -1,18 +1,33 @@
 //! The words of a line, from the left.
 
-ghost use Rattle.std.specs.Prelude.{◌≡◌, ◌≤◌, not, ◌==◌, length};
+ghost use Rattle.std.specs.Prelude.{◌≡◌, ◌≤◌, not, ◌==◌, length, false, IsTrue, IfSome, None};
 ghost use Rattle.std.specs.List.{prefix_len};
 ghost use Rattle.std.specs.Option.{option_map};
 ghost use Rattle.script_spec.specs.Lines.{pieces};
 ghost use Rattle.line_forms.specs.Words as says;
-ghost use Rattle.line_forms.specs.Words.{left, next_of, end_of, strip};
+ghost use Rattle.line_forms.specs.Words.{left, next_of, end_of, strip, behind, pieces_behind};
+
+/// Whether a byte of a kind first stands third: most words of an order are of two bytes.
+fn is_third(text: &[u8], by: u8) -> bool
+    ensures count { IsTrue result → prefix_len (λ b. not (b == by)) text.now ≡ 2 }
+    ensures within { IsTrue result → 2 ≤ length text.now }
+{
+    match text {
+        [first, second, third, ..] => *third == by && *first != by && *second != by,
+        _ => false,
+    }
+}
 
 /// How many bytes stand before the first of a kind.
 fn length_before(text: &[u8], by: u8) -> usize
     ensures count { result ≡ prefix_len (λ b. not (b == by)) text.now }
     ensures within { result ≤ length text.now }
 {
-    text.iter().take_while(|byte| **byte != by).count()
+    if is_third(text, by) {
+        2
+    } else {
+        text.iter().take_while(|byte| **byte != by).count()
+    }
 }
 
 /// What stands before the first of some bytes, and what stands behind it, if there is one.
@@ -64,6 +79,30 @@ impl<'a> Words<'a> {
     {
         let (word, rest) = cut(self.rest?, self.by);
         Some((word, Words { rest, by: self.by }))
+    }
+
+    /// The text that is left, where a byte of this kind parts its words. None also stands for no text.
+    pub fn parted_by(self, by: u8) -> Option<&'a [u8]>
+        ensures { IfSome result (λ text. left self.entry ≡ pieces by text.now) }
+    {
+        if self.by == by { self.rest } else { None }
+    }
+
+    /// The words of what stands behind a word, where something does.
+    pub fn behind(rest: Option<&'a [u8]>, by: u8) -> Words<'a>
+        ensures { left result ≡ pieces_behind by (option_map (λ text. text.now) rest.entry) }
+    {
+        Words { rest, by }
+    }
+
+    /// Whether the first word may begin with a literal. Where the rest does not, the word does not.
+    pub fn may_begin(self, literal: &[u8]) -> bool
+        ensures { result ≡ false → behind literal.now (left self.entry) ≡ None }
+    {
+        match self.rest {
+            None => false,
+            Some(text) => text.starts_with(literal),
+        }
     }
 
     /// Some exactly where no word is left.

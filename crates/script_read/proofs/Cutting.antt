@@ -5,7 +5,7 @@ use Rattle.std.proofs.lemmas.{List.Sums.{prefix_len_passes}, Slice.Eq.{bytes_eq-
 use Rattle.std.specs.{Prelude.{codes, nat_eq}, List.{join_with_byte, prefix_len, starts_with}, Str.{bytes_eq}, Cmp.Lexicographic.{same_text}}
 use Rattle.script_spec.specs.{Lines.{pieces, all_but_last, last_one, lines_of}, Texts.{version_of}, Faults.{IsPrintable}}
 use Rattle.script_spec.specs.Forms as form
-use Rattle.line_forms.{specs.Words.{cut}, proofs.{Cuts.{pieces_cut, pieces_behind}, Sequences.{cut-takes, cut-again}, Optionals.{join_pieces}}}
+use Rattle.line_forms.{specs.Words.{cut, pieces_behind}, proofs.{Cuts.{pieces_cut}, Sequences.{cut-takes, cut-again}, Optionals.{join_pieces}}}
 use Rattle.script_read.specs.Reading.{is_plain, IsNextLine, HasNoLine}
 
 pub no_line : (text front : List ℕ) → (front, None) ≡ cut 10 text → HasNoLine text

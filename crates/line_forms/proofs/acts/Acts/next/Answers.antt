@@ -1,4 +1,4 @@
-use Rattle.std.{proofs.{Common.{◌≡◌, ◌∷◌, All, sym, ap, subst, ◌∙◌}, lemmas.{Option.{same_Some}, List.Elements.{All-head, All-tail}}}}
+use Rattle.std.{proofs.{Common.{◌∷◌, All, sym, ap, subst, ◌∙◌}, lemmas.{Option.{same_Some}, List.Elements.{All-head, All-tail}}}}
 use Rattle.script_spec.specs.Acts.{IsActInRange}
 use Rattle.line_forms.{specs.{Words.{left}, Lists.{all_in}, Acts.{act_in}}, proofs.Loops.{none_given, first_given}}
 use Rattle.line_forms.proofs.acts.Acts.next.Goals as goal
