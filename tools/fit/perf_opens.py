@@ -42,7 +42,7 @@ def wishes_of(session: NotedSession | None, printed: str) -> list[Wish]:
     attempts = attempts_of_most(session.attempts if session else [])
     names = names_in(printed, len(attempts))
     sums = [line[1] for line in SUM.finditer(printed) if not READ.match(line[0])]
-    if not names and len(sums) < len(attempts):
+    if not names and 0 < len(sums) < len(attempts):
         # an event of one a computer is opened again for the processor that it is on
         attempts, names = attempts[: len(sums)], sums
     found: dict[Attempt, Wish] = {}

@@ -10,11 +10,12 @@ from __future__ import annotations
 import argparse
 import os
 import re
+import signal
 import sys
 import tempfile
 from collections.abc import Sequence
 from contextlib import ExitStack, closing
-from dataclasses import dataclass
+from dataclasses import dataclass, replace
 
 from double.build import NotHere, built
 from double.certificate import certify
@@ -38,6 +39,8 @@ from fit.stand_in import StandIn
 from perfscript import Program, built_at, command
 
 ONLINE = os.path.join(os.path.dirname(os.path.abspath(__file__)), "online.c")
+# perf 6.1 crashes at some metrics on some computers, at Skylake's MEM_Request_Latency for a task for one
+CRASHES = (signal.SIGSEGV, signal.SIGBUS, signal.SIGABRT, signal.SIGILL, signal.SIGFPE)
 # options of the tool that perf's own words take the place of
 OF_LISTS = {"lists": "-e", "metrics": "-M", "details": "-d", "everywhere": "-a", "processors": "-C", "mask": "--mask",
             "sampling": "--sampling"}
@@ -101,8 +104,8 @@ def done_by(
     """Runs perf on the machine; its output goes to these descriptors."""
     with closing(StandIn(machine, has_watchdog)) as stand_in, Meanings() as meanings:
         furnish(stand_in, call)
-        printed, wanted = seen(PerfBroker(program, meanings, machine), call.words_to_plan(), stand_in)
-        wishes = wishes_of(wanted, printed)
+        first = seen(PerfBroker(program, meanings, machine), call.words_to_plan(), stand_in)
+        wishes = wishes_of(first.session, first.printed)
         watched: list[Opens] = []
 
         def new_watch() -> Watch:
@@ -112,13 +115,13 @@ def done_by(
         broker = PerfBroker(program, meanings, machine, has_watchdog, new_watch)
         status = served(broker, call.words(), stand_in, to)
     sessions = broker.noted_sessions()
-    # without wishes perf gave up at its first open, as at a group of uncore events for a task, and has said so
-    if not wishes or not sessions or not sessions[0].attempts:
+    if not sessions or not sessions[0].attempts:
         return Done(status, Opens(wishes), None)
     opens = watched[0]
     if opens.is_other:
-        raise ProgramFault("perf did not open what it opened where nothing was refused")
-    found = answer_to(program, plan_of(opens, machine, has_watchdog))
+        raise ProgramFault(first.fault or "perf did not open what it opened where nothing was refused")
+    plan = plan_of(opens, machine, has_watchdog)
+    found = answer_to(program, replace(plan, notes=(*plan.notes, *[first.fault] * bool(first.fault))))
     check_same(program, found, opens, sessions[0])
     return Done(status, opens, found)
 
@@ -133,12 +136,28 @@ def furnish(stand_in: StandIn, call: PerfStat) -> None:
     stand_in.write_tracepoints((word.split(":")[0], word.split(":")[1]) for word in typed)
 
 
-def seen(broker: PerfBroker, words: list[str], stand_in: StandIn) -> tuple[str, NotedSession | None]:
-    """What perf prints where nothing is refused, and what it opens."""
+@dataclass(frozen=True)
+class Seen:
+    """What perf printed where nothing was refused, what it opened, and its status."""
+
+    printed: str
+    session: NotedSession | None
+    status: int
+
+    @property
+    def fault(self) -> str:
+        """That perf itself crashed, empty where it did not."""
+        if self.status - 128 not in CRASHES:
+            return ""
+        return f"perf itself crashed, by signal {self.status - 128}, where nothing was refused: names are missing here"
+
+
+def seen(broker: PerfBroker, words: list[str], stand_in: StandIn) -> Seen:
+    """Runs perf where nothing is refused."""
     with tempfile.TemporaryFile() as file:
-        run_inside(broker, words, stand_in, (file.fileno(), file.fileno()))
+        status = run_inside(broker, words, stand_in, (file.fileno(), file.fileno())).status
         printed = text_in(file.fileno())
-    return printed, next(iter(broker.noted_sessions()), None)
+    return Seen(printed, next(iter(broker.noted_sessions()), None), status)
 
 
 def served(broker: PerfBroker, words: list[str], stand_in: StandIn, to: Outputs) -> int:
