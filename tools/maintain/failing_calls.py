@@ -185,7 +185,7 @@ class Trial:
 def main(path: str) -> int:
     program, found = program_at(path).path, list[list[object]]()
     with tempfile.TemporaryDirectory() as folder:
-        library = preloaded.compiled("failing_calls", folder)
+        library = preloaded.library_of("failing_calls", folder)
         trials = [Trial(program, library, piece) for piece in PIECES]
         for trial in each("pieces", trials, len(PIECES)):
             found += trial.rows()

@@ -1,13 +1,12 @@
 """What a run of the program costs."""
 
-import os
 import subprocess
 import tempfile
-import time
 from collections.abc import Sequence
+from functools import cache
 from typing import NamedTuple
 
-import packages  # noqa: F401
+import preloaded
 from perfscript import Fault
 
 
@@ -20,22 +19,35 @@ class Cost(NamedTuple):
     peak: int
 
 
+@cache
+def folder() -> tempfile.TemporaryDirectory[str]:
+    """A folder that is removed when this process ends."""
+    return tempfile.TemporaryDirectory(prefix="measuring.")
+
+
+@cache
+def starter() -> str:
+    """The small program that starts what is measured, compiled once."""
+    return preloaded.compiled("starter", folder().name, "-D_GNU_SOURCE")
+
+
 def cost(program: str, words: Sequence[str], text: str = "", status: int = 0, note: str = "") -> Cost:
     """What a run costs, which has to end with this status and this note."""
-    with tempfile.TemporaryFile() as given, tempfile.TemporaryFile() as noted:
+    with tempfile.TemporaryFile() as given, tempfile.TemporaryFile() as noted, tempfile.TemporaryFile("w+") as told:
         given.write(text.encode())
         given.seek(0)
-        begin = time.monotonic()
-        run = subprocess.Popen([program, *words], stdin=given, stdout=subprocess.DEVNULL, stderr=noted)
-        _, code, usage = os.wait4(run.pid, 0)
-        seconds = time.monotonic() - begin
-        run.returncode = os.waitstatus_to_exitcode(code)
+        call = [starter(), str(told.fileno()), program, *words]
+        subprocess.run(call, stdin=given, stdout=subprocess.DEVNULL, stderr=noted, pass_fds=[told.fileno()])
         noted.seek(0)
-        said = noted.read().decode(errors="replace").strip()
-    if (run.returncode, said) != (status, note):
-        ended, wanted = (f"status {one}, {text or 'no note'}" for one, text in ((run.returncode, said), (status, note)))
-        raise Fault(f"{program} {' '.join(words)} ended with {ended}; wanted: {wanted}")
-    return Cost(seconds, usage.ru_utime + usage.ru_stime, usage.ru_minflt + usage.ru_majflt, usage.ru_maxrss * 1024)
+        told.seek(0)
+        said, found = noted.read().decode(errors="replace").strip(), [int(number) for number in told.read().split()]
+    if not found:
+        raise Fault(f"{program} does not start: {said or 'no reason was given'}")
+    took, ended, processor, faults, peak = found
+    if (ended, said) != (status, note):
+        was, wanted = (f"status {one}, {text or 'no note'}" for one, text in ((ended, said), (status, note)))
+        raise Fault(f"{program} {' '.join(words)} ended with {was}; wanted: {wanted}")
+    return Cost(took / 1e9, processor / 1e6, faults, peak * 1024)
 
 
 def best(count: int, program: str, words: Sequence[str], text: str = "", status: int = 0,

@@ -30,17 +30,22 @@ def compiler() -> str | None:
     return shutil.which("cc")
 
 
-def compiled(name: str, folder: str) -> str:
+def library_of(name: str, folder: str) -> str:
     """Compiles NAME.c of this folder, and gives the path of the library, in the folder given."""
+    return compiled(name, folder, "-shared", "-fPIC")
+
+
+def compiled(name: str, folder: str, *words: str) -> str:
+    """The same of what these words of cc ask for."""
     cc = compiler()
     if cc is None:
         raise Fault("no C compiler: there is no command cc")
-    library = os.path.join(folder, name + ".so")
-    call = [cc, "-shared", "-fPIC", "-O1", "-Wall", "-Wextra", "-o", library, os.path.join(FOLDER, name + ".c")]
+    made = os.path.join(folder, name)
+    call = [cc, *words, "-O1", "-Wall", "-Wextra", "-o", made, os.path.join(FOLDER, name + ".c")]
     done = subprocess.run(call, capture_output=True, text=True)
     if done.returncode:
         raise Fault(f"cc refuses {name}.c: {' '.join(done.stderr.split())}")
-    return library
+    return made
 
 
 def call(program: str, words: Sequence[str], text: bytes, library: str, settings: Mapping[str, object]) -> Ended:

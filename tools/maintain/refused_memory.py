@@ -103,7 +103,7 @@ def row_of(program: str, library: str, name: str, word: str, kind: str,
 def main(path: str) -> int:
     program, rows, faults = program_at(path).path, list[list[object]](), list[str]()
     with tempfile.TemporaryDirectory() as folder:
-        library = preloaded.compiled("refused_memory", folder)
+        library = preloaded.library_of("refused_memory", folder)
         for (name, word), kind in each("rows", itertools.product(ALL, KINDS), len(ALL) * len(KINDS)):
             row, own = row_of(program, library, name, word, kind)
             rows.append(row)

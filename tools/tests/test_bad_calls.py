@@ -77,10 +77,9 @@ CALLS = (
     (["maintain/layers.py", "odd"], "odd: not known; layers.py --help has the words"),
     (["maintain/missing_answers.py", "odd"], "crates/odd/must-fail: no such folder"),
     (["maintain/cited_definitions.py", "odd"], "1 words do not do"),
-    (["maintain/read_benchmark.py", "/nonexistent"], "/nonexistent: No such file or directory"),
-    (["maintain/read_benchmark.py", "{false}"], "replay ended with status 1, no note; wanted: status 1, perf_run: line"),
     (["maintain/replay_benchmark.py", "{false}"], "make 1000 script ended with status 1: no note"),
-    (["maintain/start_benchmark.py", "{false}"], "replay ended with status 1, no note; wanted: status 0, no note"),
+    (["maintain/compare_benchmark.py", "{false}"], "1 words do not do; compare_benchmark.py --help has the usage"),
+    (["maintain/compare_benchmark.py", "{false}", "/nonexistent"], "--program: /nonexistent is not a file"),
     (["maintain/refused_memory.py", "/nonexistent"], "--program: /nonexistent is not a file"),
     (["maintain/failing_calls.py", "/nonexistent"], "--program: /nonexistent is not a file"),
     (["maintain/check_machines.py"], "0 words do not do; check_machines.py --help has the usage"),
@@ -130,6 +129,13 @@ if shutil.which("perf"):
         ([*WITH_PERF, "perf", "stat", "report"], "perf stat report is about a file; leave report out"),
         ([*WITH_PERF, "perf", "stat", "-C", "0-99"], "-C: '0-99' has to rise and to stay within processors 0 to 7"),
         (["fit.py", "-m", "skylake", "--program", "{folder}", "--", "perf", "stat"], "is not a file; give the path"),
+    )
+# these compile what starts the program
+if shutil.which("cc"):
+    CALLS += (
+        (["maintain/read_benchmark.py", "/nonexistent"], "/nonexistent does not start: No such file or directory"),
+        (["maintain/read_benchmark.py", "{false}"], "replay ended with status 1, no note; wanted: status 1, perf_run: line"),
+        (["maintain/start_benchmark.py", "{false}"], "replay ended with status 1, no note; wanted: status 0, no note"),
     )
 # of each tool that finds the program by itself: where PERF_RUN names none, a line says so
 FIND_IT = [

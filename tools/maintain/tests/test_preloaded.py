@@ -82,8 +82,8 @@ class Preloaded(unittest.TestCase):
             raise unittest.SkipTest("no C compiler: there is no command cc")
         folder = tempfile.TemporaryDirectory()
         cls.addClassCleanup(folder.cleanup)
-        cls.refusing = preloaded.compiled("refused_memory", folder.name)
-        cls.failing = preloaded.compiled("failing_calls", folder.name)
+        cls.refusing = preloaded.library_of("refused_memory", folder.name)
+        cls.failing = preloaded.library_of("failing_calls", folder.name)
 
 
 class OfOtherPrograms(Preloaded):

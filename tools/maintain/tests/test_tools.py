@@ -10,13 +10,15 @@ TOOLS = os.path.join(os.path.dirname(os.path.abspath(__file__)), "..")
 sys.path.append(TOOLS)
 
 import cited_definitions
+import compare_benchmark
 import definition_lines
 import measuring
 import missing_answers
+import preloaded
 import replay_benchmark
 import script_terms
 from perfscript import Fault, Script
-from perfscript.limits import MOST_LINES
+from perfscript.limits import MOST_BYTES, MOST_LINES
 
 
 class CitedDefinitions(unittest.TestCase):
@@ -89,16 +91,45 @@ class Benchmarks(unittest.TestCase):
     def test_what_is_measured_is_scripts_whose_orders_are_whole(self):
         drafts = [replay_benchmark.small(), replay_benchmark.large(), replay_benchmark.copies(2)]
         drafts += [replay_benchmark.sampling(), replay_benchmark.counting(5)]
+        drafts += [compare_benchmark.refused_reads(), compare_benchmark.group_reads(), compare_benchmark.turning()]
         for draft in [*drafts, replay_benchmark.stored("tasks-and-copies/copies-full")]:
             script = Script(draft.text())
             done = sum(act[0] != "s" for act in script.order)
             self.assertEqual(len(script.all_lines()), done)
             self.assertLessEqual(done, MOST_LINES)
 
+    def test_a_text_of_work_lines_is_one_act_short(self):
+        text = compare_benchmark.work_lines()
+        self.assertLessEqual(len(text), MOST_BYTES)
+        script = Script(text)
+        self.assertEqual(len(script.all_lines()) - 1, len(script.order))
+
+    def test_ratios(self):
+        runs = [measuring.Cost(3.0, 0.010, 50, 2**20), measuring.Cost(1.0, 0.030, 70, 2**21)]
+        costs = compare_benchmark.costs_of([*runs, measuring.Cost(2.0, 0.020, 60, 2**20)])
+        self.assertEqual((0.020, 2.0, 2**21, 60), costs)
+        half = compare_benchmark.Costs(0.010, 1.0, 2**20, 60)
+        task = compare_benchmark.Task("a task", ["replay"], "")
+        self.assertRegex(compare_benchmark.row(task, costs, half), r"^a task +20\.00 ms +10\.00 ms +0\.50 +2\.0 MiB +1\.0 MiB +0\.50$")
+
+    @unittest.skipUnless(preloaded.compiler(), "no C compiler: there is no command cc")
     def test_a_run_that_ends_otherwise_is_a_fault(self):
         with self.assertRaisesRegex(Fault, "/bin/false replay ended with status 1, no note; wanted: status 0, no note"):
             measuring.cost("/bin/false", ["replay"])
-        self.assertGreater(measuring.cost("/bin/false", [], status=1).peak, 0)
+        with self.assertRaisesRegex(Fault, "^/bin/sh -c kill -9 .* ended with status -9, no note; wanted: status 0, no note"):
+            measuring.cost("/bin/sh", ["-c", "kill -9 $$"])
+        with self.assertRaisesRegex(Fault, "^/nonexistent does not start: No such file or directory$"):
+            measuring.cost("/nonexistent", [])
+
+    @unittest.skipUnless(preloaded.compiler(), "no C compiler: there is no command cc")
+    def test_what_a_run_costs_is_its_own(self):
+        small = measuring.cost("/bin/false", [], status=1)
+        # less than a Python takes, which starts it
+        self.assertTrue(0 < small.peak < 2**23, small)
+        fill = measuring.cost(sys.executable, ["-c", "bytearray(2**26)"])
+        self.assertGreater(fill.peak, 2**26)
+        self.assertGreater(fill.seconds, fill.processor / 2)
+        self.assertGreater(fill.faults, small.faults)
 
 
 class Answers(unittest.TestCase):
