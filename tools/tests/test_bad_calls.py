@@ -86,6 +86,7 @@ CALLS = (
     (["maintain/check_machines.py", "/nonexistent"], "/nonexistent: the tree does not have /nonexistent/arch/x86"),
     (["maintain/trusted.py", "odd"], "odd: not known; trusted.py --help has the words"),
     (["maintain/house_counts.py", "odd"], "1 words do not do; house_counts.py --help has the usage"),
+    (["maintain/merge_lemmas.py", "odd"], "odd: not known; merge_lemmas.py --help has the words"),
     (["maintain/repeated_lemmas.py", "odd"], "odd: a number was wanted; repeated_lemmas.py --help has the usage"),
     (["maintain/double_clients.py", "odd"], "unrecognized arguments: odd; double_clients.py --help has the words"),
     (["maintain/double_clients.py", "--seeds", "odd"], "--seeds: odd is not FIRST-LAST, two numbers"),

@@ -6,12 +6,14 @@ import os
 import sys
 import tempfile
 import unittest
-from collections.abc import Iterator
+from collections.abc import Iterator, Mapping
+from pathlib import Path
 
 sys.path.append(os.path.join(os.path.dirname(os.path.abspath(__file__)), ".."))
 
 import house_counts
 import layers
+import merge_lemmas
 import repeated_lemmas
 import trusted
 from perfscript import Fault
@@ -58,13 +60,8 @@ third n = refl
 
 
 @contextlib.contextmanager
-def small_repository() -> Iterator[None]:
-    """A repository of three files of definitions and proofs, as the current folder."""
-    files = {
-        "crates/low/specs/Pairs.antt": BASE,
-        "crates/low/proofs/Lemmas.antt": LEMMAS,
-        "crates/top/specs/Sos.antt": TOP,
-    }
+def repository_of(files: Mapping[str, str]) -> Iterator[None]:
+    """A repository of these files, as the current folder."""
     here = os.getcwd()
     with tempfile.TemporaryDirectory() as folder:
         for path, text in files.items():
@@ -76,6 +73,16 @@ def small_repository() -> Iterator[None]:
             yield
         finally:
             os.chdir(here)
+
+
+def small_repository() -> contextlib.AbstractContextManager[None]:
+    """A repository of three files of definitions and proofs, as the current folder."""
+    files = {
+        "crates/low/specs/Pairs.antt": BASE,
+        "crates/low/proofs/Lemmas.antt": LEMMAS,
+        "crates/top/specs/Sos.antt": TOP,
+    }
+    return repository_of(files)
 
 
 class SmallRepository(unittest.TestCase):
@@ -102,6 +109,72 @@ class SmallRepository(unittest.TestCase):
         headed = trusted.headed(BASE, True)
         self.assertEqual(headed, "-- believed\n" + BASE)
         self.assertEqual(trusted.headed(headed, False), "-- inner\n" + BASE)
+
+
+class MergedLemmas(unittest.TestCase):
+    FILES = {
+        "crates.txt": "# Types\nlow: bitflags\nside: low\n\n# Top\ntop: low\n",
+        "crates/low/proofs/Lists.antt": """use Rattle.std.specs.Prelude.{ℕ, ◌≡◌}
+
+-- each is itself
+same : (n : ℕ) → n ≡ n
+same n = refl
+
+pub turned : (a b : ℕ) → a ≡ b → b ≡ a
+turned a b e = sym e
+""",
+        "crates/top/proofs/Numbers.antt": """use Rattle.std.specs.Prelude.{ℕ, ◌≡◌}
+use Rattle.{low.{specs.Pairs as pairs, proofs.Lists.{turned}}}
+
+pub itself : (x : ℕ) → x ≡ x
+itself x = step x
+  where
+    step : (y : ℕ) → y ≡ y
+    step y = refl
+
+pub itself-twice : (x : ℕ) → x ≡ x
+itself-twice x = turned x x (itself x)
+
+pub own : (x y : ℕ) → x ≡ y → x ≡ y
+own x y e = e
+""",
+        "crates/top/proofs/Numbers/Answers.antt": """use Rattle.top.proofs.Numbers.{itself, own}
+
+pub returns c = own _ _ (itself 1)
+""",
+        "crates/side/proofs/Others.antt": """use Rattle.std.specs.Prelude.{ℕ, ◌≡◌}
+
+whole : (x y : ℕ) → x ≡ y → x ≡ y
+whole x y e = e
+""",
+    }
+
+    def merged(self, *words: str) -> tuple[str, dict[str, str]]:
+        """What the tool prints, and the files that it changes."""
+        said = io.StringIO()
+        with repository_of(self.FILES), contextlib.redirect_stdout(said):
+            self.assertEqual(0, merge_lemmas.main(*words))
+            there = {path: Path(path).read_text(encoding="utf-8") for path in self.FILES}
+        return said.getvalue(), {path: text for path, text in there.items() if text != self.FILES[path]}
+
+    def test_what_would_go(self) -> None:
+        said, changed = self.merged()
+        self.assertEqual({}, changed)
+        # not `own` and `whole`: neither crate stands on the other
+        lists, numbers = "crates/low/proofs/Lists.antt:4: same", "crates/top/proofs/Numbers.antt:4, crates/top/proofs/Numbers.antt:10"
+        self.assertEqual(f"{lists} in the place of {numbers}\n2 proofs would go\n", said)
+
+    def test_one_proof_stays(self) -> None:
+        said, changed = self.merged("--write")
+        self.assertTrue(said.endswith("2 proofs went\n"))
+        numbers, answers, low = (changed.pop(f"crates/{it}.antt") for it in (
+            "top/proofs/Numbers", "top/proofs/Numbers/Answers", "low/proofs/Lists"))
+        self.assertEqual({}, changed)
+        self.assertEqual(self.FILES["crates/low/proofs/Lists.antt"].replace("\nsame :", "\npub same :"), low)
+        uses = "use Rattle.std.specs.Prelude.{ℕ, ◌≡◌}\nuse Rattle.low.{specs.Pairs as pairs, proofs.Lists.{turned, same}}\n"
+        self.assertEqual(uses + "\npub own : (x y : ℕ) → x ≡ y → x ≡ y\nown x y e = e\n", numbers)
+        uses = "use Rattle.top.proofs.Numbers.{own}\nuse Rattle.low.proofs.Lists.{same}\n"
+        self.assertEqual(uses + "\npub returns c = own _ _ (same 1)\n", answers)
 
 
 class ThisRepository(unittest.TestCase):
