@@ -22,6 +22,8 @@ from perfscript import Fault, command
 from specs import NAME, leaves
 
 USE = re.compile(r"^((?:pub )?use )(Rattle\..*)$")
+DECLARED = re.compile(rf"^(?:(?:pub|abbrev|unfoldable|record) )*({NAME}) ")
+WORD = re.compile(NAME)
 
 
 @dataclass(frozen=True)
@@ -80,17 +82,33 @@ def imported(path: str) -> frozenset[str]:
 
 
 def block(lines: tuple[str, ...], place: Place) -> range:
-    """The lines of a lemma, from 0: its statement and its clauses, with the empty line behind them."""
-    end = place.line
-    while end < len(lines) and lines[end].startswith((" ", "unfolding ", f"{place.name} ")):
+    """The lines of a lemma, from 0: its statement and its clauses, with the empty line after them and with the comment
+    before it where that is of no other lemma."""
+    start, end = place.line - 1, place.line
+    while end < len(lines) and lines[end].startswith((" ", "]", "}", ")", "unfolding ", f"{place.name} ")):
         end += 1
-    return range(place.line - 1, end + (end < len(lines) and not lines[end]))
+    end += end < len(lines) and not lines[end]
+    if end == len(lines) or lines[end].startswith(("-- ", "module ")):
+        while lines[start - 1].startswith("-- "):
+            start -= 1
+    return range(start, end)
 
 
 def is_alone(place: Place) -> bool:
-    """Whether a lemma stands at the margin of its file, outside any module."""
-    line = read(place.path)[place.line - 1]
-    return line.startswith((f"{place.name} ", f"pub {place.name} "))
+    """Whether a lemma stands at the margin of its file, outside any module, and no proof there opens it: what another
+    crate defines can't be opened."""
+    lines = read(place.path)
+    at_margin = lines[place.line - 1].startswith((f"{place.name} ", f"pub {place.name} "))
+    return at_margin and not any(line.startswith("unfolding ") and place.name in line.split() for line in lines)
+
+
+def has_own_words(place: Place) -> bool:
+    """Whether a statement has a name that its own file declares, which another file may declare otherwise."""
+    lines = read(place.path)
+    start = place.line - 1
+    length = next((n for n, line in enumerate(lines[start + 1 :]) if not line.startswith(" ")), len(lines) - place.line)
+    words = {word for line in lines[start : start + 1 + length] for word in WORD.findall(line)} - {place.name}
+    return any(found[1] in words for line in lines if (found := DECLARED.match(line)))
 
 
 class Ways:
@@ -160,12 +178,21 @@ class Tree:
     def lines(self, path: str) -> list[str | None]:
         return self.files.setdefault(path, list(read(path)))
 
-    def publish(self, kept: Place) -> None:
-        """Lets other files name a lemma."""
-        lines = self.lines(kept.path)
-        line = lines[kept.line - 1]
+    def publish(self, kept: Place, others: list[Place]) -> None:
+        """Lets other files name a lemma, those of other crates too."""
+        self.open(kept.path, kept.line - 1)
+        if any(other.crate != kept.crate for other in others):
+            listing = os.path.join("crates", *kept.module[1:3], "Lib.antt")
+            for number, line in enumerate(self.lines(listing)):
+                if line == f"mod {kept.module[3]}":
+                    self.open(listing, number)
+
+    def open(self, path: str, number: int) -> None:
+        """Marks a line of a file, from 0, as public."""
+        lines = self.lines(path)
+        line = lines[number]
         if line and not line.startswith("pub "):
-            lines[kept.line - 1] = f"pub {line}"
+            lines[number] = f"pub {line}"
 
     def drop(self, place: Place) -> None:
         lines = self.lines(place.path)
@@ -210,8 +237,10 @@ class Tree:
 
 
 def is_free(place: Place, name: str) -> bool:
-    """Whether a file has no other use of a name."""
-    return place.name == name or not any(re.search(rf"(?<![\w'-]){re.escape(name)}(?![\w'-])", line) for line in read(place.path))
+    """Whether its file, and each that imports it, has no other use of a name."""
+    word = re.compile(rf"(?<![\w'-]){re.escape(name)}(?![\w'-])")
+    paths = [place.path, *importing((*place.module, place.name))]
+    return place.name == name or not any(word.search(line) for path in paths for line in read(path))
 
 
 def main(*words: str) -> int:
@@ -224,12 +253,13 @@ def main(*words: str) -> int:
     for found in repeated_lemmas.repeated():
         places = [place for place in (Place(*it) for it in found) if is_alone(place)]
         kept = kept_of(places, below, ways)
-        others = [place for place in places if kept and place.path != kept.path and is_free(place, kept.name)]
+        fits = [place for place in places if kept and is_free(place, kept.name) and not has_own_words(place)]
+        others = [place for place in fits if kept and place.path != kept.path]
         if kept is None or not others:
             continue
         print(f"{kept.path}:{kept.line}: {kept.name} in the place of {', '.join(f'{one.path}:{one.line}' for one in others)}")
         gone += len(others)
-        tree.publish(kept)
+        tree.publish(kept, others)
         for place in others:
             ways.add(place.path, kept.path)
             tree.drop(place)

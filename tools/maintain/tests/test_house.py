@@ -114,6 +114,7 @@ class SmallRepository(unittest.TestCase):
 class MergedLemmas(unittest.TestCase):
     FILES = {
         "crates.txt": "# Types\nlow: bitflags\nside: low\n\n# Top\ntop: low\n",
+        "crates/low/proofs/Lib.antt": "mod Lists\nmod Others\n",
         "crates/low/proofs/Lists.antt": """use Rattle.std.specs.Prelude.{ℕ, ◌≡◌}
 
 -- each is itself
@@ -122,6 +123,9 @@ same n = refl
 
 pub turned : (a b : ℕ) → a ≡ b → b ≡ a
 turned a b e = sym e
+
+pub even : ℕ → Bool
+even n = true
 """,
         "crates/top/proofs/Numbers.antt": """use Rattle.std.specs.Prelude.{ℕ, ◌≡◌}
 use Rattle.{low.{specs.Pairs as pairs, proofs.Lists.{turned}}}
@@ -137,6 +141,14 @@ itself-twice x = turned x x (itself x)
 
 pub own : (x y : ℕ) → x ≡ y → x ≡ y
 own x y e = e
+
+-- all numbers alike
+pub alike : ℕ → Bool
+alike x = true
+
+all-alike : (x : ℕ) → alike x ≡ true
+unfolding alike
+all-alike x = refl
 """,
         "crates/top/proofs/Numbers/Answers.antt": """use Rattle.top.proofs.Numbers.{itself, own}
 
@@ -160,19 +172,22 @@ whole x y e = e
     def test_what_would_go(self) -> None:
         said, changed = self.merged()
         self.assertEqual({}, changed)
-        # not `own` and `whole`: neither crate stands on the other
+        # not `own` and `whole`: neither crate stands on the other; not `even` and `alike`: a proof opens one
         lists, numbers = "crates/low/proofs/Lists.antt:4: same", "crates/top/proofs/Numbers.antt:4, crates/top/proofs/Numbers.antt:10"
         self.assertEqual(f"{lists} in the place of {numbers}\n2 proofs would go\n", said)
 
     def test_one_proof_stays(self) -> None:
         said, changed = self.merged("--write")
         self.assertTrue(said.endswith("2 proofs went\n"))
+        self.assertEqual("pub mod Lists\nmod Others\n", changed.pop("crates/low/proofs/Lib.antt"))
         numbers, answers, low = (changed.pop(f"crates/{it}.antt") for it in (
             "top/proofs/Numbers", "top/proofs/Numbers/Answers", "low/proofs/Lists"))
         self.assertEqual({}, changed)
         self.assertEqual(self.FILES["crates/low/proofs/Lists.antt"].replace("\nsame :", "\npub same :"), low)
         uses = "use Rattle.std.specs.Prelude.{ℕ, ◌≡◌}\nuse Rattle.low.{specs.Pairs as pairs, proofs.Lists.{turned, same}}\n"
-        self.assertEqual(uses + "\npub own : (x y : ℕ) → x ≡ y → x ≡ y\nown x y e = e\n", numbers)
+        # all that follows stays: `own`, and `alike`, which a proof opens
+        _, own, rest = self.FILES["crates/top/proofs/Numbers.antt"].partition("pub own")
+        self.assertEqual(f"{uses}\n{own}{rest}", numbers)
         uses = "use Rattle.top.proofs.Numbers.{own}\nuse Rattle.low.proofs.Lists.{same}\n"
         self.assertEqual(uses + "\npub returns c = own _ _ (same 1)\n", answers)
 
